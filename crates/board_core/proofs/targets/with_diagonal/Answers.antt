@@ -1,0 +1,19 @@
+use Rattle.std.proofs.Common.{◌≡◌, ℕ, ◌<◌}
+use Rattle.std.specs.Int.{bit_at}
+use Rattle.board_core.specs.Attack.{Along, IsClear, IsDiagonal}
+use Rattle.board_core.specs.Moves.{IsFree}
+use Rattle.board_core.proofs.Outward.{each_direction}
+use Rattle.board_core.proofs.targets.with_diagonal.Goals as goal
+
+pub returns-clause-reached : goal.returns-clause-reached
+returns-clause-reached c = λ d n s. each_direction
+    (λ d. IsDiagonal d → 0 < n → s < 64 → Along d n c.args.from s → IsClear c.args.men.now d n c.args.from → IsFree c.args.men.now c.args.side s → bit_at c.with_ray.result s ≡ 1)
+    (λ x _ _ _ _ _. absurd x)
+    (λ x _ _ _ _ _. absurd x)
+    (λ x _ _ _ _ _. absurd x)
+    (λ x _ _ _ _ _. absurd x)
+    (λ _ away b along clear free. c.with_ray.ensures.kept s (c.with_ray-c.ensures.kept s (c.with_ray-b.ensures.kept s (c.with_ray-a.ensures.reached n s away b along clear free))))
+    (λ _ away b along clear free. c.with_ray.ensures.kept s (c.with_ray-c.ensures.kept s (c.with_ray-b.ensures.reached n s away b along clear free)))
+    (λ _ away b along clear free. c.with_ray.ensures.kept s (c.with_ray-c.ensures.reached n s away b along clear free))
+    (λ _ away b along clear free. c.with_ray.ensures.reached n s away b along clear free)
+    d

@@ -1,0 +1,209 @@
+use Rattle.std.specs.Prelude.{◌≡◌, ◌≢◌, ℕ, ◌+◌, ◌-◌, ◌<◌, ◌≤◌, ◌⊎◌, ◌==◌, ◌&&◌, Bool, IsTrue, not, min, List, Option, Some, None, is_some, if◌then◌else◌, slice_set, ◌*◌, All, AllPairs, Contains}
+use Rattle.board_core.specs.declared.piece.Piece.{Piece}
+use Rattle.board_core.specs.declared.piece.Side.{Side}
+use Rattle.board_core.specs.declared.piece.Side.TheVariants.{White, Black}
+use Rattle.board_core.specs.declared.piece.Kind.{Kind}
+use Rattle.board_core.specs.declared.piece.Kind.TheVariants.{Pawn, Knight, Bishop, Rook, Queen, King}
+use Rattle.board_core.specs.declared.piece.Promotion.{Promotion}
+use Rattle.board_core.specs.declared.piece.Promotion.TheVariants.{Queen as ToQueen, Rook as ToRook, Bishop as ToBishop, Knight as ToKnight}
+use Rattle.board_core.specs.declared.piece.Wing.{Wing}
+use Rattle.board_core.specs.declared.piece.Wing.TheVariants.{KingSide, QueenSide}
+use Rattle.board_core.specs.declared.parts.Rights.{Rights}
+use Rattle.board_core.specs.declared.parts.Parts.{Parts}
+use Rattle.board_core.specs.declared.moves.Move.{Move}
+use Rattle.board_core.specs.declared.generation.Guard.{Guard}
+use Rattle.board_core.specs.declared.moves.MoveCase.{MoveCase}
+use Rattle.board_core.specs.declared.moves.MoveCase.TheVariants.{Plain, Advance, DoubleStep, PawnCapture, EnPassant, Castle}
+use Rattle.board_core.specs.Side.{other}
+use Rattle.board_core.specs.Square.{rank_of}
+use Rattle.board_core.specs.Attack.{man_at, Along, IsClear, Reaches, IsPawnAttack, IsAttacked, IsInCheck, forward}
+use Rattle.board_core.specs.Castling.{has_right, king_home, rook_home, king_end, rook_end}
+
+-- a man of this side and kind stands on the square
+abbrev pub Stands : List (Option Piece) → ℕ → Side → Kind → Type 0
+Stands men s side kind = man_at men s ≡ Some (record { side = side; kind = kind })
+
+-- no man of this side stands on the square
+abbrev pub IsFree : List (Option Piece) → Side → ℕ → Type 0
+IsFree men side s = (kind : Kind) → Stands men s side kind → ⊥
+
+-- a man of this side stands on the square
+abbrev pub IsTaken : List (Option Piece) → Side → ℕ → Type 0
+IsTaken men side s = (kind : Kind) × Stands men s side kind
+
+-- the rank from which a pawn may go two squares, and the one on which it is promoted
+abbrev pub first_rank : Side → ℕ
+first_rank White = 1
+first_rank Black = 6
+
+abbrev pub last_rank : Side → ℕ
+last_rank White = 7
+last_rank Black = 0
+
+-- a promotion is named exactly where the pawn reaches its last rank
+abbrev pub Promotes : Side → Move → Type 0
+Promotes side m = (m.promotion ≡ None → rank_of m.to ≡ last_rank side → ⊥) × ((k : Promotion) → m.promotion ≡ Some k → rank_of m.to ≡ last_rank side)
+
+-- a step or a ray of a man other than a pawn
+pub record IsPlain (p : Parts) (m : Move) : Type 0 where
+  pub kind : Kind
+  pub no_pawn : kind ≢ Pawn
+  pub stands : Stands p.men m.from p.side kind
+  pub reaches : Reaches p.men p.side kind m.from m.to
+  pub free : IsFree p.men p.side m.to
+  pub whole : m.promotion ≡ None
+
+pub record IsAdvance (p : Parts) (m : Move) : Type 0 where
+  pub stands : Stands p.men m.from p.side Pawn
+  pub ahead : Along (forward p.side) 1 m.from m.to
+  pub empty : man_at p.men m.to ≡ None
+  pub promotes : Promotes p.side m
+
+pub record IsDoubleStep (p : Parts) (m : Move) : Type 0 where
+  pub stands : Stands p.men m.from p.side Pawn
+  pub home : rank_of m.from ≡ first_rank p.side
+  pub ahead : Along (forward p.side) 2 m.from m.to
+  pub clear : IsClear p.men (forward p.side) 2 m.from
+  pub empty : man_at p.men m.to ≡ None
+  pub whole : m.promotion ≡ None
+
+pub record IsPawnCapture (p : Parts) (m : Move) : Type 0 where
+  pub stands : Stands p.men m.from p.side Pawn
+  pub attacks : IsPawnAttack p.side m.from m.to
+  pub enemy : IsTaken p.men (other p.side) m.to
+  pub promotes : Promotes p.side m
+
+pub record IsEnPassant (p : Parts) (m : Move) : Type 0 where
+  pub stands : Stands p.men m.from p.side Pawn
+  pub attacks : IsPawnAttack p.side m.from m.to
+  pub passed : p.en_passant ≡ Some m.to
+  pub empty : man_at p.men m.to ≡ None
+  pub whole : m.promotion ≡ None
+
+-- the squares strictly between two of one rank, and those from one to the other
+abbrev pub IsBetween : ℕ → ℕ → ℕ → Type 0
+IsBetween a s b = ((a < s) × (s < b)) ⊎ ((b < s) × (s < a))
+
+abbrev pub IsOnWay : ℕ → ℕ → ℕ → Type 0
+IsOnWay a s b = ((a ≤ s) × (s ≤ b)) ⊎ ((b ≤ s) × (s ≤ a))
+
+pub record IsCastle (p : Parts) (m : Move) (wing : Wing) : Type 0 where
+  pub stands : Stands p.men m.from p.side King
+  pub right : IsTrue (has_right p.rights p.side wing)
+  pub from_home : m.from ≡ king_home p.side
+  pub to_end : m.to ≡ king_end p.side wing
+  pub clear : (s : ℕ) → IsBetween (king_home p.side) s (rook_home p.side wing) → man_at p.men s ≡ None
+  pub safe : (s : ℕ) → IsOnWay (king_home p.side) s (king_end p.side wing) → IsAttacked p.men (other p.side) s → ⊥
+  pub whole : m.promotion ≡ None
+
+abbrev pub IsMove : Parts → Move → MoveCase → Type 0
+IsMove p m Plain = IsPlain p m
+IsMove p m Advance = IsAdvance p m
+IsMove p m DoubleStep = IsDoubleStep p m
+IsMove p m PawnCapture = IsPawnCapture p m
+IsMove p m EnPassant = IsEnPassant p m
+IsMove p m (Castle wing) = IsCastle p m wing
+
+-- what stands on the square after the move: the man that moved, or what the pawn became
+abbrev pub kind_of : Promotion → Kind
+kind_of ToQueen = Queen
+kind_of ToRook = Rook
+kind_of ToBishop = Bishop
+kind_of ToKnight = Knight
+
+abbrev pub landed : Side → Option Piece → Option Promotion → Option Piece
+landed side man None = man
+landed side man (Some k) = Some (record { side = side; kind = kind_of k })
+
+abbrev pub carried : List (Option Piece) → ℕ → ℕ → Option Piece → List (Option Piece)
+carried men from to man = slice_set (slice_set men from None) to man
+
+-- the square behind another, seen from the side that moves
+abbrev pub behind : Side → ℕ → ℕ
+behind White s = s - 8
+behind Black s = s + 8
+
+abbrev pub men_after : Parts → Move → MoveCase → List (Option Piece)
+men_after p m Plain = carried p.men m.from m.to (man_at p.men m.from)
+men_after p m Advance = carried p.men m.from m.to (landed p.side (man_at p.men m.from) m.promotion)
+men_after p m DoubleStep = carried p.men m.from m.to (man_at p.men m.from)
+men_after p m PawnCapture = carried p.men m.from m.to (landed p.side (man_at p.men m.from) m.promotion)
+men_after p m EnPassant = slice_set (carried p.men m.from m.to (man_at p.men m.from)) (behind p.side m.to) None
+men_after p m (Castle wing) =
+    carried (carried p.men m.from m.to (man_at p.men m.from)) (rook_home p.side wing) (rook_end p.side wing) (Some (record { side = p.side; kind = Rook }))
+
+-- a right is lost when its king or its rook moves, or its rook is taken at home
+abbrev pub keeps_right : Parts → Move → Side → Wing → Bool
+keeps_right p m side wing =
+    has_right p.rights side wing && not (m.from == king_home side) && not (m.from == rook_home side wing) && not (m.to == rook_home side wing)
+
+abbrev pub rights_after : Parts → Move → Rights
+rights_after p m = record {
+  white_king = keeps_right p m White KingSide;
+  white_queen = keeps_right p m White QueenSide;
+  black_king = keeps_right p m Black KingSide;
+  black_queen = keeps_right p m Black QueenSide;
+}
+
+abbrev pub en_passant_after : Parts → Move → MoveCase → Option ℕ
+en_passant_after p m Plain = None
+en_passant_after p m Advance = None
+en_passant_after p m DoubleStep = Some (behind p.side m.to)
+en_passant_after p m PawnCapture = None
+en_passant_after p m EnPassant = None
+en_passant_after p m (Castle wing) = None
+
+abbrev pub one_more : ℕ → ℕ
+one_more n = min (n + 1) 9999
+
+abbrev pub halfmove_after : Parts → Move → MoveCase → ℕ
+halfmove_after p m Plain = if is_some (man_at p.men m.to) then 0 else one_more p.halfmove
+halfmove_after p m Advance = 0
+halfmove_after p m DoubleStep = 0
+halfmove_after p m PawnCapture = 0
+halfmove_after p m EnPassant = 0
+halfmove_after p m (Castle wing) = one_more p.halfmove
+
+abbrev pub fullmove_after : Side → ℕ → ℕ
+fullmove_after White n = n
+fullmove_after Black n = one_more n
+
+unfoldable pub after : Parts → Move → MoveCase → Parts
+after p m c = record {
+  men = men_after p m c;
+  side = other p.side;
+  rights = rights_after p m;
+  en_passant = en_passant_after p m c;
+  halfmove = halfmove_after p m c;
+  fullmove = fullmove_after p.side p.fullmove;
+}
+
+-- m is a legal move of p, and q is the position after it
+pub record Legal (p : Parts) (m : Move) (q : Parts) : Type 0 where
+  pub case : MoveCase
+  pub from_board : m.from < 64
+  pub to_board : m.to < 64
+  pub rule : IsMove p m case
+  pub becomes : q ≡ after p m case
+  pub safe : IsInCheck q.men p.side → ⊥
+
+-- a legal move has a position after it
+abbrev pub IsLegal : Parts → Move → Type 0
+IsLegal p m = (q : Parts) × Legal p m q
+
+-- the place of a move in the order of from, to and promotion
+abbrev pub promotion_place : Option Promotion → ℕ
+promotion_place None = 0
+promotion_place (Some ToQueen) = 1
+promotion_place (Some ToRook) = 2
+promotion_place (Some ToBishop) = 3
+promotion_place (Some ToKnight) = 4
+
+abbrev pub place_of : Move → ℕ
+place_of m = 320 * m.from + 5 * m.to + promotion_place m.promotion
+
+-- the list has exactly the legal moves, each once and in order
+pub record HasLegal (p : Parts) (moves : List Move) : Type 0 where
+  pub ordered : AllPairs (λ a b. place_of a < place_of b) moves
+  pub sound : All (IsLegal p) moves
+  pub complete : (m : Move) → IsLegal p m → Contains moves m

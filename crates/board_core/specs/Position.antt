@@ -1,0 +1,104 @@
+use Rattle.std.specs.Prelude.{◌≡◌, ℕ, ◌<◌, ◌≤◌, ◌&&◌, Bool, true, false, IsTrue, List, Option, Some, None, count_by, length}
+use Rattle.board_core.specs.declared.piece.Piece.{Piece}
+use Rattle.board_core.specs.declared.piece.Side.{Side}
+use Rattle.board_core.specs.declared.piece.Side.TheVariants.{White, Black}
+use Rattle.board_core.specs.declared.piece.Kind.{Kind}
+use Rattle.board_core.specs.declared.piece.Kind.TheVariants.{Pawn, Knight, Bishop, Rook, Queen, King}
+use Rattle.board_core.specs.declared.piece.Wing.{Wing}
+use Rattle.board_core.specs.declared.piece.Wing.TheVariants.{KingSide, QueenSide}
+use Rattle.board_core.specs.declared.parts.Parts.{Parts}
+use Rattle.board_core.specs.declared.position.PositionFault.{PositionFault}
+use Rattle.board_core.specs.declared.position.PositionFault.TheVariants.{BadKings, TooManyMen, PawnOnEdge, BadCastling, BadEnPassant, OpponentInCheck, BadCounter}
+use Rattle.board_core.specs.Side.{other}
+use Rattle.board_core.specs.Square.{rank_of}
+use Rattle.board_core.specs.Attack.{man_at, IsInCheck}
+use Rattle.board_core.specs.Castling.{has_right, king_home, rook_home}
+use Rattle.board_core.specs.Moves.{Stands, behind}
+
+abbrev pub is_same_side : Side → Side → Bool
+is_same_side White White = true
+is_same_side White Black = false
+is_same_side Black White = false
+is_same_side Black Black = true
+
+abbrev pub is_king : Kind → Bool
+is_king Pawn = false
+is_king Knight = false
+is_king Bishop = false
+is_king Rook = false
+is_king Queen = false
+is_king King = true
+
+-- whether a man of this side stands there
+abbrev pub is_of : Side → Option Piece → Bool
+is_of side None = false
+is_of side (Some man) = is_same_side side man.side
+
+-- whether the king of this side stands there
+abbrev pub is_king_of : Side → Option Piece → Bool
+is_king_of side None = false
+is_king_of side (Some man) = is_same_side side man.side && is_king man.kind
+
+abbrev pub HasOneKingEach : List (Option Piece) → Type 0
+HasOneKingEach men = (count_by (is_king_of White) men ≡ 1) × (count_by (is_king_of Black) men ≡ 1)
+
+abbrev pub HasFewMen : List (Option Piece) → Type 0
+HasFewMen men = (count_by (is_of White) men ≤ 16) × (count_by (is_of Black) men ≤ 16)
+
+abbrev pub HasNoPawnOnEdge : List (Option Piece) → Type 0
+HasNoPawnOnEdge men = (s : ℕ) (side : Side) → s < 64 → Stands men s side Pawn → (0 < rank_of s) × (rank_of s < 7)
+
+-- a right stands only while its king and its rook stand at home
+abbrev pub IsRightHonest : Parts → Side → Wing → Type 0
+IsRightHonest p side wing =
+    IsTrue (has_right p.rights side wing) → Stands p.men (king_home side) side King × Stands p.men (rook_home side wing) side Rook
+
+abbrev pub HasHonestRights : Parts → Type 0
+HasHonestRights p =
+    IsRightHonest p White KingSide × IsRightHonest p White QueenSide × IsRightHonest p Black KingSide × IsRightHonest p Black QueenSide
+
+-- the rank that a double step of the other side passes
+abbrev pub passed_rank : Side → ℕ
+passed_rank White = 5
+passed_rank Black = 2
+
+-- a pawn of the side that is not to move has just passed this square
+pub record IsPassed (p : Parts) (s : ℕ) : Type 0 where
+  pub rank : rank_of s ≡ passed_rank p.side
+  pub pawn : Stands p.men (behind p.side s) (other p.side) Pawn
+  pub empty : man_at p.men s ≡ None
+  pub origin : man_at p.men (behind (other p.side) s) ≡ None
+
+abbrev pub HasHonestEnPassant : Parts → Type 0
+HasHonestEnPassant p = (s : ℕ) → p.en_passant ≡ Some s → IsPassed p s
+
+abbrev pub IsQuiet : Parts → Type 0
+IsQuiet p = IsInCheck p.men (other p.side) → ⊥
+
+abbrev pub HasFairCounters : Parts → Type 0
+HasFairCounters p = (p.halfmove ≤ 9999) × (p.fullmove ≤ 9999)
+
+-- the parts are a position
+pub record IsPosition (p : Parts) : Type 0 where
+  pub squares : length p.men ≡ 64
+  pub kings : HasOneKingEach p.men
+  pub few : HasFewMen p.men
+  pub pawns : HasNoPawnOnEdge p.men
+  pub rights : HasHonestRights p
+  pub en_passant : HasHonestEnPassant p
+  pub quiet : IsQuiet p
+  pub counters : HasFairCounters p
+
+-- the first condition that fails
+abbrev pub IsFirstFault : Parts → PositionFault → Type 0
+IsFirstFault p BadKings = HasOneKingEach p.men → ⊥
+IsFirstFault p TooManyMen = HasOneKingEach p.men × (HasFewMen p.men → ⊥)
+IsFirstFault p PawnOnEdge = HasOneKingEach p.men × HasFewMen p.men × (HasNoPawnOnEdge p.men → ⊥)
+IsFirstFault p BadCastling =
+    HasOneKingEach p.men × HasFewMen p.men × HasNoPawnOnEdge p.men × (HasHonestRights p → ⊥)
+IsFirstFault p BadEnPassant =
+    HasOneKingEach p.men × HasFewMen p.men × HasNoPawnOnEdge p.men × HasHonestRights p × (HasHonestEnPassant p → ⊥)
+IsFirstFault p OpponentInCheck =
+    HasOneKingEach p.men × HasFewMen p.men × HasNoPawnOnEdge p.men × HasHonestRights p × HasHonestEnPassant p × (IsQuiet p → ⊥)
+IsFirstFault p BadCounter =
+    HasOneKingEach p.men × HasFewMen p.men × HasNoPawnOnEdge p.men × HasHonestRights p × HasHonestEnPassant p × IsQuiet p × (HasFairCounters p → ⊥)

@@ -1,0 +1,93 @@
+-- What the search for attacks and for legal moves says of its steps; no public contract cites these.
+use Rattle.std.specs.Prelude.{◌≡◌, ◌≢◌, ℕ, ◌+◌, ◌-◌, ◌<◌, ◌≤◌, ◌⊎◌, ◌==◌, ◌&&◌, Bool, IsTrue, not, min, List, Option, Some, None, is_some, if◌then◌else◌, slice_set, ◌*◌, All, AllPairs, Contains}
+use Rattle.board_core.specs.declared.piece.Piece.{Piece}
+use Rattle.board_core.specs.declared.piece.Side.{Side}
+use Rattle.board_core.specs.declared.piece.Side.TheVariants.{White, Black}
+use Rattle.board_core.specs.declared.piece.Kind.{Kind}
+use Rattle.board_core.specs.declared.piece.Kind.TheVariants.{Pawn, Knight, Bishop, Rook, Queen, King}
+use Rattle.board_core.specs.declared.piece.Promotion.{Promotion}
+use Rattle.board_core.specs.declared.piece.Promotion.TheVariants.{Queen as ToQueen, Rook as ToRook, Bishop as ToBishop, Knight as ToKnight}
+use Rattle.board_core.specs.declared.piece.Wing.{Wing}
+use Rattle.board_core.specs.declared.piece.Wing.TheVariants.{KingSide, QueenSide}
+use Rattle.board_core.specs.declared.parts.Rights.{Rights}
+use Rattle.board_core.specs.declared.parts.Parts.{Parts}
+use Rattle.board_core.specs.declared.moves.Move.{Move}
+use Rattle.board_core.specs.declared.generation.Guard.{Guard}
+use Rattle.board_core.specs.declared.moves.MoveCase.{MoveCase}
+use Rattle.board_core.specs.declared.moves.MoveCase.TheVariants.{Plain, Advance, DoubleStep, PawnCapture, EnPassant, Castle}
+use Rattle.board_core.specs.Side.{other}
+use Rattle.board_core.specs.Square.{rank_of}
+use Rattle.board_core.specs.Attack.{man_at, Along, IsClear, Reaches, IsPawnAttack, IsAttacked, IsInCheck, forward}
+use Rattle.board_core.specs.Castling.{has_right, king_home, rook_home, king_end, rook_end}
+use Rattle.board_core.specs.Moves.{Stands, IsLegal, place_of}
+use Rattle.board_core.specs.Square.{file_of}
+use Rattle.board_core.specs.declared.attack.Direction.{Direction}
+use Rattle.board_core.specs.declared.attack.Direction.TheVariants.{North, South, East, West, NorthEast, NorthWest, SouthEast, SouthWest}
+use Rattle.board_core.specs.declared.attack.Hop.{Hop}
+use Rattle.board_core.specs.declared.attack.Hop.TheVariants.{EastEastNorth, EastEastSouth, EastNorthNorth, EastSouthSouth, WestWestNorth, WestWestSouth, WestNorthNorth, WestSouthSouth}
+
+-- a man of this side, the first that is seen from `to` in this direction, attacks `to`
+pub record IsStruck (men : List (Option Piece)) (by : Side) (direction : Direction) (to : ℕ) : Type 0 where
+  pub from : ℕ
+  pub kind : Kind
+  pub distance : ℕ
+  pub on_board : from < 64
+  pub away : 0 < distance
+  pub along : Along direction distance to from
+  pub clear : IsClear men direction distance to
+  pub stands : man_at men from ≡ Some (record { side = by; kind = kind })
+  pub reaches : Reaches men by kind from to
+
+-- the eight steps of a knight
+abbrev pub IsHop : Hop → ℕ → ℕ → Type 0
+IsHop EastEastNorth from to = (file_of to ≡ file_of from + 2) × (rank_of to ≡ rank_of from + 1)
+IsHop EastEastSouth from to = (file_of to ≡ file_of from + 2) × (rank_of to + 1 ≡ rank_of from)
+IsHop EastNorthNorth from to = (file_of to ≡ file_of from + 1) × (rank_of to ≡ rank_of from + 2)
+IsHop EastSouthSouth from to = (file_of to ≡ file_of from + 1) × (rank_of to + 2 ≡ rank_of from)
+IsHop WestWestNorth from to = (file_of to + 2 ≡ file_of from) × (rank_of to ≡ rank_of from + 1)
+IsHop WestWestSouth from to = (file_of to + 2 ≡ file_of from) × (rank_of to + 1 ≡ rank_of from)
+IsHop WestNorthNorth from to = (file_of to + 1 ≡ file_of from) × (rank_of to ≡ rank_of from + 2)
+IsHop WestSouthSouth from to = (file_of to + 1 ≡ file_of from) × (rank_of to + 2 ≡ rank_of from)
+
+-- a knight of this side attacks `to` from there
+pub record IsHopped (men : List (Option Piece)) (by : Side) (hop : Hop) (to : ℕ) : Type 0 where
+  pub from : ℕ
+  pub on_board : from < 64
+  pub step : IsHop hop to from
+  pub stands : man_at men from ≡ Some (record { side = by; kind = Knight })
+
+-- k squares on in this direction there still is a square
+abbrev pub IsInside : Direction → ℕ → ℕ → Type 0
+IsInside North k from = rank_of from + k < 8
+IsInside South k from = k ≤ rank_of from
+IsInside East k from = file_of from + k < 8
+IsInside West k from = k ≤ file_of from
+IsInside NorthEast k from = (file_of from + k < 8) × (rank_of from + k < 8)
+IsInside NorthWest k from = (k ≤ file_of from) × (rank_of from + k < 8)
+IsInside SouthEast k from = (file_of from + k < 8) × (k ≤ rank_of from)
+IsInside SouthWest k from = (k ≤ file_of from) × (k ≤ rank_of from)
+
+-- the list has exactly the legal moves whose place is below n, each once and in order
+pub record HasLegalBelow (p : Parts) (n : ℕ) (moves : List Move) : Type 0 where
+  pub ordered : AllPairs (λ a b. place_of a < place_of b) moves
+  pub below : All (λ m. place_of m < n) moves
+  pub sound : All (IsLegal p) moves
+  pub complete : (m : Move) → IsLegal p m → place_of m < n → Contains moves m
+
+-- a king of this side stands on no other square
+abbrev pub IsOnlyKing : List (Option Piece) → Side → ℕ → Type 0
+IsOnlyKing men side k = (s : ℕ) → s < 64 → Stands men s side King → s ≡ k
+
+-- what is known of the king of the side that moves
+pub record IsGuard (p : Parts) (g : Guard) : Type 0 where
+  pub lone : IsTrue g.lone → IsOnlyKing p.men p.side g.king
+  pub calm : IsTrue g.calm → IsOnlyKing p.men p.side g.king × (IsAttacked p.men (other p.side) g.king → ⊥)
+
+-- the cases in which one man goes from one square to the other, and nothing else changes
+abbrev pub IsCarry : MoveCase → Type 0
+IsCarry Plain = Unit {0}
+IsCarry Advance = Unit {0}
+IsCarry DoubleStep = Unit {0}
+IsCarry PawnCapture = Unit {0}
+IsCarry EnPassant = ⊥
+IsCarry (Castle wing) = ⊥

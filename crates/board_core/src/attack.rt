@@ -1,0 +1,334 @@
+ghost use Rattle.std.specs.Prelude.{◌≡◌, ◌≢◌, ◌<◌, ◌≤◌, ◌↔◌, ◌+◌, ◌-◌, ℕ, IsTrue, IsSome, IfSome, IfNone};
+ghost use Rattle.board_core.specs.Search.{IsHop, IsHopped, IsInside, IsStruck};
+ghost use Rattle.board_core.specs.Attack.{Along, IsClear, Goes, Ray, IsKingStep, IsKnightStep, IsPawnAttack, Reaches, IsAttacked, forward};
+
+use crate::piece::{Kind, Men, Piece, Side};
+use crate::square::Square;
+
+/// The eight ways in which a queen goes.
+#[derive(Clone, Copy, PartialEq, Eq, Debug)]
+pub enum Direction {
+    North,
+    South,
+    East,
+    West,
+    NorthEast,
+    NorthWest,
+    SouthEast,
+    SouthWest,
+}
+
+/// The eight steps of a knight.
+#[derive(Clone, Copy, PartialEq, Eq, Debug)]
+pub enum Hop {
+    EastEastNorth,
+    EastEastSouth,
+    EastNorthNorth,
+    EastSouthSouth,
+    WestWestNorth,
+    WestWestSouth,
+    WestNorthNorth,
+    WestSouthSouth,
+}
+
+/// The square that lies k squares on.
+pub fn along(direction: Direction, from: Square, k: u8) -> Square
+    requires { IsInside direction k from }
+    ensures { Along direction k from result }
+{
+    let place = from.number();
+    match direction {
+        Direction::North => Square::at(place + 8 * k),
+        Direction::South => Square::at(place - 8 * k),
+        Direction::East => Square::at(place + k),
+        Direction::West => Square::at(place - k),
+        Direction::NorthEast => Square::at(place + 9 * k),
+        Direction::NorthWest => Square::at(place + 7 * k),
+        Direction::SouthEast => Square::at(place - 7 * k),
+        Direction::SouthWest => Square::at(place - 9 * k),
+    }
+}
+
+/// The direction and the distance from one square to another, where a queen could go there.
+fn line(from: Square, to: Square) -> Option<(Direction, u8)>
+    ensures found { IfSome result (λ l. (0 < l.1) × Along l.0 l.1 from to) }
+    ensures none { IfNone result ((d : Direction) (n : ℕ) → 0 < n → Along d n from to → ⊥) }
+{
+    let (file, rank) = (from.file(), from.rank());
+    let (to_file, to_rank) = (to.file(), to.rank());
+    if to_file == file {
+        if to_rank > rank {
+            return Some((Direction::North, to_rank - rank));
+        }
+        if rank > to_rank {
+            return Some((Direction::South, rank - to_rank));
+        }
+        return None;
+    }
+    if to_rank == rank {
+        if to_file > file {
+            return Some((Direction::East, to_file - file));
+        }
+        return Some((Direction::West, file - to_file));
+    }
+    if to_file > file {
+        let n = to_file - file;
+        if to_rank == rank + n {
+            return Some((Direction::NorthEast, n));
+        }
+        if to_rank + n == rank {
+            return Some((Direction::SouthEast, n));
+        }
+        return None;
+    }
+    let n = file - to_file;
+    if to_rank == rank + n {
+        return Some((Direction::NorthWest, n));
+    }
+    if to_rank + n == rank {
+        return Some((Direction::SouthWest, n));
+    }
+    None
+}
+
+/// Whether all squares before the nth in this direction are empty.
+pub fn is_clear(men: &Men, direction: Direction, n: u8, from: Square) -> bool
+    requires { IsInside direction n from }
+    ensures { IsTrue result ↔ IsClear men.now direction n from }
+{
+    for k in 1..n {
+        let square = along(direction, from, k);
+        if men[square.number() as usize].is_some() {
+            return false;
+        }
+    }
+    true
+}
+
+/// The direction in which the pawns of this side go.
+pub fn forward(side: Side) -> Direction
+    ensures { result ≡ forward side }
+{
+    match side {
+        Side::White => Direction::North,
+        Side::Black => Direction::South,
+    }
+}
+
+/// Whether this kind of man goes any distance in this direction.
+fn goes(kind: Kind, direction: Direction) -> bool
+    ensures { IsTrue result ↔ Goes kind direction }
+{
+    let straight = match direction {
+        Direction::North | Direction::South | Direction::East | Direction::West => true,
+        _ => false,
+    };
+    match kind {
+        Kind::Bishop => !straight,
+        Kind::Rook => straight,
+        Kind::Queen => true,
+        _ => false,
+    }
+}
+
+fn slides(men: &Men, kind: Kind, from: Square, to: Square) -> bool
+    ensures { IsTrue result ↔ Ray men.now kind from to }
+{
+    match line(from, to) {
+        Some((direction, n)) => goes(kind, direction) && is_clear(men, direction, n, from),
+        None => false,
+    }
+}
+
+fn is_king_step(from: Square, to: Square) -> bool
+    ensures { IsTrue result ↔ IsKingStep from to }
+{
+    from != to && from.file().abs_diff(to.file()) <= 1 && from.rank().abs_diff(to.rank()) <= 1
+}
+
+fn is_knight_step(from: Square, to: Square) -> bool
+    ensures { IsTrue result ↔ IsKnightStep from to }
+{
+    let across = from.file().abs_diff(to.file());
+    let up = from.rank().abs_diff(to.rank());
+    across == 1 && up == 2 || across == 2 && up == 1
+}
+
+pub fn is_pawn_attack(side: Side, from: Square, to: Square) -> bool
+    ensures { IsTrue result ↔ IsPawnAttack side from to }
+{
+    if from.file().abs_diff(to.file()) != 1 {
+        return false;
+    }
+    match side {
+        Side::White => to.rank() == from.rank() + 1,
+        Side::Black => to.rank() + 1 == from.rank(),
+    }
+}
+
+/// Whether a man of this side and kind on `from` attacks `to`.
+pub fn reaches(men: &Men, side: Side, kind: Kind, from: Square, to: Square) -> bool
+    ensures { IsTrue result ↔ Reaches men.now side kind from to }
+{
+    match kind {
+        Kind::Pawn => is_pawn_attack(side, from, to),
+        Kind::Knight => is_knight_step(from, to),
+        Kind::King => is_king_step(from, to),
+        Kind::Bishop | Kind::Rook | Kind::Queen => slides(men, kind, from, to),
+    }
+}
+
+/// How many squares lie in this direction.
+pub fn room(direction: Direction, from: Square) -> u8
+    ensures inside { (k : ℕ) → k ≤ result ↔ IsInside direction k from }
+    ensures below { result < 8 }
+{
+    let east = 7 - from.file();
+    let north = 7 - from.rank();
+    let west = from.file();
+    let south = from.rank();
+    match direction {
+        Direction::North => north,
+        Direction::South => south,
+        Direction::East => east,
+        Direction::West => west,
+        Direction::NorthEast => north.min(east),
+        Direction::NorthWest => north.min(west),
+        Direction::SouthEast => south.min(east),
+        Direction::SouthWest => south.min(west),
+    }
+}
+
+/// Whether the first man that is seen from a square in this direction is one of this side that
+/// attacks it.
+fn is_struck(men: &Men, by: Side, direction: Direction, to: Square) -> bool
+    ensures { IsTrue result ↔ IsStruck men.now by direction to }
+{
+    let end = room(direction, to) + 1;
+    for k in 1..end {
+        let from = along(direction, to, k);
+        if let Some(man) = men[from.number() as usize] {
+            return man.side == by && reaches(men, by, man.kind, from, to);
+        }
+    }
+    false
+}
+
+/// The square to which a knight goes.
+pub fn hop_to(hop: Hop, from: Square) -> Option<Square>
+    ensures found { IfSome result (λ to. IsHop hop from to) }
+    ensures none { IfNone result ((to : ℕ) → to < 64 → IsHop hop from to → ⊥) }
+{
+    let (file, rank, place) = (from.file(), from.rank(), from.number());
+    match hop {
+        Hop::EastEastNorth => {
+            if file < 6 && rank < 7 {
+                return Some(Square::at(place + 10));
+            }
+        }
+        Hop::EastEastSouth => {
+            if file < 6 && rank > 0 {
+                return Some(Square::at(place - 6));
+            }
+        }
+        Hop::EastNorthNorth => {
+            if file < 7 && rank < 6 {
+                return Some(Square::at(place + 17));
+            }
+        }
+        Hop::EastSouthSouth => {
+            if file < 7 && rank > 1 {
+                return Some(Square::at(place - 15));
+            }
+        }
+        Hop::WestWestNorth => {
+            if file > 1 && rank < 7 {
+                return Some(Square::at(place + 6));
+            }
+        }
+        Hop::WestWestSouth => {
+            if file > 1 && rank > 0 {
+                return Some(Square::at(place - 10));
+            }
+        }
+        Hop::WestNorthNorth => {
+            if file > 0 && rank < 6 {
+                return Some(Square::at(place + 15));
+            }
+        }
+        Hop::WestSouthSouth => {
+            if file > 0 && rank > 1 {
+                return Some(Square::at(place - 17));
+            }
+        }
+    }
+    None
+}
+
+/// Whether a knight of this side attacks the square from there.
+fn is_hopped(men: &Men, by: Side, hop: Hop, to: Square) -> bool
+    ensures { IsTrue result ↔ IsHopped men.now by hop to }
+{
+    match hop_to(hop, to) {
+        Some(from) => match men[from.number() as usize] {
+            Some(man) => man.side == by && man.kind == Kind::Knight,
+            None => false,
+        },
+        None => false,
+    }
+}
+
+/// Whether some man of this side attacks the square.
+pub fn is_attacked(men: &Men, by: Side, to: Square) -> bool
+    ensures { IsTrue result ↔ IsAttacked men.now by to }
+{
+    if is_struck(men, by, Direction::North, to) {
+        return true;
+    }
+    if is_struck(men, by, Direction::South, to) {
+        return true;
+    }
+    if is_struck(men, by, Direction::East, to) {
+        return true;
+    }
+    if is_struck(men, by, Direction::West, to) {
+        return true;
+    }
+    if is_struck(men, by, Direction::NorthEast, to) {
+        return true;
+    }
+    if is_struck(men, by, Direction::NorthWest, to) {
+        return true;
+    }
+    if is_struck(men, by, Direction::SouthEast, to) {
+        return true;
+    }
+    if is_struck(men, by, Direction::SouthWest, to) {
+        return true;
+    }
+    if is_hopped(men, by, Hop::EastEastNorth, to) {
+        return true;
+    }
+    if is_hopped(men, by, Hop::EastEastSouth, to) {
+        return true;
+    }
+    if is_hopped(men, by, Hop::EastNorthNorth, to) {
+        return true;
+    }
+    if is_hopped(men, by, Hop::EastSouthSouth, to) {
+        return true;
+    }
+    if is_hopped(men, by, Hop::WestWestNorth, to) {
+        return true;
+    }
+    if is_hopped(men, by, Hop::WestWestSouth, to) {
+        return true;
+    }
+    if is_hopped(men, by, Hop::WestNorthNorth, to) {
+        return true;
+    }
+    if is_hopped(men, by, Hop::WestSouthSouth, to) {
+        return true;
+    }
+    false
+}

@@ -1,0 +1,191 @@
+ghost use Rattle.std.specs.Prelude.{◌≡◌, ◌≢◌, ◌<◌, ◌≤◌, ◌↔◌, ◌+◌, ◌-◌, ℕ, IsTrue, IfSome, IfNone, IfOk, OnOk, ◌*◌, Option, slice_set, is_some};
+ghost use Rattle.board_core.specs.Search.{HasLegalBelow, IsCarry, IsGuard, IsInside, IsOnlyKing};
+ghost use Rattle.board_core.specs.Attack.{Along, IsAttacked, man_at, forward, IsInCheck};
+ghost use Rattle.board_core.specs.Moves.{Stands, IsFree, IsTaken, Promotes, IsPlain, IsAdvance, IsDoubleStep, IsPawnCapture, IsEnPassant, IsCastle, IsMove, Legal, IsLegal, HasLegal, place_of, after, rights_after, keeps_right, en_passant_after, halfmove_after, behind, one_more, kind_of, first_rank, last_rank, IsBetween, IsOnWay, carried, landed, men_after, fullmove_after};
+ghost use Rattle.std.specs.Int.{bit_at};
+ghost use Rattle.board_core.specs.Side.{other};
+ghost use Rattle.board_core.specs.Square.{rank_of};
+ghost use Rattle.board_core.specs.Castling.{king_home, rook_home, king_end};
+
+use crate::moves::{Move, MoveCase};
+use crate::parts::{self, Parts, Rights};
+use crate::piece::{Kind, Men, Piece, Promotion, Side, Wing};
+use crate::rules::{case_of, is_empty};
+use crate::square::Square;
+
+/// Moves what stands on `from` to `to`, where it is then this man.
+fn carry(men: &mut Men, from: Square, to: Square, man: Option<Piece>)
+    ensures { men.new ≡ carried men.old from to man }
+{
+    men[from.number() as usize] = None;
+    men[to.number() as usize] = man;
+}
+
+fn promoted(promotion: Promotion) -> Kind
+    ensures { result ≡ kind_of promotion }
+{
+    match promotion {
+        Promotion::Queen => Kind::Queen,
+        Promotion::Rook => Kind::Rook,
+        Promotion::Bishop => Kind::Bishop,
+        Promotion::Knight => Kind::Knight,
+    }
+}
+
+fn landed(side: Side, man: Option<Piece>, promotion: Option<Promotion>) -> Option<Piece>
+    ensures { result ≡ landed side man promotion }
+{
+    match promotion {
+        Some(kind) => Some(Piece {
+            side,
+            kind: promoted(kind),
+        }),
+        None => man,
+    }
+}
+
+fn keeps_right(p: &Parts, m: &Move, side: Side, wing: Wing) -> bool
+    ensures { result ≡ keeps_right p.now m.now side wing }
+{
+    p.rights.has(side, wing)
+        && m.from != parts::king_home(side)
+        && m.from != parts::rook_home(side, wing)
+        && m.to != parts::rook_home(side, wing)
+}
+
+fn rights_after(p: &Parts, m: &Move) -> Rights
+    ensures { result ≡ rights_after p.now m.now }
+{
+    Rights {
+        white_king: keeps_right(p, m, Side::White, Wing::KingSide),
+        white_queen: keeps_right(p, m, Side::White, Wing::QueenSide),
+        black_king: keeps_right(p, m, Side::Black, Wing::KingSide),
+        black_queen: keeps_right(p, m, Side::Black, Wing::QueenSide),
+    }
+}
+
+fn one_more(n: u16) -> u16
+    ensures { result ≡ one_more n }
+{
+    if n >= 9999 { 9999 } else { n + 1 }
+}
+
+fn fullmove_after(side: Side, n: u16) -> u16
+    ensures { result ≡ fullmove_after side n }
+{
+    match side {
+        Side::White => n,
+        Side::Black => one_more(n),
+    }
+}
+
+fn halfmove_after(p: &Parts, m: &Move, case: MoveCase) -> u16
+    ensures { result ≡ halfmove_after p.now m.now case }
+{
+    match case {
+        MoveCase::Plain => {
+            if is_empty(&p.men, m.to) {
+                one_more(p.halfmove)
+            } else {
+                0
+            }
+        }
+        MoveCase::Castle(_) => one_more(p.halfmove),
+        _ => 0,
+    }
+}
+
+/// The square behind this one, as this side goes.
+pub fn behind(side: Side, square: Square) -> Square
+    requires { IsInside (forward (other side)) 1 square }
+    ensures { result ≡ behind side square }
+{
+    match side {
+        Side::White => Square::at(square.number() - 8),
+        Side::Black => Square::at(square.number() + 8),
+    }
+}
+
+/// Where the men stand after the move.
+pub fn men_after(p: &Parts, m: &Move, case: MoveCase) -> Men
+    requires { IsMove p.now m.now case }
+    ensures { result ≡ men_after p.now m.now case }
+{
+    let man = p.men[m.from.number() as usize];
+    let mut men = p.men;
+    match case {
+        MoveCase::Plain | MoveCase::DoubleStep => carry(&mut men, m.from, m.to, man),
+        MoveCase::Advance | MoveCase::PawnCapture => {
+            carry(&mut men, m.from, m.to, landed(p.side, man, m.promotion));
+        }
+        MoveCase::EnPassant => {
+            carry(&mut men, m.from, m.to, man);
+            let passed = behind(p.side, m.to);
+            men[passed.number() as usize] = None;
+        }
+        MoveCase::Castle(wing) => {
+            carry(&mut men, m.from, m.to, man);
+            let rook = Some(Piece {
+                side: p.side,
+                kind: Kind::Rook,
+            });
+            carry(
+                &mut men,
+                parts::rook_home(p.side, wing),
+                parts::rook_end(p.side, wing),
+                rook,
+            );
+        }
+    }
+    men
+}
+
+fn en_passant_after(p: &Parts, m: &Move, case: MoveCase) -> Option<Square>
+    requires { IsMove p.now m.now case }
+    ensures { result ≡ en_passant_after p.now m.now case }
+{
+    match case {
+        MoveCase::DoubleStep => Some(behind(p.side, m.to)),
+        _ => None,
+    }
+}
+
+/// The position after the move.
+#[tactic(auto, unfolding(crate::specs::Moves::after))]
+fn after(p: &Parts, m: &Move, case: MoveCase) -> Parts
+    requires { IsMove p.now m.now case }
+    ensures { result ≡ after p.now m.now case }
+{
+    Parts {
+        men: men_after(p, m, case),
+        side: p.side.other(),
+        rights: rights_after(p, m),
+        en_passant: en_passant_after(p, m, case),
+        halfmove: halfmove_after(p, m, case),
+        fullmove: fullmove_after(p.side, p.fullmove),
+    }
+}
+
+/// The position after the move, where the move is legal.
+pub fn play(p: &Parts, m: &Move) -> Option<Parts>
+    ensures legal { IfSome result (λ q. Legal p.now m.now q) }
+    ensures only { (q : Parts) → Legal p.now m.now q → result ≡ Some q }
+{
+    prove!(m.from.number() < 64);
+    prove!(m.to.number() < 64);
+    let case = case_of(p, m)?;
+    let q = after(p, m, case);
+    if parts::is_in_check(&q.men, p.side) {
+        return None;
+    }
+    Some(q)
+}
+
+pub fn is_legal(p: &Parts, m: &Move) -> bool
+    ensures { IsTrue result ↔ IsLegal p.now m.now }
+{
+    match play(p, m) {
+        Some(_) => true,
+        None => false,
+    }
+}

@@ -1,0 +1,278 @@
+ghost use Rattle.std.specs.Prelude.{◌≡◌, ◌<◌, ◌≤◌, ◌↔◌, ℕ, IsTrue, IfOk, IfErr, IfSome, count_by, ◌+◌};
+ghost use Rattle.board_core.specs.Position.{is_of, is_king_of, HasOneKingEach, HasFewMen, HasNoPawnOnEdge, IsRightHonest, HasHonestRights, IsQuiet, HasFairCounters, HasHonestEnPassant, IsPassed, passed_rank, IsFirstFault, IsPosition};
+ghost use Rattle.board_core.specs.Moves.{IsLegal, Legal, HasLegal};
+ghost use Rattle.board_core.specs.Attack.{man_at, IsInCheck};
+ghost use Rattle.board_core.specs.Side.{other};
+
+use crate::piece::{Kind, Men, Piece, Side, Wing};
+use crate::generation;
+use crate::moves::Move;
+use crate::playing;
+use crate::rules;
+use crate::parts::{self, Parts, Rights};
+use crate::square::Square;
+use std::alloc::{AllocError, Global};
+use std::marker::Model;
+
+/// What keeps parts from being a position.
+#[derive(Clone, Copy, PartialEq, Eq, Debug)]
+pub enum PositionFault {
+    BadKings,
+    TooManyMen,
+    PawnOnEdge,
+    BadCastling,
+    BadEnPassant,
+    OpponentInCheck,
+    BadCounter,
+}
+
+fn is_of(side: Side, man: Option<Piece>) -> bool
+    ensures { result ≡ is_of side man }
+{
+    match man {
+        Some(man) => match (side, man.side) {
+            (Side::White, Side::White) | (Side::Black, Side::Black) => true,
+            _ => false,
+        },
+        None => false,
+    }
+}
+
+fn is_king_of(side: Side, man: Option<Piece>) -> bool
+    ensures { result ≡ is_king_of side man }
+{
+    match man {
+        Some(man) => is_of(side, Some(man)) && man.kind == Kind::King,
+        None => false,
+    }
+}
+
+fn count_kings(men: &Men, side: Side) -> usize
+    ensures { result ≡ count_by (is_king_of side) men.now }
+{
+    men.iter().filter(|man| is_king_of(side, **man)).count()
+}
+
+pub fn count_men(men: &Men, side: Side) -> usize
+    ensures { result ≡ count_by (is_of side) men.now }
+{
+    men.iter().filter(|man| is_of(side, **man)).count()
+}
+
+fn has_one_king_each(men: &Men) -> bool
+    ensures { IsTrue result ↔ HasOneKingEach men.now }
+{
+    count_kings(men, Side::White) == 1 && count_kings(men, Side::Black) == 1
+}
+
+fn has_few_men(men: &Men) -> bool
+    ensures { IsTrue result ↔ HasFewMen men.now }
+{
+    count_men(men, Side::White) <= 16 && count_men(men, Side::Black) <= 16
+}
+
+fn has_no_pawn_on_edge(men: &Men) -> bool
+    ensures { IsTrue result ↔ HasNoPawnOnEdge men.now }
+{
+    for n in 0u8..64 {
+        if let Some(man) = men[n as usize] {
+            if man.kind == Kind::Pawn && (n < 8 || n >= 56) {
+                return false;
+            }
+        }
+    }
+    true
+}
+
+fn is_right_honest(p: &Parts, side: Side, wing: Wing) -> bool
+    ensures { IsTrue result ↔ IsRightHonest p.now side wing }
+{
+    !p.rights.has(side, wing)
+        || rules::stands(&p.men, parts::king_home(side), side, Kind::King)
+            && rules::stands(&p.men, parts::rook_home(side, wing), side, Kind::Rook)
+}
+
+fn has_honest_rights(p: &Parts) -> bool
+    ensures { IsTrue result ↔ HasHonestRights p.now }
+{
+    is_right_honest(p, Side::White, Wing::KingSide)
+        && is_right_honest(p, Side::White, Wing::QueenSide)
+        && is_right_honest(p, Side::Black, Wing::KingSide)
+        && is_right_honest(p, Side::Black, Wing::QueenSide)
+}
+
+/// Whether a pawn of the side that is not to move has just passed this square.
+fn is_passed(p: &Parts, square: Square) -> bool
+    ensures { IsTrue result ↔ IsPassed p.now square }
+{
+    if square.rank() != passed_rank(p.side) {
+        return false;
+    }
+    if !rules::is_empty(&p.men, square) {
+        return false;
+    }
+    let other = p.side.other();
+    rules::stands(&p.men, playing::behind(p.side, square), other, Kind::Pawn)
+        && rules::is_empty(&p.men, playing::behind(other, square))
+}
+
+fn passed_rank(side: Side) -> u8
+    ensures { result ≡ passed_rank side }
+{
+    match side {
+        Side::White => 5,
+        Side::Black => 2,
+    }
+}
+
+fn has_honest_en_passant(p: &Parts) -> bool
+    ensures { IsTrue result ↔ HasHonestEnPassant p.now }
+{
+    match p.en_passant {
+        Some(square) => is_passed(p, square),
+        None => true,
+    }
+}
+
+fn is_quiet(p: &Parts) -> bool
+    ensures { IsTrue result ↔ IsQuiet p.now }
+{
+    !parts::is_in_check(&p.men, p.side.other())
+}
+
+fn has_fair_counters(p: &Parts) -> bool
+    ensures { IsTrue result ↔ HasFairCounters p.now }
+{
+    p.halfmove <= 9999 && p.fullmove <= 9999
+}
+
+/// A position of chess.
+#[derive(Clone, Copy, PartialEq, Eq, Debug)]
+pub struct Position {
+    parts: Parts,
+}
+
+impl Model for Position {
+    ghost use Rattle.board_core.specs.declared.parts.Parts.{Parts};
+    ghost use Rattle.board_core.specs.Position.{IsPosition};
+
+    ghost Value = { Parts };
+
+    ghost view = { λ p. p.parts };
+
+    ghost invariant = { λ p. IsPosition p.parts };
+
+    ghost inverse = { λ v. record { parts = v } };
+}
+
+impl Position {
+    /// The position of these parts.
+    pub fn new(parts: Parts) -> Result<Position, PositionFault>
+        ensures ok { IfOk result (λ p. (p ≡ parts) × IsPosition parts) }
+        ensures err { IfErr result (λ fault. IsFirstFault parts fault) }
+    {
+        if !has_one_king_each(&parts.men) {
+            return Err(PositionFault::BadKings);
+        }
+        if !has_few_men(&parts.men) {
+            return Err(PositionFault::TooManyMen);
+        }
+        if !has_no_pawn_on_edge(&parts.men) {
+            return Err(PositionFault::PawnOnEdge);
+        }
+        if !has_honest_rights(&parts) {
+            return Err(PositionFault::BadCastling);
+        }
+        if !has_honest_en_passant(&parts) {
+            return Err(PositionFault::BadEnPassant);
+        }
+        if !is_quiet(&parts) {
+            return Err(PositionFault::OpponentInCheck);
+        }
+        if !has_fair_counters(&parts) {
+            return Err(PositionFault::BadCounter);
+        }
+        Ok(Position { parts })
+    }
+
+    pub fn parts(&self) -> &Parts
+        ensures value { result.now ≡ self.now }
+        ensures position { IsPosition self.now }
+    {
+        &self.parts
+    }
+
+    pub fn piece_at(&self, square: Square) -> Option<Piece>
+        ensures { result ≡ man_at self.now.men square }
+    {
+        self.parts.men[square.number() as usize]
+    }
+
+    pub fn in_check(&self) -> bool
+        ensures { IsTrue result ↔ IsInCheck self.now.men self.now.side }
+    {
+        parts::is_in_check(&self.parts.men, self.parts.side)
+    }
+
+    pub fn men(&self) -> u32
+        ensures { result ≡ count_by (is_of Side.White) self.now.men + count_by (is_of Side.Black) self.now.men }
+    {
+        count_men(&self.parts.men, Side::White) as u32
+            + count_men(&self.parts.men, Side::Black) as u32
+    }
+
+    pub fn is_legal(&self, m: &Move) -> bool
+        ensures { IsTrue result ↔ IsLegal self.now m.now }
+    {
+        playing::is_legal(&self.parts, m)
+    }
+
+    pub fn play(&self, m: &Move) -> Option<Position>
+        ensures legal { IfSome result (λ q. Legal self.now m.now q) }
+        ensures only { (q : Parts) → Legal self.now m.now q → result ≡ Some q }
+    {
+        let parts = playing::play(&self.parts, m)?;
+        Some(Position { parts })
+    }
+}
+
+impl Position {
+    /// The legal moves, each once, in order of from, to and promotion.
+    pub fn legal(&self, alloc: Global) -> Result<Vec<Move>, AllocError>
+        ensures { IfOk result (λ moves. HasLegal self.now moves.items) }
+    {
+        generation::legal(&self.parts, alloc)
+    }
+}
+
+impl Position {
+    pub fn side(&self) -> Side
+        ensures { result ≡ self.now.side }
+    {
+        self.parts.side
+    }
+
+    pub fn rights(&self) -> Rights
+        ensures { result ≡ self.now.rights }
+    {
+        self.parts.rights
+    }
+
+    pub fn en_passant(&self) -> Option<Square>
+        ensures { result ≡ self.now.en_passant }
+    {
+        self.parts.en_passant
+    }
+
+    pub fn halfmove(&self) -> u16
+        ensures { result ≡ self.now.halfmove }
+    {
+        self.parts.halfmove
+    }
+
+    pub fn fullmove(&self) -> u16
+        ensures { result ≡ self.now.fullmove }
+    {
+        self.parts.fullmove
+    }
+}

@@ -1,0 +1,204 @@
+ghost use Rattle.std.specs.Prelude.{◌≡◌, ◌≢◌, ◌<◌, ◌≤◌, ◌↔◌, ◌+◌, ◌-◌, ℕ, IsTrue, IfSome, IfNone, IfOk, OnOk, ◌*◌, Option, slice_set, is_some};
+ghost use Rattle.board_core.specs.Search.{HasLegalBelow, IsCarry, IsGuard, IsInside, IsOnlyKing};
+ghost use Rattle.board_core.specs.Attack.{Along, IsAttacked, man_at, forward, IsInCheck};
+ghost use Rattle.board_core.specs.Moves.{Stands, IsFree, IsTaken, Promotes, IsPlain, IsAdvance, IsDoubleStep, IsPawnCapture, IsEnPassant, IsCastle, IsMove, Legal, IsLegal, HasLegal, place_of, after, rights_after, keeps_right, en_passant_after, halfmove_after, behind, one_more, kind_of, first_rank, last_rank, IsBetween, IsOnWay, carried, landed, men_after, fullmove_after};
+ghost use Rattle.std.specs.Int.{bit_at};
+ghost use Rattle.board_core.specs.Side.{other};
+ghost use Rattle.board_core.specs.Square.{rank_of};
+ghost use Rattle.board_core.specs.Castling.{king_home, rook_home, king_end};
+
+use crate::attack;
+use crate::moves::{Move, MoveCase};
+use crate::parts::{self, Parts};
+use crate::piece::{Kind, Men, Side, Wing};
+use crate::square::Square;
+
+pub fn stands(men: &Men, square: Square, side: Side, kind: Kind) -> bool
+    ensures { IsTrue result ↔ Stands men.now square side kind }
+{
+    match men[square.number() as usize] {
+        Some(man) => man.side == side && man.kind == kind,
+        None => false,
+    }
+}
+
+pub fn is_empty(men: &Men, square: Square) -> bool
+    ensures { IsTrue result ↔ (man_at men.now square ≡ None) }
+{
+    men[square.number() as usize].is_none()
+}
+
+pub fn is_taken(men: &Men, side: Side, square: Square) -> bool
+    ensures taken { IsTrue result → IsTaken men.now side square }
+    ensures free { (IsTrue result → ⊥) → IsFree men.now side square }
+{
+    match men[square.number() as usize] {
+        Some(man) => man.side == side,
+        None => false,
+    }
+}
+
+/// Whether `to` is n squares before `from`, seen from this side.
+fn is_ahead(side: Side, n: u8, from: Square, to: Square) -> bool
+    requires { n < 8 }
+    ensures { IsTrue result ↔ Along (forward side) n from to }
+{
+    from.file() == to.file()
+        && match side {
+            Side::White => to.rank() == from.rank() + n,
+            Side::Black => to.rank() + n == from.rank(),
+        }
+}
+
+pub fn last_rank(side: Side) -> u8
+    ensures { result ≡ last_rank side }
+{
+    match side {
+        Side::White => 7,
+        Side::Black => 0,
+    }
+}
+
+fn first_rank(side: Side) -> u8
+    ensures { result ≡ first_rank side }
+{
+    match side {
+        Side::White => 1,
+        Side::Black => 6,
+    }
+}
+
+fn promotes(side: Side, m: &Move) -> bool
+    ensures { IsTrue result ↔ Promotes side m.now }
+{
+    match m.promotion {
+        Some(_) => m.to.rank() == last_rank(side),
+        None => m.to.rank() != last_rank(side),
+    }
+}
+
+fn is_plain(p: &Parts, m: &Move) -> bool
+    ensures { IsTrue result ↔ IsPlain p.now m.now }
+{
+    match p.men[m.from.number() as usize] {
+        Some(man) => {
+            man.side == p.side
+                && man.kind != Kind::Pawn
+                && m.promotion.is_none()
+                && attack::reaches(&p.men, p.side, man.kind, m.from, m.to)
+                && !is_taken(&p.men, p.side, m.to)
+        }
+        None => false,
+    }
+}
+
+fn is_advance(p: &Parts, m: &Move) -> bool
+    ensures { IsTrue result ↔ IsAdvance p.now m.now }
+{
+    stands(&p.men, m.from, p.side, Kind::Pawn)
+        && is_ahead(p.side, 1, m.from, m.to)
+        && is_empty(&p.men, m.to)
+        && promotes(p.side, m)
+}
+
+fn is_double_step(p: &Parts, m: &Move) -> bool
+    ensures { IsTrue result ↔ IsDoubleStep p.now m.now }
+{
+    stands(&p.men, m.from, p.side, Kind::Pawn)
+        && m.from.rank() == first_rank(p.side)
+        && is_ahead(p.side, 2, m.from, m.to)
+        && m.promotion.is_none()
+        && is_empty(&p.men, m.to)
+        && attack::is_clear(&p.men, attack::forward(p.side), 2, m.from)
+}
+
+fn is_pawn_capture(p: &Parts, m: &Move) -> bool
+    ensures { IsTrue result ↔ IsPawnCapture p.now m.now }
+{
+    stands(&p.men, m.from, p.side, Kind::Pawn)
+        && attack::is_pawn_attack(p.side, m.from, m.to)
+        && is_taken(&p.men, p.side.other(), m.to)
+        && promotes(p.side, m)
+}
+
+fn is_en_passant(p: &Parts, m: &Move) -> bool
+    ensures { IsTrue result ↔ IsEnPassant p.now m.now }
+{
+    stands(&p.men, m.from, p.side, Kind::Pawn)
+        && attack::is_pawn_attack(p.side, m.from, m.to)
+        && p.en_passant == Some(m.to)
+        && m.promotion.is_none()
+        && is_empty(&p.men, m.to)
+}
+
+/// Whether all squares strictly between two squares of a rank are empty.
+fn is_way_empty(men: &Men, a: Square, b: Square) -> bool
+    ensures { IsTrue result ↔ ((s : ℕ) → IsBetween a s b → man_at men.now s ≡ None) }
+{
+    let low = a.number().min(b.number());
+    let high = a.number().max(b.number());
+    for s in low + 1..high {
+        if men[s as usize].is_some() {
+            return false;
+        }
+    }
+    true
+}
+
+/// Whether no man of this side attacks a square from one to the other.
+fn is_way_safe(men: &Men, by: Side, a: Square, b: Square) -> bool
+    ensures { IsTrue result ↔ ((s : ℕ) → IsOnWay a s b → IsAttacked men.now by s → ⊥) }
+{
+    let low = a.number().min(b.number());
+    let high = a.number().max(b.number());
+    for s in low..high + 1 {
+        if attack::is_attacked(men, by, Square::at(s)) {
+            return false;
+        }
+    }
+    true
+}
+
+fn is_castle(p: &Parts, m: &Move, wing: Wing) -> bool
+    ensures { IsTrue result ↔ IsCastle p.now m.now wing }
+{
+    let home = parts::king_home(p.side);
+    let end = parts::king_end(p.side, wing);
+    if !stands(&p.men, m.from, p.side, Kind::King) {
+        return false;
+    }
+    if !p.rights.has(p.side, wing) {
+        return false;
+    }
+    if m.from != home || m.to != end || m.promotion.is_some() {
+        return false;
+    }
+    if !is_way_empty(&p.men, home, parts::rook_home(p.side, wing)) {
+        return false;
+    }
+    is_way_safe(&p.men, p.side.other(), home, end)
+}
+
+/// The case of the rules under which the move goes, leaving the king's safety aside.
+pub fn case_of(p: &Parts, m: &Move) -> Option<MoveCase>
+    ensures found { IfSome result (λ c. IsMove p.now m.now c) }
+    ensures only { (c : MoveCase) → IsMove p.now m.now c → result ≡ Some c }
+{
+    if is_plain(p, m) {
+        Some(MoveCase::Plain)
+    } else if is_advance(p, m) {
+        Some(MoveCase::Advance)
+    } else if is_double_step(p, m) {
+        Some(MoveCase::DoubleStep)
+    } else if is_pawn_capture(p, m) {
+        Some(MoveCase::PawnCapture)
+    } else if is_en_passant(p, m) {
+        Some(MoveCase::EnPassant)
+    } else if is_castle(p, m, Wing::KingSide) {
+        Some(MoveCase::Castle(Wing::KingSide))
+    } else if is_castle(p, m, Wing::QueenSide) {
+        Some(MoveCase::Castle(Wing::QueenSide))
+    } else {
+        None
+    }
+}

@@ -1,0 +1,263 @@
+ghost use Rattle.std.specs.Prelude.{◌≡◌, ◌≢◌, ◌<◌, ◌≤◌, ◌↔◌, ◌+◌, ◌-◌, ◌⊎◌, ℕ, IsTrue, Some, None};
+ghost use Rattle.std.specs.Int.{bit_at};
+ghost use Rattle.board_core.specs.Search.{IsHop, IsInside};
+ghost use Rattle.board_core.specs.Attack.{Along, IsClear, IsStraight, IsDiagonal, Ray, IsKingStep, IsKnightStep, IsPawnAttack, Reaches, forward, man_at};
+ghost use Rattle.board_core.specs.Moves.{Stands, IsFree, IsTaken, IsLegal, IsMove};
+ghost use Rattle.board_core.specs.Castling.{has_right, king_end};
+ghost use Rattle.board_core.specs.declared.moves.Move.{Move};
+ghost use Rattle.board_core.specs.Side.{other};
+ghost use Rattle.board_core.specs.declared.attack.Direction.{Direction};
+
+use crate::attack::{self, Direction, Hop};
+use crate::piece::{Kind, Men, Side, Wing};
+use crate::rules;
+use crate::parts::{self, Parts};
+use crate::square::Square;
+
+/// The mask with this square.
+fn with(mask: u64, square: Square) -> u64
+    ensures here { bit_at result square ≡ 1 }
+    ensures kept { (s : ℕ) → bit_at mask s ≡ 1 → bit_at result s ≡ 1 }
+{
+    mask | 1u64 << square.number()
+}
+
+/// The mask without this square.
+pub fn without(mask: u64, square: Square) -> u64
+    ensures gone { bit_at result square ≡ 0 }
+    ensures kept { (s : ℕ) → s < 64 → s ≢ square → bit_at result s ≡ bit_at mask s }
+{
+    mask & !(1u64 << square.number())
+}
+
+/// The lowest square of the mask.
+pub fn lowest(mask: u64) -> Square
+    requires { 0 < mask }
+    ensures here { bit_at mask result ≡ 1 }
+    ensures first { (s : ℕ) → s < result → bit_at mask s ≡ 0 }
+{
+    Square::at(mask.trailing_zeros() as u8)
+}
+
+/// The mask with the squares in this direction up to the first man, and his where he can be taken.
+fn with_ray(men: &Men, side: Side, direction: Direction, from: Square, mask: u64) -> u64
+    ensures kept { (s : ℕ) → bit_at mask s ≡ 1 → bit_at result s ≡ 1 }
+    ensures reached { (n s : ℕ) → 0 < n → s < 64 → Along direction n from s
+        → IsClear men.now direction n from → IsFree men.now side s → bit_at result s ≡ 1 }
+{
+    let end = attack::room(direction, from) + 1;
+    let mut all = mask;
+    for k in 1..end {
+        let to = attack::along(direction, from, k);
+        if let Some(man) = men[to.number() as usize] {
+            if man.side == side {
+                return all;
+            }
+            return with(all, to);
+        }
+        all = with(all, to);
+    }
+    all
+}
+
+/// The mask with the next square in this direction, unless a man of this side stands there.
+fn with_step(men: &Men, side: Side, direction: Direction, from: Square, mask: u64) -> u64
+    ensures kept { (s : ℕ) → bit_at mask s ≡ 1 → bit_at result s ≡ 1 }
+    ensures reached { (s : ℕ) → s < 64 → Along direction 1 from s → IsFree men.now side s
+        → bit_at result s ≡ 1 }
+{
+    if attack::room(direction, from) == 0 {
+        return mask;
+    }
+    let to = attack::along(direction, from, 1);
+    if rules::is_taken(men, side, to) {
+        return mask;
+    }
+    with(mask, to)
+}
+
+/// The mask with the square of this step of a knight, unless a man of this side stands there.
+fn with_hop(men: &Men, side: Side, hop: Hop, from: Square, mask: u64) -> u64
+    ensures kept { (s : ℕ) → bit_at mask s ≡ 1 → bit_at result s ≡ 1 }
+    ensures reached { (s : ℕ) → s < 64 → IsHop hop from s → IsFree men.now side s
+        → bit_at result s ≡ 1 }
+{
+    match attack::hop_to(hop, from) {
+        Some(to) => {
+            if rules::is_taken(men, side, to) {
+                mask
+            } else {
+                with(mask, to)
+            }
+        }
+        None => mask,
+    }
+}
+
+/// The mask with the squares that a rook reaches.
+fn with_straight(men: &Men, side: Side, from: Square, mask: u64) -> u64
+    ensures kept { (s : ℕ) → bit_at mask s ≡ 1 → bit_at result s ≡ 1 }
+    ensures reached { (d : Direction) (n s : ℕ) → IsStraight d → 0 < n → s < 64 → Along d n from s
+        → IsClear men.now d n from → IsFree men.now side s → bit_at result s ≡ 1 }
+{
+    let north = with_ray(men, side, Direction::North, from, mask);
+    let south = with_ray(men, side, Direction::South, from, north);
+    let east = with_ray(men, side, Direction::East, from, south);
+    with_ray(men, side, Direction::West, from, east)
+}
+
+/// The mask with the squares that a bishop reaches.
+fn with_diagonal(men: &Men, side: Side, from: Square, mask: u64) -> u64
+    ensures kept { (s : ℕ) → bit_at mask s ≡ 1 → bit_at result s ≡ 1 }
+    ensures reached { (d : Direction) (n s : ℕ) → IsDiagonal d → 0 < n → s < 64 → Along d n from s
+        → IsClear men.now d n from → IsFree men.now side s → bit_at result s ≡ 1 }
+{
+    let a = with_ray(men, side, Direction::NorthEast, from, mask);
+    let b = with_ray(men, side, Direction::NorthWest, from, a);
+    let c = with_ray(men, side, Direction::SouthEast, from, b);
+    with_ray(men, side, Direction::SouthWest, from, c)
+}
+
+/// The squares next to this one, but for those of men of this side.
+fn king_targets(men: &Men, side: Side, from: Square) -> u64
+    ensures { (s : ℕ) → s < 64 → IsKingStep from s → IsFree men.now side s → bit_at result s ≡ 1 }
+{
+    let a = with_step(men, side, Direction::North, from, 0);
+    let b = with_step(men, side, Direction::South, from, a);
+    let c = with_step(men, side, Direction::East, from, b);
+    let d = with_step(men, side, Direction::West, from, c);
+    let e = with_step(men, side, Direction::NorthEast, from, d);
+    let f = with_step(men, side, Direction::NorthWest, from, e);
+    let g = with_step(men, side, Direction::SouthEast, from, f);
+    with_step(men, side, Direction::SouthWest, from, g)
+}
+
+/// The squares that a knight reaches, but for those of men of this side.
+fn knight_targets(men: &Men, side: Side, from: Square) -> u64
+    ensures { (s : ℕ) → s < 64 → IsKnightStep from s → IsFree men.now side s → bit_at result s ≡ 1 }
+{
+    let a = with_hop(men, side, Hop::EastEastNorth, from, 0);
+    let b = with_hop(men, side, Hop::EastEastSouth, from, a);
+    let c = with_hop(men, side, Hop::EastNorthNorth, from, b);
+    let d = with_hop(men, side, Hop::EastSouthSouth, from, c);
+    let e = with_hop(men, side, Hop::WestWestNorth, from, d);
+    let f = with_hop(men, side, Hop::WestWestSouth, from, e);
+    let g = with_hop(men, side, Hop::WestNorthNorth, from, f);
+    with_hop(men, side, Hop::WestSouthSouth, from, g)
+}
+
+/// The squares that a man other than a pawn may go to by a step or along a line.
+fn plain_targets(men: &Men, side: Side, kind: Kind, from: Square) -> u64
+    ensures { (s : ℕ) → kind ≢ Kind.Pawn → s < 64 → Reaches men.now side kind from s
+        → IsFree men.now side s → bit_at result s ≡ 1 }
+{
+    match kind {
+        Kind::Pawn => 0,
+        Kind::Knight => knight_targets(men, side, from),
+        Kind::King => king_targets(men, side, from),
+        Kind::Bishop => with_diagonal(men, side, from, 0),
+        Kind::Rook => with_straight(men, side, from, 0),
+        Kind::Queen => {
+            let straight = with_straight(men, side, from, 0);
+            with_diagonal(men, side, from, straight)
+        }
+    }
+}
+
+/// The mask with the square n squares before a pawn, where it is empty.
+fn with_advance(men: &Men, side: Side, n: u8, from: Square, mask: u64) -> u64
+    requires { n < 8 }
+    ensures kept { (s : ℕ) → bit_at mask s ≡ 1 → bit_at result s ≡ 1 }
+    ensures reached { (s : ℕ) → s < 64 → Along (forward side) n from s → man_at men.now s ≡ None
+        → bit_at result s ≡ 1 }
+{
+    let direction = attack::forward(side);
+    if attack::room(direction, from) < n {
+        return mask;
+    }
+    let to = attack::along(direction, from, n);
+    if !rules::is_empty(men, to) {
+        return mask;
+    }
+    with(mask, to)
+}
+
+/// The mask with the next square in this direction, where a pawn may take there.
+fn with_capture(p: &Parts, direction: Direction, from: Square, mask: u64) -> u64
+    ensures kept { (s : ℕ) → bit_at mask s ≡ 1 → bit_at result s ≡ 1 }
+    ensures enemy { (s : ℕ) → s < 64 → Along direction 1 from s
+        → IsTaken p.now.men (other p.now.side) s → bit_at result s ≡ 1 }
+    ensures passed { (s : ℕ) → s < 64 → Along direction 1 from s → p.now.en_passant ≡ Some s
+        → bit_at result s ≡ 1 }
+{
+    if attack::room(direction, from) == 0 {
+        return mask;
+    }
+    let to = attack::along(direction, from, 1);
+    if rules::is_taken(&p.men, p.side.other(), to) || p.en_passant == Some(to) {
+        return with(mask, to);
+    }
+    mask
+}
+
+/// The mask with the squares on which a pawn may take.
+fn with_captures(p: &Parts, from: Square, mask: u64) -> u64
+    ensures kept { (s : ℕ) → bit_at mask s ≡ 1 → bit_at result s ≡ 1 }
+    ensures enemy { (s : ℕ) → s < 64 → IsPawnAttack p.now.side from s
+        → IsTaken p.now.men (other p.now.side) s → bit_at result s ≡ 1 }
+    ensures passed { (s : ℕ) → s < 64 → IsPawnAttack p.now.side from s → p.now.en_passant ≡ Some s
+        → bit_at result s ≡ 1 }
+{
+    match p.side {
+        Side::White => {
+            let east = with_capture(p, Direction::NorthEast, from, mask);
+            with_capture(p, Direction::NorthWest, from, east)
+        }
+        Side::Black => {
+            let east = with_capture(p, Direction::SouthEast, from, mask);
+            with_capture(p, Direction::SouthWest, from, east)
+        }
+    }
+}
+
+/// The squares that a pawn may go to.
+fn pawn_targets(p: &Parts, from: Square) -> u64
+    ensures ahead { (n s : ℕ) → 0 < n → n < 3 → s < 64 → Along (forward p.now.side) n from s
+        → man_at p.now.men s ≡ None → bit_at result s ≡ 1 }
+    ensures enemy { (s : ℕ) → s < 64 → IsPawnAttack p.now.side from s
+        → IsTaken p.now.men (other p.now.side) s → bit_at result s ≡ 1 }
+    ensures passed { (s : ℕ) → s < 64 → IsPawnAttack p.now.side from s → p.now.en_passant ≡ Some s
+        → bit_at result s ≡ 1 }
+{
+    let one = with_advance(&p.men, p.side, 1, from, 0);
+    let two = with_advance(&p.men, p.side, 2, from, one);
+    with_captures(p, from, two)
+}
+
+/// The mask with the square to which this side's king castles, while it has the right.
+fn with_castle(p: &Parts, wing: Wing, mask: u64) -> u64
+    ensures kept { (s : ℕ) → bit_at mask s ≡ 1 → bit_at result s ≡ 1 }
+    ensures reached { IsTrue (has_right p.now.rights p.now.side wing)
+        → bit_at result (king_end p.now.side wing) ≡ 1 }
+{
+    if p.rights.has(p.side, wing) {
+        return with(mask, parts::king_end(p.side, wing));
+    }
+    mask
+}
+
+/// A mask in which the squares are that the man on `from` may legally go to.
+pub fn targets(p: &Parts, kind: Kind, from: Square) -> u64
+    requires { Stands p.now.men from p.now.side kind }
+    ensures { (m : Move) → IsLegal p.now m → m.from ≡ from → bit_at result m.to ≡ 1 }
+{
+    match kind {
+        Kind::Pawn => pawn_targets(p, from),
+        Kind::King => {
+            let steps = plain_targets(&p.men, p.side, kind, from);
+            let short = with_castle(p, Wing::KingSide, steps);
+            with_castle(p, Wing::QueenSide, short)
+        }
+        _ => plain_targets(&p.men, p.side, kind, from),
+    }
+}
