@@ -3,7 +3,9 @@ use Rattle.std.specs.Prelude.{All, AllPairs}
 use Rattle.std.proofs.lemmas.List.Elements.{All-push, Contains-append_left, Contains-push}
 use Rattle.std.proofs.lemmas.List.{get_or_append_left, get_or_push, length_push}
 use Rattle.std.proofs.lemmas.Bool.{cases_lt}
-use Rattle.board_core.specs.Search.{HasLegalBelow}
+use Rattle.board_core.specs.Search.{HasListedBelow, IsListed, IsWanted}
+use Rattle.board_core.specs.declared.generation.Which.{Which}
+use Rattle.board_core.specs.declared.generation.Which.TheVariants.{Every}
 use Rattle.board_core.specs.declared.parts.Parts.{Parts}
 use Rattle.board_core.specs.declared.moves.Move.{Move}
 use Rattle.board_core.specs.declared.piece.Piece.{Piece}
@@ -15,7 +17,7 @@ use Rattle.board_core.specs.declared.piece.Kind.TheVariants.{Pawn, King}
 use Rattle.board_core.specs.declared.moves.MoveCase.{MoveCase}
 use Rattle.board_core.specs.declared.moves.MoveCase.TheVariants.{Plain, Advance, DoubleStep, PawnCapture, EnPassant, Castle}
 use Rattle.board_core.specs.Square.{rank_of}
-use Rattle.board_core.specs.Moves.{IsLegal, IsMove, IsTaken, Stands, last_rank, promotion_place, place_of, HasLegal}
+use Rattle.board_core.specs.Moves.{IsLegal, IsMove, IsTaken, Stands, last_rank, promotion_place, place_of, HasLegal, Lists}
 
 pub promotion_below : (o : Option Promotion) → promotion_place o < 5
 promotion_below None = omega arith
@@ -76,8 +78,8 @@ same_place a b la lb e =
     same_move _ _ _ _ _ _ from to kind
 
 -- there is no legal move from place a up to b
-pub HasLegalBelow-skip : (p : Parts) (a b : ℕ) (moves : List Move) → HasLegalBelow p a moves → a ≤ b → ((m : Move) → IsLegal p m → a ≤ place_of m → place_of m < b → ⊥) → HasLegalBelow p b moves
-HasLegalBelow-skip p a b moves h le none = record {
+pub HasListedBelow-skip : (p : Parts) (which : Which) (a b : ℕ) (moves : List Move) → HasListedBelow p which a moves → a ≤ b → ((m : Move) → IsListed which p m → a ≤ place_of m → place_of m < b → ⊥) → HasListedBelow p which b moves
+HasListedBelow-skip p which a b moves h le none = record {
   ordered = h.ordered;
   below = λ k d l. omega (arith, h.below k d l);
   sound = h.sound;
@@ -93,15 +95,15 @@ AllPairs-push R xs y h before = λ i j d lt within.
       | inr x ↦ rw (get_or_append_left xs (y ∷ []) d i old, get_or_push xs y d j (omega arith)) (before i d old)
     ]
 
-pub HasLegalBelow-push : (p : Parts) (m : Move) (moves : List Move) → HasLegalBelow p (place_of m) moves → IsLegal p m → HasLegalBelow p (place_of m + 1) (moves ++ m ∷ [])
-HasLegalBelow-push p m moves h legal = record {
+pub HasListedBelow-push : (p : Parts) (which : Which) (m : Move) (moves : List Move) → HasListedBelow p which (place_of m) moves → IsListed which p m → HasListedBelow p which (place_of m + 1) (moves ++ m ∷ [])
+HasListedBelow-push p which m moves h legal = record {
   ordered = AllPairs-push (λ a b. place_of a < place_of b) moves m h.ordered h.below;
   below = All-push (λ a. place_of a < place_of m + 1) moves m (λ k d l. omega (arith, h.below k d l)) (omega arith);
-  sound = All-push (IsLegal p) moves m h.sound legal;
+  sound = All-push (IsListed which p) moves m h.sound legal;
   complete = λ a l lt. elim (cases_lt (place_of a) (place_of m)) [
     | inl x ↦ Contains-append_left moves _ a (h.complete a l x)
     | inr y ↦
-        let e : a ≡ m = same_place a m l.1.to_board legal.1.to_board (omega arith) in
+        let e : a ≡ m = same_place a m l.0.1.to_board legal.0.1.to_board (omega arith) in
         rw e (Contains-push moves m)
   ];
 }
@@ -116,12 +118,20 @@ IsLegal-from p m s l low high =
     let k = promotion_below m.promotion in
     omega (arith, l.1.to_board)
 
--- a list of the legal moves below the last place has all of them
-pub HasLegal-all : (p : Parts) (n : ℕ) (moves : List Move) → HasLegalBelow p n moves → 20480 ≤ n → HasLegal p moves
-HasLegal-all p n moves h all = record {
+-- a list of the moves below the last place has all of them
+pub Lists-all : (p : Parts) (which : Which) (n : ℕ) (moves : List Move) → HasListedBelow p which n moves → 20480 ≤ n → Lists (IsListed which p) moves
+Lists-all p which n moves h all = record {
   ordered = h.ordered;
   sound = h.sound;
-  complete = λ m l. let k = promotion_below m.promotion in h.complete m l (omega (arith, l.1.to_board, l.1.from_board));
+  complete = λ m l. let k = promotion_below m.promotion in h.complete m l (omega (arith, l.0.1.to_board, l.0.1.from_board));
+}
+
+-- each legal move is asked for where every one is
+pub Lists-every : (p : Parts) (moves : List Move) → Lists (IsListed Every p) moves → HasLegal p moves
+Lists-every p moves h = record {
+  ordered = h.ordered;
+  sound = λ k d lt. (h.sound k d lt).0;
+  complete = λ m l. h.complete m (l, tt);
 }
 
 -- a legal move with a promotion is a pawn's to its last rank

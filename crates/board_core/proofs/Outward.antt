@@ -52,28 +52,28 @@ clear_back men d n from to h clear = λ k s away within b.
 step_of : (from to : ℕ) → IsKingStep from to → (d : Direction) × Along d 1 to from
 step_of from to h = elim (cases_lt (file_of to) (file_of from)) [
   | inl e ↦ elim (cases_lt (rank_of to) (rank_of from)) [
-      | inl n ↦ (NorthEast, omega arith)
-      | inr n ↦ elim (cases_lt (rank_of from) (rank_of to)) [
-          | inl s ↦ (SouthEast, omega arith)
-          | inr s ↦ (East, omega arith)
-        ]
+    | inl n ↦ (NorthEast, omega arith)
+    | inr n ↦ elim (cases_lt (rank_of from) (rank_of to)) [
+      | inl s ↦ (SouthEast, omega arith)
+      | inr s ↦ (East, omega arith)
     ]
+  ]
   | inr e ↦ elim (cases_lt (file_of from) (file_of to)) [
-      | inl w ↦ elim (cases_lt (rank_of to) (rank_of from)) [
-          | inl n ↦ (NorthWest, omega arith)
-          | inr n ↦ elim (cases_lt (rank_of from) (rank_of to)) [
-              | inl s ↦ (SouthWest, omega arith)
-              | inr s ↦ (West, omega arith)
-            ]
-        ]
-      | inr w ↦ elim (cases_lt (rank_of to) (rank_of from)) [
-          | inl n ↦ (North, omega arith)
-          | inr n ↦ elim (cases_lt (rank_of from) (rank_of to)) [
-              | inl s ↦ (South, omega arith)
-              | inr s ↦ absurd (h.0 (omega arith))
-            ]
-        ]
+    | inl w ↦ elim (cases_lt (rank_of to) (rank_of from)) [
+      | inl n ↦ (NorthWest, omega arith)
+      | inr n ↦ elim (cases_lt (rank_of from) (rank_of to)) [
+        | inl s ↦ (SouthWest, omega arith)
+        | inr s ↦ (West, omega arith)
+      ]
     ]
+    | inr w ↦ elim (cases_lt (rank_of to) (rank_of from)) [
+      | inl n ↦ (North, omega arith)
+      | inr n ↦ elim (cases_lt (rank_of from) (rank_of to)) [
+        | inl s ↦ (South, omega arith)
+        | inr s ↦ absurd (h.0 (omega arith))
+      ]
+    ]
+  ]
 ]
 
 -- a knight's step is one of the eight
@@ -168,11 +168,11 @@ pub struck_first : (men : List (Option Piece)) (by : Side) (d : Direction) (to k
 struck_first men by d to k s man h away clear along stands = elim (cases_lt h.distance k) [
   | inl lt ↦ absurd (none_some _ _ (clear h.distance h.from h.away lt h.along) h.stands)
   | inr ge ↦ elim (cases_lt k h.distance) [
-      | inl lt ↦ absurd (none_some _ _ (h.clear k s away lt along) stands)
-      | inr le ↦
-          let e : h.distance ≡ k = omega arith in
-          along_unique d k to h.from s (rw e at h.along) along
-    ]
+    | inl lt ↦ absurd (none_some _ _ (h.clear k s away lt along) stands)
+    | inr le ↦
+        let e : h.distance ≡ k = omega arith in
+        along_unique d k to h.from s (rw e at h.along) along
+  ]
 ]
 
 pub struck_within : (men : List (Option Piece)) (by : Side) (d : Direction) (to k : ℕ) → (h : IsStruck men by d to) → h.distance < k → IsClear men d k to → ⊥

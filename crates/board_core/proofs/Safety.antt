@@ -22,7 +22,7 @@ use Rattle.board_core.specs.Castling.{king_home, rook_home, king_end, rook_end}
 use Rattle.board_core.specs.Moves.{Stands, IsMove, IsLegal, Legal, carried, landed, behind, men_after, after, kind_of}
 use Rattle.board_core.proofs.Outward.{opposite, along_split, along_rest, along_distance}
 
-abbrev some_man : Side → Kind → Option Piece
+abbrev pub some_man : Side → Kind → Option Piece
 some_man side kind = Some (record { side = side; kind = kind })
 
 abbrev kind_on : Option Piece → Kind
@@ -33,7 +33,7 @@ abbrev side_on : Option Piece → Side
 side_on None = White
 side_on (Some man) = man.side
 
-none_man : (side : Side) (kind : Kind) (o : Option Piece) → o ≡ None → o ≡ some_man side kind → ⊥
+pub none_man : (side : Side) (kind : Kind) (o : Option Piece) → o ≡ None → o ≡ some_man side kind → ⊥
 none_man side kind o a b = let f = sym a ∙ b in cc
 
 carried_at_to : (men : List (Option Piece)) (from to : ℕ) (man : Option Piece) → length men ≡ 64 → to < 64 → man_at (carried men from to man) to ≡ man
@@ -59,20 +59,20 @@ spot : (men : List (Option Piece)) (f t : ℕ) (x : Option Piece) (s : ℕ) → 
 spot men f t x s len lf lt = elim (cases_eq s t) [
   | inl e ↦ inl (e, rw e (carried_at_to men f t x len lt))
   | inr nt ↦ elim (cases_eq s f) [
-      | inl e ↦ inr (inl (e, rw e (carried_at_from men f t x len lf (λ q. nt (e ∙ q)))))
-      | inr nf ↦ inr (inr (nf, carried_elsewhere men f t s x nf nt))
-    ]
+    | inl e ↦ inr (inl (e, rw e (carried_at_from men f t x len lf (λ q. nt (e ∙ q)))))
+    | inr nf ↦ inr (inr (nf, carried_elsewhere men f t s x nf nt))
+  ]
 ]
 
 pub only_carried : (men : List (Option Piece)) (side : Side) (k k' f t : ℕ) (x : Option Piece) → length men ≡ 64 → f < 64 → t < 64 → IsOnlyKing men side k → (x ≡ some_man side King → f ≡ k) → (f ≡ k → k' ≡ t) → (f ≢ k → k' ≡ k) → IsOnlyKing (carried men f t x) side k'
 only_carried men side k k' f t x len lf lt only moves there here = λ s b st. elim (spot men f t x s len lf lt) [
   | inl a ↦ a.0 ∙ sym (there (moves (sym a.1 ∙ st)))
   | inr r ↦ elim r [
-      | inl a ↦ absurd (none_man side King _ a.1 st)
-      | inr a ↦
-          let at : s ≡ k = only s b (sym a.1 ∙ st) in
-          at ∙ sym (here (λ e. a.0 (at ∙ sym e)))
-    ]
+    | inl a ↦ absurd (none_man side King _ a.1 st)
+    | inr a ↦
+        let at : s ≡ k = only s b (sym a.1 ∙ st) in
+        at ∙ sym (here (λ e. a.0 (at ∙ sym e)))
+  ]
 ]
 
 landed_no_king : (side : Side) (o : Option Piece) (k : Option Promotion) → o ≡ some_man side Pawn → landed side o k ≡ some_man side King → ⊥
@@ -112,7 +112,7 @@ only_after p m (Castle wing) k k' len lf lt r only there here =
     let w = corners p.side wing in
     let away : rook_home p.side wing ≢ k' = λ e. w.2 (e ∙ there at ∙ r.to_end) in
     only_carried _ p.side k' k' (rook_home p.side wing) (rook_end p.side wing) (some_man p.side Rook) (simp length-set len) w.0 w.1 first
-      (λ e. absurd (let f : Rook ≡ King = ap kind_on e in cc)) (λ e. absurd (away e)) (λ _. refl)
+    (λ e. absurd (let f : Rook ≡ King = ap kind_on e in cc)) (λ e. absurd (away e)) (λ _. refl)
 
 pub only_safe : (men : List (Option Piece)) (side : Side) (k : ℕ) → IsOnlyKing men side k → (IsAttacked men (other side) k → ⊥) → IsInCheck men side → ⊥
 only_safe men side k only safe h =
@@ -123,7 +123,7 @@ not_other : (side : Side) → side ≡ other side → ⊥
 not_other White e = cc
 not_other Black e = cc
 
-other_side : (side : Side) (kind kind' : Kind) → some_man side kind ≡ some_man (other side) kind' → ⊥
+pub other_side : (side : Side) (kind kind' : Kind) → some_man side kind ≡ some_man (other side) kind' → ⊥
 other_side side kind kind' e = not_other side (ap side_on e)
 
 -- a line that is clear after a man of ours was carried was clear before, or he uncovered it
@@ -132,24 +132,24 @@ clear_before men side what d n a k f t x len lf lt own shut along clear =
     let emptied : (s : ℕ) → s ≢ f → man_at (carried men f t x) s ≡ None → man_at men s ≡ None = λ s nf h. elim (spot men f t x s len lf lt) [
       | inl b ↦ absurd (none_man side what _ h (b.1 ∙ own))
       | inr r ↦ elim r [
-          | inl b ↦ absurd (nf b.0)
-          | inr b ↦ sym b.1 ∙ h
-        ]
+        | inl b ↦ absurd (nf b.0)
+        | inr b ↦ sym b.1 ∙ h
+      ]
     ] in
     λ j s away within here. elim (cases_eq s f) [
       | inl e ↦ absurd (shut (record {
-          direction = opposite d;
-          distance = n - j;
-          goes = tt;
-          away = omega arith;
-          along = along_rest d n j a k f within along (rw e at here);
-          clear = λ i q pos lim there.
-              let back = along_split d n i a k q (omega arith) along there in
-              let other_one : q ≢ f = λ same.
-                  let u = along_distance d (n - i) j a f (rw same at back) (rw e at here) in
-                  omega arith in
-              emptied q other_one (clear (n - i) q (omega arith) (omega arith) back);
-        }))
+        direction = opposite d;
+        distance = n - j;
+        goes = tt;
+        away = omega arith;
+        along = along_rest d n j a k f within along (rw e at here);
+        clear = λ i q pos lim there.
+            let back = along_split d n i a k q (omega arith) along there in
+            let other_one : q ≢ f = λ same.
+            let u = along_distance d (n - i) j a f (rw same at back) (rw e at here) in
+            omega arith in
+            emptied q other_one (clear (n - i) q (omega arith) (omega arith) back);
+      }))
       | inr nf ↦ emptied s nf (clear j s away within here)
     ]
 
@@ -179,9 +179,9 @@ attack_before men side what k f t x len lf lt own shut h = record {
   stands = elim (spot men f t x h.from len lf lt) [
     | inl b ↦ absurd (other_side side what h.kind (sym own ∙ sym b.1 ∙ h.stands))
     | inr r ↦ elim r [
-        | inl b ↦ absurd (none_man (other side) h.kind _ b.1 h.stands)
-        | inr b ↦ sym b.1 ∙ h.stands
-      ]
+      | inl b ↦ absurd (none_man (other side) h.kind _ b.1 h.stands)
+      | inr b ↦ sym b.1 ∙ h.stands
+    ]
   ];
   reaches = reaches_before men side (other side) what h.kind h.from k f t x len lf lt own shut h.reaches;
 }
@@ -204,7 +204,7 @@ pub free_to_go : (p : Parts) (m : Move) (c : MoveCase) (k : ℕ) → length p.me
 free_to_go p m c k len lf lt r y ne only safe shut =
     let x = carries p m c r y in
     only_safe (men_after p m c) p.side k (only_after p m c k k len lf lt r only (λ e. absurd (ne e)) (λ _. refl))
-      (λ h. safe (attack_before p.men p.side x.1.0 k m.from m.to x.0 len lf lt x.1.1.0 shut (rw x.1.1.1 at h)))
+    (λ h. safe (attack_before p.men p.side x.1.0 k m.from m.to x.0 len lf lt x.1.1.0 shut (rw x.1.1.1 at h)))
 
 -- a move whose case and safety are known is legal, and the other way round
 pub safe_legal : (p : Parts) (m : Move) (c : MoveCase) → m.from < 64 → m.to < 64 → IsMove p m c → (IsInCheck (men_after p m c) p.side → ⊥) → IsLegal p m

@@ -202,8 +202,23 @@ promotion_place (Some ToKnight) = 4
 abbrev pub place_of : Move → ℕ
 place_of m = 320 * m.from + 5 * m.to + promotion_place m.promotion
 
--- the list has exactly the legal moves, each once and in order
-pub record HasLegal (p : Parts) (moves : List Move) : Type 0 where
+-- the list has exactly the moves of this kind, each once, in the order of from, to and promotion
+pub record Lists (Wanted : Move → Type 0) (moves : List Move) : Type 0 where
   pub ordered : AllPairs (λ a b. place_of a < place_of b) moves
-  pub sound : All (IsLegal p) moves
-  pub complete : (m : Move) → IsLegal p m → Contains moves m
+  pub sound : All Wanted moves
+  pub complete : (m : Move) → Wanted m → Contains moves m
+
+-- the list has exactly the legal moves, each once and in order
+abbrev pub HasLegal : Parts → List Move → Type 0
+HasLegal p = Lists (IsLegal p)
+
+-- the move takes a man: one of the other side stands on its square, or it is en passant
+abbrev pub IsCapture : Parts → Move → Type 0
+IsCapture p m = IsTaken p.men (other p.side) m.to ⊎ IsEnPassant p m
+
+abbrev pub IsLegalCapture : Parts → Move → Type 0
+IsLegalCapture p m = IsLegal p m × IsCapture p m
+
+-- the list has exactly the legal captures, each once and in order
+abbrev pub HasLegalCaptures : Parts → List Move → Type 0
+HasLegalCaptures p = Lists (IsLegalCapture p)

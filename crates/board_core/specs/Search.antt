@@ -1,5 +1,5 @@
 -- What the search for attacks and for legal moves says of its steps; no public contract cites these.
-use Rattle.std.specs.Prelude.{◌≡◌, ◌≢◌, ℕ, ◌+◌, ◌-◌, ◌<◌, ◌≤◌, ◌⊎◌, ◌==◌, ◌&&◌, Bool, IsTrue, not, min, List, Option, Some, None, is_some, if◌then◌else◌, slice_set, ◌*◌, All, AllPairs, Contains}
+use Rattle.std.specs.Prelude.{◌≡◌, ◌≢◌, ℕ, ◌+◌, ◌-◌, ◌<◌, ◌≤◌, ◌⊎◌, ◌==◌, ◌&&◌, Bool, IsTrue, not, min, List, Option, Some, None, is_some, if◌then◌else◌, slice_set, ◌*◌, All, AllPairs, Contains, IfSome}
 use Rattle.board_core.specs.declared.piece.Piece.{Piece}
 use Rattle.board_core.specs.declared.piece.Side.{Side}
 use Rattle.board_core.specs.declared.piece.Side.TheVariants.{White, Black}
@@ -19,7 +19,11 @@ use Rattle.board_core.specs.Side.{other}
 use Rattle.board_core.specs.Square.{rank_of}
 use Rattle.board_core.specs.Attack.{man_at, Along, IsClear, Reaches, IsPawnAttack, IsAttacked, IsInCheck, forward}
 use Rattle.board_core.specs.Castling.{has_right, king_home, rook_home, king_end, rook_end}
-use Rattle.board_core.specs.Moves.{Stands, IsLegal, place_of}
+use Rattle.std.specs.Int.{bit_at}
+use Rattle.board_core.specs.declared.generation.Which.{Which}
+use Rattle.board_core.specs.declared.generation.Which.TheVariants.{Every, Captures}
+use Rattle.board_core.specs.declared.generation.Survey.{Survey}
+use Rattle.board_core.specs.Moves.{Stands, IsFree, IsTaken, IsLegal, IsMove, IsCapture, men_after, place_of}
 use Rattle.board_core.specs.Square.{file_of}
 use Rattle.board_core.specs.declared.attack.Direction.{Direction}
 use Rattle.board_core.specs.declared.attack.Direction.TheVariants.{North, South, East, West, NorthEast, NorthWest, SouthEast, SouthWest}
@@ -67,21 +71,50 @@ IsInside NorthWest k from = (k ≤ file_of from) × (rank_of from + k < 8)
 IsInside SouthEast k from = (file_of from + k < 8) × (k ≤ rank_of from)
 IsInside SouthWest k from = (k ≤ file_of from) × (k ≤ rank_of from)
 
--- the list has exactly the legal moves whose place is below n, each once and in order
-pub record HasLegalBelow (p : Parts) (n : ℕ) (moves : List Move) : Type 0 where
+-- a move that is asked for: any move, or a capture
+abbrev pub IsWanted : Which → Parts → Move → Type 0
+IsWanted Every p m = Unit {0}
+IsWanted Captures p m = IsCapture p m
+
+abbrev pub IsListed : Which → Parts → Move → Type 0
+IsListed which p m = IsLegal p m × IsWanted which p m
+
+-- the list has exactly the legal moves asked for whose place is below n, each once and in order
+pub record HasListedBelow (p : Parts) (which : Which) (n : ℕ) (moves : List Move) : Type 0 where
   pub ordered : AllPairs (λ a b. place_of a < place_of b) moves
   pub below : All (λ m. place_of m < n) moves
-  pub sound : All (IsLegal p) moves
-  pub complete : (m : Move) → IsLegal p m → place_of m < n → Contains moves m
+  pub sound : All (IsListed which p) moves
+  pub complete : (m : Move) → IsListed which p m → place_of m < n → Contains moves m
 
 -- a king of this side stands on no other square
 abbrev pub IsOnlyKing : List (Option Piece) → Side → ℕ → Type 0
 IsOnlyKing men side k = (s : ℕ) → s < 64 → Stands men s side King → s ≡ k
 
+-- what is known of where the men stand
+pub record IsSurvey (p : Parts) (v : Survey) : Type 0 where
+  pub own : (s : ℕ) → s < 64 → IsTaken p.men p.side s → bit_at v.own s ≡ 1
+  pub enemy : (s : ℕ) → s < 64 → IsTaken p.men (other p.side) s → bit_at v.enemy s ≡ 1
+  pub enemy_only : (s : ℕ) → bit_at v.enemy s ≡ 1 → IsTaken p.men (other p.side) s
+  pub lone : IsTrue v.lone → IsOnlyKing p.men p.side v.king
+  pub stands : IsTrue v.lone → Stands p.men v.king p.side King
+
+-- the men without the one on this square
+abbrev pub bared : List (Option Piece) → ℕ → List (Option Piece)
+bared men s = slice_set men s None
+
+-- the set has each square on which a man of the other side could take, were it not for our own men there
+abbrev pub HasAttacked : List (Option Piece) → Side → ℕ → Type 0
+HasAttacked men side set = (t : ℕ) → t < 64 → IsFree men side t → IsAttacked men (other side) t → bit_at set t ≡ 1
+
+-- the attacked squares, where they were worked out, with our king's square bare
+abbrev pub IsKnown : Parts → Survey → Option ℕ → Type 0
+IsKnown p v danger = IfSome danger (HasAttacked (bared p.men v.king) p.side)
+
 -- what is known of the king of the side that moves
 pub record IsGuard (p : Parts) (g : Guard) : Type 0 where
   pub lone : IsTrue g.lone → IsOnlyKing p.men p.side g.king
   pub calm : IsTrue g.calm → IsOnlyKing p.men p.side g.king × (IsAttacked p.men (other p.side) g.king → ⊥)
+  pub danger : HasAttacked (bared p.men g.king) p.side g.danger
 
 -- the cases in which one man goes from one square to the other, and nothing else changes
 abbrev pub IsCarry : MoveCase → Type 0
@@ -91,3 +124,22 @@ IsCarry DoubleStep = Unit {0}
 IsCarry PawnCapture = Unit {0}
 IsCarry EnPassant = ⊥
 IsCarry (Castle wing) = ⊥
+
+-- whatever goes alone from this square leaves its king unattacked
+abbrev pub IsLoose : Parts → ℕ → Type 0
+IsLoose p from = (m : Move) (c : MoveCase) → m.from ≡ from → m.to < 64 → IsMove p m c → IsCarry c
+    → IsInCheck (men_after p m c) p.side → ⊥
+
+-- a piece may go from this square to that one, leaving its king's safety aside
+pub record IsStep (p : Parts) (which : Which) (kind : Kind) (from to : ℕ) : Type 0 where
+  pub reaches : Reaches p.men p.side kind from to
+  pub free : IsFree p.men p.side to
+  pub wanted : IsWanted which p (record { from = from; to = to; promotion = None })
+
+-- a line over empty squares leads in this direction to the square, where no man of this side stands
+pub record IsRayEnd (men : List (Option Piece)) (side : Side) (direction : Direction) (from to : ℕ) : Type 0 where
+  pub distance : ℕ
+  pub away : 0 < distance
+  pub along : Along direction distance from to
+  pub clear : IsClear men direction distance from
+  pub free : IsFree men side to

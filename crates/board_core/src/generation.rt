@@ -1,29 +1,152 @@
-ghost use Rattle.std.specs.Prelude.{◌≡◌, ◌≢◌, ◌<◌, ◌≤◌, ◌↔◌, ◌+◌, ◌-◌, ℕ, IsTrue, IfSome, IfNone, IfOk, OnOk, ◌*◌, Option, slice_set, is_some};
-ghost use Rattle.board_core.specs.Search.{HasLegalBelow, IsCarry, IsGuard, IsInside, IsOnlyKing};
-ghost use Rattle.board_core.specs.Attack.{Along, IsAttacked, man_at, forward, IsInCheck};
-ghost use Rattle.board_core.specs.Moves.{Stands, IsFree, IsTaken, Promotes, IsPlain, IsAdvance, IsDoubleStep, IsPawnCapture, IsEnPassant, IsCastle, IsMove, Legal, IsLegal, HasLegal, place_of, after, rights_after, keeps_right, en_passant_after, halfmove_after, behind, one_more, kind_of, first_rank, last_rank, IsBetween, IsOnWay, carried, landed, men_after, fullmove_after};
+ghost use Rattle.std.specs.Prelude.{◌≡◌, ◌≢◌, ◌<◌, ◌↔◌, ◌+◌, ◌*◌, ◌⊎◌, ℕ, [], IsTrue, IfOk, OnOk, IfSome, Some, None};
 ghost use Rattle.std.specs.Int.{bit_at};
+ghost use Rattle.board_core.specs.Attack.{IsAttacked, IsInCheck, Reaches};
+ghost use Rattle.board_core.specs.Moves.{Stands, IsFree, IsTaken, IsMove, IsCapture, Lists, HasLegal, HasLegalCaptures, place_of, men_after, last_rank};
+ghost use Rattle.board_core.specs.Search.{HasListedBelow, IsCarry, IsGuard, IsListed, IsLoose, IsStep, IsSurvey, IsWanted, IsKnown, HasAttacked, bared};
 ghost use Rattle.board_core.specs.Side.{other};
 ghost use Rattle.board_core.specs.Square.{rank_of};
-ghost use Rattle.board_core.specs.Castling.{king_home, rook_home, king_end};
 
-use crate::attack;
 use crate::moves::{Move, MoveCase};
 use crate::parts::{self, Parts};
 use crate::piece::{Kind, Men, Promotion, Side};
 use crate::playing::men_after;
-use crate::rules::{case_of, last_rank, stands};
+use crate::rules::{case_of, is_capture, last_rank, stands};
 use crate::square::Square;
-use crate::targets;
+use crate::{attack, targets};
 use std::alloc::{AllocError, Global};
 
-/// What is known of the king of the side that moves: its square, that it is the only one, and that
-/// it isn't attacked.
+/// Which of the legal moves are listed.
+#[derive(Clone, Copy, PartialEq, Eq, Debug)]
+pub enum Which {
+    /// All legal moves.
+    Every,
+    /// Those that take a man, en passant among them.
+    Captures,
+}
+
+/// Where the men of the two sides stand, as sets of squares, and a square of the mover's king with
+/// whether no other king of that side stands elsewhere.
+#[derive(Clone, Copy, PartialEq, Eq, Debug)]
+pub struct Survey {
+    pub own: u64,
+    pub enemy: u64,
+    pub king: Square,
+    pub lone: bool,
+}
+
+/// What keeps the king of the side that moves safe: its square, whether it is the only one, whether
+/// it isn't attacked, and the squares that it must not go to.
 #[derive(Clone, Copy, PartialEq, Eq, Debug)]
 pub struct Guard {
     pub king: Square,
     pub lone: bool,
     pub calm: bool,
+    pub danger: u64,
+}
+
+/// Where the men stand.
+fn survey_of(p: &Parts) -> Survey
+    ensures { IsSurvey p.now result }
+{
+    let mut own = 0u64;
+    let mut enemy = 0u64;
+    let mut king = None;
+    let mut lone = true;
+    for n in 0u8..64 {
+        if let Some(man) = p.men[n as usize] {
+            let square = Square::at(n);
+            if man.side == p.side.other() {
+                enemy = targets::with(enemy, square);
+            } else {
+                own = targets::with(own, square);
+                if man.kind == Kind::King {
+                    lone = king.is_none();
+                    king = Some(square);
+                }
+            }
+        }
+    }
+    match king {
+        Some(king) => Survey {
+            own,
+            enemy,
+            king,
+            lone,
+        },
+        None => Survey {
+            own,
+            enemy,
+            king: Square::at(0),
+            lone: false,
+        },
+    }
+}
+
+/// The squares on which the man there, of the other side, could take, but for those of this side's
+/// men.
+fn attacks_from(men: &Men, side: Side, from: Square) -> u64
+    ensures { (kind : Kind) (t : ℕ) → Stands men.now from (other side) kind → t < 64
+        → IsFree men.now side t → Reaches men.now (other side) kind from t → bit_at result t ≡ 1 }
+{
+    match men[from.number() as usize] {
+        Some(man) => match man.kind {
+            Kind::Pawn => targets::pawn_attacks(men, side, from),
+            kind => targets::plain_targets(men, side, kind, from),
+        },
+        None => 0,
+    }
+}
+
+/// The squares that the men on these squares attack, but for those of this side's men.
+fn attacked_squares(men: &Men, side: Side, enemy: u64) -> u64
+    requires { (s : ℕ) → s < 64 → IsTaken men.now (other side) s → bit_at enemy s ≡ 1 }
+    ensures { HasAttacked men.now side result }
+{
+    let mut all = 0u64;
+    let mut rest = enemy;
+    let mut next = 0u8;
+    while rest != 0 {
+        let from = targets::lowest(rest);
+        all = all | attacks_from(men, side, from);
+        rest = targets::without(rest, from);
+        next = from.number() + 1;
+    }
+    all
+}
+
+/// The squares that the other side attacks, were it not for the king of the side that moves.
+fn danger_of(p: &Parts, v: &Survey) -> u64
+    requires { IsSurvey p.now v.now }
+    ensures { HasAttacked (bared p.now.men v.now.king) p.now.side result }
+{
+    let mut men = p.men;
+    men[v.king.number() as usize] = None;
+    attacked_squares(&men, p.side, v.enemy)
+}
+
+/// Whether the king of the side that moves is its only one and isn't attacked.
+fn is_calm(v: &Survey, danger: u64) -> bool
+    ensures { IsTrue result → IsTrue v.now.lone × (bit_at danger v.now.king ≡ 1 → ⊥) }
+{
+    if !v.lone {
+        return false;
+    }
+    !targets::has(danger, v.king)
+}
+
+/// What is known of the king of the side that moves, by the squares that the other side attacks.
+fn guard_of(p: &Parts, v: &Survey, danger: u64) -> Guard
+    requires survey { IsSurvey p.now v.now }
+    requires danger { HasAttacked (bared p.now.men v.now.king) p.now.side danger }
+    ensures { IsGuard p.now result }
+{
+    prove!(v.king.number() < 64);
+    Guard {
+        king: v.king,
+        lone: v.lone,
+        calm: is_calm(v, danger),
+        danger,
+    }
 }
 
 /// Whether this case carries one man and changes nothing else.
@@ -36,24 +159,27 @@ fn is_carry(case: MoveCase) -> bool
     }
 }
 
-/// Whether the guard shows by itself that the move leaves its king safe.
-fn is_free(p: &Parts, m: &Move, case: MoveCase, g: &Guard) -> bool
-    requires rule { IsMove p.now m.now case }
-    requires guard { IsGuard p.now g.now }
-    ensures { IsTrue result → IsInCheck (men_after p.now m.now case) p.now.side → ⊥ }
+/// Whether the man on this square may go wherever it likes, as far as its king is concerned.
+fn is_loose(p: &Parts, g: &Guard, from: Square) -> bool
+    requires { IsGuard p.now g.now }
+    ensures { IsTrue result → IsLoose p.now from }
 {
-    prove!(m.from.number() < 64);
-    prove!(m.to.number() < 64);
+    prove!(from.number() < 64);
     if !g.calm {
         return false;
     }
-    if m.from == g.king {
+    if from == g.king {
         return false;
     }
-    if !is_carry(case) {
-        return false;
-    }
-    !attack::reaches(&p.men, p.side, Kind::Queen, g.king, m.from)
+    !attack::reaches(&p.men, p.side, Kind::Queen, g.king, from)
+}
+
+/// Whether the move is a step of the king to a square that isn't attacked.
+fn is_king_away(m: &Move, case: MoveCase, g: &Guard) -> bool
+    ensures { IsTrue result → (m.now.from ≡ g.now.king) × (case ≡ MoveCase.Plain)
+        × IsTrue g.now.lone × (bit_at g.now.danger m.now.to ≡ 0) }
+{
+    g.lone && m.from == g.king && case == MoveCase::Plain && !targets::has(g.danger, m.to)
 }
 
 /// Where the king of the guard stands after the move.
@@ -65,14 +191,18 @@ fn king_after(m: &Move, g: &Guard) -> Square
 }
 
 /// Whether the king of the side that moves isn't attacked after the move.
-fn is_safe(p: &Parts, m: &Move, case: MoveCase, g: &Guard) -> bool
+fn is_safe(p: &Parts, m: &Move, case: MoveCase, g: &Guard, loose: bool) -> bool
     requires rule { IsMove p.now m.now case }
     requires guard { IsGuard p.now g.now }
+    requires loose { IsTrue loose → IsLoose p.now m.now.from }
     ensures { IsTrue result ↔ (IsInCheck (men_after p.now m.now case) p.now.side → ⊥) }
 {
     prove!(m.from.number() < 64);
     prove!(m.to.number() < 64);
-    if is_free(p, m, case, g) {
+    if loose && is_carry(case) {
+        return true;
+    }
+    if is_king_away(m, case, g) {
         return true;
     }
     let men = men_after(p, m, case);
@@ -83,19 +213,40 @@ fn is_safe(p: &Parts, m: &Move, case: MoveCase, g: &Guard) -> bool
     !parts::is_in_check(&men, p.side)
 }
 
-/// Adds the move where it is legal.
-fn add(p: &Parts, g: &Guard, m: &Move, moves: &mut Vec<Move>) -> Result<(), AllocError>
+/// Whether the move is one of those asked for.
+fn is_wanted(p: &Parts, which: Which, m: &Move) -> bool
+    ensures { IsTrue result ↔ IsWanted which p.now m.now }
+{
+    match which {
+        Which::Every => true,
+        Which::Captures => is_capture(p, m),
+    }
+}
+
+/// Adds the move where it is legal and asked for.
+fn add(
+    p: &Parts,
+    g: &Guard,
+    which: Which,
+    loose: bool,
+    m: &Move,
+    moves: &mut Vec<Move>,
+) -> Result<(), AllocError>
     requires guard { IsGuard p.now g.now }
-    requires below { HasLegalBelow p.now (place_of m.now) moves.old.items }
-    ensures { OnOk result (HasLegalBelow p.now (place_of m.now + 1) moves.new.items) }
+    requires loose { IsTrue loose → IsLoose p.now m.now.from }
+    requires below { HasListedBelow p.now which (place_of m.now) moves.old.items }
+    ensures { OnOk result (HasListedBelow p.now which (place_of m.now + 1) moves.new.items) }
 {
     prove!(m.from.number() < 64);
     prove!(m.to.number() < 64);
+    if !is_wanted(p, which, m) {
+        return Ok(());
+    }
     let case = match case_of(p, m) {
         Some(case) => case,
         None => return Ok(()),
     };
-    if !is_safe(p, m, case, g) {
+    if !is_safe(p, m, case, g, loose) {
         return Ok(());
     }
     moves.push(*m)?;
@@ -110,155 +261,242 @@ fn may_promote(p: &Parts, from: Square, to: Square) -> bool
     stands(&p.men, from, p.side, Kind::Pawn) && to.rank() == last_rank(p.side)
 }
 
-/// Adds the legal moves from one square to another.
-fn add_between(p: &Parts, g: &Guard, from: Square, to: Square, moves: &mut Vec<Move>) -> Result<(), AllocError>
-    requires guard { IsGuard p.now g.now }
-    requires below { HasLegalBelow p.now (320 * from + 5 * to) moves.old.items }
-    ensures { OnOk result (HasLegalBelow p.now (320 * from + 5 * (to + 1)) moves.new.items) }
-{
-    prove!(to.number() < 64);
-    add(
-        p,
-        g,
-        &Move {
-            from,
-            to,
-            promotion: None,
-        },
-        moves,
-    )?;
-    if !may_promote(p, from, to) {
-        return Ok(());
-    }
-    add(
-        p,
-        g,
-        &Move {
-            from,
-            to,
-            promotion: Some(Promotion::Queen),
-        },
-        moves,
-    )?;
-    add(
-        p,
-        g,
-        &Move {
-            from,
-            to,
-            promotion: Some(Promotion::Rook),
-        },
-        moves,
-    )?;
-    add(
-        p,
-        g,
-        &Move {
-            from,
-            to,
-            promotion: Some(Promotion::Bishop),
-        },
-        moves,
-    )?;
-    add(
-        p,
-        g,
-        &Move {
-            from,
-            to,
-            promotion: Some(Promotion::Knight),
-        },
-        moves,
-    )?;
-    Ok(())
-}
-
-/// Adds the legal moves from a square.
-fn add_from(p: &Parts, g: &Guard, from: Square, moves: &mut Vec<Move>) -> Result<(), AllocError>
-    requires guard { IsGuard p.now g.now }
-    requires below { HasLegalBelow p.now (320 * from) moves.old.items }
-    ensures { OnOk result (HasLegalBelow p.now (320 * (from + 1)) moves.new.items) }
-{
-    match p.men[from.number() as usize] {
-        Some(man) => {
-            if man.side != p.side {
-                return Ok(());
-            }
-            let mask = targets::targets(p, man.kind, from);
-            add_targets(p, g, from, mask, moves)
-        }
-        None => Ok(()),
-    }
-}
-
-/// Adds the legal moves from a square to those of a mask, in which all their targets are.
-fn add_targets(
+/// Adds the moves from one square to another that are legal and asked for.
+fn add_between(
     p: &Parts,
     g: &Guard,
+    which: Which,
+    loose: bool,
     from: Square,
-    mask: u64,
+    to: Square,
     moves: &mut Vec<Move>,
 ) -> Result<(), AllocError>
     requires guard { IsGuard p.now g.now }
-    requires below { HasLegalBelow p.now (320 * from) moves.old.items }
-    requires whole { (m : Move) → IsLegal p.now m → m.from ≡ from → bit_at mask m.to ≡ 1 }
-    ensures { OnOk result (HasLegalBelow p.now (320 * (from + 1)) moves.new.items) }
+    requires loose { IsTrue loose → IsLoose p.now from }
+    requires below { HasListedBelow p.now which (320 * from + 5 * to) moves.old.items }
+    ensures { OnOk result (HasListedBelow p.now which (320 * from + 5 * (to + 1)) moves.new.items) }
 {
-    let mut rest = mask;
+    prove!(to.number() < 64);
+    let plain = Move {
+        from,
+        to,
+        promotion: None,
+    };
+    add(p, g, which, loose, &plain, moves)?;
+    if !may_promote(p, from, to) {
+        return Ok(());
+    }
+    let queen = Move {
+        from,
+        to,
+        promotion: Some(Promotion::Queen),
+    };
+    add(p, g, which, loose, &queen, moves)?;
+    let rook = Move {
+        from,
+        to,
+        promotion: Some(Promotion::Rook),
+    };
+    add(p, g, which, loose, &rook, moves)?;
+    let bishop = Move {
+        from,
+        to,
+        promotion: Some(Promotion::Bishop),
+    };
+    add(p, g, which, loose, &bishop, moves)?;
+    let knight = Move {
+        from,
+        to,
+        promotion: Some(Promotion::Knight),
+    };
+    add(p, g, which, loose, &knight, moves)?;
+    Ok(())
+}
+
+/// Adds the moves from a square to those of a set, in which all their targets are.
+fn add_targets(
+    p: &Parts,
+    g: &Guard,
+    which: Which,
+    from: Square,
+    set: u64,
+    moves: &mut Vec<Move>,
+) -> Result<(), AllocError>
+    requires guard { IsGuard p.now g.now }
+    requires below { HasListedBelow p.now which (320 * from) moves.old.items }
+    requires whole { (m : Move) → IsListed which p.now m → m.from ≡ from → bit_at set m.to ≡ 1 }
+    ensures { OnOk result (HasListedBelow p.now which (320 * (from + 1)) moves.new.items) }
+{
+    let loose = is_loose(p, g, from);
+    let mut rest = set;
     let mut next = 0u8;
     while rest != 0 {
         let to = targets::lowest(rest);
-        add_between(p, g, from, to, moves)?;
+        add_between(p, g, which, loose, from, to, moves)?;
         rest = targets::without(rest, to);
         next = to.number() + 1;
     }
     Ok(())
 }
 
-/// Some square where a king of this side stands, if there is one.
-fn find_king(men: &Men, side: Side) -> Square {
-    for n in 0..64 {
-        if let Some(man) = men[n as usize] {
-            if man.kind == Kind::King && man.side == side {
-                return Square::at(n);
-            }
-        }
+/// Adds the moves of a piece that may go wherever it reaches.
+fn add_steps(
+    p: &Parts,
+    which: Which,
+    kind: Kind,
+    from: Square,
+    set: u64,
+    moves: &mut Vec<Move>,
+) -> Result<(), AllocError>
+    requires stands { Stands p.now.men from p.now.side kind }
+    requires piece { kind ≢ Kind.Pawn }
+    requires loose { IsLoose p.now from }
+    requires below { HasListedBelow p.now which (320 * from) moves.old.items }
+    requires steps { (s : ℕ) → bit_at set s ≡ 1 → IsStep p.now which kind from s }
+    requires whole { (m : Move) → IsListed which p.now m → m.from ≡ from → bit_at set m.to ≡ 1 }
+    ensures { OnOk result (HasListedBelow p.now which (320 * (from + 1)) moves.new.items) }
+{
+    prove!(from.number() < 64);
+    let mut rest = set;
+    let mut next = 0u8;
+    while rest != 0 {
+        let to = targets::lowest(rest);
+        moves.push(Move {
+            from,
+            to,
+            promotion: None,
+        })?;
+        rest = targets::without(rest, to);
+        next = to.number() + 1;
     }
-    Square::at(0)
+    Ok(())
 }
 
-/// Whether no king of this side stands on another square.
-fn is_only_king(men: &Men, side: Side, king: Square) -> bool
-    ensures { IsTrue result → IsOnlyKing men.now side king }
+/// The squares to which a piece other than a pawn and the king goes, of those asked for.
+fn steps(p: &Parts, v: &Survey, which: Which, kind: Kind, from: Square) -> u64
+    requires survey { IsSurvey p.now v.now }
+    requires stands { Stands p.now.men from p.now.side kind }
+    requires piece { (kind ≢ Kind.Pawn) × (kind ≢ Kind.King) }
+    ensures steps { (s : ℕ) → bit_at result s ≡ 1 → IsStep p.now which kind from s }
+    ensures whole { (m : Move) → IsListed which p.now m → m.from ≡ from → bit_at result m.to ≡ 1 }
 {
-    for n in 0..64 {
-        if let Some(man) = men[n as usize] {
-            if man.kind == Kind::King && man.side == side && n != king.number() {
-                return false;
-            }
-        }
+    let set = targets::plain_targets(&p.men, p.side, kind, from);
+    match which {
+        Which::Every => set,
+        Which::Captures => set & v.enemy,
     }
-    true
 }
 
-/// What is known of the king of the side that moves.
-fn guard_of(p: &Parts) -> Guard
-    ensures { IsGuard p.now result }
+/// A set in which the squares are that the pawn or the king there goes to by the moves asked for.
+fn candidates(p: &Parts, v: &Survey, which: Which, kind: Kind, from: Square) -> u64
+    requires survey { IsSurvey p.now v.now }
+    requires stands { Stands p.now.men from p.now.side kind }
+    ensures { (m : Move) → IsListed which p.now m → m.from ≡ from → bit_at result m.to ≡ 1 }
 {
-    let king = find_king(&p.men, p.side);
-    let lone = is_only_king(&p.men, p.side, king);
-    let calm = lone && !attack::is_attacked(&p.men, p.side.other(), king);
-    Guard { king, lone, calm }
+    let set = targets::targets(p, kind, from);
+    match which {
+        Which::Every => set,
+        Which::Captures => match p.en_passant {
+            Some(square) => set & targets::with(v.enemy, square),
+            None => set & v.enemy,
+        },
+    }
 }
+
+/// What is known of the king; the attacked squares are worked out where they are first asked for.
+fn guard_in(p: &Parts, v: &Survey, known: &mut Option<u64>) -> Guard
+    requires survey { IsSurvey p.now v.now }
+    requires known { IsKnown p.now v.now known.old }
+    ensures guard { IsGuard p.now result }
+    ensures known { IsKnown p.now v.now known.new }
+{
+    if let Some(danger) = *known {
+        return guard_of(p, v, danger);
+    }
+    let danger = danger_of(p, v);
+    *known = Some(danger);
+    guard_of(p, v, danger)
+}
+
+/// Adds the moves asked for from a square.
+fn add_from(
+    p: &Parts,
+    v: &Survey,
+    known: &mut Option<u64>,
+    which: Which,
+    from: Square,
+    moves: &mut Vec<Move>,
+) -> Result<(), AllocError>
+    requires survey { IsSurvey p.now v.now }
+    requires known { IsKnown p.now v.now known.old }
+    requires below { HasListedBelow p.now which (320 * from) moves.old.items }
+    ensures moves { OnOk result (HasListedBelow p.now which (320 * (from + 1)) moves.new.items) }
+    ensures known { IsKnown p.now v.now known.new }
+{
+    let man = match p.men[from.number() as usize] {
+        Some(man) => man,
+        None => return Ok(()),
+    };
+    if man.side != p.side {
+        return Ok(());
+    }
+    match man.kind {
+        Kind::Pawn | Kind::King => {
+            let set = candidates(p, v, which, man.kind, from);
+            if set == 0 {
+                return Ok(());
+            }
+            let guard = guard_in(p, v, known);
+            add_targets(p, &guard, which, from, set, moves)
+        }
+        kind => {
+            let set = steps(p, v, which, kind, from);
+            if set == 0 {
+                return Ok(());
+            }
+            let guard = guard_in(p, v, known);
+            if is_loose(p, &guard, from) {
+                return add_steps(p, which, kind, from, set, moves);
+            }
+            add_targets(p, &guard, which, from, set, moves)
+        }
+    }
+}
+
+/// The legal moves asked for, each once, in order of from, to and promotion.
+fn listed(p: &Parts, which: Which, moves: Vec<Move>) -> Result<Vec<Move>, AllocError>
+    requires { moves.items ≡ [] }
+    ensures { IfOk result (λ moves. Lists (IsListed which p.now) moves.items) }
+{
+    let mut moves = moves;
+    let v = survey_of(p);
+    let mut known = None;
+    let mut rest = v.own;
+    let mut next = 0u8;
+    while rest != 0 {
+        let from = targets::lowest(rest);
+        add_from(p, &v, &mut known, which, from, &mut moves)?;
+        rest = targets::without(rest, from);
+        next = from.number() + 1;
+    }
+    Ok(moves)
+}
+
+/// As many moves as positions commonly have; room for them is made at once.
+const COMMON: usize = 48;
 
 /// The legal moves, each once, in order of from, to and promotion.
 pub fn legal(p: &Parts, alloc: Global) -> Result<Vec<Move>, AllocError>
     ensures { IfOk result (λ moves. HasLegal p.now moves.items) }
 {
-    let guard = guard_of(p);
-    let mut moves = Vec::new(alloc);
-    for from in 0..64 {
-        add_from(p, &guard, Square::at(from), &mut moves)?;
-    }
+    let room = Vec::with_capacity(alloc, COMMON)?;
+    let moves = listed(p, Which::Every, room)?;
     Ok(moves)
+}
+
+/// The legal captures, en passant among them, each once, in order of from, to and promotion.
+pub fn captures(p: &Parts, alloc: Global) -> Result<Vec<Move>, AllocError>
+    ensures { IfOk result (λ moves. HasLegalCaptures p.now moves.items) }
+{
+    listed(p, Which::Captures, Vec::new(alloc))
 }

@@ -2,10 +2,10 @@
 #![tactic(auto)]
 
 pub mod attack;
-pub mod piece;
 pub mod generation;
 pub mod moves;
 pub mod parts;
+pub mod piece;
 pub mod playing;
 pub mod position;
 pub mod rules;

@@ -1,16 +1,14 @@
 ghost use Rattle.std.specs.Prelude.{◌≡◌, ◌<◌, ◌≤◌, ◌↔◌, ℕ, IsTrue, IfOk, IfErr, IfSome, count_by, ◌+◌};
 ghost use Rattle.board_core.specs.Position.{is_of, is_king_of, HasOneKingEach, HasFewMen, HasNoPawnOnEdge, IsRightHonest, HasHonestRights, IsQuiet, HasFairCounters, HasHonestEnPassant, IsPassed, passed_rank, IsFirstFault, IsPosition};
-ghost use Rattle.board_core.specs.Moves.{IsLegal, Legal, HasLegal};
+ghost use Rattle.board_core.specs.Moves.{IsLegal, Legal, HasLegal, HasLegalCaptures};
 ghost use Rattle.board_core.specs.Attack.{man_at, IsInCheck};
 ghost use Rattle.board_core.specs.Side.{other};
 
-use crate::piece::{Kind, Men, Piece, Side, Wing};
-use crate::generation;
 use crate::moves::Move;
-use crate::playing;
-use crate::rules;
 use crate::parts::{self, Parts, Rights};
+use crate::piece::{Kind, Men, Piece, Side, Wing};
 use crate::square::Square;
+use crate::{generation, playing, rules};
 use std::alloc::{AllocError, Global};
 use std::marker::Model;
 
@@ -221,17 +219,17 @@ impl Position {
             + count_men(&self.parts.men, Side::Black) as u32
     }
 
-    pub fn is_legal(&self, m: &Move) -> bool
-        ensures { IsTrue result ↔ IsLegal self.now m.now }
+    pub fn is_legal(&self, m: Move) -> bool
+        ensures { IsTrue result ↔ IsLegal self.now m }
     {
-        playing::is_legal(&self.parts, m)
+        playing::is_legal(&self.parts, &m)
     }
 
-    pub fn play(&self, m: &Move) -> Option<Position>
-        ensures legal { IfSome result (λ q. Legal self.now m.now q) }
-        ensures only { (q : Parts) → Legal self.now m.now q → result ≡ Some q }
+    pub fn play(&self, m: Move) -> Option<Position>
+        ensures legal { IfSome result (λ q. Legal self.now m q) }
+        ensures only { (q : Parts) → Legal self.now m q → result ≡ Some q }
     {
-        let parts = playing::play(&self.parts, m)?;
+        let parts = playing::play(&self.parts, &m)?;
         Some(Position { parts })
     }
 }
@@ -242,6 +240,13 @@ impl Position {
         ensures { IfOk result (λ moves. HasLegal self.now moves.items) }
     {
         generation::legal(&self.parts, alloc)
+    }
+
+    /// The legal moves that take a man, en passant among them, in the same order.
+    pub fn captures(&self, alloc: Global) -> Result<Vec<Move>, AllocError>
+        ensures { IfOk result (λ moves. HasLegalCaptures self.now moves.items) }
+    {
+        generation::captures(&self.parts, alloc)
     }
 }
 

@@ -1,6 +1,6 @@
 ghost use Rattle.std.specs.Prelude.{◌≡◌, ◌≢◌, ◌<◌, ◌≤◌, ◌↔◌, ◌+◌, ◌-◌, ◌⊎◌, ℕ, IsTrue, Some, None};
 ghost use Rattle.std.specs.Int.{bit_at};
-ghost use Rattle.board_core.specs.Search.{IsHop, IsInside};
+ghost use Rattle.board_core.specs.Search.{IsHop, IsInside, IsRayEnd};
 ghost use Rattle.board_core.specs.Attack.{Along, IsClear, IsStraight, IsDiagonal, Ray, IsKingStep, IsKnightStep, IsPawnAttack, Reaches, forward, man_at};
 ghost use Rattle.board_core.specs.Moves.{Stands, IsFree, IsTaken, IsLegal, IsMove};
 ghost use Rattle.board_core.specs.Castling.{has_right, king_end};
@@ -9,15 +9,16 @@ ghost use Rattle.board_core.specs.Side.{other};
 ghost use Rattle.board_core.specs.declared.attack.Direction.{Direction};
 
 use crate::attack::{self, Direction, Hop};
+use crate::parts::{self, Parts};
 use crate::piece::{Kind, Men, Side, Wing};
 use crate::rules;
-use crate::parts::{self, Parts};
 use crate::square::Square;
 
 /// The mask with this square.
-fn with(mask: u64, square: Square) -> u64
+pub fn with(mask: u64, square: Square) -> u64
     ensures here { bit_at result square ≡ 1 }
     ensures kept { (s : ℕ) → bit_at mask s ≡ 1 → bit_at result s ≡ 1 }
+    ensures others { (s : ℕ) → s ≢ square → bit_at result s ≡ bit_at mask s }
 {
     mask | 1u64 << square.number()
 }
@@ -28,6 +29,13 @@ pub fn without(mask: u64, square: Square) -> u64
     ensures kept { (s : ℕ) → s < 64 → s ≢ square → bit_at result s ≡ bit_at mask s }
 {
     mask & !(1u64 << square.number())
+}
+
+/// Whether the mask has this square.
+pub fn has(mask: u64, square: Square) -> bool
+    ensures { IsTrue result ↔ (bit_at mask square ≡ 1) }
+{
+    mask >> square.number() & 1 == 1
 }
 
 /// The lowest square of the mask.
@@ -44,6 +52,8 @@ fn with_ray(men: &Men, side: Side, direction: Direction, from: Square, mask: u64
     ensures kept { (s : ℕ) → bit_at mask s ≡ 1 → bit_at result s ≡ 1 }
     ensures reached { (n s : ℕ) → 0 < n → s < 64 → Along direction n from s
         → IsClear men.now direction n from → IsFree men.now side s → bit_at result s ≡ 1 }
+    ensures only { (s : ℕ) → bit_at result s ≡ 1
+        → (bit_at mask s ≡ 1) ⊎ IsRayEnd men.now side direction from s }
 {
     let end = attack::room(direction, from) + 1;
     let mut all = mask;
@@ -65,6 +75,8 @@ fn with_step(men: &Men, side: Side, direction: Direction, from: Square, mask: u6
     ensures kept { (s : ℕ) → bit_at mask s ≡ 1 → bit_at result s ≡ 1 }
     ensures reached { (s : ℕ) → s < 64 → Along direction 1 from s → IsFree men.now side s
         → bit_at result s ≡ 1 }
+    ensures only { (s : ℕ) → bit_at result s ≡ 1
+        → (bit_at mask s ≡ 1) ⊎ (Along direction 1 from s × IsFree men.now side s) }
 {
     if attack::room(direction, from) == 0 {
         return mask;
@@ -81,6 +93,8 @@ fn with_hop(men: &Men, side: Side, hop: Hop, from: Square, mask: u64) -> u64
     ensures kept { (s : ℕ) → bit_at mask s ≡ 1 → bit_at result s ≡ 1 }
     ensures reached { (s : ℕ) → s < 64 → IsHop hop from s → IsFree men.now side s
         → bit_at result s ≡ 1 }
+    ensures only { (s : ℕ) → bit_at result s ≡ 1
+        → (bit_at mask s ≡ 1) ⊎ (IsHop hop from s × IsFree men.now side s) }
 {
     match attack::hop_to(hop, from) {
         Some(to) => {
@@ -99,6 +113,8 @@ fn with_straight(men: &Men, side: Side, from: Square, mask: u64) -> u64
     ensures kept { (s : ℕ) → bit_at mask s ≡ 1 → bit_at result s ≡ 1 }
     ensures reached { (d : Direction) (n s : ℕ) → IsStraight d → 0 < n → s < 64 → Along d n from s
         → IsClear men.now d n from → IsFree men.now side s → bit_at result s ≡ 1 }
+    ensures only { (s : ℕ) → bit_at result s ≡ 1
+        → (bit_at mask s ≡ 1) ⊎ ((d : Direction) × IsStraight d × IsRayEnd men.now side d from s) }
 {
     let north = with_ray(men, side, Direction::North, from, mask);
     let south = with_ray(men, side, Direction::South, from, north);
@@ -111,6 +127,8 @@ fn with_diagonal(men: &Men, side: Side, from: Square, mask: u64) -> u64
     ensures kept { (s : ℕ) → bit_at mask s ≡ 1 → bit_at result s ≡ 1 }
     ensures reached { (d : Direction) (n s : ℕ) → IsDiagonal d → 0 < n → s < 64 → Along d n from s
         → IsClear men.now d n from → IsFree men.now side s → bit_at result s ≡ 1 }
+    ensures only { (s : ℕ) → bit_at result s ≡ 1
+        → (bit_at mask s ≡ 1) ⊎ ((d : Direction) × IsDiagonal d × IsRayEnd men.now side d from s) }
 {
     let a = with_ray(men, side, Direction::NorthEast, from, mask);
     let b = with_ray(men, side, Direction::NorthWest, from, a);
@@ -120,7 +138,8 @@ fn with_diagonal(men: &Men, side: Side, from: Square, mask: u64) -> u64
 
 /// The squares next to this one, but for those of men of this side.
 fn king_targets(men: &Men, side: Side, from: Square) -> u64
-    ensures { (s : ℕ) → s < 64 → IsKingStep from s → IsFree men.now side s → bit_at result s ≡ 1 }
+    ensures reached { (s : ℕ) → s < 64 → IsKingStep from s → IsFree men.now side s → bit_at result s ≡ 1 }
+    ensures only { (s : ℕ) → bit_at result s ≡ 1 → IsKingStep from s × IsFree men.now side s }
 {
     let a = with_step(men, side, Direction::North, from, 0);
     let b = with_step(men, side, Direction::South, from, a);
@@ -134,7 +153,8 @@ fn king_targets(men: &Men, side: Side, from: Square) -> u64
 
 /// The squares that a knight reaches, but for those of men of this side.
 fn knight_targets(men: &Men, side: Side, from: Square) -> u64
-    ensures { (s : ℕ) → s < 64 → IsKnightStep from s → IsFree men.now side s → bit_at result s ≡ 1 }
+    ensures reached { (s : ℕ) → s < 64 → IsKnightStep from s → IsFree men.now side s → bit_at result s ≡ 1 }
+    ensures only { (s : ℕ) → bit_at result s ≡ 1 → IsKnightStep from s × IsFree men.now side s }
 {
     let a = with_hop(men, side, Hop::EastEastNorth, from, 0);
     let b = with_hop(men, side, Hop::EastEastSouth, from, a);
@@ -147,9 +167,11 @@ fn knight_targets(men: &Men, side: Side, from: Square) -> u64
 }
 
 /// The squares that a man other than a pawn may go to by a step or along a line.
-fn plain_targets(men: &Men, side: Side, kind: Kind, from: Square) -> u64
-    ensures { (s : ℕ) → kind ≢ Kind.Pawn → s < 64 → Reaches men.now side kind from s
+pub fn plain_targets(men: &Men, side: Side, kind: Kind, from: Square) -> u64
+    ensures reached { (s : ℕ) → kind ≢ Kind.Pawn → s < 64 → Reaches men.now side kind from s
         → IsFree men.now side s → bit_at result s ≡ 1 }
+    ensures only { (s : ℕ) → bit_at result s ≡ 1
+        → (kind ≢ Kind.Pawn) × Reaches men.now side kind from s × IsFree men.now side s }
 {
     match kind {
         Kind::Pawn => 0,
@@ -160,6 +182,23 @@ fn plain_targets(men: &Men, side: Side, kind: Kind, from: Square) -> u64
         Kind::Queen => {
             let straight = with_straight(men, side, from, 0);
             with_diagonal(men, side, from, straight)
+        }
+    }
+}
+
+/// The squares that a pawn of the other side attacks, but for those of men of this side.
+pub fn pawn_attacks(men: &Men, side: Side, from: Square) -> u64
+    ensures { (s : ℕ) → s < 64 → IsPawnAttack (other side) from s → IsFree men.now side s
+        → bit_at result s ≡ 1 }
+{
+    match side {
+        Side::White => {
+            let east = with_step(men, side, Direction::SouthEast, from, 0);
+            with_step(men, side, Direction::SouthWest, from, east)
+        }
+        Side::Black => {
+            let east = with_step(men, side, Direction::NorthEast, from, 0);
+            with_step(men, side, Direction::NorthWest, from, east)
         }
     }
 }

@@ -19,6 +19,9 @@ returns-then-eq c = (
 )
 
 pub returns : goal.returns
-returns c = (λ t. search rules, λ h.
-    let within = inside c.args.direction h.distance c.args.to h.from (omega arith) h.on_board h.along in
-    absurd (struck_within _ _ _ _ _ h (omega (arith, (c.room-end.ensures.inside _).1 within)) c.loop-k.invariant))
+returns c = (
+  λ t. search rules,
+  λ h.
+      let within = inside c.args.direction h.distance c.args.to h.from (omega arith) h.on_board h.along in
+      absurd (struck_within _ _ _ _ _ h (omega (arith, (c.room-end.ensures.inside _).1 within)) c.loop-k.invariant),
+)

@@ -1,16 +1,16 @@
 use Rattle.std.proofs.Common.{arith, rules}
-use Rattle.board_core.proofs.Sweep.{Rests-below, Rests-without, Rests-none, Rests-next}
+use Rattle.board_core.proofs.Sweep.{Targets-below, Targets-none, Rests-without, Rests-next}
 use Rattle.board_core.proofs.generation.add_targets.Goals as goal
 
 pub add_between-requires-clause-below : goal.add_between-requires-clause-below
 add_between-requires-clause-below c =
-    Rests-below _ _ _ _ _ _ (omega arith) c.loop-rest.invariant.rests c.lowest-to.ensures.here c.lowest-to.ensures.first c.loop-rest.invariant.below
+    Targets-below _ _ _ _ _ _ _ (omega arith) c.loop-rest.invariant.rests c.lowest-to.ensures.here c.lowest-to.ensures.first c.loop-rest.invariant.below
 
 pub loop-rest-preserved : goal.loop-rest-preserved
 loop-rest-preserved c = record {
   below = rw c.number-next.ensures.value (search (rules, c.in_ok-add_between.ensures));
-  rests = rw c.number-next.ensures.value (Rests-without _ _ _ _ _ _ (omega arith) c.loop-rest.invariant.rests c.lowest-to.ensures.first c.lowest-to.ensures.here c.without-rest.ensures.gone c.without-rest.ensures.kept);
+  rests = rw c.number-next.ensures.value (Rests-without _ _ _ _ _ (omega arith) c.loop-rest.invariant.rests c.lowest-to.ensures.first c.lowest-to.ensures.here c.without-rest.ensures.gone c.without-rest.ensures.kept);
 }
 
 pub returns : goal.returns
-returns c = Rests-none _ _ _ _ _ c.loop-rest.invariant.rests (omega arith) c.loop-rest.invariant.below
+returns c = Targets-none _ _ _ _ _ _ c.loop-rest.invariant.rests (omega arith) c.loop-rest.invariant.below

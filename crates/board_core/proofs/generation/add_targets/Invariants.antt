@@ -1,12 +1,12 @@
 use Rattle.std.proofs.Common.{ℕ, ◌+◌, ◌*◌, ◌-◌}
-use Rattle.board_core.specs.Search.{HasLegalBelow}
-use Rattle.board_core.proofs.Sweep.{Rests}
+use Rattle.board_core.specs.Search.{HasListedBelow}
+use Rattle.board_core.proofs.Sweep.{Rests, Goes}
 use Rattle.board_core.proofs.generation.add_targets.Given as goal
 
 abbrev pub invariant-loop-rest : goal.invariant-loop-rest
 invariant-loop-rest l = record {
-  below : HasLegalBelow l.p (320 * l.from + 5 * l.next) l.moves.items;
-  rests : Rests l.p l.from l.next l.rest;
+  below : HasListedBelow l.p l.which (320 * l.from + 5 * l.next) l.moves.items;
+  rests : Rests (Goes l.p l.which l.from) l.next l.rest;
 }
 
 abbrev pub decreases-loop-rest : goal.decreases-loop-rest

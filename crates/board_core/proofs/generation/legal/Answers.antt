@@ -1,6 +1,6 @@
-use Rattle.std.proofs.Common.{arith}
-use Rattle.board_core.proofs.Listing.{HasLegal-all}
+use Rattle.std.proofs.Common.{rules}
+use Rattle.board_core.proofs.Listing.{Lists-every}
 use Rattle.board_core.proofs.generation.legal.Goals as goal
 
 pub returns : goal.returns
-returns c = HasLegal-all _ _ _ c.loop-from.invariant (omega arith)
+returns c = Lists-every _ _ c.in_ok-moves.ensures

@@ -11,3 +11,6 @@ returns-clause-kept c = λ s h. elim (cases_eq s c.number.result) [
   | inl e ↦ rw e (bit_at_set_same w64 c.args.mask c.number.result (omega arith))
   | inr ne ↦ bit_at_set_other w64 c.args.mask c.number.result (omega arith) s ne ∙ h
 ]
+
+pub returns-clause-others : goal.returns-clause-others
+returns-clause-others c = λ s ne. rw c.number.ensures.value (bit_at_set_other w64 c.args.mask c.args.square (omega arith) s ne)

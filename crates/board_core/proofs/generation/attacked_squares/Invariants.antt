@@ -1,0 +1,15 @@
+use Rattle.std.proofs.Common.{ℕ, ◌<◌, ◌-◌}
+use Rattle.board_core.specs.Moves.{IsTaken}
+use Rattle.board_core.specs.Side.{other}
+use Rattle.board_core.proofs.Sweep.{Rests}
+use Rattle.board_core.proofs.Danger.{Covers}
+use Rattle.board_core.proofs.generation.attacked_squares.Given as goal
+
+abbrev pub invariant-loop-rest : goal.invariant-loop-rest
+invariant-loop-rest l = record {
+  rests : Rests (IsTaken l.men (other l.side)) l.next l.rest;
+  covered : (s : ℕ) → s < l.next → Covers l.men l.side l.all s;
+}
+
+abbrev pub decreases-loop-rest : goal.decreases-loop-rest
+decreases-loop-rest l = 64 - l.next
