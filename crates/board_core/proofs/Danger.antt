@@ -21,7 +21,7 @@ use Rattle.board_core.proofs.Safety.{some_man, none_man, other_side, only_after,
 
 -- all that men of the other side on the square attack is in the set, but for our own men's squares
 abbrev pub Covers : List (Option Piece) → Side → ℕ → ℕ → Type 0
-Covers men side set s = (kind : Kind) (t : ℕ) → Stands men s (other side) kind → t < 64 → IsFree men side t → Reaches men (other side) kind s t → bit_at set t ≡ 1
+Covers men side set s = (sort : Kind) (t : ℕ) → Stands men s (other side) sort → t < 64 → IsFree men side t → Reaches men (other side) sort s t → bit_at set t ≡ 1
 
 pub Covers-all : (men : List (Option Piece)) (side : Side) (set : ℕ) → ((s : ℕ) → s < 64 → IsTaken men (other side) s → Covers men side set s) → HasAttacked men side set
 Covers-all men side set h = λ t b free a. h a.from a.on_board (a.kind, a.stands) a.kind t a.stands b free a.reaches
@@ -34,20 +34,20 @@ or_right a b t h = rw bit_at_or (omega (arith, bit_at-lt a t))
 
 -- one more square is covered, and no man stands between the two
 pub Covers-more : (men : List (Option Piece)) (side : Side) (next set from all more : ℕ) → Rests (IsTaken men (other side)) next set → ((s : ℕ) → s < from → bit_at set s ≡ 0) → from < 64 → ((s : ℕ) → s < next → Covers men side all s) → Covers men side more from → (s : ℕ) → s < from + 1 → Covers men side (bit_or all more) s
-Covers-more men side next set from all more r first b old new s lt kind t st bt free reach = elim (cases_lt s next) [
-  | inl x ↦ or_left all more t (old s x kind t st bt free reach)
+Covers-more men side next set from all more r first b old new s lt sort t st bt free reach = elim (cases_lt s next) [
+  | inl x ↦ or_left all more t (old s x sort t st bt free reach)
   | inr ge ↦ elim (cases_lt s from) [
-      | inl x ↦ absurd (Rests-between _ next set from s r first (omega arith) ge x (kind, st))
-      | inr y ↦ let e : s ≡ from = omega arith in or_right all more t (new kind t (rw e at st) bt free (rw e at reach))
-    ]
+    | inl x ↦ absurd (Rests-between _ next set from s r first (omega arith) ge x (sort, st))
+    | inr y ↦ let e : s ≡ from = omega arith in or_right all more t (new sort t (rw e at st) bt free (rw e at reach))
+  ]
 ]
 
 elsewhere : (men : List (Option Piece)) (t s : ℕ) (x : Option Piece) → s ≢ t → man_at (slice_set men t x) s ≡ man_at men s
 elsewhere men t s x ne = rw get_or-set_other refl
 
 -- a line to a square is as clear whoever stands there
-ray_bare : (men : List (Option Piece)) (kind : Kind) (x : Option Piece) (a t : ℕ) → Ray (slice_set men t x) kind a t → Ray men kind a t
-ray_bare men kind x a t r = record {
+ray_bare : (men : List (Option Piece)) (sort : Kind) (x : Option Piece) (a t : ℕ) → Ray (slice_set men t x) sort a t → Ray men sort a t
+ray_bare men sort x a t r = record {
   direction = r.direction;
   distance = r.distance;
   goes = r.goes;
@@ -59,7 +59,7 @@ ray_bare men kind x a t r = record {
 }
 
 -- what reaches a square over a board with a man put there reaches it without him
-reaches_bare : (men : List (Option Piece)) (by : Side) (kind : Kind) (x : Option Piece) (a t : ℕ) → Reaches (slice_set men t x) by kind a t → Reaches men by kind a t
+reaches_bare : (men : List (Option Piece)) (by : Side) (sort : Kind) (x : Option Piece) (a t : ℕ) → Reaches (slice_set men t x) by sort a t → Reaches men by sort a t
 reaches_bare men by Pawn x a t r = r
 reaches_bare men by Knight x a t r = r
 reaches_bare men by Bishop x a t r = ray_bare men Bishop x a t r
@@ -71,8 +71,8 @@ reaches_bare men by King x a t r = r
 pub attack_bare : (men : List (Option Piece)) (side : Side) (what : Kind) (t : ℕ) → t < length men → IsAttacked (slice_set men t (some_man side what)) (other side) t → IsAttacked men (other side) t
 attack_bare men side what t lt a =
     let away : a.from ≢ t = λ e.
-        let there : man_at (slice_set men t (some_man side what)) t ≡ some_man side what = rw get_or-set_same refl in
-        other_side side what a.kind (sym there ∙ rw e at a.stands) in
+    let there : man_at (slice_set men t (some_man side what)) t ≡ some_man side what = rw get_or-set_same refl in
+    other_side side what a.kind (sym there ∙ rw e at a.stands) in
     record {
       from = a.from;
       kind = a.kind;
@@ -87,8 +87,8 @@ bared_here men k lt = rw get_or-set_same refl
 pub bared_free : (men : List (Option Piece)) (side : Side) (k : ℕ) → k < length men → IsFree (bared men k) side k
 bared_free men side k lt = λ what st. none_man side what _ (bared_here men k lt) st
 
-ray_bared : (men : List (Option Piece)) (kind : Kind) (a t : ℕ) → Ray men kind a t → Ray (bared men t) kind a t
-ray_bared men kind a t r = record {
+ray_bared : (men : List (Option Piece)) (sort : Kind) (a t : ℕ) → Ray men sort a t → Ray (bared men t) sort a t
+ray_bared men sort a t r = record {
   direction = r.direction;
   distance = r.distance;
   goes = r.goes;
@@ -99,7 +99,7 @@ ray_bared men kind a t r = record {
       elsewhere men t s None before ∙ r.clear j s away within here;
 }
 
-reaches_bared : (men : List (Option Piece)) (by : Side) (kind : Kind) (a t : ℕ) → Reaches men by kind a t → Reaches (bared men t) by kind a t
+reaches_bared : (men : List (Option Piece)) (by : Side) (sort : Kind) (a t : ℕ) → Reaches men by sort a t → Reaches (bared men t) by sort a t
 reaches_bared men by Pawn a t r = r
 reaches_bared men by Knight a t r = r
 reaches_bared men by Bishop a t r = ray_bared men Bishop a t r
@@ -123,12 +123,12 @@ attack_bared men side what k lt st a =
 pub king_away : (p : Parts) (m : Move) (k set : ℕ) → length p.men ≡ 64 → m.from < 64 → m.to < 64 → IsPlain p m → m.from ≡ k → IsOnlyKing p.men p.side k → HasAttacked (bared p.men k) p.side set → bit_at set m.to ≡ 0 → IsInCheck (men_after p m Plain) p.side → ⊥
 king_away p m k set len lf lt r at only danger none =
     only_safe (men_after p m Plain) p.side m.to (only_after p m Plain k m.to len lf lt r only (λ _. refl) (λ ne. absurd (ne at)))
-      (λ a.
-        let own : man_at p.men m.from ≡ some_man p.side r.kind = r.stands in
-        let within : m.to < length (bared p.men m.from) = omega (arith, length-set {A = Option Piece}) in
-        let bare = attack_bare (bared p.men m.from) p.side r.kind m.to within (rw own at a) in
-        let free : IsFree (bared p.men k) p.side m.to = λ kind st. elim (cases_eq m.to k) [
-          | inl e ↦ bared_free p.men p.side k (omega arith) kind (rw e at st)
-          | inr ne ↦ r.free kind (sym (elsewhere p.men k m.to None ne) ∙ st)
-        ] in
-        zero_one _ none (danger m.to lt free (rw at at bare)))
+    (λ a.
+    let own : man_at p.men m.from ≡ some_man p.side r.kind = r.stands in
+    let within : m.to < length (bared p.men m.from) = omega (arith, length-set {A = Option Piece}) in
+    let bare = attack_bare (bared p.men m.from) p.side r.kind m.to within (rw own at a) in
+    let free : IsFree (bared p.men k) p.side m.to = λ sort st. elim (cases_eq m.to k) [
+      | inl e ↦ bared_free p.men p.side k (omega arith) sort (rw e at st)
+      | inr ne ↦ r.free sort (sym (elsewhere p.men k m.to None ne) ∙ st)
+    ] in
+    zero_one _ none (danger m.to lt free (rw at at bare)))

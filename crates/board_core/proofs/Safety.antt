@@ -23,7 +23,7 @@ use Rattle.board_core.specs.Moves.{Stands, IsMove, IsLegal, Legal, carried, land
 use Rattle.board_core.proofs.Outward.{opposite, along_split, along_rest, along_distance}
 
 abbrev pub some_man : Side → Kind → Option Piece
-some_man side kind = Some (record { side = side; kind = kind })
+some_man side sort = Some (record { side = side; kind = sort })
 
 abbrev kind_on : Option Piece → Kind
 kind_on None = Pawn
@@ -33,8 +33,8 @@ abbrev side_on : Option Piece → Side
 side_on None = White
 side_on (Some man) = man.side
 
-pub none_man : (side : Side) (kind : Kind) (o : Option Piece) → o ≡ None → o ≡ some_man side kind → ⊥
-none_man side kind o a b = let f = sym a ∙ b in cc
+pub none_man : (side : Side) (sort : Kind) (o : Option Piece) → o ≡ None → o ≡ some_man side sort → ⊥
+none_man side sort o a b = let f = sym a ∙ b in cc
 
 carried_at_to : (men : List (Option Piece)) (from to : ℕ) (man : Option Piece) → length men ≡ 64 → to < 64 → man_at (carried men from to man) to ≡ man
 carried_at_to men from to man len lt =
@@ -123,8 +123,8 @@ not_other : (side : Side) → side ≡ other side → ⊥
 not_other White e = cc
 not_other Black e = cc
 
-pub other_side : (side : Side) (kind kind' : Kind) → some_man side kind ≡ some_man (other side) kind' → ⊥
-other_side side kind kind' e = not_other side (ap side_on e)
+pub other_side : (side : Side) (sort sort' : Kind) → some_man side sort ≡ some_man (other side) sort' → ⊥
+other_side side sort sort' e = not_other side (ap side_on e)
 
 -- a line that is clear after a man of ours was carried was clear before, or he uncovered it
 clear_before : (men : List (Option Piece)) (side : Side) (what : Kind) (d : Direction) (n a k f t : ℕ) (x : Option Piece) → length men ≡ 64 → f < 64 → t < 64 → x ≡ some_man side what → (Ray men Queen k f → ⊥) → Along d n a k → IsClear (carried men f t x) d n a → IsClear men d n a
@@ -153,8 +153,8 @@ clear_before men side what d n a k f t x len lf lt own shut along clear =
       | inr nf ↦ emptied s nf (clear j s away within here)
     ]
 
-ray_before : (men : List (Option Piece)) (side : Side) (what kind : Kind) (a k f t : ℕ) (x : Option Piece) → length men ≡ 64 → f < 64 → t < 64 → x ≡ some_man side what → (Ray men Queen k f → ⊥) → Ray (carried men f t x) kind a k → Ray men kind a k
-ray_before men side what kind a k f t x len lf lt own shut r = record {
+ray_before : (men : List (Option Piece)) (side : Side) (what sort : Kind) (a k f t : ℕ) (x : Option Piece) → length men ≡ 64 → f < 64 → t < 64 → x ≡ some_man side what → (Ray men Queen k f → ⊥) → Ray (carried men f t x) sort a k → Ray men sort a k
+ray_before men side what sort a k f t x len lf lt own shut r = record {
   direction = r.direction;
   distance = r.distance;
   goes = r.goes;
@@ -163,7 +163,7 @@ ray_before men side what kind a k f t x len lf lt own shut r = record {
   clear = clear_before men side what r.direction r.distance a k f t x len lf lt own shut r.along r.clear;
 }
 
-reaches_before : (men : List (Option Piece)) (side by : Side) (what kind : Kind) (a k f t : ℕ) (x : Option Piece) → length men ≡ 64 → f < 64 → t < 64 → x ≡ some_man side what → (Ray men Queen k f → ⊥) → Reaches (carried men f t x) by kind a k → Reaches men by kind a k
+reaches_before : (men : List (Option Piece)) (side by : Side) (what sort : Kind) (a k f t : ℕ) (x : Option Piece) → length men ≡ 64 → f < 64 → t < 64 → x ≡ some_man side what → (Ray men Queen k f → ⊥) → Reaches (carried men f t x) by sort a k → Reaches men by sort a k
 reaches_before men side by what Pawn a k f t x len lf lt own shut r = r
 reaches_before men side by what Knight a k f t x len lf lt own shut r = r
 reaches_before men side by what Bishop a k f t x len lf lt own shut r = ray_before men side what Bishop a k f t x len lf lt own shut r

@@ -36,41 +36,41 @@ kind_on None = King
 kind_on (Some man) = man.kind
 
 -- the move of a man that is neither pawn nor king is a plain one
-pub piece_moves : (p : Parts) (m : Move) (kind : Kind) (c : MoveCase) → Stands p.men m.from p.side kind → kind ≢ Pawn → kind ≢ King → IsMove p m c → IsPlain p m
-piece_moves p m kind Plain st np nk r = r
-piece_moves p m kind Advance st np nk r = absurd (np (sym (ap kind_on st) ∙ ap kind_on r.stands))
-piece_moves p m kind DoubleStep st np nk r = absurd (np (sym (ap kind_on st) ∙ ap kind_on r.stands))
-piece_moves p m kind PawnCapture st np nk r = absurd (np (sym (ap kind_on st) ∙ ap kind_on r.stands))
-piece_moves p m kind EnPassant st np nk r = absurd (np (sym (ap kind_on st) ∙ ap kind_on r.stands))
-piece_moves p m kind (Castle wing) st np nk r = absurd (nk (sym (ap kind_on st) ∙ ap kind_on r.stands))
+pub piece_moves : (p : Parts) (m : Move) (sort : Kind) (c : MoveCase) → Stands p.men m.from p.side sort → sort ≢ Pawn → sort ≢ King → IsMove p m c → IsPlain p m
+piece_moves p m sort Plain st np nk r = r
+piece_moves p m sort Advance st np nk r = absurd (np (sym (ap kind_on st) ∙ ap kind_on r.stands))
+piece_moves p m sort DoubleStep st np nk r = absurd (np (sym (ap kind_on st) ∙ ap kind_on r.stands))
+piece_moves p m sort PawnCapture st np nk r = absurd (np (sym (ap kind_on st) ∙ ap kind_on r.stands))
+piece_moves p m sort EnPassant st np nk r = absurd (np (sym (ap kind_on st) ∙ ap kind_on r.stands))
+piece_moves p m sort (Castle wing) st np nk r = absurd (nk (sym (ap kind_on st) ∙ ap kind_on r.stands))
 
 -- a man that is no pawn never is promoted
-pub piece_whole : (p : Parts) (m : Move) (kind : Kind) (c : MoveCase) → Stands p.men m.from p.side kind → kind ≢ Pawn → IsMove p m c → m.promotion ≡ None
-piece_whole p m kind Plain st np r = r.whole
-piece_whole p m kind Advance st np r = absurd (np (sym (ap kind_on st) ∙ ap kind_on r.stands))
-piece_whole p m kind DoubleStep st np r = absurd (np (sym (ap kind_on st) ∙ ap kind_on r.stands))
-piece_whole p m kind PawnCapture st np r = absurd (np (sym (ap kind_on st) ∙ ap kind_on r.stands))
-piece_whole p m kind EnPassant st np r = absurd (np (sym (ap kind_on st) ∙ ap kind_on r.stands))
-piece_whole p m kind (Castle wing) st np r = r.whole
+pub piece_whole : (p : Parts) (m : Move) (sort : Kind) (c : MoveCase) → Stands p.men m.from p.side sort → sort ≢ Pawn → IsMove p m c → m.promotion ≡ None
+piece_whole p m sort Plain st np r = r.whole
+piece_whole p m sort Advance st np r = absurd (np (sym (ap kind_on st) ∙ ap kind_on r.stands))
+piece_whole p m sort DoubleStep st np r = absurd (np (sym (ap kind_on st) ∙ ap kind_on r.stands))
+piece_whole p m sort PawnCapture st np r = absurd (np (sym (ap kind_on st) ∙ ap kind_on r.stands))
+piece_whole p m sort EnPassant st np r = absurd (np (sym (ap kind_on st) ∙ ap kind_on r.stands))
+piece_whole p m sort (Castle wing) st np r = r.whole
 
 -- what a piece takes stands on its square
-pub piece_takes : (p : Parts) (m : Move) (kind : Kind) → Stands p.men m.from p.side kind → kind ≢ Pawn → IsCapture p m → IsTaken p.men (other p.side) m.to
-piece_takes p m kind st np (inl t) = t
-piece_takes p m kind st np (inr r) = absurd (np (sym (ap kind_on st) ∙ ap kind_on r.stands))
+pub piece_takes : (p : Parts) (m : Move) (sort : Kind) → Stands p.men m.from p.side sort → sort ≢ Pawn → IsCapture p m → IsTaken p.men (other p.side) m.to
+piece_takes p m sort st np (inl t) = t
+piece_takes p m sort st np (inr r) = absurd (np (sym (ap kind_on st) ∙ ap kind_on r.stands))
 
 -- a listed capture of a piece goes to a square that it reaches and where a man stands
-pub takes_whole : (p : Parts) (which : Which) (v : Survey) (m : Move) (kind : Kind) (from set : ℕ) → which ≡ Captures → IsSurvey p v → Stands p.men from p.side kind → kind ≢ Pawn → kind ≢ King → IsListed which p m → m.from ≡ from → ((s : ℕ) → kind ≢ Pawn → s < 64 → Reaches p.men p.side kind from s → IsFree p.men p.side s → bit_at set s ≡ 1) → bit_at (bit_and set v.enemy) m.to ≡ 1
-takes_whole p which v m kind from set e survey st np nk l here reached =
-    let own : Stands p.men m.from p.side kind = rw here st in
-    let r = piece_moves p m kind l.0.1.case own np nk l.0.1.rule in
-    let same : r.kind ≡ kind = sym (ap kind_on r.stands) ∙ ap kind_on own in
+pub takes_whole : (p : Parts) (which : Which) (v : Survey) (m : Move) (sort : Kind) (from set : ℕ) → which ≡ Captures → IsSurvey p v → Stands p.men from p.side sort → sort ≢ Pawn → sort ≢ King → IsListed which p m → m.from ≡ from → ((s : ℕ) → sort ≢ Pawn → s < 64 → Reaches p.men p.side sort from s → IsFree p.men p.side s → bit_at set s ≡ 1) → bit_at (bit_and set v.enemy) m.to ≡ 1
+takes_whole p which v m sort from set e survey st np nk l here reached =
+    let own : Stands p.men m.from p.side sort = rw here st in
+    let r = piece_moves p m sort l.0.1.case own np nk l.0.1.rule in
+    let same : r.kind ≡ sort = sym (ap kind_on r.stands) ∙ ap kind_on own in
     let wanted : IsCapture p m = rw e at l.1 in
     and_both set v.enemy m.to
-      (reached m.to np l.0.1.to_board (rw (same, here) at r.reaches) r.free)
-      (survey.enemy m.to l.0.1.to_board (piece_takes p m kind own np wanted))
+    (reached m.to np l.0.1.to_board (rw (same, here) at r.reaches) r.free)
+    (survey.enemy m.to l.0.1.to_board (piece_takes p m sort own np wanted))
 
-pub takes_step : (p : Parts) (which : Which) (v : Survey) (kind : Kind) (from set s : ℕ) → which ≡ Captures → IsSurvey p v → bit_at (bit_and set v.enemy) s ≡ 1 → (bit_at set s ≡ 1 → (kind ≢ Pawn) × Reaches p.men p.side kind from s × IsFree p.men p.side s) → IsStep p which kind from s
-takes_step p which v kind from set s e survey bit only =
+pub takes_step : (p : Parts) (which : Which) (v : Survey) (sort : Kind) (from set s : ℕ) → which ≡ Captures → IsSurvey p v → bit_at (bit_and set v.enemy) s ≡ 1 → (bit_at set s ≡ 1 → (sort ≢ Pawn) × Reaches p.men p.side sort from s × IsFree p.men p.side s) → IsStep p which sort from s
+takes_step p which v sort from set s e survey bit only =
     let h = only (and_left set v.enemy s bit) in record {
       reaches = h.1;
       free = h.2;
@@ -90,21 +90,21 @@ abbrev step_move : ℕ → ℕ → Move
 step_move from to = record { from = from; to = to; promotion = None }
 
 -- a step of a piece that may go anywhere is a move that is listed
-pub step_listed : (p : Parts) (which : Which) (kind : Kind) (from to : ℕ) → from < 64 → to < 64 → Stands p.men from p.side kind → kind ≢ Pawn → IsLoose p from → IsStep p which kind from to → IsListed which p (step_move from to)
-step_listed p which kind from to lf lt st np loose h =
-    let rule : IsMove p (step_move from to) Plain = record { kind = kind; no_pawn = np; stands = st; reaches = h.reaches; free = h.free; whole = refl } in
+pub step_listed : (p : Parts) (which : Which) (sort : Kind) (from to : ℕ) → from < 64 → to < 64 → Stands p.men from p.side sort → sort ≢ Pawn → IsLoose p from → IsStep p which sort from to → IsListed which p (step_move from to)
+step_listed p which sort from to lf lt st np loose h =
+    let rule : IsMove p (step_move from to) Plain = record { kind = sort; no_pawn = np; stands = st; reaches = h.reaches; free = h.free; whole = refl } in
     (safe_legal p (step_move from to) Plain lf lt rule (loose (step_move from to) Plain refl lt rule tt), h.wanted)
 
 -- and the only one between the two squares
-pub step_pushed : (p : Parts) (which : Which) (kind : Kind) (from to : ℕ) (moves : List Move) → from < 64 → to < 64 → Stands p.men from p.side kind → kind ≢ Pawn → IsLoose p from → IsStep p which kind from to → HasListedBelow p which (320 * from + 5 * to) moves → HasListedBelow p which (320 * from + 5 * (to + 1)) (moves ++ step_move from to ∷ [])
-step_pushed p which kind from to moves lf lt st np loose h below =
+pub step_pushed : (p : Parts) (which : Which) (sort : Kind) (from to : ℕ) (moves : List Move) → from < 64 → to < 64 → Stands p.men from p.side sort → sort ≢ Pawn → IsLoose p from → IsStep p which sort from to → HasListedBelow p which (320 * from + 5 * to) moves → HasListedBelow p which (320 * from + 5 * (to + 1)) (moves ++ step_move from to ∷ [])
+step_pushed p which sort from to moves lf lt st np loose h below =
     let start : HasListedBelow p which (place_of (step_move from to)) moves = HasListedBelow-skip p which _ _ moves below (omega arith) (λ m l low high. absurd (omega arith)) in
-    let pushed = HasListedBelow-push p which (step_move from to) moves start (step_listed p which kind from to lf lt st np loose h) in
+    let pushed = HasListedBelow-push p which (step_move from to) moves start (step_listed p which sort from to lf lt st np loose h) in
     HasListedBelow-skip p which _ _ _ pushed (omega arith) (λ m l low high.
-      let k = promotion_below m.promotion in
-      let e : m.from ≡ from = omega (arith, l.0.1.to_board) in
-      let own : Stands p.men m.from p.side kind = rw e st in
-      let whole = piece_whole p m kind l.0.1.case own np l.0.1.rule in
-      let f : m.to ≡ to = omega (arith, l.0.1.to_board) in
-      let zero : promotion_place m.promotion ≡ 0 = rw whole refl in
-      omega arith)
+    let k = promotion_below m.promotion in
+    let e : m.from ≡ from = omega (arith, l.0.1.to_board) in
+    let own : Stands p.men m.from p.side sort = rw e st in
+    let whole = piece_whole p m sort l.0.1.case own np l.0.1.rule in
+    let f : m.to ≡ to = omega (arith, l.0.1.to_board) in
+    let zero : promotion_place m.promotion ≡ 0 = rw whole refl in
+    omega arith)

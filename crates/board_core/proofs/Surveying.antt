@@ -64,7 +64,7 @@ Surveyed-none p n own enemy king lone h empty =
 pub Surveyed-enemy : (p : Parts) (n own enemy enemy' : ℕ) (king : Option ℕ) (lone : Bool) (man : Piece) → Surveyed p n own enemy king lone → man_at p.men n ≡ Some man → man.side ≡ other p.side → bit_at enemy' n ≡ 1 → ((s : ℕ) → s ≢ n → bit_at enemy' s ≡ bit_at enemy s) → Surveyed p (n + 1) own enemy' king lone
 Surveyed-enemy p n own enemy enemy' king lone man h there theirs here others =
     let away : (s : ℕ) (kind : Kind) → Stands p.men s p.side kind → s ≢ n = λ s kind st e.
-        not_other p.side (sym (ap side_on (rw e at st)) ∙ ap side_on there ∙ theirs) in
+    not_other p.side (sym (ap side_on (rw e at st)) ∙ ap side_on there ∙ theirs) in
     record {
       mine = λ s lt t. h.mine s (next_of n s lt (away s t.0 t.1)) t;
       theirs = λ s lt t. elim (cases_eq s n) [
@@ -83,9 +83,9 @@ Surveyed-enemy p n own enemy enemy' king lone man h there theirs here others =
 pub Surveyed-own : (p : Parts) (n own own' enemy : ℕ) (king : Option ℕ) (lone : Bool) (man : Piece) → Surveyed p n own enemy king lone → man_at p.men n ≡ Some man → (man.side ≡ other p.side → ⊥) → man.kind ≢ King → bit_at own' n ≡ 1 → ((s : ℕ) → s ≢ n → bit_at own' s ≡ bit_at own s) → Surveyed p (n + 1) own' enemy king lone
 Surveyed-own p n own own' enemy king lone man h there ours no_king here others =
     let away : (s : ℕ) (kind : Kind) → Stands p.men s (other p.side) kind → s ≢ n = λ s kind st e.
-        ours (sym (ap side_on there) ∙ ap side_on (rw e at st)) in
+    ours (sym (ap side_on there) ∙ ap side_on (rw e at st)) in
     let king_away : (s : ℕ) → Stands p.men s p.side King → s ≢ n = λ s st e.
-        no_king (sym (ap kind_on there) ∙ ap kind_on (rw e at st)) in
+    no_king (sym (ap kind_on there) ∙ ap kind_on (rw e at st)) in
     record {
       mine = λ s lt t. elim (cases_eq s n) [
         | inl e ↦ rw e here
@@ -105,9 +105,9 @@ none_of (Some j) lone e t = let f = e ∙ ap not t in cc
 pub Surveyed-king : (p : Parts) (n own own' enemy : ℕ) (king : Option ℕ) (lone lone' : Bool) (man : Piece) → Surveyed p n own enemy king lone → man_at p.men n ≡ Some man → (man.side ≡ other p.side → ⊥) → man.kind ≡ King → is_some king ≡ not lone' → bit_at own' n ≡ 1 → ((s : ℕ) → s ≢ n → bit_at own' s ≡ bit_at own s) → Surveyed p (n + 1) own' enemy (Some n) lone'
 Surveyed-king p n own own' enemy king lone lone' man h there ours is_king first here others =
     let away : (s : ℕ) (kind : Kind) → Stands p.men s (other p.side) kind → s ≢ n = λ s kind st e.
-        ours (sym (ap side_on there) ∙ ap side_on (rw e at st)) in
+    ours (sym (ap side_on there) ∙ ap side_on (rw e at st)) in
     let stand : Stands p.men n p.side King =
-        there ∙ ap (λ (x : Piece). Some x) (piece_of_side man p.side (own_side p.side man.side ours) ∙ ap (λ (k : Kind). record { side = p.side; kind = k }) is_king) in
+    there ∙ ap (λ (x : Piece). Some x) (piece_of_side man p.side (own_side p.side man.side ours) ∙ ap (λ (k : Kind). record { side = p.side; kind = k }) is_king) in
     record {
       mine = λ s lt t. elim (cases_eq s n) [
         | inl e ↦ rw e here

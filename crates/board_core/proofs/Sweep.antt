@@ -49,9 +49,9 @@ Rests-empty Q next set s r none b low q = zero_one _ (bit_at-zero s) (rw none at
 pub rest_of : (set to set' s : ℕ) → to < 64 → set' < 2 ^ 64 → bit_at set' to ≡ 0 → ((s : ℕ) → s < 64 → s ≢ to → bit_at set' s ≡ bit_at set s) → bit_at set' s ≡ 1 → bit_at set s ≡ 1
 rest_of set to set' s b small gone kept bit = elim (cases_lt s 64) [
   | inl lt ↦ elim (cases_eq s to) [
-      | inl e ↦ absurd (zero_one _ gone (rw e at bit))
-      | inr ne ↦ sym (kept s lt ne) ∙ bit
-    ]
+    | inl e ↦ absurd (zero_one _ gone (rw e at bit))
+    | inr ne ↦ sym (kept s lt ne) ∙ bit
+  ]
   | inr ge ↦ absurd (zero_one _ (bit_at_above set' 64 s small ge) bit)
 ]
 

@@ -1,4 +1,4 @@
-use Rattle.std.specs.Prelude.{◌≡◌, ℕ, ◌<◌, ◌≤◌, ◌&&◌, Bool, true, false, IsTrue, List, Option, Some, None, count_by, length}
+use Rattle.std.specs.Prelude.{◌≡◌, ℕ, ◌<◌, ◌≤◌, ◌&&◌, Bool, true, false, IsTrue, List, Option, Some, None, count_by, length, codes}
 use Rattle.board_core.specs.declared.piece.Piece.{Piece}
 use Rattle.board_core.specs.declared.piece.Side.{Side}
 use Rattle.board_core.specs.declared.piece.Side.TheVariants.{White, Black}
@@ -102,3 +102,13 @@ IsFirstFault p OpponentInCheck =
     HasOneKingEach p.men × HasFewMen p.men × HasNoPawnOnEdge p.men × HasHonestRights p × HasHonestEnPassant p × (IsQuiet p → ⊥)
 IsFirstFault p BadCounter =
     HasOneKingEach p.men × HasFewMen p.men × HasNoPawnOnEdge p.men × HasHonestRights p × HasHonestEnPassant p × IsQuiet p × (HasFairCounters p → ⊥)
+
+-- the name of a fault
+abbrev pub fault_name : PositionFault → List ℕ
+fault_name BadKings = codes "BadKings"
+fault_name TooManyMen = codes "TooManyMen"
+fault_name PawnOnEdge = codes "PawnOnEdge"
+fault_name BadCastling = codes "BadCastling"
+fault_name BadEnPassant = codes "BadEnPassant"
+fault_name OpponentInCheck = codes "OpponentInCheck"
+fault_name BadCounter = codes "BadCounter"

@@ -1,6 +1,6 @@
 ghost use Rattle.std.specs.Prelude.{◌≡◌, ◌≢◌, ◌<◌, ◌≤◌, ◌↔◌, ◌+◌, ◌-◌, ℕ, IsTrue, IsSome, IfSome, IfNone};
 ghost use Rattle.board_core.specs.Search.{IsHop, IsHopped, IsInside, IsStruck};
-ghost use Rattle.board_core.specs.Attack.{Along, IsClear, Goes, Ray, IsKingStep, IsKnightStep, IsPawnAttack, Reaches, IsAttacked, forward};
+ghost use Rattle.board_core.specs.Attack.{Along, IsClear, Goes, Ray, IsKingStep, IsKnightStep, IsPawnAttack, Reaches, IsAttacked, IsInCheck, forward};
 
 use crate::piece::{Kind, Men, Piece, Side};
 use crate::square::Square;
@@ -329,6 +329,23 @@ pub fn is_attacked(men: &Men, by: Side, to: Square) -> bool
     }
     if is_hopped(men, by, Hop::WestSouthSouth, to) {
         return true;
+    }
+    false
+}
+
+/// Whether a king of this side is attacked.
+pub fn is_in_check(men: &Men, side: Side) -> bool
+    ensures { IsTrue result ↔ IsInCheck men.now side }
+{
+    for n in 0..64 {
+        if let Some(man) = men[n as usize] {
+            if man.side == side
+                && man.kind == Kind::King
+                && is_attacked(men, side.other(), Square::at(n))
+            {
+                return true;
+            }
+        }
     }
     false
 }

@@ -7,7 +7,7 @@ ghost use Rattle.board_core.specs.Side.{other};
 ghost use Rattle.board_core.specs.Square.{rank_of};
 
 use crate::moves::{Move, MoveCase};
-use crate::parts::{self, Parts};
+use crate::parts::Parts;
 use crate::piece::{Kind, Men, Promotion, Side};
 use crate::playing::men_after;
 use crate::rules::{case_of, is_capture, last_rank, stands};
@@ -210,7 +210,7 @@ fn is_safe(p: &Parts, m: &Move, case: MoveCase, g: &Guard, loose: bool) -> bool
     if g.lone && !attack::is_attacked(&men, p.side.other(), king) {
         return true;
     }
-    !parts::is_in_check(&men, p.side)
+    !attack::is_in_check(&men, p.side)
 }
 
 /// Whether the move is one of those asked for.

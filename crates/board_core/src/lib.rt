@@ -1,13 +1,24 @@
-// Chess positions and their legal moves.
+//! Chess positions and their legal moves.
+//!
+//! The rules are those of the FIDE Laws of Chess, article 3, with castling, en passant and promotion;
+//! `specs/` states them as relations over a map from squares to men. Squares are numbered a1 = 0,
+//! b1 = 1, .. h1 = 7, a2 = 8, .. h8 = 63.
 #![tactic(auto)]
 
-pub mod attack;
-pub mod generation;
-pub mod moves;
-pub mod parts;
-pub mod piece;
-pub mod playing;
-pub mod position;
-pub mod rules;
-pub mod square;
-pub mod targets;
+mod attack;
+mod castling;
+mod generation;
+mod moves;
+mod parts;
+mod piece;
+mod playing;
+mod position;
+mod rules;
+mod square;
+mod targets;
+
+pub use moves::Move;
+pub use parts::{Parts, Rights};
+pub use piece::{Kind, Men, Piece, Promotion, Side, Wing};
+pub use position::{Position, PositionFault};
+pub use square::Square;

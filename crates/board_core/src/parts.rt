@@ -1,12 +1,10 @@
-ghost use Rattle.std.specs.Prelude.{◌≡◌, ◌<◌, ◌↔◌, ◌+◌, ◌-◌, ℕ, IsTrue};
-ghost use Rattle.board_core.specs.Castling.{has_right, king_home, rook_home, king_end, rook_end};
-ghost use Rattle.board_core.specs.Attack.{IsInCheck};
+ghost use Rattle.std.specs.Prelude.{◌≡◌};
+ghost use Rattle.board_core.specs.Castling.{has_right};
 
-use crate::attack;
-use crate::piece::{Kind, Men, Piece, Side, Wing};
+use crate::piece::{Men, Side, Wing};
 use crate::square::Square;
 
-/// Which castlings have not been lost.
+/// Which castlings have not been lost (FIDE article 3.8.2.1).
 #[derive(Clone, Copy, PartialEq, Eq, Debug)]
 pub struct Rights {
     pub white_king: bool,
@@ -15,18 +13,25 @@ pub struct Rights {
     pub black_queen: bool,
 }
 
-/// The parts of a position.
+/// The parts of a position, whether they are one or not; `Position::new` tells.
 #[derive(Clone, Copy, PartialEq, Eq, Debug)]
 pub struct Parts {
+    /// What stands on each square.
     pub men: Men,
+    /// The side to move.
     pub side: Side,
+    /// Which castlings have not been lost.
     pub rights: Rights,
+    /// The square that a pawn passed by a double step in the move before.
     pub en_passant: Option<Square>,
+    /// Plies since the last capture or pawn move, 0 to 9999.
     pub halfmove: u16,
+    /// The number of the move, one more after each move of black, 0 to 9999.
     pub fullmove: u16,
 }
 
 impl Rights {
+    /// Whether this side has not lost this castling.
     pub fn has(self, side: Side, wing: Wing) -> bool
         ensures { result ≡ has_right self side wing }
     {
@@ -37,63 +42,4 @@ impl Rights {
             (Side::Black, Wing::QueenSide) => self.black_queen,
         }
     }
-}
-
-pub fn king_home(side: Side) -> Square
-    ensures { result ≡ king_home side }
-{
-    match side {
-        Side::White => Square::at(4),
-        Side::Black => Square::at(60),
-    }
-}
-
-pub fn rook_home(side: Side, wing: Wing) -> Square
-    ensures { result ≡ rook_home side wing }
-{
-    match (side, wing) {
-        (Side::White, Wing::KingSide) => Square::at(7),
-        (Side::White, Wing::QueenSide) => Square::at(0),
-        (Side::Black, Wing::KingSide) => Square::at(63),
-        (Side::Black, Wing::QueenSide) => Square::at(56),
-    }
-}
-
-pub fn king_end(side: Side, wing: Wing) -> Square
-    ensures { result ≡ king_end side wing }
-{
-    match (side, wing) {
-        (Side::White, Wing::KingSide) => Square::at(6),
-        (Side::White, Wing::QueenSide) => Square::at(2),
-        (Side::Black, Wing::KingSide) => Square::at(62),
-        (Side::Black, Wing::QueenSide) => Square::at(58),
-    }
-}
-
-pub fn rook_end(side: Side, wing: Wing) -> Square
-    ensures { result ≡ rook_end side wing }
-{
-    match (side, wing) {
-        (Side::White, Wing::KingSide) => Square::at(5),
-        (Side::White, Wing::QueenSide) => Square::at(3),
-        (Side::Black, Wing::KingSide) => Square::at(61),
-        (Side::Black, Wing::QueenSide) => Square::at(59),
-    }
-}
-
-/// Whether a king of this side is attacked.
-pub fn is_in_check(men: &Men, side: Side) -> bool
-    ensures { IsTrue result ↔ IsInCheck men.now side }
-{
-    for n in 0..64 {
-        if let Some(man) = men[n as usize] {
-            if man.side == side
-                && man.kind == Kind::King
-                && attack::is_attacked(men, side.other(), Square::at(n))
-            {
-                return true;
-            }
-        }
-    }
-    false
 }

@@ -1,6 +1,7 @@
 ghost use Rattle.std.specs.Prelude.{◌≡◌};
 ghost use Rattle.board_core.specs.Side.{other};
 
+/// The two players (FIDE article 2).
 #[derive(Clone, Copy, PartialEq, Eq, Debug)]
 pub enum Side {
     White,
@@ -8,6 +9,7 @@ pub enum Side {
 }
 
 impl Side {
+    /// The opponent.
     pub fn other(self) -> Side
         ensures { result ≡ other self }
     {
@@ -18,6 +20,7 @@ impl Side {
     }
 }
 
+/// The kinds of men (FIDE article 2.2).
 #[derive(Clone, Copy, PartialEq, Eq, Debug)]
 pub enum Kind {
     Pawn,
@@ -28,24 +31,24 @@ pub enum Kind {
     King,
 }
 
-/// A man on the board.
+/// A man on the board: whose it is and of what kind.
 #[derive(Clone, Copy, PartialEq, Eq, Debug)]
 pub struct Piece {
     pub side: Side,
     pub kind: Kind,
 }
 
-/// The man on each of the 64 squares.
+/// The man on each of the 64 squares, by the number of the square.
 pub type Men = [Option<Piece>; 64];
 
-/// The two ways to castle.
+/// The two ways to castle (FIDE article 3.8.2): with the rook of file h or of file a.
 #[derive(Clone, Copy, PartialEq, Eq, Debug)]
 pub enum Wing {
     KingSide,
     QueenSide,
 }
 
-/// What a pawn becomes.
+/// What a pawn becomes on its last rank (FIDE article 3.7.3.3), in the order in which moves are listed.
 #[derive(Clone, Copy, PartialEq, Eq, PartialOrd, Ord, Debug)]
 pub enum Promotion {
     Queen,

@@ -8,10 +8,11 @@ ghost use Rattle.board_core.specs.Square.{rank_of};
 ghost use Rattle.board_core.specs.Castling.{king_home, rook_home, king_end};
 
 use crate::moves::{Move, MoveCase};
-use crate::parts::{self, Parts, Rights};
+use crate::parts::{Parts, Rights};
 use crate::piece::{Kind, Men, Piece, Promotion, Side, Wing};
 use crate::rules::{case_of, is_empty};
 use crate::square::Square;
+use crate::{attack, castling};
 
 /// Moves what stands on `from` to `to`, where it is then this man.
 fn carry(men: &mut Men, from: Square, to: Square, man: Option<Piece>)
@@ -48,9 +49,9 @@ fn keeps_right(p: &Parts, m: &Move, side: Side, wing: Wing) -> bool
     ensures { result ≡ keeps_right p.now m.now side wing }
 {
     p.rights.has(side, wing)
-        && m.from != parts::king_home(side)
-        && m.from != parts::rook_home(side, wing)
-        && m.to != parts::rook_home(side, wing)
+        && m.from != castling::king_home(side)
+        && m.from != castling::rook_home(side, wing)
+        && m.to != castling::rook_home(side, wing)
 }
 
 fn rights_after(p: &Parts, m: &Move) -> Rights
@@ -131,8 +132,8 @@ pub fn men_after(p: &Parts, m: &Move, case: MoveCase) -> Men
             });
             carry(
                 &mut men,
-                parts::rook_home(p.side, wing),
-                parts::rook_end(p.side, wing),
+                castling::rook_home(p.side, wing),
+                castling::rook_end(p.side, wing),
                 rook,
             );
         }
@@ -175,7 +176,7 @@ pub fn play(p: &Parts, m: &Move) -> Option<Parts>
     prove!(m.to.number() < 64);
     let case = case_of(p, m)?;
     let q = after(p, m, case);
-    if parts::is_in_check(&q.men, p.side) {
+    if attack::is_in_check(&q.men, p.side) {
         return None;
     }
     Some(q)

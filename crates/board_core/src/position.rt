@@ -1,27 +1,52 @@
 ghost use Rattle.std.specs.Prelude.{◌≡◌, ◌<◌, ◌≤◌, ◌↔◌, ℕ, IsTrue, IfOk, IfErr, IfSome, count_by, ◌+◌};
-ghost use Rattle.board_core.specs.Position.{is_of, is_king_of, HasOneKingEach, HasFewMen, HasNoPawnOnEdge, IsRightHonest, HasHonestRights, IsQuiet, HasFairCounters, HasHonestEnPassant, IsPassed, passed_rank, IsFirstFault, IsPosition};
+ghost use Rattle.board_core.specs.Position.{is_of, is_king_of, HasOneKingEach, HasFewMen, HasNoPawnOnEdge, IsRightHonest, HasHonestRights, IsQuiet, HasFairCounters, HasHonestEnPassant, IsPassed, passed_rank, IsFirstFault, IsPosition, fault_name};
 ghost use Rattle.board_core.specs.Moves.{IsLegal, Legal, HasLegal, HasLegalCaptures};
 ghost use Rattle.board_core.specs.Attack.{man_at, IsInCheck};
 ghost use Rattle.board_core.specs.Side.{other};
 
 use crate::moves::Move;
-use crate::parts::{self, Parts, Rights};
+use crate::parts::{Parts, Rights};
 use crate::piece::{Kind, Men, Piece, Side, Wing};
 use crate::square::Square;
-use crate::{generation, playing, rules};
+use crate::{attack, castling, generation, playing, rules};
 use std::alloc::{AllocError, Global};
 use std::marker::Model;
 
-/// What keeps parts from being a position.
+/// What keeps parts from being a position: the first condition that fails, in this order.
 #[derive(Clone, Copy, PartialEq, Eq, Debug)]
 pub enum PositionFault {
+    /// A side hasn't exactly one king.
     BadKings,
+    /// A side has more than 16 men.
     TooManyMen,
+    /// A pawn stands on rank 1 or 8.
     PawnOnEdge,
+    /// There is a right to castle whose king or rook isn't at home.
     BadCastling,
+    /// The en passant square isn't on rank 6 (white to move) or 3 (black to move), or the pawn that
+    /// made the double step doesn't stand before it, or it or the square behind it isn't empty.
     BadEnPassant,
+    /// The side that isn't to move is in check.
     OpponentInCheck,
+    /// A counter is above 9999.
     BadCounter,
+}
+
+impl PositionFault {
+    /// The name of the fault, as it is printed.
+    pub fn name(self) -> &'static str
+        ensures { result.now ≡ fault_name self }
+    {
+        match self {
+            PositionFault::BadKings => "BadKings",
+            PositionFault::TooManyMen => "TooManyMen",
+            PositionFault::PawnOnEdge => "PawnOnEdge",
+            PositionFault::BadCastling => "BadCastling",
+            PositionFault::BadEnPassant => "BadEnPassant",
+            PositionFault::OpponentInCheck => "OpponentInCheck",
+            PositionFault::BadCounter => "BadCounter",
+        }
+    }
 }
 
 fn is_of(side: Side, man: Option<Piece>) -> bool
@@ -51,7 +76,7 @@ fn count_kings(men: &Men, side: Side) -> usize
     men.iter().filter(|man| is_king_of(side, **man)).count()
 }
 
-pub fn count_men(men: &Men, side: Side) -> usize
+fn count_men(men: &Men, side: Side) -> usize
     ensures { result ≡ count_by (is_of side) men.now }
 {
     men.iter().filter(|man| is_of(side, **man)).count()
@@ -86,8 +111,8 @@ fn is_right_honest(p: &Parts, side: Side, wing: Wing) -> bool
     ensures { IsTrue result ↔ IsRightHonest p.now side wing }
 {
     !p.rights.has(side, wing)
-        || rules::stands(&p.men, parts::king_home(side), side, Kind::King)
-            && rules::stands(&p.men, parts::rook_home(side, wing), side, Kind::Rook)
+        || rules::stands(&p.men, castling::king_home(side), side, Kind::King)
+            && rules::stands(&p.men, castling::rook_home(side, wing), side, Kind::Rook)
 }
 
 fn has_honest_rights(p: &Parts) -> bool
@@ -135,7 +160,7 @@ fn has_honest_en_passant(p: &Parts) -> bool
 fn is_quiet(p: &Parts) -> bool
     ensures { IsTrue result ↔ IsQuiet p.now }
 {
-    !parts::is_in_check(&p.men, p.side.other())
+    !attack::is_in_check(&p.men, p.side.other())
 }
 
 fn has_fair_counters(p: &Parts) -> bool
@@ -144,7 +169,7 @@ fn has_fair_counters(p: &Parts) -> bool
     p.halfmove <= 9999 && p.fullmove <= 9999
 }
 
-/// A position of chess.
+/// A position of chess; contracts see its parts, which meet the seven conditions of `IsPosition`.
 #[derive(Clone, Copy, PartialEq, Eq, Debug)]
 pub struct Position {
     parts: Parts,
@@ -164,7 +189,7 @@ impl Model for Position {
 }
 
 impl Position {
-    /// The position of these parts.
+    /// The position of these parts; the first condition that fails is told otherwise.
     pub fn new(parts: Parts) -> Result<Position, PositionFault>
         ensures ok { IfOk result (λ p. (p ≡ parts) × IsPosition parts) }
         ensures err { IfErr result (λ fault. IsFirstFault parts fault) }
@@ -193,6 +218,7 @@ impl Position {
         Ok(Position { parts })
     }
 
+    /// The parts of the position, which meet all conditions.
     pub fn parts(&self) -> &Parts
         ensures value { result.now ≡ self.now }
         ensures position { IsPosition self.now }
@@ -200,18 +226,21 @@ impl Position {
         &self.parts
     }
 
+    /// What stands on the square.
     pub fn piece_at(&self, square: Square) -> Option<Piece>
         ensures { result ≡ man_at self.now.men square }
     {
         self.parts.men[square.number() as usize]
     }
 
+    /// Whether the king of the side to move is attacked (FIDE article 3.9.1).
     pub fn in_check(&self) -> bool
         ensures { IsTrue result ↔ IsInCheck self.now.men self.now.side }
     {
-        parts::is_in_check(&self.parts.men, self.parts.side)
+        attack::is_in_check(&self.parts.men, self.parts.side)
     }
 
+    /// How many men stand on the board, 2 to 32.
     pub fn men(&self) -> u32
         ensures { result ≡ count_by (is_of Side.White) self.now.men + count_by (is_of Side.Black) self.now.men }
     {
@@ -219,12 +248,18 @@ impl Position {
             + count_men(&self.parts.men, Side::Black) as u32
     }
 
+    /// Whether the move is legal (FIDE article 3).
     pub fn is_legal(&self, m: Move) -> bool
         ensures { IsTrue result ↔ IsLegal self.now m }
     {
         playing::is_legal(&self.parts, &m)
     }
 
+    /// The position after the move; none where the move isn't legal. A right to castle is lost when
+    /// its king or rook moves or its rook is taken at home; a double step sets the en passant square
+    /// and any other move clears it; the halfmove clock is 0 after a capture or a pawn move and
+    /// otherwise one more; the fullmove number is one more after black's move; neither goes above
+    /// 9999.
     pub fn play(&self, m: Move) -> Option<Position>
         ensures legal { IfSome result (λ q. Legal self.now m q) }
         ensures only { (q : Parts) → Legal self.now m q → result ≡ Some q }
@@ -235,14 +270,16 @@ impl Position {
 }
 
 impl Position {
-    /// The legal moves, each once, in order of from, to and promotion.
+    /// The legal moves, each once, in order of from, to and promotion (queen, rook, bishop,
+    /// knight). The error comes only where memory for the list is refused.
     pub fn legal(&self, alloc: Global) -> Result<Vec<Move>, AllocError>
         ensures { IfOk result (λ moves. HasLegal self.now moves.items) }
     {
         generation::legal(&self.parts, alloc)
     }
 
-    /// The legal moves that take a man, en passant among them, in the same order.
+    /// The legal moves that take a man, en passant among them, in the same order. The error comes
+    /// only where memory for the list is refused; a list of no moves takes none.
     pub fn captures(&self, alloc: Global) -> Result<Vec<Move>, AllocError>
         ensures { IfOk result (λ moves. HasLegalCaptures self.now moves.items) }
     {
@@ -251,30 +288,36 @@ impl Position {
 }
 
 impl Position {
+    /// The side to move.
     pub fn side(&self) -> Side
         ensures { result ≡ self.now.side }
     {
         self.parts.side
     }
 
+    /// Which castlings have not been lost.
     pub fn rights(&self) -> Rights
         ensures { result ≡ self.now.rights }
     {
         self.parts.rights
     }
 
+    /// The square that a pawn passed by a double step in the move before, whether or not it can be
+    /// taken there.
     pub fn en_passant(&self) -> Option<Square>
         ensures { result ≡ self.now.en_passant }
     {
         self.parts.en_passant
     }
 
+    /// Plies since the last capture or pawn move, 0 to 9999.
     pub fn halfmove(&self) -> u16
         ensures { result ≡ self.now.halfmove }
     {
         self.parts.halfmove
     }
 
+    /// The number of the move, 0 to 9999.
     pub fn fullmove(&self) -> u16
         ensures { result ≡ self.now.fullmove }
     {

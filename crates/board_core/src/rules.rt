@@ -7,11 +7,11 @@ ghost use Rattle.board_core.specs.Side.{other};
 ghost use Rattle.board_core.specs.Square.{rank_of};
 ghost use Rattle.board_core.specs.Castling.{king_home, rook_home, king_end};
 
-use crate::attack;
 use crate::moves::{Move, MoveCase};
-use crate::parts::{self, Parts};
+use crate::parts::Parts;
 use crate::piece::{Kind, Men, Side, Wing};
 use crate::square::Square;
+use crate::{attack, castling};
 
 pub fn stands(men: &Men, square: Square, side: Side, kind: Kind) -> bool
     ensures { IsTrue result ↔ Stands men.now square side kind }
@@ -162,8 +162,8 @@ fn is_way_safe(men: &Men, by: Side, a: Square, b: Square) -> bool
 fn is_castle(p: &Parts, m: &Move, wing: Wing) -> bool
     ensures { IsTrue result ↔ IsCastle p.now m.now wing }
 {
-    let home = parts::king_home(p.side);
-    let end = parts::king_end(p.side, wing);
+    let home = castling::king_home(p.side);
+    let end = castling::king_end(p.side, wing);
     if !stands(&p.men, m.from, p.side, Kind::King) {
         return false;
     }
@@ -173,7 +173,7 @@ fn is_castle(p: &Parts, m: &Move, wing: Wing) -> bool
     if m.from != home || m.to != end || m.promotion.is_some() {
         return false;
     }
-    if !is_way_empty(&p.men, home, parts::rook_home(p.side, wing)) {
+    if !is_way_empty(&p.men, home, castling::rook_home(p.side, wing)) {
         return false;
     }
     is_way_safe(&p.men, p.side.other(), home, end)

@@ -3,7 +3,7 @@ ghost use Rattle.board_core.specs.Square.{file_of, rank_of};
 
 use std::marker::Model;
 
-/// A square of the board: a1 is 0, b1 is 1, a2 is 8, h8 is 63.
+/// A square of the board; contracts see its number: a1 is 0, b1 is 1, a2 is 8, h8 is 63.
 #[derive(Clone, Copy, PartialEq, Eq, PartialOrd, Ord, Debug)]
 pub struct Square {
     place: u8,
@@ -22,6 +22,7 @@ impl Model for Square {
 }
 
 impl Square {
+    /// The square of this number, 0 to 63; none above.
     pub fn new(number: u8) -> Option<Square>
         ensures on_board { IsSome result ↔ (number < 64) }
         ensures number { IfSome result (λ s. s ≡ number) }
@@ -33,6 +34,7 @@ impl Square {
         }
     }
 
+    /// The number of the square, 0 (a1) to 63 (h8).
     pub fn number(self) -> u8
         ensures value { result ≡ self }
         ensures on_board { result < 64 }
@@ -40,6 +42,7 @@ impl Square {
         self.place
     }
 
+    /// The square of a number that is known to be below 64.
     pub fn at(number: u8) -> Square
         requires { number < 64 }
         ensures { result ≡ number }
@@ -47,6 +50,7 @@ impl Square {
         Square { place: number }
     }
 
+    /// The file, 0 for a to 7 for h.
     pub fn file(self) -> u8
         ensures value { result ≡ file_of self }
         ensures below { result < 8 }
@@ -54,6 +58,7 @@ impl Square {
         self.place % 8
     }
 
+    /// The rank, 0 for the first to 7 for the eighth.
     pub fn rank(self) -> u8
         ensures value { result ≡ rank_of self }
         ensures below { result < 8 }

@@ -9,10 +9,10 @@ ghost use Rattle.board_core.specs.Side.{other};
 ghost use Rattle.board_core.specs.declared.attack.Direction.{Direction};
 
 use crate::attack::{self, Direction, Hop};
-use crate::parts::{self, Parts};
+use crate::parts::Parts;
 use crate::piece::{Kind, Men, Side, Wing};
-use crate::rules;
 use crate::square::Square;
+use crate::{castling, rules};
 
 /// The mask with this square.
 pub fn with(mask: u64, square: Square) -> u64
@@ -280,7 +280,7 @@ fn with_castle(p: &Parts, wing: Wing, mask: u64) -> u64
         → bit_at result (king_end p.now.side wing) ≡ 1 }
 {
     if p.rights.has(p.side, wing) {
-        return with(mask, parts::king_end(p.side, wing));
+        return with(mask, castling::king_end(p.side, wing));
     }
     mask
 }

@@ -28,4 +28,4 @@ pub returns : goal.returns
 returns c =
     let rule : IsMove c.args.p.now c.args.m.now c.in-Some.case = search (rules, c.in-Some.ensures) in
     rw c.in_ok-push.ensures.items (HasListedBelow-push _ _ _ _ c.requires.below
-      (safe_legal _ _ c.in-Some.case (omega arith) (omega arith) rule (c.is_safe.ensures.0 (search rules)), c.if-not-is_wanted.ensures.0 (search rules)))
+    (safe_legal _ _ c.in-Some.case (omega arith) (omega arith) rule (c.is_safe.ensures.0 (search rules)), c.if-not-is_wanted.ensures.0 (search rules)))

@@ -7,4 +7,4 @@ returns c = λ t m k here to rule carry.
     let calm = c.requires.calm (search rules) in
     let away : c.args.from ≢ c.args.g.now.king = search rules in
     free_to_go _ m k _ (omega arith) (omega arith) to rule carry (rw here away) calm.0 calm.1
-      (λ r. let x = c.reaches.ensures.1 (rw here at r) in search rules)
+    (λ r. let x = c.reaches.ensures.1 (rw here at r) in search rules)

@@ -12,19 +12,19 @@ loop-n-preserved c = elim c.match-p-n.branch [
       let there : man_at c.args.p.now.men c.loop-n.n ≡ Some w.in-Some.man = search rules in
       let theirs : w.in-Some.man.side ≡ other c.args.p.now.side = search rules in
       rw (w.own-is, w.enemy-is, w.king-is, w.lone-is) (Surveyed-enemy _ _ _ _ _ _ _ w.in-Some.man c.loop-n.invariant there theirs
-        (rw w.at-square.ensures at w.with-enemy.ensures.here) (rw w.at-square.ensures at w.with-enemy.ensures.others))
+      (rw w.at-square.ensures at w.with-enemy.ensures.here) (rw w.at-square.ensures at w.with-enemy.ensures.others))
   | in-Some+else-eq+then-eq-2 w ↦
       let there : man_at c.args.p.now.men c.loop-n.n ≡ Some w.in-Some.man = search rules in
       let ours : w.in-Some.man.side ≢ other c.args.p.now.side = search rules in
       let king : w.in-Some.man.kind ≡ King = search rules in
       rw (w.own-is, w.enemy-is, w.king-is, w.lone-is, w.at-square.ensures) (Surveyed-king _ _ _ _ _ _ _ _ w.in-Some.man c.loop-n.invariant there ours king
-        w.is_none-lone.ensures (rw w.at-square.ensures at w.with-own.ensures.here) (rw w.at-square.ensures at w.with-own.ensures.others))
+      w.is_none-lone.ensures (rw w.at-square.ensures at w.with-own.ensures.here) (rw w.at-square.ensures at w.with-own.ensures.others))
   | in-Some+else-eq+else-eq-2 w ↦
       let there : man_at c.args.p.now.men c.loop-n.n ≡ Some w.in-Some.man = search rules in
       let ours : w.in-Some.man.side ≢ other c.args.p.now.side = search rules in
       let piece : w.in-Some.man.kind ≢ King = search rules in
       rw (w.own-is, w.enemy-is, w.king-is, w.lone-is) (Surveyed-own _ _ _ _ _ _ _ w.in-Some.man c.loop-n.invariant there ours piece
-        (rw w.at-square.ensures at w.with-own.ensures.here) (rw w.at-square.ensures at w.with-own.ensures.others))
+      (rw w.at-square.ensures at w.with-own.ensures.here) (rw w.at-square.ensures at w.with-own.ensures.others))
   | in_default w ↦
       let empty : man_at c.args.p.now.men c.loop-n.n ≡ None = search rules in
       rw (w.own-is, w.enemy-is, w.king-is, w.lone-is) (Surveyed-none _ _ _ _ _ _ c.loop-n.invariant empty)
