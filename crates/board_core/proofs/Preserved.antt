@@ -32,7 +32,7 @@ other-other White = refl
 other-other Black = refl
 
 -- what a sum over the men is after a man is carried to another square
-carried_sum : (w : Option Piece → ℕ) (men : List (Option Piece)) (from to : ℕ) (man : Option Piece) → w None ≡ 0 → length men ≡ 64 → from < 64 → to < 64 → from ≢ to → sum_by w (carried men from to man) + w (man_at men from) + w (man_at men to) ≡ sum_by w men + w man
+pub carried_sum : (w : Option Piece → ℕ) (men : List (Option Piece)) (from to : ℕ) (man : Option Piece) → w None ≡ 0 → length men ≡ 64 → from < 64 → to < 64 → from ≢ to → sum_by w (carried men from to man) + w (man_at men from) + w (man_at men to) ≡ sum_by w men + w man
 carried_sum w men from to man none len lf lt ne =
     let a : from < length men = omega arith in
     let emptied : sum_by w (set men from None) + w (get_or men from None) ≡ sum_by w men + w None = sum_by-set w men from None None a in
@@ -53,7 +53,7 @@ carried_at_from men from to man len lf ne =
     let a : from < length men = omega arith in
     rw get_or-set_other (rw get_or-set_same refl)
 
-carried_elsewhere : (men : List (Option Piece)) (from to s : ℕ) (man : Option Piece) → s ≢ from → s ≢ to → man_at (carried men from to man) s ≡ man_at men s
+pub carried_elsewhere : (men : List (Option Piece)) (from to s : ℕ) (man : Option Piece) → s ≢ from → s ≢ to → man_at (carried men from to man) s ≡ man_at men s
 carried_elsewhere men from to s man nf nt = rw get_or-set_other (rw get_or-set_other refl)
 
 same_side_true : (s t : Side) → is_same_side s t ≡ true → t ≡ s
@@ -84,7 +84,7 @@ king_there s (Some man) e =
     let b = and_true _ _ e in
     same_man man.side s man.kind King (same_side_true s man.side b.0) (is_king_true man.kind b.1)
 
-side_cases : (a b : Side) → (b ≡ a) ⊎ (b ≡ other a)
+pub side_cases : (a b : Side) → (b ≡ a) ⊎ (b ≡ other a)
 side_cases White White = inl refl
 side_cases White Black = inr refl
 side_cases Black White = inr refl
@@ -118,7 +118,7 @@ kind_on None = Pawn
 kind_on (Some man) = man.kind
 
 -- a man of the other side is no man of this one
-taken_free : (men : List (Option Piece)) (side : Side) (s : ℕ) → IsTaken men (other side) s → IsFree men side s
+pub taken_free : (men : List (Option Piece)) (side : Side) (s : ℕ) → IsTaken men (other side) s → IsFree men side s
 taken_free men White s t k e = let f : Black ≡ White = ap side_on (sym t.1 ∙ e) in cc
 taken_free men Black s t k e = let f : White ≡ Black = ap side_on (sym t.1 ∙ e) in cc
 
@@ -185,7 +185,7 @@ Keeps-removed men at len lt free = record {
 pawn_no_king : (men : List (Option Piece)) (at : ℕ) (side : Side) (what : Kind) → (what ≢ King) → Stands men at side what → (s : Side) → Stands men at s King → ⊥
 pawn_no_king men at side what ne p s k = ne (ap kind_on (sym p ∙ k))
 
-behind_below : (side : Side) (s : ℕ) → s < 64 → rank_of s ≡ passed_rank side → behind side s < 64
+pub behind_below : (side : Side) (s : ℕ) → s < 64 → rank_of s ≡ passed_rank side → behind side s < 64
 behind_below White s l e = omega arith
 behind_below Black s l e = omega arith
 
@@ -199,27 +199,27 @@ rook_king : Rook ≢ King
 rook_king e = cc
 
 -- the squares of a castling
-record Way (side : Side) (wing : Wing) : Type 0 where
-  king_on : king_home side < 64
-  rook_on : rook_home side wing < 64
-  king_to : king_end side wing < 64
-  rook_to : rook_end side wing < 64
-  between : IsBetween (king_home side) (king_end side wing) (rook_home side wing)
-  rook_between : IsBetween (king_home side) (rook_end side wing) (rook_home side wing)
-  apart : king_home side ≢ king_end side wing
-  rook_apart : rook_home side wing ≢ rook_end side wing
-  rook_king : rook_home side wing ≢ king_home side
-  rook_king_end : rook_home side wing ≢ king_end side wing
-  end_king : rook_end side wing ≢ king_home side
-  end_king_end : rook_end side wing ≢ king_end side wing
+pub record Way (side : Side) (wing : Wing) : Type 0 where
+  pub king_on : king_home side < 64
+  pub rook_on : rook_home side wing < 64
+  pub king_to : king_end side wing < 64
+  pub rook_to : rook_end side wing < 64
+  pub between : IsBetween (king_home side) (king_end side wing) (rook_home side wing)
+  pub rook_between : IsBetween (king_home side) (rook_end side wing) (rook_home side wing)
+  pub apart : king_home side ≢ king_end side wing
+  pub rook_apart : rook_home side wing ≢ rook_end side wing
+  pub rook_king : rook_home side wing ≢ king_home side
+  pub rook_king_end : rook_home side wing ≢ king_end side wing
+  pub end_king : rook_end side wing ≢ king_home side
+  pub end_king_end : rook_end side wing ≢ king_end side wing
 
-way : (side : Side) (wing : Wing) → Way side wing
+pub way : (side : Side) (wing : Wing) → Way side wing
 way White KingSide = record { king_on = omega arith; rook_on = omega arith; king_to = omega arith; rook_to = omega arith; between = inl (omega arith, omega arith); rook_between = inl (omega arith, omega arith); apart = omega arith; rook_apart = omega arith; rook_king = omega arith; rook_king_end = omega arith; end_king = omega arith; end_king_end = omega arith }
 way White QueenSide = record { king_on = omega arith; rook_on = omega arith; king_to = omega arith; rook_to = omega arith; between = inr (omega arith, omega arith); rook_between = inr (omega arith, omega arith); apart = omega arith; rook_apart = omega arith; rook_king = omega arith; rook_king_end = omega arith; end_king = omega arith; end_king_end = omega arith }
 way Black KingSide = record { king_on = omega arith; rook_on = omega arith; king_to = omega arith; rook_to = omega arith; between = inl (omega arith, omega arith); rook_between = inl (omega arith, omega arith); apart = omega arith; rook_apart = omega arith; rook_king = omega arith; rook_king_end = omega arith; end_king = omega arith; end_king_end = omega arith }
 way Black QueenSide = record { king_on = omega arith; rook_on = omega arith; king_to = omega arith; rook_to = omega arith; between = inr (omega arith, omega arith); rook_between = inr (omega arith, omega arith); apart = omega arith; rook_apart = omega arith; rook_king = omega arith; rook_king_end = omega arith; end_king = omega arith; end_king_end = omega arith }
 
-honest : (p : Parts) (side : Side) (wing : Wing) → HasHonestRights p → IsRightHonest p side wing
+pub honest : (p : Parts) (side : Side) (wing : Wing) → HasHonestRights p → IsRightHonest p side wing
 honest p White KingSide h = h.0
 honest p White QueenSide h = h.1
 honest p Black KingSide h = h.2
@@ -327,7 +327,7 @@ edge-move p m (Castle wing) i lf lt ne r =
     edge-carried _ (rook_home p.side wing) (rook_end p.side wing) (some_man p.side Rook) (simp length-set i.squares) w.rook_on w.rook_to w.rook_apart (edge-carried p.men m.from m.to _ i.squares lf lt ne i.pawns (λ side e. let f : King ≡ Pawn = ap kind_on (sym r.stands ∙ e) in cc)) (λ side e. let f : Rook ≡ Pawn = ap kind_on e in cc)
 
 -- the squares of a move differ, and it ends where no king stands
-moves_away : (p : Parts) (m : Move) (c : MoveCase) → IsMove p m c → m.from ≢ m.to
+pub moves_away : (p : Parts) (m : Move) (c : MoveCase) → IsMove p m c → m.from ≢ m.to
 moves_away p m Plain r = ne_by_man p.men m.from m.to p.side r.kind r.stands (r.free r.kind)
 moves_away p m Advance r = ne_by_man p.men m.from m.to p.side Pawn r.stands (λ e. let f = sym r.empty ∙ e in cc)
 moves_away p m DoubleStep r = ne_by_man p.men m.from m.to p.side Pawn r.stands (λ e. let f = sym r.empty ∙ e in cc)

@@ -1,4 +1,4 @@
-use Rattle.std.proofs.Common.{ℕ, ◌≡◌, ◌≢◌, ◌<◌, ◌+◌, ◌*◌, ◌≤◌, ◌++◌, ◌∷◌, [], List, Option, Some, None, refl, sym, ap, ◌∙◌, arith, inl, inr}
+use Rattle.std.proofs.Common.{ℕ, ◌≡◌, ◌≢◌, ◌⊎◌, ◌<◌, ◌+◌, ◌*◌, ◌≤◌, ◌++◌, ◌∷◌, [], List, Option, Some, None, refl, sym, ap, ◌∙◌, arith, inl, inr}
 use Rattle.std.specs.Int.{bit_at}
 use Rattle.std.specs.Int.Bits.{bit_and}
 use Rattle.std.proofs.lemmas.Nat.Bits.{bit_at_and, bit_at-lt}
@@ -17,6 +17,10 @@ use Rattle.board_core.specs.Side.{other}
 use Rattle.board_core.specs.Moves.{Stands, IsFree, IsTaken, IsMove, IsPlain, IsLegal, IsCapture, place_of, promotion_place}
 use Rattle.board_core.specs.Search.{IsListed, IsStep, IsLoose, IsSurvey, HasListedBelow}
 use Rattle.board_core.proofs.Safety.{safe_legal}
+use Rattle.board_core.proofs.Preserved.{way, side_cases}
+use Rattle.board_core.proofs.Surveying.{taken}
+use Rattle.board_core.specs.Attack.{man_at}
+use Rattle.board_core.specs.declared.piece.Side.{Side}
 use Rattle.board_core.proofs.Listing.{HasListedBelow-push, HasListedBelow-skip, promotion_below, same_place}
 
 pub some_same : (a b : ℕ) → Some a ≡ Some b → a ≡ b
@@ -53,10 +57,33 @@ piece_whole p m sort PawnCapture st np r = absurd (np (sym (ap kind_on st) ∙ a
 piece_whole p m sort EnPassant st np r = absurd (np (sym (ap kind_on st) ∙ ap kind_on r.stands))
 piece_whole p m sort (Castle wing) st np r = r.whole
 
+taken_at : (men : List (Option Piece)) (side : Side) (s : ℕ) (o : Option Piece) → man_at men s ≡ o → o ≢ None → IsFree men side s → IsTaken men (other side) s
+taken_at men side s None e there free = absurd (there refl)
+taken_at men side s (Some man) e there free = elim (side_cases side man.side) [
+  | inl own ↦ let t = taken men s man side e own in absurd (free t.0 t.1)
+  | inr differs ↦ taken men s man (other side) e differs
+]
+
+-- whoever stands where none of our men does is of the other side
+taken_other : (men : List (Option Piece)) (side : Side) (s : ℕ) → man_at men s ≢ None → IsFree men side s → IsTaken men (other side) s
+taken_other men side s there free = taken_at men side s (man_at men s) refl there free
+
+-- who stands on the square of a move is of the other side
+pub move_takes : (p : Parts) (m : Move) (c : MoveCase) → IsMove p m c → man_at p.men m.to ≢ None → IsTaken p.men (other p.side) m.to
+move_takes p m Plain r there = taken_other p.men p.side m.to there r.free
+move_takes p m Advance r there = absurd (there r.empty)
+move_takes p m DoubleStep r there = absurd (there r.empty)
+move_takes p m PawnCapture r there = r.enemy
+move_takes p m EnPassant r there = absurd (there r.empty)
+move_takes p m (Castle wing) r there = absurd (there (rw r.to_end (r.clear _ (way p.side wing).between)))
+
 -- what a piece takes stands on its square
-pub piece_takes : (p : Parts) (m : Move) (sort : Kind) → Stands p.men m.from p.side sort → sort ≢ Pawn → IsCapture p m → IsTaken p.men (other p.side) m.to
-piece_takes p m sort st np (inl t) = t
-piece_takes p m sort st np (inr r) = absurd (np (sym (ap kind_on st) ∙ ap kind_on r.stands))
+pub piece_takes : (p : Parts) (m : Move) (sort : Kind) (c : MoveCase) → Stands p.men m.from p.side sort → sort ≢ Pawn → IsMove p m c → IsCapture p m → IsTaken p.men (other p.side) m.to
+piece_takes p m sort c st np r (inl there) = move_takes p m c r there
+piece_takes p m sort c st np r (inr passed) = absurd (np (sym (ap kind_on st) ∙ ap kind_on passed.stands))
+
+taken_there : (men : List (Option Piece)) (side : Side) (s : ℕ) → IsTaken men side s → man_at men s ≢ None
+taken_there men side s t none = let f = sym none ∙ t.1 in cc
 
 -- a listed capture of a piece goes to a square that it reaches and where a man stands
 pub takes_whole : (p : Parts) (which : Which) (v : Survey) (m : Move) (sort : Kind) (from set : ℕ) → which ≡ Captures → IsSurvey p v → Stands p.men from p.side sort → sort ≢ Pawn → sort ≢ King → IsListed which p m → m.from ≡ from → ((s : ℕ) → sort ≢ Pawn → s < 64 → Reaches p.men p.side sort from s → IsFree p.men p.side s → bit_at set s ≡ 1) → bit_at (bit_and set v.enemy) m.to ≡ 1
@@ -67,14 +94,14 @@ takes_whole p which v m sort from set e survey st np nk l here reached =
     let wanted : IsCapture p m = rw e at l.1 in
     and_both set v.enemy m.to
     (reached m.to np l.0.1.to_board (rw (same, here) at r.reaches) r.free)
-    (survey.enemy m.to l.0.1.to_board (piece_takes p m sort own np wanted))
+    (survey.enemy m.to l.0.1.to_board (piece_takes p m sort l.0.1.case own np l.0.1.rule wanted))
 
 pub takes_step : (p : Parts) (which : Which) (v : Survey) (sort : Kind) (from set s : ℕ) → which ≡ Captures → IsSurvey p v → bit_at (bit_and set v.enemy) s ≡ 1 → (bit_at set s ≡ 1 → (sort ≢ Pawn) × Reaches p.men p.side sort from s × IsFree p.men p.side s) → IsStep p which sort from s
 takes_step p which v sort from set s e survey bit only =
     let h = only (and_left set v.enemy s bit) in record {
       reaches = h.1;
       free = h.2;
-      wanted = rw e (inl (survey.enemy_only s (and_right set v.enemy s bit)));
+      wanted = rw e (inl (taken_there p.men (other p.side) s (survey.enemy_only s (and_right set v.enemy s bit))));
     }
 
 -- a listed capture goes to a man of the other side or to the en passant square
@@ -82,7 +109,7 @@ pub capture_whole : (p : Parts) (which : Which) (v : Survey) (m : Move) (set mor
 capture_whole p which v m set more e survey l bit kept passed =
     let wanted : IsCapture p m = rw e at l.1 in
     and_both set more m.to bit (elim wanted [
-      | inl t ↦ kept m.to (survey.enemy m.to l.0.1.to_board t)
+      | inl t ↦ kept m.to (survey.enemy m.to l.0.1.to_board (move_takes p m l.0.1.case l.0.1.rule t))
       | inr r ↦ passed r.passed
     ])
 

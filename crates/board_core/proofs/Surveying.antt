@@ -42,7 +42,7 @@ own_side Black Black differ = refl
 piece_of_side : (man : Piece) (side : Side) → man.side ≡ side → man ≡ record { side = side; kind = man.kind }
 piece_of_side man side e = rw (sym e) refl
 
-taken : (men : List (Option Piece)) (s : ℕ) (man : Piece) (side : Side) → man_at men s ≡ Some man → man.side ≡ side → IsTaken men side s
+pub taken : (men : List (Option Piece)) (s : ℕ) (man : Piece) (side : Side) → man_at men s ≡ Some man → man.side ≡ side → IsTaken men side s
 taken men s man side there e = (man.kind, there ∙ ap (λ (x : Piece). Some x) (piece_of_side man side e))
 
 -- below the next square: below this one, or this one

@@ -5,3 +5,6 @@ pub mod Castling
 pub mod Moves
 pub mod Position
 pub mod Search
+pub mod Computed
+pub mod ComputedMoves
+pub mod Laws

@@ -212,9 +212,9 @@ pub record Lists (Wanted : Move → Type 0) (moves : List Move) : Type 0 where
 abbrev pub HasLegal : Parts → List Move → Type 0
 HasLegal p = Lists (IsLegal p)
 
--- the move takes a man: one of the other side stands on its square, or it is en passant
+-- the move takes a man: one stands on its square, or it is en passant
 abbrev pub IsCapture : Parts → Move → Type 0
-IsCapture p m = IsTaken p.men (other p.side) m.to ⊎ IsEnPassant p m
+IsCapture p m = (man_at p.men m.to ≢ None) ⊎ IsEnPassant p m
 
 abbrev pub IsLegalCapture : Parts → Move → Type 0
 IsLegalCapture p m = IsLegal p m × IsCapture p m

@@ -1,6 +1,7 @@
 ghost use Rattle.std.specs.Prelude.{◌≡◌, ◌≢◌, ◌<◌, ◌≤◌, ◌↔◌, ◌+◌, ◌-◌, ℕ, IsTrue, IsSome, IfSome, IfNone};
 ghost use Rattle.board_core.specs.Search.{IsHop, IsHopped, IsInside, IsStruck};
 ghost use Rattle.board_core.specs.Attack.{Along, IsClear, Goes, Ray, IsKingStep, IsKnightStep, IsPawnAttack, Reaches, IsAttacked, IsInCheck, forward};
+ghost use Rattle.board_core.specs.Computed.{is_in_check};
 
 use crate::piece::{Kind, Men, Piece, Side};
 use crate::square::Square;
@@ -335,7 +336,8 @@ pub fn is_attacked(men: &Men, by: Side, to: Square) -> bool
 
 /// Whether a king of this side is attacked.
 pub fn is_in_check(men: &Men, side: Side) -> bool
-    ensures { IsTrue result ↔ IsInCheck men.now side }
+    ensures relation { IsTrue result ↔ IsInCheck men.now side }
+    ensures computed { result ≡ is_in_check men.now side }
 {
     for n in 0..64 {
         if let Some(man) = men[n as usize] {

@@ -1,7 +1,8 @@
-ghost use Rattle.std.specs.Prelude.{◌≡◌, ◌≢◌, ◌<◌, ◌↔◌, ◌+◌, ◌*◌, ◌⊎◌, ℕ, [], IsTrue, IfOk, OnOk, IfSome, Some, None};
+ghost use Rattle.std.specs.Prelude.{◌≡◌, ◌≢◌, ◌<◌, ◌↔◌, ◌+◌, ◌*◌, ◌⊎◌, ℕ, [], IsTrue, IfOk, OnOk, IfSome, filter, Some, None};
 ghost use Rattle.std.specs.Int.{bit_at};
 ghost use Rattle.board_core.specs.Attack.{IsAttacked, IsInCheck, Reaches};
 ghost use Rattle.board_core.specs.Moves.{Stands, IsFree, IsTaken, IsMove, IsCapture, Lists, HasLegal, HasLegalCaptures, place_of, men_after, last_rank};
+ghost use Rattle.board_core.specs.ComputedMoves.{is_capture, legal_moves};
 ghost use Rattle.board_core.specs.Search.{HasListedBelow, IsCarry, IsGuard, IsListed, IsLoose, IsStep, IsSurvey, IsWanted, IsKnown, HasAttacked, bared};
 ghost use Rattle.board_core.specs.Side.{other};
 ghost use Rattle.board_core.specs.Square.{rank_of};
@@ -487,7 +488,8 @@ const COMMON: usize = 48;
 
 /// The legal moves, each once, in order of from, to and promotion.
 pub fn legal(p: &Parts, alloc: Global) -> Result<Vec<Move>, AllocError>
-    ensures { IfOk result (λ moves. HasLegal p.now moves.items) }
+    ensures legal { IfOk result (λ moves. HasLegal p.now moves.items) }
+    ensures computed { IfOk result (λ moves. moves.items ≡ legal_moves p.now) }
 {
     let room = Vec::with_capacity(alloc, COMMON)?;
     let moves = listed(p, Which::Every, room)?;
@@ -496,7 +498,9 @@ pub fn legal(p: &Parts, alloc: Global) -> Result<Vec<Move>, AllocError>
 
 /// The legal captures, en passant among them, each once, in order of from, to and promotion.
 pub fn captures(p: &Parts, alloc: Global) -> Result<Vec<Move>, AllocError>
-    ensures { IfOk result (λ moves. HasLegalCaptures p.now moves.items) }
+    ensures legal { IfOk result (λ moves. HasLegalCaptures p.now moves.items) }
+    ensures computed { IfOk result (λ moves. moves.items ≡ filter (is_capture p.now) (legal_moves p.now)) }
 {
-    listed(p, Which::Captures, Vec::new(alloc))
+    let moves = listed(p, Which::Captures, Vec::new(alloc))?;
+    Ok(moves)
 }

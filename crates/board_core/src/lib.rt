@@ -8,6 +8,7 @@
 mod attack;
 mod castling;
 mod generation;
+pub mod laws;
 mod moves;
 mod parts;
 mod piece;
@@ -22,3 +23,6 @@ pub use parts::{Parts, Rights};
 pub use piece::{Kind, Men, Piece, Promotion, Side, Wing};
 pub use position::{Position, PositionFault};
 pub use square::Square;
+
+#[cfg(test)]
+mod tests;

@@ -6,6 +6,7 @@ ghost use Rattle.std.specs.Int.{bit_at};
 ghost use Rattle.board_core.specs.Side.{other};
 ghost use Rattle.board_core.specs.Square.{rank_of};
 ghost use Rattle.board_core.specs.Castling.{king_home, rook_home, king_end};
+ghost use Rattle.board_core.specs.ComputedMoves.{position_after, is_legal};
 
 use crate::moves::{Move, MoveCase};
 use crate::parts::{Parts, Rights};
@@ -171,6 +172,7 @@ fn after(p: &Parts, m: &Move, case: MoveCase) -> Parts
 pub fn play(p: &Parts, m: &Move) -> Option<Parts>
     ensures legal { IfSome result (λ q. Legal p.now m.now q) }
     ensures only { (q : Parts) → Legal p.now m.now q → result ≡ Some q }
+    ensures computed { result ≡ position_after p.now m.now }
 {
     prove!(m.from.number() < 64);
     prove!(m.to.number() < 64);
@@ -183,7 +185,8 @@ pub fn play(p: &Parts, m: &Move) -> Option<Parts>
 }
 
 pub fn is_legal(p: &Parts, m: &Move) -> bool
-    ensures { IsTrue result ↔ IsLegal p.now m.now }
+    ensures relation { IsTrue result ↔ IsLegal p.now m.now }
+    ensures computed { result ≡ is_legal p.now m.now }
 {
     match play(p, m) {
         Some(_) => true,

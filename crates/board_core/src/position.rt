@@ -1,7 +1,9 @@
-ghost use Rattle.std.specs.Prelude.{◌≡◌, ◌<◌, ◌≤◌, ◌↔◌, ℕ, IsTrue, IfOk, IfErr, IfSome, count_by, ◌+◌};
+ghost use Rattle.std.specs.Prelude.{◌≡◌, ◌<◌, ◌≤◌, ◌↔◌, ℕ, IsTrue, IfOk, IfErr, IfSome, count_by, filter, ◌+◌};
 ghost use Rattle.board_core.specs.Position.{is_of, is_king_of, HasOneKingEach, HasFewMen, HasNoPawnOnEdge, IsRightHonest, HasHonestRights, IsQuiet, HasFairCounters, HasHonestEnPassant, IsPassed, passed_rank, IsFirstFault, IsPosition, fault_name};
 ghost use Rattle.board_core.specs.Moves.{IsLegal, Legal, HasLegal, HasLegalCaptures};
 ghost use Rattle.board_core.specs.Attack.{man_at, IsInCheck};
+ghost use Rattle.board_core.specs.Computed.{is_in_check};
+ghost use Rattle.board_core.specs.ComputedMoves.{position_after, is_legal, is_capture, legal_moves, count_of_men};
 ghost use Rattle.board_core.specs.Side.{other};
 
 use crate::moves::Move;
@@ -235,14 +237,16 @@ impl Position {
 
     /// Whether the king of the side to move is attacked (FIDE article 3.9.1).
     pub fn in_check(&self) -> bool
-        ensures { IsTrue result ↔ IsInCheck self.now.men self.now.side }
+        ensures relation { IsTrue result ↔ IsInCheck self.now.men self.now.side }
+        ensures computed { result ≡ is_in_check self.now.men self.now.side }
     {
         attack::is_in_check(&self.parts.men, self.parts.side)
     }
 
     /// How many men stand on the board, 2 to 32.
     pub fn men(&self) -> u32
-        ensures { result ≡ count_by (is_of Side.White) self.now.men + count_by (is_of Side.Black) self.now.men }
+        ensures by_side { result ≡ count_by (is_of Side.White) self.now.men + count_by (is_of Side.Black) self.now.men }
+        ensures computed { result ≡ count_of_men self.now }
     {
         count_men(&self.parts.men, Side::White) as u32
             + count_men(&self.parts.men, Side::Black) as u32
@@ -250,7 +254,8 @@ impl Position {
 
     /// Whether the move is legal (FIDE article 3).
     pub fn is_legal(&self, m: Move) -> bool
-        ensures { IsTrue result ↔ IsLegal self.now m }
+        ensures relation { IsTrue result ↔ IsLegal self.now m }
+        ensures computed { result ≡ is_legal self.now m }
     {
         playing::is_legal(&self.parts, &m)
     }
@@ -263,6 +268,7 @@ impl Position {
     pub fn play(&self, m: Move) -> Option<Position>
         ensures legal { IfSome result (λ q. Legal self.now m q) }
         ensures only { (q : Parts) → Legal self.now m q → result ≡ Some q }
+        ensures computed { result ≡ position_after self.now m }
     {
         let parts = playing::play(&self.parts, &m)?;
         Some(Position { parts })
@@ -273,7 +279,8 @@ impl Position {
     /// The legal moves, each once, in order of from, to and promotion (queen, rook, bishop,
     /// knight). The error comes only where memory for the list is refused.
     pub fn legal(&self, alloc: Global) -> Result<Vec<Move>, AllocError>
-        ensures { IfOk result (λ moves. HasLegal self.now moves.items) }
+        ensures legal { IfOk result (λ moves. HasLegal self.now moves.items) }
+        ensures computed { IfOk result (λ moves. moves.items ≡ legal_moves self.now) }
     {
         generation::legal(&self.parts, alloc)
     }
@@ -281,7 +288,8 @@ impl Position {
     /// The legal moves that take a man, en passant among them, in the same order. The error comes
     /// only where memory for the list is refused; a list of no moves takes none.
     pub fn captures(&self, alloc: Global) -> Result<Vec<Move>, AllocError>
-        ensures { IfOk result (λ moves. HasLegalCaptures self.now moves.items) }
+        ensures legal { IfOk result (λ moves. HasLegalCaptures self.now moves.items) }
+        ensures computed { IfOk result (λ moves. moves.items ≡ filter (is_capture self.now) (legal_moves self.now)) }
     {
         generation::captures(&self.parts, alloc)
     }

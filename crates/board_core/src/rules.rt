@@ -207,5 +207,5 @@ pub fn case_of(p: &Parts, m: &Move) -> Option<MoveCase>
 pub fn is_capture(p: &Parts, m: &Move) -> bool
     ensures { IsTrue result ↔ IsCapture p.now m.now }
 {
-    is_taken(&p.men, p.side.other(), m.to) || is_en_passant(p, m)
+    !is_empty(&p.men, m.to) || is_en_passant(p, m)
 }

@@ -1,0 +1,28 @@
+-- The commands are simple, and what their errors say.
+use Rattle.std.proofs.Common.{◌≡◌, List, [], ◌∷◌, true, refl, sym, ap, subst, ◌∙◌, ◌⊎◌, inl, inr}
+use Rattle.clap.specs.Words.{App, kind_of, is_simple, is_simple_and_free}
+use Rattle.clap.specs.Kinds.{Kinds, HasKind, IsAmong}
+use Rattle.clap.specs.declared.error.Error.{Error}
+use Rattle.clap.specs.declared.error.kind.ErrorKind.{ErrorKind}
+use Rattle.clap.specs.declared.error.kind.ErrorKind.TheVariants as kind
+use Rattle.clap.proofs.OnLiterals.{clap_on_literals}
+use Rattle.clap.proofs.WalkLemmas.{both}
+use Rattle.adjudicate.specs.declared.usage.Usage.{Usage}
+use Rattle.adjudicate.specs.declared.usage.Usage.TheVariants.{Misuse, OutOfMemory}
+use Rattle.adjudicate.specs.Usage.{usage_of}
+use Rattle.adjudicate.specs.Commands.{judge_app, moves_app}
+
+pub is_taken_for_memory : (kinds : Kinds) (e : Error) → HasKind kinds e → kinds ≡ [] → usage_of (kind_of e) ≡ Misuse → ⊥
+is_taken_for_memory kinds e h none is =
+    elim h [
+      | inl memory ↦ (let bad : OutOfMemory ≡ Misuse = sym (ap usage_of memory) ∙ is in cc)
+      | inr among ↦ subst (IsAmong (kind_of e)) none among
+    ]
+
+pub judge_is_simple : is_simple_and_free judge_app ≡ true
+unfolding clap_on_literals judge_app
+judge_is_simple = refl
+
+pub moves_is_simple : is_simple_and_free moves_app ≡ true
+unfolding clap_on_literals moves_app
+moves_is_simple = refl

@@ -1,0 +1,5 @@
+pub mod Commands
+pub mod Tasks
+pub mod Usage
+pub mod Ruling
+pub mod Reply

@@ -1,0 +1,98 @@
+//! Command lines, as tasks.
+
+ghost use Rattle.std.specs.Prelude.{◌≡◌, List, [], map, true, IfOk, IfErr, codes};
+ghost use Rattle.clap.specs.Words.{app_of, is_simple_and_free, found_of, first_value};
+ghost use Rattle.adjudicate.specs.Commands.{judge_app, moves_app, value_in};
+ghost use Rattle.adjudicate.specs.Tasks.{IsTask, IsMisuse, IsTaken, IsMisused, Names};
+
+use crate::usage::Usage;
+use clap::{Arg, ArgMatches, Command};
+use std::alloc::{AllocError, Global};
+
+/// What a command line asks for.
+#[derive(Debug, Drop)]
+pub enum Task<'a> {
+    /// The verdict of a position.
+    Judge {
+        /// The position's FEN text.
+        fen: &'a str,
+    },
+    /// The legal moves of a position.
+    Moves {
+        /// The position's FEN text.
+        fen: &'a str,
+    },
+}
+
+/// The matches of a simple command at the words, of which the first is the command's name.
+fn matches_at<'a>(command: Command<'a>, words: &'a [&'a str]) -> Result<ArgMatches<'a>, Usage>
+    requires { is_simple_and_free (app_of command) ≡ true }
+    ensures taken { IfOk result (λ m. IsTaken (app_of command.entry) (map (λ w. w.now) words.entry.now)) }
+    ensures values { IfOk result (λ m. (id : List _) → first_value (found_of m) id ≡ value_in (app_of command.entry) (map (λ w. w.now) words.entry.now) id) }
+    ensures misuse { IfErr result (λ e. e ≡ Usage.Misuse → IsTaken (app_of command.entry) (map (λ w. w.now) words.entry.now) → ⊥) }
+{
+    match command.try_get_matches_from(words) {
+        Ok(matches) => Ok(matches),
+        Err(error) => Err(Usage::from(error)),
+    }
+}
+
+fn judge_command<'a>(alloc: Global) -> Result<Command<'a>, AllocError>
+    ensures { IfOk result (λ c. app_of c ≡ judge_app) }
+{
+    let fen = Arg::new(alloc, "FEN").required(true);
+    Command::new(alloc, "judge").arg(fen)
+}
+
+/// A position to judge.
+fn judge_of<'a>(alloc: Global, words: &'a [&'a str]) -> Result<Task<'a>, Usage>
+    requires { Names (map (λ w. w.now) words.now) (codes "judge") }
+    ensures ok { IfOk result (IsTask (map (λ w. w.now) words.entry.now)) }
+    ensures misuse { IfErr result (λ e. e ≡ Usage.Misuse → IsMisused judge_app (codes "FEN") (map (λ w. w.now) words.entry.now)) }
+{
+    let command = judge_command(alloc)?;
+    let matches = matches_at(command, words)?;
+    match matches.get_str("FEN") {
+        None => Err(Usage::Misuse),
+        Some(fen) => Ok(Task::Judge { fen }),
+    }
+}
+
+fn moves_command<'a>(alloc: Global) -> Result<Command<'a>, AllocError>
+    ensures { IfOk result (λ c. app_of c ≡ moves_app) }
+{
+    let fen = Arg::new(alloc, "FEN").required(true);
+    Command::new(alloc, "moves").arg(fen)
+}
+
+/// A position whose moves are asked for.
+fn moves_of<'a>(alloc: Global, words: &'a [&'a str]) -> Result<Task<'a>, Usage>
+    requires { Names (map (λ w. w.now) words.now) (codes "moves") }
+    ensures ok { IfOk result (IsTask (map (λ w. w.now) words.entry.now)) }
+    ensures misuse { IfErr result (λ e. e ≡ Usage.Misuse → IsMisused moves_app (codes "FEN") (map (λ w. w.now) words.entry.now)) }
+{
+    let command = moves_command(alloc)?;
+    let matches = matches_at(command, words)?;
+    match matches.get_str("FEN") {
+        None => Err(Usage::Misuse),
+        Some(fen) => Ok(Task::Moves { fen }),
+    }
+}
+
+/// The task that the words name: the first word is the command, and the others are its own.
+///
+/// Words that name no command, or that the command refuses (a wish for help among them), are a
+/// misuse; want of memory is told where a growth is refused.
+pub fn parse<'a>(alloc: Global, words: &'a [&'a str]) -> Result<Task<'a>, Usage>
+    ensures ok { IfOk result (IsTask (map (λ w. w.now) words.entry.now)) }
+    ensures misuse { IfErr result (λ e. e ≡ Usage.Misuse → IsMisuse (map (λ w. w.now) words.entry.now)) }
+{
+    match words {
+        [] => Err(Usage::Misuse),
+        [name, ..] => match *name {
+            "judge" => judge_of(alloc, words),
+            "moves" => moves_of(alloc, words),
+            _ => Err(Usage::Misuse),
+        },
+    }
+}

@@ -1,0 +1,37 @@
+//! Why a command line is no task.
+
+ghost use Rattle.std.specs.Prelude.{◌≡◌};
+ghost use Rattle.clap.specs.Words.{kind_of};
+ghost use Rattle.adjudicate.specs.declared.usage.Usage.TheVariants.{OutOfMemory};
+ghost use Rattle.adjudicate.specs.Usage.{usage_of};
+
+use clap::error::ErrorKind;
+use std::alloc::AllocError;
+use thiserror::Error;
+
+#[derive(Clone, Copy, Debug, PartialEq, Eq, Error)]
+pub enum Usage {
+    #[error("the words are no task")]
+    Misuse,
+    #[error("refused memory")]
+    OutOfMemory,
+}
+
+impl From<AllocError> for Usage {
+    ghost from_gives = { λ _ e. e ≡ OutOfMemory };
+
+    fn from(_e: AllocError) -> Usage {
+        Usage::OutOfMemory
+    }
+}
+
+impl From<clap::Error> for Usage {
+    ghost from_gives = { λ e u. u ≡ usage_of (kind_of e) };
+
+    fn from(e: clap::Error) -> Usage {
+        match e.kind() {
+            ErrorKind::OutOfMemory => Usage::OutOfMemory,
+            _ => Usage::Misuse,
+        }
+    }
+}

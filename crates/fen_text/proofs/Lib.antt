@@ -1,0 +1,11 @@
+pub mod CutLaws
+pub mod CounterLaws
+pub mod ScanLaws
+pub mod BoardLaws
+pub mod RankLaws
+pub mod RanksLaws
+pub mod WritingLaws
+pub mod PlacementLaws
+pub mod FenLaws
+pub mod SpellingLaws
+pub mod WrittenLaws

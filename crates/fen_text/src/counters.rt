@@ -1,0 +1,36 @@
+ghost use Rattle.std.specs.Prelude.{◌≡◌, ◌≤◌, ℕ, IfSome, IfNone};
+ghost use Rattle.std.specs.Fmt.{decimal};
+ghost use Rattle.fen_text.specs.Fields.{SpellsCounter};
+
+use arrayvec::ArrayString;
+use itoa::Buffer;
+
+/// The digits of a number.
+pub(crate) fn digits(n: u16) -> ArrayString<5>
+    ensures { result.bytes ≡ decimal n }
+{
+    let mut buffer = Buffer::new();
+    let mut text = ArrayString::new();
+    text.push_str(buffer.format(n));
+    text
+}
+
+/// The number that the text spells.
+pub(crate) fn read_counter(text: &[u8]) -> Option<u16>
+    ensures some { IfSome result (SpellsCounter text.now) }
+    ensures none { IfNone result ((n : ℕ) → SpellsCounter text.now n → ⊥) }
+{
+    let Ok(word) = str::from_utf8(text) else {
+        return None;
+    };
+    let Ok(number) = word.parse::<u16>() else {
+        return None;
+    };
+    if number > 9999 {
+        return None;
+    }
+    if digits(number).as_str() != word {
+        return None;
+    }
+    Some(number)
+}
