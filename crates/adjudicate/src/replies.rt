@@ -1,6 +1,6 @@
 //! What the program answers.
 
-ghost use Rattle.std.specs.Prelude.{◌≡◌, ◌++◌, ◌∷◌, ◌×◌, [], map, codes, IfOk, IfErr, OnOk, IsErrOf};
+ghost use Rattle.std.specs.Prelude.{◌≡◌, ◌++◌, ◌∷◌, [], map, codes, IfOk, IfErr, OnOk, IsErrOf};
 ghost use Rattle.std.specs.Io.KnownBytes.{Appends};
 ghost use Rattle.fen_text.specs.Coordinates.{move_text};
 ghost use Rattle.adjudicate.specs.Reply.{Answers, IsReply, IsReplyTo, Reply, WritesReply, WritesSome, fault_text, judge_lines, moves_lines, text_of};
@@ -88,12 +88,19 @@ fn put_judgement<W: Write>(alloc: Global, fen: &[u8], out: &mut W) -> Result<u8,
     Ok(0)
 }
 
+fn put_move<W: Write>(out: &mut W, m: &Move) -> Result<(), Stop>
+    ensures ok { OnOk result (Appends (W.contents out.old) (W.contents out.new) (move_text m.now ++ 10 ∷ [])) }
+    ensures io { IfErr result (λ stop. stop ≡ Stop.Io) }
+{
+    put_line(out, write_move(m).as_str())
+}
+
 fn put_list<W: Write>(moves: &[Move], out: &mut W) -> Result<(), Stop>
     ensures ok { OnOk result (Appends (W.contents out.old) (W.contents out.new) (text_of (map move_text moves.now))) }
     ensures io { IfErr result (λ stop. stop ≡ Stop.Io) }
 {
     for m in moves {
-        match put_line(out, write_move(m).as_str()) {
+        match put_move(out, m) {
             Ok(()) => {}
             Err(stop) => return Err(stop),
         }

@@ -1,4 +1,4 @@
-use Rattle.std.proofs.Common.{ℕ, ◌≡◌, ◌≢◌, ◌<◌, ◌+◌, List, [], ◌∷◌, Option, Some, None, Bool, true, false, cond, ◌||◌, is_some, IsTrue, IsFalse, sum_by, count_by, length, refl, sym, ap, ◌∙◌, arith, inl, inr}
+use Rattle.std.proofs.Common.{ℕ, ◌≡◌, ◌≢◌, ◌<◌, ◌≤◌, ◌+◌, List, [], ◌∷◌, Option, Some, None, Bool, true, false, cond, ◌||◌, ◌&&◌, is_some, IsTrue, IsFalse, sum_by, count_by, length, refl, sym, ap, ◌∙◌, arith, inl, inr}
 use Rattle.std.proofs.lemmas.List.Sums.{sum_by-set, sum_by-cons}
 use Rattle.std.proofs.Math.ListN.{length-set}
 use Rattle.std.proofs.lemmas.Bool.{cases_Bool}
@@ -15,7 +15,7 @@ use Rattle.board_core.specs.declared.moves.MoveCase.TheVariants.{Plain, Advance,
 use Rattle.board_core.specs.Castling.{rook_home, rook_end}
 use Rattle.board_core.specs.Attack.{man_at}
 use Rattle.board_core.specs.Moves.{Legal, IsMove, carried, landed, behind, men_after, after}
-use Rattle.board_core.specs.Position.{IsPosition, is_of, is_same_side}
+use Rattle.board_core.specs.Position.{IsPosition, is_of, is_king_of, is_king, is_same_side}
 use Rattle.board_core.specs.ComputedMoves.{is_en_passant, is_capture, count_of_men}
 use Rattle.board_core.proofs.Computed.{some_man}
 use Rattle.board_core.proofs.ComputedMoves.{Decides-en_passant, one_case}
@@ -134,3 +134,26 @@ men_by_side (o ∷ rest) =
     let here = of_side o in
     let later = men_by_side rest in
     omega (arith, sum_by-cons weight o rest, sum_by-cons (λ o. one_if (is_of White o)) o rest, sum_by-cons (λ o. one_if (is_of Black o)) o rest)
+
+and_weight : (a b : Bool) → one_if (a && b) ≤ one_if a
+and_weight true true = omega arith
+and_weight true false = omega arith
+and_weight false b = omega arith
+
+king_weight : (side : Side) (o : Option Piece) → one_if (is_king_of side o) ≤ one_if (is_of side o)
+king_weight side None = omega arith
+king_weight side (Some man) = and_weight (is_same_side side man.side) (is_king man.kind)
+
+kings_among : (side : Side) (men : List (Option Piece)) → count_by (is_king_of side) men ≤ count_by (is_of side) men
+kings_among side [] = omega arith
+kings_among side (o ∷ rest) =
+    let here = king_weight side o in
+    let later = kings_among side rest in
+    omega (arith, sum_by-cons (λ o. one_if (is_king_of side o)) o rest, sum_by-cons (λ o. one_if (is_of side o)) o rest)
+
+pub men_of_position : (p : Parts) → IsPosition p → (2 ≤ count_of_men p) × (count_of_men p ≤ 32)
+men_of_position p i =
+    let sides = men_by_side p.men in
+    let white = kings_among White p.men in
+    let black = kings_among Black p.men in
+    (omega (arith, i.kings), omega (arith, i.few))

@@ -1,5 +1,5 @@
 use Rattle.std.proofs.Common.{ℕ, zero, suc, ◌≡◌, ◌≢◌, ◌<◌, ◌≤◌, ◌⊎◌, List, [], ◌∷◌, Option, Some, None, Bool, true, false, cond, not, ◌&&◌, ◌||◌, ◌==◌, is_some, length, get_or, Decides, refl, sym, ap, ◌∙◌, arith, inl, inr, find, option_and_then}
-use Rattle.std.proofs.lemmas.Bool.Decides.{nat_tests, Decides-and, Decides-or, Decides-not, Decides-like, Decides-eqb, Decides-ltb}
+use Rattle.std.proofs.lemmas.Bool.Decides.{nat_tests, same_from_decides, Decides-and, Decides-or, Decides-not, Decides-like, Decides-eqb, Decides-ltb}
 use Rattle.std.proofs.lemmas.Bool.{cases_Bool}
 use Rattle.board_core.specs.declared.piece.Piece.{Piece}
 use Rattle.board_core.specs.declared.piece.Side.{Side}
@@ -103,6 +103,7 @@ Decides-pawn_capture p m =
     (Decides-promotes p.side m.to m.promotion))
 
 pub Decides-en_passant : (p : Parts) (m : Move) → Decides (is_en_passant p m) (IsEnPassant p m)
+unfolding is_en_passant
 Decides-en_passant p m =
     Decides-like _
     (λ r. record { stands = r.0.0.0.0; attacks = r.0.0.0.1; passed = r.0.0.1; empty = r.0.1; whole = r.1 })
@@ -339,3 +340,7 @@ computed_none p m only = computed p m None (λ q e. absurd (let f = e in cc)) on
 
 pub computed_some : (p : Parts) (m : Move) (q : Parts) → Legal p m q → Some q ≡ position_after p m
 computed_some p m q l = sym (legal_position p m q l)
+
+-- what decides that a move goes by the rule of en passant is the computed test
+pub en_passant_computed : (p : Parts) (m : Move) (r : Bool) → Decides r (IsEnPassant p m) → r ≡ is_en_passant p m
+en_passant_computed p m r h = same_from_decides r (is_en_passant p m) h (Decides-en_passant p m)

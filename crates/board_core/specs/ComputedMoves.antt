@@ -59,7 +59,7 @@ abbrev pub is_pawn_capture : Parts → Move → Bool
 is_pawn_capture p m =
     is_pawn_of p.side (man_at p.men m.from) && is_pawn_attack p.side m.from m.to && is_of (other p.side) (man_at p.men m.to) && promotes p.side m.to m.promotion
 
-abbrev pub is_en_passant : Parts → Move → Bool
+unfoldable pub is_en_passant : Parts → Move → Bool
 is_en_passant p m =
     is_pawn_of p.side (man_at p.men m.from) && is_pawn_attack p.side m.from m.to && is_square p.en_passant m.to && is_none (man_at p.men m.to) && is_none m.promotion
 

@@ -1,5 +1,5 @@
 -- What ties the computed words to the relations. The functions of src/laws.rt carry these.
-use Rattle.std.specs.Prelude.{◌≡◌, ◌↔◌, ◌+◌, IsTrue, IsFalse, List, Option, Some}
+use Rattle.std.specs.Prelude.{◌≡◌, ◌↔◌, ◌+◌, ◌≤◌, IsTrue, IsFalse, List, Option, Some}
 use Rattle.board_core.specs.declared.piece.Piece.{Piece}
 use Rattle.board_core.specs.declared.piece.Side.{Side}
 use Rattle.board_core.specs.declared.parts.Parts.{Parts}
@@ -15,6 +15,10 @@ CheckIsComputed = (men : List (Option Piece)) (side : Side) → IsTrue (is_in_ch
 
 abbrev pub PositionAfterIsComputed : Type 0
 PositionAfterIsComputed = (p : Parts) (m : Move) (q : Parts) → (position_after p m ≡ Some q) ↔ Legal p m q
+
+-- what stands after a legal move of a position is a position
+abbrev pub PositionAfterIsAPosition : Type 0
+PositionAfterIsAPosition = (p : Parts) (m : Move) (q : Parts) → IsPosition p → position_after p m ≡ Some q → IsPosition q
 
 abbrev pub LegalIsComputed : Type 0
 LegalIsComputed = (p : Parts) (m : Move) → IsTrue (is_legal p m) ↔ IsLegal p m
@@ -34,3 +38,6 @@ CaptureTakesOneMan =
 abbrev pub OtherMoveKeepsTheMen : Type 0
 OtherMoveKeepsTheMen =
     (p : Parts) (m : Move) (q : Parts) → IsPosition p → Legal p m q → IsFalse (is_capture p m) → count_of_men q ≡ count_of_men p
+
+abbrev pub PositionHasTwoToThirtyTwoMen : Type 0
+PositionHasTwoToThirtyTwoMen = (p : Parts) → IsPosition p → (2 ≤ count_of_men p) × (count_of_men p ≤ 32)

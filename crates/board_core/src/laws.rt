@@ -1,7 +1,7 @@
 //! What ties the computed words of specs/ to the relations of the rules, for proofs above: each
 //! function carries one law and does nothing.
 
-ghost use Rattle.board_core.specs.Laws.{CheckIsComputed, PositionAfterIsComputed, LegalIsComputed, LegalMovesAreListed, LegalCapturesAreListed, CaptureTakesOneMan, OtherMoveKeepsTheMen};
+ghost use Rattle.board_core.specs.Laws.{CheckIsComputed, PositionAfterIsComputed, PositionAfterIsAPosition, LegalIsComputed, LegalMovesAreListed, LegalCapturesAreListed, CaptureTakesOneMan, OtherMoveKeepsTheMen, PositionHasTwoToThirtyTwoMen};
 
 /// The computed test for check says that a king of the side is attacked.
 pub fn check_is_computed()
@@ -12,6 +12,11 @@ pub fn check_is_computed()
 /// of the rules.
 pub fn position_after_is_computed()
     ensures { PositionAfterIsComputed }
+{}
+
+/// What stands after a legal move of a position is a position.
+pub fn position_after_is_a_position()
+    ensures { PositionAfterIsAPosition }
 {}
 
 /// The computed test for a legal move says that some position is the one after it.
@@ -37,4 +42,9 @@ pub fn capture_takes_one_man()
 /// A legal move that is no capture leaves as many men.
 pub fn other_move_keeps_the_men()
     ensures { OtherMoveKeepsTheMen }
+{}
+
+/// A position has two men at least and thirty-two at most.
+pub fn position_has_two_to_thirty_two_men()
+    ensures { PositionHasTwoToThirtyTwoMen }
 {}

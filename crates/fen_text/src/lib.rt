@@ -7,7 +7,7 @@
 mod coordinates;
 mod counters;
 mod cuts;
-pub mod fault;
+mod fault;
 mod fields;
 pub mod laws;
 mod placement;
@@ -15,6 +15,7 @@ mod reading;
 mod writing;
 
 pub use coordinates::{read_move, write_move};
+pub use fault::FenFault;
 pub use reading::read;
 pub use writing::write;
 

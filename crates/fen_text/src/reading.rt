@@ -62,6 +62,7 @@ fn read_parts(text: &[u8]) -> Result<Parts, FenFault>
 /// where each spells its part, it is the first fault of `Position::new`.
 pub fn read(text: &[u8]) -> Result<Position, FenFault>
     ensures ok { IfOk result (λ p. SpellsPosition text.now p) }
+    ensures position { IfOk result (λ p. IsPosition p) }
     ensures only { (p : Parts) → IsPosition p → SpellsPosition text.now p → result ≡ Ok p }
     ensures err { IfErr result (λ fault. IsFirstFenFault text.now fault) }
 

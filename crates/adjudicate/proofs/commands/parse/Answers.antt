@@ -1,7 +1,7 @@
 use Rattle.std.proofs.Common.{arith}
 use Rattle.std.proofs.lemmas.Grind.{common_steps}
 use Rattle.std.proofs.lemmas.Result.{IfErr-weaker}
-use Rattle.adjudicate.proofs.Misuse.{judge_misuse, moves_misuse}
+use Rattle.adjudicate.proofs.OtherCommands.{judge_misuse, moves_misuse}
 use Rattle.adjudicate.proofs.commands.parse.Goals as goal
 
 pub returns-in-judge-clause-misuse : goal.returns-in-judge-clause-misuse
