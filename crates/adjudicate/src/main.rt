@@ -89,3 +89,6 @@ fn main(rt: HostRuntime) -> io::Result<ExitCode> {
     let status = status_of(&rt)?;
     Ok(ExitCode::from(status))
 }
+
+#[cfg(test)]
+mod tests;

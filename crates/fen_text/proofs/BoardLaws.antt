@@ -1,5 +1,5 @@
 -- A board that is filled rank by rank from the last one, each from its first square.
-use Rattle.std.proofs.Common.{◌≡◌, ℕ, suc, ◌+◌, ◌-◌, ◌<◌, ◌≤◌, List, [], ◌∷◌, ◌++◌, length, Option, Some, None, refl, sym, ap, subst, ◌∙◌, arith, append_assoc, add-one}
+use Rattle.std.proofs.Common.{◌≡◌, ℕ, suc, ◌+◌, ◌-◌, ◌<◌, ◌≤◌, List, [], ◌∷◌, ◌++◌, length, Option, Some, None, sym, ap, ◌∙◌, arith, append_assoc}
 use Rattle.std.specs.Prelude.{replicate, slice_set}
 use Rattle.std.proofs.lemmas.List.{length-append, length-replicate, replicate-append-replicate}
 use Rattle.std.proofs.Math.Seq.{set-append_seam}

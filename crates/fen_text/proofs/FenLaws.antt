@@ -1,5 +1,5 @@
 -- One text spells one position, and a text with a fault spells none.
-use Rattle.std.proofs.Common.{◌≡◌, ℕ, ◌+◌, ◌*◌, ◌/◌, ◌%◌, ◌<◌, ◌≤◌, Bool, true, false, List, [], ◌∷◌, length, get_or, Option, Some, None, inl, inr, refl, sym, ap, subst, ◌∙◌, arith}
+use Rattle.std.proofs.Common.{◌≡◌, ℕ, ◌+◌, ◌/◌, ◌%◌, Bool, true, false, List, [], ◌∷◌, length, get_or, Option, Some, None, inl, inr, refl, sym, ap, subst, ◌∙◌, arith}
 use Rattle.std.proofs.lemmas.Fmt.{decimal_injective}
 use Rattle.board_core.specs.declared.piece.Piece.{Piece}
 use Rattle.board_core.specs.declared.piece.Side.{Side}
@@ -15,7 +15,7 @@ use Rattle.fen_text.specs.Cuts.{cut_at}
 use Rattle.fen_text.specs.Placement.{SpellsPlacement}
 use Rattle.fen_text.specs.Fields.{side_text, castling_text, en_passant_text, SpellsSide, SpellsCastling, SpellsEnPassant, SpellsCounter}
 use Rattle.fen_text.specs.Scan.{begins, after}
-use Rattle.fen_text.specs.Fen.{SixFields, SpellsPosition, IsFirstFenFault}
+use Rattle.fen_text.specs.Fen.{SixFields, HasPlacement, HasSide, HasCastling, HasSquare, HasNumbers, SpellsPosition, IsFirstFenFault}
 use Rattle.fen_text.proofs.RanksLaws.{placement_only}
 
 abbrev pub six : (t placement side castling en_passant halfmove fullmove : List ℕ) → cut_at 32 t ≡ placement ∷ side ∷ castling ∷ en_passant ∷ halfmove ∷ fullmove ∷ [] → SixFields t
@@ -125,19 +125,24 @@ no_fault p BadEnPassant h f = f.4 h.en_passant
 no_fault p OpponentInCheck h f = f.5 h.quiet
 no_fault p BadCounter h f = f.6 h.counters
 
+-- what a position spells is spelled in the fields, however they are given
+pub has_fields : (t : List ℕ) (p : Parts) (f : SixFields t) → SpellsPosition t p → HasPlacement f × HasSide f × HasCastling f × HasSquare f × HasNumbers f
+has_fields t p f h =
+    let same = same_fields t h.fields f in (
+      (p.men, subst (λ (s : List ℕ). SpellsPlacement s p.men) same.placement h.men),
+      (p.side, subst (λ (s : List ℕ). SpellsSide s p.side) same.side h.side),
+      (p.rights, subst (λ (s : List ℕ). SpellsCastling s p.rights) same.castling h.rights),
+      (p.en_passant, subst (λ (s : List ℕ). SpellsEnPassant s p.en_passant) same.en_passant h.en_passant),
+      ((p.halfmove, subst (λ (s : List ℕ). SpellsCounter s p.halfmove) same.halfmove h.halfmove), (p.fullmove, subst (λ (s : List ℕ). SpellsCounter s p.fullmove) same.fullmove h.fullmove)),
+    )
+
 -- a text with a fault spells no position
 pub fault_only : (t : List ℕ) (fault : FenFault) (p : Parts) → IsFirstFenFault t fault → IsPosition p → SpellsPosition t p → ⊥
 fault_only t FieldCount p f position h = f (ap length h.fields.cut)
-fault_only t BadPlacement p f position h =
-    f.1 p.men (subst (λ (s : List ℕ). SpellsPlacement s p.men) (sym (same_fields t f.0 h.fields).placement) h.men)
-fault_only t BadSide p f position h = f.2 p.side ((same_fields t f.0 h.fields).side ∙ h.side)
-fault_only t BadCastlingText p f position h = f.3 p.rights ((same_fields t f.0 h.fields).castling ∙ h.rights)
-fault_only t BadSquare p f position h =
-    f.4 p.en_passant (subst (λ (s : List ℕ). SpellsEnPassant s p.en_passant) (sym (same_fields t f.0 h.fields).en_passant) h.en_passant)
-fault_only t BadNumber p f position h =
-    elim f.5 [
-      | inl none ↦ none p.halfmove (subst (λ (s : List ℕ). SpellsCounter s p.halfmove) (sym (same_fields t f.0 h.fields).halfmove) h.halfmove)
-      | inr none ↦ none p.fullmove (subst (λ (s : List ℕ). SpellsCounter s p.fullmove) (sym (same_fields t f.0 h.fields).fullmove) h.fullmove)
-    ]
+fault_only t BadPlacement p f position h = f.1 (has_fields t p f.0 h).0
+fault_only t BadSide p f position h = f.2 (has_fields t p f.0 h).1
+fault_only t BadCastlingText p f position h = f.3 (has_fields t p f.0 h).2
+fault_only t BadSquare p f position h = f.4 (has_fields t p f.0 h).3
+fault_only t BadNumber p f position h = f.5 (has_fields t p f.0 h).4
 fault_only t (BadPosition fault) p f position h =
     no_fault p fault position (subst (λ (q : Parts). IsFirstFault q fault) (spells_one t f.0 p f.1 h) f.2)

@@ -7,5 +7,6 @@ pub mod RanksLaws
 pub mod WritingLaws
 pub mod PlacementLaws
 pub mod FenLaws
+pub mod FaultLaws
 pub mod SpellingLaws
 pub mod WrittenLaws

@@ -1,5 +1,5 @@
 -- What is filled byte by byte is a rank, and a rank is filled so.
-use Rattle.std.proofs.Common.{lit≤, get_or, ◌⊎◌, leb, ◌≡◌, ℕ, zero, suc, ◌+◌, ◌-◌, ◌<◌, ◌≤◌, Bool, true, false, cond, List, [], ◌∷◌, ◌++◌, length, Option, Some, None, refl, sym, ap, ap₂, subst, ◌∙◌, arith, inl, inr, eqb}
+use Rattle.std.proofs.Common.{lit≤, get_or, ◌⊎◌, leb, ◌≡◌, ℕ, zero, suc, ◌+◌, ◌-◌, ◌<◌, ◌≤◌, Bool, true, false, cond, List, [], ◌∷◌, length, Option, Some, None, refl, sym, ap, ◌∙◌, arith, inl, inr, eqb}
 use Rattle.std.proofs.Math.Bool.{and-false}
 use Rattle.std.specs.Prelude.{◌&&◌, ◌||◌, not, nat_lt, is_some, replicate, ◌==◌}
 use Rattle.std.specs.Option.{option_map_or}
@@ -14,7 +14,7 @@ use Rattle.board_core.specs.declared.piece.Side.TheVariants.{White, Black}
 use Rattle.board_core.specs.declared.piece.Kind.{Kind}
 use Rattle.board_core.specs.declared.piece.Kind.TheVariants.{Pawn, Knight, Bishop, Rook, Queen, King}
 use Rattle.fen_text.specs.Placement.{letter, letter_of, man_of, is_run, is_rank_byte, cells_of, runs_apart, SpellsRank}
-use Rattle.fen_text.specs.Scan.{step, fills}
+use Rattle.fen_text.specs.Scan.{fills}
 
 -- the squares of a digit
 pub run_cells : (c : ℕ) → 49 ≤ c → c ≤ 56 → cells_of c ≡ replicate (c - 48) None

@@ -1,5 +1,5 @@
 -- The eight ranks of a board, read from the last one.
-use Rattle.std.proofs.Common.{◌≡◌, ℕ, zero, suc, ◌+◌, ◌-◌, ◌*◌, ◌<◌, ◌≤◌, Bool, true, false, List, [], ◌∷◌, ◌++◌, length, take, drop, get_or, Option, Some, None, refl, sym, ap, ap₂, subst, ◌∙◌, arith, append_assoc, append-nil, add-one, drop-cons, lit≤, true≢false}
+use Rattle.std.proofs.Common.{◌≡◌, ℕ, zero, suc, ◌+◌, ◌-◌, ◌*◌, ◌<◌, ◌≤◌, Bool, true, false, List, [], ◌∷◌, ◌++◌, length, take, drop, get_or, Option, None, refl, sym, ap, ap₂, subst, ◌∙◌, arith, append_assoc, append-nil, add-one, drop-cons, lit≤, true≢false}
 use Rattle.std.specs.Prelude.{replicate, reverse, ◌&&◌, ◌==◌}
 use Rattle.std.specs.List.{list_all, flat_map, AllZip, join_with_byte}
 use Rattle.std.proofs.lemmas.List.{length-append, length-drop, length-take-le, length-replicate, replicate-append-replicate, reverse-append, take_more, take-append-le, take-append-drop, drop-append-le, nil_from_length}

@@ -1,5 +1,5 @@
 -- A rank, a placement and a position have one text each.
-use Rattle.std.proofs.Common.{◌≡◌, ℕ, zero, suc, ◌+◌, ◌-◌, ◌<◌, ◌≤◌, Bool, true, false, List, [], ◌∷◌, ◌++◌, Option, Some, None, refl, sym, ap, ap₂, ◌∙◌, arith, append-nil}
+use Rattle.std.proofs.Common.{◌≡◌, ℕ, zero, suc, ◌+◌, ◌-◌, ◌≤◌, Bool, true, false, List, [], ◌∷◌, ◌++◌, Option, Some, None, refl, sym, ap, ap₂, ◌∙◌, arith, append-nil}
 use Rattle.std.specs.Prelude.{◌&&◌, ◌||◌, not, is_some, replicate, map}
 use Rattle.std.specs.List.{list_all, flat_map, AllZip, join_with_byte}
 use Rattle.std.proofs.lemmas.Bool.{leb-true}
@@ -9,12 +9,12 @@ use Rattle.std.proofs.lemmas.List.Splits.{join_with_byte-slice_split}
 use Rattle.board_core.specs.declared.piece.Piece.{Piece}
 use Rattle.board_core.specs.declared.parts.Parts.{Parts}
 use Rattle.fen_text.specs.Cuts.{cut_at}
-use Rattle.fen_text.specs.Placement.{letter_of, man_of, is_run, is_rank_byte, cells_of, ranks_down, SpellsRank, SpellsPlacement}
+use Rattle.fen_text.specs.Placement.{man_of, is_run, is_rank_byte, cells_of, ranks_down, SpellsRank, SpellsPlacement}
 use Rattle.std.specs.Fmt.{decimal}
 use Rattle.fen_text.specs.Fields.{side_text, castling_text, en_passant_text}
 use Rattle.fen_text.specs.Written.{run_text, rank_text, placement_text, fen_of}
 use Rattle.fen_text.specs.Fen.{SpellsPosition}
-use Rattle.fen_text.proofs.RankLaws.{run_cells, man_back, apart_after, apart_is, both, affirmed}
+use Rattle.fen_text.proofs.RankLaws.{run_cells, man_back, apart_after, apart_is, both}
 
 -- empty squares after a run
 run_grows : (run n : ℕ) (cells : List (Option Piece)) → rank_text run (replicate n None ++ cells) ≡ rank_text (run + n) cells

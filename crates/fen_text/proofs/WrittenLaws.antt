@@ -1,5 +1,5 @@
 -- The text that is written for a position spells it.
-use Rattle.std.proofs.Common.{◌≡◌, ℕ, zero, suc, ◌+◌, ◌*◌, ◌/◌, ◌%◌, ◌<◌, ◌≤◌, ◌^◌, Bool, true, false, eqb, List, [], ◌∷◌, ◌++◌, length, take, drop, Option, Some, None, refl, sym, ap, ap₂, subst, ◌∙◌, arith, append_assoc, lit<}
+use Rattle.std.proofs.Common.{◌≡◌, ℕ, zero, suc, ◌+◌, ◌*◌, ◌%◌, ◌<◌, ◌≤◌, Bool, true, false, eqb, List, [], ◌∷◌, ◌++◌, length, drop, Option, Some, None, refl, sym, ap, ap₂, subst, ◌∙◌, arith, append_assoc, lit<}
 use Rattle.std.specs.Prelude.{◌&&◌, ◌==◌, not, map}
 use Rattle.std.specs.List.{list_all, All, AllZip, join_with_byte}
 use Rattle.std.specs.Fmt.{decimal}
@@ -13,12 +13,11 @@ use Rattle.board_core.specs.declared.piece.Piece.{Piece}
 use Rattle.board_core.specs.declared.piece.Side.{Side}
 use Rattle.board_core.specs.declared.piece.Side.TheVariants.{White, Black}
 use Rattle.board_core.specs.declared.parts.Parts.{Parts}
-use Rattle.board_core.specs.declared.parts.Rights.{Rights}
 use Rattle.board_core.specs.Position.{IsPosition, passed_rank}
 use Rattle.board_core.specs.Square.{file_of, rank_of}
 use Rattle.fen_text.specs.Cuts.{cut_at}
 use Rattle.fen_text.specs.Placement.{is_rank_byte, rank_men, ranks_down, SpellsRank, SpellsPlacement}
-use Rattle.fen_text.specs.Fields.{side_text, castling_text, square_text, en_passant_text}
+use Rattle.fen_text.specs.Fields.{side_text, castling_text, en_passant_text}
 use Rattle.fen_text.specs.Written.{rank_text, placement_text, fen_of}
 use Rattle.fen_text.specs.Fen.{SpellsPosition}
 use Rattle.fen_text.proofs.RankLaws.{byte_from, both, join, negated, affirmed}

@@ -1,6 +1,6 @@
--- A position as FEN text (PGN standard, section 16.1), in the strict form of this project: six fields
--- with one space between, and each position has one text.
-use Rattle.std.specs.Prelude.{◌≡◌, ◌≢◌, ◌⊎◌, ℕ, List, [], ◌∷◌, length, codes}
+-- A position as FEN text (PGN standard, section 16.1), in the strict form of this project: six
+-- fields with one space between, and each position has one text.
+use Rattle.std.specs.Prelude.{◌≡◌, ◌≢◌, ℕ, List, [], ◌∷◌, length, codes}
 use Rattle.board_core.specs.declared.parts.Parts.{Parts}
 use Rattle.board_core.specs.Position.{IsFirstFault}
 use Rattle.fen_text.specs.declared.fault.FenFault.{FenFault}
@@ -29,28 +29,36 @@ pub record SpellsPosition (t : List ℕ) (p : Parts) : Type 0 where
   pub halfmove : SpellsCounter fields.halfmove p.halfmove
   pub fullmove : SpellsCounter fields.fullmove p.fullmove
 
--- something is spelled, or nothing is
-abbrev pub SpellsSome : {A : Type 0} → (A → Type 0) → Type 0
-SpellsSome {A} Spells = (x : A) × Spells x
+-- there is something that a text spells
+abbrev pub IsSpelling : {A : Type 0} → (List ℕ → A → Type 0) → List ℕ → Type 0
+IsSpelling {A} Spells t = (x : A) × Spells t x
 
-abbrev pub SpellsNone : {A : Type 0} → (A → Type 0) → Type 0
-SpellsNone {A} Spells = (x : A) → Spells x → ⊥
+abbrev pub HasPlacement : {t : List ℕ} → SixFields t → Type 0
+HasPlacement f = IsSpelling SpellsPlacement f.placement
 
--- the fields are looked at in turn, and the fault is that of the first one that spells nothing; last
--- comes the first fault of the parts that are spelled
+abbrev pub HasSide : {t : List ℕ} → SixFields t → Type 0
+HasSide f = IsSpelling SpellsSide f.side
+
+abbrev pub HasCastling : {t : List ℕ} → SixFields t → Type 0
+HasCastling f = IsSpelling SpellsCastling f.castling
+
+abbrev pub HasSquare : {t : List ℕ} → SixFields t → Type 0
+HasSquare f = IsSpelling SpellsEnPassant f.en_passant
+
+abbrev pub HasNumbers : {t : List ℕ} → SixFields t → Type 0
+HasNumbers f = IsSpelling SpellsCounter f.halfmove × IsSpelling SpellsCounter f.fullmove
+
+-- the first thing that a text lacks: six fields, each of them in turn, and last that what they spell
+-- is a position
 abbrev pub IsFirstFenFault : List ℕ → FenFault → Type 0
 IsFirstFenFault t FieldCount = length (cut_at 32 t) ≢ 6
-IsFirstFenFault t BadPlacement = (f : SixFields t) × SpellsNone (SpellsPlacement f.placement)
-IsFirstFenFault t BadSide =
-    (f : SixFields t) × SpellsSome (SpellsPlacement f.placement) × SpellsNone (SpellsSide f.side)
-IsFirstFenFault t BadCastlingText =
-    (f : SixFields t) × SpellsSome (SpellsPlacement f.placement) × SpellsSome (SpellsSide f.side) × SpellsNone (SpellsCastling f.castling)
+IsFirstFenFault t BadPlacement = (f : SixFields t) × (HasPlacement f → ⊥)
+IsFirstFenFault t BadSide = (f : SixFields t) × HasPlacement f × (HasSide f → ⊥)
+IsFirstFenFault t BadCastlingText = (f : SixFields t) × HasPlacement f × HasSide f × (HasCastling f → ⊥)
 IsFirstFenFault t BadSquare =
-    (f : SixFields t) × SpellsSome (SpellsPlacement f.placement) × SpellsSome (SpellsSide f.side) × SpellsSome (SpellsCastling f.castling)
-    × SpellsNone (SpellsEnPassant f.en_passant)
+    (f : SixFields t) × HasPlacement f × HasSide f × HasCastling f × (HasSquare f → ⊥)
 IsFirstFenFault t BadNumber =
-    (f : SixFields t) × SpellsSome (SpellsPlacement f.placement) × SpellsSome (SpellsSide f.side) × SpellsSome (SpellsCastling f.castling)
-    × SpellsSome (SpellsEnPassant f.en_passant) × (SpellsNone (SpellsCounter f.halfmove) ⊎ SpellsNone (SpellsCounter f.fullmove))
+    (f : SixFields t) × HasPlacement f × HasSide f × HasCastling f × HasSquare f × (HasNumbers f → ⊥)
 IsFirstFenFault t (BadPosition fault) = (p : Parts) × SpellsPosition t p × IsFirstFault p fault
 
 -- the names of the faults

@@ -20,7 +20,8 @@ letter_if right c = if right then c ∷ [] else []
 
 -- those of K Q k q whose rights are there, in this order
 abbrev pub rights_letters : Rights → List ℕ
-rights_letters r = letter_if r.white_king 75 ++ letter_if r.white_queen 81 ++ letter_if r.black_king 107 ++ letter_if r.black_queen 113
+rights_letters r =
+    letter_if r.white_king 75 ++ letter_if r.white_queen 81 ++ letter_if r.black_king 107 ++ letter_if r.black_queen 113
 
 -- a text that is not empty, or a dash
 abbrev pub or_dash : List ℕ → List ℕ

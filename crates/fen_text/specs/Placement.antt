@@ -1,5 +1,5 @@
 -- The men of the board as text: field 1 of FEN (PGN standard, section 16.1.3.1).
-use Rattle.std.specs.Prelude.{◌≡◌, ◌==◌, ◌-◌, ◌*◌, ◌&&◌, ◌||◌, not, nat_le, ℕ, zero, suc, Bool, true, List, [], ◌∷◌, length, take, drop, Option, Some, None, is_some, if◌then◌else◌, replicate}
+use Rattle.std.specs.Prelude.{◌≡◌, ◌==◌, ◌-◌, ◌*◌, ◌++◌, ◌&&◌, ◌||◌, not, nat_le, ℕ, zero, suc, Bool, true, List, [], ◌∷◌, length, take, drop, map, find, Option, Some, None, is_some, if◌then◌else◌, replicate}
 use Rattle.std.specs.Option.{option_map_or}
 use Rattle.std.specs.List.{list_all, flat_map, AllZip}
 use Rattle.board_core.specs.declared.piece.Piece.{Piece}
@@ -27,22 +27,16 @@ letter Black King = 107
 abbrev pub letter_of : Piece → ℕ
 letter_of man = letter man.side man.kind
 
-abbrev pub white : Kind → Option Piece
-white kind = Some (record { side = White; kind = kind })
+-- the twelve men, whose letters differ
+abbrev pub men_of : Side → List Piece
+men_of side = map (λ kind. record { side = side; kind = kind }) (Pawn ∷ Knight ∷ Bishop ∷ Rook ∷ Queen ∷ King ∷ [])
 
-abbrev pub black : Kind → Option Piece
-black kind = Some (record { side = Black; kind = kind })
+abbrev pub twelve_men : List Piece
+twelve_men = men_of White ++ men_of Black
 
 -- the man of a letter
 unfoldable pub man_of : ℕ → Option Piece
-man_of c =
-    if c == 80 then white Pawn else if c == 78 then white Knight
-    else if c == 66 then white Bishop else if c == 82 then white Rook
-    else if c == 81 then white Queen else if c == 75 then white King
-    else if c == 112 then black Pawn else if c == 110 then black Knight
-    else if c == 98 then black Bishop else if c == 114 then black Rook
-    else if c == 113 then black Queen else if c == 107 then black King
-    else None
+man_of c = find (λ man. c == letter_of man) twelve_men
 
 -- a digit from 1 to 8 stands for a run of empty squares
 abbrev pub is_run : ℕ → Bool

@@ -15,7 +15,8 @@ use board_core::Promotion;
 /// The promotion that a letter stands for.
 fn read_promotion(letter: u8) -> Option<Promotion>
     ensures some { IfSome result (λ kind. letter ∷ [] ≡ promotion_text (Some kind)) }
-    ensures none { IfNone result ((kind : Promotion) → letter ∷ [] ≡ promotion_text (Some kind) → ⊥) }
+    ensures none { IfNone result
+        ((kind : Promotion) → letter ∷ [] ≡ promotion_text (Some kind) → ⊥) }
 {
     match letter {
         b'q' => Some(Promotion::Queen),
@@ -28,8 +29,10 @@ fn read_promotion(letter: u8) -> Option<Promotion>
 
 /// The move between two squares that are named by their files and ranks.
 fn read_squares(from: (u8, u8), to: (u8, u8), promotion: Option<Promotion>) -> Option<Move>
-    ensures some { IfSome result (SpellsMove (from.0 ∷ from.1 ∷ to.0 ∷ to.1 ∷ promotion_text promotion)) }
-    ensures only { (m : Move) → SpellsMove (from.0 ∷ from.1 ∷ to.0 ∷ to.1 ∷ promotion_text promotion) m
+    ensures some { IfSome result
+        (SpellsMove (from.0 ∷ from.1 ∷ to.0 ∷ to.1 ∷ promotion_text promotion)) }
+    ensures only { (m : Move)
+        → SpellsMove (from.0 ∷ from.1 ∷ to.0 ∷ to.1 ∷ promotion_text promotion) m
         → result ≡ Some m }
 {
     let Some(from) = read_square(from.0, from.1) else {

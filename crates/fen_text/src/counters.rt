@@ -1,3 +1,5 @@
+//! The fifth and sixth fields: numbers from 0 to 9999.
+
 ghost use Rattle.std.specs.Prelude.{◌≡◌, ◌≤◌, ℕ, IfSome, IfNone};
 ghost use Rattle.std.specs.Fmt.{decimal};
 ghost use Rattle.fen_text.specs.Fields.{SpellsCounter};
@@ -6,16 +8,17 @@ use arrayvec::ArrayString;
 use itoa::Buffer;
 
 /// The digits of a number.
-pub(crate) fn digits(n: u16) -> ArrayString<5>
-    ensures { result.bytes ≡ decimal n }
+pub(crate) fn digits(number: u16) -> ArrayString<5>
+    ensures { result.bytes ≡ decimal number }
 {
     let mut buffer = Buffer::new();
     let mut text = ArrayString::new();
-    text.push_str(buffer.format(n));
+    text.push_str(buffer.format(number));
     text
 }
 
-/// The number that the text spells.
+/// The number from 0 to 9999 that the text spells, without needless zeros: it is the text that the
+/// number is written as.
 pub(crate) fn read_counter(text: &[u8]) -> Option<u16>
     ensures some { IfSome result (SpellsCounter text.now) }
     ensures none { IfNone result ((n : ℕ) → SpellsCounter text.now n → ⊥) }

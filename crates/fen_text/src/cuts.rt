@@ -3,18 +3,20 @@
 ghost use Rattle.std.specs.Prelude.{◌≡◌, ◌≢◌, ◌==◌, [], ◌∷◌, length, position, IfSome, IfNone};
 ghost use Rattle.fen_text.specs.Cuts.{cut_at};
 
-fn place_of(text: &[u8], sep: u8) -> Option<usize>
-    ensures { result ≡ position (λ b. b == sep) text.now }
+/// The first place of a byte.
+fn place_of(text: &[u8], separator: u8) -> Option<usize>
+    ensures { result ≡ position (λ b. b == separator) text.now }
 {
-    text.iter().position(|b| *b == sep)
+    text.iter().position(|b| *b == separator)
 }
 
 /// The first piece, and the text after the byte that ends it; nothing where the byte is not there.
-pub(crate) fn cut_first(text: &[u8], sep: u8) -> Option<(&[u8], &[u8])>
-    ensures some { IfSome result (λ x. cut_at sep text.now ≡ x.0.now ∷ cut_at sep x.1.now) }
-    ensures none { IfNone result (cut_at sep text.now ≡ text.now ∷ []) }
+pub(crate) fn cut_first(text: &[u8], separator: u8) -> Option<(&[u8], &[u8])>
+    ensures some { IfSome result
+        (λ x. cut_at separator text.now ≡ x.0.now ∷ cut_at separator x.1.now) }
+    ensures none { IfNone result (cut_at separator text.now ≡ text.now ∷ []) }
 {
-    match place_of(text, sep) {
+    match place_of(text, separator) {
         None => None,
         Some(i) => Some((&text[..i], &text[i + 1..])),
     }
@@ -33,8 +35,8 @@ pub(crate) struct Fields<'a> {
 
 /// The six pieces, where there are six.
 pub(crate) fn six_fields(text: &[u8]) -> Option<Fields<'_>>
-    ensures some { IfSome result (λ f. cut_at 32 text.now
-        ≡ f.placement.now ∷ f.side.now ∷ f.castling.now ∷ f.en_passant.now ∷ f.halfmove.now ∷ f.fullmove.now ∷ []) }
+    ensures some { IfSome result (λ f. cut_at 32 text.now ≡ f.placement.now ∷ f.side.now
+        ∷ f.castling.now ∷ f.en_passant.now ∷ f.halfmove.now ∷ f.fullmove.now ∷ []) }
     ensures none { IfNone result (length (cut_at 32 text.now) ≢ 6) }
 {
     let (placement, text) = cut_first(text, b' ')?;

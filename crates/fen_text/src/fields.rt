@@ -11,7 +11,7 @@ use board_core::Rights;
 use board_core::Side;
 use board_core::Square;
 
-/// The side to move.
+/// The side to move: `w` or `b`.
 pub(crate) fn read_side(text: &[u8]) -> Option<Side>
     ensures some { IfSome result (λ side. SpellsSide text.now side) }
     ensures none { IfNone result ((side : Side) → SpellsSide text.now side → ⊥) }
@@ -73,7 +73,7 @@ pub(crate) fn read_square(file: u8, rank: u8) -> Option<Square>
     Square::new(8 * (rank - b'1') + (file - b'a'))
 }
 
-/// The en passant square, or none.
+/// The en passant square, or `-` for none.
 pub(crate) fn read_en_passant(text: &[u8]) -> Option<Option<Square>>
     ensures some { IfSome result (λ square. SpellsEnPassant text.now square) }
     ensures none { IfNone result ((square : Option ℕ) → SpellsEnPassant text.now square → ⊥) }

@@ -9,44 +9,27 @@ ghost use Rattle.fen_text.specs.Scan.{step, fills, IsFilled};
 use crate::cuts::cut_first;
 use board_core::{Kind, Men, Piece, Side};
 
-fn white(kind: Kind) -> Option<Piece>
-    ensures { result ≡ Rattle.fen_text.specs.Placement.white kind }
-{
-    Some(Piece {
-        side: Side::White,
-        kind,
-    })
-}
-
-fn black(kind: Kind) -> Option<Piece>
-    ensures { result ≡ Rattle.fen_text.specs.Placement.black kind }
-{
-    Some(Piece {
-        side: Side::Black,
-        kind,
-    })
-}
-
 /// The man that a letter stands for.
 #[tactic(auto, unfolding(crate::specs::Placement::man_of))]
 fn man_of(byte: u8) -> Option<Piece>
     ensures { result ≡ man_of byte }
 {
-    match byte {
-        b'P' => white(Kind::Pawn),
-        b'N' => white(Kind::Knight),
-        b'B' => white(Kind::Bishop),
-        b'R' => white(Kind::Rook),
-        b'Q' => white(Kind::Queen),
-        b'K' => white(Kind::King),
-        b'p' => black(Kind::Pawn),
-        b'n' => black(Kind::Knight),
-        b'b' => black(Kind::Bishop),
-        b'r' => black(Kind::Rook),
-        b'q' => black(Kind::Queen),
-        b'k' => black(Kind::King),
-        _ => None,
-    }
+    let (side, kind) = match byte {
+        b'P' => (Side::White, Kind::Pawn),
+        b'N' => (Side::White, Kind::Knight),
+        b'B' => (Side::White, Kind::Bishop),
+        b'R' => (Side::White, Kind::Rook),
+        b'Q' => (Side::White, Kind::Queen),
+        b'K' => (Side::White, Kind::King),
+        b'p' => (Side::Black, Kind::Pawn),
+        b'n' => (Side::Black, Kind::Knight),
+        b'b' => (Side::Black, Kind::Bishop),
+        b'r' => (Side::Black, Kind::Rook),
+        b'q' => (Side::Black, Kind::Queen),
+        b'k' => (Side::Black, Kind::King),
+        _ => return None,
+    };
+    Some(Piece { side, kind })
 }
 
 /// Where the reading of a rank stands.
@@ -123,7 +106,8 @@ fn read_rank(text: &[u8], rank: u8, men: &mut Men) -> bool
     at.left == 0
 }
 
-/// The men of the board, where the text places them.
+/// The men of the board, where the text places them: eight ranks from the eighth down to the first,
+/// with a slash between.
 pub(crate) fn read_placement(text: &[u8]) -> Option<Men>
     ensures some { IfSome result (λ men. SpellsPlacement text.now men) }
     ensures none { IfNone result ((men : List _) → SpellsPlacement text.now men → ⊥) }

@@ -1,8 +1,9 @@
 //! Reading the text of a position.
 
-ghost use Rattle.std.specs.Prelude.{◌≡◌, IfOk, IfErr, Ok};
+ghost use Rattle.std.specs.Prelude.{◌≡◌, IfOk, IfErr, Ok, Err};
 ghost use Rattle.board_core.specs.declared.parts.Parts.{Parts};
 ghost use Rattle.board_core.specs.Position.{IsPosition};
+ghost use Rattle.fen_text.specs.declared.fault.FenFault.{FenFault};
 ghost use Rattle.fen_text.specs.Fen.{SpellsPosition, IsFirstFenFault};
 ghost use Rattle.fen_text.specs.Written.{fen_of};
 
@@ -65,6 +66,7 @@ pub fn read(text: &[u8]) -> Result<Position, FenFault>
     ensures position { IfOk result (λ p. IsPosition p) }
     ensures only { (p : Parts) → IsPosition p → SpellsPosition text.now p → result ≡ Ok p }
     ensures err { IfErr result (λ fault. IsFirstFenFault text.now fault) }
+    ensures only_fault { (fault : FenFault) → IsFirstFenFault text.now fault → result ≡ Err fault }
 
     // What `write` gives is read as the position that it was given, and a text that is read is what
     // `write` gives.

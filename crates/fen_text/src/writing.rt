@@ -109,6 +109,7 @@ fn push_placement(men: &Men, out: &mut ArrayString<96>)
     push_rank(rank_men(men, 0), out);
 }
 
+/// The letter of the side to move.
 fn side_letter(side: Side) -> &'static str
     ensures { result.now ≡ side_text side }
 {
@@ -169,7 +170,7 @@ fn push_en_passant(square: Option<Square>, out: &mut ArrayString<96>)
     }
 }
 
-/// Writes a counter.
+/// Writes a counter from 0 to 9999.
 fn push_counter(number: u16, out: &mut ArrayString<96>)
     requires small { number ≤ 9999 }
     requires room { array_string_len out.old + 4 ≤ 96 }
@@ -179,7 +180,8 @@ fn push_counter(number: u16, out: &mut ArrayString<96>)
     out.push_str(digits(number).as_str());
 }
 
-/// Writes the FEN text of a position: the one text that `read` reads as this position.
+/// Writes the FEN text of a position (PGN standard, section 16.1): the one text that `read` reads
+/// as this position. It has at most 91 bytes.
 pub fn write(position: &Position) -> ArrayString<96>
     ensures text { result.bytes ≡ fen_of position.now }
     ensures spells { SpellsPosition result.bytes position.now }

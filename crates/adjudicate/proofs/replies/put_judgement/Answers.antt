@@ -19,4 +19,4 @@ pub returns-in_ok-put_line-in-Ok-Some-clause-ok : goal.returns-in_ok-put_line-in
 returns-in_ok-put_line-in-Ok-Some-clause-ok g c =
     let some : ruling c.in-Ok.position ≡ Some c.in-Ok-Some.verdict = search rules in
     replies _ judge_lines c.in-Ok.position _ _ c.in-Ok.ensures.ok c.in-Ok.ensures.position
-      (rw some (one_line _ _ (verdict_name c.in-Ok-Some.verdict) (rw c.name.ensures at c.in_ok-put_line-in-Ok-Some.ensures.ok)))
+    (rw some (one_line _ _ (verdict_name c.in-Ok-Some.verdict) (rw c.name.ensures at c.in_ok-put_line-in-Ok-Some.ensures.ok)))

@@ -14,4 +14,4 @@ pub returns-in_ok-put_list-in-Ok-legal-clause-ok : goal.returns-in_ok-put_list-i
 returns-in_ok-put_list-in-Ok-legal-clause-ok g c =
     let same : c.deref.result.now ≡ legal_moves c.in-Ok.position = search rules in
     replies _ moves_lines c.in-Ok.position _ _ c.in-Ok.ensures.ok c.in-Ok.ensures.position
-      (rw same at c.in_ok-put_list-in-Ok-legal.ensures.ok)
+    (rw same at c.in_ok-put_list-in-Ok-legal.ensures.ok)

@@ -1,4 +1,4 @@
-use Rattle.std.proofs.Common.{rules, ◌≡◌, ℕ, Result, Ok, ap, sym, ◌∙◌, arith}
+use Rattle.std.proofs.Common.{rules, ◌≡◌, ap, sym, ◌∙◌, arith}
 use Rattle.std.specs.Fmt.{decimal}
 use Rattle.fen_text.proofs.CounterLaws.{counter_utf8, counter_parsed}
 use Rattle.fen_text.proofs.counters.read_counter.Goals as goal

@@ -1,4 +1,4 @@
-use Rattle.std.proofs.Common.{◌≡◌, ℕ, List, sym, subst}
+use Rattle.std.proofs.Common.{ℕ, List, sym, subst}
 use Rattle.fen_text.specs.Fen.{SpellsPosition}
 use Rattle.fen_text.proofs.SpellingLaws.{position_one}
 use Rattle.fen_text.proofs.WrittenLaws.{position_spelled}

@@ -1,11 +1,10 @@
-use Rattle.std.proofs.Common.{◌≡◌, ◌+◌, ◌*◌, ◌++◌, List, ℕ, Option, Some, None, eqb, true, false, sym, ap, subst, refl, ◌∙◌, arith, take, get_or, append-nil, append_assoc}
-use Rattle.std.specs.Prelude.{replicate}
+use Rattle.std.proofs.Common.{◌≡◌, ◌+◌, ◌++◌, List, Option, eqb, sym, ap, subst, ◌∙◌, arith, take, get_or, append_assoc}
 use Rattle.std.proofs.lemmas.Bool.{OnTrue_from, OnFalse_from}
 use Rattle.std.proofs.lemmas.Grind.{common_steps}
 use Rattle.std.specs.List.{flat_map}
 use Rattle.board_core.specs.declared.piece.Piece.{Piece}
 use Rattle.fen_text.specs.Placement.{cells_of}
-use Rattle.fen_text.specs.Scan.{fills, IsFilled}
+use Rattle.fen_text.specs.Scan.{IsFilled}
 use Rattle.fen_text.proofs.ScanLaws.{fills_next, fills_stuck, fills_end}
 use Rattle.fen_text.proofs.placement.read_rank.Goals as goal
 

@@ -1,4 +1,4 @@
-use Rattle.std.proofs.Common.{inl, inr, List, ◌+◌, ◌-◌, ◌++◌, Option, Some, None, subst, sym, arith, ◌∙◌}
+use Rattle.std.proofs.Common.{inl, inr, List, ◌+◌, ◌-◌, ◌++◌, Option, Some, subst, sym, arith, ◌∙◌}
 use Rattle.std.specs.Prelude.{slice_set}
 use Rattle.board_core.specs.declared.piece.Piece.{Piece}
 use Rattle.fen_text.specs.Scan.{IsFilled}

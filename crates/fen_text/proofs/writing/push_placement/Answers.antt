@@ -1,6 +1,6 @@
-use Rattle.std.proofs.Common.{◌≡◌, ◌+◌, ◌-◌, ◌++◌, List, ℕ, ap, subst, sym, ◌∙◌, arith, ◌∷◌, []}
+use Rattle.std.proofs.Common.{◌≡◌, ◌+◌, ◌-◌, ◌++◌, List, ℕ, ap, sym, ◌∙◌, arith, ◌∷◌, []}
 use Rattle.fen_text.specs.Placement.{rank_men}
-use Rattle.fen_text.specs.Written.{rank_text, placement_text}
+use Rattle.fen_text.specs.Written.{rank_text}
 use Rattle.fen_text.proofs.PlacementLaws.{left_text, left_all, left_more, left_last}
 use Rattle.fen_text.proofs.writing.push_placement.Goals as goal
 

@@ -1,4 +1,4 @@
-use Rattle.std.proofs.Common.{◌≡◌, ◌++◌, List, ℕ, sym, ap, ◌∙◌}
+use Rattle.std.proofs.Common.{◌++◌, List, ℕ, sym, ap, ◌∙◌}
 use Rattle.fen_text.proofs.WritingLaws.{rank_text_end}
 use Rattle.fen_text.proofs.writing.push_rank.Goals as goal
 

@@ -1,4 +1,4 @@
-use Rattle.std.proofs.Common.{◌≡◌, ◌++◌, List, ℕ, ap, refl, sym, subst, ◌∙◌}
+use Rattle.std.proofs.Common.{◌≡◌, List, ℕ, ap, refl, sym, subst, ◌∙◌}
 use Rattle.std.specs.Fmt.{decimal}
 use Rattle.board_core.specs.declared.parts.Parts.{Parts}
 use Rattle.fen_text.specs.Fields.{side_text, castling_text, en_passant_text}

@@ -1,0 +1,246 @@
+//! The worked rows, the published counts of moves, refusals of words, and writers that fail.
+
+use crate::commands::{Task, parse};
+use crate::replies::{AnswerFault, answer};
+use crate::usage::Usage;
+use board_core::Position;
+use fen_text::{read, read_move};
+use std::alloc::{AllocError, Global};
+use std::io::{self, Write};
+use std::test::*;
+
+const START: &str = "rnbqkbnr/pppppppp/8/8/8/8/PPPPPPPP/RNBQKBNR w KQkq - 0 1";
+
+/// What the program writes for a command and its FEN, and its status.
+fn written(alloc: Global, command: &str, fen: &str) -> Result<(Vec<u8>, u8), Fail> {
+    let words = [command, fen];
+    let task = match parse(alloc, &words) {
+        Ok(task) => task,
+        Err(_) => return Err(Fail::from("a task")),
+    };
+    let mut out = Vec::new(alloc);
+    match answer(alloc, &task, &[], None, &[], &mut out) {
+        Ok(status) => Ok((out, status)),
+        Err(_) => Err(Fail::from("an answer")),
+    }
+}
+
+#[test]
+fn judges_the_worked_rows(rt: HostRuntime) -> Result<(), Fail> {
+    for (fen, text, status) in [
+        ("8/8/8/4k3/8/8/8/K7 w - - 0 1", "TableDraw\n", 0),
+        ("7k/5KQ1/8/8/8/8/8/8 b - - 0 1", "WhiteMates\n", 0),
+        ("7K/5kq1/8/8/8/8/8/8 w - - 0 1", "BlackMates\n", 0),
+        ("7k/5Q2/6K1/8/8/8/8/8 b - - 0 1", "Stalemate\n", 0),
+        ("8/8/8/4k3/8/8/8/KQ6 w - - 0 1", "open\n", 0),
+        ("4k3/8/8/8/8/8/8/4K2R w K - 0 1", "open\n", 0),
+        (
+            "8/8/8/8/8/8/8/K7 w - - 0 1",
+            "refused FEN BadPosition BadKings\n",
+            1,
+        ),
+        ("8/8/8/4k3/8/8/8/KN6 x - - 0 1", "refused FEN BadSide\n", 1),
+        ("8/8/8/4k3/8/8/8/KN6 w - - 0", "refused FEN FieldCount\n", 1),
+        (
+            "8/8/8/4k3/8/8/8/KN5 w - - 0 1",
+            "refused FEN BadPlacement\n",
+            1,
+        ),
+        (
+            "8/8/8/4k3/8/8/8/KN6 w QK - 0 1",
+            "refused FEN BadCastlingText\n",
+            1,
+        ),
+        (
+            "8/8/8/4k3/8/8/8/KN6 w - e9 0 1",
+            "refused FEN BadSquare\n",
+            1,
+        ),
+        (
+            "8/8/8/4k3/8/8/8/KN6 w - - 007 1",
+            "refused FEN BadNumber\n",
+            1,
+        ),
+        (
+            "8/8/8/4k3/8/8/8/KN6 w K - 0 1",
+            "refused FEN BadPosition BadCastling\n",
+            1,
+        ),
+    ] {
+        let (out, told) = written(rt.alloc(), "judge", fen)?;
+        assert_eq!(rt; out.as_slice(), text.as_bytes(), "{fen}");
+        assert_eq!(rt; told, status, "{fen}");
+    }
+    Ok(())
+}
+
+#[test]
+fn lists_the_worked_moves(rt: HostRuntime) -> Result<(), Fail> {
+    for (fen, text) in [
+        (
+            "8/8/8/K2pP2r/8/8/8/7k w - d6 0 1",
+            "a5a4\na5b4\na5b5\na5a6\na5b6\ne5e6\n",
+        ),
+        (
+            "4k3/8/8/8/8/8/5r2/4K2R w K - 0 1",
+            "e1d1\ne1f2\nh1f1\nh1g1\nh1h2\nh1h3\nh1h4\nh1h5\nh1h6\nh1h7\nh1h8\n",
+        ),
+        (
+            "8/P7/8/8/8/8/8/K6k w - - 0 1",
+            "a1b1\na1a2\na1b2\na7a8q\na7a8r\na7a8b\na7a8n\n",
+        ),
+        ("7k/5Q2/6K1/8/8/8/8/8 b - - 0 1", ""),
+    ] {
+        let (out, status) = written(rt.alloc(), "moves", fen)?;
+        assert_eq!(rt; out.as_slice(), text.as_bytes(), "{fen}");
+        assert_eq!(rt; status, 0, "{fen}");
+    }
+    let (out, _) = written(rt.alloc(), "moves", START)?;
+    assert!(rt; out.starts_with(b"b1a3\nb1c3\ng1f3\n"));
+    let (out, status) = written(rt.alloc(), "moves", "8/8/8/8/8/8/8/K7 w - - 0 1")?;
+    assert_eq!(rt;
+        out.as_slice(),
+        "refused FEN BadPosition BadKings\n".as_bytes()
+    );
+    assert_eq!(rt; status, 1);
+    Ok(())
+}
+
+/// The number of ways to play so many moves from a position.
+fn count(alloc: Global, position: &Position, depth: u32) -> Result<u32, AllocError> {
+    if depth == 0 {
+        return Ok(1);
+    }
+    let mut sum = 0u32;
+    for m in position.legal(alloc)?.iter() {
+        if let Some(next) = position.play(*m) {
+            sum = sum.wrapping_add(count(alloc, &next, depth - 1)?);
+        }
+    }
+    Ok(sum)
+}
+
+#[test]
+fn counts_the_published_moves(rt: HostRuntime) -> Result<(), Fail> {
+    for (fen, depth, nodes) in [
+        (START, 1, 20),
+        (START, 2, 400),
+        (START, 3, 8902),
+        (
+            "r3k2r/p1ppqpb1/bn2pnp1/3PN3/1p2P3/2N2Q1p/PPPBBPPP/R3K2R w KQkq - 0 1",
+            1,
+            48,
+        ),
+        (
+            "r3k2r/p1ppqpb1/bn2pnp1/3PN3/1p2P3/2N2Q1p/PPPBBPPP/R3K2R w KQkq - 0 1",
+            2,
+            2039,
+        ),
+        ("8/2p5/3p4/KP5r/1R3p1k/8/4P1P1/8 w - - 0 1", 1, 14),
+        ("8/2p5/3p4/KP5r/1R3p1k/8/4P1P1/8 w - - 0 1", 2, 191),
+        ("8/2p5/3p4/KP5r/1R3p1k/8/4P1P1/8 w - - 0 1", 3, 2812),
+        (
+            "r3k2r/Pppp1ppp/1b3nbN/nP6/BBP1P3/q4N2/Pp1P2PP/R2Q1RK1 w kq - 0 1",
+            1,
+            6,
+        ),
+        (
+            "r3k2r/Pppp1ppp/1b3nbN/nP6/BBP1P3/q4N2/Pp1P2PP/R2Q1RK1 w kq - 0 1",
+            2,
+            264,
+        ),
+        (
+            "rnbq1k1r/pp1Pbppp/2p5/8/2B5/8/PPP1NnPP/RNBQK2R w KQ - 1 8",
+            1,
+            44,
+        ),
+        (
+            "rnbq1k1r/pp1Pbppp/2p5/8/2B5/8/PPP1NnPP/RNBQK2R w KQ - 1 8",
+            2,
+            1486,
+        ),
+        ("r3k2r/8/8/8/8/8/8/R3K2R w KQkq - 0 1", 1, 26),
+    ] {
+        let Ok(position) = read(fen.as_bytes()) else {
+            return Err(Fail::from("a position"));
+        };
+        assert_eq!(rt; count(rt.alloc(), &position, depth)?, nodes, "{fen}");
+    }
+    Ok(())
+}
+
+// White is in check by a pawn other than the one that made the double step.
+#[test]
+fn takes_en_passant_only_where_the_king_is_safe(rt: HostRuntime) -> Result<(), Fail> {
+    let fen = "1R4rr/RN2ppp1/8/pPp3pp/2p1R2K/p1p4P/3ppQNB/2kB2Rr w - c6 3 24";
+    let Ok(position) = read(fen.as_bytes()) else {
+        return Err(Fail::from("a position"));
+    };
+    assert!(rt; position.in_check());
+    let (moves, _) = written(rt.alloc(), "moves", fen)?;
+    assert!(rt; !moves.starts_with(b"b5c6\n"));
+    let Some(m) = read_move(b"b5c6") else {
+        return Err(Fail::from("a move"));
+    };
+    assert!(rt; !position.is_legal(m));
+    Ok(())
+}
+
+#[test]
+fn refuses_misused_words(rt: HostRuntime) {
+    let alloc = rt.alloc();
+    assert!(rt; matches!(parse(alloc, &[]), Err(Usage::Misuse)));
+    assert!(rt; matches!(parse(alloc, &["judge"]), Err(Usage::Misuse)));
+    assert!(rt; matches!(parse(alloc, &["moves"]), Err(Usage::Misuse)));
+    assert!(rt; matches!(parse(alloc, &["probe", START]), Err(Usage::Misuse)));
+    assert!(rt; matches!(parse(alloc, &["--help"]), Err(Usage::Misuse)));
+    assert!(rt; matches!(parse(alloc, &["judge", "--help"]), Err(Usage::Misuse)));
+    assert!(rt; matches!(parse(alloc, &["judge", START, START]), Err(Usage::Misuse)));
+    assert!(rt;
+        matches!(
+            parse(alloc, &["judge", "--tables", "here", START]),
+            Err(Usage::Misuse)
+        )
+    );
+    assert!(rt; matches!(parse(alloc, &["moves", START]), Ok(Task::Moves { fen }) if fen == START));
+    assert!(rt; matches!(parse(alloc, &["judge", START]), Ok(Task::Judge { fen }) if fen == START));
+}
+
+/// A writer that fails at one call.
+#[derive(Drop)]
+struct Failing {
+    calls: u32,
+    fails_at: u32,
+}
+
+impl Write for Failing {
+    fn write(&mut self, buf: &[u8]) -> io::Result<usize> {
+        if self.calls == self.fails_at {
+            return Err(io::Error::from(io::ErrorKind::BrokenPipe));
+        }
+        self.calls = self.calls.wrapping_add(1);
+        Ok(buf.len())
+    }
+
+    fn flush(&mut self) -> io::Result<()> {
+        Ok(())
+    }
+}
+
+#[test]
+fn tells_each_failed_write(rt: HostRuntime) {
+    for fails_at in 0..20u32 {
+        let mut out = Failing { calls: 0, fails_at };
+        let task = Task::Moves { fen: START };
+        let answered = answer(rt.alloc(), &task, &[], None, &[], &mut out);
+        assert!(rt; matches!(answered, Err(AnswerFault::Io)), "{fails_at}");
+    }
+    for fen in ["8/8/8/4k3/8/8/8/K7 w - - 0 1", "no position"] {
+        let mut out = Failing {
+            calls: 0,
+            fails_at: 0,
+        };
+        let answered = answer(rt.alloc(), &Task::Judge { fen }, &[], None, &[], &mut out);
+        assert!(rt; matches!(answered, Err(AnswerFault::Io)), "{fen}");
+    }
+}
