@@ -1,4 +1,4 @@
-use Rattle.std.proofs.Common.{ℕ, ◌≡◌, ◌≢◌, ◌<◌, ◌≤◌, ◌+◌, ◌-◌, ◌⊎◌, List, Option, Some, None, length, set, refl, sym, ap, ◌∙◌, arith, inl, inr, get_or-set_other, get_or-set_same, slice_set}
+use Rattle.std.proofs.Common.{ℕ, ◌≡◌, ◌≢◌, ◌<◌, ◌+◌, List, Option, None, length, set, refl, sym, ◌∙◌, arith, inl, inr, get_or-set_other, get_or-set_same, slice_set}
 use Rattle.std.specs.Int.Bits.{bit_or}
 use Rattle.std.proofs.lemmas.Nat.Bits.{bit_at_or, bit_at-lt}
 use Rattle.std.specs.Int.{bit_at}
@@ -13,7 +13,7 @@ use Rattle.board_core.specs.declared.moves.MoveCase.TheVariants.{Plain}
 use Rattle.board_core.specs.declared.parts.Parts.{Parts}
 use Rattle.board_core.specs.Side.{other}
 use Rattle.board_core.specs.Attack.{man_at, Ray, Reaches, IsAttacked, IsInCheck}
-use Rattle.board_core.specs.Moves.{Stands, IsFree, IsTaken, IsPlain, carried, men_after}
+use Rattle.board_core.specs.Moves.{Stands, IsFree, IsTaken, IsPlain, men_after}
 use Rattle.board_core.specs.Search.{HasAttacked, IsOnlyKing, bared}
 use Rattle.board_core.proofs.Outward.{along_distance}
 use Rattle.board_core.proofs.Sweep.{zero_one, Rests, Rests-between}

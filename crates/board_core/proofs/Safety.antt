@@ -1,5 +1,5 @@
-use Rattle.std.proofs.Common.{ℕ, ◌≡◌, ◌≢◌, ◌<◌, ◌≤◌, ◌+◌, ◌-◌, ◌⊎◌, List, Option, Some, None, length, set, get_or, refl, sym, ap, ◌∙◌, arith, inl, inr, get_or-set_other, get_or-set_same, slice_set}
-use Rattle.std.proofs.lemmas.Bool.{cases_lt, cases_eq}
+use Rattle.std.proofs.Common.{ℕ, ◌≡◌, ◌≢◌, ◌<◌, ◌-◌, ◌⊎◌, List, Option, Some, None, length, set, refl, sym, ap, ◌∙◌, arith, inl, inr, get_or-set_other, get_or-set_same}
+use Rattle.std.proofs.lemmas.Bool.{cases_eq}
 use Rattle.std.proofs.Math.ListN.{length-set}
 use Rattle.board_core.specs.Search.{IsCarry, IsOnlyKing}
 use Rattle.board_core.specs.declared.piece.Piece.{Piece}
@@ -18,8 +18,8 @@ use Rattle.board_core.specs.declared.moves.MoveCase.TheVariants.{Plain, Advance,
 use Rattle.board_core.specs.declared.parts.Parts.{Parts}
 use Rattle.board_core.specs.Side.{other}
 use Rattle.board_core.specs.Attack.{man_at, Along, IsClear, Ray, Reaches, IsAttacked, IsInCheck}
-use Rattle.board_core.specs.Castling.{king_home, rook_home, king_end, rook_end}
-use Rattle.board_core.specs.Moves.{Stands, IsMove, IsLegal, Legal, carried, landed, behind, men_after, after, kind_of}
+use Rattle.board_core.specs.Castling.{rook_home, king_end, rook_end}
+use Rattle.board_core.specs.Moves.{IsMove, IsLegal, carried, landed, behind, men_after, after, kind_of}
 use Rattle.board_core.proofs.Outward.{opposite, along_split, along_rest, along_distance}
 
 abbrev pub some_man : Side → Kind → Option Piece

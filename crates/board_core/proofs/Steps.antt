@@ -1,4 +1,4 @@
-use Rattle.std.proofs.Common.{ℕ, ◌≡◌, ◌≢◌, ◌⊎◌, ◌<◌, ◌+◌, ◌*◌, ◌≤◌, ◌++◌, ◌∷◌, [], List, Option, Some, None, refl, sym, ap, ◌∙◌, arith, inl, inr}
+use Rattle.std.proofs.Common.{ℕ, ◌≡◌, ◌≢◌, ◌<◌, ◌+◌, ◌*◌, ◌++◌, ◌∷◌, [], List, Option, Some, None, refl, sym, ap, ◌∙◌, arith, inl, inr}
 use Rattle.std.specs.Int.{bit_at}
 use Rattle.std.specs.Int.Bits.{bit_and}
 use Rattle.std.proofs.lemmas.Nat.Bits.{bit_at_and, bit_at-lt}
@@ -10,18 +10,18 @@ use Rattle.board_core.specs.declared.moves.Move.{Move}
 use Rattle.board_core.specs.declared.moves.MoveCase.{MoveCase}
 use Rattle.board_core.specs.declared.moves.MoveCase.TheVariants.{Plain, Advance, DoubleStep, PawnCapture, EnPassant, Castle}
 use Rattle.board_core.specs.declared.generation.Which.{Which}
-use Rattle.board_core.specs.declared.generation.Which.TheVariants.{Every, Captures}
+use Rattle.board_core.specs.declared.generation.Which.TheVariants.{Captures}
 use Rattle.board_core.specs.Attack.{Reaches}
 use Rattle.board_core.specs.declared.generation.Survey.{Survey}
 use Rattle.board_core.specs.Side.{other}
-use Rattle.board_core.specs.Moves.{Stands, IsFree, IsTaken, IsMove, IsPlain, IsLegal, IsCapture, place_of, promotion_place}
+use Rattle.board_core.specs.Moves.{Stands, IsFree, IsTaken, IsMove, IsPlain, IsCapture, place_of, promotion_place}
 use Rattle.board_core.specs.Search.{IsListed, IsStep, IsLoose, IsSurvey, HasListedBelow}
 use Rattle.board_core.proofs.Safety.{safe_legal}
 use Rattle.board_core.proofs.Preserved.{way, side_cases}
 use Rattle.board_core.proofs.Surveying.{taken}
 use Rattle.board_core.specs.Attack.{man_at}
 use Rattle.board_core.specs.declared.piece.Side.{Side}
-use Rattle.board_core.proofs.Listing.{HasListedBelow-push, HasListedBelow-skip, promotion_below, same_place}
+use Rattle.board_core.proofs.Listing.{HasListedBelow-push, HasListedBelow-skip, promotion_below}
 
 pub some_same : (a b : ℕ) → Some a ≡ Some b → a ≡ b
 some_same a b e = cc

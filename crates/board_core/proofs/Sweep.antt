@@ -6,8 +6,8 @@ use Rattle.board_core.specs.Search.{HasListedBelow, IsListed}
 use Rattle.board_core.specs.declared.generation.Which.{Which}
 use Rattle.board_core.specs.declared.parts.Parts.{Parts}
 use Rattle.board_core.specs.declared.moves.Move.{Move}
-use Rattle.board_core.specs.Moves.{IsTaken, place_of}
-use Rattle.board_core.proofs.Listing.{promotion_below, HasListedBelow-skip, IsLegal-from, IsLegal-stands}
+use Rattle.board_core.specs.Moves.{IsTaken}
+use Rattle.board_core.proofs.Listing.{promotion_below, HasListedBelow-skip, IsLegal-stands}
 
 -- all squares with this fact from `next` on are in the set, in which no earlier square is
 pub record Rests (Q : ℕ → Type 0) (next set : ℕ) : Type 0 where

@@ -5,8 +5,6 @@ use Rattle.board_core.specs.declared.piece.Side.TheVariants.{White, Black}
 use Rattle.board_core.specs.declared.piece.Kind.{Kind}
 use Rattle.board_core.specs.declared.piece.Kind.TheVariants.{Pawn, Knight, Bishop, Rook, Queen, King}
 use Rattle.board_core.specs.declared.attack.Direction.{Direction}
-use Rattle.board_core.specs.declared.attack.Hop.{Hop}
-use Rattle.board_core.specs.declared.attack.Hop.TheVariants.{EastEastNorth, EastEastSouth, EastNorthNorth, EastSouthSouth, WestWestNorth, WestWestSouth, WestNorthNorth, WestSouthSouth}
 use Rattle.board_core.specs.declared.attack.Direction.TheVariants.{North, South, East, West, NorthEast, NorthWest, SouthEast, SouthWest}
 use Rattle.board_core.specs.Side.{other}
 use Rattle.board_core.specs.Square.{file_of, rank_of, apart}

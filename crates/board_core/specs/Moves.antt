@@ -11,7 +11,6 @@ use Rattle.board_core.specs.declared.piece.Wing.TheVariants.{KingSide, QueenSide
 use Rattle.board_core.specs.declared.parts.Rights.{Rights}
 use Rattle.board_core.specs.declared.parts.Parts.{Parts}
 use Rattle.board_core.specs.declared.moves.Move.{Move}
-use Rattle.board_core.specs.declared.generation.Guard.{Guard}
 use Rattle.board_core.specs.declared.moves.MoveCase.{MoveCase}
 use Rattle.board_core.specs.declared.moves.MoveCase.TheVariants.{Plain, Advance, DoubleStep, PawnCapture, EnPassant, Castle}
 use Rattle.board_core.specs.Side.{other}

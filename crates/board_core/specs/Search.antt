@@ -1,15 +1,9 @@
 -- What the search for attacks and for legal moves says of its steps; no public contract cites these.
-use Rattle.std.specs.Prelude.{◌≡◌, ◌≢◌, ℕ, ◌+◌, ◌-◌, ◌<◌, ◌≤◌, ◌⊎◌, ◌==◌, ◌&&◌, Bool, IsTrue, not, min, List, Option, Some, None, is_some, if◌then◌else◌, slice_set, ◌*◌, All, AllPairs, Contains, IfSome}
+use Rattle.std.specs.Prelude.{◌≡◌, ℕ, ◌+◌, ◌<◌, ◌≤◌, IsTrue, List, Option, Some, None, slice_set, All, AllPairs, Contains, IfSome}
 use Rattle.board_core.specs.declared.piece.Piece.{Piece}
 use Rattle.board_core.specs.declared.piece.Side.{Side}
-use Rattle.board_core.specs.declared.piece.Side.TheVariants.{White, Black}
 use Rattle.board_core.specs.declared.piece.Kind.{Kind}
-use Rattle.board_core.specs.declared.piece.Kind.TheVariants.{Pawn, Knight, Bishop, Rook, Queen, King}
-use Rattle.board_core.specs.declared.piece.Promotion.{Promotion}
-use Rattle.board_core.specs.declared.piece.Promotion.TheVariants.{Queen as ToQueen, Rook as ToRook, Bishop as ToBishop, Knight as ToKnight}
-use Rattle.board_core.specs.declared.piece.Wing.{Wing}
-use Rattle.board_core.specs.declared.piece.Wing.TheVariants.{KingSide, QueenSide}
-use Rattle.board_core.specs.declared.parts.Rights.{Rights}
+use Rattle.board_core.specs.declared.piece.Kind.TheVariants.{Knight, King}
 use Rattle.board_core.specs.declared.parts.Parts.{Parts}
 use Rattle.board_core.specs.declared.moves.Move.{Move}
 use Rattle.board_core.specs.declared.generation.Guard.{Guard}
@@ -17,8 +11,7 @@ use Rattle.board_core.specs.declared.moves.MoveCase.{MoveCase}
 use Rattle.board_core.specs.declared.moves.MoveCase.TheVariants.{Plain, Advance, DoubleStep, PawnCapture, EnPassant, Castle}
 use Rattle.board_core.specs.Side.{other}
 use Rattle.board_core.specs.Square.{rank_of}
-use Rattle.board_core.specs.Attack.{man_at, Along, IsClear, Reaches, IsPawnAttack, IsAttacked, IsInCheck, forward}
-use Rattle.board_core.specs.Castling.{has_right, king_home, rook_home, king_end, rook_end}
+use Rattle.board_core.specs.Attack.{man_at, Along, IsClear, Reaches, IsAttacked, IsInCheck}
 use Rattle.std.specs.Int.{bit_at}
 use Rattle.board_core.specs.declared.generation.Which.{Which}
 use Rattle.board_core.specs.declared.generation.Which.TheVariants.{Every, Captures}

@@ -1,7 +1,7 @@
-ghost use Rattle.std.specs.Prelude.{◌≡◌, ◌≢◌, ◌<◌, ◌↔◌, ◌+◌, ◌*◌, ◌⊎◌, ℕ, [], IsTrue, IfOk, OnOk, IfSome, filter, Some, None};
+ghost use Rattle.std.specs.Prelude.{◌≡◌, ◌≢◌, ◌<◌, ◌↔◌, ◌+◌, ◌*◌, ℕ, [], IsTrue, IfOk, OnOk, filter, Some, None};
 ghost use Rattle.std.specs.Int.{bit_at};
-ghost use Rattle.board_core.specs.Attack.{IsAttacked, IsInCheck, Reaches};
-ghost use Rattle.board_core.specs.Moves.{Stands, IsFree, IsTaken, IsMove, IsCapture, Lists, HasLegal, HasLegalCaptures, place_of, men_after, last_rank};
+ghost use Rattle.board_core.specs.Attack.{IsInCheck, Reaches};
+ghost use Rattle.board_core.specs.Moves.{Stands, IsFree, IsTaken, IsMove, Lists, HasLegal, HasLegalCaptures, place_of, men_after, last_rank};
 ghost use Rattle.board_core.specs.ComputedMoves.{is_capture, legal_moves};
 ghost use Rattle.board_core.specs.Search.{HasListedBelow, IsCarry, IsGuard, IsListed, IsLoose, IsStep, IsSurvey, IsWanted, IsKnown, HasAttacked, bared};
 ghost use Rattle.board_core.specs.Side.{other};

@@ -1,11 +1,9 @@
-ghost use Rattle.std.specs.Prelude.{◌≡◌, ◌≢◌, ◌<◌, ◌≤◌, ◌↔◌, ◌+◌, ◌-◌, ℕ, IsTrue, IfSome, IfNone, IfOk, OnOk, ◌*◌, Option, slice_set, is_some};
-ghost use Rattle.board_core.specs.Search.{IsCarry, IsGuard, IsInside, IsOnlyKing};
-ghost use Rattle.board_core.specs.Attack.{Along, IsAttacked, man_at, forward, IsInCheck};
-ghost use Rattle.board_core.specs.Moves.{Stands, IsFree, IsTaken, Promotes, IsPlain, IsAdvance, IsDoubleStep, IsPawnCapture, IsEnPassant, IsCastle, IsMove, Legal, IsLegal, HasLegal, place_of, after, rights_after, keeps_right, en_passant_after, halfmove_after, behind, one_more, kind_of, first_rank, last_rank, IsBetween, IsOnWay, carried, landed, men_after, fullmove_after};
-ghost use Rattle.std.specs.Int.{bit_at};
+ghost use Rattle.std.specs.Prelude.{◌≡◌, ◌<◌, ◌↔◌, ◌+◌, ◌-◌, IsTrue, IfSome, Option};
+ghost use Rattle.board_core.specs.Search.{IsInside};
+ghost use Rattle.board_core.specs.Attack.{forward};
+ghost use Rattle.board_core.specs.Moves.{IsMove, Legal, IsLegal, after, rights_after, keeps_right, en_passant_after, halfmove_after, behind, one_more, kind_of, carried, landed, men_after, fullmove_after};
 ghost use Rattle.board_core.specs.Side.{other};
-ghost use Rattle.board_core.specs.Square.{rank_of};
-ghost use Rattle.board_core.specs.Castling.{king_home, rook_home, king_end};
+ghost use Rattle.board_core.specs.Castling.{king_home, rook_home};
 ghost use Rattle.board_core.specs.ComputedMoves.{position_after, is_legal};
 
 use crate::moves::{Move, MoveCase};

@@ -1,4 +1,4 @@
-ghost use Rattle.std.specs.Prelude.{◌≡◌, ◌<◌, ◌↔◌, ◌/◌, ◌%◌, ◌+◌, ◌-◌, ℕ, IsSome, IfSome};
+ghost use Rattle.std.specs.Prelude.{◌≡◌, ◌<◌, ◌↔◌, ◌/◌, ◌%◌, ◌-◌, ℕ, IsSome, IfSome};
 ghost use Rattle.board_core.specs.Square.{file_of, rank_of};
 
 use std::marker::Model;

@@ -1,8 +1,8 @@
-ghost use Rattle.std.specs.Prelude.{◌≡◌, ◌≢◌, ◌<◌, ◌≤◌, ◌↔◌, ◌+◌, ◌-◌, ◌⊎◌, ℕ, IsTrue, Some, None};
+ghost use Rattle.std.specs.Prelude.{◌≡◌, ◌≢◌, ◌<◌, ◌↔◌, ◌+◌, ◌-◌, ◌⊎◌, ℕ, IsTrue, Some, None};
 ghost use Rattle.std.specs.Int.{bit_at};
-ghost use Rattle.board_core.specs.Search.{IsHop, IsInside, IsRayEnd};
-ghost use Rattle.board_core.specs.Attack.{Along, IsClear, IsStraight, IsDiagonal, Ray, IsKingStep, IsKnightStep, IsPawnAttack, Reaches, forward, man_at};
-ghost use Rattle.board_core.specs.Moves.{Stands, IsFree, IsTaken, IsLegal, IsMove};
+ghost use Rattle.board_core.specs.Search.{IsHop, IsRayEnd};
+ghost use Rattle.board_core.specs.Attack.{Along, IsClear, IsStraight, IsDiagonal, IsKingStep, IsKnightStep, IsPawnAttack, Reaches, forward, man_at};
+ghost use Rattle.board_core.specs.Moves.{Stands, IsFree, IsTaken, IsLegal};
 ghost use Rattle.board_core.specs.Castling.{has_right, king_end};
 ghost use Rattle.board_core.specs.declared.moves.Move.{Move};
 ghost use Rattle.board_core.specs.Side.{other};

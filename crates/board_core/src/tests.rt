@@ -42,12 +42,6 @@ fn parts_of(letters: &[u8; 64]) -> Parts {
     }
 }
 
-fn square(number: u8) -> Square
-    requires { number < 64 }
-{
-    Square::at(number)
-}
-
 const KINGS: &[u8; 64] = b"....K.......................................................k...";
 
 const START: &[u8; 64] = b"RNBQKBNRPPPPPPPP................................pppppppprnbqkbnr";
@@ -64,20 +58,20 @@ fn tells_the_first_fault(rt: HostRuntime) {
     let open = parts_of(b"....K..............................R........................kR..");
     let mut late = parts_of(KINGS);
     late.fullmove = 10000;
-    for (parts, fault, name) in [
-        (empty, PositionFault::BadKings, "BadKings"),
-        (crowd, PositionFault::TooManyMen, "TooManyMen"),
-        (edge, PositionFault::PawnOnEdge, "PawnOnEdge"),
-        (castling, PositionFault::BadCastling, "BadCastling"),
-        (passed, PositionFault::BadEnPassant, "BadEnPassant"),
-        (open, PositionFault::OpponentInCheck, "OpponentInCheck"),
-        (late, PositionFault::BadCounter, "BadCounter"),
+    for (parts, fault) in [
+        (empty, PositionFault::BadKings),
+        (crowd, PositionFault::TooManyMen),
+        (edge, PositionFault::PawnOnEdge),
+        (castling, PositionFault::BadCastling),
+        (passed, PositionFault::BadEnPassant),
+        (open, PositionFault::OpponentInCheck),
+        (late, PositionFault::BadCounter),
     ] {
         assert!(rt;
             matches!(Position::new(parts), Err(told) if told == fault),
-            "{name}"
+            "{}",
+            fault.name()
         );
-        assert_eq!(rt; fault.name(), name);
     }
 }
 
@@ -98,12 +92,12 @@ fn reads_the_parts(rt: HostRuntime) -> Result<(), Fail> {
     assert_eq!(rt; start.halfmove(), 3);
     assert_eq!(rt; start.fullmove(), 1);
     assert!(rt; !start.in_check());
-    assert!(rt; start.piece_at(square(60)) == piece_of(b'k'));
+    assert!(rt; start.piece_at(Square::at(60)) == piece_of(b'k'));
     assert!(rt; start.parts().men[3] == piece_of(b'Q'));
     assert!(rt; Square::new(64).is_none());
-    assert_eq!(rt; square(35).file(), 3);
-    assert_eq!(rt; square(35).rank(), 4);
-    assert_eq!(rt; square(35).number(), 35);
+    assert_eq!(rt; Square::at(35).file(), 3);
+    assert_eq!(rt; Square::at(35).rank(), 4);
+    assert_eq!(rt; Square::at(35).number(), 35);
     Ok(())
 }
 
@@ -116,8 +110,8 @@ fn lists_and_plays(rt: HostRuntime) -> Result<(), Fail> {
     assert_eq!(rt; moves.len(), 20);
     assert!(rt; start.captures(rt.alloc())?.is_empty());
     let double = Move {
-        from: square(12),
-        to: square(28),
+        from: Square::at(12),
+        to: Square::at(28),
         promotion: None,
     };
     assert!(rt; start.is_legal(double));
@@ -127,8 +121,8 @@ fn lists_and_plays(rt: HostRuntime) -> Result<(), Fail> {
     assert!(rt; next.en_passant() == Square::new(20));
     assert!(rt; next.side() == Side::Black);
     let back = Move {
-        from: square(28),
-        to: square(12),
+        from: Square::at(28),
+        to: Square::at(12),
         promotion: None,
     };
     assert!(rt; !next.is_legal(back));

@@ -1,4 +1,4 @@
-use Rattle.std.proofs.Common.{arith, rules, refl, Some, None, ◌≡◌}
+use Rattle.std.proofs.Common.{arith, rules, refl, Some, None}
 use Rattle.board_core.specs.Moves.{IsMove}
 use Rattle.board_core.proofs.Listing.{HasListedBelow-push, HasListedBelow-skip, same_place}
 use Rattle.board_core.proofs.Safety.{safe_legal, legal_safe, same_case, no_case}

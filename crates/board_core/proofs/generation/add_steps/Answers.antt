@@ -1,6 +1,5 @@
-use Rattle.std.proofs.Common.{arith, rules, ◌≡◌, ◌∙◌, sym, inl, inr}
-use Rattle.std.proofs.lemmas.Bool.{cases_eq}
-use Rattle.board_core.proofs.Sweep.{Targets-below, Targets-none, Rests-without, Rests-next, rest_of}
+use Rattle.std.proofs.Common.{arith}
+use Rattle.board_core.proofs.Sweep.{Targets-below, Targets-none, Rests-without, rest_of}
 use Rattle.board_core.proofs.Steps.{step_pushed}
 use Rattle.board_core.proofs.generation.add_steps.Goals as goal
 

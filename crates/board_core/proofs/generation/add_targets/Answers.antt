@@ -1,5 +1,5 @@
 use Rattle.std.proofs.Common.{arith, rules}
-use Rattle.board_core.proofs.Sweep.{Targets-below, Targets-none, Rests-without, Rests-next}
+use Rattle.board_core.proofs.Sweep.{Targets-below, Targets-none, Rests-without}
 use Rattle.board_core.proofs.generation.add_targets.Goals as goal
 
 pub add_between-requires-clause-below : goal.add_between-requires-clause-below

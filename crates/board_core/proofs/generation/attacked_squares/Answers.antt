@@ -1,7 +1,6 @@
-use Rattle.std.proofs.Common.{arith, rules, ◌≡◌, ◌≢◌, ◌<◌, ℕ, Some, None, sym, ◌∙◌, inl, inr, refl}
+use Rattle.std.proofs.Common.{arith, inl, inr}
 use Rattle.std.proofs.lemmas.Bool.{cases_lt}
-use Rattle.std.proofs.lemmas.Nat.Bits.{bit_at_or, bit_at-lt}
-use Rattle.board_core.proofs.Sweep.{Rests-without, Rests-next, Rests-between, Rests-empty}
+use Rattle.board_core.proofs.Sweep.{Rests-without, Rests-empty}
 use Rattle.board_core.proofs.Danger.{Covers-all, Covers-more}
 use Rattle.board_core.proofs.generation.attacked_squares.Goals as goal
 

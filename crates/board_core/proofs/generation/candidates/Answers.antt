@@ -1,4 +1,4 @@
-use Rattle.std.proofs.Common.{rules, ◌≡◌, Some, None, sym, ◌∙◌}
+use Rattle.std.proofs.Common.{sym, ◌∙◌}
 use Rattle.board_core.proofs.Steps.{capture_whole, some_same}
 use Rattle.board_core.proofs.generation.candidates.Goals as goal
 

@@ -1,4 +1,4 @@
-use Rattle.std.proofs.Common.{arith, rules}
+use Rattle.std.proofs.Common.{arith}
 use Rattle.board_core.specs.declared.piece.Kind.TheVariants.{King}
 use Rattle.board_core.proofs.Danger.{attack_bared, bared_free}
 use Rattle.board_core.proofs.generation.guard_of.Goals as goal

@@ -1,4 +1,3 @@
-use Rattle.std.proofs.Common.{rules}
 use Rattle.board_core.proofs.Listing.{Lists-every}
 use Rattle.board_core.proofs.ComputedLists.{listed}
 use Rattle.board_core.proofs.generation.legal.Goals as goal

@@ -1,6 +1,6 @@
-use Rattle.std.proofs.Common.{arith, rules}
+use Rattle.std.proofs.Common.{arith}
 use Rattle.board_core.proofs.Listing.{Lists-all}
-use Rattle.board_core.proofs.Sweep.{Movers-below, Movers-none, Rests-without}
+use Rattle.board_core.proofs.Sweep.{Movers-below, Movers-none}
 use Rattle.board_core.proofs.generation.listed.Goals as goal
 
 pub add_from-requires-clause-below : goal.add_from-requires-clause-below

@@ -1,4 +1,4 @@
-use Rattle.std.proofs.Common.{ℕ, ◌*◌, ◌-◌}
+use Rattle.std.proofs.Common.{◌*◌, ◌-◌}
 use Rattle.board_core.specs.Moves.{IsTaken}
 use Rattle.board_core.specs.Search.{HasListedBelow, IsKnown}
 use Rattle.board_core.proofs.Sweep.{Rests}

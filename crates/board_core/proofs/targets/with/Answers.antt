@@ -1,4 +1,4 @@
-use Rattle.std.proofs.Common.{arith, inl, inr, ◌∙◌, ◌≡◌, w64}
+use Rattle.std.proofs.Common.{arith, inl, inr, ◌∙◌, w64}
 use Rattle.std.proofs.lemmas.Bool.{cases_eq}
 use Rattle.std.proofs.lemmas.Nat.Bits.{bit_at_set_same, bit_at_set_other}
 use Rattle.board_core.proofs.targets.with.Goals as goal

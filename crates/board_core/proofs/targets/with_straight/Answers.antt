@@ -1,4 +1,4 @@
-use Rattle.std.proofs.Common.{◌≡◌, ℕ, ◌<◌}
+use Rattle.std.proofs.Common.{◌≡◌, ◌<◌}
 use Rattle.std.specs.Int.{bit_at}
 use Rattle.board_core.specs.Attack.{Along, IsClear, IsStraight}
 use Rattle.board_core.specs.Moves.{IsFree}
