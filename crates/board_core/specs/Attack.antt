@@ -1,3 +1,5 @@
+-- How men attack squares (FIDE Laws of Chess, article 3), as relations over the map from squares to men:
+-- steps, and rays over empty squares.
 use Rattle.std.specs.Prelude.{◌≡◌, ◌≢◌, ℕ, ◌+◌, ◌<◌, ◌≤◌, ◌⊎◌, List, Option, Some, None, slice_index_or}
 use Rattle.board_core.specs.declared.piece.Piece.{Piece}
 use Rattle.board_core.specs.declared.piece.Side.{Side}
@@ -9,7 +11,7 @@ use Rattle.board_core.specs.declared.attack.Direction.TheVariants.{North, South,
 use Rattle.board_core.specs.Side.{other}
 use Rattle.board_core.specs.Square.{file_of, rank_of, apart}
 
--- the man on a square; outside the board there is none
+-- the man on a square; outside the board there is none: the men of a position as a finite map
 abbrev pub man_at : List (Option Piece) → ℕ → Option Piece
 man_at men s = slice_index_or men s None
 
@@ -28,7 +30,7 @@ Along SouthWest n from to = (file_of to + n ≡ file_of from) × (rank_of to + n
 abbrev pub IsClear : List (Option Piece) → Direction → ℕ → ℕ → Type 0
 IsClear men d n from = (k s : ℕ) → 0 < k → k < n → Along d k from s → man_at men s ≡ None
 
--- the directions along ranks and files, and those along diagonals
+-- the directions along files and ranks, and those along diagonals (FIDE article 2.4)
 abbrev pub IsStraight : Direction → Type 0
 IsStraight North = Unit {0}
 IsStraight South = Unit {0}
@@ -49,7 +51,7 @@ IsDiagonal NorthWest = Unit {0}
 IsDiagonal SouthEast = Unit {0}
 IsDiagonal SouthWest = Unit {0}
 
--- the directions in which a kind of man goes any distance
+-- the directions in which a kind of man goes any distance (FIDE articles 3.2 to 3.4)
 abbrev pub Goes : Kind → Direction → Type 0
 Goes Pawn d = ⊥
 Goes Knight d = ⊥
@@ -58,7 +60,7 @@ Goes Rook d = IsStraight d
 Goes Queen d = Unit {0}
 Goes King d = ⊥
 
--- a man of this kind on `from` reaches `to` along a line over empty squares
+-- a man of this kind on `from` reaches `to` along a line over empty squares (FIDE article 3.5)
 pub record Ray (men : List (Option Piece)) (kind : Kind) (from to : ℕ) : Type 0 where
   pub direction : Direction
   pub distance : ℕ
@@ -67,23 +69,25 @@ pub record Ray (men : List (Option Piece)) (kind : Kind) (from to : ℕ) : Type 
   pub along : Along direction distance from to
   pub clear : IsClear men direction distance from
 
+-- to an adjoining square (FIDE article 3.8.1)
 abbrev pub IsKingStep : ℕ → ℕ → Type 0
 IsKingStep from to =
     (from ≢ to) × (apart (file_of from) (file_of to) ≤ 1) × (apart (rank_of from) (rank_of to) ≤ 1)
 
+-- to one of the nearest squares not on the same rank, file or diagonal (FIDE article 3.6)
 abbrev pub IsKnightStep : ℕ → ℕ → Type 0
 IsKnightStep from to =
     ((apart (file_of from) (file_of to) ≡ 1) × (apart (rank_of from) (rank_of to) ≡ 2))
     ⊎ ((apart (file_of from) (file_of to) ≡ 2) × (apart (rank_of from) (rank_of to) ≡ 1))
 
--- a pawn attacks the two squares diagonally before it
+-- a pawn attacks the two squares diagonally before it (FIDE article 3.7.3)
 abbrev pub IsPawnAttack : Side → ℕ → ℕ → Type 0
 IsPawnAttack White from to =
     (apart (file_of from) (file_of to) ≡ 1) × (rank_of to ≡ rank_of from + 1)
 IsPawnAttack Black from to =
     (apart (file_of from) (file_of to) ≡ 1) × (rank_of to + 1 ≡ rank_of from)
 
--- the man, standing on `from`, attacks `to`
+-- a man of this side and kind on `from` attacks `to` (FIDE article 3.1.2)
 abbrev pub Reaches : List (Option Piece) → Side → Kind → ℕ → ℕ → Type 0
 Reaches men side Pawn from to = IsPawnAttack side from to
 Reaches men side Knight from to = IsKnightStep from to
@@ -92,7 +96,7 @@ Reaches men side Rook from to = Ray men Rook from to
 Reaches men side Queen from to = Ray men Queen from to
 Reaches men side King from to = IsKingStep from to
 
--- some man of this side attacks the square
+-- some man of this side attacks the square, whether or not it could move there (FIDE article 3.1.3)
 pub record IsAttacked (men : List (Option Piece)) (by : Side) (to : ℕ) : Type 0 where
   pub from : ℕ
   pub kind : Kind
@@ -100,14 +104,14 @@ pub record IsAttacked (men : List (Option Piece)) (by : Side) (to : ℕ) : Type 
   pub stands : man_at men from ≡ Some (record { side = by; kind = kind })
   pub reaches : Reaches men by kind from to
 
--- a king of this side is attacked
+-- a king of this side is attacked: check (FIDE article 3.9.1)
 pub record IsInCheck (men : List (Option Piece)) (side : Side) : Type 0 where
   pub king : ℕ
   pub on_board : king < 64
   pub stands : man_at men king ≡ Some (record { side = side; kind = King })
   pub attacked : IsAttacked men (other side) king
 
--- the direction in which the pawns of a side go
+-- the direction in which the pawns of a side go (FIDE article 3.7.1)
 abbrev pub forward : Side → Direction
 forward White = North
 forward Black = South

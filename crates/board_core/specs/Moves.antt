@@ -1,3 +1,5 @@
+-- Legal moves (FIDE Laws of Chess, article 3): a relation between a position, a move and the position after
+-- it, by cases.
 use Rattle.std.specs.Prelude.{◌≡◌, ◌≢◌, ℕ, ◌+◌, ◌-◌, ◌<◌, ◌≤◌, ◌⊎◌, ◌==◌, ◌&&◌, Bool, IsTrue, not, min, List, Option, Some, None, is_some, if◌then◌else◌, slice_set, ◌*◌, All, AllPairs, Contains}
 use Rattle.board_core.specs.declared.piece.Piece.{Piece}
 use Rattle.board_core.specs.declared.piece.Side.{Side}
@@ -30,7 +32,7 @@ IsFree men side s = (kind : Kind) → Stands men s side kind → ⊥
 abbrev pub IsTaken : List (Option Piece) → Side → ℕ → Type 0
 IsTaken men side s = (kind : Kind) × Stands men s side kind
 
--- the rank from which a pawn may go two squares, and the one on which it is promoted
+-- the rank from which a pawn may go two squares, and the one on which it is promoted (ranks count from 0)
 abbrev pub first_rank : Side → ℕ
 first_rank White = 1
 first_rank Black = 6
@@ -39,11 +41,11 @@ abbrev pub last_rank : Side → ℕ
 last_rank White = 7
 last_rank Black = 0
 
--- a promotion is named exactly where the pawn reaches its last rank
+-- a promotion is named exactly where the pawn reaches its last rank (FIDE article 3.7.3.3)
 abbrev pub Promotes : Side → Move → Type 0
 Promotes side m = (m.promotion ≡ None → rank_of m.to ≡ last_rank side → ⊥) × ((k : Promotion) → m.promotion ≡ Some k → rank_of m.to ≡ last_rank side)
 
--- a step or a ray of a man other than a pawn
+-- a step or a ray of a man other than a pawn, to a square that is empty or the opponent's (FIDE articles 3.1 to 3.6, 3.8.1)
 pub record IsPlain (p : Parts) (m : Move) : Type 0 where
   pub kind : Kind
   pub no_pawn : kind ≢ Pawn
@@ -52,12 +54,14 @@ pub record IsPlain (p : Parts) (m : Move) : Type 0 where
   pub free : IsFree p.men p.side m.to
   pub whole : m.promotion ≡ None
 
+-- a pawn goes to the empty square before it (FIDE article 3.7.1)
 pub record IsAdvance (p : Parts) (m : Move) : Type 0 where
   pub stands : Stands p.men m.from p.side Pawn
   pub ahead : Along (forward p.side) 1 m.from m.to
   pub empty : man_at p.men m.to ≡ None
   pub promotes : Promotes p.side m
 
+-- or, from where it began, two squares ahead over empty ones (FIDE article 3.7.2)
 pub record IsDoubleStep (p : Parts) (m : Move) : Type 0 where
   pub stands : Stands p.men m.from p.side Pawn
   pub home : rank_of m.from ≡ first_rank p.side
@@ -66,12 +70,14 @@ pub record IsDoubleStep (p : Parts) (m : Move) : Type 0 where
   pub empty : man_at p.men m.to ≡ None
   pub whole : m.promotion ≡ None
 
+-- a pawn takes a man of the opponent diagonally before it (FIDE article 3.7.3)
 pub record IsPawnCapture (p : Parts) (m : Move) : Type 0 where
   pub stands : Stands p.men m.from p.side Pawn
   pub attacks : IsPawnAttack p.side m.from m.to
   pub enemy : IsTaken p.men (other p.side) m.to
   pub promotes : Promotes p.side m
 
+-- a pawn takes one that passed the square by a double step in the move before (FIDE article 3.7.3.1)
 pub record IsEnPassant (p : Parts) (m : Move) : Type 0 where
   pub stands : Stands p.men m.from p.side Pawn
   pub attacks : IsPawnAttack p.side m.from m.to
@@ -86,6 +92,8 @@ IsBetween a s b = ((a < s) × (s < b)) ⊎ ((b < s) × (s < a))
 abbrev pub IsOnWay : ℕ → ℕ → ℕ → Type 0
 IsOnWay a s b = ((a ≤ s) × (s ≤ b)) ⊎ ((b ≤ s) × (s ≤ a))
 
+-- king and rook castle: the right is there, the squares between them are empty, and no square from where
+-- the king stands to where it goes is attacked (FIDE articles 3.8.2 to 3.8.2.2)
 pub record IsCastle (p : Parts) (m : Move) (wing : Wing) : Type 0 where
   pub stands : Stands p.men m.from p.side King
   pub right : IsTrue (has_right p.rights p.side wing)
@@ -95,6 +103,7 @@ pub record IsCastle (p : Parts) (m : Move) (wing : Wing) : Type 0 where
   pub safe : (s : ℕ) → IsOnWay (king_home p.side) s (king_end p.side wing) → IsAttacked p.men (other p.side) s → ⊥
   pub whole : m.promotion ≡ None
 
+-- the rule of each case
 abbrev pub IsMove : Parts → Move → MoveCase → Type 0
 IsMove p m Plain = IsPlain p m
 IsMove p m Advance = IsAdvance p m
@@ -114,6 +123,7 @@ abbrev pub landed : Side → Option Piece → Option Promotion → Option Piece
 landed side man None = man
 landed side man (Some k) = Some (record { side = side; kind = kind_of k })
 
+-- a man leaves one square and this one stands on another
 abbrev pub carried : List (Option Piece) → ℕ → ℕ → Option Piece → List (Option Piece)
 carried men from to man = slice_set (slice_set men from None) to man
 
@@ -122,6 +132,7 @@ abbrev pub behind : Side → ℕ → ℕ
 behind White s = s - 8
 behind Black s = s + 8
 
+-- where the men stand after the move
 abbrev pub men_after : Parts → Move → MoveCase → List (Option Piece)
 men_after p m Plain = carried p.men m.from m.to (man_at p.men m.from)
 men_after p m Advance = carried p.men m.from m.to (landed p.side (man_at p.men m.from) m.promotion)
@@ -131,7 +142,7 @@ men_after p m EnPassant = slice_set (carried p.men m.from m.to (man_at p.men m.f
 men_after p m (Castle wing) =
     carried (carried p.men m.from m.to (man_at p.men m.from)) (rook_home p.side wing) (rook_end p.side wing) (Some (record { side = p.side; kind = Rook }))
 
--- a right is lost when its king or its rook moves, or its rook is taken at home
+-- a right is lost when its king or its rook moves, or its rook is taken at home (FIDE article 3.8.2.1)
 abbrev pub keeps_right : Parts → Move → Side → Wing → Bool
 keeps_right p m side wing =
     has_right p.rights side wing && not (m.from == king_home side) && not (m.from == rook_home side wing) && not (m.to == rook_home side wing)
@@ -144,6 +155,7 @@ rights_after p m = record {
   black_queen = keeps_right p m Black QueenSide;
 }
 
+-- a double step sets the square that it passed, and any other move clears it
 abbrev pub en_passant_after : Parts → Move → MoveCase → Option ℕ
 en_passant_after p m Plain = None
 en_passant_after p m Advance = None
@@ -152,9 +164,11 @@ en_passant_after p m PawnCapture = None
 en_passant_after p m EnPassant = None
 en_passant_after p m (Castle wing) = None
 
+-- a counter goes up to 9999 and stays there
 abbrev pub one_more : ℕ → ℕ
 one_more n = min (n + 1) 9999
 
+-- the halfmove clock begins anew at a capture or a pawn move (PGN standard, section 16.1.3.5)
 abbrev pub halfmove_after : Parts → Move → MoveCase → ℕ
 halfmove_after p m Plain = if is_some (man_at p.men m.to) then 0 else one_more p.halfmove
 halfmove_after p m Advance = 0
@@ -163,10 +177,12 @@ halfmove_after p m PawnCapture = 0
 halfmove_after p m EnPassant = 0
 halfmove_after p m (Castle wing) = one_more p.halfmove
 
+-- the fullmove number goes up after a move of black (PGN standard, section 16.1.3.6)
 abbrev pub fullmove_after : Side → ℕ → ℕ
 fullmove_after White n = n
 fullmove_after Black n = one_more n
 
+-- the position after a move of this case
 unfoldable pub after : Parts → Move → MoveCase → Parts
 after p m c = record {
   men = men_after p m c;
@@ -177,7 +193,8 @@ after p m c = record {
   fullmove = fullmove_after p.side p.fullmove;
 }
 
--- m is a legal move of p, and q is the position after it
+-- m is a legal move of p, and q is the position after it: some case's rule allows it, and it does not leave
+-- the mover's king attacked (FIDE article 3.9.2)
 pub record Legal (p : Parts) (m : Move) (q : Parts) : Type 0 where
   pub case : MoveCase
   pub from_board : m.from < 64

@@ -1,3 +1,5 @@
+-- Positions (FIDE Laws of Chess, article 3; PGN standard, section 16.1 for the counters): the parts under
+-- seven conditions.
 use Rattle.std.specs.Prelude.{◌≡◌, ℕ, ◌<◌, ◌≤◌, ◌&&◌, Bool, true, false, IsTrue, List, Option, Some, None, count_by, length, codes}
 use Rattle.board_core.specs.declared.piece.Piece.{Piece}
 use Rattle.board_core.specs.declared.piece.Side.{Side}
@@ -39,16 +41,19 @@ abbrev pub is_king_of : Side → Option Piece → Bool
 is_king_of side None = false
 is_king_of side (Some man) = is_same_side side man.side && is_king man.kind
 
+-- 1: each side has exactly one king
 abbrev pub HasOneKingEach : List (Option Piece) → Type 0
 HasOneKingEach men = (count_by (is_king_of White) men ≡ 1) × (count_by (is_king_of Black) men ≡ 1)
 
+-- 2: a side has at most 16 men
 abbrev pub HasFewMen : List (Option Piece) → Type 0
 HasFewMen men = (count_by (is_of White) men ≤ 16) × (count_by (is_of Black) men ≤ 16)
 
+-- 3: no pawn stands on the first or the eighth rank
 abbrev pub HasNoPawnOnEdge : List (Option Piece) → Type 0
 HasNoPawnOnEdge men = (s : ℕ) (side : Side) → s < 64 → Stands men s side Pawn → (0 < rank_of s) × (rank_of s < 7)
 
--- a right stands only while its king and its rook stand at home
+-- 4: a right stands only while its king and its rook stand at home
 abbrev pub IsRightHonest : Parts → Side → Wing → Type 0
 IsRightHonest p side wing =
     IsTrue (has_right p.rights side wing) → Stands p.men (king_home side) side King × Stands p.men (rook_home side wing) side Rook
@@ -57,12 +62,12 @@ abbrev pub HasHonestRights : Parts → Type 0
 HasHonestRights p =
     IsRightHonest p White KingSide × IsRightHonest p White QueenSide × IsRightHonest p Black KingSide × IsRightHonest p Black QueenSide
 
--- the rank that a double step of the other side passes
+-- the rank that a double step of the other side passes: the sixth for white to move, the third for black
 abbrev pub passed_rank : Side → ℕ
 passed_rank White = 5
 passed_rank Black = 2
 
--- a pawn of the side that is not to move has just passed this square
+-- 5: a pawn of the side that is not to move has just passed the en passant square
 pub record IsPassed (p : Parts) (s : ℕ) : Type 0 where
   pub rank : rank_of s ≡ passed_rank p.side
   pub pawn : Stands p.men (behind p.side s) (other p.side) Pawn
@@ -72,13 +77,16 @@ pub record IsPassed (p : Parts) (s : ℕ) : Type 0 where
 abbrev pub HasHonestEnPassant : Parts → Type 0
 HasHonestEnPassant p = (s : ℕ) → p.en_passant ≡ Some s → IsPassed p s
 
+-- 6: the side that is not to move is not in check
 abbrev pub IsQuiet : Parts → Type 0
 IsQuiet p = IsInCheck p.men (other p.side) → ⊥
 
+-- 7: no counter is above 9999
 abbrev pub HasFairCounters : Parts → Type 0
 HasFairCounters p = (p.halfmove ≤ 9999) × (p.fullmove ≤ 9999)
 
--- the parts are a position
+-- the parts are a position: a map from the 64 squares to men, side, rights, en passant square and counters
+-- under the seven conditions
 pub record IsPosition (p : Parts) : Type 0 where
   pub squares : length p.men ≡ 64
   pub kings : HasOneKingEach p.men
@@ -89,7 +97,7 @@ pub record IsPosition (p : Parts) : Type 0 where
   pub quiet : IsQuiet p
   pub counters : HasFairCounters p
 
--- the first condition that fails
+-- the first condition that fails, in their order
 abbrev pub IsFirstFault : Parts → PositionFault → Type 0
 IsFirstFault p BadKings = HasOneKingEach p.men → ⊥
 IsFirstFault p TooManyMen = HasOneKingEach p.men × (HasFewMen p.men → ⊥)
