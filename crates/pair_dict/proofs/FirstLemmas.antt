@@ -1,0 +1,88 @@
+-- The first number of each code length, at the top of 63 bits.
+use Rattle.std.proofs.Common.{◌≡◌, ℕ, ◌+◌, ◌-◌, ◌*◌, ◌/◌, ◌^◌, ◌<◌, ◌≤◌, List, length, get_or, set, sym, ap, ◌∙◌, inl, inr, arith}
+use Rattle.std.proofs.lemmas.List.{get_or-set_same, get_or-set_other}
+use Rattle.std.proofs.lemmas.Bool.{cases_lt, cases_eq}
+use Rattle.std.proofs.lemmas.Nat.{shr-shr, pow-add, pow_pos}
+use Rattle.std.proofs.Math.Nat.{le-div_iff_mul-le, div-lt_iff_lt-mul, add-mul-div_left, mul_comm}
+use Rattle.pair_dict.specs.Codes.{bases, bits}
+use Rattle.pair_dict.specs.Windows.{IsWindow, IsFirst}
+use Rattle.pair_dict.proofs.WordLemmas.{base_last}
+
+first_zero : (n : ℕ) → IsFirst n 0 0
+first_zero n = record { possible = λ lt. omega arith; impossible = λ le. absurd (omega (arith, le, pow_pos n)) }
+
+pub firsts_start : (least : ℕ) (xs firsts : List ℕ) → ((k : ℕ) → get_or firsts k 0 ≡ 0) → (k : ℕ) → length xs ≤ k + 1 → IsFirst (least + k) (get_or (bases xs) k 0) (get_or firsts k 0)
+firsts_start least xs firsts none k le = rw (none k, base_last xs k le) (first_zero (least + k))
+
+pub firsts_more : (least : ℕ) (xs firsts : List ℕ) (j v : ℕ) → j < length xs → length firsts ≡ length xs → IsFirst (least + j) (get_or (bases xs) j 0) v
+    → ((k : ℕ) → j + 1 ≤ k → k < length xs → IsFirst (least + k) (get_or (bases xs) k 0) (get_or firsts k 0))
+    → (k : ℕ) → j ≤ k → k < length xs → IsFirst (least + k) (get_or (bases xs) k 0) (get_or (set firsts j v) k 0)
+firsts_more least xs firsts j v lt len first rest k le k-lt =
+    elim (cases_eq k j) [
+      | inl same ↦ rw (same, get_or-set_same firsts j v 0 (omega (arith, len))) first
+      | inr ne ↦ rw (get_or-set_other firsts j k v 0 ne) (rest k (omega (arith, ne)) k-lt)
+    ]
+
+split_63 : (n : ℕ) → n ≤ 63 → 2 ^ 63 ≡ 2 ^ n * 2 ^ (63 - n)
+split_63 n le =
+    let e : 63 ≡ n + (63 - n) = omega arith in
+    ap (λ (x : ℕ). 2 ^ x) e ∙ pow-add 2 n (63 - n)
+
+-- a word of 64 bits without its last one
+pub front_below : (word : ℕ) → word < 2 ^ 64 → word / 2 < 2 ^ 63
+front_below word lt = omega arith
+
+pub front_bits : (block : List ℕ) (at word n : ℕ) → IsWindow block at word → n ≤ 57 → at + n ≤ 8 * length block → word / 2 / 2 ^ (63 - n) ≡ bits block at n
+front_bits block at word n is few within =
+    let e : 1 + (63 - n) ≡ 64 - n = omega arith in
+    shr-shr word 1 (63 - n) ∙ ap (λ (k : ℕ). word / 2 ^ k) e ∙ is n few within
+
+module _ (n base first front : ℕ) (is : IsFirst n base first) (few : n ≤ 63) (small : front < 2 ^ 63) where
+  -- the front's first n bits are at least the base
+  pub first_reached : first ≤ front → base ≤ front / 2 ^ (63 - n)
+  first_reached le =
+      elim (cases_lt base (2 ^ n)) [
+        | inl lt ↦ (le-div_iff_mul-le {k = 2 ^ (63 - n)} {x = base} {y = front} (pow_pos (63 - n))).1 (rw (is.possible lt) at le)
+        | inr past ↦ absurd (omega (arith, is.impossible past))
+      ]
+
+  pub first_missed : front < first → front / 2 ^ (63 - n) < base
+  first_missed lt =
+      elim (cases_lt base (2 ^ n)) [
+        | inl below ↦ (div-lt_iff_lt-mul {k = 2 ^ (63 - n)} {x = front} {y = base} (pow_pos (63 - n))).1 (rw (is.possible below) at lt)
+        | inr past ↦
+            let top : front < 2 ^ n * 2 ^ (63 - n) = rw (← split_63 n few) small in
+            let under : front / 2 ^ (63 - n) < 2 ^ n = (div-lt_iff_lt-mul {k = 2 ^ (63 - n)} {x = front} {y = 2 ^ n} (pow_pos (63 - n))).1 top in
+            omega (arith, under, past)
+      ]
+
+  -- how far it is above the base
+  pub above_base : first ≤ front → (front - first) / 2 ^ (63 - n) + base ≡ front / 2 ^ (63 - n)
+  above_base le =
+      elim (cases_lt base (2 ^ n)) [
+        | inl lt ↦
+            let w = 2 ^ (63 - n) in
+            let first-is : first ≡ w * base = is.possible lt ∙ mul_comm base w in
+            let whole : front ≡ (front - first) + w * base = omega (arith, le, first-is) in
+            sym (ap (λ (x : ℕ). x / w) whole ∙ add-mul-div_left (front - first) base (pow_pos (63 - n)))
+        | inr past ↦ absurd (omega (arith, is.impossible past))
+      ]
+
+-- what the front's first n bits are in the block
+pub record IsReached (block : List ℕ) (at n base first front low : ℕ) : Type 0 where
+  pub reached : base ≤ bits block at n
+  pub symbol : low + (front - first) / 2 ^ (63 - n) ≡ (low + bits block at n) - base
+
+pub reached_at : (block : List ℕ) (at word n base first low : ℕ) → IsFirst n base first → IsWindow block at word → word < 2 ^ 64 → n ≤ 57 → at + n ≤ 8 * length block → first ≤ word / 2 → IsReached block at n base first (word / 2) low
+reached_at block at word n base first low is window small few fits le =
+    let bits-is = front_bits block at word n window few fits in
+    let far : n ≤ 63 = omega arith in
+    let front = front_below word small in
+    let reached = rw bits-is at (first_reached n base first (word / 2) is far front le) in
+    let above = rw bits-is at (above_base n base first (word / 2) is far front le) in
+    record { reached = reached; symbol = omega (arith, above, reached) }
+
+pub missed_at : (block : List ℕ) (at word n base first : ℕ) → IsFirst n base first → IsWindow block at word → word < 2 ^ 64 → n ≤ 57 → at + n ≤ 8 * length block → word / 2 < first → bits block at n < base
+missed_at block at word n base first is window small few fits lt =
+    let far : n ≤ 63 = omega arith in
+    rw (front_bits block at word n window few fits) at (first_missed n base first (word / 2) is far (front_below word small) lt)

@@ -1,0 +1,12 @@
+pub mod Numbers
+pub mod CodeLemmas
+pub mod SymbolValues
+pub mod BlockValues
+pub mod Settling
+pub mod ValueCounts
+pub mod WordLemmas
+pub mod Longest
+pub mod FirstLemmas
+pub mod Pending
+pub mod Chain
+pub mod Spelled

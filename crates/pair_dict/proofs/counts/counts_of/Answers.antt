@@ -1,0 +1,28 @@
+use Rattle.std.proofs.Common.{◌≡◌, ◌/◌, ◌∙◌, ℕ, List, length, replicate, ap, arith, rules, inr, get_or}
+use Rattle.std.proofs.lemmas.List.{length-replicate}
+use Rattle.std.proofs.lemmas.Result.{err_from_is_err_and}
+use Rattle.pair_dict.proofs.Settling.{all_counted, settled_first}
+use Rattle.pair_dict.proofs.SymbolValues.{all_have}
+use Rattle.pair_dict.proofs.ValueCounts.{have_all, one_without}
+use Rattle.pair_dict.proofs.WordLemmas.{zeros}
+use Rattle.pair_dict.proofs.counts.counts_of.Goals as goal
+
+pub loop-symbol-init : goal.loop-symbol-init
+loop-symbol-init c =
+    let n = length c.args.symbols.now / 3 in
+    let e : c.in_ok-counts.counts.items ≡ replicate n 0 = search rules in
+    record {
+      settled = settled_first c.args.symbols.now c.in_ok-counts.counts.items (ap length e ∙ length-replicate n 0) (λ k. ap (λ (xs : List ℕ). get_or xs k 0) e ∙ zeros n k);
+      known = λ s lt. absurd (omega arith);
+    }
+
+pub returns-in_err-settle-clause-bad : goal.returns-in_err-settle-clause-bad
+returns-in_err-settle-clause-bad c =
+    let p = err_from_is_err_and c.from_residual-in_err-settle.result c.from_residual-in_err-settle.ensures.1 in
+    rw (p.1, p.2) (inr (c.in_err-settle.ensures.fault, one_without c.args.symbols.now c.loop-symbol.symbol c.loop-symbol-test.true c.in_err-settle.ensures.none))
+
+pub returns-clause-good : goal.returns-clause-good
+returns-clause-good c =
+    let symbols = c.args.symbols.now in
+    let h = c.loop-symbol.invariant in
+    have_all symbols (all_have symbols c.loop-symbol.counts.items (all_counted symbols c.loop-symbol.counts.items h.settled (λ s lt. h.known s (omega (arith, lt, c.loop-symbol-test.false)))))

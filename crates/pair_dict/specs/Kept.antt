@@ -1,0 +1,17 @@
+-- A dictionary as it is kept.
+use Rattle.std.specs.Prelude.{◌+◌, ◌≤◌, length}
+use Rattle.pair_dict.specs.Codes.{Pairing}
+use Rattle.pair_dict.specs.Reading.{words}
+use Rattle.pair_dict.specs.Counts.{AreCounts}
+use Rattle.pair_dict.specs.Windows.{AreFirsts}
+use Rattle.pair_dict.specs.declared.dictionary.Dictionary.TheInside.{Inside}
+
+abbrev pub pairing_of : Inside → Pairing
+pairing_of a = record { least = a.least; lowest = words a.lowest.now; symbols = a.symbols.now }
+
+pub record IsKept (a : Inside) : Type 0 where
+  pub least : 1 ≤ a.least
+  pub some : 1 ≤ length (words a.lowest.now)
+  pub greatest : a.least + length (words a.lowest.now) ≤ 33
+  pub firsts : AreFirsts a.least (words a.lowest.now) a.firsts.items
+  pub counts : AreCounts a.symbols.now a.counts.items

@@ -1,0 +1,9 @@
+pub mod Symbols
+pub mod Codes
+pub mod Blocks
+pub mod Reading
+pub mod Counts
+pub mod Windows
+pub mod Kept
+pub mod Layouts
+pub mod Beginnings

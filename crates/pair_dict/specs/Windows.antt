@@ -1,0 +1,29 @@
+-- A few bits of a block at the top of a word.
+use Rattle.std.specs.Prelude.{◌≡◌, ℕ, ◌+◌, ◌-◌, ◌*◌, ◌/◌, ◌^◌, ◌<◌, ◌≤◌, List, length, slice_index}
+use Rattle.pair_dict.specs.Codes.{bases, bits, number_of}
+
+-- the highest n bits of the word are the first n bits of the bytes
+abbrev pub IsWord : List ℕ → ℕ → Type 0
+IsWord bytes word =
+    (n : ℕ) → n ≤ 64 → n ≤ 8 * length bytes → word / 2 ^ (64 - n) ≡ number_of bytes / 2 ^ (8 * length bytes - n)
+
+-- the highest n bits of the word are the n bits of the block from bit p on
+abbrev pub IsWindow : List ℕ → ℕ → ℕ → Type 0
+IsWindow block p word = (n : ℕ) → n ≤ 57 → p + n ≤ 8 * length block → word / 2 ^ (64 - n) ≡ bits block p n
+
+-- the least number of 63 bits whose first n bits are at least the base, or 2^63 where n bits are never
+pub record IsFirst (n base first : ℕ) : Type 0 where
+  pub possible : base < 2 ^ n → first ≡ base * 2 ^ (63 - n)
+  pub impossible : 2 ^ n ≤ base → first ≡ 2 ^ 63
+
+-- the first number of each length from the least on
+pub record AreFirsts (least : ℕ) (lowest firsts : List ℕ) : Type 0 where
+  pub lengths : length firsts ≡ length lowest
+  pub each : (i : ℕ) → i < length lowest → IsFirst (least + i) (slice_index (bases lowest) i) (slice_index firsts i)
+
+-- a code that was read: a known symbol, a bit at least, and all of it in the block
+pub record IsSound (limit : ℕ) (block : List ℕ) (p : ℕ) (code : ℕ × ℕ) : Type 0 where
+  pub known : code.0 < limit
+  pub some : 1 ≤ code.1
+  pub short : code.1 ≤ 32
+  pub within : p + code.1 ≤ 8 * length block

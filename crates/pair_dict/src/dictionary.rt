@@ -1,0 +1,216 @@
+//! Dictionaries.
+
+ghost use Rattle.std.specs.Prelude.{◌≡◌, ◌+◌, ◌*◌, ◌<◌, ◌≤◌, ◌++◌, length, slice_index, slice_get, take, vec_len, vec_capacity, Some, IsOk, IfOk, IfErr, OnErr, IfSome};
+ghost use Rattle.pair_dict.specs.Symbols.{symbol_count, values_of, AllHaveValues};
+ghost use Rattle.pair_dict.specs.Codes.{code_at};
+ghost use Rattle.pair_dict.specs.Windows.{IsSound};
+ghost use Rattle.pair_dict.specs.Reading.{Gives, layout_at, dictionary_at};
+ghost use Rattle.pair_dict.specs.declared.fault.DictFault.TheVariants.{OutOfMemory};
+ghost use Rattle.pair_dict.specs.Blocks.{block_values, BlockIsComputed, BlockBeginsWithValues};
+
+use crate::codes::{code_in, firsts_of};
+use crate::counts::counts_of;
+use crate::fault::{Damaged, DictFault};
+use crate::layout::Layout;
+use crate::symbols::{MOST_VALUES, Symbol, symbol_at};
+use std::alloc::{AllocError, Global};
+use std::marker::Model;
+
+/// The symbols of a table and their codes.
+///
+/// It borrows the bytes that it was read from, and keeps beside them a number for each code length and how many values
+/// each symbol stands for.
+#[derive(Drop)]
+pub struct Dictionary<'a> {
+    least: u32,
+    lowest: &'a [u8],
+    firsts: Vec<u64>,
+    symbols: &'a [u8],
+    counts: Vec<u16>,
+}
+
+impl<'a> Model for Dictionary<'a> {
+    ghost use Rattle.pair_dict.specs.Codes.{Pairing};
+
+    ghost Value = { Pairing };
+
+    ghost use Rattle.pair_dict.specs.Kept.{pairing_of, IsKept};
+
+    ghost view = { pairing_of };
+
+    ghost invariant = { IsKept };
+}
+
+impl<'a> Dictionary<'a> {
+    /// The dictionary at the front of the bytes, and how many bytes it takes, the fill byte of an odd number of symbols
+    /// included (Syzygy table format, a size record from its greatest code length on).
+    ///
+    /// Each part is looked at once it is wholly there, in the order of the bytes, and the first fault is told:
+    /// `Truncated`, `BadCode` or `BadSymbol`. `OutOfMemory`, where memory is refused, comes only when the symbols are
+    /// there. The time is linear in the number of symbols, whatever their order.
+    pub fn read(alloc: Global, bytes: &'a [u8]) -> Result<(Dictionary<'a>, usize), DictFault>
+        ensures is { Gives (λ x. (x.0, x.1)) result (dictionary_at bytes.now) }
+        ensures values { IfOk result (λ x. AllHaveValues x.0.symbols) }
+        ensures fits { IfOk result (λ x. x.1 ≤ length bytes.now) }
+        ensures memory { IfErr result (λ e. e ≡ OutOfMemory → IsOk (layout_at bytes.now)) }
+    {
+        let layout = Layout::read(bytes)?;
+        let counts = counts_of(alloc, layout.symbols)?;
+        let firsts = firsts_of(alloc, layout.least, layout.lowest)?;
+        let dictionary = Dictionary {
+            least: layout.least,
+            lowest: layout.lowest,
+            firsts,
+            symbols: layout.symbols,
+            counts,
+        };
+        Ok((dictionary, layout.taken))
+    }
+
+    /// The symbol and the length of the code at a bit of a block.
+    #[inline]
+    fn code_at(&self, block: &[u8], at: usize) -> Option<(usize, u32)>
+        requires { at ≤ 8 * length block.now }
+        ensures is { result ≡ code_at self.now block.now at }
+        ensures sound { IfSome result (λ code. IsSound (symbol_count self.now.symbols) block.now at code) }
+    {
+        code_in(
+            self.symbols.len() / 3,
+            block,
+            at,
+            self.least,
+            &self.firsts,
+            self.lowest,
+        )
+    }
+
+    /// How many values a symbol has.
+    #[inline]
+    fn values(&self, symbol: usize) -> usize
+        requires { symbol < symbol_count self.now.symbols }
+        ensures is { result ≡ length (values_of self.now.symbols symbol) }
+        ensures some { 1 ≤ result }
+    {
+        self.counts[symbol] as usize
+    }
+
+    /// One value of a symbol.
+    fn value_in(&self, symbol: usize, offset: usize) -> u16
+        requires known { symbol < symbol_count self.now.symbols }
+        requires within { offset < length (values_of self.now.symbols symbol) }
+        ensures { result ≡ slice_index (values_of self.now.symbols symbol) offset }
+    {
+        let mut symbol = symbol;
+        let mut left = offset;
+        'down: loop {
+            match symbol_at(self.symbols, symbol) {
+                Symbol::Leaf(value) => return value,
+                Symbol::Pair(first, second) => {
+                    let skipped = self.counts[first as usize] as usize;
+                    if left < skipped {
+                        symbol = first as usize;
+                    } else {
+                        left -= skipped;
+                        symbol = second as usize;
+                    }
+                }
+            }
+        }
+    }
+
+    /// The value of a block at an offset from its first value. It takes no memory, skips the symbols before by their
+    /// counts and goes down into one.
+    ///
+    /// `Damaged` where the block's whole codes give no value at that offset (Syzygy table format, the values of a block).
+    pub fn value(&self, block: &[u8], offset: u32) -> Result<u16, Damaged>
+        ensures found { IfOk result (λ v. slice_get (block_values self.now block.now) offset ≡ Some v) }
+        ensures damaged { OnErr result (length (block_values self.now block.now) ≤ offset) }
+    {
+        let mut left = offset as usize;
+        let mut at: usize = 0;
+        'codes: while let Some((symbol, length)) = self.code_at(block, at) {
+            let skipped = self.values(symbol);
+            if left < skipped {
+                return Ok(self.value_in(symbol, left));
+            }
+            left -= skipped;
+            at += length as usize;
+        }
+        Err(Damaged)
+    }
+
+    /// Appends the values of a symbol, as long as there are fewer than `limit`. Right halves wait while left ones are gone
+    /// through.
+    fn push_values(
+        &self,
+        symbol: usize,
+        limit: usize,
+        waiting: &mut [u16; MOST_VALUES],
+        values: &mut Vec<u16>,
+    )
+        requires known { symbol < symbol_count self.now.symbols }
+        requires within { vec_len values.old ≤ limit }
+        requires room { limit ≤ vec_capacity values.old }
+        ensures is { values.new.items ≡ take limit (values.old.items ++ values_of self.now.symbols symbol) }
+        ensures more { vec_len values.old < limit → vec_len values.old < vec_len values.new }
+        ensures room { vec_capacity values.new ≡ vec_capacity values.old }
+    {
+        let mut symbol = symbol;
+        let mut top: usize = 0;
+        'values: while values.len() < limit {
+            match symbol_at(self.symbols, symbol) {
+                Symbol::Leaf(value) => {
+                    values.push_reserved(value);
+                    if top == 0 {
+                        return;
+                    }
+                    top -= 1;
+                    symbol = waiting[top] as usize;
+                }
+                Symbol::Pair(left, right) => {
+                    waiting[top] = right;
+                    top += 1;
+                    symbol = left as usize;
+                }
+            }
+        }
+    }
+
+    /// How many values are asked for, but no more than the block's codes could give.
+    fn limit_of(&self, block: &[u8], count: u32) -> usize
+        ensures same { take result (block_values self.now block.now) ≡ take count (block_values self.now block.now) }
+        ensures few { result ≤ count }
+    {
+        // Each code has `least` bits or more, and each symbol 256 values or fewer.
+        let most = block.len().saturating_mul(8 * MOST_VALUES) / self.least as usize;
+        most.min(count as usize)
+    }
+
+    /// The first values of a block, at most `count`, and fewer where the block's whole codes give fewer (Syzygy table
+    /// format, the values of a block). Room for them is taken once; the only error is that it is refused.
+    pub fn decode(&self, alloc: Global, block: &[u8], count: u32) -> Result<Vec<u16>, AllocError>
+        ensures { IfOk result (λ values. values.items ≡ take count (block_values self.now block.now)) }
+    {
+        let limit = self.limit_of(block, count);
+        let mut values = Vec::with_capacity(alloc, limit)?;
+        let mut waiting = [0u16; MOST_VALUES];
+        let mut at: usize = 0;
+        'codes: while values.len() < limit {
+            let Some((symbol, length)) = self.code_at(block, at) else {
+                break;
+            };
+            self.push_values(symbol, limit, &mut waiting, &mut values);
+            at += length as usize;
+        }
+        Ok(values)
+    }
+
+    /// The values of a block are those of the longest list of symbols whose codes begin it, and no others. Any list of
+    /// symbols whose codes begin it gives its first values.
+    pub fn block_is_computed(&self, block: &[u8])
+        ensures computed { BlockIsComputed self.now block.now }
+        ensures front { BlockBeginsWithValues self.now block.now }
+    {
+        let _ = &self.least;
+    }
+}

@@ -1,0 +1,56 @@
+//! Bits of a block.
+
+ghost use Rattle.std.specs.Prelude.{◌≡◌, ◌+◌, ◌-◌, ◌*◌, ◌/◌, ◌^◌, ◌<◌, ◌≤◌, ℕ, length, drop, take};
+ghost use Rattle.pair_dict.specs.Codes.{bits, number_of};
+ghost use Rattle.pair_dict.specs.Windows.{IsWord, IsWindow};
+
+use byteorder::{BigEndian, ByteOrder};
+
+/// The bytes as a word, its highest byte first, with zeros after them.
+fn short_word(bytes: &[u8]) -> u64
+    requires { length bytes.now < 8 }
+    ensures { result ≡ number_of bytes.now * 2 ^ (64 - 8 * length bytes.now) }
+{
+    let mut word: u64 = 0;
+    for byte in bytes {
+        word = word * 256 + *byte as u64;
+    }
+    if bytes.is_empty() {
+        return 0;
+    }
+    word << (64 - 8 * bytes.len() as u32)
+}
+
+/// The eight bytes from a place on, with zeros after the end.
+#[inline]
+fn word_at(block: &[u8], place: usize) -> u64
+    requires { place ≤ length block.now }
+    ensures { IsWord (drop place block.now) result }
+{
+    let rest = &block[place..];
+    if rest.len() >= 8 {
+        BigEndian::read_u64(rest)
+    } else {
+        short_word(rest)
+    }
+}
+
+/// The bits from a bit on at the top of a word, at least 57 of them, with zeros after the end.
+#[inline]
+pub(crate) fn window(block: &[u8], at: usize) -> u64
+    requires { at ≤ 8 * length block.now }
+    ensures { IsWindow block.now at result }
+{
+    word_at(block, at / 8) << (at % 8) as u32
+}
+
+/// How many bits the block has from a bit on, up to 57.
+#[inline]
+pub(crate) fn room_at(block: &[u8], at: usize) -> usize
+    requires { at ≤ 8 * length block.now }
+    ensures fits { (n : ℕ) → n ≤ result → at + n ≤ 8 * length block.now }
+    ensures past { (n : ℕ) → n ≤ 57 → result < n → 8 * length block.now < at + n }
+{
+    let rest = block.len() - at / 8;
+    if rest < 8 { 8 * rest - at % 8 } else { 57 }
+}

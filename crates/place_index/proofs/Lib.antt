@@ -1,0 +1,14 @@
+pub mod KeyTables
+pub mod TableLaw
+pub mod Choosing
+pub mod PartList
+pub mod Making
+pub mod Greatest
+pub mod Sizing
+pub mod Placing
+pub mod Products
+pub mod Runs
+pub mod Beginning
+pub mod SideBySide
+pub mod Arranging
+pub mod MenTables

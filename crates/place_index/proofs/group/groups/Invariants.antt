@@ -1,0 +1,5 @@
+use Rattle.place_index.proofs.Runs.{IsScanned}
+use Rattle.place_index.proofs.group.groups.Given as goal
+
+abbrev pub invariant-loop-i : goal.invariant-loop-i
+invariant-loop-i l = IsScanned l.pieces l.lead l.start l.i l.groups.items

@@ -1,0 +1,9 @@
+pub mod Material
+pub mod Place
+pub mod Square
+pub mod Counting
+pub mod Choose
+pub mod Pawns
+pub mod Kings
+pub mod Shape
+pub mod Kept

@@ -1,0 +1,112 @@
+//! Which orders of its pieces a table may give.
+
+ghost use Rattle.std.specs.Prelude.{◌≡◌, ◌↔◌, ◌≤◌, ◌<◌, ◌+◌, IsTrue, true, length};
+ghost use Rattle.std.specs.List.Sorted.{IsPermutation};
+ghost use Rattle.place_index.specs.Material.{pieces_of, count_of};
+ghost use Rattle.place_index.specs.Shape.{IsSideBySide, AreAll, BeginsByPawns, BeginsByThree, BeginsByKings, BeginsWell, HasGoodPieces, has_pawns};
+
+use crate::material::{Material, leading_men, leading_pawn, men, other_pawn, other_pawns};
+
+/// How many of the pieces have this code.
+#[tactic(auto, unfolding(crate::specs::Material::count_of))]
+fn occurrences(pieces: &[u8], code: u8) -> usize
+    ensures { result ≡ count_of pieces.now code }
+{
+    pieces.iter().filter(|piece| **piece == code).count()
+}
+
+/// Whether the pieces are the men of the material.
+fn is_arrangement(material: Material, pieces: &[u8]) -> bool
+    ensures { IsTrue result ↔ IsPermutation pieces.now (pieces_of material) }
+{
+    if pieces.len() != men(material) as usize {
+        return false;
+    }
+    for code in 0u8..16 {
+        if occurrences(pieces, code) != material.count(code) as usize {
+            return false;
+        }
+    }
+    true
+}
+
+/// Whether equal pieces stand side by side.
+fn is_side_by_side(pieces: &[u8]) -> bool
+    ensures { IsTrue result ↔ IsSideBySide pieces.now }
+{
+    for k in 1..pieces.len() {
+        if pieces[k] != pieces[k - 1] && pieces[..k].contains(&pieces[k]) {
+            return false;
+        }
+    }
+    true
+}
+
+/// Whether the pieces from one place on and before another one all have this code.
+fn are_all(pieces: &[u8], from: usize, to: usize, code: u8) -> bool
+    requires { to ≤ length pieces.now }
+    ensures { IsTrue result ↔ AreAll pieces.now from to code }
+{
+    for i in from..to {
+        if pieces[i] != code {
+            return false;
+        }
+    }
+    true
+}
+
+fn begins_by_pawns(material: Material, pieces: &[u8]) -> bool
+    requires pawns { has_pawns material ≡ true }
+    requires men { length pieces.now ≡ length (pieces_of material) }
+    ensures { IsTrue result ↔ BeginsByPawns material pieces.now }
+{
+    let lead = leading_men(material) as usize;
+    let both = lead + other_pawns(material) as usize;
+    are_all(pieces, 0, lead, leading_pawn(material))
+        && are_all(pieces, lead, both, other_pawn(material))
+}
+
+fn begins_by_three(pieces: &[u8]) -> bool
+    requires { 3 ≤ length pieces.now }
+    ensures { IsTrue result ↔ BeginsByThree pieces.now }
+{
+    for i in 0..3 {
+        if occurrences(pieces, pieces[i]) != 1 {
+            return false;
+        }
+    }
+    true
+}
+
+fn begins_by_kings(pieces: &[u8]) -> bool
+    requires { 3 ≤ length pieces.now }
+    ensures { IsTrue result ↔ BeginsByKings pieces.now }
+{
+    let first = pieces[0];
+    let second = pieces[1];
+    first == 6 && second == 14 || first == 14 && second == 6
+}
+
+/// Whether the men that lead come first.
+fn begins_well(material: Material, pieces: &[u8]) -> bool
+    requires { length pieces.now ≡ length (pieces_of material) }
+    ensures { IsTrue result ↔ BeginsWell material pieces.now }
+{
+    if material.has_pawns() {
+        begins_by_pawns(material, pieces)
+    } else if leading_men(material) == 3 {
+        begins_by_three(pieces)
+    } else {
+        begins_by_kings(pieces)
+    }
+}
+
+/// Whether a table of this material may give its pieces in this order.
+pub(crate) fn has_good_pieces(material: Material, pieces: &[u8]) -> bool
+    ensures { IsTrue result ↔ HasGoodPieces material pieces.now }
+{
+    if !is_arrangement(material, pieces) {
+        return false;
+    }
+    is_side_by_side(pieces) && begins_well(material, pieces)
+}

@@ -1,0 +1,25 @@
+ghost use Rattle.std.specs.Prelude.{◌≡◌, ◌≤◌};
+ghost use Rattle.place_index.specs.Choose.{choose, PartsAreListed, PascalsRule};
+
+/// How many parts of so many elements a set of so many things has.
+pub fn choices(things: u64, elements: u64) -> u64
+    requires things { things ≤ 64 }
+    requires elements { elements ≤ 5 }
+    ensures { result ≡ choose things elements }
+{
+    let mut count: u64 = 1;
+    for i in 0..elements {
+        count = count * things.saturating_sub(i) / (i + 1);
+    }
+    count
+}
+
+/// The parts that are counted are all parts, each once.
+pub fn parts_are_listed()
+    ensures { PartsAreListed }
+{}
+
+/// Parts with a thing and parts without it.
+pub fn pascals_rule()
+    ensures { PascalsRule }
+{}

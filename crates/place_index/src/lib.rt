@@ -1,0 +1,18 @@
+//! Which men a table of three to five men is for, and how it numbers their placements.
+#![tactic(auto)]
+
+mod arrangement;
+pub mod choose;
+mod group;
+mod material;
+mod places;
+mod shape;
+mod sizes;
+mod tables;
+
+pub use group::Group;
+pub use material::{Material, tables_are_numbered};
+pub use shape::{Shape, ShapeFault};
+
+#[cfg(test)]
+mod tests;

@@ -1,0 +1,260 @@
+ghost use Rattle.std.specs.Prelude.{◌≡◌, ◌+◌, ◌<◌, ◌≤◌, ◌↔◌, ℕ, IfSome, IfNone, IsTrue, length, slice_index};
+ghost use Rattle.place_index.specs.Material.{Men, IsTable, TablesAreNumbered, name_at, name_of, men_of, white_pawns, black_pawns, pieces_of, count_of};
+ghost use Rattle.place_index.specs.Shape.{lead_men, lead_code, other_code, other_pawns, black_leads, both_have_pawns};
+ghost use Rattle.place_index.specs.Place.{place_of, rank_of, pair_of, triple_of};
+
+use crate::tables::{COUNTS, LEADING_MEN, LETTERS, PAIRS, SYMMETRIC, TRIPLES};
+use arrayvec::ArrayString;
+use std::marker::Model;
+
+/// The men of one of the 145 tables of three to five men, two kings among them.
+///
+/// It is known by its key, a number from 0 to 144: the tables KXvK, KXYvK, KXvKY, KXYZvK and KXYvKZ one after another,
+/// each in the order of its letters, where Q comes before R, B, N and P.
+#[derive(Clone, Copy, PartialEq, Eq, Debug)]
+pub struct Material {
+    key: u8,
+}
+
+impl Model for Material {
+    ghost use Rattle.std.specs.Prelude.{ℕ, ◌<◌};
+
+    ghost Value = { ℕ };
+
+    ghost view = { λ m. m.key };
+
+    ghost invariant = { λ m. m.key < 145 };
+
+    ghost inverse = { λ n. record { key = n } };
+}
+
+/// The place of a letter among Q R B N P, the last one for any other byte.
+fn rank(letter: u8) -> u8
+    ensures is { result ≡ rank_of letter }
+    ensures few { result ≤ 4 }
+{
+    match letter {
+        b'Q' => 0,
+        b'R' => 1,
+        b'B' => 2,
+        b'N' => 3,
+        _ => 4,
+    }
+}
+
+/// The place of two letters among QQ, QR, .., PP.
+fn pair(first: u8, second: u8) -> u8
+    requires first { first ≤ 4 }
+    requires second { second ≤ 4 }
+    ensures is { result ≡ pair_of first second }
+    ensures few { result ≤ 14 }
+{
+    PAIRS[first as usize] + second
+}
+
+/// The place of three letters among QQQ, QQR, .., PPP.
+fn triple(first: u8, second: u8, third: u8) -> u8
+    requires first { first ≤ 4 }
+    requires second { second ≤ 4 }
+    requires third { third ≤ 4 }
+    ensures is { result ≡ triple_of first second third }
+    ensures few { result ≤ 34 }
+{
+    TRIPLES[first as usize] + pair(second, third)
+}
+
+/// The only key whose name the text can be.
+#[tactic(auto, unfolding(crate::specs::Place::place_of))]
+fn place(text: &[u8]) -> u8
+    ensures is { result ≡ place_of text.now }
+    ensures below { result < 145 }
+{
+    match text.len() {
+        4 => rank(text[1]),
+        5 if text[2] == b'v' => 20 + pair(rank(text[1]), rank(text[4])),
+        5 => 5 + pair(rank(text[1]), rank(text[2])),
+        6 if text[3] == b'v' => 70 + 5 * pair(rank(text[1]), rank(text[2])) + rank(text[5]),
+        6 => 35 + triple(rank(text[1]), rank(text[2]), rank(text[3])),
+        _ => 0,
+    }
+}
+
+fn name_length(key: usize) -> usize
+    requires { key < 145 }
+    ensures is { result ≡ length (name_at key) }
+    ensures few { result ≤ 6 }
+{
+    match key {
+        0..5 => 4,
+        5..35 => 5,
+        _ => 6,
+    }
+}
+
+fn letter(key: usize, i: usize) -> u8
+    requires key { key < 145 }
+    requires i { i < 6 }
+    ensures is { result ≡ slice_index (name_at key) i }
+    ensures ascii { result < 128 }
+{
+    LETTERS[key * 6 + i]
+}
+
+/// Whether the text is the name with this key.
+fn is_name(key: usize, text: &[u8]) -> bool
+    requires { key < 145 }
+    ensures { IsTrue result ↔ (name_at key ≡ text.now) }
+{
+    let length = name_length(key);
+    if text.len() != length {
+        return false;
+    }
+    for i in 0..length {
+        let wanted = letter(key, i);
+        if text[i] != wanted {
+            return false;
+        }
+    }
+    true
+}
+
+impl Material {
+    /// The material of the table with this name, `None` for a text that names none of the 145.
+    pub fn from_name(name: &[u8]) -> Option<Material>
+        ensures found { IfSome result (λ m. name_of (men_of m) ≡ name.now) }
+        ensures none { IfNone result ((m : Men) → IsTable m → name_of m ≡ name.now → ⊥) }
+    {
+        let key = place(name);
+        if is_name(key as usize, name) {
+            Some(Material { key })
+        } else {
+            None
+        }
+    }
+
+    /// The table's name: `K`, the first side's letters, `vK` and the second side's letters, in the order Q R B N P.
+    pub fn name(&self) -> ArrayString<8>
+        ensures { result.bytes ≡ name_of (men_of self.now) }
+    {
+        let key = self.key();
+        let length = name_length(key as usize);
+        let mut text = ArrayString::<8>::new();
+        for i in 0..length {
+            let next = letter(key as usize, i);
+            text.push(next as char);
+        }
+        text
+    }
+
+    /// The table's number among the 145, for look-ups without a search.
+    pub fn key(self) -> u8
+        ensures is { result ≡ self }
+        ensures below { result < 145 }
+    {
+        self.key
+    }
+
+    /// Whether both sides have the same men.
+    pub fn symmetric(&self) -> bool
+        ensures { IsTrue result ↔ ((men_of self.now).first ≡ (men_of self.now).second) }
+    {
+        let key = self.key();
+        SYMMETRIC[key as usize]
+    }
+
+    /// Whether a side has pawns.
+    pub fn has_pawns(&self) -> bool
+        ensures { IsTrue result ↔ (1 ≤ white_pawns self.now + black_pawns self.now) }
+    {
+        let white = self.count(1);
+        let black = self.count(9);
+        white + black != 0
+    }
+
+    /// How many men have this code of a table file: 1 to 6 for the first side's pawns, knights, bishops, rooks, queens and
+    /// king, 9 to 14 for the second side's, and no man for other codes.
+    pub(crate) fn count(&self, code: u8) -> u8
+        requires { code < 16 }
+        ensures is { result ≡ count_of (pieces_of self.now) code }
+        ensures few { result ≤ 3 }
+    {
+        let key = self.key();
+        COUNTS[key as usize * 16 + code as usize]
+    }
+}
+
+/// How many men there are, the kings among them.
+pub(crate) fn men(material: Material) -> u8
+    ensures is { result ≡ length (pieces_of material) }
+    ensures known { material < 145 }
+    ensures least { 3 ≤ result }
+    ensures most { result ≤ 5 }
+{
+    match material.key() {
+        0..5 => 3,
+        5..35 => 4,
+        _ => 5,
+    }
+}
+
+/// How many men lead.
+pub(crate) fn leading_men(material: Material) -> u8
+    ensures is { result ≡ lead_men material }
+    ensures known { material < 145 }
+    ensures least { 1 ≤ result }
+    ensures most { result ≤ 3 }
+{
+    let key = material.key();
+    LEADING_MEN[key as usize]
+}
+
+/// Whether the second side's pawns lead.
+fn black_leads(material: Material) -> bool
+    ensures { result ≡ black_leads material }
+{
+    let white = material.count(1);
+    let black = material.count(9);
+    black != 0 && (white == 0 || black < white)
+}
+
+/// The code of the leading pawns.
+#[tactic(auto, unfolding(crate::specs::Shape::lead_code))]
+pub(crate) fn leading_pawn(material: Material) -> u8
+    ensures { result ≡ lead_code material }
+{
+    if black_leads(material) { 9 } else { 1 }
+}
+
+/// The code of the pawns that don't lead.
+#[tactic(auto, unfolding(crate::specs::Shape::other_code))]
+pub(crate) fn other_pawn(material: Material) -> u8
+    ensures { result ≡ other_code material }
+{
+    if black_leads(material) { 1 } else { 9 }
+}
+
+/// How many pawns don't lead.
+#[tactic(auto, unfolding(crate::specs::Shape::other_pawns))]
+pub(crate) fn other_pawns(material: Material) -> u8
+    ensures { result ≡ other_pawns material }
+{
+    if black_leads(material) {
+        material.count(1)
+    } else {
+        material.count(9)
+    }
+}
+
+/// Whether both sides have pawns.
+pub(crate) fn both_have_pawns(material: Material) -> bool
+    ensures { result ≡ both_have_pawns material }
+{
+    let white = material.count(1);
+    let black = material.count(9);
+    white != 0 && black != 0
+}
+
+/// The keys stand for the 145 tables one to one, and so do the names.
+pub fn tables_are_numbered()
+    ensures { TablesAreNumbered }
+{}

@@ -1,0 +1,78 @@
+//! The places of the groups in the index, and the factors that follow from them.
+
+ghost use Rattle.std.specs.Prelude.{◌≡◌, ◌≤◌, ◌<◌, not, length, map};
+ghost use Rattle.std.specs.Option.{ForSome};
+ghost use Rattle.place_index.specs.Shape.{given, is_free, places, factor_at, product, greatest_size};
+
+use arrayvec::ArrayVec;
+
+/// Whether a nibble gives this place.
+fn is_given(order: u8, second: Option<u8>, place: u8) -> bool
+    ensures { result ≡ not (is_free (given order second) place) }
+{
+    match second {
+        Some(other) => order == place || other == place,
+        None => order == place,
+    }
+}
+
+/// The places that the nibbles give.
+fn given_places(order: u8, second: Option<u8>) -> ArrayVec<u8, 5>
+    ensures { result.items ≡ given order second }
+{
+    let mut places = ArrayVec::<u8, 5>::new();
+    places.push(order);
+    if let Some(place) = second {
+        places.push(place);
+    }
+    places
+}
+
+/// The place of each group: those that the nibbles give, then the free ones in sequence.
+pub(crate) fn places(groups: usize, order: u8, second: Option<u8>) -> ArrayVec<u8, 5>
+    requires groups { groups ≤ 5 }
+    requires order { order < groups }
+    requires second { ForSome second (λ s. (s < groups) × (s ≡ order → ⊥)) }
+    ensures is { result.items ≡ places (given order second) groups }
+    ensures len { length result.items ≡ groups }
+{
+    let mut places = given_places(order, second);
+    for place in 0..groups as u8 {
+        if is_given(order, second, place) {
+            continue;
+        }
+        places.push(place);
+    }
+    places
+}
+
+/// The product of the sizes of the groups at places before this one.
+fn factor(places: &[u8], sizes: &[u64], place: u8) -> u64
+    requires groups { length places.now ≡ length sizes.now }
+    requires some { 1 ≤ product sizes.now }
+    requires fits { product sizes.now ≤ greatest_size }
+    ensures { result ≡ factor_at places.now sizes.now place }
+{
+    let mut factor: u64 = 1;
+    for (i, size) in sizes.iter().enumerate() {
+        if places[i] < place {
+            factor *= *size;
+        }
+    }
+    factor
+}
+
+/// The factor of each group.
+pub(crate) fn factors(places: &[u8], sizes: &[u64]) -> ArrayVec<u64, 5>
+    requires groups { length places.now ≡ length sizes.now }
+    requires few { length places.now ≤ 5 }
+    requires some { 1 ≤ product sizes.now }
+    requires fits { product sizes.now ≤ greatest_size }
+    ensures { result.items ≡ map (factor_at places.now sizes.now) places.now }
+{
+    let mut factors = ArrayVec::<u64, 5>::new();
+    for place in places {
+        factors.push(factor(places, sizes, *place));
+    }
+    factors
+}

@@ -1,0 +1,188 @@
+ghost use Rattle.std.specs.Prelude.{◌≡◌, ◌≤◌, ◌<◌, ◌↔◌, IfOk, OnOk, Err, Some, None, IsTrue, cond, length};
+ghost use Rattle.place_index.specs.Shape.{layout, both_have_pawns, HasGoodPieces, HasGoodOrder, groups_of, factors_of, size_of, greatest_size};
+ghost use Rattle.std.specs.Option.{ForSome};
+
+use crate::arrangement::has_good_pieces;
+use crate::group::{Group, groups};
+use crate::material::{Material, both_have_pawns, leading_men};
+use crate::places::{factors, places};
+use crate::sizes::{leading_size, product, sizes};
+use arrayvec::ArrayVec;
+use std::marker::Model;
+
+/// Why a table file's pieces and order nibbles make no shape.
+#[derive(Clone, Copy, PartialEq, Eq, Debug)]
+pub enum ShapeFault {
+    /// The pieces are not the men of the material with equal ones side by side, or do not begin with the men that lead.
+    BadPieces,
+    /// An order nibble is no place of a group, or both sides' pawns have the same place.
+    BadOrder,
+}
+
+/// In which order a table takes its men, for one side to move and one file of the leading pawn (Syzygy index, groups).
+///
+/// Its men fall into groups, each of which has a number among the placements of its men. The index is the sum of these
+/// numbers times the groups' factors.
+#[derive(Drop, Debug)]
+pub struct Shape {
+    material: Material,
+    pieces: ArrayVec<u8, 5>,
+    order: u8,
+    second: u8,
+    file: u8,
+    groups: ArrayVec<Group, 5>,
+    factors: ArrayVec<u64, 5>,
+    size: u64,
+}
+
+impl Model for Shape {
+    ghost use Rattle.place_index.specs.Shape.{Layout};
+
+    ghost Value = { Layout };
+
+    ghost use Rattle.place_index.specs.Kept.{layout_of, IsKept};
+
+    ghost view = { layout_of };
+
+    ghost invariant = { IsKept };
+}
+
+/// The place of the pawns that don't lead, where both sides have pawns.
+fn second_place(material: Material, second: u8) -> Option<u8>
+    ensures { result ≡ cond (both_have_pawns material) (Some second) None }
+{
+    if both_have_pawns(material) {
+        Some(second)
+    } else {
+        None
+    }
+}
+
+/// Whether the order nibbles are places of so many groups, different ones where both sides have pawns.
+fn has_good_order(groups: usize, order: u8, second: Option<u8>) -> bool
+    ensures { IsTrue result ↔ (order < groups) × ForSome second (λ s. (s < groups) × (s ≡ order → ⊥)) }
+{
+    let second_is_good = match second {
+        Some(place) => (place as usize) < groups && place != order,
+        None => true,
+    };
+    (order as usize) < groups && second_is_good
+}
+
+impl Shape {
+    /// The shape of a table with this material, for leading pawns on a file from 0 for a and h to 3 for d and e.
+    ///
+    /// The pieces are codes of the table file: 1 to 6 for white's pawn, knight, bishop, rook, queen and king, 9 to 14 for
+    /// black's. `order` is the place of the leading group among the groups, and `second` that of the other side's pawns,
+    /// which is not looked at unless both sides have pawns.
+    ///
+    /// `BadPieces` comes before `BadOrder`.
+    pub fn new(
+        material: &Material,
+        pieces: &[u8],
+        order: u8,
+        second: u8,
+        file: u8,
+    ) -> Result<Shape, ShapeFault>
+        requires { file < 4 }
+
+        ensures shape { IfOk result (λ s. s ≡ layout material.now pieces.now order second file) }
+        ensures good { OnOk result (HasGoodPieces material.now pieces.now × HasGoodOrder (layout material.now pieces.now order second file)) }
+
+        ensures bad_pieces { (result ≡ Err ShapeFault.BadPieces) ↔ (HasGoodPieces material.now pieces.now → ⊥) }
+        ensures bad_order { result ≡ Err ShapeFault.BadOrder → HasGoodPieces material.now pieces.now × (HasGoodOrder (layout material.now pieces.now order second file) → ⊥) }
+    {
+        if !has_good_pieces(*material, pieces) {
+            return Err(ShapeFault::BadPieces);
+        }
+        let lead = leading_men(*material);
+        let groups = groups(lead, pieces);
+        let second_place = second_place(*material, second);
+        if !has_good_order(groups.len(), order, second_place) {
+            return Err(ShapeFault::BadOrder);
+        }
+        let sizes = sizes(leading_size(*material, file), lead, &groups.as_slice()[1..]);
+        let places = places(groups.len(), order, second_place);
+        Ok(Shape {
+            material: *material,
+            pieces: copied(pieces),
+            order,
+            second,
+            file,
+            groups,
+            factors: factors(places.as_slice(), sizes.as_slice()),
+            size: product(sizes.as_slice()),
+        })
+    }
+
+    /// The table's material.
+    pub fn material(&self) -> Material
+        ensures { result ≡ self.now.material }
+    {
+        self.material
+    }
+
+    /// The piece codes in the order of the groups.
+    pub fn pieces(&self) -> &[u8]
+        ensures { result.now ≡ self.now.pieces }
+    {
+        self.pieces.as_slice()
+    }
+
+    /// The place of the leading group among all groups.
+    pub fn order(&self) -> u8
+        ensures { result ≡ self.now.order }
+    {
+        self.order
+    }
+
+    /// The place of the other side's pawns, where both sides have pawns, and else what the table file has there.
+    pub fn second(&self) -> u8
+        ensures { result ≡ self.now.second }
+    {
+        self.second
+    }
+
+    /// The file of the leading pawn, from 0 for a and h to 3 for d and e.
+    pub fn file(&self) -> u8
+        ensures is { result ≡ self.now.file }
+        ensures left { result < 4 }
+    {
+        self.file
+    }
+
+    /// The leading group, then the runs of equal pieces after it.
+    pub fn groups(&self) -> &[Group]
+        ensures { result.now ≡ groups_of self.now }
+    {
+        self.groups.as_slice()
+    }
+
+    /// By what each group's number is multiplied.
+    pub fn factors(&self) -> &[u64]
+        ensures { result.now ≡ factors_of self.now }
+    {
+        self.factors.as_slice()
+    }
+
+    /// How many indices there are: the product of the groups' sizes.
+    pub fn size(&self) -> u64
+        ensures is { result ≡ size_of self.now }
+        ensures some { 1 ≤ result }
+        ensures most { result ≤ greatest_size }
+    {
+        self.size
+    }
+}
+
+/// The pieces in room of their own.
+fn copied(pieces: &[u8]) -> ArrayVec<u8, 5>
+    requires { length pieces.now ≤ 5 }
+    ensures { result.items ≡ pieces.now }
+{
+    let mut copied = ArrayVec::<u8, 5>::new();
+    for piece in pieces {
+        copied.push(*piece);
+    }
+    copied
+}
