@@ -1,5 +1,5 @@
 -- A text has one first fault.
-use Rattle.std.proofs.Common.{◌≡◌, ℕ, List, length, ◌⊎◌, inl, inr, refl, sym, ap, subst}
+use Rattle.std.proofs.Common.{◌≡◌, ℕ, List, length, refl, ap, subst}
 use Rattle.board_core.specs.declared.parts.Parts.{Parts}
 use Rattle.board_core.specs.declared.position.PositionFault.{PositionFault}
 use Rattle.board_core.specs.declared.position.PositionFault.TheVariants.{BadKings, TooManyMen, PawnOnEdge, BadCastling, BadEnPassant, OpponentInCheck, BadCounter}
@@ -7,8 +7,8 @@ use Rattle.board_core.specs.Position.{IsFirstFault}
 use Rattle.fen_text.specs.declared.fault.FenFault.{FenFault}
 use Rattle.fen_text.specs.declared.fault.FenFault.TheVariants.{FieldCount, BadPlacement, BadSide, BadCastlingText, BadSquare, BadNumber, BadPosition}
 use Rattle.fen_text.specs.Placement.{SpellsPlacement}
-use Rattle.fen_text.specs.Fields.{SpellsSide, SpellsCastling, SpellsEnPassant, SpellsCounter}
-use Rattle.fen_text.specs.Fen.{SixFields, HasPlacement, HasSide, HasCastling, HasSquare, HasNumbers, IsFirstFenFault}
+use Rattle.fen_text.specs.Fields.{SpellsSide, SpellsCastling, SpellsEnPassant}
+use Rattle.fen_text.specs.Fen.{SixFields, HasPlacement, HasSide, HasCastling, HasSquare, IsFirstFenFault}
 use Rattle.fen_text.proofs.FenLaws.{same_fields, spells_one, has_fields}
 
 -- parts have one first fault

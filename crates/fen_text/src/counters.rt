@@ -1,19 +1,31 @@
 //! The fifth and sixth fields: numbers from 0 to 9999.
 
-ghost use Rattle.std.specs.Prelude.{◌≡◌, ◌≤◌, ℕ, IfSome, IfNone};
+ghost use Rattle.std.specs.Prelude.{◌≡◌, ◌<◌, ◌+◌, ◌++◌, ◌∷◌, [], ℕ, IfSome, IfNone};
+ghost use Rattle.arrayvec.specs.ArrayString.{array_string_len};
 ghost use Rattle.std.specs.Fmt.{decimal};
 ghost use Rattle.fen_text.specs.Fields.{SpellsCounter};
 
 use arrayvec::ArrayString;
-use itoa::Buffer;
+
+/// Writes a digit.
+fn push_digit(digit: u8, text: &mut ArrayString<5>)
+    requires digit { digit < 10 }
+    requires room { array_string_len text.old < 5 }
+    ensures { text.new.bytes ≡ text.old.bytes ++ (48 + digit) ∷ [] }
+{
+    text.push((b'0' + digit) as char);
+}
 
 /// The digits of a number.
 pub(crate) fn digits(number: u16) -> ArrayString<5>
     ensures { result.bytes ≡ decimal number }
 {
-    let mut buffer = Buffer::new();
-    let mut text = ArrayString::new();
-    text.push_str(buffer.format(number));
+    let mut text = if number < 10 {
+        ArrayString::new()
+    } else {
+        digits(number / 10)
+    };
+    push_digit((number % 10) as u8, &mut text);
     text
 }
 

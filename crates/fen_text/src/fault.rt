@@ -1,3 +1,5 @@
+//! Why a text is not the FEN text of a position.
+
 ghost use Rattle.std.specs.Prelude.{◌≡◌};
 ghost use Rattle.fen_text.specs.Fen.{fault_name};
 
