@@ -9,8 +9,7 @@ ghost use Rattle.fen_text.specs.Coordinates.{promotion_text, move_text, SpellsMo
 use crate::fields::read_square;
 use crate::writing::square_name;
 use arrayvec::ArrayString;
-use board_core::Move;
-use board_core::Promotion;
+use board_core::{Move, Promotion};
 
 /// The promotion that a letter stands for.
 fn read_promotion(letter: u8) -> Option<Promotion>

@@ -7,9 +7,7 @@ ghost use Rattle.board_core.specs.declared.parts.Rights.{Rights};
 ghost use Rattle.fen_text.specs.Fields.{SpellsSide, SpellsCastling, SpellsEnPassant, square_text};
 ghost use Rattle.fen_text.specs.Scan.{begins, after};
 
-use board_core::Rights;
-use board_core::Side;
-use board_core::Square;
+use board_core::{Rights, Side, Square};
 
 /// The side to move: `w` or `b`.
 pub(crate) fn read_side(text: &[u8]) -> Option<Side>

@@ -12,8 +12,7 @@ use crate::cuts::six_fields;
 use crate::fault::FenFault;
 use crate::fields::{read_castling, read_en_passant, read_side};
 use crate::placement::read_placement;
-use board_core::Parts;
-use board_core::Position;
+use board_core::{Parts, Position};
 
 /// The parts that a text spells, or the first field that spells nothing.
 fn read_parts(text: &[u8]) -> Result<Parts, FenFault>

@@ -1,9 +1,6 @@
 use crate::fault::FenFault;
 use crate::{read, read_move, write, write_move};
-use board_core::Move;
-use board_core::{Kind, Piece, Promotion, Side};
-use board_core::PositionFault;
-use board_core::Square;
+use board_core::{Kind, Move, Piece, PositionFault, Promotion, Side, Square};
 use std::test::*;
 
 const START: &str = "rnbqkbnr/pppppppp/8/8/8/8/PPPPPPPP/RNBQKBNR w KQkq - 0 1";

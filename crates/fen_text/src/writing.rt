@@ -10,10 +10,7 @@ ghost use Rattle.fen_text.specs.Written.{run_text, rank_text, placement_text, fe
 
 use crate::counters::digits;
 use arrayvec::ArrayString;
-use board_core::Rights;
-use board_core::{Kind, Men, Piece, Side};
-use board_core::Position;
-use board_core::Square;
+use board_core::{Kind, Men, Piece, Position, Rights, Side, Square};
 
 /// The letter of a man.
 fn letter(man: Piece) -> &'static str
