@@ -22,7 +22,7 @@ use Rattle.board_core.specs.Castling.{has_right, king_home, rook_home, king_end,
 use Rattle.board_core.specs.Side.{other}
 use Rattle.board_core.specs.Attack.{man_at, Reaches, IsInCheck, IsPawnAttack, Along, forward}
 use Rattle.board_core.specs.Moves.{Legal, IsMove, IsTaken, after, men_after, carried, landed, behind, Stands, IsFree, IsBetween, first_rank, last_rank, rights_after, keeps_right, one_more, halfmove_after, fullmove_after}
-use Rattle.board_core.specs.Position.{IsPosition, is_of, is_king_of, is_king, is_same_side, IsRightHonest, HasHonestRights, passed_rank, HasNoPawnOnEdge, HasHonestEnPassant}
+use Rattle.board_core.specs.Position.{IsPosition, is_of, is_king_of, is_king, is_same_side, IsRightValid, HasValidRights, passed_rank, HasNoPawnOnEdge, HasValidEnPassant}
 
 abbrev some_man : Side → Kind → Option Piece
 some_man side what = Some (record { side = side; kind = what })
@@ -219,7 +219,7 @@ way White QueenSide = record { king_on = omega arith; rook_on = omega arith; kin
 way Black KingSide = record { king_on = omega arith; rook_on = omega arith; king_to = omega arith; rook_to = omega arith; between = inl (omega arith, omega arith); rook_between = inl (omega arith, omega arith); apart = omega arith; rook_apart = omega arith; rook_king = omega arith; rook_king_end = omega arith; end_king = omega arith; end_king_end = omega arith }
 way Black QueenSide = record { king_on = omega arith; rook_on = omega arith; king_to = omega arith; rook_to = omega arith; between = inr (omega arith, omega arith); rook_between = inr (omega arith, omega arith); apart = omega arith; rook_apart = omega arith; rook_king = omega arith; rook_king_end = omega arith; end_king = omega arith; end_king_end = omega arith }
 
-pub honest : (p : Parts) (side : Side) (wing : Wing) → HasHonestRights p → IsRightHonest p side wing
+pub honest : (p : Parts) (side : Side) (wing : Wing) → HasValidRights p → IsRightValid p side wing
 honest p White KingSide h = h.0
 honest p White QueenSide h = h.1
 honest p Black KingSide h = h.2
@@ -425,7 +425,7 @@ unwrap (Some s) = s
 none_some : (s : ℕ) → (None ≡ Some s) → ⊥
 none_some s e = cc
 
-passed-move : (p : Parts) (m : Move) (c : MoveCase) → IsPosition p → m.from < 64 → m.to < 64 → IsMove p m c → HasHonestEnPassant (after p m c)
+passed-move : (p : Parts) (m : Move) (c : MoveCase) → IsPosition p → m.from < 64 → m.to < 64 → IsMove p m c → HasValidEnPassant (after p m c)
 unfolding after
 passed-move p m Plain i lf lt r = λ s e. absurd (none_some s e)
 passed-move p m Advance i lf lt r = λ s e. absurd (none_some s e)

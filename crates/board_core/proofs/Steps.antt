@@ -15,7 +15,7 @@ use Rattle.board_core.specs.Attack.{Reaches}
 use Rattle.board_core.specs.declared.generation.Survey.{Survey}
 use Rattle.board_core.specs.Side.{other}
 use Rattle.board_core.specs.Moves.{Stands, IsFree, IsTaken, IsMove, IsPlain, IsCapture, place_of, promotion_place}
-use Rattle.board_core.specs.Search.{IsListed, IsStep, IsLoose, IsSurvey, HasListedBelow}
+use Rattle.board_core.specs.Search.{IsListed, IsStep, IsUnpinned, IsSurvey, HasListedBelow}
 use Rattle.board_core.proofs.Safety.{safe_legal}
 use Rattle.board_core.proofs.Preserved.{way, side_cases}
 use Rattle.board_core.proofs.Surveying.{taken}
@@ -117,16 +117,16 @@ abbrev step_move : ℕ → ℕ → Move
 step_move from to = record { from = from; to = to; promotion = None }
 
 -- a step of a piece that may go anywhere is a move that is listed
-pub step_listed : (p : Parts) (which : Which) (sort : Kind) (from to : ℕ) → from < 64 → to < 64 → Stands p.men from p.side sort → sort ≢ Pawn → IsLoose p from → IsStep p which sort from to → IsListed which p (step_move from to)
-step_listed p which sort from to lf lt st np loose h =
+pub step_listed : (p : Parts) (which : Which) (sort : Kind) (from to : ℕ) → from < 64 → to < 64 → Stands p.men from p.side sort → sort ≢ Pawn → IsUnpinned p from → IsStep p which sort from to → IsListed which p (step_move from to)
+step_listed p which sort from to lf lt st np unpinned h =
     let rule : IsMove p (step_move from to) Plain = record { kind = sort; no_pawn = np; stands = st; reaches = h.reaches; free = h.free; whole = refl } in
-    (safe_legal p (step_move from to) Plain lf lt rule (loose (step_move from to) Plain refl lt rule tt), h.wanted)
+    (safe_legal p (step_move from to) Plain lf lt rule (unpinned (step_move from to) Plain refl lt rule tt), h.wanted)
 
 -- and the only one between the two squares
-pub step_pushed : (p : Parts) (which : Which) (sort : Kind) (from to : ℕ) (moves : List Move) → from < 64 → to < 64 → Stands p.men from p.side sort → sort ≢ Pawn → IsLoose p from → IsStep p which sort from to → HasListedBelow p which (320 * from + 5 * to) moves → HasListedBelow p which (320 * from + 5 * (to + 1)) (moves ++ step_move from to ∷ [])
-step_pushed p which sort from to moves lf lt st np loose h below =
+pub step_pushed : (p : Parts) (which : Which) (sort : Kind) (from to : ℕ) (moves : List Move) → from < 64 → to < 64 → Stands p.men from p.side sort → sort ≢ Pawn → IsUnpinned p from → IsStep p which sort from to → HasListedBelow p which (320 * from + 5 * to) moves → HasListedBelow p which (320 * from + 5 * (to + 1)) (moves ++ step_move from to ∷ [])
+step_pushed p which sort from to moves lf lt st np unpinned h below =
     let start : HasListedBelow p which (place_of (step_move from to)) moves = HasListedBelow-skip p which _ _ moves below (omega arith) (λ m l low high. absurd (omega arith)) in
-    let pushed = HasListedBelow-push p which (step_move from to) moves start (step_listed p which sort from to lf lt st np loose h) in
+    let pushed = HasListedBelow-push p which (step_move from to) moves start (step_listed p which sort from to lf lt st np unpinned h) in
     HasListedBelow-skip p which _ _ _ pushed (omega arith) (λ m l low high.
     let k = promotion_below m.promotion in
     let e : m.from ≡ from = omega (arith, l.0.1.to_board) in

@@ -41,49 +41,50 @@ abbrev pub is_king_of : Side → Option Piece → Bool
 is_king_of side None = false
 is_king_of side (Some man) = is_same_side side man.side && is_king man.kind
 
--- 1: each side has exactly one king
+-- 1: each side has exactly one king (FIDE article 2.2)
 abbrev pub HasOneKingEach : List (Option Piece) → Type 0
 HasOneKingEach men = (count_by (is_king_of White) men ≡ 1) × (count_by (is_king_of Black) men ≡ 1)
 
--- 2: a side has at most 16 men
+-- 2: a side has at most the 16 men that it begins with (FIDE article 2.2)
 abbrev pub HasFewMen : List (Option Piece) → Type 0
 HasFewMen men = (count_by (is_of White) men ≤ 16) × (count_by (is_of Black) men ≤ 16)
 
--- 3: no pawn stands on the first or the eighth rank
+-- 3: no pawn stands on the first or the eighth rank (FIDE articles 2.3 and 3.7.3.3)
 abbrev pub HasNoPawnOnEdge : List (Option Piece) → Type 0
 HasNoPawnOnEdge men = (s : ℕ) (side : Side) → s < 64 → Stands men s side Pawn → (0 < rank_of s) × (rank_of s < 7)
 
 -- 4: a right stands only while its king and its rook stand at home
-abbrev pub IsRightHonest : Parts → Side → Wing → Type 0
-IsRightHonest p side wing =
+abbrev pub IsRightValid : Parts → Side → Wing → Type 0
+IsRightValid p side wing =
     IsTrue (has_right p.rights side wing) → Stands p.men (king_home side) side King × Stands p.men (rook_home side wing) side Rook
 
-abbrev pub HasHonestRights : Parts → Type 0
-HasHonestRights p =
-    IsRightHonest p White KingSide × IsRightHonest p White QueenSide × IsRightHonest p Black KingSide × IsRightHonest p Black QueenSide
+abbrev pub HasValidRights : Parts → Type 0
+HasValidRights p =
+    IsRightValid p White KingSide × IsRightValid p White QueenSide × IsRightValid p Black KingSide × IsRightValid p Black QueenSide
 
 -- the rank that a double step of the other side passes: the sixth for white to move, the third for black
 abbrev pub passed_rank : Side → ℕ
 passed_rank White = 5
 passed_rank Black = 2
 
--- 5: a pawn of the side that is not to move has just passed the en passant square
+-- 5: a pawn of the side that is not to move has just passed the en passant square (FIDE article 3.7.3.1; PGN standard,
+-- section 16.1.3.4)
 pub record IsPassed (p : Parts) (s : ℕ) : Type 0 where
   pub rank : rank_of s ≡ passed_rank p.side
   pub pawn : Stands p.men (behind p.side s) (other p.side) Pawn
   pub empty : man_at p.men s ≡ None
   pub origin : man_at p.men (behind (other p.side) s) ≡ None
 
-abbrev pub HasHonestEnPassant : Parts → Type 0
-HasHonestEnPassant p = (s : ℕ) → p.en_passant ≡ Some s → IsPassed p s
+abbrev pub HasValidEnPassant : Parts → Type 0
+HasValidEnPassant p = (s : ℕ) → p.en_passant ≡ Some s → IsPassed p s
 
--- 6: the side that is not to move is not in check
-abbrev pub IsQuiet : Parts → Type 0
-IsQuiet p = IsInCheck p.men (other p.side) → ⊥
+-- 6: the side that is not to move is not in check (FIDE article 3.9.2)
+abbrev pub IsOpponentSafe : Parts → Type 0
+IsOpponentSafe p = IsInCheck p.men (other p.side) → ⊥
 
--- 7: no counter is above 9999
-abbrev pub HasFairCounters : Parts → Type 0
-HasFairCounters p = (p.halfmove ≤ 9999) × (p.fullmove ≤ 9999)
+-- 7: no counter is above 9999 (this project's own bound)
+abbrev pub HasValidCounters : Parts → Type 0
+HasValidCounters p = (p.halfmove ≤ 9999) × (p.fullmove ≤ 9999)
 
 -- the parts are a position: a map from the 64 squares to men, side, rights, en passant square and counters
 -- under the seven conditions
@@ -92,10 +93,10 @@ pub record IsPosition (p : Parts) : Type 0 where
   pub kings : HasOneKingEach p.men
   pub few : HasFewMen p.men
   pub pawns : HasNoPawnOnEdge p.men
-  pub rights : HasHonestRights p
-  pub en_passant : HasHonestEnPassant p
-  pub quiet : IsQuiet p
-  pub counters : HasFairCounters p
+  pub rights : HasValidRights p
+  pub en_passant : HasValidEnPassant p
+  pub quiet : IsOpponentSafe p
+  pub counters : HasValidCounters p
 
 -- the first condition that fails, in their order
 abbrev pub IsFirstFault : Parts → PositionFault → Type 0
@@ -103,13 +104,13 @@ IsFirstFault p BadKings = HasOneKingEach p.men → ⊥
 IsFirstFault p TooManyMen = HasOneKingEach p.men × (HasFewMen p.men → ⊥)
 IsFirstFault p PawnOnEdge = HasOneKingEach p.men × HasFewMen p.men × (HasNoPawnOnEdge p.men → ⊥)
 IsFirstFault p BadCastling =
-    HasOneKingEach p.men × HasFewMen p.men × HasNoPawnOnEdge p.men × (HasHonestRights p → ⊥)
+    HasOneKingEach p.men × HasFewMen p.men × HasNoPawnOnEdge p.men × (HasValidRights p → ⊥)
 IsFirstFault p BadEnPassant =
-    HasOneKingEach p.men × HasFewMen p.men × HasNoPawnOnEdge p.men × HasHonestRights p × (HasHonestEnPassant p → ⊥)
+    HasOneKingEach p.men × HasFewMen p.men × HasNoPawnOnEdge p.men × HasValidRights p × (HasValidEnPassant p → ⊥)
 IsFirstFault p OpponentInCheck =
-    HasOneKingEach p.men × HasFewMen p.men × HasNoPawnOnEdge p.men × HasHonestRights p × HasHonestEnPassant p × (IsQuiet p → ⊥)
+    HasOneKingEach p.men × HasFewMen p.men × HasNoPawnOnEdge p.men × HasValidRights p × HasValidEnPassant p × (IsOpponentSafe p → ⊥)
 IsFirstFault p BadCounter =
-    HasOneKingEach p.men × HasFewMen p.men × HasNoPawnOnEdge p.men × HasHonestRights p × HasHonestEnPassant p × IsQuiet p × (HasFairCounters p → ⊥)
+    HasOneKingEach p.men × HasFewMen p.men × HasNoPawnOnEdge p.men × HasValidRights p × HasValidEnPassant p × IsOpponentSafe p × (HasValidCounters p → ⊥)
 
 -- the name of a fault
 abbrev pub fault_name : PositionFault → List ℕ

@@ -119,8 +119,8 @@ IsCarry EnPassant = ⊥
 IsCarry (Castle wing) = ⊥
 
 -- whatever goes alone from this square leaves its king unattacked
-abbrev pub IsLoose : Parts → ℕ → Type 0
-IsLoose p from = (m : Move) (c : MoveCase) → m.from ≡ from → m.to < 64 → IsMove p m c → IsCarry c
+abbrev pub IsUnpinned : Parts → ℕ → Type 0
+IsUnpinned p from = (m : Move) (c : MoveCase) → m.from ≡ from → m.to < 64 → IsMove p m c → IsCarry c
     → IsInCheck (men_after p m c) p.side → ⊥
 
 -- a piece may go from this square to that one, leaving its king's safety aside

@@ -1,4 +1,4 @@
--- The two players (FIDE article 2.1).
+-- The two players (FIDE article 1.1).
 use Rattle.board_core.specs.declared.piece.Side.{Side}
 use Rattle.board_core.specs.declared.piece.Side.TheVariants.{White, Black}
 

@@ -1,3 +1,5 @@
+//! Attack and check: steps, and rays over empty squares.
+
 ghost use Rattle.std.specs.Prelude.{◌≡◌, ◌<◌, ◌≤◌, ◌↔◌, ◌+◌, ◌-◌, ℕ, IsTrue, IfSome, IfNone};
 ghost use Rattle.board_core.specs.Search.{IsHop, IsHopped, IsInside, IsStruck};
 ghost use Rattle.board_core.specs.Attack.{Along, IsClear, Goes, Ray, IsKingStep, IsKnightStep, IsPawnAttack, Reaches, IsAttacked, IsInCheck, forward};

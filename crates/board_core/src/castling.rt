@@ -1,9 +1,12 @@
+//! The squares of castling.
+
 ghost use Rattle.std.specs.Prelude.{◌≡◌};
 ghost use Rattle.board_core.specs.Castling.{king_home, rook_home, king_end, rook_end};
 
 use crate::piece::{Side, Wing};
 use crate::square::Square;
 
+/// Where this side's king begins: e1 or e8.
 pub fn king_home(side: Side) -> Square
     ensures { result ≡ king_home side }
 {
@@ -13,6 +16,7 @@ pub fn king_home(side: Side) -> Square
     }
 }
 
+/// Where the rook of this side and wing begins.
 pub fn rook_home(side: Side, wing: Wing) -> Square
     ensures { result ≡ rook_home side wing }
 {
@@ -24,6 +28,7 @@ pub fn rook_home(side: Side, wing: Wing) -> Square
     }
 }
 
+/// Where the king goes to castle: file g or c.
 pub fn king_end(side: Side, wing: Wing) -> Square
     ensures { result ≡ king_end side wing }
 {
@@ -35,6 +40,7 @@ pub fn king_end(side: Side, wing: Wing) -> Square
     }
 }
 
+/// Where the rook then goes: file f or d.
 pub fn rook_end(side: Side, wing: Wing) -> Square
     ensures { result ≡ rook_end side wing }
 {

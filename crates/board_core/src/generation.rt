@@ -1,9 +1,15 @@
+//! Listing the legal moves.
+//!
+//! The men are surveyed once; each man's targets are a set of squares, swept from the lowest up, so that
+//! the moves come in order. `next` is where such a sweep stands: the proofs speak of it. A king of the
+//! side that moves is looked for on any board, so no call here needs the seven conditions.
+
 ghost use Rattle.std.specs.Prelude.{◌≡◌, ◌≢◌, ◌<◌, ◌↔◌, ◌+◌, ◌*◌, ℕ, [], IsTrue, IfOk, OnOk, filter, Some, None};
 ghost use Rattle.std.specs.Int.{bit_at};
 ghost use Rattle.board_core.specs.Attack.{IsInCheck, Reaches};
 ghost use Rattle.board_core.specs.Moves.{Stands, IsFree, IsTaken, IsMove, Lists, HasLegal, HasLegalCaptures, place_of, men_after, last_rank};
-ghost use Rattle.board_core.specs.ComputedMoves.{is_capture, legal_moves};
-ghost use Rattle.board_core.specs.Search.{HasListedBelow, IsCarry, IsGuard, IsListed, IsLoose, IsStep, IsSurvey, IsWanted, IsKnown, HasAttacked, bared};
+ghost use Rattle.board_core.specs.ComputedMoves.{legal_captures, legal_moves};
+ghost use Rattle.board_core.specs.Search.{HasListedBelow, IsCarry, IsGuard, IsListed, IsUnpinned, IsStep, IsSurvey, IsWanted, IsKnown, HasAttacked, bared};
 ghost use Rattle.board_core.specs.Side.{other};
 ghost use Rattle.board_core.specs.Square.{rank_of};
 
@@ -108,7 +114,7 @@ fn attacked_squares(men: &Men, side: Side, enemy: u64) -> u64
     let mut next = 0u8;
     while rest != 0 {
         let from = targets::lowest(rest);
-        all = all | attacks_from(men, side, from);
+        all |= attacks_from(men, side, from);
         rest = targets::without(rest, from);
         next = from.number() + 1;
     }
@@ -161,9 +167,9 @@ fn is_carry(case: MoveCase) -> bool
 }
 
 /// Whether the man on this square may go wherever it likes, as far as its king is concerned.
-fn is_loose(p: &Parts, g: &Guard, from: Square) -> bool
+fn is_unpinned(p: &Parts, g: &Guard, from: Square) -> bool
     requires { IsGuard p.now g.now }
-    ensures { IsTrue result → IsLoose p.now from }
+    ensures { IsTrue result → IsUnpinned p.now from }
 {
     prove!(from.number() < 64);
     if !g.calm {
@@ -192,15 +198,15 @@ fn king_after(m: &Move, g: &Guard) -> Square
 }
 
 /// Whether the king of the side that moves isn't attacked after the move.
-fn is_safe(p: &Parts, m: &Move, case: MoveCase, g: &Guard, loose: bool) -> bool
+fn is_safe(p: &Parts, m: &Move, case: MoveCase, g: &Guard, unpinned: bool) -> bool
     requires rule { IsMove p.now m.now case }
     requires guard { IsGuard p.now g.now }
-    requires loose { IsTrue loose → IsLoose p.now m.now.from }
+    requires unpinned { IsTrue unpinned → IsUnpinned p.now m.now.from }
     ensures { IsTrue result ↔ (IsInCheck (men_after p.now m.now case) p.now.side → ⊥) }
 {
     prove!(m.from.number() < 64);
     prove!(m.to.number() < 64);
-    if loose && is_carry(case) {
+    if unpinned && is_carry(case) {
         return true;
     }
     if is_king_away(m, case, g) {
@@ -229,12 +235,12 @@ fn add(
     p: &Parts,
     g: &Guard,
     which: Which,
-    loose: bool,
+    unpinned: bool,
     m: &Move,
     moves: &mut Vec<Move>,
 ) -> Result<(), AllocError>
     requires guard { IsGuard p.now g.now }
-    requires loose { IsTrue loose → IsLoose p.now m.now.from }
+    requires unpinned { IsTrue unpinned → IsUnpinned p.now m.now.from }
     requires below { HasListedBelow p.now which (place_of m.now) moves.old.items }
     ensures { OnOk result (HasListedBelow p.now which (place_of m.now + 1) moves.new.items) }
 {
@@ -247,7 +253,7 @@ fn add(
         Some(case) => case,
         None => return Ok(()),
     };
-    if !is_safe(p, m, case, g, loose) {
+    if !is_safe(p, m, case, g, unpinned) {
         return Ok(());
     }
     moves.push(*m)?;
@@ -267,13 +273,13 @@ fn add_between(
     p: &Parts,
     g: &Guard,
     which: Which,
-    loose: bool,
+    unpinned: bool,
     from: Square,
     to: Square,
     moves: &mut Vec<Move>,
 ) -> Result<(), AllocError>
     requires guard { IsGuard p.now g.now }
-    requires loose { IsTrue loose → IsLoose p.now from }
+    requires unpinned { IsTrue unpinned → IsUnpinned p.now from }
     requires below { HasListedBelow p.now which (320 * from + 5 * to) moves.old.items }
     ensures { OnOk result (HasListedBelow p.now which (320 * from + 5 * (to + 1)) moves.new.items) }
 {
@@ -283,7 +289,7 @@ fn add_between(
         to,
         promotion: None,
     };
-    add(p, g, which, loose, &plain, moves)?;
+    add(p, g, which, unpinned, &plain, moves)?;
     if !may_promote(p, from, to) {
         return Ok(());
     }
@@ -292,25 +298,25 @@ fn add_between(
         to,
         promotion: Some(Promotion::Queen),
     };
-    add(p, g, which, loose, &queen, moves)?;
+    add(p, g, which, unpinned, &queen, moves)?;
     let rook = Move {
         from,
         to,
         promotion: Some(Promotion::Rook),
     };
-    add(p, g, which, loose, &rook, moves)?;
+    add(p, g, which, unpinned, &rook, moves)?;
     let bishop = Move {
         from,
         to,
         promotion: Some(Promotion::Bishop),
     };
-    add(p, g, which, loose, &bishop, moves)?;
+    add(p, g, which, unpinned, &bishop, moves)?;
     let knight = Move {
         from,
         to,
         promotion: Some(Promotion::Knight),
     };
-    add(p, g, which, loose, &knight, moves)?;
+    add(p, g, which, unpinned, &knight, moves)?;
     Ok(())
 }
 
@@ -328,12 +334,12 @@ fn add_targets(
     requires whole { (m : Move) → IsListed which p.now m → m.from ≡ from → bit_at set m.to ≡ 1 }
     ensures { OnOk result (HasListedBelow p.now which (320 * (from + 1)) moves.new.items) }
 {
-    let loose = is_loose(p, g, from);
+    let unpinned = is_unpinned(p, g, from);
     let mut rest = set;
     let mut next = 0u8;
     while rest != 0 {
         let to = targets::lowest(rest);
-        add_between(p, g, which, loose, from, to, moves)?;
+        add_between(p, g, which, unpinned, from, to, moves)?;
         rest = targets::without(rest, to);
         next = to.number() + 1;
     }
@@ -351,7 +357,7 @@ fn add_steps(
 ) -> Result<(), AllocError>
     requires stands { Stands p.now.men from p.now.side kind }
     requires piece { kind ≢ Kind.Pawn }
-    requires loose { IsLoose p.now from }
+    requires unpinned { IsUnpinned p.now from }
     requires below { HasListedBelow p.now which (320 * from) moves.old.items }
     requires steps { (s : ℕ) → bit_at set s ≡ 1 → IsStep p.now which kind from s }
     requires whole { (m : Move) → IsListed which p.now m → m.from ≡ from → bit_at set m.to ≡ 1 }
@@ -456,7 +462,7 @@ fn add_from(
                 return Ok(());
             }
             let guard = guard_in(p, v, known);
-            if is_loose(p, &guard, from) {
+            if is_unpinned(p, &guard, from) {
                 return add_steps(p, which, kind, from, set, moves);
             }
             add_targets(p, &guard, which, from, set, moves)
@@ -499,7 +505,7 @@ pub fn legal(p: &Parts, alloc: Global) -> Result<Vec<Move>, AllocError>
 /// The legal captures, en passant among them, each once, in order of from, to and promotion.
 pub fn captures(p: &Parts, alloc: Global) -> Result<Vec<Move>, AllocError>
     ensures legal { IfOk result (λ moves. HasLegalCaptures p.now moves.items) }
-    ensures computed { IfOk result (λ moves. moves.items ≡ filter (is_capture p.now) (legal_moves p.now)) }
+    ensures computed { IfOk result (λ moves. moves.items ≡ legal_captures p.now) }
 {
     let moves = listed(p, Which::Captures, Vec::new(alloc))?;
     Ok(moves)

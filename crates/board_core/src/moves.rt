@@ -1,3 +1,5 @@
+//! Moves.
+
 use crate::piece::{Promotion, Wing};
 use crate::square::Square;
 
@@ -5,8 +7,11 @@ use crate::square::Square;
 /// rank. Castling is the king's move of two squares.
 #[derive(Clone, Copy, PartialEq, Eq, PartialOrd, Ord, Debug)]
 pub struct Move {
+    /// The square that the man leaves.
     pub from: Square,
+    /// The square where it goes.
     pub to: Square,
+    /// What a pawn becomes on its last rank; none for every other move.
     pub promotion: Option<Promotion>,
 }
 

@@ -1,3 +1,5 @@
+//! The parts of a position.
+
 ghost use Rattle.std.specs.Prelude.{◌≡◌};
 ghost use Rattle.board_core.specs.Castling.{has_right};
 
@@ -7,9 +9,13 @@ use crate::square::Square;
 /// Which castlings have not been lost (FIDE article 3.8.2.1).
 #[derive(Clone, Copy, PartialEq, Eq, Debug)]
 pub struct Rights {
+    /// White, with the rook of h1.
     pub white_king: bool,
+    /// White, with the rook of a1.
     pub white_queen: bool,
+    /// Black, with the rook of h8.
     pub black_king: bool,
+    /// Black, with the rook of a8.
     pub black_queen: bool,
 }
 

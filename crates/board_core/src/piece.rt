@@ -1,10 +1,14 @@
+//! Sides, kinds of men, and men.
+
 ghost use Rattle.std.specs.Prelude.{◌≡◌};
 ghost use Rattle.board_core.specs.Side.{other};
 
-/// The two players (FIDE article 2).
+/// The two players (FIDE article 1.1).
 #[derive(Clone, Copy, PartialEq, Eq, Debug)]
 pub enum Side {
+    /// The side that begins on ranks 1 and 2.
     White,
+    /// The side that begins on ranks 7 and 8.
     Black,
 }
 
@@ -34,7 +38,9 @@ pub enum Kind {
 /// A man on the board: whose it is and of what kind.
 #[derive(Clone, Copy, PartialEq, Eq, Debug)]
 pub struct Piece {
+    /// Whose man it is.
     pub side: Side,
+    /// What it is.
     pub kind: Kind,
 }
 
@@ -44,7 +50,9 @@ pub type Men = [Option<Piece>; 64];
 /// The two ways to castle (FIDE article 3.8.2): with the rook of file h or of file a.
 #[derive(Clone, Copy, PartialEq, Eq, Debug)]
 pub enum Wing {
+    /// With the rook of file h.
     KingSide,
+    /// With the rook of file a.
     QueenSide,
 }
 

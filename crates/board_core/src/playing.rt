@@ -1,3 +1,5 @@
+//! The position after a move.
+
 ghost use Rattle.std.specs.Prelude.{◌≡◌, ◌<◌, ◌↔◌, ◌+◌, ◌-◌, IsTrue, IfSome, Option};
 ghost use Rattle.board_core.specs.Search.{IsInside};
 ghost use Rattle.board_core.specs.Attack.{forward};

@@ -1,9 +1,11 @@
-ghost use Rattle.std.specs.Prelude.{◌≡◌, ◌<◌, ◌↔◌, IsTrue, IfOk, IfErr, IfSome, count_by, filter, ◌+◌};
-ghost use Rattle.board_core.specs.Position.{is_of, is_king_of, HasOneKingEach, HasFewMen, HasNoPawnOnEdge, IsRightHonest, HasHonestRights, IsQuiet, HasFairCounters, HasHonestEnPassant, IsPassed, passed_rank, IsFirstFault, IsPosition, fault_name};
+//! Positions: the seven conditions, and what the layers above call.
+
+ghost use Rattle.std.specs.Prelude.{◌≡◌, ◌<◌, ◌↔◌, IsTrue, IfOk, IfErr, IfSome, count_by, ◌+◌};
+ghost use Rattle.board_core.specs.Position.{is_of, is_king_of, HasOneKingEach, HasFewMen, HasNoPawnOnEdge, IsRightValid, HasValidRights, IsOpponentSafe, HasValidCounters, HasValidEnPassant, IsPassed, passed_rank, IsFirstFault, IsPosition, fault_name};
 ghost use Rattle.board_core.specs.Moves.{IsLegal, Legal, HasLegal, HasLegalCaptures};
 ghost use Rattle.board_core.specs.Attack.{man_at, IsInCheck};
 ghost use Rattle.board_core.specs.Computed.{is_in_check};
-ghost use Rattle.board_core.specs.ComputedMoves.{position_after, is_legal, is_capture, legal_moves, count_of_men};
+ghost use Rattle.board_core.specs.ComputedMoves.{position_after, is_legal, legal_captures, legal_moves, count_of_men};
 ghost use Rattle.board_core.specs.Side.{other};
 
 use crate::moves::Move;
@@ -109,21 +111,21 @@ fn has_no_pawn_on_edge(men: &Men) -> bool
     true
 }
 
-fn is_right_honest(p: &Parts, side: Side, wing: Wing) -> bool
-    ensures { IsTrue result ↔ IsRightHonest p.now side wing }
+fn is_right_valid(p: &Parts, side: Side, wing: Wing) -> bool
+    ensures { IsTrue result ↔ IsRightValid p.now side wing }
 {
     !p.rights.has(side, wing)
         || rules::stands(&p.men, castling::king_home(side), side, Kind::King)
             && rules::stands(&p.men, castling::rook_home(side, wing), side, Kind::Rook)
 }
 
-fn has_honest_rights(p: &Parts) -> bool
-    ensures { IsTrue result ↔ HasHonestRights p.now }
+fn has_valid_rights(p: &Parts) -> bool
+    ensures { IsTrue result ↔ HasValidRights p.now }
 {
-    is_right_honest(p, Side::White, Wing::KingSide)
-        && is_right_honest(p, Side::White, Wing::QueenSide)
-        && is_right_honest(p, Side::Black, Wing::KingSide)
-        && is_right_honest(p, Side::Black, Wing::QueenSide)
+    is_right_valid(p, Side::White, Wing::KingSide)
+        && is_right_valid(p, Side::White, Wing::QueenSide)
+        && is_right_valid(p, Side::Black, Wing::KingSide)
+        && is_right_valid(p, Side::Black, Wing::QueenSide)
 }
 
 /// Whether a pawn of the side that is not to move has just passed this square.
@@ -150,8 +152,8 @@ fn passed_rank(side: Side) -> u8
     }
 }
 
-fn has_honest_en_passant(p: &Parts) -> bool
-    ensures { IsTrue result ↔ HasHonestEnPassant p.now }
+fn has_valid_en_passant(p: &Parts) -> bool
+    ensures { IsTrue result ↔ HasValidEnPassant p.now }
 {
     match p.en_passant {
         Some(square) => is_passed(p, square),
@@ -159,14 +161,14 @@ fn has_honest_en_passant(p: &Parts) -> bool
     }
 }
 
-fn is_quiet(p: &Parts) -> bool
-    ensures { IsTrue result ↔ IsQuiet p.now }
+fn is_opponent_safe(p: &Parts) -> bool
+    ensures { IsTrue result ↔ IsOpponentSafe p.now }
 {
     !attack::is_in_check(&p.men, p.side.other())
 }
 
-fn has_fair_counters(p: &Parts) -> bool
-    ensures { IsTrue result ↔ HasFairCounters p.now }
+fn has_valid_counters(p: &Parts) -> bool
+    ensures { IsTrue result ↔ HasValidCounters p.now }
 {
     p.halfmove <= 9999 && p.fullmove <= 9999
 }
@@ -205,16 +207,16 @@ impl Position {
         if !has_no_pawn_on_edge(&parts.men) {
             return Err(PositionFault::PawnOnEdge);
         }
-        if !has_honest_rights(&parts) {
+        if !has_valid_rights(&parts) {
             return Err(PositionFault::BadCastling);
         }
-        if !has_honest_en_passant(&parts) {
+        if !has_valid_en_passant(&parts) {
             return Err(PositionFault::BadEnPassant);
         }
-        if !is_quiet(&parts) {
+        if !is_opponent_safe(&parts) {
             return Err(PositionFault::OpponentInCheck);
         }
-        if !has_fair_counters(&parts) {
+        if !has_valid_counters(&parts) {
             return Err(PositionFault::BadCounter);
         }
         Ok(Position { parts })
@@ -273,9 +275,7 @@ impl Position {
         let parts = playing::play(&self.parts, &m)?;
         Some(Position { parts })
     }
-}
 
-impl Position {
     /// The legal moves, each once, in order of from, to and promotion (queen, rook, bishop,
     /// knight). The error comes only where memory for the list is refused.
     pub fn legal(&self, alloc: Global) -> Result<Vec<Move>, AllocError>
@@ -286,16 +286,14 @@ impl Position {
     }
 
     /// The legal moves that take a man, en passant among them, in the same order. The error comes
-    /// only where memory for the list is refused; a list of no moves takes none.
+    /// only where memory for the list is refused.
     pub fn captures(&self, alloc: Global) -> Result<Vec<Move>, AllocError>
         ensures legal { IfOk result (λ moves. HasLegalCaptures self.now moves.items) }
-        ensures computed { IfOk result (λ moves. moves.items ≡ filter (is_capture self.now) (legal_moves self.now)) }
+        ensures computed { IfOk result (λ moves. moves.items ≡ legal_captures self.now) }
     {
         generation::captures(&self.parts, alloc)
     }
-}
 
-impl Position {
     /// The side to move.
     pub fn side(&self) -> Side
         ensures { result ≡ self.now.side }

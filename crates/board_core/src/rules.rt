@@ -1,3 +1,5 @@
+//! The rule of each case of moves, leaving the safety of the mover's king aside.
+
 ghost use Rattle.std.specs.Prelude.{◌≡◌, ◌<◌, ◌↔◌, ◌+◌, ◌-◌, ℕ, IsTrue, IfSome, Option};
 ghost use Rattle.board_core.specs.Attack.{Along, IsAttacked, man_at, forward};
 ghost use Rattle.board_core.specs.Moves.{Stands, IsFree, IsTaken, Promotes, IsPlain, IsAdvance, IsDoubleStep, IsPawnCapture, IsEnPassant, IsCastle, IsCapture, IsMove, first_rank, last_rank, IsBetween, IsOnWay};
@@ -10,6 +12,7 @@ use crate::piece::{Kind, Men, Side, Wing};
 use crate::square::Square;
 use crate::{attack, castling};
 
+/// Whether a man of this side and kind stands on the square.
 pub fn stands(men: &Men, square: Square, side: Side, kind: Kind) -> bool
     ensures { IsTrue result ↔ Stands men.now square side kind }
 {
@@ -19,12 +22,14 @@ pub fn stands(men: &Men, square: Square, side: Side, kind: Kind) -> bool
     }
 }
 
+/// Whether no man stands on the square.
 pub fn is_empty(men: &Men, square: Square) -> bool
     ensures { IsTrue result ↔ (man_at men.now square ≡ None) }
 {
     men[square.number() as usize].is_none()
 }
 
+/// Whether a man of this side stands on the square.
 pub fn is_taken(men: &Men, side: Side, square: Square) -> bool
     ensures taken { IsTrue result → IsTaken men.now side square }
     ensures free { (IsTrue result → ⊥) → IsFree men.now side square }
@@ -47,6 +52,7 @@ fn is_ahead(side: Side, n: u8, from: Square, to: Square) -> bool
         }
 }
 
+/// The rank on which pawns of this side are promoted, counted from 0.
 pub fn last_rank(side: Side) -> u8
     ensures { result ≡ last_rank side }
 {

@@ -1,3 +1,5 @@
+//! Squares.
+
 ghost use Rattle.std.specs.Prelude.{◌≡◌, ◌<◌, ◌↔◌, ◌/◌, ◌%◌, ◌-◌, ℕ, IsSome, IfSome};
 ghost use Rattle.board_core.specs.Square.{file_of, rank_of};
 

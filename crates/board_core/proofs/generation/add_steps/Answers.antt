@@ -7,7 +7,7 @@ pub loop-rest-preserved : goal.loop-rest-preserved
 loop-rest-preserved c =
     let inv = c.loop-rest.invariant in
     let low = c.lowest-to.ensures in record {
-      below = rw (c.in_ok-push.ensures.items, c.number-next.ensures.value) (step_pushed _ _ _ _ _ _ (omega arith) (omega arith) c.requires.stands c.requires.piece c.requires.loose
+      below = rw (c.in_ok-push.ensures.items, c.number-next.ensures.value) (step_pushed _ _ _ _ _ _ (omega arith) (omega arith) c.requires.stands c.requires.piece c.requires.unpinned
           (inv.steps _ low.here) (Targets-below _ _ _ _ _ _ _ (omega arith) inv.rests low.here low.first inv.below));
       rests = rw c.number-next.ensures.value (Rests-without _ _ _ _ _ (omega arith) inv.rests low.first low.here c.without-rest.ensures.gone c.without-rest.ensures.kept);
       steps = λ s bit. inv.steps s (rest_of _ _ _ s (omega arith) c.without-rest.type_inv c.without-rest.ensures.gone c.without-rest.ensures.kept bit);

@@ -1,15 +1,15 @@
 use Rattle.std.proofs.Common.{rules, refl}
 use Rattle.board_core.proofs.position.Position.new.Goals as goal
 
-pub returns-then-not-has_fair_counters-clause-err : goal.returns-then-not-has_fair_counters-clause-err
-returns-then-not-has_fair_counters-clause-err c = (
+pub returns-then-not-has_valid_counters-clause-err : goal.returns-then-not-has_valid_counters-clause-err
+returns-then-not-has_valid_counters-clause-err c = (
   c.if-not-has_one_king_each.ensures.0 (search rules),
   c.if-not-has_few_men.ensures.0 (search rules),
   c.if-not-has_no_pawn_on_edge.ensures.0 (search rules),
-  c.if-not-has_honest_rights.ensures.0 (search rules),
-  c.if-not-has_honest_en_passant.ensures.0 (search rules),
-  c.if-not-is_quiet.ensures.0 (search rules),
-  λ h. let t = c.if-not-has_fair_counters.ensures.1 h in search rules,
+  c.if-not-has_valid_rights.ensures.0 (search rules),
+  c.if-not-has_valid_en_passant.ensures.0 (search rules),
+  c.if-not-is_opponent_safe.ensures.0 (search rules),
+  λ h. let t = c.if-not-has_valid_counters.ensures.1 h in search rules,
 )
 
 pub invariant_of-result : goal.invariant_of-result
@@ -18,10 +18,10 @@ invariant_of-result c = record {
   kings = c.if-not-has_one_king_each.ensures.0 (search rules);
   few = c.if-not-has_few_men.ensures.0 (search rules);
   pawns = c.if-not-has_no_pawn_on_edge.ensures.0 (search rules);
-  rights = c.if-not-has_honest_rights.ensures.0 (search rules);
-  en_passant = c.if-not-has_honest_en_passant.ensures.0 (search rules);
-  quiet = c.if-not-is_quiet.ensures.0 (search rules);
-  counters = c.if-not-has_fair_counters.ensures.0 (search rules);
+  rights = c.if-not-has_valid_rights.ensures.0 (search rules);
+  en_passant = c.if-not-has_valid_en_passant.ensures.0 (search rules);
+  quiet = c.if-not-is_opponent_safe.ensures.0 (search rules);
+  counters = c.if-not-has_valid_counters.ensures.0 (search rules);
 }
 
 pub returns-clause-ok : goal.returns-clause-ok
@@ -32,9 +32,9 @@ returns-clause-ok c = (
     kings = c.if-not-has_one_king_each.ensures.0 (search rules);
     few = c.if-not-has_few_men.ensures.0 (search rules);
     pawns = c.if-not-has_no_pawn_on_edge.ensures.0 (search rules);
-    rights = c.if-not-has_honest_rights.ensures.0 (search rules);
-    en_passant = c.if-not-has_honest_en_passant.ensures.0 (search rules);
-    quiet = c.if-not-is_quiet.ensures.0 (search rules);
-    counters = c.if-not-has_fair_counters.ensures.0 (search rules);
+    rights = c.if-not-has_valid_rights.ensures.0 (search rules);
+    en_passant = c.if-not-has_valid_en_passant.ensures.0 (search rules);
+    quiet = c.if-not-is_opponent_safe.ensures.0 (search rules);
+    counters = c.if-not-has_valid_counters.ensures.0 (search rules);
   },
 )

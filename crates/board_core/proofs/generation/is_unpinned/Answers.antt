@@ -1,6 +1,6 @@
 use Rattle.std.proofs.Common.{arith, rules, ◌≢◌}
 use Rattle.board_core.proofs.Safety.{free_to_go}
-use Rattle.board_core.proofs.generation.is_loose.Goals as goal
+use Rattle.board_core.proofs.generation.is_unpinned.Goals as goal
 
 pub returns : goal.returns
 returns c = λ t m k here to rule carry.
