@@ -1,13 +1,9 @@
 -- The commands are simple, and what their errors say.
-use Rattle.std.proofs.Common.{◌≡◌, List, [], ◌∷◌, true, refl, sym, ap, subst, ◌∙◌, ◌⊎◌, inl, inr}
-use Rattle.clap.specs.Words.{App, kind_of, is_simple, is_simple_and_free}
+use Rattle.std.proofs.Common.{◌≡◌, [], true, refl, sym, ap, subst, ◌∙◌, inl, inr}
+use Rattle.clap.specs.Words.{kind_of, is_simple_and_free}
 use Rattle.clap.specs.Kinds.{Kinds, HasKind, IsAmong}
 use Rattle.clap.specs.declared.error.Error.{Error}
-use Rattle.clap.specs.declared.error.kind.ErrorKind.{ErrorKind}
-use Rattle.clap.specs.declared.error.kind.ErrorKind.TheVariants as kind
 use Rattle.clap.proofs.OnLiterals.{clap_on_literals}
-use Rattle.clap.proofs.WalkLemmas.{both}
-use Rattle.adjudicate.specs.declared.usage.Usage.{Usage}
 use Rattle.adjudicate.specs.declared.usage.Usage.TheVariants.{Misuse, OutOfMemory}
 use Rattle.adjudicate.specs.Usage.{usage_of}
 use Rattle.adjudicate.specs.Commands.{judge_app, moves_app}

@@ -1,6 +1,5 @@
 -- Replies that were written.
-use Rattle.std.proofs.Common.{◌≡◌, ◌⊎◌, ℕ, List, [], ◌∷◌, ◌++◌, take, Option, codes, refl, sym, ap, append-nil, subst, ◌∙◌, inl, inr}
-use Rattle.std.specs.List.{flat_map}
+use Rattle.std.proofs.Common.{◌≡◌, ℕ, List, [], ◌∷◌, ◌++◌, Option, codes, refl, sym, ap, append-nil, subst, ◌∙◌, inl, inr}
 use Rattle.std.specs.Io.KnownBytes.{Appends}
 use Rattle.std.proofs.KnownBytes.{Appends-nil, Appends-trans}
 use Rattle.std.proofs.lemmas.List.Concat.{flat_map-append}
@@ -26,7 +25,8 @@ more_lines old mid new first last p q =
 
 -- a text that spells no position is refused
 pub refuses : (fen : List ℕ) (lines : Parts → List (List ℕ)) (fault : FenFault) (old new : Option (List ℕ)) → IsFirstFenFault fen fault → Appends old new (line_of (codes "refused FEN " ++ fault_text fault)) → (r : Reply) × IsReplyTo fen lines r × WritesReply old new r 1
-refuses fen lines fault old new first h = (refused_fen fault, inr (fault, first, refl), (one_line old new (codes "refused FEN " ++ fault_text fault) h, refl))
+refuses fen lines fault old new first h =
+    (refused_fen fault, inr (fault, first, refl), (one_line old new (codes "refused FEN " ++ fault_text fault) h, refl))
 
 abbrev pub lines_reply : (Parts → List (List ℕ)) → Parts → Reply
 lines_reply lines p = record { lines = lines p; status = 0 }
@@ -35,6 +35,6 @@ lines_reply lines p = record { lines = lines p; status = 0 }
 pub replies : (fen : List ℕ) (lines : Parts → List (List ℕ)) (p : Parts) (old new : Option (List ℕ)) → SpellsPosition fen p → IsPosition p → Appends old new (text_of (lines p)) → (r : Reply) × IsReplyTo fen lines r × WritesReply old new r 0
 replies fen lines p old new spells position h = (lines_reply lines p, inl (p, spells, position, refl), (h, refl))
 
--- or none of them yet
-pub replies_none : (fen : List ℕ) (lines : Parts → List (List ℕ)) (p : Parts) (old : Option (List ℕ)) → SpellsPosition fen p → IsPosition p → (r : Reply) × IsReplyTo fen lines r × WritesSome old old r
-replies_none fen lines p old spells position = (lines_reply lines p, inl (p, spells, position, refl), (0, Appends-nil old))
+-- no line was written yet
+pub none_yet : (old : Option (List ℕ)) (lines : List (List ℕ)) → WritesSome old old lines
+none_yet old lines = (0, Appends-nil old)

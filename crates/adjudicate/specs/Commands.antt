@@ -1,4 +1,4 @@
--- The commands of the program, as the parser of command lines reads them.
+-- The commands of the program (this project's own), as the parser of command lines reads them.
 use Rattle.std.specs.Prelude.{List, Option, codes, true}
 use Rattle.clap.specs.Words.{App, Rule, Text, fault_of, first_of, matches_of, new_app, new_rule, with_rule}
 use Rattle.clap.specs.Kinds.{Kinds}

@@ -1,4 +1,4 @@
--- What the program answers: lines and a status.
+-- What the program answers: lines and a status (this project's own).
 use Rattle.std.specs.Prelude.{◌≡◌, ◌++◌, ◌⊎◌, ℕ, List, [], ◌∷◌, map, take, Option, Some, None, codes}
 use Rattle.std.specs.List.{flat_map}
 use Rattle.std.specs.Io.KnownBytes.{Appends}
@@ -9,6 +9,7 @@ use Rattle.fen_text.specs.declared.fault.FenFault.{FenFault}
 use Rattle.fen_text.specs.declared.fault.FenFault.TheVariants.{FieldCount, BadPlacement, BadSide, BadCastlingText, BadSquare, BadNumber, BadPosition}
 use Rattle.fen_text.specs.Fen.{SpellsPosition, IsFirstFenFault, fault_name}
 use Rattle.fen_text.specs.Coordinates.{move_text}
+use Rattle.adjudicate.specs.Tasks.{IsTask, IsMisuse}
 use Rattle.adjudicate.specs.Ruling.{ruling, verdict_name}
 use Rattle.adjudicate.specs.declared.verdict.Verdict.{Verdict}
 use Rattle.adjudicate.specs.declared.commands.Task.{Task}
@@ -54,24 +55,42 @@ judge_lines p = verdict_line (ruling p) ∷ []
 abbrev pub moves_lines : Parts → List (List ℕ)
 moves_lines p = map move_text (legal_moves p)
 
-abbrev pub IsReply : Task → Reply → Type 0
-IsReply (Judge fen) r = IsReplyTo fen.now judge_lines r
-IsReply (Moves fen) r = IsReplyTo fen.now moves_lines r
+-- the text that a task asks about, and the lines for the position that it spells
+abbrev pub text_in : Task → List ℕ
+text_in (Judge fen) = fen.now
+text_in (Moves fen) = fen.now
+
+abbrev pub lines_in : Task → Parts → List (List ℕ)
+lines_in (Judge fen) = judge_lines
+lines_in (Moves fen) = moves_lines
 
 -- the reply was written whole, and its status told
 abbrev pub WritesReply : Option (List ℕ) → Option (List ℕ) → Reply → ℕ → Type 0
 WritesReply old new r status = Appends old new (text_of r.lines) × (status ≡ r.status)
 
--- the first lines were written, some or none
-abbrev pub WritesSome : Option (List ℕ) → Option (List ℕ) → Reply → Type 0
-WritesSome old new r = (n : ℕ) × Appends old new (text_of (take n r.lines))
+-- the first of these lines were written, some or none
+abbrev pub WritesSome : Option (List ℕ) → Option (List ℕ) → List (List ℕ) → Type 0
+WritesSome old new lines = (n : ℕ) × Appends old new (text_of (take n lines))
 
--- the first lines were written, some or none, and then that memory was refused, with status 1
-abbrev pub WritesRefusedMemory : Option (List ℕ) → Option (List ℕ) → Reply → ℕ → Type 0
-WritesRefusedMemory old new r status =
-    (n : ℕ) × Appends old new (text_of (take n r.lines ++ codes "refused memory" ∷ [])) × (status ≡ 1)
+abbrev pub refused_memory : List ℕ
+refused_memory = codes "refused memory"
 
--- what the program answers to a task
+-- the text spells a position, and some of its lines were written and then that memory was refused, with status 1
+abbrev pub RefusesMemory : List ℕ → (Parts → List (List ℕ)) → Option (List ℕ) → Option (List ℕ) → ℕ → Type 0
+RefusesMemory fen lines old new status =
+    (p : Parts) × SpellsPosition fen p × IsPosition p
+    × ((n : ℕ) × Appends old new (text_of (take n (lines p) ++ refused_memory ∷ []))) × (status ≡ 1)
+
+-- what the program answers to a task: its reply, or, where the text spells a position, that memory was refused
 abbrev pub Answers : Task → Option (List ℕ) → Option (List ℕ) → ℕ → Type 0
 Answers task old new status =
-    (r : Reply) × IsReply task r × (WritesReply old new r status ⊎ WritesRefusedMemory old new r status)
+    ((r : Reply) × IsReplyTo (text_in task) (lines_in task) r × WritesReply old new r status)
+    ⊎ RefusesMemory (text_in task) (lines_in task) old new status
+
+-- what the program makes of its words: the answer to the task that they name; or they are misused, and nothing is
+-- written; or memory was refused before there was a task
+abbrev pub Runs : List (List ℕ) → Option (List ℕ) → Option (List ℕ) → ℕ → Type 0
+Runs words old new status =
+    ((task : Task) × IsTask words task × Answers task old new status)
+    ⊎ ((IsMisuse words × (new ≡ old) × (status ≡ 2))
+    ⊎ (Appends old new (text_of (refused_memory ∷ [])) × (status ≡ 1)))

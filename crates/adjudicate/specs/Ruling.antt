@@ -1,4 +1,4 @@
--- The verdict on a position without tables.
+-- The verdict on a position without tables (FIDE articles 5.1.1, 5.2.1 and 5.2.2).
 use Rattle.std.specs.Prelude.{ℕ, ◌==◌, List, [], ◌∷◌, Bool, true, false, Option, Some, None, if◌then◌else◌, codes}
 use Rattle.board_core.specs.declared.parts.Parts.{Parts}
 use Rattle.board_core.specs.declared.moves.Move.{Move}
@@ -22,7 +22,7 @@ mate_of Black = WhiteMates
 abbrev pub end_of : Parts → Verdict
 end_of p = if is_in_check p.men p.side then mate_of p.side else Stalemate
 
--- the verdict where no table is at hand: the end of the game, or a draw of two bare kings
+-- the verdict where no table is at hand: the end of the game, or a draw where bare kings can't mate (FIDE article 5.2.2)
 unfoldable pub ruling : Parts → Option Verdict
 ruling p =
     if has_no_move (legal_moves p) then Some (end_of p)

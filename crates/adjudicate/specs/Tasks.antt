@@ -1,5 +1,5 @@
--- What a task says of the words that it was read from.
-use Rattle.std.specs.Prelude.{◌≡◌, ◌⊎◌, List, [], Option, Some, None, codes, slice_get}
+-- What a task says of the words that it was read from (this project's own commands).
+use Rattle.std.specs.Prelude.{◌≡◌, ◌⊎◌, List, [], Some, None, codes, slice_get}
 use Rattle.clap.specs.Words.{App, Text}
 use Rattle.adjudicate.specs.Commands.{judge_app, moves_app, value_in, fault_in}
 use Rattle.adjudicate.specs.declared.commands.Task.{Task}
@@ -28,3 +28,7 @@ IsMisused app needed words = (IsTaken app words → ⊥) ⊎ (value_in app words
 abbrev pub IsMisuse : List Text → Type 0
 IsMisuse words = (Names words (codes "judge") → IsMisused judge_app (codes "FEN") words)
     × (Names words (codes "moves") → IsMisused moves_app (codes "FEN") words)
+
+-- the first word names neither command, or there is none
+abbrev pub NamesNone : List Text → Type 0
+NamesNone words = (Names words (codes "judge") → ⊥) × (Names words (codes "moves") → ⊥)

@@ -1,9 +1,10 @@
 //! Command lines, as tasks.
 
-ghost use Rattle.std.specs.Prelude.{◌≡◌, List, [], map, true, IfOk, IfErr, codes};
+ghost use Rattle.std.specs.Prelude.{◌≡◌, List, [], map, true, IfOk, IfErr, Err, codes};
 ghost use Rattle.clap.specs.Words.{app_of, is_simple_and_free, found_of, first_value};
 ghost use Rattle.adjudicate.specs.Commands.{judge_app, moves_app, value_in};
-ghost use Rattle.adjudicate.specs.Tasks.{IsTask, IsMisuse, IsTaken, IsMisused, Names};
+ghost use Rattle.adjudicate.specs.Reply.{text_in};
+ghost use Rattle.adjudicate.specs.Tasks.{IsTask, IsMisuse, IsTaken, IsMisused, Names, NamesNone};
 
 use crate::usage::Usage;
 use clap::{Arg, ArgMatches, Command};
@@ -24,6 +25,18 @@ pub enum Task<'a> {
     },
 }
 
+impl<'a> Task<'a> {
+    /// The FEN text that the task asks about.
+    pub fn fen(&self) -> &str
+        ensures { result.now ≡ text_in self.now }
+    {
+        match *self {
+            Task::Judge { fen } => fen,
+            Task::Moves { fen } => fen,
+        }
+    }
+}
+
 /// The matches of a simple command at the words, of which the first is the command's name.
 fn matches_at<'a>(command: Command<'a>, words: &'a [&'a str]) -> Result<ArgMatches<'a>, Usage>
     requires { is_simple_and_free (app_of command) ≡ true }
@@ -37,6 +50,7 @@ fn matches_at<'a>(command: Command<'a>, words: &'a [&'a str]) -> Result<ArgMatch
     }
 }
 
+/// `judge FEN`, as `clap` reads it.
 fn judge_command<'a>(alloc: Global) -> Result<Command<'a>, AllocError>
     ensures { IfOk result (λ c. app_of c ≡ judge_app) }
 {
@@ -58,6 +72,7 @@ fn judge_of<'a>(alloc: Global, words: &'a [&'a str]) -> Result<Task<'a>, Usage>
     }
 }
 
+/// `moves FEN`, as `clap` reads it.
 fn moves_command<'a>(alloc: Global) -> Result<Command<'a>, AllocError>
     ensures { IfOk result (λ c. app_of c ≡ moves_app) }
 {
@@ -86,6 +101,7 @@ fn moves_of<'a>(alloc: Global, words: &'a [&'a str]) -> Result<Task<'a>, Usage>
 pub fn parse<'a>(alloc: Global, words: &'a [&'a str]) -> Result<Task<'a>, Usage>
     ensures ok { IfOk result (IsTask (map (λ w. w.now) words.entry.now)) }
     ensures misuse { IfErr result (λ e. e ≡ Usage.Misuse → IsMisuse (map (λ w. w.now) words.entry.now)) }
+    ensures unnamed { NamesNone (map (λ w. w.now) words.entry.now) → result ≡ Err Usage.Misuse }
 {
     match words {
         [] => Err(Usage::Misuse),

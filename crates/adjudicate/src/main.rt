@@ -5,35 +5,29 @@
 #![tactic(auto)]
 
 mod commands;
+mod program;
 mod replies;
 mod usage;
 mod verdict;
 
-use commands::{Task, parse};
-use replies::answer;
+use program::run;
+use replies::{AnswerFault, put_refused_memory};
 use std::alloc::{AllocError, Global};
-use std::io;
+use std::io::{self, BufWriter, Write};
 use std::process::ExitCode;
 use usage::Usage;
 
-const USAGE: &str = "usage: adjudicate judge FEN\n       adjudicate moves FEN";
-
-/// Why the program's words can't be had.
-enum WordsFault {
-    OutOfMemory,
-    NotText,
-}
-
-/// The words that the program was called with.
-fn words_of(rt: &HostRuntime) -> Result<Vec<String>, WordsFault> {
+/// The words that the program was called with, its own name first. Words that are no text are a
+/// misuse.
+fn words_of(rt: &HostRuntime) -> Result<Vec<String>, Usage> {
     match std::env::args(rt) {
         Err(error) => match error.kind() {
-            io::ErrorKind::OutOfMemory => Err(WordsFault::OutOfMemory),
-            _ => Err(WordsFault::NotText),
+            io::ErrorKind::OutOfMemory => Err(Usage::OutOfMemory),
+            _ => Err(Usage::Misuse),
         },
         Ok(words) => match words.collect(rt.alloc()) {
             Ok(words) => Ok(words),
-            Err(_) => Err(WordsFault::OutOfMemory),
+            Err(_) => Err(Usage::OutOfMemory),
         },
     }
 }
@@ -47,47 +41,35 @@ fn tail_of<'a>(alloc: Global, words: &'a [String]) -> Result<Vec<&'a str>, Alloc
     Ok(tail)
 }
 
-fn misuse(rt: &HostRuntime) -> io::Result<u8> {
-    rt.eprintln(USAGE)?;
-    Ok(2)
-}
-
-fn refused_memory(rt: &HostRuntime) -> io::Result<u8> {
-    rt.println("refused memory")?;
-    Ok(1)
-}
-
-fn reply(rt: &HostRuntime, task: &Task) -> io::Result<u8> {
-    let mut out = io::writer(rt);
-    match answer(rt.alloc(), task, &[], None, &[], &mut out) {
-        Ok(status) => Ok(status),
-        Err(_) => Ok(1),
-    }
-}
-
-fn run(rt: &HostRuntime, words: &[&str]) -> io::Result<u8> {
-    match parse(rt.alloc(), words) {
-        Ok(task) => reply(rt, &task),
-        Err(Usage::Misuse) => misuse(rt),
-        Err(Usage::OutOfMemory) => refused_memory(rt),
-    }
-}
-
-fn status_of(rt: &HostRuntime) -> io::Result<u8> {
+/// Runs the program into a writer, and tells its status.
+fn run_into<W: Write>(rt: &HostRuntime, out: &mut W) -> Result<u8, AnswerFault> {
     let words = match words_of(rt) {
         Ok(words) => words,
-        Err(WordsFault::OutOfMemory) => return refused_memory(rt),
-        Err(WordsFault::NotText) => return misuse(rt),
+        Err(Usage::OutOfMemory) => return put_refused_memory(out),
+        Err(Usage::Misuse) => return run(rt.alloc(), &[], out, &mut rt.stderr()),
     };
     match tail_of(rt.alloc(), &words) {
-        Ok(tail) => run(rt, &tail),
-        Err(_) => refused_memory(rt),
+        Ok(tail) => run(rt.alloc(), &tail, out, &mut rt.stderr()),
+        Err(_) => put_refused_memory(out),
     }
 }
 
-fn main(rt: HostRuntime) -> io::Result<ExitCode> {
-    let status = status_of(&rt)?;
-    Ok(ExitCode::from(status))
+/// Runs the program and tells its status, 1 where the output can't be written. Its lines are
+/// gathered before they are written.
+fn status_of(rt: &HostRuntime) -> u8 {
+    let mut out = match BufWriter::new(rt.alloc(), io::writer(rt)) {
+        Ok(out) => out,
+        Err(_) => return put_refused_memory(&mut io::writer(rt)).unwrap_or(1),
+    };
+    let status = run_into(rt, &mut out).unwrap_or(1);
+    match out.flush() {
+        Ok(()) => status,
+        Err(_) => 1,
+    }
+}
+
+fn main(rt: HostRuntime) -> ExitCode {
+    ExitCode::from(status_of(&rt))
 }
 
 #[cfg(test)]

@@ -2,12 +2,15 @@
 
 ghost use Rattle.std.specs.Prelude.{◌≡◌, ◌++◌, ◌∷◌, [], map, codes, IfOk, IfErr, OnOk, IsErrOf};
 ghost use Rattle.std.specs.Io.KnownBytes.{Appends};
+ghost use Rattle.board_core.specs.declared.parts.Parts.{Parts};
+ghost use Rattle.board_core.specs.Position.{IsPosition};
 ghost use Rattle.fen_text.specs.Coordinates.{move_text};
-ghost use Rattle.adjudicate.specs.Reply.{Answers, IsReply, IsReplyTo, Reply, WritesReply, WritesSome, fault_text, judge_lines, moves_lines, text_of};
+ghost use Rattle.fen_text.specs.Fen.{SpellsPosition};
+ghost use Rattle.adjudicate.specs.Reply.{Answers, IsReplyTo, Reply, WritesReply, WritesSome, fault_text, judge_lines, moves_lines, lines_in, refused_memory, text_in, text_of};
 
 use crate::commands::Task;
 use crate::verdict;
-use board_core::Move;
+use board_core::{Move, Position};
 use fen_text::{FenFault, read, write_move};
 use std::alloc::Global;
 use std::io::Write;
@@ -28,6 +31,7 @@ enum Stop {
     OutOfMemory,
 }
 
+/// Writes a line.
 fn put_line<W: Write>(out: &mut W, line: &str) -> Result<(), Stop>
     ensures ok { OnOk result (Appends (W.contents out.old) (W.contents out.new) (line.now ++ 10 ∷ [])) }
     ensures io { IfErr result (λ stop. stop ≡ Stop.Io) }
@@ -38,6 +42,7 @@ fn put_line<W: Write>(out: &mut W, line: &str) -> Result<(), Stop>
     }
 }
 
+/// Writes the line that refuses a text by the name of its fault.
 fn put_refused<W: Write>(out: &mut W, name: &str) -> Result<(), Stop>
     ensures ok { OnOk result (Appends (W.contents out.old) (W.contents out.new) ((codes "refused FEN " ++ name.now) ++ 10 ∷ [])) }
     ensures io { IfErr result (λ stop. stop ≡ Stop.Io) }
@@ -48,6 +53,7 @@ fn put_refused<W: Write>(out: &mut W, name: &str) -> Result<(), Stop>
     }
 }
 
+/// Writes the line that refuses a text whose parts are no position.
 fn put_refused_position<W: Write>(out: &mut W, name: &str) -> Result<(), Stop>
     ensures ok { OnOk result (Appends (W.contents out.old) (W.contents out.new) ((codes "refused FEN BadPosition " ++ name.now) ++ 10 ∷ [])) }
     ensures io { IfErr result (λ stop. stop ≡ Stop.Io) }
@@ -58,7 +64,7 @@ fn put_refused_position<W: Write>(out: &mut W, name: &str) -> Result<(), Stop>
     }
 }
 
-/// The line that refuses a text.
+/// Writes the line that tells why a text is refused.
 fn put_fault<W: Write>(out: &mut W, fault: FenFault) -> Result<(), Stop>
     ensures ok { OnOk result (Appends (W.contents out.old) (W.contents out.new) ((codes "refused FEN " ++ fault_text fault) ++ 10 ∷ [])) }
     ensures io { IfErr result (λ stop. stop ≡ Stop.Io) }
@@ -69,25 +75,19 @@ fn put_fault<W: Write>(out: &mut W, fault: FenFault) -> Result<(), Stop>
     }
 }
 
-fn put_judgement<W: Write>(alloc: Global, fen: &[u8], out: &mut W) -> Result<u8, Stop>
-    ensures ok { IfOk result (λ status. (r : Reply) × IsReplyTo fen.now judge_lines r × WritesReply (W.contents out.old) (W.contents out.new) r status) }
-    ensures memory { IsErrOf result Stop.OutOfMemory → (r : Reply) × IsReplyTo fen.now judge_lines r × WritesSome (W.contents out.old) (W.contents out.new) r }
+/// Writes the verdict on a position, or that the game goes on.
+fn put_judgement<W: Write>(alloc: Global, position: &Position, out: &mut W) -> Result<(), Stop>
+    ensures ok { OnOk result (Appends (W.contents out.old) (W.contents out.new) (text_of (judge_lines position.now))) }
+    ensures memory { IsErrOf result Stop.OutOfMemory → WritesSome (W.contents out.old) (W.contents out.new) (judge_lines position.now) }
 {
-    let position = match read(fen) {
-        Ok(position) => position,
-        Err(fault) => {
-            put_fault(out, fault)?;
-            return Ok(1);
-        }
-    };
-    match verdict::judge(alloc, &position) {
-        Err(_) => return Err(Stop::OutOfMemory),
-        Ok(None) => put_line(out, "open")?,
-        Ok(Some(verdict)) => put_line(out, verdict.name())?,
+    match verdict::judge(alloc, position) {
+        Err(_) => Err(Stop::OutOfMemory),
+        Ok(None) => put_line(out, "open"),
+        Ok(Some(verdict)) => put_line(out, verdict.name()),
     }
-    Ok(0)
 }
 
+/// Writes a move in coordinates.
 fn put_move<W: Write>(out: &mut W, m: &Move) -> Result<(), Stop>
     ensures ok { OnOk result (Appends (W.contents out.old) (W.contents out.new) (move_text m.now ++ 10 ∷ [])) }
     ensures io { IfErr result (λ stop. stop ≡ Stop.Io) }
@@ -95,6 +95,7 @@ fn put_move<W: Write>(out: &mut W, m: &Move) -> Result<(), Stop>
     put_line(out, write_move(m).as_str())
 }
 
+/// Writes moves, one a line.
 fn put_list<W: Write>(moves: &[Move], out: &mut W) -> Result<(), Stop>
     ensures ok { OnOk result (Appends (W.contents out.old) (W.contents out.new) (text_of (map move_text moves.now))) }
     ensures io { IfErr result (λ stop. stop ≡ Stop.Io) }
@@ -108,33 +109,47 @@ fn put_list<W: Write>(moves: &[Move], out: &mut W) -> Result<(), Stop>
     Ok(())
 }
 
-fn put_moves<W: Write>(alloc: Global, fen: &[u8], out: &mut W) -> Result<u8, Stop>
-    ensures ok { IfOk result (λ status. (r : Reply) × IsReplyTo fen.now moves_lines r × WritesReply (W.contents out.old) (W.contents out.new) r status) }
-    ensures memory { IsErrOf result Stop.OutOfMemory → (r : Reply) × IsReplyTo fen.now moves_lines r × WritesSome (W.contents out.old) (W.contents out.new) r }
+/// Writes the legal moves of a position, one a line.
+fn put_moves<W: Write>(alloc: Global, position: &Position, out: &mut W) -> Result<(), Stop>
+    ensures ok { OnOk result (Appends (W.contents out.old) (W.contents out.new) (text_of (moves_lines position.now))) }
+    ensures memory { IsErrOf result Stop.OutOfMemory → WritesSome (W.contents out.old) (W.contents out.new) (moves_lines position.now) }
 {
-    let position = match read(fen) {
-        Ok(position) => position,
-        Err(fault) => {
-            put_fault(out, fault)?;
-            return Ok(1);
-        }
-    };
     match position.legal(alloc) {
         Err(_) => Err(Stop::OutOfMemory),
-        Ok(moves) => {
-            put_list(&moves, out)?;
-            Ok(0)
-        }
+        Ok(moves) => put_list(&moves, out),
     }
 }
 
-fn reply<W: Write>(alloc: Global, task: &Task, out: &mut W) -> Result<u8, Stop>
-    ensures ok { IfOk result (λ status. (r : Reply) × IsReply task.now r × WritesReply (W.contents out.old) (W.contents out.new) r status) }
-    ensures memory { IsErrOf result Stop.OutOfMemory → (r : Reply) × IsReply task.now r × WritesSome (W.contents out.old) (W.contents out.new) r }
+/// Writes what a task asks of a position.
+fn put_lines<W: Write>(
+    alloc: Global,
+    task: &Task,
+    position: &Position,
+    out: &mut W,
+) -> Result<(), Stop>
+    ensures ok { OnOk result (Appends (W.contents out.old) (W.contents out.new) (text_of (lines_in task.now position.now))) }
+    ensures memory { IsErrOf result Stop.OutOfMemory → WritesSome (W.contents out.old) (W.contents out.new) (lines_in task.now position.now) }
 {
     match *task {
-        Task::Judge { fen } => put_judgement(alloc, fen.as_bytes(), out),
-        Task::Moves { fen } => put_moves(alloc, fen.as_bytes(), out),
+        Task::Judge { .. } => put_judgement(alloc, position, out),
+        Task::Moves { .. } => put_moves(alloc, position, out),
+    }
+}
+
+/// Writes the reply to a task, and tells its status.
+fn reply<W: Write>(alloc: Global, task: &Task, out: &mut W) -> Result<u8, Stop>
+    ensures ok { IfOk result (λ status. (r : Reply) × IsReplyTo (text_in task.now) (lines_in task.now) r × WritesReply (W.contents out.old) (W.contents out.new) r status) }
+    ensures memory { IsErrOf result Stop.OutOfMemory → (p : Parts) × SpellsPosition (text_in task.now) p × IsPosition p × WritesSome (W.contents out.old) (W.contents out.new) (lines_in task.now p) }
+{
+    match read(task.fen().as_bytes()) {
+        Err(fault) => match put_fault(out, fault) {
+            Ok(()) => Ok(1),
+            Err(_) => Err(Stop::Io),
+        },
+        Ok(position) => match put_lines(alloc, task, &position, out) {
+            Ok(()) => Ok(0),
+            Err(stop) => Err(stop),
+        },
     }
 }
 
@@ -143,7 +158,7 @@ fn reply<W: Write>(alloc: Global, task: &Task, out: &mut W) -> Result<u8, Stop>
 /// `files` are the names and contents of table files, the names strictly rising in order of bytes;
 /// `manifest` and `input` are the bytes of those files. The commands so far ask for none of them.
 /// Where memory is refused, the line `refused memory` comes in place of what is left, with status
-/// 1. The error comes only where the writer failed.
+/// 1; a text that is no position takes none. The error comes only where the writer failed.
 pub fn answer<W: Write>(
     alloc: Global,
     task: &Task,
@@ -157,9 +172,16 @@ pub fn answer<W: Write>(
     match reply(alloc, task, out) {
         Ok(status) => Ok(status),
         Err(Stop::Io) => Err(AnswerFault::Io),
-        Err(Stop::OutOfMemory) => match put_line(out, "refused memory") {
-            Ok(()) => Ok(1),
-            Err(_) => Err(AnswerFault::Io),
-        },
+        Err(Stop::OutOfMemory) => put_refused_memory(out),
+    }
+}
+
+/// Writes that memory was refused, and tells the status 1.
+pub fn put_refused_memory<W: Write>(out: &mut W) -> Result<u8, AnswerFault>
+    ensures { IfOk result (λ status. Appends (W.contents out.old) (W.contents out.new) (refused_memory ++ 10 ∷ []) × (status ≡ 1)) }
+{
+    match put_line(out, "refused memory") {
+        Ok(()) => Ok(1),
+        Err(_) => Err(AnswerFault::Io),
     }
 }

@@ -1,6 +1,7 @@
 //! The worked rows, the published counts of moves, refusals of words, and writers that fail.
 
 use crate::commands::{Task, parse};
+use crate::program::run;
 use crate::replies::{AnswerFault, answer};
 use crate::usage::Usage;
 use board_core::Position;
@@ -121,6 +122,24 @@ fn count(alloc: Global, position: &Position, depth: u32) -> Result<u32, AllocErr
 }
 
 #[test]
+fn lists_the_captures(rt: HostRuntime) -> Result<(), Fail> {
+    for (fen, captures) in [
+        (START, 0),
+        (
+            "r3k2r/p1ppqpb1/bn2pnp1/3PN3/1p2P3/2N2Q1p/PPPBBPPP/R3K2R w KQkq - 0 1",
+            8,
+        ),
+        ("8/8/8/8/k2pP3/8/8/K7 b - e3 0 1", 1),
+    ] {
+        let Ok(position) = read(fen.as_bytes()) else {
+            return Err(Fail::from("a position"));
+        };
+        assert_eq!(rt; position.captures(rt.alloc())?.len(), captures);
+    }
+    Ok(())
+}
+
+#[test]
 fn counts_the_published_moves(rt: HostRuntime) -> Result<(), Fail> {
     for (fen, depth, nodes) in [
         (START, 1, 20),
@@ -204,6 +223,35 @@ fn refuses_misused_words(rt: HostRuntime) {
     );
     assert!(rt; matches!(parse(alloc, &["moves", START]), Ok(Task::Moves { fen }) if fen == START));
     assert!(rt; matches!(parse(alloc, &["judge", START]), Ok(Task::Judge { fen }) if fen == START));
+}
+
+#[test]
+fn tells_each_status(rt: HostRuntime) -> Result<(), Fail> {
+    let alloc = rt.alloc();
+    let judge = ["judge", "8/8/8/4k3/8/8/8/K7 w - - 0 1"];
+    let refused = ["judge", "x"];
+    let unknown = ["probe", START];
+    for (words, text, status) in [
+        (judge.as_slice(), "TableDraw\n", 0),
+        (refused.as_slice(), "refused FEN FieldCount\n", 1),
+        (unknown.as_slice(), "", 2),
+        ([].as_slice(), "", 2),
+    ] {
+        let mut out = Vec::new(alloc);
+        let mut errors = Vec::new(alloc);
+        assert!(rt; matches!(run(alloc, words, &mut out, &mut errors), Ok(told) if told == status));
+        assert_eq!(rt; out.as_slice(), text.as_bytes());
+        assert!(rt; errors.starts_with(b"usage: ") == (status == 2));
+        let mut failing = Failing {
+            calls: 0,
+            fails_at: 0,
+        };
+        let mut out = Vec::new(alloc);
+        assert!(rt;
+            matches!(run(alloc, words, &mut out, &mut failing), Ok(told) if told == status)
+        );
+    }
+    Ok(())
 }
 
 /// A writer that fails at one call.

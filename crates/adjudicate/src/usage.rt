@@ -9,10 +9,13 @@ use clap::error::ErrorKind;
 use std::alloc::AllocError;
 use thiserror::Error;
 
+/// Why words are no task.
 #[derive(Clone, Copy, Debug, PartialEq, Eq, Error)]
 pub enum Usage {
+    /// The words name no command, or the command refuses them.
     #[error("the words are no task")]
     Misuse,
+    /// Memory was refused.
     #[error("refused memory")]
     OutOfMemory,
 }

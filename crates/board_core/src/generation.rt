@@ -4,7 +4,7 @@
 //! the moves come in order. `next` is where such a sweep stands: the proofs speak of it. A king of the
 //! side that moves is looked for on any board, so no call here needs the seven conditions.
 
-ghost use Rattle.std.specs.Prelude.{◌≡◌, ◌≢◌, ◌<◌, ◌↔◌, ◌+◌, ◌*◌, ℕ, [], IsTrue, IfOk, OnOk, filter, Some, None};
+ghost use Rattle.std.specs.Prelude.{◌≡◌, ◌≢◌, ◌<◌, ◌↔◌, ◌+◌, ◌*◌, ℕ, [], IsTrue, IfOk, OnOk, Some, None};
 ghost use Rattle.std.specs.Int.{bit_at};
 ghost use Rattle.board_core.specs.Attack.{IsInCheck, Reaches};
 ghost use Rattle.board_core.specs.Moves.{Stands, IsFree, IsTaken, IsMove, Lists, HasLegal, HasLegalCaptures, place_of, men_after, last_rank};

@@ -1,7 +1,6 @@
 //! Coordinate text of moves.
 
-ghost use Rattle.std.specs.Prelude.{◌≡◌, ◌++◌, ◌<◌, ◌≤◌, ◌+◌, ◌∷◌, [], IfSome, IfNone};
-ghost use Rattle.arrayvec.specs.ArrayString.{array_string_len};
+ghost use Rattle.std.specs.Prelude.{◌≡◌, ◌<◌, ◌∷◌, [], IfSome, IfNone};
 ghost use Rattle.board_core.specs.declared.moves.Move.{Move};
 ghost use Rattle.board_core.specs.declared.piece.Promotion.{Promotion};
 ghost use Rattle.fen_text.specs.Coordinates.{promotion_text, move_text, SpellsMove};

@@ -118,7 +118,7 @@ impl<'a> Dictionary<'a> {
         }
     }
 
-    /// The value of a block at an offset from its first value. It takes no memory, skips the symbols before by their
+    /// The value of a block at an offset from its first value, 0 to 4095. It takes no memory, skips the symbols before by their
     /// counts and goes down into one.
     ///
     /// `Damaged` where the block's whole codes give no value at that offset (Syzygy table format, the values of a block).
@@ -180,6 +180,7 @@ impl<'a> Dictionary<'a> {
     fn limit_of(&self, block: &[u8], count: u32) -> usize
         ensures same { take result (block_values self.now block.now) ≡ take count (block_values self.now block.now) }
         ensures few { result ≤ count }
+        ensures small { result ≤ 2048 * length block.now }
     {
         // Each code has `least` bits or more, and each symbol 256 values or fewer.
         let most = block.len().saturating_mul(8 * MOST_VALUES) / self.least as usize;
@@ -187,9 +188,12 @@ impl<'a> Dictionary<'a> {
     }
 
     /// The first values of a block, at most `count`, and fewer where the block's whole codes give fewer (Syzygy table
-    /// format, the values of a block). Room for them is taken once; the only error is that it is refused.
+    /// format, the values of a block); where a block's length cuts them, the caller asks for no more. Values are 0 to
+    /// 4095. Room for them is taken once, for no more than 2048 values a byte of the block; the only error is that it
+    /// is refused.
     pub fn decode(&self, alloc: Global, block: &[u8], count: u32) -> Result<Vec<u16>, AllocError>
-        ensures { IfOk result (λ values. values.items ≡ take count (block_values self.now block.now)) }
+        ensures values { IfOk result (λ values. values.items ≡ take count (block_values self.now block.now)) }
+        ensures room { IfOk result (λ values. vec_capacity values ≤ 2048 * length block.now) }
     {
         let limit = self.limit_of(block, count);
         let mut values = Vec::with_capacity(alloc, limit)?;

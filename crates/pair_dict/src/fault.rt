@@ -3,7 +3,7 @@
 ghost use Rattle.std.specs.Prelude.{◌≡◌};
 ghost use Rattle.pair_dict.specs.declared.fault.DictFault.TheVariants.{OutOfMemory};
 
-use std::alloc::{AllocError, AllocFailed};
+use std::alloc::AllocError;
 
 /// Why bytes don't begin with a dictionary: the first fault from the left.
 #[derive(Clone, Copy, Debug, PartialEq, Eq)]
@@ -23,14 +23,6 @@ impl From<AllocError> for DictFault {
     ghost from_gives = { λ _ e. e ≡ OutOfMemory };
 
     fn from(_e: AllocError) -> DictFault {
-        DictFault::OutOfMemory
-    }
-}
-
-impl<T: Drop> From<AllocFailed<T>> for DictFault {
-    ghost from_gives = { λ _ e. e ≡ OutOfMemory };
-
-    fn from(_e: AllocFailed<T>) -> DictFault {
         DictFault::OutOfMemory
     }
 }

@@ -1,6 +1,6 @@
 //! Which orders of its pieces a table may give.
 
-ghost use Rattle.std.specs.Prelude.{◌≡◌, ◌↔◌, ◌≤◌, ◌<◌, ◌+◌, IsTrue, true, length};
+ghost use Rattle.std.specs.Prelude.{◌≡◌, ◌↔◌, ◌≤◌, ◌+◌, IsTrue, true, length};
 ghost use Rattle.std.specs.List.Sorted.{IsPermutation};
 ghost use Rattle.place_index.specs.Material.{pieces_of, count_of};
 ghost use Rattle.place_index.specs.Shape.{IsSideBySide, AreAll, BeginsByPawns, BeginsByThree, BeginsByKings, BeginsWell, HasGoodPieces, has_pawns};

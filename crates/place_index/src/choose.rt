@@ -2,7 +2,7 @@ ghost use Rattle.std.specs.Prelude.{◌≡◌, ◌≤◌};
 ghost use Rattle.place_index.specs.Choose.{choose, PartsAreListed, PascalsRule};
 
 /// How many parts of so many elements a set of so many things has.
-pub fn choices(things: u64, elements: u64) -> u64
+pub(crate) fn choices(things: u64, elements: u64) -> u64
     requires things { things ≤ 64 }
     requires elements { elements ≤ 5 }
     ensures { result ≡ choose things elements }

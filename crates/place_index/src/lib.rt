@@ -2,7 +2,7 @@
 #![tactic(auto)]
 
 mod arrangement;
-pub mod choose;
+mod choose;
 mod group;
 mod material;
 mod places;
@@ -10,6 +10,7 @@ mod shape;
 mod sizes;
 mod tables;
 
+pub use choose::{parts_are_listed, pascals_rule};
 pub use group::Group;
 pub use material::{Material, tables_are_numbered};
 pub use shape::{Shape, ShapeFault};

@@ -13,7 +13,9 @@ use std::marker::Model;
 /// Why a table file's pieces and order nibbles make no shape.
 #[derive(Clone, Copy, PartialEq, Eq, Debug)]
 pub enum ShapeFault {
-    /// The pieces are not the men of the material with equal ones side by side, or do not begin with the men that lead.
+    /// The pieces are not the men of the material with equal ones side by side, or do not begin with the men that lead:
+    /// with pawns the leading colour's pawns and then the other's; without pawns, where some piece other than a king
+    /// occurs once, three pieces that each occur once; otherwise the two kings.
     BadPieces,
     /// An order nibble is no place of a group, or both sides' pawns have the same place.
     BadOrder,
@@ -70,7 +72,8 @@ fn has_good_order(groups: usize, order: u8, second: Option<u8>) -> bool
 }
 
 impl Shape {
-    /// The shape of a table with this material, for leading pawns on a file from 0 for a and h to 3 for d and e.
+    /// The shape of a table with this material, for leading pawns on a file from 0 for a and h to 3 for d and e (0 is
+    /// given where there are no pawns); that the file is below 4 is the caller's condition.
     ///
     /// The pieces are codes of the table file: 1 to 6 for white's pawn, knight, bishop, rook, queen and king, 9 to 14 for
     /// black's. `order` is the place of the leading group among the groups, and `second` that of the other side's pawns,
@@ -136,7 +139,8 @@ impl Shape {
         self.order
     }
 
-    /// The place of the other side's pawns, where both sides have pawns, and else what the table file has there.
+    /// The place of the other side's pawns, where both sides have pawns; otherwise what the shape was made with,
+    /// which is not looked at.
     pub fn second(&self) -> u8
         ensures { result ≡ self.now.second }
     {
@@ -158,14 +162,14 @@ impl Shape {
         self.groups.as_slice()
     }
 
-    /// By what each group's number is multiplied.
+    /// By what each group's number is multiplied, a number for each group in their order; the lowest is 1.
     pub fn factors(&self) -> &[u64]
         ensures { result.now ≡ factors_of self.now }
     {
         self.factors.as_slice()
     }
 
-    /// How many indices there are: the product of the groups' sizes.
+    /// How many indices there are, 1 to 114,675,120: the product of the groups' sizes.
     pub fn size(&self) -> u64
         ensures is { result ≡ size_of self.now }
         ensures some { 1 ≤ result }

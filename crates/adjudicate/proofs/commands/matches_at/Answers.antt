@@ -1,5 +1,5 @@
-use Rattle.std.proofs.Common.{◌≡◌, ◌∙◌, ap, sym, List, ℕ, true}
-use Rattle.clap.specs.Words.{found_of, first_of, app_of, is_simple}
+use Rattle.std.proofs.Common.{◌∙◌, ap, sym}
+use Rattle.clap.specs.Words.{found_of, first_of}
 use Rattle.clap.proofs.WalkLemmas.{both, first_value-rows}
 use Rattle.adjudicate.specs.Commands.{value_in, fault_in}
 use Rattle.adjudicate.proofs.Clap.{is_taken_for_memory}
