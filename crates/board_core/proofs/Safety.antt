@@ -126,9 +126,10 @@ not_other Black e = cc
 pub other_side : (side : Side) (sort sort' : Kind) → some_man side sort ≡ some_man (other side) sort' → ⊥
 other_side side sort sort' e = not_other side (ap side_on e)
 
--- a line that is clear after a man of ours was carried was clear before, or he uncovered it
-clear_before : (men : List (Option Piece)) (side : Side) (what : Kind) (d : Direction) (n a k f t : ℕ) (x : Option Piece) → length men ≡ 64 → f < 64 → t < 64 → x ≡ some_man side what → (Ray men Queen k f → ⊥) → Along d n a k → IsClear (carried men f t x) d n a → IsClear men d n a
-clear_before men side what d n a k f t x len lf lt own shut along clear =
+-- a line that is clear after a man of ours was carried was clear before, or he uncovered it: then he stood between the
+-- king and a man that attacked him
+clear_before : (men : List (Option Piece)) (side : Side) (what : Kind) (d : Direction) (n a k f t : ℕ) (x : Option Piece) → length men ≡ 64 → f < 64 → t < 64 → x ≡ some_man side what → (Ray men Queen k f → IsAttacked men (other side) f → ⊥) → ((j : ℕ) → 0 < j → Along d j a f → IsClear men d j a → IsAttacked men (other side) f) → Along d n a k → IsClear (carried men f t x) d n a → IsClear men d n a
+clear_before men side what d n a k f t x len lf lt own shut hit along clear =
     let emptied : (s : ℕ) → s ≢ f → man_at (carried men f t x) s ≡ None → man_at men s ≡ None = λ s nf h. elim (spot men f t x s len lf lt) [
       | inl b ↦ absurd (none_man side what _ h (b.1 ∙ own))
       | inr r ↦ elim r [
@@ -149,42 +150,52 @@ clear_before men side what d n a k f t x len lf lt own shut along clear =
             let u = along_distance d (n - i) j a f (rw same at back) (rw e at here) in
             omega arith in
             emptied q other_one (clear (n - i) q (omega arith) (omega arith) back);
-      }))
+      }) (hit j away (rw e at here) (λ i q pos lim there.
+          let other_one : q ≢ f = λ same.
+          let u = along_distance d i j a f (rw same at there) (rw e at here) in
+          omega arith in
+          emptied q other_one (clear i q pos (omega arith) there))))
       | inr nf ↦ emptied s nf (clear j s away within here)
     ]
 
-ray_before : (men : List (Option Piece)) (side : Side) (what sort : Kind) (a k f t : ℕ) (x : Option Piece) → length men ≡ 64 → f < 64 → t < 64 → x ≡ some_man side what → (Ray men Queen k f → ⊥) → Ray (carried men f t x) sort a k → Ray men sort a k
-ray_before men side what sort a k f t x len lf lt own shut r = record {
+-- the ray of an attacker, before and after one of our men was carried
+ray_before : (men : List (Option Piece)) (side : Side) (what sort : Kind) (a k f t : ℕ) (x : Option Piece) → length men ≡ 64 → f < 64 → t < 64 → x ≡ some_man side what → (Ray men Queen k f → IsAttacked men (other side) f → ⊥) → (Ray men sort a f → IsAttacked men (other side) f) → Ray (carried men f t x) sort a k → Ray men sort a k
+ray_before men side what sort a k f t x len lf lt own shut hit r = record {
   direction = r.direction;
   distance = r.distance;
   goes = r.goes;
   away = r.away;
   along = r.along;
-  clear = clear_before men side what r.direction r.distance a k f t x len lf lt own shut r.along r.clear;
+  clear = clear_before men side what r.direction r.distance a k f t x len lf lt own shut
+    (λ j away along clear. hit (record { direction = r.direction; distance = j; goes = r.goes; away = away; along = along; clear = clear }))
+    r.along r.clear;
 }
 
-reaches_before : (men : List (Option Piece)) (side by : Side) (what sort : Kind) (a k f t : ℕ) (x : Option Piece) → length men ≡ 64 → f < 64 → t < 64 → x ≡ some_man side what → (Ray men Queen k f → ⊥) → Reaches (carried men f t x) by sort a k → Reaches men by sort a k
-reaches_before men side by what Pawn a k f t x len lf lt own shut r = r
-reaches_before men side by what Knight a k f t x len lf lt own shut r = r
-reaches_before men side by what Bishop a k f t x len lf lt own shut r = ray_before men side what Bishop a k f t x len lf lt own shut r
-reaches_before men side by what Rook a k f t x len lf lt own shut r = ray_before men side what Rook a k f t x len lf lt own shut r
-reaches_before men side by what Queen a k f t x len lf lt own shut r = ray_before men side what Queen a k f t x len lf lt own shut r
-reaches_before men side by what King a k f t x len lf lt own shut r = r
+reaches_before : (men : List (Option Piece)) (side : Side) (what sort : Kind) (a k f t : ℕ) (x : Option Piece) → length men ≡ 64 → f < 64 → t < 64 → x ≡ some_man side what → (Ray men Queen k f → IsAttacked men (other side) f → ⊥) → (Reaches men (other side) sort a f → IsAttacked men (other side) f) → Reaches (carried men f t x) (other side) sort a k → Reaches men (other side) sort a k
+reaches_before men side what Pawn a k f t x len lf lt own shut hit r = r
+reaches_before men side what Knight a k f t x len lf lt own shut hit r = r
+reaches_before men side what Bishop a k f t x len lf lt own shut hit r = ray_before men side what Bishop a k f t x len lf lt own shut hit r
+reaches_before men side what Rook a k f t x len lf lt own shut hit r = ray_before men side what Rook a k f t x len lf lt own shut hit r
+reaches_before men side what Queen a k f t x len lf lt own shut hit r = ray_before men side what Queen a k f t x len lf lt own shut hit r
+reaches_before men side what King a k f t x len lf lt own shut hit r = r
 
-attack_before : (men : List (Option Piece)) (side : Side) (what : Kind) (k f t : ℕ) (x : Option Piece) → length men ≡ 64 → f < 64 → t < 64 → x ≡ some_man side what → (Ray men Queen k f → ⊥) → IsAttacked (carried men f t x) (other side) k → IsAttacked men (other side) k
-attack_before men side what k f t x len lf lt own shut h = record {
-  from = h.from;
-  kind = h.kind;
-  on_board = h.on_board;
-  stands = elim (spot men f t x h.from len lf lt) [
-    | inl b ↦ absurd (other_side side what h.kind (sym own ∙ sym b.1 ∙ h.stands))
-    | inr r ↦ elim r [
-      | inl b ↦ absurd (none_man (other side) h.kind _ b.1 h.stands)
-      | inr b ↦ sym b.1 ∙ h.stands
-    ]
-  ];
-  reaches = reaches_before men side (other side) what h.kind h.from k f t x len lf lt own shut h.reaches;
-}
+attack_before : (men : List (Option Piece)) (side : Side) (what : Kind) (k f t : ℕ) (x : Option Piece) → length men ≡ 64 → f < 64 → t < 64 → x ≡ some_man side what → (Ray men Queen k f → IsAttacked men (other side) f → ⊥) → IsAttacked (carried men f t x) (other side) k → IsAttacked men (other side) k
+attack_before men side what k f t x len lf lt own shut h =
+    let before : man_at men h.from ≡ some_man (other side) h.kind = elim (spot men f t x h.from len lf lt) [
+      | inl b ↦ absurd (other_side side what h.kind (sym own ∙ sym b.1 ∙ h.stands))
+      | inr r ↦ elim r [
+        | inl b ↦ absurd (none_man (other side) h.kind _ b.1 h.stands)
+        | inr b ↦ sym b.1 ∙ h.stands
+      ]
+    ] in
+    record {
+      from = h.from;
+      kind = h.kind;
+      on_board = h.on_board;
+      stands = before;
+      reaches = reaches_before men side what h.kind h.from k f t x len lf lt own shut
+        (λ r. record { from = h.from; kind = h.kind; on_board = h.on_board; stands = before; reaches = r }) h.reaches;
+    }
 
 landed_own : (side : Side) (o : Option Piece) (k : Option Promotion) → o ≡ some_man side Pawn → (what : Kind) × (landed side o k ≡ some_man side what)
 landed_own side o None e = (Pawn, e)
@@ -199,8 +210,8 @@ carries p m PawnCapture r y = let l = landed_own p.side _ m.promotion r.stands i
 carries p m EnPassant r y = absurd y
 carries p m (Castle wing) r y = absurd y
 
--- a man that stands on no open line from a king that isn't attacked may go
-pub free_to_go : (p : Parts) (m : Move) (c : MoveCase) (k : ℕ) → length p.men ≡ 64 → m.from < 64 → m.to < 64 → IsMove p m c → IsCarry c → m.from ≢ k → IsOnlyKing p.men p.side k → (IsAttacked p.men (other p.side) k → ⊥) → (Ray p.men Queen k m.from → ⊥) → IsInCheck (men_after p m c) p.side → ⊥
+-- a man may go that stands on no open line from its king, which isn't attacked, or isn't attacked himself
+pub free_to_go : (p : Parts) (m : Move) (c : MoveCase) (k : ℕ) → length p.men ≡ 64 → m.from < 64 → m.to < 64 → IsMove p m c → IsCarry c → m.from ≢ k → IsOnlyKing p.men p.side k → (IsAttacked p.men (other p.side) k → ⊥) → (Ray p.men Queen k m.from → IsAttacked p.men (other p.side) m.from → ⊥) → IsInCheck (men_after p m c) p.side → ⊥
 free_to_go p m c k len lf lt r y ne only safe shut =
     let x = carries p m c r y in
     only_safe (men_after p m c) p.side k (only_after p m c k k len lf lt r only (λ e. absurd (ne e)) (λ _. refl))
