@@ -167,8 +167,8 @@ ray_before men side what sort a k f t x len lf lt own shut hit r = record {
   away = r.away;
   along = r.along;
   clear = clear_before men side what r.direction r.distance a k f t x len lf lt own shut
-    (λ j away along clear. hit (record { direction = r.direction; distance = j; goes = r.goes; away = away; along = along; clear = clear }))
-    r.along r.clear;
+      (λ j away along clear. hit (record { direction = r.direction; distance = j; goes = r.goes; away = away; along = along; clear = clear }))
+      r.along r.clear;
 }
 
 reaches_before : (men : List (Option Piece)) (side : Side) (what sort : Kind) (a k f t : ℕ) (x : Option Piece) → length men ≡ 64 → f < 64 → t < 64 → x ≡ some_man side what → (Ray men Queen k f → IsAttacked men (other side) f → ⊥) → (Reaches men (other side) sort a f → IsAttacked men (other side) f) → Reaches (carried men f t x) (other side) sort a k → Reaches men (other side) sort a k
@@ -194,7 +194,7 @@ attack_before men side what k f t x len lf lt own shut h =
       on_board = h.on_board;
       stands = before;
       reaches = reaches_before men side what h.kind h.from k f t x len lf lt own shut
-        (λ r. record { from = h.from; kind = h.kind; on_board = h.on_board; stands = before; reaches = r }) h.reaches;
+          (λ r. record { from = h.from; kind = h.kind; on_board = h.on_board; stands = before; reaches = r }) h.reaches;
     }
 
 landed_own : (side : Side) (o : Option Piece) (k : Option Promotion) → o ≡ some_man side Pawn → (what : Kind) × (landed side o k ≡ some_man side what)

@@ -45,16 +45,6 @@ Rests-between Q next set to s r first b low high q = zero_one _ (first s high) (
 pub Rests-empty : (Q : ℕ → Type 0) (next set s : ℕ) → Rests Q next set → set ≡ 0 → s < 64 → next ≤ s → Q s → ⊥
 Rests-empty Q next set s r none b low q = zero_one _ (bit_at-zero s) (rw none at (r.rest s b low q))
 
--- a square that is left was there before
-pub rest_of : (set to set' s : ℕ) → to < 64 → set' < 2 ^ 64 → bit_at set' to ≡ 0 → ((s : ℕ) → s < 64 → s ≢ to → bit_at set' s ≡ bit_at set s) → bit_at set' s ≡ 1 → bit_at set s ≡ 1
-rest_of set to set' s b small gone kept bit = elim (cases_lt s 64) [
-  | inl lt ↦ elim (cases_eq s to) [
-    | inl e ↦ absurd (zero_one _ gone (rw e at bit))
-    | inr ne ↦ sym (kept s lt ne) ∙ bit
-  ]
-  | inr ge ↦ absurd (zero_one _ (bit_at_above set' 64 s small ge) bit)
-]
-
 -- some move asked for goes from the one square to the other
 abbrev pub Goes : Parts → Which → ℕ → ℕ → Type 0
 Goes p which from to = (m : Move) × IsListed which p m × (m.from ≡ from) × (m.to ≡ to)

@@ -13,6 +13,7 @@ ghost use Rattle.board_core.specs.Search.{HasListedBelow, IsCarry, IsGuard, IsLi
 ghost use Rattle.board_core.specs.Side.{other};
 ghost use Rattle.board_core.specs.Square.{rank_of};
 
+use crate::bitboard::Bitboard;
 use crate::moves::{Move, MoveCase};
 use crate::parts::Parts;
 use crate::piece::{Kind, Men, Promotion, Side};
@@ -35,8 +36,8 @@ pub enum Which {
 /// whether no other king of that side stands elsewhere.
 #[derive(Clone, Copy, PartialEq, Eq, Debug)]
 pub struct Survey {
-    pub own: u64,
-    pub enemy: u64,
+    pub own: Bitboard,
+    pub enemy: Bitboard,
     pub king: Square,
     pub lone: bool,
 }
@@ -48,24 +49,24 @@ pub struct Guard {
     pub king: Square,
     pub lone: bool,
     pub calm: bool,
-    pub danger: u64,
+    pub danger: Bitboard,
 }
 
 /// Where the men stand.
 fn survey_of(p: &Parts) -> Survey
     ensures { IsSurvey p.now result }
 {
-    let mut own = 0u64;
-    let mut enemy = 0u64;
+    let mut own = Bitboard::empty();
+    let mut enemy = Bitboard::empty();
     let mut king = None;
     let mut lone = true;
     for n in 0u8..64 {
         if let Some(man) = p.men[n as usize] {
             let square = Square::at(n);
             if man.side == p.side.other() {
-                enemy = targets::with(enemy, square);
+                enemy = enemy.with(square);
             } else {
-                own = targets::with(own, square);
+                own = own.with(square);
                 if man.kind == Kind::King {
                     lone = king.is_none();
                     king = Some(square);
@@ -91,7 +92,7 @@ fn survey_of(p: &Parts) -> Survey
 
 /// The squares on which the man there, of the other side, could take, but for those of this side's
 /// men.
-fn attacks_from(men: &Men, side: Side, from: Square) -> u64
+fn attacks_from(men: &Men, side: Side, from: Square) -> Bitboard
     ensures { (kind : Kind) (t : ℕ) → Stands men.now from (other side) kind → t < 64
         → IsFree men.now side t → Reaches men.now (other side) kind from t → bit_at result t ≡ 1 }
 {
@@ -100,29 +101,29 @@ fn attacks_from(men: &Men, side: Side, from: Square) -> u64
             Kind::Pawn => targets::pawn_attacks(men, side, from),
             kind => targets::plain_targets(men, side, kind, from),
         },
-        None => 0,
+        None => Bitboard::empty(),
     }
 }
 
 /// The squares that the men on these squares attack, but for those of this side's men.
-fn attacked_squares(men: &Men, side: Side, enemy: u64) -> u64
+fn attacked_squares(men: &Men, side: Side, enemy: Bitboard) -> Bitboard
     requires { (s : ℕ) → s < 64 → IsTaken men.now (other side) s → bit_at enemy s ≡ 1 }
     ensures { HasAttacked men.now side result }
 {
-    let mut all = 0u64;
+    let mut all = Bitboard::empty();
     let mut rest = enemy;
     let mut next = 0u8;
-    while rest != 0 {
-        let from = targets::lowest(rest);
-        all |= attacks_from(men, side, from);
-        rest = targets::without(rest, from);
+    while !rest.is_empty() {
+        let from = rest.lowest();
+        all = all | attacks_from(men, side, from);
+        rest = rest.without(from);
         next = from.number() + 1;
     }
     all
 }
 
 /// The squares that the other side attacks, were it not for the king of the side that moves.
-fn danger_of(p: &Parts, v: &Survey) -> u64
+fn danger_of(p: &Parts, v: &Survey) -> Bitboard
     requires { IsSurvey p.now v.now }
     ensures { HasAttacked (bared p.now.men v.now.king) p.now.side result }
 {
@@ -132,17 +133,17 @@ fn danger_of(p: &Parts, v: &Survey) -> u64
 }
 
 /// Whether the king of the side that moves is its only one and isn't attacked.
-fn is_calm(v: &Survey, danger: u64) -> bool
+fn is_calm(v: &Survey, danger: Bitboard) -> bool
     ensures { IsTrue result → IsTrue v.now.lone × (bit_at danger v.now.king ≡ 1 → ⊥) }
 {
     if !v.lone {
         return false;
     }
-    !targets::has(danger, v.king)
+    !danger.has(v.king)
 }
 
 /// What is known of the king of the side that moves, by the squares that the other side attacks.
-fn guard_of(p: &Parts, v: &Survey, danger: u64) -> Guard
+fn guard_of(p: &Parts, v: &Survey, danger: Bitboard) -> Guard
     requires survey { IsSurvey p.now v.now }
     requires danger { HasAttacked (bared p.now.men v.now.king) p.now.side danger }
     ensures { IsGuard p.now result }
@@ -189,7 +190,7 @@ fn is_king_away(m: &Move, case: MoveCase, g: &Guard) -> bool
     ensures { IsTrue result → (m.now.from ≡ g.now.king) × (case ≡ MoveCase.Plain)
         × IsTrue g.now.lone × (bit_at g.now.danger m.now.to ≡ 0) }
 {
-    g.lone && m.from == g.king && case == MoveCase::Plain && !targets::has(g.danger, m.to)
+    g.lone && m.from == g.king && case == MoveCase::Plain && !g.danger.has(m.to)
 }
 
 /// Where the king of the guard stands after the move.
@@ -329,7 +330,7 @@ fn add_targets(
     g: &Guard,
     which: Which,
     from: Square,
-    set: u64,
+    set: Bitboard,
     moves: &mut Vec<Move>,
 ) -> Result<(), AllocError>
     requires guard { IsGuard p.now g.now }
@@ -340,10 +341,10 @@ fn add_targets(
     let unpinned = is_unpinned(p, g, from);
     let mut rest = set;
     let mut next = 0u8;
-    while rest != 0 {
-        let to = targets::lowest(rest);
+    while !rest.is_empty() {
+        let to = rest.lowest();
         add_between(p, g, which, unpinned, from, to, moves)?;
-        rest = targets::without(rest, to);
+        rest = rest.without(to);
         next = to.number() + 1;
     }
     Ok(())
@@ -355,7 +356,7 @@ fn add_steps(
     which: Which,
     kind: Kind,
     from: Square,
-    set: u64,
+    set: Bitboard,
     moves: &mut Vec<Move>,
 ) -> Result<(), AllocError>
     requires stands { Stands p.now.men from p.now.side kind }
@@ -369,21 +370,21 @@ fn add_steps(
     prove!(from.number() < 64);
     let mut rest = set;
     let mut next = 0u8;
-    while rest != 0 {
-        let to = targets::lowest(rest);
+    while !rest.is_empty() {
+        let to = rest.lowest();
         moves.push(Move {
             from,
             to,
             promotion: None,
         })?;
-        rest = targets::without(rest, to);
+        rest = rest.without(to);
         next = to.number() + 1;
     }
     Ok(())
 }
 
 /// The squares to which a piece other than a pawn and the king goes, of those asked for.
-fn steps(p: &Parts, v: &Survey, which: Which, kind: Kind, from: Square) -> u64
+fn steps(p: &Parts, v: &Survey, which: Which, kind: Kind, from: Square) -> Bitboard
     requires survey { IsSurvey p.now v.now }
     requires stands { Stands p.now.men from p.now.side kind }
     requires piece { (kind ≢ Kind.Pawn) × (kind ≢ Kind.King) }
@@ -398,7 +399,7 @@ fn steps(p: &Parts, v: &Survey, which: Which, kind: Kind, from: Square) -> u64
 }
 
 /// A set in which the squares are that the pawn or the king there goes to by the moves asked for.
-fn candidates(p: &Parts, v: &Survey, which: Which, kind: Kind, from: Square) -> u64
+fn candidates(p: &Parts, v: &Survey, which: Which, kind: Kind, from: Square) -> Bitboard
     requires survey { IsSurvey p.now v.now }
     requires stands { Stands p.now.men from p.now.side kind }
     ensures { (m : Move) → IsListed which p.now m → m.from ≡ from → bit_at result m.to ≡ 1 }
@@ -407,14 +408,14 @@ fn candidates(p: &Parts, v: &Survey, which: Which, kind: Kind, from: Square) -> 
     match which {
         Which::Every => set,
         Which::Captures => match p.en_passant {
-            Some(square) => set & targets::with(v.enemy, square),
+            Some(square) => set & v.enemy.with(square),
             None => set & v.enemy,
         },
     }
 }
 
 /// What is known of the king; the attacked squares are worked out where they are first asked for.
-fn guard_in(p: &Parts, v: &Survey, known: &mut Option<u64>) -> Guard
+fn guard_in(p: &Parts, v: &Survey, known: &mut Option<Bitboard>) -> Guard
     requires survey { IsSurvey p.now v.now }
     requires known { IsKnown p.now v.now known.old }
     ensures guard { IsGuard p.now result }
@@ -432,7 +433,7 @@ fn guard_in(p: &Parts, v: &Survey, known: &mut Option<u64>) -> Guard
 fn add_from(
     p: &Parts,
     v: &Survey,
-    known: &mut Option<u64>,
+    known: &mut Option<Bitboard>,
     which: Which,
     from: Square,
     moves: &mut Vec<Move>,
@@ -453,7 +454,7 @@ fn add_from(
     match man.kind {
         Kind::Pawn | Kind::King => {
             let set = candidates(p, v, which, man.kind, from);
-            if set == 0 {
+            if set.is_empty() {
                 return Ok(());
             }
             let guard = guard_in(p, v, known);
@@ -461,7 +462,7 @@ fn add_from(
         }
         kind => {
             let set = steps(p, v, which, kind, from);
-            if set == 0 {
+            if set.is_empty() {
                 return Ok(());
             }
             let guard = guard_in(p, v, known);
@@ -483,10 +484,10 @@ fn listed(p: &Parts, which: Which, moves: Vec<Move>) -> Result<Vec<Move>, AllocE
     let mut known = None;
     let mut rest = v.own;
     let mut next = 0u8;
-    while rest != 0 {
-        let from = targets::lowest(rest);
+    while !rest.is_empty() {
+        let from = rest.lowest();
         add_from(p, &v, &mut known, which, from, &mut moves)?;
-        rest = targets::without(rest, from);
+        rest = rest.without(from);
         next = from.number() + 1;
     }
     Ok(moves)

@@ -6,6 +6,7 @@
 #![tactic(auto)]
 
 mod attack;
+mod bitboard;
 mod castling;
 mod generation;
 pub mod laws;
@@ -18,6 +19,7 @@ mod rules;
 mod square;
 mod targets;
 
+pub use bitboard::Bitboard;
 pub use moves::Move;
 pub use parts::{Parts, Rights};
 pub use piece::{Kind, Men, Piece, Promotion, Side, Wing};

@@ -11,46 +11,14 @@ ghost use Rattle.board_core.specs.Side.{other};
 ghost use Rattle.board_core.specs.declared.attack.Direction.{Direction};
 
 use crate::attack::{self, Direction, Hop};
+use crate::bitboard::Bitboard;
 use crate::parts::Parts;
 use crate::piece::{Kind, Men, Side, Wing};
 use crate::square::Square;
 use crate::{castling, rules};
 
-/// The mask with this square.
-pub fn with(mask: u64, square: Square) -> u64
-    ensures here { bit_at result square ≡ 1 }
-    ensures kept { (s : ℕ) → bit_at mask s ≡ 1 → bit_at result s ≡ 1 }
-    ensures others { (s : ℕ) → s ≢ square → bit_at result s ≡ bit_at mask s }
-{
-    mask | 1u64 << square.number()
-}
-
-/// The mask without this square.
-pub fn without(mask: u64, square: Square) -> u64
-    ensures gone { bit_at result square ≡ 0 }
-    ensures kept { (s : ℕ) → s < 64 → s ≢ square → bit_at result s ≡ bit_at mask s }
-{
-    mask & !(1u64 << square.number())
-}
-
-/// Whether the mask has this square.
-pub fn has(mask: u64, square: Square) -> bool
-    ensures { IsTrue result ↔ (bit_at mask square ≡ 1) }
-{
-    mask >> square.number() & 1 == 1
-}
-
-/// The lowest square of the mask.
-pub fn lowest(mask: u64) -> Square
-    requires { 0 < mask }
-    ensures here { bit_at mask result ≡ 1 }
-    ensures first { (s : ℕ) → s < result → bit_at mask s ≡ 0 }
-{
-    Square::at(mask.trailing_zeros() as u8)
-}
-
 /// The mask with the squares in this direction up to the first man, and his where he can be taken.
-fn with_ray(men: &Men, side: Side, direction: Direction, from: Square, mask: u64) -> u64
+fn with_ray(men: &Men, side: Side, direction: Direction, from: Square, mask: Bitboard) -> Bitboard
     ensures kept { (s : ℕ) → bit_at mask s ≡ 1 → bit_at result s ≡ 1 }
     ensures reached { (n s : ℕ) → 0 < n → s < 64 → Along direction n from s
         → IsClear men.now direction n from → IsFree men.now side s → bit_at result s ≡ 1 }
@@ -65,15 +33,15 @@ fn with_ray(men: &Men, side: Side, direction: Direction, from: Square, mask: u64
             if man.side == side {
                 return all;
             }
-            return with(all, to);
+            return all.with(to);
         }
-        all = with(all, to);
+        all = all.with(to);
     }
     all
 }
 
 /// The mask with the next square in this direction, unless a man of this side stands there.
-fn with_step(men: &Men, side: Side, direction: Direction, from: Square, mask: u64) -> u64
+fn with_step(men: &Men, side: Side, direction: Direction, from: Square, mask: Bitboard) -> Bitboard
     ensures kept { (s : ℕ) → bit_at mask s ≡ 1 → bit_at result s ≡ 1 }
     ensures reached { (s : ℕ) → s < 64 → Along direction 1 from s → IsFree men.now side s
         → bit_at result s ≡ 1 }
@@ -87,11 +55,11 @@ fn with_step(men: &Men, side: Side, direction: Direction, from: Square, mask: u6
     if rules::is_taken(men, side, to) {
         return mask;
     }
-    with(mask, to)
+    mask.with(to)
 }
 
 /// The mask with the square of this step of a knight, unless a man of this side stands there.
-fn with_hop(men: &Men, side: Side, hop: Hop, from: Square, mask: u64) -> u64
+fn with_hop(men: &Men, side: Side, hop: Hop, from: Square, mask: Bitboard) -> Bitboard
     ensures kept { (s : ℕ) → bit_at mask s ≡ 1 → bit_at result s ≡ 1 }
     ensures reached { (s : ℕ) → s < 64 → IsHop hop from s → IsFree men.now side s
         → bit_at result s ≡ 1 }
@@ -103,7 +71,7 @@ fn with_hop(men: &Men, side: Side, hop: Hop, from: Square, mask: u64) -> u64
             if rules::is_taken(men, side, to) {
                 mask
             } else {
-                with(mask, to)
+                mask.with(to)
             }
         }
         None => mask,
@@ -111,7 +79,7 @@ fn with_hop(men: &Men, side: Side, hop: Hop, from: Square, mask: u64) -> u64
 }
 
 /// The mask with the squares that a rook reaches.
-fn with_straight(men: &Men, side: Side, from: Square, mask: u64) -> u64
+fn with_straight(men: &Men, side: Side, from: Square, mask: Bitboard) -> Bitboard
     ensures kept { (s : ℕ) → bit_at mask s ≡ 1 → bit_at result s ≡ 1 }
     ensures reached { (d : Direction) (n s : ℕ) → IsStraight d → 0 < n → s < 64 → Along d n from s
         → IsClear men.now d n from → IsFree men.now side s → bit_at result s ≡ 1 }
@@ -125,7 +93,7 @@ fn with_straight(men: &Men, side: Side, from: Square, mask: u64) -> u64
 }
 
 /// The mask with the squares that a bishop reaches.
-fn with_diagonal(men: &Men, side: Side, from: Square, mask: u64) -> u64
+fn with_diagonal(men: &Men, side: Side, from: Square, mask: Bitboard) -> Bitboard
     ensures kept { (s : ℕ) → bit_at mask s ≡ 1 → bit_at result s ≡ 1 }
     ensures reached { (d : Direction) (n s : ℕ) → IsDiagonal d → 0 < n → s < 64 → Along d n from s
         → IsClear men.now d n from → IsFree men.now side s → bit_at result s ≡ 1 }
@@ -139,11 +107,11 @@ fn with_diagonal(men: &Men, side: Side, from: Square, mask: u64) -> u64
 }
 
 /// The squares next to this one, but for those of men of this side.
-fn king_targets(men: &Men, side: Side, from: Square) -> u64
+fn king_targets(men: &Men, side: Side, from: Square) -> Bitboard
     ensures reached { (s : ℕ) → s < 64 → IsKingStep from s → IsFree men.now side s → bit_at result s ≡ 1 }
     ensures only { (s : ℕ) → bit_at result s ≡ 1 → IsKingStep from s × IsFree men.now side s }
 {
-    let a = with_step(men, side, Direction::North, from, 0);
+    let a = with_step(men, side, Direction::North, from, Bitboard::empty());
     let b = with_step(men, side, Direction::South, from, a);
     let c = with_step(men, side, Direction::East, from, b);
     let d = with_step(men, side, Direction::West, from, c);
@@ -154,11 +122,11 @@ fn king_targets(men: &Men, side: Side, from: Square) -> u64
 }
 
 /// The squares that a knight reaches, but for those of men of this side.
-fn knight_targets(men: &Men, side: Side, from: Square) -> u64
+fn knight_targets(men: &Men, side: Side, from: Square) -> Bitboard
     ensures reached { (s : ℕ) → s < 64 → IsKnightStep from s → IsFree men.now side s → bit_at result s ≡ 1 }
     ensures only { (s : ℕ) → bit_at result s ≡ 1 → IsKnightStep from s × IsFree men.now side s }
 {
-    let a = with_hop(men, side, Hop::EastEastNorth, from, 0);
+    let a = with_hop(men, side, Hop::EastEastNorth, from, Bitboard::empty());
     let b = with_hop(men, side, Hop::EastEastSouth, from, a);
     let c = with_hop(men, side, Hop::EastNorthNorth, from, b);
     let d = with_hop(men, side, Hop::EastSouthSouth, from, c);
@@ -169,44 +137,44 @@ fn knight_targets(men: &Men, side: Side, from: Square) -> u64
 }
 
 /// The squares that a man other than a pawn may go to by a step or along a line.
-pub fn plain_targets(men: &Men, side: Side, kind: Kind, from: Square) -> u64
+pub fn plain_targets(men: &Men, side: Side, kind: Kind, from: Square) -> Bitboard
     ensures reached { (s : ℕ) → kind ≢ Kind.Pawn → s < 64 → Reaches men.now side kind from s
         → IsFree men.now side s → bit_at result s ≡ 1 }
     ensures only { (s : ℕ) → bit_at result s ≡ 1
         → (kind ≢ Kind.Pawn) × Reaches men.now side kind from s × IsFree men.now side s }
 {
     match kind {
-        Kind::Pawn => 0,
+        Kind::Pawn => Bitboard::empty(),
         Kind::Knight => knight_targets(men, side, from),
         Kind::King => king_targets(men, side, from),
-        Kind::Bishop => with_diagonal(men, side, from, 0),
-        Kind::Rook => with_straight(men, side, from, 0),
+        Kind::Bishop => with_diagonal(men, side, from, Bitboard::empty()),
+        Kind::Rook => with_straight(men, side, from, Bitboard::empty()),
         Kind::Queen => {
-            let straight = with_straight(men, side, from, 0);
+            let straight = with_straight(men, side, from, Bitboard::empty());
             with_diagonal(men, side, from, straight)
         }
     }
 }
 
 /// The squares that a pawn of the other side attacks, but for those of men of this side.
-pub fn pawn_attacks(men: &Men, side: Side, from: Square) -> u64
+pub fn pawn_attacks(men: &Men, side: Side, from: Square) -> Bitboard
     ensures { (s : ℕ) → s < 64 → IsPawnAttack (other side) from s → IsFree men.now side s
         → bit_at result s ≡ 1 }
 {
     match side {
         Side::White => {
-            let east = with_step(men, side, Direction::SouthEast, from, 0);
+            let east = with_step(men, side, Direction::SouthEast, from, Bitboard::empty());
             with_step(men, side, Direction::SouthWest, from, east)
         }
         Side::Black => {
-            let east = with_step(men, side, Direction::NorthEast, from, 0);
+            let east = with_step(men, side, Direction::NorthEast, from, Bitboard::empty());
             with_step(men, side, Direction::NorthWest, from, east)
         }
     }
 }
 
 /// The mask with the square n squares before a pawn, where it is empty.
-fn with_advance(men: &Men, side: Side, n: u8, from: Square, mask: u64) -> u64
+fn with_advance(men: &Men, side: Side, n: u8, from: Square, mask: Bitboard) -> Bitboard
     requires { n < 8 }
     ensures kept { (s : ℕ) → bit_at mask s ≡ 1 → bit_at result s ≡ 1 }
     ensures reached { (s : ℕ) → s < 64 → Along (forward side) n from s → man_at men.now s ≡ None
@@ -220,11 +188,11 @@ fn with_advance(men: &Men, side: Side, n: u8, from: Square, mask: u64) -> u64
     if !rules::is_empty(men, to) {
         return mask;
     }
-    with(mask, to)
+    mask.with(to)
 }
 
 /// The mask with the next square in this direction, where a pawn may take there.
-fn with_capture(p: &Parts, direction: Direction, from: Square, mask: u64) -> u64
+fn with_capture(p: &Parts, direction: Direction, from: Square, mask: Bitboard) -> Bitboard
     ensures kept { (s : ℕ) → bit_at mask s ≡ 1 → bit_at result s ≡ 1 }
     ensures enemy { (s : ℕ) → s < 64 → Along direction 1 from s
         → IsTaken p.now.men (other p.now.side) s → bit_at result s ≡ 1 }
@@ -236,13 +204,13 @@ fn with_capture(p: &Parts, direction: Direction, from: Square, mask: u64) -> u64
     }
     let to = attack::along(direction, from, 1);
     if rules::is_taken(&p.men, p.side.other(), to) || p.en_passant == Some(to) {
-        return with(mask, to);
+        return mask.with(to);
     }
     mask
 }
 
 /// The mask with the squares on which a pawn may take.
-fn with_captures(p: &Parts, from: Square, mask: u64) -> u64
+fn with_captures(p: &Parts, from: Square, mask: Bitboard) -> Bitboard
     ensures kept { (s : ℕ) → bit_at mask s ≡ 1 → bit_at result s ≡ 1 }
     ensures enemy { (s : ℕ) → s < 64 → IsPawnAttack p.now.side from s
         → IsTaken p.now.men (other p.now.side) s → bit_at result s ≡ 1 }
@@ -262,7 +230,7 @@ fn with_captures(p: &Parts, from: Square, mask: u64) -> u64
 }
 
 /// The squares that a pawn may go to.
-fn pawn_targets(p: &Parts, from: Square) -> u64
+fn pawn_targets(p: &Parts, from: Square) -> Bitboard
     ensures ahead { (n s : ℕ) → 0 < n → n < 3 → s < 64 → Along (forward p.now.side) n from s
         → man_at p.now.men s ≡ None → bit_at result s ≡ 1 }
     ensures enemy { (s : ℕ) → s < 64 → IsPawnAttack p.now.side from s
@@ -270,25 +238,25 @@ fn pawn_targets(p: &Parts, from: Square) -> u64
     ensures passed { (s : ℕ) → s < 64 → IsPawnAttack p.now.side from s → p.now.en_passant ≡ Some s
         → bit_at result s ≡ 1 }
 {
-    let one = with_advance(&p.men, p.side, 1, from, 0);
+    let one = with_advance(&p.men, p.side, 1, from, Bitboard::empty());
     let two = with_advance(&p.men, p.side, 2, from, one);
     with_captures(p, from, two)
 }
 
 /// The mask with the square to which this side's king castles, while it has the right.
-fn with_castle(p: &Parts, wing: Wing, mask: u64) -> u64
+fn with_castle(p: &Parts, wing: Wing, mask: Bitboard) -> Bitboard
     ensures kept { (s : ℕ) → bit_at mask s ≡ 1 → bit_at result s ≡ 1 }
     ensures reached { IsTrue (has_right p.now.rights p.now.side wing)
         → bit_at result (king_end p.now.side wing) ≡ 1 }
 {
     if p.rights.has(p.side, wing) {
-        return with(mask, castling::king_end(p.side, wing));
+        return mask.with(castling::king_end(p.side, wing));
     }
     mask
 }
 
 /// A mask in which the squares are that the man on `from` may legally go to.
-pub fn targets(p: &Parts, kind: Kind, from: Square) -> u64
+pub fn targets(p: &Parts, kind: Kind, from: Square) -> Bitboard
     requires { Stands p.now.men from p.now.side kind }
     ensures { (m : Move) → IsLegal p.now m → m.from ≡ from → bit_at result m.to ≡ 1 }
 {

@@ -4,14 +4,14 @@ use Rattle.board_core.proofs.Sweep.{Rests-without, Rests-empty}
 use Rattle.board_core.proofs.Danger.{Covers-all, Covers-more}
 use Rattle.board_core.proofs.generation.attacked_squares.Goals as goal
 
-pub loop-rest-preserved : goal.loop-rest-preserved
-loop-rest-preserved c = record {
-  rests = rw c.number-next.ensures.value (Rests-without _ _ _ _ _ (omega arith) c.loop-rest.invariant.rests c.lowest-from.ensures.first c.lowest-from.ensures.here c.without-rest.ensures.gone c.without-rest.ensures.kept);
-  covered = rw c.number-next.ensures.value (Covers-more _ _ _ _ _ _ _ c.loop-rest.invariant.rests c.lowest-from.ensures.first (omega arith) c.loop-rest.invariant.covered c.attacks_from-all.ensures);
+pub loop-next-preserved : goal.loop-next-preserved
+loop-next-preserved c = record {
+  rests = rw c.number-next.ensures.value (Rests-without _ _ _ _ _ (omega arith) c.loop-next.invariant.rests c.lowest-from.ensures.first c.lowest-from.ensures.here c.without-rest.ensures.gone c.without-rest.ensures.kept);
+  covered = rw (c.number-next.ensures.value, c.bitor-all.ensures) (Covers-more _ _ _ _ _ _ _ c.loop-next.invariant.rests c.lowest-from.ensures.first (omega arith) c.loop-next.invariant.covered c.attacks_from.ensures);
 }
 
 pub returns : goal.returns
-returns c = Covers-all _ _ _ (λ s b taken. elim (cases_lt s c.loop-rest.next) [
-  | inl lt ↦ c.loop-rest.invariant.covered s lt
-  | inr ge ↦ absurd (Rests-empty _ _ _ s c.loop-rest.invariant.rests (omega arith) b ge taken)
+returns c = Covers-all _ _ _ (λ s b taken. elim (cases_lt s c.loop-next.next) [
+  | inl lt ↦ c.loop-next.invariant.covered s lt
+  | inr ge ↦ absurd (Rests-empty _ _ _ s c.loop-next.invariant.rests (omega arith) b ge taken)
 ])

@@ -5,11 +5,11 @@ use Rattle.board_core.proofs.Sweep.{Rests}
 use Rattle.board_core.proofs.Danger.{Covers}
 use Rattle.board_core.proofs.generation.attacked_squares.Given as goal
 
-abbrev pub invariant-loop-rest : goal.invariant-loop-rest
-invariant-loop-rest l = record {
+abbrev pub invariant-loop-next : goal.invariant-loop-next
+invariant-loop-next l = record {
   rests : Rests (IsTaken l.men (other l.side)) l.next l.rest;
   covered : (s : ℕ) → s < l.next → Covers l.men l.side l.all s;
 }
 
-abbrev pub decreases-loop-rest : goal.decreases-loop-rest
-decreases-loop-rest l = 64 - l.next
+abbrev pub decreases-loop-next : goal.decreases-loop-next
+decreases-loop-next l = 64 - l.next
