@@ -5,6 +5,7 @@ pub mod Castling
 pub mod Moves
 pub mod Position
 pub mod Search
+pub mod Sides
 pub mod Computed
 pub mod ComputedMoves
 pub mod Laws

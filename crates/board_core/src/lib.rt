@@ -16,6 +16,7 @@ mod piece;
 mod playing;
 mod position;
 mod rules;
+mod sides;
 mod square;
 mod targets;
 
