@@ -7,10 +7,13 @@ ghost use Rattle.board_core.specs.Attack.{man_at, IsInCheck};
 ghost use Rattle.board_core.specs.Computed.{is_in_check};
 ghost use Rattle.board_core.specs.ComputedMoves.{position_after, is_legal, legal_captures, legal_moves, count_of_men};
 ghost use Rattle.board_core.specs.Side.{other};
+ghost use Rattle.board_core.specs.Sides.{IsOccupied};
 
+use crate::bitboard::Bitboard;
 use crate::moves::Move;
 use crate::parts::{Parts, Rights};
 use crate::piece::{Kind, Men, Piece, Side, Wing};
+use crate::sides::Sides;
 use crate::square::Square;
 use crate::{attack, castling, generation, playing, rules};
 use std::alloc::{AllocError, Global};
@@ -177,19 +180,24 @@ fn has_valid_counters(p: &Parts) -> bool
 #[derive(Clone, Copy, PartialEq, Eq, Debug)]
 pub struct Position {
     parts: Parts,
+    sides: Sides,
 }
 
 impl Model for Position {
     ghost use Rattle.board_core.specs.declared.parts.Parts.{Parts};
+    ghost use Rattle.std.proofs.Common.{ap, sym, ◌≡◌};
     ghost use Rattle.board_core.specs.Position.{IsPosition};
+    ghost use Rattle.board_core.specs.Sides.{sides_of};
 
     ghost Value = { Parts };
 
     ghost view = { λ p. p.parts };
 
-    ghost invariant = { λ p. IsPosition p.parts };
+    ghost invariant = { λ p. IsPosition p.parts × (p.sides ≡ sides_of p.parts.men) };
 
-    ghost inverse = { λ v. record { parts = v } };
+    ghost inverse = { λ v. record { parts = v; sides = sides_of v.men } };
+
+    ghost inverse_ok = { λ a h. ap (λ x. record { parts = a.parts; sides = x }) (sym h.1) };
 }
 
 impl Position {
@@ -219,7 +227,8 @@ impl Position {
         if !has_valid_counters(&parts) {
             return Err(PositionFault::BadCounter);
         }
-        Ok(Position { parts })
+        let sides = Sides::of(&parts.men);
+        Ok(Position { parts, sides })
     }
 
     /// The parts of the position, which meet all conditions.
@@ -250,8 +259,14 @@ impl Position {
         ensures by_side { result ≡ count_by (is_of Side.White) self.now.men + count_by (is_of Side.Black) self.now.men }
         ensures computed { result ≡ count_of_men self.now }
     {
-        count_men(&self.parts.men, Side::White) as u32
-            + count_men(&self.parts.men, Side::Black) as u32
+        self.sides.white.len() + self.sides.black.len()
+    }
+
+    /// The squares on which men stand.
+    pub fn occupied(&self) -> Bitboard
+        ensures { IsOccupied self.now.men result }
+    {
+        self.sides.white | self.sides.black
     }
 
     /// Whether the move is legal (FIDE article 3).
@@ -273,7 +288,8 @@ impl Position {
         ensures computed { result ≡ position_after self.now m }
     {
         let parts = playing::play(&self.parts, &m)?;
-        Some(Position { parts })
+        let sides = Sides::of(&parts.men);
+        Some(Position { parts, sides })
     }
 
     /// The legal moves, each once, in order of from, to and promotion (queen, rook, bishop,

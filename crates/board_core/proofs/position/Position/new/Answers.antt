@@ -13,16 +13,19 @@ returns-then-not-has_valid_counters-clause-err c = (
 )
 
 pub invariant_of-result : goal.invariant_of-result
-invariant_of-result c = record {
-  squares = search rules;
-  kings = c.if-not-has_one_king_each.ensures.0 (search rules);
-  few = c.if-not-has_few_men.ensures.0 (search rules);
-  pawns = c.if-not-has_no_pawn_on_edge.ensures.0 (search rules);
-  rights = c.if-not-has_valid_rights.ensures.0 (search rules);
-  en_passant = c.if-not-has_valid_en_passant.ensures.0 (search rules);
-  quiet = c.if-not-is_opponent_safe.ensures.0 (search rules);
-  counters = c.if-not-has_valid_counters.ensures.0 (search rules);
-}
+invariant_of-result c = (
+  record {
+    squares = search rules;
+    kings = c.if-not-has_one_king_each.ensures.0 (search rules);
+    few = c.if-not-has_few_men.ensures.0 (search rules);
+    pawns = c.if-not-has_no_pawn_on_edge.ensures.0 (search rules);
+    rights = c.if-not-has_valid_rights.ensures.0 (search rules);
+    en_passant = c.if-not-has_valid_en_passant.ensures.0 (search rules);
+    quiet = c.if-not-is_opponent_safe.ensures.0 (search rules);
+    counters = c.if-not-has_valid_counters.ensures.0 (search rules);
+  },
+  c.of-sides.ensures,
+)
 
 pub returns-clause-ok : goal.returns-clause-ok
 returns-clause-ok c = (

@@ -5,4 +5,4 @@ pub returns-in_err-parts-clause-only : goal.returns-in_err-parts-clause-only
 returns-in_err-parts-clause-only c = λ q l. let e = c.in_err-parts.ensures.only q (rw c.self.view_is l) in cc
 
 pub invariant_of-result : goal.invariant_of-result
-invariant_of-result c = IsPosition-play _ _ _ c.self.invariant c.in_ok-parts.ensures.legal
+invariant_of-result c = (IsPosition-play _ _ _ c.self.invariant.0 c.in_ok-parts.ensures.legal, c.of-sides.ensures)
