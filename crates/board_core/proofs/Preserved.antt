@@ -123,10 +123,10 @@ taken_free men White s t k e = let f : Black ≡ White = ap side_on (sym t.1 ∙
 taken_free men Black s t k e = let f : White ≡ Black = ap side_on (sym t.1 ∙ e) in cc
 
 -- what a move does to the numbers of men and kings
-record Keeps (men after : List (Option Piece)) : Type 0 where
-  kings : (s : Side) → count_by (is_king_of s) after ≡ count_by (is_king_of s) men
-  few : (s : Side) → count_by (is_of s) after ≤ count_by (is_of s) men
-  squares : length after ≡ length men
+pub record Keeps (men after : List (Option Piece)) : Type 0 where
+  pub kings : (s : Side) → count_by (is_king_of s) after ≡ count_by (is_king_of s) men
+  pub few : (s : Side) → count_by (is_of s) after ≤ count_by (is_of s) men
+  pub squares : length after ≡ length men
 
 -- a man that is no other side's and no new king goes where no king stands
 Keeps-carried : (men : List (Option Piece)) (from to : ℕ) (man : Option Piece) → length men ≡ 64 → from < 64 → to < 64 → from ≢ to → ((s : Side) → is_king_of s man ≡ is_king_of s (man_at men from)) → ((s : Side) → is_of s man ≡ is_of s (man_at men from)) → ((s : Side) → Stands men to s King → ⊥) → Keeps men (carried men from to man)
@@ -225,7 +225,7 @@ honest p White QueenSide h = h.1
 honest p Black KingSide h = h.2
 honest p Black QueenSide h = h.3
 
-Keeps-move : (p : Parts) (m : Move) (c : MoveCase) → IsPosition p → m.from < 64 → m.to < 64 → IsMove p m c → Keeps p.men (men_after p m c)
+pub Keeps-move : (p : Parts) (m : Move) (c : MoveCase) → IsPosition p → m.from < 64 → m.to < 64 → IsMove p m c → Keeps p.men (men_after p m c)
 Keeps-move p m Plain i lf lt r =
     Keeps-carried p.men m.from m.to (man_at p.men m.from) i.squares lf lt (ne_by_man p.men m.from m.to p.side r.kind r.stands (r.free r.kind)) (λ s. refl) (λ s. refl) (no_king p m.from m.to r.kind i lf lt r.stands r.reaches r.free)
 Keeps-move p m Advance i lf lt r =

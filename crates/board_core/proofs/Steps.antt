@@ -18,7 +18,7 @@ use Rattle.board_core.specs.Moves.{Stands, IsFree, IsTaken, IsMove, IsPlain, IsC
 use Rattle.board_core.specs.Search.{IsListed, IsStep, IsUnpinned, IsSurvey, HasListedBelow}
 use Rattle.board_core.proofs.Safety.{safe_legal}
 use Rattle.board_core.proofs.Preserved.{way, side_cases}
-use Rattle.board_core.proofs.Surveying.{taken}
+use Rattle.board_core.proofs.SideSets.{taken}
 use Rattle.board_core.specs.Attack.{man_at}
 use Rattle.board_core.specs.declared.piece.Side.{Side}
 use Rattle.board_core.proofs.Listing.{HasListedBelow-push, HasListedBelow-skip, promotion_below}

@@ -88,8 +88,8 @@ pub record IsSurvey (p : Parts) (v : Survey) : Type 0 where
   pub own : (s : ℕ) → s < 64 → IsTaken p.men p.side s → bit_at v.own s ≡ 1
   pub enemy : (s : ℕ) → s < 64 → IsTaken p.men (other p.side) s → bit_at v.enemy s ≡ 1
   pub enemy_only : (s : ℕ) → bit_at v.enemy s ≡ 1 → IsTaken p.men (other p.side) s
-  pub lone : IsTrue v.lone → IsOnlyKing p.men p.side v.king
-  pub stands : IsTrue v.lone → Stands p.men v.king p.side King
+  pub only : IsOnlyKing p.men p.side v.king
+  pub stands : Stands p.men v.king p.side King
 
 -- the men without the one on this square
 abbrev pub bared : List (Option Piece) → ℕ → List (Option Piece)
@@ -105,8 +105,8 @@ IsKnown p v danger = IfSome danger (HasAttacked (bared p.men v.king) p.side)
 
 -- what is known of the king of the side that moves
 pub record IsGuard (p : Parts) (g : Guard) : Type 0 where
-  pub lone : IsTrue g.lone → IsOnlyKing p.men p.side g.king
-  pub calm : IsTrue g.calm → IsOnlyKing p.men p.side g.king × (IsAttacked p.men (other p.side) g.king → ⊥)
+  pub only : IsOnlyKing p.men p.side g.king
+  pub calm : IsTrue g.calm → IsAttacked p.men (other p.side) g.king → ⊥
   pub danger : HasAttacked (bared p.men g.king) p.side g.danger
 
 -- the cases in which one man goes from one square to the other, and nothing else changes

@@ -1,16 +1,17 @@
 //! Listing the legal moves.
 //!
-//! The men are surveyed once; each man's targets are a set of squares, swept from the lowest up, so that
-//! the moves come in order. `next` is where such a sweep stands: the proofs speak of it. A king of the
-//! side that moves is looked for on any board, so no call here needs the seven conditions.
+//! Each man's targets are a set of squares, swept from the lowest up, so that the moves come in order.
+//! `next` is where such a sweep stands: the proofs speak of it.
 
 ghost use Rattle.std.specs.Prelude.{◌≡◌, ◌≢◌, ◌<◌, ◌↔◌, ◌+◌, ◌*◌, ℕ, [], IsTrue, IfOk, OnOk, Some, None};
 ghost use Rattle.std.specs.Int.{bit_at};
 ghost use Rattle.board_core.specs.Attack.{IsInCheck, Reaches};
 ghost use Rattle.board_core.specs.Moves.{Stands, IsFree, IsTaken, IsMove, Lists, HasLegal, HasLegalCaptures, place_of, men_after, last_rank};
 ghost use Rattle.board_core.specs.ComputedMoves.{legal_captures, legal_moves};
-ghost use Rattle.board_core.specs.Search.{HasListedBelow, IsCarry, IsGuard, IsListed, IsUnpinned, IsStep, IsSurvey, IsWanted, IsKnown, HasAttacked, bared};
+ghost use Rattle.board_core.specs.Search.{HasListedBelow, IsCarry, IsGuard, IsListed, IsUnpinned, IsStep, IsSurvey, IsWanted, IsKnown, IsOnlyKing, HasAttacked, bared};
 ghost use Rattle.board_core.specs.Side.{other};
+ghost use Rattle.board_core.specs.Sides.{sides_of, squares_where};
+ghost use Rattle.board_core.specs.Position.{IsPosition, is_of};
 ghost use Rattle.board_core.specs.Square.{rank_of};
 
 use crate::bitboard::Bitboard;
@@ -19,6 +20,7 @@ use crate::parts::Parts;
 use crate::piece::{Kind, Men, Promotion, Side};
 use crate::playing::men_after;
 use crate::rules::{case_of, is_capture, last_rank, stands};
+use crate::sides::Sides;
 use crate::square::Square;
 use crate::{attack, targets};
 use std::alloc::{AllocError, Global};
@@ -32,61 +34,52 @@ pub enum Which {
     Captures,
 }
 
-/// Where the men of the two sides stand, as sets of squares, and a square of the mover's king with
-/// whether no other king of that side stands elsewhere.
+/// Where the men of the two sides stand, and the king of the side that moves.
 #[derive(Clone, Copy, PartialEq, Eq, Debug)]
 pub struct Survey {
     pub own: Bitboard,
     pub enemy: Bitboard,
     pub king: Square,
-    pub lone: bool,
 }
 
-/// What keeps the king of the side that moves safe: its square, whether it is the only one, whether
-/// it isn't attacked, and the squares that it must not go to.
+/// What keeps the king of the side that moves safe: its square, whether it isn't attacked, and the
+/// squares that it must not go to.
 #[derive(Clone, Copy, PartialEq, Eq, Debug)]
 pub struct Guard {
     pub king: Square,
-    pub lone: bool,
     pub calm: bool,
     pub danger: Bitboard,
 }
 
+/// The square of the king of the side that moves, one of the squares of its men.
+fn king_of(p: &Parts, own: Bitboard) -> Square
+    requires position { IsPosition p.now }
+    requires own { own ≡ squares_where (is_of p.now.side) p.now.men }
+    ensures stands { Stands p.now.men result p.now.side Kind.King }
+    ensures only { IsOnlyKing p.now.men p.now.side result }
+{
+    let mut rest = own;
+    let mut next = 0u8;
+    let mut square = rest.lowest();
+    while !stands(&p.men, square, p.side, Kind::King) {
+        rest = rest.without(square);
+        next = square.number() + 1;
+        square = rest.lowest();
+    }
+    square
+}
+
 /// Where the men stand.
-fn survey_of(p: &Parts) -> Survey
+fn survey_of(p: &Parts, sides: &Sides) -> Survey
+    requires position { IsPosition p.now }
+    requires sides { sides.now ≡ sides_of p.now.men }
     ensures { IsSurvey p.now result }
 {
-    let mut own = Bitboard::empty();
-    let mut enemy = Bitboard::empty();
-    let mut king = None;
-    let mut lone = true;
-    for n in 0u8..64 {
-        if let Some(man) = p.men[n as usize] {
-            let square = Square::at(n);
-            if man.side == p.side.other() {
-                enemy = enemy.with(square);
-            } else {
-                own = own.with(square);
-                if man.kind == Kind::King {
-                    lone = king.is_none();
-                    king = Some(square);
-                }
-            }
-        }
-    }
-    match king {
-        Some(king) => Survey {
-            own,
-            enemy,
-            king,
-            lone,
-        },
-        None => Survey {
-            own,
-            enemy,
-            king: Square::at(0),
-            lone: false,
-        },
+    let own = sides.of_side(p.side);
+    Survey {
+        own,
+        enemy: sides.of_side(p.side.other()),
+        king: king_of(p, own),
     }
 }
 
@@ -132,16 +125,6 @@ fn danger_of(p: &Parts, v: &Survey) -> Bitboard
     attacked_squares(&men, p.side, v.enemy)
 }
 
-/// Whether the king of the side that moves is its only one and isn't attacked.
-fn is_calm(v: &Survey, danger: Bitboard) -> bool
-    ensures { IsTrue result → IsTrue v.now.lone × (bit_at danger v.now.king ≡ 1 → ⊥) }
-{
-    if !v.lone {
-        return false;
-    }
-    !danger.has(v.king)
-}
-
 /// What is known of the king of the side that moves, by the squares that the other side attacks.
 fn guard_of(p: &Parts, v: &Survey, danger: Bitboard) -> Guard
     requires survey { IsSurvey p.now v.now }
@@ -151,8 +134,7 @@ fn guard_of(p: &Parts, v: &Survey, danger: Bitboard) -> Guard
     prove!(v.king.number() < 64);
     Guard {
         king: v.king,
-        lone: v.lone,
-        calm: is_calm(v, danger),
+        calm: !danger.has(v.king),
         danger,
     }
 }
@@ -188,9 +170,9 @@ fn is_unpinned(p: &Parts, g: &Guard, from: Square) -> bool
 /// Whether the move is a step of the king to a square that isn't attacked.
 fn is_king_away(m: &Move, case: MoveCase, g: &Guard) -> bool
     ensures { IsTrue result → (m.now.from ≡ g.now.king) × (case ≡ MoveCase.Plain)
-        × IsTrue g.now.lone × (bit_at g.now.danger m.now.to ≡ 0) }
+        × (bit_at g.now.danger m.now.to ≡ 0) }
 {
-    g.lone && m.from == g.king && case == MoveCase::Plain && !g.danger.has(m.to)
+    m.from == g.king && case == MoveCase::Plain && !g.danger.has(m.to)
 }
 
 /// Where the king of the guard stands after the move.
@@ -203,6 +185,7 @@ fn king_after(m: &Move, g: &Guard) -> Square
 
 /// Whether the king of the side that moves isn't attacked after the move.
 fn is_safe(p: &Parts, m: &Move, case: MoveCase, g: &Guard, unpinned: bool) -> bool
+    requires position { IsPosition p.now }
     requires rule { IsMove p.now m.now case }
     requires guard { IsGuard p.now g.now }
     requires unpinned { IsTrue unpinned → IsUnpinned p.now m.now.from }
@@ -217,11 +200,7 @@ fn is_safe(p: &Parts, m: &Move, case: MoveCase, g: &Guard, unpinned: bool) -> bo
         return true;
     }
     let men = men_after(p, m, case);
-    let king = king_after(m, g);
-    if g.lone && !attack::is_attacked(&men, p.side.other(), king) {
-        return true;
-    }
-    !attack::is_in_check(&men, p.side)
+    !attack::is_attacked(&men, p.side.other(), king_after(m, g))
 }
 
 /// Whether the move is one of those asked for.
@@ -243,6 +222,7 @@ fn add(
     m: &Move,
     moves: &mut Vec<Move>,
 ) -> Result<(), AllocError>
+    requires position { IsPosition p.now }
     requires guard { IsGuard p.now g.now }
     requires unpinned { IsTrue unpinned → IsUnpinned p.now m.now.from }
     requires below { HasListedBelow p.now which (place_of m.now) moves.old.items }
@@ -282,6 +262,7 @@ fn add_between(
     to: Square,
     moves: &mut Vec<Move>,
 ) -> Result<(), AllocError>
+    requires position { IsPosition p.now }
     requires guard { IsGuard p.now g.now }
     requires unpinned { IsTrue unpinned → IsUnpinned p.now from }
     requires below { HasListedBelow p.now which (320 * from + 5 * to) moves.old.items }
@@ -333,6 +314,7 @@ fn add_targets(
     set: Bitboard,
     moves: &mut Vec<Move>,
 ) -> Result<(), AllocError>
+    requires position { IsPosition p.now }
     requires guard { IsGuard p.now g.now }
     requires below { HasListedBelow p.now which (320 * from) moves.old.items }
     requires whole { (m : Move) → IsListed which p.now m → m.from ≡ from → bit_at set m.to ≡ 1 }
@@ -438,6 +420,7 @@ fn add_from(
     from: Square,
     moves: &mut Vec<Move>,
 ) -> Result<(), AllocError>
+    requires position { IsPosition p.now }
     requires survey { IsSurvey p.now v.now }
     requires known { IsKnown p.now v.now known.old }
     requires below { HasListedBelow p.now which (320 * from) moves.old.items }
@@ -475,12 +458,19 @@ fn add_from(
 }
 
 /// The legal moves asked for, each once, in order of from, to and promotion.
-fn listed(p: &Parts, which: Which, moves: Vec<Move>) -> Result<Vec<Move>, AllocError>
-    requires { moves.items ≡ [] }
+fn listed(
+    p: &Parts,
+    sides: &Sides,
+    which: Which,
+    moves: Vec<Move>,
+) -> Result<Vec<Move>, AllocError>
+    requires position { IsPosition p.now }
+    requires sides { sides.now ≡ sides_of p.now.men }
+    requires empty { moves.items ≡ [] }
     ensures { IfOk result (λ moves. Lists (IsListed which p.now) moves.items) }
 {
     let mut moves = moves;
-    let v = survey_of(p);
+    let v = survey_of(p, sides);
     let mut known = None;
     let mut rest = v.own;
     let mut next = 0u8;
@@ -497,20 +487,24 @@ fn listed(p: &Parts, which: Which, moves: Vec<Move>) -> Result<Vec<Move>, AllocE
 const COMMON: usize = 48;
 
 /// The legal moves, each once, in order of from, to and promotion.
-pub fn legal(p: &Parts, alloc: Global) -> Result<Vec<Move>, AllocError>
+pub fn legal(p: &Parts, sides: &Sides, alloc: Global) -> Result<Vec<Move>, AllocError>
+    requires position { IsPosition p.now }
+    requires sides { sides.now ≡ sides_of p.now.men }
     ensures legal { IfOk result (λ moves. HasLegal p.now moves.items) }
     ensures computed { IfOk result (λ moves. moves.items ≡ legal_moves p.now) }
 {
     let room = Vec::with_capacity(alloc, COMMON)?;
-    let moves = listed(p, Which::Every, room)?;
+    let moves = listed(p, sides, Which::Every, room)?;
     Ok(moves)
 }
 
 /// The legal captures, en passant among them, each once, in order of from, to and promotion.
-pub fn captures(p: &Parts, alloc: Global) -> Result<Vec<Move>, AllocError>
+pub fn captures(p: &Parts, sides: &Sides, alloc: Global) -> Result<Vec<Move>, AllocError>
+    requires position { IsPosition p.now }
+    requires sides { sides.now ≡ sides_of p.now.men }
     ensures legal { IfOk result (λ moves. HasLegalCaptures p.now moves.items) }
     ensures computed { IfOk result (λ moves. moves.items ≡ legal_captures p.now) }
 {
-    let moves = listed(p, Which::Captures, Vec::new(alloc))?;
+    let moves = listed(p, sides, Which::Captures, Vec::new(alloc))?;
     Ok(moves)
 }

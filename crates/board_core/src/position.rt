@@ -298,7 +298,7 @@ impl Position {
         ensures legal { IfOk result (λ moves. HasLegal self.now moves.items) }
         ensures computed { IfOk result (λ moves. moves.items ≡ legal_moves self.now) }
     {
-        generation::legal(&self.parts, alloc)
+        generation::legal(&self.parts, &self.sides, alloc)
     }
 
     /// The legal moves that take a man, en passant among them, in the same order. The error comes
@@ -307,7 +307,7 @@ impl Position {
         ensures legal { IfOk result (λ moves. HasLegalCaptures self.now moves.items) }
         ensures computed { IfOk result (λ moves. moves.items ≡ legal_captures self.now) }
     {
-        generation::captures(&self.parts, alloc)
+        generation::captures(&self.parts, &self.sides, alloc)
     }
 
     /// The side to move.

@@ -33,8 +33,8 @@ impl Sides {
     }
 
     /// The squares of one side.
-    pub fn of_side(self, side: Side) -> Bitboard
-        ensures { result ≡ squares_of self side }
+    pub fn of_side(&self, side: Side) -> Bitboard
+        ensures { result ≡ squares_of self.now side }
     {
         match side {
             Side::White => self.white,

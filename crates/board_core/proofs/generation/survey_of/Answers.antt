@@ -1,41 +1,27 @@
-use Rattle.std.proofs.Common.{arith, rules, ◌≡◌, ◌≢◌, Some, None}
+use Rattle.std.proofs.Common.{◌≡◌, ◌∙◌, ap}
+use Rattle.board_core.specs.Position.{is_of}
 use Rattle.board_core.specs.Side.{other}
-use Rattle.board_core.specs.Attack.{man_at}
-use Rattle.board_core.specs.declared.piece.Kind.TheVariants.{King}
-use Rattle.board_core.proofs.Surveying.{Surveyed-none, Surveyed-enemy, Surveyed-own, Surveyed-king}
-use Rattle.board_core.proofs.generation.survey_of.Goals.{in-Some+then-eq, in-Some+else-eq+then-eq-2, in-Some+else-eq+else-eq-2, in_default}
+use Rattle.board_core.specs.Sides.{squares_of, squares_where}
+use Rattle.board_core.specs.declared.sides.Sides.{Sides}
+use Rattle.board_core.proofs.SideSets.{in_set, set_only, side_set}
 use Rattle.board_core.proofs.generation.survey_of.Goals as goal
 
-pub loop-n-preserved : goal.loop-n-preserved
-loop-n-preserved c = elim c.match-p-n.branch [
-  | in-Some+then-eq w ↦
-      let there : man_at c.args.p.now.men c.loop-n.n ≡ Some w.in-Some.man = search rules in
-      let theirs : w.in-Some.man.side ≡ other c.args.p.now.side = search rules in
-      rw (w.own-is, w.enemy-is, w.king-is, w.lone-is) (Surveyed-enemy _ _ _ _ _ _ _ w.in-Some.man c.loop-n.invariant there theirs
-      (rw w.at-square.ensures at w.with-enemy.ensures.here) (rw w.at-square.ensures at w.with-enemy.ensures.others))
-  | in-Some+else-eq+then-eq-2 w ↦
-      let there : man_at c.args.p.now.men c.loop-n.n ≡ Some w.in-Some.man = search rules in
-      let ours : w.in-Some.man.side ≢ other c.args.p.now.side = search rules in
-      let king : w.in-Some.man.kind ≡ King = search rules in
-      rw (w.own-is, w.enemy-is, w.king-is, w.lone-is, w.at-square.ensures) (Surveyed-king _ _ _ _ _ _ _ _ w.in-Some.man c.loop-n.invariant there ours king
-      w.is_none-lone.ensures (rw w.at-square.ensures at w.with-own.ensures.here) (rw w.at-square.ensures at w.with-own.ensures.others))
-  | in-Some+else-eq+else-eq-2 w ↦
-      let there : man_at c.args.p.now.men c.loop-n.n ≡ Some w.in-Some.man = search rules in
-      let ours : w.in-Some.man.side ≢ other c.args.p.now.side = search rules in
-      let piece : w.in-Some.man.kind ≢ King = search rules in
-      rw (w.own-is, w.enemy-is, w.king-is, w.lone-is) (Surveyed-own _ _ _ _ _ _ _ w.in-Some.man c.loop-n.invariant there ours piece
-      (rw w.at-square.ensures at w.with-own.ensures.here) (rw w.at-square.ensures at w.with-own.ensures.others))
-  | in_default w ↦
-      let empty : man_at c.args.p.now.men c.loop-n.n ≡ None = search rules in
-      rw (w.own-is, w.enemy-is, w.king-is, w.lone-is) (Surveyed-none _ _ _ _ _ _ c.loop-n.invariant empty)
-]
+pub king_of-requires-clause-own : goal.king_of-requires-clause-own
+king_of-requires-clause-own c =
+    c.of_side-own.ensures ∙ ap (λ (x : Sides). squares_of x c.args.p.now.side) c.requires.sides ∙ side_set c.args.p.now.men c.args.p.now.side
 
-pub returns-in-Some-king : goal.returns-in-Some-king
-returns-in-Some-king c =
-    let h = c.loop-n.invariant in record {
-      own = λ s lt t. h.mine s (omega arith) t;
-      enemy = λ s lt t. h.theirs s (omega arith) t;
-      enemy_only = h.only;
-      lone = λ l s lt st. h.alone l _ c.in-Some-king.is s (omega arith) st;
-      stands = λ l. h.stands _ c.in-Some-king.is;
+pub returns : goal.returns
+returns c =
+    let men = c.args.p.now.men in
+    let side = c.args.p.now.side in
+    let own : c.of_side-own.result ≡ squares_where (is_of side) men =
+      c.of_side-own.ensures ∙ ap (λ (x : Sides). squares_of x side) c.requires.sides ∙ side_set men side in
+    let enemy : c.of_side.result ≡ squares_where (is_of (other side)) men =
+      rw c.other.ensures at c.of_side.ensures ∙ ap (λ (x : Sides). squares_of x (other side)) c.requires.sides ∙ side_set men (other side) in
+    record {
+      own = λ s _ t. rw own (in_set men side s t);
+      enemy = λ s _ t. rw enemy (in_set men (other side) s t);
+      enemy_only = λ s bit. set_only men (other side) s (rw enemy at bit);
+      only = c.king_of.ensures.only;
+      stands = c.king_of.ensures.stands;
     }
