@@ -1,7 +1,7 @@
 use Rattle.std.proofs.Common.{ℕ, ◌≡◌, ◌≢◌, ◌<◌, ◌-◌, ◌⊎◌, List, Option, Some, None, length, set, refl, sym, ap, ◌∙◌, arith, inl, inr, get_or-set_other, get_or-set_same}
 use Rattle.std.proofs.lemmas.Bool.{cases_eq}
 use Rattle.std.proofs.Math.ListN.{length-set}
-use Rattle.board_core.specs.Search.{IsCarry, IsOnlyKing}
+use Rattle.board_core.specs.Search.{IsCarry, IsOnlyKing, IsStruck}
 use Rattle.board_core.specs.declared.piece.Piece.{Piece}
 use Rattle.board_core.specs.declared.piece.Side.{Side}
 use Rattle.board_core.specs.declared.piece.Side.TheVariants.{White, Black}
@@ -20,7 +20,7 @@ use Rattle.board_core.specs.Side.{other}
 use Rattle.board_core.specs.Attack.{man_at, Along, IsClear, Ray, Reaches, IsAttacked, IsInCheck}
 use Rattle.board_core.specs.Castling.{rook_home, king_end, rook_end}
 use Rattle.board_core.specs.Moves.{IsMove, IsLegal, carried, landed, behind, men_after, after, kind_of}
-use Rattle.board_core.proofs.Outward.{opposite, along_split, along_rest, along_distance}
+use Rattle.board_core.proofs.Outward.{opposite, along_back, along_split, along_rest, along_distance, clear_back}
 
 abbrev pub some_man : Side → Kind → Option Piece
 some_man side sort = Some (record { side = side; kind = sort })
@@ -128,7 +128,7 @@ other_side side sort sort' e = not_other side (ap side_on e)
 
 -- a line that is clear after a man of ours was carried was clear before, or he uncovered it: then he stood between the
 -- king and a man that attacked him
-clear_before : (men : List (Option Piece)) (side : Side) (what : Kind) (d : Direction) (n a k f t : ℕ) (x : Option Piece) → length men ≡ 64 → f < 64 → t < 64 → x ≡ some_man side what → (Ray men Queen k f → IsAttacked men (other side) f → ⊥) → ((j : ℕ) → 0 < j → Along d j a f → IsClear men d j a → IsAttacked men (other side) f) → Along d n a k → IsClear (carried men f t x) d n a → IsClear men d n a
+clear_before : (men : List (Option Piece)) (side : Side) (what : Kind) (d : Direction) (n a k f t : ℕ) (x : Option Piece) → length men ≡ 64 → f < 64 → t < 64 → x ≡ some_man side what → ((r : Ray men Queen k f) → IsStruck men (other side) r.direction f → ⊥) → ((j : ℕ) → 0 < j → Along d j a f → IsClear men d j a → IsStruck men (other side) (opposite d) f) → Along d n a k → IsClear (carried men f t x) d n a → IsClear men d n a
 clear_before men side what d n a k f t x len lf lt own shut hit along clear =
     let emptied : (s : ℕ) → s ≢ f → man_at (carried men f t x) s ≡ None → man_at men s ≡ None = λ s nf h. elim (spot men f t x s len lf lt) [
       | inl b ↦ absurd (none_man side what _ h (b.1 ∙ own))
@@ -159,27 +159,37 @@ clear_before men side what d n a k f t x len lf lt own shut hit along clear =
     ]
 
 -- the ray of an attacker, before and after one of our men was carried
-ray_before : (men : List (Option Piece)) (side : Side) (what sort : Kind) (a k f t : ℕ) (x : Option Piece) → length men ≡ 64 → f < 64 → t < 64 → x ≡ some_man side what → (Ray men Queen k f → IsAttacked men (other side) f → ⊥) → (Ray men sort a f → IsAttacked men (other side) f) → Ray (carried men f t x) sort a k → Ray men sort a k
-ray_before men side what sort a k f t x len lf lt own shut hit r = record {
+ray_before : (men : List (Option Piece)) (side : Side) (what sort : Kind) (a k f t : ℕ) (x : Option Piece) → length men ≡ 64 → f < 64 → t < 64 → x ≡ some_man side what → ((r : Ray men Queen k f) → IsStruck men (other side) r.direction f → ⊥) → a < 64 → man_at men a ≡ some_man (other side) sort → ((r : Ray men sort a f) → Reaches men (other side) sort a f) → Ray (carried men f t x) sort a k → Ray men sort a k
+ray_before men side what sort a k f t x len lf lt own shut on_board stands reach r = record {
   direction = r.direction;
   distance = r.distance;
   goes = r.goes;
   away = r.away;
   along = r.along;
   clear = clear_before men side what r.direction r.distance a k f t x len lf lt own shut
-      (λ j away along clear. hit (record { direction = r.direction; distance = j; goes = r.goes; away = away; along = along; clear = clear }))
-      r.along r.clear;
+    (λ j away along clear. record {
+      from = a;
+      kind = sort;
+      distance = j;
+      on_board = on_board;
+      away = away;
+      along = along_back r.direction j a f along;
+      clear = clear_back men r.direction j a f along clear;
+      stands = stands;
+      reaches = reach (record { direction = r.direction; distance = j; goes = r.goes; away = away; along = along; clear = clear });
+    })
+    r.along r.clear;
 }
 
-reaches_before : (men : List (Option Piece)) (side : Side) (what sort : Kind) (a k f t : ℕ) (x : Option Piece) → length men ≡ 64 → f < 64 → t < 64 → x ≡ some_man side what → (Ray men Queen k f → IsAttacked men (other side) f → ⊥) → (Reaches men (other side) sort a f → IsAttacked men (other side) f) → Reaches (carried men f t x) (other side) sort a k → Reaches men (other side) sort a k
-reaches_before men side what Pawn a k f t x len lf lt own shut hit r = r
-reaches_before men side what Knight a k f t x len lf lt own shut hit r = r
-reaches_before men side what Bishop a k f t x len lf lt own shut hit r = ray_before men side what Bishop a k f t x len lf lt own shut hit r
-reaches_before men side what Rook a k f t x len lf lt own shut hit r = ray_before men side what Rook a k f t x len lf lt own shut hit r
-reaches_before men side what Queen a k f t x len lf lt own shut hit r = ray_before men side what Queen a k f t x len lf lt own shut hit r
-reaches_before men side what King a k f t x len lf lt own shut hit r = r
+reaches_before : (men : List (Option Piece)) (side : Side) (what sort : Kind) (a k f t : ℕ) (x : Option Piece) → length men ≡ 64 → f < 64 → t < 64 → x ≡ some_man side what → ((r : Ray men Queen k f) → IsStruck men (other side) r.direction f → ⊥) → a < 64 → man_at men a ≡ some_man (other side) sort → Reaches (carried men f t x) (other side) sort a k → Reaches men (other side) sort a k
+reaches_before men side what Pawn a k f t x len lf lt own shut on_board stands r = r
+reaches_before men side what Knight a k f t x len lf lt own shut on_board stands r = r
+reaches_before men side what Bishop a k f t x len lf lt own shut on_board stands r = ray_before men side what Bishop a k f t x len lf lt own shut on_board stands (λ q. q) r
+reaches_before men side what Rook a k f t x len lf lt own shut on_board stands r = ray_before men side what Rook a k f t x len lf lt own shut on_board stands (λ q. q) r
+reaches_before men side what Queen a k f t x len lf lt own shut on_board stands r = ray_before men side what Queen a k f t x len lf lt own shut on_board stands (λ q. q) r
+reaches_before men side what King a k f t x len lf lt own shut on_board stands r = r
 
-attack_before : (men : List (Option Piece)) (side : Side) (what : Kind) (k f t : ℕ) (x : Option Piece) → length men ≡ 64 → f < 64 → t < 64 → x ≡ some_man side what → (Ray men Queen k f → IsAttacked men (other side) f → ⊥) → IsAttacked (carried men f t x) (other side) k → IsAttacked men (other side) k
+attack_before : (men : List (Option Piece)) (side : Side) (what : Kind) (k f t : ℕ) (x : Option Piece) → length men ≡ 64 → f < 64 → t < 64 → x ≡ some_man side what → ((r : Ray men Queen k f) → IsStruck men (other side) r.direction f → ⊥) → IsAttacked (carried men f t x) (other side) k → IsAttacked men (other side) k
 attack_before men side what k f t x len lf lt own shut h =
     let before : man_at men h.from ≡ some_man (other side) h.kind = elim (spot men f t x h.from len lf lt) [
       | inl b ↦ absurd (other_side side what h.kind (sym own ∙ sym b.1 ∙ h.stands))
@@ -193,8 +203,7 @@ attack_before men side what k f t x len lf lt own shut h =
       kind = h.kind;
       on_board = h.on_board;
       stands = before;
-      reaches = reaches_before men side what h.kind h.from k f t x len lf lt own shut
-          (λ r. record { from = h.from; kind = h.kind; on_board = h.on_board; stands = before; reaches = r }) h.reaches;
+      reaches = reaches_before men side what h.kind h.from k f t x len lf lt own shut h.on_board before h.reaches;
     }
 
 landed_own : (side : Side) (o : Option Piece) (k : Option Promotion) → o ≡ some_man side Pawn → (what : Kind) × (landed side o k ≡ some_man side what)
@@ -210,8 +219,8 @@ carries p m PawnCapture r y = let l = landed_own p.side _ m.promotion r.stands i
 carries p m EnPassant r y = absurd y
 carries p m (Castle wing) r y = absurd y
 
--- a man may go that stands on no open line from its king, which isn't attacked, or isn't attacked himself
-pub free_to_go : (p : Parts) (m : Move) (c : MoveCase) (k : ℕ) → length p.men ≡ 64 → m.from < 64 → m.to < 64 → IsMove p m c → IsCarry c → m.from ≢ k → IsOnlyKing p.men p.side k → (IsAttacked p.men (other p.side) k → ⊥) → (Ray p.men Queen k m.from → IsAttacked p.men (other p.side) m.from → ⊥) → IsInCheck (men_after p m c) p.side → ⊥
+-- a man may go where no man pins him to a king that isn't attacked
+pub free_to_go : (p : Parts) (m : Move) (c : MoveCase) (k : ℕ) → length p.men ≡ 64 → m.from < 64 → m.to < 64 → IsMove p m c → IsCarry c → m.from ≢ k → IsOnlyKing p.men p.side k → (IsAttacked p.men (other p.side) k → ⊥) → ((r : Ray p.men Queen k m.from) → IsStruck p.men (other p.side) r.direction m.from → ⊥) → IsInCheck (men_after p m c) p.side → ⊥
 free_to_go p m c k len lf lt r y ne only safe shut =
     let x = carries p m c r y in
     only_safe (men_after p m c) p.side k (only_after p m c k k len lf lt r only (λ e. absurd (ne e)) (λ _. refl))

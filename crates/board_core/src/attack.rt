@@ -217,6 +217,19 @@ fn is_struck(men: &Men, by: Side, direction: Direction, to: Square) -> bool
     false
 }
 
+/// Whether a man of this side may pin the man on `from` to the king: along the line over empty
+/// squares that leads from the king to him, the next man attacks him.
+pub fn is_pinned(men: &Men, by: Side, king: Square, from: Square) -> bool
+    ensures { (r : Ray men.now Kind.Queen king from) → IsStruck men.now by r.direction from → IsTrue result }
+{
+    match line(king, from) {
+        Some((direction, n)) => {
+            is_clear(men, direction, n, king) && is_struck(men, by, direction, from)
+        }
+        None => false,
+    }
+}
+
 /// The square to which a knight goes.
 pub fn hop_to(hop: Hop, from: Square) -> Option<Square>
     ensures found { IfSome result (λ to. IsHop hop from to) }

@@ -161,10 +161,7 @@ fn is_unpinned(p: &Parts, g: &Guard, from: Square) -> bool
     if from == g.king {
         return false;
     }
-    if !attack::reaches(&p.men, p.side, Kind::Queen, g.king, from) {
-        return true;
-    }
-    !attack::is_attacked(&p.men, p.side.other(), from)
+    !attack::is_pinned(&p.men, p.side.other(), g.king, from)
 }
 
 /// Whether the move is a step of the king to a square that isn't attacked.

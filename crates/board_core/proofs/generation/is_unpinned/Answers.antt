@@ -1,17 +1,18 @@
-use Rattle.std.proofs.Common.{arith, rules, ◌≢◌}
+use Rattle.std.proofs.Common.{arith, rules, ◌≢◌, subst, sym}
+use Rattle.board_core.specs.declared.piece.Kind.TheVariants.{Queen}
+use Rattle.board_core.specs.Attack.{Ray}
+use Rattle.board_core.specs.Search.{IsStruck}
+use Rattle.board_core.specs.Side.{other}
 use Rattle.board_core.proofs.Safety.{free_to_go}
 use Rattle.board_core.proofs.generation.is_unpinned.Goals as goal
 
-pub returns-then-not-reaches : goal.returns-then-not-reaches
-returns-then-not-reaches c = λ t m k here to rule carry.
-    let calm = c.requires.calm (search rules) in
-    let away : c.args.from ≢ c.args.g.now.king = search rules in
-    free_to_go _ m k _ (omega arith) (omega arith) to rule carry (rw here away) c.requires.only calm
-    (λ r _. let x = c.reaches.ensures.1 (rw here at r) in search rules)
-
 pub returns : goal.returns
 returns c = λ t m k here to rule carry.
+    let p = c.args.p.now in
+    let king = c.args.g.now.king in
     let calm = c.requires.calm (search rules) in
-    let away : c.args.from ≢ c.args.g.now.king = search rules in
+    let away : c.args.from ≢ king = search rules in
+    let unpinned : (r : Ray p.men Queen king c.args.from) → IsStruck p.men (other p.side) r.direction c.args.from → ⊥ =
+      λ r s. let x = c.is_pinned.ensures r (rw c.other.ensures s) in search rules in
     free_to_go _ m k _ (omega arith) (omega arith) to rule carry (rw here away) c.requires.only calm
-    (λ _ r. let x = c.is_attacked.ensures.1 (rw c.other.ensures (rw here at r)) in search rules)
+    (subst (λ f. (r : Ray p.men Queen king f) → IsStruck p.men (other p.side) r.direction f → ⊥) (sym here) unpinned)
