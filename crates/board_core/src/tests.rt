@@ -129,3 +129,23 @@ fn lists_and_plays(rt: HostRuntime) -> Result<(), Fail> {
     assert!(rt; next.play(back).is_none());
     Ok(())
 }
+
+#[test]
+fn keeps_sets_of_squares(rt: HostRuntime) -> Result<(), Fail> {
+    let Ok(start) = Position::new(parts_of(START)) else {
+        return Err(Fail::from("a position"));
+    };
+    let men = start.occupied();
+    assert_eq!(rt; men.len(), 32);
+    assert!(rt; men.has(Square::at(60)));
+    assert!(rt; !men.has(Square::at(28)));
+    assert!(rt; !men.is_empty());
+    assert_eq!(rt; men.lowest().number(), 0);
+    let rest = men.without(Square::at(0));
+    assert!(rt; !rest.is_empty());
+    assert_eq!(rt; rest.lowest().number(), 1);
+    let corner = Bitboard::empty().with(Square::at(63));
+    assert_eq!(rt; (rest & corner).len(), 1);
+    assert_eq!(rt; (rest | corner).len(), 31);
+    Ok(())
+}
