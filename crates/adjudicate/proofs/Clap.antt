@@ -6,7 +6,7 @@ use Rattle.clap.specs.declared.error.Error.{Error}
 use Rattle.clap.proofs.OnLiterals.{clap_on_literals}
 use Rattle.adjudicate.specs.declared.usage.Usage.TheVariants.{Misuse, OutOfMemory}
 use Rattle.adjudicate.specs.Usage.{usage_of}
-use Rattle.adjudicate.specs.Commands.{judge_app, moves_app}
+use Rattle.adjudicate.specs.Commands.{judge_app, moves_app, show_app}
 
 pub is_taken_for_memory : (kinds : Kinds) (e : Error) → HasKind kinds e → kinds ≡ [] → usage_of (kind_of e) ≡ Misuse → ⊥
 is_taken_for_memory kinds e h none is =
@@ -22,3 +22,7 @@ judge_is_simple = refl
 pub moves_is_simple : is_simple_and_free moves_app ≡ true
 unfolding clap_on_literals moves_app
 moves_is_simple = refl
+
+pub show_is_simple : is_simple_and_free show_app ≡ true
+unfolding clap_on_literals show_app
+show_is_simple = refl

@@ -24,9 +24,9 @@ more_lines old mid new first last p q =
     subst (Appends old new) (sym joined) (Appends-trans old mid new _ _ p q)
 
 -- a text that spells no position is refused
-pub refuses : (fen : List ℕ) (lines : Parts → List (List ℕ)) (fault : FenFault) (old new : Option (List ℕ)) → IsFirstFenFault fen fault → Appends old new (line_of (codes "refused FEN " ++ fault_text fault)) → (r : Reply) × IsReplyTo fen lines r × WritesReply old new r 1
-refuses fen lines fault old new first h =
-    (refused_fen fault, inr (fault, first, refl), (one_line old new (codes "refused FEN " ++ fault_text fault) h, refl))
+pub refuses : (fen : List ℕ) (lines : Parts → List (List ℕ)) (fault : FenFault) (old new : Option (List ℕ)) (status : ℕ) → IsFirstFenFault fen fault → Appends old new (line_of (codes "refused FEN " ++ fault_text fault)) × (status ≡ 1) → (r : Reply) × IsReplyTo fen lines r × WritesReply old new r status
+refuses fen lines fault old new status first h =
+    (refused_fen fault, inr (fault, first, refl), (one_line old new (codes "refused FEN " ++ fault_text fault) h.0, h.1))
 
 abbrev pub lines_reply : (Parts → List (List ℕ)) → Parts → Reply
 lines_reply lines p = record { lines = lines p; status = 0 }

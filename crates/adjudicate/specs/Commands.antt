@@ -15,6 +15,10 @@ judge_app = with_rule (new_app (codes "judge")) (needed_rule (codes "FEN"))
 unfoldable pub moves_app : App
 moves_app = with_rule (new_app (codes "moves")) (needed_rule (codes "FEN"))
 
+-- show
+unfoldable pub show_app : App
+show_app = new_app (codes "show")
+
 -- the value that a command gives an argument at the words
 unfoldable pub value_in : App → List Text → Text → Option Text
 value_in app words id = first_of id (matches_of app words)

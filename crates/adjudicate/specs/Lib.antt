@@ -3,3 +3,4 @@ pub mod Tasks
 pub mod Usage
 pub mod Ruling
 pub mod Reply
+pub mod Fronts

@@ -1,5 +1,6 @@
 -- What the program answers: lines and a status (this project's own).
-use Rattle.std.specs.Prelude.{◌≡◌, ◌++◌, ◌⊎◌, ℕ, List, [], ◌∷◌, map, take, Option, Some, None, codes}
+use Rattle.std.specs.Prelude.{◌≡◌, ◌≤◌, ◌+◌, ◌++◌, ◌⊎◌, ℕ, List, [], ◌∷◌, length, map, take, Option, Some, None, IfSome, codes}
+use Rattle.std.specs.Fmt.{decimal}
 use Rattle.std.specs.List.{flat_map}
 use Rattle.std.specs.Io.KnownBytes.{Appends}
 use Rattle.board_core.specs.declared.parts.Parts.{Parts}
@@ -10,10 +11,17 @@ use Rattle.fen_text.specs.declared.fault.FenFault.TheVariants.{FieldCount, BadPl
 use Rattle.fen_text.specs.Fen.{SpellsPosition, IsFirstFenFault, fault_name}
 use Rattle.fen_text.specs.Coordinates.{move_text}
 use Rattle.adjudicate.specs.Tasks.{IsTask, IsMisuse}
-use Rattle.adjudicate.specs.Ruling.{ruling, verdict_name}
-use Rattle.adjudicate.specs.declared.verdict.Verdict.{Verdict}
+use Rattle.adjudicate.specs.Ruling.{ruling}
+use Rattle.move_msg.specs.declared.verdict.Verdict.{Verdict}
+use Rattle.move_msg.specs.declared.message.Message.{Message}
+use Rattle.move_msg.specs.declared.message.Message.TheVariants as message
+use Rattle.move_msg.specs.declared.who.Sender.TheVariants.{Source}
+use Rattle.move_msg.specs.Senders.{who_number, sender_number}
+use Rattle.move_msg.specs.Verdicts.{verdict_name}
+use Rattle.move_msg.specs.Messages.{fault_name as message_fault_name}
+use Rattle.move_msg.specs.Streams.{End, AfterMessage, Cut, AtFault, SpellsStream}
 use Rattle.adjudicate.specs.declared.commands.Task.{Task}
-use Rattle.adjudicate.specs.declared.commands.Task.TheVariants.{Judge, Moves}
+use Rattle.adjudicate.specs.declared.commands.Task.TheVariants.{Judge, Moves, Show}
 
 pub record Reply : Type 0 where
   pub lines : List (List ℕ)
@@ -43,6 +51,10 @@ IsReplyTo fen lines r =
     ((p : Parts) × SpellsPosition fen p × IsPosition p × (r ≡ record { lines = lines p; status = 0 }))
     ⊎ ((fault : FenFault) × IsFirstFenFault fen fault × (r ≡ refused_fen fault))
 
+-- these are the lines for the position that the text spells
+abbrev pub AreLinesOf : List ℕ → (Parts → List (List ℕ)) → List (List ℕ) → Type 0
+AreLinesOf fen lines_of lines = (p : Parts) × SpellsPosition fen p × IsPosition p × (lines ≡ lines_of p)
+
 -- judge: the verdict's name, or that the game goes on
 abbrev pub verdict_line : Option Verdict → List ℕ
 verdict_line None = codes "open"
@@ -55,14 +67,39 @@ judge_lines p = verdict_line (ruling p) ∷ []
 abbrev pub moves_lines : Parts → List (List ℕ)
 moves_lines p = map move_text (legal_moves p)
 
--- the text that a task asks about, and the lines for the position that it spells
-abbrev pub text_in : Task → List ℕ
-text_in (Judge fen) = fen.now
-text_in (Moves fen) = fen.now
+-- show: a line a message: what it is, its sender's number, its number, and the move or the verdict
+abbrev pub message_line : Message → List ℕ
+message_line (message.Move stamp number m) =
+    codes "Move " ++ decimal (sender_number Source) ++ codes " " ++ decimal number ++ codes " " ++ move_text m
+message_line (message.Ack stamp who count) = codes "Ack " ++ decimal (who_number who) ++ codes " " ++ decimal count
+message_line (message.Verdict stamp who ply verdict) =
+    codes "Verdict " ++ decimal (who_number who) ++ codes " " ++ decimal ply ++ codes " " ++ verdict_name verdict
 
-abbrev pub lines_in : Task → Parts → List (List ℕ)
-lines_in (Judge fen) = judge_lines
-lines_in (Moves fen) = moves_lines
+-- the refusal of a message by its number, the first being 1
+abbrev pub refused_message : ℕ → List ℕ → List ℕ
+refused_message number name = codes "refused message " ++ decimal number ++ codes " " ++ name
+
+-- the lines of the messages, and a refusal where the stream doesn't end after one
+abbrev pub shown : List Message → End → Reply
+shown ms AfterMessage = record { lines = map message_line ms; status = 0 }
+shown ms Cut = record { lines = map message_line ms ++ refused_message (length ms + 1) (codes "Cut") ∷ []; status = 1 }
+shown ms (AtFault fault) =
+    record { lines = map message_line ms ++ refused_message (length ms + 1) (message_fault_name fault) ∷ []; status = 1 }
+
+abbrev pub IsShown : List ℕ → Reply → Type 0
+IsShown input r = (ms : List Message) × (end : End) × SpellsStream input ms end × (r ≡ shown ms end)
+
+-- the reply to a task, where these bytes are the input
+abbrev pub IsReply : Task → List ℕ → Reply → Type 0
+IsReply (Judge fen) input r = IsReplyTo fen.now judge_lines r
+IsReply (Moves fen) input r = IsReplyTo fen.now moves_lines r
+IsReply Show input r = IsShown input r
+
+-- lines of a reply that takes memory: no refusal does, and no message
+abbrev pub AreCostly : Task → List (List ℕ) → Type 0
+AreCostly (Judge fen) lines = AreLinesOf fen.now judge_lines lines
+AreCostly (Moves fen) lines = AreLinesOf fen.now moves_lines lines
+AreCostly Show lines = ⊥
 
 -- the reply was written whole, and its status told
 abbrev pub WritesReply : Option (List ℕ) → Option (List ℕ) → Reply → ℕ → Type 0
@@ -75,22 +112,45 @@ WritesSome old new lines = (n : ℕ) × Appends old new (text_of (take n lines))
 abbrev pub refused_memory : List ℕ
 refused_memory = codes "refused memory"
 
--- the text spells a position, and some of its lines were written and then that memory was refused, with status 1
-abbrev pub RefusesMemory : List ℕ → (Parts → List (List ℕ)) → Option (List ℕ) → Option (List ℕ) → ℕ → Type 0
-RefusesMemory fen lines old new status =
-    (p : Parts) × SpellsPosition fen p × IsPosition p
-    × ((n : ℕ) × Appends old new (text_of (take n (lines p) ++ refused_memory ∷ []))) × (status ≡ 1)
+-- some lines of the reply were written and then that memory was refused, with status 1
+abbrev pub RefusesMemory : Task → Option (List ℕ) → Option (List ℕ) → ℕ → Type 0
+RefusesMemory task old new status =
+    (lines : List (List ℕ)) × AreCostly task lines
+    × ((n : ℕ) × Appends old new (text_of (take n lines ++ refused_memory ∷ []))) × (status ≡ 1)
 
--- what the program answers to a task: its reply, or, where the text spells a position, that memory was refused
-abbrev pub Answers : Task → Option (List ℕ) → Option (List ℕ) → ℕ → Type 0
-Answers task old new status =
-    ((r : Reply) × IsReplyTo (text_in task) (lines_in task) r × WritesReply old new r status)
-    ⊎ RefusesMemory (text_in task) (lines_in task) old new status
+-- what the program answers to a task: its reply, or, where the reply takes memory, that memory was refused
+abbrev pub Answers : Task → List ℕ → Option (List ℕ) → Option (List ℕ) → ℕ → Type 0
+Answers task input old new status =
+    ((r : Reply) × IsReply task input r × WritesReply old new r status) ⊎ RefusesMemory task old new status
+
+-- the input is all that the reader has, where that is known, and has at most so many bytes
+abbrev pub most_bytes : ℕ
+most_bytes = 1073741824
+
+abbrev pub IsInput : Option (List ℕ) → List ℕ → Type 0
+IsInput known input = IfSome known (λ all. input ≡ all) × (length input ≤ most_bytes)
+
+-- the input of a task: only show reads any
+abbrev pub IsInputOf : Task → Option (List ℕ) → List ℕ → Type 0
+IsInputOf (Judge fen) known input = input ≡ []
+IsInputOf (Moves fen) known input = input ≡ []
+IsInputOf Show known input = IsInput known input
+
+abbrev pub refused_files : List ℕ
+refused_files = codes "refused files"
+
+-- to a task the program answers from its input; or, where the task is to show one, tells that it can't be read or that
+-- memory was refused
+abbrev pub AnswersInput : Task → Option (List ℕ) → Option (List ℕ) → Option (List ℕ) → ℕ → Type 0
+AnswersInput task known old new status =
+    ((input : List ℕ) × IsInputOf task known input × Answers task input old new status)
+    ⊎ ((task ≡ Show) × Appends old new (text_of (refused_files ∷ [])) × (status ≡ 1))
+    ⊎ ((task ≡ Show) × Appends old new (text_of (refused_memory ∷ [])) × (status ≡ 1))
 
 -- what the program makes of its words: the answer to the task that they name; or they are misused, and nothing is
 -- written; or memory was refused before there was a task
-abbrev pub Runs : List (List ℕ) → Option (List ℕ) → Option (List ℕ) → ℕ → Type 0
-Runs words old new status =
-    ((task : Task) × IsTask words task × Answers task old new status)
-    ⊎ ((IsMisuse words × (new ≡ old) × (status ≡ 2))
-    ⊎ (Appends old new (text_of (refused_memory ∷ [])) × (status ≡ 1)))
+abbrev pub Runs : List (List ℕ) → Option (List ℕ) → Option (List ℕ) → Option (List ℕ) → ℕ → Type 0
+Runs words known old new status =
+    ((task : Task) × IsTask words task × AnswersInput task known old new status)
+    ⊎ (IsMisuse words × (new ≡ old) × (status ≡ 2))
+    ⊎ (Appends old new (text_of (refused_memory ∷ [])) × (status ≡ 1))

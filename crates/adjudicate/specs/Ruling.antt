@@ -1,13 +1,13 @@
 -- The verdict on a position without tables (FIDE articles 5.1.1, 5.2.1 and 5.2.2).
-use Rattle.std.specs.Prelude.{ℕ, ◌==◌, List, [], ◌∷◌, Bool, true, false, Option, Some, None, if◌then◌else◌, codes}
+use Rattle.std.specs.Prelude.{◌==◌, List, [], ◌∷◌, Bool, true, false, Option, Some, None, if◌then◌else◌}
 use Rattle.board_core.specs.declared.parts.Parts.{Parts}
 use Rattle.board_core.specs.declared.moves.Move.{Move}
 use Rattle.board_core.specs.declared.piece.Side.{Side}
 use Rattle.board_core.specs.declared.piece.Side.TheVariants.{White, Black}
 use Rattle.board_core.specs.Computed.{is_in_check}
 use Rattle.board_core.specs.ComputedMoves.{legal_moves, count_of_men}
-use Rattle.adjudicate.specs.declared.verdict.Verdict.{Verdict}
-use Rattle.adjudicate.specs.declared.verdict.Verdict.TheVariants.{WhiteMates, BlackMates, Stalemate, TableDraw}
+use Rattle.move_msg.specs.declared.verdict.Verdict.{Verdict}
+use Rattle.move_msg.specs.declared.verdict.Verdict.TheVariants.{WhiteMates, BlackMates, Stalemate, TableDraw}
 
 abbrev pub has_no_move : List Move → Bool
 has_no_move [] = true
@@ -28,10 +28,3 @@ ruling p =
     if has_no_move (legal_moves p) then Some (end_of p)
     else if count_of_men p == 2 then Some TableDraw
     else None
-
--- a verdict's name, as it is printed
-abbrev pub verdict_name : Verdict → List ℕ
-verdict_name WhiteMates = codes "WhiteMates"
-verdict_name BlackMates = codes "BlackMates"
-verdict_name Stalemate = codes "Stalemate"
-verdict_name TableDraw = codes "TableDraw"

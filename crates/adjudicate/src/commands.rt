@@ -2,8 +2,7 @@
 
 ghost use Rattle.std.specs.Prelude.{◌≡◌, List, [], map, true, IfOk, IfErr, Err, codes};
 ghost use Rattle.clap.specs.Words.{app_of, is_simple_and_free, found_of, first_value};
-ghost use Rattle.adjudicate.specs.Commands.{judge_app, moves_app, value_in};
-ghost use Rattle.adjudicate.specs.Reply.{text_in};
+ghost use Rattle.adjudicate.specs.Commands.{judge_app, moves_app, show_app, value_in};
 ghost use Rattle.adjudicate.specs.Tasks.{IsTask, IsMisuse, IsTaken, IsMisused, Names, NamesNone};
 
 use crate::usage::Usage;
@@ -23,18 +22,8 @@ pub enum Task<'a> {
         /// The position's FEN text.
         fen: &'a str,
     },
-}
-
-impl<'a> Task<'a> {
-    /// The FEN text that the task asks about.
-    pub fn fen(&self) -> &str
-        ensures { result.now ≡ text_in self.now }
-    {
-        match *self {
-            Task::Judge { fen } => fen,
-            Task::Moves { fen } => fen,
-        }
-    }
+    /// The messages of the input.
+    Show,
 }
 
 /// The matches of a simple command at the words, of which the first is the command's name.
@@ -94,6 +83,25 @@ fn moves_of<'a>(alloc: Global, words: &'a [&'a str]) -> Result<Task<'a>, Usage>
     }
 }
 
+/// `show`, as `clap` reads it.
+fn show_command<'a>(alloc: Global) -> Command<'a>
+    ensures { app_of result ≡ show_app }
+{
+    Command::new(alloc, "show")
+}
+
+/// That the messages of the input are asked for.
+fn show_of<'a>(alloc: Global, words: &'a [&'a str]) -> Result<Task<'a>, Usage>
+    requires { Names (map (λ w. w.now) words.now) (codes "show") }
+    ensures ok { IfOk result (IsTask (map (λ w. w.now) words.entry.now)) }
+    ensures misuse { IfErr result (λ e. e ≡ Usage.Misuse → IsTaken show_app (map (λ w. w.now) words.entry.now) → ⊥) }
+{
+    match matches_at(show_command(alloc), words) {
+        Ok(_) => Ok(Task::Show),
+        Err(usage) => Err(usage),
+    }
+}
+
 /// The task that the words name: the first word is the command, and the others are its own.
 ///
 /// Words that name no command, or that the command refuses (a wish for help among them), are a
@@ -108,6 +116,7 @@ pub fn parse<'a>(alloc: Global, words: &'a [&'a str]) -> Result<Task<'a>, Usage>
         [name, ..] => match *name {
             "judge" => judge_of(alloc, words),
             "moves" => moves_of(alloc, words),
+            "show" => show_of(alloc, words),
             _ => Err(Usage::Misuse),
         },
     }

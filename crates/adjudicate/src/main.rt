@@ -1,12 +1,14 @@
 //! The adjudicator's program: words in, lines and a status out.
 //!
-//! `judge FEN` prints the verdict on a position, or `open`; `moves FEN` prints its legal moves.
-//! Statuses: 0 done, 1 refused, 2 misuse.
+//! `judge FEN` prints the verdict on a position, or `open`; `moves FEN` prints its legal moves;
+//! `show` prints the messages on standard input. Statuses: 0 done, 1 refused, 2 misuse.
 #![tactic(auto)]
 
 mod commands;
+mod input;
 mod program;
 mod replies;
+mod show;
 mod usage;
 mod verdict;
 
@@ -46,10 +48,10 @@ fn run_into<W: Write>(rt: &HostRuntime, out: &mut W) -> Result<u8, AnswerFault> 
     let words = match words_of(rt) {
         Ok(words) => words,
         Err(Usage::OutOfMemory) => return put_refused_memory(out),
-        Err(Usage::Misuse) => return run(rt.alloc(), &[], out, &mut rt.stderr()),
+        Err(Usage::Misuse) => return run(rt.alloc(), &[], rt.reader(), out, &mut rt.stderr()),
     };
     match tail_of(rt.alloc(), &words) {
-        Ok(tail) => run(rt.alloc(), &tail, out, &mut rt.stderr()),
+        Ok(tail) => run(rt.alloc(), &tail, rt.reader(), out, &mut rt.stderr()),
         Err(_) => put_refused_memory(out),
     }
 }

@@ -2,13 +2,11 @@
 
 ghost use Rattle.std.specs.Prelude.{◌≡◌, ◌++◌, ◌∷◌, [], map, codes, IfOk, IfErr, OnOk, IsErrOf};
 ghost use Rattle.std.specs.Io.KnownBytes.{Appends};
-ghost use Rattle.board_core.specs.declared.parts.Parts.{Parts};
-ghost use Rattle.board_core.specs.Position.{IsPosition};
 ghost use Rattle.fen_text.specs.Coordinates.{move_text};
-ghost use Rattle.fen_text.specs.Fen.{SpellsPosition};
-ghost use Rattle.adjudicate.specs.Reply.{Answers, IsReplyTo, Reply, WritesReply, WritesSome, fault_text, judge_lines, moves_lines, lines_in, refused_memory, text_in, text_of};
+ghost use Rattle.adjudicate.specs.Reply.{Answers, AreCostly, AreLinesOf, IsReply, IsReplyTo, Reply, WritesReply, WritesSome, fault_text, judge_lines, moves_lines, refused_files, refused_memory, text_of};
 
 use crate::commands::Task;
+use crate::show::show;
 use crate::verdict;
 use board_core::{Move, Position};
 use fen_text::{FenFault, read, write_move};
@@ -26,7 +24,7 @@ pub enum AnswerFault {
 
 /// Why a reply was not written to its end.
 #[derive(Clone, Copy, PartialEq, Eq, Debug)]
-enum Stop {
+pub(crate) enum Stop {
     Io,
     OutOfMemory,
 }
@@ -120,59 +118,88 @@ fn put_moves<W: Write>(alloc: Global, position: &Position, out: &mut W) -> Resul
     }
 }
 
-/// Writes what a task asks of a position.
-fn put_lines<W: Write>(
-    alloc: Global,
-    task: &Task,
-    position: &Position,
-    out: &mut W,
-) -> Result<(), Stop>
-    ensures ok { OnOk result (Appends (W.contents out.old) (W.contents out.new) (text_of (lines_in task.now position.now))) }
-    ensures memory { IsErrOf result Stop.OutOfMemory → WritesSome (W.contents out.old) (W.contents out.new) (lines_in task.now position.now) }
+/// Refuses a text by its fault, and tells the status 1.
+fn refuse<W: Write>(out: &mut W, fault: FenFault) -> Result<u8, Stop>
+    ensures ok { IfOk result (λ status. Appends (W.contents out.old) (W.contents out.new) ((codes "refused FEN " ++ fault_text fault) ++ 10 ∷ []) × (status ≡ 1)) }
+    ensures io { IfErr result (λ stop. stop ≡ Stop.Io) }
 {
-    match *task {
-        Task::Judge { .. } => put_judgement(alloc, position, out),
-        Task::Moves { .. } => put_moves(alloc, position, out),
+    match put_fault(out, fault) {
+        Ok(()) => Ok(1),
+        Err(stop) => Err(stop),
     }
 }
 
-/// Writes the reply to a task, and tells its status.
-fn reply<W: Write>(alloc: Global, task: &Task, out: &mut W) -> Result<u8, Stop>
-    ensures ok { IfOk result (λ status. (r : Reply) × IsReplyTo (text_in task.now) (lines_in task.now) r × WritesReply (W.contents out.old) (W.contents out.new) r status) }
-    ensures memory { IsErrOf result Stop.OutOfMemory → (p : Parts) × SpellsPosition (text_in task.now) p × IsPosition p × WritesSome (W.contents out.old) (W.contents out.new) (lines_in task.now p) }
+/// Answers what the verdict on a position is, and tells the status.
+fn answer_judge<W: Write>(alloc: Global, fen: &str, out: &mut W) -> Result<u8, Stop>
+    ensures ok { IfOk result (λ status. (r : Reply) × IsReplyTo fen.now judge_lines r × WritesReply (W.contents out.old) (W.contents out.new) r status) }
+    ensures memory { IsErrOf result Stop.OutOfMemory → (lines : _) × AreLinesOf fen.now judge_lines lines × WritesSome (W.contents out.old) (W.contents out.new) lines }
 {
-    match read(task.fen().as_bytes()) {
-        Err(fault) => match put_fault(out, fault) {
-            Ok(()) => Ok(1),
-            Err(_) => Err(Stop::Io),
-        },
-        Ok(position) => match put_lines(alloc, task, &position, out) {
+    match read(fen.as_bytes()) {
+        Err(fault) => refuse(out, fault),
+        Ok(position) => match put_judgement(alloc, &position, out) {
             Ok(()) => Ok(0),
             Err(stop) => Err(stop),
         },
     }
 }
 
+/// Answers what the legal moves of a position are, and tells the status.
+fn answer_moves<W: Write>(alloc: Global, fen: &str, out: &mut W) -> Result<u8, Stop>
+    ensures ok { IfOk result (λ status. (r : Reply) × IsReplyTo fen.now moves_lines r × WritesReply (W.contents out.old) (W.contents out.new) r status) }
+    ensures memory { IsErrOf result Stop.OutOfMemory → (lines : _) × AreLinesOf fen.now moves_lines lines × WritesSome (W.contents out.old) (W.contents out.new) lines }
+{
+    match read(fen.as_bytes()) {
+        Err(fault) => refuse(out, fault),
+        Ok(position) => match put_moves(alloc, &position, out) {
+            Ok(()) => Ok(0),
+            Err(stop) => Err(stop),
+        },
+    }
+}
+
+/// Writes the reply to a task, and tells its status.
+fn reply<W: Write>(alloc: Global, task: &Task, input: &[u8], out: &mut W) -> Result<u8, Stop>
+    ensures ok { IfOk result (λ status. (r : Reply) × IsReply task.now input.now r × WritesReply (W.contents out.old) (W.contents out.new) r status) }
+    ensures memory { IsErrOf result Stop.OutOfMemory → (lines : _) × AreCostly task.now lines × WritesSome (W.contents out.old) (W.contents out.new) lines }
+{
+    match *task {
+        Task::Judge { fen } => answer_judge(alloc, fen, out),
+        Task::Moves { fen } => answer_moves(alloc, fen, out),
+        Task::Show => show(input, out),
+    }
+}
+
 /// Runs the task: writes what it answers, and tells the status, 0 done or 1 refused.
 ///
 /// `files` are the names and contents of table files, the names strictly rising in order of bytes;
-/// `manifest` and `input` are the bytes of those files. The commands so far ask for none of them.
-/// Where memory is refused, the line `refused memory` comes in place of what is left, with status
-/// 1; a text that is no position takes none. The error comes only where the writer failed.
+/// `manifest` and `input` are the bytes of those files. `show` alone asks for the input, and no
+/// command so far for the others. Where memory is refused, the line `refused memory` comes in place
+/// of what is left, with status 1; a text that is no position takes none, and `show` takes none.
+/// The error comes only where the writer failed.
 pub fn answer<W: Write>(
     alloc: Global,
     task: &Task,
     _files: &[(&[u8], &[u8])],
     _manifest: Option<&[u8]>,
-    _input: &[u8],
+    input: &[u8],
     out: &mut W,
 ) -> Result<u8, AnswerFault>
-    ensures { IfOk result (Answers task.now (W.contents out.old) (W.contents out.new)) }
+    ensures { IfOk result (Answers task.now input.now (W.contents out.old) (W.contents out.new)) }
 {
-    match reply(alloc, task, out) {
+    match reply(alloc, task, input, out) {
         Ok(status) => Ok(status),
         Err(Stop::Io) => Err(AnswerFault::Io),
         Err(Stop::OutOfMemory) => put_refused_memory(out),
+    }
+}
+
+/// Writes that the input can't be read, and tells the status 1.
+pub fn put_refused_files<W: Write>(out: &mut W) -> Result<u8, AnswerFault>
+    ensures { IfOk result (λ status. Appends (W.contents out.old) (W.contents out.new) (refused_files ++ 10 ∷ []) × (status ≡ 1)) }
+{
+    match put_line(out, "refused files") {
+        Ok(()) => Ok(1),
+        Err(_) => Err(AnswerFault::Io),
     }
 }
 

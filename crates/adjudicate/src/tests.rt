@@ -6,8 +6,10 @@ use crate::replies::{AnswerFault, answer};
 use crate::usage::Usage;
 use board_core::Position;
 use fen_text::{read, read_move};
+use move_msg::{Count, Message, Stamp, Verdict, Who};
 use std::alloc::{AllocError, Global};
-use std::io::{self, Write};
+use std::io::{self, Read, Write};
+use std::process::Abort;
 use std::test::*;
 
 const START: &str = "rnbqkbnr/pppppppp/8/8/8/8/PPPPPPPP/RNBQKBNR w KQkq - 0 1";
@@ -221,6 +223,8 @@ fn refuses_misused_words(rt: HostRuntime) {
             Err(Usage::Misuse)
         )
     );
+    assert!(rt; matches!(parse(alloc, &["show", START]), Err(Usage::Misuse)));
+    assert!(rt; matches!(parse(alloc, &["show"]), Ok(Task::Show)));
     assert!(rt; matches!(parse(alloc, &["moves", START]), Ok(Task::Moves { fen }) if fen == START));
     assert!(rt; matches!(parse(alloc, &["judge", START]), Ok(Task::Judge { fen }) if fen == START));
 }
@@ -239,7 +243,9 @@ fn tells_each_status(rt: HostRuntime) -> Result<(), Fail> {
     ] {
         let mut out = Vec::new(alloc);
         let mut errors = Vec::new(alloc);
-        assert!(rt; matches!(run(alloc, words, &mut out, &mut errors), Ok(told) if told == status));
+        assert!(rt;
+            matches!(run(alloc, words, [].as_slice(), &mut out, &mut errors), Ok(told) if told == status)
+        );
         assert_eq!(rt; out.as_slice(), text.as_bytes());
         assert!(rt; errors.starts_with(b"usage: ") == (status == 2));
         let mut failing = Failing {
@@ -248,7 +254,7 @@ fn tells_each_status(rt: HostRuntime) -> Result<(), Fail> {
         };
         let mut out = Vec::new(alloc);
         assert!(rt;
-            matches!(run(alloc, words, &mut out, &mut failing), Ok(told) if told == status)
+            matches!(run(alloc, words, [].as_slice(), &mut out, &mut failing), Ok(told) if told == status)
         );
     }
     Ok(())
@@ -291,4 +297,109 @@ fn tells_each_failed_write(rt: HostRuntime) {
         let answered = answer(rt.alloc(), &Task::Judge { fen }, &[], None, &[], &mut out);
         assert!(rt; matches!(answered, Err(AnswerFault::Io)), "{fen}");
     }
+}
+
+/// A move, an acknowledgement and a verdict, one after the other.
+fn three_messages(rt: &impl Abort, alloc: Global) -> Result<Vec<u8>, Fail> {
+    let stamp = Stamp([7; 16]);
+    let mut stream = Vec::new(alloc);
+    let told = Message::Move {
+        stamp,
+        number: 0,
+        m: read_move(b"e2e4").expect(rt, "a move"),
+    };
+    stream.extend_from_slice(&told.encode())?;
+    let kept = Message::Ack {
+        stamp,
+        who: Who::A,
+        count: Count::new(3).expect(rt, "a count"),
+    };
+    stream.extend_from_slice(&kept.encode())?;
+    let ended = Message::Verdict {
+        stamp,
+        who: Who::B,
+        ply: Count::new(4).expect(rt, "a ply"),
+        verdict: Verdict::TableWhite,
+    };
+    stream.extend_from_slice(&ended.encode())?;
+    Ok(stream)
+}
+
+/// What the program writes for `show` and an input, and its status.
+fn shown<R: Read + Drop>(alloc: Global, input: R) -> Result<(Vec<u8>, u8), Fail> {
+    let mut out = Vec::new(alloc);
+    let mut errors = Vec::new(alloc);
+    match run(alloc, &["show"], input, &mut out, &mut errors) {
+        Ok(status) => Ok((out, status)),
+        Err(_) => Err(Fail::from("an answer")),
+    }
+}
+
+#[test]
+fn shows_messages(rt: HostRuntime) -> Result<(), Fail> {
+    let alloc = rt.alloc();
+    let lines = "Move 0 0 e2e4\nAck 1 3\nVerdict 2 4 TableWhite\n";
+    let mut stream = three_messages(&rt, alloc)?;
+    let (out, status) = shown(alloc, stream.as_slice())?;
+    assert_eq!(rt; out.as_slice(), lines.as_bytes());
+    assert_eq!(rt; status, 0);
+    stream.extend_from_slice(&[0x53, 0x41, 1, 1, 0])?;
+    let (out, status) = shown(alloc, stream.as_slice())?;
+    assert!(rt; out.starts_with(lines.as_bytes()));
+    assert!(rt; out.ends_with(b"\nrefused message 4 Cut\n"));
+    assert_eq!(rt; out.len(), lines.len() + 22);
+    assert_eq!(rt; status, 1);
+    let mut other = [0u8; 27];
+    other[0..4].copy_from_slice(&[0x53, 0x41, 1, 4]);
+    let (out, status) = shown(alloc, other.as_slice())?;
+    assert_eq!(rt; out.as_slice(), "refused message 1 BadKind\n".as_bytes());
+    assert_eq!(rt; status, 1);
+    let (out, status) = shown(alloc, [].as_slice())?;
+    assert!(rt; out.is_empty());
+    assert_eq!(rt; status, 0);
+    Ok(())
+}
+
+/// A reader that gives a byte a call, and fails at one call.
+#[derive(Drop)]
+struct Breaking {
+    calls: u32,
+    fails_at: u32,
+}
+
+impl Read for Breaking {
+    fn read(&mut self, buf: &mut [u8]) -> io::Result<usize> {
+        if self.calls == self.fails_at {
+            return Err(io::Error::from(io::ErrorKind::BrokenPipe));
+        }
+        self.calls = self.calls.wrapping_add(1);
+        match buf {
+            [first, ..] => {
+                *first = 0x53;
+                Ok(1)
+            }
+            [] => Ok(0),
+        }
+    }
+}
+
+#[test]
+fn tells_each_failed_read(rt: HostRuntime) -> Result<(), Fail> {
+    for fails_at in 0..30u32 {
+        let (out, status) = shown(rt.alloc(), Breaking { calls: 0, fails_at })?;
+        assert_eq!(rt; out.as_slice(), "refused files\n".as_bytes());
+        assert_eq!(rt; status, 1);
+    }
+    Ok(())
+}
+
+#[test]
+fn tells_each_failed_write_of_a_message(rt: HostRuntime) -> Result<(), Fail> {
+    let stream = three_messages(&rt, rt.alloc())?;
+    for fails_at in 0..15u32 {
+        let mut out = Failing { calls: 0, fails_at };
+        let answered = answer(rt.alloc(), &Task::Show, &[], None, &stream, &mut out);
+        assert!(rt; matches!(answered, Err(AnswerFault::Io)), "{fails_at}");
+    }
+    Ok(())
 }

@@ -1,37 +1,11 @@
 //! The verdict on a position without tables.
 
 ghost use Rattle.std.specs.Prelude.{◌≡◌, IfOk};
-ghost use Rattle.adjudicate.specs.Ruling.{ruling, mate_of, verdict_name};
+ghost use Rattle.adjudicate.specs.Ruling.{ruling, mate_of};
 
 use board_core::{Position, Side};
+use move_msg::Verdict;
 use std::alloc::{AllocError, Global};
-
-/// How a game ends.
-#[derive(Clone, Copy, PartialEq, Eq, Debug)]
-pub enum Verdict {
-    /// Black is checkmated.
-    WhiteMates,
-    /// White is checkmated.
-    BlackMates,
-    /// The side to move has no legal move and isn't in check.
-    Stalemate,
-    /// No side can win.
-    TableDraw,
-}
-
-impl Verdict {
-    /// The verdict's name, as it is printed.
-    pub fn name(self) -> &'static str
-        ensures { result.now ≡ verdict_name self }
-    {
-        match self {
-            Verdict::WhiteMates => "WhiteMates",
-            Verdict::BlackMates => "BlackMates",
-            Verdict::Stalemate => "Stalemate",
-            Verdict::TableDraw => "TableDraw",
-        }
-    }
-}
 
 /// The verdict where this side is checkmated.
 fn mate_of(side: Side) -> Verdict

@@ -145,3 +145,12 @@ choose_small n (suc (suc (suc zero))) le few =
 choose_small n (suc (suc (suc (suc zero)))) le few =
     omega (arith, choose_falling n 4, falling_small n 3 262144 le (falling_small n 2 4096 le (falling_small n 1 64 le (falling_small n 0 1 le (omega (arith, falling_none n))))))
 choose_small n (suc (suc (suc (suc (suc k))))) le few = absurd (omega arith)
+
+pub choose_few : (n k : ℕ) → n ≤ 64 → k ≤ 5 → choose n k ≤ 1073741824
+choose_few n k le few =
+    elim (cases_lt k 5) [
+      | inl lt ↦ omega (arith, choose_small n k le (omega (arith, lt)))
+      | inr ge ↦
+          let five : k ≡ 5 = omega (arith, ge, few) in
+          rw five (omega (arith, choose_falling n 5, falling_small n 4 16777216 le (falling_small n 3 262144 le (falling_small n 2 4096 le (falling_small n 1 64 le (falling_small n 0 1 le (omega (arith, falling_none n))))))))
+    ]

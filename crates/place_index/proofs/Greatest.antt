@@ -73,7 +73,7 @@ lead_least key lt = omega (arith, leading_table key lt, leading_least key lt)
 pub lead_most : (key : ℕ) → key < 145 → lead_men key ≤ 3
 lead_most key lt = omega (arith, leading_table key lt, leading_most key lt)
 
-size_by_pawns : (key file : ℕ) → has_pawns key ≡ true → lead_size key file ≡ pawns_before file (lead_men key - 1) 6
+pub size_by_pawns : (key file : ℕ) → has_pawns key ≡ true → lead_size key file ≡ pawns_before file (lead_men key - 1) 6
 unfolding lead_size
 size_by_pawns key file pawned = rw pawned (ap (λ n. pawns_before file (n - 1) 6) (sym (lead_by_pawns key pawned)))
 
@@ -84,6 +84,10 @@ pawns_lead key file lt ff pawned =
 pub three_lead : (key file : ℕ) → has_pawns key ≡ false → has_unique key ≡ true → lead_size key file ≡ 31332
 unfolding lead_size
 three_lead key file none some = rw (none, some) refl
+
+pub size_by_kings : (key file : ℕ) → has_pawns key ≡ false → has_unique key ≡ false → lead_size key file ≡ kings_size
+unfolding lead_size
+size_by_kings key file none missing = rw (none, missing) refl
 
 pub kings_lead : (key file : ℕ) → has_pawns key ≡ false → has_unique key ≡ false → lead_size key file ≡ 462
 unfolding lead_size

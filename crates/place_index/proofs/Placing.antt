@@ -1,5 +1,5 @@
 -- The places of the groups.
-use Rattle.std.proofs.Common.{◌≡◌, ◌≢◌, ℕ, suc, ◌+◌, ◌<◌, ◌≤◌, Bool, true, false, cond, eqb, ltb, Option, Some, None, List, [], ◌∷◌, ◌++◌, length, refl, sym, ap, ◌∙◌, inl, inr, arith, length-append, append_assoc}
+use Rattle.std.proofs.Common.{◌≡◌, ◌≢◌, ℕ, suc, ◌+◌, ◌<◌, ◌≤◌, Bool, true, false, cond, eqb, ltb, Option, Some, None, List, [], ◌∷◌, ◌++◌, length, zero, refl, sym, ap, ◌∙◌, subst, inl, inr, arith, length-append, append_assoc}
 use Rattle.std.specs.Prelude.{filter, ◌||◌}
 use Rattle.std.specs.List.{list_any}
 use Rattle.std.specs.Option.{ForSome}
@@ -75,7 +75,7 @@ ahead_here p = rw (lt-ltb p (p + 1) (one_up p), le-ltb p p (same p)) refl
     same : (n : ℕ) → n ≤ n
     same n = omega arith
 
-free_order : (order : ℕ) (second : Option ℕ) (p : ℕ) → is_free (given order second) p ≡ true → order ≢ p
+pub free_order : (order : ℕ) (second : Option ℕ) (p : ℕ) → is_free (given order second) p ≡ true → order ≢ p
 free_order order None p free e = false≢true (sym (not-true _ free) ∙ taken)
   where
     taken : list_any (λ q. eqb q p) (order ∷ []) ≡ true
@@ -85,7 +85,7 @@ free_order order (Some second) p free e = false≢true (sym (not-true _ free) �
     taken : list_any (λ q. eqb q p) (order ∷ second ∷ []) ≡ true
     taken = rw (eq-eqb order p e) refl
 
-free_second : (order second p : ℕ) → is_free (given order (Some second)) p ≡ true → second ≢ p
+pub free_second : (order second p : ℕ) → is_free (given order (Some second)) p ≡ true → second ≢ p
 free_second order second p free e = false≢true (sym (not-true _ free) ∙ taken (eqb order p))
   where
     taken : (b : Bool) → (b || (eqb second p || false)) ≡ true
@@ -172,3 +172,19 @@ unfolding ahead_some
 placed_room order None p n items first others s free within = omega (arith, s.size, ahead_most order p n first (free_order order None p free) within)
 placed_room order (Some second) p n items first others s free within =
     omega (arith, s.size, both_most order second p n first (others second refl).0 (others second refl).1 (free_order order (Some second) p free) (free_second order second p free) within)
+
+-- the places by walking up to n
+walked : (order : ℕ) (second : Option ℕ) (p : ℕ) → ForSome second (λ s. s ≡ order → ⊥) → (items : List ℕ) × IsPlaced order second p items
+walked order second zero apart = (given order second, placed_none order second)
+walked order second (suc p) apart =
+    let rest = walked order second p apart in
+    let e : p + 1 ≡ suc p = omega arith in
+    elim (cases_Bool (is_free (given order second) p)) [
+      | inl free ↦ (rest.0 ++ p ∷ [], subst (λ n. IsPlaced order second n (rest.0 ++ p ∷ [])) e (placed_free order second p rest.0 rest.1 free))
+      | inr taken ↦ (rest.0, subst (λ n. IsPlaced order second n rest.0) e (placed_taken order second p rest.0 apart rest.1 taken))
+    ]
+
+pub placed_length : (order : ℕ) (second : Option ℕ) (n : ℕ) → order < n → ForSome second (λ s. (s < n) × (s ≡ order → ⊥)) → length (places (given order second) n) ≡ n
+placed_length order second n first others =
+    let w = walked order second n (λ s is. (others s is).1) in
+    ap length (sym (placed_all order second n n w.0 w.1 refl)) ∙ placed_size order second n n w.0 first others w.1 refl

@@ -60,7 +60,7 @@ unfolding factor_at
 factor_nil [] place = refl
 factor_nil (p ∷ places) place = refl
 
-factor_none : (sizes : List ℕ) (place : ℕ) → factor_at [] sizes place ≡ 1
+pub factor_none : (sizes : List ℕ) (place : ℕ) → factor_at [] sizes place ≡ 1
 unfolding factor_at
 factor_none sizes place = refl
 

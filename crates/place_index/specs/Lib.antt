@@ -3,7 +3,13 @@ pub mod Place
 pub mod Square
 pub mod Counting
 pub mod Choose
+pub mod Men
 pub mod Pawns
+pub mod Three
 pub mod Kings
+pub mod Others
 pub mod Shape
 pub mod Kept
+pub mod Turning
+pub mod Index
+pub mod Placed

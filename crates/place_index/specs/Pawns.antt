@@ -1,6 +1,10 @@
 -- Leading pawns: their numbers, and how many placements they have (Syzygy index, pawns).
-use Rattle.std.specs.Prelude.{ℕ, zero, suc, ◌+◌, ◌*◌, List, [], ◌∷◌, slice_index}
-use Rattle.place_index.specs.Choose.{choose}
+use Rattle.std.specs.Prelude.{◌≡◌, ℕ, zero, suc, ◌+◌, ◌*◌, ◌-◌, ◌<◌, ◌≤◌, List, [], ◌∷◌, length, slice_index, ◌==◌}
+use Rattle.std.specs.List.{position_or_len}
+use Rattle.place_index.specs.Square.{file, rank}
+use Rattle.place_index.specs.Choose.{choose, set_number, IsFallingBelow, IsLater}
+use Rattle.place_index.specs.Men.{stands, falling}
+use Rattle.place_index.specs.declared.man.Man.{Man}
 
 -- the pawn numbers, square by square from a1 to h8; 48 on the first and the last rank, where no pawn stands
 abbrev pub pawn_numbers : List ℕ
@@ -17,6 +21,10 @@ pawn_numbers =
 unfoldable pub pawn_number : ℕ → ℕ
 pawn_number s = slice_index pawn_numbers s
 
+-- the square with a pawn number
+unfoldable pub pawn_square : ℕ → ℕ
+pawn_square n = position_or_len (λ other. n == other) pawn_numbers
+
 -- The placements with the leading pawn on one of the first ranks of a file, from the second rank on, and so many pawns
 -- beside it: these stand on squares of lower pawn numbers.
 unfoldable pub pawns_before : ℕ → ℕ → ℕ → ℕ
@@ -26,3 +34,30 @@ pawns_before file others (suc ranks) = pawns_before file others ranks + choose (
 -- all placements with the leading pawn on this file
 abbrev pub pawns_size : ℕ → ℕ → ℕ
 pawns_size file others = pawns_before file others 6
+
+-- the pawn numbers of the men with this code, the greatest first
+unfoldable pub pawn_numbers_of : List Man → ℕ → List ℕ
+pawn_numbers_of men c = falling (λ n. stands men c (pawn_square n)) 48
+
+-- the number of a leading pawn on this square, with the others' pawn numbers
+abbrev pub pawns_number : ℕ → List ℕ → ℕ
+pawns_number lead others = pawns_before (file lead) (length others) (rank lead - 1) + set_number others
+
+-- Pawns of one colour after the turning: the leading one on the record's file, the others of lower pawn numbers.
+pub record AreTurnedPawns (f lead : ℕ) (others : List ℕ) : Type 0 where
+  pub board : lead < 64
+  pub on_file : file lead ≡ f
+  pub off_first : 1 ≤ rank lead
+  pub off_last : rank lead ≤ 6
+  pub falling : IsFallingBelow (pawn_number lead) others
+
+-- the order of placements: by the leading pawn's rank, then the others' pawn numbers, the greatest first
+abbrev pub pawns_order : ℕ → List ℕ → List ℕ
+pawns_order lead others = rank lead ∷ others
+
+-- Below the size; a later placement has a greater number; and a number is that of one placement.
+abbrev pub PawnsAreNumbered : Type 0
+PawnsAreNumbered =
+    ((f a : ℕ) (xs : List ℕ) → AreTurnedPawns f a xs → pawns_number a xs < pawns_size f (length xs))
+    × ((f a b : ℕ) (xs ys : List ℕ) → AreTurnedPawns f a xs → AreTurnedPawns f b ys → length xs ≡ length ys → IsLater (pawns_order a xs) (pawns_order b ys) → pawns_number a xs < pawns_number b ys)
+    × ((f a b : ℕ) (xs ys : List ℕ) → AreTurnedPawns f a xs → AreTurnedPawns f b ys → length xs ≡ length ys → pawns_number a xs ≡ pawns_number b ys → (a ≡ b) × (xs ≡ ys))

@@ -5,7 +5,8 @@ use Rattle.std.specs.List.Sorted.{IsPermutation}
 use Rattle.place_index.specs.Material.{white_pawns, black_pawns, pieces_of, count_of}
 use Rattle.place_index.specs.Choose.{choose}
 use Rattle.place_index.specs.Pawns.{pawns_size}
-use Rattle.place_index.specs.Kings.{kings_size, three_size}
+use Rattle.place_index.specs.Three.{three_size}
+use Rattle.place_index.specs.Kings.{kings_size}
 use Rattle.place_index.specs.declared.group.Group.{Group}
 
 -- What a table file says of one side to move and one file of the leading pawn.

@@ -16,7 +16,7 @@ fn occurrences(pieces: &[u8], code: u8) -> usize
 }
 
 /// Whether the pieces are the men of the material.
-fn is_arrangement(material: Material, pieces: &[u8]) -> bool
+pub(crate) fn is_arrangement(material: Material, pieces: &[u8]) -> bool
     ensures { IsTrue result ↔ IsPermutation pieces.now (pieces_of material) }
 {
     if pieces.len() != men(material) as usize {

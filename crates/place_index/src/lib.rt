@@ -3,16 +3,29 @@
 
 mod arrangement;
 mod choose;
+mod finding;
 mod group;
+mod indexing;
+mod laws;
+mod man;
 mod material;
+mod numbers;
+mod placed;
 mod places;
 mod shape;
 mod sizes;
+mod squares;
+mod sweep;
 mod tables;
+mod turning;
 
 pub use choose::{parts_are_listed, pascals_rule};
 pub use group::Group;
+pub use indexing::index;
+pub use laws::{groups_are_numbered, indices_are_one};
+pub use man::Man;
 pub use material::{Material, tables_are_numbered};
+pub use placed::{Placed, place};
 pub use shape::{Shape, ShapeFault};
 
 #[cfg(test)]

@@ -155,6 +155,17 @@ impl Material {
         self.key
     }
 
+    /// The material with this key, `None` from 145 on.
+    pub(crate) fn with_key(key: u8) -> Option<Material>
+        ensures is { IfSome result (λ m. m ≡ key) }
+        ensures none { IfNone result (145 ≤ key) }
+    {
+        if key >= 145 {
+            return None;
+        }
+        Some(Self { key })
+    }
+
     /// Whether both sides have the same men.
     pub fn symmetric(&self) -> bool
         ensures { IsTrue result ↔ ((men_of self.now).first ≡ (men_of self.now).second) }

@@ -1,5 +1,6 @@
 ghost use Rattle.std.specs.Prelude.{◌≡◌, ◌≤◌, ◌<◌, ◌↔◌, IfOk, OnOk, Err, Some, None, IsTrue, cond, length};
 ghost use Rattle.place_index.specs.Shape.{layout, both_have_pawns, HasGoodPieces, HasGoodOrder, groups_of, factors_of, size_of, greatest_size};
+ghost use Rattle.place_index.specs.Index.{IsShape};
 ghost use Rattle.std.specs.Option.{ForSome};
 
 use crate::arrangement::has_good_pieces;
@@ -120,14 +121,16 @@ impl Shape {
 
     /// The table's material.
     pub fn material(&self) -> Material
-        ensures { result ≡ self.now.material }
+        ensures is { result ≡ self.now.material }
+        ensures shape { IsShape self.now }
     {
         self.material
     }
 
     /// The piece codes in the order of the groups.
     pub fn pieces(&self) -> &[u8]
-        ensures { result.now ≡ self.now.pieces }
+        ensures is { result.now ≡ self.now.pieces }
+        ensures least { 3 ≤ length result.now }
     {
         self.pieces.as_slice()
     }

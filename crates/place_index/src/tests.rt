@@ -1,6 +1,7 @@
 ghost use Rattle.std.specs.Prelude.{◌<◌};
 
 use super::*;
+use board_core::{Kind, Men, Parts, Piece, Position, Rights, Side};
 
 /// The tables of three to five men, in the order of their keys.
 const NAMES: [&str; 15] = [
@@ -111,4 +112,125 @@ fn a_shape_shows_its_groups(rt: HostRuntime) {
             );
         }
     }
+}
+
+const WHITE_KING: Piece = Piece {
+    side: Side::White,
+    kind: Kind::King,
+};
+
+const WHITE_QUEEN: Piece = Piece {
+    side: Side::White,
+    kind: Kind::Queen,
+};
+
+const WHITE_ROOK: Piece = Piece {
+    side: Side::White,
+    kind: Kind::Rook,
+};
+
+const WHITE_PAWN: Piece = Piece {
+    side: Side::White,
+    kind: Kind::Pawn,
+};
+
+const BLACK_KING: Piece = Piece {
+    side: Side::Black,
+    kind: Kind::King,
+};
+
+const BLACK_PAWN: Piece = Piece {
+    side: Side::Black,
+    kind: Kind::Pawn,
+};
+
+/// The index of the position with these men, in a table which gives its pieces in this order.
+fn index_of(men: &[(u8, Piece)], side: Side, pieces: &[u8], order: u8, second: u8) -> Option<u64> {
+    let mut squares: Men = [None; 64];
+    for (square, piece) in men {
+        if *square < 64 {
+            squares[*square as usize] = Some(*piece);
+        }
+    }
+    let parts = Parts {
+        men: squares,
+        side,
+        rights: Rights {
+            white_king: false,
+            white_queen: false,
+            black_king: false,
+            black_queen: false,
+        },
+        en_passant: None,
+        halfmove: 0,
+        fullmove: 1,
+    };
+    let Ok(position) = Position::new(parts) else {
+        return None;
+    };
+    let Some(material) = Material::of(&position) else {
+        return None;
+    };
+    let placed = place(&position, &material);
+    let Ok(shape) = Shape::new(&material, pieces, order, second, placed.file()) else {
+        return None;
+    };
+    Some(index(&shape, &placed))
+}
+
+#[test]
+fn positions_have_their_indices(rt: HostRuntime) {
+    let rook = [(1, WHITE_KING), (18, WHITE_ROOK), (63, BLACK_KING)];
+    assert_eq!(rt; index_of(&rook, Side::White, &[6, 4, 14], 0, 0), Some(1115));
+    let mirrored = [(62, WHITE_KING), (45, WHITE_ROOK), (0, BLACK_KING)];
+    assert_eq!(rt;
+        index_of(&mirrored, Side::White, &[6, 4, 14], 0, 0),
+        Some(1115)
+    );
+    let diagonal = [(27, WHITE_KING), (63, WHITE_ROOK), (54, BLACK_KING)];
+    assert_eq!(rt;
+        index_of(&diagonal, Side::Black, &[6, 4, 14], 0, 0),
+        Some(31331)
+    );
+    let pawn = [(8, WHITE_PAWN), (4, WHITE_KING), (60, BLACK_KING)];
+    assert_eq!(rt;
+        index_of(&pawn, Side::White, &[1, 6, 14], 0, 0),
+        Some(21948)
+    );
+    let pawns = [
+        (10, WHITE_PAWN),
+        (23, WHITE_PAWN),
+        (4, WHITE_KING),
+        (60, BLACK_KING),
+    ];
+    assert_eq!(rt;
+        index_of(&pawns, Side::White, &[1, 1, 6, 14], 0, 0),
+        Some(875769)
+    );
+    let both = [
+        (8, WHITE_PAWN),
+        (55, BLACK_PAWN),
+        (4, WHITE_KING),
+        (60, BLACK_KING),
+    ];
+    assert_eq!(rt;
+        index_of(&both, Side::White, &[1, 9, 6, 14], 0, 1),
+        Some(997992)
+    );
+    assert_eq!(rt;
+        index_of(&both, Side::Black, &[1, 9, 6, 14], 0, 1),
+        Some(980226)
+    );
+    let queens = [
+        (0, WHITE_KING),
+        (18, BLACK_KING),
+        (1, WHITE_QUEEN),
+        (27, WHITE_QUEEN),
+    ];
+    assert_eq!(rt;
+        index_of(&queens, Side::Black, &[6, 14, 5, 5], 1, 0),
+        Some(834231)
+    );
+    let bare = [(0, WHITE_KING), (18, BLACK_KING)];
+    assert_eq!(rt; index_of(&bare, Side::White, &[6, 14], 0, 0), None);
 }

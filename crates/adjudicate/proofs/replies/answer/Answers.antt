@@ -7,4 +7,4 @@ use Rattle.adjudicate.proofs.replies.answer.Goals as goal
 pub returns-in-Err-OutOfMemory : goal.returns-in-Err-OutOfMemory
 returns-in-Err-OutOfMemory g c =
     let some = c.in-Err-OutOfMemory.ensures.memory cc in
-    IfOk-weaker c.put_refused_memory.result _ _ (λ status h. inr (some.0, some.1, some.2, (some.3.0, more_lines _ _ _ _ refused_memory some.3.1 h.0), h.1)) c.put_refused_memory.ensures
+    IfOk-weaker c.put_refused_memory.result _ _ (λ status h. inr (some.0, some.1, (some.2.0, more_lines _ _ _ _ refused_memory some.2.1 h.0), h.1)) c.put_refused_memory.ensures

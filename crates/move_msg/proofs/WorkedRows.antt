@@ -1,0 +1,52 @@
+-- The definitions computed on messages and records whose bytes are known from outside: each row holds by evaluation alone.
+use Rattle.std.proofs.Common.{◌≡◌, ℕ, List, [], ◌∷◌, ◌++◌, Option, Some, None, refl}
+use Rattle.std.specs.Int.{w16, to_be_bytes}
+use Rattle.board_core.specs.declared.piece.Promotion.{Promotion}
+use Rattle.board_core.specs.declared.piece.Promotion.TheVariants.{Queen}
+use Rattle.board_core.specs.declared.moves.Move.{Move as Moves}
+use Rattle.move_msg.specs.declared.stamp.Stamp.{Stamp}
+use Rattle.move_msg.specs.declared.verdict.Verdict.TheVariants as verdict
+use Rattle.move_msg.specs.declared.who.Who.TheVariants as who
+use Rattle.move_msg.specs.declared.message.Message.TheVariants.{Move, Ack, Verdict}
+use Rattle.move_msg.specs.Words.{word_of}
+use Rattle.move_msg.specs.Messages.{frame, message_text}
+use Rattle.move_msg.specs.Records.{record_frame}
+
+abbrev move : ℕ → ℕ → Option Promotion → Moves
+move from to promotion = record { from = from; to = to; promotion = promotion }
+
+-- e2e4 is 07 0C and e7e8q is 1F 34
+e2e4_word : to_be_bytes w16 (word_of (move 12 28 None)) ≡ 7 ∷ 12 ∷ []
+e2e4_word = refl
+
+e7e8q_word : to_be_bytes w16 (word_of (move 52 60 (Some Queen))) ≡ 31 ∷ 52 ∷ []
+e7e8q_word = refl
+
+abbrev sixteen : List ℕ
+sixteen = 0 ∷ 1 ∷ 2 ∷ 3 ∷ 4 ∷ 5 ∷ 6 ∷ 7 ∷ 8 ∷ 9 ∷ 10 ∷ 11 ∷ 12 ∷ 13 ∷ 14 ∷ 15 ∷ []
+
+abbrev stamp : Stamp
+stamp = record { 0 = sixteen }
+
+-- e2e4 as number 0
+first_move : message_text (Move stamp 0 (move 12 28 None)) ≡ 83 ∷ 65 ∷ 1 ∷ 1 ∷ sixteen ++ (0 ∷ 0 ∷ 0 ∷ 0 ∷ 0 ∷ 7 ∷ 12 ∷ [])
+unfolding frame
+first_move = refl
+
+-- an acknowledgement of 1 with 3, and a verdict of 2 with ply 4 and code 5
+ack : message_text (Ack stamp who.A 3) ≡ 83 ∷ 65 ∷ 1 ∷ 2 ∷ sixteen ++ (1 ∷ 0 ∷ 0 ∷ 0 ∷ 3 ∷ 0 ∷ 0 ∷ [])
+unfolding frame
+ack = refl
+
+white_wins : message_text (Verdict stamp who.B 4 verdict.TableWhite) ≡ 83 ∷ 65 ∷ 1 ∷ 3 ∷ sixteen ++ (2 ∷ 0 ∷ 0 ∷ 0 ∷ 4 ∷ 0 ∷ 5 ∷ [])
+unfolding frame
+white_wins = refl
+
+-- the record of no moves, and that of e2e4 without a verdict
+no_moves : record_frame sixteen 0 0 [] ≡ 83 ∷ 82 ∷ 1 ∷ sixteen ++ (0 ∷ 0 ∷ 0 ∷ 0 ∷ 0 ∷ [])
+unfolding record_frame
+no_moves = refl
+
+one_move : record_frame sixteen 0 1 (to_be_bytes w16 (word_of (move 12 28 None))) ≡ 83 ∷ 82 ∷ 1 ∷ sixteen ++ (0 ∷ 0 ∷ 0 ∷ 0 ∷ 1 ∷ 7 ∷ 12 ∷ [])
+unfolding record_frame
+one_move = refl

@@ -1,0 +1,38 @@
+-- The parts of a message and of a record by their places, as the code reads them; cited by private functions alone.
+use Rattle.std.specs.Prelude.{◌≡◌, ℕ, List, take, drop, slice_index}
+use Rattle.std.specs.Int.{w16, w32, from_be_bytes}
+use Rattle.move_msg.specs.declared.coding.Kind.{Kind}
+use Rattle.move_msg.specs.declared.coding.Kind.TheVariants as kind
+use Rattle.move_msg.specs.declared.coding.Fields.{Fields}
+use Rattle.move_msg.specs.declared.record_bytes.Header.{Header}
+use Rattle.move_msg.specs.declared.message.Message.{Message}
+use Rattle.move_msg.specs.Messages.{IsInRange, kind_of, stamp_in, sender_of, number_of, word_in}
+use Rattle.move_msg.specs.Senders.{sender_number}
+use Rattle.move_msg.specs.Records.{verdict_at, count_at}
+
+abbrev pub kind_number : Kind → ℕ
+kind_number kind.Move = 1
+kind_number kind.Ack = 2
+kind_number kind.Verdict = 3
+
+-- stamp, sender, number and word of 27 bytes
+unfoldable pub fields_at : List ℕ → Fields
+fields_at t = record {
+  stamp = record { 0 = take 16 (drop 4 t) };
+  sender = slice_index t 20;
+  number = from_be_bytes w32 (take 4 (drop 21 t));
+  word = from_be_bytes w16 (drop 25 t);
+}
+
+-- these are the fields of the message, whose kind this is
+pub record HasFields (k : Kind) (f : Fields) (m : Message) : Type 0 where
+  pub in_range : IsInRange m
+  pub kind : kind_of m ≡ kind_number k
+  pub stamp : stamp_in m ≡ f.stamp
+  pub sender : sender_number (sender_of m) ≡ f.sender
+  pub number : number_of m ≡ f.number
+  pub word : word_in m ≡ f.word
+
+-- stamp, verdict and number of moves of a record
+unfoldable pub header_at : List ℕ → Header
+header_at t = record { stamp = record { 0 = take 16 (drop 3 t) }; verdict = verdict_at t; count = count_at t }

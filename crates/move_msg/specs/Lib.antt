@@ -1,0 +1,13 @@
+pub mod Words
+pub mod Numbers
+pub mod Senders
+pub mod Verdicts
+pub mod Stamps
+pub mod Messages
+pub mod Layouts
+pub mod Streams
+pub mod Records
+pub mod Laws
+pub mod Cut
+pub mod TableNames
+pub mod Manifests

@@ -1,0 +1,85 @@
+-- Messages as bytes (message format, version 1).
+use Rattle.std.specs.Prelude.{◌≡◌, ◌≢◌, ◌≤◌, ◌<◌, ◌^◌, ◌++◌, ℕ, List, ◌∷◌, length, slice_index, codes}
+use Rattle.std.specs.Int.{w16, w32, to_be_bytes}
+use Rattle.move_msg.specs.declared.stamp.Stamp.{Stamp}
+use Rattle.move_msg.specs.declared.who.Sender.{Sender}
+use Rattle.move_msg.specs.declared.who.Sender.TheVariants.{Source, Arbiter}
+use Rattle.move_msg.specs.declared.message.Message.{Message}
+use Rattle.move_msg.specs.declared.message.Message.TheVariants.{Move, Ack, Verdict}
+use Rattle.move_msg.specs.declared.message.MessageFault.{MessageFault}
+use Rattle.move_msg.specs.declared.message.MessageFault.TheVariants.{BadLength, BadHead, BadKind, BadField}
+use Rattle.move_msg.specs.Words.{SpellsWord, word_of}
+use Rattle.move_msg.specs.Numbers.{most_moves}
+use Rattle.move_msg.specs.Senders.{sender_number}
+use Rattle.move_msg.specs.Verdicts.{code_of}
+
+-- whose message it is
+abbrev pub sender_of : Message → Sender
+sender_of (Move stamp number m) = Source
+sender_of (Ack stamp who count) = Arbiter who
+sender_of (Verdict stamp who ply verdict) = Arbiter who
+
+-- the game that it is about
+abbrev pub stamp_in : Message → Stamp
+stamp_in (Move stamp number m) = stamp
+stamp_in (Ack stamp who count) = stamp
+stamp_in (Verdict stamp who ply verdict) = stamp
+
+-- a kind, the number and the word
+abbrev pub kind_of : Message → ℕ
+kind_of (Move stamp number m) = 1
+kind_of (Ack stamp who count) = 2
+kind_of (Verdict stamp who ply verdict) = 3
+
+abbrev pub number_of : Message → ℕ
+number_of (Move stamp number m) = number
+number_of (Ack stamp who count) = count
+number_of (Verdict stamp who ply verdict) = ply
+
+abbrev pub word_in : Message → ℕ
+word_in (Move stamp number m) = word_of m
+word_in (Ack stamp who count) = 0
+word_in (Verdict stamp who ply verdict) = code_of verdict
+
+-- what a message may have as its number and its word
+abbrev pub IsInRange : Message → Type 0
+IsInRange (Move stamp number m) = (number < 2 ^ 32) × SpellsWord (word_of m) m
+IsInRange (Ack stamp who count) = count ≤ most_moves
+IsInRange (Verdict stamp who ply verdict) = ply ≤ most_moves
+
+-- two letters and the version, the kind, the stamp, the sender, the number and the word, each number with its highest
+-- byte first
+unfoldable pub frame : ℕ → List ℕ → ℕ → ℕ → ℕ → List ℕ
+frame kind stamp sender number word =
+    83 ∷ 65 ∷ 1 ∷ kind ∷ stamp ++ (sender ∷ to_be_bytes w32 number ++ to_be_bytes w16 word)
+
+abbrev pub message_text : Message → List ℕ
+message_text m = frame (kind_of m) (stamp_in m).0 (sender_number (sender_of m)) (number_of m) (word_in m)
+
+-- the bytes are those of the message
+pub record SpellsMessage (t : List ℕ) (m : Message) : Type 0 where
+  pub in_range : IsInRange m
+  pub stamp : length (stamp_in m).0 ≡ 16
+  pub text : t ≡ message_text m
+
+-- S, A and the version
+abbrev pub HasHead : List ℕ → Type 0
+HasHead t = (slice_index t 0 ≡ 83) × (slice_index t 1 ≡ 65) × (slice_index t 2 ≡ 1)
+
+-- the kind is one of the three
+abbrev pub HasKind : List ℕ → Type 0
+HasKind t = (1 ≤ slice_index t 3) × (slice_index t 3 ≤ 3)
+
+-- the first thing that bytes lack: the length, the head, the kind, and last the fields of a message of the kind
+abbrev pub IsFirstMessageFault : List ℕ → MessageFault → Type 0
+IsFirstMessageFault t BadLength = length t ≢ 27
+IsFirstMessageFault t BadHead = (length t ≡ 27) × (HasHead t → ⊥)
+IsFirstMessageFault t BadKind = (length t ≡ 27) × HasHead t × (HasKind t → ⊥)
+IsFirstMessageFault t BadField = (length t ≡ 27) × HasHead t × HasKind t × ((m : Message) → SpellsMessage t m → ⊥)
+
+-- the names of the faults
+abbrev pub fault_name : MessageFault → List ℕ
+fault_name BadLength = codes "BadLength"
+fault_name BadHead = codes "BadHead"
+fault_name BadKind = codes "BadKind"
+fault_name BadField = codes "BadField"

@@ -1,0 +1,223 @@
+//! Messages as bytes.
+
+ghost use Rattle.std.specs.Prelude.{◌≡◌, ◌<◌, ◌^◌, length, slice_index, IfSome, IfOk, IfErr, Ok, Err, Some};
+ghost use Rattle.move_msg.specs.Messages.{SpellsMessage, IsFirstMessageFault, HasHead, frame};
+ghost use Rattle.move_msg.specs.Layouts.{HasFields, fields_at, kind_number};
+ghost use Rattle.move_msg.specs.declared.message.Message.{Message};
+ghost use Rattle.move_msg.specs.declared.message.MessageFault.{MessageFault};
+
+use crate::count::Count;
+use crate::message::{Message, MessageFault};
+use crate::stamp::Stamp;
+use crate::verdict::Verdict;
+use crate::who::Who;
+use crate::words::{of_word, word};
+use arrayvec::ArrayVec;
+use byteorder::{BigEndian, ByteOrder};
+
+/// The kinds of messages.
+#[derive(Clone, Copy, PartialEq, Eq, Debug)]
+enum Kind {
+    Move,
+    Ack,
+    Verdict,
+}
+
+/// What follows the kind in a message.
+#[derive(Clone, Copy)]
+struct Fields {
+    stamp: Stamp,
+    sender: u8,
+    number: u32,
+    word: u16,
+}
+
+/// The fields of 27 bytes by their places.
+#[tactic(auto, unfolding(crate::specs::Layouts::fields_at))]
+fn fields_in(bytes: &[u8]) -> Fields
+    requires { length bytes.now ≡ 27 }
+    ensures { result ≡ fields_at bytes.now }
+{
+    let mut stamp = [0; 16];
+    stamp.copy_from_slice(&bytes[4..20]);
+    Fields {
+        stamp: Stamp(stamp),
+        sender: bytes[20],
+        number: u32::from_be_bytes([bytes[21], bytes[22], bytes[23], bytes[24]]),
+        word: u16::from_be_bytes([bytes[25], bytes[26]]),
+    }
+}
+
+/// The move that the source tells by these fields.
+fn move_of(fields: &Fields) -> Option<Message>
+    requires { fields.now.number < 2 ^ 32 }
+    ensures some { IfSome result (λ m. HasFields Kind.Move fields.now m) }
+    ensures only { (m : Message) → HasFields Kind.Move fields.now m → result ≡ Some m }
+{
+    if fields.sender != 0 {
+        return None;
+    }
+    match of_word(fields.word) {
+        Some(m) => Some(Message::Move {
+            stamp: fields.stamp,
+            number: fields.number,
+            m,
+        }),
+        None => None,
+    }
+}
+
+/// The number of moves that an arbiter tells by these fields.
+fn ack_of(fields: &Fields) -> Option<Message>
+    ensures some { IfSome result (λ m. HasFields Kind.Ack fields.now m) }
+    ensures only { (m : Message) → HasFields Kind.Ack fields.now m → result ≡ Some m }
+{
+    let Some(who) = Who::of_number(fields.sender) else {
+        return None;
+    };
+    let Some(count) = Count::new(fields.number) else {
+        return None;
+    };
+    if fields.word != 0 {
+        return None;
+    }
+    Some(Message::Ack {
+        stamp: fields.stamp,
+        who,
+        count,
+    })
+}
+
+/// The verdict that an arbiter tells by these fields.
+fn verdict_of(fields: &Fields) -> Option<Message>
+    ensures some { IfSome result (λ m. HasFields Kind.Verdict fields.now m) }
+    ensures only { (m : Message) → HasFields Kind.Verdict fields.now m → result ≡ Some m }
+{
+    let Some(who) = Who::of_number(fields.sender) else {
+        return None;
+    };
+    let Some(ply) = Count::new(fields.number) else {
+        return None;
+    };
+    if fields.word > 255 {
+        return None;
+    }
+    let Some(verdict) = Verdict::from_code(fields.word as u8) else {
+        return None;
+    };
+    Some(Message::Verdict {
+        stamp: fields.stamp,
+        who,
+        ply,
+        verdict,
+    })
+}
+
+/// The kind of 27 bytes that begin as a message.
+fn kind_in(bytes: &[u8]) -> Result<Kind, MessageFault>
+    ensures ok { IfOk result (λ kind. (length bytes.now ≡ 27) × HasHead bytes.now × (slice_index bytes.now 3 ≡ kind_number kind)) }
+    ensures err { IfErr result (IsFirstMessageFault bytes.now) }
+    ensures other { IfErr result (λ fault. fault ≡ MessageFault.BadField → ⊥) }
+{
+    if bytes.len() != 27 {
+        return Err(MessageFault::BadLength);
+    }
+    if !(bytes[0] == b'S' && bytes[1] == b'A' && bytes[2] == 1) {
+        return Err(MessageFault::BadHead);
+    }
+    match bytes[3] {
+        1 => Ok(Kind::Move),
+        2 => Ok(Kind::Ack),
+        3 => Ok(Kind::Verdict),
+        _ => Err(MessageFault::BadKind),
+    }
+}
+
+/// The message of a kind by its fields.
+fn message_of(kind: Kind, fields: &Fields) -> Option<Message>
+    requires { fields.now.number < 2 ^ 32 }
+    ensures some { IfSome result (λ m. HasFields kind fields.now m) }
+    ensures only { (m : Message) → HasFields kind fields.now m → result ≡ Some m }
+{
+    match kind {
+        Kind::Move => move_of(fields),
+        Kind::Ack => ack_of(fields),
+        Kind::Verdict => verdict_of(fields),
+    }
+}
+
+impl Kind {
+    /// The kind's number in a message.
+    fn number(self) -> u8
+        ensures { result ≡ kind_number self }
+    {
+        match self {
+            Kind::Move => 1,
+            Kind::Ack => 2,
+            Kind::Verdict => 3,
+        }
+    }
+}
+
+/// The bytes of a message.
+#[tactic(auto, unfolding(crate::specs::Messages::frame))]
+fn frame(kind: Kind, stamp: Stamp, sender: u8, number: u32, word: u16) -> [u8; 27]
+    ensures text { result ≡ frame (kind_number kind) stamp.0 sender number word }
+    ensures fits { (length stamp.0 ≡ 16) × (number < 2 ^ 32) }
+{
+    let mut number_bytes = [0; 4];
+    BigEndian::write_u32(&mut number_bytes, number);
+    let mut word_bytes = [0; 2];
+    BigEndian::write_u16(&mut word_bytes, word);
+    let mut out: ArrayVec<u8, 27> = ArrayVec::new();
+    out.try_extend_from_slice(&[b'S', b'A', 1, kind.number()])
+        .unwrap();
+    out.try_extend_from_slice(&stamp.0).unwrap();
+    out.push(sender);
+    out.try_extend_from_slice(&number_bytes).unwrap();
+    out.try_extend_from_slice(&word_bytes).unwrap();
+    out.into_inner().unwrap()
+}
+
+impl Message {
+    /// The 27 bytes of the message (message format): its one spelling.
+    pub fn encode(&self) -> [u8; 27]
+        ensures { SpellsMessage result self.now }
+    {
+        match *self {
+            Message::Move { stamp, number, m } => frame(Kind::Move, stamp, 0, number, word(m)),
+            Message::Ack { stamp, who, count } => {
+                frame(Kind::Ack, stamp, who.number(), count.number(), 0)
+            }
+            Message::Verdict {
+                stamp,
+                who,
+                ply,
+                verdict,
+            } => frame(
+                Kind::Verdict,
+                stamp,
+                who.number(),
+                ply.number(),
+                verdict.code() as u16,
+            ),
+        }
+    }
+
+    /// The message that the bytes spell (message format), or the first fault of the bytes:
+    /// `BadLength`, `BadHead`, `BadKind` or `BadField`.
+    pub fn decode(bytes: &[u8]) -> Result<Message, MessageFault>
+        ensures ok { IfOk result (SpellsMessage bytes.now) }
+        ensures only { (m : Message) → SpellsMessage bytes.now m → result ≡ Ok m }
+        ensures err { IfErr result (IsFirstMessageFault bytes.now) }
+        ensures only_fault { (fault : MessageFault) → IsFirstMessageFault bytes.now fault → result ≡ Err fault }
+    {
+        match kind_in(bytes) {
+            Err(fault) => Err(fault),
+            Ok(kind) => match message_of(kind, &fields_in(bytes)) {
+                Some(message) => Ok(message),
+                None => Err(MessageFault::BadField),
+            },
+        }
+    }
+}

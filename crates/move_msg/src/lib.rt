@@ -1,0 +1,33 @@
+//! Messages between the source of a game and its arbiters, records of games, and their stamps.
+//!
+//! Each message has one spelling of 27 bytes; a record is spelled by the moves of a game and the
+//! verdict on it, if any. All numbers have their highest byte first.
+#![tactic(auto)]
+
+mod coding;
+mod count;
+mod feeder;
+pub mod laws;
+mod manifest;
+mod message;
+mod move_list;
+mod record_bytes;
+mod stamp;
+mod table_name;
+mod verdict;
+mod who;
+mod words;
+
+pub use count::Count;
+pub use feeder::Feeder;
+pub use manifest::{Line, ManifestFault, manifest_read, manifest_write};
+pub use message::{Message, MessageFault};
+pub use move_list::MoveList;
+pub use record_bytes::{Record, RecordFault};
+pub use stamp::Stamp;
+pub use verdict::Verdict;
+pub use who::{Sender, Who};
+pub use words::{of_word, word};
+
+#[cfg(test)]
+mod tests;

@@ -1,0 +1,52 @@
+//! The moves of a game.
+
+ghost use Rattle.std.specs.Prelude.{◌≡◌, ◌≤◌, length};
+ghost use Rattle.move_msg.specs.Numbers.{most_moves};
+
+use board_core::Move;
+use std::marker::Model;
+
+/// The moves of a game from its start, at most 4096; contracts see the list.
+#[derive(Debug, Drop)]
+pub struct MoveList {
+    moves: Vec<Move>,
+}
+
+impl Model for MoveList {
+    ghost use Rattle.std.specs.Prelude.{List, ◌≤◌, length};
+    ghost use Rattle.board_core.specs.declared.moves.Move.{Move};
+    ghost use Rattle.move_msg.specs.Numbers.{most_moves};
+
+    ghost Value = { List Move };
+
+    ghost view = { λ l. l.moves.items };
+
+    ghost invariant = { λ l. length l.moves.items ≤ most_moves };
+}
+
+impl MoveList {
+    /// These moves, of which there are at most 4096.
+    pub fn from_vec(moves: Vec<Move>) -> MoveList
+        requires { length moves.items ≤ most_moves }
+        ensures { result ≡ moves.items }
+    {
+        MoveList { moves }
+    }
+
+    /// The moves as a vector, which can grow.
+    pub fn into_vec(self) -> Vec<Move>
+        ensures moves { result.items ≡ self }
+        ensures few { length self ≤ most_moves }
+    {
+        let MoveList { moves } = self;
+        moves
+    }
+
+    /// The moves in order.
+    pub fn as_slice(&self) -> &[Move]
+        ensures moves { result.now ≡ self.now }
+        ensures few { length self.now ≤ most_moves }
+    {
+        self.moves.as_slice()
+    }
+}

@@ -1,0 +1,253 @@
+//! Records of a game as bytes.
+
+ghost use Rattle.std.specs.Prelude.{◌≡◌, ◌≤◌, ◌<◌, ◌^◌, ◌++◌, ◌⊎◌, ◌↔◌, List, length, IsTrue, IfSome, IfNone, IfOk, IfErr, OnOk, IsErrOf, Ok, Err, Some};
+ghost use Rattle.std.specs.Int.{w16, to_be_bytes};
+ghost use Rattle.board_core.specs.declared.moves.Move.{Move};
+ghost use Rattle.move_msg.specs.declared.record_bytes.Record.{Record};
+ghost use Rattle.move_msg.specs.declared.record_bytes.RecordFault.{RecordFault};
+ghost use Rattle.move_msg.specs.declared.record_bytes.RecordFault.TheVariants.{OutOfMemory};
+ghost use Rattle.move_msg.specs.Records.{AppendsMoves, SpellsRecord, SpellsMoves, HasCounts, HasRecordHead, HasRecordLayout, IsFirstRecordFault, record_frame, record_fault_name};
+ghost use Rattle.move_msg.specs.Words.{SpellsWord};
+ghost use Rattle.move_msg.specs.Layouts.{header_at};
+
+use crate::move_list::MoveList;
+use crate::stamp::Stamp;
+use crate::words::{of_word, word};
+use board_core::Move;
+use byteorder::{BigEndian, ByteOrder};
+use std::alloc::{AllocError, Global};
+
+/// What an arbiter keeps of a game.
+#[derive(Debug, Drop)]
+pub struct Record {
+    /// The game.
+    pub stamp: Stamp,
+    /// The code of the verdict after the moves, 1 to 7, or 0 for none.
+    pub verdict: u8,
+    /// The moves from the start on.
+    pub moves: MoveList,
+}
+
+/// Why bytes are no record, in the order in which faults are told; the length is looked at twice.
+#[derive(Clone, Copy, PartialEq, Eq, Debug)]
+pub enum RecordFault {
+    /// There are fewer than 24 bytes, or not as many as the number of moves wants.
+    BadLength,
+    /// They don't begin by `SR` and the version 1.
+    BadHead,
+    /// The code of the verdict is above 7, the number of moves above 4096 or a word above 20479.
+    BadField,
+    /// Memory was refused. All but the words is in order then.
+    OutOfMemory,
+}
+
+impl RecordFault {
+    /// The name of the fault, for printing.
+    pub fn name(self) -> &'static str
+        ensures { result.now ≡ record_fault_name self }
+    {
+        match self {
+            RecordFault::BadLength => "BadLength",
+            RecordFault::BadHead => "BadHead",
+            RecordFault::BadField => "BadField",
+            RecordFault::OutOfMemory => "OutOfMemory",
+        }
+    }
+}
+
+impl From<AllocError> for RecordFault {
+    ghost from_gives = { λ _ e. e ≡ OutOfMemory };
+
+    fn from(_e: AllocError) -> RecordFault {
+        RecordFault::OutOfMemory
+    }
+}
+
+/// Appends the word of a move.
+fn push_word(m: Move, out: &mut Vec<u8>) -> Result<(), AllocError>
+    ensures { OnOk result ((code : _) × SpellsWord code m × (out.new.items ≡ out.old.items ++ to_be_bytes w16 code)) }
+{
+    let mut bytes = [0; 2];
+    BigEndian::write_u16(&mut bytes, word(m));
+    out.extend_from_slice(&bytes)?;
+    Ok(())
+}
+
+/// Appends the words of moves.
+fn push_words(moves: &[Move], out: &mut Vec<u8>) -> Result<(), AllocError>
+    ensures { OnOk result (AppendsMoves out.old.items out.new.items moves.now) }
+{
+    for m in moves {
+        push_word(*m, out)?;
+    }
+    Ok(())
+}
+
+/// Appends all that stands before the words.
+#[tactic(auto, unfolding(crate::specs::Records::record_frame))]
+fn push_frame(game: &Record, out: &mut Vec<u8>) -> Result<(), AllocError>
+    ensures ok { OnOk result ((words : List _) → out.new.items ++ words ≡ out.old.items ++ record_frame game.now.stamp.0 game.now.verdict (length game.now.moves) words) }
+    ensures fits { (length game.now.stamp.0 ≡ 16) × (length game.now.moves ≤ 4096) }
+{
+    let mut count = [0; 4];
+    BigEndian::write_u32(&mut count, game.moves.as_slice().len() as u32);
+    out.extend_from_slice(&[b'S', b'R', 1])?;
+    out.extend_from_slice(&game.stamp.0)?;
+    out.push(game.verdict)?;
+    out.extend_from_slice(&count)?;
+    Ok(())
+}
+
+/// The word that bytes begin by, and the bytes after it; none where there are fewer than two bytes.
+fn first_word(bytes: &[u8]) -> Option<(u16, &[u8])>
+    ensures some { IfSome result (λ found. (found.0 < 2 ^ 16) × (bytes.now ≡ to_be_bytes w16 found.0 ++ found.1.now)) }
+    ensures none { IfNone result (length bytes.now < 2) }
+{
+    match bytes {
+        [high, low, rest @ ..] => Some((u16::from_be_bytes([*high, *low]), rest)),
+        _ => None,
+    }
+}
+
+/// Whether bytes are words that stand for moves.
+fn are_words(bytes: &[u8]) -> bool
+    ensures { IsTrue result ↔ ((ms : List Move) × SpellsMoves bytes.now ms) }
+{
+    let mut rest = bytes;
+    while let Some((word, tail)) = first_word(rest) {
+        let Some(_) = of_word(word) else {
+            return false;
+        };
+        rest = tail;
+    }
+    rest.is_empty()
+}
+
+/// The moves that words stand for.
+fn read_words(alloc: Global, bytes: &[u8]) -> Result<Vec<Move>, RecordFault>
+    ensures ok { IfOk result (λ moves. SpellsMoves bytes.now moves.items) }
+    ensures err { IfErr result (λ fault. (fault ≡ RecordFault.OutOfMemory)
+        ⊎ ((fault ≡ RecordFault.BadField) × ((ms : List Move) → SpellsMoves bytes.now ms → ⊥))) }
+{
+    let mut moves = Vec::with_capacity(alloc, bytes.len() / 2)?;
+    let mut rest = bytes;
+    while let Some((word, tail)) = first_word(rest) {
+        let Some(m) = of_word(word) else {
+            return Err(RecordFault::BadField);
+        };
+        let Ok(()) = moves.push(m) else {
+            return Err(RecordFault::OutOfMemory);
+        };
+        rest = tail;
+    }
+    if rest.is_empty() {
+        Ok(moves)
+    } else {
+        Err(RecordFault::BadField)
+    }
+}
+
+/// What stands before the words of a record.
+#[derive(Clone, Copy)]
+struct Header {
+    stamp: Stamp,
+    verdict: u8,
+    count: u32,
+}
+
+/// Whether bytes begin by the head of a record.
+fn has_head(bytes: &[u8]) -> bool
+    requires { 24 ≤ length bytes.now }
+    ensures { IsTrue result ↔ HasRecordHead bytes.now }
+{
+    bytes[0] == b'S' && bytes[1] == b'R' && bytes[2] == 1
+}
+
+/// What stands before the words, of bytes that are a record unless their words are none.
+#[tactic(auto, unfolding(crate::specs::Layouts::header_at))]
+fn read_header(bytes: &[u8]) -> Result<Header, RecordFault>
+    ensures ok { IfOk result (λ header. HasRecordLayout bytes.now × (header ≡ header_at bytes.now)) }
+    ensures err { IfErr result (IsFirstRecordFault bytes.now) }
+    ensures other { IfErr result (λ fault. fault ≡ RecordFault.BadField → HasCounts bytes.now → ⊥) }
+{
+    if bytes.len() < 24 {
+        return Err(RecordFault::BadLength);
+    }
+    if !has_head(bytes) {
+        return Err(RecordFault::BadHead);
+    }
+    let verdict = bytes[19];
+    let count = u32::from_be_bytes([bytes[20], bytes[21], bytes[22], bytes[23]]);
+    if verdict > 7 || count > 4096 {
+        return Err(RecordFault::BadField);
+    }
+    if bytes.len() != 24 + 2 * count as usize {
+        return Err(RecordFault::BadLength);
+    }
+    let mut stamp = [0; 16];
+    stamp.copy_from_slice(&bytes[3..19]);
+    Ok(Header {
+        stamp: Stamp(stamp),
+        verdict,
+        count,
+    })
+}
+
+impl Record {
+    /// The bytes of the record (record format): 24 and two for each move.
+    ///
+    /// That the verdict's code is at most 7 is the caller's condition. The error comes only where
+    /// memory is refused.
+    pub fn encode(&self, alloc: Global) -> Result<Vec<u8>, AllocError>
+        requires { self.now.verdict ≤ 7 }
+        ensures { IfOk result (λ bytes. SpellsRecord bytes.items self.now) }
+    {
+        let mut bytes = Vec::with_capacity(alloc, 24 + 2 * self.moves.as_slice().len())?;
+        push_frame(self, &mut bytes)?;
+        push_words(self.moves.as_slice(), &mut bytes)?;
+        Ok(bytes)
+    }
+
+    /// The record that the bytes spell (record format), or the first fault of the bytes:
+    /// `BadLength` below 24 bytes, `BadHead`, `BadField` for the verdict's code and the number of
+    /// moves, `BadLength` where there are not as many bytes as that number wants, `BadField` for
+    /// the words. `OutOfMemory`, where memory is refused, comes only when all but the words is in
+    /// order.
+    pub fn decode(alloc: Global, bytes: &[u8]) -> Result<Record, RecordFault>
+        ensures ok { IfOk result (SpellsRecord bytes.now) }
+        ensures only { (r : Record) → SpellsRecord bytes.now r → (result ≡ Ok r) ⊎ (result ≡ Err RecordFault.OutOfMemory) }
+        ensures err { IfErr result (λ fault. (fault ≡ RecordFault.OutOfMemory → ⊥) → IsFirstRecordFault bytes.now fault) }
+        ensures only_fault { (fault : RecordFault) → IsFirstRecordFault bytes.now fault → (result ≡ Err fault) ⊎ (result ≡ Err RecordFault.OutOfMemory) }
+        ensures memory { IsErrOf result RecordFault.OutOfMemory → HasRecordLayout bytes.now }
+    {
+        let header = match read_header(bytes) {
+            Ok(header) => header,
+            Err(fault) => return Err(fault),
+        };
+        let (_, words) = bytes.split_at(24);
+        match read_words(alloc, words) {
+            Ok(moves) => Ok(Record {
+                stamp: header.stamp,
+                verdict: header.verdict,
+                moves: MoveList::from_vec(moves),
+            }),
+            Err(fault) => Err(fault),
+        }
+    }
+
+    /// The number of moves and the code of the verdict, 0 for none, of bytes that spell a record;
+    /// none of other bytes.
+    pub fn summary(bytes: &[u8]) -> Option<(u32, u8)>
+        ensures some { IfSome result (λ found. (r : Record) × SpellsRecord bytes.now r × (found ≡ (length r.moves, r.verdict))) }
+        ensures only { (r : Record) → SpellsRecord bytes.now r → result ≡ Some (length r.moves, r.verdict) }
+    {
+        let Ok(header) = read_header(bytes) else {
+            return None;
+        };
+        let (_, words) = bytes.split_at(24);
+        if !are_words(words) {
+            return None;
+        }
+        Some((header.count, header.verdict))
+    }
+}

@@ -1,0 +1,10 @@
+use Rattle.std.proofs.Common.{◌≡◌, ◌≤◌, ◌+◌, ◌*◌, drop, map}
+use Rattle.place_index.specs.Choose.{set_number}
+use Rattle.place_index.specs.Others.{free_number, free_set_number}
+use Rattle.place_index.proofs.numbers.free_set_number.Given as goal
+
+abbrev pub invariant-loop-i : goal.invariant-loop-i
+invariant-loop-i l = record {
+  is : l.sum + set_number (map (free_number l.first l.earlier) (drop l.i l.squares)) ≡ free_set_number l.first l.earlier l.squares;
+  most : l.sum ≤ 1073741824 * l.i;
+}

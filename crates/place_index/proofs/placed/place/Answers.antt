@@ -1,0 +1,56 @@
+use Rattle.std.proofs.Common.{◌≡◌, ◌≤◌, ◌<◌, ◌-◌, ◌∙◌, Bool, true, false, cond, ap, refl, sym, subst, length, arith}
+use Rattle.place_index.specs.Men.{exchanged}
+use Rattle.place_index.specs.Index.{IsPlacement}
+use Rattle.place_index.specs.Placed.{IsNamed, IsMaterialOf, IsSymmetric, men_on, side_number}
+use Rattle.place_index.specs.Turning.{lead_file}
+use Rattle.place_index.proofs.MenOn.{stood, placement_in_colours}
+use Rattle.place_index.proofs.Symmetric.{material_few}
+use Rattle.place_index.proofs.placed.place.Goals as goal
+
+pub men_on-own-requires : goal.men_on-own-requires
+men_on-own-requires c = material_few c.args.material.now (men_on c.args.position.now.men) (omega (arith, c.key-key.ensures.is, c.key-key.ensures.below)) c.requires
+
+pub is_exchanged-exchange-requires-clause-known : goal.is_exchanged-exchange-requires-clause-known
+is_exchanged-exchange-requires-clause-known c = omega (arith, c.key-key.ensures.is, c.key-key.ensures.below)
+
+pub lead_file-file-requires-clause-known : goal.lead_file-file-requires-clause-known
+lead_file-file-requires-clause-known c = omega (arith, c.key-key.ensures.is, c.key-key.ensures.below)
+
+pub lead_file-file-requires-clause-placed : goal.lead_file-file-requires-clause-placed
+lead_file-file-requires-clause-placed c =
+    let own : c.as_slice.result.now ≡ men_on c.args.position.now.men = c.as_slice.ensures.value ∙ c.men_on-own.ensures in
+    let men : c.as_slice-2.result.now ≡ cond c.is_exchanged-exchange.result (exchanged (men_on c.args.position.now.men)) (men_on c.args.position.now.men) =
+    c.as_slice-2.ensures.value ∙ c.in_colours-men.ensures ∙ ap (λ l. cond c.is_exchanged-exchange.result (exchanged l) l) c.men_on-own.ensures in
+    subst (IsPlacement c.args.material.now) (sym men)
+    (placement_in_colours c.args.material.now c.args.position.now.men c.is_exchanged-exchange.result (stood c.args.position.now c.parts-position.ensures.position)
+    (subst (λ l. IsNamed c.args.material.now (cond c.is_exchanged-exchange.result (exchanged l) l)) own c.is_exchanged-exchange.ensures.named))
+
+pub invariant_of-result : goal.invariant_of-result
+invariant_of-result c =
+    let own : c.as_slice.result.now ≡ men_on c.args.position.now.men = c.as_slice.ensures.value ∙ c.men_on-own.ensures in
+    let men : c.in_colours-men.result.items ≡ cond c.is_exchanged-exchange.result (exchanged (men_on c.args.position.now.men)) (men_on c.args.position.now.men) =
+    c.in_colours-men.ensures ∙ ap (λ l. cond c.is_exchanged-exchange.result (exchanged l) l) c.men_on-own.ensures in
+    record {
+      material = omega (arith, c.key-key.ensures.is, c.key-key.ensures.below);
+      men = subst (IsPlacement c.args.material.now) (sym men)
+          (placement_in_colours c.args.material.now c.args.position.now.men c.is_exchanged-exchange.result (stood c.args.position.now c.parts-position.ensures.position)
+          (subst (λ l. IsNamed c.args.material.now (cond c.is_exchanged-exchange.result (exchanged l) l)) own c.is_exchanged-exchange.ensures.named));
+      side = c.side_after-side.ensures.few;
+      file = c.lead_file-file.ensures ∙ ap (lead_file c.args.material.now) c.as_slice-2.ensures.value;
+    }
+
+pub returns : goal.returns
+returns c =
+    let own : c.as_slice.result.now ≡ men_on c.args.position.now.men = c.as_slice.ensures.value ∙ c.men_on-own.ensures in
+    let men : c.in_colours-men.result.items ≡ cond c.is_exchanged-exchange.result (exchanged (men_on c.args.position.now.men)) (men_on c.args.position.now.men) =
+    c.in_colours-men.ensures ∙ ap (λ l. cond c.is_exchanged-exchange.result (exchanged l) l) c.men_on-own.ensures in
+    let before : c.side_number-before.result ≡ side_number c.args.position.now.side = c.side_number-before.ensures.is ∙ ap side_number c.side.ensures in
+    record {
+      is_exchanged = c.is_exchanged-exchange.result;
+      material = refl;
+      men = men;
+      named = subst (IsNamed c.args.material.now) (sym men) (subst (λ l. IsNamed c.args.material.now (cond c.is_exchanged-exchange.result (exchanged l) l)) own c.is_exchanged-exchange.ensures.named);
+      side = c.side_after-side.ensures.is ∙ ap (λ n. cond c.is_exchanged-exchange.result (1 - n) n) before;
+      white = λ symmetric. c.side_after-side.ensures.is ∙ c.is_exchanged-exchange.ensures.white symmetric;
+      file = c.lead_file-file.ensures ∙ ap (lead_file c.args.material.now) c.as_slice-2.ensures.value;
+    }

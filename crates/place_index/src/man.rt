@@ -1,0 +1,64 @@
+ghost use Rattle.std.specs.Prelude.{◌≡◌, ◌<◌, ◌≤◌, length};
+ghost use Rattle.place_index.specs.Men.{moved, opposite};
+
+use arrayvec::ArrayVec;
+use board_core::Square;
+
+/// A man on a square, as a table sees it: colours may be exchanged, and all men mirrored.
+#[derive(Clone, Copy, PartialEq, Eq, Debug)]
+pub struct Man {
+    /// The piece code: 1 to 6 for the first side's pawn, knight, bishop, rook, queen and king, 9 to 14 for the second side's.
+    pub code: u8,
+
+    /// Where the man stands.
+    pub square: Square,
+}
+
+impl Default for Man {
+    /// Room for a man.
+    fn default() -> Man {
+        Man {
+            code: 0,
+            square: Square::at(0),
+        }
+    }
+}
+
+/// Ways to mirror the board.
+#[derive(Clone, Copy, PartialEq, Eq, Debug)]
+pub(crate) enum Mirroring {
+    /// Files a and h exchanged, and so on.
+    LeftRight,
+    /// Ranks 1 and 8 exchanged, and so on.
+    BottomTop,
+    /// File and rank of each square exchanged.
+    Across,
+}
+
+/// The square that lies opposite.
+pub(crate) fn opposite(mirroring: Mirroring, square: Square) -> Square
+    ensures { result ≡ opposite mirroring square }
+{
+    let file = square.file();
+    let rank = square.rank();
+    match mirroring {
+        Mirroring::LeftRight => Square::at(8 * rank + (7 - file)),
+        Mirroring::BottomTop => Square::at(8 * (7 - rank) + file),
+        Mirroring::Across => Square::at(8 * file + rank),
+    }
+}
+
+/// All men moved to the squares that lie opposite.
+pub(crate) fn moved(men: &[Man], mirroring: Mirroring) -> ArrayVec<Man, 5>
+    requires { length men.now ≤ 5 }
+    ensures { result.items ≡ moved (opposite mirroring) men.now }
+{
+    let mut moved = ArrayVec::<Man, 5>::new();
+    for man in men {
+        moved.push(Man {
+            code: man.code,
+            square: opposite(mirroring, man.square),
+        });
+    }
+    moved
+}

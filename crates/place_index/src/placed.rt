@@ -1,0 +1,155 @@
+ghost use Rattle.std.specs.Prelude.{◌≡◌, ◌<◌, ◌≤◌, ◌-◌, length, cond};
+ghost use Rattle.board_core.specs.Position.{IsPosition};
+ghost use Rattle.place_index.specs.Index.{IsPlacement};
+ghost use Rattle.place_index.specs.Men.{exchanged};
+ghost use Rattle.place_index.specs.Placed.{IsNamed, IsMaterialOf, IsSymmetric, IsLookedUp, men_on, side_number};
+ghost use Rattle.place_index.specs.Turning.{lead_file};
+
+use crate::man::Man;
+use crate::material::Material;
+use crate::sweep::{exchanged, is_named, men_on};
+use crate::turning::lead_pawn;
+use arrayvec::ArrayVec;
+use board_core::{Position, Side};
+use std::marker::Model;
+
+/// What a table is asked for: a position's men with the colours of the table's name, the side to move, and the file of the
+/// leading pawn.
+#[derive(Drop, Debug)]
+pub struct Placed {
+    material: Material,
+    men: ArrayVec<Man, 5>,
+    side: u8,
+    file: u8,
+}
+
+impl Model for Placed {
+    ghost use Rattle.place_index.specs.Placed.{Placement, placement_of, IsPlaced};
+
+    ghost Value = { Placement };
+
+    ghost view = { placement_of };
+
+    ghost invariant = { IsPlaced };
+}
+
+impl Placed {
+    /// The table's material.
+    pub fn material(&self) -> Material
+        ensures { result ≡ self.now.material }
+    {
+        self.material
+    }
+
+    /// The men, in the order of their squares before colours were exchanged.
+    pub fn men(&self) -> &[Man]
+        ensures is { result.now ≡ self.now.men }
+        ensures known { self.now.material < 145 }
+        ensures placement { IsPlacement self.now.material self.now.men }
+        ensures file { lead_file self.now.material self.now.men ≡ self.now.file }
+    {
+        self.men.as_slice()
+    }
+
+    /// The side to move after the exchange of colours, 0 for white and 1 for black.
+    pub fn side(&self) -> u8
+        ensures is { result ≡ self.now.side }
+        ensures few { result < 2 }
+    {
+        self.side
+    }
+
+    /// The file that picks the table's record, that of the leading pawn mirrored to the left: 0 for a and h to 3 for d and
+    /// e, and 0 without pawns.
+    pub fn file(&self) -> u8
+        ensures is { result ≡ self.now.file }
+        ensures left { result < 4 }
+    {
+        self.file
+    }
+}
+
+fn side_number(side: Side) -> u8
+    ensures is { result ≡ side_number side }
+    ensures few { result < 2 }
+{
+    match side {
+        Side::White => 0,
+        Side::Black => 1,
+    }
+}
+
+/// The file of the leading pawn after the turning, 0 to 3; 0 without pawns.
+fn lead_file(material: Material, men: &[Man]) -> u8
+    requires known { material < 145 }
+    requires placed { IsPlacement material men.now }
+    ensures { result ≡ lead_file material men.now }
+{
+    if !material.has_pawns() {
+        return 0;
+    }
+    let lead = lead_pawn(material, men);
+    let file = lead % 8;
+    if file < 4 { file } else { 7 - file }
+}
+
+/// Whether a position is looked up with colours exchanged: where white's men are the name's second side, and for symmetric
+/// material with black to move.
+fn is_exchanged(material: Material, men: &[Man], side: u8) -> bool
+    requires known { material < 145 }
+    requires few { length men.now ≤ 5 }
+    requires side { side < 2 }
+    requires material { IsMaterialOf material men.now }
+    ensures named { IsNamed material (cond result (exchanged men.now) men.now) }
+    ensures white { IsSymmetric material → cond result (1 - side) side ≡ 0 }
+{
+    if material.symmetric() {
+        side == 1
+    } else {
+        !is_named(material, men)
+    }
+}
+
+/// The men with colours exchanged, if so.
+fn in_colours(men: ArrayVec<Man, 5>, exchange: bool) -> ArrayVec<Man, 5>
+    requires { length men.items ≤ 5 }
+    ensures { result.items ≡ cond exchange (exchanged men.items) men.items }
+{
+    if exchange {
+        exchanged(men.as_slice())
+    } else {
+        men
+    }
+}
+
+/// The side to move after the exchange, if there is one.
+fn side_after(side: u8, exchange: bool) -> u8
+    requires { side < 2 }
+    ensures is { result ≡ cond exchange (1 - side) side }
+    ensures few { result < 2 }
+{
+    if exchange { 1 - side } else { side }
+}
+
+/// A position as its table sees it (Syzygy tables): colours are exchanged, and squares changed to the opposite rank, where
+/// white's men are the name's second side, and for symmetric material with black to move. That the material is the
+/// position's is the caller's condition.
+pub fn place(position: &Position, material: &Material) -> Placed
+    requires { IsMaterialOf material.now (men_on position.now.men) }
+    ensures { IsLookedUp material.now position.now result }
+{
+    let _position = position.parts();
+    let _key = material.key();
+    let own = men_on(position);
+    let before = side_number(position.side());
+    let exchange = is_exchanged(*material, own.as_slice(), before);
+    let men = in_colours(own, exchange);
+    let file = lead_file(*material, men.as_slice());
+    let side = side_after(before, exchange);
+    Placed {
+        material: *material,
+        men,
+        side,
+        file,
+    }
+}

@@ -1,0 +1,89 @@
+//! The men of a position, and their codes.
+
+ghost use Rattle.std.specs.Prelude.{◌≡◌, ◌<◌, ◌≤◌, ◌↔◌, IsTrue, length};
+ghost use Rattle.place_index.specs.Men.{exchanged, other_side};
+ghost use Rattle.place_index.specs.Placed.{IsNamed, code_of, men_on};
+
+use crate::arrangement::is_arrangement;
+use crate::man::{Man, Mirroring, opposite};
+use crate::material::Material;
+use arrayvec::ArrayVec;
+use board_core::{Kind, Piece, Position, Side, Square};
+
+/// The piece code of a man in the table file: 1 to 6 for white's pawn, knight, bishop, rook, queen and king, 9 to 14 for
+/// black's.
+fn code_of(piece: Piece) -> u8
+    ensures { result ≡ code_of piece }
+{
+    let code = match piece.kind {
+        Kind::Pawn => 1u8,
+        Kind::Knight => 2,
+        Kind::Bishop => 3,
+        Kind::Rook => 4,
+        Kind::Queen => 5,
+        Kind::King => 6,
+    };
+    match piece.side {
+        Side::White => code,
+        Side::Black => code + 8,
+    }
+}
+
+/// The men of a position in order of square.
+pub(crate) fn men_on(position: &Position) -> ArrayVec<Man, 5>
+    requires { length (men_on position.now.men) ≤ 5 }
+    ensures { result.items ≡ men_on position.now.men }
+{
+    let _position = position.parts();
+    let mut men = ArrayVec::<Man, 5>::new();
+    let mut rest = position.occupied();
+    let mut next = 0u8;
+    while !rest.is_empty() {
+        let square = rest.lowest();
+        let number = square.number();
+        if let Some(piece) = position.piece_at(square) {
+            let code = code_of(piece);
+            men.push(Man { code, square });
+        }
+        rest = rest.without(square);
+        next = number + 1;
+    }
+    men
+}
+
+/// The code of the same man of the other side.
+fn other_side(code: u8) -> u8
+    ensures { result ≡ other_side code }
+{
+    if code / 8 % 2 == 0 {
+        code + 8
+    } else {
+        code - 8
+    }
+}
+
+/// Colours exchanged, and each man moved to the rank that lies opposite.
+pub(crate) fn exchanged(men: &[Man]) -> ArrayVec<Man, 5>
+    requires { length men.now ≤ 5 }
+    ensures { result.items ≡ exchanged men.now }
+{
+    let mut exchanged = ArrayVec::<Man, 5>::new();
+    for man in men {
+        let code = other_side(man.code);
+        let square = opposite(Mirroring::BottomTop, man.square);
+        exchanged.push(Man { code, square });
+    }
+    exchanged
+}
+
+/// Whether the men are those of the table in its colours.
+pub(crate) fn is_named(material: Material, men: &[Man]) -> bool
+    requires { length men.now ≤ 5 }
+    ensures { IsTrue result ↔ IsNamed material men.now }
+{
+    let mut codes = ArrayVec::<u8, 5>::new();
+    for man in men {
+        codes.push(man.code);
+    }
+    is_arrangement(material, codes.as_slice())
+}
