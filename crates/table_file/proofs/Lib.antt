@@ -1,0 +1,13 @@
+pub mod Loops
+pub mod Before
+pub mod Sized
+pub mod Expanded
+pub mod NameLemmas
+pub mod Planned
+pub mod Views
+pub mod ShapeTests
+pub mod Agreeing
+pub mod LayoutSteps
+pub mod LayoutSections
+pub mod LayoutWhole
+pub mod Refusing

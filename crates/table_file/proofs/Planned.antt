@@ -1,0 +1,223 @@
+-- Plans, their values, and blocks that hold them.
+use Rattle.std.proofs.Common.{◌≡◌, ◌≢◌, ℕ, zero, suc, ◌-◌, ◌+◌, ◌*◌, ◌/◌, ◌≤◌, ◌<◌, Bool, true, false, cond, eqb, List, [], ◌∷◌, ◌++◌, length, get_or, take, drop, map, Some, Result, Ok, Err, refl, sym, ap, subst, ◌∙◌, inl, inr, append_assoc, arith}
+use Rattle.std.specs.Prelude.{◌%◌, ◌⊎◌, not, slice_get, OnOk, IfOk}
+use Rattle.std.specs.List.{flat_map}
+use Rattle.std.proofs.lemmas.List.Concat.{flat_map-append}
+use Rattle.std.specs.Cmp.Lexicographic.{pointwise}
+use Rattle.std.proofs.lemmas.Bool.{ne_eqb, cases_Bool, false≢true}
+use Rattle.std.proofs.lemmas.Bool.Decides.{Decides-eqb}
+use Rattle.std.proofs.lemmas.Slice.Eq.{strip_prefix_is}
+use Rattle.std.proofs.lemmas.List.{length-append, length-take, take_more, append-nil, drop_more, drop_all, drop-drop, get_or-take, map-append}
+use Rattle.std.proofs.lemmas.Nat.{div_below, div-add-mod'}
+use Rattle.std.proofs.lemmas.Option.{slice_get_within}
+use denote.Ref.{Bor}
+use Rattle.pair_dict.specs.Symbols.{values_to, left, right}
+use Rattle.pair_dict.specs.Blocks.{block_values}
+use Rattle.place_index.specs.Material.{white_pawns, black_pawns}
+use Rattle.place_index.specs.Shape.{Layout, has_pawns}
+use Rattle.table_file.specs.Figures.{Figures, block_size}
+use Rattle.table_file.specs.Sparse.{sizes_of}
+use Rattle.table_file.specs.Files.{files_of, sides_of, indices}
+use Rattle.table_file.specs.Tables.{Contents, IsFile, part_of, shape_in, shape_of, flags_in, flags_of, part_count}
+use Rattle.table_file.specs.Plan.{planned_shape, planned_expansion, HasEnough}
+use Rattle.table_file.specs.Forged.{IsPartOf}
+use Rattle.table_file.specs.Checked.{IsViewOf}
+use Rattle.table_file.specs.declared.plan.PartPlan.{PartPlan}
+use Rattle.table_file.specs.declared.kind.Kind.{Kind}
+use Rattle.table_file.specs.declared.spots.View.{View}
+use Rattle.table_file.proofs.Views.{got, view_expansion}
+use Rattle.table_file.specs.Expansion.{filled, joined, listed, expanded, values_in}
+use Rattle.table_file.specs.Files.{section_size}
+use Rattle.table_file.specs.declared.parts.Section.TheVariants.{Lengths}
+use Rattle.table_file.specs.declared.size_record.Coding.{Coding}
+use Rattle.table_file.specs.declared.size_record.Coding.TheVariants.{Pairs}
+
+pub on_ok : {A E P Q : Type 0} (r : Result A E) → OnOk r P → (P → Q) → OnOk r Q
+on_ok (Ok x) h f = f h
+on_ok (Err e) h f = tt
+
+pub values_of_pair : (symbols : List ℕ) (depth s : ℕ) → depth ≢ 0 → right symbols s ≢ 4095
+    → values_to symbols depth s ≡ values_to symbols (depth - 1) (left symbols s) ++ values_to symbols (depth - 1) (right symbols s)
+unfolding values_to
+values_of_pair symbols zero s some pair = absurd (some refl)
+values_of_pair symbols (suc depth) s some pair =
+    let e : suc depth - 1 ≡ depth = omega arith in
+    rw (e, ne_eqb (right symbols s) 4095 pair) refl
+
+-- the values of the right symbol come behind those of the left one
+pub pair_pushed : (symbols old new newer : List ℕ) (depth s x y : ℕ) → x ≡ left symbols s → y ≡ right symbols s → depth ≢ 0 → y ≢ 4095
+    → new ≡ old ++ values_to symbols (depth - 1) x
+    → newer ≡ new ++ values_to symbols (depth - 1) y
+    → newer ≡ old ++ values_to symbols depth s
+pair_pushed symbols old new newer depth s x y x-is y-is some pair first second =
+    let a = values_to symbols (depth - 1) x in
+    let b = values_to symbols (depth - 1) y in
+    let whole = values_of_pair symbols depth s some (λ e. pair (y-is ∙ e)) in
+    let both : values_to symbols depth s ≡ a ++ b = rw (x-is, y-is) whole in
+    second ∙ ap (λ xs. xs ++ b) first ∙ append_assoc old a b ∙ ap (λ xs. old ++ xs) (sym both)
+
+-- ---- blocks that hold the values, one after the other
+
+full_block : (size : ℕ) (vs : List ℕ) → length (take size vs) ≡ size → filled size vs ≡ map (λ (v : ℕ). Some v) (take size vs)
+full_block size vs long =
+    let none : size - length vs ≡ 0 = omega (arith, length-take size vs, long) in
+    rw none (append-nil (map (λ (v : ℕ). Some v) (take size vs)))
+
+pub block_step : (c : Figures) (lengths blocks values rest after : List ℕ) (b : ℕ)
+    → b < c.blocks → c.blocks ≤ length (sizes_of lengths)
+    → values ≡ take (get_or (sizes_of lengths) b 0) (block_values c.dictionary (take (block_size c) (drop (b * block_size c) blocks)))
+    → length values ≡ get_or (sizes_of lengths) b 0
+    → rest ≡ values ++ after
+    → map (λ (v : ℕ). Some v) after ≡ joined c (drop (b + 1) (take c.blocks (sizes_of lengths))) (drop ((b + 1) * block_size c) blocks)
+    → map (λ (v : ℕ). Some v) rest ≡ joined c (drop b (take c.blocks (sizes_of lengths))) (drop (b * block_size c) blocks)
+unfolding joined
+block_step c lengths blocks values rest after b lt few values-is long rest-is h =
+    let n = block_size c in
+    let sizes = take c.blocks (sizes_of lengths) in
+    let size = get_or (sizes_of lengths) b 0 in
+    let vs = block_values c.dictionary (take n (drop (b * n) blocks)) in
+    let within : b < length sizes = omega (arith, length-take c.blocks (sizes_of lengths), few, lt) in
+    let more : drop b sizes ≡ get_or sizes b 0 ∷ drop (b + 1) sizes = drop_more sizes b 0 within in
+    let same : get_or sizes b 0 ≡ size = get_or-take c.blocks (sizes_of lengths) b 0 lt in
+    let on : drop n (drop (b * n) blocks) ≡ drop ((b + 1) * n) blocks = drop-drop n (b * n) blocks ∙ ap (λ k. drop k blocks) (omega arith) in
+    let full : filled size vs ≡ map (λ (v : ℕ). Some v) values = full_block size vs (ap length (sym values-is) ∙ long) ∙ ap (λ xs. map (λ (v : ℕ). Some v) xs) (sym values-is) in
+    let whole : joined c (drop b sizes) (drop (b * n) blocks) ≡ map (λ (v : ℕ). Some v) values ++ map (λ (v : ℕ). Some v) after
+    = rw (more, same, on, full, h) refl in
+    ap (λ xs. map (λ (v : ℕ). Some v) xs) rest-is ∙ map-append (λ (v : ℕ). Some v) values after ∙ sym whole
+
+pub blocks_done : (c : Figures) (lengths blocks rest : List ℕ) (b : ℕ) → c.blocks ≤ b → rest ≡ []
+    → map (λ (v : ℕ). Some v) rest ≡ joined c (drop b (take c.blocks (sizes_of lengths))) (drop (b * block_size c) blocks)
+unfolding joined
+blocks_done c lengths blocks rest b le none =
+    let all : drop b (take c.blocks (sizes_of lengths)) ≡ [] = drop_all b (take c.blocks (sizes_of lengths)) (omega (arith, length-take c.blocks (sizes_of lengths), le)) in
+    rw (all, none) refl
+
+pub stripped : (s p held : List ℕ) (x : Bor (List ℕ)) → (pointwise eqb (take (length p) s) p ≡ true) × (x.now ≡ drop (length p) s) × (length x.now + length p ≡ length s)
+    → p ≡ held → s ≡ held ++ x.now
+stripped s p held x h is = let e : s ≡ p ++ x.now = strip_prefix_is Decides-eqb s p (Some x) h in e ∙ ap (λ (q : List ℕ). q ++ x.now) is
+
+-- ---- a part
+
+pub files_are : (m file : ℕ) → file < files_of m → IsFile m file
+unfolding files_of
+files_are m file lt =
+    elim (cases_Bool (has_pawns m)) [
+      | inl pawned ↦ (rw pawned at lt, λ e. absurd (some_not (white_pawns m + black_pawns m) pawned e))
+      | inr none ↦ (omega (arith, below_one none lt), λ e. omega (arith, below_one none lt))
+    ]
+  where
+    below_one : has_pawns m ≡ false → file < cond (has_pawns m) 4 1 → file < 1
+    below_one none lt = rw none at lt
+
+    some_not : (n : ℕ) → not (eqb n 0) ≡ true → n ≡ 0 → ⊥
+    some_not n t e = let f : not (eqb n 0) ≡ false = rw e refl in false≢true (sym f ∙ t)
+
+-- ---- shorter forms of what the loop over the blocks knows
+
+pub coded_lengths : (size : ℕ) (v : Coding) (c : Figures) (lengths : List ℕ) → v ≡ Pairs c → length lengths ≡ section_size Lengths size v → c.blocks ≤ length lengths / 2
+coded_lengths size v c lengths is fit = let e : length lengths ≡ section_size Lengths size (Pairs c) = rw is at fit in omega (arith, e)
+
+pub coded_values : (v : Coding) (c : Figures) (lengths blocks held : List ℕ) (b : ℕ) → v ≡ Pairs c → held ≡ values_in v lengths blocks b
+    → held ≡ take (get_or (sizes_of lengths) b 0) (block_values c.dictionary (take (block_size c) (drop (b * block_size c) blocks)))
+coded_values v c lengths blocks held b is h = rw is at h
+
+pub coded_expansion : (v : Coding) (c : Figures) (lengths blocks values : List ℕ) → v ≡ Pairs c
+    → map (λ (x : ℕ). Some x) values ≡ joined c (take c.blocks (sizes_of lengths)) blocks → expanded v lengths blocks ≡ listed (map (λ (x : ℕ). Some x) values)
+coded_expansion v c lengths blocks values is h = rw is (ap listed (sym h))
+
+-- what the comparison of a part found
+pub part_is : (material : ℕ) (t : Contents) (side file : ℕ) (p : PartPlan) (v : View) (flags size : ℕ) (shape : Layout)
+    → IsViewOf t side file v → flags_of t side file ≡ Some flags → flags ≡ p.flags → shape_of t side file ≡ Some shape → shape ≡ planned_shape material p file → size ≡ indices shape
+    → HasEnough p.content size → expanded v.coding.now v.lengths.now v.blocks.now ≡ planned_expansion p.content size → IsPartOf material t side file p
+part_is material t side file p v flags size shape h flags-are flags-is shape-found shape-is size-is enough values =
+    let found : part_of t side file ≡ Some h.part = h.found in
+    let f : h.part.size_record.flags ≡ flags = some_is h.part.size_record.flags flags (sym (ap flags_in found) ∙ flags-are) in
+    let g : h.part.shape ≡ shape = some_is h.part.shape shape (sym (ap shape_in found) ∙ shape-found) in
+    let n : size ≡ indices h.part.shape = size-is ∙ ap indices (sym g) in
+    record {
+      part = h.part;
+      found = found;
+      shape = g ∙ shape-is;
+      flags = f ∙ flags-is;
+      enough = subst (λ (k : ℕ). HasEnough p.content k) n enough;
+      values = sym (view_expansion t side file v h) ∙ subst (λ (k : ℕ). expanded v.coding.now v.lengths.now v.blocks.now ≡ planned_expansion p.content k) n values;
+    }
+  where
+    some_is : {A : Type 0} (a b : A) → Some a ≡ Some b → a ≡ b
+    some_is a b e = cc
+
+pub if_both : {E : Type 0} {P R Q : Bool → Type 0} (r : Result Bool E) → IfOk r P → IfOk r R → ((b : Bool) → P b → R b → Q b) → IfOk r Q
+if_both (Ok x) h k f = f x h k
+if_both (Err e) h k f = tt
+
+-- what holds of the parts so far, and of one more
+pub one_more_part : (material : ℕ) (t : Contents) (parts : List PartPlan) (k sides : ℕ) (x : PartPlan) → k < length parts → x ≡ get_or parts k x → IsPartOf material t (k % sides) (k / sides) x
+    → ((j : ℕ) (p : PartPlan) → j < k → slice_get parts j ≡ Some p → IsPartOf material t (j % sides) (j / sides) p)
+    → (j : ℕ) (p : PartPlan) → j < k + 1 → slice_get parts j ≡ Some p → IsPartOf material t (j % sides) (j / sides) p
+one_more_part material t parts k sides x lt is here before j p below e =
+    elim (cases_lt j k) [
+      | inl less ↦ before j p less e
+      | inr not_less ↦
+          let same : j ≡ k = omega arith in
+          let at : slice_get parts k ≡ Some p = ap (λ (i : ℕ). slice_get parts i) (sym same) ∙ e in
+          let eq : x ≡ p = some_is x p (sym (got parts k x lt is) ∙ at) in
+          subst (λ (q : PartPlan). IsPartOf material t (j % sides) (j / sides) q) eq (subst (λ (i : ℕ). IsPartOf material t (i % sides) (i / sides) x) (sym same) here)
+    ]
+  where
+    some_is : {A : Type 0} (a b : A) → Some a ≡ Some b → a ≡ b
+    some_is a b e = cc
+
+    cases_lt : (i n : ℕ) → (i < n) ⊎ (n ≤ i)
+    cases_lt i n = grind arith
+
+-- the number of sides, and the file that a part's number gives
+pub sides_are : (t : Contents) (kind : Kind) (material sides : ℕ) → sides ≡ sides_of kind material → kind ≡ t.kind → material ≡ t.material → sides ≡ sides_of t.kind t.material
+sides_are t kind material sides is kind-is material-is = is ∙ ap (λ (x : Kind). sides_of x material) kind-is ∙ ap (λ (m : ℕ). sides_of t.kind m) material-is
+
+pub file_of_part : (t : Contents) (sides k n : ℕ) → sides ≡ sides_of t.kind t.material → n ≡ part_count t.kind t.material → 1 ≤ sides → k < n → IsFile t.material (k / sides)
+file_of_part t sides k n sides-are n-is some lt =
+    let e : n ≡ files_of t.material * sides = n-is ∙ ap (λ (x : ℕ). files_of t.material * x) (sym sides-are) in
+    files_are t.material (k / sides) (div_below k sides (files_of t.material) some (omega (arith, lt, e)))
+
+pub few_files : (m file : ℕ) → IsFile m file → file < 256
+few_files m file h = omega (arith, h.0)
+
+pub all_parts : (material : ℕ) (t : Contents) (parts : List PartPlan) (k sides : ℕ) → length parts ≤ k
+    → ((j : ℕ) (p : PartPlan) → j < k → slice_get parts j ≡ Some p → IsPartOf material t (j % sides) (j / sides) p)
+    → (j : ℕ) (p : PartPlan) → slice_get parts j ≡ Some p → IsPartOf material t (j % sides) (j / sides) p
+all_parts material t parts k sides le h j p e = h j p (omega (arith, slice_get_within parts j p e, le)) e
+
+-- ---- how many values blocks have
+
+pub more_values : {X : Type 0} (f : X → List ℕ) (xs : List X) (i : ℕ) (x : X) → i < length xs → x ≡ get_or xs i x
+    → length (flat_map f (take (i + 1) xs)) ≡ length (flat_map f (take i xs)) + length (f x)
+more_values f xs i x lt is =
+    let more : take (i + 1) xs ≡ take i xs ++ x ∷ [] = take_more xs i x lt ∙ ap (λ y. take i xs ++ y ∷ []) (sym is) in
+    let both : flat_map f (take (i + 1) xs) ≡ flat_map f (take i xs) ++ (f x ++ []) = ap (flat_map f) more ∙ flat_map-append f (take i xs) (x ∷ []) in
+    ap length both ∙ length-append (flat_map f (take i xs)) (f x ++ []) ∙ ap (λ ys. length (flat_map f (take i xs)) + length ys) (append-nil (f x))
+
+-- what holds of the elements so far, and of one more
+pub each_more : {X : Type 0} (P : X → ℕ → Type 0) (xs : List X) (k : ℕ) (x : X) → k < length xs → x ≡ get_or xs k x → P x k
+    → ((j : ℕ) (p : X) → j < k → slice_get xs j ≡ Some p → P p j)
+    → (j : ℕ) (p : X) → j < k + 1 → slice_get xs j ≡ Some p → P p j
+each_more {X} P xs k x lt is here before j p below e =
+    elim (cases_lt j k) [
+      | inl less ↦ before j p less e
+      | inr not_less ↦
+          let same : j ≡ k = omega arith in
+          let at : slice_get xs k ≡ Some p = ap (λ (i : ℕ). slice_get xs i) (sym same) ∙ e in
+          let eq : x ≡ p = some_is x p (sym (got xs k x lt is) ∙ at) in
+          subst (λ (q : X). P q j) eq (subst (λ (i : ℕ). P x i) (sym same) here)
+    ]
+  where
+    some_is : {A : Type 0} (a b : A) → Some a ≡ Some b → a ≡ b
+    some_is a b e = cc
+
+    cases_lt : (i n : ℕ) → (i < n) ⊎ (n ≤ i)
+    cases_lt i n = grind arith
+
+pub whole_files : (n sides files : ℕ) → n % sides ≡ 0 → n / sides ≡ files → n ≡ files * sides
+whole_files n sides files none is =
+    let e : n / sides * sides + n % sides ≡ n = div-add-mod' n sides in
+    let f : n / sides * sides ≡ files * sides = ap (λ (x : ℕ). x * sides) is in
+    omega (arith, e, f, none)

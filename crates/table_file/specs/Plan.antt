@@ -1,0 +1,129 @@
+-- What a plan of a table file says (Syzygy table format).
+use Rattle.std.specs.Prelude.{◌≡◌, ℕ, ◌+◌, ◌-◌, ◌*◌, ◌/◌, ◌%◌, ◌^◌, ◌<◌, ◌≤◌, ◌↔◌, Bool, true, false, List, [], ◌∷◌, length, map, take, slice_get, Option, Some, None, IsSome, ◌&&◌}
+use Rattle.std.specs.List.{flat_map, All}
+use Rattle.pair_dict.specs.Symbols.{values_of}
+use Rattle.place_index.specs.Shape.{Layout, layout, size_of, both_have_pawns, HasGoodPieces, HasGoodOrder}
+use Rattle.table_file.specs.Files.{files_of, sides_of}
+use Rattle.table_file.specs.declared.plan.MapsPlan.{MapsPlan}
+use Rattle.table_file.specs.declared.kind.Kind.{Kind}
+use Rattle.table_file.specs.declared.kind.Kind.TheVariants.{Wdl, Dtz}
+use Rattle.table_file.specs.declared.plan.PartPlan.{PartPlan}
+use Rattle.table_file.specs.declared.plan.PairsPlan.{PairsPlan}
+use Rattle.table_file.specs.declared.plan.Content.{Content}
+use Rattle.table_file.specs.declared.plan.Content.TheVariants.{Single, Pairs}
+use Rattle.table_file.specs.Reading.{has_bit}
+use Rattle.table_file.specs.Maps.{ValueMaps}
+use Rattle.table_file.specs.Expansion.{Expansion, everywhere, listed}
+
+-- ---- values
+
+-- the symbols' bytes, three each
+abbrev pub symbol_bytes : PairsPlan → List ℕ
+symbol_bytes q = flat_map (λ s. s) q.symbols.items
+
+-- the values of a block's symbols, one after the other
+unfoldable pub symbols_values : List ℕ → List ℕ → List ℕ
+symbols_values symbols block = flat_map (values_of symbols) block
+
+-- the values of the first so many blocks
+unfoldable pub first_values : PairsPlan → ℕ → List ℕ
+first_values q n = flat_map (λ block. symbols_values (symbol_bytes q) block.items) (take n q.blocks.items)
+
+-- the values of so many indices: those of all blocks, one after the other, the last ones cut
+unfoldable pub plan_values : PairsPlan → ℕ → List ℕ
+plan_values q size = take size (flat_map (λ block. symbols_values (symbol_bytes q) block.items) q.blocks.items)
+
+-- the expanded table of so many indices
+abbrev pub planned_expansion : Content → ℕ → Expansion
+planned_expansion (Single v) size = everywhere v
+planned_expansion (Pairs q) size = listed (map (λ v. Some v) (plan_values q size))
+
+-- There is a value for each index.
+abbrev pub HasEnough : Content → ℕ → Type 0
+HasEnough (Single v) size = Unit {0}
+HasEnough (Pairs q) size = length (plan_values q size) ≡ size
+
+-- ---- shapes
+
+-- the second nibble is 0 where there is none
+abbrev pub second_nibble : Option ℕ → ℕ
+second_nibble None = 0
+second_nibble (Some second) = second
+
+abbrev pub planned_shape : ℕ → PartPlan → ℕ → Layout
+planned_shape material p file = layout material p.pieces.items p.order (second_nibble p.second) file
+
+-- ---- maps
+
+-- the entries of a map as bytes: two for each, the low one first, where maps are wide
+abbrev pub map_bytes : Bool → List ℕ → List ℕ
+map_bytes true entries = flat_map (λ e. e % 256 ∷ e / 256 ∷ []) entries
+map_bytes false entries = entries
+
+abbrev pub is_wide : PartPlan → Bool
+is_wide p = has_bit 2 p.flags && has_bit 16 p.flags
+
+abbrev pub planned_maps_of : PartPlan → ValueMaps
+planned_maps_of p = record {
+  wide = is_wide p;
+  win = map_bytes (is_wide p) p.maps.win.items;
+  loss = map_bytes (is_wide p) p.maps.loss.items;
+  cursed_win = map_bytes (is_wide p) p.maps.cursed_win.items;
+  blessed_loss = map_bytes (is_wide p) p.maps.blessed_loss.items;
+}
+
+-- A WDL file has no maps.
+abbrev pub planned_maps : Kind → List PartPlan → List ValueMaps
+planned_maps Wdl parts = []
+planned_maps Dtz parts = map planned_maps_of parts
+
+-- ---- good plans
+
+-- how many values a block's symbols stand for
+abbrev pub count_of : List ℕ → List ℕ → ℕ
+count_of symbols block = length (symbols_values symbols block)
+
+-- Each block has 1 to 65536 values. Those before each block are below the size, and those of all blocks aren't.
+pub record AreGoodBlocks (q : PairsPlan) (size : ℕ) : Type 0 where
+  pub some : All (λ block. 1 ≤ count_of (symbol_bytes q) block.items) q.blocks.items
+  pub few : All (λ block. count_of (symbol_bytes q) block.items ≤ 65536) q.blocks.items
+  pub needed : (n : ℕ) → n < length q.blocks.items → length (first_values q n) < size
+  pub enough : size ≤ length (first_values q (length q.blocks.items))
+
+-- where the last sparse entry's value stands: in the middle of the last span that is begun
+abbrev pub last_point : ℕ → ℕ → ℕ
+last_point span size = (size - 1) / span * span + span / 2
+
+pub record AreGoodPairs (q : PairsPlan) (size : ℕ) : Type 0 where
+  pub block : q.block_exponent ≤ 24
+  pub span_some : 1 ≤ q.span_exponent
+  pub span_wide : q.span_exponent ≤ 31
+  pub lowest : q.least + length q.lowest.items ≡ q.greatest + 1
+  pub blocks : AreGoodBlocks q size
+  pub padding : last_point (2 ^ q.span_exponent) size < size + 65536 * 255
+
+-- The single flag tells of a single value, which a byte holds.
+abbrev pub IsGoodContent : Content → ℕ → ℕ → Type 0
+IsGoodContent (Single v) flags size = (has_bit 128 flags ≡ true) × (v < 256)
+IsGoodContent (Pairs q) flags size = (has_bit 128 flags ≡ false) × AreGoodPairs q size
+
+abbrev pub HasNoMaps : MapsPlan → Type 0
+HasNoMaps m = (m.win.items ≡ []) × (m.loss.items ≡ []) × (m.cursed_win.items ≡ []) × (m.blessed_loss.items ≡ [])
+
+-- whether a file tells value maps of a part
+abbrev pub has_maps : Kind → PartPlan → Bool
+has_maps Wdl p = false
+has_maps Dtz p = has_bit 2 p.flags
+
+-- Pieces and orders make a shape, and there are maps only where a DTZ file's flags tell of them.
+pub record IsGoodPart (kind : Kind) (material : ℕ) (p : PartPlan) (file : ℕ) : Type 0 where
+  pub second : IsSome p.second ↔ (both_have_pawns material ≡ true)
+  pub pieces : HasGoodPieces material p.pieces.items
+  pub orders : HasGoodOrder (planned_shape material p file)
+  pub content : IsGoodContent p.content p.flags (size_of (planned_shape material p file))
+  pub maps : has_maps kind p ≡ false → HasNoMaps p.maps
+
+-- as many parts as the material has, each a good one
+pub record IsGoodPlan (kind : Kind) (material : ℕ) (parts : List PartPlan) : Type 0 where
+  pub count : length parts ≡ files_of material * sides_of kind material
+  pub each : (k : ℕ) (p : PartPlan) → slice_get parts k ≡ Some p → IsGoodPart kind material p (k / sides_of kind material)

@@ -1,0 +1,98 @@
+-- What a table file says, and the first fault in the order of its parts (Syzygy table format).
+use Rattle.std.specs.Prelude.{◌≡◌, ℕ, ◌+◌, ◌*◌, ◌%◌, ◌<◌, List, [], slice_get, slice_index_or, Option, Some, None, Result, Ok, Err, if◌then◌else◌}
+use Rattle.std.specs.List.{range_with_len}
+use Rattle.place_index.specs.Material.{white_pawns, black_pawns}
+use Rattle.place_index.specs.Shape.{Layout}
+use Rattle.table_file.specs.declared.fault.TableFault.{TableFault}
+use Rattle.table_file.specs.declared.fault.TableFault.TheVariants.{BadSparse}
+use Rattle.table_file.specs.declared.kind.Kind.{Kind}
+use Rattle.table_file.specs.declared.parts.Part.{Part}
+use Rattle.table_file.specs.declared.parts.Section.TheVariants.{Entries, Lengths, Blocks}
+use Rattle.table_file.specs.Reading.{◌>>=◌, each_at, risen}
+use Rattle.table_file.specs.Names.{title_of}
+use Rattle.table_file.specs.Files.{sides_of, files_of, body_of, magic_at, flags_at, setup_at, part_at, section_at}
+use Rattle.table_file.specs.Maps.{ValueMaps, all_maps_at}
+use Rattle.table_file.specs.Sparse.{all_fit}
+
+-- What a file says. Part k is of file k / sides and of side k % sides, and so are its sparse entries, its block lengths and
+-- its blocks; these are bytes, and a part of a single value has none. Maps are there in DTZ files alone, four for each part.
+pub record Contents : Type 0 where
+  pub kind : Kind
+  pub material : ℕ
+  pub parts : List Part
+  pub maps : List ValueMaps
+  pub entries : List (List ℕ)
+  pub lengths : List (List ℕ)
+  pub blocks : List (List ℕ)
+
+-- name, size, magic and flags: the kind, the material, and what is left to read
+unfoldable pub head_at : List ℕ → List ℕ → Result ((Kind × ℕ) × List ℕ) TableFault
+head_at name file = do
+  title ← title_of name
+  body ← body_of file
+  magic ← magic_at title.0 body
+  flags ← flags_at title.0 title.1 magic
+  Ok (title, flags)
+
+-- the sections behind the maps, and the check of the sparse entries
+unfoldable pub sections_at : Kind → ℕ → List Part → List ValueMaps → List ℕ → Result Contents TableFault
+sections_at kind material parts maps bytes = do
+  entries ← each_at (section_at Entries) parts bytes
+  lengths ← each_at (section_at Lengths) parts entries.1
+  blocks ← each_at (section_at Blocks) parts lengths.1
+  if all_fit parts entries.0 lengths.0
+      then Ok (record { kind = kind; material = material; parts = parts; maps = maps; entries = entries.0; lengths = lengths.0; blocks = blocks.0 })
+      else Err BadSparse
+
+-- how many parts a file has
+abbrev pub part_count : Kind → ℕ → ℕ
+part_count kind material = files_of material * sides_of kind material
+
+-- shapes, size records and value maps, and then the sections
+unfoldable pub parts_at : Kind → ℕ → List ℕ → Result Contents TableFault
+parts_at kind material bytes = do
+  shapes ← each_at (setup_at material (sides_of kind material)) (range_with_len 0 (part_count kind material)) bytes
+  parts ← each_at (part_at kind) shapes.0 (risen 2 shapes.1)
+  maps ← all_maps_at kind parts.0 parts.1
+  sections_at kind material parts.0 maps.0 maps.1
+
+-- the whole file of that name
+unfoldable pub table_at : List ℕ → List ℕ → Result Contents TableFault
+table_at name file = do
+  head ← head_at name file
+  parts_at head.0.0 head.0.1 head.1
+
+-- ---- parts by side and file
+
+-- a file of the leading pawn, 0 to 3, and 0 where there are no pawns
+abbrev pub IsFile : ℕ → ℕ → Type 0
+IsFile material file = (file < 4) × (white_pawns material + black_pawns material ≡ 0 → file ≡ 0)
+
+-- the place of a part; a table of one side doesn't look at the side
+abbrev pub place_of : Contents → ℕ → ℕ → ℕ
+place_of t side file = file * sides_of t.kind t.material + side % sides_of t.kind t.material
+
+abbrev pub part_of : Contents → ℕ → ℕ → Option Part
+part_of t side file = slice_get t.parts (place_of t side file)
+
+abbrev pub lengths_of : Contents → ℕ → ℕ → List ℕ
+lengths_of t side file = slice_index_or t.lengths (place_of t side file) []
+
+abbrev pub blocks_of : Contents → ℕ → ℕ → List ℕ
+blocks_of t side file = slice_index_or t.blocks (place_of t side file) []
+
+abbrev pub shape_in : Option Part → Option Layout
+shape_in None = None
+shape_in (Some p) = Some p.shape
+
+-- the shape for a side and a file
+abbrev pub shape_of : Contents → ℕ → ℕ → Option Layout
+shape_of t side file = shape_in (part_of t side file)
+
+abbrev pub flags_in : Option Part → Option ℕ
+flags_in None = None
+flags_in (Some p) = Some p.size_record.flags
+
+-- the flags of the size record for a side and a file
+abbrev pub flags_of : Contents → ℕ → ℕ → Option ℕ
+flags_of t side file = flags_in (part_of t side file)

@@ -1,0 +1,124 @@
+//! Writing table files from plans.
+
+ghost use Rattle.std.specs.Prelude.{◌≡◌, ◌≢◌, ◌++◌, IfOk, IfErr, OnOk, IsErrOf, IsTrue, List, ℕ};
+ghost use Rattle.std.specs.Io.KnownBytes.{Appends};
+ghost use Rattle.table_file.specs.declared.forging.ForgeFault.TheVariants.{OutOfMemory};
+ghost use Rattle.table_file.specs.Names.{ending, file_name};
+ghost use Rattle.table_file.specs.Plan.{IsGoodPlan};
+ghost use Rattle.table_file.specs.Forged.{OpensAs};
+
+use crate::fault::TableFault;
+use crate::kind::Kind;
+use crate::plan::Plan;
+use crate::table::open;
+use place_index::{Material, tables_are_numbered};
+use std::alloc::{AllocError, AllocFailed, Global};
+use std::io::Write;
+
+mod blocks;
+mod codes;
+mod compared;
+mod layout;
+mod values;
+
+use compared::shows;
+use layout::laid_out;
+
+/// Why a table file wasn't written.
+#[derive(Clone, Copy, Debug, PartialEq, Eq)]
+pub enum ForgeFault {
+    /// No table file says what the plan says.
+    BadPlan,
+    /// The writer failed. Some bytes of the file may be out.
+    Io,
+    /// Memory was refused.
+    OutOfMemory,
+}
+
+impl From<AllocError> for ForgeFault {
+    ghost from_gives = { λ _ e. e ≡ OutOfMemory };
+
+    fn from(_e: AllocError) -> ForgeFault {
+        ForgeFault::OutOfMemory
+    }
+}
+
+impl<T: Drop> From<AllocFailed<T>> for ForgeFault {
+    ghost from_gives = { λ _ e. e ≡ OutOfMemory };
+
+    fn from(_e: AllocFailed<T>) -> ForgeFault {
+        ForgeFault::OutOfMemory
+    }
+}
+
+/// How the file names of a kind of table end.
+fn ending(kind: Kind) -> [u8; 5]
+    ensures { result ≡ ending kind }
+{
+    match kind {
+        Kind::Wdl => *b".rtbw",
+        Kind::Dtz => *b".rtbz",
+    }
+}
+
+/// The name of the file of a kind for a material.
+#[tactic(auto, unfolding(crate::specs::Names::file_name))]
+fn file_name(alloc: Global, kind: Kind, material: &Material) -> Result<Vec<u8>, AllocError>
+    ensures { IfOk result (λ v. v.items ≡ file_name kind material.now) }
+{
+    let mut name = Vec::new(alloc);
+    name.extend_from_slice(material.name().as_str().as_bytes())?;
+    name.extend_from_slice(&ending(kind))?;
+    Ok(name)
+}
+
+/// Whether the bytes of a file open and say what a plan says.
+fn is_right(alloc: Global, plan: &Plan, file: &[u8]) -> Result<bool, ForgeFault>
+    ensures is { IfOk result (λ b. IsTrue b → OpensAs plan.now file.now) }
+    ensures fault { IfErr result (λ e. e ≢ ForgeFault.Io) }
+{
+    let name = file_name(alloc, plan.kind, &plan.material)?;
+    match open(alloc, &name, file) {
+        Ok(table) => shows(alloc, plan, &table),
+        Err(TableFault::OutOfMemory) => Err(ForgeFault::OutOfMemory),
+        Err(_) => Ok(false),
+    }
+}
+
+/// The bytes of the file that a plan describes.
+fn forged(alloc: Global, plan: &Plan) -> Result<Vec<u8>, ForgeFault>
+    ensures good { OnOk result (IsGoodPlan plan.now.kind plan.now.material plan.now.parts.items) }
+    ensures is { IfOk result (λ file. OpensAs plan.now file.items) }
+    ensures fault { IfErr result (λ e. e ≢ ForgeFault.Io) }
+{
+    let file = match laid_out(alloc, plan) {
+        Ok(file) => file,
+        Err(fault) => return Err(fault),
+    };
+    match is_right(alloc, plan, &file) {
+        Ok(true) => Ok(file),
+        Ok(false) => Err(ForgeFault::BadPlan),
+        Err(fault) => Err(fault),
+    }
+}
+
+/// Writes the table file that a plan describes (Syzygy table format). Fill and checksum are zero.
+///
+/// The file is made in memory, opened and compared with the plan before the first byte is written. `BadPlan` comes where no
+/// file says what the plan says, and `OutOfMemory` where memory is refused; both leave the writer as it was. `Io` comes only
+/// where the writer failed, and some bytes may be out then.
+pub fn forge<W: Write>(alloc: Global, plan: &Plan, out: &mut W) -> Result<(), ForgeFault>
+    ensures ok { OnOk result ((file : List ℕ) × Appends (W.contents out.old) (W.contents out.new) file × OpensAs plan.now file) }
+    ensures good { OnOk result (IsGoodPlan plan.now.kind plan.now.material plan.now.parts.items) }
+    ensures io { IsErrOf result ForgeFault.Io → (file : List ℕ) × OpensAs plan.now file }
+    ensures untouched { IfErr result (λ e. e ≢ ForgeFault.Io → out.new ≡ out.old) }
+{
+    let file = match forged(alloc, plan) {
+        Ok(file) => file,
+        Err(fault) => return Err(fault),
+    };
+    match out.write_all(&file) {
+        Ok(()) => Ok(()),
+        Err(_) => Err(ForgeFault::Io),
+    }
+}

@@ -1,0 +1,213 @@
+//! Whether an opened file says what a plan says.
+
+ghost use Rattle.std.specs.Prelude.{◌≡◌, ◌≢◌, ◌<◌, IfOk, IfErr, IsTrue, length, map, Some};
+ghost use Rattle.table_file.specs.Checked.{IsChecked};
+ghost use Rattle.table_file.specs.Expansion.{expanded, listed};
+ghost use Rattle.table_file.specs.Plan.{planned_shape, planned_expansion, planned_maps, planned_maps_of, map_bytes, HasEnough};
+ghost use Rattle.table_file.specs.Tables.{IsFile};
+ghost use Rattle.table_file.specs.Forged.{IsPartOf, ArePartsOf, Shows};
+
+use super::ForgeFault;
+use super::values::{map_bytes, plan_values};
+use crate::codes::Codes;
+use crate::kind::Kind;
+use crate::maps::Maps;
+use crate::material::{indices, sides};
+use crate::plan::{Content, PartPlan, Plan};
+use crate::size_record::Coding;
+use crate::spots::{View, size_at, values_in};
+use crate::table::Table;
+use place_index::{Material, Shape};
+use std::alloc::Global;
+
+/// Whether a shape is that of a planned part.
+fn has_shape(material: &Material, part: &PartPlan, file: u8, shape: &Shape) -> bool
+    ensures { IsTrue result → shape.now ≡ planned_shape material.now part.now file }
+{
+    shape.material().key() == material.key()
+        && shape.pieces() == part.pieces.as_slice()
+        && shape.order() == part.order
+        && shape.second() == part.second.unwrap_or(0)
+        && shape.file() == file
+}
+
+/// Whether the blocks of a part, one after the other, hold these values and no others.
+fn are_values(
+    alloc: Global,
+    view: View<'_, '_>,
+    codes: &Codes<'_>,
+    values: &[u16],
+) -> Result<bool, ForgeFault>
+    requires checked { IsChecked view }
+    requires coded { view.coding.now ≡ Coding.Pairs codes.now }
+    ensures is { IfOk result (λ b. IsTrue b → expanded view.entry.coding.now view.entry.lengths.now view.entry.blocks.now ≡ listed (map (λ v. Some v) values.now)) }
+    ensures fault { IfErr result (λ e. e ≢ ForgeFault.Io) }
+{
+    let mut rest = values;
+    for block in 0..codes.blocks() {
+        let held = values_in(alloc, view, block)?;
+        if held.len() != size_at(view.lengths, block) {
+            return Ok(false);
+        }
+        let Some(after) = rest.strip_prefix(&held) else {
+            return Ok(false);
+        };
+        rest = after;
+    }
+    Ok(rest.is_empty())
+}
+
+/// Whether a part of so many indices holds what is planned.
+fn has_values(
+    alloc: Global,
+    view: View<'_, '_>,
+    size: u64,
+    content: &Content,
+) -> Result<bool, ForgeFault>
+    requires { IsChecked view }
+    ensures enough { IfOk result (λ b. IsTrue b → HasEnough content.now size) }
+    ensures values { IfOk result (λ b. IsTrue b → expanded view.entry.coding.now view.entry.lengths.now view.entry.blocks.now ≡ planned_expansion content.now size) }
+    ensures fault { IfErr result (λ e. e ≢ ForgeFault.Io) }
+{
+    match (view.coding, content) {
+        (Coding::Single(value), Content::Single(planned)) => Ok(value == planned),
+        (Coding::Pairs(codes), Content::Pairs(pairs)) => {
+            let values = match plan_values(alloc, pairs, size as usize) {
+                Ok(values) => values,
+                Err(fault) => return Err(fault),
+            };
+            if values.len() as u64 != size {
+                return Ok(false);
+            }
+            are_values(alloc, view, codes, &values)
+        }
+        _ => Ok(false),
+    }
+}
+
+/// Whether the part of a side and a file is as planned.
+fn is_part(
+    alloc: Global,
+    material: &Material,
+    part: &PartPlan,
+    table: &Table<'_>,
+    side: u8,
+    file: u8,
+) -> Result<bool, ForgeFault>
+    requires side { side < 2 }
+    requires file { IsFile table.now.material file }
+    ensures is { IfOk result (λ b. IsTrue b → IsPartOf material.now table.now side file part.now) }
+    ensures fault { IfErr result (λ e. e ≢ ForgeFault.Io) }
+{
+    if table.flags(side, file) != part.flags {
+        return Ok(false);
+    }
+    let shape = table.shape(side, file);
+    if !has_shape(material, part, file, shape) {
+        return Ok(false);
+    }
+    has_values(alloc, table.view(side, file), indices(shape), &part.content)
+}
+
+/// Whether a map has the planned entries.
+fn has_map(alloc: Global, wide: bool, entries: &[u16], bytes: &[u8]) -> Result<bool, ForgeFault>
+    ensures is { IfOk result (λ b. IsTrue b → bytes.now ≡ map_bytes wide entries.now) }
+    ensures fault { IfErr result (λ e. e ≢ ForgeFault.Io) }
+{
+    match map_bytes(alloc, wide, entries) {
+        Ok(wanted) => Ok(bytes == wanted.as_slice()),
+        Err(fault) => Err(fault),
+    }
+}
+
+/// Whether value maps are as planned.
+fn are_maps(alloc: Global, part: &PartPlan, maps: &Maps<'_>) -> Result<bool, ForgeFault>
+    ensures is { IfOk result (λ b. IsTrue b → maps.now ≡ planned_maps_of part.now) }
+    ensures fault { IfErr result (λ e. e ≢ ForgeFault.Io) }
+{
+    let wide = part.is_wide();
+    let win = match has_map(alloc, wide, &part.maps.win, maps.win()) {
+        Ok(win) => win,
+        Err(fault) => return Err(fault),
+    };
+    let loss = match has_map(alloc, wide, &part.maps.loss, maps.loss()) {
+        Ok(loss) => loss,
+        Err(fault) => return Err(fault),
+    };
+    let cursed = match has_map(alloc, wide, &part.maps.cursed_win, maps.cursed_win()) {
+        Ok(cursed) => cursed,
+        Err(fault) => return Err(fault),
+    };
+    let blessed = match has_map(alloc, wide, &part.maps.blessed_loss, maps.blessed_loss()) {
+        Ok(blessed) => blessed,
+        Err(fault) => return Err(fault),
+    };
+    Ok(maps.is_wide() == wide && win && loss && cursed && blessed)
+}
+
+/// Whether all value maps are as planned.
+fn are_all_maps(alloc: Global, plan: &Plan, maps: &[Maps<'_>]) -> Result<bool, ForgeFault>
+    ensures is { IfOk result (λ b. IsTrue b → maps.now ≡ planned_maps plan.now.kind plan.now.parts.items) }
+    ensures fault { IfErr result (λ e. e ≢ ForgeFault.Io) }
+{
+    match plan.kind {
+        Kind::Wdl => Ok(maps.is_empty()),
+        Kind::Dtz => are_each_maps(alloc, &plan.parts, maps),
+    }
+}
+
+/// Whether the value maps of each part are as planned.
+fn are_each_maps(alloc: Global, parts: &[PartPlan], maps: &[Maps<'_>]) -> Result<bool, ForgeFault>
+    ensures is { IfOk result (λ b. IsTrue b → maps.now ≡ map planned_maps_of parts.now) }
+    ensures fault { IfErr result (λ e. e ≢ ForgeFault.Io) }
+{
+    if maps.len() != parts.len() {
+        return Ok(false);
+    }
+    for i in 0..parts.len() {
+        match are_maps(alloc, &parts[i], &maps[i]) {
+            Ok(true) => {}
+            Ok(false) => return Ok(false),
+            Err(fault) => return Err(fault),
+        }
+    }
+    Ok(true)
+}
+
+/// Whether all parts are as planned.
+fn are_parts(alloc: Global, plan: &Plan, table: &Table<'_>) -> Result<bool, ForgeFault>
+    requires { length table.now.parts ≡ length plan.now.parts.items }
+    ensures is { IfOk result (λ b. IsTrue b → ArePartsOf plan.now.material table.now plan.now.parts.items) }
+    ensures fault { IfErr result (λ e. e ≢ ForgeFault.Io) }
+{
+    let _ = table.part_count();
+    let sides = sides(table.kind(), table.material());
+    for k in 0..plan.parts.len() {
+        let side = (k % sides) as u8;
+        let file = (k / sides) as u8;
+        match is_part(alloc, &plan.material, &plan.parts[k], table, side, file) {
+            Ok(true) => {}
+            Ok(false) => return Ok(false),
+            Err(fault) => return Err(fault),
+        }
+    }
+    Ok(true)
+}
+
+/// Whether an opened file says what a plan says.
+pub(super) fn shows(alloc: Global, plan: &Plan, table: &Table<'_>) -> Result<bool, ForgeFault>
+    ensures is { IfOk result (λ b. IsTrue b → Shows plan.now table.now) }
+    ensures fault { IfErr result (λ e. e ≢ ForgeFault.Io) }
+{
+    if table.kind() != plan.kind
+        || table.material().key() != plan.material.key()
+        || table.part_count() != plan.parts.len()
+    {
+        return Ok(false);
+    }
+    match are_parts(alloc, plan, table) {
+        Ok(true) => are_all_maps(alloc, plan, table.maps()),
+        Ok(false) => Ok(false),
+        Err(fault) => Err(fault),
+    }
+}

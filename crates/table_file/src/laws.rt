@@ -1,0 +1,14 @@
+//! Laws that the definitions keep.
+
+ghost use Rattle.table_file.specs.Layouts.{ReadsWhatIsLaidOut};
+
+use pair_dict::reads_what_is_spelled;
+use place_index::tables_are_numbered;
+
+/// Reading gives the parts of a file exactly where the file has them by its layout.
+pub fn reads_what_is_laid_out()
+    ensures { ReadsWhatIsLaidOut }
+{
+    reads_what_is_spelled();
+    tables_are_numbered();
+}

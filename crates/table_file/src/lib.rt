@@ -1,0 +1,32 @@
+//! Syzygy table files: what a file says, checked once when it is opened, and single values and blocks read from it.
+//!
+//! A table borrows the bytes of its file, and keeps beside them what its size records say.
+#![tactic(auto)]
+
+mod codes;
+mod fault;
+#[cfg(test)]
+mod forge_tests;
+mod forging;
+mod kind;
+mod laws;
+mod maps;
+mod material;
+mod parts;
+mod plan;
+mod reading;
+mod size_record;
+mod sparse;
+mod spots;
+mod table;
+#[cfg(test)]
+mod tests;
+
+pub use fault::TableFault;
+pub use forging::{ForgeFault, forge};
+pub use kind::Kind;
+pub use laws::reads_what_is_laid_out;
+pub use pair_dict::Damaged;
+pub use plan::{Content, MapsPlan, PairsPlan, PartPlan, Plan};
+pub use spots::Spot;
+pub use table::{Table, open};

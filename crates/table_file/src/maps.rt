@@ -1,0 +1,161 @@
+//! Value maps.
+
+ghost use Rattle.std.specs.Prelude.{◌≡◌};
+ghost use Rattle.table_file.specs.Reading.{Gives, each_at};
+ghost use Rattle.table_file.specs.Maps.{map_at, four_at, maps_at, all_maps_at};
+
+use crate::fault::TableFault;
+use crate::kind::Kind;
+use crate::parts::Part;
+use crate::reading::{byte, even, has_bit, taken, word};
+use std::alloc::Global;
+use std::marker::Model;
+
+/// The four value maps of a file (Syzygy table format, value maps): what a stored value stands for.
+#[derive(Drop)]
+pub(crate) struct Maps<'a> {
+    wide: bool,
+    win: &'a [u8],
+    loss: &'a [u8],
+    cursed_win: &'a [u8],
+    blessed_loss: &'a [u8],
+}
+
+impl<'a> Model for Maps<'a> {
+    ghost use Rattle.table_file.specs.Maps.{ValueMaps};
+
+    ghost Value = { ValueMaps };
+
+    ghost view = { λ a. record { wide = a.wide; win = a.win.now; loss = a.loss.now; cursed_win = a.cursed_win.now; blessed_loss = a.blessed_loss.now } };
+}
+
+impl<'a> Maps<'a> {
+    /// Whether an entry has two bytes.
+    pub(crate) fn is_wide(&self) -> bool
+        ensures { result ≡ self.now.wide }
+    {
+        self.wide
+    }
+
+    /// The entries for wins.
+    pub(crate) fn win(&self) -> &[u8]
+        ensures { result.now ≡ self.now.win }
+    {
+        self.win
+    }
+
+    /// The entries for losses.
+    pub(crate) fn loss(&self) -> &[u8]
+        ensures { result.now ≡ self.now.loss }
+    {
+        self.loss
+    }
+
+    /// The entries for wins that the fifty-move rule makes draws.
+    pub(crate) fn cursed_win(&self) -> &[u8]
+        ensures { result.now ≡ self.now.cursed_win }
+    {
+        self.cursed_win
+    }
+
+    /// The entries for losses that the fifty-move rule makes draws.
+    pub(crate) fn blessed_loss(&self) -> &[u8]
+        ensures { result.now ≡ self.now.blessed_loss }
+    {
+        self.blessed_loss
+    }
+}
+
+/// One map: a length and that many entries.
+#[tactic(auto, unfolding(crate::specs::Maps::map_at))]
+fn map_of(wide: bool, bytes: &[u8]) -> Result<(&[u8], &[u8]), TableFault>
+    ensures { Gives (λ x. (x.0.now, x.1.now)) result (map_at wide bytes.now) }
+{
+    if wide {
+        let (n, rest) = word(bytes)?;
+        taken(2 * n as usize, rest)
+    } else {
+        let (n, rest) = byte(bytes)?;
+        taken(n as usize, rest)
+    }
+}
+
+/// Four maps.
+#[tactic(auto, unfolding(crate::specs::Maps::four_at))]
+fn four<'a>(wide: bool, bytes: &'a [u8]) -> Result<(Maps<'a>, &'a [u8]), TableFault>
+    ensures { Gives (λ x. (x.0, x.1.now)) result (four_at wide bytes.now) }
+{
+    let (win, rest) = map_of(wide, bytes)?;
+    let (loss, rest) = map_of(wide, rest)?;
+    let (cursed_win, rest) = map_of(wide, rest)?;
+    let (blessed_loss, rest) = map_of(wide, rest)?;
+    let maps = Maps {
+        wide,
+        win,
+        loss,
+        cursed_win,
+        blessed_loss,
+    };
+    Ok((maps, rest))
+}
+
+/// The maps of one file.
+#[tactic(auto, unfolding(crate::specs::Maps::maps_at))]
+fn maps_of<'a>(part: &Part<'_>, bytes: &'a [u8]) -> Result<(Maps<'a>, &'a [u8]), TableFault>
+    ensures { Gives (λ x. (x.0, x.1.now)) result (maps_at part.now bytes.now) }
+{
+    let flags = part.size_record.flags;
+    if has_bit(2, flags) {
+        if has_bit(16, flags) {
+            four(true, even(bytes))
+        } else {
+            four(false, bytes)
+        }
+    } else {
+        let maps = Maps {
+            wide: false,
+            win: &[],
+            loss: &[],
+            cursed_win: &[],
+            blessed_loss: &[],
+        };
+        Ok((maps, bytes))
+    }
+}
+
+/// The maps of each part.
+fn each_map<'a>(
+    alloc: Global,
+    parts: &[Part<'_>],
+    bytes: &'a [u8],
+) -> Result<(Vec<Maps<'a>>, &'a [u8]), TableFault>
+    ensures { Gives (λ x. (x.0.items, x.1.now)) result (each_at maps_at parts.now bytes.now) }
+{
+    let mut maps = Vec::new(alloc);
+    let mut rest = bytes;
+    for i in 0..parts.len() {
+        let (four, after) = maps_of(&parts[i], rest)?;
+        maps.push(four)?;
+        rest = after;
+    }
+    Ok((maps, rest))
+}
+
+/// The maps of all files, and what is left from the next even place on. A WDL file has none.
+#[tactic(auto, unfolding(crate::specs::Maps::all_maps_at))]
+pub(crate) fn all_maps<'a>(
+    alloc: Global,
+    kind: Kind,
+    parts: &[Part<'_>],
+    bytes: &'a [u8],
+) -> Result<(Vec<Maps<'a>>, &'a [u8]), TableFault>
+    ensures { Gives (λ x. (x.0.items, x.1.now)) result (all_maps_at kind parts.now bytes.now) }
+{
+    match kind {
+        Kind::Wdl => Ok((Vec::new(alloc), bytes)),
+        Kind::Dtz => {
+            let (maps, rest) = each_map(alloc, parts, bytes)?;
+            Ok((maps, even(rest)))
+        }
+    }
+}

@@ -1,0 +1,226 @@
+//! Where values stand among the blocks, and reading them.
+
+ghost use Rattle.std.specs.Prelude.{◌≡◌, ◌+◌, ◌-◌, ◌*◌, ◌/◌, ◌^◌, ◌<◌, ◌≤◌, ℕ, length, slice_index, take, drop, IfOk, OnErr, Some, None};
+ghost use Rattle.place_index.specs.Shape.{greatest_size};
+ghost use Rattle.table_file.specs.Figures.{block_size, span, points};
+ghost use Rattle.table_file.specs.Sparse.{are_entries, entry_block, entry_offset, sizes_of, values_before, IsSpotIn};
+ghost use Rattle.table_file.specs.Expansion.{entry_at, expanded, values_in, blocks_in, IsSpotOf, IsShort, IsPast};
+ghost use Rattle.table_file.specs.Checked.{IsChecked, AreChecked};
+
+use crate::codes::Codes;
+use crate::size_record::Coding;
+use pair_dict::Damaged;
+use std::alloc::{AllocError, Global};
+
+/// Where a value of a table stands.
+#[derive(Clone, Copy, Debug, PartialEq, Eq)]
+pub enum Spot {
+    /// The file has this one value for each index.
+    Single(u16),
+    /// In a block, at an offset from its first value, 0 to 65535.
+    At { block: u32, offset: u32 },
+}
+
+/// A block, and an offset from its first value, which may pass its last one.
+#[derive(Clone, Copy, Debug, PartialEq, Eq)]
+struct Place {
+    block: usize,
+    offset: usize,
+}
+
+/// One part of an opened file, with its sections.
+#[derive(Clone, Copy)]
+pub(crate) struct View<'t, 'a> {
+    /// How many indices the shape has.
+    pub(crate) size: u64,
+    pub(crate) coding: &'t Coding<'a>,
+    pub(crate) entries: &'t [u8],
+    pub(crate) lengths: &'t [u8],
+    pub(crate) blocks: &'t [u8],
+}
+
+/// How many values a block holds.
+pub(crate) fn size_at(lengths: &[u8], block: usize) -> usize
+    requires { block < length lengths.now / 2 }
+    ensures size { result ≡ slice_index (sizes_of lengths.now) block }
+    ensures some { 1 ≤ result }
+    ensures short { result ≤ 65536 }
+{
+    lengths[2 * block] as usize + 256 * lengths[2 * block + 1] as usize + 1
+}
+
+/// Steps on from a place over whole blocks, to the block that holds the offset, or past the real blocks.
+fn step_on(lengths: &[u8], real: usize, place: Place) -> Result<Place, Damaged>
+    requires real { real ≤ length lengths.now / 2 }
+    ensures found { IfOk result (λ s. IsSpotIn (sizes_of lengths.now) real (values_before (sizes_of lengths.now) place.block + place.offset) s.block s.offset) }
+    ensures short { IfOk result (λ s. s.offset < 65536) }
+    ensures damaged { OnErr result (values_before (sizes_of lengths.now) real ≤ values_before (sizes_of lengths.now) place.block + place.offset) }
+{
+    let mut block = place.block;
+    let mut offset = place.offset;
+    'steps: while block < real {
+        let size = size_at(lengths, block);
+        if offset < size {
+            return Ok(Place { block, offset });
+        }
+        offset -= size;
+        block += 1;
+    }
+    Err(Damaged)
+}
+
+/// Steps back from a place by a number of values, over whole blocks.
+fn step_back(lengths: &[u8], place: Place, back: usize) -> Place
+    requires block { place.block ≤ length lengths.now / 2 }
+    requires enough { back ≤ values_before (sizes_of lengths.now) place.block + place.offset }
+    requires fits { back < 2 ^ 62 }
+    ensures { values_before (sizes_of lengths.now) result.block + result.offset + back ≡ values_before (sizes_of lengths.now) place.block + place.offset }
+{
+    let mut block = place.block;
+    let mut offset = place.offset;
+    'steps: while offset < back {
+        block -= 1;
+        offset += size_at(lengths, block);
+    }
+    Place {
+        block,
+        offset: offset - back,
+    }
+}
+
+/// The block and the offset of a sparse entry.
+fn entry(entries: &[u8], k: usize) -> Place
+    requires { k < length entries.now / 6 }
+    ensures block { result.block ≡ entry_block entries.now k }
+    ensures offset { result.offset ≡ entry_offset entries.now k }
+    ensures short { result.offset < 65536 }
+{
+    let at = 6 * k;
+    Place {
+        block: entries[at] as usize
+            + 256 * entries[at + 1] as usize
+            + 65536 * entries[at + 2] as usize
+            + 16777216 * entries[at + 3] as usize,
+        offset: entries[at + 4] as usize + 256 * entries[at + 5] as usize,
+    }
+}
+
+/// The place that the sparse entry of an index names, and the index of the value there. The last entry serves all indices
+/// past it.
+fn nearest(
+    codes: &Codes<'_>,
+    size: u64,
+    entries: &[u8],
+    lengths: &[u8],
+    index: u64,
+) -> (Place, usize)
+    requires { AreChecked size codes.now entries.now lengths.now }
+    ensures block { result.0.block ≤ length lengths.now / 2 }
+    ensures place { values_before (sizes_of lengths.now) result.0.block + result.0.offset ≡ result.1 }
+    ensures short { result.0.offset < 65536 }
+    ensures fits { result.1 < 2 ^ 62 }
+{
+    let span = codes.span() as usize;
+    let k = (index as usize / span).min(codes.points(size) - 1);
+    (entry(entries, k), k * span + span / 2)
+}
+
+/// The real block and the offset in it where the value of an index stands.
+fn place_of(
+    codes: &Codes<'_>,
+    size: u64,
+    entries: &[u8],
+    lengths: &[u8],
+    index: u64,
+) -> Result<Place, Damaged>
+    requires { AreChecked size codes.now entries.now lengths.now }
+    ensures found { IfOk result (λ s. IsSpotIn (sizes_of lengths.now) codes.now.blocks index s.block s.offset) }
+    ensures fits { IfOk result (λ s. (s.block < 2 ^ 32) × (s.offset < 65536)) }
+    ensures damaged { OnErr result (values_before (sizes_of lengths.now) codes.now.blocks ≤ index) }
+{
+    let real = codes.blocks();
+    let (place, middle) = nearest(codes, size, entries, lengths, index);
+    let index = index as usize;
+    if middle <= index {
+        let place = Place {
+            block: place.block,
+            offset: place.offset + (index - middle),
+        };
+        step_on(lengths, real, place)
+    } else {
+        let place = step_back(lengths, place, middle - index);
+        step_on(lengths, real, place)
+    }
+}
+
+/// The bytes of a block.
+fn block_of<'a>(codes: &Codes<'_>, blocks: &'a [u8], block: usize) -> &'a [u8]
+    requires known { block < codes.now.blocks }
+    requires length { length blocks.now ≡ codes.now.blocks * block_size codes.now }
+    ensures { result.now ≡ take (block_size codes.now) (drop (block * block_size codes.now) blocks.now) }
+{
+    let size = codes.block_size();
+    let at = block * size;
+    let (_, rest) = blocks.split_at(at);
+    let (front, _) = rest.split_at(size);
+    front
+}
+
+/// Where the value of an index stands.
+pub(crate) fn spot_in(view: View<'_, '_>, index: u64) -> Result<Spot, Damaged>
+    requires { IsChecked view }
+    ensures found { IfOk result (λ s. IsSpotOf view.entry.coding.now view.entry.lengths.now index s) }
+    ensures fits { IfOk result IsShort }
+    ensures damaged { OnErr result (IsPast (expanded view.entry.coding.now view.entry.lengths.now view.entry.blocks.now) index) }
+{
+    match view.coding {
+        Coding::Single(value) => Ok(Spot::Single(*value)),
+        Coding::Pairs(codes) => {
+            let Ok(place) = place_of(codes, view.size, view.entries, view.lengths, index) else {
+                return Err(Damaged);
+            };
+            Ok(Spot::At {
+                block: place.block as u32,
+                offset: place.offset as u32,
+            })
+        }
+    }
+}
+
+/// The value of an index.
+pub(crate) fn value_in(view: View<'_, '_>, index: u64) -> Result<u16, Damaged>
+    requires { IsChecked view }
+    ensures found { IfOk result (λ v. entry_at (expanded view.entry.coding.now view.entry.lengths.now view.entry.blocks.now) index ≡ Some v) }
+    ensures damaged { OnErr result (entry_at (expanded view.entry.coding.now view.entry.lengths.now view.entry.blocks.now) index ≡ None) }
+{
+    match view.coding {
+        Coding::Single(value) => Ok(*value),
+        Coding::Pairs(codes) => {
+            let Ok(place) = place_of(codes, view.size, view.entries, view.lengths, index) else {
+                return Err(Damaged);
+            };
+            let block = block_of(codes, view.blocks, place.block);
+            codes.dictionary().value(block, place.offset as u32)
+        }
+    }
+}
+
+/// The values of a block, cut by its length.
+pub(crate) fn values_in(
+    alloc: Global,
+    view: View<'_, '_>,
+    block: usize,
+) -> Result<Vec<u16>, AllocError>
+    requires checked { IsChecked view }
+    requires real { block < blocks_in view.coding.now }
+    ensures { IfOk result (λ values. values.items ≡ values_in view.entry.coding.now view.entry.lengths.now view.entry.blocks.now block) }
+{
+    match view.coding {
+        Coding::Single(_) => unreachable!(),
+        Coding::Pairs(codes) => {
+            let size = size_at(view.lengths, block);
+            let block = block_of(codes, view.blocks, block);
+            codes.dictionary().decode(alloc, block, size as u32)
+        }
+    }
+}

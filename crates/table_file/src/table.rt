@@ -1,0 +1,297 @@
+//! Opened table files.
+
+ghost use Rattle.std.specs.Prelude.{◌≡◌, ◌≢◌, ◌<◌, length, slice_get, Some, None, IsTrue, IsOk, IfOk, IfErr, OnErr, ◌↔◌};
+ghost use Rattle.table_file.specs.declared.fault.TableFault.TheVariants.{OutOfMemory};
+ghost use Rattle.table_file.specs.declared.kind.Kind.TheVariants.{Dtz};
+ghost use Rattle.table_file.specs.declared.parts.Section.TheVariants.{Entries, Lengths};
+ghost use Rattle.table_file.specs.Files.{indices};
+ghost use Rattle.table_file.specs.Reading.{Gives};
+ghost use Rattle.table_file.specs.Sparse.{all_fit};
+ghost use Rattle.table_file.specs.Sections.{AreSized};
+ghost use Rattle.table_file.specs.Checked.{IsChecked, IsViewOf};
+ghost use Rattle.table_file.specs.Tables.{Contents, head_at, sections_at, parts_at, table_at, part_count, place_of, part_of, lengths_of, blocks_of, shape_of, flags_of, IsFile};
+ghost use Rattle.table_file.specs.Layouts.{IsLayout};
+ghost use Rattle.table_file.specs.Expansion.{expansion, entry_at, real_blocks, values_of, IsSpot, IsRealSpot, IsPast};
+
+use crate::fault::TableFault;
+use crate::kind::{Kind, title};
+use crate::laws::reads_what_is_laid_out;
+use crate::maps::{Maps, all_maps};
+use crate::material::{files, indices, sides};
+use crate::parts::{Part, Section, body, flags, magic, parts, sections, setups};
+use crate::reading::{Run, even};
+use crate::sparse::fits_in;
+use crate::spots::{Spot, View, spot_in, value_in, values_in};
+use pair_dict::Damaged;
+use place_index::{Material, Shape};
+use std::alloc::{AllocError, Global};
+use std::marker::Model;
+
+/// A table file that was opened: its parts are there and in order, and its sparse entries name the values that they are to
+/// name. It borrows the file's bytes.
+///
+/// Side 0 is the first side of the name to move, side 1 the second; files are 0 to 3 for the leading pawn on a or h to d or
+/// e, and 0 where there are no pawns.
+#[derive(Drop)]
+pub struct Table<'a> {
+    kind: Kind,
+    material: Material,
+    parts: Vec<Part<'a>>,
+    maps: Vec<Maps<'a>>,
+    entries: Vec<Run<'a>>,
+    lengths: Vec<Run<'a>>,
+    blocks: Vec<Run<'a>>,
+}
+
+impl<'a> Model for Table<'a> {
+    ghost use Rattle.table_file.specs.Tables.{Contents};
+
+    ghost Value = { Contents };
+
+    ghost use Rattle.table_file.specs.Opened.{contents_of, IsOpened};
+
+    ghost view = { contents_of };
+
+    ghost invariant = { IsOpened };
+}
+
+/// Whether the sparse entries of all parts name the values in the middle of their spans.
+fn all_fit(
+    alloc: Global,
+    parts: &[Part<'_>],
+    entries: &[Run<'_>],
+    lengths: &[Run<'_>],
+) -> Result<bool, AllocError>
+    requires entries { AreSized Entries parts.now entries.now }
+    requires lengths { AreSized Lengths parts.now lengths.now }
+    ensures { IfOk result (λ b. b ≡ all_fit parts.now entries.now lengths.now) }
+{
+    for i in 0..parts.len() {
+        let part = &parts[i];
+        let run = entries[i].bytes();
+        let sizes = lengths[i].bytes();
+        if !fits_in(
+            alloc,
+            indices(&part.shape),
+            &part.size_record.coding,
+            run,
+            sizes,
+        )? {
+            return Ok(false);
+        }
+    }
+    Ok(true)
+}
+
+/// Name, size, magic and flags: the kind, the material, and what is left to read.
+#[tactic(auto, unfolding(crate::specs::Tables::head_at))]
+fn head<'a>(name: &[u8], file: &'a [u8]) -> Result<((Kind, Material), &'a [u8]), TableFault>
+    ensures is { Gives (λ x. ((x.0.0, x.0.1), x.1.now)) result (head_at name.now file.now) }
+    ensures no_memory { IfErr result (λ e. e ≢ OutOfMemory) }
+{
+    let (kind, material) = title(name)?;
+    let body = body(file)?;
+    let rest = magic(kind, body)?;
+    let rest = flags(kind, &material, rest)?;
+    Ok(((kind, material), rest))
+}
+
+/// The sections behind the maps, and the check of the sparse entries.
+#[tactic(auto, unfolding(crate::specs::Tables::sections_at))]
+fn with_sections<'a>(
+    alloc: Global,
+    kind: Kind,
+    material: Material,
+    parts: Vec<Part<'a>>,
+    maps: Vec<Maps<'a>>,
+    bytes: &'a [u8],
+) -> Result<Table<'a>, TableFault>
+    requires { length parts.items ≡ part_count kind material }
+    ensures { Gives (λ x. x) result (sections_at kind material parts.entry.items maps.entry.items bytes.now) }
+{
+    let (entries, rest) = sections(alloc, Section::Entries, &parts, bytes)?;
+    let (lengths, rest) = sections(alloc, Section::Lengths, &parts, rest)?;
+    let (blocks, _) = sections(alloc, Section::Blocks, &parts, rest)?;
+    if !all_fit(alloc, &parts, &entries, &lengths)? {
+        return Err(TableFault::BadSparse);
+    }
+    Ok(Table {
+        kind,
+        material,
+        parts,
+        maps,
+        entries,
+        lengths,
+        blocks,
+    })
+}
+
+/// Shapes, size records and value maps, and then the sections.
+#[tactic(auto, unfolding(crate::specs::Tables::parts_at))]
+fn with_parts<'a>(
+    alloc: Global,
+    kind: Kind,
+    material: Material,
+    bytes: &'a [u8],
+) -> Result<Table<'a>, TableFault>
+    ensures { Gives (λ x. x) result (parts_at kind material bytes.now) }
+{
+    let sides = sides(kind, &material);
+    let n = files(&material) * sides;
+    let (shapes, rest) = setups(alloc, &material, sides, n, bytes)?;
+    let (parts, rest) = parts(alloc, kind, shapes, even(rest))?;
+    let (maps, rest) = all_maps(alloc, kind, &parts, rest)?;
+    with_sections(alloc, kind, material, parts, maps, rest)
+}
+
+/// Opens a table file by its name, `KQvK.rtbw` or the like, and its bytes (Syzygy table format).
+///
+/// Each part is looked at once, in the order of `TableFault`: name, size, magic and flags first, and then all in the file's
+/// order, and the first fault is told. `OutOfMemory`, where memory is refused, comes only when name, size, magic and flags
+/// are good. The time is linear in the length of the file.
+#[tactic(auto, unfolding(crate::specs::Tables::table_at))]
+pub fn open<'a>(alloc: Global, name: &[u8], file: &'a [u8]) -> Result<Table<'a>, TableFault>
+    ensures is { Gives (λ x. x) result (table_at name.now file.now) }
+    ensures found { IfOk result (λ t. IsLayout name.now file.now t) }
+    ensures only { IfErr result (λ e. e ≢ OutOfMemory → (t : Contents) → IsLayout name.now file.now t → ⊥) }
+    ensures memory { IfErr result (λ e. e ≡ OutOfMemory → IsOk (head_at name.now file.now)) }
+{
+    reads_what_is_laid_out();
+    match head(name, file) {
+        Ok((title, rest)) => with_parts(alloc, title.0, title.1, rest),
+        Err(fault) => Err(fault),
+    }
+}
+
+impl<'a> Table<'a> {
+    /// The men of the table. It takes no memory, as the other readers.
+    pub fn material(&self) -> &Material
+        ensures { result.now ≡ self.now.material }
+    {
+        &self.material
+    }
+
+    /// Whether the values tell distances to the next move that sets the halfmove clock to 0, and not results.
+    pub fn is_dtz(&self) -> bool
+        ensures { IsTrue result ↔ (self.now.kind ≡ Dtz) }
+    {
+        matches!(&self.kind, Kind::Dtz)
+    }
+
+    /// The number of the part for a side and a file.
+    fn place(&self, side: u8, file: u8) -> usize
+        requires side { side < 2 }
+        requires file { IsFile self.now.material file }
+        ensures is { result ≡ place_of self.now side file }
+        ensures known { result < length self.now.parts }
+    {
+        let sides = sides(self.kind, &self.material);
+        file as usize * sides + side as usize % sides
+    }
+
+    /// The shape for a side and a file. A table of one side doesn't look at the side.
+    pub fn shape(&self, side: u8, file: u8) -> &Shape
+        requires side { side < 2 }
+        requires file { IsFile self.now.material file }
+        ensures { shape_of self.now side file ≡ Some result.now }
+    {
+        let k = self.place(side, file);
+        &self.parts[k].shape
+    }
+
+    /// One part with its sections.
+    pub(crate) fn view(&self, side: u8, file: u8) -> View<'_, 'a>
+        requires side { side < 2 }
+        requires file { IsFile self.now.material file }
+        ensures checked { IsChecked result }
+        ensures part { IsViewOf self.now side file result }
+    {
+        let k = self.place(side, file);
+        let part = &self.parts[k];
+        View {
+            size: indices(&part.shape),
+            coding: &part.size_record.coding,
+            entries: self.entries[k].bytes(),
+            lengths: self.lengths[k].bytes(),
+            blocks: self.blocks[k].bytes(),
+        }
+    }
+
+    /// The value at an index: the entry of the expanded table. A table of one side doesn't look at the side. No memory is
+    /// taken, and no block is unpacked.
+    ///
+    /// `Damaged` where the expanded table has no entry there, or one that its block doesn't give.
+    pub fn value(&self, side: u8, file: u8, index: u64) -> Result<u16, Damaged>
+        requires side { side < 2 }
+        requires file { IsFile self.now.material file }
+        ensures found { IfOk result (λ v. entry_at (expansion self.now side file) index ≡ Some v) }
+        ensures damaged { OnErr result (entry_at (expansion self.now side file) index ≡ None) }
+    {
+        value_in(self.view(side, file), index)
+    }
+
+    /// Where the value at an index stands: the single value, or a real block and the offset in it. A table of one side
+    /// doesn't look at the side. No memory is taken.
+    ///
+    /// `Damaged` exactly where the index is past the expanded table.
+    pub fn locate(&self, side: u8, file: u8, index: u64) -> Result<Spot, Damaged>
+        requires side { side < 2 }
+        requires file { IsFile self.now.material file }
+        ensures found { IfOk result (λ s. IsSpot self.now side file index s) }
+        ensures real { IfOk result (λ s. IsRealSpot self.now side file s) }
+        ensures damaged { OnErr result (IsPast (expansion self.now side file) index) }
+    {
+        spot_in(self.view(side, file), index)
+    }
+
+    /// The values of a real block, as `locate` tells it: those that its codes give, at most as many as its length says and
+    /// at most 65536. The only error is that memory is refused.
+    pub fn unpack(
+        &self,
+        alloc: Global,
+        side: u8,
+        file: u8,
+        block: u32,
+    ) -> Result<Vec<u16>, AllocError>
+        requires side { side < 2 }
+        requires file { IsFile self.now.material file }
+        requires real { block < real_blocks self.now side file }
+        ensures { IfOk result (λ values. values.items ≡ values_of self.now side file block) }
+    {
+        values_in(alloc, self.view(side, file), block as usize)
+    }
+}
+
+/// What the forge compares with a plan.
+impl<'a> Table<'a> {
+    pub(crate) fn kind(&self) -> Kind
+        ensures { result ≡ self.now.kind }
+    {
+        self.kind
+    }
+
+    /// How many parts there are: of each file of the leading pawn its sides.
+    pub(crate) fn part_count(&self) -> usize
+        ensures is { result ≡ length self.now.parts }
+        ensures count { result ≡ part_count self.now.kind self.now.material }
+    {
+        self.parts.len()
+    }
+
+    /// The flags of the size record for a side and a file.
+    pub(crate) fn flags(&self, side: u8, file: u8) -> u8
+        requires side { side < 2 }
+        requires file { IsFile self.now.material file }
+        ensures { flags_of self.now side file ≡ Some result }
+    {
+        let k = self.place(side, file);
+        self.parts[k].size_record.flags
+    }
+
+    /// The value maps, of each file in a DTZ file.
+    pub(crate) fn maps(&self) -> &[Maps<'a>]
+        ensures { result.now ≡ self.now.maps }
+    {
+        &self.maps
+    }
+}
