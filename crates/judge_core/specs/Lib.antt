@@ -1,0 +1,9 @@
+pub mod Values
+pub mod LookUp
+pub mod Tables
+pub mod Kept
+pub mod Probing
+pub mod Found
+pub mod Ruling
+pub mod Answers
+pub mod Laws

@@ -1,0 +1,62 @@
+-- The tables of a set, and the value that a position's own table has.
+use Rattle.std.specs.Prelude.{ℕ, ◌+◌, Bool, ◌&&◌, ◌==◌, List, Option, Some, None, Ok, Err, slice_index_or, option_and_then, if◌then◌else◌}
+use Rattle.board_core.specs.declared.parts.Parts.{Parts}
+use Rattle.place_index.specs.Shape.{Layout}
+use Rattle.place_index.specs.Index.{index_of}
+use Rattle.place_index.specs.Placed.{Placement}
+use Rattle.table_file.specs.declared.kind.Kind.{Kind}
+use Rattle.table_file.specs.declared.kind.Kind.TheVariants.{Wdl, Dtz}
+use Rattle.table_file.specs.Tables.{Contents, shape_of}
+use Rattle.table_file.specs.Expansion.{expansion, entry_at}
+use Rattle.judge_core.specs.declared.wdl.Wdl.{Wdl as Value}
+use Rattle.judge_core.specs.declared.wdl.Wdl.TheVariants.{Draw}
+use Rattle.judge_core.specs.declared.fault.ValueFault.TheVariants.{NotCovered, Damaged}
+use Rattle.judge_core.specs.Values.{Reading, of_points}
+use Rattle.judge_core.specs.LookUp.{material_of, placed_of}
+
+-- Each of the 145 materials has a slot for its WDL table, and 145 slots on one for its DTZ table.
+abbrev pub Tables : Type 0
+Tables = List (Option Contents)
+
+abbrev pub slot : Kind → ℕ → ℕ
+slot Wdl key = key
+slot Dtz key = 145 + key
+
+-- the table of this kind for the material with this key
+abbrev pub table_at : Tables → Kind → ℕ → Option Contents
+table_at tables kind key = slice_index_or tables (slot kind key) None
+
+-- a set: its tables, and how many decoded blocks it may keep
+pub record Holding : Type 0 where
+  pub tables : Tables
+  pub cache : ℕ
+
+-- ---- table value
+
+-- the shape is one of these men and of this file, as each that a table was opened with
+abbrev pub fits : Layout → Placement → Bool
+fits shape placed = (shape.material == placed.material) && (shape.file == placed.file)
+
+abbrev pub entry_of : Option Layout → Contents → Placement → Option ℕ
+entry_of None t placed = None
+entry_of (Some shape) t placed = if fits shape placed then entry_at (expansion t placed.side placed.file) (index_of shape placed.men) else None
+
+-- the entry of the expanded table at the index of placed men, if there is one
+unfoldable pub entry_in : Contents → Placement → Option ℕ
+entry_in t placed = entry_of (shape_of t placed.side placed.file) t placed
+
+abbrev pub value_or_damaged : ℕ → Option Value → Reading
+value_or_damaged key None = Err (Damaged key)
+value_or_damaged key (Some v) = Ok v
+
+abbrev pub value_in : Option Contents → ℕ → Parts → Reading
+value_in None key p = Err (NotCovered key)
+value_in (Some t) key p = value_or_damaged key (option_and_then of_points (entry_in t (placed_of key p)))
+
+abbrev pub value_of : Tables → Option ℕ → Parts → Reading
+value_of tables None p = Ok Draw
+value_of tables (Some key) p = value_in (table_at tables Wdl key) key p
+
+-- The table value: what the position's own WDL table says, and a draw for bare kings, which have no table.
+unfoldable pub table_value : Tables → Parts → Reading
+table_value tables p = value_of tables (material_of p) p

@@ -1,0 +1,42 @@
+-- What a position is worth to the side to move (Syzygy WDL tables).
+use Rattle.std.specs.Prelude.{ℕ, zero, suc, nat_lt, Option, Some, None, Result, Ok, Err, if◌then◌else◌}
+use Rattle.judge_core.specs.declared.wdl.Wdl.{Wdl}
+use Rattle.judge_core.specs.declared.wdl.Wdl.TheVariants.{Loss, BlessedLoss, Draw, CursedWin, Win}
+use Rattle.judge_core.specs.declared.fault.ValueFault.{ValueFault}
+
+-- a value as the tables store it
+abbrev pub points : Wdl → ℕ
+points Loss = 0
+points BlessedLoss = 1
+points Draw = 2
+points CursedWin = 3
+points Win = 4
+
+-- the value that a number of a table stands for
+abbrev pub of_points : ℕ → Option Wdl
+of_points zero = Some Loss
+of_points (suc zero) = Some BlessedLoss
+of_points (suc (suc zero)) = Some Draw
+of_points (suc (suc (suc zero))) = Some CursedWin
+of_points (suc (suc (suc (suc zero)))) = Some Win
+of_points (suc (suc (suc (suc (suc n))))) = None
+
+-- the same for the other side
+abbrev pub opposite : Wdl → Wdl
+opposite Loss = Win
+opposite BlessedLoss = CursedWin
+opposite Draw = Draw
+opposite CursedWin = BlessedLoss
+opposite Win = Loss
+
+-- the greater of two
+unfoldable pub greater : Wdl → Wdl → Wdl
+greater a b = if nat_lt (points a) (points b) then b else a
+
+-- A value, or which table is missing or damaged.
+abbrev pub Reading : Type 0
+Reading = Result Wdl ValueFault
+
+abbrev pub turned : Reading → Reading
+turned (Ok v) = Ok (opposite v)
+turned (Err fault) = Err fault

@@ -1,0 +1,23 @@
+//! What a set of tables says of a position, and the verdict on it.
+//!
+//! A set finds a table by its material and its kind, and reads it at the index of the position. The value of a position is
+//! the best of its own table's and of those after its captures, since the tables may hold less where a capture does better,
+//! and know nothing of en passant (Syzygy WDL tables).
+#![tactic(auto)]
+
+mod fault;
+mod found;
+mod judging;
+pub mod laws;
+mod probing;
+mod set;
+mod verdict;
+mod wdl;
+
+pub use fault::{ProbeFault, SetFault};
+pub use set::Set;
+pub use verdict::Verdict;
+pub use wdl::Wdl;
+
+#[cfg(test)]
+mod tests;

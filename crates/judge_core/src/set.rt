@@ -1,0 +1,199 @@
+//! Sets of tables.
+
+ghost use Rattle.std.specs.Prelude.{◌≡◌, ◌↔◌, ◌<◌, ◌≤◌, IfOk, IfSome, IsSome, OnOk, OnErr, None, Some, Err, option_map, replicate, slice_set};
+ghost use Rattle.place_index.specs.Placed.{IsMaterialOf, men_on};
+ghost use Rattle.table_file.specs.Tables.{IsFile};
+ghost use Rattle.judge_core.specs.declared.fault.SetFault.TheVariants.{Duplicate};
+ghost use Rattle.judge_core.specs.LookUp.{material_of, placed_of};
+ghost use Rattle.judge_core.specs.Tables.{slot, table_at, fits, entry_in, table_value};
+
+use crate::fault::{SetFault, ValueFault};
+use crate::wdl::Wdl;
+use board_core::Position;
+use place_index::{Material, Placed, Shape, index, place};
+use std::alloc::{AllocError, Global};
+use std::marker::Model;
+use table_file::{Kind, Table};
+
+/// How many materials there are.
+const MATERIALS: usize = 145;
+
+/// Opened tables, each found by its kind and its material without a search. It borrows the bytes of their files.
+///
+/// Contracts see a list of 290 slots, the WDL tables by the keys of their materials and then the DTZ tables, and the number of
+/// decoded blocks that the set may keep.
+#[derive(Drop)]
+pub struct Set<'a> {
+    tables: Vec<Table<'a>>,
+    places: Vec<Option<usize>>,
+    cache: usize,
+}
+
+impl<'a> Model for Set<'a> {
+    ghost use Rattle.judge_core.specs.Tables.{Holding};
+
+    ghost Value = { Holding };
+
+    ghost use Rattle.judge_core.specs.Kept.{holding_of, IsKept};
+
+    ghost view = { holding_of };
+
+    ghost invariant = { IsKept };
+}
+
+/// The slot of a kind and a material.
+fn slot(kind: Kind, material: Material) -> usize
+    ensures is { result ≡ slot kind material }
+    ensures below { result < 290 }
+    ensures known { material < 145 }
+{
+    let key = material.key() as usize;
+    match kind {
+        Kind::Wdl => key,
+        Kind::Dtz => MATERIALS + key,
+    }
+}
+
+/// The kind of a table.
+fn kind_of(table: &Table<'_>) -> Kind
+    ensures { result ≡ table.now.kind }
+{
+    if table.is_dtz() { Kind::Dtz } else { Kind::Wdl }
+}
+
+/// The position as its table sees it.
+fn placed(position: &Position, material: &Material) -> Placed
+    requires known { material.now < 145 }
+    requires own { IsMaterialOf material.now (men_on position.now.men) }
+    ensures is { result ≡ placed_of material.now position.now }
+    ensures material { result.material ≡ material.now }
+    ensures side { result.side < 2 }
+    ensures file { IsFile material.now result.file }
+{
+    let placed = place(position, material);
+    let _side = placed.side();
+    let _file = placed.file();
+    placed
+}
+
+/// The material of the position: none for bare kings and for more than five men.
+fn material_of(position: &Position) -> Option<Material>
+    ensures is { result ≡ material_of position.now }
+    ensures own { IfSome result (λ m. (m < 145) × IsMaterialOf m (men_on position.now.men)) }
+{
+    match Material::of(position) {
+        Some(material) => {
+            let _key = material.key();
+            Some(material)
+        }
+        None => None,
+    }
+}
+
+/// Whether the shape is one of these men and of this file, as each that a table was opened with.
+fn fits(shape: &Shape, placed: &Placed) -> bool
+    ensures { result ≡ fits shape.now placed.now }
+{
+    shape.material().key() == placed.material().key() && shape.file() == placed.file()
+}
+
+/// What the table has at the index of placed men; none where that is damaged.
+fn entry(table: &Table<'_>, placed: &Placed) -> Option<u16>
+    requires own { table.now.material ≡ placed.now.material }
+    requires side { placed.now.side < 2 }
+    requires file { IsFile table.now.material placed.now.file }
+    ensures { result ≡ entry_in table.now placed.now }
+{
+    let side = placed.side();
+    let file = placed.file();
+    let shape = table.shape(side, file);
+    if !fits(shape, placed) {
+        return None;
+    }
+    match table.value(side, file, index(shape, placed)) {
+        Ok(value) => Some(value),
+        Err(_) => None,
+    }
+}
+
+impl<'a> Set<'a> {
+    /// A set without tables that may keep so many decoded blocks, 1 to 4096. The error comes where memory for its slots is
+    /// refused.
+    pub fn new(alloc: Global, cache: usize) -> Result<Set<'a>, AllocError>
+        requires some { 1 ≤ cache }
+        requires most { cache ≤ 4096 }
+        ensures { IfOk result (λ set. set ≡ record { tables = replicate 290 None; cache = cache }) }
+    {
+        let mut places = Vec::with_capacity(alloc, 2 * MATERIALS)?;
+        for _ in 0..2 * MATERIALS {
+            places.push(None)?;
+        }
+        Ok(Set {
+            tables: Vec::new(alloc),
+            places,
+            cache,
+        })
+    }
+
+    /// How many decoded blocks the set may keep, 1 to 4096.
+    pub fn cache(&self) -> usize
+        ensures is { result ≡ self.now.cache }
+        ensures some { 1 ≤ result }
+        ensures most { result ≤ 4096 }
+    {
+        self.cache
+    }
+
+    /// Adds a table. One that is refused is dropped, and the set stays as it was.
+    ///
+    /// `Duplicate` where there is a table of its kind for its material; otherwise `OutOfMemory` where memory for one table
+    /// more is refused.
+    pub fn add(&mut self, table: Table<'a>) -> Result<(), SetFault>
+        ensures added { OnOk result (self.new ≡ record self.old { tables = slice_set self.old.tables (slot table.entry.kind table.entry.material) (Some table.entry) }) }
+        ensures refused { OnErr result (self.new ≡ self.old) }
+        ensures duplicate { (result ≡ Err Duplicate) ↔ IsSome (table_at self.old.tables table.entry.kind table.entry.material) }
+    {
+        let slot = slot(kind_of(&table), *table.material());
+        if self.places[slot].is_some() {
+            return Err(SetFault::Duplicate);
+        }
+        let place = self.tables.len();
+        match self.tables.push(table) {
+            Ok(()) => {}
+            Err(_) => return Err(SetFault::OutOfMemory),
+        }
+        self.places[slot] = Some(place);
+        Ok(())
+    }
+
+    /// The table of this kind for this material.
+    fn table(&self, kind: Kind, material: Material) -> Option<&Table<'a>>
+        ensures found { option_map (λ t. t.now) result ≡ table_at self.now.tables kind material }
+        ensures own { IfSome result (λ t. t.now.material ≡ material) }
+    {
+        match self.places[slot(kind, material)] {
+            Some(place) => Some(&self.tables[place]),
+            None => None,
+        }
+    }
+
+    /// The table value: what the position's own WDL table says of it; bare kings are a draw.
+    #[tactic(auto, unfolding(crate::specs::Tables::table_value))]
+    pub(crate) fn table_value(&self, position: &Position) -> Result<Wdl, ValueFault>
+        ensures { result ≡ table_value self.now.tables position.now }
+    {
+        let Some(material) = material_of(position) else {
+            return Ok(Wdl::Draw);
+        };
+        let Some(table) = self.table(Kind::Wdl, material) else {
+            return Err(ValueFault::NotCovered(material));
+        };
+        let Some(points) = entry(table, &placed(position, &material)) else {
+            return Err(ValueFault::Damaged(material));
+        };
+        match Wdl::from_points(points) {
+            Some(value) => Ok(value),
+            None => Err(ValueFault::Damaged(material)),
+        }
+    }
+}
