@@ -167,18 +167,18 @@ ray_before men side what sort a k f t x len lf lt own shut on_board stands reach
   away = r.away;
   along = r.along;
   clear = clear_before men side what r.direction r.distance a k f t x len lf lt own shut
-    (λ j away along clear. record {
-      from = a;
-      kind = sort;
-      distance = j;
-      on_board = on_board;
-      away = away;
-      along = along_back r.direction j a f along;
-      clear = clear_back men r.direction j a f along clear;
-      stands = stands;
-      reaches = reach (record { direction = r.direction; distance = j; goes = r.goes; away = away; along = along; clear = clear });
-    })
-    r.along r.clear;
+      (λ j away along clear. record {
+        from = a;
+        kind = sort;
+        distance = j;
+        on_board = on_board;
+        away = away;
+        along = along_back r.direction j a f along;
+        clear = clear_back men r.direction j a f along clear;
+        stands = stands;
+        reaches = reach (record { direction = r.direction; distance = j; goes = r.goes; away = away; along = along; clear = clear });
+      })
+      r.along r.clear;
 }
 
 reaches_before : (men : List (Option Piece)) (side : Side) (what sort : Kind) (a k f t : ℕ) (x : Option Piece) → length men ≡ 64 → f < 64 → t < 64 → x ≡ some_man side what → ((r : Ray men Queen k f) → IsStruck men (other side) r.direction f → ⊥) → a < 64 → man_at men a ≡ some_man (other side) sort → Reaches (carried men f t x) (other side) sort a k → Reaches men (other side) sort a k

@@ -1,5 +1,5 @@
 -- The bits of sets of squares.
-use Rattle.std.proofs.Common.{ℕ, zero, suc, ◌≡◌, ◌≢◌, ◌<◌, ◌≤◌, ◌+◌, ◌*◌, ◌/◌, ◌%◌, List, [], ◌∷◌, Option, Some, None, Bool, true, false, cond, ◌↔◌, IsTrue, is_some, max, bit_or, count_ones, count_by, map, length, get_or, refl, sym, ap, ◌∙◌, arith, inl, inr}
+use Rattle.std.proofs.Common.{ℕ, zero, suc, ◌≡◌, ◌≢◌, ◌<◌, ◌≤◌, ◌+◌, ◌*◌, ◌/◌, ◌%◌, List, [], ◌∷◌, Option, Some, None, Bool, true, false, cond, ◌↔◌, IsTrue, is_some, max, bit_or, count_ones, count_by, map, length, refl, sym, ap, ◌∙◌, arith, inl, inr}
 use Rattle.std.specs.Int.{bit_at}
 use Rattle.std.proofs.lemmas.Bool.{cases_lt, cases_eq}
 use Rattle.std.proofs.lemmas.Nat.Bits.{bit_at_lowest, bit_at-suc, bit_at-zero, bit_at_or, same_from_bits}
@@ -92,7 +92,7 @@ is_one false = (λ e. absurd (omega arith), λ t. let f = t in cc)
 pub both_sides : (men : List (Option Piece)) → IsOccupied men (bit_or (sides_of men).white (sides_of men).black)
 both_sides men = λ s.
     let bits : bit_at (bit_or (sides_of men).white (sides_of men).black) s ≡ bit_of (is_some (man_at men s)) =
-      bit_at_or (sides_of men).white (sides_of men).black s
-      ∙ rw (squares_where_bit (is_of White) refl men s, squares_where_bit (is_of Black) refl men s) (either_side (man_at men s)) in
+    bit_at_or (sides_of men).white (sides_of men).black s
+    ∙ rw (squares_where_bit (is_of White) refl men s, squares_where_bit (is_of Black) refl men s) (either_side (man_at men s)) in
     let one = is_one (is_some (man_at men s)) in
     (λ h. one.0 (sym bits ∙ h), λ t. bits ∙ one.1 t)

@@ -1,5 +1,5 @@
 -- A side's one king.
-use Rattle.std.proofs.Common.{ℕ, zero, suc, ◌≡◌, ◌≢◌, ◌<◌, ◌+◌, List, [], ◌∷◌, Option, Some, None, Bool, true, false, cond, length, count_by, refl, sym, ap, ◌∙◌, ◌⊎◌, inl, inr, arith}
+use Rattle.std.proofs.Common.{ℕ, zero, suc, ◌≡◌, ◌≢◌, ◌<◌, ◌+◌, List, [], ◌∷◌, Option, None, Bool, true, false, cond, length, count_by, refl, sym, ap, ◌∙◌, ◌⊎◌, inl, inr, arith}
 use Rattle.std.proofs.lemmas.List.Sums.{sum_by-cons}
 use Rattle.board_core.specs.declared.piece.Piece.{Piece}
 use Rattle.board_core.specs.declared.piece.Side.{Side}
@@ -8,8 +8,7 @@ use Rattle.board_core.specs.declared.piece.Kind.TheVariants.{King}
 use Rattle.board_core.specs.declared.parts.Parts.{Parts}
 use Rattle.board_core.specs.declared.moves.Move.{Move}
 use Rattle.board_core.specs.declared.moves.MoveCase.{MoveCase}
-use Rattle.board_core.specs.Side.{other}
-use Rattle.board_core.specs.Attack.{man_at, IsAttacked, IsInCheck}
+use Rattle.board_core.specs.Attack.{man_at}
 use Rattle.board_core.specs.Moves.{Stands, IsMove, men_after}
 use Rattle.board_core.specs.Position.{IsPosition, HasOneKingEach, is_king_of}
 use Rattle.board_core.specs.Search.{IsOnlyKing}

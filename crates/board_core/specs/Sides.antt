@@ -1,5 +1,5 @@
 -- Where the men of each side stand, as sets of squares: bit s of a set's number says whether square s is in it.
-use Rattle.std.specs.Prelude.{◌≡◌, ℕ, ◌+◌, ◌*◌, ◌<◌, ◌↔◌, Bool, cond, IsTrue, is_some, List, [], ◌∷◌, Option}
+use Rattle.std.specs.Prelude.{◌≡◌, ℕ, ◌+◌, ◌*◌, ◌↔◌, Bool, cond, IsTrue, is_some, List, [], ◌∷◌, Option}
 use Rattle.std.specs.Int.{bit_at}
 use Rattle.board_core.specs.declared.piece.Piece.{Piece}
 use Rattle.board_core.specs.declared.piece.Side.{Side}

@@ -455,12 +455,7 @@ fn add_from(
 }
 
 /// The legal moves asked for, each once, in order of from, to and promotion.
-fn listed(
-    p: &Parts,
-    sides: &Sides,
-    which: Which,
-    moves: Vec<Move>,
-) -> Result<Vec<Move>, AllocError>
+fn listed(p: &Parts, sides: &Sides, which: Which, moves: Vec<Move>) -> Result<Vec<Move>, AllocError>
     requires position { IsPosition p.now }
     requires sides { sides.now ≡ sides_of p.now.men }
     requires empty { moves.items ≡ [] }

@@ -1,8 +1,8 @@
 -- Digests as hexadecimal digits.
-use Rattle.std.proofs.Common.{◌≡◌, ◌≢◌, ◌<◌, ◌*◌, ◌/◌, ◌%◌, ℕ, true, false, List, [], ◌∷◌, length, refl, sym, slice_index, Ok, suc, ap, ◌∙◌, arith}
+use Rattle.std.proofs.Common.{◌≡◌, ◌≢◌, ◌<◌, ◌/◌, ◌%◌, ℕ, false, List, [], ◌∷◌, length, refl, sym, slice_index, Ok, suc, ap, ◌∙◌, arith}
 use Rattle.std.specs.Prelude.{◌==◌}
 use Rattle.std.proofs.lemmas.Bool.{agree_below_at, eq-eqb}
-use Rattle.hex.specs.Hex.{decode_sized, decode_of, encode_lower, encode_with, lower_digits}
+use Rattle.hex.specs.Hex.{decode_sized, encode_lower, encode_with, lower_digits}
 use Rattle.hex.proofs.HexLemmas.{decode_of-encode_lower, decode_sized-twice, length-encode_with}
 use Rattle.move_msg.specs.Cut.{Lacks}
 

@@ -1,5 +1,5 @@
 -- The lines of a manifest.
-use Rattle.std.proofs.Common.{◌≡◌, ◌≢◌, ◌<◌, ◌≤◌, ◌+◌, ◌++◌, ◌⊎◌, ℕ, zero, suc, Bool, true, false, cond, get_or, List, [], ◌∷◌, length, take, drop, Result, Ok, refl, sym, ap, ◌∙◌, arith, inl, inr, append_assoc}
+use Rattle.std.proofs.Common.{◌≡◌, ◌<◌, ◌≤◌, ◌+◌, ◌++◌, ℕ, zero, suc, Bool, true, false, cond, get_or, List, [], ◌∷◌, length, take, drop, Result, Ok, refl, sym, ap, ◌∙◌, arith, inl, inr, append_assoc}
 use Rattle.std.proofs.lemmas.List.{take_at, drop_at, append-nil, take-append-drop, length-append}
 use Rattle.std.proofs.Common.{subst}
 use Rattle.hex.specs.Hex.{encode_lower, decode_of}

@@ -1,7 +1,7 @@
 -- A man that is the only one of its code, before and after all men are moved.
-use Rattle.std.proofs.Common.{◌≡◌, ℕ, suc, ◌<◌, ◌≤◌, Bool, true, List, [], ◌∷◌, length, slice_index, refl, sym, ap, ◌∙◌, arith}
+use Rattle.std.proofs.Common.{◌≡◌, ℕ, ◌<◌, true, List, [], ◌∷◌, length, slice_index, refl, sym, ap, ◌∙◌, arith}
 use Rattle.place_index.specs.Material.{pieces_of, count_of}
-use Rattle.place_index.specs.Men.{stands, falling, squares_of, square_of, moved}
+use Rattle.place_index.specs.Men.{stands, squares_of, square_of, moved}
 use Rattle.place_index.specs.declared.man.Man.{Man}
 use Rattle.place_index.proofs.Falling.{falling_alone, falling_member, list_one}
 use Rattle.place_index.proofs.Settled.{IsSettled}

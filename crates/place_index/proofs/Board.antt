@@ -1,9 +1,9 @@
 -- Where men stand, before and after all are moved.
-use Rattle.std.proofs.Common.{◌≡◌, ◌≢◌, ℕ, zero, suc, ◌+◌, ◌-◌, ◌*◌, ◌/◌, ◌%◌, ◌<◌, ◌≤◌, ◌⊎◌, Bool, true, false, cond, eqb, ltb, leb, IsTrue, List, [], ◌∷◌, ◌++◌, length, map, refl, sym, ap, ◌∙◌, subst, inl, inr, arith}
-use Rattle.std.specs.Prelude.{not, ◌&&◌, ◌||◌, nat_lt}
+use Rattle.std.proofs.Common.{◌≡◌, ◌≢◌, ℕ, zero, suc, ◌+◌, ◌*◌, ◌/◌, ◌%◌, ◌<◌, ◌≤◌, ◌⊎◌, Bool, true, false, eqb, ltb, List, [], ◌∷◌, length, refl, sym, ap, ◌∙◌, subst, inl, inr, arith}
+use Rattle.std.specs.Prelude.{◌&&◌, ◌||◌}
 use Rattle.std.specs.List.Sorted.{IsPermutation}
-use Rattle.std.proofs.lemmas.Bool.{cases_lt, cases_eq, cases_Bool, eq-eqb, ne_eqb, eqb-true, lt-ltb, le-ltb, and_parts, and_from, or_left, or_right, or_cases, false≢true, agree_below_at}
-use Rattle.place_index.specs.Square.{file, rank, left_right, bottom_top, across}
+use Rattle.std.proofs.lemmas.Bool.{cases_eq, cases_Bool, eq-eqb, ne_eqb, eqb-true, lt-ltb, le-ltb, and_parts, or_right, or_cases, false≢true, agree_below_at}
+use Rattle.place_index.specs.Square.{rank, left_right, bottom_top, across}
 use Rattle.place_index.specs.Material.{count_of, pieces_of}
 use Rattle.place_index.specs.Men.{man, codes_of, stands, falling, squares_of, inserted, moved}
 use Rattle.place_index.specs.Kings.{apart}
@@ -11,8 +11,8 @@ use Rattle.place_index.specs.Choose.{IsFallingBelow}
 use Rattle.place_index.specs.Shape.{is_pawn}
 use Rattle.place_index.specs.Index.{AreAlone, IsPlacement}
 use Rattle.place_index.specs.declared.man.Man.{Man}
-use Rattle.place_index.proofs.Arranging.{count_cons, count_nil, count_hit, count_miss, count_arranged}
-use Rattle.place_index.proofs.Falling.{below_more, falling_hit, falling_miss, falling_none, falling_falls, falling_same}
+use Rattle.place_index.proofs.Arranging.{count_nil, count_hit, count_miss, count_arranged}
+use Rattle.place_index.proofs.Falling.{falling_hit, falling_miss, falling_falls, falling_same}
 use Rattle.place_index.proofs.Settled.{IsSettled, squares_same}
 
 pub stands_cons : (m : Man) (men : List Man) (c s : ℕ) → stands (m ∷ men) c s ≡ (eqb m.code c && eqb m.square s) || stands men c s

@@ -1,7 +1,7 @@
 -- Going through men from the last to the first, squares and pawn numbers are collected.
-use Rattle.std.proofs.Common.{◌≡◌, ◌≢◌, ℕ, zero, suc, ◌+◌, ◌-◌, ◌<◌, ◌≤◌, ◌⊎◌, Bool, true, false, cond, ltb, List, [], ◌∷◌, ◌++◌, length, take, drop, slice_index, get_or, refl, sym, ap, ◌∙◌, subst, inl, inr, arith}
-use Rattle.std.proofs.lemmas.List.{drop_more, drop_all, length-drop, take_more, append_assoc, append-nil, take_all}
-use Rattle.std.proofs.lemmas.Bool.{cases_lt, lt-ltb, le-ltb}
+use Rattle.std.proofs.Common.{◌≡◌, ◌≢◌, ℕ, zero, suc, ◌+◌, ◌-◌, ◌<◌, ◌≤◌, ◌⊎◌, true, List, [], ◌∷◌, ◌++◌, length, take, drop, slice_index, get_or, refl, sym, ap, ◌∙◌, subst, inl, inr, arith}
+use Rattle.std.proofs.lemmas.List.{drop_more, drop_all, take_more, append_assoc, take_all}
+use Rattle.std.proofs.lemmas.Bool.{cases_lt, lt-ltb}
 use Rattle.place_index.specs.Men.{stands, squares_of, square_of, falling, inserted}
 use Rattle.place_index.specs.Pawns.{pawn_number, pawn_numbers_of}
 use Rattle.place_index.specs.Index.{AreAlone, AreMen}

@@ -1,11 +1,10 @@
 -- Sums of numbers times factors, the groups standing at any places.
-use Rattle.std.proofs.Common.{◌≡◌, ◌≢◌, ℕ, zero, suc, ◌+◌, ◌*◌, ◌<◌, ◌≤◌, Bool, true, false, cond, eqb, ltb, List, [], ◌∷◌, ◌++◌, length, map, refl, sym, ap, ◌∙◌, inl, inr, arith}
+use Rattle.std.proofs.Common.{◌≡◌, ◌≢◌, ℕ, zero, suc, ◌+◌, ◌*◌, ◌<◌, Bool, true, false, cond, eqb, List, [], ◌∷◌, ◌++◌, length, map, refl, sym, ap, ◌∙◌, inl, inr, arith}
 use Rattle.std.specs.Prelude.{nat_lt, filter, Option, Some, None}
 use Rattle.std.proofs.lemmas.Bool.{cases_lt, cases_eq, cases_Bool, eq-eqb, ne_eqb, lt-ltb, le-ltb, false≢true}
 use Rattle.std.proofs.lemmas.Nat.{mul-add-lt, same_from_place}
 use Rattle.place_index.specs.Shape.{product, factor_at, given, is_free, upto, places, Layout, HasGoodOrder, places_of, second_of, both_have_pawns, groups_of}
 use Rattle.place_index.specs.Index.{sum_of_products}
-use Rattle.place_index.proofs.Placing.{free_order, free_second}
 use Rattle.place_index.proofs.Products.{product_cons, product_nil, factor_below, factor_above, factor_none}
 
 -- ---- different places

@@ -1,11 +1,11 @@
 -- Sets of free squares by their numbers.
-use Rattle.std.proofs.Common.{◌≡◌, ℕ, zero, suc, ◌+◌, ◌-◌, ◌<◌, ◌≤◌, ◌⊎◌, cond, eqb, List, [], ◌∷◌, ◌++◌, length, map, refl, sym, ap, ◌∙◌, inl, inr, zero-add, arith}
+use Rattle.std.proofs.Common.{◌≡◌, ℕ, zero, suc, ◌+◌, ◌-◌, ◌<◌, ◌≤◌, cond, eqb, List, [], ◌∷◌, length, map, refl, sym, ap, ◌∙◌, inl, inr, zero-add, arith}
 use Rattle.std.proofs.lemmas.List.{length-map}
 use Rattle.std.proofs.lemmas.Bool.{cases_order, lt-ltb, le-ltb, eq-eqb, ne_eqb}
 use Rattle.place_index.specs.Square.{before}
-use Rattle.place_index.specs.Choose.{choose, set_number, IsFallingBelow, IsLater}
+use Rattle.place_index.specs.Choose.{choose, IsFallingBelow, IsLater}
 use Rattle.place_index.specs.Others.{taken, standing, free_number, free_set_number, IsWithin, IsFree, AreEarlier, IsFreeSet, FreeSetsAreNumbered}
-use Rattle.place_index.proofs.SetNumbers.{number_below, later_is_greater, number_one}
+use Rattle.place_index.proofs.SetNumbers.{number_below, later_is_greater}
 use Rattle.place_index.proofs.Orders.{later_head, later_more, never_later, later_nil, nil_later, later_total}
 
 -- ---- counting the earlier men

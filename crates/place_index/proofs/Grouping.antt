@@ -1,10 +1,10 @@
 -- The groups of a shape: each has all men of its code, and different groups have different codes.
-use Rattle.std.proofs.Common.{◌≡◌, ◌≢◌, ℕ, zero, suc, ◌+◌, ◌-◌, ◌<◌, ◌≤◌, ◌⊎◌, Bool, true, false, cond, eqb, List, [], ◌∷◌, ◌++◌, length, take, drop, map, get_or, refl, sym, ap, ◌∙◌, subst, inl, inr, arith}
+use Rattle.std.proofs.Common.{◌≡◌, ◌≢◌, ℕ, zero, suc, ◌<◌, ◌≤◌, ◌⊎◌, eqb, List, [], ◌∷◌, length, drop, get_or, refl, sym, ap, ◌∙◌, subst, inl, inr, arith}
 use Rattle.std.proofs.lemmas.Bool.{cases_lt, cases_eq, cases_Bool, eq-eqb, ne_eqb}
 use Rattle.place_index.specs.Material.{count_of}
-use Rattle.place_index.specs.Shape.{group, joined, runs, IsSideBySide}
+use Rattle.place_index.specs.Shape.{joined, runs, IsSideBySide}
 use Rattle.place_index.specs.declared.group.Group.{Group}
-use Rattle.place_index.proofs.Arranging.{count_cons, count_nil, count_hit, count_miss}
+use Rattle.place_index.proofs.Arranging.{count_nil, count_hit, count_miss}
 use Rattle.place_index.proofs.Factors.{IsApart}
 
 -- ---- all codes of a list, all groups of a list

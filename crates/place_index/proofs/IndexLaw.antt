@@ -1,13 +1,13 @@
 -- Indices are below the size, and each is that of one placement of the turned men.
-use Rattle.std.proofs.Common.{◌≡◌, ◌≢◌, ℕ, zero, suc, ◌+◌, ◌-◌, ◌<◌, ◌≤◌, ◌⊎◌, Bool, true, false, cond, List, [], ◌∷◌, ◌++◌, length, take, drop, map, slice_index, refl, sym, ap, ◌∙◌, subst, inl, inr, arith, length-append}
+use Rattle.std.proofs.Common.{◌≡◌, ℕ, suc, ◌-◌, ◌<◌, ◌≤◌, ◌⊎◌, true, false, cond, List, [], ◌∷◌, length, take, drop, map, slice_index, refl, sym, ap, ◌∙◌, subst, inl, inr, arith}
 use Rattle.std.proofs.lemmas.Bool.{cases_lt, cases_Bool}
 use Rattle.std.proofs.lemmas.List.{length-map}
 use Rattle.place_index.specs.Material.{pieces_of, count_of}
 use Rattle.place_index.specs.Men.{squares_of, square_of}
 use Rattle.place_index.specs.Three.{three_number}
-use Rattle.place_index.specs.Kings.{kings_number, kings_size}
-use Rattle.place_index.specs.Pawns.{pawn_number, pawn_square, pawn_numbers_of, pawns_before, pawns_number, pawns_size}
-use Rattle.place_index.specs.Shape.{Layout, has_pawns, has_unique, lead_code, lead_men, lead_pawns, lead_size, other_sizes, other_groups, sizes_of, places_of, factors_of, factor_at, product, runs, groups_of, size_of, is_pawn, given, places, second_of}
+use Rattle.place_index.specs.Kings.{kings_number}
+use Rattle.place_index.specs.Pawns.{pawn_number, pawn_square, pawn_numbers_of, pawns_before, pawns_number}
+use Rattle.place_index.specs.Shape.{Layout, has_pawns, has_unique, lead_code, lead_men, lead_size, other_sizes, other_groups, sizes_of, places_of, factors_of, factor_at, runs, groups_of, size_of, is_pawn, second_of}
 use Rattle.place_index.specs.Turning.{turned, turned_pawns, turned_pieces, lead_file}
 use Rattle.place_index.specs.Index.{lead_codes, lead_number, lead_pawns_number, squares_of_all, other_numbers, numbers_of, sum_of_products, index_of, IsPlacement, IsShape, IndicesAreOne}
 use Rattle.place_index.specs.declared.man.Man.{Man}
@@ -17,17 +17,17 @@ use Rattle.place_index.proofs.Beginning.{lead_by_pawns, lead_others}
 use Rattle.place_index.proofs.Greatest.{lead_least, good_length, size_by_pawns, size_by_kings, three_lead}
 use Rattle.place_index.proofs.MenTables.{men_least}
 use Rattle.place_index.proofs.Placing.{placed_length}
-use Rattle.place_index.proofs.Factors.{second_is, AreBelow, AreUnder, sum_below, sum_one, layout_distinct, layout_under}
-use Rattle.place_index.proofs.Grouping.{AllOf, AllGroups, IsSided, sided}
-use Rattle.place_index.proofs.Settled.{IsSettled, numbers_below, numbers_one, pawn_numbers_below, pawn_numbers_one, PawnsFirst}
+use Rattle.place_index.proofs.Factors.{second_is, AreBelow, sum_below, sum_one, layout_distinct, layout_under}
+use Rattle.place_index.proofs.Grouping.{AllGroups, IsSided, sided}
+use Rattle.place_index.proofs.Settled.{IsSettled, numbers_below, numbers_one, pawn_numbers_below, pawn_numbers_one}
 use Rattle.place_index.proofs.Board.{settled}
 use Rattle.place_index.proofs.Alone.{IsAlone, alone_of, squares_of_alone, square_of_alone}
 use Rattle.place_index.proofs.ThreeOrder.{three_below, three_one}
 use Rattle.place_index.proofs.KingOrder.{kings_below, kings_one}
 use Rattle.place_index.proofs.PawnOrder.{pawns_below, pawns_one}
-use Rattle.place_index.proofs.TurnedPieces.{HasNoPawns, IsTrio, AreThree, AreTwo, turned_three, turned_two}
+use Rattle.place_index.proofs.TurnedPieces.{AreThree, AreTwo, turned_three, turned_two}
 use Rattle.place_index.proofs.TurnedPawns.{ArePawns, square_number, numbers_size, squares_by_numbers, turned_leading_pawns}
-use Rattle.place_index.proofs.LayoutGroups.{no_pawns_are, lead_is_pawn, lead_count, one_king, AreGrouped, IsOnce, AreDifferent, three_differ, three_grouped, AreTwoDifferent, two_differ, two_grouped, plain_tail, ArePawnGroups, pawn_groups}
+use Rattle.place_index.proofs.LayoutGroups.{no_pawns_are, lead_is_pawn, lead_count, one_king, AreGrouped, AreDifferent, three_differ, three_grouped, two_differ, two_grouped, plain_tail, pawn_groups}
 
 -- ---- the words at each kind of leading group
 

@@ -1,11 +1,9 @@
 -- The tables of the code against the definitions.
-use Rattle.std.proofs.Common.{◌≡◌, ℕ, zero, suc, ◌+◌, ◌*◌, ◌/◌, ◌%◌, ◌<◌, ◌≤◌, Bool, true, cond, eqb, leb, get_or, slice_index, refl, sym, ◌∙◌, arith}
-use Rattle.std.specs.Prelude.{◌&&◌}
-use Rattle.std.proofs.lemmas.Bool.{agree_below_at, eqb-true, leb-true, and_parts}
+use Rattle.std.proofs.Common.{◌≡◌, ℕ, zero, suc, ◌+◌, ◌*◌, ◌/◌, ◌%◌, ◌<◌, ◌≤◌, true, eqb, leb, slice_index, refl, sym, ◌∙◌, arith}
+use Rattle.std.proofs.lemmas.Bool.{agree_below_at, eqb-true, leb-true}
 use Rattle.place_index.specs.Counting.{count_before}
 use Rattle.place_index.proofs.Choosing.{pascal, choose_pascal}
-use Rattle.place_index.specs.Square.{under_diagonal}
-use Rattle.place_index.specs.Three.{triangle, triangle_number, lower_number}
+use Rattle.place_index.specs.Three.{triangle_number, lower_number}
 use Rattle.place_index.specs.Pawns.{pawn_number, pawn_square, pawns_before}
 use Rattle.place_index.specs.declared.tables.TheConstants.{TRIANGLE, LOWER, KINGS, PAWN_NUMBERS, PAWN_SQUARES, PAWNS_BEFORE}
 

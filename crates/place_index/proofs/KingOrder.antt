@@ -1,12 +1,12 @@
 -- Two kings by their numbers.
-use Rattle.std.proofs.Common.{◌≡◌, ℕ, zero, suc, ◌+◌, ◌-◌, ◌*◌, ◌/◌, ◌%◌, ◌<◌, ◌≤◌, ◌⊎◌, Bool, true, false, cond, not, ltb, leb, eqb, List, [], ◌∷◌, ◌++◌, get_or, slice_index, map, refl, sym, ap, ◌∙◌, inl, inr, arith}
-use Rattle.std.specs.Prelude.{nat_lt, ◌&&◌, ◌||◌}
-use Rattle.std.proofs.lemmas.Bool.{cases_lt, cases_eq, cases_Bool, lt-ltb, le-ltb, eq-eqb, ne_eqb, eqb-true, and_from, or_left, or_right, not_from_false}
-use Rattle.place_index.specs.Square.{file, rank, on_diagonal, under_diagonal}
+use Rattle.std.proofs.Common.{◌≡◌, ℕ, ◌+◌, ◌*◌, ◌/◌, ◌%◌, ◌<◌, ◌≤◌, true, [], ◌∷◌, slice_index, refl, ap, ◌∙◌, inl, inr, arith}
+use Rattle.std.specs.Prelude.{◌&&◌}
+use Rattle.std.proofs.lemmas.Bool.{cases_eq, cases_Bool, le-ltb, eq-eqb, ne_eqb, and_from, or_left, or_right, not_from_false}
+use Rattle.place_index.specs.Square.{file, rank, on_diagonal}
 use Rattle.place_index.specs.Counting.{count_before}
 use Rattle.place_index.specs.Choose.{IsLater}
 use Rattle.place_index.specs.Three.{triangle, triangle_number}
-use Rattle.place_index.specs.Kings.{apart, kings_size, both_on, AreTurnedKings, kings_place, kings_test, is_kings_place, kings_number, kings_order, KingsAreNumbered}
+use Rattle.place_index.specs.Kings.{kings_size, both_on, AreTurnedKings, kings_place, kings_test, is_kings_place, kings_number, kings_order, KingsAreNumbered}
 use Rattle.place_index.proofs.Counting.{count_later}
 use Rattle.place_index.proofs.ThreeOrder.{triangle_off, triangle_on, triangle_one, triangle_back}
 use Rattle.place_index.proofs.Orders.{later_head, never_later, later_total, same_heads}

@@ -1,12 +1,12 @@
 -- The table of kings against the definition.
-use Rattle.std.proofs.Common.{◌≡◌, ℕ, zero, suc, ◌+◌, ◌*◌, ◌/◌, ◌%◌, ◌<◌, ◌≤◌, ◌-◌, Bool, true, cond, not, eqb, get_or, slice_index, refl, arith, ap, ◌∙◌, inl, inr}
-use Rattle.std.specs.Prelude.{◌&&◌, ◌||◌}
-use Rattle.std.proofs.lemmas.Bool.{agree_below_at, eqb-true, cases_Bool, cases_eq, and_parts, both_ways}
+use Rattle.std.proofs.Common.{◌≡◌, ℕ, zero, suc, ◌+◌, ◌*◌, ◌%◌, ◌<◌, ◌≤◌, Bool, true, cond, eqb, slice_index, refl, arith, ◌∙◌, inl, inr}
+use Rattle.std.specs.Prelude.{◌&&◌}
+use Rattle.std.proofs.lemmas.Bool.{eqb-true, cases_Bool, cases_eq, and_parts, both_ways}
 use Rattle.place_index.specs.Counting.{count_before}
-use Rattle.place_index.specs.Three.{triangle, triangle_number}
+use Rattle.place_index.specs.Three.{triangle_number}
 use Rattle.place_index.specs.Kings.{is_kings_place, both_on, kings_number, kings_place, AreTurnedKings}
 use Rattle.place_index.specs.declared.tables.TheConstants.{KINGS}
-use Rattle.place_index.proofs.KingOrder.{key_of, key_both, key_second, key_first, triangle_ten, both_small}
+use Rattle.place_index.proofs.KingOrder.{key_of, triangle_ten, both_small}
 use Rattle.place_index.proofs.Counting.{count_step}
 
 -- walking up the places, the count so far is the table's entry at each pair

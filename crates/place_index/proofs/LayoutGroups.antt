@@ -1,16 +1,16 @@
 -- The groups of a shape by its kind of leading group: pawns, three men, two kings.
-use Rattle.std.proofs.Common.{◌≡◌, ◌≢◌, ℕ, zero, suc, ◌+◌, ◌-◌, ◌<◌, ◌≤◌, ◌⊎◌, Bool, true, false, cond, eqb, leb, List, [], ◌∷◌, ◌++◌, length, take, drop, slice_index, get_or, refl, sym, ap, ◌∙◌, subst, inl, inr, arith}
-use Rattle.std.specs.Prelude.{not, ◌&&◌, ◌||◌}
-use Rattle.std.proofs.lemmas.Bool.{cases_lt, cases_eq, cases_Bool, eq-eqb, ne_eqb, eqb-true, leb-true, or_cases, not-false, false≢true, agree_below_at}
+use Rattle.std.proofs.Common.{◌≡◌, ◌≢◌, ℕ, zero, suc, ◌+◌, ◌<◌, ◌≤◌, ◌⊎◌, Bool, true, false, eqb, List, [], ◌∷◌, ◌++◌, length, take, drop, get_or, refl, sym, ap, ◌∙◌, subst, inl, inr, arith}
+use Rattle.std.specs.Prelude.{◌&&◌}
+use Rattle.std.proofs.lemmas.Bool.{cases_Bool, eqb-true, or_cases, not-false, false≢true, agree_below_at}
 use Rattle.place_index.specs.Material.{men_of, pieces_of, count_of, white_pawns, black_pawns}
-use Rattle.place_index.specs.Shape.{HasGoodPieces, BeginsByPawns, BeginsByThree, BeginsByKings, AreAll, group, runs, has_pawns, has_unique, black_leads, lead_code, other_code, lead_pawns, other_pawns, lead_men, is_pawn}
+use Rattle.place_index.specs.Shape.{HasGoodPieces, runs, has_pawns, black_leads, lead_code, other_code, lead_pawns, other_pawns, lead_men, is_pawn}
 use Rattle.place_index.specs.declared.group.Group.{Group}
 use Rattle.place_index.proofs.Arranging.{count_cons, count_nil, count_hit, count_miss, count_append, count_arranged}
 use Rattle.place_index.proofs.Beginning.{lead_by_pawns}
-use Rattle.place_index.proofs.Greatest.{lead_least, good_length}
+use Rattle.place_index.proofs.Greatest.{good_length}
 use Rattle.place_index.proofs.MenTables.{pawns_within}
 use Rattle.place_index.proofs.Factors.{IsApart, AreDistinct}
-use Rattle.place_index.proofs.Grouping.{AllOf, AllGroups, all_map, groups_map, runs_all, all_runs, all_apart, count_apart, all_at, IsSided, sided, sided_drop, AreRuns, are_runs, runs_begin, begins, AreGroups, are_groups}
+use Rattle.place_index.proofs.Grouping.{AllOf, AllGroups, all_map, runs_all, all_runs, count_apart, all_at, IsSided, sided, sided_drop, AreRuns, are_runs, runs_begin, begins, AreGroups, are_groups}
 use Rattle.place_index.proofs.Settled.{PawnsFirst}
 use Rattle.place_index.proofs.TurnedPieces.{HasNoPawns}
 

@@ -1,9 +1,8 @@
 -- The men of a position, and that they make a placement, in either colours.
-use Rattle.std.proofs.Common.{◌≡◌, ◌≢◌, ℕ, zero, suc, ◌+◌, ◌-◌, ◌*◌, ◌/◌, ◌%◌, ◌<◌, ◌≤◌, ◌⊎◌, Bool, true, false, cond, eqb, ltb, IsTrue, Option, Some, None, List, [], ◌∷◌, ◌++◌, length, drop, map, get_or, refl, sym, ap, ◌∙◌, subst, inl, inr, arith, length-append}
-use Rattle.std.specs.Prelude.{slice_index_or, is_some, not, ◌&&◌, ◌||◌, nat_lt}
+use Rattle.std.proofs.Common.{◌≡◌, ◌≢◌, ℕ, zero, suc, ◌+◌, ◌-◌, ◌/◌, ◌%◌, ◌<◌, ◌≤◌, ◌⊎◌, Bool, true, false, cond, IsTrue, Option, Some, None, List, [], ◌∷◌, ◌++◌, length, drop, refl, sym, ap, ◌∙◌, subst, inl, inr, arith, length-append}
+use Rattle.std.specs.Prelude.{slice_index_or, is_some, ◌||◌, nat_lt}
 use Rattle.std.specs.Int.{bit_at}
-use Rattle.std.specs.List.Sorted.{IsPermutation}
-use Rattle.std.proofs.lemmas.Bool.{cases_lt, cases_eq, cases_Bool, eq-eqb, ne_eqb, lt-ltb, le-ltb, ltb-true, ltb-false, false≢true, or_cases, or_left, or_right}
+use Rattle.std.proofs.lemmas.Bool.{cases_lt, cases_eq, cases_Bool, eq-eqb, ne_eqb, lt-ltb, false≢true, or_left, or_right}
 use Rattle.std.proofs.lemmas.List.{drop_more, drop_all, append_assoc, append-nil}
 use Rattle.std.proofs.lemmas.Nat.Bits.{bit_at-zero}
 use Rattle.board_core.specs.declared.piece.Piece.{Piece}
@@ -17,14 +16,12 @@ use Rattle.board_core.specs.Position.{IsPosition}
 use Rattle.board_core.specs.Side.{other}
 use Rattle.board_core.specs.Sides.{IsOccupied}
 use Rattle.place_index.specs.Square.{file, rank, bottom_top}
-use Rattle.place_index.specs.Material.{pieces_of}
-use Rattle.place_index.specs.Men.{man, codes_of, stands, other_side, exchanged}
-use Rattle.place_index.specs.Kings.{apart, far}
-use Rattle.place_index.specs.Shape.{is_pawn}
+use Rattle.place_index.specs.Men.{man, stands, other_side, exchanged}
+use Rattle.place_index.specs.Kings.{apart}
 use Rattle.place_index.specs.Index.{AreAlone, IsPlacement}
 use Rattle.place_index.specs.Placed.{is_black, kind_code, code_of, men_from, men_on, IsNamed}
 use Rattle.place_index.specs.declared.man.Man.{Man}
-use Rattle.place_index.proofs.Board.{stands_nil, stands_here, stands_later, stands_cases, IsMirroring, bottom_top_mirrors}
+use Rattle.place_index.proofs.Board.{stands_nil, stands_here, stands_later, stands_cases, bottom_top_mirrors}
 use Rattle.place_index.proofs.TurnedPieces.{apart_back}
 use Rattle.place_index.proofs.LayoutGroups.{pawn_codes}
 

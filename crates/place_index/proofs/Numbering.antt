@@ -1,26 +1,25 @@
 -- The numbers of the groups, one after another.
-use Rattle.std.proofs.Common.{◌≡◌, ◌≢◌, ℕ, zero, suc, ◌+◌, ◌-◌, ◌*◌, ◌<◌, ◌≤◌, Bool, true, false, cond, eqb, List, [], ◌∷◌, ◌++◌, length, take, drop, map, slice_index, get_or, refl, sym, ap, ◌∙◌, subst, inl, inr, arith, length-append}
-use Rattle.std.proofs.lemmas.Bool.{cases_eq, cases_Bool, eq-eqb, ne_eqb}
-use Rattle.std.proofs.lemmas.List.{drop_more, drop_all, append_assoc, append-nil, length-map, length-drop, take_more, take_all}
+use Rattle.std.proofs.Common.{◌≡◌, ℕ, zero, suc, ◌+◌, ◌-◌, ◌*◌, ◌<◌, ◌≤◌, true, eqb, List, [], ◌∷◌, ◌++◌, length, take, drop, map, slice_index, get_or, refl, sym, ap, ◌∙◌, subst, inl, inr, arith, length-append}
+use Rattle.std.proofs.lemmas.Bool.{cases_eq, cases_Bool}
+use Rattle.std.proofs.lemmas.List.{drop_more, drop_all, append_assoc, append-nil, length-drop, take_more}
 use Rattle.place_index.specs.Material.{pieces_of, count_of}
 use Rattle.place_index.specs.Choose.{set_number}
-use Rattle.place_index.specs.Men.{codes_of, squares_of}
+use Rattle.place_index.specs.Men.{squares_of}
 use Rattle.place_index.specs.Others.{taken, free_number, free_set_number}
-use Rattle.place_index.specs.Shape.{Layout, has_pawns, has_unique, lead_code, lead_men, joined, runs, groups_of, other_groups, sizes_of, places_of, factors_of, factor_at, size_of, greatest_size, layout}
-use Rattle.place_index.specs.Index.{lead_codes, lead_number, squares_of_all, first_square, other_numbers, numbers_of, sum_of_products, index_of, IsPlacement, IsShape}
-use Rattle.place_index.specs.Turning.{turned, lead_file}
+use Rattle.place_index.specs.Shape.{Layout, has_pawns, has_unique, lead_code, lead_men, joined, runs, other_groups}
+use Rattle.place_index.specs.Index.{lead_codes, lead_number, squares_of_all, first_square, other_numbers, numbers_of, sum_of_products, IsPlacement, IsShape}
 use Rattle.place_index.specs.declared.group.Group.{Group}
 use Rattle.place_index.specs.declared.man.Man.{Man}
-use Rattle.place_index.proofs.Arranging.{count_cons, count_nil, count_hit, count_miss, arranged_length}
+use Rattle.place_index.proofs.Arranging.{count_nil, count_hit, count_miss}
 use Rattle.place_index.proofs.Beginning.{lead_by_pawns}
 use Rattle.place_index.proofs.Greatest.{good_length, lead_least}
 use Rattle.place_index.proofs.MenTables.{men_most}
 use Rattle.place_index.proofs.Factors.{IsApart, AreDistinct}
 use Rattle.place_index.proofs.Grouping.{AreGroups}
 use Rattle.place_index.proofs.Settled.{IsSettled}
-use Rattle.place_index.proofs.Board.{settled, squares_counted}
+use Rattle.place_index.proofs.Board.{settled}
 use Rattle.place_index.proofs.LayoutGroups.{pawn_groups}
-use Rattle.place_index.proofs.IndexLaw.{leads_three, lead_kings, codes_by_pawns, codes_by_pieces, numbers_are}
+use Rattle.place_index.proofs.IndexLaw.{leads_three, lead_kings, codes_by_pawns, numbers_are}
 
 -- ---- all men with some codes are no more than all men
 

@@ -1,7 +1,7 @@
 -- Leading pawns by their numbers.
-use Rattle.std.proofs.Common.{◌≡◌, ℕ, zero, suc, ◌+◌, ◌-◌, ◌*◌, ◌/◌, ◌%◌, ◌<◌, ◌≤◌, ◌⊎◌, List, [], ◌∷◌, ◌++◌, length, map, refl, sym, ap, ◌∙◌, inl, inr, zero-add, arith}
+use Rattle.std.proofs.Common.{◌≡◌, ℕ, zero, suc, ◌+◌, ◌-◌, ◌*◌, ◌<◌, ◌≤◌, List, length, refl, sym, ap, inl, inr, zero-add, arith}
 use Rattle.place_index.specs.Square.{file, rank}
-use Rattle.place_index.specs.Choose.{choose, set_number, IsFallingBelow, IsLater}
+use Rattle.place_index.specs.Choose.{choose, IsLater}
 use Rattle.place_index.specs.Pawns.{pawn_number, pawns_before, pawns_number, pawns_size, AreTurnedPawns, pawns_order, PawnsAreNumbered}
 use Rattle.place_index.proofs.SetNumbers.{number_below, later_is_greater}
 use Rattle.place_index.proofs.Orders.{later_head, later_total, same_heads}

@@ -1,16 +1,16 @@
 -- Men that stand as a table wants them, and the numbers of the groups after the leading one.
-use Rattle.std.proofs.Common.{◌≡◌, ◌≢◌, ℕ, zero, suc, ◌+◌, ◌-◌, ◌<◌, ◌≤◌, Bool, true, false, cond, IsTrue, List, [], ◌∷◌, ◌++◌, length, map, refl, sym, ap, ◌∙◌, subst, inl, inr, arith, length-append}
-use Rattle.std.proofs.lemmas.Bool.{cases_lt, cases_eq, cases_Bool}
+use Rattle.std.proofs.Common.{◌≡◌, ℕ, ◌+◌, ◌-◌, ◌<◌, ◌≤◌, true, false, cond, IsTrue, List, [], ◌∷◌, ◌++◌, length, refl, sym, ap, ◌∙◌, subst, inl, inr, arith, length-append}
+use Rattle.std.proofs.lemmas.Bool.{cases_Bool}
 use Rattle.place_index.specs.Material.{pieces_of, count_of}
 use Rattle.place_index.specs.Choose.{choose, IsFallingBelow}
-use Rattle.place_index.specs.Men.{stands, falling, squares_of}
+use Rattle.place_index.specs.Men.{stands, squares_of}
 use Rattle.place_index.specs.Kings.{apart}
-use Rattle.place_index.specs.Others.{standing, taken, free_number, free_set_number, IsWithin, IsFree, AreEarlier, IsFreeSet}
+use Rattle.place_index.specs.Others.{standing, free_set_number, IsWithin, IsFree, AreEarlier, IsFreeSet}
 use Rattle.place_index.specs.Shape.{is_pawn, other_sizes}
-use Rattle.place_index.specs.Index.{squares_of_all, first_square, other_numbers}
+use Rattle.place_index.specs.Index.{squares_of_all, other_numbers}
 use Rattle.place_index.specs.declared.group.Group.{Group}
 use Rattle.place_index.specs.declared.man.Man.{Man}
-use Rattle.place_index.proofs.Falling.{falling_falls, falling_within, falling_free, standing_above, standing_fails, standing_passes, standing_most, falling_same, same_falling}
+use Rattle.place_index.proofs.Falling.{falling_falls, falling_within, falling_free, standing_above, standing_fails, standing_most, falling_same, same_falling}
 use Rattle.place_index.proofs.Factors.{IsApart, AreDistinct, AreBelow}
 use Rattle.place_index.proofs.FreeSets.{free_set_below, free_set_one}
 use Rattle.place_index.proofs.Grouping.{AllGroups, AreGroups}

@@ -1,13 +1,13 @@
 -- Leading groups of three by their numbers.
-use Rattle.std.proofs.Common.{◌≡◌, ◌≢◌, ℕ, zero, suc, ◌+◌, ◌-◌, ◌*◌, ◌/◌, ◌%◌, ◌<◌, ◌≤◌, ◌⊎◌, Bool, true, false, cond, not, ltb, leb, eqb, List, [], ◌∷◌, ◌++◌, get_or, refl, sym, ap, ◌∙◌, inl, inr, zero-add, arith}
+use Rattle.std.proofs.Common.{◌≡◌, ◌≢◌, ℕ, zero, suc, ◌+◌, ◌-◌, ◌*◌, ◌<◌, ◌≤◌, ◌⊎◌, Bool, true, false, not, leb, eqb, [], ◌∷◌, get_or, refl, sym, ap, ◌∙◌, inl, inr, arith}
 use Rattle.std.specs.Prelude.{nat_lt, ◌&&◌, ◌||◌}
-use Rattle.std.proofs.lemmas.Bool.{cases_lt, cases_order, cases_eq, cases_Bool, agree_below_at, lt-ltb, le-ltb, ltb-true, ltb-false, eqb-true, eqb-false, eq-eqb, ne_eqb, leb-true, or_cases, le-leb}
-use Rattle.place_index.specs.Square.{file, rank, on_diagonal, under_diagonal, before}
+use Rattle.std.proofs.lemmas.Bool.{cases_lt, cases_eq, agree_below_at, lt-ltb, le-ltb, ltb-true, eqb-true, eq-eqb, ne_eqb, le-leb}
+use Rattle.place_index.specs.Square.{file, rank, under_diagonal, before}
 use Rattle.place_index.specs.Counting.{count_before}
 use Rattle.place_index.proofs.Counting.{count_later}
 use Rattle.place_index.proofs.Orders.{later_head, never_later, later_total, same_heads}
 use Rattle.place_index.specs.Choose.{IsLater}
-use Rattle.place_index.specs.Three.{triangle_number, lower_number, IsTurnedThree, three_size, first_off, three_at, three_number, three_order, triangle, ThreesAreNumbered}
+use Rattle.place_index.specs.Three.{triangle_number, lower_number, IsTurnedThree, first_off, three_at, three_number, three_order, triangle, ThreesAreNumbered}
 
 -- ---- men before a man
 

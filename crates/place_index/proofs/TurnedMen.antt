@@ -1,24 +1,22 @@
 -- What the code of the turning needs to know of men.
-use Rattle.std.proofs.Common.{◌≡◌, ℕ, suc, ◌+◌, ◌-◌, ◌<◌, ◌≤◌, Bool, true, false, cond, ltb, List, [], ◌∷◌, length, take, drop, map, slice_index, get_or, refl, sym, ap, ◌∙◌, subst, inl, inr, arith, length-take-le}
-use Rattle.std.proofs.lemmas.Bool.{cases_lt, cases_Bool, cases_eq, eq-eqb, ne_eqb}
-use Rattle.std.proofs.lemmas.List.{length-map, drop_more}
-use Rattle.place_index.specs.Square.{file, rank, on_diagonal, left_right, bottom_top, across}
-use Rattle.place_index.specs.Material.{pieces_of, count_of, white_pawns, black_pawns}
+use Rattle.std.proofs.Common.{◌≡◌, ℕ, suc, ◌+◌, ◌<◌, ◌≤◌, Bool, true, false, cond, ltb, List, [], ◌∷◌, length, take, slice_index, get_or, refl, sym, ap, ◌∙◌, arith, length-take-le}
+use Rattle.std.proofs.lemmas.List.{length-map}
+use Rattle.place_index.specs.Square.{file, rank, left_right, bottom_top}
+use Rattle.place_index.specs.Material.{pieces_of, white_pawns, black_pawns}
 use Rattle.place_index.specs.Men.{codes_of, stands, falling, square_of, moved}
-use Rattle.place_index.specs.Pawns.{pawn_square, pawn_numbers_of, AreTurnedPawns}
-use Rattle.place_index.specs.Shape.{Layout, has_pawns, has_unique, lead_code, lead_men, is_pawn}
+use Rattle.place_index.specs.Pawns.{pawn_square, pawn_numbers_of}
+use Rattle.place_index.specs.Shape.{Layout, has_pawns, lead_code, lead_men}
 use Rattle.place_index.specs.Turning.{leftward, downward, under, turned_pieces, to_left, to_bottom, turned_pawns, lead_pawn, turned, lead_file}
-use Rattle.place_index.specs.Index.{AreAlone, AreMen, IsPlacement, IsShape, ArePawnsAt, IsLeadTurned}
+use Rattle.place_index.specs.Index.{AreMen, IsPlacement, IsShape, IsLeadTurned}
 use Rattle.place_index.specs.declared.man.Man.{Man}
 use Rattle.place_index.proofs.Arranging.{arranged_length}
 use Rattle.place_index.proofs.Beginning.{lead_by_pawns, some_pawns, no_pawns}
-use Rattle.place_index.proofs.Falling.{falling_member, falling_falls}
+use Rattle.place_index.proofs.Falling.{falling_falls}
 use Rattle.place_index.proofs.Greatest.{lead_least, lead_most}
 use Rattle.place_index.proofs.MenTables.{men_most}
 use Rattle.place_index.proofs.MappedSets.{falling_at}
-use Rattle.place_index.proofs.Board.{settled, IsMirroring, left_right_mirrors, bottom_top_mirrors, across_mirrors, moved_alone, moved_board}
-use Rattle.place_index.proofs.TurnedPawns.{ArePawns, numbers_size, square_number}
-use Rattle.place_index.proofs.TurnedPieces.{AreTwo}
+use Rattle.place_index.proofs.Board.{settled, IsMirroring, left_right_mirrors, bottom_top_mirrors, moved_alone, moved_board}
+use Rattle.place_index.proofs.TurnedPawns.{numbers_size}
 use Rattle.place_index.proofs.Alone.{square_of_alone}
 use Rattle.place_index.proofs.LayoutGroups.{lead_is_pawn, lead_count}
 use Rattle.place_index.proofs.IndexLaw.{pawns_are, lead_kings, two_are, turned_placement}

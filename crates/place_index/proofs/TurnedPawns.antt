@@ -1,7 +1,7 @@
 -- After the turning leading pawns stand as their number wants.
-use Rattle.std.proofs.Common.{◌≡◌, ◌≢◌, ℕ, zero, suc, ◌+◌, ◌-◌, ◌*◌, ◌/◌, ◌%◌, ◌<◌, ◌≤◌, ◌⊎◌, Bool, true, false, cond, eqb, leb, List, [], ◌∷◌, length, drop, slice_index, refl, sym, ap, ◌∙◌, subst, inl, inr, arith}
-use Rattle.std.specs.Prelude.{nat_lt, not, ◌&&◌, ◌||◌}
-use Rattle.std.proofs.lemmas.Bool.{cases_lt, cases_eq, cases_Bool, eq-eqb, ne_eqb, eqb-true, leb-true, lt-ltb, le-ltb, ltb-true, ltb-false, and_parts, and_from, false≢true, agree_below_at}
+use Rattle.std.proofs.Common.{◌≡◌, ◌≢◌, ℕ, zero, suc, ◌+◌, ◌-◌, ◌%◌, ◌<◌, ◌≤◌, ◌⊎◌, Bool, true, false, cond, eqb, leb, List, [], ◌∷◌, length, slice_index, refl, sym, ap, ◌∙◌, subst, inl, inr, arith}
+use Rattle.std.specs.Prelude.{nat_lt, ◌&&◌, ◌||◌}
+use Rattle.std.proofs.lemmas.Bool.{cases_lt, cases_eq, cases_Bool, eq-eqb, ne_eqb, eqb-true, leb-true, lt-ltb, le-ltb, and_parts, false≢true, agree_below_at}
 use Rattle.place_index.specs.Square.{file, rank, left_right}
 use Rattle.place_index.specs.Choose.{IsFallingBelow}
 use Rattle.place_index.specs.Material.{count_of, pieces_of}
@@ -12,7 +12,7 @@ use Rattle.place_index.specs.Turning.{lead_pawn, leftward, turned_pawns, lead_fi
 use Rattle.place_index.specs.Index.{AreAlone, IsPlacement}
 use Rattle.place_index.specs.declared.man.Man.{Man}
 use Rattle.place_index.proofs.Arranging.{count_nil, count_hit, count_miss, count_arranged}
-use Rattle.place_index.proofs.Falling.{falling_hit, falling_miss, falling_none, falling_falls, falling_same, same_falling, falling_empty, falling_member}
+use Rattle.place_index.proofs.Falling.{falling_hit, falling_miss, falling_falls, falling_same, same_falling, falling_member}
 use Rattle.place_index.proofs.Settled.{IsSettled, squares_same}
 use Rattle.place_index.proofs.Board.{settled, stands_here, stands_later, stands_same_code, stands_other_code, stands_moved, moved_placement, left_right_mirrors, length_inserted, falling_inserted}
 

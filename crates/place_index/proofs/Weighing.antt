@@ -1,8 +1,8 @@
 -- A material is found by the weight of its men.
-use Rattle.std.proofs.Common.{◌≡◌, ◌≢◌, ℕ, zero, suc, ◌+◌, ◌<◌, ◌≤◌, ◌⊎◌, Bool, true, false, cond, eqb, leb, Option, Some, None, List, [], ◌∷◌, length, drop, map, get_or, slice_index, refl, sym, ap, ◌∙◌, subst, inl, inr, arith}
+use Rattle.std.proofs.Common.{◌≡◌, ℕ, zero, suc, ◌+◌, ◌<◌, ◌≤◌, true, cond, eqb, leb, Option, Some, None, List, [], ◌∷◌, length, drop, map, get_or, slice_index, refl, sym, ap, ◌∙◌, subst, inl, inr, arith}
 use Rattle.std.specs.Prelude.{sum_by, count_by}
 use Rattle.std.specs.List.Sorted.{IsPermutation}
-use Rattle.std.proofs.lemmas.Bool.{agree_below_at, eqb-true, leb-true, cases_lt}
+use Rattle.std.proofs.lemmas.Bool.{agree_below_at, eqb-true, leb-true}
 use Rattle.std.proofs.lemmas.List.{drop_more, drop_all}
 use Rattle.std.proofs.lemmas.List.Sums.{sum_by-cons}
 use Rattle.std.proofs.lemmas.List.Sorted.{sum_by-IsPermutation, IsPermutation-map}
@@ -12,7 +12,7 @@ use Rattle.board_core.specs.declared.piece.Side.TheVariants.{White, Black}
 use Rattle.board_core.specs.Position.{is_of, is_same_side}
 use Rattle.place_index.specs.Material.{men_of, pieces_of}
 use Rattle.place_index.specs.Men.{codes_of, other_side, exchanged}
-use Rattle.place_index.specs.Placed.{weight, weight_of, men_from, men_on, IsNamed, IsMaterialOf}
+use Rattle.place_index.specs.Placed.{weight, weight_of, men_from, IsNamed, IsMaterialOf}
 use Rattle.place_index.specs.declared.man.Man.{Man}
 use Rattle.place_index.specs.declared.tables.TheConstants.{WEIGHTS, KEYS}
 use Rattle.place_index.proofs.MenOn.{men_none, men_some, men_nil}

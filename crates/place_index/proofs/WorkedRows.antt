@@ -1,5 +1,5 @@
 -- Worked rows, computed from the definitions.
-use Rattle.std.proofs.Common.{◌≡◌, ℕ, cond, eqb, List, [], ◌∷◌, length, map, refl}
+use Rattle.std.proofs.Common.{◌≡◌, [], ◌∷◌, refl}
 use Rattle.place_index.specs.Square.{before}
 use Rattle.place_index.specs.Counting.{count_before}
 use Rattle.place_index.specs.Choose.{parts, choose}
@@ -9,11 +9,10 @@ use Rattle.place_index.specs.Kings.{kings_size}
 use Rattle.place_index.specs.Others.{taken, free_number}
 use Rattle.place_index.specs.Men.{man, stands, falling, squares_of}
 use Rattle.place_index.specs.Material.{men_of, count_of, pieces_of}
-use Rattle.place_index.specs.Shape.{Layout, layout, has_unique, lead_code, other_code, lead_pawns, other_pawns, lead_men, runs, upto, places, lead_size, other_sizes, product, factor_at, size_of}
+use Rattle.place_index.specs.Shape.{Layout, layout, has_unique, lead_code, other_code, lead_pawns, other_pawns, lead_men, runs, upto, places, lead_size, other_sizes, product, factor_at}
 use Rattle.place_index.specs.Turning.{lead_pawn, under, to_left, to_bottom, turned_pawns, turned_pieces, turned, lead_file}
 use Rattle.place_index.specs.Index.{lead_number, other_numbers, numbers_of, sum_of_products, index_of}
 use Rattle.place_index.proofs.Choosing.{pascal, choose_pascal}
-use Rattle.place_index.specs.declared.man.Man.{Man}
 
 -- KRvK
 abbrev rook : Layout

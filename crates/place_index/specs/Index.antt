@@ -1,5 +1,5 @@
 -- The index of a placement: group numbers times factors (Syzygy index).
-use Rattle.std.specs.Prelude.{◌≡◌, ℕ, ◌+◌, ◌*◌, ◌<◌, ◌≤◌, List, [], ◌∷◌, take, drop, map, flat_map, length, true, false, IsTrue, cond, slice_index}
+use Rattle.std.specs.Prelude.{◌≡◌, ℕ, ◌+◌, ◌*◌, ◌<◌, ◌≤◌, List, [], ◌∷◌, take, drop, flat_map, length, true, false, IsTrue, cond, slice_index}
 use Rattle.std.specs.List.Sorted.{IsPermutation}
 use Rattle.place_index.specs.Square.{file, rank}
 use Rattle.place_index.specs.Material.{pieces_of}

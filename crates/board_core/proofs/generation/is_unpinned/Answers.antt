@@ -13,6 +13,6 @@ returns c = λ t m k here to rule carry.
     let calm = c.requires.calm (search rules) in
     let away : c.args.from ≢ king = search rules in
     let unpinned : (r : Ray p.men Queen king c.args.from) → IsStruck p.men (other p.side) r.direction c.args.from → ⊥ =
-      λ r s. let x = c.is_pinned.ensures r (rw c.other.ensures s) in search rules in
+    λ r s. let x = c.is_pinned.ensures r (rw c.other.ensures s) in search rules in
     free_to_go _ m k _ (omega arith) (omega arith) to rule carry (rw here away) c.requires.only calm
     (subst (λ f. (r : Ray p.men Queen king f) → IsStruck p.men (other p.side) r.direction f → ⊥) (sym here) unpinned)

@@ -15,9 +15,9 @@ returns c =
     let men = c.args.p.now.men in
     let side = c.args.p.now.side in
     let own : c.of_side-own.result ≡ squares_where (is_of side) men =
-      c.of_side-own.ensures ∙ ap (λ (x : Sides). squares_of x side) c.requires.sides ∙ side_set men side in
+    c.of_side-own.ensures ∙ ap (λ (x : Sides). squares_of x side) c.requires.sides ∙ side_set men side in
     let enemy : c.of_side.result ≡ squares_where (is_of (other side)) men =
-      rw c.other.ensures at c.of_side.ensures ∙ ap (λ (x : Sides). squares_of x (other side)) c.requires.sides ∙ side_set men (other side) in
+    rw c.other.ensures at c.of_side.ensures ∙ ap (λ (x : Sides). squares_of x (other side)) c.requires.sides ∙ side_set men (other side) in
     record {
       own = λ s _ t. rw own (in_set men side s t);
       enemy = λ s _ t. rw enemy (in_set men (other side) s t);

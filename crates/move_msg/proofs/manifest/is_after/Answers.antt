@@ -1,6 +1,5 @@
-use Rattle.std.proofs.Common.{rules, ◌≡◌, ◌-◌, ◌+◌, sym, ◌∙◌, ap, length, map, get_or, arith}
+use Rattle.std.proofs.Common.{◌≡◌, ◌-◌, sym, ◌∙◌, ap, length, map, get_or, arith}
 use Rattle.std.proofs.lemmas.List.{length-map, get_or-map}
-use Rattle.move_msg.specs.declared.manifest.Line.{Line}
 use Rattle.move_msg.specs.Manifests.{Entry, IsAfter, IsBefore, entry_of}
 use Rattle.move_msg.proofs.ManifestLaws.{after_at}
 use Rattle.move_msg.proofs.manifest.is_after.Goals as goal

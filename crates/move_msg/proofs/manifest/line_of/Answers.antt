@@ -1,6 +1,4 @@
-use Rattle.std.proofs.Common.{◌≡◌, ◌∷◌, ◌++◌, List, ℕ, take, drop, sym, ◌∙◌, ap, length, arith, refl}
-use Rattle.hex.specs.Hex.{encode_lower}
-use Rattle.move_msg.specs.Manifests.{entry_text}
+use Rattle.std.proofs.Common.{◌∷◌, List, ℕ, sym, ◌∙◌, ap, length, arith}
 use Rattle.move_msg.proofs.CutBytes.{tail_same}
 use Rattle.move_msg.proofs.ManifestLaws.{digits_first, entry_by, entry_long}
 use Rattle.move_msg.proofs.manifest.line_of.Goals as goal

@@ -1,4 +1,4 @@
-use Rattle.std.proofs.Common.{rules, ◌≡◌, ◌++◌, ◌∷◌, ◌+◌, [], ℕ, List, refl, sym, ◌∙◌, ap, map, length, arith, inr, subst}
+use Rattle.std.proofs.Common.{rules, ◌≡◌, ◌++◌, ◌∷◌, [], ℕ, List, refl, sym, ◌∙◌, ap, map, arith, inr, subst}
 use Rattle.std.proofs.lemmas.List.{map-append, length-map, append_assoc}
 use Rattle.move_msg.specs.Manifests.{Entry, IsAfter, AreEntries, entry_of, line_text, lines_text}
 use Rattle.move_msg.proofs.ManifestLaws.{one_line, entries_more, lines_more, first_line_of}

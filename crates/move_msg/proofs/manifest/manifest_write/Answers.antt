@@ -1,7 +1,7 @@
 use Rattle.std.proofs.Common.{◌≡◌, ◌++◌, ◌∷◌, ◌+◌, [], ℕ, List, sym, ◌∙◌, ap, map, take}
 use Rattle.std.proofs.lemmas.List.{map-append, take_more}
 use Rattle.move_msg.specs.declared.manifest.Line.{Line}
-use Rattle.move_msg.specs.Manifests.{Entry, entry_of, line_text, lines_text}
+use Rattle.move_msg.specs.Manifests.{entry_of, line_text, lines_text}
 use Rattle.move_msg.proofs.ManifestLaws.{lines_more}
 use Rattle.move_msg.proofs.manifest.manifest_write.Goals as goal
 

@@ -1,4 +1,4 @@
-use Rattle.std.proofs.Common.{◌≡◌, sym, arith}
+use Rattle.std.proofs.Common.{sym}
 use Rattle.place_index.proofs.Weighing.{weight_most, weight_none}
 use Rattle.place_index.proofs.finding.code_weight.Goals as goal
 

@@ -1,4 +1,4 @@
-use Rattle.std.proofs.Common.{◌≡◌, arith}
+use Rattle.std.proofs.Common.{arith}
 use Rattle.place_index.proofs.Weighing.{weight_more, weight_end}
 use Rattle.place_index.proofs.finding.weight.Goals as goal
 

@@ -1,6 +1,5 @@
-use Rattle.std.proofs.Common.{◌≡◌, ◌≤◌, ◌<◌, ◌∙◌, ap, sym, subst, length, arith}
-use Rattle.place_index.specs.Shape.{factors_of, size_of, greatest_size}
-use Rattle.place_index.specs.Index.{IsPlacement, IsLeadTurned, numbers_of, sum_of_products, index_of}
+use Rattle.std.proofs.Common.{◌∙◌, ap, sym, subst, length, arith}
+use Rattle.place_index.specs.Index.{IsPlacement, IsLeadTurned, numbers_of, sum_of_products}
 use Rattle.place_index.specs.Turning.{turned}
 use Rattle.place_index.proofs.Greatest.{size_is_within}
 use Rattle.place_index.proofs.IndexLaw.{index_below, turned_placement, index_products, products_length}

@@ -1,4 +1,4 @@
-use Rattle.std.proofs.Common.{◌≡◌, ◌≤◌, ◌∙◌, true, ap, subst, length, take, arith}
+use Rattle.std.proofs.Common.{◌≡◌, ◌∙◌, true, ap, subst, length, take, arith}
 use Rattle.place_index.specs.Shape.{has_pawns}
 use Rattle.place_index.proofs.Numbering.{codes_pawned}
 use Rattle.place_index.proofs.TurnedMen.{pawned_of}

@@ -1,7 +1,7 @@
-use Rattle.std.proofs.Common.{◌≡◌, ◌≤◌, ◌+◌, ◌<◌, ◌++◌, ◌∙◌, ap, sym, subst, length, take, get_or, arith, length-append}
+use Rattle.std.proofs.Common.{◌+◌, ◌++◌, ◌∙◌, ap, sym, subst, length, take, get_or, arith, length-append}
 use Rattle.std.proofs.lemmas.List.{take_all}
 use Rattle.place_index.specs.Men.{squares_of}
-use Rattle.place_index.specs.Index.{squares_of_all, lead_codes}
+use Rattle.place_index.specs.Index.{squares_of_all}
 use Rattle.place_index.proofs.Factors.{AreDistinct}
 use Rattle.place_index.proofs.Numbering.{follow, distinct_taken, all_more, squares_few}
 use Rattle.place_index.proofs.TurnedMen.{are_men}

@@ -1,7 +1,7 @@
-use Rattle.std.proofs.Common.{◌≡◌, ◌≤◌, ◌<◌, ◌+◌, ◌-◌, ◌++◌, ◌∷◌, [], ◌∙◌, ap, sym, refl, subst, length, take, drop, get_or, slice_index, arith}
-use Rattle.std.proofs.lemmas.List.{take_rest, drop_more, drop_all}
+use Rattle.std.proofs.Common.{◌<◌, ◌+◌, ◌-◌, ◌++◌, ◌∷◌, [], ◌∙◌, ap, sym, subst, length, take, drop, get_or, slice_index, arith}
+use Rattle.std.proofs.lemmas.List.{drop_more, drop_all}
 use Rattle.place_index.specs.Men.{squares_of}
-use Rattle.place_index.specs.Shape.{groups_of, other_groups, group, lead_men}
+use Rattle.place_index.specs.Shape.{other_groups, group, lead_men}
 use Rattle.place_index.specs.Others.{free_set_number}
 use Rattle.place_index.specs.Index.{squares_of_all, lead_codes}
 use Rattle.place_index.proofs.Making.{made_rest}

@@ -1,4 +1,4 @@
-use Rattle.std.proofs.Common.{◌≡◌, drop}
+use Rattle.std.proofs.Common.{drop}
 use Rattle.place_index.proofs.Numbering.{IsNumbered}
 use Rattle.place_index.proofs.indexing.numbers.Given as goal
 

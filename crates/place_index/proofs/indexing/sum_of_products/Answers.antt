@@ -1,4 +1,4 @@
-use Rattle.std.proofs.Common.{◌≡◌, ◌+◌, ◌*◌, ◌<◌, length, get_or, arith}
+use Rattle.std.proofs.Common.{arith}
 use Rattle.place_index.proofs.Numbering.{products_more, products_end}
 use Rattle.place_index.proofs.indexing.sum_of_products.Goals as goal
 

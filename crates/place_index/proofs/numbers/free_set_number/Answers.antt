@@ -1,5 +1,5 @@
-use Rattle.std.proofs.Common.{◌≡◌, ◌≤◌, ◌-◌, ◌+◌, length, get_or, ap, arith}
-use Rattle.place_index.specs.Choose.{set_number, choose}
+use Rattle.std.proofs.Common.{◌≤◌, ◌-◌, length, ap, arith}
+use Rattle.place_index.specs.Choose.{choose}
 use Rattle.place_index.specs.Others.{free_number}
 use Rattle.place_index.proofs.MappedSets.{mapped_drop, mapped_end}
 use Rattle.place_index.proofs.Choosing.{choose_few}

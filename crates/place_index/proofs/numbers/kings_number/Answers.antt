@@ -1,4 +1,4 @@
-use Rattle.std.proofs.Common.{◌≡◌, ◌<◌, ◌+◌, ◌*◌, ◌∙◌, ap, slice_index, arith}
+use Rattle.std.proofs.Common.{◌+◌, ◌*◌, ◌∙◌, ap, slice_index, arith}
 use Rattle.place_index.specs.declared.tables.TheConstants.{KINGS}
 use Rattle.place_index.proofs.KingOrder.{triangle_ten}
 use Rattle.place_index.proofs.KingTable.{king_table}

@@ -1,4 +1,4 @@
-use Rattle.std.proofs.Common.{◌≡◌, ◌≢◌, ℕ, true, false, ◌∙◌, ap, sym, refl, subst, slice_index, cond, inl, inr, arith}
+use Rattle.std.proofs.Common.{◌≡◌, true, false, ◌∙◌, ap, sym, subst, slice_index}
 use Rattle.std.proofs.lemmas.Bool.{false≢true}
 use Rattle.place_index.specs.Kings.{AreTurnedKings, kings_number}
 use Rattle.place_index.specs.Three.{three_number}

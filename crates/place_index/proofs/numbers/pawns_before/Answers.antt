@@ -1,4 +1,4 @@
-use Rattle.std.proofs.Common.{◌≡◌, ◌<◌, ◌+◌, ◌*◌, arith}
+use Rattle.std.proofs.Common.{◌<◌, ◌+◌, ◌*◌, arith}
 use Rattle.place_index.proofs.IndexTables.{before_table, before_most}
 use Rattle.place_index.proofs.numbers.pawns_before.Goals as goal
 

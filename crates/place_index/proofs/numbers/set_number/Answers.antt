@@ -1,5 +1,4 @@
-use Rattle.std.proofs.Common.{◌≡◌, ◌≤◌, ◌-◌, ◌+◌, length, get_or, arith}
-use Rattle.place_index.specs.Choose.{set_number, choose}
+use Rattle.std.proofs.Common.{◌-◌, length, get_or, arith}
 use Rattle.place_index.proofs.SetNumbers.{number_drop, number_end}
 use Rattle.place_index.proofs.Choosing.{choose_few}
 use Rattle.place_index.proofs.numbers.set_number.Goals as goal

@@ -1,4 +1,4 @@
-use Rattle.std.proofs.Common.{◌≡◌, arith}
+use Rattle.std.proofs.Common.{arith}
 use Rattle.place_index.proofs.MappedSets.{taken_drop, taken_end}
 use Rattle.place_index.proofs.numbers.taken.Goals as goal
 

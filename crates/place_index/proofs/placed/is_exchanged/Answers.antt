@@ -1,4 +1,3 @@
-use Rattle.std.proofs.Common.{◌≡◌, arith}
 use Rattle.std.specs.Prelude.{◌==◌}
 use Rattle.place_index.proofs.Symmetric.{symmetric_named}
 use Rattle.place_index.proofs.placed.is_exchanged.Goals as goal

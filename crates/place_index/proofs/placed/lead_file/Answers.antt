@@ -1,6 +1,5 @@
-use Rattle.std.proofs.Common.{◌≡◌, ◌<◌, ◌≤◌, ◌%◌, ◌∙◌, ap, sym, refl, false, arith}
+use Rattle.std.proofs.Common.{◌∙◌, sym}
 use Rattle.std.proofs.lemmas.Bool.{false≢true}
-use Rattle.place_index.specs.Turning.{lead_pawn}
 use Rattle.place_index.proofs.TurnedMen.{pawned_of, plain_of}
 use Rattle.place_index.proofs.TurnedPawns.{file_none, file_left, file_right}
 use Rattle.place_index.proofs.placed.lead_file.Goals as goal

@@ -1,7 +1,7 @@
-use Rattle.std.proofs.Common.{◌≡◌, ◌≤◌, ◌<◌, ◌-◌, ◌∙◌, Bool, true, false, cond, ap, refl, sym, subst, length, arith}
+use Rattle.std.proofs.Common.{◌≡◌, ◌-◌, ◌∙◌, cond, ap, refl, sym, subst, arith}
 use Rattle.place_index.specs.Men.{exchanged}
 use Rattle.place_index.specs.Index.{IsPlacement}
-use Rattle.place_index.specs.Placed.{IsNamed, IsMaterialOf, IsSymmetric, men_on, side_number}
+use Rattle.place_index.specs.Placed.{IsNamed, men_on, side_number}
 use Rattle.place_index.specs.Turning.{lead_file}
 use Rattle.place_index.proofs.MenOn.{stood, placement_in_colours}
 use Rattle.place_index.proofs.Symmetric.{material_few}

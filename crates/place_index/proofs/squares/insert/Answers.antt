@@ -1,4 +1,4 @@
-use Rattle.std.proofs.Common.{◌≡◌, ◌≤◌, ◌<◌, ◌∙◌, sym, ap, length, get_or, arith}
+use Rattle.std.proofs.Common.{◌≤◌, ◌<◌, ◌∙◌, ap, length, get_or, arith}
 use Rattle.place_index.specs.Men.{inserted}
 use Rattle.place_index.proofs.Collecting.{insert_on, insert_here, insert_end}
 use Rattle.place_index.proofs.squares.insert.Goals as goal

@@ -1,6 +1,6 @@
-use Rattle.std.proofs.Common.{◌≡◌, ◌∙◌, sym, ap, length, arith}
+use Rattle.std.proofs.Common.{◌∙◌, sym, ap, length, arith}
 use Rattle.place_index.specs.Men.{inserted}
-use Rattle.place_index.specs.Pawns.{pawn_number, pawn_numbers_of}
+use Rattle.place_index.specs.Pawns.{pawn_number}
 use Rattle.place_index.proofs.Collecting.{numbers_end, numbers_pass, numbers_take}
 use Rattle.place_index.proofs.IndexTables.{number_table}
 use Rattle.place_index.proofs.squares.pawn_numbers_of.Goals as goal

@@ -1,4 +1,4 @@
-use Rattle.std.proofs.Common.{◌≡◌, arith}
+use Rattle.std.proofs.Common.{arith}
 use Rattle.place_index.proofs.IndexTables.{square_table}
 use Rattle.place_index.proofs.TurnedPawns.{square_range}
 use Rattle.place_index.proofs.squares.pawn_square.Goals as goal

@@ -1,4 +1,4 @@
-use Rattle.std.proofs.Common.{◌≡◌, ◌≤◌, ◌<◌, ◌∙◌, sym, ap, slice_index, arith}
+use Rattle.std.proofs.Common.{◌∙◌, sym, ap, slice_index, arith}
 use Rattle.place_index.proofs.Collecting.{squares_end, squares_pass, highest_more, highest_same}
 use Rattle.place_index.proofs.squares.square_of.Goals as goal
 

@@ -1,5 +1,5 @@
-use Rattle.std.proofs.Common.{◌≡◌, ◌∙◌, sym, ap, length, arith}
-use Rattle.place_index.specs.Men.{inserted, squares_of}
+use Rattle.std.proofs.Common.{◌∙◌, sym, ap, length, arith}
+use Rattle.place_index.specs.Men.{inserted}
 use Rattle.place_index.proofs.Collecting.{squares_end, squares_pass, squares_take}
 use Rattle.place_index.proofs.squares.squares_of.Goals as goal
 

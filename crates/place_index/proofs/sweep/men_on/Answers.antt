@@ -1,6 +1,6 @@
-use Rattle.std.proofs.Common.{◌≡◌, ◌≤◌, ◌<◌, ◌+◌, ◌++◌, ◌∷◌, [], ◌∙◌, Some, None, ap, sym, subst, length, arith}
+use Rattle.std.proofs.Common.{◌≡◌, ◌<◌, ◌+◌, ◌++◌, ◌∷◌, [], ◌∙◌, ap, sym, subst, arith}
 use Rattle.place_index.specs.Men.{man}
-use Rattle.place_index.proofs.MenOn.{IsSwept, swept_start, swept_item, swept_next, swept_end, swept_room, swept_some}
+use Rattle.place_index.proofs.MenOn.{IsSwept, swept_start, swept_next, swept_end, swept_room, swept_some}
 use Rattle.place_index.proofs.sweep.men_on.Goals as goal
 use Rattle.place_index.proofs.sweep.men_on.Goals.{in-Some, in_default}
 

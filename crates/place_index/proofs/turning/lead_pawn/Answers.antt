@@ -1,4 +1,4 @@
-use Rattle.std.proofs.Common.{◌≡◌, ◌≤◌, ◌<◌, ◌∙◌, ap, length, slice_index, subst, sym, true, arith}
+use Rattle.std.proofs.Common.{◌≡◌, ◌∙◌, ap, length, slice_index, subst, true, arith}
 use Rattle.place_index.specs.Men.{stands}
 use Rattle.place_index.specs.Pawns.{pawn_square, pawn_numbers_of}
 use Rattle.place_index.proofs.TurnedMen.{are_men, lead_range, lead_number_few, lead_pawn_is}

@@ -1,9 +1,8 @@
-use Rattle.std.proofs.Common.{◌≡◌, ◌≤◌, ◌<◌, true, false, ◌∙◌, ap, sym, subst, length, take, arith}
+use Rattle.std.proofs.Common.{◌≡◌, true, false, ◌∙◌, ap, sym, subst, length, take, arith}
 use Rattle.std.proofs.lemmas.Bool.{false≢true}
 use Rattle.place_index.specs.Shape.{has_pawns, lead_men}
 use Rattle.place_index.specs.Turning.{leftward, lead_pawn, turned_pieces, lead_file}
 use Rattle.place_index.specs.Index.{AreMen, IsPlacement}
-use Rattle.place_index.proofs.Greatest.{lead_least, lead_most}
 use Rattle.place_index.proofs.TurnedMen.{are_men, men_few, pawned_of, plain_of, turned_pawned, turned_plain, taken_length}
 use Rattle.place_index.proofs.turning.turned.Goals as goal
 

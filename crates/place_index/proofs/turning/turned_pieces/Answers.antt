@@ -1,4 +1,4 @@
-use Rattle.std.proofs.Common.{◌≡◌, ◌∙◌, ap, sym, refl, subst, slice_index}
+use Rattle.std.proofs.Common.{◌∙◌, ap, sym, refl, subst, slice_index}
 use Rattle.place_index.specs.Men.{square_of}
 use Rattle.place_index.specs.Turning.{leftward, downward}
 use Rattle.place_index.specs.Index.{AreMen}

@@ -1,4 +1,4 @@
-use Rattle.std.proofs.Common.{◌≡◌, ◌∙◌, ap, sym}
+use Rattle.std.proofs.Common.{◌∙◌, ap, sym}
 use Rattle.place_index.specs.Square.{across}
 use Rattle.place_index.specs.Men.{moved}
 use Rattle.place_index.specs.Turning.{is_above}

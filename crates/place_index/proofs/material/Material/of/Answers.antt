@@ -1,8 +1,7 @@
-use Rattle.std.proofs.Common.{◌≡◌, ◌≤◌, ◌<◌, ◌∙◌, false, true, ap, sym, subst, length, slice_index, arith}
+use Rattle.std.proofs.Common.{◌≡◌, ◌∙◌, ap, sym, subst, arith}
 use Rattle.std.proofs.lemmas.Bool.{false≢true}
 use Rattle.place_index.specs.Men.{codes_of}
 use Rattle.place_index.specs.Placed.{men_on, weight_of, key_by_weight, IsMaterialOf}
-use Rattle.place_index.specs.declared.tables.TheConstants.{KEYS}
 use Rattle.place_index.proofs.Symmetric.{material_few}
 use Rattle.place_index.proofs.Weighing.{found_key, found_few, men_count}
 use Rattle.place_index.proofs.material.Material.of.Goals as goal
