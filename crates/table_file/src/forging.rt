@@ -27,7 +27,7 @@ use layout::laid_out;
 /// Why a table file wasn't written.
 #[derive(Clone, Copy, Debug, PartialEq, Eq)]
 pub enum ForgeFault {
-    /// No table file says what the plan says.
+    /// The plan breaks a rule of plans, or the file made of it doesn't say what the plan says.
     BadPlan,
     /// The writer failed. Some bytes of the file may be out.
     Io,
@@ -104,9 +104,9 @@ fn forged(alloc: Global, plan: &Plan) -> Result<Vec<u8>, ForgeFault>
 
 /// Writes the table file that a plan describes (Syzygy table format). Fill and checksum are zero.
 ///
-/// The file is made in memory, opened and compared with the plan before the first byte is written. `BadPlan` comes where no
-/// file says what the plan says, and `OutOfMemory` where memory is refused; both leave the writer as it was. `Io` comes only
-/// where the writer failed, and some bytes may be out then.
+/// The file is made in memory, opened and compared with the plan before the first byte is written. `BadPlan` comes where
+/// the plan breaks a rule of plans or the file doesn't say what it says, and `OutOfMemory` where memory is refused; both leave
+/// the writer as it was. `Io` comes only where the writer failed, and some bytes may be out then.
 pub fn forge<W: Write>(alloc: Global, plan: &Plan, out: &mut W) -> Result<(), ForgeFault>
     ensures ok { OnOk result ((file : List ℕ) × Appends (W.contents out.old) (W.contents out.new) file × OpensAs plan.now file) }
     ensures good { OnOk result (IsGoodPlan plan.now.kind plan.now.material plan.now.parts.items) }
