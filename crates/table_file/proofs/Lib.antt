@@ -12,3 +12,4 @@ pub mod LayoutSections
 pub mod LayoutWhole
 pub mod Refusing
 pub mod PartsRead
+pub mod MapEntries
