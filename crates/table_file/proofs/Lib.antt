@@ -13,3 +13,4 @@ pub mod LayoutWhole
 pub mod Refusing
 pub mod PartsRead
 pub mod MapEntries
+pub mod StoredSides

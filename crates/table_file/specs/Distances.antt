@@ -1,5 +1,5 @@
 -- Distances that a DTZ table tells (Syzygy table format, flags of DTZ tables and value maps).
-use Rattle.std.specs.Prelude.{ℕ, ◌*◌, ◌%◌, Bool, true, false, List, slice_get, slice_index_or, Option, Some, None, ◌==◌, ◌||◌, not, if◌then◌else◌}
+use Rattle.std.specs.Prelude.{◌≡◌, ℕ, ◌*◌, ◌%◌, Bool, true, false, List, slice_get, slice_index_or, Option, Some, None, ◌==◌, ◌||◌, not, if◌then◌else◌}
 use Rattle.pair_dict.specs.Reading.{words}
 use Rattle.table_file.specs.declared.outcome.Outcome.{Outcome}
 use Rattle.table_file.specs.declared.outcome.Outcome.TheVariants.{Win, CursedWin, BlessedLoss, Loss}
@@ -23,6 +23,10 @@ file_maps t file = slice_index_or t.maps (place_of t 0 file) no_maps
 -- Whether the values of a file are for this side to move: bit 0 of the flags is the side, or both sides have the same men.
 unfoldable pub stores : Contents → ℕ → ℕ → Bool
 stores t side file = file_flags t file % 2 == side || is_symmetric t.material
+
+-- A file stores one side at least.
+abbrev pub ASideIsStored : Type 0
+ASideIsStored = (t : Contents) (file : ℕ) → (stores t 0 file ≡ false → stores t 1 file ≡ true) × (stores t 1 file ≡ false → stores t 0 file ≡ true)
 
 -- the bytes of the map of an outcome
 abbrev pub map_of : ValueMaps → Outcome → List ℕ

@@ -26,7 +26,7 @@ mod tests;
 pub use fault::TableFault;
 pub use forging::{ForgeFault, forge};
 pub use kind::Kind;
-pub use laws::reads_what_is_laid_out;
+pub use laws::{a_side_is_stored, reads_what_is_laid_out};
 pub use outcome::Outcome;
 pub use pair_dict::Damaged;
 pub use plan::{Content, MapsPlan, PairsPlan, PartPlan, Plan};

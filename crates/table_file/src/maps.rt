@@ -1,10 +1,11 @@
 //! Value maps.
 
-ghost use Rattle.std.specs.Prelude.{◌≡◌, slice_get};
+ghost use Rattle.std.specs.Prelude.{◌≡◌, ◌≢◌, slice_get, IfErr};
 ghost use Rattle.pair_dict.specs.Reading.{words};
+ghost use Rattle.table_file.specs.declared.fault.TableFault.TheVariants.{OutOfMemory};
 ghost use Rattle.table_file.specs.Reading.{Gives, each_at};
 ghost use Rattle.table_file.specs.Maps.{map_at, four_at, maps_at, all_maps_at};
-ghost use Rattle.table_file.specs.Distances.{map_of as bytes_of, entries_of, map_entry};
+ghost use Rattle.table_file.specs.Distances.{map_of as bytes_of, map_entry};
 
 use crate::fault::TableFault;
 use crate::kind::Kind;
@@ -118,7 +119,8 @@ fn word_entry(bytes: &[u8], place: usize) -> Option<u16>
 /// One map: a length and that many entries.
 #[tactic(auto, unfolding(crate::specs::Maps::map_at))]
 fn map_of(wide: bool, bytes: &[u8]) -> Result<(&[u8], &[u8]), TableFault>
-    ensures { Gives (λ x. (x.0.now, x.1.now)) result (map_at wide bytes.now) }
+    ensures is { Gives (λ x. (x.0.now, x.1.now)) result (map_at wide bytes.now) }
+    ensures no_memory { IfErr result (λ e. e ≢ OutOfMemory) }
 {
     if wide {
         let (n, rest) = word(bytes)?;
@@ -132,7 +134,8 @@ fn map_of(wide: bool, bytes: &[u8]) -> Result<(&[u8], &[u8]), TableFault>
 /// Four maps.
 #[tactic(auto, unfolding(crate::specs::Maps::four_at))]
 fn four<'a>(wide: bool, bytes: &'a [u8]) -> Result<(Maps<'a>, &'a [u8]), TableFault>
-    ensures { Gives (λ x. (x.0, x.1.now)) result (four_at wide bytes.now) }
+    ensures is { Gives (λ x. (x.0, x.1.now)) result (four_at wide bytes.now) }
+    ensures no_memory { IfErr result (λ e. e ≢ OutOfMemory) }
 {
     let (win, rest) = map_of(wide, bytes)?;
     let (loss, rest) = map_of(wide, rest)?;
@@ -151,7 +154,8 @@ fn four<'a>(wide: bool, bytes: &'a [u8]) -> Result<(Maps<'a>, &'a [u8]), TableFa
 /// The maps of one file.
 #[tactic(auto, unfolding(crate::specs::Maps::maps_at))]
 fn maps_of<'a>(part: &Part<'_>, bytes: &'a [u8]) -> Result<(Maps<'a>, &'a [u8]), TableFault>
-    ensures { Gives (λ x. (x.0, x.1.now)) result (maps_at part.now bytes.now) }
+    ensures is { Gives (λ x. (x.0, x.1.now)) result (maps_at part.now bytes.now) }
+    ensures no_memory { IfErr result (λ e. e ≢ OutOfMemory) }
 {
     let flags = part.size_record.flags;
     if has_bit(2, flags) {

@@ -1,6 +1,6 @@
 //! Outcomes of a game, and how far a DTZ table's values reach for each.
 
-ghost use Rattle.std.specs.Prelude.{◌≡◌, ◌≤◌, ◌*◌};
+ghost use Rattle.std.specs.Prelude.{◌≡◌, ◌≤◌};
 ghost use Rattle.table_file.specs.Distances.{counts_moves, plies};
 
 use crate::reading::has_bit;

@@ -175,7 +175,7 @@ impl<'a> Table<'a> {
         &self.material
     }
 
-    /// What the values tell.
+    /// What the values tell. It takes no memory.
     pub fn kind(&self) -> Kind
         ensures { result ≡ self.now.kind }
     {
@@ -269,7 +269,8 @@ impl<'a> Table<'a> {
         requires side { side < 2 }
         requires file { IsFile self.now.material file }
         requires real { block < real_blocks self.now side file }
-        ensures { IfOk result (λ values. values.items ≡ values_of self.now side file block) }
+        ensures is { IfOk result (λ values. values.items ≡ values_of self.now side file block) }
+        ensures few { IfOk result (λ values. length values.items ≤ 65536) }
     {
         values_in(alloc, self.view(side, file), block as usize)
     }
