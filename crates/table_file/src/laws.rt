@@ -1,6 +1,7 @@
 //! Laws that the definitions keep.
 
 ghost use Rattle.table_file.specs.Layouts.{ReadsWhatIsLaidOut};
+ghost use Rattle.table_file.specs.Distances.{ASideIsStored};
 
 use pair_dict::reads_what_is_spelled;
 use place_index::tables_are_numbered;
@@ -12,3 +13,8 @@ pub fn reads_what_is_laid_out()
     reads_what_is_spelled();
     tables_are_numbered();
 }
+
+/// A DTZ table tells distances for one side to move at least, in each file of the leading pawn.
+pub fn a_side_is_stored()
+    ensures { ASideIsStored }
+{}

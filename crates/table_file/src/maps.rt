@@ -1,11 +1,15 @@
 //! Value maps.
 
-ghost use Rattle.std.specs.Prelude.{◌≡◌};
+ghost use Rattle.std.specs.Prelude.{◌≡◌, ◌≢◌, slice_get, IfErr};
+ghost use Rattle.pair_dict.specs.Reading.{words};
+ghost use Rattle.table_file.specs.declared.fault.TableFault.TheVariants.{OutOfMemory};
 ghost use Rattle.table_file.specs.Reading.{Gives, each_at};
 ghost use Rattle.table_file.specs.Maps.{map_at, four_at, maps_at, all_maps_at};
+ghost use Rattle.table_file.specs.Distances.{map_of as bytes_of, map_entry};
 
 use crate::fault::TableFault;
 use crate::kind::Kind;
+use crate::outcome::Outcome;
 use crate::parts::Part;
 use crate::reading::{byte, even, has_bit, taken, word};
 use std::alloc::Global;
@@ -64,12 +68,59 @@ impl<'a> Maps<'a> {
     {
         self.blessed_loss
     }
+
+    /// The entries for an outcome.
+    fn bytes(&self, outcome: Outcome) -> &[u8]
+        ensures { result.now ≡ bytes_of self.now outcome }
+    {
+        match outcome {
+            Outcome::Win => self.win,
+            Outcome::CursedWin => self.cursed_win,
+            Outcome::BlessedLoss => self.blessed_loss,
+            Outcome::Loss => self.loss,
+        }
+    }
+
+    /// The entry at a place of the map for an outcome, and `None` past its end.
+    pub(crate) fn entry(&self, outcome: Outcome, place: usize) -> Option<u16>
+        ensures { result ≡ map_entry self.now outcome place }
+    {
+        let bytes = self.bytes(outcome);
+        if self.wide {
+            word_entry(bytes, place)
+        } else {
+            byte_entry(bytes, place)
+        }
+    }
+}
+
+/// An entry of one byte.
+fn byte_entry(bytes: &[u8], place: usize) -> Option<u16>
+    ensures { result ≡ slice_get bytes.now place }
+{
+    if place < bytes.len() {
+        Some(bytes[place] as u16)
+    } else {
+        None
+    }
+}
+
+/// An entry of two bytes, the low one first.
+fn word_entry(bytes: &[u8], place: usize) -> Option<u16>
+    ensures { result ≡ slice_get (words bytes.now) place }
+{
+    if place < bytes.len() / 2 {
+        Some(bytes[2 * place] as u16 + 256 * bytes[2 * place + 1] as u16)
+    } else {
+        None
+    }
 }
 
 /// One map: a length and that many entries.
 #[tactic(auto, unfolding(crate::specs::Maps::map_at))]
 fn map_of(wide: bool, bytes: &[u8]) -> Result<(&[u8], &[u8]), TableFault>
-    ensures { Gives (λ x. (x.0.now, x.1.now)) result (map_at wide bytes.now) }
+    ensures is { Gives (λ x. (x.0.now, x.1.now)) result (map_at wide bytes.now) }
+    ensures no_memory { IfErr result (λ e. e ≢ OutOfMemory) }
 {
     if wide {
         let (n, rest) = word(bytes)?;
@@ -83,7 +134,8 @@ fn map_of(wide: bool, bytes: &[u8]) -> Result<(&[u8], &[u8]), TableFault>
 /// Four maps.
 #[tactic(auto, unfolding(crate::specs::Maps::four_at))]
 fn four<'a>(wide: bool, bytes: &'a [u8]) -> Result<(Maps<'a>, &'a [u8]), TableFault>
-    ensures { Gives (λ x. (x.0, x.1.now)) result (four_at wide bytes.now) }
+    ensures is { Gives (λ x. (x.0, x.1.now)) result (four_at wide bytes.now) }
+    ensures no_memory { IfErr result (λ e. e ≢ OutOfMemory) }
 {
     let (win, rest) = map_of(wide, bytes)?;
     let (loss, rest) = map_of(wide, rest)?;
@@ -102,7 +154,8 @@ fn four<'a>(wide: bool, bytes: &'a [u8]) -> Result<(Maps<'a>, &'a [u8]), TableFa
 /// The maps of one file.
 #[tactic(auto, unfolding(crate::specs::Maps::maps_at))]
 fn maps_of<'a>(part: &Part<'_>, bytes: &'a [u8]) -> Result<(Maps<'a>, &'a [u8]), TableFault>
-    ensures { Gives (λ x. (x.0, x.1.now)) result (maps_at part.now bytes.now) }
+    ensures is { Gives (λ x. (x.0, x.1.now)) result (maps_at part.now bytes.now) }
+    ensures no_memory { IfErr result (λ e. e ≢ OutOfMemory) }
 {
     let flags = part.size_record.flags;
     if has_bit(2, flags) {

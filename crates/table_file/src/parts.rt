@@ -124,7 +124,8 @@ fn nibbles(side: usize, bytes: &[u8]) -> ArrayVec<u8, 5>
 /// The second order byte, where both sides have pawns, and what is left.
 #[tactic(auto, unfolding(crate::specs::Files::second_at))]
 fn second<'a>(material: &Material, bytes: &'a [u8]) -> Result<(u8, &'a [u8]), TableFault>
-    ensures { Gives (λ x. (x.0, x.1.now)) result (second_at material.now bytes.now) }
+    ensures is { Gives (λ x. (x.0, x.1.now)) result (second_at material.now bytes.now) }
+    ensures no_memory { IfErr result (λ e. e ≢ OutOfMemory) }
 {
     if both_have_pawns(material) {
         byte(bytes)
@@ -143,7 +144,8 @@ fn shape(
     file: u8,
 ) -> Result<Shape, TableFault>
     requires { file < 4 }
-    ensures { Gives (λ x. x) result (shape_at material.now pieces.now order second file) }
+    ensures is { Gives (λ x. x) result (shape_at material.now pieces.now order second file) }
+    ensures no_memory { IfErr result (λ e. e ≢ OutOfMemory) }
 {
     let _ = material.key();
     match Shape::new(material, pieces, order, second, file) {
@@ -163,7 +165,8 @@ fn setup<'a>(
 ) -> Result<(Shape, &'a [u8]), TableFault>
     requires some { 1 ≤ sides }
     requires few { k / sides < 4 }
-    ensures { Gives (λ x. (x.0, x.1.now)) result (setup_at material.now sides k bytes.now) }
+    ensures is { Gives (λ x. (x.0, x.1.now)) result (setup_at material.now sides k bytes.now) }
+    ensures no_memory { IfErr result (λ e. e ≢ OutOfMemory) }
 {
     let side = k % sides;
     let (order, rest) = byte(bytes)?;
@@ -260,7 +263,8 @@ fn section_of<'a>(
     part: &Part<'_>,
     bytes: &'a [u8],
 ) -> Result<(&'a [u8], &'a [u8]), TableFault>
-    ensures { Gives (λ x. (x.0.now, x.1.now)) result (section_at section part.now bytes.now) }
+    ensures is { Gives (λ x. (x.0.now, x.1.now)) result (section_at section part.now bytes.now) }
+    ensures no_memory { IfErr result (λ e. e ≢ OutOfMemory) }
 {
     let n = section_size(section, indices(&part.shape), &part.size_record.coding);
     match section {

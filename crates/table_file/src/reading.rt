@@ -53,6 +53,7 @@ pub(crate) fn byte(bytes: &[u8]) -> Result<(u8, &[u8]), TableFault>
 pub(crate) fn taken(n: usize, bytes: &[u8]) -> Result<(&[u8], &[u8]), TableFault>
     ensures is { Gives (λ x. (x.0.now, x.1.now)) result (taken_at n bytes.now) }
     ensures all { IfOk result (λ x. length x.0.now ≡ n) }
+    ensures no_memory { IfErr result (λ e. e ≢ OutOfMemory) }
 {
     if bytes.len() < n {
         return Err(TableFault::Truncated);
@@ -64,7 +65,8 @@ pub(crate) fn taken(n: usize, bytes: &[u8]) -> Result<(&[u8], &[u8]), TableFault
 /// A number of two bytes, the low one first, and what is left.
 #[tactic(auto, unfolding(crate::specs::Reading::word_at))]
 pub(crate) fn word(bytes: &[u8]) -> Result<(u16, &[u8]), TableFault>
-    ensures { Gives (λ x. (x.0, x.1.now)) result (word_at bytes.now) }
+    ensures is { Gives (λ x. (x.0, x.1.now)) result (word_at bytes.now) }
+    ensures no_memory { IfErr result (λ e. e ≢ OutOfMemory) }
 {
     if bytes.len() < 2 {
         return Err(TableFault::Truncated);
@@ -91,6 +93,7 @@ pub(crate) fn number(bytes: &[u8]) -> Result<(u32, &[u8]), TableFault>
 pub(crate) fn exponent(least: u8, greatest: u8, bytes: &[u8]) -> Result<(u8, &[u8]), TableFault>
     ensures is { Gives (λ x. (x.0, x.1.now)) result (exponent_at least greatest bytes.now) }
     ensures sound { IfOk result (λ x. (least ≤ x.0) × (x.0 ≤ greatest)) }
+    ensures no_memory { IfErr result (λ e. e ≢ OutOfMemory) }
 {
     let (exponent, rest) = byte(bytes)?;
     if exponent < least || greatest < exponent {

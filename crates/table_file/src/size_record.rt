@@ -1,6 +1,7 @@
 //! Size records.
 
-ghost use Rattle.std.specs.Prelude.{◌≡◌};
+ghost use Rattle.std.specs.Prelude.{◌≡◌, ◌≢◌, IfErr};
+ghost use Rattle.table_file.specs.declared.fault.TableFault.TheVariants.{OutOfMemory};
 ghost use Rattle.table_file.specs.Reading.{Gives};
 ghost use Rattle.table_file.specs.Dictionaries.{fault_of, pairing_at};
 ghost use Rattle.table_file.specs.SizeRecords.{codes_at, single_value, single_at, coding_at, size_record_at};
@@ -82,7 +83,8 @@ fn single_value(kind: Kind, value: u8) -> u16
 /// One value for all.
 #[tactic(auto, unfolding(crate::specs::SizeRecords::single_at))]
 fn single_of(kind: Kind, bytes: &[u8]) -> Result<(u16, &[u8]), TableFault>
-    ensures { Gives (λ x. (x.0, x.1.now)) result (single_at kind bytes.now) }
+    ensures is { Gives (λ x. (x.0, x.1.now)) result (single_at kind bytes.now) }
+    ensures no_memory { IfErr result (λ e. e ≢ OutOfMemory) }
 {
     let (value, rest) = byte(bytes)?;
     Ok((single_value(kind, value), rest))

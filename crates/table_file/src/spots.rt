@@ -213,7 +213,8 @@ pub(crate) fn values_in(
 ) -> Result<Vec<u16>, AllocError>
     requires checked { IsChecked view }
     requires real { block < blocks_in view.coding.now }
-    ensures { IfOk result (λ values. values.items ≡ values_in view.entry.coding.now view.entry.lengths.now view.entry.blocks.now block) }
+    ensures is { IfOk result (λ values. values.items ≡ values_in view.entry.coding.now view.entry.lengths.now view.entry.blocks.now block) }
+    ensures few { IfOk result (λ values. length values.items ≤ 65536) }
 {
     match view.coding {
         Coding::Single(_) => unreachable!(),

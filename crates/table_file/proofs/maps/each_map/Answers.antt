@@ -13,7 +13,7 @@ returns-in_err-four c =
     let a = c.index-parts-i.result in
     let more = drop_more c.args.parts.now c.loop-i.i a c.loop-i-test.true ∙ ap (λ x. x ∷ drop (c.loop-i.i + 1) c.args.parts.now) (sym c.index-parts-i.is) in
     rw (p.1, p.2) (ends c.in_err-four.field-0.0 step c.loop-i.maps.items a (drop c.loop-i.i c.args.parts.now) (drop (c.loop-i.i + 1) c.args.parts.now) c.loop-i.rest.now (each_at step c.args.parts.now c.args.bytes.now)
-    more c.in_err-four.ensures c.loop-i.invariant)
+    more c.in_err-four.ensures.is c.loop-i.invariant)
 
 pub loop-i-preserved : goal.loop-i-preserved
 loop-i-preserved c =
@@ -21,7 +21,7 @@ loop-i-preserved c =
     let a = c.index-parts-i.result in
     let more = drop_more c.args.parts.now c.loop-i.i a c.loop-i-test.true ∙ ap (λ x. x ∷ drop (c.loop-i.i + 1) c.args.parts.now) (sym c.index-parts-i.is) in
     rw c.in_ok-push.ensures.items (goes_on step c.loop-i.maps.items a (drop c.loop-i.i c.args.parts.now) (drop (c.loop-i.i + 1) c.args.parts.now) c.loop-i.rest.now c.in_ok-four.four c.in_ok-four.after.now (each_at step c.args.parts.now c.args.bytes.now)
-    more c.in_ok-four.ensures c.loop-i.invariant)
+    more c.in_ok-four.ensures.is c.loop-i.invariant)
 
 pub returns : goal.returns
 returns c =

@@ -14,7 +14,7 @@ returns-in_err-run-clause-is c =
     let a = c.index-parts-i.result in
     let more = drop_more c.args.parts.now c.loop-i.i a c.loop-i-test.true ∙ ap (λ x. x ∷ drop (c.loop-i.i + 1) c.args.parts.now) (sym c.index-parts-i.is) in
     rw (p.1, p.2) (ends c.in_err-run.field-0.0 step c.loop-i.runs.items a (drop c.loop-i.i c.args.parts.now) (drop (c.loop-i.i + 1) c.args.parts.now) c.loop-i.rest.now (each_at step c.args.parts.now c.args.bytes.now)
-    more c.in_err-run.ensures c.loop-i.invariant)
+    more c.in_err-run.ensures.is c.loop-i.invariant)
 
 pub loop-i-preserved : goal.loop-i-preserved
 loop-i-preserved c =
@@ -23,7 +23,7 @@ loop-i-preserved c =
     let more = drop_more c.args.parts.now c.loop-i.i a c.loop-i-test.true ∙ ap (λ x. x ∷ drop (c.loop-i.i + 1) c.args.parts.now) (sym c.index-parts-i.is) in
     let new-is : c.new.result ≡ c.in_ok-run.run'.now = c.new.ensures in
     rw (c.in_ok-push.ensures.items, new-is) (goes_on step c.loop-i.runs.items a (drop c.loop-i.i c.args.parts.now) (drop (c.loop-i.i + 1) c.args.parts.now) c.loop-i.rest.now c.in_ok-run.run'.now c.in_ok-run.after.now (each_at step c.args.parts.now c.args.bytes.now)
-    more c.in_ok-run.ensures c.loop-i.invariant)
+    more c.in_ok-run.ensures.is c.loop-i.invariant)
 
 pub returns-clause-is : goal.returns-clause-is
 returns-clause-is c =

@@ -16,14 +16,14 @@ returns-in_err-shape-clause-is c =
     let p = err_from_is_err_and c.from_residual.result c.from_residual.ensures.1 in
     let step = setup_at c.args.material.now c.args.sides in
     rw (p.1, p.2) (ends c.in_err-shape.field-0.0 step c.loop-k.shapes.items c.loop-k.k (range_with_len c.loop-k.k (c.args.n - c.loop-k.k)) (range_with_len (c.loop-k.k + 1) (c.args.n - (c.loop-k.k + 1))) c.loop-k.rest.now (each_at step (range_with_len 0 c.args.n) c.args.bytes.now)
-    (range_more c.loop-k.k c.args.n c.loop-k-test.true) c.in_err-shape.ensures c.loop-k.invariant.read)
+    (range_more c.loop-k.k c.args.n c.loop-k-test.true) c.in_err-shape.ensures.is c.loop-k.invariant.read)
 
 pub loop-k-preserved : goal.loop-k-preserved
 loop-k-preserved c =
     let step = setup_at c.args.material.now c.args.sides in
     record {
       read = rw c.in_ok-push.ensures.items (goes_on step c.loop-k.shapes.items c.loop-k.k (range_with_len c.loop-k.k (c.args.n - c.loop-k.k)) (range_with_len (c.loop-k.k + 1) (c.args.n - (c.loop-k.k + 1))) c.loop-k.rest.now c.in_ok-shape.shape c.in_ok-shape.after.now (each_at step (range_with_len 0 c.args.n) c.args.bytes.now)
-          (range_more c.loop-k.k c.args.n c.loop-k-test.true) c.in_ok-shape.ensures c.loop-k.invariant.read);
+          (range_more c.loop-k.k c.args.n c.loop-k-test.true) c.in_ok-shape.ensures.is c.loop-k.invariant.read);
       all = omega (arith, ap length c.in_ok-push.ensures.items, length_push c.loop-k.shapes.items c.in_ok-shape.shape, c.loop-k.invariant.all);
     }
 

@@ -11,7 +11,7 @@ loop-block-preserved c =
     let lengths = c.args.view.lengths.now in
     let blocks = c.args.view.blocks.now in
     let long = coded_lengths c.args.view.size c.args.view.coding.now codes lengths c.requires.coded c.requires.checked.lengths_fit in
-    let held = coded_values c.args.view.coding.now codes lengths blocks c.in_ok-held.held.items c.loop-block.block c.requires.coded c.in_ok-held.ensures in
+    let held = coded_values c.args.view.coding.now codes lengths blocks c.in_ok-held.held.items c.loop-block.block c.requires.coded c.in_ok-held.ensures.is in
     λ h. c.loop-block.invariant (block_step codes lengths blocks c.in_ok-held.held.items c.loop-block.rest.now c.in-Some.after.now c.loop-block.block
     (omega (arith, c.loop-block-test.true, c.blocks-block-end.ensures.is)) (omega (arith, long, length-sizes lengths)) held (omega (arith, c.if-len-size_at.false, c.len.ensures, c.size_at.ensures.size))
     (stripped c.loop-block.rest.now c.deref.result.now c.in_ok-held.held.items c.in-Some.after c.in-Some.ensures.cases c.deref.ensures.value) h)
