@@ -10,7 +10,6 @@ use Rattle.fen_text.specs.declared.fault.FenFault.{FenFault}
 use Rattle.fen_text.specs.declared.fault.FenFault.TheVariants.{FieldCount, BadPlacement, BadSide, BadCastlingText, BadSquare, BadNumber, BadPosition}
 use Rattle.fen_text.specs.Fen.{SpellsPosition, IsFirstFenFault, fault_name}
 use Rattle.fen_text.specs.Coordinates.{move_text}
-use Rattle.adjudicate.specs.Tasks.{IsTask, IsMisuse}
 use Rattle.adjudicate.specs.Ruling.{ruling}
 use Rattle.move_msg.specs.declared.verdict.Verdict.{Verdict}
 use Rattle.move_msg.specs.declared.message.Message.{Message}
@@ -21,7 +20,8 @@ use Rattle.move_msg.specs.Verdicts.{verdict_name}
 use Rattle.move_msg.specs.Messages.{fault_name as message_fault_name}
 use Rattle.move_msg.specs.Streams.{End, AfterMessage, Cut, AtFault, SpellsStream}
 use Rattle.adjudicate.specs.declared.commands.Task.{Task}
-use Rattle.adjudicate.specs.declared.commands.Task.TheVariants.{Judge, Moves, Show}
+use Rattle.adjudicate.specs.declared.commands.Task.TheVariants as task
+use Rattle.adjudicate.specs.Files.{File}
 
 pub record Reply : Type 0 where
   pub lines : List (List ℕ)
@@ -89,17 +89,23 @@ shown ms (AtFault fault) =
 abbrev pub IsShown : List ℕ → Reply → Type 0
 IsShown input r = (ms : List Message) × (end : End) × SpellsStream input ms end × (r ≡ shown ms end)
 
--- the reply to a task, where these bytes are the input
-abbrev pub IsReply : Task → List ℕ → Reply → Type 0
-IsReply (Judge fen) input r = IsReplyTo fen.now judge_lines r
-IsReply (Moves fen) input r = IsReplyTo fen.now moves_lines r
-IsReply Show input r = IsShown input r
+-- the reply to a task, where these are the files of its folder, the manifest and the input
+abbrev pub IsReply : Task → List File → Option (List ℕ) → List ℕ → Reply → Type 0
+IsReply (task.Judge tables name fen) files manifest input r = IsReplyTo fen.now judge_lines r
+IsReply (task.Probe tables name fen) files manifest input r = ⊥
+IsReply (task.Moves fen) files manifest input r = IsReplyTo fen.now moves_lines r
+IsReply (task.List folder) files manifest input r = ⊥
+IsReply (task.Check name folder) files manifest input r = ⊥
+IsReply task.Show files manifest input r = IsShown input r
 
 -- lines of a reply that takes memory: no refusal does, and no message
 abbrev pub AreCostly : Task → List (List ℕ) → Type 0
-AreCostly (Judge fen) lines = AreLinesOf fen.now judge_lines lines
-AreCostly (Moves fen) lines = AreLinesOf fen.now moves_lines lines
-AreCostly Show lines = ⊥
+AreCostly (task.Judge tables name fen) lines = AreLinesOf fen.now judge_lines lines
+AreCostly (task.Probe tables name fen) lines = ⊥
+AreCostly (task.Moves fen) lines = AreLinesOf fen.now moves_lines lines
+AreCostly (task.List folder) lines = ⊥
+AreCostly (task.Check name folder) lines = ⊥
+AreCostly task.Show lines = ⊥
 
 -- the reply was written whole, and its status told
 abbrev pub WritesReply : Option (List ℕ) → Option (List ℕ) → Reply → ℕ → Type 0
@@ -119,38 +125,9 @@ RefusesMemory task old new status =
     × ((n : ℕ) × Appends old new (text_of (take n lines ++ refused_memory ∷ []))) × (status ≡ 1)
 
 -- what the program answers to a task: its reply, or, where the reply takes memory, that memory was refused
-abbrev pub Answers : Task → List ℕ → Option (List ℕ) → Option (List ℕ) → ℕ → Type 0
-Answers task input old new status =
-    ((r : Reply) × IsReply task input r × WritesReply old new r status) ⊎ RefusesMemory task old new status
-
--- the input is all that the reader has, where that is known, and has at most so many bytes
-abbrev pub most_bytes : ℕ
-most_bytes = 1073741824
-
-abbrev pub IsInput : Option (List ℕ) → List ℕ → Type 0
-IsInput known input = IfSome known (λ all. input ≡ all) × (length input ≤ most_bytes)
-
--- the input of a task: only show reads any
-abbrev pub IsInputOf : Task → Option (List ℕ) → List ℕ → Type 0
-IsInputOf (Judge fen) known input = input ≡ []
-IsInputOf (Moves fen) known input = input ≡ []
-IsInputOf Show known input = IsInput known input
+abbrev pub Answers : Task → List File → Option (List ℕ) → List ℕ → Option (List ℕ) → Option (List ℕ) → ℕ → Type 0
+Answers task files manifest input old new status =
+    ((r : Reply) × IsReply task files manifest input r × WritesReply old new r status) ⊎ RefusesMemory task old new status
 
 abbrev pub refused_files : List ℕ
 refused_files = codes "refused files"
-
--- to a task the program answers from its input; or, where the task is to show one, tells that it can't be read or that
--- memory was refused
-abbrev pub AnswersInput : Task → Option (List ℕ) → Option (List ℕ) → Option (List ℕ) → ℕ → Type 0
-AnswersInput task known old new status =
-    ((input : List ℕ) × IsInputOf task known input × Answers task input old new status)
-    ⊎ ((task ≡ Show) × Appends old new (text_of (refused_files ∷ [])) × (status ≡ 1))
-    ⊎ ((task ≡ Show) × Appends old new (text_of (refused_memory ∷ [])) × (status ≡ 1))
-
--- what the program makes of its words: the answer to the task that they name; or they are misused, and nothing is
--- written; or memory was refused before there was a task
-abbrev pub Runs : List (List ℕ) → Option (List ℕ) → Option (List ℕ) → Option (List ℕ) → ℕ → Type 0
-Runs words known old new status =
-    ((task : Task) × IsTask words task × AnswersInput task known old new status)
-    ⊎ (IsMisuse words × (new ≡ old) × (status ≡ 2))
-    ⊎ (Appends old new (text_of (refused_memory ∷ [])) × (status ≡ 1))

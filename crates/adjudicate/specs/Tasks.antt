@@ -15,10 +15,13 @@ Names words name = slice_get words 0 ≡ Some name
 
 -- the words name the task's command, which takes them and gives the task's values
 abbrev pub IsTask : List Text → Task → Type 0
-IsTask words (task.Judge fen) =
+IsTask words (task.Judge tables manifest fen) =
     Names words (codes "judge") × IsTaken judge_app words × (Some fen.now ≡ value_in judge_app words (codes "FEN"))
 IsTask words (task.Moves fen) =
     Names words (codes "moves") × IsTaken moves_app words × (Some fen.now ≡ value_in moves_app words (codes "FEN"))
+IsTask words (task.Probe tables manifest fen) = ⊥
+IsTask words (task.List folder) = ⊥
+IsTask words (task.Check manifest folder) = ⊥
 IsTask words task.Show = Names words (codes "show") × IsTaken show_app words
 
 -- the command refuses the words, or they lack the value of a needed argument

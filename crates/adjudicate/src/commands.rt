@@ -14,6 +14,19 @@ use std::alloc::{AllocError, Global};
 pub enum Task<'a> {
     /// The verdict of a position.
     Judge {
+        /// The folder of the tables, if one is named.
+        tables: Option<&'a str>,
+        /// The file of the manifest that the tables are held to, if one is named.
+        manifest: Option<&'a str>,
+        /// The position's FEN text.
+        fen: &'a str,
+    },
+    /// What the tables say of a position.
+    Probe {
+        /// The folder of the tables.
+        tables: &'a str,
+        /// The file of the manifest that the tables are held to, if one is named.
+        manifest: Option<&'a str>,
         /// The position's FEN text.
         fen: &'a str,
     },
@@ -21,6 +34,18 @@ pub enum Task<'a> {
     Moves {
         /// The position's FEN text.
         fen: &'a str,
+    },
+    /// The manifest of the tables in a folder.
+    List {
+        /// The folder.
+        folder: &'a str,
+    },
+    /// Whether the tables in a folder are those of a manifest.
+    Check {
+        /// The file of the manifest.
+        manifest: &'a str,
+        /// The folder.
+        folder: &'a str,
     },
     /// The messages of the input.
     Show,
@@ -57,7 +82,11 @@ fn judge_of<'a>(alloc: Global, words: &'a [&'a str]) -> Result<Task<'a>, Usage>
     let matches = matches_at(command, words)?;
     match matches.get_str("FEN") {
         None => Err(Usage::Misuse),
-        Some(fen) => Ok(Task::Judge { fen }),
+        Some(fen) => Ok(Task::Judge {
+            tables: None,
+            manifest: None,
+            fen,
+        }),
     }
 }
 

@@ -1,7 +1,7 @@
 //! What the program reads.
 
 ghost use Rattle.std.specs.Prelude.{IfOk};
-ghost use Rattle.adjudicate.specs.Reply.{IsInput};
+ghost use Rattle.adjudicate.specs.Running.{IsInput};
 
 use std::alloc::Global;
 use std::io::{self, Read};

@@ -5,6 +5,7 @@
 #![tactic(auto)]
 
 mod commands;
+mod files;
 mod input;
 mod program;
 mod replies;

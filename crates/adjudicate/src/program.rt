@@ -1,7 +1,7 @@
 //! The program's words, its input, its output and its status.
 
 ghost use Rattle.std.specs.Prelude.{map, IfOk};
-ghost use Rattle.adjudicate.specs.Reply.{AnswersInput, Runs};
+ghost use Rattle.adjudicate.specs.Running.{AnswersInput, Runs};
 
 use crate::commands::{Task, parse};
 use crate::input::{InputFault, read_input};
@@ -32,7 +32,11 @@ fn answer_from<I: Read + Drop, W: Write>(
     ensures { IfOk result (AnswersInput task.now (I.remaining input) (W.contents out.old) (W.contents out.new)) }
 {
     match *task {
-        Task::Judge { .. } | Task::Moves { .. } => answer(alloc, task, &[], None, &[], out),
+        Task::Judge { .. }
+        | Task::Probe { .. }
+        | Task::Moves { .. }
+        | Task::List { .. }
+        | Task::Check { .. } => answer(alloc, task, &[], None, &[], out),
         Task::Show => match read_input(alloc, input) {
             Ok(bytes) => answer(alloc, task, &[], None, &bytes, out),
             Err(InputFault::Unreadable) => put_refused_files(out),

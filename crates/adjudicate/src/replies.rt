@@ -1,11 +1,13 @@
 //! What the program answers.
 
-ghost use Rattle.std.specs.Prelude.{◌≡◌, ◌++◌, ◌∷◌, [], map, codes, IfOk, IfErr, OnOk, IsErrOf};
+ghost use Rattle.std.specs.Prelude.{◌≡◌, ◌++◌, ◌∷◌, [], map, codes, IfOk, IfErr, OnOk, IsErrOf, option_map};
 ghost use Rattle.std.specs.Io.KnownBytes.{Appends};
 ghost use Rattle.fen_text.specs.Coordinates.{move_text};
+ghost use Rattle.adjudicate.specs.Files.{file_of};
 ghost use Rattle.adjudicate.specs.Reply.{Answers, AreCostly, AreLinesOf, IsReply, IsReplyTo, Reply, WritesReply, WritesSome, fault_text, judge_lines, moves_lines, refused_files, refused_memory, text_of};
 
 use crate::commands::Task;
+use crate::files::NamedFile;
 use crate::show::show;
 use crate::verdict;
 use board_core::{Move, Position};
@@ -158,12 +160,20 @@ fn answer_moves<W: Write>(alloc: Global, fen: &str, out: &mut W) -> Result<u8, S
 }
 
 /// Writes the reply to a task, and tells its status.
-fn reply<W: Write>(alloc: Global, task: &Task, input: &[u8], out: &mut W) -> Result<u8, Stop>
-    ensures ok { IfOk result (λ status. (r : Reply) × IsReply task.now input.now r × WritesReply (W.contents out.old) (W.contents out.new) r status) }
+fn reply<W: Write>(
+    alloc: Global,
+    task: &Task,
+    files: &[NamedFile],
+    manifest: Option<&[u8]>,
+    input: &[u8],
+    out: &mut W,
+) -> Result<u8, Stop>
+    ensures ok { IfOk result (λ status. (r : Reply) × IsReply task.now (map file_of files.now) (option_map (λ m. m.now) manifest) input.now r × WritesReply (W.contents out.old) (W.contents out.new) r status) }
     ensures memory { IsErrOf result Stop.OutOfMemory → (lines : _) × AreCostly task.now lines × WritesSome (W.contents out.old) (W.contents out.new) lines }
 {
     match *task {
-        Task::Judge { fen } => answer_judge(alloc, fen, out),
+        Task::Judge { fen, .. } => answer_judge(alloc, fen, out),
+        Task::Probe { .. } | Task::List { .. } | Task::Check { .. } => Err(Stop::Io),
         Task::Moves { fen } => answer_moves(alloc, fen, out),
         Task::Show => show(input, out),
     }
@@ -179,14 +189,14 @@ fn reply<W: Write>(alloc: Global, task: &Task, input: &[u8], out: &mut W) -> Res
 pub fn answer<W: Write>(
     alloc: Global,
     task: &Task,
-    _files: &[(&[u8], &[u8])],
-    _manifest: Option<&[u8]>,
+    files: &[NamedFile],
+    manifest: Option<&[u8]>,
     input: &[u8],
     out: &mut W,
 ) -> Result<u8, AnswerFault>
-    ensures { IfOk result (Answers task.now input.now (W.contents out.old) (W.contents out.new)) }
+    ensures { IfOk result (Answers task.now (map file_of files.now) (option_map (λ m. m.now) manifest) input.now (W.contents out.old) (W.contents out.new)) }
 {
-    match reply(alloc, task, input, out) {
+    match reply(alloc, task, files, manifest, input, out) {
         Ok(status) => Ok(status),
         Err(Stop::Io) => Err(AnswerFault::Io),
         Err(Stop::OutOfMemory) => put_refused_memory(out),

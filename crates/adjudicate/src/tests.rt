@@ -226,7 +226,9 @@ fn refuses_misused_words(rt: HostRuntime) {
     assert!(rt; matches!(parse(alloc, &["show", START]), Err(Usage::Misuse)));
     assert!(rt; matches!(parse(alloc, &["show"]), Ok(Task::Show)));
     assert!(rt; matches!(parse(alloc, &["moves", START]), Ok(Task::Moves { fen }) if fen == START));
-    assert!(rt; matches!(parse(alloc, &["judge", START]), Ok(Task::Judge { fen }) if fen == START));
+    assert!(rt;
+        matches!(parse(alloc, &["judge", START]), Ok(Task::Judge { fen, .. }) if fen == START)
+    );
 }
 
 #[test]
@@ -294,7 +296,18 @@ fn tells_each_failed_write(rt: HostRuntime) {
             calls: 0,
             fails_at: 0,
         };
-        let answered = answer(rt.alloc(), &Task::Judge { fen }, &[], None, &[], &mut out);
+        let answered = answer(
+            rt.alloc(),
+            &Task::Judge {
+                tables: None,
+                manifest: None,
+                fen,
+            },
+            &[],
+            None,
+            &[],
+            &mut out,
+        );
         assert!(rt; matches!(answered, Err(AnswerFault::Io)), "{fen}");
     }
 }
