@@ -168,7 +168,7 @@ fn reply<W: Write>(
     input: &[u8],
     out: &mut W,
 ) -> Result<u8, Stop>
-    ensures ok { IfOk result (λ status. (r : Reply) × IsReply task.now (map file_of files.now) (option_map (λ m. m.now) manifest) input.now r × WritesReply (W.contents out.old) (W.contents out.new) r status) }
+    ensures ok { IfOk result (λ status. (r : Reply) × IsReply task.now (map file_of files.now) (option_map (λ m. m.now) manifest.entry) input.now r × WritesReply (W.contents out.old) (W.contents out.new) r status) }
     ensures memory { IsErrOf result Stop.OutOfMemory → (lines : _) × AreCostly task.now lines × WritesSome (W.contents out.old) (W.contents out.new) lines }
 {
     match *task {
@@ -194,7 +194,7 @@ pub fn answer<W: Write>(
     input: &[u8],
     out: &mut W,
 ) -> Result<u8, AnswerFault>
-    ensures { IfOk result (Answers task.now (map file_of files.now) (option_map (λ m. m.now) manifest) input.now (W.contents out.old) (W.contents out.new)) }
+    ensures { IfOk result (Answers task.now (map file_of files.now) (option_map (λ m. m.now) manifest.entry) input.now (W.contents out.old) (W.contents out.new)) }
 {
     match reply(alloc, task, files, manifest, input, out) {
         Ok(status) => Ok(status),
