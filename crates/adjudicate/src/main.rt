@@ -7,11 +7,13 @@
 mod commands;
 mod files;
 mod input;
+mod judging;
+mod listing;
 mod program;
 mod replies;
 mod show;
+mod tables;
 mod usage;
-mod verdict;
 
 use program::run;
 use replies::{AnswerFault, put_refused_memory};
