@@ -10,12 +10,14 @@ mod commands;
 mod disk;
 mod files;
 mod input;
+mod judging;
+mod listing;
 mod program;
 mod replies;
 mod show;
 mod sources;
+mod tables;
 mod usage;
-mod verdict;
 
 use disk::SystemDisk;
 use program::run;
