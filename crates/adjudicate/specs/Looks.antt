@@ -1,8 +1,9 @@
 -- What is found where the files of tables are looked at (this project's own).
-use Rattle.std.specs.Prelude.{◌≡◌, ◌⊎◌, ℕ, Bool, true, false, List, [], ◌∷◌, ◌++◌, map, replicate, Option, Some, None, is_some, Result, Ok, Err, slice_set, if◌then◌else◌, codes}
+use Rattle.std.specs.Prelude.{◌≡◌, ◌⊎◌, ℕ, Bool, List, [], ◌∷◌, ◌++◌, map, replicate, Option, Some, None, is_some, Result, Ok, Err, slice_set, if◌then◌else◌, codes}
 use Rattle.std.specs.List.{list_all}
 use Rattle.std.specs.Str.{bytes_eq}
 use Rattle.std.specs.Fmt.{decimal}
+use Rattle.std.specs.Result.{is_ok}
 use Rattle.sha2.specs.Sha256.{sha256}
 use Rattle.move_msg.specs.Manifests.{Entry, SpellsManifest, IsFirstBadLine}
 use Rattle.table_file.specs.declared.fault.TableFault.{TableFault}
@@ -117,9 +118,6 @@ found_word (Err fault) = file_fault_name fault
 abbrev pub look_line : Look → List ℕ
 look_line look = look.name ++ codes " " ++ found_word look.found
 
-abbrev pub is_table : Found → Bool
-is_table (Ok t) = true
-is_table (Err fault) = false
-
+-- each is the table that it should be
 abbrev pub are_tables : List Look → Bool
-are_tables = list_all (λ look. is_table look.found)
+are_tables = list_all (λ look. is_ok look.found)

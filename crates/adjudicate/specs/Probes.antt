@@ -1,5 +1,5 @@
 -- What a probe tells of a position: a line a question (this project's own).
-use Rattle.std.specs.Prelude.{◌≡◌, ◌≢◌, ℕ, ℤ, pos, ◌-ℤ◌, Bool, true, false, List, ◌++◌, Result, Ok, Err, codes}
+use Rattle.std.specs.Prelude.{◌≡◌, ◌≢◌, ℕ, ℤ, pos, ◌-ℤ◌, List, ◌++◌, Result, Ok, Err, codes}
 use Rattle.std.specs.Fmt.{signed_decimal}
 use Rattle.place_index.specs.Material.{name_of, men_of}
 use Rattle.judge_core.specs.declared.wdl.Wdl.{Wdl}
@@ -31,7 +31,3 @@ fault_words OutOfMemory = codes "OutOfMemory"
 abbrev pub told_line : List ℕ → Result ℤ ProbeFault → List ℕ
 told_line question (Ok number) = question ++ codes " " ++ signed_decimal number
 told_line question (Err fault) = question ++ codes " refused " ++ fault_words fault
-
-abbrev pub is_told : Result ℤ ProbeFault → Bool
-is_told (Ok number) = true
-is_told (Err fault) = false

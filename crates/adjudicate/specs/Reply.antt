@@ -1,6 +1,7 @@
 -- What the program answers: lines and a status (this project's own).
 use Rattle.std.specs.Prelude.{◌≡◌, ◌≤◌, ◌+◌, ◌++◌, ◌⊎◌, ℕ, ℤ, Bool, List, [], ◌∷◌, length, map, take, Option, Some, None, Result, Ok, Err, if◌then◌else◌, codes}
 use Rattle.std.specs.Fmt.{decimal}
+use Rattle.std.specs.Result.{is_ok}
 use Rattle.std.specs.List.{flat_map}
 use Rattle.std.specs.Io.KnownBytes.{Appends}
 use Rattle.board_core.specs.declared.parts.Parts.{Parts}
@@ -30,7 +31,7 @@ use Rattle.adjudicate.specs.declared.commands.Task.{Task}
 use Rattle.adjudicate.specs.declared.commands.Task.TheVariants as task
 use Rattle.adjudicate.specs.Files.{File, AreFiles, entry_for}
 use Rattle.adjudicate.specs.Looks.{Look, Gathers, look_for, look_line, are_tables, refused_manifest}
-use Rattle.adjudicate.specs.Probes.{IsAnswered, numbered, told_line, is_told}
+use Rattle.adjudicate.specs.Probes.{IsAnswered, numbered, told_line}
 
 pub record Reply : Type 0 where
   pub lines : List (List ℕ)
@@ -78,7 +79,7 @@ IsJudged tables p r = r ≡ record { lines = verdict_line (ruling tables p) ∷ 
 
 -- probe: what the tables tell, a line a question
 abbrev pub probed : Result ℤ ProbeFault → Reply
-probed wdl = record { lines = told_line (codes "wdl") wdl ∷ []; status = status_if (is_told wdl) }
+probed wdl = record { lines = told_line (codes "wdl") wdl ∷ []; status = status_if (is_ok wdl) }
 
 abbrev pub IsProbed : Tables → Parts → Reply → Type 0
 IsProbed tables p r =

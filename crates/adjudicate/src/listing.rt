@@ -1,11 +1,12 @@
 //! The manifest of files, and files held to a manifest.
 
 ghost use Rattle.std.specs.Prelude.{◌≡◌, ◌++◌, ◌∷◌, [], codes, map, IfOk, IfErr, OnOk, IsErrOf};
+ghost use Rattle.std.specs.Result.{is_ok};
 ghost use Rattle.std.specs.Io.KnownBytes.{Appends};
 ghost use Rattle.move_msg.specs.Manifests.{IsEntry, SpellsManifest, entry_of};
 ghost use Rattle.move_msg.specs.TableNames.{IsFileName};
 ghost use Rattle.adjudicate.specs.Files.{AreFiles, entry_for, file_of};
-ghost use Rattle.adjudicate.specs.Looks.{found_word, is_table, look_for, look_line};
+ghost use Rattle.adjudicate.specs.Looks.{found_word, look_for, look_line};
 ghost use Rattle.adjudicate.specs.Reply.{AreChecked, IsChecked, IsListed, Reply, WritesReply, WritesSome, checked};
 
 use crate::files::NamedFile;
@@ -85,7 +86,7 @@ fn check_line<W: Write>(
     out: &mut W,
 ) -> Result<bool, Stop>
     ensures line { OnOk result (Appends (W.contents out.old) (W.contents out.new) (look_line (look_for (map file_of files.now) (entry_of line.now)) ++ 10 ∷ [])) }
-    ensures ok { IfOk result (λ is. is ≡ is_table (look_for (map file_of files.now) (entry_of line.now)).found) }
+    ensures ok { IfOk result (λ is. is ≡ is_ok (look_for (map file_of files.now) (entry_of line.now)).found) }
     ensures memory { IsErrOf result Stop.OutOfMemory → W.contents out.new ≡ W.contents out.old }
 {
     let Ok(found) = open_line(alloc, files, line) else {
