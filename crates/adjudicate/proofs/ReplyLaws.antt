@@ -7,7 +7,9 @@ use Rattle.board_core.specs.declared.parts.Parts.{Parts}
 use Rattle.board_core.specs.Position.{IsPosition}
 use Rattle.fen_text.specs.declared.fault.FenFault.{FenFault}
 use Rattle.fen_text.specs.Fen.{SpellsPosition, IsFirstFenFault}
-use Rattle.adjudicate.specs.Reply.{Reply, IsReplyTo, WritesReply, WritesSome, fault_text, refused_fen, text_of}
+use Rattle.judge_core.specs.Tables.{Tables}
+use Rattle.adjudicate.specs.Files.{File}
+use Rattle.adjudicate.specs.Reply.{Reply, IsReplyOn, IsReplyTo, WritesReply, WritesSome, fault_text, refused_fen, text_of}
 
 abbrev pub line_of : List ℕ → List ℕ
 line_of line = line ++ 10 ∷ []
@@ -28,6 +30,10 @@ pub refuses : (fen : List ℕ) (lines : Parts → List (List ℕ)) (fault : FenF
 refuses fen lines fault old new status first h =
     (refused_fen fault, inr (fault, first, refl), (one_line old new (codes "refused FEN " ++ fault_text fault) h.0, h.1))
 
+pub refuses_on : (fen : List ℕ) (files : List File) (manifest : Option (List ℕ)) (Answers : Tables → Parts → Reply → Type 0) (fault : FenFault) (old new : Option (List ℕ)) (status : ℕ) → IsFirstFenFault fen fault → Appends old new (line_of (codes "refused FEN " ++ fault_text fault)) × (status ≡ 1) → (r : Reply) × IsReplyOn fen files manifest Answers r × WritesReply old new r status
+refuses_on fen files manifest Answers fault old new status first h =
+    (refused_fen fault, inr (fault, first, refl), (one_line old new (codes "refused FEN " ++ fault_text fault) h.0, h.1))
+
 abbrev pub lines_reply : (Parts → List (List ℕ)) → Parts → Reply
 lines_reply lines p = record { lines = lines p; status = 0 }
 
@@ -38,3 +44,6 @@ replies fen lines p old new spells position h = (lines_reply lines p, inl (p, sp
 -- no line was written yet
 pub none_yet : (old : Option (List ℕ)) (lines : List (List ℕ)) → WritesSome old old lines
 none_yet old lines = (0, Appends-nil old)
+
+pub none_written : (old new : Option (List ℕ)) → new ≡ old → WritesSome old new []
+none_written old new same = (0, subst (λ (now : Option (List ℕ)). Appends old now []) (sym same) (Appends-nil old))

@@ -1,6 +1,11 @@
 pub mod Commands
 pub mod Tasks
 pub mod Usage
-pub mod Ruling
+pub mod Files
+pub mod Looks
+pub mod Refusals
+pub mod Probes
 pub mod Reply
+pub mod Questions
 pub mod Fronts
+pub mod Running

@@ -1,6 +1,7 @@
 -- What the program answers: lines and a status (this project's own).
-use Rattle.std.specs.Prelude.{◌≡◌, ◌≤◌, ◌+◌, ◌++◌, ◌⊎◌, ℕ, List, [], ◌∷◌, length, map, take, Option, Some, None, IfSome, codes}
+use Rattle.std.specs.Prelude.{◌≡◌, ◌≤◌, ◌+◌, ◌++◌, ◌⊎◌, ℕ, ℤ, Bool, List, [], ◌∷◌, length, map, take, Option, Some, None, Result, Ok, Err, if◌then◌else◌, codes}
 use Rattle.std.specs.Fmt.{decimal}
+use Rattle.std.specs.Result.{is_ok}
 use Rattle.std.specs.List.{flat_map}
 use Rattle.std.specs.Io.KnownBytes.{Appends}
 use Rattle.board_core.specs.declared.parts.Parts.{Parts}
@@ -10,8 +11,14 @@ use Rattle.fen_text.specs.declared.fault.FenFault.{FenFault}
 use Rattle.fen_text.specs.declared.fault.FenFault.TheVariants.{FieldCount, BadPlacement, BadSide, BadCastlingText, BadSquare, BadNumber, BadPosition}
 use Rattle.fen_text.specs.Fen.{SpellsPosition, IsFirstFenFault, fault_name}
 use Rattle.fen_text.specs.Coordinates.{move_text}
-use Rattle.adjudicate.specs.Tasks.{IsTask, IsMisuse}
-use Rattle.adjudicate.specs.Ruling.{ruling}
+use Rattle.move_msg.specs.Manifests.{Entry, SpellsManifest, IsFirstBadLine}
+use Rattle.judge_core.specs.declared.verdict.Verdict.{Verdict as Ruled}
+use Rattle.judge_core.specs.declared.wdl.Wdl.{Wdl}
+use Rattle.judge_core.specs.declared.fault.ProbeFault.{ProbeFault}
+use Rattle.judge_core.specs.Answers.{IsProbe}
+use Rattle.judge_core.specs.Probing.{wdl_of}
+use Rattle.judge_core.specs.Ruling.{ruling, is_out_of_scope, verdict_name as ruled_name}
+use Rattle.judge_core.specs.Tables.{Tables}
 use Rattle.move_msg.specs.declared.verdict.Verdict.{Verdict}
 use Rattle.move_msg.specs.declared.message.Message.{Message}
 use Rattle.move_msg.specs.declared.message.Message.TheVariants as message
@@ -21,7 +28,10 @@ use Rattle.move_msg.specs.Verdicts.{verdict_name}
 use Rattle.move_msg.specs.Messages.{fault_name as message_fault_name}
 use Rattle.move_msg.specs.Streams.{End, AfterMessage, Cut, AtFault, SpellsStream}
 use Rattle.adjudicate.specs.declared.commands.Task.{Task}
-use Rattle.adjudicate.specs.declared.commands.Task.TheVariants.{Judge, Moves, Show}
+use Rattle.adjudicate.specs.declared.commands.Task.TheVariants as task
+use Rattle.adjudicate.specs.Files.{File, AreFiles, entry_for}
+use Rattle.adjudicate.specs.Looks.{Look, Gathers, look_for, look_line, are_tables, refused_manifest}
+use Rattle.adjudicate.specs.Probes.{IsAnswered, numbered, told_line}
 
 pub record Reply : Type 0 where
   pub lines : List (List ℕ)
@@ -55,13 +65,72 @@ IsReplyTo fen lines r =
 abbrev pub AreLinesOf : List ℕ → (Parts → List (List ℕ)) → List (List ℕ) → Type 0
 AreLinesOf fen lines_of lines = (p : Parts) × SpellsPosition fen p × IsPosition p × (lines ≡ lines_of p)
 
--- judge: the verdict's name, or that the game goes on
-abbrev pub verdict_line : Option Verdict → List ℕ
-verdict_line None = codes "open"
-verdict_line (Some v) = verdict_name v
+-- 0 where all is done, 1 where something is refused
+abbrev pub status_if : Bool → ℕ
+status_if done = if done then 0 else 1
 
-abbrev pub judge_lines : Parts → List (List ℕ)
-judge_lines p = verdict_line (ruling p) ∷ []
+-- judge: the verdict's name, or that the game goes on
+abbrev pub verdict_line : Option Ruled → List ℕ
+verdict_line None = codes "open"
+verdict_line (Some v) = ruled_name v
+
+abbrev pub IsJudged : Tables → Parts → Reply → Type 0
+IsJudged tables p r = r ≡ record { lines = verdict_line (ruling tables p) ∷ []; status = 0 }
+
+-- probe: what the tables tell, a line a question
+abbrev pub probed : Result ℤ ProbeFault → Reply
+probed wdl = record { lines = told_line (codes "wdl") wdl ∷ []; status = status_if (is_ok wdl) }
+
+abbrev pub IsProbed : Tables → Parts → Reply → Type 0
+IsProbed tables p r =
+    (wdl : Result Wdl ProbeFault) × IsAnswered wdl × IsProbe wdl (is_out_of_scope p) (wdl_of tables p)
+    × (r ≡ probed (numbered wdl))
+
+-- a refusal is one line, with status 1
+abbrev pub refused : List ℕ → Reply
+refused line = record { lines = line ∷ []; status = 1 }
+
+-- what is answered for a position: a reply by these tables, or the line that refuses them
+abbrev pub IsReplyWith : (Tables → Parts → Reply → Type 0) → Parts → Result Tables (List ℕ) → Reply → Type 0
+IsReplyWith Answers p (Ok tables) r = Answers tables p r
+IsReplyWith Answers p (Err line) r = r ≡ refused line
+
+-- the same by what the files and the manifest give
+abbrev pub IsReplyBy : List File → Option (List ℕ) → (Tables → Parts → Reply → Type 0) → Parts → Reply → Type 0
+IsReplyBy files manifest Answers p r = (given : Result Tables (List ℕ)) × Gathers files manifest given × IsReplyWith Answers p given r
+
+-- what is answered for a text: that for the position that it spells, or a refusal before all else
+abbrev pub IsReplyOn : List ℕ → List File → Option (List ℕ) → (Tables → Parts → Reply → Type 0) → Reply → Type 0
+IsReplyOn fen files manifest Answers r =
+    ((p : Parts) × SpellsPosition fen p × IsPosition p × IsReplyBy files manifest Answers p r)
+    ⊎ ((fault : FenFault) × IsFirstFenFault fen fault × (r ≡ refused_fen fault))
+
+-- the text spells a position
+abbrev pub IsText : List ℕ → Type 0
+IsText fen = (p : Parts) × SpellsPosition fen p × IsPosition p
+
+-- list: the manifest of the files
+abbrev pub IsListed : List File → Reply → Type 0
+IsListed files r = SpellsManifest (text_of r.lines) (map entry_for files) × (r.status ≡ 0)
+
+-- check: a line for each line of the manifest, in its order, and whether all files are there and as they should be
+abbrev pub checked : List Look → Reply
+checked looks = record { lines = map look_line looks; status = status_if (are_tables looks) }
+
+abbrev pub IsChecked : List File → List ℕ → Reply → Type 0
+IsChecked files text r =
+    ((es : List Entry) × SpellsManifest text es × (r ≡ checked (map (look_for files) es)))
+    ⊎ ((k : ℕ) × IsFirstBadLine text k × (r ≡ refused (refused_manifest k)))
+
+-- the lines that check writes where no line of the manifest is at fault, or none
+abbrev pub AreChecked : List File → List ℕ → List (List ℕ) → Type 0
+AreChecked files text lines =
+    (lines ≡ []) ⊎ ((es : List Entry) × SpellsManifest text es × (lines ≡ map look_line (map (look_for files) es)))
+
+-- the text of a manifest; none is one without lines
+abbrev pub manifest_text : Option (List ℕ) → List ℕ
+manifest_text None = []
+manifest_text (Some text) = text
 
 -- moves: the legal moves in coordinates, one a line
 abbrev pub moves_lines : Parts → List (List ℕ)
@@ -89,17 +158,24 @@ shown ms (AtFault fault) =
 abbrev pub IsShown : List ℕ → Reply → Type 0
 IsShown input r = (ms : List Message) × (end : End) × SpellsStream input ms end × (r ≡ shown ms end)
 
--- the reply to a task, where these bytes are the input
-abbrev pub IsReply : Task → List ℕ → Reply → Type 0
-IsReply (Judge fen) input r = IsReplyTo fen.now judge_lines r
-IsReply (Moves fen) input r = IsReplyTo fen.now moves_lines r
-IsReply Show input r = IsShown input r
+-- the reply to a task, where these are the files of its folder, the manifest and the input
+abbrev pub IsReply : Task → List File → Option (List ℕ) → List ℕ → Reply → Type 0
+IsReply (task.Judge tables name fen) files manifest input r = IsReplyOn fen.now files manifest IsJudged r
+IsReply (task.Probe tables name fen) files manifest input r = IsReplyOn fen.now files manifest IsProbed r
+IsReply (task.Moves fen) files manifest input r = IsReplyTo fen.now moves_lines r
+IsReply (task.List folder) files manifest input r = IsListed files r
+IsReply (task.Check name folder) files manifest input r = IsChecked files (manifest_text manifest) r
+IsReply task.Show files manifest input r = IsShown input r
 
--- lines of a reply that takes memory: no refusal does, and no message
-abbrev pub AreCostly : Task → List (List ℕ) → Type 0
-AreCostly (Judge fen) lines = AreLinesOf fen.now judge_lines lines
-AreCostly (Moves fen) lines = AreLinesOf fen.now moves_lines lines
-AreCostly Show lines = ⊥
+-- lines of a reply that takes memory, as far as some of them can be written before it is refused: none of judge, probe
+-- and list; no refusal of a text takes memory, and no message
+abbrev pub AreCostly : Task → List File → Option (List ℕ) → List (List ℕ) → Type 0
+AreCostly (task.Judge tables name fen) files manifest lines = IsText fen.now × (lines ≡ [])
+AreCostly (task.Probe tables name fen) files manifest lines = IsText fen.now × (lines ≡ [])
+AreCostly (task.Moves fen) files manifest lines = AreLinesOf fen.now moves_lines lines
+AreCostly (task.List folder) files manifest lines = lines ≡ []
+AreCostly (task.Check name folder) files manifest lines = AreChecked files (manifest_text manifest) lines
+AreCostly task.Show files manifest lines = ⊥
 
 -- the reply was written whole, and its status told
 abbrev pub WritesReply : Option (List ℕ) → Option (List ℕ) → Reply → ℕ → Type 0
@@ -113,44 +189,15 @@ abbrev pub refused_memory : List ℕ
 refused_memory = codes "refused memory"
 
 -- some lines of the reply were written and then that memory was refused, with status 1
-abbrev pub RefusesMemory : Task → Option (List ℕ) → Option (List ℕ) → ℕ → Type 0
-RefusesMemory task old new status =
-    (lines : List (List ℕ)) × AreCostly task lines
+abbrev pub RefusesMemory : Task → List File → Option (List ℕ) → Option (List ℕ) → Option (List ℕ) → ℕ → Type 0
+RefusesMemory task files manifest old new status =
+    (lines : List (List ℕ)) × AreCostly task files manifest lines
     × ((n : ℕ) × Appends old new (text_of (take n lines ++ refused_memory ∷ []))) × (status ≡ 1)
 
 -- what the program answers to a task: its reply, or, where the reply takes memory, that memory was refused
-abbrev pub Answers : Task → List ℕ → Option (List ℕ) → Option (List ℕ) → ℕ → Type 0
-Answers task input old new status =
-    ((r : Reply) × IsReply task input r × WritesReply old new r status) ⊎ RefusesMemory task old new status
-
--- the input is all that the reader has, where that is known, and has at most so many bytes
-abbrev pub most_bytes : ℕ
-most_bytes = 1073741824
-
-abbrev pub IsInput : Option (List ℕ) → List ℕ → Type 0
-IsInput known input = IfSome known (λ all. input ≡ all) × (length input ≤ most_bytes)
-
--- the input of a task: only show reads any
-abbrev pub IsInputOf : Task → Option (List ℕ) → List ℕ → Type 0
-IsInputOf (Judge fen) known input = input ≡ []
-IsInputOf (Moves fen) known input = input ≡ []
-IsInputOf Show known input = IsInput known input
+abbrev pub Answers : Task → List File → Option (List ℕ) → List ℕ → Option (List ℕ) → Option (List ℕ) → ℕ → Type 0
+Answers task files manifest input old new status =
+    ((r : Reply) × IsReply task files manifest input r × WritesReply old new r status) ⊎ RefusesMemory task files manifest old new status
 
 abbrev pub refused_files : List ℕ
 refused_files = codes "refused files"
-
--- to a task the program answers from its input; or, where the task is to show one, tells that it can't be read or that
--- memory was refused
-abbrev pub AnswersInput : Task → Option (List ℕ) → Option (List ℕ) → Option (List ℕ) → ℕ → Type 0
-AnswersInput task known old new status =
-    ((input : List ℕ) × IsInputOf task known input × Answers task input old new status)
-    ⊎ ((task ≡ Show) × Appends old new (text_of (refused_files ∷ [])) × (status ≡ 1))
-    ⊎ ((task ≡ Show) × Appends old new (text_of (refused_memory ∷ [])) × (status ≡ 1))
-
--- what the program makes of its words: the answer to the task that they name; or they are misused, and nothing is
--- written; or memory was refused before there was a task
-abbrev pub Runs : List (List ℕ) → Option (List ℕ) → Option (List ℕ) → Option (List ℕ) → ℕ → Type 0
-Runs words known old new status =
-    ((task : Task) × IsTask words task × AnswersInput task known old new status)
-    ⊎ (IsMisuse words × (new ≡ old) × (status ≡ 2))
-    ⊎ (Appends old new (text_of (refused_memory ∷ [])) × (status ≡ 1))

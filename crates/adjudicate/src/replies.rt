@@ -1,13 +1,16 @@
 //! What the program answers.
 
-ghost use Rattle.std.specs.Prelude.{◌≡◌, ◌++◌, ◌∷◌, [], map, codes, IfOk, IfErr, OnOk, IsErrOf};
+ghost use Rattle.std.specs.Prelude.{◌≡◌, ◌++◌, ◌∷◌, [], map, codes, IfOk, IfErr, OnOk, IsErrOf, option_map};
 ghost use Rattle.std.specs.Io.KnownBytes.{Appends};
 ghost use Rattle.fen_text.specs.Coordinates.{move_text};
-ghost use Rattle.adjudicate.specs.Reply.{Answers, AreCostly, AreLinesOf, IsReply, IsReplyTo, Reply, WritesReply, WritesSome, fault_text, judge_lines, moves_lines, refused_files, refused_memory, text_of};
+ghost use Rattle.adjudicate.specs.Files.{AreFiles, file_of};
+ghost use Rattle.adjudicate.specs.Reply.{Answers, AreCostly, AreLinesOf, IsReply, IsReplyTo, Reply, WritesReply, WritesSome, fault_text, moves_lines, refused_files, refused_memory, status_if, text_of};
 
 use crate::commands::Task;
+use crate::files::NamedFile;
+use crate::judging::{Question, answer_text};
+use crate::listing::{check, list};
 use crate::show::show;
-use crate::verdict;
 use board_core::{Move, Position};
 use fen_text::{FenFault, read, write_move};
 use std::alloc::Global;
@@ -30,7 +33,7 @@ pub(crate) enum Stop {
 }
 
 /// Writes a line.
-fn put_line<W: Write>(out: &mut W, line: &str) -> Result<(), Stop>
+pub(crate) fn put_line<W: Write>(out: &mut W, line: &str) -> Result<(), Stop>
     ensures ok { OnOk result (Appends (W.contents out.old) (W.contents out.new) (line.now ++ 10 ∷ [])) }
     ensures io { IfErr result (λ stop. stop ≡ Stop.Io) }
 {
@@ -73,18 +76,6 @@ fn put_fault<W: Write>(out: &mut W, fault: FenFault) -> Result<(), Stop>
     }
 }
 
-/// Writes the verdict on a position, or that the game goes on.
-fn put_judgement<W: Write>(alloc: Global, position: &Position, out: &mut W) -> Result<(), Stop>
-    ensures ok { OnOk result (Appends (W.contents out.old) (W.contents out.new) (text_of (judge_lines position.now))) }
-    ensures memory { IsErrOf result Stop.OutOfMemory → WritesSome (W.contents out.old) (W.contents out.new) (judge_lines position.now) }
-{
-    match verdict::judge(alloc, position) {
-        Err(_) => Err(Stop::OutOfMemory),
-        Ok(None) => put_line(out, "open"),
-        Ok(Some(verdict)) => put_line(out, verdict.name()),
-    }
-}
-
 /// Writes a move in coordinates.
 fn put_move<W: Write>(out: &mut W, m: &Move) -> Result<(), Stop>
     ensures ok { OnOk result (Appends (W.contents out.old) (W.contents out.new) (move_text m.now ++ 10 ∷ [])) }
@@ -119,7 +110,7 @@ fn put_moves<W: Write>(alloc: Global, position: &Position, out: &mut W) -> Resul
 }
 
 /// Refuses a text by its fault, and tells the status 1.
-fn refuse<W: Write>(out: &mut W, fault: FenFault) -> Result<u8, Stop>
+pub(crate) fn refuse<W: Write>(out: &mut W, fault: FenFault) -> Result<u8, Stop>
     ensures ok { IfOk result (λ status. Appends (W.contents out.old) (W.contents out.new) ((codes "refused FEN " ++ fault_text fault) ++ 10 ∷ []) × (status ≡ 1)) }
     ensures io { IfErr result (λ stop. stop ≡ Stop.Io) }
 {
@@ -129,18 +120,11 @@ fn refuse<W: Write>(out: &mut W, fault: FenFault) -> Result<u8, Stop>
     }
 }
 
-/// Answers what the verdict on a position is, and tells the status.
-fn answer_judge<W: Write>(alloc: Global, fen: &str, out: &mut W) -> Result<u8, Stop>
-    ensures ok { IfOk result (λ status. (r : Reply) × IsReplyTo fen.now judge_lines r × WritesReply (W.contents out.old) (W.contents out.new) r status) }
-    ensures memory { IsErrOf result Stop.OutOfMemory → (lines : _) × AreLinesOf fen.now judge_lines lines × WritesSome (W.contents out.old) (W.contents out.new) lines }
+/// The status: 0 where all is done, 1 where something is refused.
+pub(crate) fn status_if(done: bool) -> u8
+    ensures { result ≡ status_if done }
 {
-    match read(fen.as_bytes()) {
-        Err(fault) => refuse(out, fault),
-        Ok(position) => match put_judgement(alloc, &position, out) {
-            Ok(()) => Ok(0),
-            Err(stop) => Err(stop),
-        },
-    }
+    if done { 0 } else { 1 }
 }
 
 /// Answers what the legal moves of a position are, and tells the status.
@@ -158,13 +142,28 @@ fn answer_moves<W: Write>(alloc: Global, fen: &str, out: &mut W) -> Result<u8, S
 }
 
 /// Writes the reply to a task, and tells its status.
-fn reply<W: Write>(alloc: Global, task: &Task, input: &[u8], out: &mut W) -> Result<u8, Stop>
-    ensures ok { IfOk result (λ status. (r : Reply) × IsReply task.now input.now r × WritesReply (W.contents out.old) (W.contents out.new) r status) }
-    ensures memory { IsErrOf result Stop.OutOfMemory → (lines : _) × AreCostly task.now lines × WritesSome (W.contents out.old) (W.contents out.new) lines }
+fn reply<W: Write>(
+    alloc: Global,
+    task: &Task,
+    files: &[NamedFile],
+    manifest: Option<&[u8]>,
+    input: &[u8],
+    out: &mut W,
+) -> Result<u8, Stop>
+    requires { AreFiles (map file_of files.now) }
+    ensures ok { IfOk result (λ status. (r : Reply) × IsReply task.now (map file_of files.now) (option_map (λ m. m.now) manifest.entry) input.now r × WritesReply (W.contents out.old) (W.contents out.new) r status) }
+    ensures memory { IsErrOf result Stop.OutOfMemory → (lines : _) × AreCostly task.now (map file_of files.now) (option_map (λ m. m.now) manifest.entry) lines × WritesSome (W.contents out.old) (W.contents out.new) lines }
 {
     match *task {
-        Task::Judge { fen } => answer_judge(alloc, fen, out),
+        Task::Judge { fen, .. } => {
+            answer_text(alloc, Question::Verdict, fen, files, manifest, out)
+        }
+        Task::Probe { fen, .. } => {
+            answer_text(alloc, Question::Probe, fen, files, manifest, out)
+        }
         Task::Moves { fen } => answer_moves(alloc, fen, out),
+        Task::List { .. } => list(alloc, files, out),
+        Task::Check { .. } => check(alloc, files, manifest.unwrap_or(&[]), out),
         Task::Show => show(input, out),
     }
 }
@@ -179,14 +178,15 @@ fn reply<W: Write>(alloc: Global, task: &Task, input: &[u8], out: &mut W) -> Res
 pub fn answer<W: Write>(
     alloc: Global,
     task: &Task,
-    _files: &[(&[u8], &[u8])],
-    _manifest: Option<&[u8]>,
+    files: &[NamedFile],
+    manifest: Option<&[u8]>,
     input: &[u8],
     out: &mut W,
 ) -> Result<u8, AnswerFault>
-    ensures { IfOk result (Answers task.now input.now (W.contents out.old) (W.contents out.new)) }
+    requires { AreFiles (map file_of files.now) }
+    ensures { IfOk result (Answers task.now (map file_of files.now) (option_map (λ m. m.now) manifest.entry) input.now (W.contents out.old) (W.contents out.new)) }
 {
-    match reply(alloc, task, input, out) {
+    match reply(alloc, task, files, manifest, input, out) {
         Ok(status) => Ok(status),
         Err(Stop::Io) => Err(AnswerFault::Io),
         Err(Stop::OutOfMemory) => put_refused_memory(out),

@@ -1,9 +1,13 @@
 //! The worked rows, the published counts of moves, refusals of words, and writers that fail.
 
 use crate::commands::{Task, parse};
+use crate::disk::Disk;
+use crate::files::NamedFile;
+use crate::input::ReadFault;
 use crate::program::run;
 use crate::replies::{AnswerFault, answer};
 use crate::usage::Usage;
+use arrayvec::ArrayString;
 use board_core::Position;
 use fen_text::{read, read_move};
 use move_msg::{Count, Message, Stamp, Verdict, Who};
@@ -219,14 +223,29 @@ fn refuses_misused_words(rt: HostRuntime) {
     assert!(rt; matches!(parse(alloc, &["judge", START, START]), Err(Usage::Misuse)));
     assert!(rt;
         matches!(
-            parse(alloc, &["judge", "--tables", "here", START]),
+            parse(alloc, &["judge", "--table", "here", START]),
             Err(Usage::Misuse)
         )
     );
     assert!(rt; matches!(parse(alloc, &["show", START]), Err(Usage::Misuse)));
     assert!(rt; matches!(parse(alloc, &["show"]), Ok(Task::Show)));
     assert!(rt; matches!(parse(alloc, &["moves", START]), Ok(Task::Moves { fen }) if fen == START));
-    assert!(rt; matches!(parse(alloc, &["judge", START]), Ok(Task::Judge { fen }) if fen == START));
+    assert!(rt;
+        matches!(parse(alloc, &["judge", START]), Ok(Task::Judge { fen, .. }) if fen == START)
+    );
+}
+
+/// No folder and no file.
+struct NoDisk;
+
+impl Disk for NoDisk {
+    fn names(&self, _alloc: Global, _folder: &str) -> Result<Vec<String>, ReadFault> {
+        Err(ReadFault::Unreadable)
+    }
+
+    fn read(&self, _alloc: Global, _path: &str) -> Result<Vec<u8>, ReadFault> {
+        Err(ReadFault::Unreadable)
+    }
 }
 
 #[test]
@@ -234,7 +253,7 @@ fn tells_each_status(rt: HostRuntime) -> Result<(), Fail> {
     let alloc = rt.alloc();
     let judge = ["judge", "8/8/8/4k3/8/8/8/K7 w - - 0 1"];
     let refused = ["judge", "x"];
-    let unknown = ["probe", START];
+    let unknown = ["prove", START];
     for (words, text, status) in [
         (judge.as_slice(), "TableDraw\n", 0),
         (refused.as_slice(), "refused FEN FieldCount\n", 1),
@@ -244,7 +263,7 @@ fn tells_each_status(rt: HostRuntime) -> Result<(), Fail> {
         let mut out = Vec::new(alloc);
         let mut errors = Vec::new(alloc);
         assert!(rt;
-            matches!(run(alloc, words, [].as_slice(), &mut out, &mut errors), Ok(told) if told == status)
+            matches!(run(alloc, words, &NoDisk, [].as_slice(), &mut out, &mut errors), Ok(told) if told == status)
         );
         assert_eq!(rt; out.as_slice(), text.as_bytes());
         assert!(rt; errors.starts_with(b"usage: ") == (status == 2));
@@ -254,7 +273,7 @@ fn tells_each_status(rt: HostRuntime) -> Result<(), Fail> {
         };
         let mut out = Vec::new(alloc);
         assert!(rt;
-            matches!(run(alloc, words, [].as_slice(), &mut out, &mut failing), Ok(told) if told == status)
+            matches!(run(alloc, words, &NoDisk, [].as_slice(), &mut out, &mut failing), Ok(told) if told == status)
         );
     }
     Ok(())
@@ -294,7 +313,18 @@ fn tells_each_failed_write(rt: HostRuntime) {
             calls: 0,
             fails_at: 0,
         };
-        let answered = answer(rt.alloc(), &Task::Judge { fen }, &[], None, &[], &mut out);
+        let answered = answer(
+            rt.alloc(),
+            &Task::Judge {
+                tables: None,
+                manifest: None,
+                fen,
+            },
+            &[],
+            None,
+            &[],
+            &mut out,
+        );
         assert!(rt; matches!(answered, Err(AnswerFault::Io)), "{fen}");
     }
 }
@@ -329,7 +359,7 @@ fn three_messages(rt: &impl Abort, alloc: Global) -> Result<Vec<u8>, Fail> {
 fn shown<R: Read + Drop>(alloc: Global, input: R) -> Result<(Vec<u8>, u8), Fail> {
     let mut out = Vec::new(alloc);
     let mut errors = Vec::new(alloc);
-    match run(alloc, &["show"], input, &mut out, &mut errors) {
+    match run(alloc, &["show"], &NoDisk, input, &mut out, &mut errors) {
         Ok(status) => Ok((out, status)),
         Err(_) => Err(Fail::from("an answer")),
     }
@@ -400,6 +430,278 @@ fn tells_each_failed_write_of_a_message(rt: HostRuntime) -> Result<(), Fail> {
         let mut out = Failing { calls: 0, fails_at };
         let answered = answer(rt.alloc(), &Task::Show, &[], None, &stream, &mut out);
         assert!(rt; matches!(answered, Err(AnswerFault::Io)), "{fails_at}");
+    }
+    Ok(())
+}
+
+/// The fronts of table files of 80 bytes, all others zero: single values for both sides. A knight
+/// draws.
+const KNIGHT: [u8; 14] = [
+    0x71, 0xE8, 0x23, 0x5D, 0x01, 0x00, 0x66, 0x22, 0xEE, 0x00, 0x80, 0x02, 0x80, 0x02,
+];
+
+/// A knight's table with values that stand for nothing.
+const DAMAGED_KNIGHT: [u8; 14] = [
+    0x71, 0xE8, 0x23, 0x5D, 0x01, 0x00, 0x66, 0x22, 0xEE, 0x00, 0x80, 0x07, 0x80, 0x07,
+];
+
+/// A queen wins, and loses for the other side.
+const QUEEN: [u8; 14] = [
+    0x71, 0xE8, 0x23, 0x5D, 0x01, 0x00, 0x66, 0x55, 0xEE, 0x00, 0x80, 0x04, 0x80, 0x00,
+];
+
+/// A pawn wins, and loses for the other side.
+const PAWN: [u8; 38] = [
+    0x71, 0xE8, 0x23, 0x5D, 0x03, 0x00, 0x11, 0x66, 0xEE, 0x00, 0x11, 0x66, 0xEE, 0x00, 0x11, 0x66,
+    0xEE, 0x00, 0x11, 0x66, 0xEE, 0x00, 0x80, 0x04, 0x80, 0x00, 0x80, 0x04, 0x80, 0x00, 0x80, 0x04,
+    0x80, 0x00, 0x80, 0x04, 0x80, 0x00,
+];
+
+/// Pawn against pawn is a draw.
+const PAWNS: [u8; 38] = [
+    0x71, 0xE8, 0x23, 0x5D, 0x02, 0x00, 0x01, 0x01, 0x09, 0x06, 0x0E, 0x00, 0x01, 0x01, 0x09, 0x06,
+    0x0E, 0x00, 0x01, 0x01, 0x09, 0x06, 0x0E, 0x00, 0x01, 0x01, 0x09, 0x06, 0x0E, 0x00, 0x80, 0x02,
+    0x80, 0x02, 0x80, 0x02, 0x80, 0x02,
+];
+
+/// Knight a1 b1 against e5, and a queen in the knight's place.
+const KNIGHT_FEN: &str = "8/8/8/4k3/8/8/8/KN6 w - - 0 1";
+
+const QUEEN_FEN: &str = "8/8/8/4k3/8/8/8/KQ6 w - - 0 1";
+
+/// The manifest of KNvK.rtbw with the three bytes `abc` (FIPS 180-4, its first example).
+const ABC: &str = "ba7816bf8f01cfea414140de5dae2223b00361a396177a9cb410ff61f20015ad  KNvK.rtbw\n";
+
+/// A file of this name with these bytes.
+fn named(
+    rt: &impl Abort,
+    alloc: Global,
+    name: &str,
+    bytes: &[u8],
+) -> Result<NamedFile, AllocError> {
+    let mut file = Vec::new(alloc);
+    file.extend_from_slice(bytes)?;
+    Ok(NamedFile {
+        name: ArrayString::from(name).expect(rt, "a name"),
+        bytes: file,
+    })
+}
+
+/// The whole file of such a front.
+fn table(
+    rt: &impl Abort,
+    alloc: Global,
+    name: &str,
+    front: &[u8],
+) -> Result<NamedFile, AllocError> {
+    let mut file = named(rt, alloc, name, front)?;
+    for _ in front.len()..80 {
+        file.bytes.push(0)?;
+    }
+    Ok(file)
+}
+
+/// What is answered to a task that has files and a manifest, and its status.
+fn answered(
+    alloc: Global,
+    task: &Task,
+    files: &[NamedFile],
+    manifest: Option<&[u8]>,
+) -> Result<(Vec<u8>, u8), Fail> {
+    let mut out = Vec::new(alloc);
+    match answer(alloc, task, files, manifest, &[], &mut out) {
+        Ok(status) => Ok((out, status)),
+        Err(_) => Err(Fail::from("an answer")),
+    }
+}
+
+fn judge_of(fen: &str) -> Task<'_> {
+    Task::Judge {
+        tables: Some("tables"),
+        manifest: None,
+        fen,
+    }
+}
+
+fn probe_of(fen: &str) -> Task<'_> {
+    Task::Probe {
+        tables: "tables",
+        manifest: None,
+        fen,
+    }
+}
+
+const LIST: Task<'static> = Task::List { folder: "tables" };
+
+const CHECK: Task<'static> = Task::Check {
+    manifest: "manifest",
+    folder: "tables",
+};
+
+#[test]
+fn judges_and_probes_by_tables(rt: HostRuntime) -> Result<(), Fail> {
+    let alloc = rt.alloc();
+    let files = [
+        table(&rt, alloc, "KNvK.rtbw", &KNIGHT)?,
+        table(&rt, alloc, "KPvK.rtbw", &PAWN)?,
+        table(&rt, alloc, "KPvKP.rtbw", &PAWNS)?,
+        table(&rt, alloc, "KQvK.rtbw", &QUEEN)?,
+    ];
+    for (fen, verdict, told, status) in [
+        (KNIGHT_FEN, "TableDraw\n", "wdl 0\n", 0),
+        (
+            "7K/8/8/4k3/3Q4/8/8/8 b - - 0 1",
+            "TableDraw\n",
+            "wdl 0\n",
+            0,
+        ),
+        ("8/8/8/8/k2pP3/8/8/K7 b - e3 0 1", "open\n", "wdl 2\n", 0),
+        (
+            "8/8/8/8/k2pP3/8/8/K7 b - - 0 1",
+            "TableDraw\n",
+            "wdl 0\n",
+            0,
+        ),
+        (QUEEN_FEN, "open\n", "wdl 2\n", 0),
+        ("8/8/8/4k3/8/8/8/KQ6 b - - 0 1", "open\n", "wdl -2\n", 0),
+        (
+            "8/8/8/4k3/8/8/8/KR6 w - - 0 1",
+            "open\n",
+            "wdl refused NotCovered KRvK\n",
+            1,
+        ),
+        (START, "open\n", "wdl refused OutOfScope\n", 1),
+        (
+            "4k3/8/8/8/8/8/8/4K2R w K - 0 1",
+            "open\n",
+            "wdl refused OutOfScope\n",
+            1,
+        ),
+        (
+            "x",
+            "refused FEN FieldCount\n",
+            "refused FEN FieldCount\n",
+            1,
+        ),
+    ] {
+        let (out, _) = answered(alloc, &judge_of(fen), &files, None)?;
+        assert_eq!(rt; out.as_slice(), verdict.as_bytes(), "{fen}");
+        let (out, ended) = answered(alloc, &probe_of(fen), &files, None)?;
+        assert_eq!(rt; out.as_slice(), told.as_bytes(), "{fen}");
+        assert_eq!(rt; ended, status, "{fen}");
+    }
+    Ok(())
+}
+
+#[test]
+fn stops_at_a_damaged_table(rt: HostRuntime) -> Result<(), Fail> {
+    let alloc = rt.alloc();
+    let files = [table(&rt, alloc, "KNvK.rtbw", &DAMAGED_KNIGHT)?];
+    let (out, status) = answered(alloc, &judge_of(KNIGHT_FEN), &files, None)?;
+    assert_eq!(rt; out.as_slice(), "Stopped\n".as_bytes());
+    assert_eq!(rt; status, 0);
+    let (out, status) = answered(alloc, &probe_of(KNIGHT_FEN), &files, None)?;
+    assert_eq!(rt; out.as_slice(), "wdl refused Damaged KNvK\n".as_bytes());
+    assert_eq!(rt; status, 1);
+    Ok(())
+}
+
+#[test]
+fn lists_and_checks_files(rt: HostRuntime) -> Result<(), Fail> {
+    let alloc = rt.alloc();
+    let manifest = Some(ABC.as_bytes());
+    let abc = [named(&rt, alloc, "KNvK.rtbw", b"abc")?];
+    let knight = [table(&rt, alloc, "KNvK.rtbw", &KNIGHT)?];
+    let (out, status) = answered(alloc, &LIST, &abc, None)?;
+    assert_eq!(rt; out.as_slice(), ABC.as_bytes());
+    assert_eq!(rt; status, 0);
+    for (files, text) in [
+        (abc.as_slice(), "KNvK.rtbw BadSize\n"),
+        (knight.as_slice(), "KNvK.rtbw changed\n"),
+        ([].as_slice(), "KNvK.rtbw missing\n"),
+    ] {
+        let (out, status) = answered(alloc, &CHECK, files, manifest)?;
+        assert_eq!(rt; out.as_slice(), text.as_bytes());
+        assert_eq!(rt; status, 1);
+    }
+    let (listed, _) = answered(alloc, &LIST, &knight, None)?;
+    let (out, status) = answered(alloc, &CHECK, &knight, Some(&listed))?;
+    assert_eq!(rt; out.as_slice(), "KNvK.rtbw ok\n".as_bytes());
+    assert_eq!(rt; status, 0);
+    let (out, status) = answered(alloc, &CHECK, &knight, Some(b"x"))?;
+    assert_eq!(rt; out.as_slice(), "refused manifest 1\n".as_bytes());
+    assert_eq!(rt; status, 1);
+    Ok(())
+}
+
+#[test]
+fn tells_the_first_refusal(rt: HostRuntime) -> Result<(), Fail> {
+    let alloc = rt.alloc();
+    let abc = [named(&rt, alloc, "KNvK.rtbw", b"abc")?];
+    let two = [
+        named(&rt, alloc, "KNvK.rtbw", b"abc")?,
+        table(&rt, alloc, "KQvK.rtbw", &KNIGHT)?,
+    ];
+    let bad = Some(b"x\n".as_slice());
+    for (fen, files, manifest, text) in [
+        (
+            KNIGHT_FEN,
+            abc.as_slice(),
+            Some(ABC.as_bytes()),
+            "refused KNvK.rtbw BadSize\n",
+        ),
+        (
+            KNIGHT_FEN,
+            [].as_slice(),
+            Some(ABC.as_bytes()),
+            "refused KNvK.rtbw missing\n",
+        ),
+        (KNIGHT_FEN, &two[1..], None, "refused KQvK.rtbw BadPieces\n"),
+        (
+            KNIGHT_FEN,
+            two.as_slice(),
+            None,
+            "refused KNvK.rtbw BadSize\n",
+        ),
+        (
+            KNIGHT_FEN,
+            two.as_slice(),
+            Some(ABC.as_bytes()),
+            "refused KNvK.rtbw BadSize\n",
+        ),
+        (KNIGHT_FEN, abc.as_slice(), bad, "refused manifest 1\n"),
+        ("x", abc.as_slice(), bad, "refused FEN FieldCount\n"),
+    ] {
+        for task in [judge_of(fen), probe_of(fen)] {
+            let (out, status) = answered(alloc, &task, files, manifest)?;
+            assert_eq!(rt; out.as_slice(), text.as_bytes());
+            assert_eq!(rt; status, 1);
+        }
+    }
+    // A file that the manifest doesn't name isn't looked at.
+    let (out, status) = answered(alloc, &judge_of(KNIGHT_FEN), &abc, Some(&[]))?;
+    assert_eq!(rt; out.as_slice(), "open\n".as_bytes());
+    assert_eq!(rt; status, 0);
+    Ok(())
+}
+
+#[test]
+fn tells_each_failed_write_of_tables(rt: HostRuntime) -> Result<(), Fail> {
+    let alloc = rt.alloc();
+    let files = [table(&rt, alloc, "KNvK.rtbw", &KNIGHT)?];
+    let manifest = Some(ABC.as_bytes());
+    for (task, manifest, writes) in [
+        (judge_of(KNIGHT_FEN), None, 2),
+        (judge_of(KNIGHT_FEN), manifest, 4),
+        (probe_of(KNIGHT_FEN), None, 3),
+        (LIST, None, 1),
+        (CHECK, manifest, 3),
+    ] {
+        for fails_at in 0..writes {
+            let mut out = Failing { calls: 0, fails_at };
+            let answered = answer(alloc, &task, &files, manifest, &[], &mut out);
+            assert!(rt; matches!(answered, Err(AnswerFault::Io)), "{fails_at}");
+        }
     }
     Ok(())
 }

@@ -1,0 +1,6 @@
+use Rattle.std.proofs.Common.{◌≡◌, map, drop}
+use Rattle.adjudicate.specs.Files.{file_named, file_of}
+use Rattle.adjudicate.proofs.tables.file_named.Given as goal
+
+abbrev pub invariant-loop-file : goal.invariant-loop-file
+invariant-loop-file l = file_named l.name (map file_of (drop l.file-index l.files)) ≡ file_named l.name (map file_of l.files)
