@@ -1,3 +1,4 @@
+pub mod Asking
 pub mod Readings
 pub mod Captures
 pub mod Rule

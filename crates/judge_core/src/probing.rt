@@ -51,7 +51,7 @@ fn is_forced(alloc: Global, position: &Position, captures: &[Move]) -> Result<bo
 impl<'a> Set<'a> {
     /// What the captures and the own table say of the position.
     #[cycle(wdl)]
-    fn weigh(
+    pub(crate) fn weigh(
         &self,
         alloc: Global,
         position: &Position,

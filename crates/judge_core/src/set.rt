@@ -62,7 +62,7 @@ fn kind_of(table: &Table<'_>) -> Kind
 }
 
 /// The position as its table sees it.
-fn placed(position: &Position, material: &Material) -> Placed
+pub(crate) fn placed(position: &Position, material: &Material) -> Placed
     requires known { material.now < 145 }
     requires own { IsMaterialOf material.now (men_on position.now.men) }
     ensures is { result ≡ placed_of material.now position.now }
@@ -77,7 +77,7 @@ fn placed(position: &Position, material: &Material) -> Placed
 }
 
 /// The material of the position: none for bare kings and for more than five men.
-fn material_of(position: &Position) -> Option<Material>
+pub(crate) fn material_of(position: &Position) -> Option<Material>
     ensures is { result ≡ material_of position.now }
     ensures own { IfSome result (λ m. (m < 145) × IsMaterialOf m (men_on position.now.men)) }
 {
@@ -167,7 +167,7 @@ impl<'a> Set<'a> {
     }
 
     /// The table of this kind for this material.
-    fn table(&self, kind: Kind, material: Material) -> Option<&Table<'a>>
+    pub(crate) fn table(&self, kind: Kind, material: Material) -> Option<&Table<'a>>
         ensures found { option_map (λ t. t.now) result ≡ table_at self.now.tables kind material }
         ensures own { IfSome result (λ t. t.now.material ≡ material) }
     {
