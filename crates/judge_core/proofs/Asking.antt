@@ -10,7 +10,7 @@ use Rattle.board_core.specs.ComputedMoves.{position_after}
 use Rattle.judge_core.specs.declared.fault.Faults.{Faults}
 use Rattle.judge_core.specs.declared.fault.ValueFault.{ValueFault}
 use Rattle.judge_core.specs.declared.fault.ValueFault.TheVariants.{NotCovered, Damaged}
-use Rattle.judge_core.specs.Asked.{asked, missing, damaged, first, faults_in, with_answer}
+use Rattle.judge_core.specs.Asked.{asked, missing, damaged, first, faults_in, no_faults, with_answer}
 
 option_or-none : {T : Type 0} (o : Option T) → option_or o None ≡ o
 option_or-none None = refl
@@ -37,6 +37,9 @@ faults-is f (Err (Damaged key) ∷ rs) = ap (λ (o : Option ℕ). record { missi
 
 pub faults-append : {X : Type 0} (xs ys : List (Result X ValueFault)) → faults_in (xs ++ ys) ≡ faults_more (faults_in xs) ys
 faults-append xs ys = rw (first-append missing xs ys, first-append damaged xs ys) (faults-is (faults_in xs) ys)
+
+pub faults_in-is : {X : Type 0} (rs : List (Result X ValueFault)) → faults_in rs ≡ faults_more no_faults rs
+faults_in-is rs = faults-is no_faults rs
 
 pub asked-append : {X : Type 0} (say : Parts → Result X ValueFault) (p : Parts) (xs ys : List Move) → asked say p (xs ++ ys) ≡ asked say p xs ++ asked say p ys
 asked-append say p xs ys = filter_map-append (λ m. option_map say (position_after p m)) xs ys

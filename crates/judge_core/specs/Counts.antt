@@ -5,7 +5,7 @@ use Rattle.judge_core.specs.declared.fault.ValueFault.TheVariants.{Damaged}
 use Rattle.judge_core.specs.declared.distance.Distance.TheVariants.{Loss}
 use Rattle.judge_core.specs.declared.counts.Counts.{Counts}
 use Rattle.judge_core.specs.declared.counts.Steps.{Steps}
-use Rattle.judge_core.specs.declared.outcome.Outcome.{Outcome}
+use Rattle.table_file.specs.declared.outcome.Outcome.{Outcome}
 use Rattle.judge_core.specs.declared.wdl.Wdl.{Wdl}
 use Rattle.judge_core.specs.Values.{Reading}
 use Rattle.judge_core.specs.Asked.{told, unless, no_faults, with_fault, with_answer}

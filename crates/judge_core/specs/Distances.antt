@@ -12,8 +12,8 @@ use Rattle.place_index.specs.Index.{index_of}
 use Rattle.place_index.specs.Placed.{Placement}
 use Rattle.table_file.specs.declared.kind.Kind.TheVariants.{Dtz}
 use Rattle.table_file.specs.Tables.{Contents, shape_of}
-use Rattle.judge_core.specs.declared.outcome.Outcome.{Outcome}
-use Rattle.judge_core.specs.declared.outcome.Outcome.TheVariants.{Win as Won, CursedWin as WonCursed, BlessedLoss as LostBlessed, Loss as Lost}
+use Rattle.table_file.specs.declared.outcome.Outcome.{Outcome}
+use Rattle.table_file.specs.declared.outcome.Outcome.TheVariants.{Win as Won, CursedWin as WonCursed, BlessedLoss as LostBlessed, Loss as Lost}
 use Rattle.judge_core.specs.declared.distance.Distance.{Distance}
 use Rattle.judge_core.specs.declared.distance.Distance.TheVariants.{Draw, Win, Loss}
 use Rattle.judge_core.specs.declared.wdl.Wdl.{Wdl}
@@ -25,7 +25,7 @@ use Rattle.judge_core.specs.Values.{Reading, is_winning, is_below, is_same, outc
 use Rattle.judge_core.specs.LookUp.{material_of, placed_of}
 use Rattle.judge_core.specs.Tables.{Tables, table_at}
 use Rattle.judge_core.specs.Asked.{asked, fault_in, unless}
-use Rattle.judge_core.specs.Stub.{stores, distance}
+use Rattle.table_file.specs.Distances.{stores, distance}
 use Rattle.judge_core.specs.Probing.{after, weighed_by, wdl_of, worth}
 use Rattle.judge_core.specs.Ends.{is_mate}
 

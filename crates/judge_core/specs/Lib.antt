@@ -6,7 +6,6 @@ pub mod Asked
 pub mod Probing
 pub mod Found
 pub mod Ends
-pub mod Stub
 pub mod Distances
 pub mod Counts
 pub mod Ruling

@@ -2,8 +2,8 @@
 use Rattle.std.specs.Prelude.{ℕ, zero, suc, nat_lt, ◌==◌, Bool, Option, Some, None, Result, Ok, Err, if◌then◌else◌}
 use Rattle.judge_core.specs.declared.wdl.Wdl.{Wdl}
 use Rattle.judge_core.specs.declared.wdl.Wdl.TheVariants.{Loss, BlessedLoss, Draw, CursedWin, Win}
-use Rattle.judge_core.specs.declared.outcome.Outcome.{Outcome}
-use Rattle.judge_core.specs.declared.outcome.Outcome.TheVariants.{Win as Won, CursedWin as WonCursed, BlessedLoss as LostBlessed, Loss as Lost}
+use Rattle.table_file.specs.declared.outcome.Outcome.{Outcome}
+use Rattle.table_file.specs.declared.outcome.Outcome.TheVariants.{Win as Won, CursedWin as WonCursed, BlessedLoss as LostBlessed, Loss as Lost}
 use Rattle.judge_core.specs.declared.fault.ValueFault.{ValueFault}
 
 -- a value as the tables store it

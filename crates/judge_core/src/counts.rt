@@ -6,9 +6,9 @@ ghost use Rattle.judge_core.specs.Counts.{no_steps, with_reading, steps_told, no
 
 use crate::distance::{self, Distance};
 use crate::fault::{Faults, ValueFault};
-use crate::outcome::Outcome;
 use crate::wdl::Wdl;
 use place_index::Material;
+use table_file::Outcome;
 
 /// What the pawn moves so far have told.
 #[derive(Clone, Copy, PartialEq, Eq, Debug)]

@@ -4,7 +4,7 @@ ghost use Rattle.std.specs.Prelude.{◌≡◌, ◌≤◌, IfOk};
 ghost use Rattle.judge_core.specs.Distances.{plies, signed, is_won, zeroing, towards, counted, one_more};
 
 use crate::fault::ValueFault;
-use crate::outcome::Outcome;
+use table_file::Outcome;
 
 /// How many plies the winner is from the next capture or pawn move, or from mate (Syzygy DTZ tables).
 #[derive(Clone, Copy, PartialEq, Eq, Debug)]

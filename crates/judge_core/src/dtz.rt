@@ -2,6 +2,7 @@
 
 ghost use Rattle.std.specs.Prelude.{◌≡◌, ◌<◌, ◌≤◌, ◌+◌, ◌-◌, IfOk, IfSome};
 ghost use Rattle.board_core.specs.Position.{IsPosition};
+ghost use Rattle.table_file.specs.declared.kind.Kind.TheVariants.{Dtz};
 ghost use Rattle.table_file.specs.Tables.{IsFile};
 ghost use Rattle.judge_core.specs.Distances.{plies, pawns_reach, move_counts, by_quiet_moves, distance_in, stored, by_own_table, by_moves, by_weighed, dtz_to, dtz_of};
 ghost use Rattle.judge_core.specs.Ruling.{is_out_of_scope};
@@ -13,17 +14,17 @@ use crate::fault::{ProbeFault, ValueFault};
 use crate::found::Weighed;
 use crate::mobility::is_mate;
 use crate::moving::{after_pawn_step, after_quiet_move, has_pawn};
-use crate::outcome::{self, Outcome};
 use crate::set::{Set, material_of, placed};
 use crate::verdict::is_out_of_scope;
 use crate::wdl::{Wdl, turned};
 use board_core::Position;
 use place_index::{Material, Placed, index};
 use std::alloc::{AllocError, Global};
-use table_file::{Kind, Table};
+use table_file::{Kind, Outcome, Table};
 
 /// What the table stores for placed men; none where that is damaged.
 fn distance(table: &Table<'_>, placed: &Placed, outcome: Outcome) -> Option<u32>
+    requires kind { table.now.kind ≡ Dtz }
     requires own { table.now.material ≡ placed.now.material }
     requires side { placed.now.side < 2 }
     requires file { IsFile table.now.material placed.now.file }
@@ -33,7 +34,10 @@ fn distance(table: &Table<'_>, placed: &Placed, outcome: Outcome) -> Option<u32>
     let side = placed.side();
     let file = placed.file();
     let shape = table.shape(side, file);
-    outcome::distance(table, file, index(shape, placed), outcome)
+    match table.dtz(file, index(shape, placed), outcome) {
+        Ok(plies) => Some(plies),
+        Err(_) => None,
+    }
 }
 
 /// The distance by what the table stores.
@@ -85,7 +89,7 @@ impl<'a> Set<'a> {
         requires position { IsPosition after.now }
         requires left { left ≤ 2 }
         ensures is { IfOk result (λ count. count ≡ move_counts outcome (dtz_to self.now.tables left) after.now) }
-        ensures within { IfOk result (λ count. IfOk count (λ n. IfSome n (λ n. n ≤ 131172 + left))) }
+        ensures within { IfOk result (λ count. IfOk count (λ n. IfSome n (λ k. k ≤ 131172 + left))) }
     {
         let won = is_won(outcome);
         if won && is_mate(alloc, after)? {
@@ -142,7 +146,7 @@ impl<'a> Set<'a> {
             return Ok(Err(ValueFault::NotCovered(material)));
         };
         let placed = placed(position, &material);
-        if outcome::stores(table, placed.side(), placed.file()) {
+        if table.stores(placed.side(), placed.file()) {
             return Ok(stored(material, outcome, distance(table, &placed, outcome)));
         }
         self.by_quiet_moves(alloc, position, material, outcome, left)
@@ -166,8 +170,11 @@ impl<'a> Set<'a> {
         if is_won(outcome) {
             let reached = self.pawns_reach(alloc, position, value)?;
             match &reached {
-                Ok(true) => return Ok(Ok(towards(outcome, zeroing(outcome)))),
-                Ok(false) => {}
+                Ok(reached) => {
+                    if *reached {
+                        return Ok(Ok(towards(outcome, zeroing(outcome))));
+                    }
+                }
                 Err(fault) => return Ok(Err(*fault)),
             }
         }

@@ -16,7 +16,6 @@ mod judging;
 pub mod laws;
 mod mobility;
 mod moving;
-mod outcome;
 mod probing;
 mod set;
 mod verdict;

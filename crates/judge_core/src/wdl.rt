@@ -4,7 +4,7 @@ ghost use Rattle.std.specs.Prelude.{◌≡◌, ◌≤◌, ◌-ℤ◌, pos};
 ghost use Rattle.judge_core.specs.Values.{points, of_points, opposite, is_winning, is_below, is_same, outcome_of, greater, turned};
 
 use crate::fault::ValueFault;
-use crate::outcome::Outcome;
+use table_file::Outcome;
 
 /// What a position is worth to the side to move, with the halfmove clock at 0 (Syzygy WDL tables).
 #[derive(Clone, Copy, PartialEq, Eq, Debug)]
