@@ -1,6 +1,7 @@
 pub mod KeyTables
 pub mod TableLaw
 pub mod Choosing
+pub mod ChoiceTable
 pub mod PartList
 pub mod Making
 pub mod Greatest
@@ -38,4 +39,5 @@ pub mod TurnedMen
 pub mod Numbering
 pub mod MenOn
 pub mod Symmetric
+pub mod Tallies
 pub mod Weighing

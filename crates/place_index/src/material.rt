@@ -1,9 +1,9 @@
 ghost use Rattle.std.specs.Prelude.{◌≡◌, ◌+◌, ◌<◌, ◌≤◌, ◌↔◌, ℕ, IfSome, IfNone, IsTrue, length, slice_index};
-ghost use Rattle.place_index.specs.Material.{Men, IsTable, TablesAreNumbered, name_at, name_of, men_of, white_pawns, black_pawns, pieces_of, count_of};
+ghost use Rattle.place_index.specs.Material.{Men, IsTable, TablesAreNumbered, name_at, name_of, men_of, white_pawns, black_pawns, pieces_of, count_of, tally_of};
 ghost use Rattle.place_index.specs.Shape.{lead_men, lead_code, other_code, other_pawns, black_leads, both_have_pawns};
 ghost use Rattle.place_index.specs.Place.{place_of, rank_of, pair_of, triple_of};
 
-use crate::tables::{COUNTS, LEADING_MEN, LETTERS, PAIRS, SYMMETRIC, TRIPLES};
+use crate::tables::{COUNTS, LEADING_MEN, LETTERS, PAIRS, SYMMETRIC, TALLIES, TRIPLES};
 use arrayvec::ArrayString;
 use std::marker::Model;
 
@@ -192,6 +192,14 @@ impl Material {
     {
         let key = self.key();
         COUNTS[key as usize * 16 + code as usize]
+    }
+
+    /// How often each code from 0 to 15 stands among the men, four bits for each.
+    pub(crate) fn tally(&self) -> u64
+        ensures { result ≡ tally_of (pieces_of self.now) }
+    {
+        let key = self.key();
+        TALLIES[key as usize]
     }
 }
 
