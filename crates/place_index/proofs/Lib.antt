@@ -36,7 +36,10 @@ pub mod LayoutGroups
 pub mod IndexLaw
 pub mod Collecting
 pub mod TurnedMen
+pub mod Highest
+pub mod Turns
 pub mod Numbering
+pub mod LoneGroups
 pub mod MenOn
 pub mod Symmetric
 pub mod Tallies

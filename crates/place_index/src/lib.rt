@@ -17,6 +17,8 @@ mod sizes;
 mod squares;
 mod sweep;
 mod tables;
+mod tops;
+mod turn;
 mod turning;
 
 pub use choose::{parts_are_listed, pascals_rule};
