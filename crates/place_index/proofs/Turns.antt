@@ -19,6 +19,9 @@ use Rattle.place_index.proofs.TurnedMen.{are_men, moved_men, turned_pawned, turn
 use Rattle.place_index.proofs.IndexLaw.{leads_three, lead_kings, codes_by_pieces}
 use Rattle.place_index.proofs.MenTables.{codes_small}
 use Rattle.place_index.proofs.Settled.{squares_fall}
+use Rattle.place_index.proofs.Choosing.{choose_one}
+use Rattle.place_index.proofs.MappedSets.{falling_at}
+use Rattle.place_index.specs.Others.{free_number, free_set_number}
 use Rattle.place_index.specs.Choose.{IsFallingBelow}
 
 -- ---- one mirroring after another
@@ -325,3 +328,11 @@ turned_length t men = length-map men (λ m. man m.code (turn_square t m.square))
 
 pub turned_within : (t : Turn) (men : List Man) (i : ℕ) → i ≤ length men → i ≤ length (turned_by t men)
 turned_within t men i le = omega (arith, le, turned_length t men)
+
+-- ---- a group of one man
+
+pub free_alone : (first : ℕ) (earlier : List ℕ) (s : ℕ) → free_set_number first earlier (s ∷ []) ≡ free_number first earlier s
+free_alone first earlier s = ap (λ n. n + 0) (choose_one (free_number first earlier s)) ∙ omega arith
+
+pub turned_on_board : (t : Turn) (men : List Man) (c k : ℕ) → k < length (squares_of (turned_by t men) c) → slice_index (squares_of (turned_by t men) c) k ≤ 64
+turned_on_board t men c k lt = omega (arith, falling_at 64 (squares_of (turned_by t men) c) k (squares_fall (turned_by t men) c) lt)

@@ -1,36 +1,20 @@
 //! The index of a placement.
 
-ghost use Rattle.std.specs.Prelude.{◌≡◌, ◌<◌, ◌≤◌, ◌+◌, ◌++◌, cond, length};
-ghost use Rattle.place_index.specs.Index.{AreTops, IsLeadTurned, IsShape, IsPlacement, first_square, lead_codes, squares_of_all, numbers_of, sum_of_products, index_of};
+ghost use Rattle.std.specs.Prelude.{◌≡◌, ◌<◌, ◌≤◌, cond, length};
+ghost use Rattle.place_index.specs.Index.{AreTops, IsLeadTurned, IsShape, IsPlacement, lead_codes, squares_of_all, numbers_of, sum_of_products, index_of};
 ghost use Rattle.place_index.specs.Shape.{has_pawns, lead_men, size_of, greatest_size};
 ghost use Rattle.place_index.specs.Turning.{turned_by};
 
+use crate::group::Group;
 use crate::man::Man;
 use crate::material::{Material, leading_men};
-use crate::numbers::{free_set_number, lead_number};
+use crate::numbers::lead_number;
 use crate::placed::Placed;
 use crate::shape::Shape;
-use crate::tops::{tops, turned_squares};
+use crate::tops::{add_squares, number_group, tops};
 use crate::turn::Turn;
 use crate::turning::{lead_codes, turn_of};
 use arrayvec::ArrayVec;
-
-/// Adds these squares.
-fn append(earlier: &mut ArrayVec<u8, 5>, squares: &[u8])
-    requires { length earlier.old.items + length squares.now ≤ 5 }
-    ensures { earlier.new.items ≡ earlier.old.items ++ squares.now }
-{
-    for square in squares {
-        earlier.push(*square);
-    }
-}
-
-/// The first square that men with this code may stand on: pawns begin on the second rank.
-fn first_square(code: u8) -> u8
-    ensures { result ≡ first_square code }
-{
-    if code == 1 || code == 9 { 8 } else { 0 }
-}
 
 /// How many leading men have the same code: all leading pawns do, and other leading men differ.
 fn leading_alike(material: Material) -> u8
@@ -55,8 +39,11 @@ fn lead_squares(shape: &Shape, men: &[Man], tops: &[u8; 16], turn: Turn) -> Arra
     let alike = leading_alike(shape.material());
     let mut squares = ArrayVec::<u8, 5>::new();
     for code in codes {
-        let more = turned_squares(men, tops, turn, *code, alike);
-        append(&mut squares, more.as_slice());
+        let group = Group {
+            code: *code,
+            men: alike,
+        };
+        add_squares(&mut squares, men, tops, turn, group);
     }
     squares
 }
@@ -77,11 +64,8 @@ fn numbers(shape: &Shape, men: &[Man], tops: &[u8; 16], turn: Turn) -> ArrayVec<
     let mut numbers = ArrayVec::<u64, 5>::new();
     numbers.push(lead);
     for group in others {
-        let squares = turned_squares(men, tops, turn, group.code, group.men);
-        let first = first_square(group.code);
-        let number = free_set_number(first, earlier.as_slice(), squares.as_slice());
+        let number = number_group(&mut earlier, men, tops, turn, *group);
         numbers.push(number);
-        append(&mut earlier, squares.as_slice());
     }
     numbers
 }

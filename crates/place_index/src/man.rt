@@ -3,6 +3,18 @@ ghost use Rattle.place_index.specs.Men.{opposite};
 
 use board_core::Square;
 
+/// The code of the first side's pawns.
+pub(crate) const WHITE_PAWN: u8 = 1;
+
+/// The code of the first side's king.
+pub(crate) const WHITE_KING: u8 = 6;
+
+/// The code of the second side's pawns.
+pub(crate) const BLACK_PAWN: u8 = 9;
+
+/// The code of the second side's king.
+pub(crate) const BLACK_KING: u8 = 14;
+
 /// A man on a square, as a table sees it: colours may be exchanged, and all men mirrored.
 #[derive(Clone, Copy, PartialEq, Eq, Debug)]
 pub struct Man {

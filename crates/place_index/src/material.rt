@@ -3,6 +3,7 @@ ghost use Rattle.place_index.specs.Material.{Men, IsTable, TablesAreNumbered, na
 ghost use Rattle.place_index.specs.Shape.{lead_men, lead_code, other_code, other_pawns, black_leads, both_have_pawns};
 ghost use Rattle.place_index.specs.Place.{place_of, rank_of, pair_of, triple_of};
 
+use crate::man::{BLACK_PAWN, WHITE_PAWN};
 use crate::tables::{COUNTS, LEADING_MEN, LETTERS, PAIRS, SYMMETRIC, TALLIES, TRIPLES};
 use arrayvec::ArrayString;
 use std::marker::Model;
@@ -178,8 +179,8 @@ impl Material {
     pub fn has_pawns(&self) -> bool
         ensures { IsTrue result ↔ (1 ≤ white_pawns self.now + black_pawns self.now) }
     {
-        let white = self.count(1);
-        let black = self.count(9);
+        let white = self.count(WHITE_PAWN);
+        let black = self.count(BLACK_PAWN);
         white + black != 0
     }
 
@@ -232,8 +233,8 @@ pub(crate) fn leading_men(material: Material) -> u8
 fn black_leads(material: Material) -> bool
     ensures { result ≡ black_leads material }
 {
-    let white = material.count(1);
-    let black = material.count(9);
+    let white = material.count(WHITE_PAWN);
+    let black = material.count(BLACK_PAWN);
     black != 0 && (white == 0 || black < white)
 }
 
@@ -242,7 +243,11 @@ fn black_leads(material: Material) -> bool
 pub(crate) fn leading_pawn(material: Material) -> u8
     ensures { result ≡ lead_code material }
 {
-    if black_leads(material) { 9 } else { 1 }
+    if black_leads(material) {
+        BLACK_PAWN
+    } else {
+        WHITE_PAWN
+    }
 }
 
 /// The code of the pawns that don't lead.
@@ -250,7 +255,11 @@ pub(crate) fn leading_pawn(material: Material) -> u8
 pub(crate) fn other_pawn(material: Material) -> u8
     ensures { result ≡ other_code material }
 {
-    if black_leads(material) { 1 } else { 9 }
+    if black_leads(material) {
+        WHITE_PAWN
+    } else {
+        BLACK_PAWN
+    }
 }
 
 /// How many pawns don't lead.
@@ -259,9 +268,9 @@ pub(crate) fn other_pawns(material: Material) -> u8
     ensures { result ≡ other_pawns material }
 {
     if black_leads(material) {
-        material.count(1)
+        material.count(WHITE_PAWN)
     } else {
-        material.count(9)
+        material.count(BLACK_PAWN)
     }
 }
 
@@ -269,8 +278,8 @@ pub(crate) fn other_pawns(material: Material) -> u8
 pub(crate) fn both_have_pawns(material: Material) -> bool
     ensures { result ≡ both_have_pawns material }
 {
-    let white = material.count(1);
-    let black = material.count(9);
+    let white = material.count(WHITE_PAWN);
+    let black = material.count(BLACK_PAWN);
     white != 0 && black != 0
 }
 

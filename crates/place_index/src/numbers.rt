@@ -2,7 +2,7 @@
 
 ghost use Rattle.std.specs.Prelude.{◌≡◌, ◌<◌, ◌≤◌, ◌∷◌, ℕ, length, slice_index, true, cond};
 ghost use Rattle.place_index.specs.Choose.{set_number};
-ghost use Rattle.place_index.specs.Index.{AreMen, ArePawnsAt, IsLeadTurned, IsPlacement, lead_codes, lead_pawns_number, lead_number, squares_of_all};
+ghost use Rattle.place_index.specs.Index.{AreMen, ArePawnsAt, IsLeadTurned, IsPlacement, first_square, lead_codes, lead_pawns_number, lead_number, squares_of_all};
 ghost use Rattle.place_index.specs.Kings.{AreTurnedKings, kings_number};
 ghost use Rattle.place_index.specs.Others.{taken, free_number, free_set_number};
 ghost use Rattle.place_index.specs.Pawns.{pawns_before};
@@ -11,7 +11,7 @@ ghost use Rattle.place_index.specs.Three.{three_number, triangle_number, lower_n
 ghost use Rattle.place_index.specs.Turning.{turned_by};
 
 use crate::choose::choices;
-use crate::man::Man;
+use crate::man::{BLACK_PAWN, Man, WHITE_PAWN};
 use crate::material::{leading_men, leading_pawn};
 use crate::shape::Shape;
 use crate::squares::{pawn_numbers_of, pawn_square};
@@ -150,9 +150,20 @@ fn taken(earlier: &[u8], square: u8) -> u64
     count
 }
 
+/// The first square that men with this code may stand on: pawns begin on the second rank.
+pub(crate) fn first_square(code: u8) -> u8
+    ensures { result ≡ first_square code }
+{
+    if code == WHITE_PAWN || code == BLACK_PAWN {
+        8
+    } else {
+        0
+    }
+}
+
 /// The square's number among the free ones from the first square on.
 #[tactic(auto, unfolding(crate::specs::Others::free_number))]
-fn free_number(first: u8, earlier: &[u8], square: u8) -> u64
+pub(crate) fn free_number(first: u8, earlier: &[u8], square: u8) -> u64
     requires { length earlier.now ≤ 5 }
     ensures is { result ≡ free_number first earlier.now square }
     ensures small { result ≤ square }

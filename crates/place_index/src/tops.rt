@@ -1,11 +1,14 @@
-//! The squares of men that are the only ones of their kind.
+//! The squares of the groups, those of men that are the only ones of their kind without a search.
 
-ghost use Rattle.std.specs.Prelude.{◌≡◌, ◌<◌, ◌∷◌, [], slice_index};
-ghost use Rattle.place_index.specs.Index.{AreMen, AreTops};
+ghost use Rattle.std.specs.Prelude.{◌≡◌, ◌<◌, ◌≤◌, ◌+◌, ◌++◌, ◌∷◌, [], length, slice_index};
+ghost use Rattle.place_index.specs.Index.{AreMen, AreTops, first_square};
 ghost use Rattle.place_index.specs.Men.{squares_of, square_of};
+ghost use Rattle.place_index.specs.Others.{free_set_number};
 ghost use Rattle.place_index.specs.Turning.{turn_square, turned_by};
 
+use crate::group::Group;
 use crate::man::Man;
+use crate::numbers::{first_square, free_number, free_set_number};
 use crate::squares::squares_of;
 use crate::turn::Turn;
 use arrayvec::ArrayVec;
@@ -43,26 +46,67 @@ pub(crate) fn top(tops: &[u8; 16], code: u8) -> Square
     Square::at(tops[code as usize])
 }
 
-/// The squares to which so many men with this code go, the highest first.
-pub(crate) fn turned_squares(
+/// Adds these squares.
+fn append(earlier: &mut ArrayVec<u8, 5>, squares: &[u8])
+    requires { length earlier.old.items + length squares.now ≤ 5 }
+    ensures { earlier.new.items ≡ earlier.old.items ++ squares.now }
+{
+    for square in squares {
+        earlier.push(*square);
+    }
+}
+
+/// Adds the squares to which so many men with this code go, the highest first.
+pub(crate) fn add_squares(
+    earlier: &mut ArrayVec<u8, 5>,
     men: &[Man],
     tops: &[u8; 16],
     turn: Turn,
-    code: u8,
-    count: u8,
-) -> ArrayVec<u8, 5>
+    group: Group,
+)
+    requires room { length earlier.old.items + length (squares_of (turned_by turn men.now) group.code) ≤ 5 }
     requires men { AreMen men.now }
     requires tops { AreTops men.now tops.now }
-    requires known { count ≡ 1 → code < 16 }
-    requires alone { count ≡ 1 → squares_of (turned_by turn men.now) code ≡ turn_square turn (square_of men.now code) ∷ [] }
-    ensures { result.items ≡ squares_of (turned_by turn men.now) code }
+    requires known { group.men ≡ 1 → group.code < 16 }
+    requires alone { group.men ≡ 1 → squares_of (turned_by turn men.now) group.code ≡ turn_square turn (square_of men.now group.code) ∷ [] }
+    ensures { earlier.new.items ≡ earlier.old.items ++ squares_of (turned_by turn men.now) group.code }
 {
-    if count != 1 {
-        return squares_of(men, turn, code);
+    if group.men != 1 {
+        let squares = squares_of(men, turn, group.code);
+        append(earlier, squares.as_slice());
+        return;
     }
-    let from = top(tops, code);
+    let from = top(tops, group.code);
     let square = turn.square(from);
-    let mut squares = ArrayVec::<u8, 5>::new();
-    squares.push(square);
-    squares
+    earlier.push(square);
+}
+
+/// The number of so many men with this code, after earlier men, among whom they are then.
+pub(crate) fn number_group(
+    earlier: &mut ArrayVec<u8, 5>,
+    men: &[Man],
+    tops: &[u8; 16],
+    turn: Turn,
+    group: Group,
+) -> u64
+    requires room { length earlier.old.items + length (squares_of (turned_by turn men.now) group.code) ≤ 5 }
+    requires men { AreMen men.now }
+    requires tops { AreTops men.now tops.now }
+    requires known { group.men ≡ 1 → group.code < 16 }
+    requires alone { group.men ≡ 1 → squares_of (turned_by turn men.now) group.code ≡ turn_square turn (square_of men.now group.code) ∷ [] }
+    ensures number { result ≡ free_set_number (first_square group.code) earlier.old.items (squares_of (turned_by turn men.now) group.code) }
+    ensures earlier { earlier.new.items ≡ earlier.old.items ++ squares_of (turned_by turn men.now) group.code }
+{
+    let first = first_square(group.code);
+    if group.men != 1 {
+        let squares = squares_of(men, turn, group.code);
+        let number = free_set_number(first, earlier.as_slice(), squares.as_slice());
+        append(earlier, squares.as_slice());
+        return number;
+    }
+    let from = top(tops, group.code);
+    let square = turn.square(from);
+    let number = free_number(first, earlier.as_slice(), square);
+    earlier.push(square);
+    number
 }
