@@ -31,4 +31,6 @@ pub use placed::{Placed, place};
 pub use shape::{Shape, ShapeFault};
 
 #[cfg(test)]
+mod seeded;
+#[cfg(test)]
 mod tests;
