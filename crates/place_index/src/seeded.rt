@@ -110,26 +110,33 @@ fn count_kings(alloc: Global) -> Result<Counted, AllocError> {
 /// number.
 fn count_earlier(numbers: &[u8], set: &[u8]) -> u64 {
     let first = set.first().copied().unwrap_or(0);
+    let mut count = 0u64;
+    for x in numbers {
+        if *x <= first {
+            count = count.wrapping_add(count_with(numbers, *x, *x < first, set));
+        }
+    }
+    count
+}
+
+/// The earlier sets that begin by this number, all of them if that is lower than the set's first number.
+fn count_with(numbers: &[u8], x: u8, are_all: bool, set: &[u8]) -> u64 {
+    let second = set.get(1).copied().unwrap_or(0);
+    match set.len() {
+        1 => are_all as u64,
+        2 => below(numbers, x, are_all, second),
+        _ => count_pairs(numbers, x, are_all, set),
+    }
+}
+
+/// The earlier sets of three that begin by this number.
+fn count_pairs(numbers: &[u8], x: u8, are_all: bool, set: &[u8]) -> u64 {
     let second = set.get(1).copied().unwrap_or(0);
     let third = set.get(2).copied().unwrap_or(0);
     let mut count = 0u64;
-    for x in numbers {
-        if set.len() == 1 && *x < first {
-            count = count.wrapping_add(1);
-        }
-        if set.len() < 2 || *x > first {
-            continue;
-        }
-        for y in numbers {
-            if *y >= *x {
-                continue;
-            }
-            if set.len() == 2 && (*x < first || *y < second) {
-                count = count.wrapping_add(1);
-            }
-            if set.len() == 3 && (*x < first || *y <= second) {
-                count = count.wrapping_add(below(numbers, *y, *x < first || *y < second, third));
-            }
+    for y in numbers {
+        if *y < x && (are_all || *y <= second) {
+            count = count.wrapping_add(below(numbers, *y, are_all || *y < second, third));
         }
     }
     count
@@ -211,10 +218,6 @@ fn is_pawn(code: u8) -> bool {
     code % 8 == 1
 }
 
-fn is_king(code: u8) -> bool {
-    code % 8 == 6
-}
-
 /// The code of the leading pawns, where there are pawns.
 fn leading_pawn(codes: &[u8]) -> Option<u8> {
     let white = count(codes, 1);
@@ -228,39 +231,61 @@ fn leading_pawn(codes: &[u8]) -> Option<u8> {
     }
 }
 
-/// The pieces in an order that a table may give, and how many of them lead.
-fn arrangement(codes: &[u8], seed: u64) -> (Few, usize) {
+/// The pieces of a table with pawns: those of the leading pawns, of the other pawns, and of the others.
+fn arrangement_of_pawns(codes: &[u8], lead: u8) -> Few {
     let mut pieces = Few::new();
-    if let Some(lead) = leading_pawn(codes) {
-        for wanted in [lead, lead ^ 8] {
-            for _ in 0..count(codes, wanted) {
-                add(&mut pieces, wanted);
-            }
+    for code in codes {
+        if *code == lead {
+            add(&mut pieces, *code);
         }
-        for code in codes {
-            if !is_pawn(*code) {
-                add(&mut pieces, *code);
-            }
-        }
-        return (pieces, count(codes, lead));
     }
+    for code in codes {
+        if *code == lead ^ 8 {
+            add(&mut pieces, *code);
+        }
+    }
+    for code in codes {
+        if !is_pawn(*code) {
+            add(&mut pieces, *code);
+        }
+    }
+    pieces
+}
+
+/// The pieces that occur once.
+fn lone_pieces(codes: &[u8]) -> Few {
     let mut lone = Few::new();
-    let mut is_three = false;
     for code in codes {
         if count(codes, *code) == 1 {
             add(&mut lone, *code);
-            is_three = is_three || !is_king(*code);
         }
     }
-    let lead = if is_three { 3usize } else { 2 };
+    lone
+}
+
+/// The pieces that lead, beginning anywhere among those that occur once.
+fn leaders(lone: &Few, lead: usize, seed: u64) -> Few {
+    let mut pieces = Few::new();
     for k in 0..lead {
         let at = (seed as usize % 5).wrapping_add(k) % lone.len().max(1);
         if let Some(code) = lone.as_slice().get(at) {
             add(&mut pieces, *code);
         }
     }
+    pieces
+}
+
+/// The pieces in an order that a table may give, and how many of them lead.
+fn arrangement(codes: &[u8], seed: u64) -> (Few, usize) {
+    if let Some(lead) = leading_pawn(codes) {
+        return (arrangement_of_pawns(codes, lead), count(codes, lead));
+    }
+    let lone = lone_pieces(codes);
+    let lead = if lone.len() > 2 { 3usize } else { 2 };
+    let first = leaders(&lone, lead, seed);
+    let mut pieces = leaders(&lone, lead, seed);
     for code in codes {
-        if !pieces.as_slice()[..pieces.len().min(lead)].contains(code) {
+        if !first.as_slice().contains(code) {
             add(&mut pieces, *code);
         }
     }
@@ -421,6 +446,19 @@ fn square_of_number(number: u8) -> u8 {
     0
 }
 
+/// The number and the size of a group after the leading one.
+fn count_group(set: &Few, code: u8, earlier: &Few) -> (u64, u64) {
+    let free = free_squares(code, earlier);
+    let number = count_earlier(free.as_slice(), set.as_slice());
+    (number, count_sets(free.len() as u64, set.len()))
+}
+
+fn add_all(few: &mut Few, more: &Few) {
+    for number in more.as_slice() {
+        add(few, *number);
+    }
+}
+
 /// The numbers and the sizes of the groups in the order of the pieces.
 fn count_groups(
     lists: &Lists,
@@ -434,24 +472,21 @@ fn count_groups(
     let mut earlier = Few::new();
     let mut last = 0u8;
     for (k, code) in pieces.iter().enumerate() {
+        if *code == last {
+            continue;
+        }
         let set = squares_of(codes, squares.as_slice(), *code);
-        if k >= lead && *code != last && groups.len() < 5 {
-            let free = free_squares(*code, &earlier);
-            let number = count_earlier(free.as_slice(), set.as_slice());
-            groups.push((number, count_sets(free.len() as u64, set.len())));
+        if k >= lead && groups.len() < 5 {
+            groups.push(count_group(&set, *code, &earlier));
         }
-        if *code != last {
-            for square in set.as_slice() {
-                add(&mut earlier, *square);
-            }
-        }
+        add_all(&mut earlier, &set);
         last = *code;
     }
     groups
 }
 
-/// The sum of the groups' numbers times the sizes of the groups before them.
-fn sum(groups: &[(u64, u64)], order: u8, second: Option<u8>) -> u64 {
+/// The places of the groups: those given, and then the free ones.
+fn places(order: u8, second: Option<u8>) -> Few {
     let mut places = Few::new();
     add(&mut places, order);
     if let Some(second) = second {
@@ -462,15 +497,26 @@ fn sum(groups: &[(u64, u64)], order: u8, second: Option<u8>) -> u64 {
             add(&mut places, place);
         }
     }
+    places
+}
+
+/// A number times the sizes of the groups at places before this one.
+fn times(number: u64, groups: &[(u64, u64)], places: &Few, place: u8) -> u64 {
+    let mut part = number;
+    for ((_, size), other) in groups.iter().zip(places.as_slice().iter()) {
+        if *other < place {
+            part = part.wrapping_mul(*size);
+        }
+    }
+    part
+}
+
+/// The sum of the groups' numbers times the sizes of the groups before them.
+fn sum(groups: &[(u64, u64)], order: u8, second: Option<u8>) -> u64 {
+    let places = places(order, second);
     let mut sum = 0u64;
     for ((number, _), place) in groups.iter().zip(places.as_slice().iter()) {
-        let mut part = *number;
-        for ((_, size), other) in groups.iter().zip(places.as_slice().iter()) {
-            if *other < *place {
-                part = part.wrapping_mul(*size);
-            }
-        }
-        sum = sum.wrapping_add(part);
+        sum = sum.wrapping_add(times(*number, groups, &places, *place));
     }
     sum
 }
@@ -525,43 +571,51 @@ fn is_symmetric(codes: &[u8]) -> bool {
     true
 }
 
+/// The men on their own squares and in their own colours.
+fn men_of(codes: &Few, squares: &Few, is_exchanged: bool) -> [(u8, Piece); 5] {
+    let mut men = [(64u8, piece(6, false)); 5];
+    let bits = if is_exchanged { 56u8 } else { 0 };
+    for k in 0..5usize {
+        if let (Some(code), Some(square)) = (codes.as_slice().get(k), squares.as_slice().get(k)) {
+            men[k] = (*square ^ bits, piece(*code, is_exchanged));
+        }
+    }
+    men
+}
+
+/// The place of the other side's pawns, where both sides have pawns.
+fn second_place(codes: &[u8], order: u8) -> Option<u8> {
+    if count(codes, 1) == 0 || count(codes, 9) == 0 {
+        None
+    } else if order == 0 {
+        Some(1)
+    } else {
+        Some(0)
+    }
+}
+
+/// Who moves: with the same men on both sides colours are exchanged where black does.
+fn side_of(codes: &[u8], is_exchanged: bool, seed: u64) -> Side {
+    let is_black = if is_symmetric(codes) {
+        is_exchanged
+    } else {
+        seed % 2 == 1
+    };
+    if is_black { Side::Black } else { Side::White }
+}
+
 /// The index of one position of a material, as it is and as it should be; none for a position that can't be.
 fn indices(lists: &Lists, name: &str, seed: &mut u64) -> Option<(u64, u64)> {
     let codes = codes_of(name.as_bytes());
     let squares = placed(codes.as_slice(), seed);
     let (pieces, lead) = arrangement(codes.as_slice(), next(seed));
     let is_exchanged = next(seed) % 2 == 1;
-    let is_black = if is_symmetric(codes.as_slice()) {
-        is_exchanged
-    } else {
-        next(seed) % 2 == 1
-    };
-    let mut men = [(64u8, piece(6, false)); 5];
-    for (k, (code, square)) in codes
-        .as_slice()
-        .iter()
-        .zip(squares.as_slice().iter())
-        .enumerate()
-    {
-        if let Some(man) = men.get_mut(k) {
-            *man = (
-                if is_exchanged { *square ^ 56 } else { *square },
-                piece(*code, is_exchanged),
-            );
-        }
-    }
+    let side = side_of(codes.as_slice(), is_exchanged, next(seed));
+    let men = men_of(&codes, &squares, is_exchanged);
     let after = turned(codes.as_slice(), &squares, pieces.as_slice(), lead);
     let groups = count_groups(lists, codes.as_slice(), &after, pieces.as_slice(), lead);
     let order = (next(seed) % groups.len().max(1) as u64) as u8;
-    let has_both = count(codes.as_slice(), 1) > 0 && count(codes.as_slice(), 9) > 0;
-    let second = if !has_both {
-        None
-    } else if order == 0 {
-        Some(1u8)
-    } else {
-        Some(0)
-    };
-    let side = if is_black { Side::Black } else { Side::White };
+    let second = second_place(codes.as_slice(), order);
     let found = index_of(&men, side, pieces.as_slice(), order, second.unwrap_or(0))?;
     Some((found, sum(groups.as_slice(), order, second)))
 }
