@@ -1,6 +1,7 @@
 pub mod KeyTables
 pub mod TableLaw
 pub mod Choosing
+pub mod ChoiceTable
 pub mod PartList
 pub mod Making
 pub mod Greatest
@@ -35,7 +36,11 @@ pub mod LayoutGroups
 pub mod IndexLaw
 pub mod Collecting
 pub mod TurnedMen
+pub mod Highest
+pub mod Turns
 pub mod Numbering
+pub mod LoneGroups
 pub mod MenOn
 pub mod Symmetric
+pub mod Tallies
 pub mod Weighing

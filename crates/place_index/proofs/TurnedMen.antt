@@ -48,7 +48,7 @@ lead_pawn_is key men s e = e
 
 -- ---- men that are moved are men
 
-moved_men : (f : ℕ → ℕ) (men : List Man) → IsMirroring f → AreMen men → AreMen (moved f men)
+pub moved_men : (f : ℕ → ℕ) (men : List Man) → IsMirroring f → AreMen men → AreMen (moved f men)
 moved_men f men m a = record { few = omega (arith, length-moved f men, a.few); alone = moved_alone f men m a.board a.alone; board = moved_board f men m a.board }
   where
     length-moved : (f : ℕ → ℕ) (men : List Man) → length (moved f men) ≡ length men

@@ -110,3 +110,9 @@ pub record IsLeadTurned (l : Layout) (men : List Man) : Type 0 where
   pub range : has_pawns l.material ≡ true → (s : ℕ) → stands men (lead_code l.material) s ≡ true → (8 ≤ s) × (s < 56)
   pub pawns : has_pawns l.material ≡ true → ArePawnsAt l.file (pawn_numbers_of men (lead_code l.material))
   pub kings : has_pawns l.material ≡ false → has_unique l.material ≡ false → AreTurnedKings (square_of men (slice_index l.pieces 0)) (square_of men (slice_index l.pieces 1))
+
+-- the highest square of the men with each code, 0 where there are none
+pub record AreTops (men : List Man) (tops : List ℕ) : Type 0 where
+  pub size : length tops ≡ 16
+  pub is : (c : ℕ) → c < 16 → slice_index tops c ≡ square_of men c
+  pub board : (c : ℕ) → c < 16 → slice_index tops c < 64

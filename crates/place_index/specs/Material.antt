@@ -1,5 +1,5 @@
 -- Material of a table: the men of both sides, and the table's name.
-use Rattle.std.specs.Prelude.{◌≡◌, ℕ, zero, suc, ◌+◌, ◌<◌, ◌≤◌, List, [], ◌∷◌, ◌++◌, map, filter, flat_map, length, Bool, nat_le, slice_index_or, slice_index, count_by, ◌==◌}
+use Rattle.std.specs.Prelude.{◌≡◌, ℕ, zero, suc, ◌+◌, ◌*◌, ◌<◌, ◌≤◌, List, [], ◌∷◌, ◌++◌, map, filter, flat_map, length, Bool, nat_le, slice_index_or, slice_index, count_by, ◌==◌}
 
 -- The men of the first and of the second side beside the kings, by their codes: queen 5, rook 4, bishop 3, knight 2, pawn 1.
 pub record Men : Type 0 where
@@ -92,3 +92,14 @@ white_pawns key = count_of (pieces_of key) 1
 
 abbrev pub black_pawns : ℕ → ℕ
 black_pawns key = count_of (pieces_of key) 9
+
+-- ---- tallies
+
+-- how often each code from the first on stands in a list, as so many digits to the base 16, the first one lowest
+unfoldable pub digits : ℕ → ℕ → List ℕ → ℕ
+digits zero first xs = 0
+digits (suc n) first xs = count_of xs first + 16 * digits n (suc first) xs
+
+-- how often each of the codes 0 to 15 stands in a list
+abbrev pub tally_of : List ℕ → ℕ
+tally_of xs = digits 16 0 xs

@@ -5,6 +5,7 @@ ghost use Rattle.std.specs.List.Sorted.{IsPermutation};
 ghost use Rattle.place_index.specs.Material.{pieces_of, count_of};
 ghost use Rattle.place_index.specs.Shape.{IsSideBySide, AreAll, BeginsByPawns, BeginsByThree, BeginsByKings, BeginsWell, HasGoodPieces, has_pawns};
 
+use crate::man::{BLACK_KING, WHITE_KING};
 use crate::material::{Material, leading_men, leading_pawn, men, other_pawn, other_pawns};
 
 /// How many of the pieces have this code.
@@ -84,7 +85,7 @@ fn begins_by_kings(pieces: &[u8]) -> bool
 {
     let first = pieces[0];
     let second = pieces[1];
-    first == 6 && second == 14 || first == 14 && second == 6
+    first == WHITE_KING && second == BLACK_KING || first == BLACK_KING && second == WHITE_KING
 }
 
 /// Whether the men that lead come first.

@@ -1,17 +1,15 @@
 ghost use Rattle.std.specs.Prelude.{◌≡◌, ◌≤◌};
 ghost use Rattle.place_index.specs.Choose.{choose, PartsAreListed, PascalsRule};
 
+use crate::tables::CHOICES;
+
 /// How many parts of so many elements a set of so many things has.
 pub(crate) fn choices(things: u64, elements: u64) -> u64
     requires things { things ≤ 64 }
     requires elements { elements ≤ 5 }
     ensures { result ≡ choose things elements }
 {
-    let mut count: u64 = 1;
-    for i in 0..elements {
-        count = count * things.saturating_sub(i) / (i + 1);
-    }
-    count
+    CHOICES[elements as usize * 65 + things as usize] as u64
 }
 
 /// The parts that are counted are all parts, each once.

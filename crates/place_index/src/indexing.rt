@@ -1,82 +1,71 @@
 //! The index of a placement.
 
-ghost use Rattle.std.specs.Prelude.{◌≡◌, ◌<◌, ◌≤◌, ◌+◌, ◌++◌, length, take};
-ghost use Rattle.place_index.specs.Index.{AreMen, IsLeadTurned, IsShape, IsPlacement, first_square, lead_codes, squares_of_all, numbers_of, sum_of_products, index_of};
-ghost use Rattle.place_index.specs.Shape.{size_of, greatest_size};
+ghost use Rattle.std.specs.Prelude.{◌≡◌, ◌<◌, ◌≤◌, cond, length};
+ghost use Rattle.place_index.specs.Index.{AreTops, IsLeadTurned, IsShape, IsPlacement, lead_codes, squares_of_all, numbers_of, sum_of_products, index_of};
+ghost use Rattle.place_index.specs.Shape.{has_pawns, lead_men, size_of, greatest_size};
+ghost use Rattle.place_index.specs.Turning.{turned_by};
 
+use crate::group::Group;
 use crate::man::Man;
-use crate::material::leading_men;
-use crate::numbers::{free_set_number, lead_number};
+use crate::material::{Material, leading_men};
+use crate::numbers::lead_number;
 use crate::placed::Placed;
 use crate::shape::Shape;
-use crate::squares::squares_of;
-use crate::turning::turned;
+use crate::tops::{add_squares, number_group, tops};
+use crate::turn::Turn;
+use crate::turning::{lead_codes, turn_of};
 use arrayvec::ArrayVec;
 
-/// Adds these squares.
-fn append(earlier: &mut ArrayVec<u8, 5>, squares: &[u8])
-    requires { length earlier.old.items + length squares.now ≤ 5 }
-    ensures { earlier.new.items ≡ earlier.old.items ++ squares.now }
+/// How many leading men have the same code: all leading pawns do, and other leading men differ.
+fn leading_alike(material: Material) -> u8
+    ensures { result ≡ cond (has_pawns material) (lead_men material) 1 }
 {
-    for square in squares {
-        earlier.push(*square);
-    }
-}
-
-/// The first square that men with this code may stand on: pawns begin on the second rank.
-fn first_square(code: u8) -> u8
-    ensures { result ≡ first_square code }
-{
-    if code == 1 || code == 9 { 8 } else { 0 }
-}
-
-/// The codes of the leading men, each once.
-fn lead_codes(shape: &Shape) -> &[u8]
-    ensures { result.now ≡ lead_codes shape.now }
-{
-    let material = shape.material();
-    let pieces = shape.pieces();
     if material.has_pawns() {
-        return &pieces[..1];
+        leading_men(material)
+    } else {
+        1
     }
-    let lead = leading_men(material);
-    &pieces[..lead as usize]
 }
 
-/// The squares of the leading men.
-fn lead_squares(shape: &Shape, men: &[Man]) -> ArrayVec<u8, 5>
+/// The squares to which the leading men go.
+fn lead_squares(shape: &Shape, men: &[Man], tops: &[u8; 16], turn: Turn) -> ArrayVec<u8, 5>
     requires shape { IsShape shape.now }
     requires men { IsPlacement shape.now.material men.now }
-    ensures { result.items ≡ squares_of_all men.now (lead_codes shape.now) }
+    requires tops { AreTops men.now tops.now }
+    requires turned { IsPlacement shape.now.material (turned_by turn men.now) }
+    ensures { result.items ≡ squares_of_all (turned_by turn men.now) (lead_codes shape.now) }
 {
     let codes = lead_codes(shape);
+    let alike = leading_alike(shape.material());
     let mut squares = ArrayVec::<u8, 5>::new();
     for code in codes {
-        let more = squares_of(men, *code);
-        append(&mut squares, more.as_slice());
+        let group = Group {
+            code: *code,
+            men: alike,
+        };
+        add_squares(&mut squares, men, tops, turn, group);
     }
     squares
 }
 
-/// The number of each group of turned men.
-fn numbers(shape: &Shape, men: &[Man]) -> ArrayVec<u64, 5>
+/// The number of each group after the turn.
+fn numbers(shape: &Shape, men: &[Man], tops: &[u8; 16], turn: Turn) -> ArrayVec<u64, 5>
     requires shape { IsShape shape.now }
     requires men { IsPlacement shape.now.material men.now }
-    requires lead { IsLeadTurned shape.now men.now }
-    ensures { result.items ≡ numbers_of shape.now men.now }
+    requires tops { AreTops men.now tops.now }
+    requires turned { IsPlacement shape.now.material (turned_by turn men.now) }
+    requires lead { IsLeadTurned shape.now (turned_by turn men.now) }
+    ensures { result.items ≡ numbers_of shape.now (turned_by turn men.now) }
 {
     let groups = shape.groups();
     let others = &groups[1..];
-    let lead = lead_number(shape, men);
+    let mut earlier = lead_squares(shape, men, tops, turn);
+    let lead = lead_number(shape, men, turn, earlier.as_slice());
     let mut numbers = ArrayVec::<u64, 5>::new();
     numbers.push(lead);
-    let mut earlier = lead_squares(shape, men);
     for group in others {
-        let squares = squares_of(men, group.code);
-        let first = first_square(group.code);
-        let number = free_set_number(first, earlier.as_slice(), squares.as_slice());
+        let number = number_group(&mut earlier, men, tops, turn, *group);
         numbers.push(number);
-        append(&mut earlier, squares.as_slice());
     }
     numbers
 }
@@ -104,8 +93,10 @@ pub fn index(shape: &Shape, placed: &Placed) -> u64
     ensures is { result ≡ index_of shape.now placed.now.men }
     ensures below { result < size_of shape.now }
 {
-    let men = turned(shape, placed);
-    let numbers = numbers(shape, men.as_slice());
+    let men = placed.men();
+    let tops = tops(men);
+    let turn = turn_of(shape, men, &tops);
+    let numbers = numbers(shape, men, &tops, turn);
     let factors = shape.factors();
     sum_of_products(numbers.as_slice(), factors)
 }

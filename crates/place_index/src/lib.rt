@@ -17,6 +17,8 @@ mod sizes;
 mod squares;
 mod sweep;
 mod tables;
+mod tops;
+mod turn;
 mod turning;
 
 pub use choose::{parts_are_listed, pascals_rule};
@@ -28,5 +30,7 @@ pub use material::{Material, tables_are_numbered};
 pub use placed::{Placed, place};
 pub use shape::{Shape, ShapeFault};
 
+#[cfg(test)]
+mod seeded;
 #[cfg(test)]
 mod tests;

@@ -1,8 +1,19 @@
-ghost use Rattle.std.specs.Prelude.{◌≡◌, ◌<◌, ◌≤◌, length};
-ghost use Rattle.place_index.specs.Men.{moved, opposite};
+ghost use Rattle.std.specs.Prelude.{◌≡◌, ◌<◌};
+ghost use Rattle.place_index.specs.Men.{opposite};
 
-use arrayvec::ArrayVec;
 use board_core::Square;
+
+/// The code of the first side's pawns.
+pub(crate) const WHITE_PAWN: u8 = 1;
+
+/// The code of the first side's king.
+pub(crate) const WHITE_KING: u8 = 6;
+
+/// The code of the second side's pawns.
+pub(crate) const BLACK_PAWN: u8 = 9;
+
+/// The code of the second side's king.
+pub(crate) const BLACK_KING: u8 = 14;
 
 /// A man on a square, as a table sees it: colours may be exchanged, and all men mirrored.
 #[derive(Clone, Copy, PartialEq, Eq, Debug)]
@@ -46,19 +57,4 @@ pub(crate) fn opposite(mirroring: Mirroring, square: Square) -> Square
         Mirroring::BottomTop => Square::at(8 * (7 - rank) + file),
         Mirroring::Across => Square::at(8 * file + rank),
     }
-}
-
-/// All men moved to the squares that lie opposite.
-pub(crate) fn moved(men: &[Man], mirroring: Mirroring) -> ArrayVec<Man, 5>
-    requires { length men.now ≤ 5 }
-    ensures { result.items ≡ moved (opposite mirroring) men.now }
-{
-    let mut moved = ArrayVec::<Man, 5>::new();
-    for man in men {
-        moved.push(Man {
-            code: man.code,
-            square: opposite(mirroring, man.square),
-        });
-    }
-    moved
 }

@@ -1,9 +1,10 @@
 ghost use Rattle.std.specs.Prelude.{◌≡◌, ◌+◌, ◌<◌, ◌≤◌, ◌↔◌, ℕ, IfSome, IfNone, IsTrue, length, slice_index};
-ghost use Rattle.place_index.specs.Material.{Men, IsTable, TablesAreNumbered, name_at, name_of, men_of, white_pawns, black_pawns, pieces_of, count_of};
+ghost use Rattle.place_index.specs.Material.{Men, IsTable, TablesAreNumbered, name_at, name_of, men_of, white_pawns, black_pawns, pieces_of, count_of, tally_of};
 ghost use Rattle.place_index.specs.Shape.{lead_men, lead_code, other_code, other_pawns, black_leads, both_have_pawns};
 ghost use Rattle.place_index.specs.Place.{place_of, rank_of, pair_of, triple_of};
 
-use crate::tables::{COUNTS, LEADING_MEN, LETTERS, PAIRS, SYMMETRIC, TRIPLES};
+use crate::man::{BLACK_PAWN, WHITE_PAWN};
+use crate::tables::{COUNTS, LEADING_MEN, LETTERS, PAIRS, SYMMETRIC, TALLIES, TRIPLES};
 use arrayvec::ArrayString;
 use std::marker::Model;
 
@@ -178,8 +179,8 @@ impl Material {
     pub fn has_pawns(&self) -> bool
         ensures { IsTrue result ↔ (1 ≤ white_pawns self.now + black_pawns self.now) }
     {
-        let white = self.count(1);
-        let black = self.count(9);
+        let white = self.count(WHITE_PAWN);
+        let black = self.count(BLACK_PAWN);
         white + black != 0
     }
 
@@ -192,6 +193,14 @@ impl Material {
     {
         let key = self.key();
         COUNTS[key as usize * 16 + code as usize]
+    }
+
+    /// How often each code from 0 to 15 stands among the men, four bits for each.
+    pub(crate) fn tally(&self) -> u64
+        ensures { result ≡ tally_of (pieces_of self.now) }
+    {
+        let key = self.key();
+        TALLIES[key as usize]
     }
 }
 
@@ -224,8 +233,8 @@ pub(crate) fn leading_men(material: Material) -> u8
 fn black_leads(material: Material) -> bool
     ensures { result ≡ black_leads material }
 {
-    let white = material.count(1);
-    let black = material.count(9);
+    let white = material.count(WHITE_PAWN);
+    let black = material.count(BLACK_PAWN);
     black != 0 && (white == 0 || black < white)
 }
 
@@ -234,7 +243,11 @@ fn black_leads(material: Material) -> bool
 pub(crate) fn leading_pawn(material: Material) -> u8
     ensures { result ≡ lead_code material }
 {
-    if black_leads(material) { 9 } else { 1 }
+    if black_leads(material) {
+        BLACK_PAWN
+    } else {
+        WHITE_PAWN
+    }
 }
 
 /// The code of the pawns that don't lead.
@@ -242,7 +255,11 @@ pub(crate) fn leading_pawn(material: Material) -> u8
 pub(crate) fn other_pawn(material: Material) -> u8
     ensures { result ≡ other_code material }
 {
-    if black_leads(material) { 1 } else { 9 }
+    if black_leads(material) {
+        WHITE_PAWN
+    } else {
+        BLACK_PAWN
+    }
 }
 
 /// How many pawns don't lead.
@@ -251,9 +268,9 @@ pub(crate) fn other_pawns(material: Material) -> u8
     ensures { result ≡ other_pawns material }
 {
     if black_leads(material) {
-        material.count(1)
+        material.count(WHITE_PAWN)
     } else {
-        material.count(9)
+        material.count(BLACK_PAWN)
     }
 }
 
@@ -261,8 +278,8 @@ pub(crate) fn other_pawns(material: Material) -> u8
 pub(crate) fn both_have_pawns(material: Material) -> bool
     ensures { result ≡ both_have_pawns material }
 {
-    let white = material.count(1);
-    let black = material.count(9);
+    let white = material.count(WHITE_PAWN);
+    let black = material.count(BLACK_PAWN);
     white != 0 && black != 0
 }
 

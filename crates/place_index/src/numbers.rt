@@ -2,21 +2,21 @@
 
 ghost use Rattle.std.specs.Prelude.{◌≡◌, ◌<◌, ◌≤◌, ◌∷◌, ℕ, length, slice_index, true, cond};
 ghost use Rattle.place_index.specs.Choose.{set_number};
-ghost use Rattle.place_index.specs.Index.{AreMen, ArePawnsAt, IsLeadTurned, lead_pawns_number, lead_number, first_square};
+ghost use Rattle.place_index.specs.Index.{AreMen, ArePawnsAt, IsLeadTurned, IsPlacement, first_square, lead_codes, lead_pawns_number, lead_number, squares_of_all};
 ghost use Rattle.place_index.specs.Kings.{AreTurnedKings, kings_number};
-ghost use Rattle.place_index.specs.Men.{stands, squares_of};
 ghost use Rattle.place_index.specs.Others.{taken, free_number, free_set_number};
 ghost use Rattle.place_index.specs.Pawns.{pawns_before};
-ghost use Rattle.place_index.specs.Shape.{is_pawn};
 ghost use Rattle.place_index.specs.Square.{before};
 ghost use Rattle.place_index.specs.Three.{three_number, triangle_number, lower_number};
+ghost use Rattle.place_index.specs.Turning.{turned_by};
 
 use crate::choose::choices;
-use crate::man::Man;
+use crate::man::{BLACK_PAWN, Man, WHITE_PAWN};
 use crate::material::{leading_men, leading_pawn};
 use crate::shape::Shape;
-use crate::squares::{pawn_numbers_of, pawn_square, square_of};
+use crate::squares::{pawn_numbers_of, pawn_square};
 use crate::tables::{KINGS, LOWER, PAWNS_BEFORE, TRIANGLE};
+use crate::turn::Turn;
 
 /// 1 where the first square is the lower one, else 0.
 #[tactic(auto, unfolding(crate::specs::Square::before))]
@@ -116,27 +116,25 @@ fn pawns_number(file: u8, numbers: &[u8]) -> u64
     earlier + lower
 }
 
-/// The number of the leading group.
-pub(crate) fn lead_number(shape: &Shape, men: &[Man]) -> u64
+/// The number of the leading group, whose men go to these squares.
+pub(crate) fn lead_number(shape: &Shape, men: &[Man], turn: Turn, squares: &[u8]) -> u64
     requires men { AreMen men.now }
-    requires lead { IsLeadTurned shape.now men.now }
-    ensures { result ≡ lead_number shape.now men.now }
+    requires placed { IsPlacement shape.now.material (turned_by turn men.now) }
+    requires lead { IsLeadTurned shape.now (turned_by turn men.now) }
+    requires squares { squares.now ≡ squares_of_all (turned_by turn men.now) (lead_codes shape.now) }
+    ensures { result ≡ lead_number shape.now (turned_by turn men.now) }
 {
     let material = shape.material();
     if material.has_pawns() {
         let code = leading_pawn(material);
-        let numbers = pawn_numbers_of(men, code);
+        let numbers = pawn_numbers_of(men, turn, code);
         return pawns_number(shape.file(), numbers.as_slice());
     }
-    let pieces = shape.pieces();
-    let first = square_of(men, pieces[0]);
-    let second = square_of(men, pieces[1]);
     let lead = leading_men(material);
     if lead == 3 {
-        let third = square_of(men, pieces[2]);
-        three_number(first, second, third)
+        three_number(squares[0], squares[1], squares[2])
     } else {
-        kings_number(first, second)
+        kings_number(squares[0], squares[1])
     }
 }
 
@@ -152,9 +150,20 @@ fn taken(earlier: &[u8], square: u8) -> u64
     count
 }
 
+/// The first square that men with this code may stand on: pawns begin on the second rank.
+pub(crate) fn first_square(code: u8) -> u8
+    ensures { result ≡ first_square code }
+{
+    if code == WHITE_PAWN || code == BLACK_PAWN {
+        8
+    } else {
+        0
+    }
+}
+
 /// The square's number among the free ones from the first square on.
 #[tactic(auto, unfolding(crate::specs::Others::free_number))]
-fn free_number(first: u8, earlier: &[u8], square: u8) -> u64
+pub(crate) fn free_number(first: u8, earlier: &[u8], square: u8) -> u64
     requires { length earlier.now ≤ 5 }
     ensures is { result ≡ free_number first earlier.now square }
     ensures small { result ≤ square }

@@ -5,6 +5,7 @@ ghost use Rattle.place_index.specs.Shape.{lead_size, other_sizes, is_pawn, produ
 
 use crate::choose::choices;
 use crate::group::Group;
+use crate::man::{BLACK_PAWN, WHITE_PAWN};
 use crate::material::{Material, leading_men};
 use crate::tables::PAWN_PLACEMENTS;
 use arrayvec::ArrayVec;
@@ -27,7 +28,7 @@ fn squares(code: u8, lead: u8, free: u8) -> u8
     requires { lead ≤ 3 }
     ensures { result ≡ cond (is_pawn code) (48 - lead) free }
 {
-    if code == 1 || code == 9 {
+    if code == WHITE_PAWN || code == BLACK_PAWN {
         48 - lead
     } else {
         free

@@ -2,12 +2,13 @@
 
 ghost use Rattle.std.specs.Prelude.{◌≡◌, ◌<◌, ◌≤◌, ◌+◌, length, slice_index, ℕ, true};
 ghost use Rattle.place_index.specs.Index.{AreMen};
-ghost use Rattle.place_index.specs.Men.{inserted, stands, squares_of, square_of};
+ghost use Rattle.place_index.specs.Men.{inserted, stands, squares_of};
 ghost use Rattle.place_index.specs.Pawns.{pawn_numbers_of, pawn_square};
-ghost use Rattle.place_index.specs.Shape.{is_pawn};
+ghost use Rattle.place_index.specs.Turning.{turned_by};
 
 use crate::man::Man;
 use crate::tables::{PAWN_NUMBERS, PAWN_SQUARES};
+use crate::turn::Turn;
 use arrayvec::ArrayVec;
 
 /// Puts a number into its place among falling ones.
@@ -25,10 +26,10 @@ fn insert(numbers: &mut ArrayVec<u8, 5>, number: u8)
     numbers.push(number);
 }
 
-/// The squares of the men with this code, the highest first.
-pub(crate) fn squares_of(men: &[Man], code: u8) -> ArrayVec<u8, 5>
+/// The squares to which the men with this code go, the highest first.
+pub(crate) fn squares_of(men: &[Man], turn: Turn, code: u8) -> ArrayVec<u8, 5>
     requires { AreMen men.now }
-    ensures { result.items ≡ squares_of men.now code }
+    ensures { result.items ≡ squares_of (turned_by turn men.now) code }
 {
     let mut squares = ArrayVec::<u8, 5>::new();
     let mut i = men.len();
@@ -38,39 +39,17 @@ pub(crate) fn squares_of(men: &[Man], code: u8) -> ArrayVec<u8, 5>
         if man.code != code {
             continue;
         }
-        let square = man.square.number();
+        let square = turn.square(man.square);
         insert(&mut squares, square);
     }
     squares
 }
 
-/// The square of the man with this code, the highest one of several.
-pub(crate) fn square_of(men: &[Man], code: u8) -> u8
-    requires { AreMen men.now }
-    ensures is { result ≡ square_of men.now code }
-    ensures board { result < 64 }
-{
-    let mut highest = 0u8;
-    let mut i = men.len();
-    'men: while i > 0 {
-        i -= 1;
-        let man = men[i];
-        if man.code != code {
-            continue;
-        }
-        let square = man.square.number();
-        if square > highest {
-            highest = square;
-        }
-    }
-    highest
-}
-
-/// The pawn numbers of the men with this code, the greatest first.
-pub(crate) fn pawn_numbers_of(men: &[Man], code: u8) -> ArrayVec<u8, 5>
+/// The pawn numbers of the squares to which the men with this code go, the greatest first.
+pub(crate) fn pawn_numbers_of(men: &[Man], turn: Turn, code: u8) -> ArrayVec<u8, 5>
     requires men { AreMen men.now }
-    requires pawns { (s : ℕ) → stands men.now code s ≡ true → (8 ≤ s) × (s < 56) }
-    ensures { result.items ≡ pawn_numbers_of men.now code }
+    requires pawns { (s : ℕ) → stands (turned_by turn men.now) code s ≡ true → (8 ≤ s) × (s < 56) }
+    ensures { result.items ≡ pawn_numbers_of (turned_by turn men.now) code }
 {
     let mut numbers = ArrayVec::<u8, 5>::new();
     let mut i = men.len();
@@ -80,7 +59,7 @@ pub(crate) fn pawn_numbers_of(men: &[Man], code: u8) -> ArrayVec<u8, 5>
         if man.code != code {
             continue;
         }
-        let square = man.square.number();
+        let square = turn.square(man.square);
         let number = PAWN_NUMBERS[square as usize];
         insert(&mut numbers, number);
     }

@@ -1,12 +1,13 @@
 //! The men of a position, and their codes.
 
-ghost use Rattle.std.specs.Prelude.{◌≡◌, ◌<◌, ◌≤◌, ◌↔◌, IsTrue, length};
-ghost use Rattle.place_index.specs.Men.{exchanged, other_side};
+ghost use Rattle.std.specs.Prelude.{◌≡◌, ◌<◌, ◌≤◌, ◌↔◌, ◌∷◌, [], IsTrue, length};
+ghost use Rattle.place_index.specs.Material.{tally_of};
+ghost use Rattle.place_index.specs.Men.{codes_of, exchanged, other_side};
 ghost use Rattle.place_index.specs.Placed.{IsNamed, code_of, men_on};
 
-use crate::arrangement::is_arrangement;
 use crate::man::{Man, Mirroring, opposite};
-use crate::material::Material;
+use crate::material::{Material, men as material_men};
+use crate::tables::CODE_TALLIES;
 use arrayvec::ArrayVec;
 use board_core::{Kind, Piece, Position, Side, Square};
 
@@ -76,14 +77,40 @@ pub(crate) fn exchanged(men: &[Man]) -> ArrayVec<Man, 5>
     exchanged
 }
 
+/// What a man with this code adds to a tally.
+fn code_tally(code: u8) -> u64
+    ensures is { result ≡ tally_of (code ∷ []) }
+    ensures most { result ≤ 1152921504606846976 }
+{
+    if code < 16 {
+        CODE_TALLIES[code as usize]
+    } else {
+        0
+    }
+}
+
+/// How often each code from 0 to 15 stands among the men, four bits for each.
+fn tally(men: &[Man]) -> u64
+    requires { length men.now ≤ 5 }
+    ensures { result ≡ tally_of (codes_of men.now) }
+{
+    let mut sum = 0u64;
+    for man in men {
+        let more = code_tally(man.code);
+        sum += more;
+    }
+    sum
+}
+
 /// Whether the men are those of the table in its colours.
 pub(crate) fn is_named(material: Material, men: &[Man]) -> bool
     requires { length men.now ≤ 5 }
     ensures { IsTrue result ↔ IsNamed material men.now }
 {
-    let mut codes = ArrayVec::<u8, 5>::new();
-    for man in men {
-        codes.push(man.code);
+    let number = material_men(material);
+    if men.len() != number as usize {
+        return false;
     }
-    is_arrangement(material, codes.as_slice())
+    let wanted = material.tally();
+    tally(men) == wanted
 }

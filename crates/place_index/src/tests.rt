@@ -4,7 +4,7 @@ use super::*;
 use board_core::{Kind, Men, Parts, Piece, Position, Rights, Side};
 
 /// The tables of three to five men, in the order of their keys.
-const NAMES: [&str; 15] = [
+pub(crate) const NAMES: [&str; 15] = [
     "KQvK KRvK KBvK KNvK KPvK KQQvK KQRvK KQBvK KQNvK KQPvK",
     "KRRvK KRBvK KRNvK KRPvK KBBvK KBNvK KBPvK KNNvK KNPvK KPPvK",
     "KQvKQ KQvKR KQvKB KQvKN KQvKP KRvKR KRvKB KRvKN KRvKP KBvKB",
@@ -100,12 +100,13 @@ fn a_shape_shows_its_groups(rt: HostRuntime) {
     assert!(rt; pawns.is_some());
     if let Some(pawns) = pawns {
         assert!(rt; pawns.has_pawns() && !pawns.symmetric());
-        let shape = Shape::new(&pawns, &[9, 1, 1, 6, 14], 2, 0, 0);
+        let shape = Shape::new(&pawns, &[9, 1, 1, 6, 14], 2, 0, 3);
         assert!(rt; shape.is_ok());
         if let Ok(shape) = shape {
             assert_eq!(rt; shape.material().key(), 144);
             assert_eq!(rt; shape.pieces(), [9, 1, 1, 6, 14].as_slice());
             assert_eq!(rt; shape.groups().len(), 4);
+            assert_eq!(rt; (shape.order(), shape.second(), shape.file()), (2, 0, 3));
             assert_eq!(rt;
                 shape.factors(),
                 [1081 * 61, 1, 1081, 6 * 1081 * 61].as_slice()
@@ -145,7 +146,13 @@ const BLACK_PAWN: Piece = Piece {
 };
 
 /// The index of the position with these men, in a table which gives its pieces in this order.
-fn index_of(men: &[(u8, Piece)], side: Side, pieces: &[u8], order: u8, second: u8) -> Option<u64> {
+pub(crate) fn index_of(
+    men: &[(u8, Piece)],
+    side: Side,
+    pieces: &[u8],
+    order: u8,
+    second: u8,
+) -> Option<u64> {
     let mut squares: Men = [None; 64];
     for (square, piece) in men {
         if *square < 64 {

@@ -1,16 +1,17 @@
 //! The turning of all men, so that the leading group stands as its number wants.
 
-ghost use Rattle.std.specs.Prelude.{◌≡◌, ◌<◌, ◌≤◌, length, take, true};
-ghost use Rattle.place_index.specs.Index.{AreMen, IsPlacement, IsShape};
-ghost use Rattle.place_index.specs.Shape.{has_pawns, lead_men};
-ghost use Rattle.place_index.specs.Turning.{lead_pawn, leftward, downward, is_above, under, turned_pieces, turned, lead_file};
+ghost use Rattle.std.specs.Prelude.{◌≡◌, ◌<◌, ◌≤◌, ℕ, length, map, not, nat_lt, slice_index, true};
+ghost use Rattle.place_index.specs.Index.{AreTops, IsPlacement, IsShape, lead_codes};
+ghost use Rattle.place_index.specs.Shape.{has_pawns};
+ghost use Rattle.place_index.specs.Square.{file, rank};
+ghost use Rattle.place_index.specs.Turning.{lead_pawn, turned, turned_by, turn_square, low, is_first_above};
 
-use crate::man::{Man, Mirroring, moved};
+use crate::man::Man;
 use crate::material::{Material, leading_men, leading_pawn};
-use crate::placed::Placed;
 use crate::shape::Shape;
-use crate::squares::{pawn_numbers_of, pawn_square, square_of};
-use arrayvec::ArrayVec;
+use crate::squares::{pawn_numbers_of, pawn_square};
+use crate::tops::top;
+use crate::turn::Turn;
 
 /// The square of the leading pawn: of the leading colour's pawns the one with the greatest pawn number.
 pub(crate) fn lead_pawn(material: Material, men: &[Man]) -> u8
@@ -21,52 +22,34 @@ pub(crate) fn lead_pawn(material: Material, men: &[Man]) -> u8
     ensures board { result < 64 }
 {
     let code = leading_pawn(material);
-    let numbers = pawn_numbers_of(men, code);
+    let still = Turn::still();
+    let numbers = pawn_numbers_of(men, still, code);
     let greatest = numbers.as_slice()[0];
     pawn_square(greatest)
 }
 
-/// The men in room of their own.
-pub(crate) fn copied(men: &[Man]) -> ArrayVec<Man, 5>
-    requires { length men.now ≤ 5 }
-    ensures { result.items ≡ men.now }
+/// The codes of the leading men, each once.
+pub(crate) fn lead_codes(shape: &Shape) -> &[u8]
+    ensures { result.now ≡ lead_codes shape.now }
 {
-    let mut copied = ArrayVec::<Man, 5>::new();
-    for man in men {
-        copied.push(*man);
+    let material = shape.material();
+    let pieces = shape.pieces();
+    if material.has_pawns() {
+        return &pieces[..1];
     }
-    copied
+    let lead = leading_men(material);
+    &pieces[..lead as usize]
 }
 
-/// All men mirrored left to right, if this square is on files e to h.
-fn to_left(men: ArrayVec<Man, 5>, square: u8) -> ArrayVec<Man, 5>
-    ensures { result.items ≡ leftward square men.items }
-{
-    if square % 8 < 4 {
-        men
-    } else {
-        moved(men.as_slice(), Mirroring::LeftRight)
-    }
-}
-
-/// All men mirrored top to bottom, if this square is on ranks 5 to 8.
-fn to_bottom(men: ArrayVec<Man, 5>, square: u8) -> ArrayVec<Man, 5>
-    ensures { result.items ≡ downward square men.items }
-{
-    if square / 8 < 4 {
-        men
-    } else {
-        moved(men.as_slice(), Mirroring::BottomTop)
-    }
-}
-
-/// Whether the first of these men off the diagonal a1-h8, if there is one, stands above it.
-fn is_above(men: &[Man], lead: &[u8]) -> bool
-    requires { AreMen men.now }
-    ensures { result ≡ is_above men.now lead.now }
+/// Whether the first of the leading men off the diagonal a1-h8, if there is one, stands above it after the turn.
+fn is_above(tops: &[u8; 16], turn: Turn, lead: &[u8]) -> bool
+    requires codes { (i : ℕ) → i < length lead.now → slice_index lead.now i < 16 }
+    requires board { (c : ℕ) → c < 16 → slice_index tops.now c < 64 }
+    ensures { result ≡ is_first_above (map (λ c. turn_square turn (slice_index tops.now c)) lead.now) }
 {
     for code in lead {
-        let square = square_of(men, *code);
+        let from = top(tops, *code);
+        let square = turn.square(from);
         let file = square % 8;
         let rank = square / 8;
         if file != rank {
@@ -76,49 +59,41 @@ fn is_above(men: &[Man], lead: &[u8]) -> bool
     false
 }
 
-/// All men with file and rank exchanged, if the first of the leading men off the diagonal stands above it.
-fn under(men: ArrayVec<Man, 5>, lead: &[u8]) -> ArrayVec<Man, 5>
-    requires { AreMen men.items }
-    ensures { result.items ≡ under lead.now men.items }
+/// The turn of pieces: the first of the leading men goes to the left and to the bottom, and then the first one off the
+/// diagonal a1-h8 to below it.
+fn turn_of_pieces(tops: &[u8; 16], lead: &[u8]) -> Turn
+    requires some { 1 ≤ length lead.now }
+    requires codes { (i : ℕ) → i < length lead.now → slice_index lead.now i < 16 }
+    requires board { (c : ℕ) → c < 16 → slice_index tops.now c < 64 }
+    ensures left_right { result.left_right ≡ not (nat_lt (file (slice_index tops.now (slice_index lead.now 0))) 4) }
+    ensures bottom_top { result.bottom_top ≡ not (nat_lt (rank (slice_index tops.now (slice_index lead.now 0))) 4) }
+    ensures across { result.across ≡ is_first_above (map (λ c. turn_square (low result) (slice_index tops.now c)) lead.now) }
 {
-    let above = is_above(men.as_slice(), lead);
-    if above {
-        moved(men.as_slice(), Mirroring::Across)
-    } else {
-        men
-    }
+    let first = top(tops, lead[0]).number();
+    let mut turn = Turn::still();
+    turn.left_right = first % 8 >= 4;
+    turn.bottom_top = first / 8 >= 4;
+    let across = is_above(tops, turn, lead);
+    turn.across = across;
+    turn
 }
 
-/// The turning without pawns, by the men of the leading group.
-fn turned_pieces(men: &[Man], lead: &[u8]) -> ArrayVec<Man, 5>
-    requires men { AreMen men.now }
-    requires lead { 1 ≤ length lead.now }
-    ensures { result.items ≡ turned_pieces lead.now men.now }
-{
-    let first = lead[0];
-    let square = square_of(men, first);
-    let left = to_left(copied(men), square);
-    let square_left = square_of(left.as_slice(), first);
-    let low = to_bottom(left, square_left);
-    under(low, lead)
-}
-
-/// The men turned as the shape's index wants them.
-pub(crate) fn turned(shape: &Shape, placed: &Placed) -> ArrayVec<Man, 5>
-    requires material { placed.now.material ≡ shape.now.material }
-    requires file { placed.now.file ≡ shape.now.file }
-    ensures is { result.items ≡ turned shape.now placed.now.men }
+/// How all men are turned for the shape's index: with pawns left and right alone, by the leading pawn.
+pub(crate) fn turn_of(shape: &Shape, men: &[Man], tops: &[u8; 16]) -> Turn
+    requires men { IsPlacement shape.now.material men.now }
+    requires tops { AreTops men.now tops.now }
+    ensures is { turned_by result men.now ≡ turned shape.now men.now }
     ensures shape { IsShape shape.now }
-    ensures placement { IsPlacement shape.now.material placed.now.men }
-    ensures file { lead_file shape.now.material placed.now.men ≡ shape.now.file }
 {
     let material = shape.material();
-    let men = placed.men();
     if material.has_pawns() {
         let lead = lead_pawn(material, men);
-        return to_left(copied(men), lead);
+        return Turn {
+            left_right: lead % 8 >= 4,
+            bottom_top: false,
+            across: false,
+        };
     }
-    let lead = leading_men(material);
-    let pieces = shape.pieces();
-    turned_pieces(men, &pieces[..lead as usize])
+    let lead = lead_codes(shape);
+    turn_of_pieces(tops, lead)
 }

@@ -1,6 +1,6 @@
-use Rattle.std.proofs.Common.{◌≡◌, drop}
-use Rattle.place_index.specs.Turning.{is_above}
+use Rattle.std.proofs.Common.{◌≡◌, drop, map, slice_index}
+use Rattle.place_index.specs.Turning.{turn_square, is_first_above}
 use Rattle.place_index.proofs.turning.is_above.Given as goal
 
 abbrev pub invariant-loop-code : goal.invariant-loop-code
-invariant-loop-code l = is_above l.men l.lead ≡ is_above l.men (drop l.code-index l.lead)
+invariant-loop-code l = is_first_above (map (λ c. turn_square l.turn (slice_index l.tops c)) l.lead) ≡ is_first_above (map (λ c. turn_square l.turn (slice_index l.tops c)) (drop l.code-index l.lead))

@@ -1,5 +1,5 @@
 use Rattle.std.proofs.Common.{◌≡◌, ◌++◌, take}
-use Rattle.place_index.proofs.indexing.append.Given as goal
+use Rattle.place_index.proofs.tops.append.Given as goal
 
 abbrev pub invariant-loop-square : goal.invariant-loop-square
 invariant-loop-square l = l.earlier.items ≡ l.initial.earlier.items ++ take l.square-index l.squares

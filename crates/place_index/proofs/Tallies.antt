@@ -1,0 +1,104 @@
+-- Lists of equal tallies have equal counts.
+use Rattle.std.proofs.Common.{◌≡◌, ℕ, zero, suc, ◌+◌, ◌*◌, ◌<◌, ◌≤◌, Bool, true, false, cond, eqb, leb, List, [], ◌∷◌, length, drop, get_or, slice_index, refl, sym, ap, ◌∙◌, arith}
+use Rattle.std.specs.List.Sorted.{IsPermutation}
+use Rattle.std.proofs.lemmas.Bool.{agree_below_at, eqb-true, leb-true}
+use Rattle.std.proofs.lemmas.List.{drop_more, drop_all}
+use Rattle.place_index.specs.Material.{men_of, pieces_of, count_of, digits, tally_of}
+use Rattle.place_index.specs.Men.{codes_of}
+use Rattle.place_index.specs.declared.man.Man.{Man}
+use Rattle.place_index.specs.declared.tables.TheConstants.{CODE_TALLIES, TALLIES}
+use Rattle.place_index.proofs.Arranging.{count_cons, count_nil, count_arranged, arranged_by_counts, count_miss}
+use Rattle.place_index.proofs.MenTables.{codes_small, men_most}
+
+-- ---- digits of lists
+
+digits_next : (n first : ℕ) (codes : List ℕ) → digits (suc n) first codes ≡ count_of codes first + 16 * digits n (suc first) codes
+unfolding digits
+digits_next n first codes = refl
+
+digits_last : (first : ℕ) (codes : List ℕ) → digits 0 first codes ≡ 0
+unfolding digits
+digits_last first codes = refl
+
+digits_nil : (n first : ℕ) → digits n first [] ≡ 0
+digits_nil zero first = digits_last first []
+digits_nil (suc n) first = omega (arith, digits_next n first [], count_nil first, digits_nil n (suc first))
+
+-- each code adds its own tally
+digits_cons : (n first x : ℕ) (xs : List ℕ) → digits n first (x ∷ xs) ≡ digits n first (x ∷ []) + digits n first xs
+digits_cons zero first x xs = omega (arith, digits_last first (x ∷ xs), digits_last first (x ∷ []), digits_last first xs)
+digits_cons (suc n) first x xs =
+    omega (
+      arith,
+      digits_next n first (x ∷ xs),
+      digits_next n first (x ∷ []),
+      digits_next n first xs,
+      count_cons x xs first,
+      count_cons x [] first,
+      count_nil first,
+      digits_cons n (suc first) x xs,
+    )
+
+count_most : (xs : List ℕ) (c : ℕ) → count_of xs c ≤ length xs
+count_most [] c = omega (arith, count_nil c)
+count_most (x ∷ xs) c = omega (arith, count_cons x xs c, bit (eqb x c), count_most xs c)
+  where
+    bit : (b : Bool) → cond b 1 0 ≤ 1
+    bit true = omega arith
+    bit false = omega arith
+
+-- equal digits are equal counts
+same_counts : (n first c : ℕ) (xs ys : List ℕ) → length xs ≤ 5 → length ys ≤ 5 → digits n first xs ≡ digits n first ys → c < n → count_of xs (first + c) ≡ count_of ys (first + c)
+same_counts zero first c xs ys few other same lt = absurd (omega (arith, lt))
+same_counts (suc n) first zero xs ys few other same lt =
+    let here : first + 0 ≡ first = omega arith in
+    rw here (omega (arith, same, digits_next n first xs, digits_next n first ys, count_most xs first, count_most ys first, few, other))
+same_counts (suc n) first (suc c) xs ys few other same lt =
+    let next : first + suc c ≡ suc first + c = omega arith in
+    rw next
+    (same_counts n (suc first) c xs ys few other (omega (arith, same, digits_next n first xs, digits_next n first ys, count_most xs first, count_most ys first, few, other)) (omega (arith, lt)))
+
+-- ---- tallies of materials
+
+pub tallied : (key : ℕ) (codes : List ℕ) → key < 145 → length codes ≡ length (pieces_of key) → tally_of codes ≡ tally_of (pieces_of key) → IsPermutation codes (pieces_of key)
+tallied key codes lt len same =
+    arranged_by_counts 16 codes (pieces_of key) (codes_small key lt) len
+    (λ c small. rw (from_none c) at (same_counts 16 0 c codes (pieces_of key) (omega (arith, len, men_most key lt)) (men_most key lt) same small))
+  where
+    from_none : (c : ℕ) → 0 + c ≡ c
+    from_none c = omega arith
+
+same_digits : (n first : ℕ) (xs ys : List ℕ) → IsPermutation xs ys → digits n first xs ≡ digits n first ys
+same_digits zero first xs ys p = omega (arith, digits_last first xs, digits_last first ys)
+same_digits (suc n) first xs ys p = omega (arith, digits_next n first xs, digits_next n first ys, count_arranged xs ys first p, same_digits n (suc first) xs ys p)
+
+pub same_tally : (xs ys : List ℕ) → IsPermutation xs ys → tally_of xs ≡ tally_of ys
+same_tally xs ys p = same_digits 16 0 xs ys p
+
+pub tally_table : (k : ℕ) → k < 145 → slice_index TALLIES k ≡ tally_of (pieces_of k)
+unfolding men_of pieces_of count_of digits
+tally_table k lt = eqb-true _ _ (agree_below_at (λ k. eqb (slice_index TALLIES k) (tally_of (pieces_of k))) (λ k. true) 145 k refl lt)
+
+pub code_tally_table : (c : ℕ) → c < 16 → slice_index CODE_TALLIES c ≡ tally_of (c ∷ [])
+unfolding count_of digits
+code_tally_table c lt = eqb-true _ _ (agree_below_at (λ c. eqb (slice_index CODE_TALLIES c) (tally_of (c ∷ []))) (λ c. true) 16 c refl lt)
+
+pub code_tally_most : (c : ℕ) → c < 16 → slice_index CODE_TALLIES c ≤ 1152921504606846976
+code_tally_most c lt = leb-true _ _ (agree_below_at (λ c. leb (slice_index CODE_TALLIES c) 1152921504606846976) (λ c. true) 16 c refl lt)
+
+-- other codes add nothing
+digits_none : (n first c : ℕ) → first + n ≤ c → digits n first (c ∷ []) ≡ 0
+digits_none zero first c le = digits_last first (c ∷ [])
+digits_none (suc n) first c le = omega (arith, digits_next n first (c ∷ []), count_miss c [] first (λ e. omega (arith, e, le)), count_nil first, digits_none n (suc first) c (omega (arith, le)))
+
+pub code_tally_none : (c : ℕ) → 16 ≤ c → tally_of (c ∷ []) ≡ 0
+code_tally_none c le = digits_none 16 0 c (omega (arith, le))
+
+-- ---- the loop
+
+pub tally_more : (men : List Man) (i : ℕ) (m : Man) → i < length men → m ≡ get_or men i m → tally_of (codes_of (drop i men)) ≡ tally_of (m.code ∷ []) + tally_of (codes_of (drop (i + 1) men))
+tally_more men i m lt is =
+    ap (λ l. tally_of (codes_of l)) (drop_more men i m lt ∙ ap (λ x. x ∷ drop (i + 1) men) (sym is)) ∙ digits_cons 16 0 m.code (codes_of (drop (i + 1) men))
+
+pub tally_end : (men : List Man) (i : ℕ) → length men ≤ i → tally_of (codes_of (drop i men)) ≡ 0
+tally_end men i le = ap (λ l. tally_of (codes_of l)) (drop_all i men le) ∙ digits_nil 16 0

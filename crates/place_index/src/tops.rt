@@ -1,0 +1,112 @@
+//! The squares of the groups, those of men that are the only ones of their kind without a search.
+
+ghost use Rattle.std.specs.Prelude.{◌≡◌, ◌<◌, ◌≤◌, ◌+◌, ◌++◌, ◌∷◌, [], length, slice_index};
+ghost use Rattle.place_index.specs.Index.{AreMen, AreTops, first_square};
+ghost use Rattle.place_index.specs.Men.{squares_of, square_of};
+ghost use Rattle.place_index.specs.Others.{free_set_number};
+ghost use Rattle.place_index.specs.Turning.{turn_square, turned_by};
+
+use crate::group::Group;
+use crate::man::Man;
+use crate::numbers::{first_square, free_number, free_set_number};
+use crate::squares::squares_of;
+use crate::turn::Turn;
+use arrayvec::ArrayVec;
+use board_core::Square;
+
+/// The highest square of the men with each code, 0 where there are none.
+pub(crate) fn tops(men: &[Man]) -> [u8; 16]
+    requires { AreMen men.now }
+    ensures { AreTops men.now result }
+{
+    let mut tops = [0u8; 16];
+    let mut i = men.len();
+    'men: while i > 0 {
+        i -= 1;
+        let man = men[i];
+        let square = man.square.number();
+        let code = man.code as usize;
+        if code >= 16 {
+            continue;
+        }
+        if square <= tops[code] {
+            continue;
+        }
+        tops[code] = square;
+    }
+    tops
+}
+
+/// The highest square of the men with this code.
+pub(crate) fn top(tops: &[u8; 16], code: u8) -> Square
+    requires code { code < 16 }
+    requires board { slice_index tops.now code < 64 }
+    ensures { result ≡ slice_index tops.now code }
+{
+    Square::at(tops[code as usize])
+}
+
+/// Adds these squares.
+fn append(earlier: &mut ArrayVec<u8, 5>, squares: &[u8])
+    requires { length earlier.old.items + length squares.now ≤ 5 }
+    ensures { earlier.new.items ≡ earlier.old.items ++ squares.now }
+{
+    for square in squares {
+        earlier.push(*square);
+    }
+}
+
+/// Adds the squares to which so many men with this code go, the highest first.
+pub(crate) fn add_squares(
+    earlier: &mut ArrayVec<u8, 5>,
+    men: &[Man],
+    tops: &[u8; 16],
+    turn: Turn,
+    group: Group,
+)
+    requires room { length earlier.old.items + length (squares_of (turned_by turn men.now) group.code) ≤ 5 }
+    requires men { AreMen men.now }
+    requires tops { AreTops men.now tops.now }
+    requires known { group.men ≡ 1 → group.code < 16 }
+    requires alone { group.men ≡ 1 → squares_of (turned_by turn men.now) group.code ≡ turn_square turn (square_of men.now group.code) ∷ [] }
+    ensures { earlier.new.items ≡ earlier.old.items ++ squares_of (turned_by turn men.now) group.code }
+{
+    if group.men != 1 {
+        let squares = squares_of(men, turn, group.code);
+        append(earlier, squares.as_slice());
+        return;
+    }
+    let from = top(tops, group.code);
+    let square = turn.square(from);
+    earlier.push(square);
+}
+
+/// The number of so many men with this code, after earlier men, among whom they are then.
+pub(crate) fn number_group(
+    earlier: &mut ArrayVec<u8, 5>,
+    men: &[Man],
+    tops: &[u8; 16],
+    turn: Turn,
+    group: Group,
+) -> u64
+    requires room { length earlier.old.items + length (squares_of (turned_by turn men.now) group.code) ≤ 5 }
+    requires men { AreMen men.now }
+    requires tops { AreTops men.now tops.now }
+    requires known { group.men ≡ 1 → group.code < 16 }
+    requires alone { group.men ≡ 1 → squares_of (turned_by turn men.now) group.code ≡ turn_square turn (square_of men.now group.code) ∷ [] }
+    ensures number { result ≡ free_set_number (first_square group.code) earlier.old.items (squares_of (turned_by turn men.now) group.code) }
+    ensures earlier { earlier.new.items ≡ earlier.old.items ++ squares_of (turned_by turn men.now) group.code }
+{
+    let first = first_square(group.code);
+    if group.men != 1 {
+        let squares = squares_of(men, turn, group.code);
+        let number = free_set_number(first, earlier.as_slice(), squares.as_slice());
+        append(earlier, squares.as_slice());
+        return number;
+    }
+    let from = top(tops, group.code);
+    let square = turn.square(from);
+    let number = free_number(first, earlier.as_slice(), square);
+    earlier.push(square);
+    number
+}
