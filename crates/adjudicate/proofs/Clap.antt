@@ -6,7 +6,7 @@ use Rattle.clap.specs.declared.error.Error.{Error}
 use Rattle.clap.proofs.OnLiterals.{clap_on_literals}
 use Rattle.adjudicate.specs.declared.usage.Usage.TheVariants.{Misuse, OutOfMemory}
 use Rattle.adjudicate.specs.Usage.{usage_of}
-use Rattle.adjudicate.specs.Commands.{judge_app, moves_app, show_app}
+use Rattle.adjudicate.specs.Commands.{judge_app, probe_app, moves_app, list_app, check_app, show_app}
 
 pub is_taken_for_memory : (kinds : Kinds) (e : Error) → HasKind kinds e → kinds ≡ [] → usage_of (kind_of e) ≡ Misuse → ⊥
 is_taken_for_memory kinds e h none is =
@@ -26,3 +26,15 @@ moves_is_simple = refl
 pub show_is_simple : is_simple_and_free show_app ≡ true
 unfolding clap_on_literals show_app
 show_is_simple = refl
+
+pub probe_is_simple : is_simple_and_free probe_app ≡ true
+unfolding clap_on_literals probe_app
+probe_is_simple = refl
+
+pub list_is_simple : is_simple_and_free list_app ≡ true
+unfolding clap_on_literals list_app
+list_is_simple = refl
+
+pub check_is_simple : is_simple_and_free check_app ≡ true
+unfolding clap_on_literals check_app
+check_is_simple = refl

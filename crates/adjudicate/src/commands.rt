@@ -2,8 +2,8 @@
 
 ghost use Rattle.std.specs.Prelude.{◌≡◌, List, [], map, true, IfOk, IfErr, Err, codes};
 ghost use Rattle.clap.specs.Words.{app_of, is_simple_and_free, found_of, first_value};
-ghost use Rattle.adjudicate.specs.Commands.{judge_app, moves_app, show_app, value_in};
-ghost use Rattle.adjudicate.specs.Tasks.{IsTask, IsMisuse, IsTaken, IsMisused, Names, NamesNone};
+ghost use Rattle.adjudicate.specs.Commands.{judge_app, probe_app, moves_app, list_app, check_app, show_app, value_in};
+ghost use Rattle.adjudicate.specs.Tasks.{IsTask, IsMisuse, IsTaken, IsMisused, IsMisusedOfTwo, Names, NamesNone};
 
 use crate::usage::Usage;
 use clap::{Arg, ArgMatches, Command};
@@ -64,12 +64,17 @@ fn matches_at<'a>(command: Command<'a>, words: &'a [&'a str]) -> Result<ArgMatch
     }
 }
 
-/// `judge FEN`, as `clap` reads it.
+/// `judge [--tables DIR] [--manifest FILE] FEN`, as `clap` reads it.
 fn judge_command<'a>(alloc: Global) -> Result<Command<'a>, AllocError>
     ensures { IfOk result (λ c. app_of c ≡ judge_app) }
 {
+    let tables = Arg::new(alloc, "tables").long("tables");
+    let manifest = Arg::new(alloc, "manifest").long("manifest");
     let fen = Arg::new(alloc, "FEN").required(true);
-    Command::new(alloc, "judge").arg(fen)
+    Command::new(alloc, "judge")
+        .arg(tables)?
+        .arg(manifest)?
+        .arg(fen)
 }
 
 /// A position to judge.
@@ -83,11 +88,45 @@ fn judge_of<'a>(alloc: Global, words: &'a [&'a str]) -> Result<Task<'a>, Usage>
     match matches.get_str("FEN") {
         None => Err(Usage::Misuse),
         Some(fen) => Ok(Task::Judge {
-            tables: None,
-            manifest: None,
+            tables: matches.get_str("tables"),
+            manifest: matches.get_str("manifest"),
             fen,
         }),
     }
+}
+
+/// `probe --tables DIR [--manifest FILE] FEN`, as `clap` reads it.
+fn probe_command<'a>(alloc: Global) -> Result<Command<'a>, AllocError>
+    ensures { IfOk result (λ c. app_of c ≡ probe_app) }
+{
+    let tables = Arg::new(alloc, "tables").long("tables").required(true);
+    let manifest = Arg::new(alloc, "manifest").long("manifest");
+    let fen = Arg::new(alloc, "FEN").required(true);
+    Command::new(alloc, "probe")
+        .arg(tables)?
+        .arg(manifest)?
+        .arg(fen)
+}
+
+/// A position to probe.
+fn probe_of<'a>(alloc: Global, words: &'a [&'a str]) -> Result<Task<'a>, Usage>
+    requires { Names (map (λ w. w.now) words.now) (codes "probe") }
+    ensures ok { IfOk result (IsTask (map (λ w. w.now) words.entry.now)) }
+    ensures misuse { IfErr result (λ e. e ≡ Usage.Misuse → IsMisusedOfTwo probe_app (codes "tables") (codes "FEN") (map (λ w. w.now) words.entry.now)) }
+{
+    let command = probe_command(alloc)?;
+    let matches = matches_at(command, words)?;
+    let Some(tables) = matches.get_str("tables") else {
+        return Err(Usage::Misuse);
+    };
+    let Some(fen) = matches.get_str("FEN") else {
+        return Err(Usage::Misuse);
+    };
+    Ok(Task::Probe {
+        tables,
+        manifest: matches.get_str("manifest"),
+        fen,
+    })
 }
 
 /// `moves FEN`, as `clap` reads it.
@@ -110,6 +149,54 @@ fn moves_of<'a>(alloc: Global, words: &'a [&'a str]) -> Result<Task<'a>, Usage>
         None => Err(Usage::Misuse),
         Some(fen) => Ok(Task::Moves { fen }),
     }
+}
+
+/// `list DIR`, as `clap` reads it.
+fn list_command<'a>(alloc: Global) -> Result<Command<'a>, AllocError>
+    ensures { IfOk result (λ c. app_of c ≡ list_app) }
+{
+    let folder = Arg::new(alloc, "DIR").required(true);
+    Command::new(alloc, "list").arg(folder)
+}
+
+/// A folder whose tables are listed.
+fn list_of<'a>(alloc: Global, words: &'a [&'a str]) -> Result<Task<'a>, Usage>
+    requires { Names (map (λ w. w.now) words.now) (codes "list") }
+    ensures ok { IfOk result (IsTask (map (λ w. w.now) words.entry.now)) }
+    ensures misuse { IfErr result (λ e. e ≡ Usage.Misuse → IsMisused list_app (codes "DIR") (map (λ w. w.now) words.entry.now)) }
+{
+    let command = list_command(alloc)?;
+    let matches = matches_at(command, words)?;
+    match matches.get_str("DIR") {
+        None => Err(Usage::Misuse),
+        Some(folder) => Ok(Task::List { folder }),
+    }
+}
+
+/// `check --manifest FILE DIR`, as `clap` reads it.
+fn check_command<'a>(alloc: Global) -> Result<Command<'a>, AllocError>
+    ensures { IfOk result (λ c. app_of c ≡ check_app) }
+{
+    let manifest = Arg::new(alloc, "manifest").long("manifest").required(true);
+    let folder = Arg::new(alloc, "DIR").required(true);
+    Command::new(alloc, "check").arg(manifest)?.arg(folder)
+}
+
+/// A folder whose tables are held to a manifest.
+fn check_of<'a>(alloc: Global, words: &'a [&'a str]) -> Result<Task<'a>, Usage>
+    requires { Names (map (λ w. w.now) words.now) (codes "check") }
+    ensures ok { IfOk result (IsTask (map (λ w. w.now) words.entry.now)) }
+    ensures misuse { IfErr result (λ e. e ≡ Usage.Misuse → IsMisusedOfTwo check_app (codes "manifest") (codes "DIR") (map (λ w. w.now) words.entry.now)) }
+{
+    let command = check_command(alloc)?;
+    let matches = matches_at(command, words)?;
+    let Some(manifest) = matches.get_str("manifest") else {
+        return Err(Usage::Misuse);
+    };
+    let Some(folder) = matches.get_str("DIR") else {
+        return Err(Usage::Misuse);
+    };
+    Ok(Task::Check { manifest, folder })
 }
 
 /// `show`, as `clap` reads it.
@@ -144,7 +231,10 @@ pub fn parse<'a>(alloc: Global, words: &'a [&'a str]) -> Result<Task<'a>, Usage>
         [] => Err(Usage::Misuse),
         [name, ..] => match *name {
             "judge" => judge_of(alloc, words),
+            "probe" => probe_of(alloc, words),
             "moves" => moves_of(alloc, words),
+            "list" => list_of(alloc, words),
+            "check" => check_of(alloc, words),
             "show" => show_of(alloc, words),
             _ => Err(Usage::Misuse),
         },

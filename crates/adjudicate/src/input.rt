@@ -1,37 +1,52 @@
 //! What the program reads.
 
-ghost use Rattle.std.specs.Prelude.{IfOk};
+ghost use Rattle.std.specs.Prelude.{◌≡◌, IfOk};
 ghost use Rattle.adjudicate.specs.Running.{IsInput};
+ghost use Rattle.adjudicate.specs.declared.input.ReadFault.TheVariants.{OutOfMemory};
 
-use std::alloc::Global;
+use std::alloc::{AllocError, Global};
 use std::io::{self, Read};
 
-/// The most bytes that the input may have, 2^30.
+/// The most bytes that an input or a file may have, 2^30.
 const MOST_BYTES: u64 = 1_073_741_824;
 
-/// Why there is no input.
+/// Why something wasn't read.
 #[derive(Clone, Copy, PartialEq, Eq, Debug)]
-pub enum InputFault {
-    /// The reader failed, or has more than 2^30 bytes.
+pub enum ReadFault {
+    /// It isn't there, can't be read, or has more than 2^30 bytes.
     Unreadable,
     /// Memory was refused.
     OutOfMemory,
 }
 
+impl From<AllocError> for ReadFault {
+    ghost from_gives = { λ _ e. e ≡ OutOfMemory };
+
+    fn from(_e: AllocError) -> ReadFault {
+        ReadFault::OutOfMemory
+    }
+}
+
+impl From<io::Error> for ReadFault {
+    fn from(error: io::Error) -> ReadFault {
+        match error.kind() {
+            io::ErrorKind::OutOfMemory => ReadFault::OutOfMemory,
+            _ => ReadFault::Unreadable,
+        }
+    }
+}
+
 /// All that a reader has, at most 2^30 bytes.
-pub fn read_input<R: Read + Drop>(alloc: Global, reader: R) -> Result<Vec<u8>, InputFault>
+pub fn read_all<R: Read + Drop>(alloc: Global, reader: R) -> Result<Vec<u8>, ReadFault>
     ensures { IfOk result (λ bytes. IsInput (R.remaining reader) bytes.items) }
 {
     let mut bytes = Vec::new(alloc);
     match reader.take(MOST_BYTES + 1).read_to_end(&mut bytes) {
         Ok(_) => {}
-        Err(error) => match error.kind() {
-            io::ErrorKind::OutOfMemory => return Err(InputFault::OutOfMemory),
-            _ => return Err(InputFault::Unreadable),
-        },
+        Err(error) => return Err(ReadFault::from(error)),
     }
     if bytes.len() as u64 > MOST_BYTES {
-        return Err(InputFault::Unreadable);
+        return Err(ReadFault::Unreadable);
     }
     Ok(bytes)
 }

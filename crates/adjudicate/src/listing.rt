@@ -43,11 +43,7 @@ fn manifest_of(alloc: Global, files: &[NamedFile]) -> Result<Vec<u8>, AllocError
 }
 
 /// Writes the manifest of files, and tells the status 0.
-pub(crate) fn list<W: Write>(
-    alloc: Global,
-    files: &[NamedFile],
-    out: &mut W,
-) -> Result<u8, Stop>
+pub(crate) fn list<W: Write>(alloc: Global, files: &[NamedFile], out: &mut W) -> Result<u8, Stop>
     requires { AreFiles (map file_of files.now) }
     ensures ok { IfOk result (λ status. (r : Reply) × IsListed (map file_of files.now) r × WritesReply (W.contents out.old) (W.contents out.new) r status) }
     ensures memory { IsErrOf result Stop.OutOfMemory → W.contents out.new ≡ W.contents out.old }

@@ -1,10 +1,13 @@
 //! The adjudicator's program: words in, lines and a status out.
 //!
 //! `judge FEN` prints the verdict on a position, or `open`; `moves FEN` prints its legal moves;
-//! `show` prints the messages on standard input. Statuses: 0 done, 1 refused, 2 misuse.
+//! `probe --tables DIR FEN` prints what tables say of it; `list DIR` prints the manifest of a
+//! folder's tables, and `check --manifest FILE DIR` whether they are those of one; `show` prints the
+//! messages on standard input. Statuses: 0 done, 1 refused, 2 misuse.
 #![tactic(auto)]
 
 mod commands;
+mod disk;
 mod files;
 mod input;
 mod judging;
@@ -12,9 +15,11 @@ mod listing;
 mod program;
 mod replies;
 mod show;
+mod sources;
 mod tables;
 mod usage;
 
+use disk::SystemDisk;
 use program::run;
 use replies::{AnswerFault, put_refused_memory};
 use std::alloc::{AllocError, Global};
@@ -51,10 +56,16 @@ fn run_into<W: Write>(rt: &HostRuntime, out: &mut W) -> Result<u8, AnswerFault> 
     let words = match words_of(rt) {
         Ok(words) => words,
         Err(Usage::OutOfMemory) => return put_refused_memory(out),
-        Err(Usage::Misuse) => return run(rt.alloc(), &[], rt.reader(), out, &mut rt.stderr()),
+        Err(Usage::Misuse) => {
+            let disk = SystemDisk::new(rt);
+            return run(rt.alloc(), &[], &disk, rt.reader(), out, &mut rt.stderr());
+        }
     };
     match tail_of(rt.alloc(), &words) {
-        Ok(tail) => run(rt.alloc(), &tail, rt.reader(), out, &mut rt.stderr()),
+        Ok(tail) => {
+            let disk = SystemDisk::new(rt);
+            run(rt.alloc(), &tail, &disk, rt.reader(), out, &mut rt.stderr())
+        }
         Err(_) => put_refused_memory(out),
     }
 }
@@ -77,5 +88,7 @@ fn main(rt: HostRuntime) -> ExitCode {
     ExitCode::from(status_of(&rt))
 }
 
+#[cfg(test)]
+mod run_tests;
 #[cfg(test)]
 mod tests;

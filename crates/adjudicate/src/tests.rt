@@ -1,7 +1,9 @@
 //! The worked rows, the published counts of moves, refusals of words, and writers that fail.
 
 use crate::commands::{Task, parse};
+use crate::disk::Disk;
 use crate::files::NamedFile;
+use crate::input::ReadFault;
 use crate::program::run;
 use crate::replies::{AnswerFault, answer};
 use crate::usage::Usage;
@@ -221,7 +223,7 @@ fn refuses_misused_words(rt: HostRuntime) {
     assert!(rt; matches!(parse(alloc, &["judge", START, START]), Err(Usage::Misuse)));
     assert!(rt;
         matches!(
-            parse(alloc, &["judge", "--tables", "here", START]),
+            parse(alloc, &["judge", "--table", "here", START]),
             Err(Usage::Misuse)
         )
     );
@@ -233,12 +235,25 @@ fn refuses_misused_words(rt: HostRuntime) {
     );
 }
 
+/// No folder and no file.
+struct NoDisk;
+
+impl Disk for NoDisk {
+    fn names(&self, _alloc: Global, _folder: &str) -> Result<Vec<String>, ReadFault> {
+        Err(ReadFault::Unreadable)
+    }
+
+    fn read(&self, _alloc: Global, _path: &str) -> Result<Vec<u8>, ReadFault> {
+        Err(ReadFault::Unreadable)
+    }
+}
+
 #[test]
 fn tells_each_status(rt: HostRuntime) -> Result<(), Fail> {
     let alloc = rt.alloc();
     let judge = ["judge", "8/8/8/4k3/8/8/8/K7 w - - 0 1"];
     let refused = ["judge", "x"];
-    let unknown = ["probe", START];
+    let unknown = ["prove", START];
     for (words, text, status) in [
         (judge.as_slice(), "TableDraw\n", 0),
         (refused.as_slice(), "refused FEN FieldCount\n", 1),
@@ -248,7 +263,7 @@ fn tells_each_status(rt: HostRuntime) -> Result<(), Fail> {
         let mut out = Vec::new(alloc);
         let mut errors = Vec::new(alloc);
         assert!(rt;
-            matches!(run(alloc, words, [].as_slice(), &mut out, &mut errors), Ok(told) if told == status)
+            matches!(run(alloc, words, &NoDisk, [].as_slice(), &mut out, &mut errors), Ok(told) if told == status)
         );
         assert_eq!(rt; out.as_slice(), text.as_bytes());
         assert!(rt; errors.starts_with(b"usage: ") == (status == 2));
@@ -258,7 +273,7 @@ fn tells_each_status(rt: HostRuntime) -> Result<(), Fail> {
         };
         let mut out = Vec::new(alloc);
         assert!(rt;
-            matches!(run(alloc, words, [].as_slice(), &mut out, &mut failing), Ok(told) if told == status)
+            matches!(run(alloc, words, &NoDisk, [].as_slice(), &mut out, &mut failing), Ok(told) if told == status)
         );
     }
     Ok(())
@@ -344,7 +359,7 @@ fn three_messages(rt: &impl Abort, alloc: Global) -> Result<Vec<u8>, Fail> {
 fn shown<R: Read + Drop>(alloc: Global, input: R) -> Result<(Vec<u8>, u8), Fail> {
     let mut out = Vec::new(alloc);
     let mut errors = Vec::new(alloc);
-    match run(alloc, &["show"], input, &mut out, &mut errors) {
+    match run(alloc, &["show"], &NoDisk, input, &mut out, &mut errors) {
         Ok(status) => Ok((out, status)),
         Err(_) => Err(Fail::from("an answer")),
     }
@@ -451,11 +466,11 @@ const PAWNS: [u8; 38] = [
 
 /// Knight a1 b1 against e5, and a queen in the knight's place.
 const KNIGHT_FEN: &str = "8/8/8/4k3/8/8/8/KN6 w - - 0 1";
+
 const QUEEN_FEN: &str = "8/8/8/4k3/8/8/8/KQ6 w - - 0 1";
 
 /// The manifest of KNvK.rtbw with the three bytes `abc` (FIPS 180-4, its first example).
-const ABC: &str =
-    "ba7816bf8f01cfea414140de5dae2223b00361a396177a9cb410ff61f20015ad  KNvK.rtbw\n";
+const ABC: &str = "ba7816bf8f01cfea414140de5dae2223b00361a396177a9cb410ff61f20015ad  KNvK.rtbw\n";
 
 /// A file of this name with these bytes.
 fn named(
@@ -540,12 +555,7 @@ fn judges_and_probes_by_tables(rt: HostRuntime) -> Result<(), Fail> {
             "wdl 0\n",
             0,
         ),
-        (
-            "8/8/8/8/k2pP3/8/8/K7 b - e3 0 1",
-            "open\n",
-            "wdl 2\n",
-            0,
-        ),
+        ("8/8/8/8/k2pP3/8/8/K7 b - e3 0 1", "open\n", "wdl 2\n", 0),
         (
             "8/8/8/8/k2pP3/8/8/K7 b - - 0 1",
             "TableDraw\n",
@@ -554,7 +564,12 @@ fn judges_and_probes_by_tables(rt: HostRuntime) -> Result<(), Fail> {
         ),
         (QUEEN_FEN, "open\n", "wdl 2\n", 0),
         ("8/8/8/4k3/8/8/8/KQ6 b - - 0 1", "open\n", "wdl -2\n", 0),
-        ("8/8/8/4k3/8/8/8/KR6 w - - 0 1", "open\n", "wdl refused NotCovered KRvK\n", 1),
+        (
+            "8/8/8/4k3/8/8/8/KR6 w - - 0 1",
+            "open\n",
+            "wdl refused NotCovered KRvK\n",
+            1,
+        ),
         (START, "open\n", "wdl refused OutOfScope\n", 1),
         (
             "4k3/8/8/8/8/8/8/4K2R w K - 0 1",
@@ -562,7 +577,12 @@ fn judges_and_probes_by_tables(rt: HostRuntime) -> Result<(), Fail> {
             "wdl refused OutOfScope\n",
             1,
         ),
-        ("x", "refused FEN FieldCount\n", "refused FEN FieldCount\n", 1),
+        (
+            "x",
+            "refused FEN FieldCount\n",
+            "refused FEN FieldCount\n",
+            1,
+        ),
     ] {
         let (out, _) = answered(alloc, &judge_of(fen), &files, None)?;
         assert_eq!(rt; out.as_slice(), verdict.as_bytes(), "{fen}");
@@ -624,11 +644,31 @@ fn tells_the_first_refusal(rt: HostRuntime) -> Result<(), Fail> {
     ];
     let bad = Some(b"x\n".as_slice());
     for (fen, files, manifest, text) in [
-        (KNIGHT_FEN, abc.as_slice(), Some(ABC.as_bytes()), "refused KNvK.rtbw BadSize\n"),
-        (KNIGHT_FEN, [].as_slice(), Some(ABC.as_bytes()), "refused KNvK.rtbw missing\n"),
+        (
+            KNIGHT_FEN,
+            abc.as_slice(),
+            Some(ABC.as_bytes()),
+            "refused KNvK.rtbw BadSize\n",
+        ),
+        (
+            KNIGHT_FEN,
+            [].as_slice(),
+            Some(ABC.as_bytes()),
+            "refused KNvK.rtbw missing\n",
+        ),
         (KNIGHT_FEN, &two[1..], None, "refused KQvK.rtbw BadPieces\n"),
-        (KNIGHT_FEN, two.as_slice(), None, "refused KNvK.rtbw BadSize\n"),
-        (KNIGHT_FEN, two.as_slice(), Some(ABC.as_bytes()), "refused KNvK.rtbw BadSize\n"),
+        (
+            KNIGHT_FEN,
+            two.as_slice(),
+            None,
+            "refused KNvK.rtbw BadSize\n",
+        ),
+        (
+            KNIGHT_FEN,
+            two.as_slice(),
+            Some(ABC.as_bytes()),
+            "refused KNvK.rtbw BadSize\n",
+        ),
         (KNIGHT_FEN, abc.as_slice(), bad, "refused manifest 1\n"),
         ("x", abc.as_slice(), bad, "refused FEN FieldCount\n"),
     ] {

@@ -25,6 +25,7 @@ pub use message::{Message, MessageFault};
 pub use move_list::MoveList;
 pub use record_bytes::{Record, RecordFault};
 pub use stamp::Stamp;
+pub use table_name::is_file_name;
 pub use verdict::Verdict;
 pub use who::{Sender, Who};
 pub use words::{of_word, word};

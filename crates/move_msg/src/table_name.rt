@@ -107,8 +107,9 @@ fn is_ending(ending: &[u8]) -> bool
     ending == b"rtbw".as_slice() || ending == b"rtbz".as_slice()
 }
 
-/// Whether this is the name of a table's file (table format, names of tables).
-pub(crate) fn is_file_name(name: &[u8]) -> bool
+/// Whether this is the name of a table's file, as `KQvK.rtbw`: the name of one of the 145 tables of three to five men and
+/// an ending, `.rtbw` or `.rtbz` (table format, names of tables). It takes no memory.
+pub fn is_file_name(name: &[u8]) -> bool
     ensures { IsTrue result ↔ IsFileName name.now }
 {
     let Some((table, ending)) = cut(name, b'.') else {

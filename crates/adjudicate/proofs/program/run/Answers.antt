@@ -3,4 +3,4 @@ use Rattle.std.proofs.lemmas.Result.{IfOk-weaker}
 use Rattle.adjudicate.proofs.program.run.Goals as goal
 
 pub returns-in-Ok : goal.returns-in-Ok
-returns-in-Ok g c = IfOk-weaker c.answer_from.result _ _ (λ status h. inl (c.in-Ok.task, c.in-Ok.ensures.ok, h)) c.answer_from.ensures
+returns-in-Ok g c = IfOk-weaker c.answer_files.result _ _ (λ status h. inl (c.in-Ok.task, c.in-Ok.ensures.ok, h _)) c.answer_files.ensures

@@ -13,7 +13,7 @@ returns-in-Ok-2 c =
       es,
       c.in-Ok.ensures.ok,
       (rw (c.in-Ok-2.is, c.deref.ensures.value) at c.in_ok-add_lines.ensures)
-      ∙ ap (λ (set : Holding). tables_from set.tables looks) c.in_ok-set.ensures,
+          ∙ ap (λ (set : Holding). tables_from set.tables looks) c.in_ok-set.ensures,
     )
 
 pub returns : goal.returns
@@ -24,5 +24,5 @@ returns c =
       es,
       c.in-Ok.ensures.ok,
       (rw (c.in-Err.is, c.deref.ensures.value) at c.in_ok-add_lines.ensures)
-      ∙ ap (λ (set : Holding). tables_from set.tables looks) c.in_ok-set.ensures,
+          ∙ ap (λ (set : Holding). tables_from set.tables looks) c.in_ok-set.ensures,
     )

@@ -2,7 +2,7 @@ use Rattle.std.proofs.Common.{rules, ◌≡◌, ◌≤◌, ℕ, List, length, su
 use Rattle.std.specs.Prelude.{IfSome}
 use Rattle.adjudicate.specs.Running.{most_bytes}
 use Rattle.adjudicate.proofs.InputLaws.{whole_input}
-use Rattle.adjudicate.proofs.input.read_input.Goals as goal
+use Rattle.adjudicate.proofs.input.read_all.Goals as goal
 
 pub returns : goal.returns
 returns g c =
