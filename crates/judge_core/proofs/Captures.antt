@@ -13,7 +13,7 @@ use Rattle.board_core.specs.ComputedMoves.{is_en_passant, is_capture, legal_move
 use Rattle.board_core.proofs.ComputedMoves.{position_legal}
 use Rattle.board_core.proofs.ComputedMen.{capture_takes}
 use Rattle.board_core.proofs.ComputedLists.{HasLegal-moves, Decides-legal}
-use Rattle.judge_core.specs.Ruling.{has_no_move}
+use Rattle.judge_core.specs.Ends.{has_no_move}
 use Rattle.judge_core.specs.Probing.{is_forced, are_en_passant}
 use Rattle.judge_core.specs.Found.{lands_empty}
 

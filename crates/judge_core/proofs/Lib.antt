@@ -1,3 +1,8 @@
+pub mod Asking
+pub mod Quiet
+pub mod Counting
+pub mod Reaching
+pub mod Plies
 pub mod Readings
 pub mod Captures
 pub mod Rule

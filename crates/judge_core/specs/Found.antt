@@ -1,17 +1,16 @@
 -- What the code has found on its way through the captures.
-use Rattle.std.specs.Prelude.{Bool, true, false, not, List, Some, None, is_none, Result, Ok, Err, filter}
-use Rattle.std.specs.Option.{option_or}
+use Rattle.std.specs.Prelude.{Bool, true, false, not, List, is_none, Result, Ok, Err, filter}
 use Rattle.board_core.specs.declared.parts.Parts.{Parts}
 use Rattle.board_core.specs.declared.moves.Move.{Move}
 use Rattle.board_core.specs.Attack.{man_at}
 use Rattle.judge_core.specs.declared.wdl.Wdl.{Wdl}
 use Rattle.judge_core.specs.declared.wdl.Wdl.TheVariants.{Loss}
 use Rattle.judge_core.specs.declared.fault.ValueFault.{ValueFault}
-use Rattle.judge_core.specs.declared.fault.ValueFault.TheVariants.{NotCovered, Damaged}
 use Rattle.judge_core.specs.declared.found.Found.{Found}
 use Rattle.judge_core.specs.declared.found.Weighed.{Weighed}
 use Rattle.judge_core.specs.Values.{Reading, greater}
-use Rattle.judge_core.specs.Probing.{after, missing, damaged, first, fault_of, greatest, value_or_loss, unless}
+use Rattle.judge_core.specs.Asked.{faults_in, told, unless, no_faults, with_fault, with_answer}
+use Rattle.judge_core.specs.Probing.{after, greatest, value_or_loss}
 
 -- a move that goes to an empty square; a capture that does is en passant
 unfoldable pub lands_empty : Parts → Move → Bool
@@ -20,32 +19,30 @@ lands_empty p m = is_none (man_at p.men m.to)
 -- what these captures give
 unfoldable pub found_in : (Parts → Reading) → Parts → List Move → Found
 found_in value p moves = record {
-  missing = first missing (after value p moves);
-  damaged = first damaged (after value p moves);
+  faults = faults_in (after value p moves);
   capture = greatest (after value p (filter (λ m. not (lands_empty p m)) moves));
   passant = greatest (after value p (filter (lands_empty p) moves));
 }
 
 -- before the first of them
 abbrev pub nothing_found : Found
-nothing_found = record { missing = None; damaged = None; capture = Loss; passant = Loss }
+nothing_found = record { faults = no_faults; capture = Loss; passant = Loss }
 
 abbrev pub noted_value : Found → Wdl → Bool → Found
-noted_value f v true = record { missing = f.missing; damaged = f.damaged; capture = f.capture; passant = greater f.passant v }
-noted_value f v false = record { missing = f.missing; damaged = f.damaged; capture = greater f.capture v; passant = f.passant }
+noted_value f v true = record { faults = f.faults; capture = f.capture; passant = greater f.passant v }
+noted_value f v false = record { faults = f.faults; capture = greater f.capture v; passant = f.passant }
 
 -- one reading more
 abbrev pub noted : Found → Reading → Bool → Found
 noted f (Ok v) passant = noted_value f v passant
-noted f (Err (NotCovered key)) passant = record { missing = option_or f.missing (Some key); damaged = f.damaged; capture = f.capture; passant = f.passant }
-noted f (Err (Damaged key)) passant = record { missing = f.missing; damaged = option_or f.damaged (Some key); capture = f.capture; passant = f.passant }
+noted f (Err fault) passant = record { faults = with_fault f.faults fault; capture = f.capture; passant = f.passant }
 
 -- with the own table last
 abbrev pub closed : Found → Reading → Bool → Result Weighed ValueFault
 closed f own forced =
-    unless (fault_of (option_or f.missing (option_or (missing own) None)) (option_or f.damaged (option_or (damaged own) None))) (record {
+    unless (told (with_answer f.faults own)) (Ok (record {
       capture = f.capture;
       passant = f.passant;
       own = value_or_loss own;
       forced = forced;
-    })
+    }))

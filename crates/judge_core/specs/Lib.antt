@@ -2,8 +2,13 @@ pub mod Values
 pub mod LookUp
 pub mod Tables
 pub mod Kept
+pub mod Asked
 pub mod Probing
 pub mod Found
+pub mod Ends
+pub mod Distances
+pub mod Counts
 pub mod Ruling
+pub mod Games
 pub mod Answers
 pub mod Laws

@@ -1,49 +1,24 @@
 -- The WDL value of a position: its own table's, and those of the positions after its captures, since a table may hold less
 -- where a capture does better, and knows nothing of en passant.
-use Rattle.std.specs.Prelude.{ℕ, zero, suc, nat_le, Bool, false, not, List, [], ◌∷◌, ◌++◌, Option, Some, None, option_map, Result, Ok, Err, filter, filter_map, fold, if◌then◌else◌}
-use Rattle.std.specs.Option.{option_or}
+use Rattle.std.specs.Prelude.{ℕ, zero, suc, nat_le, Bool, false, not, List, [], ◌∷◌, ◌++◌, Result, Ok, Err, filter, filter_map, fold, if◌then◌else◌}
 use Rattle.std.specs.Result.{result_ok}
 use Rattle.std.specs.List.{list_all}
 use Rattle.board_core.specs.declared.parts.Parts.{Parts}
 use Rattle.board_core.specs.declared.moves.Move.{Move}
-use Rattle.board_core.specs.ComputedMoves.{position_after, legal_moves, legal_captures, is_en_passant, count_of_men}
+use Rattle.board_core.specs.ComputedMoves.{legal_moves, legal_captures, is_en_passant, count_of_men}
 use Rattle.judge_core.specs.declared.wdl.Wdl.{Wdl}
 use Rattle.judge_core.specs.declared.wdl.Wdl.TheVariants.{Loss, Draw}
 use Rattle.judge_core.specs.declared.fault.ValueFault.{ValueFault}
-use Rattle.judge_core.specs.declared.fault.ValueFault.TheVariants.{NotCovered, Damaged}
 use Rattle.judge_core.specs.declared.found.Weighed.{Weighed}
 use Rattle.judge_core.specs.Values.{Reading, turned, greater}
 use Rattle.judge_core.specs.Tables.{Tables, table_value}
+use Rattle.judge_core.specs.Asked.{asked, fault_in, unless}
 
 -- ---- lists of values
 
 -- the values of the positions after these moves for the side that makes them, where `value` tells those of positions
 abbrev pub after : (Parts → Reading) → Parts → List Move → List Reading
-after value p moves = filter_map (λ m. option_map (λ q. turned (value q)) (position_after p m)) moves
-
-abbrev pub missing : Reading → Option ℕ
-missing (Ok v) = None
-missing (Err (NotCovered key)) = Some key
-missing (Err (Damaged key)) = None
-
-abbrev pub damaged : Reading → Option ℕ
-damaged (Ok v) = None
-damaged (Err (NotCovered key)) = None
-damaged (Err (Damaged key)) = Some key
-
--- the first thing that is said of the members
-abbrev pub first : (Reading → Option ℕ) → List Reading → Option ℕ
-first say [] = None
-first say (r ∷ rs) = option_or (say r) (first say rs)
-
-abbrev pub fault_of : Option ℕ → Option ℕ → Option ValueFault
-fault_of (Some key) other = Some (NotCovered key)
-fault_of None (Some key) = Some (Damaged key)
-fault_of None None = None
-
--- the fault of a list: the first table that is missing, or else the first that is damaged
-abbrev pub fault_in : List Reading → Option ValueFault
-fault_in rs = fault_of (first missing rs) (first damaged rs)
+after value p moves = asked (λ q. turned (value q)) p moves
 
 -- The greatest value of a list. Without one it is a loss, which is as good as less than every value: nothing below asks
 -- more than whether it is greater than another one.
@@ -64,20 +39,16 @@ abbrev pub value_or_loss : Reading → Wdl
 value_or_loss (Ok v) = v
 value_or_loss (Err fault) = Loss
 
-abbrev pub unless : Option ValueFault → Weighed → Result Weighed ValueFault
-unless (Some fault) w = Err fault
-unless None w = Ok w
-
 -- The best capture other than en passant, the best en passant, and the own table, or the fault among all of them: captures in
 -- the order of moves, the own table last.
 unfoldable pub weighed_by : Tables → (Parts → Reading) → Parts → Result Weighed ValueFault
 weighed_by tables value p =
-    unless (fault_in (after value p (legal_captures p) ++ table_value tables p ∷ [])) (record {
+    unless (fault_in (after value p (legal_captures p) ++ table_value tables p ∷ [])) (Ok (record {
       capture = greatest (after value p (filter (λ m. not (is_en_passant p m)) (legal_captures p)));
       passant = greatest (after value p (filter (is_en_passant p) (legal_captures p)));
       own = value_or_loss (table_value tables p);
       forced = is_forced p;
-    })
+    }))
 
 -- en passant where there is no other move, else the best of all
 abbrev pub worth : Weighed → Wdl

@@ -1,5 +1,5 @@
 -- The tables of a set, and the value that a position's own table has.
-use Rattle.std.specs.Prelude.{ℕ, ◌+◌, Bool, ◌&&◌, ◌==◌, List, Option, Some, None, Ok, Err, slice_index_or, option_and_then, if◌then◌else◌}
+use Rattle.std.specs.Prelude.{ℕ, ◌+◌, List, Option, Some, None, Ok, Err, slice_index_or, option_and_then}
 use Rattle.board_core.specs.declared.parts.Parts.{Parts}
 use Rattle.place_index.specs.Shape.{Layout}
 use Rattle.place_index.specs.Index.{index_of}
@@ -33,13 +33,9 @@ pub record Holding : Type 0 where
 
 -- ---- table value
 
--- the shape is one of these men and of this file, as each that a table was opened with
-abbrev pub fits : Layout → Placement → Bool
-fits shape placed = (shape.material == placed.material) && (shape.file == placed.file)
-
 abbrev pub entry_of : Option Layout → Contents → Placement → Option ℕ
 entry_of None t placed = None
-entry_of (Some shape) t placed = if fits shape placed then entry_at (expansion t placed.side placed.file) (index_of shape placed.men) else None
+entry_of (Some shape) t placed = entry_at (expansion t placed.side placed.file) (index_of shape placed.men)
 
 -- the entry of the expanded table at the index of placed men, if there is one
 unfoldable pub entry_in : Contents → Placement → Option ℕ

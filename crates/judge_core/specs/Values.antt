@@ -1,7 +1,9 @@
 -- What a position is worth to the side to move (Syzygy WDL tables).
-use Rattle.std.specs.Prelude.{ℕ, zero, suc, nat_lt, Option, Some, None, Result, Ok, Err, if◌then◌else◌}
+use Rattle.std.specs.Prelude.{ℕ, zero, suc, nat_lt, ◌==◌, Bool, Option, Some, None, Result, Ok, Err, if◌then◌else◌}
 use Rattle.judge_core.specs.declared.wdl.Wdl.{Wdl}
 use Rattle.judge_core.specs.declared.wdl.Wdl.TheVariants.{Loss, BlessedLoss, Draw, CursedWin, Win}
+use Rattle.table_file.specs.declared.outcome.Outcome.{Outcome}
+use Rattle.table_file.specs.declared.outcome.Outcome.TheVariants.{Win as Won, CursedWin as WonCursed, BlessedLoss as LostBlessed, Loss as Lost}
 use Rattle.judge_core.specs.declared.fault.ValueFault.{ValueFault}
 
 -- a value as the tables store it
@@ -28,6 +30,24 @@ opposite BlessedLoss = CursedWin
 opposite Draw = Draw
 opposite CursedWin = BlessedLoss
 opposite Win = Loss
+
+-- the side to move wins, at least without the rule of fifty moves
+abbrev pub is_winning : Wdl → Bool
+is_winning v = nat_lt 2 (points v)
+
+abbrev pub is_below : Wdl → Wdl → Bool
+is_below a b = nat_lt (points a) (points b)
+
+abbrev pub is_same : Wdl → Wdl → Bool
+is_same a b = points a == points b
+
+-- what a value is but a draw
+abbrev pub outcome_of : Wdl → Option Outcome
+outcome_of Loss = Some Lost
+outcome_of BlessedLoss = Some LostBlessed
+outcome_of Draw = None
+outcome_of CursedWin = Some WonCursed
+outcome_of Win = Some Won
 
 -- the greater of two
 unfoldable pub greater : Wdl → Wdl → Wdl

@@ -1,6 +1,8 @@
 //! Why there is no answer.
 
-ghost use Rattle.std.specs.Prelude.{◌≡◌};
+ghost use Rattle.std.specs.Prelude.{◌≡◌, Some};
+ghost use Rattle.std.specs.Option.{option_or};
+ghost use Rattle.judge_core.specs.Asked.{no_faults, with_fault, told};
 ghost use Rattle.judge_core.specs.Answers.{probe_fault_name};
 
 use place_index::Material;
@@ -12,6 +14,66 @@ pub(crate) enum ValueFault {
     NotCovered(Material),
     /// The table for these men has no value there.
     Damaged(Material),
+}
+
+/// The first table that is missing and the first that is damaged, of those asked so far.
+#[derive(Clone, Copy, PartialEq, Eq, Debug)]
+pub(crate) struct Faults {
+    /// The first that is missing.
+    pub missing: Option<Material>,
+    /// The first that is damaged.
+    pub damaged: Option<Material>,
+}
+
+/// The first of two materials.
+fn either(first: Option<Material>, other: Material) -> Option<Material>
+    ensures { result ≡ option_or first (Some other) }
+{
+    match first {
+        Some(material) => Some(material),
+        None => Some(other),
+    }
+}
+
+impl Faults {
+    /// Before the first one.
+    pub fn new() -> Faults
+        ensures { result ≡ no_faults }
+    {
+        Faults {
+            missing: None,
+            damaged: None,
+        }
+    }
+
+    /// With one fault more.
+    pub fn with(&self, fault: &ValueFault) -> Faults
+        ensures { result ≡ with_fault self.now fault.now }
+    {
+        match fault {
+            ValueFault::NotCovered(material) => Faults {
+                missing: either(self.missing, *material),
+                damaged: self.damaged,
+            },
+            ValueFault::Damaged(material) => Faults {
+                missing: self.missing,
+                damaged: either(self.damaged, *material),
+            },
+        }
+    }
+
+    /// The one that is told: a missing table before a damaged one.
+    pub fn told(&self) -> Option<ValueFault>
+        ensures { result ≡ told self.now }
+    {
+        if let Some(material) = self.missing {
+            return Some(ValueFault::NotCovered(material));
+        }
+        match self.damaged {
+            Some(material) => Some(ValueFault::Damaged(material)),
+            None => None,
+        }
+    }
 }
 
 /// Why a probe has no answer: the first that applies, but for `OutOfMemory`.

@@ -1,13 +1,12 @@
 //! What is found on the way through the captures of a position.
 
-ghost use Rattle.std.specs.Prelude.{◌≡◌, Some};
-ghost use Rattle.std.specs.Option.{option_or};
+ghost use Rattle.std.specs.Prelude.{◌≡◌};
 ghost use Rattle.judge_core.specs.Probing.{worth, worth_in};
+ghost use Rattle.judge_core.specs.Distances.{is_by_capture};
 ghost use Rattle.judge_core.specs.Found.{nothing_found, noted, closed};
 
-use crate::fault::ValueFault;
+use crate::fault::{Faults, ValueFault};
 use crate::wdl::Wdl;
-use place_index::Material;
 
 /// What captures and the own table say of a position.
 #[derive(Clone, Copy, PartialEq, Eq, Debug)]
@@ -23,6 +22,18 @@ pub(crate) struct Weighed {
 }
 
 impl Weighed {
+    /// Whether a capture is what the position is worth: none but en passant is legal, one wins, en passant alone does better
+    /// than all else, or the best one is as good as the own table and better than a draw.
+    pub fn is_by_capture(&self) -> bool
+        ensures { result ≡ is_by_capture self.now }
+    {
+        let best = self.capture.greater(self.passant);
+        self.forced
+            || best.is_same(Wdl::Win)
+            || self.capture.greater(self.own).is_below(self.passant)
+            || !best.is_below(self.own) && best.is_winning()
+    }
+
     /// What the position is worth.
     pub fn worth(&self) -> Wdl
         ensures { result ≡ worth self.now }
@@ -48,24 +59,12 @@ pub(crate) fn worth_in(weighed: Result<Weighed, ValueFault>) -> Result<Wdl, Valu
 /// What the captures so far have told.
 #[derive(Clone, Copy, PartialEq, Eq, Debug)]
 pub(crate) struct Found {
-    /// The first table that is missing.
-    pub missing: Option<Material>,
-    /// The first table that is damaged.
-    pub damaged: Option<Material>,
+    /// The first faults of their values.
+    pub faults: Faults,
     /// The best capture other than en passant, a loss without one.
     pub capture: Wdl,
     /// The best capture en passant, a loss without one.
     pub passant: Wdl,
-}
-
-/// The first of two materials.
-fn either(first: Option<Material>, other: Material) -> Option<Material>
-    ensures { result ≡ option_or first (Some other) }
-{
-    match first {
-        Some(material) => Some(material),
-        None => Some(other),
-    }
 }
 
 impl Found {
@@ -74,8 +73,7 @@ impl Found {
         ensures { result ≡ nothing_found }
     {
         Found {
-            missing: None,
-            damaged: None,
+            faults: Faults::new(),
             capture: Wdl::Loss,
             passant: Wdl::Loss,
         }
@@ -94,12 +92,7 @@ impl Found {
                     found.capture = self.capture.greater(*value);
                 }
             }
-            Err(ValueFault::NotCovered(material)) => {
-                found.missing = either(self.missing, *material);
-            }
-            Err(ValueFault::Damaged(material)) => {
-                found.damaged = either(self.damaged, *material);
-            }
+            Err(fault) => found.faults = self.faults.with(fault),
         }
         found
     }
@@ -109,11 +102,8 @@ impl Found {
         ensures { result ≡ closed self.now own.now forced }
     {
         let all = self.note(own, false);
-        if let Some(material) = all.missing {
-            return Err(ValueFault::NotCovered(material));
-        }
-        if let Some(material) = all.damaged {
-            return Err(ValueFault::Damaged(material));
+        if let Some(fault) = all.faults.told() {
+            return Err(fault);
         }
         match own {
             Ok(own) => Ok(Weighed {

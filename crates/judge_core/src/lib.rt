@@ -2,19 +2,27 @@
 //!
 //! A set finds a table by its material and its kind, and reads it at the index of the position. The value of a position is
 //! the best of its own table's and of those after its captures, since the tables may hold less where a capture does better,
-//! and know nothing of en passant (Syzygy WDL tables).
+//! and know nothing of en passant (Syzygy WDL tables). The distance is that to the next move that sets the halfmove clock to 0; its
+//! tables store one side alone, and the other side's is told by the positions after its moves (Syzygy DTZ tables).
 #![tactic(auto)]
 
+mod counts;
+mod distance;
+mod dtz;
 mod fault;
 mod found;
+mod game;
 mod judging;
 pub mod laws;
+mod mobility;
+mod moving;
 mod probing;
 mod set;
 mod verdict;
 mod wdl;
 
 pub use fault::{ProbeFault, SetFault};
+pub use game::GameOutcome;
 pub use set::Set;
 pub use verdict::Verdict;
 pub use wdl::Wdl;

@@ -10,19 +10,12 @@ ghost use Rattle.judge_core.specs.Answers.{IsProbe};
 
 use crate::fault::{ProbeFault, ValueFault};
 use crate::found::{Found, Weighed, worth_in};
+use crate::moving::lands_empty;
 use crate::set::Set;
 use crate::verdict::is_out_of_scope;
 use crate::wdl::{Wdl, turned};
 use board_core::{Move, Position};
 use std::alloc::{AllocError, Global};
-
-/// Whether the move goes to an empty square: among captures, whether it is en passant.
-#[tactic(auto, unfolding(crate::specs::Found::lands_empty))]
-fn lands_empty(position: &Position, m: &Move) -> bool
-    ensures { result ≡ lands_empty position.now m.now }
-{
-    position.piece_at(m.to).is_none()
-}
 
 /// How many of the captures are en passant.
 fn count_en_passant(position: &Position, captures: &[Move]) -> usize
@@ -51,7 +44,7 @@ fn is_forced(alloc: Global, position: &Position, captures: &[Move]) -> Result<bo
 impl<'a> Set<'a> {
     /// What the captures and the own table say of the position.
     #[cycle(wdl)]
-    fn weigh(
+    pub(crate) fn weigh(
         &self,
         alloc: Global,
         position: &Position,

@@ -5,12 +5,12 @@ ghost use Rattle.place_index.specs.Placed.{IsMaterialOf, men_on};
 ghost use Rattle.table_file.specs.Tables.{IsFile};
 ghost use Rattle.judge_core.specs.declared.fault.SetFault.TheVariants.{Duplicate};
 ghost use Rattle.judge_core.specs.LookUp.{material_of, placed_of};
-ghost use Rattle.judge_core.specs.Tables.{slot, table_at, fits, entry_in, table_value};
+ghost use Rattle.judge_core.specs.Tables.{slot, table_at, entry_in, table_value};
 
 use crate::fault::{SetFault, ValueFault};
 use crate::wdl::Wdl;
 use board_core::Position;
-use place_index::{Material, Placed, Shape, index, place};
+use place_index::{Material, Placed, index, place};
 use std::alloc::{AllocError, Global};
 use std::marker::Model;
 use table_file::{Kind, Table};
@@ -54,15 +54,8 @@ fn slot(kind: Kind, material: Material) -> usize
     }
 }
 
-/// The kind of a table.
-fn kind_of(table: &Table<'_>) -> Kind
-    ensures { result ≡ table.now.kind }
-{
-    if table.is_dtz() { Kind::Dtz } else { Kind::Wdl }
-}
-
 /// The position as its table sees it.
-fn placed(position: &Position, material: &Material) -> Placed
+pub(crate) fn placed(position: &Position, material: &Material) -> Placed
     requires known { material.now < 145 }
     requires own { IsMaterialOf material.now (men_on position.now.men) }
     ensures is { result ≡ placed_of material.now position.now }
@@ -77,7 +70,7 @@ fn placed(position: &Position, material: &Material) -> Placed
 }
 
 /// The material of the position: none for bare kings and for more than five men.
-fn material_of(position: &Position) -> Option<Material>
+pub(crate) fn material_of(position: &Position) -> Option<Material>
     ensures is { result ≡ material_of position.now }
     ensures own { IfSome result (λ m. (m < 145) × IsMaterialOf m (men_on position.now.men)) }
 {
@@ -90,13 +83,6 @@ fn material_of(position: &Position) -> Option<Material>
     }
 }
 
-/// Whether the shape is one of these men and of this file, as each that a table was opened with.
-fn fits(shape: &Shape, placed: &Placed) -> bool
-    ensures { result ≡ fits shape.now placed.now }
-{
-    shape.material().key() == placed.material().key() && shape.file() == placed.file()
-}
-
 /// What the table has at the index of placed men; none where that is damaged.
 fn entry(table: &Table<'_>, placed: &Placed) -> Option<u16>
     requires own { table.now.material ≡ placed.now.material }
@@ -107,9 +93,6 @@ fn entry(table: &Table<'_>, placed: &Placed) -> Option<u16>
     let side = placed.side();
     let file = placed.file();
     let shape = table.shape(side, file);
-    if !fits(shape, placed) {
-        return None;
-    }
     match table.value(side, file, index(shape, placed)) {
         Ok(value) => Some(value),
         Err(_) => None,
@@ -153,7 +136,7 @@ impl<'a> Set<'a> {
         ensures refused { OnErr result (self.new ≡ self.old) }
         ensures duplicate { (result ≡ Err Duplicate) ↔ IsSome (table_at self.old.tables table.entry.kind table.entry.material) }
     {
-        let slot = slot(kind_of(&table), *table.material());
+        let slot = slot(table.kind(), *table.material());
         if self.places[slot].is_some() {
             return Err(SetFault::Duplicate);
         }
@@ -167,8 +150,9 @@ impl<'a> Set<'a> {
     }
 
     /// The table of this kind for this material.
-    fn table(&self, kind: Kind, material: Material) -> Option<&Table<'a>>
+    pub(crate) fn table(&self, kind: Kind, material: Material) -> Option<&Table<'a>>
         ensures found { option_map (λ t. t.now) result ≡ table_at self.now.tables kind material }
+        ensures kind { IfSome result (λ t. t.now.kind ≡ kind) }
         ensures own { IfSome result (λ t. t.now.material ≡ material) }
     {
         match self.places[slot(kind, material)] {

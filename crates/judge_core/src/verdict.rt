@@ -1,10 +1,14 @@
 //! Verdicts.
 
-ghost use Rattle.std.specs.Prelude.{◌≡◌, ◌≢◌, ℕ, IfSome, IfNone};
+ghost use Rattle.std.specs.Prelude.{◌≡◌, ◌≢◌, ◌≤◌, ℕ, Ok, IfOk, IfSome, IfNone};
+ghost use Rattle.board_core.specs.declared.parts.Parts.{Parts};
 ghost use Rattle.board_core.specs.Position.{IsPosition};
 ghost use Rattle.judge_core.specs.declared.verdict.Verdict.{Verdict};
-ghost use Rattle.judge_core.specs.Ruling.{code_of, verdict_name, mate_of, end_of, has_rights, is_out_of_scope, ruling_by};
+ghost use Rattle.judge_core.specs.declared.wdl.Wdl.TheVariants.{Win, Loss};
+ghost use Rattle.judge_core.specs.Distances.{Reach, plies};
+ghost use Rattle.judge_core.specs.Ruling.{code_of, verdict_name, mate_of, end_of, has_rights, is_out_of_scope, won_by, ruling_at, ruling_by};
 
+use crate::distance::Distance;
 use crate::fault::ValueFault;
 use crate::wdl::Wdl;
 use board_core::{Position, Rights, Side};
@@ -115,13 +119,47 @@ pub(crate) fn is_out_of_scope(position: &Position) -> bool
     has_rights(&parts.rights) || position.men() > 5
 }
 
-/// The verdict by what the tables say of the position.
-pub(crate) fn by_tables(reading: &Result<Wdl, ValueFault>) -> Option<Verdict>
-    ensures { result ≡ ruling_by reading.now }
+/// The verdict where this side wins by the tables.
+fn won_by(side: Side) -> Verdict
+    ensures { result ≡ won_by side }
+{
+    match side {
+        Side::White => Verdict::TableWhite,
+        Side::Black => Verdict::TableBlack,
+    }
+}
+
+/// The verdict by a value that is neither a win nor a loss, or by its fault.
+pub(crate) fn by_value(reading: &Result<Wdl, ValueFault>) -> Option<Verdict>
+    requires win { reading.now ≢ Ok Win }
+    requires loss { reading.now ≢ Ok Loss }
+    ensures { (p : Parts) (reach : Reach) → result ≡ ruling_by p reading.now reach }
 {
     match reading {
         Ok(Wdl::Draw) => Some(Verdict::TableDraw),
         Err(ValueFault::Damaged(_)) => Some(Verdict::Stopped),
         _ => None,
+    }
+}
+
+/// The verdict where this side wins in so many plies.
+pub(crate) fn by_distance(
+    position: &Position,
+    winner: Side,
+    reach: &Result<Distance, ValueFault>,
+) -> Option<Verdict>
+    requires { IfOk reach.now (λ d. plies d ≤ 1000000) }
+    ensures { result ≡ ruling_at position.now winner reach.now }
+{
+    match reach {
+        Ok(distance) => {
+            if position.halfmove() as u32 + distance.plies() <= 99 {
+                Some(won_by(winner))
+            } else {
+                None
+            }
+        }
+        Err(ValueFault::Damaged(_)) => Some(Verdict::Stopped),
+        Err(ValueFault::NotCovered(_)) => None,
     }
 }

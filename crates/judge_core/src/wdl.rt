@@ -1,9 +1,10 @@
 //! The five values of the tables.
 
 ghost use Rattle.std.specs.Prelude.{◌≡◌, ◌≤◌, ◌-ℤ◌, pos};
-ghost use Rattle.judge_core.specs.Values.{points, of_points, opposite, greater, turned};
+ghost use Rattle.judge_core.specs.Values.{points, of_points, opposite, is_winning, is_below, is_same, outcome_of, greater, turned};
 
 use crate::fault::ValueFault;
+use table_file::Outcome;
 
 /// What a position is worth to the side to move, with the halfmove clock at 0 (Syzygy WDL tables).
 #[derive(Clone, Copy, PartialEq, Eq, Debug)]
@@ -66,6 +67,39 @@ impl Wdl {
             Wdl::Draw => Wdl::Draw,
             Wdl::CursedWin => Wdl::BlessedLoss,
             Wdl::Win => Wdl::Loss,
+        }
+    }
+
+    /// Whether the side to move wins, at least without the rule of fifty moves.
+    pub(crate) fn is_winning(self) -> bool
+        ensures { result ≡ is_winning self }
+    {
+        self.points() > 2
+    }
+
+    /// Whether it is less than another one.
+    pub(crate) fn is_below(self, other: Wdl) -> bool
+        ensures { result ≡ is_below self other }
+    {
+        self.points() < other.points()
+    }
+
+    pub(crate) fn is_same(self, other: Wdl) -> bool
+        ensures { result ≡ is_same self other }
+    {
+        self.points() == other.points()
+    }
+
+    /// What the value is but a draw.
+    pub(crate) fn outcome(self) -> Option<Outcome>
+        ensures { result ≡ outcome_of self }
+    {
+        match self {
+            Wdl::Loss => Some(Outcome::Loss),
+            Wdl::BlessedLoss => Some(Outcome::BlessedLoss),
+            Wdl::Draw => None,
+            Wdl::CursedWin => Some(Outcome::CursedWin),
+            Wdl::Win => Some(Outcome::Win),
         }
     }
 

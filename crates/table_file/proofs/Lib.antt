@@ -11,3 +11,5 @@ pub mod LayoutSteps
 pub mod LayoutSections
 pub mod LayoutWhole
 pub mod Refusing
+pub mod PartsRead
+pub mod MapEntries

@@ -1,13 +1,13 @@
 -- One part among the parts of a file that was checked.
-use Rattle.std.proofs.Common.{◌≡◌, ℕ, zero, suc, ◌+◌, ◌*◌, ◌<◌, ◌≤◌, true, false, eqb, List, [], ◌∷◌, length, get_or, Some, refl, sym, ap, subst, ◌∙◌, inl, inr, arith}
+use Rattle.std.proofs.Common.{◌≡◌, ℕ, zero, suc, ◌+◌, ◌*◌, ◌/◌, ◌<◌, ◌≤◌, Bool, true, false, cond, eqb, List, [], ◌∷◌, length, get_or, Some, refl, sym, ap, subst, ◌∙◌, inl, inr, arith}
 use Rattle.std.specs.Prelude.{◌%◌, not, slice_get, slice_index_or, Result, Ok, Err, IfOk}
 use Rattle.std.proofs.lemmas.Bool.{cases_Bool, false≢true, eqb-true, not_from_false, and_parts}
-use Rattle.std.proofs.lemmas.Nat.{mod_below}
+use Rattle.std.proofs.lemmas.Nat.{mod_below, div-mul-add}
 use Rattle.std.proofs.Math.Nat.{mul-le-mul_left, mul-suc, mul_comm}
 use Rattle.table_file.specs.declared.parts.Part.{Part}
 use Rattle.table_file.specs.declared.parts.Section.{Section}
 use Rattle.table_file.specs.declared.parts.Section.TheVariants.{Entries, Lengths}
-use Rattle.table_file.specs.Files.{indices, section_size, files_of, sides_of}
+use Rattle.table_file.specs.Files.{indices, section_size, files_of, sides_of, is_symmetric}
 use Rattle.table_file.specs.Sections.{AreSized}
 use Rattle.table_file.specs.Sparse.{fits_in, all_fit}
 use Rattle.table_file.specs.declared.size_record.Coding.{Coding}
@@ -16,6 +16,7 @@ use Rattle.table_file.specs.declared.spots.Spot.{Spot}
 use Rattle.table_file.specs.declared.spots.Spot.TheVariants.{Single as SingleSpot, At}
 use Rattle.table_file.specs.declared.spots.View.{View}
 use Rattle.table_file.specs.declared.kind.Kind.{Kind}
+use Rattle.table_file.specs.declared.kind.Kind.TheVariants.{Wdl, Dtz}
 use Rattle.place_index.specs.Material.{white_pawns, black_pawns}
 use Rattle.place_index.specs.Shape.{has_pawns}
 use Rattle.table_file.specs.Tables.{Contents, IsFile, part_count}
@@ -122,6 +123,20 @@ place_below a f r s lt small =
 
 pub within_parts : (kind : Kind) (m file side : ℕ) → IsFile m file → 1 ≤ sides_of kind m → file * sides_of kind m + side % sides_of kind m < part_count kind m
 within_parts kind m file side h some = place_below file (files_of m) (side % sides_of kind m) (sides_of kind m) (file_below m file h) (mod_below side (sides_of kind m) some)
+
+one_or_two : (b : Bool) → 1 ≤ cond b 1 2
+one_or_two true = omega arith
+one_or_two false = omega arith
+
+some_sides : (kind : Kind) (m : ℕ) → 1 ≤ sides_of kind m
+unfolding sides_of
+some_sides Dtz m = omega arith
+some_sides Wdl m = one_or_two (is_symmetric m)
+
+pub file_of_place : (kind : Kind) (m side file k : ℕ) → k ≡ file * sides_of kind m + side % sides_of kind m → k / sides_of kind m ≡ file
+file_of_place kind m side file k is =
+    let s = sides_of kind m in
+    ap (λ i. i / s) is ∙ div-mul-add file s (side % s) (mod_below side s (some_sides kind m))
 
 pub if_both : {A E : Type 0} {P R Q : A → Type 0} (r : Result A E) → IfOk r P → IfOk r R → ((x : A) → P x → R x → Q x) → IfOk r Q
 if_both (Ok x) h k f = f x h k

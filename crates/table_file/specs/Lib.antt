@@ -12,6 +12,7 @@ pub mod Sections
 pub mod Tables
 pub mod Checked
 pub mod Expansion
+pub mod Distances
 pub mod Layouts
 pub mod Opened
 pub mod Plan

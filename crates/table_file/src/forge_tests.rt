@@ -1,7 +1,9 @@
 //! The worked files as plans, plans that no file says, and writers that fail.
 
 use crate::tests::{B, N, PPW, PW, QW, QZ, padded, queen};
-use crate::{Content, ForgeFault, Kind, MapsPlan, PairsPlan, PartPlan, Plan, forge};
+use crate::{
+    Content, Damaged, ForgeFault, Kind, MapsPlan, Outcome, PairsPlan, PartPlan, Plan, forge, open,
+};
 use place_index::Material;
 use std::alloc::{AllocError, Global};
 use std::io::{self, Write};
@@ -319,6 +321,52 @@ fn each_failed_write_is_told(rt: HostRuntime) -> Result<(), Fail> {
             Ok(())
         };
         assert_eq!(rt; forge(rt.alloc(), &plan, &mut out), wanted, "{fails_at}");
+    }
+    Ok(())
+}
+
+/// The queen's DTZ table with blocks of values 4 and 0 in turn, and so many entries for wins: 10, 20, and so on.
+fn queen_distances(alloc: Global, flags: u8, entries: u16) -> Result<Vec<u8>, Fail> {
+    let mut plan = queen_dtz(alloc)?;
+    if let Some(part) = plan.parts.first_mut() {
+        part.flags = flags;
+        part.content = Content::Pairs(queen_pairs(alloc)?);
+        part.maps.win.clear();
+        for k in 1..=entries {
+            part.maps.win.push(k.wrapping_mul(10))?;
+        }
+    }
+    let mut file = Vec::new(alloc);
+    let _ = forge(alloc, &plan, &mut file);
+    Ok(file)
+}
+
+/// A stored value is a place in the map where there is one, and no value is past its end.
+#[test]
+fn values_are_places_in_maps(rt: HostRuntime) -> Result<(), Fail> {
+    let rows: [(u8, u16, Option<u32>, Option<u32>); 6] = [
+        (0x06, 5, Some(50), Some(10)),
+        (0x06, 4, None, Some(10)),
+        (0x06, 0, None, None),
+        (0x16, 5, Some(50), Some(10)),
+        (0x04, 0, Some(4), Some(0)),
+        (0x00, 0, Some(8), Some(0)),
+    ];
+    for (flags, entries, even, odd) in rows {
+        let file = queen_distances(rt.alloc(), flags, entries)?;
+        let table = open(rt.alloc(), b"KQvK.rtbz", &file)?;
+        assert!(rt; table.kind() == Kind::Dtz);
+        assert_eq!(rt;
+            table.dtz(0, 0, Outcome::Win).ok(),
+            even,
+            "{flags} {entries}"
+        );
+        assert_eq!(rt;
+            table.dtz(0, 31331, Outcome::Win).ok(),
+            odd,
+            "{flags} {entries}"
+        );
+        assert_eq!(rt; table.dtz(0, 31332, Outcome::Win), Err(Damaged), "{flags}");
     }
     Ok(())
 }

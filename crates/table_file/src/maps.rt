@@ -1,11 +1,14 @@
 //! Value maps.
 
-ghost use Rattle.std.specs.Prelude.{◌≡◌};
+ghost use Rattle.std.specs.Prelude.{◌≡◌, slice_get};
+ghost use Rattle.pair_dict.specs.Reading.{words};
 ghost use Rattle.table_file.specs.Reading.{Gives, each_at};
 ghost use Rattle.table_file.specs.Maps.{map_at, four_at, maps_at, all_maps_at};
+ghost use Rattle.table_file.specs.Distances.{map_of as bytes_of, entries_of, map_entry};
 
 use crate::fault::TableFault;
 use crate::kind::Kind;
+use crate::outcome::Outcome;
 use crate::parts::Part;
 use crate::reading::{byte, even, has_bit, taken, word};
 use std::alloc::Global;
@@ -63,6 +66,52 @@ impl<'a> Maps<'a> {
         ensures { result.now ≡ self.now.blessed_loss }
     {
         self.blessed_loss
+    }
+
+    /// The entries for an outcome.
+    fn bytes(&self, outcome: Outcome) -> &[u8]
+        ensures { result.now ≡ bytes_of self.now outcome }
+    {
+        match outcome {
+            Outcome::Win => self.win,
+            Outcome::CursedWin => self.cursed_win,
+            Outcome::BlessedLoss => self.blessed_loss,
+            Outcome::Loss => self.loss,
+        }
+    }
+
+    /// The entry at a place of the map for an outcome, and `None` past its end.
+    pub(crate) fn entry(&self, outcome: Outcome, place: usize) -> Option<u16>
+        ensures { result ≡ map_entry self.now outcome place }
+    {
+        let bytes = self.bytes(outcome);
+        if self.wide {
+            word_entry(bytes, place)
+        } else {
+            byte_entry(bytes, place)
+        }
+    }
+}
+
+/// An entry of one byte.
+fn byte_entry(bytes: &[u8], place: usize) -> Option<u16>
+    ensures { result ≡ slice_get bytes.now place }
+{
+    if place < bytes.len() {
+        Some(bytes[place] as u16)
+    } else {
+        None
+    }
+}
+
+/// An entry of two bytes, the low one first.
+fn word_entry(bytes: &[u8], place: usize) -> Option<u16>
+    ensures { result ≡ slice_get (words bytes.now) place }
+{
+    if place < bytes.len() / 2 {
+        Some(bytes[2 * place] as u16 + 256 * bytes[2 * place + 1] as u16)
+    } else {
+        None
     }
 }
 

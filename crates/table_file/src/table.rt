@@ -1,25 +1,27 @@
 //! Opened table files.
 
-ghost use Rattle.std.specs.Prelude.{◌≡◌, ◌≢◌, ◌<◌, length, slice_get, Some, None, IsTrue, IsOk, IfOk, IfErr, OnErr, ◌↔◌};
+ghost use Rattle.std.specs.Prelude.{◌≡◌, ◌≢◌, ◌<◌, ◌≤◌, length, slice_get, Some, None, IsTrue, IsOk, IfOk, IfErr, OnErr, ◌↔◌};
 ghost use Rattle.table_file.specs.declared.fault.TableFault.TheVariants.{OutOfMemory};
 ghost use Rattle.table_file.specs.declared.kind.Kind.TheVariants.{Dtz};
 ghost use Rattle.table_file.specs.declared.parts.Section.TheVariants.{Entries, Lengths};
 ghost use Rattle.table_file.specs.Files.{indices};
 ghost use Rattle.table_file.specs.Reading.{Gives};
 ghost use Rattle.table_file.specs.Sparse.{all_fit};
-ghost use Rattle.table_file.specs.Sections.{AreSized};
+ghost use Rattle.table_file.specs.Sections.{AreShaped, AreSized};
 ghost use Rattle.table_file.specs.Checked.{IsChecked, IsViewOf};
 ghost use Rattle.table_file.specs.Tables.{Contents, head_at, sections_at, parts_at, table_at, part_count, place_of, part_of, lengths_of, blocks_of, shape_of, flags_of, IsFile};
 ghost use Rattle.table_file.specs.Layouts.{IsLayout};
 ghost use Rattle.table_file.specs.Expansion.{expansion, entry_at, real_blocks, values_of, IsSpot, IsRealSpot, IsPast};
+ghost use Rattle.table_file.specs.Distances.{file_flags, file_maps, mapped_value, stores, distance};
 
 use crate::fault::TableFault;
 use crate::kind::{Kind, title};
 use crate::laws::reads_what_is_laid_out;
 use crate::maps::{Maps, all_maps};
-use crate::material::{files, indices, sides};
+use crate::material::{files, indices, is_symmetric, sides};
+use crate::outcome::{Outcome, counts_moves, plies};
 use crate::parts::{Part, Section, body, flags, magic, parts, sections, setups};
-use crate::reading::{Run, even};
+use crate::reading::{Run, even, has_bit};
 use crate::sparse::fits_in;
 use crate::spots::{Spot, View, spot_in, value_in, values_in};
 use pair_dict::Damaged;
@@ -106,7 +108,9 @@ fn with_sections<'a>(
     maps: Vec<Maps<'a>>,
     bytes: &'a [u8],
 ) -> Result<Table<'a>, TableFault>
-    requires { length parts.items ≡ part_count kind material }
+    requires all { length parts.items ≡ part_count kind material }
+    requires shaped { AreShaped kind material parts.items }
+    requires maps { kind ≡ Dtz → length maps.items ≡ length parts.items }
     ensures { Gives (λ x. x) result (sections_at kind material parts.entry.items maps.entry.items bytes.now) }
 {
     let (entries, rest) = sections(alloc, Section::Entries, &parts, bytes)?;
@@ -171,6 +175,13 @@ impl<'a> Table<'a> {
         &self.material
     }
 
+    /// What the values tell.
+    pub fn kind(&self) -> Kind
+        ensures { result ≡ self.now.kind }
+    {
+        self.kind
+    }
+
     /// Whether the values tell distances to the next move that sets the halfmove clock to 0, and not results.
     pub fn is_dtz(&self) -> bool
         ensures { IsTrue result ↔ (self.now.kind ≡ Dtz) }
@@ -193,7 +204,9 @@ impl<'a> Table<'a> {
     pub fn shape(&self, side: u8, file: u8) -> &Shape
         requires side { side < 2 }
         requires file { IsFile self.now.material file }
-        ensures { shape_of self.now side file ≡ Some result.now }
+        ensures is { shape_of self.now side file ≡ Some result.now }
+        ensures material { result.now.material ≡ self.now.material }
+        ensures file { result.now.file ≡ file }
     {
         let k = self.place(side, file);
         &self.parts[k].shape
@@ -260,16 +273,67 @@ impl<'a> Table<'a> {
     {
         values_in(alloc, self.view(side, file), block as usize)
     }
+
+    /// Whether a DTZ table tells distances for this side to move: its file stores the side, or both sides have the same
+    /// men (Syzygy table format, flags of DTZ tables). No memory is taken.
+    #[tactic(auto, unfolding(crate::specs::Distances::stores))]
+    pub fn stores(&self, side: u8, file: u8) -> bool
+        requires kind { self.now.kind ≡ Dtz }
+        requires side { side < 2 }
+        requires file { IsFile self.now.material file }
+        ensures { result ≡ stores self.now side file }
+    {
+        self.flags(0, file) % 2 == side || is_symmetric(&self.material)
+    }
+
+    /// The value maps of a file of the leading pawn.
+    fn file_maps(&self, file: u8) -> &Maps<'a>
+        requires kind { self.now.kind ≡ Dtz }
+        requires file { IsFile self.now.material file }
+        ensures { result.now ≡ file_maps self.now file }
+    {
+        let k = self.place(0, file);
+        &self.maps[k]
+    }
+
+    /// What a stored value of a file stands for: where the file is mapped, the entry at that place of the map.
+    fn mapped(&self, file: u8, outcome: Outcome, value: u16) -> Option<u16>
+        requires kind { self.now.kind ≡ Dtz }
+        requires file { IsFile self.now.material file }
+        ensures { result ≡ mapped_value (file_flags self.now file) (file_maps self.now file) outcome value }
+    {
+        if has_bit(2, self.flags(0, file)) {
+            self.file_maps(file).entry(outcome, value as usize)
+        } else {
+            Some(value)
+        }
+    }
+
+    /// How many plies a DTZ table tells at an index, for a game of that outcome for the side that the file stores: the value
+    /// of the expanded table, through the value map where the file is mapped, and doubled where it counts moves and not plies
+    /// (Syzygy table format, flags of DTZ tables and value maps). No memory is taken.
+    ///
+    /// It is at most 131070. `Damaged` where the expanded table has no value there, or the map no entry.
+    #[tactic(auto, unfolding(crate::specs::Distances::distance))]
+    pub fn dtz(&self, file: u8, index: u64, outcome: Outcome) -> Result<u32, Damaged>
+        requires kind { self.now.kind ≡ Dtz }
+        requires file { IsFile self.now.material file }
+        ensures found { IfOk result (λ d. distance self.now file index outcome ≡ Some d) }
+        ensures damaged { OnErr result (distance self.now file index outcome ≡ None) }
+        ensures most { IfOk result (λ d. d ≤ 131070) }
+    {
+        let Ok(stored) = self.value(0, file, index) else {
+            return Err(Damaged);
+        };
+        let Some(value) = self.mapped(file, outcome, stored) else {
+            return Err(Damaged);
+        };
+        Ok(plies(counts_moves(self.flags(0, file), outcome), value))
+    }
 }
 
 /// What the forge compares with a plan.
 impl<'a> Table<'a> {
-    pub(crate) fn kind(&self) -> Kind
-        ensures { result ≡ self.now.kind }
-    {
-        self.kind
-    }
-
     /// How many parts there are: of each file of the leading pawn its sides.
     pub(crate) fn part_count(&self) -> usize
         ensures is { result ≡ length self.now.parts }

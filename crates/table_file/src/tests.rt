@@ -1,6 +1,6 @@
 //! The worked files, refusals, cuts and changed bytes.
 
-use crate::{Damaged, Spot, Table, TableFault, open};
+use crate::{Damaged, Kind, Outcome, Spot, Table, TableFault, open};
 use std::alloc::{AllocError, Global};
 use std::process::Abort;
 use std::test::Fail;
@@ -31,6 +31,13 @@ pub(crate) const PPW: [u8; 38] = [
     0x80, 0x02, 0x80, 0x02, 0x80, 0x02,
 ];
 
+/// The pawn's DTZ table of one value: files store sides 0, 1, 0 and 1, all but the last are mapped, to 9, 8 and 7 for a win.
+const PZ: [u8; 45] = [
+    0xD7, 0x66, 0x0C, 0xA5, 0x02, 0x00, 0x01, 0x06, 0x0E, 0x00, 0x01, 0x06, 0x0E, 0x00, 0x01, 0x06,
+    0x0E, 0x00, 0x01, 0x06, 0x0E, 0x00, 0x86, 0x00, 0x87, 0x00, 0x82, 0x00, 0x81, 0x00, 0x01, 0x09,
+    0x00, 0x00, 0x00, 0x01, 0x08, 0x00, 0x00, 0x00, 0x01, 0x07, 0x00, 0x00, 0x00,
+];
+
 pub(crate) const B: [u8; 14] = [
     0x71, 0xE8, 0x23, 0x5D, 0x01, 0x00, 0x66, 0x33, 0xEE, 0x00, 0x80, 0x02, 0x80, 0x02,
 ];
@@ -41,6 +48,13 @@ const QUEEN: [u8; 38] = [
     0x71, 0xE8, 0x23, 0x5D, 0x01, 0x00, 0x66, 0x55, 0xEE, 0x00, 0x00, 0x03, 0x08, 0x01, 0x3A, 0x01,
     0x00, 0x00, 0x02, 0x01, 0x02, 0x00, 0x00, 0x00, 0x03, 0x00, 0x04, 0xF0, 0xFF, 0x00, 0xF0, 0xFF,
     0x00, 0x10, 0x00, 0x00, 0x80, 0x00,
+];
+
+const OUTCOMES: [Outcome; 4] = [
+    Outcome::Win,
+    Outcome::CursedWin,
+    Outcome::BlessedLoss,
+    Outcome::Loss,
 ];
 
 /// The front of a file, with zeros up to a length.
@@ -295,5 +309,72 @@ fn changed_bytes_open_or_are_refused(rt: HostRuntime) -> Result<(), Fail> {
         0,
     )?;
     check_changes(&rt, rt.alloc(), b"KQvK.rtbw", &queen(rt.alloc())?, 0)?;
+    Ok(())
+}
+
+/// The queen's DTZ table of one value, with these flags and maps.
+fn queen_distances(alloc: Global, flags: u8, maps: &[u8]) -> Result<Vec<u8>, AllocError> {
+    let mut bytes = Vec::new(alloc);
+    bytes.extend_from_slice(&QZ[..10])?;
+    bytes.extend_from_slice(&[flags, 0])?;
+    bytes.extend_from_slice(maps)?;
+    padded(alloc, &bytes, 80)
+}
+
+#[test]
+fn flags_and_maps_tell_distances(rt: HostRuntime) -> Result<(), Fail> {
+    let narrow: [u8; 8] = [1, 9, 1, 5, 1, 7, 1, 11];
+    let wide: [u8; 16] = [1, 0, 9, 1, 1, 0, 5, 0, 1, 0, 7, 0, 1, 0, 0xFF, 0xFF];
+    let rows: [(u8, &[u8], [Option<u32>; 4]); 7] = [
+        (0x86, &QZ[12..], [Some(9), None, None, None]),
+        (0x82, &QZ[12..], [Some(18), None, None, None]),
+        (0x86, &narrow, [Some(9), Some(14), Some(22), Some(10)]),
+        (0x8A, &narrow, [Some(18), Some(14), Some(22), Some(5)]),
+        (0x8E, &narrow, [Some(9), Some(14), Some(22), Some(5)]),
+        (0x96, &wide, [Some(265), Some(14), Some(131_070), Some(10)]),
+        (0x80, &[], [Some(0), Some(0), Some(0), Some(0)]),
+    ];
+    for (flags, maps, expected) in rows {
+        let file = queen_distances(rt.alloc(), flags, maps)?;
+        let table = open(rt.alloc(), b"KQvK.rtbz", &file)?;
+        assert!(rt; table.kind() == Kind::Dtz);
+        for (outcome, plies) in OUTCOMES.into_iter().zip(expected) {
+            assert_eq!(rt;
+                table.dtz(0, 31332, outcome).ok(),
+                plies,
+                "{flags} {outcome:?}"
+            );
+        }
+        assert!(rt; table.stores(0, 0) && !table.stores(1, 0), "{flags}");
+    }
+    Ok(())
+}
+
+#[test]
+fn each_file_has_its_flags_and_maps(rt: HostRuntime) -> Result<(), Fail> {
+    let file = padded(rt.alloc(), &PZ, 80)?;
+    let table = open(rt.alloc(), b"KPvK.rtbz", &file)?;
+    assert!(rt; table.kind() == Kind::Dtz && table.material().has_pawns());
+    for (file, side, plies) in [(0u8, 0, 9), (1, 1, 8), (2, 0, 14), (3, 1, 0)] {
+        assert_eq!(rt; table.dtz(file, 0, Outcome::Win), Ok(plies), "{file}");
+        assert_eq!(rt; table.stores(0, file), side == 0, "{file}");
+        assert_eq!(rt; table.stores(1, file), side == 1, "{file}");
+    }
+    Ok(())
+}
+
+/// Where both sides have the same men a table tells distances for both.
+#[test]
+fn symmetric_material_stores_both_sides(rt: HostRuntime) -> Result<(), Fail> {
+    for flags in [0x80, 0x81] {
+        let file = padded(
+            rt.alloc(),
+            &[0xD7, 0x66, 0x0C, 0xA5, 0, 0, 6, 2, 10, 14, flags],
+            80,
+        )?;
+        let table = open(rt.alloc(), b"KNvKN.rtbz", &file)?;
+        assert!(rt; table.kind() == Kind::Dtz);
+        assert!(rt; table.stores(0, 0) && table.stores(1, 0), "{flags}");
+    }
     Ok(())
 }

@@ -1,0 +1,89 @@
+-- The distance, rule by rule.
+use Rattle.std.proofs.Common.{◌≡◌, ◌≢◌, ◌∙◌, sym, ap, subst, refl, ℕ, zero, suc, ◌-◌, ◌<◌, ◌≤◌, nat_le, Bool, true, false, cond, ◌&&◌, Option, Some, None, Result, Ok, Err, IfOk, arith}
+use Rattle.std.proofs.lemmas.Bool.{le-leb, lt-leb}
+use Rattle.board_core.specs.declared.parts.Parts.{Parts}
+use Rattle.board_core.specs.ComputedMoves.{count_of_men}
+use Rattle.place_index.specs.Placed.{Placement}
+use Rattle.table_file.specs.declared.kind.Kind.TheVariants.{Dtz}
+use Rattle.table_file.specs.declared.outcome.Outcome.{Outcome}
+use Rattle.table_file.specs.Tables.{Contents}
+use Rattle.table_file.specs.Distances.{stores}
+use Rattle.judge_core.specs.declared.wdl.Wdl.{Wdl}
+use Rattle.judge_core.specs.declared.found.Weighed.{Weighed}
+use Rattle.judge_core.specs.declared.fault.ValueFault.{ValueFault}
+use Rattle.judge_core.specs.declared.fault.ValueFault.TheVariants.{NotCovered}
+use Rattle.judge_core.specs.declared.distance.Distance.{Distance}
+use Rattle.judge_core.specs.declared.distance.Distance.TheVariants.{Draw}
+use Rattle.judge_core.specs.LookUp.{material_of, placed_of}
+use Rattle.judge_core.specs.Tables.{Tables, table_at}
+use Rattle.judge_core.specs.Ends.{is_mate}
+use Rattle.judge_core.specs.Probing.{weighed_by, wdl_of}
+use Rattle.judge_core.specs.Distances.{Reach, is_won, zeroing, towards, counted, move_counts, by_quiet_moves, distance_in, stored, by_own_table, pawns_reach, unless_reached, by_moves, by_weighed, dtz_to}
+
+-- what is equal to the one is equal to the other
+pub if_same : {X E : Type 0} (r : Result X E) (a b : X) → a ≡ b → IfOk r (λ x. x ≡ a) → IfOk r (λ x. x ≡ b)
+if_same {X} r a b e h = subst (λ (y : X). IfOk r (λ x. x ≡ y)) e h
+
+-- ---- one move
+
+pub mate_counts : (outcome : Outcome) (reach : Parts → Reach) (q : Parts) → is_won outcome ≡ true → is_mate q ≡ true → Ok (Some 1) ≡ move_counts outcome reach q
+unfolding move_counts
+mate_counts outcome reach q w m = rw (w, m) refl
+
+pub other_counts : (outcome : Outcome) (reach : Parts → Reach) (q : Parts) (won : Bool) (r : Reach) (n : Result (Option ℕ) ValueFault) → won ≡ is_won outcome → (won ≡ true → is_mate q ≡ false) → r ≡ reach q → n ≡ counted won r → n ≡ move_counts outcome reach q
+unfolding move_counts
+other_counts outcome reach q true r n w no_mate er en = en ∙ rw (← w, no_mate refl, ← er) refl
+other_counts outcome reach q false r n w no_mate er en = en ∙ rw (← w, ← er) refl
+
+-- ---- the own table
+
+module _ (tables : Tables) (reach : Parts → Reach) (p : Parts) (outcome : Outcome) where
+  pub bare_own : material_of p ≡ None → Ok Draw ≡ by_own_table tables reach p outcome
+  unfolding by_own_table
+  bare_own e = rw e refl
+
+  module _ (key : ℕ) (m : material_of p ≡ Some key) where
+    pub missing_own : table_at tables Dtz key ≡ None → Err (NotCovered key) ≡ by_own_table tables reach p outcome
+    unfolding by_own_table
+    missing_own e = rw (m, e) refl
+
+    module _ (t : Contents) (placed : Placement) (side file : ℕ) (b : Bool) (at : table_at tables Dtz key ≡ Some t) (ep : placed ≡ placed_of key p) (es : side ≡ placed.side) (ef : file ≡ placed.file) (eb : b ≡ stores t side file) where
+      stored_side : stores t (placed_of key p).side (placed_of key p).file ≡ b
+      stored_side = ap (λ (x : Placement). stores t x.side x.file) (sym ep) ∙ ap (λ n. stores t n placed.file) (sym es) ∙ ap (stores t side) (sym ef) ∙ sym eb
+
+      pub stored_own : (n : Option ℕ) (r : Reach) → b ≡ true → n ≡ distance_in t placed outcome → r ≡ stored key outcome n → r ≡ by_own_table tables reach p outcome
+      unfolding by_own_table
+      stored_own n r yes' en er = er ∙ ap (stored key outcome) (en ∙ ap (λ (x : Placement). distance_in t x outcome) ep) ∙ rw (m, at, stored_side, yes') refl
+
+      pub quiet_own : b ≡ false → by_quiet_moves key outcome reach p ≡ by_own_table tables reach p outcome
+      unfolding by_own_table
+      quiet_own no' = rw (m, at, stored_side, no') refl
+
+  -- ---- pawn moves
+
+  pub reached_is : (v : Wdl) (told : Result Bool ValueFault) → is_won outcome ≡ true → told ≡ pawns_reach tables p v → unless_reached told outcome (by_own_table tables reach p outcome) ≡ by_moves tables reach p v outcome
+  unfolding by_moves
+  reached_is v told w e = rw (w, ← e) refl
+
+  pub lost_is : (v : Wdl) → is_won outcome ≡ false → by_own_table tables reach p outcome ≡ by_moves tables reach p v outcome
+  unfolding by_moves
+  lost_is v w = rw w refl
+
+pub reached_by : (outcome : Outcome) (own : Reach) (b : Bool) (n : ℕ) (d : Distance) → b ≡ true → n ≡ zeroing outcome → d ≡ towards outcome n → Ok d ≡ unless_reached (Ok b) outcome own
+reached_by outcome own b n d yes' en ed = rw yes' (ap (λ (x : Distance). Ok x) (ed ∙ ap (towards outcome) en))
+
+-- ---- positions in a row
+
+pub none_left : (tables : Tables) (n : ℕ) (p : Parts) → n ≡ 0 → Ok Draw ≡ dtz_to tables n p
+unfolding dtz_to
+none_left tables n p e = rw e refl
+
+pub few_men : (tables : Tables) (n : ℕ) (p : Parts) → count_of_men p ≤ 2 → Ok Draw ≡ dtz_to tables n p
+unfolding dtz_to
+few_men tables zero p few = refl
+few_men tables (suc n) p few = rw (le-leb (count_of_men p) 2 few) refl
+
+pub some_left : (tables : Tables) (n : ℕ) (p : Parts) (w : Result Weighed ValueFault) → ¬ (n ≡ 0) → 2 < count_of_men p → w ≡ weighed_by tables (wdl_of tables) p → by_weighed tables (dtz_to tables (n - 1)) p w ≡ dtz_to tables n p
+unfolding dtz_to
+some_left tables zero p w left many e = absurd (left refl)
+some_left tables (suc n) p w left many e = let less : suc n - 1 ≡ n = omega arith in rw (less, lt-leb (count_of_men p) 2 many, ← e) refl

@@ -1,0 +1,64 @@
+-- What is asked of the positions after some moves, and the fault of the answers.
+use Rattle.std.specs.Prelude.{ℕ, Bool, List, [], ◌∷◌, Option, Some, None, option_map, Result, Ok, Err, filter_map}
+use Rattle.std.specs.Option.{option_or}
+use Rattle.board_core.specs.declared.parts.Parts.{Parts}
+use Rattle.board_core.specs.declared.moves.Move.{Move}
+use Rattle.board_core.specs.ComputedMoves.{position_after}
+use Rattle.judge_core.specs.declared.fault.Faults.{Faults}
+use Rattle.judge_core.specs.declared.fault.ValueFault.{ValueFault}
+use Rattle.judge_core.specs.declared.fault.ValueFault.TheVariants.{NotCovered, Damaged}
+
+-- what `say` tells of the positions after these moves
+abbrev pub asked : {X : Type 0} → (Parts → Result X ValueFault) → Parts → List Move → List (Result X ValueFault)
+asked say p moves = filter_map (λ m. option_map say (position_after p m)) moves
+
+abbrev pub missing : {X : Type 0} → Result X ValueFault → Option ℕ
+missing (Ok x) = None
+missing (Err (NotCovered key)) = Some key
+missing (Err (Damaged key)) = None
+
+abbrev pub damaged : {X : Type 0} → Result X ValueFault → Option ℕ
+damaged (Ok x) = None
+damaged (Err (NotCovered key)) = None
+damaged (Err (Damaged key)) = Some key
+
+-- the first thing that is said of the members
+abbrev pub first : {X : Type 0} → (Result X ValueFault → Option ℕ) → List (Result X ValueFault) → Option ℕ
+first say [] = None
+first say (r ∷ rs) = option_or (say r) (first say rs)
+
+-- the first table that is missing, and the first that is damaged
+abbrev pub faults_in : {X : Type 0} → List (Result X ValueFault) → Faults
+faults_in rs = record { missing = first missing rs; damaged = first damaged rs }
+
+-- a missing table is told before a damaged one
+abbrev pub fault_of : Option ℕ → Option ℕ → Option ValueFault
+fault_of (Some key) other = Some (NotCovered key)
+fault_of None (Some key) = Some (Damaged key)
+fault_of None None = None
+
+abbrev pub told : Faults → Option ValueFault
+told f = fault_of f.missing f.damaged
+
+-- the fault of a list: the first table that is missing, or else the first that is damaged
+abbrev pub fault_in : {X : Type 0} → List (Result X ValueFault) → Option ValueFault
+fault_in rs = told (faults_in rs)
+
+abbrev pub unless : {X : Type 0} → Option ValueFault → Result X ValueFault → Result X ValueFault
+unless (Some fault) r = Err fault
+unless None r = r
+
+-- ---- as they come
+
+abbrev pub no_faults : Faults
+no_faults = record { missing = None; damaged = None }
+
+-- one fault more
+abbrev pub with_fault : Faults → ValueFault → Faults
+with_fault f (NotCovered key) = record { missing = option_or f.missing (Some key); damaged = f.damaged }
+with_fault f (Damaged key) = record { missing = f.missing; damaged = option_or f.damaged (Some key) }
+
+-- one answer more
+abbrev pub with_answer : {X : Type 0} → Faults → Result X ValueFault → Faults
+with_answer f (Ok x) = f
+with_answer f (Err fault) = with_fault f fault

@@ -1,0 +1,127 @@
+//! What is counted on the way through the moves of a position.
+
+ghost use Rattle.std.specs.Prelude.{◌≡◌, ◌≤◌, IfOk, IfSome, max};
+ghost use Rattle.judge_core.specs.Distances.{plies, lesser};
+ghost use Rattle.judge_core.specs.Counts.{no_steps, with_reading, steps_told, no_counts, with_count, counts_told, AreWithin};
+
+use crate::distance::{self, Distance};
+use crate::fault::{Faults, ValueFault};
+use crate::wdl::Wdl;
+use place_index::Material;
+use table_file::Outcome;
+
+/// What the pawn moves so far have told.
+#[derive(Clone, Copy, PartialEq, Eq, Debug)]
+pub(crate) struct Steps {
+    /// The first faults of the values after them.
+    pub faults: Faults,
+    /// Whether one of them comes to the value that is looked for.
+    pub reached: bool,
+}
+
+impl Steps {
+    /// Before the first one.
+    pub fn new() -> Steps
+        ensures { result ≡ no_steps }
+    {
+        Steps {
+            faults: Faults::new(),
+            reached: false,
+        }
+    }
+
+    /// With the value after one move more, or its fault.
+    pub fn note(&self, value: Wdl, reading: &Result<Wdl, ValueFault>) -> Steps
+        ensures { result ≡ with_reading value self.now reading.now }
+    {
+        let mut steps = *self;
+        match reading {
+            Ok(other) => steps.reached = self.reached || other.is_same(value),
+            Err(fault) => steps.faults = self.faults.with(fault),
+        }
+        steps
+    }
+
+    /// Whether one of them comes to the value, or the fault.
+    pub fn told(&self) -> Result<bool, ValueFault>
+        ensures { result ≡ steps_told self.now }
+    {
+        match self.faults.told() {
+            Some(fault) => Err(fault),
+            None => Ok(self.reached),
+        }
+    }
+}
+
+/// What the quiet moves so far have told.
+#[derive(Clone, Copy, PartialEq, Eq, Debug)]
+pub(crate) struct Counts {
+    /// The first faults of the distances after them.
+    pub faults: Faults,
+    /// The least number of plies, if there is one.
+    pub least: Option<u32>,
+    /// The greatest number of plies, that of a capture or a pawn move among them.
+    pub greatest: u32,
+    /// Whether some move doesn't keep what the side to move has.
+    pub odd: bool,
+}
+
+/// The lesser of two numbers, where there is a first.
+fn lesser(first: Option<u32>, other: u32) -> Option<u32>
+    ensures { result ≡ lesser first other }
+{
+    match first {
+        Some(first) => Some(first.min(other)),
+        None => Some(other),
+    }
+}
+
+impl Counts {
+    /// Before the first one.
+    pub fn new(outcome: Outcome) -> Counts
+        ensures is { result ≡ no_counts outcome }
+        ensures within { AreWithin 101 result }
+    {
+        Counts {
+            faults: Faults::new(),
+            least: None,
+            greatest: distance::zeroing(outcome),
+            odd: false,
+        }
+    }
+
+    /// With what one move more comes to.
+    pub fn note(&self, count: &Result<Option<u32>, ValueFault>) -> Counts
+        ensures { result ≡ with_count self.now count.now }
+    {
+        let mut counts = *self;
+        match count {
+            Ok(Some(plies)) => {
+                counts.least = lesser(self.least, *plies);
+                counts.greatest = self.greatest.max(*plies);
+            }
+            Ok(None) => counts.odd = true,
+            Err(fault) => counts.faults = self.faults.with(fault),
+        }
+        counts
+    }
+
+    /// The distance by all of them. The table of this material contradicts itself where there is none.
+    pub fn told(&self, material: Material, outcome: Outcome) -> Result<Distance, ValueFault>
+        ensures { result ≡ counts_told material outcome self.now }
+    {
+        if let Some(fault) = self.faults.told() {
+            return Err(fault);
+        }
+        if distance::is_won(outcome) {
+            return match self.least {
+                Some(plies) => Ok(Distance::Win(plies)),
+                None => Err(ValueFault::Damaged(material)),
+            };
+        }
+        if self.odd {
+            return Err(ValueFault::Damaged(material));
+        }
+        Ok(Distance::Loss(self.greatest))
+    }
+}

@@ -1,0 +1,271 @@
+//! DTZ probes.
+
+ghost use Rattle.std.specs.Prelude.{◌≡◌, ◌<◌, ◌≤◌, ◌+◌, ◌-◌, IfOk, IfSome};
+ghost use Rattle.board_core.specs.Position.{IsPosition};
+ghost use Rattle.table_file.specs.declared.kind.Kind.TheVariants.{Dtz};
+ghost use Rattle.table_file.specs.Tables.{IsFile};
+ghost use Rattle.judge_core.specs.Distances.{plies, pawns_reach, move_counts, by_quiet_moves, distance_in, stored, by_own_table, by_moves, by_weighed, dtz_to, dtz_of};
+ghost use Rattle.judge_core.specs.Ruling.{is_out_of_scope};
+ghost use Rattle.judge_core.specs.Answers.{IsProbe, signed_in};
+
+use crate::counts::{Counts, Steps};
+use crate::distance::{Distance, counted, is_won, towards, zeroing};
+use crate::fault::{ProbeFault, ValueFault};
+use crate::found::Weighed;
+use crate::mobility::is_mate;
+use crate::moving::{after_pawn_step, after_quiet_move, has_pawn};
+use crate::set::{Set, material_of, placed};
+use crate::verdict::is_out_of_scope;
+use crate::wdl::{Wdl, turned};
+use board_core::Position;
+use place_index::{Material, Placed, index};
+use std::alloc::{AllocError, Global};
+use table_file::{Kind, Outcome, Table};
+
+/// What the table stores for placed men; none where that is damaged.
+fn distance(table: &Table<'_>, placed: &Placed, outcome: Outcome) -> Option<u32>
+    requires kind { table.now.kind ≡ Dtz }
+    requires own { table.now.material ≡ placed.now.material }
+    requires side { placed.now.side < 2 }
+    requires file { IsFile table.now.material placed.now.file }
+    ensures is { result ≡ distance_in table.now placed.now outcome }
+    ensures within { IfSome result (λ n. n ≤ 131070) }
+{
+    let side = placed.side();
+    let file = placed.file();
+    let shape = table.shape(side, file);
+    match table.dtz(file, index(shape, placed), outcome) {
+        Ok(plies) => Some(plies),
+        Err(_) => None,
+    }
+}
+
+/// The distance by what the table stores.
+fn stored(material: Material, outcome: Outcome, number: Option<u32>) -> Result<Distance, ValueFault>
+    requires { IfSome number (λ n. n ≤ 131070) }
+    ensures is { result ≡ stored material outcome number }
+    ensures within { IfOk result (λ d. plies d ≤ 131171) }
+{
+    match number {
+        Some(number) => Ok(towards(outcome, zeroing(outcome) + number)),
+        None => Err(ValueFault::Damaged(material)),
+    }
+}
+
+impl<'a> Set<'a> {
+    /// Whether some pawn move that takes nothing comes to the value, or the fault of the values after these moves.
+    fn pawns_reach(
+        &self,
+        alloc: Global,
+        position: &Position,
+        value: Wdl,
+    ) -> Result<Result<bool, ValueFault>, AllocError>
+        requires { IsPosition position.now }
+        ensures { IfOk result (λ told. told ≡ pawns_reach self.now.tables position.now value) }
+    {
+        if !has_pawn(position) {
+            return Ok(Ok(false));
+        }
+        let moves = position.legal(alloc)?;
+        let mut steps = Steps::new();
+        for m in &moves {
+            if let Some(after) = after_pawn_step(position, m) {
+                let reading = self.wdl_of(alloc, &after)?;
+                steps = steps.note(value, &turned(reading));
+            }
+        }
+        Ok(steps.told())
+    }
+
+    /// What a move comes to by the position after it. The distance after a mating move isn't asked where that wins.
+    #[cycle(dtz)]
+    fn move_counts(
+        &self,
+        alloc: Global,
+        after: &Position,
+        outcome: Outcome,
+        left: u32,
+    ) -> Result<Result<Option<u32>, ValueFault>, AllocError>
+        requires position { IsPosition after.now }
+        requires left { left ≤ 2 }
+        ensures is { IfOk result (λ count. count ≡ move_counts outcome (dtz_to self.now.tables left) after.now) }
+        ensures within { IfOk result (λ count. IfOk count (λ n. IfSome n (λ k. k ≤ 131172 + left))) }
+    {
+        let won = is_won(outcome);
+        if won && is_mate(alloc, after)? {
+            return Ok(Ok(Some(1)));
+        }
+        let reach = self.dtz_to(alloc, after, left)?;
+        Ok(counted(won, &reach))
+    }
+
+    /// The distance by the positions after the moves that neither take a man nor move a pawn.
+    #[cycle(dtz)]
+    fn by_quiet_moves(
+        &self,
+        alloc: Global,
+        position: &Position,
+        material: Material,
+        outcome: Outcome,
+        left: u32,
+    ) -> Result<Result<Distance, ValueFault>, AllocError>
+        requires position { IsPosition position.now }
+        requires left { left < 2 }
+        ensures is { IfOk result (λ reach. reach ≡ by_quiet_moves material outcome (dtz_to self.now.tables left) position.now) }
+        ensures within { IfOk result (λ reach. IfOk reach (λ d. plies d ≤ 131172 + left)) }
+    {
+        let moves = position.legal(alloc)?;
+        let mut counts = Counts::new(outcome);
+        for m in &moves {
+            if let Some(after) = after_quiet_move(position, m) {
+                let count = self.move_counts(alloc, &after, outcome, left)?;
+                counts = counts.note(&count);
+            }
+        }
+        Ok(counts.told(material, outcome))
+    }
+
+    /// The distance by the own table, or by the quiet moves where that stores the other side alone.
+    #[cycle(dtz)]
+    fn by_own_table(
+        &self,
+        alloc: Global,
+        position: &Position,
+        outcome: Outcome,
+        left: u32,
+    ) -> Result<Result<Distance, ValueFault>, AllocError>
+        requires position { IsPosition position.now }
+        requires left { left < 2 }
+        ensures is { IfOk result (λ reach. reach ≡ by_own_table self.now.tables (dtz_to self.now.tables left) position.now outcome) }
+        ensures within { IfOk result (λ reach. IfOk reach (λ d. plies d ≤ 131172 + left)) }
+    {
+        let Some(material) = material_of(position) else {
+            return Ok(Ok(Distance::Draw));
+        };
+        let Some(table) = self.table(Kind::Dtz, material) else {
+            return Ok(Err(ValueFault::NotCovered(material)));
+        };
+        let placed = placed(position, &material);
+        if table.stores(placed.side(), placed.file()) {
+            return Ok(stored(material, outcome, distance(table, &placed, outcome)));
+        }
+        self.by_quiet_moves(alloc, position, material, outcome, left)
+    }
+
+    /// A win by a pawn move, or what the own table tells.
+    #[cycle(dtz)]
+    fn by_moves(
+        &self,
+        alloc: Global,
+        position: &Position,
+        value: Wdl,
+        outcome: Outcome,
+        left: u32,
+    ) -> Result<Result<Distance, ValueFault>, AllocError>
+        requires position { IsPosition position.now }
+        requires left { left < 2 }
+        ensures is { IfOk result (λ reach. reach ≡ by_moves self.now.tables (dtz_to self.now.tables left) position.now value outcome) }
+        ensures within { IfOk result (λ reach. IfOk reach (λ d. plies d ≤ 131172 + left)) }
+    {
+        if is_won(outcome) {
+            let reached = self.pawns_reach(alloc, position, value)?;
+            match &reached {
+                Ok(reached) => {
+                    if *reached {
+                        return Ok(Ok(towards(outcome, zeroing(outcome))));
+                    }
+                }
+                Err(fault) => return Ok(Err(*fault)),
+            }
+        }
+        self.by_own_table(alloc, position, outcome, left)
+    }
+
+    /// The distance where captures and the own WDL table say this.
+    #[cycle(dtz)]
+    fn by_weighed(
+        &self,
+        alloc: Global,
+        position: &Position,
+        weighed: &Result<Weighed, ValueFault>,
+        left: u32,
+    ) -> Result<Result<Distance, ValueFault>, AllocError>
+        requires position { IsPosition position.now }
+        requires left { left < 2 }
+        ensures is { IfOk result (λ reach. reach ≡ by_weighed self.now.tables (dtz_to self.now.tables left) position.now weighed.now) }
+        ensures within { IfOk result (λ reach. IfOk reach (λ d. plies d ≤ 131172 + left)) }
+    {
+        let weighed = match weighed {
+            Ok(weighed) => weighed,
+            Err(fault) => return Ok(Err(*fault)),
+        };
+        let value = weighed.worth();
+        let Some(outcome) = value.outcome() else {
+            return Ok(Ok(Distance::Draw));
+        };
+        if weighed.is_by_capture() {
+            return Ok(Ok(towards(outcome, zeroing(outcome))));
+        }
+        self.by_moves(alloc, position, value, outcome, left)
+    }
+
+    /// The distance, where so many positions in a row are looked at.
+    #[cycle(dtz)]
+    fn dtz_to(
+        &self,
+        alloc: Global,
+        position: &Position,
+        left: u32,
+    ) -> Result<Result<Distance, ValueFault>, AllocError>
+        requires position { IsPosition position.now }
+        requires left { left ≤ 2 }
+        ensures is { IfOk result (λ reach. reach ≡ dtz_to self.now.tables left position.now) }
+        ensures within { IfOk result (λ reach. IfOk reach (λ d. plies d ≤ 131171 + left)) }
+    {
+        if left == 0 || position.men() <= 2 {
+            return Ok(Ok(Distance::Draw));
+        }
+        let weighed = self.weigh(alloc, position)?;
+        self.by_weighed(alloc, position, &weighed, left - 1)
+    }
+
+    /// The distance, wherever the tables are there and whole.
+    #[tactic(auto, unfolding(crate::specs::Distances::dtz_of))]
+    pub(crate) fn dtz_of(
+        &self,
+        alloc: Global,
+        position: &Position,
+    ) -> Result<Result<Distance, ValueFault>, AllocError>
+        requires { IsPosition position.now }
+        ensures is { IfOk result (λ reach. reach ≡ dtz_of self.now.tables position.now) }
+        ensures within { IfOk result (λ reach. IfOk reach (λ d. plies d ≤ 131173)) }
+    {
+        self.dtz_to(alloc, position, 2)
+    }
+
+    /// The distance to the next move that sets the halfmove clock to 0, a capture or a pawn move, or to mate, in plies: above 0
+    /// where the side to move wins, below 0 where it loses, 0 at a draw. It is 100 more where the rule of fifty moves takes
+    /// the win away, and may be off by one ply (Syzygy DTZ tables).
+    ///
+    /// The first of the faults that applies is told, in the order of `ProbeFault`, of the values that are needed in turn: those
+    /// of the WDL probe; for a win those after all pawn moves that take nothing; the own DTZ table; and where that stores
+    /// the other side alone, the distances after all moves that neither take a man nor move a pawn, but not after a mating
+    /// move where the side to move wins. A table that contradicts itself there is damaged. `OutOfMemory` comes only where memory
+    /// for a list of moves is refused, at a position in scope. The set stays as it was but for its cache.
+    pub fn dtz(&mut self, alloc: Global, position: &Position) -> Result<i32, ProbeFault>
+        ensures answer { IsProbe result (is_out_of_scope position.now) (signed_in (dtz_of self.old.tables position.now)) }
+        ensures unchanged { self.new ≡ self.old }
+    {
+        if is_out_of_scope(position) {
+            return Err(ProbeFault::OutOfScope);
+        }
+        let Ok(reach) = self.dtz_of(alloc, position) else {
+            return Err(ProbeFault::OutOfMemory);
+        };
+        match &reach {
+            Ok(distance) => Ok(distance.signed()),
+            Err(ValueFault::NotCovered(material)) => Err(ProbeFault::NotCovered(*material)),
+            Err(ValueFault::Damaged(material)) => Err(ProbeFault::Damaged(*material)),
+        }
+    }
+}

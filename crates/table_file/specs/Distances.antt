@@ -1,0 +1,69 @@
+-- Distances that a DTZ table tells (Syzygy table format, flags of DTZ tables and value maps).
+use Rattle.std.specs.Prelude.{ℕ, ◌*◌, ◌%◌, Bool, true, false, List, slice_get, slice_index_or, Option, Some, None, ◌==◌, ◌||◌, not, if◌then◌else◌}
+use Rattle.pair_dict.specs.Reading.{words}
+use Rattle.table_file.specs.declared.outcome.Outcome.{Outcome}
+use Rattle.table_file.specs.declared.outcome.Outcome.TheVariants.{Win, CursedWin, BlessedLoss, Loss}
+use Rattle.table_file.specs.Reading.{has_bit}
+use Rattle.table_file.specs.Files.{is_symmetric}
+use Rattle.table_file.specs.Maps.{ValueMaps, no_maps}
+use Rattle.table_file.specs.Tables.{Contents, place_of, flags_of}
+use Rattle.table_file.specs.Expansion.{expansion, entry_at}
+
+abbrev pub flags_or_none : Option ℕ → ℕ
+flags_or_none None = 0
+flags_or_none (Some flags) = flags
+
+-- the flags of a file of the leading pawn, and its maps
+abbrev pub file_flags : Contents → ℕ → ℕ
+file_flags t file = flags_or_none (flags_of t 0 file)
+
+abbrev pub file_maps : Contents → ℕ → ValueMaps
+file_maps t file = slice_index_or t.maps (place_of t 0 file) no_maps
+
+-- Whether the values of a file are for this side to move: bit 0 of the flags is the side, or both sides have the same men.
+unfoldable pub stores : Contents → ℕ → ℕ → Bool
+stores t side file = file_flags t file % 2 == side || is_symmetric t.material
+
+-- the bytes of the map of an outcome
+abbrev pub map_of : ValueMaps → Outcome → List ℕ
+map_of maps Win = maps.win
+map_of maps CursedWin = maps.cursed_win
+map_of maps BlessedLoss = maps.blessed_loss
+map_of maps Loss = maps.loss
+
+-- the entries of a map: its bytes, or where it is wide numbers of two bytes, the low one first
+abbrev pub entries_of : Bool → List ℕ → List ℕ
+entries_of false bytes = bytes
+entries_of true bytes = words bytes
+
+-- None past the end of the map
+abbrev pub map_entry : ValueMaps → Outcome → ℕ → Option ℕ
+map_entry maps outcome place = slice_get (entries_of maps.wide (map_of maps outcome)) place
+
+-- Where bit 1 of the flags is set, the stored value is a place in the map of the outcome.
+abbrev pub mapped_value : ℕ → ValueMaps → Outcome → ℕ → Option ℕ
+mapped_value flags maps outcome value = if has_bit 2 flags then map_entry maps outcome value else Some value
+
+-- Whether the value counts moves of one side, and not plies: always where the fifty-move rule makes the game a draw, for
+-- a win where bit 2 of the flags is clear, and for a loss where bit 3 is.
+abbrev pub counts_moves : ℕ → Outcome → Bool
+counts_moves flags Win = not (has_bit 4 flags)
+counts_moves flags CursedWin = true
+counts_moves flags BlessedLoss = true
+counts_moves flags Loss = not (has_bit 8 flags)
+
+abbrev pub plies : Bool → ℕ → ℕ
+plies moves value = if moves then 2 * value else value
+
+abbrev pub told : ℕ → Outcome → Option ℕ → Option ℕ
+told flags outcome None = None
+told flags outcome (Some value) = Some (plies (counts_moves flags outcome) value)
+
+abbrev pub mapped : ℕ → ValueMaps → Outcome → Option ℕ → Option ℕ
+mapped flags maps outcome None = None
+mapped flags maps outcome (Some value) = mapped_value flags maps outcome value
+
+-- How many plies the table tells at an index of a file, for a game of that outcome, if the value is there: the entry of
+-- the expanded table, through the map, and doubled where it counts moves.
+unfoldable pub distance : Contents → ℕ → ℕ → Outcome → Option ℕ
+distance t file index outcome = told (file_flags t file) outcome (mapped (file_flags t file) (file_maps t file) outcome (entry_at (expansion t 0 file) index))
