@@ -171,10 +171,14 @@ fn reply<W: Write>(
 /// Runs the task: writes what it answers, and tells the status, 0 done or 1 refused.
 ///
 /// `files` are the names and contents of table files, the names strictly rising in order of bytes;
-/// `manifest` and `input` are the bytes of those files. `show` alone asks for the input, and no
-/// command so far for the others. Where memory is refused, the line `refused memory` comes in place
-/// of what is left, with status 1; a text that is no position takes none, and `show` takes none.
-/// The error comes only where the writer failed.
+/// that is the caller's condition. `manifest` and `input` are the bytes of those files. `judge` and
+/// `probe` look at all files, or with a manifest at those of its lines, in its order, and tell the
+/// first refusal: of the text, then of the manifest, then of a file. `check` without a manifest has
+/// no line to check.
+///
+/// Where memory is refused, the line `refused memory` comes in place of what is left, with status 1;
+/// a text that is no position takes none, and `show` takes none. Only `moves` and `check` can have
+/// written lines before it. The error comes only where the writer failed.
 pub fn answer<W: Write>(
     alloc: Global,
     task: &Task,
