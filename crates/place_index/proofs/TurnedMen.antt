@@ -1,12 +1,12 @@
 -- What the code of the turning needs to know of men.
-use Rattle.std.proofs.Common.{◌≡◌, ℕ, suc, ◌+◌, ◌<◌, ◌≤◌, Bool, true, false, cond, ltb, List, [], ◌∷◌, length, take, slice_index, get_or, refl, sym, ap, ◌∙◌, arith, length-take-le}
+use Rattle.std.proofs.Common.{◌≡◌, ℕ, suc, ◌+◌, ◌<◌, ◌≤◌, true, false, List, [], ◌∷◌, length, take, slice_index, get_or, refl, ap, ◌∙◌, arith}
 use Rattle.std.proofs.lemmas.List.{length-map}
-use Rattle.place_index.specs.Square.{file, rank, left_right, bottom_top}
+use Rattle.place_index.specs.Square.{file, rank}
 use Rattle.place_index.specs.Material.{pieces_of, white_pawns, black_pawns}
 use Rattle.place_index.specs.Men.{codes_of, stands, falling, square_of, moved}
 use Rattle.place_index.specs.Pawns.{pawn_square, pawn_numbers_of}
 use Rattle.place_index.specs.Shape.{Layout, has_pawns, lead_code, lead_men}
-use Rattle.place_index.specs.Turning.{leftward, downward, under, turned_pieces, to_left, to_bottom, turned_pawns, lead_pawn, turned, lead_file}
+use Rattle.place_index.specs.Turning.{leftward, turned_pieces, turned_pawns, lead_pawn, turned, lead_file}
 use Rattle.place_index.specs.Index.{AreMen, IsPlacement, IsShape, IsLeadTurned}
 use Rattle.place_index.specs.declared.man.Man.{Man}
 use Rattle.place_index.proofs.Arranging.{arranged_length}
@@ -15,7 +15,7 @@ use Rattle.place_index.proofs.Falling.{falling_falls}
 use Rattle.place_index.proofs.Greatest.{lead_least, lead_most}
 use Rattle.place_index.proofs.MenTables.{men_most}
 use Rattle.place_index.proofs.MappedSets.{falling_at}
-use Rattle.place_index.proofs.Board.{settled, IsMirroring, left_right_mirrors, bottom_top_mirrors, moved_alone, moved_board}
+use Rattle.place_index.proofs.Board.{settled, IsMirroring, moved_alone, moved_board}
 use Rattle.place_index.proofs.TurnedPawns.{numbers_size}
 use Rattle.place_index.proofs.Alone.{square_of_alone}
 use Rattle.place_index.proofs.LayoutGroups.{lead_is_pawn, lead_count}
@@ -54,32 +54,6 @@ moved_men f men m a = record { few = omega (arith, length-moved f men, a.few); a
     length-moved : (f : ℕ → ℕ) (men : List Man) → length (moved f men) ≡ length men
     length-moved f [] = refl
     length-moved f (x ∷ men) = ap suc (length-moved f men)
-
-pub leftward_men : (s : ℕ) (men : List Man) → AreMen men → AreMen (leftward s men)
-leftward_men s men a = one (file_left s)
-  where
-    file_left : ℕ → Bool
-    file_left s = ltb (file s) 4
-
-    one : (b : Bool) → AreMen (cond b men (moved left_right men))
-    one true = a
-    one false = moved_men left_right men left_right_mirrors a
-
-pub downward_men : (s : ℕ) (men : List Man) → AreMen men → AreMen (downward s men)
-downward_men s men a = one (ltb (rank s) 4)
-  where
-    one : (b : Bool) → AreMen (cond b men (moved bottom_top men))
-    one true = a
-    one false = moved_men bottom_top men bottom_top_mirrors a
-
--- the steps of the turning
-pub pieces_turned : (lead : List ℕ) (men left low : List Man) (square square_left first : ℕ) → first ≡ slice_index lead 0 → square ≡ square_of men first → left ≡ leftward square men
-    → square_left ≡ square_of left first → low ≡ downward square_left left → under lead low ≡ turned_pieces lead men
-unfolding turned_pieces to_left to_bottom
-pieces_turned lead men left low square square_left first f s l t d =
-    let l1 : left ≡ leftward (square_of men (slice_index lead 0)) men = l ∙ ap (λ x. leftward x men) (s ∙ ap (square_of men) f) in
-    let d1 : low ≡ downward (square_of left (slice_index lead 0)) left = d ∙ ap (λ x. downward x left) (t ∙ ap (square_of left) f) in
-    ap (under lead) (d1 ∙ ap (λ m. downward (square_of m (slice_index lead 0)) m) l1)
 
 pub turned_pawned : (l : Layout) (men : List Man) (s : ℕ) → has_pawns l.material ≡ true → s ≡ lead_pawn l.material men → leftward s men ≡ turned l men
 unfolding turned turned_pawns
@@ -123,6 +97,3 @@ pawned_of key some = some_pawns (white_pawns key + black_pawns key) some
 
 pub plain_of : (key : ℕ) → (1 ≤ white_pawns key + black_pawns key → ⊥) → has_pawns key ≡ false
 plain_of key none = no_pawns (white_pawns key + black_pawns key) none
-
-pub taken_length : (n : ℕ) (xs : List ℕ) → n ≤ length xs → n ≡ length (take n xs)
-taken_length n xs le = sym (length-take-le n xs le)
