@@ -1,5 +1,5 @@
 -- What the program answers: lines and a status (this project's own).
-use Rattle.std.specs.Prelude.{◌≡◌, ◌≤◌, ◌+◌, ◌++◌, ◌⊎◌, ℕ, ℤ, Bool, List, [], ◌∷◌, length, map, take, Option, Some, None, Result, Ok, Err, if◌then◌else◌, codes}
+use Rattle.std.specs.Prelude.{◌≡◌, ◌≤◌, ◌+◌, ◌++◌, ◌⊎◌, ◌&&◌, ℕ, ℤ, Bool, List, [], ◌∷◌, length, map, take, Option, Some, None, Result, Ok, Err, if◌then◌else◌, codes}
 use Rattle.std.specs.Fmt.{decimal}
 use Rattle.std.specs.Result.{is_ok}
 use Rattle.std.specs.List.{flat_map}
@@ -15,7 +15,8 @@ use Rattle.move_msg.specs.Manifests.{Entry, SpellsManifest, IsFirstBadLine}
 use Rattle.judge_core.specs.declared.verdict.Verdict.{Verdict as Ruled}
 use Rattle.judge_core.specs.declared.wdl.Wdl.{Wdl}
 use Rattle.judge_core.specs.declared.fault.ProbeFault.{ProbeFault}
-use Rattle.judge_core.specs.Answers.{IsProbe}
+use Rattle.judge_core.specs.Answers.{IsProbe, signed_in}
+use Rattle.judge_core.specs.Distances.{dtz_of}
 use Rattle.judge_core.specs.Probing.{wdl_of}
 use Rattle.judge_core.specs.Ruling.{ruling, is_out_of_scope, verdict_name as ruled_name}
 use Rattle.judge_core.specs.Tables.{Tables}
@@ -77,14 +78,18 @@ verdict_line (Some v) = ruled_name v
 abbrev pub IsJudged : Tables → Parts → Reply → Type 0
 IsJudged tables p r = r ≡ record { lines = verdict_line (ruling tables p) ∷ []; status = 0 }
 
--- probe: what the tables tell, a line a question
-abbrev pub probed : Result ℤ ProbeFault → Reply
-probed wdl = record { lines = told_line (codes "wdl") wdl ∷ []; status = status_if (is_ok wdl) }
+-- probe: what the tables tell, a line a question, the value and then the distance
+abbrev pub probed : Result ℤ ProbeFault → Result ℤ ProbeFault → Reply
+probed wdl dtz = record {
+  lines = told_line (codes "wdl") wdl ∷ told_line (codes "dtz") dtz ∷ [];
+  status = status_if (is_ok wdl && is_ok dtz);
+}
 
 abbrev pub IsProbed : Tables → Parts → Reply → Type 0
 IsProbed tables p r =
     (wdl : Result Wdl ProbeFault) × IsAnswered wdl × IsProbe wdl (is_out_of_scope p) (wdl_of tables p)
-    × (r ≡ probed (numbered wdl))
+    × ((dtz : Result ℤ ProbeFault) × IsAnswered dtz × IsProbe dtz (is_out_of_scope p) (signed_in (dtz_of tables p))
+    × (r ≡ probed (numbered wdl) dtz))
 
 -- a refusal is one line, with status 1
 abbrev pub refused : List ℕ → Reply

@@ -1,17 +1,19 @@
 //! What is answered for a position: the verdict on it, and what the tables tell of it.
 
-ghost use Rattle.std.specs.Prelude.{◌≡◌, ◌++◌, ◌∷◌, [], codes, map, option_map, IfOk, IfErr, OnOk, IsErrOf};
+ghost use Rattle.std.specs.Prelude.{◌≡◌, ◌++◌, ◌&&◌, ◌∷◌, [], codes, map, option_map, IfOk, IfErr, OnOk, IsErrOf};
 ghost use Rattle.std.specs.Fmt.{signed_decimal};
+ghost use Rattle.std.specs.Result.{is_ok};
 ghost use Rattle.std.specs.Io.KnownBytes.{Appends};
 ghost use Rattle.place_index.specs.Material.{men_of, name_of};
-ghost use Rattle.judge_core.specs.Answers.{IsProbe};
+ghost use Rattle.judge_core.specs.Answers.{IsProbe, signed_in};
+ghost use Rattle.judge_core.specs.Distances.{dtz_of};
 ghost use Rattle.judge_core.specs.Probing.{wdl_of};
 ghost use Rattle.judge_core.specs.Ruling.{is_out_of_scope};
 ghost use Rattle.adjudicate.specs.Files.{file_of};
 ghost use Rattle.adjudicate.specs.Probes.{IsAnswered, numbered, told_line};
 ghost use Rattle.adjudicate.specs.Refusals.{refusal_line};
 ghost use Rattle.adjudicate.specs.Looks.{refused_file, refused_manifest};
-ghost use Rattle.adjudicate.specs.Reply.{IsReplyBy, IsReplyOn, IsText, IsJudged, IsProbed, Reply, WritesReply};
+ghost use Rattle.adjudicate.specs.Reply.{IsReplyBy, IsReplyOn, IsText, IsJudged, IsProbed, Reply, WritesReply, probed};
 ghost use Rattle.adjudicate.specs.Questions.{IsReplyTo};
 
 use crate::files::NamedFile;
@@ -176,7 +178,51 @@ fn number_in(wdl: &Result<Wdl, ProbeFault>) -> Result<i32, ProbeFault>
     }
 }
 
-/// Writes what the tables tell of a position, a line a question.
+/// A DTZ probe, whose error comes only where memory is refused.
+fn ask_dtz(
+    alloc: Global,
+    set: &mut Set<'_>,
+    position: &Position,
+) -> Result<Result<i32, ProbeFault>, AllocError>
+    ensures answered { IfOk result (λ dtz. IsAnswered dtz) }
+    ensures answer { IfOk result (λ dtz. IsProbe dtz (is_out_of_scope position.now) (signed_in (dtz_of set.old.tables position.now))) }
+    ensures unchanged { set.new ≡ set.old }
+{
+    match set.dtz(alloc, position) {
+        Ok(distance) => Ok(Ok(distance)),
+        Err(ProbeFault::OutOfMemory) => Err(AllocError),
+        Err(fault) => Ok(Err(fault)),
+    }
+}
+
+/// Whether both probes tell a number.
+fn are_told(wdl: &Result<i32, ProbeFault>, dtz: &Result<i32, ProbeFault>) -> bool
+    ensures { result ≡ (is_ok wdl.now && is_ok dtz.now) }
+{
+    wdl.is_ok() && dtz.is_ok()
+}
+
+/// Writes the answers of both probes, and tells the status, 0 where none is a fault.
+fn put_probed<W: Write>(
+    out: &mut W,
+    wdl: &Result<i32, ProbeFault>,
+    dtz: &Result<i32, ProbeFault>,
+) -> Result<u8, Stop>
+    ensures ok { IfOk result (λ status. WritesReply (W.contents out.old) (W.contents out.new) (probed wdl.now dtz.now) status) }
+    ensures io { IfErr result (λ stop. stop ≡ Stop.Io) }
+{
+    match put_told(out, "wdl", wdl) {
+        Ok(()) => {}
+        Err(stop) => return Err(stop),
+    }
+    match put_told(out, "dtz", dtz) {
+        Ok(()) => Ok(status_if(are_told(wdl, dtz))),
+        Err(stop) => Err(stop),
+    }
+}
+
+/// Writes what the tables tell of a position, a line a question. All memory is taken before the
+/// first line is written.
 fn put_probe<W: Write>(
     alloc: Global,
     set: &mut Set<'_>,
@@ -189,11 +235,10 @@ fn put_probe<W: Write>(
     let Ok(wdl) = ask_wdl(alloc, set, position) else {
         return Err(Stop::OutOfMemory);
     };
-    let wdl = number_in(&wdl);
-    match put_told(out, "wdl", &wdl) {
-        Ok(()) => Ok(status_if(wdl.is_ok())),
-        Err(stop) => Err(stop),
-    }
+    let Ok(dtz) = ask_dtz(alloc, set, position) else {
+        return Err(Stop::OutOfMemory);
+    };
+    put_probed(out, &number_in(&wdl), &dtz)
 }
 
 /// Answers a question about a position by a set of tables.

@@ -100,7 +100,7 @@ fn is_in_order(first: &NamedFile, others: &[NamedFile]) -> bool
 }
 
 /// Whether the files have tables' names, each after the one before it: a folder that lists a name twice isn't read.
-fn are_files(files: &[NamedFile]) -> bool
+pub(crate) fn are_files(files: &[NamedFile]) -> bool
     ensures { IsTrue result → AreFiles (map file_of files.now) }
 {
     let mut rest = files;

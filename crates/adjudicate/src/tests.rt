@@ -6,6 +6,7 @@ use crate::files::NamedFile;
 use crate::input::ReadFault;
 use crate::program::run;
 use crate::replies::{AnswerFault, answer};
+use crate::sources::are_files;
 use crate::usage::Usage;
 use arrayvec::ArrayString;
 use board_core::Position;
@@ -464,10 +465,36 @@ const PAWNS: [u8; 38] = [
     0x80, 0x02, 0x80, 0x02, 0x80, 0x02,
 ];
 
-/// Knight a1 b1 against e5, and a queen in the knight's place.
+/// With a queen it is 10 plies to the end, of one side alone.
+const QUEEN_DISTANCE: [u8; 16] = [
+    0xD7, 0x66, 0x0C, 0xA5, 0x01, 0x00, 0x06, 0x05, 0x0E, 0x00, 0x86, 0x00, 0x01, 0x09, 0x00, 0x00,
+];
+
 const KNIGHT_FEN: &str = "8/8/8/4k3/8/8/8/KN6 w - - 0 1";
 
+const ROOK_FEN: &str = "8/8/8/4k3/8/8/8/KR6 w - - 0 1";
+
+const NO_ROOK: &str = "wdl refused NotCovered KRvK\ndtz refused NotCovered KRvK\n";
+
+/// Queen b1 against the king on e5, with halfmove clock 0 and 90.
 const QUEEN_FEN: &str = "8/8/8/4k3/8/8/8/KQ6 w - - 0 1";
+
+const LATE_FEN: &str = "8/8/8/4k3/8/8/8/KQ6 w - - 90 1";
+
+/// The side that the table of distances doesn't store: 11 plies and a clock of 88 make 99.
+const LOST_FEN: &str = "8/8/8/8/8/2k5/8/K6Q b - - 88 1";
+
+/// The king takes the queen.
+const HANGING_FEN: &str = "7K/8/8/4k3/3Q4/8/8/8 b - - 0 1";
+
+/// Only taking the pawn in passing wins.
+const PASSED_FEN: &str = "8/8/8/8/k2pP3/8/8/K7 b - e3 0 1";
+
+const NOT_PASSED_FEN: &str = "8/8/8/8/k2pP3/8/8/K7 b - - 0 1";
+
+const CASTLING_FEN: &str = "4k3/8/8/8/8/8/8/4K2R w K - 0 1";
+
+const OUT_OF_SCOPE: &str = "wdl refused OutOfScope\ndtz refused OutOfScope\n";
 
 /// The manifest of KNvK.rtbw with the three bytes `abc` (FIPS 180-4, its first example).
 const ABC: &str = "ba7816bf8f01cfea414140de5dae2223b00361a396177a9cb410ff61f20015ad  KNvK.rtbw\n";
@@ -508,11 +535,30 @@ fn answered(
     files: &[NamedFile],
     manifest: Option<&[u8]>,
 ) -> Result<(Vec<u8>, u8), Fail> {
+    if !are_files(files) {
+        return Err(Fail::from("files in order"));
+    }
     let mut out = Vec::new(alloc);
     match answer(alloc, task, files, manifest, &[], &mut out) {
         Ok(status) => Ok((out, status)),
         Err(_) => Err(Fail::from("an answer")),
     }
+}
+
+/// That this is answered with this status.
+fn expect_answer(
+    rt: &impl Abort,
+    alloc: Global,
+    task: &Task,
+    files: &[NamedFile],
+    manifest: Option<&[u8]>,
+    text: &str,
+    status: u8,
+) -> Result<(), Fail> {
+    let (out, told) = answered(alloc, task, files, manifest)?;
+    assert_eq!(rt; out.as_slice(), text.as_bytes());
+    assert_eq!(rt; told, status, "{text}");
+    Ok(())
 }
 
 fn judge_of(fen: &str) -> Task<'_> {
@@ -538,170 +584,191 @@ const CHECK: Task<'static> = Task::Check {
     folder: "tables",
 };
 
+/// A set of tables of the worked rows.
+fn worked_tables(rt: &impl Abort, alloc: Global) -> Result<Vec<NamedFile>, AllocError> {
+    let mut files = Vec::new(alloc);
+    files.push(table(rt, alloc, "KNvK.rtbw", &KNIGHT)?)?;
+    files.push(table(rt, alloc, "KPvK.rtbw", &PAWN)?)?;
+    files.push(table(rt, alloc, "KPvKP.rtbw", &PAWNS)?)?;
+    files.push(table(rt, alloc, "KQvK.rtbw", &QUEEN)?)?;
+    files.push(table(rt, alloc, "KQvK.rtbz", &QUEEN_DISTANCE)?)?;
+    Ok(files)
+}
+
 #[test]
 fn judges_and_probes_by_tables(rt: HostRuntime) -> Result<(), Fail> {
     let alloc = rt.alloc();
-    let files = [
-        table(&rt, alloc, "KNvK.rtbw", &KNIGHT)?,
-        table(&rt, alloc, "KPvK.rtbw", &PAWN)?,
-        table(&rt, alloc, "KPvKP.rtbw", &PAWNS)?,
-        table(&rt, alloc, "KQvK.rtbw", &QUEEN)?,
-    ];
+    let files = worked_tables(&rt, alloc)?;
     for (fen, verdict, told, status) in [
-        (KNIGHT_FEN, "TableDraw\n", "wdl 0\n", 0),
-        (
-            "7K/8/8/4k3/3Q4/8/8/8 b - - 0 1",
-            "TableDraw\n",
-            "wdl 0\n",
-            0,
-        ),
-        ("8/8/8/8/k2pP3/8/8/K7 b - e3 0 1", "open\n", "wdl 2\n", 0),
-        (
-            "8/8/8/8/k2pP3/8/8/K7 b - - 0 1",
-            "TableDraw\n",
-            "wdl 0\n",
-            0,
-        ),
-        (QUEEN_FEN, "open\n", "wdl 2\n", 0),
-        ("8/8/8/4k3/8/8/8/KQ6 b - - 0 1", "open\n", "wdl -2\n", 0),
-        (
-            "8/8/8/4k3/8/8/8/KR6 w - - 0 1",
-            "open\n",
-            "wdl refused NotCovered KRvK\n",
-            1,
-        ),
-        (START, "open\n", "wdl refused OutOfScope\n", 1),
-        (
-            "4k3/8/8/8/8/8/8/4K2R w K - 0 1",
-            "open\n",
-            "wdl refused OutOfScope\n",
-            1,
-        ),
-        (
-            "x",
-            "refused FEN FieldCount\n",
-            "refused FEN FieldCount\n",
-            1,
-        ),
+        (KNIGHT_FEN, "TableDraw\n", "wdl 0\ndtz 0\n", 0),
+        (HANGING_FEN, "TableDraw\n", "wdl 0\ndtz 0\n", 0),
+        (PASSED_FEN, "TableBlack\n", "wdl 2\ndtz 1\n", 0),
+        (NOT_PASSED_FEN, "TableDraw\n", "wdl 0\ndtz 0\n", 0),
+        (QUEEN_FEN, "TableWhite\n", "wdl 2\ndtz 10\n", 0),
+        (LATE_FEN, "open\n", "wdl 2\ndtz 10\n", 0),
+        (LOST_FEN, "TableWhite\n", "wdl -2\ndtz -11\n", 0),
+        (ROOK_FEN, "open\n", NO_ROOK, 1),
+        (START, "open\n", OUT_OF_SCOPE, 1),
+        (CASTLING_FEN, "open\n", OUT_OF_SCOPE, 1),
     ] {
-        let (out, _) = answered(alloc, &judge_of(fen), &files, None)?;
-        assert_eq!(rt; out.as_slice(), verdict.as_bytes(), "{fen}");
-        let (out, ended) = answered(alloc, &probe_of(fen), &files, None)?;
-        assert_eq!(rt; out.as_slice(), told.as_bytes(), "{fen}");
-        assert_eq!(rt; ended, status, "{fen}");
+        expect_answer(&rt, alloc, &judge_of(fen), &files, None, verdict, 0)?;
+        expect_answer(&rt, alloc, &probe_of(fen), &files, None, told, status)?;
     }
     Ok(())
 }
 
 #[test]
-fn stops_at_a_damaged_table(rt: HostRuntime) -> Result<(), Fail> {
+fn needs_each_table(rt: HostRuntime) -> Result<(), Fail> {
     let alloc = rt.alloc();
-    let files = [table(&rt, alloc, "KNvK.rtbw", &DAMAGED_KNIGHT)?];
-    let (out, status) = answered(alloc, &judge_of(KNIGHT_FEN), &files, None)?;
-    assert_eq!(rt; out.as_slice(), "Stopped\n".as_bytes());
-    assert_eq!(rt; status, 0);
-    let (out, status) = answered(alloc, &probe_of(KNIGHT_FEN), &files, None)?;
-    assert_eq!(rt; out.as_slice(), "wdl refused Damaged KNvK\n".as_bytes());
-    assert_eq!(rt; status, 1);
-    Ok(())
+    let mut files = Vec::new(alloc);
+    files.push(table(&rt, alloc, "KNvK.rtbw", &DAMAGED_KNIGHT)?)?;
+    files.push(table(&rt, alloc, "KQvK.rtbw", &QUEEN)?)?;
+    expect_answer(
+        &rt,
+        alloc,
+        &judge_of(KNIGHT_FEN),
+        &files,
+        None,
+        "Stopped\n",
+        0,
+    )?;
+    let told = "wdl refused Damaged KNvK\ndtz refused Damaged KNvK\n";
+    expect_answer(&rt, alloc, &probe_of(KNIGHT_FEN), &files, None, told, 1)?;
+    expect_answer(&rt, alloc, &judge_of(QUEEN_FEN), &files, None, "open\n", 0)?;
+    let told = "wdl 2\ndtz refused NotCovered KQvK\n";
+    expect_answer(&rt, alloc, &probe_of(QUEEN_FEN), &files, None, told, 1)
 }
 
 #[test]
 fn lists_and_checks_files(rt: HostRuntime) -> Result<(), Fail> {
     let alloc = rt.alloc();
     let manifest = Some(ABC.as_bytes());
-    let abc = [named(&rt, alloc, "KNvK.rtbw", b"abc")?];
-    let knight = [table(&rt, alloc, "KNvK.rtbw", &KNIGHT)?];
-    let (out, status) = answered(alloc, &LIST, &abc, None)?;
-    assert_eq!(rt; out.as_slice(), ABC.as_bytes());
-    assert_eq!(rt; status, 0);
-    for (files, text) in [
-        (abc.as_slice(), "KNvK.rtbw BadSize\n"),
-        (knight.as_slice(), "KNvK.rtbw changed\n"),
-        ([].as_slice(), "KNvK.rtbw missing\n"),
-    ] {
-        let (out, status) = answered(alloc, &CHECK, files, manifest)?;
-        assert_eq!(rt; out.as_slice(), text.as_bytes());
-        assert_eq!(rt; status, 1);
-    }
+    let mut abc = Vec::new(alloc);
+    abc.push(named(&rt, alloc, "KNvK.rtbw", b"abc")?)?;
+    let mut knight = Vec::new(alloc);
+    knight.push(table(&rt, alloc, "KNvK.rtbw", &KNIGHT)?)?;
+    expect_answer(&rt, alloc, &LIST, &abc, None, ABC, 0)?;
+    expect_answer(&rt, alloc, &CHECK, &abc, manifest, "KNvK.rtbw BadSize\n", 1)?;
+    expect_answer(
+        &rt,
+        alloc,
+        &CHECK,
+        &knight,
+        manifest,
+        "KNvK.rtbw changed\n",
+        1,
+    )?;
+    expect_answer(&rt, alloc, &CHECK, &[], manifest, "KNvK.rtbw missing\n", 1)?;
     let (listed, _) = answered(alloc, &LIST, &knight, None)?;
-    let (out, status) = answered(alloc, &CHECK, &knight, Some(&listed))?;
-    assert_eq!(rt; out.as_slice(), "KNvK.rtbw ok\n".as_bytes());
-    assert_eq!(rt; status, 0);
-    let (out, status) = answered(alloc, &CHECK, &knight, Some(b"x"))?;
-    assert_eq!(rt; out.as_slice(), "refused manifest 1\n".as_bytes());
-    assert_eq!(rt; status, 1);
-    Ok(())
+    expect_answer(
+        &rt,
+        alloc,
+        &CHECK,
+        &knight,
+        Some(&listed),
+        "KNvK.rtbw ok\n",
+        0,
+    )?;
+    expect_answer(
+        &rt,
+        alloc,
+        &CHECK,
+        &knight,
+        Some(b"x"),
+        "refused manifest 1\n",
+        1,
+    )
+}
+
+/// That judge and probe refuse a text, files or a manifest by this line.
+fn expect_refusal(
+    rt: &impl Abort,
+    alloc: Global,
+    fen: &str,
+    files: &[NamedFile],
+    manifest: Option<&[u8]>,
+    line: &str,
+) -> Result<(), Fail> {
+    expect_answer(rt, alloc, &judge_of(fen), files, manifest, line, 1)?;
+    expect_answer(rt, alloc, &probe_of(fen), files, manifest, line, 1)
 }
 
 #[test]
 fn tells_the_first_refusal(rt: HostRuntime) -> Result<(), Fail> {
     let alloc = rt.alloc();
-    let abc = [named(&rt, alloc, "KNvK.rtbw", b"abc")?];
-    let two = [
-        named(&rt, alloc, "KNvK.rtbw", b"abc")?,
-        table(&rt, alloc, "KQvK.rtbw", &KNIGHT)?,
-    ];
+    let manifest = Some(ABC.as_bytes());
     let bad = Some(b"x\n".as_slice());
-    for (fen, files, manifest, text) in [
-        (
-            KNIGHT_FEN,
-            abc.as_slice(),
-            Some(ABC.as_bytes()),
-            "refused KNvK.rtbw BadSize\n",
-        ),
-        (
-            KNIGHT_FEN,
-            [].as_slice(),
-            Some(ABC.as_bytes()),
-            "refused KNvK.rtbw missing\n",
-        ),
-        (KNIGHT_FEN, &two[1..], None, "refused KQvK.rtbw BadPieces\n"),
-        (
-            KNIGHT_FEN,
-            two.as_slice(),
-            None,
-            "refused KNvK.rtbw BadSize\n",
-        ),
-        (
-            KNIGHT_FEN,
-            two.as_slice(),
-            Some(ABC.as_bytes()),
-            "refused KNvK.rtbw BadSize\n",
-        ),
-        (KNIGHT_FEN, abc.as_slice(), bad, "refused manifest 1\n"),
-        ("x", abc.as_slice(), bad, "refused FEN FieldCount\n"),
-    ] {
-        for task in [judge_of(fen), probe_of(fen)] {
-            let (out, status) = answered(alloc, &task, files, manifest)?;
-            assert_eq!(rt; out.as_slice(), text.as_bytes());
-            assert_eq!(rt; status, 1);
-        }
-    }
+    let mut abc = Vec::new(alloc);
+    abc.push(named(&rt, alloc, "KNvK.rtbw", b"abc")?)?;
+    expect_refusal(
+        &rt,
+        alloc,
+        KNIGHT_FEN,
+        &abc,
+        manifest,
+        "refused KNvK.rtbw BadSize\n",
+    )?;
+    expect_refusal(
+        &rt,
+        alloc,
+        KNIGHT_FEN,
+        &[],
+        manifest,
+        "refused KNvK.rtbw missing\n",
+    )?;
+    expect_refusal(&rt, alloc, KNIGHT_FEN, &abc, bad, "refused manifest 1\n")?;
+    expect_refusal(&rt, alloc, "x", &abc, bad, "refused FEN FieldCount\n")?;
     // A file that the manifest doesn't name isn't looked at.
-    let (out, status) = answered(alloc, &judge_of(KNIGHT_FEN), &abc, Some(&[]))?;
-    assert_eq!(rt; out.as_slice(), "open\n".as_bytes());
-    assert_eq!(rt; status, 0);
+    expect_answer(
+        &rt,
+        alloc,
+        &judge_of(KNIGHT_FEN),
+        &abc,
+        Some(&[]),
+        "open\n",
+        0,
+    )?;
+    // Of two files at fault the first is told.
+    abc.push(table(&rt, alloc, "KQvK.rtbw", &KNIGHT)?)?;
+    expect_refusal(
+        &rt,
+        alloc,
+        KNIGHT_FEN,
+        &abc,
+        None,
+        "refused KNvK.rtbw BadSize\n",
+    )
+}
+
+/// That each write of an answer that fails is told, and nothing else.
+fn expect_failures(
+    rt: &impl Abort,
+    alloc: Global,
+    task: &Task,
+    files: &[NamedFile],
+    manifest: Option<&[u8]>,
+    writes: u32,
+) -> Result<(), Fail> {
+    if !are_files(files) {
+        return Err(Fail::from("files in order"));
+    }
+    for fails_at in 0..writes {
+        let mut out = Failing { calls: 0, fails_at };
+        let answered = answer(alloc, task, files, manifest, &[], &mut out);
+        assert!(rt; matches!(answered, Err(AnswerFault::Io)), "{fails_at}");
+    }
     Ok(())
 }
 
 #[test]
 fn tells_each_failed_write_of_tables(rt: HostRuntime) -> Result<(), Fail> {
     let alloc = rt.alloc();
-    let files = [table(&rt, alloc, "KNvK.rtbw", &KNIGHT)?];
+    let mut files = Vec::new(alloc);
+    files.push(table(&rt, alloc, "KNvK.rtbw", &KNIGHT)?)?;
     let manifest = Some(ABC.as_bytes());
-    for (task, manifest, writes) in [
-        (judge_of(KNIGHT_FEN), None, 2),
-        (judge_of(KNIGHT_FEN), manifest, 4),
-        (probe_of(KNIGHT_FEN), None, 3),
-        (LIST, None, 1),
-        (CHECK, manifest, 3),
-    ] {
-        for fails_at in 0..writes {
-            let mut out = Failing { calls: 0, fails_at };
-            let answered = answer(alloc, &task, &files, manifest, &[], &mut out);
-            assert!(rt; matches!(answered, Err(AnswerFault::Io)), "{fails_at}");
-        }
-    }
-    Ok(())
+    expect_failures(&rt, alloc, &judge_of(KNIGHT_FEN), &files, None, 2)?;
+    expect_failures(&rt, alloc, &judge_of(KNIGHT_FEN), &files, manifest, 4)?;
+    expect_failures(&rt, alloc, &probe_of(KNIGHT_FEN), &files, None, 6)?;
+    expect_failures(&rt, alloc, &LIST, &files, None, 1)?;
+    expect_failures(&rt, alloc, &CHECK, &files, manifest, 3)
 }
