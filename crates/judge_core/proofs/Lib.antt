@@ -3,6 +3,9 @@ pub mod Quiet
 pub mod Counting
 pub mod Reaching
 pub mod Plies
+pub mod SameTable
+pub mod TwoSteps
+pub mod OneOutcome
 pub mod Readings
 pub mod Captures
 pub mod Rule

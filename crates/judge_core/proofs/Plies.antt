@@ -21,7 +21,7 @@ pub starts : (start : Parts) → position_after_all start [] ≡ Some start
 unfolding position_after_all
 starts start = refl
 
-goes_on : (start : Parts) (ms : List Move) (m : Move) → position_after_all start (ms ++ m ∷ []) ≡ option_and_then (λ p. position_after p m) (position_after_all start ms)
+pub goes_on : (start : Parts) (ms : List Move) (m : Move) → position_after_all start (ms ++ m ∷ []) ≡ option_and_then (λ p. position_after p m) (position_after_all start ms)
 unfolding position_after_all
 goes_on start ms m = fold-append (λ position move. option_and_then (λ p. position_after p move) position) (Some start) ms (m ∷ [])
 

@@ -1,6 +1,7 @@
 //! Moves by what they do to the halfmove clock.
 
-ghost use Rattle.std.specs.Prelude.{◌≡◌, ◌<◌, ℕ, false, None, IsFalse, if◌then◌else◌};
+ghost use Rattle.std.specs.Prelude.{◌≡◌, ◌↔◌, ◌<◌, ℕ, false, None, IsTrue, IsFalse, if◌then◌else◌};
+ghost use Rattle.board_core.specs.Square.{file_of};
 ghost use Rattle.board_core.specs.Attack.{man_at};
 ghost use Rattle.board_core.specs.ComputedMoves.{position_after, is_pawn_of};
 ghost use Rattle.judge_core.specs.Found.{lands_empty};
@@ -51,11 +52,18 @@ fn moves_pawn(position: &Position, m: &Move) -> bool
     is_pawn_of(position.side(), position.piece_at(m.from))
 }
 
+/// Whether the move ends on the file on which it begins.
+fn stays_on_file(m: &Move) -> bool
+    ensures { IsTrue result ↔ (file_of m.now.from ≡ file_of m.now.to) }
+{
+    m.from.file() == m.to.file()
+}
+
 /// The position after the move, where it is legal, moves a pawn and takes nothing: the pawn stays on its file.
 pub(crate) fn after_pawn_step(position: &Position, m: &Move) -> Option<Position>
     ensures { result ≡ if is_pawn_step position.now m.now then position_after position.now m.now else None }
 {
-    if m.from.file() == m.to.file() && moves_pawn(position, m) && lands_empty(position, m) {
+    if stays_on_file(m) && moves_pawn(position, m) && lands_empty(position, m) {
         position.play(*m)
     } else {
         None
