@@ -52,6 +52,12 @@ const KNIGHT: &[u8] = &[
     0x71, 0xE8, 0x23, 0x5D, 0x01, 0x00, 0x66, 0x22, 0xEE, 0x00, 0x80, 0x02, 0x80, 0x02,
 ];
 
+const QUEEN: &[u8] = &[
+    0x71, 0xE8, 0x23, 0x5D, 0x01, 0x00, 0x66, 0x55, 0xEE, 0x00, 0x80, 0x04, 0x80, 0x00,
+];
+
+const QUEEN_FEN: &str = "8/8/8/4k3/8/8/8/KQ6 w - - 0 1";
+
 const KNIGHT_FEN: &str = "8/8/8/4k3/8/8/8/KN6 w - - 0 1";
 
 /// What the program writes, and its status.
@@ -184,6 +190,67 @@ fn reads_what_a_task_names(rt: HostRuntime) -> Result<(), Fail> {
         (&none, &["list"], "", 2),
         (&none, &["check", "tables"], "", 2),
         (&none, &["check", "--manifest", "good"], "", 2),
+    ] {
+        let (out, ended) = told(alloc, disk, words)?;
+        assert_eq!(rt; out.as_slice(), text.as_bytes(), "{words:?}");
+        assert_eq!(rt; ended, status, "{words:?}");
+    }
+    Ok(())
+}
+
+// The folder lists the later name first, and each table is read from its own path.
+#[test]
+fn reads_all_tables_of_a_folder(rt: HostRuntime) -> Result<(), Fail> {
+    let alloc = rt.alloc();
+    let (knight, queen) = (file(KNIGHT), file(QUEEN));
+    let names = ["KQvK.rtbw", "KNvK.rtbw"];
+    let files = [
+        ("tables/KQvK.rtbw", queen.as_slice()),
+        ("tables/KNvK.rtbw", knight.as_slice()),
+    ];
+    let disk = Memory {
+        names: &names,
+        files: &files,
+    };
+    let (listed, status) = told(alloc, &disk, &["list", "tables"])?;
+    assert_eq!(rt; status, 0);
+    assert_eq!(rt; listed.len(), 2 * 76);
+    assert!(rt; listed[..76].ends_with(b"  KNvK.rtbw\n"));
+    assert!(rt; listed.ends_with(b"  KQvK.rtbw\n"));
+    let changed = [
+        ("tables/KQvK.rtbw", queen.as_slice()),
+        ("tables/KNvK.rtbw", b"abc".as_slice()),
+        ("manifest", listed.as_slice()),
+    ];
+    let other = Memory {
+        names: &names,
+        files: &changed,
+    };
+    for (disk, words, text, status) in [
+        (
+            &disk,
+            ["probe", "--tables", "tables", QUEEN_FEN].as_slice(),
+            "wdl 2\ndtz refused NotCovered KQvK\n",
+            1,
+        ),
+        (
+            &disk,
+            &["probe", "--tables", "tables", KNIGHT_FEN],
+            "wdl 0\ndtz 0\n",
+            0,
+        ),
+        (
+            &other,
+            &["check", "--manifest", "manifest", "tables"],
+            "KNvK.rtbw changed\nKQvK.rtbw ok\n",
+            1,
+        ),
+        (
+            &other,
+            &["probe", "--tables", "tables", QUEEN_FEN],
+            "refused KNvK.rtbw BadSize\n",
+            1,
+        ),
     ] {
         let (out, ended) = told(alloc, disk, words)?;
         assert_eq!(rt; out.as_slice(), text.as_bytes(), "{words:?}");
