@@ -4,22 +4,45 @@ use crate::disk::Disk;
 use crate::input::ReadFault;
 use crate::program::run;
 use std::alloc::Global;
+use std::process::Abort;
 use std::test::*;
 
 /// One folder, `tables`, and files by their paths. A name of the folder without a file can't be read.
 #[derive(Drop)]
-struct Memory<'a> {
-    names: &'a [&'a str],
-    files: &'a [(&'a str, &'a [u8])],
+struct Memory {
+    names: Vec<&'static str>,
+    paths: Vec<&'static str>,
+    contents: Vec<Vec<u8>>,
 }
 
-impl Disk for Memory<'_> {
+impl Memory {
+    fn new(alloc: Global) -> Memory {
+        Memory {
+            names: Vec::new(alloc),
+            paths: Vec::new(alloc),
+            contents: Vec::new(alloc),
+        }
+    }
+
+    fn add_name(&mut self, name: &'static str) -> Result<(), Fail> {
+        self.names.push(name)?;
+        Ok(())
+    }
+
+    fn add_file(&mut self, alloc: Global, path: &'static str, bytes: &[u8]) -> Result<(), Fail> {
+        self.paths.push(path)?;
+        self.contents.push(bytes.to_vec(alloc)?)?;
+        Ok(())
+    }
+}
+
+impl Disk for Memory {
     fn names(&self, alloc: Global, folder: &str) -> Result<Vec<String>, ReadFault> {
         if folder != "tables" {
             return Err(ReadFault::Unreadable);
         }
         let mut names = Vec::new(alloc);
-        for name in self.names {
+        for name in &self.names {
             let Ok(()) = names.push(String::from_str(alloc, name)?) else {
                 return Err(ReadFault::OutOfMemory);
             };
@@ -28,11 +51,9 @@ impl Disk for Memory<'_> {
     }
 
     fn read(&self, alloc: Global, path: &str) -> Result<Vec<u8>, ReadFault> {
-        for (known, bytes) in self.files {
+        for (known, bytes) in self.paths.iter().zip(&self.contents) {
             if *known == path {
-                let mut copy = Vec::new(alloc);
-                copy.extend_from_slice(bytes)?;
-                return Ok(copy);
+                return Ok(bytes.to_vec(alloc)?);
             }
         }
         Err(ReadFault::Unreadable)
@@ -61,7 +82,7 @@ const QUEEN_FEN: &str = "8/8/8/4k3/8/8/8/KQ6 w - - 0 1";
 const KNIGHT_FEN: &str = "8/8/8/4k3/8/8/8/KN6 w - - 0 1";
 
 /// What the program writes, and its status.
-fn told(alloc: Global, disk: &Memory<'_>, words: &[&str]) -> Result<(Vec<u8>, u8), Fail> {
+fn told(alloc: Global, disk: &Memory, words: &[&str]) -> Result<(Vec<u8>, u8), Fail> {
     let mut out = Vec::new(alloc);
     let mut errors = Vec::new(alloc);
     match run(alloc, words, disk, [].as_slice(), &mut out, &mut errors) {
@@ -70,131 +91,112 @@ fn told(alloc: Global, disk: &Memory<'_>, words: &[&str]) -> Result<(Vec<u8>, u8
     }
 }
 
+/// The program writes this text and tells this status.
+fn tells(
+    rt: &impl Abort,
+    alloc: Global,
+    disk: &Memory,
+    words: &[&str],
+    text: &str,
+    status: u8,
+) -> Result<(), Fail> {
+    let (out, ended) = told(alloc, disk, words)?;
+    assert_eq!(rt; out.as_slice(), text.as_bytes());
+    assert_eq!(rt; ended, status);
+    Ok(())
+}
+
+/// The knight's table beside names that are no table's, and a file that is no manifest.
+fn knight_alone(alloc: Global) -> Result<Memory, Fail> {
+    let mut disk = Memory::new(alloc);
+    disk.add_name("notes.txt")?;
+    disk.add_name("KvK.rtbw")?;
+    disk.add_name("KNvK.rtbw.bak")?;
+    disk.add_name("KNvK.rtbw")?;
+    disk.add_file(alloc, "tables/KNvK.rtbw", &file(KNIGHT))?;
+    disk.add_file(alloc, "bad", b"abc")?;
+    Ok(disk)
+}
+
 #[test]
-fn reads_what_a_task_names(rt: HostRuntime) -> Result<(), Fail> {
+fn passes_over_other_names(rt: HostRuntime) -> Result<(), Fail> {
     let alloc = rt.alloc();
-    let knight = file(KNIGHT);
-    let names = ["notes.txt", "KvK.rtbw", "KNvK.rtbw.bak", "KNvK.rtbw"];
-    let files = [
-        ("tables/KNvK.rtbw", knight.as_slice()),
-        ("bad", b"abc".as_slice()),
-    ];
-    let disk = Memory {
-        names: &names,
-        files: &files,
-    };
+    let disk = knight_alone(alloc)?;
     let (listed, status) = told(alloc, &disk, &["list", "tables"])?;
     assert_eq!(rt; status, 0);
     assert_eq!(rt; listed.len(), 64 + 2 + 9 + 1);
     assert!(rt; listed.ends_with(b"  KNvK.rtbw\n"));
-    // one more table can't be read
-    let more = ["KQvK.rtbw", "KNvK.rtbw", "KBvK.rtbz"];
-    let with_manifest = [
-        ("tables/KNvK.rtbw", knight.as_slice()),
-        ("bad", b"abc".as_slice()),
-        ("good", listed.as_slice()),
+    let words = ["judge", "--tables", "tables", KNIGHT_FEN];
+    tells(&rt, alloc, &disk, &words, "TableDraw\n", 0)?;
+    tells(&rt, alloc, &disk, &["judge", KNIGHT_FEN], "open\n", 0)?;
+    Ok(())
+}
+
+#[test]
+fn refuses_what_it_cannot_read(rt: HostRuntime) -> Result<(), Fail> {
+    let alloc = rt.alloc();
+    let disk = knight_alone(alloc)?;
+    let words = ["judge", "--tables", "other", "x"];
+    tells(&rt, alloc, &disk, &words, "refused files\n", 1)?;
+    let words = ["judge", "--manifest", "absent", KNIGHT_FEN];
+    tells(&rt, alloc, &disk, &words, "refused files\n", 1)?;
+    let words = ["judge", "--manifest", "bad", KNIGHT_FEN];
+    tells(&rt, alloc, &disk, &words, "refused manifest 1\n", 1)?;
+    let words = ["judge", "--manifest", "bad", "x"];
+    tells(&rt, alloc, &disk, &words, "refused FEN FieldCount\n", 1)?;
+    tells(&rt, alloc, &disk, &["probe", KNIGHT_FEN], "", 2)?;
+    tells(&rt, alloc, &disk, &["list"], "", 2)?;
+    tells(&rt, alloc, &disk, &["check", "tables"], "", 2)?;
+    tells(&rt, alloc, &disk, &["check", "--manifest", "bad"], "", 2)?;
+    Ok(())
+}
+
+// Two more tables can't be read; with a manifest only those that it names are.
+#[test]
+fn reads_what_a_manifest_names(rt: HostRuntime) -> Result<(), Fail> {
+    let alloc = rt.alloc();
+    let disk = knight_alone(alloc)?;
+    let (listed, _) = told(alloc, &disk, &["list", "tables"])?;
+    let mut none = Memory::new(alloc);
+    none.add_file(alloc, "good", &listed)?;
+    let mut other = knight_alone(alloc)?;
+    other.add_name("KQvK.rtbw")?;
+    other.add_name("KBvK.rtbz")?;
+    other.add_file(alloc, "good", &listed)?;
+    tells(
+        &rt,
+        alloc,
+        &other,
+        &["list", "tables"],
+        "refused files\n",
+        1,
+    )?;
+    let words = ["judge", "--tables", "tables", KNIGHT_FEN];
+    tells(&rt, alloc, &other, &words, "refused files\n", 1)?;
+    let words = [
+        "judge",
+        "--tables",
+        "tables",
+        "--manifest",
+        "good",
+        KNIGHT_FEN,
     ];
-    let other = Memory {
-        names: &more,
-        files: &with_manifest,
-    };
-    let none = Memory {
-        names: &[],
-        files: &with_manifest,
-    };
-    for (disk, words, text, status) in [
-        (
-            &disk,
-            ["judge", "--tables", "tables", KNIGHT_FEN].as_slice(),
-            "TableDraw\n",
-            0,
-        ),
-        (&disk, &["judge", KNIGHT_FEN], "open\n", 0),
-        (
-            &disk,
-            &["judge", "--tables", "other", "x"],
-            "refused files\n",
-            1,
-        ),
-        (
-            &disk,
-            &["judge", "--manifest", "absent", KNIGHT_FEN],
-            "refused files\n",
-            1,
-        ),
-        (
-            &disk,
-            &["judge", "--manifest", "bad", KNIGHT_FEN],
-            "refused manifest 1\n",
-            1,
-        ),
-        (
-            &disk,
-            &["judge", "--manifest", "bad", "x"],
-            "refused FEN FieldCount\n",
-            1,
-        ),
-        (&other, &["list", "tables"], "refused files\n", 1),
-        (
-            &other,
-            &["judge", "--tables", "tables", KNIGHT_FEN],
-            "refused files\n",
-            1,
-        ),
-        (
-            &other,
-            &[
-                "judge",
-                "--tables",
-                "tables",
-                "--manifest",
-                "good",
-                KNIGHT_FEN,
-            ],
-            "TableDraw\n",
-            0,
-        ),
-        (
-            &other,
-            &[
-                "probe",
-                "--tables",
-                "tables",
-                "--manifest",
-                "bad",
-                KNIGHT_FEN,
-            ],
-            "refused manifest 1\n",
-            1,
-        ),
-        (
-            &other,
-            &["check", "--manifest", "good", "tables"],
-            "KNvK.rtbw ok\n",
-            0,
-        ),
-        (
-            &none,
-            &["check", "--manifest", "good", "tables"],
-            "KNvK.rtbw missing\n",
-            1,
-        ),
-        (
-            &none,
-            &["judge", "--manifest", "good", KNIGHT_FEN],
-            "refused KNvK.rtbw missing\n",
-            1,
-        ),
-        (&none, &["list", "tables"], "", 0),
-        (&none, &["probe", KNIGHT_FEN], "", 2),
-        (&none, &["list"], "", 2),
-        (&none, &["check", "tables"], "", 2),
-        (&none, &["check", "--manifest", "good"], "", 2),
-    ] {
-        let (out, ended) = told(alloc, disk, words)?;
-        assert_eq!(rt; out.as_slice(), text.as_bytes(), "{words:?}");
-        assert_eq!(rt; ended, status, "{words:?}");
-    }
+    tells(&rt, alloc, &other, &words, "TableDraw\n", 0)?;
+    let words = [
+        "probe",
+        "--tables",
+        "tables",
+        "--manifest",
+        "bad",
+        KNIGHT_FEN,
+    ];
+    tells(&rt, alloc, &other, &words, "refused manifest 1\n", 1)?;
+    let words = ["check", "--manifest", "good", "tables"];
+    tells(&rt, alloc, &other, &words, "KNvK.rtbw ok\n", 0)?;
+    tells(&rt, alloc, &none, &words, "KNvK.rtbw missing\n", 1)?;
+    let words = ["judge", "--manifest", "good", KNIGHT_FEN];
+    tells(&rt, alloc, &none, &words, "refused KNvK.rtbw missing\n", 1)?;
+    tells(&rt, alloc, &none, &["list", "tables"], "", 0)?;
     Ok(())
 }
 
@@ -202,59 +204,30 @@ fn reads_what_a_task_names(rt: HostRuntime) -> Result<(), Fail> {
 #[test]
 fn reads_all_tables_of_a_folder(rt: HostRuntime) -> Result<(), Fail> {
     let alloc = rt.alloc();
-    let (knight, queen) = (file(KNIGHT), file(QUEEN));
-    let names = ["KQvK.rtbw", "KNvK.rtbw"];
-    let files = [
-        ("tables/KQvK.rtbw", queen.as_slice()),
-        ("tables/KNvK.rtbw", knight.as_slice()),
-    ];
-    let disk = Memory {
-        names: &names,
-        files: &files,
-    };
+    let mut disk = Memory::new(alloc);
+    disk.add_name("KQvK.rtbw")?;
+    disk.add_name("KNvK.rtbw")?;
+    disk.add_file(alloc, "tables/KQvK.rtbw", &file(QUEEN))?;
+    disk.add_file(alloc, "tables/KNvK.rtbw", &file(KNIGHT))?;
     let (listed, status) = told(alloc, &disk, &["list", "tables"])?;
     assert_eq!(rt; status, 0);
     assert_eq!(rt; listed.len(), 2 * 76);
-    assert!(rt; listed[..76].ends_with(b"  KNvK.rtbw\n"));
     assert!(rt; listed.ends_with(b"  KQvK.rtbw\n"));
-    let changed = [
-        ("tables/KQvK.rtbw", queen.as_slice()),
-        ("tables/KNvK.rtbw", b"abc".as_slice()),
-        ("manifest", listed.as_slice()),
-    ];
-    let other = Memory {
-        names: &names,
-        files: &changed,
-    };
-    for (disk, words, text, status) in [
-        (
-            &disk,
-            ["probe", "--tables", "tables", QUEEN_FEN].as_slice(),
-            "wdl 2\ndtz refused NotCovered KQvK\n",
-            1,
-        ),
-        (
-            &disk,
-            &["probe", "--tables", "tables", KNIGHT_FEN],
-            "wdl 0\ndtz 0\n",
-            0,
-        ),
-        (
-            &other,
-            &["check", "--manifest", "manifest", "tables"],
-            "KNvK.rtbw changed\nKQvK.rtbw ok\n",
-            1,
-        ),
-        (
-            &other,
-            &["probe", "--tables", "tables", QUEEN_FEN],
-            "refused KNvK.rtbw BadSize\n",
-            1,
-        ),
-    ] {
-        let (out, ended) = told(alloc, disk, words)?;
-        assert_eq!(rt; out.as_slice(), text.as_bytes(), "{words:?}");
-        assert_eq!(rt; ended, status, "{words:?}");
-    }
+    let words = ["probe", "--tables", "tables", QUEEN_FEN];
+    let text = "wdl 2\ndtz refused NotCovered KQvK\n";
+    tells(&rt, alloc, &disk, &words, text, 1)?;
+    let words = ["probe", "--tables", "tables", KNIGHT_FEN];
+    tells(&rt, alloc, &disk, &words, "wdl 0\ndtz 0\n", 0)?;
+    let mut other = Memory::new(alloc);
+    other.add_name("KQvK.rtbw")?;
+    other.add_name("KNvK.rtbw")?;
+    other.add_file(alloc, "tables/KQvK.rtbw", &file(QUEEN))?;
+    other.add_file(alloc, "tables/KNvK.rtbw", b"abc")?;
+    other.add_file(alloc, "manifest", &listed)?;
+    let words = ["check", "--manifest", "manifest", "tables"];
+    let text = "KNvK.rtbw changed\nKQvK.rtbw ok\n";
+    tells(&rt, alloc, &other, &words, text, 1)?;
+    let words = ["probe", "--tables", "tables", QUEEN_FEN];
+    tells(&rt, alloc, &other, &words, "refused KNvK.rtbw BadSize\n", 1)?;
     Ok(())
 }
