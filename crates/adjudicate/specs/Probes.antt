@@ -1,5 +1,5 @@
 -- What a probe tells of a position: a line a question (this project's own).
-use Rattle.std.specs.Prelude.{◌≡◌, ◌≢◌, ℕ, ℤ, pos, ◌-ℤ◌, List, ◌++◌, Result, Ok, Err, codes}
+use Rattle.std.specs.Prelude.{◌≢◌, ℕ, ℤ, pos, ◌-ℤ◌, List, ◌++◌, Result, Ok, Err, codes}
 use Rattle.std.specs.Fmt.{signed_decimal}
 use Rattle.place_index.specs.Material.{name_of, men_of}
 use Rattle.judge_core.specs.declared.wdl.Wdl.{Wdl}

@@ -1,6 +1,5 @@
 -- Why there are no tables; cited by private functions alone.
-use Rattle.std.specs.Prelude.{ℕ, List, ◌++◌, Result, Ok, Err, codes}
-use Rattle.std.specs.Fmt.{decimal}
+use Rattle.std.specs.Prelude.{ℕ, List, Result, Ok, Err}
 use Rattle.judge_core.specs.Tables.{Tables, Holding}
 use Rattle.adjudicate.specs.declared.tables.Refusal.{Refusal}
 use Rattle.adjudicate.specs.declared.tables.Refusal.TheVariants.{Manifest, File}

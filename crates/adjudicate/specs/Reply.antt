@@ -1,5 +1,5 @@
 -- What the program answers: lines and a status (this project's own).
-use Rattle.std.specs.Prelude.{◌≡◌, ◌≤◌, ◌+◌, ◌++◌, ◌⊎◌, ◌&&◌, ℕ, ℤ, Bool, List, [], ◌∷◌, length, map, take, Option, Some, None, Result, Ok, Err, if◌then◌else◌, codes}
+use Rattle.std.specs.Prelude.{◌≡◌, ◌+◌, ◌++◌, ◌⊎◌, ◌&&◌, ℕ, ℤ, Bool, List, [], ◌∷◌, length, map, take, Option, Some, None, Result, Ok, Err, if◌then◌else◌, codes}
 use Rattle.std.specs.Fmt.{decimal}
 use Rattle.std.specs.Result.{is_ok}
 use Rattle.std.specs.List.{flat_map}
@@ -30,7 +30,7 @@ use Rattle.move_msg.specs.Messages.{fault_name as message_fault_name}
 use Rattle.move_msg.specs.Streams.{End, AfterMessage, Cut, AtFault, SpellsStream}
 use Rattle.adjudicate.specs.declared.commands.Task.{Task}
 use Rattle.adjudicate.specs.declared.commands.Task.TheVariants as task
-use Rattle.adjudicate.specs.Files.{File, AreFiles, entry_for}
+use Rattle.adjudicate.specs.Files.{File, entry_for}
 use Rattle.adjudicate.specs.Looks.{Look, Gathers, look_for, look_line, are_tables, refused_manifest}
 use Rattle.adjudicate.specs.Probes.{IsAnswered, numbered, told_line}
 

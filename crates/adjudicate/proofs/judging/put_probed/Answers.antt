@@ -1,6 +1,6 @@
-use Rattle.std.proofs.Common.{◌≡◌, ◌∷◌, [], ◌∙◌, ap, codes}
+use Rattle.std.proofs.Common.{◌∷◌, [], ◌∙◌, ap, codes}
 use Rattle.adjudicate.specs.Probes.{told_line}
-use Rattle.adjudicate.specs.Reply.{probed, status_if}
+use Rattle.adjudicate.specs.Reply.{status_if}
 use Rattle.adjudicate.proofs.ReplyLaws.{one_line, more_lines}
 use Rattle.adjudicate.proofs.judging.put_probed.Goals as goal
 

@@ -1,4 +1,4 @@
-use Rattle.std.proofs.Common.{◌≡◌, map, refl, inl, inr}
+use Rattle.std.proofs.Common.{map, refl, inl, inr}
 use Rattle.std.proofs.lemmas.Result.{IfOk-weaker}
 use Rattle.move_msg.specs.Manifests.{entry_of}
 use Rattle.adjudicate.specs.Files.{file_of}

@@ -1,10 +1,8 @@
-use Rattle.std.proofs.Common.{◌≡◌, map, take, sym, ap, subst, ◌∙◌, List, ℕ}
-use Rattle.std.specs.Io.KnownBytes.{Appends}
+use Rattle.std.proofs.Common.{◌≡◌, map, take, ap, ◌∙◌}
 use Rattle.std.proofs.lemmas.List.{take-map}
 use Rattle.move_msg.specs.Manifests.{entry_of}
 use Rattle.adjudicate.specs.Files.{file_of}
 use Rattle.adjudicate.specs.Looks.{look_for, look_line}
-use Rattle.adjudicate.specs.Reply.{text_of}
 use Rattle.adjudicate.proofs.listing.check_lines.Goals as goal
 
 pub returns-in-Err-clause-memory : goal.returns-in-Err-clause-memory

@@ -1,4 +1,4 @@
-use Rattle.std.proofs.Common.{◌≡◌, map, refl, sym, ◌∙◌, subst}
+use Rattle.std.proofs.Common.{map, refl, sym, ◌∙◌, subst}
 use Rattle.std.specs.Io.KnownBytes.{Appends}
 use Rattle.move_msg.specs.Manifests.{entry_text}
 use Rattle.adjudicate.specs.Files.{entry_for, file_of}

@@ -1,5 +1,4 @@
-use Rattle.std.proofs.Common.{rules, ◌≡◌, ◌++◌, ◌∷◌, [], map, subst, sym, ap, arith}
-use Rattle.move_msg.specs.Manifests.{AreEntries, entry_of}
+use Rattle.std.proofs.Common.{rules, ◌≡◌, ◌++◌, ◌∷◌, [], arith}
 use Rattle.adjudicate.proofs.ListLaws.{named, entries_with, of_files_with, all_entries}
 use Rattle.adjudicate.proofs.listing.manifest_of.Goals as goal
 

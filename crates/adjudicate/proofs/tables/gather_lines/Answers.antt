@@ -1,6 +1,6 @@
-use Rattle.std.proofs.Common.{◌≡◌, ◌∙◌, ap, map, refl, inl, inr}
+use Rattle.std.proofs.Common.{◌∙◌, ap, map, inl}
 use Rattle.move_msg.specs.Manifests.{entry_of}
-use Rattle.judge_core.specs.Tables.{Tables, Holding}
+use Rattle.judge_core.specs.Tables.{Holding}
 use Rattle.adjudicate.specs.Files.{file_of}
 use Rattle.adjudicate.specs.Looks.{look_for, tables_from}
 use Rattle.adjudicate.proofs.tables.gather_lines.Goals as goal
