@@ -1,5 +1,5 @@
 -- What the loops over moves have counted is what the definitions say.
-use Rattle.std.proofs.Common.{◌≡◌, ◌∙◌, sym, ap, refl, ℕ, ◌+◌, ◌<◌, ◌≤◌, max, min, Bool, true, false, ◌||◌, List, [], ◌∷◌, Option, Some, None, IfSome, filter, filter_map, fold, Result, Ok, Err, IfOk, arith, if◌then◌else◌}
+use Rattle.std.proofs.Common.{◌≡◌, ◌∙◌, sym, ap, refl, ℕ, ◌<◌, ◌≤◌, max, Bool, true, false, ◌||◌, List, [], ◌∷◌, Option, Some, None, IfSome, filter, filter_map, fold, Result, Ok, Err, IfOk, arith}
 use Rattle.std.specs.List.{list_any}
 use Rattle.board_core.specs.declared.parts.Parts.{Parts}
 use Rattle.board_core.specs.declared.moves.Move.{Move}
@@ -13,7 +13,7 @@ use Rattle.judge_core.specs.declared.counts.Steps.{Steps}
 use Rattle.judge_core.specs.declared.wdl.Wdl.{Wdl}
 use Rattle.judge_core.specs.Values.{Reading, turned}
 use Rattle.judge_core.specs.Tables.{Tables}
-use Rattle.judge_core.specs.Asked.{asked, faults_in, fault_in, told, unless, with_answer}
+use Rattle.judge_core.specs.Asked.{asked, fault_in, told, unless, with_answer}
 use Rattle.judge_core.specs.Probing.{wdl_of}
 use Rattle.judge_core.specs.Distances.{Reach, is_value, is_pawn_step, pawns_reach, is_quiet, move_counts, count_in, lesser, is_odd, by_quiet_moves, by_counts}
 use Rattle.judge_core.specs.Counts.{no_steps, with_reading, steps_told, no_counts, with_count, counts_told, AreWithin}

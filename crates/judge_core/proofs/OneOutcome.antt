@@ -1,5 +1,5 @@
 -- A game comes to one thing: what comes first rules out all else.
-use Rattle.std.proofs.Common.{◌≡◌, ◌∙◌, sym, ap, subst, refl, ℕ, zero, suc, ◌+◌, ◌-◌, ◌<◌, ◌≤◌, ◌⊎◌, List, length, take, get_or, Option, Some, None, is_some, IsSome, inl, inr, arith, true, false}
+use Rattle.std.proofs.Common.{◌≡◌, ◌∙◌, sym, ap, refl, ℕ, zero, suc, ◌+◌, ◌-◌, ◌<◌, ◌≤◌, ◌⊎◌, List, length, take, get_or, Option, Some, None, is_some, IsSome, inl, inr, arith}
 use Rattle.std.proofs.lemmas.Bool.{cases_lt, false≢true}
 use Rattle.std.proofs.lemmas.List.{take_all, take_more}
 use Rattle.board_core.specs.declared.parts.Parts.{Parts}
@@ -9,7 +9,7 @@ use Rattle.judge_core.specs.declared.game.GameOutcome.{GameOutcome}
 use Rattle.judge_core.specs.declared.game.GameOutcome.TheVariants.{Ruled, Illegal, Going}
 use Rattle.judge_core.specs.Tables.{Tables}
 use Rattle.judge_core.proofs.Plies.{goes_on}
-use Rattle.judge_core.specs.Games.{position_after_all, verdict_after, IsUnruled, IsFirst, IsIllegalAt, IsGoing, IsOutcome}
+use Rattle.judge_core.specs.Games.{position_after_all, verdict_after, IsFirst, IsIllegalAt, IsGoing, IsOutcome}
 
 some_move : Move
 some_move = record { from = 0; to = 0; promotion = None }

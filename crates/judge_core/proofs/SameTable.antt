@@ -1,5 +1,5 @@
 -- After a quiet move the other side of the same table is asked.
-use Rattle.std.proofs.Common.{◌≡◌, ◌≢◌, ◌∙◌, sym, ap, subst, refl, ℕ, zero, suc, ◌+◌, ◌-◌, ◌<◌, ◌≤◌, ◌⊎◌, Bool, true, false, cond, not, eqb, ◌&&◌, ◌||◌, is_some, List, [], ◌∷◌, length, map, set, get_or, Option, Some, None, inl, inr, arith, if◌then◌else◌}
+use Rattle.std.proofs.Common.{◌≡◌, ◌≢◌, ◌∙◌, sym, ap, refl, ℕ, zero, suc, ◌+◌, ◌-◌, ◌<◌, ◌⊎◌, Bool, true, false, cond, not, eqb, ◌&&◌, ◌||◌, is_some, List, [], ◌∷◌, length, map, set, get_or, Option, Some, None, inl, inr, arith, if◌then◌else◌}
 use Rattle.std.specs.Prelude.{find, count_by, sum_by}
 use Rattle.std.specs.List.{list_any, list_all, range_with_len}
 use Rattle.std.proofs.lemmas.Bool.{and_parts, false≢true}
@@ -21,7 +21,7 @@ use Rattle.board_core.specs.Side.{other}
 use Rattle.board_core.specs.Attack.{man_at}
 use Rattle.board_core.specs.Castling.{has_right}
 use Rattle.board_core.specs.Position.{IsPosition}
-use Rattle.board_core.specs.Moves.{IsMove, Legal, carried, after}
+use Rattle.board_core.specs.Moves.{IsMove, carried, after}
 use Rattle.board_core.specs.ComputedMoves.{position_after, is_capture, is_en_passant, is_pawn, is_pawn_of}
 use Rattle.board_core.proofs.ComputedMoves.{position_legal, Decides-pawn_of}
 use Rattle.board_core.proofs.Preserved.{carried_sum, moves_away}

@@ -1,5 +1,5 @@
 -- The distance of a position meets its rules: after a quiet move the table has the other side.
-use Rattle.std.proofs.Common.{◌≡◌, ◌∙◌, sym, ap, refl, ℕ, zero, suc, ◌+◌, ◌-◌, ◌%◌, ◌<◌, nat_le, nat_lt, Bool, true, false, cond, eqb, ◌||◌, List, [], ◌∷◌, Option, Some, None, option_map, filter, Result, Ok, Err, inl, inr, arith, if◌then◌else◌}
+use Rattle.std.proofs.Common.{◌≡◌, ◌∙◌, sym, ap, refl, ℕ, zero, suc, ◌+◌, ◌-◌, ◌%◌, ◌<◌, nat_le, nat_lt, Bool, true, false, eqb, ◌||◌, List, [], ◌∷◌, Option, Some, None, option_map, filter, Result, Ok, Err, arith, if◌then◌else◌}
 use Rattle.std.proofs.lemmas.Bool.{eqb-false, eq-eqb, false≢true}
 use Rattle.std.proofs.Math.Bool.{or-false}
 use Rattle.board_core.specs.declared.parts.Parts.{Parts}
@@ -27,7 +27,7 @@ use Rattle.judge_core.specs.Kept.{AreFiled}
 use Rattle.judge_core.specs.Asked.{asked, fault_in, unless}
 use Rattle.judge_core.specs.Probing.{weighed_by, wdl_of, worth}
 use Rattle.judge_core.specs.Ruling.{has_rights, is_out_of_scope}
-use Rattle.judge_core.specs.Distances.{Reach, is_won, zeroing, towards, is_by_capture, pawns_reach, is_quiet, move_counts, by_counts, by_quiet_moves, by_table, by_material, by_own_table, unless_reached, by_moves, by_outcome, by_weighed, dtz_by, dtz_to, dtz_of}
+use Rattle.judge_core.specs.Distances.{Reach, zeroing, towards, is_by_capture, is_quiet, move_counts, by_counts, by_quiet_moves, by_table, by_material, by_own_table, by_moves, by_outcome, by_weighed, dtz_by, dtz_to, dtz_of}
 use Rattle.judge_core.proofs.SameTable.{quiet_after, material_kept, other_side_asked}
 
 -- ---- what doesn't ask the positions after quiet moves is the same whatever they are

@@ -1,5 +1,5 @@
 -- What is asked of the positions after some moves, and the fault of the answers.
-use Rattle.std.specs.Prelude.{ℕ, Bool, List, [], ◌∷◌, Option, Some, None, option_map, Result, Ok, Err, filter_map}
+use Rattle.std.specs.Prelude.{ℕ, List, [], ◌∷◌, Option, Some, None, option_map, Result, Ok, Err, filter_map}
 use Rattle.std.specs.Option.{option_or}
 use Rattle.board_core.specs.declared.parts.Parts.{Parts}
 use Rattle.board_core.specs.declared.moves.Move.{Move}

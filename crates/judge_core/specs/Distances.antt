@@ -1,7 +1,7 @@
 -- How far a position is from the next move that sets the halfmove clock to 0, a capture or a pawn move, or from mate, with the
 -- best play of both (Syzygy DTZ tables). The tables know no such distance where a capture or a pawn move wins at once, and
 -- store one side alone, hence the rules.
-use Rattle.std.specs.Prelude.{ℕ, zero, suc, ◌+◌, nat_le, nat_lt, min, max, Bool, true, false, ◌&&◌, ◌||◌, not, List, [], ◌∷◌, Option, Some, None, Result, Ok, Err, filter, filter_map, fold, if◌then◌else◌, ℤ, pos, neg_ℤ}
+use Rattle.std.specs.Prelude.{ℕ, zero, suc, ◌+◌, nat_le, min, max, Bool, true, false, ◌&&◌, ◌||◌, not, List, Option, Some, None, Result, Ok, Err, filter, filter_map, fold, if◌then◌else◌, ℤ, pos, neg_ℤ}
 use Rattle.std.specs.List.{list_any}
 use Rattle.board_core.specs.declared.parts.Parts.{Parts}
 use Rattle.board_core.specs.declared.moves.Move.{Move}

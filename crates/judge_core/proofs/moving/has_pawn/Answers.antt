@@ -1,4 +1,4 @@
-use Rattle.std.proofs.Common.{◌∙◌, sym, refl}
+use Rattle.std.proofs.Common.{◌∙◌, sym}
 use Rattle.judge_core.proofs.Quiet.{all_men, pawnless, one_less, not_there, not_false}
 use Rattle.judge_core.proofs.moving.has_pawn.Goals as goal
 

@@ -1,4 +1,3 @@
-use Rattle.std.proofs.Common.{◌≡◌}
 use Rattle.judge_core.proofs.Quiet.{HasPawns}
 use Rattle.judge_core.proofs.moving.has_pawn.Given as goal
 

@@ -1,4 +1,3 @@
-use Rattle.std.proofs.Common.{◌∙◌, sym}
 use Rattle.judge_core.proofs.Entries.{an_entry}
 use Rattle.judge_core.proofs.set.entry.Goals as goal
 

@@ -1,6 +1,6 @@
-use Rattle.std.proofs.Common.{◌≡◌, ◌∙◌, sym, ap, option_map, Ok, arith}
+use Rattle.std.proofs.Common.{◌∙◌, sym, ap, option_map, Ok, arith}
 use Rattle.std.proofs.lemmas.List.{take_all}
-use Rattle.judge_core.specs.Distances.{Reach, is_quiet, move_counts, by_own_table, unless_reached, dtz_to}
+use Rattle.judge_core.specs.Distances.{is_quiet, move_counts, by_own_table, unless_reached, dtz_to}
 use Rattle.judge_core.specs.Counts.{no_counts, with_count}
 use Rattle.judge_core.proofs.Asking.{noted_all, walk-passed, walk-noted}
 use Rattle.judge_core.proofs.Counting.{counts_told-is, within-count}
