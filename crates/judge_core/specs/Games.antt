@@ -1,5 +1,5 @@
--- The first verdict of a game: that at the least ply that has one, before the first illegal move. Ply k is the position after
--- k moves, ply 0 the start.
+-- What a whole game comes to: the verdict of the earliest position that has one, as long as all moves up to it are legal.
+-- Positions are counted in plies from the start, which is ply 0.
 use Rattle.std.specs.Prelude.{◌≡◌, ℕ, ◌+◌, ◌<◌, ◌≤◌, List, length, take, fold, Option, Some, None, IsSome, option_and_then}
 use Rattle.board_core.specs.declared.parts.Parts.{Parts}
 use Rattle.board_core.specs.declared.moves.Move.{Move}

@@ -83,7 +83,8 @@ pub enum ProbeFault {
     OutOfScope,
     /// A table that is needed isn't in the set: the first one in the order of moves, the position's own table last.
     NotCovered(Material),
-    /// All tables that are needed are there, and one has no value where it is needed: the first one in the same order.
+    /// A table has no value where one is needed, or contradicts itself: the first one in the same order. Among values that are
+    /// needed together a table that is missing goes first.
     Damaged(Material),
     /// Memory for a list of moves was refused.
     OutOfMemory,
