@@ -197,7 +197,7 @@ pub fn answer<W: Write>(
     }
 }
 
-/// Writes that the input can't be read, and tells the status 1.
+/// Writes that something which the task reads can't be read, and tells the status 1.
 pub fn put_refused_files<W: Write>(out: &mut W) -> Result<u8, AnswerFault>
     ensures { IfOk result (λ status. Appends (W.contents out.old) (W.contents out.new) (refused_files ++ 10 ∷ []) × (status ≡ 1)) }
 {
