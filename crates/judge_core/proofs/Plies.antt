@@ -1,5 +1,5 @@
 -- A game, ply by ply.
-use Rattle.std.proofs.Common.{◌≡◌, ◌∙◌, sym, ap, subst, refl, false, ℕ, ◌+◌, ◌<◌, ◌≤◌, List, [], ◌∷◌, ◌++◌, length, take, get_or, Option, Some, None, IsSome, arith}
+use Rattle.std.proofs.Common.{◌≡◌, ◌∙◌, sym, ap, subst, refl, false, ℕ, ◌+◌, ◌<◌, ◌≤◌, List, [], ◌∷◌, ◌++◌, length, take, get_or, Option, Some, None, IsSome, Result, Ok, arith}
 use Rattle.std.specs.Option.{option_and_then}
 use Rattle.std.proofs.lemmas.List.{take_more, take_all}
 use Rattle.std.proofs.lemmas.List.Sums.{fold-append}
@@ -7,14 +7,21 @@ use borrow.Author.Count.{below_more}
 use Rattle.board_core.specs.declared.parts.Parts.{Parts}
 use Rattle.board_core.specs.declared.moves.Move.{Move}
 use Rattle.board_core.specs.ComputedMoves.{position_after}
+use Rattle.board_core.specs.declared.piece.Side.{Side}
+use Rattle.board_core.specs.Side.{other}
+use Rattle.judge_core.specs.declared.wdl.Wdl.TheVariants.{Win, Loss}
 use Rattle.judge_core.specs.Tables.{Tables}
 use Rattle.judge_core.specs.declared.verdict.Verdict.{Verdict}
 use Rattle.board_core.specs.ComputedMoves.{legal_moves}
 use Rattle.judge_core.specs.Values.{Reading}
 use Rattle.judge_core.specs.Ends.{has_no_move}
-use Rattle.judge_core.specs.Probing.{wdl_of}
-use Rattle.judge_core.specs.Distances.{dtz_of}
-use Rattle.judge_core.specs.Ruling.{is_out_of_scope, ruling_by, ruling}
+use Rattle.board_core.specs.ComputedMoves.{count_of_men}
+use Rattle.judge_core.specs.declared.fault.ValueFault.{ValueFault}
+use Rattle.judge_core.specs.declared.found.Weighed.{Weighed}
+use Rattle.judge_core.specs.Probing.{weighed_by, wdl_of}
+use Rattle.judge_core.specs.Distances.{Reach, by_weighed, dtz_to, dtz_of}
+use Rattle.judge_core.proofs.Reaching.{some_left}
+use Rattle.judge_core.specs.Ruling.{is_out_of_scope, ruling_at, ruling_by, ruling}
 use Rattle.judge_core.specs.Games.{position_after_all, verdict_after, IsUnruled, IsFirst, IsIllegalAt, IsGoing}
 
 pub starts : (start : Parts) → position_after_all start [] ≡ Some start
@@ -60,3 +67,17 @@ module _ (tables tables' : Tables) (start p : Parts) (moves : List Move) (k : �
 pub ruled_by : (tables : Tables) (p : Parts) (reading : Reading) (r : Option Verdict) → has_no_move (legal_moves p) ≡ false → is_out_of_scope p ≡ false → reading ≡ wdl_of tables p → r ≡ ruling_by p reading (dtz_of tables p) → r ≡ ruling tables p
 unfolding ruling
 ruled_by tables p reading r moves scope e er = er ∙ rw (moves, scope, e) refl
+
+-- a win by its distance, and a loss
+pub by_win : (tables : Tables) (p : Parts) (reading : Reading) (winner : Side) (reach : Reach) (r : Option Verdict) → has_no_move (legal_moves p) ≡ false → is_out_of_scope p ≡ false → reading ≡ wdl_of tables p → reading ≡ Ok Win → winner ≡ p.side → reach ≡ dtz_of tables p → r ≡ ruling_at p winner reach → r ≡ ruling tables p
+by_win tables p reading winner reach r moves scope value won side e er =
+    ruled_by tables p reading r moves scope value (er ∙ rw (side, e, won) refl)
+
+pub by_loss : (tables : Tables) (p : Parts) (reading : Reading) (winner : Side) (reach : Reach) (r : Option Verdict) → has_no_move (legal_moves p) ≡ false → is_out_of_scope p ≡ false → reading ≡ wdl_of tables p → reading ≡ Ok Loss → winner ≡ other p.side → reach ≡ dtz_of tables p → r ≡ ruling_at p winner reach → r ≡ ruling tables p
+by_loss tables p reading winner reach r moves scope value lost side e er =
+    ruled_by tables p reading r moves scope value (er ∙ rw (side, e, lost) refl)
+
+-- the distance of a position of more than bare kings, by what its captures and its own table say
+pub reached : (tables : Tables) (p : Parts) (w : Result Weighed ValueFault) → 2 < count_of_men p → w ≡ weighed_by tables (wdl_of tables) p → by_weighed tables (dtz_to tables 1) p w ≡ dtz_of tables p
+unfolding dtz_of
+reached tables p w many e = some_left tables 2 p w (λ z. absurd (omega (arith, z))) many e

@@ -8,9 +8,9 @@ use Rattle.std.proofs.Math.ListN.{length-append, length-set, length-replicate}
 use Rattle.table_file.specs.declared.kind.Kind.{Kind}
 use Rattle.table_file.specs.declared.kind.Kind.TheVariants.{Wdl, Dtz}
 use Rattle.table_file.specs.Tables.{Contents}
-use Rattle.judge_core.specs.Tables.{Tables, slot}
+use Rattle.judge_core.specs.Tables.{Tables, AreFiled, slot}
 use Rattle.judge_core.specs.declared.set.Set.TheInside.{Inside}
-use Rattle.judge_core.specs.Kept.{table_in, tables_of, AreKnown, AreFiled, IsKept}
+use Rattle.judge_core.specs.Kept.{table_in, tables_of, AreKnown, IsKept}
 
 -- what a slot has, by its place
 pub in_slot : (tables : List Contents) (places : List (Option ℕ)) (k : ℕ) → get_or (tables_of tables places) k None ≡ table_in tables (get_or places k None)

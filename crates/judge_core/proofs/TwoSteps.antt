@@ -22,8 +22,7 @@ use Rattle.judge_core.specs.declared.found.Weighed.{Weighed}
 use Rattle.judge_core.specs.declared.fault.ValueFault.{ValueFault}
 use Rattle.judge_core.specs.declared.distance.Distance.TheVariants.{Draw}
 use Rattle.judge_core.specs.LookUp.{is_material, material_of, is_exchanged, placement, placed_of}
-use Rattle.judge_core.specs.Tables.{Tables, table_at}
-use Rattle.judge_core.specs.Kept.{AreFiled}
+use Rattle.judge_core.specs.Tables.{Tables, AreFiled, table_at}
 use Rattle.judge_core.specs.Asked.{asked, fault_in, unless}
 use Rattle.judge_core.specs.Probing.{weighed_by, wdl_of, worth}
 use Rattle.judge_core.specs.Ruling.{has_rights, is_out_of_scope}

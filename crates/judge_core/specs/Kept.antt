@@ -1,9 +1,8 @@
 -- How a set keeps its tables: in the order in which they came, with the place of each in its slot.
 use Rattle.std.specs.Prelude.{◌≡◌, ℕ, ◌<◌, ◌≤◌, List, length, map, slice_get, slice_index_or, Option, Some, None}
-use Rattle.table_file.specs.declared.kind.Kind.{Kind}
 use Rattle.table_file.specs.Tables.{Contents}
 use Rattle.judge_core.specs.declared.set.Set.TheInside.{Inside}
-use Rattle.judge_core.specs.Tables.{Tables, Holding, table_at}
+use Rattle.judge_core.specs.Tables.{Tables, Holding, AreFiled}
 
 abbrev pub table_in : List Contents → Option ℕ → Option Contents
 table_in tables None = None
@@ -15,10 +14,6 @@ tables_of tables places = map (table_in tables) places
 -- each place is that of a table
 abbrev pub AreKnown : List Contents → List (Option ℕ) → Type 0
 AreKnown tables places = (k place : ℕ) → slice_index_or places k None ≡ Some place → place < length tables
-
--- each table is in the slot of its kind and its material
-abbrev pub AreFiled : Tables → Type 0
-AreFiled tables = (kind : Kind) (key : ℕ) (t : Contents) → key < 145 → table_at tables kind key ≡ Some t → (t.kind ≡ kind) × (t.material ≡ key)
 
 abbrev pub holding_of : Inside → Holding
 holding_of a = record { tables = tables_of a.tables.items a.places.items; cache = a.cache }

@@ -4,8 +4,7 @@ use Rattle.board_core.specs.declared.parts.Parts.{Parts}
 use Rattle.board_core.specs.declared.moves.Move.{Move}
 use Rattle.board_core.specs.Position.{IsPosition}
 use Rattle.judge_core.specs.declared.game.GameOutcome.{GameOutcome}
-use Rattle.judge_core.specs.Tables.{Tables}
-use Rattle.judge_core.specs.Kept.{AreFiled}
+use Rattle.judge_core.specs.Tables.{Tables, AreFiled}
 use Rattle.judge_core.specs.Probing.{wdl_by, wdl_of}
 use Rattle.judge_core.specs.Distances.{dtz_by, dtz_of}
 use Rattle.judge_core.specs.Ruling.{is_out_of_scope}

@@ -1,5 +1,5 @@
 -- The tables of a set, and the value that a position's own table has.
-use Rattle.std.specs.Prelude.{ℕ, ◌+◌, List, Option, Some, None, Ok, Err, slice_index_or, option_and_then}
+use Rattle.std.specs.Prelude.{◌≡◌, ℕ, ◌+◌, ◌<◌, List, Option, Some, None, Ok, Err, slice_index_or, option_and_then}
 use Rattle.board_core.specs.declared.parts.Parts.{Parts}
 use Rattle.place_index.specs.Shape.{Layout}
 use Rattle.place_index.specs.Index.{index_of}
@@ -25,6 +25,10 @@ slot Dtz key = 145 + key
 -- the table of this kind for the material with this key
 abbrev pub table_at : Tables → Kind → ℕ → Option Contents
 table_at tables kind key = slice_index_or tables (slot kind key) None
+
+-- each table is in the slot of its kind and its material
+abbrev pub AreFiled : Tables → Type 0
+AreFiled tables = (kind : Kind) (key : ℕ) (t : Contents) → key < 145 → table_at tables kind key ≡ Some t → (t.kind ≡ kind) × (t.material ≡ key)
 
 -- a set: its tables, and how many decoded blocks it may keep
 pub record Holding : Type 0 where

@@ -4,6 +4,7 @@ ghost use Rattle.std.specs.Prelude.{◌≡◌, ◌<◌, ◌≤◌, ◌+◌, ◌-
 ghost use Rattle.board_core.specs.Position.{IsPosition};
 ghost use Rattle.table_file.specs.declared.kind.Kind.TheVariants.{Dtz};
 ghost use Rattle.table_file.specs.Tables.{IsFile};
+ghost use Rattle.judge_core.specs.Tables.{AreFiled};
 ghost use Rattle.judge_core.specs.Distances.{plies, pawns_reach, move_counts, by_quiet_moves, distance_in, stored, by_own_table, by_moves, by_weighed, dtz_to, dtz_of};
 ghost use Rattle.judge_core.specs.Ruling.{is_out_of_scope};
 ghost use Rattle.judge_core.specs.Answers.{IsProbe, signed_in};
@@ -183,7 +184,7 @@ impl<'a> Set<'a> {
 
     /// The distance where captures and the own WDL table say this.
     #[cycle(dtz)]
-    fn by_weighed(
+    pub(crate) fn by_weighed(
         &self,
         alloc: Global,
         position: &Position,
@@ -254,8 +255,10 @@ impl<'a> Set<'a> {
     /// for a list of moves is refused, at a position in scope. The set stays as it was but for its cache.
     pub fn dtz(&mut self, alloc: Global, position: &Position) -> Result<i32, ProbeFault>
         ensures answer { IsProbe result (is_out_of_scope position.now) (signed_in (dtz_of self.old.tables position.now)) }
+        ensures filed { AreFiled self.old.tables }
         ensures unchanged { self.new ≡ self.old }
     {
+        let _cache = self.cache();
         if is_out_of_scope(position) {
             return Err(ProbeFault::OutOfScope);
         }

@@ -1,6 +1,7 @@
 //! The first verdict of a game.
 
 ghost use Rattle.std.specs.Prelude.{◌≡◌, IfOk};
+ghost use Rattle.judge_core.specs.Tables.{AreFiled};
 ghost use Rattle.judge_core.specs.Games.{IsOutcome};
 
 use crate::set::Set;
@@ -39,8 +40,10 @@ impl<'a> Set<'a> {
         moves: &[Move],
     ) -> Result<GameOutcome, AllocError>
         ensures value { IfOk result (λ outcome. IsOutcome self.old.tables start.now moves.now outcome) }
+        ensures filed { AreFiled self.old.tables }
         ensures unchanged { self.new ≡ self.old }
     {
+        let _cache = self.cache();
         let mut position = *start;
         for ply in 0..moves.len() {
             if let Some(verdict) = self.judge(alloc, &position)? {

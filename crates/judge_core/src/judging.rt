@@ -1,8 +1,10 @@
 //! The verdict on a position.
 
 ghost use Rattle.std.specs.Prelude.{◌≡◌, IfOk};
+ghost use Rattle.judge_core.specs.Tables.{AreFiled};
 ghost use Rattle.judge_core.specs.Ruling.{ruling};
 
+use crate::found::worth_in;
 use crate::mobility::has_no_move;
 use crate::set::Set;
 use crate::verdict::{self, Verdict};
@@ -25,21 +27,27 @@ impl<'a> Set<'a> {
         position: &Position,
     ) -> Result<Option<Verdict>, AllocError>
         ensures value { IfOk result (λ verdict. verdict ≡ ruling self.old.tables position.now) }
+        ensures filed { AreFiled self.old.tables }
         ensures unchanged { self.new ≡ self.old }
     {
+        let _cache = self.cache();
         if has_no_move(alloc, position)? {
             return Ok(Some(verdict::end_of(position)));
         }
         if verdict::is_out_of_scope(position) {
             return Ok(None);
         }
-        let reading = self.wdl_of(alloc, position)?;
+        if position.men() <= 2 {
+            return Ok(Some(Verdict::TableDraw));
+        }
+        let weighed = self.weigh(alloc, position)?;
+        let reading = worth_in(weighed);
         let winner = match &reading {
             Ok(Wdl::Win) => position.side(),
             Ok(Wdl::Loss) => position.side().other(),
             _ => return Ok(verdict::by_value(&reading)),
         };
-        let reach = self.dtz_of(alloc, position)?;
+        let reach = self.by_weighed(alloc, position, &weighed, 1)?;
         Ok(verdict::by_distance(position, winner, &reach))
     }
 }

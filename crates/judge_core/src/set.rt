@@ -5,7 +5,7 @@ ghost use Rattle.place_index.specs.Placed.{IsMaterialOf, men_on};
 ghost use Rattle.table_file.specs.Tables.{IsFile};
 ghost use Rattle.judge_core.specs.declared.fault.SetFault.TheVariants.{Duplicate};
 ghost use Rattle.judge_core.specs.LookUp.{material_of, placed_of};
-ghost use Rattle.judge_core.specs.Tables.{slot, table_at, entry_in, table_value};
+ghost use Rattle.judge_core.specs.Tables.{AreFiled, slot, table_at, entry_in, table_value};
 
 use crate::fault::{SetFault, ValueFault};
 use crate::wdl::Wdl;
@@ -123,6 +123,7 @@ impl<'a> Set<'a> {
         ensures is { result ≡ self.now.cache }
         ensures some { 1 ≤ result }
         ensures most { result ≤ 4096 }
+        ensures filed { AreFiled self.now.tables }
     {
         self.cache
     }

@@ -1,10 +1,39 @@
-use Rattle.std.proofs.Common.{◌∙◌, sym}
+use Rattle.std.proofs.Common.{rules, ◌≡◌, ◌<◌, ◌∙◌, sym, refl, ap, arith, Ok, Some}
+use Rattle.board_core.specs.ComputedMoves.{count_of_men}
+use Rattle.board_core.specs.Side.{other}
+use Rattle.judge_core.specs.declared.wdl.Wdl.TheVariants.{Draw, Win, Loss}
+use Rattle.judge_core.specs.declared.verdict.Verdict.TheVariants.{TableDraw}
 use Rattle.judge_core.specs.Distances.{dtz_of}
-use Rattle.judge_core.proofs.Plies.{ruled_by}
+use Rattle.judge_core.proofs.Rule.{bare, weighed}
+use Rattle.judge_core.proofs.Plies.{ruled_by, by_win, by_loss, reached}
+use Rattle.judge_core.proofs.set.Set.judge.Goals.{in-Ok-Win, in-Ok-Loss}
 use Rattle.judge_core.proofs.set.Set.judge.Goals as goal
+
+pub returns-then-men-le2-clause-value : goal.returns-then-men-le2-clause-value
+returns-then-men-le2-clause-value c =
+    ruled_by c.args.self.now.tables c.args.position.now (Ok Draw) (Some TableDraw)
+    (sym c.in_ok-has_no_move.ensures ∙ c.if-branch.false) (sym c.is_out_of_scope.ensures.is ∙ c.if-is_out_of_scope.false)
+    (bare _ _ c.is_out_of_scope.ensures.position (omega (arith, c.men.ensures.computed, c.if-men-le2.true))) refl
 
 pub returns-in_default-clause-value : goal.returns-in_default-clause-value
 returns-in_default-clause-value c =
-    ruled_by c.args.self.now.tables c.args.position.now c.in_ok-reading.reading c.by_value.result
-    (sym c.in_ok-has_no_move.ensures ∙ c.if-branch.false) (sym c.is_out_of_scope.ensures.is ∙ c.if-is_out_of_scope.false) c.in_ok-reading.ensures
+    ruled_by c.args.self.now.tables c.args.position.now c.worth_in-reading.result c.by_value.result
+    (sym c.in_ok-has_no_move.ensures ∙ c.if-branch.false) (sym c.is_out_of_scope.ensures.is ∙ c.if-is_out_of_scope.false)
+    (c.worth_in-reading.ensures ∙ weighed c.args.self.now.tables c.args.position.now c.in_ok-weighed.weighed c.is_out_of_scope.ensures.position (omega (arith, c.men.ensures.computed, c.if-men-le2.false)) c.in_ok-weighed.ensures)
     (c.by_value.ensures c.args.position.now (dtz_of c.args.self.now.tables c.args.position.now))
+
+pub returns-clause-value : goal.returns-clause-value
+returns-clause-value c =
+    let many : 2 < count_of_men c.args.position.now = omega (arith, c.men.ensures.computed, c.if-men-le2.false) in
+    let scope = sym c.is_out_of_scope.ensures.is ∙ c.if-is_out_of_scope.false in
+    let moves = sym c.in_ok-has_no_move.ensures ∙ c.if-branch.false in
+    let value = c.worth_in-reading.ensures ∙ weighed c.args.self.now.tables c.args.position.now c.in_ok-weighed.weighed c.is_out_of_scope.ensures.position many c.in_ok-weighed.ensures in
+    let reach = c.in_ok-reach.ensures.is ∙ reached c.args.self.now.tables c.args.position.now c.in_ok-weighed.weighed many c.in_ok-weighed.ensures in
+    elim c.match-reading-2.branch [
+      | in-Ok-Win w ↦ (
+          let won : c.worth_in-reading.result ≡ Ok Win = search rules in
+          by_win c.args.self.now.tables c.args.position.now c.worth_in-reading.result c.match-reading-2.winner c.in_ok-reach.reach c.by_distance.result moves scope value won (w.winner-is ∙ w.side-winner.ensures) reach c.by_distance.ensures)
+      | in-Ok-Loss w ↦ (
+          let lost : c.worth_in-reading.result ≡ Ok Loss = search rules in
+          by_loss c.args.self.now.tables c.args.position.now c.worth_in-reading.result c.match-reading-2.winner c.in_ok-reach.reach c.by_distance.result moves scope value lost (w.winner-is ∙ w.other-winner.ensures ∙ ap other w.side.ensures) reach c.by_distance.ensures)
+    ]
