@@ -5,9 +5,15 @@ use crate::forged::*;
 use crate::{GameOutcome, ProbeFault, Set, SetFault, Verdict, Wdl};
 use place_index::Material;
 use std::alloc::{AllocError, Global};
+use std::fmt::Debug;
 use std::process::Abort;
 use std::test::Fail;
 use table_file::open;
+
+/// What was told is what was wanted.
+fn check_same<T: PartialEq + Debug + Copy>(rt: &impl Abort, told: T, wanted: T, row: &str) {
+    assert_eq!(rt; told, wanted, "{row}");
+}
 
 fn check_value(
     rt: &impl Abort,
@@ -17,13 +23,13 @@ fn check_value(
     value: i8,
 ) -> Result<(), Fail> {
     let told = set.wdl(alloc, &position_of(rt, row))?;
-    assert_eq!(rt; told.number(), value, "{row}");
+    check_same(rt, told.number(), value, row);
     Ok(())
 }
 
 fn check_no_value(rt: &impl Abort, alloc: Global, set: &mut Set<'_>, row: &str, fault: ProbeFault) {
     let told = set.wdl(alloc, &position_of(rt, row)).err();
-    assert_eq!(rt; told, Some(fault), "{row}");
+    check_same(rt, told, Some(fault), row);
 }
 
 fn check_distance(
@@ -34,7 +40,7 @@ fn check_distance(
     distance: i32,
 ) -> Result<(), Fail> {
     let told = set.dtz(alloc, &position_of(rt, row))?;
-    assert_eq!(rt; told, distance, "{row}");
+    check_same(rt, told, distance, row);
     Ok(())
 }
 
@@ -46,7 +52,7 @@ fn check_no_distance(
     fault: ProbeFault,
 ) {
     let told = set.dtz(alloc, &position_of(rt, row)).err();
-    assert_eq!(rt; told, Some(fault), "{row}");
+    check_same(rt, told, Some(fault), row);
 }
 
 fn check_verdict(
@@ -57,7 +63,7 @@ fn check_verdict(
     verdict: Option<Verdict>,
 ) -> Result<(), Fail> {
     let told = set.judge(alloc, &position_of(rt, row))?;
-    assert_eq!(rt; told, verdict, "{row}");
+    check_same(rt, told, verdict, row);
     Ok(())
 }
 
@@ -101,7 +107,12 @@ fn check_worked_rows(rt: &impl Abort, alloc: Global, set: &mut Set<'_>) -> Resul
     for (row, value, verdict) in WORKED_ROWS {
         check_value_and_verdict(rt, alloc, set, row, value, verdict)?;
     }
-    assert_eq!(rt; set.cache(), 64);
+    Ok(())
+}
+
+fn check_worked_set(rt: &impl Abort, alloc: Global, set: &mut Set<'_>) -> Result<(), Fail> {
+    check_worked_rows(rt, alloc, set)?;
+    check_same(rt, set.cache(), 64, "blocks");
     Ok(())
 }
 
@@ -120,7 +131,7 @@ fn worked_files() -> [[u8; 80]; 4] {
 fn worked_rows(rt: HostRuntime) -> Result<(), Fail> {
     let files = worked_files();
     let mut set = set_of(rt.alloc(), &WORKED_TABLES, &files)?;
-    check_worked_rows(&rt, rt.alloc(), &mut set)
+    check_worked_set(&rt, rt.alloc(), &mut set)
 }
 
 const KNIGHT_ROW: &str = "Ka1 Nb1 ke5 w";
@@ -154,16 +165,18 @@ fn check_duplicate<'a>(
     file: &'a [u8; 80],
 ) -> Result<(), Fail> {
     let table = open(alloc, b"KNvK.rtbw", file)?;
-    assert_eq!(rt; set.add(table).err(), Some(SetFault::Duplicate));
+    check_same(rt, set.add(table).err(), Some(SetFault::Duplicate), "again");
     Ok(())
 }
 
-fn check_damaged_table<'a>(
+/// The table is missing, then damaged.
+fn check_knight<'a>(
     rt: &impl Abort,
     alloc: Global,
     set: &mut Set<'a>,
     file: &'a [u8; 80],
 ) -> Result<(), Fail> {
+    check_missing(rt, alloc, set)?;
     add(alloc, set, "KNvK.rtbw", file)?;
     check_damaged(rt, alloc, set)?;
     check_missing_before_damaged(rt, alloc, set);
@@ -174,8 +187,7 @@ fn check_damaged_table<'a>(
 fn damaged_and_missing_tables(rt: HostRuntime) -> Result<(), Fail> {
     let file = file_of(&DAMAGED_KNIGHT);
     let mut set = Set::new(rt.alloc(), 1)?;
-    check_missing(&rt, rt.alloc(), &mut set)?;
-    check_damaged_table(&rt, rt.alloc(), &mut set, &file)
+    check_knight(&rt, rt.alloc(), &mut set, &file)
 }
 
 const CASTLING_ROW: &str = "Ke1 Rh1 ke8 w K";
@@ -195,6 +207,8 @@ fn check_rows_without_tables(
     alloc: Global,
     set: &mut Set<'_>,
 ) -> Result<(), Fail> {
+    check_no_value(rt, alloc, set, CASTLING_ROW, ProbeFault::OutOfScope);
+    check_no_value(rt, alloc, set, SIX_ROW, ProbeFault::OutOfScope);
     for (row, verdict) in ROWS_WITHOUT_TABLES {
         check_verdict(rt, alloc, set, row, verdict)?;
     }
@@ -204,11 +218,7 @@ fn check_rows_without_tables(
 #[test]
 fn verdicts_without_tables(rt: HostRuntime) -> Result<(), Fail> {
     let mut set = Set::new(rt.alloc(), 4096)?;
-    check_rows_without_tables(&rt, rt.alloc(), &mut set)?;
-    for row in [CASTLING_ROW, SIX_ROW] {
-        check_no_value(&rt, rt.alloc(), &mut set, row, ProbeFault::OutOfScope);
-    }
-    Ok(())
+    check_rows_without_tables(&rt, rt.alloc(), &mut set)
 }
 
 const CODES: [(u8, Verdict, &str); 7] = [
@@ -222,12 +232,12 @@ const CODES: [(u8, Verdict, &str); 7] = [
 ];
 
 fn check_code(rt: &impl Abort, code: u8, verdict: Option<Verdict>) {
-    assert_eq!(rt; Verdict::from_code(code), verdict, "{code}");
+    check_same(rt, Verdict::from_code(code), verdict, "code");
 }
 
 fn check_code_and_name(rt: &impl Abort, code: u8, verdict: Verdict, name: &str) {
-    assert_eq!(rt; verdict.code(), code);
-    assert_eq!(rt; verdict.name(), name);
+    check_same(rt, verdict.code(), code, name);
+    check_same(rt, verdict.name(), name, "name");
     check_code(rt, code, Some(verdict));
 }
 
@@ -242,14 +252,17 @@ fn codes_and_names(rt: HostRuntime) {
 
 #[test]
 fn numbers_of_values_and_names_of_faults(rt: HostRuntime) {
-    assert_eq!(rt; Wdl::CursedWin.number(), 1);
-    assert_eq!(rt; ProbeFault::OutOfScope.name(), "OutOfScope");
+    check_same(&rt, Wdl::CursedWin.number(), 1, "a cursed win");
+    check_same(&rt, ProbeFault::OutOfScope.name(), "OutOfScope", "a name");
 }
 
 const QUEEN_ROW: &str = "Ka1 Qb1 ke5 w";
 
 /// The queen hangs.
 const HANGING_ROW: &str = "Kh8 Qd4 ke5 b";
+
+/// The king is in check.
+const CHECKING_ROW: &str = "Ka1 Qh1 kc3 b";
 
 const QUEEN_TABLES: [&str; 2] = ["KQvK.rtbw", "KQvK.rtbz"];
 
@@ -298,6 +311,7 @@ fn check_queen<'a>(
     set: &mut Set<'a>,
     distances: &'a [u8; 80],
 ) -> Result<(), Fail> {
+    check_queen_without_distances(rt, alloc, set)?;
     add(alloc, set, "KQvK.rtbz", distances)?;
     check_queen_rows(rt, alloc, set)
 }
@@ -307,7 +321,6 @@ fn worked_distances(rt: HostRuntime) -> Result<(), Fail> {
     let values = [file_of(&QUEEN)];
     let distances = file_of(&QUEEN_PLIES);
     let mut set = set_of(rt.alloc(), &["KQvK.rtbw"], &values)?;
-    check_queen_without_distances(&rt, rt.alloc(), &mut set)?;
     check_queen(&rt, rt.alloc(), &mut set, &distances)
 }
 
@@ -351,6 +364,7 @@ fn check_pawns<'a>(
     set: &mut Set<'a>,
     distances: &'a [u8; 80],
 ) -> Result<(), Fail> {
+    check_pawns_without_distances(rt, alloc, set)?;
     add(alloc, set, "KPvK.rtbz", distances)?;
     check_stopped_pawn(rt, alloc, set)?;
     check_promotion(rt, alloc, set)
@@ -361,35 +375,33 @@ fn captures_and_pawn_moves(rt: HostRuntime) -> Result<(), Fail> {
     let values = files_of(&PAWN, &PAWNS);
     let distances = file_of(&PAWN_PLIES);
     let mut set = set_of(rt.alloc(), &["KPvK.rtbw", "KPvKP.rtbw"], &values)?;
-    check_pawns_without_distances(&rt, rt.alloc(), &mut set)?;
     check_pawns(&rt, rt.alloc(), &mut set, &distances)
 }
 
 /// The queen goes to b8 with mate in the second position.
+fn check_moves(rt: &impl Abort, alloc: Global, set: &mut Set<'_>) -> Result<(), Fail> {
+    check_distance(rt, alloc, set, QUEEN_ROW, 6)?;
+    check_distance(rt, alloc, set, "Kg6 Qb1 kh8 w", 1)
+}
+
 #[test]
 fn moves_to_the_other_side(rt: HostRuntime) -> Result<(), Fail> {
     let files = files_of(&QUEEN, &QUEEN_AGAINST);
     let mut set = set_of(rt.alloc(), &QUEEN_TABLES, &files)?;
-    for (row, distance) in [(QUEEN_ROW, 6), ("Kg6 Qb1 kh8 w", 1)] {
-        check_distance(&rt, rt.alloc(), &mut set, row, distance)?;
-    }
-    Ok(())
+    check_moves(&rt, rt.alloc(), &mut set)
 }
 
 fn check_cursed_rows(rt: &impl Abort, alloc: Global, set: &mut Set<'_>) -> Result<(), Fail> {
-    for (row, distance) in [(QUEEN_ROW, 111), ("Ka1 Qh1 kc3 b", -112)] {
-        check_distance_and_verdict(rt, alloc, set, row, distance, None)?;
-    }
-    Ok(())
+    check_no_distance(rt, alloc, set, SIX_ROW, ProbeFault::OutOfScope);
+    check_distance_and_verdict(rt, alloc, set, QUEEN_ROW, 111, None)?;
+    check_distance_and_verdict(rt, alloc, set, CHECKING_ROW, -112, None)
 }
 
 #[test]
 fn cursed_moves(rt: HostRuntime) -> Result<(), Fail> {
     let files = files_of(&CURSED_QUEEN, &CURSED_MOVES);
     let mut set = set_of(rt.alloc(), &QUEEN_TABLES, &files)?;
-    check_cursed_rows(&rt, rt.alloc(), &mut set)?;
-    check_no_distance(&rt, rt.alloc(), &mut set, SIX_ROW, ProbeFault::OutOfScope);
-    Ok(())
+    check_cursed_rows(&rt, rt.alloc(), &mut set)
 }
 
 const ROOK_ROW: &str = "Ka2 Qb1 ke5 rh1 b";
@@ -415,7 +427,7 @@ fn check_game(
     outcome: GameOutcome,
 ) -> Result<(), Fail> {
     let told = game_of(rt, alloc, set, start, moves)?;
-    assert_eq!(rt; told, outcome, "{moves}");
+    check_same(rt, told, outcome, moves);
     Ok(())
 }
 
@@ -433,50 +445,52 @@ fn check_ruled_games(rt: &impl Abort, alloc: Global, set: &mut Set<'_>) -> Resul
     check_game(rt, alloc, set, QUEEN_ROW, GAME, white_wins_at(0))
 }
 
-fn check_other_games(rt: &impl Abort, alloc: Global, set: &mut Set<'_>) -> Result<(), Fail> {
-    for (moves, outcome) in [
-        ("h1h8 b1b8 e5e4", GameOutcome::Going),
-        ("", GameOutcome::Going),
-        ("h1h8 h1h8", GameOutcome::Illegal { place: 1 }),
-    ] {
+/// A game that is cut before its verdict, one without moves, and one whose second move is its first again.
+const OTHER_GAMES: [(&str, GameOutcome); 3] = [
+    ("h1h8 b1b8 e5e4", GameOutcome::Going),
+    ("", GameOutcome::Going),
+    ("h1h8 h1h8", GameOutcome::Illegal { place: 1 }),
+];
+
+fn check_games(rt: &impl Abort, alloc: Global, set: &mut Set<'_>) -> Result<(), Fail> {
+    for (moves, outcome) in OTHER_GAMES {
         check_game(rt, alloc, set, ROOK_ROW, moves, outcome)?;
     }
-    Ok(())
+    check_ruled_games(rt, alloc, set)
 }
 
 #[test]
 fn first_verdicts_of_games(rt: HostRuntime) -> Result<(), Fail> {
     let files = files_of(&QUEEN, &QUEEN_PLIES);
     let mut set = set_of(rt.alloc(), &QUEEN_TABLES, &files)?;
-    check_ruled_games(&rt, rt.alloc(), &mut set)?;
-    check_other_games(&rt, rt.alloc(), &mut set)
+    check_games(&rt, rt.alloc(), &mut set)
 }
 
 /// The value of the hanging queen where memory may be refused: the right one or that.
 fn check_value_or_refusal(rt: &impl Abort, alloc: Global, set: &mut Set<'_>) {
     match set.wdl(alloc, &position_of(rt, HANGING_ROW)) {
-        Ok(value) => assert_eq!(rt; value, Wdl::Draw),
-        Err(fault) => assert_eq!(rt; fault, ProbeFault::OutOfMemory),
+        Ok(value) => check_same(rt, value, Wdl::Draw, HANGING_ROW),
+        Err(fault) => check_same(rt, fault, ProbeFault::OutOfMemory, HANGING_ROW),
     }
 }
 
 fn check_verdict_or_refusal(rt: &impl Abort, alloc: Global, set: &mut Set<'_>) {
     if let Ok(verdict) = set.judge(alloc, &position_of(rt, HANGING_ROW)) {
-        assert_eq!(rt; verdict, Some(Verdict::TableDraw));
+        check_same(rt, verdict, Some(Verdict::TableDraw), HANGING_ROW);
     }
 }
 
 /// The distance by a quiet move.
 fn check_distance_or_refusal(rt: &impl Abort, alloc: Global, set: &mut Set<'_>) {
-    match set.dtz(alloc, &position_of(rt, "Ka1 Qh1 kc3 b")) {
-        Ok(distance) => assert_eq!(rt; distance, -11),
-        Err(fault) => assert_eq!(rt; fault, ProbeFault::OutOfMemory),
+    match set.dtz(alloc, &position_of(rt, CHECKING_ROW)) {
+        Ok(distance) => check_same(rt, distance, -11, CHECKING_ROW),
+        Err(fault) => check_same(rt, fault, ProbeFault::OutOfMemory, CHECKING_ROW),
     }
 }
 
 fn check_game_or_refusal(rt: &impl Abort, alloc: Global, set: &mut Set<'_>) {
     if let Ok(outcome) = game_of(rt, alloc, set, ROOK_ROW, "h1h8 b1b8 e5e4 b8h8") {
-        assert_eq!(rt; outcome, white_wins_at(4));
+        check_same(rt, outcome, white_wins_at(4), "a game");
     }
 }
 
@@ -499,7 +513,7 @@ fn is_added<'a>(
     match set.add(table) {
         Ok(()) => Ok(true),
         Err(fault) => {
-            assert_eq!(rt; fault, SetFault::OutOfMemory);
+            check_same(rt, fault, SetFault::OutOfMemory, name);
             Ok(false)
         }
     }
