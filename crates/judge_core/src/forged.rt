@@ -2,7 +2,7 @@
 
 use crate::Set;
 use std::alloc::Global;
-use std::test::Fail;
+use std::process::Abort;
 use table_file::open;
 
 /// The fronts of table files of 80 bytes, all others zero: single values for both sides, and for all files where there are
@@ -87,33 +87,32 @@ pub(crate) fn files_of(first: &[u8], second: &[u8]) -> [[u8; 80]; 2] {
 }
 
 /// A set without tables that may keep 64 blocks.
-fn empty_set<'a>(alloc: Global) -> Result<Set<'a>, Fail> {
-    Ok(Set::new(alloc, 64)?)
+fn empty_set<'a>(rt: &impl Abort, alloc: Global) -> Set<'a> {
+    Set::new(alloc, 64).expect(rt, "a set")
 }
 
 /// Adds the table of this name and file.
 pub(crate) fn add<'a>(
+    rt: &impl Abort,
     alloc: Global,
     set: &mut Set<'a>,
     name: &str,
     file: &'a [u8; 80],
-) -> Result<(), Fail> {
-    let table = open(alloc, name.as_bytes(), file)?;
-    match set.add(table) {
-        Ok(()) => Ok(()),
-        Err(_) => Err(Fail::from("a table")),
-    }
+) {
+    let table = open(alloc, name.as_bytes(), file).expect(rt, "a table");
+    assert!(rt; set.add(table).is_ok(), "{name}");
 }
 
 /// The set of the tables of these names and files.
 pub(crate) fn set_of<'a>(
+    rt: &impl Abort,
     alloc: Global,
     names: &[&str],
     files: &'a [[u8; 80]],
-) -> Result<Set<'a>, Fail> {
-    let mut set = empty_set(alloc)?;
+) -> Set<'a> {
+    let mut set = empty_set(rt, alloc);
     for (name, file) in names.iter().zip(files.iter()) {
-        add(alloc, &mut set, *name, file)?;
+        add(rt, alloc, &mut set, *name, file);
     }
-    Ok(set)
+    set
 }

@@ -10,9 +10,38 @@ use std::process::Abort;
 use std::test::Fail;
 use table_file::open;
 
+/// Knight a1 b1 against e5, white to move.
+const KNIGHT_ROW: &str = "Ka1 Nb1 ke5 w";
+
+const QUEEN_ROW: &str = "Ka1 Qb1 ke5 w";
+
+/// The queen stands beside the king that is to move.
+const HANGING_ROW: &str = "Kh8 Qd4 ke5 b";
+
+/// The queen is on h1, and black to move.
+const CHECKING_ROW: &str = "Ka1 Qh1 kc3 b";
+
+/// White's pawn on e4 has passed e3.
+const PASSED_ROW: &str = "Ka1 pd4 Pe4 ka4 b e3";
+
+const CASTLING_ROW: &str = "Ke1 Rh1 ke8 w K";
+
+const SIX_ROW: &str = "Ka1 kh8 nb8 Nb1 Bc1 bc8 w";
+
+const ROOK_ROW: &str = "Ka2 Qb1 ke5 rh1 b";
+
+const QUEEN_TABLES: [&str; 2] = ["KQvK.rtbw", "KQvK.rtbz"];
+
 /// What was told is what was wanted.
 fn check_same<T: PartialEq + Debug + Copy>(rt: &impl Abort, told: T, wanted: T, row: &str) {
     assert_eq!(rt; told, wanted, "{row}");
+}
+
+fn number_of(told: Result<Wdl, ProbeFault>) -> Result<i8, ProbeFault> {
+    match told {
+        Ok(value) => Ok(value.number()),
+        Err(fault) => Err(fault),
+    }
 }
 
 fn check_value(
@@ -20,16 +49,10 @@ fn check_value(
     alloc: Global,
     set: &mut Set<'_>,
     row: &str,
-    value: i8,
-) -> Result<(), Fail> {
-    let told = set.wdl(alloc, &position_of(rt, row))?;
-    check_same(rt, told.number(), value, row);
-    Ok(())
-}
-
-fn check_no_value(rt: &impl Abort, alloc: Global, set: &mut Set<'_>, row: &str, fault: ProbeFault) {
-    let told = set.wdl(alloc, &position_of(rt, row)).err();
-    check_same(rt, told, Some(fault), row);
+    wanted: Result<i8, ProbeFault>,
+) {
+    let told = set.wdl(alloc, &position_of(rt, row));
+    check_same(rt, number_of(told), wanted, row);
 }
 
 fn check_distance(
@@ -37,22 +60,10 @@ fn check_distance(
     alloc: Global,
     set: &mut Set<'_>,
     row: &str,
-    distance: i32,
-) -> Result<(), Fail> {
-    let told = set.dtz(alloc, &position_of(rt, row))?;
-    check_same(rt, told, distance, row);
-    Ok(())
-}
-
-fn check_no_distance(
-    rt: &impl Abort,
-    alloc: Global,
-    set: &mut Set<'_>,
-    row: &str,
-    fault: ProbeFault,
+    wanted: Result<i32, ProbeFault>,
 ) {
-    let told = set.dtz(alloc, &position_of(rt, row)).err();
-    check_same(rt, told, Some(fault), row);
+    let told = set.dtz(alloc, &position_of(rt, row));
+    check_same(rt, told, wanted, row);
 }
 
 fn check_verdict(
@@ -60,11 +71,10 @@ fn check_verdict(
     alloc: Global,
     set: &mut Set<'_>,
     row: &str,
-    verdict: Option<Verdict>,
-) -> Result<(), Fail> {
-    let told = set.judge(alloc, &position_of(rt, row))?;
-    check_same(rt, told, verdict, row);
-    Ok(())
+    wanted: Option<Verdict>,
+) {
+    let told = set.judge(alloc, &position_of(rt, row)).ok();
+    check_same(rt, told, Some(wanted), row);
 }
 
 fn material_of(rt: &impl Abort, name: &str) -> Material {
@@ -79,41 +89,34 @@ fn damaged(rt: &impl Abort, name: &str) -> ProbeFault {
     ProbeFault::Damaged(material_of(rt, name))
 }
 
-/// The value is told as before after a verdict.
-fn check_value_and_verdict(
+/// The values that are told before and after the verdicts.
+const WORKED_ROWS: [(&str, i8, Option<Verdict>); 7] = [
+    (KNIGHT_ROW, 0, Some(Verdict::TableDraw)),
+    (HANGING_ROW, 0, Some(Verdict::TableDraw)),
+    (PASSED_ROW, 2, Some(Verdict::TableBlack)),
+    ("Ka1 pd4 Pe4 ka4 b", 0, Some(Verdict::TableDraw)),
+    (QUEEN_ROW, 2, None),
+    ("Ka1 Qb1 ke5 b", -2, None),
+    ("Ka1 ke5 w", 0, Some(Verdict::TableDraw)),
+];
+
+fn check_worked_row(
     rt: &impl Abort,
     alloc: Global,
     set: &mut Set<'_>,
     row: &str,
     value: i8,
     verdict: Option<Verdict>,
-) -> Result<(), Fail> {
-    check_value(rt, alloc, set, row, value)?;
-    check_verdict(rt, alloc, set, row, verdict)?;
-    check_value(rt, alloc, set, row, value)
+) {
+    check_value(rt, alloc, set, row, Ok(value));
+    check_verdict(rt, alloc, set, row, verdict);
+    check_value(rt, alloc, set, row, Ok(value));
 }
 
-const WORKED_ROWS: [(&str, i8, Option<Verdict>); 7] = [
-    ("Ka1 Nb1 ke5 w", 0, Some(Verdict::TableDraw)),
-    ("Kh8 Qd4 ke5 b", 0, Some(Verdict::TableDraw)),
-    ("Ka1 pd4 Pe4 ka4 b e3", 2, Some(Verdict::TableBlack)),
-    ("Ka1 pd4 Pe4 ka4 b", 0, Some(Verdict::TableDraw)),
-    ("Ka1 Qb1 ke5 w", 2, None),
-    ("Ka1 Qb1 ke5 b", -2, None),
-    ("Ka1 ke5 w", 0, Some(Verdict::TableDraw)),
-];
-
-fn check_worked_rows(rt: &impl Abort, alloc: Global, set: &mut Set<'_>) -> Result<(), Fail> {
+fn check_worked_rows(rt: &impl Abort, alloc: Global, set: &mut Set<'_>) {
     for (row, value, verdict) in WORKED_ROWS {
-        check_value_and_verdict(rt, alloc, set, row, value, verdict)?;
+        check_worked_row(rt, alloc, set, row, value, verdict);
     }
-    Ok(())
-}
-
-fn check_worked_set(rt: &impl Abort, alloc: Global, set: &mut Set<'_>) -> Result<(), Fail> {
-    check_worked_rows(rt, alloc, set)?;
-    check_same(rt, set.cache(), 64, "blocks");
-    Ok(())
 }
 
 const WORKED_TABLES: [&str; 4] = ["KNvK.rtbw", "KQvK.rtbw", "KPvK.rtbw", "KPvKP.rtbw"];
@@ -128,71 +131,47 @@ fn worked_files() -> [[u8; 80]; 4] {
 }
 
 #[test]
-fn worked_rows(rt: HostRuntime) -> Result<(), Fail> {
+fn worked_rows(rt: HostRuntime) {
     let files = worked_files();
-    let mut set = set_of(rt.alloc(), &WORKED_TABLES, &files)?;
-    check_worked_set(&rt, rt.alloc(), &mut set)
+    let mut set = set_of(&rt, rt.alloc(), &WORKED_TABLES, &files);
+    check_worked_rows(&rt, rt.alloc(), &mut set);
+    check_same(&rt, set.cache(), 64, "blocks");
 }
 
-const KNIGHT_ROW: &str = "Ka1 Nb1 ke5 w";
-
-fn check_missing(rt: &impl Abort, alloc: Global, set: &mut Set<'_>) -> Result<(), Fail> {
-    check_no_value(rt, alloc, set, KNIGHT_ROW, not_covered(rt, "KNvK"));
-    check_verdict(rt, alloc, set, KNIGHT_ROW, None)
+fn check_missing(rt: &impl Abort, alloc: Global, set: &mut Set<'_>) {
+    check_value(rt, alloc, set, KNIGHT_ROW, Err(not_covered(rt, "KNvK")));
+    check_verdict(rt, alloc, set, KNIGHT_ROW, None);
 }
 
-fn check_damaged(rt: &impl Abort, alloc: Global, set: &mut Set<'_>) -> Result<(), Fail> {
-    check_no_value(rt, alloc, set, KNIGHT_ROW, damaged(rt, "KNvK"));
-    check_verdict(rt, alloc, set, KNIGHT_ROW, Some(Verdict::Stopped))
+fn check_damaged(rt: &impl Abort, alloc: Global, set: &mut Set<'_>) {
+    check_value(rt, alloc, set, KNIGHT_ROW, Err(damaged(rt, "KNvK")));
+    check_verdict(rt, alloc, set, KNIGHT_ROW, Some(Verdict::Stopped));
 }
 
 /// Pawn takes knight comes to a table that is missing, which goes before the damaged one.
 fn check_missing_before_damaged(rt: &impl Abort, alloc: Global, set: &mut Set<'_>) {
-    check_no_value(rt, alloc, set, "Ka1 Ne4 kh8 pd5 b", not_covered(rt, "KPvK"));
-    check_no_value(
-        rt,
-        alloc,
-        set,
-        "Ka1 Nh1 kh8 pd5 b",
-        not_covered(rt, "KNvKP"),
-    );
+    let taken = Err(not_covered(rt, "KPvK"));
+    let own = Err(not_covered(rt, "KNvKP"));
+    check_value(rt, alloc, set, "Ka1 Ne4 kh8 pd5 b", taken);
+    check_value(rt, alloc, set, "Ka1 Nh1 kh8 pd5 b", own);
 }
 
-fn check_duplicate<'a>(
-    rt: &impl Abort,
-    alloc: Global,
-    set: &mut Set<'a>,
-    file: &'a [u8; 80],
-) -> Result<(), Fail> {
-    let table = open(alloc, b"KNvK.rtbw", file)?;
-    check_same(rt, set.add(table).err(), Some(SetFault::Duplicate), "again");
-    Ok(())
-}
-
-/// The table is missing, then damaged.
-fn check_knight<'a>(
-    rt: &impl Abort,
-    alloc: Global,
-    set: &mut Set<'a>,
-    file: &'a [u8; 80],
-) -> Result<(), Fail> {
-    check_missing(rt, alloc, set)?;
-    add(alloc, set, "KNvK.rtbw", file)?;
-    check_damaged(rt, alloc, set)?;
-    check_missing_before_damaged(rt, alloc, set);
-    check_duplicate(rt, alloc, set, file)
+fn check_duplicate<'a>(rt: &impl Abort, alloc: Global, set: &mut Set<'a>, file: &'a [u8; 80]) {
+    let table = open(alloc, b"KNvK.rtbw", file).expect(rt, "a table");
+    check_same(rt, set.add(table), Err(SetFault::Duplicate), "again");
 }
 
 #[test]
 fn damaged_and_missing_tables(rt: HostRuntime) -> Result<(), Fail> {
     let file = file_of(&DAMAGED_KNIGHT);
     let mut set = Set::new(rt.alloc(), 1)?;
-    check_knight(&rt, rt.alloc(), &mut set, &file)
+    check_missing(&rt, rt.alloc(), &mut set);
+    add(&rt, rt.alloc(), &mut set, "KNvK.rtbw", &file);
+    check_damaged(&rt, rt.alloc(), &mut set);
+    check_missing_before_damaged(&rt, rt.alloc(), &mut set);
+    check_duplicate(&rt, rt.alloc(), &mut set, &file);
+    Ok(())
 }
-
-const CASTLING_ROW: &str = "Ke1 Rh1 ke8 w K";
-
-const SIX_ROW: &str = "Ka1 kh8 nb8 Nb1 Bc1 bc8 w";
 
 const ROWS_WITHOUT_TABLES: [(&str, Option<Verdict>); 5] = [
     (CASTLING_ROW, None),
@@ -202,23 +181,23 @@ const ROWS_WITHOUT_TABLES: [(&str, Option<Verdict>); 5] = [
     ("Kg6 Qf7 kh8 b", Some(Verdict::Stalemate)),
 ];
 
-fn check_rows_without_tables(
-    rt: &impl Abort,
-    alloc: Global,
-    set: &mut Set<'_>,
-) -> Result<(), Fail> {
-    check_no_value(rt, alloc, set, CASTLING_ROW, ProbeFault::OutOfScope);
-    check_no_value(rt, alloc, set, SIX_ROW, ProbeFault::OutOfScope);
+fn check_rows_without_tables(rt: &impl Abort, alloc: Global, set: &mut Set<'_>) {
     for (row, verdict) in ROWS_WITHOUT_TABLES {
-        check_verdict(rt, alloc, set, row, verdict)?;
+        check_verdict(rt, alloc, set, row, verdict);
     }
-    Ok(())
+}
+
+fn check_out_of_scope(rt: &impl Abort, alloc: Global, set: &mut Set<'_>) {
+    check_value(rt, alloc, set, CASTLING_ROW, Err(ProbeFault::OutOfScope));
+    check_value(rt, alloc, set, SIX_ROW, Err(ProbeFault::OutOfScope));
 }
 
 #[test]
 fn verdicts_without_tables(rt: HostRuntime) -> Result<(), Fail> {
     let mut set = Set::new(rt.alloc(), 4096)?;
-    check_rows_without_tables(&rt, rt.alloc(), &mut set)
+    check_rows_without_tables(&rt, rt.alloc(), &mut set);
+    check_out_of_scope(&rt, rt.alloc(), &mut set);
+    Ok(())
 }
 
 const CODES: [(u8, Verdict, &str); 7] = [
@@ -231,23 +210,23 @@ const CODES: [(u8, Verdict, &str); 7] = [
     (7, Verdict::Stopped, "Stopped"),
 ];
 
-fn check_code(rt: &impl Abort, code: u8, verdict: Option<Verdict>) {
-    check_same(rt, Verdict::from_code(code), verdict, "code");
-}
-
-fn check_code_and_name(rt: &impl Abort, code: u8, verdict: Verdict, name: &str) {
+fn check_code(rt: &impl Abort, code: u8, verdict: Verdict, name: &str) {
     check_same(rt, verdict.code(), code, name);
-    check_same(rt, verdict.name(), name, "name");
-    check_code(rt, code, Some(verdict));
+    check_same(rt, Verdict::from_code(code), Some(verdict), name);
+    check_same(rt, verdict.name(), name, name);
 }
 
 #[test]
 fn codes_and_names(rt: HostRuntime) {
     for (code, verdict, name) in CODES {
-        check_code_and_name(&rt, code, verdict, name);
+        check_code(&rt, code, verdict, name);
     }
-    check_code(&rt, 0, None);
-    check_code(&rt, 8, None);
+}
+
+#[test]
+fn codes_of_no_verdict(rt: HostRuntime) {
+    check_same(&rt, Verdict::from_code(0), None, "0");
+    check_same(&rt, Verdict::from_code(8), None, "8");
 }
 
 #[test]
@@ -256,16 +235,6 @@ fn numbers_of_values_and_names_of_faults(rt: HostRuntime) {
     check_same(&rt, ProbeFault::OutOfScope.name(), "OutOfScope", "a name");
 }
 
-const QUEEN_ROW: &str = "Ka1 Qb1 ke5 w";
-
-/// The queen hangs.
-const HANGING_ROW: &str = "Kh8 Qd4 ke5 b";
-
-/// The king is in check.
-const CHECKING_ROW: &str = "Ka1 Qh1 kc3 b";
-
-const QUEEN_TABLES: [&str; 2] = ["KQvK.rtbw", "KQvK.rtbz"];
-
 fn check_distance_and_verdict(
     rt: &impl Abort,
     alloc: Global,
@@ -273,138 +242,114 @@ fn check_distance_and_verdict(
     row: &str,
     distance: i32,
     verdict: Option<Verdict>,
-) -> Result<(), Fail> {
-    check_distance(rt, alloc, set, row, distance)?;
-    check_verdict(rt, alloc, set, row, verdict)
+) {
+    check_distance(rt, alloc, set, row, Ok(distance));
+    check_verdict(rt, alloc, set, row, verdict);
 }
 
-/// With the values of a queen alone.
-fn check_queen_without_distances(
-    rt: &impl Abort,
-    alloc: Global,
-    set: &mut Set<'_>,
-) -> Result<(), Fail> {
-    check_no_distance(rt, alloc, set, QUEEN_ROW, not_covered(rt, "KQvK"));
-    check_verdict(rt, alloc, set, QUEEN_ROW, None)?;
-    check_distance(rt, alloc, set, HANGING_ROW, 0)
+/// A queen's values are there, and no distances.
+fn check_queen_without_distances(rt: &impl Abort, alloc: Global, set: &mut Set<'_>) {
+    check_distance(rt, alloc, set, QUEEN_ROW, Err(not_covered(rt, "KQvK")));
+    check_verdict(rt, alloc, set, QUEEN_ROW, None);
+    check_distance(rt, alloc, set, HANGING_ROW, Ok(0));
 }
 
 const QUEEN_ROWS: [(&str, i32, Option<Verdict>); 6] = [
-    ("Ka1 Qb1 ke5 w", 10, Some(Verdict::TableWhite)),
+    (QUEEN_ROW, 10, Some(Verdict::TableWhite)),
     ("Ka1 Qb1 ke5 w 89", 10, Some(Verdict::TableWhite)),
     ("Ka1 Qb1 ke5 w 90", 10, None),
     ("Ka1 Qh1 kc3 b 88", -11, Some(Verdict::TableWhite)),
     ("Ka1 Qh1 kc3 b 89", -11, None),
-    ("Kh8 Qd4 ke5 b", 0, Some(Verdict::TableDraw)),
+    (HANGING_ROW, 0, Some(Verdict::TableDraw)),
 ];
 
-fn check_queen_rows(rt: &impl Abort, alloc: Global, set: &mut Set<'_>) -> Result<(), Fail> {
+fn check_queen_rows(rt: &impl Abort, alloc: Global, set: &mut Set<'_>) {
     for (row, distance, verdict) in QUEEN_ROWS {
-        check_distance_and_verdict(rt, alloc, set, row, distance, verdict)?;
+        check_distance_and_verdict(rt, alloc, set, row, distance, verdict);
     }
-    Ok(())
-}
-
-fn check_queen<'a>(
-    rt: &impl Abort,
-    alloc: Global,
-    set: &mut Set<'a>,
-    distances: &'a [u8; 80],
-) -> Result<(), Fail> {
-    check_queen_without_distances(rt, alloc, set)?;
-    add(alloc, set, "KQvK.rtbz", distances)?;
-    check_queen_rows(rt, alloc, set)
 }
 
 #[test]
-fn worked_distances(rt: HostRuntime) -> Result<(), Fail> {
+fn worked_distances(rt: HostRuntime) {
     let values = [file_of(&QUEEN)];
     let distances = file_of(&QUEEN_PLIES);
-    let mut set = set_of(rt.alloc(), &["KQvK.rtbw"], &values)?;
-    check_queen(&rt, rt.alloc(), &mut set, &distances)
+    let mut set = set_of(&rt, rt.alloc(), &["KQvK.rtbw"], &values);
+    check_queen_without_distances(&rt, rt.alloc(), &mut set);
+    add(&rt, rt.alloc(), &mut set, "KQvK.rtbz", &distances);
+    check_queen_rows(&rt, rt.alloc(), &mut set);
 }
 
 #[test]
-fn distances_in_moves(rt: HostRuntime) -> Result<(), Fail> {
+fn distances_in_moves(rt: HostRuntime) {
     let files = files_of(&QUEEN, &QUEEN_MOVES);
-    let mut set = set_of(rt.alloc(), &QUEEN_TABLES, &files)?;
-    check_distance(&rt, rt.alloc(), &mut set, QUEEN_ROW, 19)
+    let mut set = set_of(&rt, rt.alloc(), &QUEEN_TABLES, &files);
+    check_distance(&rt, rt.alloc(), &mut set, QUEEN_ROW, Ok(19));
 }
 
 /// En passant wins, and the pawn on e4 goes on: no DTZ table is asked but at last.
-fn check_pawns_without_distances(
-    rt: &impl Abort,
-    alloc: Global,
-    set: &mut Set<'_>,
-) -> Result<(), Fail> {
-    let passing = "Ka1 pd4 Pe4 ka4 b e3";
-    check_distance_and_verdict(rt, alloc, set, passing, 1, Some(Verdict::TableBlack))?;
-    check_distance(rt, alloc, set, "Ka1 Pe4 kc8 w", 1)?;
-    check_no_distance(rt, alloc, set, "Ka1 Pe4 ke5 w", not_covered(rt, "KPvK"));
-    Ok(())
+fn check_pawns_without_distances(rt: &impl Abort, alloc: Global, set: &mut Set<'_>) {
+    check_distance_and_verdict(rt, alloc, set, PASSED_ROW, 1, Some(Verdict::TableBlack));
+    check_distance(rt, alloc, set, "Ka1 Pe4 kc8 w", Ok(1));
+    check_distance(
+        rt,
+        alloc,
+        set,
+        "Ka1 Pe4 ke5 w",
+        Err(not_covered(rt, "KPvK")),
+    );
 }
 
 /// From d6 black's king stops the pawn on e5 or meets it on e6, by neither its first nor its last move.
-fn check_stopped_pawn(rt: &impl Abort, alloc: Global, set: &mut Set<'_>) -> Result<(), Fail> {
-    let defence = "Ka1 Pe4 kd6 b";
-    check_distance(rt, alloc, set, "Ka1 Pe4 ke5 w", 10)?;
-    check_distance_and_verdict(rt, alloc, set, defence, -11, Some(Verdict::TableWhite))
+fn check_stopped_pawn(rt: &impl Abort, alloc: Global, set: &mut Set<'_>) {
+    let verdict = Some(Verdict::TableWhite);
+    check_distance(rt, alloc, set, "Ka1 Pe4 ke5 w", Ok(10));
+    check_distance_and_verdict(rt, alloc, set, "Ka1 Pe4 kd6 b", -11, verdict);
 }
 
 /// Each promotion's table is needed, though the own one stores the side.
-fn check_promotion(rt: &impl Abort, alloc: Global, set: &mut Set<'_>) -> Result<(), Fail> {
-    let promoting = "Ka1 Pe7 kd6 w";
-    check_no_distance(rt, alloc, set, promoting, not_covered(rt, "KQvK"));
-    check_verdict(rt, alloc, set, promoting, None)
-}
-
-fn check_pawns<'a>(
-    rt: &impl Abort,
-    alloc: Global,
-    set: &mut Set<'a>,
-    distances: &'a [u8; 80],
-) -> Result<(), Fail> {
-    check_pawns_without_distances(rt, alloc, set)?;
-    add(alloc, set, "KPvK.rtbz", distances)?;
-    check_stopped_pawn(rt, alloc, set)?;
-    check_promotion(rt, alloc, set)
+fn check_promotion(rt: &impl Abort, alloc: Global, set: &mut Set<'_>) {
+    check_distance(
+        rt,
+        alloc,
+        set,
+        "Ka1 Pe7 kd6 w",
+        Err(not_covered(rt, "KQvK")),
+    );
+    check_verdict(rt, alloc, set, "Ka1 Pe7 kd6 w", None);
 }
 
 #[test]
-fn captures_and_pawn_moves(rt: HostRuntime) -> Result<(), Fail> {
+fn captures_and_pawn_moves(rt: HostRuntime) {
     let values = files_of(&PAWN, &PAWNS);
     let distances = file_of(&PAWN_PLIES);
-    let mut set = set_of(rt.alloc(), &["KPvK.rtbw", "KPvKP.rtbw"], &values)?;
-    check_pawns(&rt, rt.alloc(), &mut set, &distances)
+    let mut set = set_of(&rt, rt.alloc(), &["KPvK.rtbw", "KPvKP.rtbw"], &values);
+    check_pawns_without_distances(&rt, rt.alloc(), &mut set);
+    add(&rt, rt.alloc(), &mut set, "KPvK.rtbz", &distances);
+    check_stopped_pawn(&rt, rt.alloc(), &mut set);
+    check_promotion(&rt, rt.alloc(), &mut set);
 }
 
-/// The queen goes to b8 with mate in the second position.
-fn check_moves(rt: &impl Abort, alloc: Global, set: &mut Set<'_>) -> Result<(), Fail> {
-    check_distance(rt, alloc, set, QUEEN_ROW, 6)?;
-    check_distance(rt, alloc, set, "Kg6 Qb1 kh8 w", 1)
-}
-
+/// In the second position the queen goes to b8 with mate.
 #[test]
-fn moves_to_the_other_side(rt: HostRuntime) -> Result<(), Fail> {
+fn moves_to_the_other_side(rt: HostRuntime) {
     let files = files_of(&QUEEN, &QUEEN_AGAINST);
-    let mut set = set_of(rt.alloc(), &QUEEN_TABLES, &files)?;
-    check_moves(&rt, rt.alloc(), &mut set)
+    let mut set = set_of(&rt, rt.alloc(), &QUEEN_TABLES, &files);
+    check_distance(&rt, rt.alloc(), &mut set, QUEEN_ROW, Ok(6));
+    check_distance(&rt, rt.alloc(), &mut set, "Kg6 Qb1 kh8 w", Ok(1));
 }
 
-fn check_cursed_rows(rt: &impl Abort, alloc: Global, set: &mut Set<'_>) -> Result<(), Fail> {
-    check_no_distance(rt, alloc, set, SIX_ROW, ProbeFault::OutOfScope);
-    check_distance_and_verdict(rt, alloc, set, QUEEN_ROW, 111, None)?;
-    check_distance_and_verdict(rt, alloc, set, CHECKING_ROW, -112, None)
+fn check_cursed_rows(rt: &impl Abort, alloc: Global, set: &mut Set<'_>) {
+    check_distance_and_verdict(rt, alloc, set, QUEEN_ROW, 111, None);
+    check_distance_and_verdict(rt, alloc, set, CHECKING_ROW, -112, None);
+    check_distance(rt, alloc, set, SIX_ROW, Err(ProbeFault::OutOfScope));
 }
 
 #[test]
-fn cursed_moves(rt: HostRuntime) -> Result<(), Fail> {
+fn cursed_moves(rt: HostRuntime) {
     let files = files_of(&CURSED_QUEEN, &CURSED_MOVES);
-    let mut set = set_of(rt.alloc(), &QUEEN_TABLES, &files)?;
-    check_cursed_rows(&rt, rt.alloc(), &mut set)
+    let mut set = set_of(&rt, rt.alloc(), &QUEEN_TABLES, &files);
+    check_cursed_rows(&rt, rt.alloc(), &mut set);
 }
-
-const ROOK_ROW: &str = "Ka2 Qb1 ke5 rh1 b";
 
 /// What the game of these moves comes to.
 fn game_of(
@@ -425,10 +370,9 @@ fn check_game(
     start: &str,
     moves: &str,
     outcome: GameOutcome,
-) -> Result<(), Fail> {
-    let told = game_of(rt, alloc, set, start, moves)?;
-    check_same(rt, told, outcome, moves);
-    Ok(())
+) {
+    let told = game_of(rt, alloc, set, start, moves).ok();
+    check_same(rt, told, Some(outcome), moves);
 }
 
 fn white_wins_at(ply: usize) -> GameOutcome {
@@ -440,9 +384,9 @@ fn white_wins_at(ply: usize) -> GameOutcome {
 
 const GAME: &str = "h1h8 b1b8 e5e4 b8h8 e4d3 a2b3 d3d2 h8d4 d2e2";
 
-fn check_ruled_games(rt: &impl Abort, alloc: Global, set: &mut Set<'_>) -> Result<(), Fail> {
-    check_game(rt, alloc, set, ROOK_ROW, GAME, white_wins_at(4))?;
-    check_game(rt, alloc, set, QUEEN_ROW, GAME, white_wins_at(0))
+fn check_ruled_games(rt: &impl Abort, alloc: Global, set: &mut Set<'_>) {
+    check_game(rt, alloc, set, ROOK_ROW, GAME, white_wins_at(4));
+    check_game(rt, alloc, set, QUEEN_ROW, GAME, white_wins_at(0));
 }
 
 /// A game that is cut before its verdict, one without moves, and one whose second move is its first again.
@@ -452,18 +396,18 @@ const OTHER_GAMES: [(&str, GameOutcome); 3] = [
     ("h1h8 h1h8", GameOutcome::Illegal { place: 1 }),
 ];
 
-fn check_games(rt: &impl Abort, alloc: Global, set: &mut Set<'_>) -> Result<(), Fail> {
+fn check_other_games(rt: &impl Abort, alloc: Global, set: &mut Set<'_>) {
     for (moves, outcome) in OTHER_GAMES {
-        check_game(rt, alloc, set, ROOK_ROW, moves, outcome)?;
+        check_game(rt, alloc, set, ROOK_ROW, moves, outcome);
     }
-    check_ruled_games(rt, alloc, set)
 }
 
 #[test]
-fn first_verdicts_of_games(rt: HostRuntime) -> Result<(), Fail> {
+fn first_verdicts_of_games(rt: HostRuntime) {
     let files = files_of(&QUEEN, &QUEEN_PLIES);
-    let mut set = set_of(rt.alloc(), &QUEEN_TABLES, &files)?;
-    check_games(&rt, rt.alloc(), &mut set)
+    let mut set = set_of(&rt, rt.alloc(), &QUEEN_TABLES, &files);
+    check_ruled_games(&rt, rt.alloc(), &mut set);
+    check_other_games(&rt, rt.alloc(), &mut set);
 }
 
 /// The value of the hanging queen where memory may be refused: the right one or that.
