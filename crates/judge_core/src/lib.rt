@@ -28,4 +28,8 @@ pub use verdict::Verdict;
 pub use wdl::Wdl;
 
 #[cfg(test)]
+mod boards;
+#[cfg(test)]
+mod forged;
+#[cfg(test)]
 mod tests;

@@ -1,562 +1,502 @@
 //! The worked rows with forged table files, each call once, and refused memory.
 
+use crate::boards::{moves_of, position_of};
+use crate::forged::*;
 use crate::{GameOutcome, ProbeFault, Set, SetFault, Verdict, Wdl};
-use board_core::{Kind, Men, Move, Parts, Piece, Position, Rights, Side, Square};
 use place_index::Material;
-use std::alloc::Global;
+use std::alloc::{AllocError, Global};
+use std::fmt::Debug;
 use std::process::Abort;
 use std::test::Fail;
 use table_file::open;
 
-/// The fronts of table files of 80 bytes, all others zero: single values for both sides, and for all files where there are
-/// pawns. A knight draws.
-const KNIGHT: [u8; 14] = [
-    0x71, 0xE8, 0x23, 0x5D, 0x01, 0x00, 0x66, 0x22, 0xEE, 0x00, 0x80, 0x02, 0x80, 0x02,
-];
-
-/// A knight's table with values that stand for nothing.
-const DAMAGED_KNIGHT: [u8; 14] = [
-    0x71, 0xE8, 0x23, 0x5D, 0x01, 0x00, 0x66, 0x22, 0xEE, 0x00, 0x80, 0x07, 0x80, 0x07,
-];
-
-/// A queen wins, and loses for the other side.
-const QUEEN: [u8; 14] = [
-    0x71, 0xE8, 0x23, 0x5D, 0x01, 0x00, 0x66, 0x55, 0xEE, 0x00, 0x80, 0x04, 0x80, 0x00,
-];
-
-/// A pawn wins, and loses for the other side.
-const PAWN: [u8; 38] = [
-    0x71, 0xE8, 0x23, 0x5D, 0x03, 0x00, 0x11, 0x66, 0xEE, 0x00, 0x11, 0x66, 0xEE, 0x00, 0x11, 0x66,
-    0xEE, 0x00, 0x11, 0x66, 0xEE, 0x00, 0x80, 0x04, 0x80, 0x00, 0x80, 0x04, 0x80, 0x00, 0x80, 0x04,
-    0x80, 0x00, 0x80, 0x04, 0x80, 0x00,
-];
-
-/// Pawn against pawn is a draw.
-const PAWNS: [u8; 38] = [
-    0x71, 0xE8, 0x23, 0x5D, 0x02, 0x00, 0x01, 0x01, 0x09, 0x06, 0x0E, 0x00, 0x01, 0x01, 0x09, 0x06,
-    0x0E, 0x00, 0x01, 0x01, 0x09, 0x06, 0x0E, 0x00, 0x01, 0x01, 0x09, 0x06, 0x0E, 0x00, 0x80, 0x02,
-    0x80, 0x02, 0x80, 0x02, 0x80, 0x02,
-];
-
-/// A queen's distances for white to move: 9 plies, by a value map for wins.
-const QUEEN_PLIES: [u8; 17] = [
-    0xD7, 0x66, 0x0C, 0xA5, 0x01, 0x00, 0x06, 0x05, 0x0E, 0x00, 0x86, 0x00, 0x01, 0x09, 0x00, 0x00,
-    0x00,
-];
-
-/// The same in moves of one side, 18 plies.
-const QUEEN_MOVES: [u8; 17] = [
-    0xD7, 0x66, 0x0C, 0xA5, 0x01, 0x00, 0x06, 0x05, 0x0E, 0x00, 0x82, 0x00, 0x01, 0x09, 0x00, 0x00,
-    0x00,
-];
-
-/// A queen's distances for black to move alone: 4 plies, by a value map for losses.
-const QUEEN_AGAINST: [u8; 17] = [
-    0xD7, 0x66, 0x0C, 0xA5, 0x01, 0x00, 0x06, 0x05, 0x0E, 0x00, 0x8B, 0x00, 0x00, 0x01, 0x04, 0x00,
-    0x00,
-];
-
-/// A queen's table by which the rule of fifty moves saves the other side.
-const CURSED_QUEEN: [u8; 14] = [
-    0x71, 0xE8, 0x23, 0x5D, 0x01, 0x00, 0x66, 0x55, 0xEE, 0x00, 0x80, 0x03, 0x80, 0x01,
-];
-
-/// Its distances for white to move: 5 moves, by a value map for cursed wins.
-const CURSED_MOVES: [u8; 17] = [
-    0xD7, 0x66, 0x0C, 0xA5, 0x01, 0x00, 0x06, 0x05, 0x0E, 0x00, 0x82, 0x00, 0x00, 0x00, 0x01, 0x05,
-    0x00,
-];
-
-/// A pawn's distances for white to move: 9 plies, by a value map of each file.
-const PAWN_PLIES: [u8; 50] = [
-    0xD7, 0x66, 0x0C, 0xA5, 0x03, 0x00, 0x01, 0x06, 0x0E, 0x00, 0x01, 0x06, 0x0E, 0x00, 0x01, 0x06,
-    0x0E, 0x00, 0x01, 0x06, 0x0E, 0x00, 0x86, 0x00, 0x86, 0x00, 0x86, 0x00, 0x86, 0x00, 0x01, 0x09,
-    0x00, 0x00, 0x00, 0x01, 0x09, 0x00, 0x00, 0x00, 0x01, 0x09, 0x00, 0x00, 0x00, 0x01, 0x09, 0x00,
-    0x00, 0x00,
-];
-
-/// The whole file of such a front.
-fn file_of(front: &[u8]) -> [u8; 80] {
-    let mut file = [0u8; 80];
-    for i in 0..80usize {
-        if i < front.len() {
-            file[i] = front[i];
-        }
-    }
-    file
-}
-
-fn piece_of(letter: u8) -> Piece {
-    let kind = match letter.to_ascii_lowercase() {
-        b'p' => Kind::Pawn,
-        b'n' => Kind::Knight,
-        b'b' => Kind::Bishop,
-        b'r' => Kind::Rook,
-        b'q' => Kind::Queen,
-        _ => Kind::King,
-    };
-    let side = if letter.is_ascii_uppercase() {
-        Side::White
-    } else {
-        Side::Black
-    };
-    Piece { side, kind }
-}
-
-/// Parts with these men by their letters and squares, and nothing else.
-fn parts_of(men: &[(u8, u8)], side: Side) -> Parts {
-    let mut board: Men = [None; 64];
-    for (letter, square) in men {
-        if *square < 64 {
-            board[*square as usize] = Some(piece_of(*letter));
-        }
-    }
-    Parts {
-        men: board,
-        side,
-        rights: Rights {
-            white_king: false,
-            white_queen: false,
-            black_king: false,
-            black_queen: false,
-        },
-        en_passant: None,
-        halfmove: 0,
-        fullmove: 1,
-    }
-}
-
-fn position_of(rt: &impl Abort, men: &[(u8, u8)], side: Side) -> Position {
-    Position::new(parts_of(men, side)).expect(rt, "a position")
-}
-
 /// Knight a1 b1 against e5, white to move.
-const KNIGHT_MEN: [(u8, u8); 3] = [(b'K', 0), (b'N', 1), (b'k', 36)];
+const KNIGHT_ROW: &str = "Ka1 Nb1 ke5 w";
 
-/// Queen b1 against the king on e5.
-const QUEEN_MEN: [(u8, u8); 3] = [(b'K', 0), (b'Q', 1), (b'k', 36)];
+const QUEEN_ROW: &str = "Ka1 Qb1 ke5 w";
 
-/// A queen on d4 beside the king on e5.
-const HANGING_MEN: [(u8, u8); 3] = [(b'K', 63), (b'Q', 27), (b'k', 36)];
+/// The queen stands beside the king that is to move.
+const HANGING_ROW: &str = "Kh8 Qd4 ke5 b";
 
-/// White pawn e4 has passed e3, black pawn d4, kings a1 and a4.
-const PASSED_MEN: [(u8, u8); 4] = [(b'K', 0), (b'p', 27), (b'P', 28), (b'k', 24)];
+/// The queen is on h1, and black to move.
+const CHECKING_ROW: &str = "Ka1 Qh1 kc3 b";
 
-fn passed(rt: &impl Abort, square: Option<Square>) -> Position {
-    let mut parts = parts_of(&PASSED_MEN, Side::Black);
-    parts.en_passant = square;
-    Position::new(parts).expect(rt, "a position")
+/// White's pawn on e4 has passed e3.
+const PASSED_ROW: &str = "Ka1 pd4 Pe4 ka4 b e3";
+
+const CASTLING_ROW: &str = "Ke1 Rh1 ke8 w K";
+
+const SIX_ROW: &str = "Ka1 kh8 nb8 Nb1 Bc1 bc8 w";
+
+const ROOK_ROW: &str = "Ka2 Qb1 ke5 rh1 b";
+
+const QUEEN_TABLES: [&str; 2] = ["KQvK.rtbw", "KQvK.rtbz"];
+
+/// What was told is what was wanted.
+fn check_same<T: PartialEq + Debug + Copy>(rt: &impl Abort, told: T, wanted: T, row: &str) {
+    assert_eq!(rt; told, wanted, "{row}");
 }
 
-fn add<'a>(
+fn number_of(told: Result<Wdl, ProbeFault>) -> Result<i8, ProbeFault> {
+    match told {
+        Ok(value) => Ok(value.number()),
+        Err(fault) => Err(fault),
+    }
+}
+
+fn check_value(
     rt: &impl Abort,
     alloc: Global,
-    set: &mut Set<'a>,
-    name: &[u8],
-    file: &'a [u8; 80],
-) -> Result<(), SetFault> {
-    let table = open(alloc, name, file).expect(rt, "a table");
-    set.add(table)
+    set: &mut Set<'_>,
+    row: &str,
+    wanted: Result<i8, ProbeFault>,
+) {
+    let told = set.wdl(alloc, &position_of(rt, row));
+    check_same(rt, number_of(told), wanted, row);
 }
 
-#[test]
-fn worked_rows(rt: HostRuntime) -> Result<(), Fail> {
-    let files = [
+fn check_distance(
+    rt: &impl Abort,
+    alloc: Global,
+    set: &mut Set<'_>,
+    row: &str,
+    wanted: Result<i32, ProbeFault>,
+) {
+    let told = set.dtz(alloc, &position_of(rt, row));
+    check_same(rt, told, wanted, row);
+}
+
+fn check_verdict(
+    rt: &impl Abort,
+    alloc: Global,
+    set: &mut Set<'_>,
+    row: &str,
+    wanted: Option<Verdict>,
+) {
+    let told = set.judge(alloc, &position_of(rt, row)).ok();
+    check_same(rt, told, Some(wanted), row);
+}
+
+fn material_of(rt: &impl Abort, name: &str) -> Material {
+    Material::from_name(name.as_bytes()).expect(rt, "a name")
+}
+
+fn not_covered(rt: &impl Abort, name: &str) -> ProbeFault {
+    ProbeFault::NotCovered(material_of(rt, name))
+}
+
+fn damaged(rt: &impl Abort, name: &str) -> ProbeFault {
+    ProbeFault::Damaged(material_of(rt, name))
+}
+
+/// The values that are told before and after the verdicts.
+const WORKED_ROWS: [(&str, i8, Option<Verdict>); 7] = [
+    (KNIGHT_ROW, 0, Some(Verdict::TableDraw)),
+    (HANGING_ROW, 0, Some(Verdict::TableDraw)),
+    (PASSED_ROW, 2, Some(Verdict::TableBlack)),
+    ("Ka1 pd4 Pe4 ka4 b", 0, Some(Verdict::TableDraw)),
+    (QUEEN_ROW, 2, None),
+    ("Ka1 Qb1 ke5 b", -2, None),
+    ("Ka1 ke5 w", 0, Some(Verdict::TableDraw)),
+];
+
+fn check_worked_row(
+    rt: &impl Abort,
+    alloc: Global,
+    set: &mut Set<'_>,
+    row: &str,
+    value: i8,
+    verdict: Option<Verdict>,
+) {
+    check_value(rt, alloc, set, row, Ok(value));
+    check_verdict(rt, alloc, set, row, verdict);
+    check_value(rt, alloc, set, row, Ok(value));
+}
+
+fn check_worked_rows(rt: &impl Abort, alloc: Global, set: &mut Set<'_>) {
+    for (row, value, verdict) in WORKED_ROWS {
+        check_worked_row(rt, alloc, set, row, value, verdict);
+    }
+}
+
+const WORKED_TABLES: [&str; 4] = ["KNvK.rtbw", "KQvK.rtbw", "KPvK.rtbw", "KPvKP.rtbw"];
+
+fn worked_files() -> [[u8; 80]; 4] {
+    [
         file_of(&KNIGHT),
         file_of(&QUEEN),
         file_of(&PAWN),
         file_of(&PAWNS),
-    ];
-    let mut set = Set::new(rt.alloc(), 64)?;
-    add(&rt, rt.alloc(), &mut set, b"KNvK.rtbw", &files[0])?;
-    add(&rt, rt.alloc(), &mut set, b"KQvK.rtbw", &files[1])?;
-    add(&rt, rt.alloc(), &mut set, b"KPvK.rtbw", &files[2])?;
-    add(&rt, rt.alloc(), &mut set, b"KPvKP.rtbw", &files[3])?;
-    let rows = [
-        (
-            position_of(&rt, &KNIGHT_MEN, Side::White),
-            0i8,
-            Some(Verdict::TableDraw),
-        ),
-        (
-            position_of(&rt, &HANGING_MEN, Side::Black),
-            0,
-            Some(Verdict::TableDraw),
-        ),
-        (passed(&rt, Square::new(20)), 2, Some(Verdict::TableBlack)),
-        (passed(&rt, None), 0, Some(Verdict::TableDraw)),
-        (position_of(&rt, &QUEEN_MEN, Side::White), 2, None),
-        (position_of(&rt, &QUEEN_MEN, Side::Black), -2, None),
-        (
-            position_of(&rt, &[(b'K', 0), (b'k', 36)], Side::White),
-            0,
-            Some(Verdict::TableDraw),
-        ),
-    ];
-    for (position, value, verdict) in rows {
-        let told = set.wdl(rt.alloc(), &position)?;
-        assert_eq!(rt; told.number(), value);
-        assert_eq!(rt; set.judge(rt.alloc(), &position)?, verdict);
-        let again = set.wdl(rt.alloc(), &position)?;
-        assert_eq!(rt; again.number(), value);
-    }
-    assert_eq!(rt; set.cache(), 64);
-    Ok(())
+    ]
+}
+
+#[test]
+fn worked_rows(rt: HostRuntime) {
+    let files = worked_files();
+    let mut set = set_of(&rt, rt.alloc(), &WORKED_TABLES, &files);
+    check_worked_rows(&rt, rt.alloc(), &mut set);
+    check_same(&rt, set.cache(), 64, "blocks");
+}
+
+fn check_missing(rt: &impl Abort, alloc: Global, set: &mut Set<'_>) {
+    check_value(rt, alloc, set, KNIGHT_ROW, Err(not_covered(rt, "KNvK")));
+    check_verdict(rt, alloc, set, KNIGHT_ROW, None);
+}
+
+fn check_damaged(rt: &impl Abort, alloc: Global, set: &mut Set<'_>) {
+    check_value(rt, alloc, set, KNIGHT_ROW, Err(damaged(rt, "KNvK")));
+    check_verdict(rt, alloc, set, KNIGHT_ROW, Some(Verdict::Stopped));
+}
+
+/// Pawn takes knight comes to a table that is missing, which goes before the damaged one.
+fn check_missing_before_damaged(rt: &impl Abort, alloc: Global, set: &mut Set<'_>) {
+    let taken = Err(not_covered(rt, "KPvK"));
+    let own = Err(not_covered(rt, "KNvKP"));
+    check_value(rt, alloc, set, "Ka1 Ne4 kh8 pd5 b", taken);
+    check_value(rt, alloc, set, "Ka1 Nh1 kh8 pd5 b", own);
+}
+
+fn check_duplicate<'a>(rt: &impl Abort, alloc: Global, set: &mut Set<'a>, file: &'a [u8; 80]) {
+    let table = open(alloc, b"KNvK.rtbw", file).expect(rt, "a table");
+    check_same(rt, set.add(table), Err(SetFault::Duplicate), "again");
 }
 
 #[test]
 fn damaged_and_missing_tables(rt: HostRuntime) -> Result<(), Fail> {
-    let damaged = file_of(&DAMAGED_KNIGHT);
+    let file = file_of(&DAMAGED_KNIGHT);
     let mut set = Set::new(rt.alloc(), 1)?;
-    let knight = position_of(&rt, &KNIGHT_MEN, Side::White);
-    let material = Material::from_name(b"KNvK").expect(&rt, "a name");
-    assert_eq!(rt;
-        set.wdl(rt.alloc(), &knight),
-        Err(ProbeFault::NotCovered(material))
-    );
-    assert_eq!(rt; set.judge(rt.alloc(), &knight)?, None);
-    add(&rt, rt.alloc(), &mut set, b"KNvK.rtbw", &damaged)?;
-    assert_eq!(rt;
-        set.wdl(rt.alloc(), &knight),
-        Err(ProbeFault::Damaged(material))
-    );
-    assert_eq!(rt; set.judge(rt.alloc(), &knight)?, Some(Verdict::Stopped));
-    let again = add(&rt, rt.alloc(), &mut set, b"KNvK.rtbw", &damaged);
-    assert_eq!(rt; again, Err(SetFault::Duplicate));
-    // Pawn takes knight comes to a table that is missing, which goes before the damaged one.
-    let both = position_of(
-        &rt,
-        &[(b'K', 0), (b'N', 28), (b'k', 63), (b'p', 35)],
-        Side::Black,
-    );
-    let own = Material::from_name(b"KNvKP").expect(&rt, "a name");
-    let pawn = Material::from_name(b"KPvK").expect(&rt, "a name");
-    assert_eq!(rt;
-        set.wdl(rt.alloc(), &both),
-        Err(ProbeFault::NotCovered(pawn))
-    );
-    let quiet = position_of(
-        &rt,
-        &[(b'K', 0), (b'N', 7), (b'k', 63), (b'p', 35)],
-        Side::Black,
-    );
-    assert_eq!(rt;
-        set.wdl(rt.alloc(), &quiet),
-        Err(ProbeFault::NotCovered(own))
-    );
+    check_missing(&rt, rt.alloc(), &mut set);
+    add(&rt, rt.alloc(), &mut set, "KNvK.rtbw", &file);
+    check_damaged(&rt, rt.alloc(), &mut set);
+    check_missing_before_damaged(&rt, rt.alloc(), &mut set);
+    check_duplicate(&rt, rt.alloc(), &mut set, &file);
     Ok(())
+}
+
+const ROWS_WITHOUT_TABLES: [(&str, Option<Verdict>); 5] = [
+    (CASTLING_ROW, None),
+    (SIX_ROW, None),
+    ("Kf7 Qg7 kh8 b", Some(Verdict::WhiteMates)),
+    ("kf2 qg2 Kh1 w", Some(Verdict::BlackMates)),
+    ("Kg6 Qf7 kh8 b", Some(Verdict::Stalemate)),
+];
+
+fn check_rows_without_tables(rt: &impl Abort, alloc: Global, set: &mut Set<'_>) {
+    for (row, verdict) in ROWS_WITHOUT_TABLES {
+        check_verdict(rt, alloc, set, row, verdict);
+    }
+}
+
+fn check_out_of_scope(rt: &impl Abort, alloc: Global, set: &mut Set<'_>) {
+    check_value(rt, alloc, set, CASTLING_ROW, Err(ProbeFault::OutOfScope));
+    check_value(rt, alloc, set, SIX_ROW, Err(ProbeFault::OutOfScope));
 }
 
 #[test]
 fn verdicts_without_tables(rt: HostRuntime) -> Result<(), Fail> {
     let mut set = Set::new(rt.alloc(), 4096)?;
-    let mut castling = parts_of(&[(b'K', 4), (b'R', 7), (b'k', 60)], Side::White);
-    castling.rights.white_king = true;
-    let castling = Position::new(castling).expect(&rt, "a position");
-    let six = [
-        (b'K', 0),
-        (b'k', 63),
-        (b'n', 57),
-        (b'N', 1),
-        (b'B', 2),
-        (b'b', 58),
-    ];
-    let mate = [(b'K', 53), (b'Q', 54), (b'k', 63)];
-    let stalemate = [(b'K', 46), (b'Q', 53), (b'k', 63)];
-    let mated = [(b'k', 13), (b'q', 14), (b'K', 7)];
-    let rows = [
-        (castling, None),
-        (position_of(&rt, &six, Side::White), None),
-        (
-            position_of(&rt, &mate, Side::Black),
-            Some(Verdict::WhiteMates),
-        ),
-        (
-            position_of(&rt, &mated, Side::White),
-            Some(Verdict::BlackMates),
-        ),
-        (
-            position_of(&rt, &stalemate, Side::Black),
-            Some(Verdict::Stalemate),
-        ),
-    ];
-    for (position, verdict) in rows {
-        assert_eq!(rt; set.judge(rt.alloc(), &position)?, verdict);
-    }
-    assert_eq!(rt; set.wdl(rt.alloc(), &castling), Err(ProbeFault::OutOfScope));
-    let crowd = position_of(&rt, &six, Side::White);
-    assert_eq!(rt; set.wdl(rt.alloc(), &crowd), Err(ProbeFault::OutOfScope));
+    check_rows_without_tables(&rt, rt.alloc(), &mut set);
+    check_out_of_scope(&rt, rt.alloc(), &mut set);
     Ok(())
+}
+
+const CODES: [(u8, Verdict, &str); 7] = [
+    (1, Verdict::WhiteMates, "WhiteMates"),
+    (2, Verdict::BlackMates, "BlackMates"),
+    (3, Verdict::Stalemate, "Stalemate"),
+    (4, Verdict::TableDraw, "TableDraw"),
+    (5, Verdict::TableWhite, "TableWhite"),
+    (6, Verdict::TableBlack, "TableBlack"),
+    (7, Verdict::Stopped, "Stopped"),
+];
+
+fn check_code(rt: &impl Abort, code: u8, verdict: Verdict, name: &str) {
+    check_same(rt, verdict.code(), code, name);
+    check_same(rt, Verdict::from_code(code), Some(verdict), name);
+    check_same(rt, verdict.name(), name, name);
 }
 
 #[test]
 fn codes_and_names(rt: HostRuntime) {
-    let rows = [
-        (1u8, Verdict::WhiteMates, "WhiteMates"),
-        (2, Verdict::BlackMates, "BlackMates"),
-        (3, Verdict::Stalemate, "Stalemate"),
-        (4, Verdict::TableDraw, "TableDraw"),
-        (5, Verdict::TableWhite, "TableWhite"),
-        (6, Verdict::TableBlack, "TableBlack"),
-        (7, Verdict::Stopped, "Stopped"),
-    ];
-    for (code, verdict, name) in rows {
-        assert_eq!(rt; verdict.code(), code);
-        assert_eq!(rt; Verdict::from_code(code), Some(verdict));
-        assert_eq!(rt; verdict.name(), name);
+    for (code, verdict, name) in CODES {
+        check_code(&rt, code, verdict, name);
     }
-    assert_eq!(rt; Verdict::from_code(0), None);
-    assert_eq!(rt; Verdict::from_code(8), None);
-    assert_eq!(rt; Wdl::CursedWin.number(), 1);
-    assert_eq!(rt; ProbeFault::OutOfScope.name(), "OutOfScope");
 }
-
-fn clocked(rt: &impl Abort, men: &[(u8, u8)], side: Side, halfmove: u16) -> Position {
-    let mut parts = parts_of(men, side);
-    parts.halfmove = halfmove;
-    Position::new(parts).expect(rt, "a position")
-}
-
-/// The queen is on h1, and black to move.
-const CHECKING_MEN: [(u8, u8); 3] = [(b'K', 0), (b'Q', 7), (b'k', 18)];
 
 #[test]
-fn worked_distances(rt: HostRuntime) -> Result<(), Fail> {
-    let files = [
-        file_of(&QUEEN),
-        file_of(&QUEEN_PLIES),
-        file_of(&QUEEN_MOVES),
-    ];
-    let mut plies = Set::new(rt.alloc(), 64)?;
-    add(&rt, rt.alloc(), &mut plies, b"KQvK.rtbw", &files[0])?;
-    let queen = position_of(&rt, &QUEEN_MEN, Side::White);
-    let material = Material::from_name(b"KQvK").expect(&rt, "a name");
-    assert_eq!(rt;
-        plies.dtz(rt.alloc(), &queen),
-        Err(ProbeFault::NotCovered(material))
+fn codes_of_no_verdict(rt: HostRuntime) {
+    check_same(&rt, Verdict::from_code(0), None, "0");
+    check_same(&rt, Verdict::from_code(8), None, "8");
+}
+
+#[test]
+fn numbers_of_values_and_names_of_faults(rt: HostRuntime) {
+    check_same(&rt, Wdl::CursedWin.number(), 1, "a cursed win");
+    check_same(&rt, ProbeFault::OutOfScope.name(), "OutOfScope", "a name");
+}
+
+fn check_distance_and_verdict(
+    rt: &impl Abort,
+    alloc: Global,
+    set: &mut Set<'_>,
+    row: &str,
+    distance: i32,
+    verdict: Option<Verdict>,
+) {
+    check_distance(rt, alloc, set, row, Ok(distance));
+    check_verdict(rt, alloc, set, row, verdict);
+}
+
+/// A queen's values are there, and no distances.
+fn check_queen_without_distances(rt: &impl Abort, alloc: Global, set: &mut Set<'_>) {
+    check_distance(rt, alloc, set, QUEEN_ROW, Err(not_covered(rt, "KQvK")));
+    check_verdict(rt, alloc, set, QUEEN_ROW, None);
+    check_distance(rt, alloc, set, HANGING_ROW, Ok(0));
+}
+
+const QUEEN_ROWS: [(&str, i32, Option<Verdict>); 6] = [
+    (QUEEN_ROW, 10, Some(Verdict::TableWhite)),
+    ("Ka1 Qb1 ke5 w 89", 10, Some(Verdict::TableWhite)),
+    ("Ka1 Qb1 ke5 w 90", 10, None),
+    ("Ka1 Qh1 kc3 b 88", -11, Some(Verdict::TableWhite)),
+    ("Ka1 Qh1 kc3 b 89", -11, None),
+    (HANGING_ROW, 0, Some(Verdict::TableDraw)),
+];
+
+fn check_queen_rows(rt: &impl Abort, alloc: Global, set: &mut Set<'_>) {
+    for (row, distance, verdict) in QUEEN_ROWS {
+        check_distance_and_verdict(rt, alloc, set, row, distance, verdict);
+    }
+}
+
+#[test]
+fn worked_distances(rt: HostRuntime) {
+    let values = [file_of(&QUEEN)];
+    let distances = file_of(&QUEEN_PLIES);
+    let mut set = set_of(&rt, rt.alloc(), &["KQvK.rtbw"], &values);
+    check_queen_without_distances(&rt, rt.alloc(), &mut set);
+    add(&rt, rt.alloc(), &mut set, "KQvK.rtbz", &distances);
+    check_queen_rows(&rt, rt.alloc(), &mut set);
+}
+
+#[test]
+fn distances_in_moves(rt: HostRuntime) {
+    let files = files_of(&QUEEN, &QUEEN_MOVES);
+    let mut set = set_of(&rt, rt.alloc(), &QUEEN_TABLES, &files);
+    check_distance(&rt, rt.alloc(), &mut set, QUEEN_ROW, Ok(19));
+}
+
+/// En passant wins, and the pawn on e4 goes on: no DTZ table is asked but at last.
+fn check_pawns_without_distances(rt: &impl Abort, alloc: Global, set: &mut Set<'_>) {
+    check_distance_and_verdict(rt, alloc, set, PASSED_ROW, 1, Some(Verdict::TableBlack));
+    check_distance(rt, alloc, set, "Ka1 Pe4 kc8 w", Ok(1));
+    check_distance(
+        rt,
+        alloc,
+        set,
+        "Ka1 Pe4 ke5 w",
+        Err(not_covered(rt, "KPvK")),
     );
-    assert_eq!(rt; plies.judge(rt.alloc(), &queen)?, None);
-    let hanging = position_of(&rt, &HANGING_MEN, Side::Black);
-    assert_eq!(rt; plies.dtz(rt.alloc(), &hanging)?, 0);
-    add(&rt, rt.alloc(), &mut plies, b"KQvK.rtbz", &files[1])?;
-    let rows = [
-        (queen, 10i32, Some(Verdict::TableWhite)),
-        (
-            clocked(&rt, &QUEEN_MEN, Side::White, 89),
-            10,
-            Some(Verdict::TableWhite),
-        ),
-        (clocked(&rt, &QUEEN_MEN, Side::White, 90), 10, None),
-        (
-            clocked(&rt, &CHECKING_MEN, Side::Black, 88),
-            -11,
-            Some(Verdict::TableWhite),
-        ),
-        (clocked(&rt, &CHECKING_MEN, Side::Black, 89), -11, None),
-        (hanging, 0, Some(Verdict::TableDraw)),
-    ];
-    for (position, distance, verdict) in rows {
-        assert_eq!(rt; plies.dtz(rt.alloc(), &position)?, distance);
-        assert_eq!(rt; plies.judge(rt.alloc(), &position)?, verdict);
-    }
-    let mut moves = Set::new(rt.alloc(), 64)?;
-    add(&rt, rt.alloc(), &mut moves, b"KQvK.rtbw", &files[0])?;
-    add(&rt, rt.alloc(), &mut moves, b"KQvK.rtbz", &files[2])?;
-    assert_eq!(rt; moves.dtz(rt.alloc(), &queen)?, 19);
-    Ok(())
 }
 
-#[test]
-fn captures_and_pawn_moves(rt: HostRuntime) -> Result<(), Fail> {
-    let files = [file_of(&PAWN), file_of(&PAWNS), file_of(&PAWN_PLIES)];
-    let mut set = Set::new(rt.alloc(), 64)?;
-    add(&rt, rt.alloc(), &mut set, b"KPvK.rtbw", &files[0])?;
-    add(&rt, rt.alloc(), &mut set, b"KPvKP.rtbw", &files[1])?;
-    // En passant wins, and no DTZ table is asked.
-    let passing = passed(&rt, Square::new(20));
-    assert_eq!(rt; set.dtz(rt.alloc(), &passing)?, 1);
-    assert_eq!(rt; set.judge(rt.alloc(), &passing)?, Some(Verdict::TableBlack));
-    // The pawn on e4 goes on, and no DTZ table is asked either.
-    let free = position_of(&rt, &[(b'K', 0), (b'P', 28), (b'k', 58)], Side::White);
-    assert_eq!(rt; set.dtz(rt.alloc(), &free)?, 1);
-    let material = Material::from_name(b"KPvK").expect(&rt, "a name");
-    let stopped = position_of(&rt, &[(b'K', 0), (b'P', 28), (b'k', 36)], Side::White);
-    assert_eq!(rt;
-        set.dtz(rt.alloc(), &stopped),
-        Err(ProbeFault::NotCovered(material))
+/// From d6 black's king stops the pawn on e5 or meets it on e6, by neither its first nor its last move.
+fn check_stopped_pawn(rt: &impl Abort, alloc: Global, set: &mut Set<'_>) {
+    let verdict = Some(Verdict::TableWhite);
+    check_distance(rt, alloc, set, "Ka1 Pe4 ke5 w", Ok(10));
+    check_distance_and_verdict(rt, alloc, set, "Ka1 Pe4 kd6 b", -11, verdict);
+}
+
+/// Each promotion's table is needed, though the own one stores the side.
+fn check_promotion(rt: &impl Abort, alloc: Global, set: &mut Set<'_>) {
+    check_distance(
+        rt,
+        alloc,
+        set,
+        "Ka1 Pe7 kd6 w",
+        Err(not_covered(rt, "KQvK")),
     );
-    add(&rt, rt.alloc(), &mut set, b"KPvK.rtbz", &files[2])?;
-    assert_eq!(rt; set.dtz(rt.alloc(), &stopped)?, 10);
-    // From d6 black's king stops the pawn on e5 or meets it on e6, by neither its first nor its last move.
-    let defence = position_of(&rt, &[(b'K', 0), (b'P', 28), (b'k', 43)], Side::Black);
-    assert_eq!(rt; set.dtz(rt.alloc(), &defence)?, -11);
-    assert_eq!(rt; set.judge(rt.alloc(), &defence)?, Some(Verdict::TableWhite));
-    // Each promotion's table is needed, though the own one stores the side.
-    let queen = Material::from_name(b"KQvK").expect(&rt, "a name");
-    let promoting = position_of(&rt, &[(b'K', 0), (b'P', 52), (b'k', 43)], Side::White);
-    assert_eq!(rt;
-        set.dtz(rt.alloc(), &promoting),
-        Err(ProbeFault::NotCovered(queen))
-    );
-    assert_eq!(rt; set.judge(rt.alloc(), &promoting)?, None);
-    Ok(())
+    check_verdict(rt, alloc, set, "Ka1 Pe7 kd6 w", None);
 }
 
 #[test]
-fn moves_to_the_other_side(rt: HostRuntime) -> Result<(), Fail> {
-    let files = [
-        file_of(&QUEEN),
-        file_of(&QUEEN_AGAINST),
-        file_of(&CURSED_QUEEN),
-        file_of(&CURSED_MOVES),
-    ];
-    let mut against = Set::new(rt.alloc(), 64)?;
-    add(&rt, rt.alloc(), &mut against, b"KQvK.rtbw", &files[0])?;
-    add(&rt, rt.alloc(), &mut against, b"KQvK.rtbz", &files[1])?;
-    let queen = position_of(&rt, &QUEEN_MEN, Side::White);
-    assert_eq!(rt; against.dtz(rt.alloc(), &queen)?, 6);
-    // Queen b1 to b8 is mate.
-    let mating = position_of(&rt, &[(b'K', 46), (b'Q', 1), (b'k', 63)], Side::White);
-    assert_eq!(rt; against.dtz(rt.alloc(), &mating)?, 1);
-    let mut cursed = Set::new(rt.alloc(), 64)?;
-    add(&rt, rt.alloc(), &mut cursed, b"KQvK.rtbw", &files[2])?;
-    add(&rt, rt.alloc(), &mut cursed, b"KQvK.rtbz", &files[3])?;
-    let rows = [
-        (queen, 111i32),
-        (position_of(&rt, &CHECKING_MEN, Side::Black), -112),
-    ];
-    for (position, distance) in rows {
-        assert_eq!(rt; cursed.dtz(rt.alloc(), &position)?, distance);
-        assert_eq!(rt; cursed.judge(rt.alloc(), &position)?, None);
-    }
-    let six = [
-        (b'K', 0),
-        (b'k', 63),
-        (b'n', 57),
-        (b'N', 1),
-        (b'B', 2),
-        (b'b', 58),
-    ];
-    let crowd = position_of(&rt, &six, Side::White);
-    assert_eq!(rt; cursed.dtz(rt.alloc(), &crowd), Err(ProbeFault::OutOfScope));
-    Ok(())
+fn captures_and_pawn_moves(rt: HostRuntime) {
+    let values = files_of(&PAWN, &PAWNS);
+    let distances = file_of(&PAWN_PLIES);
+    let mut set = set_of(&rt, rt.alloc(), &["KPvK.rtbw", "KPvKP.rtbw"], &values);
+    check_pawns_without_distances(&rt, rt.alloc(), &mut set);
+    add(&rt, rt.alloc(), &mut set, "KPvK.rtbz", &distances);
+    check_stopped_pawn(&rt, rt.alloc(), &mut set);
+    check_promotion(&rt, rt.alloc(), &mut set);
 }
 
-/// The move between squares of these numbers.
-fn step(rt: &impl Abort, from: u8, to: u8) -> Move {
-    Move {
-        from: Square::new(from).expect(rt, "a square"),
-        to: Square::new(to).expect(rt, "a square"),
-        promotion: None,
-    }
+/// In the second position the queen goes to b8 with mate.
+#[test]
+fn moves_to_the_other_side(rt: HostRuntime) {
+    let files = files_of(&QUEEN, &QUEEN_AGAINST);
+    let mut set = set_of(&rt, rt.alloc(), &QUEEN_TABLES, &files);
+    check_distance(&rt, rt.alloc(), &mut set, QUEEN_ROW, Ok(6));
+    check_distance(&rt, rt.alloc(), &mut set, "Kg6 Qb1 kh8 w", Ok(1));
 }
 
-/// King a2 and queen b1 against king e5 and rook h1.
-const ROOK_MEN: [(u8, u8); 4] = [(b'K', 8), (b'Q', 1), (b'k', 36), (b'r', 7)];
+fn check_cursed_rows(rt: &impl Abort, alloc: Global, set: &mut Set<'_>) {
+    check_distance_and_verdict(rt, alloc, set, QUEEN_ROW, 111, None);
+    check_distance_and_verdict(rt, alloc, set, CHECKING_ROW, -112, None);
+    check_distance(rt, alloc, set, SIX_ROW, Err(ProbeFault::OutOfScope));
+}
 
 #[test]
-fn first_verdicts_of_games(rt: HostRuntime) -> Result<(), Fail> {
-    let files = [file_of(&QUEEN), file_of(&QUEEN_PLIES)];
-    let mut set = Set::new(rt.alloc(), 64)?;
-    add(&rt, rt.alloc(), &mut set, b"KQvK.rtbw", &files[0])?;
-    add(&rt, rt.alloc(), &mut set, b"KQvK.rtbz", &files[1])?;
-    let start = position_of(&rt, &ROOK_MEN, Side::Black);
-    let moves = [
-        step(&rt, 7, 63),
-        step(&rt, 1, 57),
-        step(&rt, 36, 28),
-        step(&rt, 57, 63),
-        step(&rt, 28, 19),
-        step(&rt, 8, 17),
-        step(&rt, 19, 11),
-        step(&rt, 63, 27),
-        step(&rt, 11, 12),
-    ];
-    let ruled = GameOutcome::Ruled {
-        ply: 4,
+fn cursed_moves(rt: HostRuntime) {
+    let files = files_of(&CURSED_QUEEN, &CURSED_MOVES);
+    let mut set = set_of(&rt, rt.alloc(), &QUEEN_TABLES, &files);
+    check_cursed_rows(&rt, rt.alloc(), &mut set);
+}
+
+/// What the game of these moves comes to.
+fn game_of(
+    rt: &impl Abort,
+    alloc: Global,
+    set: &mut Set<'_>,
+    start: &str,
+    moves: &str,
+) -> Result<GameOutcome, AllocError> {
+    let moves = moves_of(alloc, moves)?;
+    set.judge_game(alloc, &position_of(rt, start), moves.as_slice())
+}
+
+fn check_game(
+    rt: &impl Abort,
+    alloc: Global,
+    set: &mut Set<'_>,
+    start: &str,
+    moves: &str,
+    outcome: GameOutcome,
+) {
+    let told = game_of(rt, alloc, set, start, moves).ok();
+    check_same(rt, told, Some(outcome), moves);
+}
+
+fn white_wins_at(ply: usize) -> GameOutcome {
+    GameOutcome::Ruled {
+        ply,
         verdict: Verdict::TableWhite,
-    };
-    assert_eq!(rt; set.judge_game(rt.alloc(), &start, &moves)?, ruled);
-    assert_eq!(rt;
-        set.judge_game(rt.alloc(), &start, &moves[..3])?,
-        GameOutcome::Going
-    );
-    assert_eq!(rt;
-        set.judge_game(rt.alloc(), &start, &[])?,
-        GameOutcome::Going
-    );
-    let twice = [moves[0], moves[0]];
-    assert_eq!(rt;
-        set.judge_game(rt.alloc(), &start, &twice)?,
-        GameOutcome::Illegal { place: 1 }
-    );
-    let queen = position_of(&rt, &QUEEN_MEN, Side::White);
-    let at_once = GameOutcome::Ruled {
-        ply: 0,
-        verdict: Verdict::TableWhite,
-    };
-    assert_eq!(rt; set.judge_game(rt.alloc(), &queen, &moves)?, at_once);
-    Ok(())
+    }
 }
 
-/// What a set tells of the hanging queen where memory may be refused: the right answer or that.
+const GAME: &str = "h1h8 b1b8 e5e4 b8h8 e4d3 a2b3 d3d2 h8d4 d2e2";
+
+fn check_ruled_games(rt: &impl Abort, alloc: Global, set: &mut Set<'_>) {
+    check_game(rt, alloc, set, ROOK_ROW, GAME, white_wins_at(4));
+    check_game(rt, alloc, set, QUEEN_ROW, GAME, white_wins_at(0));
+}
+
+/// A game that is cut before its verdict, one without moves, and one whose second move is its first again.
+const OTHER_GAMES: [(&str, GameOutcome); 3] = [
+    ("h1h8 b1b8 e5e4", GameOutcome::Going),
+    ("", GameOutcome::Going),
+    ("h1h8 h1h8", GameOutcome::Illegal { place: 1 }),
+];
+
+fn check_other_games(rt: &impl Abort, alloc: Global, set: &mut Set<'_>) {
+    for (moves, outcome) in OTHER_GAMES {
+        check_game(rt, alloc, set, ROOK_ROW, moves, outcome);
+    }
+}
+
+#[test]
+fn first_verdicts_of_games(rt: HostRuntime) {
+    let files = files_of(&QUEEN, &QUEEN_PLIES);
+    let mut set = set_of(&rt, rt.alloc(), &QUEEN_TABLES, &files);
+    check_ruled_games(&rt, rt.alloc(), &mut set);
+    check_other_games(&rt, rt.alloc(), &mut set);
+}
+
+/// The value of the hanging queen where memory may be refused: the right one or that.
+fn check_value_or_refusal(rt: &impl Abort, alloc: Global, set: &mut Set<'_>) {
+    match set.wdl(alloc, &position_of(rt, HANGING_ROW)) {
+        Ok(value) => check_same(rt, value, Wdl::Draw, HANGING_ROW),
+        Err(fault) => check_same(rt, fault, ProbeFault::OutOfMemory, HANGING_ROW),
+    }
+}
+
+fn check_verdict_or_refusal(rt: &impl Abort, alloc: Global, set: &mut Set<'_>) {
+    if let Ok(verdict) = set.judge(alloc, &position_of(rt, HANGING_ROW)) {
+        check_same(rt, verdict, Some(Verdict::TableDraw), HANGING_ROW);
+    }
+}
+
+/// The distance by a quiet move.
+fn check_distance_or_refusal(rt: &impl Abort, alloc: Global, set: &mut Set<'_>) {
+    match set.dtz(alloc, &position_of(rt, CHECKING_ROW)) {
+        Ok(distance) => check_same(rt, distance, -11, CHECKING_ROW),
+        Err(fault) => check_same(rt, fault, ProbeFault::OutOfMemory, CHECKING_ROW),
+    }
+}
+
+fn check_game_or_refusal(rt: &impl Abort, alloc: Global, set: &mut Set<'_>) {
+    if let Ok(outcome) = game_of(rt, alloc, set, ROOK_ROW, "h1h8 b1b8 e5e4 b8h8") {
+        check_same(rt, outcome, white_wins_at(4), "a game");
+    }
+}
+
 fn check_answers(rt: &impl Abort, alloc: Global, set: &mut Set<'_>) {
-    let hanging = position_of(rt, &HANGING_MEN, Side::Black);
     for _ in 0..2u8 {
-        match set.wdl(alloc, &hanging) {
-            Ok(value) => assert_eq!(rt; value, Wdl::Draw),
-            Err(fault) => assert_eq!(rt; fault, ProbeFault::OutOfMemory),
-        }
-        if let Ok(verdict) = set.judge(alloc, &hanging) {
-            assert_eq!(rt; verdict, Some(Verdict::TableDraw));
-        }
+        check_value_or_refusal(rt, alloc, set);
+        check_verdict_or_refusal(rt, alloc, set);
     }
 }
 
-/// The same of its distances, by a quiet move and by a game.
-fn check_distances(rt: &impl Abort, alloc: Global, set: &mut Set<'_>) {
-    let checking = position_of(rt, &CHECKING_MEN, Side::Black);
-    match set.dtz(alloc, &checking) {
-        Ok(distance) => assert_eq!(rt; distance, -11),
-        Err(fault) => assert_eq!(rt; fault, ProbeFault::OutOfMemory),
-    }
-    let start = position_of(rt, &ROOK_MEN, Side::Black);
-    let moves = [
-        step(rt, 7, 63),
-        step(rt, 1, 57),
-        step(rt, 36, 28),
-        step(rt, 57, 63),
-    ];
-    if let Ok(outcome) = set.judge_game(alloc, &start, &moves) {
-        let ruled = GameOutcome::Ruled {
-            ply: 4,
-            verdict: Verdict::TableWhite,
-        };
-        assert_eq!(rt; outcome, ruled);
-    }
-}
-
-/// The same for a set to which the queen's tables are added.
-fn check_refusals(rt: &impl Abort, alloc: Global, files: &[[u8; 80]; 2]) -> Result<(), Fail> {
-    let mut set = Set::new(alloc, 64)?;
-    let table = open(alloc, b"KQvK.rtbw", &files[0])?;
+/// Whether the table is added; where it isn't, memory was refused.
+fn is_added<'a>(
+    rt: &impl Abort,
+    alloc: Global,
+    set: &mut Set<'a>,
+    name: &str,
+    file: &'a [u8; 80],
+) -> Result<bool, Fail> {
+    let table = open(alloc, name.as_bytes(), file)?;
     match set.add(table) {
-        Ok(()) => check_answers(rt, alloc, &mut set),
-        Err(fault) => assert_eq!(rt; fault, SetFault::OutOfMemory),
+        Ok(()) => Ok(true),
+        Err(fault) => {
+            check_same(rt, fault, SetFault::OutOfMemory, name);
+            Ok(false)
+        }
     }
-    let table = open(alloc, b"KQvK.rtbz", &files[1])?;
-    if set.add(table).is_ok()
-        && set
-            .wdl(alloc, &position_of(rt, &QUEEN_MEN, Side::White))
-            .is_ok()
-    {
-        check_distances(rt, alloc, &mut set);
+}
+
+fn is_told(rt: &impl Abort, alloc: Global, set: &mut Set<'_>, row: &str) -> bool {
+    set.wdl(alloc, &position_of(rt, row)).is_ok()
+}
+
+fn check_values_added<'a>(
+    rt: &impl Abort,
+    alloc: Global,
+    set: &mut Set<'a>,
+    file: &'a [u8; 80],
+) -> Result<(), Fail> {
+    if is_added(rt, alloc, set, "KQvK.rtbw", file)? {
+        check_answers(rt, alloc, set);
+    }
+    Ok(())
+}
+
+fn check_distances_added<'a>(
+    rt: &impl Abort,
+    alloc: Global,
+    set: &mut Set<'a>,
+    file: &'a [u8; 80],
+) -> Result<(), Fail> {
+    if is_added(rt, alloc, set, "KQvK.rtbz", file)? && is_told(rt, alloc, set, QUEEN_ROW) {
+        check_distance_or_refusal(rt, alloc, set);
+        check_game_or_refusal(rt, alloc, set);
     }
     Ok(())
 }
 
 #[test]
 fn refused_memory_changes_no_answer(rt: HostRuntime) -> Result<(), Fail> {
-    let files = [file_of(&QUEEN), file_of(&QUEEN_PLIES)];
-    check_refusals(&rt, rt.alloc(), &files)
+    let values = file_of(&QUEEN);
+    let distances = file_of(&QUEEN_PLIES);
+    let mut set = Set::new(rt.alloc(), 64)?;
+    check_values_added(&rt, rt.alloc(), &mut set, &values)?;
+    check_distances_added(&rt, rt.alloc(), &mut set, &distances)
 }
