@@ -28,4 +28,12 @@ pub use verdict::Verdict;
 pub use wdl::Wdl;
 
 #[cfg(test)]
+mod forge_tests;
+#[cfg(test)]
+mod index_tests;
+#[cfg(test)]
+mod seeded;
+#[cfg(test)]
+mod table_tests;
+#[cfg(test)]
 mod tests;

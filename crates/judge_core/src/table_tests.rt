@@ -1,9 +1,9 @@
 //! The worked files, refusals, cuts and changed bytes.
 
-use crate::{Damaged, Kind, Outcome, Spot, Table, TableFault, open};
 use std::alloc::{AllocError, Global};
 use std::process::Abort;
 use std::test::Fail;
+use table_file::{Damaged, Kind, Outcome, Spot, Table, TableFault, open};
 
 /// Bytes of a worked file of 80 bytes, all others zero.
 pub(crate) const N: [u8; 14] = [

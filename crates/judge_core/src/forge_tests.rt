@@ -1,13 +1,13 @@
 //! The worked files as plans, plans that no file says, and writers that fail.
 
-use crate::tests::{B, N, PPW, PW, QW, QZ, padded, queen};
-use crate::{
-    Content, Damaged, ForgeFault, Kind, MapsPlan, Outcome, PairsPlan, PartPlan, Plan, forge, open,
-};
+use crate::table_tests::{B, N, PPW, PW, QW, QZ, padded, queen};
 use place_index::Material;
 use std::alloc::{AllocError, Global};
 use std::io::{self, Write};
 use std::test::Fail;
+use table_file::{
+    Content, Damaged, ForgeFault, Kind, MapsPlan, Outcome, PairsPlan, PartPlan, Plan, forge, open,
+};
 
 fn no_maps(alloc: Global) -> MapsPlan {
     MapsPlan {

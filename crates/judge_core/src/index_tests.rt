@@ -1,7 +1,7 @@
 ghost use Rattle.std.specs.Prelude.{◌<◌};
 
-use super::*;
 use board_core::{Kind, Men, Parts, Piece, Position, Rights, Side};
+use place_index::{Material, Shape, ShapeFault, index, place};
 
 /// The tables of three to five men, in the order of their keys.
 pub(crate) const NAMES: [&str; 15] = [
