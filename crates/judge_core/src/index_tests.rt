@@ -1,7 +1,9 @@
 ghost use Rattle.std.specs.Prelude.{◌<◌};
 
+use crate::table_tests::{check_bytes, check_same};
 use board_core::{Kind, Men, Parts, Piece, Position, Rights, Side};
 use place_index::{Material, Shape, ShapeFault, index, place};
+use std::process::Abort;
 
 /// The tables of three to five men, in the order of their keys.
 pub(crate) const NAMES: [&str; 15] = [
@@ -36,34 +38,49 @@ const NEAR_MISSES: [&str; 10] = [
     "KQvK0|kqpvkr|kqpvkb|kqpvkn|kqpvkp|krrvkq|krrvkr|krrvkb|krrvkn|krrvkp",
 ];
 
+fn check_name(rt: &impl Abort, name: &str, key: u8) {
+    let material = Material::from_name(name.as_bytes()).expect(rt, name);
+    let written = material.name();
+    check_same(rt, material.key(), key, name);
+    check_bytes(rt, written.as_str().as_bytes(), name.as_bytes(), name);
+}
+
+/// The names of a row, whose keys begin by this one.
+fn check_names(rt: &impl Abort, row: &str, key: &mut u8) {
+    for name in row.split(' ') {
+        check_name(rt, name, *key);
+        *key = key.wrapping_add(1);
+    }
+}
+
 #[test]
 fn names_are_read_and_written(rt: HostRuntime) {
     let mut key = 0u8;
     for row in NAMES {
-        for name in row.split(' ') {
-            let material = Material::from_name(name.as_bytes());
-            assert!(rt; material.is_some(), "{name}");
-            if let Some(material) = material {
-                let written = material.name();
-                assert_eq!(rt; written.as_str().as_bytes(), name.as_bytes());
-                assert_eq!(rt; material.key(), key, "{name}");
-            }
-            key = key.wrapping_add(1);
-        }
+        check_names(&rt, row, &mut key);
     }
-    assert_eq!(rt; key, 145);
+    check_same(&rt, key, 145, "names");
+}
+
+fn is_name(text: &str) -> bool {
+    Material::from_name(text.as_bytes()).is_some()
+}
+
+/// No text of a row is a name.
+fn check_near_misses(rt: &impl Abort, row: &str, count: &mut u8) {
+    for text in row.split('|') {
+        check_same(rt, is_name(text), false, text);
+        *count = count.wrapping_add(1);
+    }
 }
 
 #[test]
 fn near_misses_are_refused(rt: HostRuntime) {
     let mut count = 0u8;
     for row in NEAR_MISSES {
-        for text in row.split('|') {
-            assert!(rt; Material::from_name(text.as_bytes()).is_none(), "{text}");
-            count = count.wrapping_add(1);
-        }
+        check_near_misses(&rt, row, &mut count);
     }
-    assert_eq!(rt; count, 100);
+    check_same(&rt, count, 100, "texts");
 }
 
 /// The size of a shape, or the fault.
@@ -76,43 +93,58 @@ fn size(name: &str, pieces: &[u8], order: u8, second: u8, file: u8) -> Result<u6
     }
 }
 
+fn check_size(rt: &impl Abort, name: &str, pieces: &[u8], second: u8, file: u8, wanted: u64) {
+    assert!(rt; file < 4);
+    check_same(rt, size(name, pieces, 0, second, file), Ok(wanted), name);
+}
+
 #[test]
 fn shapes_have_their_sizes(rt: HostRuntime) {
-    assert_eq!(rt; size("KQvK", &[6, 5, 14], 0, 0, 0), Ok(31332));
-    assert_eq!(rt; size("KQQQvK", &[6, 14, 5, 5, 5], 0, 0, 0), Ok(17472840));
-    assert_eq!(rt; size("KQRvKB", &[6, 5, 4, 11, 14], 0, 0, 0), Ok(114675120));
-    assert_eq!(rt; size("KPPvKP", &[9, 1, 1, 6, 14], 0, 1, 0), Ok(23738760));
-    assert_eq!(rt; size("KPPPvK", &[1, 1, 1, 6, 14], 0, 0, 0), Ok(19035660));
-    assert_eq!(rt; size("KPPPvK", &[1, 1, 1, 6, 14], 0, 0, 3), Ok(457500));
-    assert_eq!(rt;
-        size("KQQvK", &[5, 6, 14, 5], 0, 0, 0),
-        Err(ShapeFault::BadPieces)
-    );
-    assert_eq!(rt;
-        size("KQQvK", &[6, 14, 5, 5], 2, 0, 0),
-        Err(ShapeFault::BadOrder)
-    );
+    check_size(&rt, "KQvK", &[6, 5, 14], 0, 0, 31332);
+    check_size(&rt, "KQQQvK", &[6, 14, 5, 5, 5], 0, 0, 17472840);
+    check_size(&rt, "KQRvKB", &[6, 5, 4, 11, 14], 0, 0, 114675120);
+    check_size(&rt, "KPPvKP", &[9, 1, 1, 6, 14], 1, 0, 23738760);
+    check_size(&rt, "KPPPvK", &[1, 1, 1, 6, 14], 0, 0, 19035660);
+    check_size(&rt, "KPPPvK", &[1, 1, 1, 6, 14], 0, 3, 457500);
+}
+
+#[test]
+fn bad_shapes_are_refused(rt: HostRuntime) {
+    let pieces = size("KQQvK", &[5, 6, 14, 5], 0, 0, 0);
+    check_same(&rt, pieces, Err(ShapeFault::BadPieces), "pieces");
+    let order = size("KQQvK", &[6, 14, 5, 5], 2, 0, 0);
+    check_same(&rt, order, Err(ShapeFault::BadOrder), "order");
+}
+
+fn check_pawns(rt: &impl Abort, pawns: &Material) {
+    assert!(rt; pawns.has_pawns() && !pawns.symmetric());
+}
+
+/// The shape of two pawns against one, whose leading pawn stands on d or e.
+fn shape_of_pawns(rt: &impl Abort, pawns: &Material) -> Shape {
+    Shape::new(pawns, &[9, 1, 1, 6, 14], 2, 0, 3).expect(rt, "a shape")
+}
+
+fn check_groups(rt: &impl Abort, shape: &Shape) {
+    check_same(rt, shape.material().key(), 144, "key");
+    check_bytes(rt, shape.pieces(), &[9, 1, 1, 6, 14], "pieces");
+    check_same(rt, shape.groups().len(), 4, "groups");
+}
+
+fn check_places(rt: &impl Abort, shape: &Shape) {
+    check_same(rt, (shape.order(), shape.second()), (2, 0), "places");
+    check_same(rt, shape.file(), 3, "file");
+    let factors = [1081 * 61, 1, 1081, 6 * 1081 * 61];
+    assert_eq!(rt; shape.factors(), factors.as_slice());
 }
 
 #[test]
 fn a_shape_shows_its_groups(rt: HostRuntime) {
-    let pawns = Material::from_name(b"KPPvKP");
-    assert!(rt; pawns.is_some());
-    if let Some(pawns) = pawns {
-        assert!(rt; pawns.has_pawns() && !pawns.symmetric());
-        let shape = Shape::new(&pawns, &[9, 1, 1, 6, 14], 2, 0, 3);
-        assert!(rt; shape.is_ok());
-        if let Ok(shape) = shape {
-            assert_eq!(rt; shape.material().key(), 144);
-            assert_eq!(rt; shape.pieces(), [9, 1, 1, 6, 14].as_slice());
-            assert_eq!(rt; shape.groups().len(), 4);
-            assert_eq!(rt; (shape.order(), shape.second(), shape.file()), (2, 0, 3));
-            assert_eq!(rt;
-                shape.factors(),
-                [1081 * 61, 1, 1081, 6 * 1081 * 61].as_slice()
-            );
-        }
-    }
+    let pawns = Material::from_name(b"KPPvKP").expect(&rt, "a material");
+    check_pawns(&rt, &pawns);
+    let shape = shape_of_pawns(&rt, &pawns);
+    check_groups(&rt, &shape);
+    check_places(&rt, &shape);
 }
 
 const WHITE_KING: Piece = Piece {
@@ -145,22 +177,21 @@ const BLACK_PAWN: Piece = Piece {
     kind: Kind::Pawn,
 };
 
-/// The index of the position with these men, in a table which gives its pieces in this order.
-pub(crate) fn index_of(
-    men: &[(u8, Piece)],
-    side: Side,
-    pieces: &[u8],
-    order: u8,
-    second: u8,
-) -> Option<u64> {
+/// The men on their squares; those past the board are left out.
+fn squares_of(men: &[(u8, Piece)]) -> Men {
     let mut squares: Men = [None; 64];
     for (square, piece) in men {
         if *square < 64 {
             squares[*square as usize] = Some(*piece);
         }
     }
+    squares
+}
+
+/// The position of these men, if there can be one.
+fn position_of(men: Men, side: Side) -> Option<Position> {
     let parts = Parts {
-        men: squares,
+        men,
         side,
         rights: Rights {
             white_king: false,
@@ -172,72 +203,134 @@ pub(crate) fn index_of(
         halfmove: 0,
         fullmove: 1,
     };
-    let Ok(position) = Position::new(parts) else {
-        return None;
-    };
-    let Some(material) = Material::of(&position) else {
-        return None;
-    };
-    let placed = place(&position, &material);
+    Position::new(parts).ok()
+}
+
+/// The index of a position of this material.
+fn index_in(position: &Position, pieces: &[u8], order: u8, second: u8) -> Option<u64> {
+    let material = Material::of(position)?;
+    let placed = place(position, &material);
     let Ok(shape) = Shape::new(&material, pieces, order, second, placed.file()) else {
         return None;
     };
     Some(index(&shape, &placed))
 }
 
+/// The index of the position with these men, in a table which gives its pieces in this order.
+pub(crate) fn index_of(
+    men: &[(u8, Piece)],
+    side: Side,
+    pieces: &[u8],
+    order: u8,
+    second: u8,
+) -> Option<u64> {
+    let position = position_of(squares_of(men), side)?;
+    index_in(&position, pieces, order, second)
+}
+
+fn check_index(
+    rt: &impl Abort,
+    men: &[(u8, Piece)],
+    side: Side,
+    pieces: &[u8],
+    places: (u8, u8),
+    wanted: Option<u64>,
+) {
+    let told = index_of(men, side, pieces, places.0, places.1);
+    check_same(rt, told, wanted, "index");
+}
+
+const ROOK: [(u8, Piece); 3] = [(1, WHITE_KING), (18, WHITE_ROOK), (63, BLACK_KING)];
+
+const ROOK_MIRRORED: [(u8, Piece); 3] = [(62, WHITE_KING), (45, WHITE_ROOK), (0, BLACK_KING)];
+
+const ROOK_ON_DIAGONAL: [(u8, Piece); 3] = [(27, WHITE_KING), (63, WHITE_ROOK), (54, BLACK_KING)];
+
 #[test]
-fn positions_have_their_indices(rt: HostRuntime) {
-    let rook = [(1, WHITE_KING), (18, WHITE_ROOK), (63, BLACK_KING)];
-    assert_eq!(rt; index_of(&rook, Side::White, &[6, 4, 14], 0, 0), Some(1115));
-    let mirrored = [(62, WHITE_KING), (45, WHITE_ROOK), (0, BLACK_KING)];
-    assert_eq!(rt;
-        index_of(&mirrored, Side::White, &[6, 4, 14], 0, 0),
-        Some(1115)
+fn rooks_have_their_indices(rt: HostRuntime) {
+    let pieces = [6, 4, 14];
+    check_index(&rt, &ROOK, Side::White, &pieces, (0, 0), Some(1115));
+    check_index(
+        &rt,
+        &ROOK_MIRRORED,
+        Side::White,
+        &pieces,
+        (0, 0),
+        Some(1115),
     );
-    let diagonal = [(27, WHITE_KING), (63, WHITE_ROOK), (54, BLACK_KING)];
-    assert_eq!(rt;
-        index_of(&diagonal, Side::Black, &[6, 4, 14], 0, 0),
-        Some(31331)
+    check_index(
+        &rt,
+        &ROOK_ON_DIAGONAL,
+        Side::Black,
+        &pieces,
+        (0, 0),
+        Some(31331),
     );
-    let pawn = [(8, WHITE_PAWN), (4, WHITE_KING), (60, BLACK_KING)];
-    assert_eq!(rt;
-        index_of(&pawn, Side::White, &[1, 6, 14], 0, 0),
-        Some(21948)
+}
+
+const PAWN: [(u8, Piece); 3] = [(8, WHITE_PAWN), (4, WHITE_KING), (60, BLACK_KING)];
+
+const PAWNS: [(u8, Piece); 4] = [
+    (10, WHITE_PAWN),
+    (23, WHITE_PAWN),
+    (4, WHITE_KING),
+    (60, BLACK_KING),
+];
+
+const BOTH: [(u8, Piece); 4] = [
+    (8, WHITE_PAWN),
+    (55, BLACK_PAWN),
+    (4, WHITE_KING),
+    (60, BLACK_KING),
+];
+
+#[test]
+fn pawns_have_their_indices(rt: HostRuntime) {
+    check_index(&rt, &PAWN, Side::White, &[1, 6, 14], (0, 0), Some(21948));
+    check_index(
+        &rt,
+        &PAWNS,
+        Side::White,
+        &[1, 1, 6, 14],
+        (0, 0),
+        Some(875769),
     );
-    let pawns = [
-        (10, WHITE_PAWN),
-        (23, WHITE_PAWN),
-        (4, WHITE_KING),
-        (60, BLACK_KING),
-    ];
-    assert_eq!(rt;
-        index_of(&pawns, Side::White, &[1, 1, 6, 14], 0, 0),
-        Some(875769)
+    check_index(
+        &rt,
+        &BOTH,
+        Side::White,
+        &[1, 9, 6, 14],
+        (0, 1),
+        Some(997992),
     );
-    let both = [
-        (8, WHITE_PAWN),
-        (55, BLACK_PAWN),
-        (4, WHITE_KING),
-        (60, BLACK_KING),
-    ];
-    assert_eq!(rt;
-        index_of(&both, Side::White, &[1, 9, 6, 14], 0, 1),
-        Some(997992)
+    check_index(
+        &rt,
+        &BOTH,
+        Side::Black,
+        &[1, 9, 6, 14],
+        (0, 1),
+        Some(980226),
     );
-    assert_eq!(rt;
-        index_of(&both, Side::Black, &[1, 9, 6, 14], 0, 1),
-        Some(980226)
+}
+
+const QUEENS: [(u8, Piece); 4] = [
+    (0, WHITE_KING),
+    (18, BLACK_KING),
+    (1, WHITE_QUEEN),
+    (27, WHITE_QUEEN),
+];
+
+const BARE: [(u8, Piece); 2] = [(0, WHITE_KING), (18, BLACK_KING)];
+
+#[test]
+fn queens_have_their_indices(rt: HostRuntime) {
+    check_index(
+        &rt,
+        &QUEENS,
+        Side::Black,
+        &[6, 14, 5, 5],
+        (1, 0),
+        Some(834231),
     );
-    let queens = [
-        (0, WHITE_KING),
-        (18, BLACK_KING),
-        (1, WHITE_QUEEN),
-        (27, WHITE_QUEEN),
-    ];
-    assert_eq!(rt;
-        index_of(&queens, Side::Black, &[6, 14, 5, 5], 1, 0),
-        Some(834231)
-    );
-    let bare = [(0, WHITE_KING), (18, BLACK_KING)];
-    assert_eq!(rt; index_of(&bare, Side::White, &[6, 14], 0, 0), None);
+    check_index(&rt, &BARE, Side::White, &[6, 14], (0, 0), None);
 }

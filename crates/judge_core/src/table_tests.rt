@@ -1,9 +1,26 @@
 //! The worked files, refusals, cuts and changed bytes.
 
+use arrayvec::ArrayString;
+use place_index::Shape;
 use std::alloc::{AllocError, Global};
+use std::fmt::Debug;
 use std::process::Abort;
-use std::test::Fail;
 use table_file::{Damaged, Kind, Outcome, Spot, Table, TableFault, open};
+
+/// What was told is what was wanted.
+pub(crate) fn check_same<T: PartialEq + Debug + Copy>(
+    rt: &impl Abort,
+    told: T,
+    wanted: T,
+    row: &str,
+) {
+    assert_eq!(rt; told, wanted, "{row}");
+}
+
+/// The bytes that were told are those that were wanted.
+pub(crate) fn check_bytes(rt: &impl Abort, told: &[u8], wanted: &[u8], row: &str) {
+    assert_eq!(rt; told, wanted, "{row}");
+}
 
 /// Bytes of a worked file of 80 bytes, all others zero.
 pub(crate) const N: [u8; 14] = [
@@ -67,6 +84,11 @@ pub(crate) fn padded(alloc: Global, front: &[u8], length: usize) -> Result<Vec<u
     Ok(bytes)
 }
 
+/// A file of 80 bytes with this front.
+pub(crate) fn file_of(rt: &impl Abort, alloc: Global, front: &[u8]) -> Vec<u8> {
+    padded(alloc, front, 80).expect(rt, "memory")
+}
+
 /// Appends a block of eight bytes whose first bits are ones.
 fn push_ones(bytes: &mut Vec<u8>, front: &[u8]) -> Result<(), AllocError> {
     bytes.extend_from_slice(front)?;
@@ -102,214 +124,394 @@ pub(crate) fn queen(alloc: Global) -> Result<Vec<u8>, AllocError> {
     padded(alloc, &bytes, 3984)
 }
 
+/// The whole queen's table, where there is memory.
+pub(crate) fn queen_file(rt: &impl Abort, alloc: Global) -> Vec<u8> {
+    queen(alloc).expect(rt, "memory")
+}
+
+/// A file as a table, or its fault. The functions down to `distance` show a table to the tests without its contracts.
+pub(crate) fn opened<'a>(
+    alloc: Global,
+    name: &str,
+    file: &'a [u8],
+) -> Result<Table<'a>, TableFault> {
+    open(alloc, name.as_bytes(), file)
+}
+
+/// The table of a file that is good.
+pub(crate) fn table_of<'a>(
+    rt: &impl Abort,
+    alloc: Global,
+    name: &str,
+    file: &'a [u8],
+) -> Table<'a> {
+    opened(alloc, name, file).expect(rt, "a table")
+}
+
 /// The fault of a file that is to be refused.
-fn fault(alloc: Global, name: &[u8], file: &[u8]) -> Option<TableFault> {
-    match open(alloc, name, file) {
+fn fault(alloc: Global, name: &str, file: &[u8]) -> Option<TableFault> {
+    match opened(alloc, name, file) {
         Ok(_) => None,
         Err(fault) => Some(fault),
     }
 }
 
-#[test]
-fn worked_files_open(rt: HostRuntime) -> Result<(), Fail> {
-    let rows: [(&[u8], &[u8], bool, [u16; 2], &[u8]); 6] = [
-        (b"KNvK.rtbw", &N, false, [2, 2], &[6, 2, 14]),
-        (b"KQvK.rtbw", &QW, false, [4, 0], &[6, 5, 14]),
-        (b"KQvK.rtbz", &QZ, true, [0, 0], &[6, 5, 14]),
-        (b"KPvK.rtbw", &PW, false, [4, 0], &[1, 6, 14]),
-        (b"KPvKP.rtbw", &PPW, false, [2, 2], &[1, 9, 6, 14]),
-        (b"KBvK.rtbw", &B, false, [2, 2], &[6, 3, 14]),
-    ];
-    for (name, front, is_dtz, values, pieces) in rows {
-        let file = padded(rt.alloc(), front, 80)?;
-        let table = open(rt.alloc(), name, &file)?;
-        assert_eq!(rt; table.is_dtz(), is_dtz, "{name:?}");
-        let men = table.material().name();
-        assert!(rt; name.starts_with(men.as_str().as_bytes()), "{name:?}");
-        for file in 0u8..4 {
-            if file > 0 && !table.material().has_pawns() {
-                continue;
-            }
-            assert_eq!(rt; table.shape(0, file).pieces(), pieces, "{name:?}");
-            assert_eq!(rt; table.shape(0, file).order(), 0, "{name:?}");
-            assert_eq!(rt; table.shape(1, file).file(), file, "{name:?}");
-            for index in [0, 1, 31332, u64::MAX] {
-                assert_eq!(rt; table.value(0, file, index), Ok(values[0]), "{name:?}");
-                assert_eq!(rt; table.value(1, file, index), Ok(values[1]), "{name:?}");
-                assert_eq!(rt;
-                    table.locate(1, file, index),
-                    Ok(Spot::Single(values[1])),
-                    "{name:?}"
-                );
-            }
-        }
+/// How many files of the leading pawn there are.
+fn files(table: &Table<'_>) -> u8 {
+    if table.material().has_pawns() { 4 } else { 1 }
+}
+
+fn shape<'t>(rt: &impl Abort, table: &'t Table<'_>, side: u8, file: u8) -> &'t Shape {
+    assert!(rt; side < 2 && file < 4 && (file == 0 || table.material().has_pawns()));
+    table.shape(side, file)
+}
+
+fn value(
+    rt: &impl Abort,
+    table: &Table<'_>,
+    side: u8,
+    file: u8,
+    index: u64,
+) -> Result<u16, Damaged> {
+    assert!(rt; side < 2 && file < 4 && (file == 0 || table.material().has_pawns()));
+    table.value(side, file, index)
+}
+
+fn spot(
+    rt: &impl Abort,
+    table: &Table<'_>,
+    side: u8,
+    file: u8,
+    index: u64,
+) -> Result<Spot, Damaged> {
+    assert!(rt; side < 2 && file < 4 && (file == 0 || table.material().has_pawns()));
+    table.locate(side, file, index)
+}
+
+/// Whether a DTZ table stores a side.
+fn stores(rt: &impl Abort, table: &Table<'_>, side: u8, file: u8) -> bool {
+    assert!(rt; table.kind() == Kind::Dtz);
+    assert!(rt; side < 2 && file < 4 && (file == 0 || table.material().has_pawns()));
+    table.stores(side, file)
+}
+
+/// The plies that a DTZ table tells.
+pub(crate) fn distance(
+    rt: &impl Abort,
+    table: &Table<'_>,
+    file: u8,
+    index: u64,
+    outcome: Outcome,
+) -> Result<u32, Damaged> {
+    assert!(rt; table.kind() == Kind::Dtz);
+    assert!(rt; file < 4 && (file == 0 || table.material().has_pawns()));
+    table.dtz(file, index, outcome)
+}
+
+fn name_of(table: &Table<'_>) -> ArrayString<8> {
+    table.material().name()
+}
+
+fn check_title(rt: &impl Abort, table: &Table<'_>, name: &str, is_dtz: bool) {
+    check_same(rt, table.is_dtz(), is_dtz, name);
+    let men = name_of(table);
+    assert!(rt;
+        name.as_bytes().starts_with(men.as_str().as_bytes()),
+        "{name}"
+    );
+}
+
+/// The shape of both sides' parts of a file.
+fn check_shape(rt: &impl Abort, table: &Table<'_>, file: u8, pieces: &[u8]) {
+    check_bytes(rt, shape(rt, table, 0, file).pieces(), pieces, "pieces");
+    check_same(rt, shape(rt, table, 0, file).order(), 0, "order");
+    check_same(rt, shape(rt, table, 1, file).file(), file, "file");
+}
+
+/// Each side has one value at an index.
+fn check_single(rt: &impl Abort, table: &Table<'_>, file: u8, index: u64, values: [u16; 2]) {
+    let [first, second] = values;
+    check_same(rt, value(rt, table, 0, file, index), Ok(first), "value");
+    check_same(rt, value(rt, table, 1, file, index), Ok(second), "value");
+    let wanted = Ok(Spot::Single(second));
+    check_same(rt, spot(rt, table, 1, file, index), wanted, "spot");
+}
+
+fn check_singles(rt: &impl Abort, table: &Table<'_>, file: u8, values: [u16; 2]) {
+    for index in [0, 1, 31332, u64::MAX] {
+        check_single(rt, table, file, index, values);
     }
-    Ok(())
+}
+
+/// A table whose files all have these pieces and one value for each side.
+fn check_files(rt: &impl Abort, table: &Table<'_>, values: [u16; 2], pieces: &[u8]) {
+    for file in 0..files(table) {
+        check_shape(rt, table, file, pieces);
+        check_singles(rt, table, file, values);
+    }
+}
+
+fn check_worked(
+    rt: &impl Abort,
+    alloc: Global,
+    name: &str,
+    front: &[u8],
+    is_dtz: bool,
+    values: [u16; 2],
+    pieces: &[u8],
+) {
+    let file = file_of(rt, alloc, front);
+    let table = table_of(rt, alloc, name, &file);
+    check_title(rt, &table, name, is_dtz);
+    check_files(rt, &table, values, pieces);
 }
 
 #[test]
-fn first_fault_is_told(rt: HostRuntime) -> Result<(), Fail> {
-    let rows: [(&[u8], &[u8], usize, u8, Option<TableFault>); 19] = [
-        (b"KNvK.rtbw", &N, 0, 0x70, Some(TableFault::BadMagic)),
-        (b"KBvK.rtbw", &N, 79, 0, Some(TableFault::BadPieces)),
-        (b"KNvK.rtbw", &N, 4, 0x00, Some(TableFault::BadFlags)),
-        (b"KNvK.rtbw", &N, 4, 0x03, Some(TableFault::BadFlags)),
-        (b"KNvK.rtbw", &N, 5, 0x01, Some(TableFault::BadOrder)),
-        (b"KNvK.rtbw", &N, 5, 0x10, Some(TableFault::BadOrder)),
-        (b"KNvK.rtbw", &N, 6, 0x65, Some(TableFault::BadPieces)),
-        (b"KNvK.rtbw", &N, 10, 0x00, Some(TableFault::BadExponent)),
-        (b"KNvK.rtbw", &N, 4, 0xFD, None),
-        (b"KNvK.rtbw", &N, 79, 0xFF, None),
-        (b"KQvK.rtbz", &QZ, 4, 0x00, None),
-        (b"KQvK.rtbz", &QZ, 4, 0x02, Some(TableFault::BadFlags)),
-        (b"KQvK.rtbz", &QZ, 12, 0xFF, Some(TableFault::Truncated)),
-        (b"KQvK.rtbz", &QZ, 12, 0x00, None),
-        (b"KQvK.rtbw", &QZ, 79, 0, Some(TableFault::BadMagic)),
-        (b"KQvK.rtbx", &QZ, 79, 0, Some(TableFault::BadName)),
-        (b"KvK.rtbz", &QZ, 79, 0, Some(TableFault::BadName)),
-        (b"rtbz", &QZ, 79, 0, Some(TableFault::BadName)),
-        (b"KQvK", &QZ, 79, 0, Some(TableFault::BadName)),
-    ];
-    for (name, front, at, byte, expected) in rows {
-        let mut file = padded(rt.alloc(), front, 80)?;
-        assert!(rt; at < file.len());
-        file[at] = byte;
-        assert_eq!(rt; fault(rt.alloc(), name, &file), expected, "{name:?} {at}");
+fn worked_files_open(rt: HostRuntime) {
+    let alloc = rt.alloc();
+    check_worked(&rt, alloc, "KNvK.rtbw", &N, false, [2, 2], &[6, 2, 14]);
+    check_worked(&rt, alloc, "KQvK.rtbw", &QW, false, [4, 0], &[6, 5, 14]);
+    check_worked(&rt, alloc, "KQvK.rtbz", &QZ, true, [0, 0], &[6, 5, 14]);
+    check_worked(&rt, alloc, "KPvK.rtbw", &PW, false, [4, 0], &[1, 6, 14]);
+    check_worked(
+        &rt,
+        alloc,
+        "KPvKP.rtbw",
+        &PPW,
+        false,
+        [2, 2],
+        &[1, 9, 6, 14],
+    );
+    check_worked(&rt, alloc, "KBvK.rtbw", &B, false, [2, 2], &[6, 3, 14]);
+}
+
+/// A file with one byte changed.
+fn changed(alloc: Global, file: &[u8], at: usize, byte: u8) -> Result<Vec<u8>, AllocError> {
+    let mut changed = padded(alloc, file, file.len())?;
+    if let Some(place) = changed.get_mut(at) {
+        *place = byte;
     }
-    let rows: [(usize, u8, Option<TableFault>); 5] = [
-        (18, 0x00, Some(TableFault::BadCode)),
-        (32, 0x02, Some(TableFault::BadSymbol)),
-        (42, 0x1B, Some(TableFault::BadSparse)),
-        (40, 0x01, Some(TableFault::BadSparse)),
-        (3983, 0x01, None),
-    ];
-    for (at, byte, expected) in rows {
-        let mut file = queen(rt.alloc())?;
-        assert!(rt; at < file.len());
-        file[at] = byte;
-        assert_eq!(rt; fault(rt.alloc(), b"KQvK.rtbw", &file), expected, "{at}");
+    Ok(changed)
+}
+
+fn changed_file(rt: &impl Abort, alloc: Global, file: &[u8], at: usize, byte: u8) -> Vec<u8> {
+    assert!(rt; at < file.len());
+    changed(alloc, file, at, byte).expect(rt, "memory")
+}
+
+/// The fault of a file with one byte changed.
+fn check_fault(
+    rt: &impl Abort,
+    alloc: Global,
+    name: &str,
+    file: &[u8],
+    change: (usize, u8),
+    wanted: Option<TableFault>,
+) {
+    let changed = changed_file(rt, alloc, file, change.0, change.1);
+    let told = fault(alloc, name, &changed);
+    check_same(rt, (change, told), (change, wanted), name);
+}
+
+/// Changed bytes of the knight's table.
+const KNIGHT_FAULTS: [(&str, usize, u8, Option<TableFault>); 10] = [
+    ("KNvK.rtbw", 0, 0x70, Some(TableFault::BadMagic)),
+    ("KBvK.rtbw", 79, 0, Some(TableFault::BadPieces)),
+    ("KNvK.rtbw", 4, 0x00, Some(TableFault::BadFlags)),
+    ("KNvK.rtbw", 4, 0x03, Some(TableFault::BadFlags)),
+    ("KNvK.rtbw", 5, 0x01, Some(TableFault::BadOrder)),
+    ("KNvK.rtbw", 5, 0x10, Some(TableFault::BadOrder)),
+    ("KNvK.rtbw", 6, 0x65, Some(TableFault::BadPieces)),
+    ("KNvK.rtbw", 10, 0x00, Some(TableFault::BadExponent)),
+    ("KNvK.rtbw", 4, 0xFD, None),
+    ("KNvK.rtbw", 79, 0xFF, None),
+];
+
+#[test]
+fn first_fault_of_results_is_told(rt: HostRuntime) {
+    let file = file_of(&rt, rt.alloc(), &N);
+    for (name, at, byte, wanted) in KNIGHT_FAULTS {
+        check_fault(&rt, rt.alloc(), name, &file, (at, byte), wanted);
     }
-    Ok(())
+}
+
+/// Changed bytes of the queen's DTZ table.
+const DISTANCE_FAULTS: [(&str, usize, u8, Option<TableFault>); 9] = [
+    ("KQvK.rtbz", 4, 0x00, None),
+    ("KQvK.rtbz", 4, 0x02, Some(TableFault::BadFlags)),
+    ("KQvK.rtbz", 12, 0xFF, Some(TableFault::Truncated)),
+    ("KQvK.rtbz", 12, 0x00, None),
+    ("KQvK.rtbw", 79, 0, Some(TableFault::BadMagic)),
+    ("KQvK.rtbx", 79, 0, Some(TableFault::BadName)),
+    ("KvK.rtbz", 79, 0, Some(TableFault::BadName)),
+    ("rtbz", 79, 0, Some(TableFault::BadName)),
+    ("KQvK", 79, 0, Some(TableFault::BadName)),
+];
+
+#[test]
+fn first_fault_of_distances_is_told(rt: HostRuntime) {
+    let file = file_of(&rt, rt.alloc(), &QZ);
+    for (name, at, byte, wanted) in DISTANCE_FAULTS {
+        check_fault(&rt, rt.alloc(), name, &file, (at, byte), wanted);
+    }
+}
+
+/// Changed bytes of the queen's table with blocks.
+const BLOCK_FAULTS: [(usize, u8, Option<TableFault>); 5] = [
+    (18, 0x00, Some(TableFault::BadCode)),
+    (32, 0x02, Some(TableFault::BadSymbol)),
+    (42, 0x1B, Some(TableFault::BadSparse)),
+    (40, 0x01, Some(TableFault::BadSparse)),
+    (3983, 0x01, None),
+];
+
+#[test]
+fn first_fault_of_blocks_is_told(rt: HostRuntime) {
+    let file = queen_file(&rt, rt.alloc());
+    for (at, byte, wanted) in BLOCK_FAULTS {
+        check_fault(&rt, rt.alloc(), "KQvK.rtbw", &file, (at, byte), wanted);
+    }
+}
+
+fn check_value(rt: &impl Abort, table: &Table<'_>, index: u64, wanted: u16) {
+    let told = value(rt, table, 0, 0, index);
+    check_same(rt, (index, told), (index, Ok(wanted)), "value");
+}
+
+/// Side 0 of the queen's table has no value at an index, and side 1 has the value 0.
+fn check_past(rt: &impl Abort, table: &Table<'_>, index: u64) {
+    check_same(rt, value(rt, table, 0, 0, index), Err(Damaged), "value");
+    check_same(rt, spot(rt, table, 0, 0, index), Err(Damaged), "spot");
+    check_same(rt, value(rt, table, 1, 0, index), Ok(0), "other side");
 }
 
 /// The queen's table gives 4 at even indices and 0 at odd ones, as long as there are any.
-fn check_queen(rt: &impl Abort, table: &Table) {
+fn check_queen(rt: &impl Abort, table: &Table<'_>) {
     for index in 0u64..31332 {
-        let expected = if index % 2 == 0 { 4 } else { 0 };
-        assert_eq!(rt; table.value(0, 0, index), Ok(expected), "at {index}");
+        check_value(rt, table, index, if index % 2 == 0 { 4 } else { 0 });
     }
     for index in [31332, 31333, 31360, 100_000, u64::MAX] {
-        assert_eq!(rt; table.value(0, 0, index), Err(Damaged), "at {index}");
-        assert_eq!(rt; table.locate(0, 0, index), Err(Damaged), "at {index}");
-        assert_eq!(rt; table.value(1, 0, index), Ok(0), "at {index}");
+        check_past(rt, table, index);
+    }
+}
+
+/// The length of the queen's table, and its sparse entries for the first block and the last.
+pub(crate) fn check_queen_bytes(rt: &impl Abort, file: &[u8]) {
+    assert_eq!(rt; file.len(), 3984);
+    check_bytes(rt, &file[38..44], &[0x01, 0, 0, 0, 0x1C, 0], "first");
+    check_bytes(rt, &file[770..776], &[0x3A, 0x01, 0, 0, 0x1C, 0], "last");
+}
+
+fn check_spot(rt: &impl Abort, table: &Table<'_>, index: u64, block: u32, offset: u32) {
+    let wanted = Ok(Spot::At { block, offset });
+    check_same(rt, spot(rt, table, 0, 0, index), wanted, "spot");
+}
+
+/// The values of the block in which an index stands.
+fn unpacked(rt: &impl Abort, alloc: Global, table: &Table<'_>, index: u64) -> Vec<u16> {
+    let Ok(Spot::At { block, .. }) = table.locate(0, 0, index) else {
+        return Vec::new(alloc);
+    };
+    table.unpack(alloc, 0, 0, block).expect(rt, "memory")
+}
+
+/// The values of a block are so many, 4 and 0 in turn.
+fn check_block(rt: &impl Abort, values: &[u16], count: usize) {
+    check_same(rt, values.len(), count, "count");
+    for (k, value) in values.iter().enumerate() {
+        let wanted = if k % 2 == 0 { 4u16 } else { 0 };
+        check_same(rt, (k, *value), (k, wanted), "value");
+    }
+}
+
+fn check_blocks(rt: &impl Abort, alloc: Global, table: &Table<'_>) {
+    for (index, count) in [(0u64, 100usize), (31299, 100), (31300, 32)] {
+        check_block(rt, &unpacked(rt, alloc, table, index), count);
+    }
+}
+
+fn check_spots(rt: &impl Abort, table: &Table<'_>) {
+    for (index, block, offset) in [(0u64, 0, 0), (127, 1, 27), (128, 1, 28), (31331, 313, 31)] {
+        check_spot(rt, table, index, block, offset);
     }
 }
 
 #[test]
-fn values_stand_in_blocks(rt: HostRuntime) -> Result<(), Fail> {
-    let file = queen(rt.alloc())?;
-    assert_eq!(rt; file.len(), 3984);
-    assert_eq!(rt; &file[38..44], [0x01, 0, 0, 0, 0x1C, 0].as_slice());
-    assert_eq!(rt; &file[770..776], [0x3A, 0x01, 0, 0, 0x1C, 0].as_slice());
-    let table = open(rt.alloc(), b"KQvK.rtbw", &file)?;
+fn values_stand_in_blocks(rt: HostRuntime) {
+    let file = queen_file(&rt, rt.alloc());
+    check_queen_bytes(&rt, &file);
+    let table = table_of(&rt, rt.alloc(), "KQvK.rtbw", &file);
     check_queen(&rt, &table);
-    for (index, block, offset) in [(0, 0, 0), (127, 1, 27), (128, 1, 28), (31331, 313, 31)] {
-        let spot = Spot::At { block, offset };
-        assert_eq!(rt; table.locate(0, 0, index), Ok(spot), "at {index}");
-    }
-    for (index, count) in [(0, 100), (31299, 100), (31300, 32)] {
-        if let Ok(Spot::At { block, .. }) = table.locate(0, 0, index) {
-            let values = table.unpack(rt.alloc(), 0, 0, block)?;
-            let expected = [4u16, 0].iter().copied().cycle().take(count);
-            assert!(rt; values.iter().copied().eq(expected), "{values:?}");
-        } else {
-            assert!(rt; false, "at {index}");
-        }
-    }
-    // An entry may name any earlier block, with an offset past its end.
-    let mut file = queen(rt.alloc())?;
-    assert!(rt; file.len() > 42);
-    file[38] = 0;
-    file[42] = 128;
-    let table = open(rt.alloc(), b"KQvK.rtbw", &file)?;
-    check_queen(&rt, &table);
-    Ok(())
+    check_spots(&rt, &table);
+    check_blocks(&rt, rt.alloc(), &table);
+}
+
+/// The queen's table whose first sparse entry names an earlier block, with an offset past its end.
+fn queen_from_earlier_block(rt: &impl Abort, alloc: Global) -> Vec<u8> {
+    let file = changed_file(rt, alloc, &queen_file(rt, alloc), 38, 0);
+    changed_file(rt, alloc, &file, 42, 128)
+}
+
+#[test]
+fn an_entry_may_name_any_earlier_block(rt: HostRuntime) {
+    let file = queen_from_earlier_block(&rt, rt.alloc());
+    check_queen(&rt, &table_of(&rt, rt.alloc(), "KQvK.rtbw", &file));
 }
 
 /// Each shorter file is refused: for its size where that is none of a table file, else because a part isn't there.
-fn check_cuts(rt: &impl Abort, alloc: Global, name: &[u8], file: &[u8]) {
+fn check_cuts(rt: &impl Abort, alloc: Global, name: &str, file: &[u8]) {
     for length in 0..file.len() {
-        let expected = if length < 80 || length % 64 != 16 {
+        let wanted = if length < 80 || length % 64 != 16 {
             TableFault::BadSize
         } else {
             TableFault::Truncated
         };
-        assert_eq!(rt;
-            fault(alloc, name, &file[..length]),
-            Some(expected),
-            "{length}"
-        );
+        let told = fault(alloc, name, &file[..length]);
+        check_same(rt, (length, told), (length, Some(wanted)), name);
     }
 }
 
 #[test]
-fn cut_files_are_refused(rt: HostRuntime) -> Result<(), Fail> {
-    check_cuts(&rt, rt.alloc(), b"KNvK.rtbw", &padded(rt.alloc(), &N, 80)?);
-    check_cuts(&rt, rt.alloc(), b"KQvK.rtbz", &padded(rt.alloc(), &QZ, 80)?);
-    check_cuts(&rt, rt.alloc(), b"KQvK.rtbw", &queen(rt.alloc())?);
-    Ok(())
+fn cut_files_are_refused(rt: HostRuntime) {
+    let alloc = rt.alloc();
+    check_cuts(&rt, alloc, "KNvK.rtbw", &file_of(&rt, alloc, &N));
+    check_cuts(&rt, alloc, "KQvK.rtbz", &file_of(&rt, alloc, &QZ));
+    check_cuts(&rt, alloc, "KQvK.rtbw", &queen_file(&rt, alloc));
 }
 
-/// Changes each of some bytes, opens the file and reads of it what is there.
-fn check_changes(
-    rt: &impl Abort,
-    alloc: Global,
-    name: &[u8],
-    file: &[u8],
-    from: usize,
-) -> Result<(), AllocError> {
-    for at in from..file.len() {
-        if at >= from + 64 && at + 128 < file.len() {
-            continue;
-        }
-        for byte in [0x00, 0x01, 0x7F, 0x80, 0xFF] {
-            let mut changed = padded(alloc, file, file.len())?;
-            if at < changed.len() {
-                changed[at] = byte;
-            }
-            match open(alloc, name, &changed) {
-                Ok(table) => {
-                    for index in [0, 127, 31331, u64::MAX] {
-                        let value = table.value(0, 0, index);
-                        assert!(rt; value.is_err() || table.locate(0, 0, index).is_ok());
-                    }
-                }
-                Err(TableFault::OutOfMemory) => assert!(rt; false, "{at} {byte}"),
-                Err(_) => {}
+/// Where a value is told, its spot is told too.
+fn check_readable(rt: &impl Abort, table: &Table<'_>) {
+    for index in [0, 127, 31331, u64::MAX] {
+        let told = value(rt, table, 0, 0, index);
+        assert!(rt; told.is_err() || spot(rt, table, 0, 0, index).is_ok());
+    }
+}
+
+/// A file with one byte changed opens and tells values, or has a fault that isn't of memory.
+fn check_change(rt: &impl Abort, alloc: Global, name: &str, file: &[u8]) {
+    match opened(alloc, name, file) {
+        Ok(table) => check_readable(rt, &table),
+        Err(fault) => assert!(rt; fault != TableFault::OutOfMemory, "{name}"),
+    }
+}
+
+/// Changes each byte near the front and near the end of a file.
+fn check_changes(rt: &impl Abort, alloc: Global, name: &str, file: &[u8]) {
+    for at in 0..file.len() {
+        if at < 64 || file.len() - at <= 128 {
+            for byte in [0x00, 0x01, 0x7F, 0x80, 0xFF] {
+                check_change(rt, alloc, name, &changed_file(rt, alloc, file, at, byte));
             }
         }
     }
-    Ok(())
 }
 
 #[test]
-fn changed_bytes_open_or_are_refused(rt: HostRuntime) -> Result<(), Fail> {
-    check_changes(
-        &rt,
-        rt.alloc(),
-        b"KNvK.rtbw",
-        &padded(rt.alloc(), &N, 80)?,
-        0,
-    )?;
-    check_changes(
-        &rt,
-        rt.alloc(),
-        b"KQvK.rtbz",
-        &padded(rt.alloc(), &QZ, 80)?,
-        0,
-    )?;
-    check_changes(&rt, rt.alloc(), b"KQvK.rtbw", &queen(rt.alloc())?, 0)?;
-    Ok(())
+fn changed_bytes_open_or_are_refused(rt: HostRuntime) {
+    let alloc = rt.alloc();
+    check_changes(&rt, alloc, "KNvK.rtbw", &file_of(&rt, alloc, &N));
+    check_changes(&rt, alloc, "KQvK.rtbz", &file_of(&rt, alloc, &QZ));
+    check_changes(&rt, alloc, "KQvK.rtbw", &queen_file(&rt, alloc));
 }
 
 /// The queen's DTZ table of one value, with these flags and maps.
@@ -321,60 +523,84 @@ fn queen_distances(alloc: Global, flags: u8, maps: &[u8]) -> Result<Vec<u8>, All
     padded(alloc, &bytes, 80)
 }
 
-#[test]
-fn flags_and_maps_tell_distances(rt: HostRuntime) -> Result<(), Fail> {
-    let narrow: [u8; 8] = [1, 9, 1, 5, 1, 7, 1, 11];
-    let wide: [u8; 16] = [1, 0, 9, 1, 1, 0, 5, 0, 1, 0, 7, 0, 1, 0, 0xFF, 0xFF];
-    let rows: [(u8, &[u8], [Option<u32>; 4]); 7] = [
-        (0x86, &QZ[12..], [Some(9), None, None, None]),
-        (0x82, &QZ[12..], [Some(18), None, None, None]),
-        (0x86, &narrow, [Some(9), Some(14), Some(22), Some(10)]),
-        (0x8A, &narrow, [Some(18), Some(14), Some(22), Some(5)]),
-        (0x8E, &narrow, [Some(9), Some(14), Some(22), Some(5)]),
-        (0x96, &wide, [Some(265), Some(14), Some(131_070), Some(10)]),
-        (0x80, &[], [Some(0), Some(0), Some(0), Some(0)]),
-    ];
-    for (flags, maps, expected) in rows {
-        let file = queen_distances(rt.alloc(), flags, maps)?;
-        let table = open(rt.alloc(), b"KQvK.rtbz", &file)?;
-        assert!(rt; table.kind() == Kind::Dtz);
-        for (outcome, plies) in OUTCOMES.into_iter().zip(expected) {
-            assert_eq!(rt;
-                table.dtz(0, 31332, outcome).ok(),
-                plies,
-                "{flags} {outcome:?}"
-            );
-        }
-        assert!(rt; table.stores(0, 0) && !table.stores(1, 0), "{flags}");
+/// The map of one entry for wins, 9; all others are empty.
+const ONE_ENTRY: [u8; 16] = [1, 9, 0, 0, 0, 0, 0, 0, 0, 0, 0, 0, 0, 0, 0, 0];
+
+/// Four maps of one entry each, of one byte and of two.
+const NARROW: [u8; 16] = [1, 9, 1, 5, 1, 7, 1, 11, 0, 0, 0, 0, 0, 0, 0, 0];
+
+const WIDE: [u8; 16] = [1, 0, 9, 1, 1, 0, 5, 0, 1, 0, 7, 0, 1, 0, 0xFF, 0xFF];
+
+/// Flags, maps, and the plies that they give for each outcome.
+const DISTANCES: [(u8, [u8; 16], [Option<u32>; 4]); 7] = [
+    (0x86, ONE_ENTRY, [Some(9), None, None, None]),
+    (0x82, ONE_ENTRY, [Some(18), None, None, None]),
+    (0x86, NARROW, [Some(9), Some(14), Some(22), Some(10)]),
+    (0x8A, NARROW, [Some(18), Some(14), Some(22), Some(5)]),
+    (0x8E, NARROW, [Some(9), Some(14), Some(22), Some(5)]),
+    (0x96, WIDE, [Some(265), Some(14), Some(131_070), Some(10)]),
+    (0x80, [0; 16], [Some(0), Some(0), Some(0), Some(0)]),
+];
+
+fn check_outcomes(rt: &impl Abort, table: &Table<'_>, flags: u8, wanted: [Option<u32>; 4]) {
+    for (outcome, plies) in OUTCOMES.into_iter().zip(wanted) {
+        let told = distance(rt, table, 0, 31332, outcome).ok();
+        check_same(rt, (flags, told), (flags, plies), "plies");
     }
-    Ok(())
+}
+
+fn check_distances(
+    rt: &impl Abort,
+    alloc: Global,
+    flags: u8,
+    maps: &[u8],
+    wanted: [Option<u32>; 4],
+) {
+    let file = queen_distances(alloc, flags, maps).expect(rt, "memory");
+    let table = table_of(rt, alloc, "KQvK.rtbz", &file);
+    check_outcomes(rt, &table, flags, wanted);
+    check_same(rt, stores(rt, &table, 0, 0), true, "first side");
+    check_same(rt, stores(rt, &table, 1, 0), false, "second side");
 }
 
 #[test]
-fn each_file_has_its_flags_and_maps(rt: HostRuntime) -> Result<(), Fail> {
-    let file = padded(rt.alloc(), &PZ, 80)?;
-    let table = open(rt.alloc(), b"KPvK.rtbz", &file)?;
-    assert!(rt; table.kind() == Kind::Dtz && table.material().has_pawns());
-    for (file, side, plies) in [(0u8, 0, 9), (1, 1, 8), (2, 0, 14), (3, 1, 0)] {
-        assert_eq!(rt; table.dtz(file, 0, Outcome::Win), Ok(plies), "{file}");
-        assert_eq!(rt; table.stores(0, file), side == 0, "{file}");
-        assert_eq!(rt; table.stores(1, file), side == 1, "{file}");
+fn flags_and_maps_tell_distances(rt: HostRuntime) {
+    for (flags, maps, wanted) in DISTANCES {
+        check_distances(&rt, rt.alloc(), flags, &maps, wanted);
     }
-    Ok(())
+}
+
+fn check_pawn_file(rt: &impl Abort, table: &Table<'_>, file: u8, side: u8, plies: u32) {
+    let told = distance(rt, table, file, 0, Outcome::Win);
+    check_same(rt, (file, told), (file, Ok(plies)), "plies");
+    check_same(rt, stores(rt, table, 0, file), side == 0, "first side");
+    check_same(rt, stores(rt, table, 1, file), side == 1, "second side");
+}
+
+#[test]
+fn each_file_has_its_flags_and_maps(rt: HostRuntime) {
+    let file = file_of(&rt, rt.alloc(), &PZ);
+    let table = table_of(&rt, rt.alloc(), "KPvK.rtbz", &file);
+    for (file, side, plies) in [(0u8, 0, 9), (1, 1, 8), (2, 0, 14), (3, 1, 0)] {
+        check_pawn_file(&rt, &table, file, side, plies);
+    }
+}
+
+fn check_both_sides(rt: &impl Abort, alloc: Global, flags: u8) {
+    let file = file_of(
+        rt,
+        alloc,
+        &[0xD7, 0x66, 0x0C, 0xA5, 0, 0, 6, 2, 10, 14, flags],
+    );
+    let table = table_of(rt, alloc, "KNvKN.rtbz", &file);
+    check_same(rt, stores(rt, &table, 0, 0), true, "first side");
+    check_same(rt, stores(rt, &table, 1, 0), true, "second side");
 }
 
 /// Where both sides have the same men a table tells distances for both.
 #[test]
-fn symmetric_material_stores_both_sides(rt: HostRuntime) -> Result<(), Fail> {
+fn symmetric_material_stores_both_sides(rt: HostRuntime) {
     for flags in [0x80, 0x81] {
-        let file = padded(
-            rt.alloc(),
-            &[0xD7, 0x66, 0x0C, 0xA5, 0, 0, 6, 2, 10, 14, flags],
-            80,
-        )?;
-        let table = open(rt.alloc(), b"KNvKN.rtbz", &file)?;
-        assert!(rt; table.kind() == Kind::Dtz);
-        assert!(rt; table.stores(0, 0) && table.stores(1, 0), "{flags}");
+        check_both_sides(&rt, rt.alloc(), flags);
     }
-    Ok(())
 }
