@@ -429,23 +429,16 @@ fn each_failed_write_is_told(rt: HostRuntime) {
     }
 }
 
-/// So many entries: 10, 20, and so on.
-fn tens(alloc: Global, entries: u16) -> Result<Vec<u16>, AllocError> {
-    let mut tens = Vec::new(alloc);
-    for k in 1..=entries {
-        tens.push(k.wrapping_mul(10))?;
-    }
-    Ok(tens)
-}
+const TENS: [u16; 5] = [10, 20, 30, 40, 50];
 
-/// The maps with so many entries for wins.
-fn maps_of_tens(rt: &impl Abort, alloc: Global, entries: u16) -> MapsPlan {
-    let tens = tens(alloc, entries).expect(rt, "memory");
-    maps(rt, alloc, &tens, &[])
+/// The maps with so many of the tens for wins.
+fn maps_of_tens(rt: &impl Abort, alloc: Global, entries: usize) -> MapsPlan {
+    assert!(rt; entries <= 5);
+    maps(rt, alloc, &TENS[..entries], &[])
 }
 
 /// The queen's DTZ table with blocks of values 4 and 0 in turn, and so many entries for wins.
-fn queen_distances(rt: &impl Abort, alloc: Global, flags: u8, entries: u16) -> Vec<u8> {
+fn queen_distances(rt: &impl Abort, alloc: Global, flags: u8, entries: usize) -> Vec<u8> {
     let maps = maps_of_tens(rt, alloc, entries);
     let part = queen_part(rt, alloc, flags, Content::Pairs(pairs(rt, alloc)), maps);
     forged_file(rt, alloc, &queen_dtz(rt, alloc, part))
@@ -477,7 +470,7 @@ fn check_distances(
     rt: &impl Abort,
     alloc: Global,
     flags: u8,
-    entries: u16,
+    entries: usize,
     even: Option<u32>,
     odd: Option<u32>,
 ) {
@@ -486,7 +479,7 @@ fn check_distances(
 }
 
 /// Flags, how many entries the map has, and the plies at even indices and at odd ones.
-const DISTANCES: [(u8, u16, Option<u32>, Option<u32>); 6] = [
+const DISTANCES: [(u8, usize, Option<u32>, Option<u32>); 6] = [
     (0x06, 5, Some(50), Some(10)),
     (0x06, 4, None, Some(10)),
     (0x06, 0, None, None),

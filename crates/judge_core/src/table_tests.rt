@@ -1,5 +1,8 @@
 //! The worked files, refusals, cuts and changed bytes.
 
+ghost use Rattle.std.specs.Prelude.{◌<◌};
+ghost use Rattle.table_file.specs.Tables.{IsFile};
+
 use arrayvec::ArrayString;
 use place_index::Shape;
 use std::alloc::{AllocError, Global};
@@ -161,8 +164,16 @@ fn files(table: &Table<'_>) -> u8 {
     if table.material().has_pawns() { 4 } else { 1 }
 }
 
-fn shape<'t>(rt: &impl Abort, table: &'t Table<'_>, side: u8, file: u8) -> &'t Shape {
+/// A table has a part for a side and a file.
+fn check_part(rt: &impl Abort, table: &Table<'_>, side: u8, file: u8)
+    ensures side { side < 2 }
+    ensures file { IsFile table.now.material file }
+{
     assert!(rt; side < 2 && file < 4 && (file == 0 || table.material().has_pawns()));
+}
+
+fn shape<'t>(rt: &impl Abort, table: &'t Table<'_>, side: u8, file: u8) -> &'t Shape {
+    check_part(rt, table, side, file);
     table.shape(side, file)
 }
 
@@ -173,7 +184,7 @@ fn value(
     file: u8,
     index: u64,
 ) -> Result<u16, Damaged> {
-    assert!(rt; side < 2 && file < 4 && (file == 0 || table.material().has_pawns()));
+    check_part(rt, table, side, file);
     table.value(side, file, index)
 }
 
@@ -184,14 +195,14 @@ fn spot(
     file: u8,
     index: u64,
 ) -> Result<Spot, Damaged> {
-    assert!(rt; side < 2 && file < 4 && (file == 0 || table.material().has_pawns()));
+    check_part(rt, table, side, file);
     table.locate(side, file, index)
 }
 
 /// Whether a DTZ table stores a side.
 fn stores(rt: &impl Abort, table: &Table<'_>, side: u8, file: u8) -> bool {
+    check_part(rt, table, side, file);
     assert!(rt; table.kind() == Kind::Dtz);
-    assert!(rt; side < 2 && file < 4 && (file == 0 || table.material().has_pawns()));
     table.stores(side, file)
 }
 
@@ -203,8 +214,8 @@ pub(crate) fn distance(
     index: u64,
     outcome: Outcome,
 ) -> Result<u32, Damaged> {
+    check_part(rt, table, 0, file);
     assert!(rt; table.kind() == Kind::Dtz);
-    assert!(rt; file < 4 && (file == 0 || table.material().has_pawns()));
     table.dtz(file, index, outcome)
 }
 
@@ -286,35 +297,31 @@ fn worked_files_open(rt: HostRuntime) {
 }
 
 /// A file with one byte changed.
-fn changed(alloc: Global, file: &[u8], at: usize, byte: u8) -> Result<Vec<u8>, AllocError> {
-    let mut changed = padded(alloc, file, file.len())?;
-    if let Some(place) = changed.get_mut(at) {
-        *place = byte;
-    }
-    Ok(changed)
-}
-
 fn changed_file(rt: &impl Abort, alloc: Global, file: &[u8], at: usize, byte: u8) -> Vec<u8> {
-    assert!(rt; at < file.len());
-    changed(alloc, file, at, byte).expect(rt, "memory")
+    let mut changed = padded(alloc, file, file.len()).expect(rt, "memory");
+    assert!(rt; at < changed.len());
+    changed[at] = byte;
+    changed
 }
 
-/// The fault of a file with one byte changed.
-fn check_fault(
-    rt: &impl Abort,
-    alloc: Global,
-    name: &str,
-    file: &[u8],
-    change: (usize, u8),
-    wanted: Option<TableFault>,
-) {
-    let changed = changed_file(rt, alloc, file, change.0, change.1);
+/// A name, the place of a byte, what it is changed to, and the fault of the file then.
+type Change = (&'static str, usize, u8, Option<TableFault>);
+
+fn check_fault(rt: &impl Abort, alloc: Global, file: &[u8], change: Change) {
+    let (name, at, byte, wanted) = change;
+    let changed = changed_file(rt, alloc, file, at, byte);
     let told = fault(alloc, name, &changed);
-    check_same(rt, (change, told), (change, wanted), name);
+    check_same(rt, (at, byte, told), (at, byte, wanted), name);
 }
 
-/// Changed bytes of the knight's table.
-const KNIGHT_FAULTS: [(&str, usize, u8, Option<TableFault>); 10] = [
+fn check_faults(rt: &impl Abort, alloc: Global, file: &[u8], changes: &[Change]) {
+    for change in changes {
+        check_fault(rt, alloc, file, *change);
+    }
+}
+
+/// Changes of the knight's table.
+const KNIGHT_CHANGES: [Change; 10] = [
     ("KNvK.rtbw", 0, 0x70, Some(TableFault::BadMagic)),
     ("KBvK.rtbw", 79, 0, Some(TableFault::BadPieces)),
     ("KNvK.rtbw", 4, 0x00, Some(TableFault::BadFlags)),
@@ -327,16 +334,8 @@ const KNIGHT_FAULTS: [(&str, usize, u8, Option<TableFault>); 10] = [
     ("KNvK.rtbw", 79, 0xFF, None),
 ];
 
-#[test]
-fn first_fault_of_results_is_told(rt: HostRuntime) {
-    let file = file_of(&rt, rt.alloc(), &N);
-    for (name, at, byte, wanted) in KNIGHT_FAULTS {
-        check_fault(&rt, rt.alloc(), name, &file, (at, byte), wanted);
-    }
-}
-
-/// Changed bytes of the queen's DTZ table.
-const DISTANCE_FAULTS: [(&str, usize, u8, Option<TableFault>); 9] = [
+/// Changes of the queen's DTZ table.
+const DISTANCE_CHANGES: [Change; 9] = [
     ("KQvK.rtbz", 4, 0x00, None),
     ("KQvK.rtbz", 4, 0x02, Some(TableFault::BadFlags)),
     ("KQvK.rtbz", 12, 0xFF, Some(TableFault::Truncated)),
@@ -348,29 +347,21 @@ const DISTANCE_FAULTS: [(&str, usize, u8, Option<TableFault>); 9] = [
     ("KQvK", 79, 0, Some(TableFault::BadName)),
 ];
 
-#[test]
-fn first_fault_of_distances_is_told(rt: HostRuntime) {
-    let file = file_of(&rt, rt.alloc(), &QZ);
-    for (name, at, byte, wanted) in DISTANCE_FAULTS {
-        check_fault(&rt, rt.alloc(), name, &file, (at, byte), wanted);
-    }
-}
-
-/// Changed bytes of the queen's table with blocks.
-const BLOCK_FAULTS: [(usize, u8, Option<TableFault>); 5] = [
-    (18, 0x00, Some(TableFault::BadCode)),
-    (32, 0x02, Some(TableFault::BadSymbol)),
-    (42, 0x1B, Some(TableFault::BadSparse)),
-    (40, 0x01, Some(TableFault::BadSparse)),
-    (3983, 0x01, None),
+/// Changes of the queen's table with blocks.
+const BLOCK_CHANGES: [Change; 5] = [
+    ("KQvK.rtbw", 18, 0x00, Some(TableFault::BadCode)),
+    ("KQvK.rtbw", 32, 0x02, Some(TableFault::BadSymbol)),
+    ("KQvK.rtbw", 42, 0x1B, Some(TableFault::BadSparse)),
+    ("KQvK.rtbw", 40, 0x01, Some(TableFault::BadSparse)),
+    ("KQvK.rtbw", 3983, 0x01, None),
 ];
 
 #[test]
-fn first_fault_of_blocks_is_told(rt: HostRuntime) {
-    let file = queen_file(&rt, rt.alloc());
-    for (at, byte, wanted) in BLOCK_FAULTS {
-        check_fault(&rt, rt.alloc(), "KQvK.rtbw", &file, (at, byte), wanted);
-    }
+fn first_fault_is_told(rt: HostRuntime) {
+    let alloc = rt.alloc();
+    check_faults(&rt, alloc, &file_of(&rt, alloc, &N), &KNIGHT_CHANGES);
+    check_faults(&rt, alloc, &file_of(&rt, alloc, &QZ), &DISTANCE_CHANGES);
+    check_faults(&rt, alloc, &queen_file(&rt, alloc), &BLOCK_CHANGES);
 }
 
 fn check_value(rt: &impl Abort, table: &Table<'_>, index: u64, wanted: u16) {
@@ -480,17 +471,22 @@ fn cut_files_are_refused(rt: HostRuntime) {
 }
 
 /// Where a value is told, its spot is told too.
-fn check_readable(rt: &impl Abort, table: &Table<'_>) {
+fn check_readable(rt: &impl Abort, table: &Table<'_>, index: u64) {
+    let told = value(rt, table, 0, 0, index);
+    let found = spot(rt, table, 0, 0, index);
+    assert!(rt; told.is_err() || found.is_ok());
+}
+
+fn check_all_readable(rt: &impl Abort, table: &Table<'_>) {
     for index in [0, 127, 31331, u64::MAX] {
-        let told = value(rt, table, 0, 0, index);
-        assert!(rt; told.is_err() || spot(rt, table, 0, 0, index).is_ok());
+        check_readable(rt, table, index);
     }
 }
 
 /// A file with one byte changed opens and tells values, or has a fault that isn't of memory.
 fn check_change(rt: &impl Abort, alloc: Global, name: &str, file: &[u8]) {
     match opened(alloc, name, file) {
-        Ok(table) => check_readable(rt, &table),
+        Ok(table) => check_all_readable(rt, &table),
         Err(fault) => assert!(rt; fault != TableFault::OutOfMemory, "{name}"),
     }
 }
@@ -577,13 +573,16 @@ fn check_pawn_file(rt: &impl Abort, table: &Table<'_>, file: u8, side: u8, plies
     check_same(rt, stores(rt, table, 1, file), side == 1, "second side");
 }
 
+fn check_pawn_files(rt: &impl Abort, table: &Table<'_>) {
+    for (file, side, plies) in [(0u8, 0, 9), (1, 1, 8), (2, 0, 14), (3, 1, 0)] {
+        check_pawn_file(rt, table, file, side, plies);
+    }
+}
+
 #[test]
 fn each_file_has_its_flags_and_maps(rt: HostRuntime) {
     let file = file_of(&rt, rt.alloc(), &PZ);
-    let table = table_of(&rt, rt.alloc(), "KPvK.rtbz", &file);
-    for (file, side, plies) in [(0u8, 0, 9), (1, 1, 8), (2, 0, 14), (3, 1, 0)] {
-        check_pawn_file(&rt, &table, file, side, plies);
-    }
+    check_pawn_files(&rt, &table_of(&rt, rt.alloc(), "KPvK.rtbz", &file));
 }
 
 fn check_both_sides(rt: &impl Abort, alloc: Global, flags: u8) {
