@@ -81,9 +81,7 @@ const OUTCOMES: [Outcome; 4] = [
 pub(crate) fn padded(alloc: Global, front: &[u8], length: usize) -> Result<Vec<u8>, AllocError> {
     let mut bytes = Vec::new(alloc);
     bytes.extend_from_slice(front)?;
-    for _ in front.len()..length {
-        bytes.push(0)?;
-    }
+    bytes.resize(length, 0)?;
     Ok(bytes)
 }
 
@@ -298,7 +296,7 @@ fn worked_files_open(rt: HostRuntime) {
 
 /// A file with one byte changed.
 fn changed_file(rt: &impl Abort, alloc: Global, file: &[u8], at: usize, byte: u8) -> Vec<u8> {
-    let mut changed = padded(alloc, file, file.len()).expect(rt, "memory");
+    let mut changed = file.to_vec(alloc).expect(rt, "memory");
     assert!(rt; at < changed.len());
     changed[at] = byte;
     changed
@@ -472,9 +470,9 @@ fn cut_files_are_refused(rt: HostRuntime) {
 
 /// Where a value is told, its spot is told too.
 fn check_readable(rt: &impl Abort, table: &Table<'_>, index: u64) {
-    let told = value(rt, table, 0, 0, index);
-    let found = spot(rt, table, 0, 0, index);
-    assert!(rt; told.is_err() || found.is_ok());
+    if value(rt, table, 0, 0, index).is_ok() {
+        check_same(rt, spot(rt, table, 0, 0, index).is_ok(), true, "spot");
+    }
 }
 
 fn check_all_readable(rt: &impl Abort, table: &Table<'_>) {
