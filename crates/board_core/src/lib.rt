@@ -27,5 +27,3 @@ pub use piece::{Kind, Men, Piece, Promotion, Side, Wing};
 pub use position::{Position, PositionFault};
 pub use square::Square;
 
-#[cfg(test)]
-mod tests;

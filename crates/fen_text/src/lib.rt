@@ -20,4 +20,6 @@ pub use reading::read;
 pub use writing::write;
 
 #[cfg(test)]
+mod board_tests;
+#[cfg(test)]
 mod tests;

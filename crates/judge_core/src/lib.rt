@@ -30,6 +30,14 @@ pub use wdl::Wdl;
 #[cfg(test)]
 mod boards;
 #[cfg(test)]
+mod forge_tests;
+#[cfg(test)]
 mod forged;
+#[cfg(test)]
+mod index_tests;
+#[cfg(test)]
+mod seeded;
+#[cfg(test)]
+mod table_tests;
 #[cfg(test)]
 mod tests;

@@ -30,7 +30,3 @@ pub use material::{Material, tables_are_numbered};
 pub use placed::{Placed, place};
 pub use shape::{Shape, ShapeFault};
 
-#[cfg(test)]
-mod seeded;
-#[cfg(test)]
-mod tests;

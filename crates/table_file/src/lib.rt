@@ -5,8 +5,6 @@
 
 mod codes;
 mod fault;
-#[cfg(test)]
-mod forge_tests;
 mod forging;
 mod kind;
 mod laws;
@@ -20,8 +18,6 @@ mod size_record;
 mod sparse;
 mod spots;
 mod table;
-#[cfg(test)]
-mod tests;
 
 pub use fault::TableFault;
 pub use forging::{ForgeFault, forge};

@@ -1,6 +1,6 @@
 //! Seeded positions, whose indices are found by counting placements one by one.
 
-use crate::tests::{NAMES, index_of};
+use crate::index_tests::{NAMES, index_of};
 use arrayvec::ArrayVec;
 use board_core::{Kind, Piece, Side};
 use std::alloc::{AllocError, Global};

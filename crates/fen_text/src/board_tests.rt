@@ -1,6 +1,8 @@
 //! Each public call once, on positions whose answers follow from the rules themselves.
 
-use super::*;
+use board_core::{
+    Bitboard, Kind, Men, Move, Parts, Piece, Position, PositionFault, Rights, Side, Square, Wing,
+};
 use std::test::*;
 
 fn piece_of(letter: u8) -> Option<Piece> {
