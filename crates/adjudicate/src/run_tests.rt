@@ -1,39 +1,49 @@
 //! The program over folders and files in memory: what it reads for a task, and what it refuses.
 
 use crate::disk::Disk;
+use crate::fixtures::*;
 use crate::input::ReadFault;
-use crate::program::run;
-use std::alloc::Global;
-use std::process::Abort;
+use std::alloc::{AllocError, Global};
 use std::test::*;
 
-/// One folder, `tables`, and files by their paths. A name of the folder without a file can't be read.
+/// A file of a disk in memory.
+#[derive(Drop)]
+struct Held {
+    path: &'static str,
+    bytes: Vec<u8>,
+}
+
+/// One folder, `tables`, with these names, parted by spaces, and files by their paths. A name without a file can't be
+/// read.
 #[derive(Drop)]
 struct Memory {
-    names: Vec<&'static str>,
-    paths: Vec<&'static str>,
-    contents: Vec<Vec<u8>>,
+    names: &'static str,
+    files: Vec<Held>,
 }
 
 impl Memory {
-    fn new(alloc: Global) -> Memory {
+    /// A folder with these names, and no file.
+    fn new(alloc: Global, names: &'static str) -> Memory {
         Memory {
-            names: Vec::new(alloc),
-            paths: Vec::new(alloc),
-            contents: Vec::new(alloc),
+            names,
+            files: Vec::new(alloc),
         }
     }
 
-    fn add_name(&mut self, name: &'static str) -> Result<(), Fail> {
-        self.names.push(name)?;
+    fn add(&mut self, alloc: Global, path: &'static str, bytes: &[u8]) -> Result<(), AllocError> {
+        let bytes = Vec::from_slice(alloc, bytes)?;
+        self.files.push(Held { path, bytes })?;
         Ok(())
     }
+}
 
-    fn add_file(&mut self, alloc: Global, path: &'static str, bytes: &[u8]) -> Result<(), Fail> {
-        self.paths.push(path)?;
-        self.contents.push(bytes.to_vec(alloc)?)?;
-        Ok(())
+/// The names of a text, parted by spaces.
+fn names_of(alloc: Global, text: &str) -> Result<Vec<String>, AllocError> {
+    let mut names = Vec::new(alloc);
+    for name in text.split_ascii_whitespace() {
+        names.push(String::from_str(alloc, name)?)?;
     }
+    Ok(names)
 }
 
 impl Disk for Memory {
@@ -41,193 +51,192 @@ impl Disk for Memory {
         if folder != "tables" {
             return Err(ReadFault::Unreadable);
         }
-        let mut names = Vec::new(alloc);
-        for name in &self.names {
-            let Ok(()) = names.push(String::from_str(alloc, name)?) else {
-                return Err(ReadFault::OutOfMemory);
-            };
-        }
-        Ok(names)
+        Ok(names_of(alloc, self.names)?)
     }
 
     fn read(&self, alloc: Global, path: &str) -> Result<Vec<u8>, ReadFault> {
-        for (known, bytes) in self.paths.iter().zip(&self.contents) {
-            if *known == path {
-                return Ok(bytes.to_vec(alloc)?);
+        for file in &self.files {
+            if file.path == path {
+                return Ok(file.bytes.to_vec(alloc)?);
             }
         }
         Err(ReadFault::Unreadable)
     }
 }
 
-/// A file of 80 bytes that begins so.
-fn file(first: &[u8]) -> [u8; 80] {
-    let mut bytes = [0; 80];
-    for (to, from) in bytes.iter_mut().zip(first) {
-        *to = *from;
+/// That the program tells so for the words of each row.
+fn expect_runs(alloc: Global, disk: &Memory, rows: &[Row]) -> Result<(), Fail> {
+    for row in rows {
+        let mut errors = Vec::new(alloc);
+        expect_run(alloc, disk, [].as_slice(), &mut errors, *row)?;
     }
-    bytes
-}
-
-const KNIGHT: &[u8] = &[
-    0x71, 0xE8, 0x23, 0x5D, 0x01, 0x00, 0x66, 0x22, 0xEE, 0x00, 0x80, 0x02, 0x80, 0x02,
-];
-
-const QUEEN: &[u8] = &[
-    0x71, 0xE8, 0x23, 0x5D, 0x01, 0x00, 0x66, 0x55, 0xEE, 0x00, 0x80, 0x04, 0x80, 0x00,
-];
-
-const QUEEN_FEN: &str = "8/8/8/4k3/8/8/8/KQ6 w - - 0 1";
-
-const KNIGHT_FEN: &str = "8/8/8/4k3/8/8/8/KN6 w - - 0 1";
-
-/// What the program writes, and its status.
-fn told(alloc: Global, disk: &Memory, words: &[&str]) -> Result<(Vec<u8>, u8), Fail> {
-    let mut out = Vec::new(alloc);
-    let mut errors = Vec::new(alloc);
-    match run(alloc, words, disk, [].as_slice(), &mut out, &mut errors) {
-        Ok(status) => Ok((out, status)),
-        Err(_) => Err(Fail::from("an answer")),
-    }
-}
-
-/// The program writes this text and tells this status.
-fn tells(
-    rt: &impl Abort,
-    alloc: Global,
-    disk: &Memory,
-    words: &[&str],
-    text: &str,
-    status: u8,
-) -> Result<(), Fail> {
-    let (out, ended) = told(alloc, disk, words)?;
-    assert_eq!(rt; out.as_slice(), text.as_bytes());
-    assert_eq!(rt; ended, status);
     Ok(())
 }
 
-/// The knight's table beside names that are no table's, and a file that is no manifest.
-fn knight_alone(alloc: Global) -> Result<Memory, Fail> {
-    let mut disk = Memory::new(alloc);
-    disk.add_name("notes.txt")?;
-    disk.add_name("KvK.rtbw")?;
-    disk.add_name("KNvK.rtbw.bak")?;
-    disk.add_name("KNvK.rtbw")?;
-    disk.add_file(alloc, "tables/KNvK.rtbw", &file(KNIGHT))?;
-    disk.add_file(alloc, "bad", b"abc")?;
+/// The manifest of the folder's tables.
+fn listing(alloc: Global, disk: &Memory) -> Result<(Vec<u8>, u8), Fail> {
+    let words = ["list", "tables"];
+    let mut errors = Vec::new(alloc);
+    ran(alloc, &words, disk, [].as_slice(), &mut errors)
+}
+
+/// That the list of the folder is told with status 0, has so many bytes and ends so.
+fn expect_listing(alloc: Global, disk: &Memory, length: usize, last: &[u8]) -> Result<(), Fail> {
+    let (listed, status) = listing(alloc, disk)?;
+    if status == 0 && listed.len() == length && listed.ends_with(last) {
+        Ok(())
+    } else {
+        Err(Fail::from("another list"))
+    }
+}
+
+/// The knight's table beside these names, and a file that is no manifest.
+fn knight_and(alloc: Global, names: &'static str) -> Result<Memory, AllocError> {
+    let mut disk = Memory::new(alloc, names);
+    disk.add(alloc, "tables/KNvK.rtbw", &whole(&KNIGHT))?;
+    disk.add(alloc, "bad", b"abc")?;
     Ok(disk)
+}
+
+/// The knight's table beside names that are no table's.
+fn knight_alone(alloc: Global) -> Result<Memory, AllocError> {
+    knight_and(alloc, "notes.txt KvK.rtbw KNvK.rtbw.bak KNvK.rtbw")
 }
 
 #[test]
 fn passes_over_other_names(rt: HostRuntime) -> Result<(), Fail> {
-    let alloc = rt.alloc();
-    let disk = knight_alone(alloc)?;
-    let (listed, status) = told(alloc, &disk, &["list", "tables"])?;
-    assert_eq!(rt; status, 0);
-    assert_eq!(rt; listed.len(), 64 + 2 + 9 + 1);
-    assert!(rt; listed.ends_with(b"  KNvK.rtbw\n"));
-    let words = ["judge", "--tables", "tables", KNIGHT_FEN];
-    tells(&rt, alloc, &disk, &words, "TableDraw\n", 0)?;
-    tells(&rt, alloc, &disk, &["judge", KNIGHT_FEN], "open\n", 0)?;
-    Ok(())
+    let disk = knight_alone(rt.alloc())?;
+    expect_listing(rt.alloc(), &disk, 64 + 2 + 9 + 1, b"  KNvK.rtbw\n")
 }
+
+/// Beside the knight's table there are a folder and files that can't be read, and words are left out.
+const KNIGHT_ALONE: [Row; 10] = [
+    ("judge --tables tables", KNIGHT_FEN, "TableDraw\n", 0),
+    ("judge", KNIGHT_FEN, "open\n", 0),
+    ("judge --tables other", "x", "refused files\n", 1),
+    ("judge --manifest absent", KNIGHT_FEN, "refused files\n", 1),
+    (
+        "judge --manifest bad",
+        KNIGHT_FEN,
+        "refused manifest 1\n",
+        1,
+    ),
+    ("judge --manifest bad", "x", "refused FEN FieldCount\n", 1),
+    ("probe", KNIGHT_FEN, "", 2),
+    ("list", "", "", 2),
+    ("check tables", "", "", 2),
+    ("check --manifest bad", "", "", 2),
+];
 
 #[test]
 fn refuses_what_it_cannot_read(rt: HostRuntime) -> Result<(), Fail> {
-    let alloc = rt.alloc();
-    let disk = knight_alone(alloc)?;
-    let words = ["judge", "--tables", "other", "x"];
-    tells(&rt, alloc, &disk, &words, "refused files\n", 1)?;
-    let words = ["judge", "--manifest", "absent", KNIGHT_FEN];
-    tells(&rt, alloc, &disk, &words, "refused files\n", 1)?;
-    let words = ["judge", "--manifest", "bad", KNIGHT_FEN];
-    tells(&rt, alloc, &disk, &words, "refused manifest 1\n", 1)?;
-    let words = ["judge", "--manifest", "bad", "x"];
-    tells(&rt, alloc, &disk, &words, "refused FEN FieldCount\n", 1)?;
-    tells(&rt, alloc, &disk, &["probe", KNIGHT_FEN], "", 2)?;
-    tells(&rt, alloc, &disk, &["list"], "", 2)?;
-    tells(&rt, alloc, &disk, &["check", "tables"], "", 2)?;
-    tells(&rt, alloc, &disk, &["check", "--manifest", "bad"], "", 2)?;
-    Ok(())
+    expect_runs(rt.alloc(), &knight_alone(rt.alloc())?, &KNIGHT_ALONE)
 }
 
-// Two more tables can't be read; with a manifest only those that it names are.
+/// A disk and on it the manifest of the knight's table.
+fn with_good(alloc: Global, names: &'static str) -> Result<Memory, Fail> {
+    let (listed, _) = listing(alloc, &knight_alone(alloc)?)?;
+    let mut disk = knight_and(alloc, names)?;
+    disk.add(alloc, "good", &listed)?;
+    Ok(disk)
+}
+
+/// Two more tables can't be read; with a manifest only those that it names are.
+const UNREADABLE: [Row; 5] = [
+    ("list tables", "", "refused files\n", 1),
+    ("judge --tables tables", KNIGHT_FEN, "refused files\n", 1),
+    (
+        "judge --tables tables --manifest good",
+        KNIGHT_FEN,
+        "TableDraw\n",
+        0,
+    ),
+    (
+        "probe --tables tables --manifest bad",
+        KNIGHT_FEN,
+        "refused manifest 1\n",
+        1,
+    ),
+    ("check --manifest good tables", "", "KNvK.rtbw ok\n", 0),
+];
+
 #[test]
 fn reads_what_a_manifest_names(rt: HostRuntime) -> Result<(), Fail> {
-    let alloc = rt.alloc();
-    let disk = knight_alone(alloc)?;
-    let (listed, _) = told(alloc, &disk, &["list", "tables"])?;
-    let mut none = Memory::new(alloc);
-    none.add_file(alloc, "good", &listed)?;
-    let mut other = knight_alone(alloc)?;
-    other.add_name("KQvK.rtbw")?;
-    other.add_name("KBvK.rtbz")?;
-    other.add_file(alloc, "good", &listed)?;
-    tells(
-        &rt,
-        alloc,
-        &other,
-        &["list", "tables"],
-        "refused files\n",
-        1,
-    )?;
-    let words = ["judge", "--tables", "tables", KNIGHT_FEN];
-    tells(&rt, alloc, &other, &words, "refused files\n", 1)?;
-    let words = [
-        "judge",
-        "--tables",
-        "tables",
-        "--manifest",
-        "good",
-        KNIGHT_FEN,
-    ];
-    tells(&rt, alloc, &other, &words, "TableDraw\n", 0)?;
-    let words = [
-        "probe",
-        "--tables",
-        "tables",
-        "--manifest",
-        "bad",
-        KNIGHT_FEN,
-    ];
-    tells(&rt, alloc, &other, &words, "refused manifest 1\n", 1)?;
-    let words = ["check", "--manifest", "good", "tables"];
-    tells(&rt, alloc, &other, &words, "KNvK.rtbw ok\n", 0)?;
-    tells(&rt, alloc, &none, &words, "KNvK.rtbw missing\n", 1)?;
-    let words = ["judge", "--manifest", "good", KNIGHT_FEN];
-    tells(&rt, alloc, &none, &words, "refused KNvK.rtbw missing\n", 1)?;
-    tells(&rt, alloc, &none, &["list", "tables"], "", 0)?;
-    Ok(())
+    let names = "notes.txt KvK.rtbw KNvK.rtbw.bak KNvK.rtbw KQvK.rtbw KBvK.rtbz";
+    expect_runs(rt.alloc(), &with_good(rt.alloc(), names)?, &UNREADABLE)
 }
 
-// The folder lists the later name first, and each table is read from its own path.
+/// The manifest names a table, and the folder has none.
+const EMPTY_FOLDER: [Row; 3] = [
+    ("check --manifest good tables", "", "KNvK.rtbw missing\n", 1),
+    (
+        "judge --manifest good",
+        KNIGHT_FEN,
+        "refused KNvK.rtbw missing\n",
+        1,
+    ),
+    ("list tables", "", "", 0),
+];
+
+#[test]
+fn misses_what_a_manifest_names(rt: HostRuntime) -> Result<(), Fail> {
+    expect_runs(rt.alloc(), &with_good(rt.alloc(), "")?, &EMPTY_FOLDER)
+}
+
+/// A folder of two tables that lists the later name first, with these bytes for the knight's.
+fn two_tables(alloc: Global, knight: &[u8]) -> Result<Memory, AllocError> {
+    let mut disk = Memory::new(alloc, "KQvK.rtbw KNvK.rtbw");
+    disk.add(alloc, "tables/KQvK.rtbw", &whole(&QUEEN))?;
+    disk.add(alloc, "tables/KNvK.rtbw", knight)?;
+    Ok(disk)
+}
+
+#[test]
+fn lists_all_tables_of_a_folder(rt: HostRuntime) -> Result<(), Fail> {
+    let disk = two_tables(rt.alloc(), &whole(&KNIGHT))?;
+    expect_listing(rt.alloc(), &disk, 2 * 76, b"  KQvK.rtbw\n")
+}
+
+/// Each table is read from its own path.
+const TWO_TABLES: [Row; 2] = [
+    (
+        "probe --tables tables",
+        QUEEN_FEN,
+        "wdl 2\ndtz refused NotCovered KQvK\n",
+        1,
+    ),
+    ("probe --tables tables", KNIGHT_FEN, "wdl 0\ndtz 0\n", 0),
+];
+
 #[test]
 fn reads_all_tables_of_a_folder(rt: HostRuntime) -> Result<(), Fail> {
-    let alloc = rt.alloc();
-    let mut disk = Memory::new(alloc);
-    disk.add_name("KQvK.rtbw")?;
-    disk.add_name("KNvK.rtbw")?;
-    disk.add_file(alloc, "tables/KQvK.rtbw", &file(QUEEN))?;
-    disk.add_file(alloc, "tables/KNvK.rtbw", &file(KNIGHT))?;
-    let (listed, status) = told(alloc, &disk, &["list", "tables"])?;
-    assert_eq!(rt; status, 0);
-    assert_eq!(rt; listed.len(), 2 * 76);
-    assert!(rt; listed.ends_with(b"  KQvK.rtbw\n"));
-    let words = ["probe", "--tables", "tables", QUEEN_FEN];
-    let text = "wdl 2\ndtz refused NotCovered KQvK\n";
-    tells(&rt, alloc, &disk, &words, text, 1)?;
-    let words = ["probe", "--tables", "tables", KNIGHT_FEN];
-    tells(&rt, alloc, &disk, &words, "wdl 0\ndtz 0\n", 0)?;
-    let mut other = Memory::new(alloc);
-    other.add_name("KQvK.rtbw")?;
-    other.add_name("KNvK.rtbw")?;
-    other.add_file(alloc, "tables/KQvK.rtbw", &file(QUEEN))?;
-    other.add_file(alloc, "tables/KNvK.rtbw", b"abc")?;
-    other.add_file(alloc, "manifest", &listed)?;
-    let words = ["check", "--manifest", "manifest", "tables"];
-    let text = "KNvK.rtbw changed\nKQvK.rtbw ok\n";
-    tells(&rt, alloc, &other, &words, text, 1)?;
-    let words = ["probe", "--tables", "tables", QUEEN_FEN];
-    tells(&rt, alloc, &other, &words, "refused KNvK.rtbw BadSize\n", 1)?;
-    Ok(())
+    expect_runs(
+        rt.alloc(),
+        &two_tables(rt.alloc(), &whole(&KNIGHT))?,
+        &TWO_TABLES,
+    )
+}
+
+/// The knight's table is another than the manifest's.
+const CHANGED: [Row; 2] = [
+    (
+        "check --manifest manifest tables",
+        "",
+        "KNvK.rtbw changed\nKQvK.rtbw ok\n",
+        1,
+    ),
+    (
+        "probe --tables tables",
+        QUEEN_FEN,
+        "refused KNvK.rtbw BadSize\n",
+        1,
+    ),
+];
+
+#[test]
+fn tells_a_changed_table_of_a_folder(rt: HostRuntime) -> Result<(), Fail> {
+    let (listed, _) = listing(rt.alloc(), &two_tables(rt.alloc(), &whole(&KNIGHT))?)?;
+    let mut disk = two_tables(rt.alloc(), b"abc")?;
+    disk.add(rt.alloc(), "manifest", &listed)?;
+    expect_runs(rt.alloc(), &disk, &CHANGED)
 }
