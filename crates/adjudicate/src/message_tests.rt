@@ -1,6 +1,8 @@
 //! The messages of an input, inputs that are none, and readers and writers that fail.
 
+use crate::commands::Task;
 use crate::fixtures::*;
+use crate::tests::NoDisk;
 use fen_text::read_move;
 use move_msg::{Count, Message, Stamp, Verdict, Who};
 use std::alloc::Global;
@@ -9,41 +11,46 @@ use std::test::*;
 
 const STAMP: Stamp = Stamp([7; 16]);
 
-/// A first move.
-fn first_move() -> Result<Message, Fail> {
-    Ok(Message::Move {
+fn first_move() -> Option<Message> {
+    Some(Message::Move {
         stamp: STAMP,
         number: 0,
-        m: read_move(b"e2e4").ok_or("a move")?,
+        m: read_move(b"e2e4")?,
     })
 }
 
-/// That A keeps three moves.
-fn kept() -> Result<Message, Fail> {
-    Ok(Message::Ack {
+/// That three moves are kept.
+fn acknowledgement() -> Option<Message> {
+    Some(Message::Ack {
         stamp: STAMP,
         who: Who::A,
-        count: Count::new(3).ok_or("a count")?,
+        count: Count::new(3)?,
     })
 }
 
-/// B's verdict at the fourth ply.
-fn ended() -> Result<Message, Fail> {
-    Ok(Message::Verdict {
+fn verdict() -> Option<Message> {
+    Some(Message::Verdict {
         stamp: STAMP,
         who: Who::B,
-        ply: Count::new(4).ok_or("a ply")?,
+        ply: Count::new(4)?,
         verdict: Verdict::TableWhite,
     })
 }
 
-/// A move, an acknowledgement and a verdict, one after the other, and then these bytes.
-fn three_messages(alloc: Global, after: &[u8]) -> Result<Vec<u8>, Fail> {
+/// Adds the bytes of a message.
+fn add(stream: &mut Vec<u8>, message: Option<Message>) -> Result<(), Fail> {
+    match message {
+        Some(message) => Ok(stream.extend_from_slice(&message.encode())?),
+        None => Err(Fail::from("a message")),
+    }
+}
+
+/// A move, an acknowledgement and a verdict, one after the other.
+fn three_messages(alloc: Global) -> Result<Vec<u8>, Fail> {
     let mut stream = Vec::new(alloc);
-    stream.extend_from_slice(&first_move()?.encode())?;
-    stream.extend_from_slice(&kept()?.encode())?;
-    stream.extend_from_slice(&ended()?.encode())?;
-    stream.extend_from_slice(after)?;
+    add(&mut stream, first_move())?;
+    add(&mut stream, acknowledgement())?;
+    add(&mut stream, verdict())?;
     Ok(stream)
 }
 
@@ -60,14 +67,15 @@ fn expect_shown<R: Read + Drop>(
 
 #[test]
 fn shows_messages(rt: HostRuntime) -> Result<(), Fail> {
-    let stream = three_messages(rt.alloc(), &[])?;
+    let stream = three_messages(rt.alloc())?;
     let lines = "Move 0 0 e2e4\nAck 1 3\nVerdict 2 4 TableWhite\n";
     expect_shown(rt.alloc(), stream.as_slice(), lines, 0)
 }
 
 #[test]
 fn shows_messages_before_a_cut_one(rt: HostRuntime) -> Result<(), Fail> {
-    let stream = three_messages(rt.alloc(), &[0x53, 0x41, 1, 1, 0])?;
+    let mut stream = three_messages(rt.alloc())?;
+    stream.extend_from_slice(&[0x53, 0x41, 1, 1, 0])?;
     let lines = "Move 0 0 e2e4\nAck 1 3\nVerdict 2 4 TableWhite\nrefused message 4 Cut\n";
     expect_shown(rt.alloc(), stream.as_slice(), lines, 1)
 }
@@ -123,11 +131,6 @@ fn tells_each_failed_read(rt: HostRuntime) -> Result<(), Fail> {
 
 #[test]
 fn tells_each_failed_write_of_a_message(rt: HostRuntime) -> Result<(), Fail> {
-    let stream = three_messages(rt.alloc(), &[])?;
-    let given = Given {
-        files: &[],
-        manifest: None,
-        input: &stream,
-    };
-    expect_all_failures(rt.alloc(), &given, &[("show", "", 15)])
+    let stream = three_messages(rt.alloc())?;
+    expect_told(rt.alloc(), &Task::Show, &[], None, &stream, 15)
 }

@@ -6,35 +6,11 @@ use crate::input::ReadFault;
 use std::alloc::{AllocError, Global};
 use std::test::*;
 
-/// A file of a disk in memory.
-#[derive(Drop)]
-struct Held {
-    path: &'static str,
-    bytes: Vec<u8>,
-}
-
 /// One folder, `tables`, with these names, parted by spaces, and files by their paths. A name without a file can't be
 /// read.
-#[derive(Drop)]
 struct Memory {
     names: &'static str,
-    files: Vec<Held>,
-}
-
-impl Memory {
-    /// A folder with these names, and no file.
-    fn new(alloc: Global, names: &'static str) -> Memory {
-        Memory {
-            names,
-            files: Vec::new(alloc),
-        }
-    }
-
-    fn add(&mut self, alloc: Global, path: &'static str, bytes: &[u8]) -> Result<(), AllocError> {
-        let bytes = Vec::from_slice(alloc, bytes)?;
-        self.files.push(Held { path, bytes })?;
-        Ok(())
-    }
+    files: &'static [File],
 }
 
 /// The names of a text, parted by spaces.
@@ -55,9 +31,9 @@ impl Disk for Memory {
     }
 
     fn read(&self, alloc: Global, path: &str) -> Result<Vec<u8>, ReadFault> {
-        for file in &self.files {
-            if file.path == path {
-                return Ok(file.bytes.to_vec(alloc)?);
+        for file in self.files {
+            if file.0 == path {
+                return Ok(bytes_of(alloc, *file)?);
             }
         }
         Err(ReadFault::Unreadable)
@@ -67,62 +43,60 @@ impl Disk for Memory {
 /// That the program tells so for the words of each row.
 fn expect_runs(alloc: Global, disk: &Memory, rows: &[Row]) -> Result<(), Fail> {
     for row in rows {
-        let mut errors = Vec::new(alloc);
-        expect_run(alloc, disk, [].as_slice(), &mut errors, *row)?;
+        expect_run(alloc, disk, [].as_slice(), &mut Vec::new(alloc), *row)?;
     }
     Ok(())
 }
 
-/// The manifest of the folder's tables.
-fn listing(alloc: Global, disk: &Memory) -> Result<(Vec<u8>, u8), Fail> {
-    let words = ["list", "tables"];
-    let mut errors = Vec::new(alloc);
-    ran(alloc, &words, disk, [].as_slice(), &mut errors)
-}
+const KNIGHT_FILE: File = ("tables/KNvK.rtbw", &KNIGHT, 80);
 
-/// That the list of the folder is told with status 0, has so many bytes and ends so.
-fn expect_listing(alloc: Global, disk: &Memory, length: usize, last: &[u8]) -> Result<(), Fail> {
-    let (listed, status) = listing(alloc, disk)?;
-    if status == 0 && listed.len() == length && listed.ends_with(last) {
-        Ok(())
-    } else {
-        Err(Fail::from("another list"))
-    }
-}
+const QUEEN_FILE: File = ("tables/KQvK.rtbw", &QUEEN, 80);
 
-/// The knight's table beside these names, and a file that is no manifest.
-fn knight_and(alloc: Global, names: &'static str) -> Result<Memory, AllocError> {
-    let mut disk = Memory::new(alloc, names);
-    disk.add(alloc, "tables/KNvK.rtbw", &whole(&KNIGHT))?;
-    disk.add(alloc, "bad", b"abc")?;
-    Ok(disk)
-}
+/// A file that is no manifest.
+const BAD: File = ("bad", b"abc", 3);
+
+/// The manifest of the knight's table.
+const GOOD: File = (
+    "good",
+    b"87cdf77207282e1dea3ecceff56cc1cc1126b2cabc55a34e1dc17bd812a1a686  KNvK.rtbw\n",
+    76,
+);
 
 /// The knight's table beside names that are no table's.
-fn knight_alone(alloc: Global) -> Result<Memory, AllocError> {
-    knight_and(alloc, "notes.txt KvK.rtbw KNvK.rtbw.bak KNvK.rtbw")
-}
+const KNIGHT_ALONE: Memory = Memory {
+    names: "notes.txt KvK.rtbw KNvK.rtbw.bak KNvK.rtbw",
+    files: &[KNIGHT_FILE, BAD],
+};
+
+/// What is told of the knight's table alone.
+const TOLD_OF_THE_KNIGHT: [Row; 3] = [
+    ("list tables", "", KNIGHT_LIST, 0),
+    ("judge --tables tables FEN", KNIGHT_FEN, "TableDraw\n", 0),
+    ("judge FEN", KNIGHT_FEN, "open\n", 0),
+];
 
 #[test]
 fn passes_over_other_names(rt: HostRuntime) -> Result<(), Fail> {
-    let disk = knight_alone(rt.alloc())?;
-    expect_listing(rt.alloc(), &disk, 64 + 2 + 9 + 1, b"  KNvK.rtbw\n")
+    expect_runs(rt.alloc(), &KNIGHT_ALONE, &TOLD_OF_THE_KNIGHT)
 }
 
-/// Beside the knight's table there are a folder and files that can't be read, and words are left out.
-const KNIGHT_ALONE: [Row; 10] = [
-    ("judge --tables tables", KNIGHT_FEN, "TableDraw\n", 0),
-    ("judge", KNIGHT_FEN, "open\n", 0),
-    ("judge --tables other", "x", "refused files\n", 1),
-    ("judge --manifest absent", KNIGHT_FEN, "refused files\n", 1),
+/// A folder and files that can't be read, and words that are left out.
+const REFUSALS: [Row; 8] = [
+    ("judge --tables other x", "", "refused files\n", 1),
     (
-        "judge --manifest bad",
+        "judge --manifest absent FEN",
+        KNIGHT_FEN,
+        "refused files\n",
+        1,
+    ),
+    (
+        "judge --manifest bad FEN",
         KNIGHT_FEN,
         "refused manifest 1\n",
         1,
     ),
-    ("judge --manifest bad", "x", "refused FEN FieldCount\n", 1),
-    ("probe", KNIGHT_FEN, "", 2),
+    ("judge --manifest bad x", "", "refused FEN FieldCount\n", 1),
+    ("probe FEN", KNIGHT_FEN, "", 2),
     ("list", "", "", 2),
     ("check tables", "", "", 2),
     ("check --manifest bad", "", "", 2),
@@ -130,29 +104,32 @@ const KNIGHT_ALONE: [Row; 10] = [
 
 #[test]
 fn refuses_what_it_cannot_read(rt: HostRuntime) -> Result<(), Fail> {
-    expect_runs(rt.alloc(), &knight_alone(rt.alloc())?, &KNIGHT_ALONE)
+    expect_runs(rt.alloc(), &KNIGHT_ALONE, &REFUSALS)
 }
 
-/// A disk and on it the manifest of the knight's table.
-fn with_good(alloc: Global, names: &'static str) -> Result<Memory, Fail> {
-    let (listed, _) = listing(alloc, &knight_alone(alloc)?)?;
-    let mut disk = knight_and(alloc, names)?;
-    disk.add(alloc, "good", &listed)?;
-    Ok(disk)
-}
+/// Two more tables can't be read.
+const UNREADABLE: Memory = Memory {
+    names: "notes.txt KvK.rtbw KNvK.rtbw.bak KNvK.rtbw KQvK.rtbw KBvK.rtbz",
+    files: &[KNIGHT_FILE, BAD, GOOD],
+};
 
-/// Two more tables can't be read; with a manifest only those that it names are.
-const UNREADABLE: [Row; 5] = [
+/// With a manifest only those tables that it names are read.
+const TOLD_BY_A_MANIFEST: [Row; 5] = [
     ("list tables", "", "refused files\n", 1),
-    ("judge --tables tables", KNIGHT_FEN, "refused files\n", 1),
     (
-        "judge --tables tables --manifest good",
+        "judge --tables tables FEN",
+        KNIGHT_FEN,
+        "refused files\n",
+        1,
+    ),
+    (
+        "judge --tables tables --manifest good FEN",
         KNIGHT_FEN,
         "TableDraw\n",
         0,
     ),
     (
-        "probe --tables tables --manifest bad",
+        "probe --tables tables --manifest bad FEN",
         KNIGHT_FEN,
         "refused manifest 1\n",
         1,
@@ -162,15 +139,19 @@ const UNREADABLE: [Row; 5] = [
 
 #[test]
 fn reads_what_a_manifest_names(rt: HostRuntime) -> Result<(), Fail> {
-    let names = "notes.txt KvK.rtbw KNvK.rtbw.bak KNvK.rtbw KQvK.rtbw KBvK.rtbz";
-    expect_runs(rt.alloc(), &with_good(rt.alloc(), names)?, &UNREADABLE)
+    expect_runs(rt.alloc(), &UNREADABLE, &TOLD_BY_A_MANIFEST)
 }
 
-/// The manifest names a table, and the folder has none.
-const EMPTY_FOLDER: [Row; 3] = [
+/// An empty folder.
+const NO_TABLE: Memory = Memory {
+    names: "",
+    files: &[GOOD],
+};
+
+const TOLD_OF_NO_TABLE: [Row; 3] = [
     ("check --manifest good tables", "", "KNvK.rtbw missing\n", 1),
     (
-        "judge --manifest good",
+        "judge --manifest good FEN",
         KNIGHT_FEN,
         "refused KNvK.rtbw missing\n",
         1,
@@ -180,45 +161,54 @@ const EMPTY_FOLDER: [Row; 3] = [
 
 #[test]
 fn misses_what_a_manifest_names(rt: HostRuntime) -> Result<(), Fail> {
-    expect_runs(rt.alloc(), &with_good(rt.alloc(), "")?, &EMPTY_FOLDER)
+    expect_runs(rt.alloc(), &NO_TABLE, &TOLD_OF_NO_TABLE)
 }
 
-/// A folder of two tables that lists the later name first, with these bytes for the knight's.
-fn two_tables(alloc: Global, knight: &[u8]) -> Result<Memory, AllocError> {
-    let mut disk = Memory::new(alloc, "KQvK.rtbw KNvK.rtbw");
-    disk.add(alloc, "tables/KQvK.rtbw", &whole(&QUEEN))?;
-    disk.add(alloc, "tables/KNvK.rtbw", knight)?;
-    Ok(disk)
-}
+/// A folder that lists the later name first.
+const TWO_TABLES: Memory = Memory {
+    names: "KQvK.rtbw KNvK.rtbw",
+    files: &[QUEEN_FILE, KNIGHT_FILE],
+};
 
-#[test]
-fn lists_all_tables_of_a_folder(rt: HostRuntime) -> Result<(), Fail> {
-    let disk = two_tables(rt.alloc(), &whole(&KNIGHT))?;
-    expect_listing(rt.alloc(), &disk, 2 * 76, b"  KQvK.rtbw\n")
-}
+/// The manifest of both tables (the digests by sha256sum).
+const BOTH_LIST: &str = "87cdf77207282e1dea3ecceff56cc1cc1126b2cabc55a34e1dc17bd812a1a686  KNvK.rtbw
+c3398006a3ecec615745a9d81e5edc4e9b41c127aee6ad6f020016446fea291a  KQvK.rtbw
+";
 
 /// Each table is read from its own path.
-const TWO_TABLES: [Row; 2] = [
+const TOLD_OF_BOTH: [Row; 3] = [
+    ("list tables", "", BOTH_LIST, 0),
     (
-        "probe --tables tables",
+        "probe --tables tables FEN",
         QUEEN_FEN,
         "wdl 2\ndtz refused NotCovered KQvK\n",
         1,
     ),
-    ("probe --tables tables", KNIGHT_FEN, "wdl 0\ndtz 0\n", 0),
+    ("probe --tables tables FEN", KNIGHT_FEN, "wdl 0\ndtz 0\n", 0),
 ];
 
 #[test]
 fn reads_all_tables_of_a_folder(rt: HostRuntime) -> Result<(), Fail> {
-    expect_runs(
-        rt.alloc(),
-        &two_tables(rt.alloc(), &whole(&KNIGHT))?,
-        &TWO_TABLES,
-    )
+    expect_runs(rt.alloc(), &TWO_TABLES, &TOLD_OF_BOTH)
 }
 
-/// The knight's table is another than the manifest's.
-const CHANGED: [Row; 2] = [
+/// The knight's file is another than that of the manifest.
+const CHANGED: Memory = Memory {
+    names: "KQvK.rtbw KNvK.rtbw",
+    files: &[
+        QUEEN_FILE,
+        ("tables/KNvK.rtbw", b"abc", 3),
+        (
+            "manifest",
+            b"87cdf77207282e1dea3ecceff56cc1cc1126b2cabc55a34e1dc17bd812a1a686  KNvK.rtbw
+c3398006a3ecec615745a9d81e5edc4e9b41c127aee6ad6f020016446fea291a  KQvK.rtbw
+",
+            152,
+        ),
+    ],
+};
+
+const TOLD_OF_A_CHANGE: [Row; 2] = [
     (
         "check --manifest manifest tables",
         "",
@@ -226,7 +216,7 @@ const CHANGED: [Row; 2] = [
         1,
     ),
     (
-        "probe --tables tables",
+        "probe --tables tables FEN",
         QUEEN_FEN,
         "refused KNvK.rtbw BadSize\n",
         1,
@@ -235,8 +225,5 @@ const CHANGED: [Row; 2] = [
 
 #[test]
 fn tells_a_changed_table_of_a_folder(rt: HostRuntime) -> Result<(), Fail> {
-    let (listed, _) = listing(rt.alloc(), &two_tables(rt.alloc(), &whole(&KNIGHT))?)?;
-    let mut disk = two_tables(rt.alloc(), b"abc")?;
-    disk.add(rt.alloc(), "manifest", &listed)?;
-    expect_runs(rt.alloc(), &disk, &CHANGED)
+    expect_runs(rt.alloc(), &CHANGED, &TOLD_OF_A_CHANGE)
 }

@@ -55,267 +55,274 @@ const OUT_OF_SCOPE: &str = "wdl refused OutOfScope\ndtz refused OutOfScope\n";
 /// The manifest of KNvK.rtbw with the three bytes `abc` (FIPS 180-4, its first example).
 const ABC: &str = "ba7816bf8f01cfea414140de5dae2223b00361a396177a9cb410ff61f20015ad  KNvK.rtbw\n";
 
-/// A file of this name with these bytes.
-fn named(alloc: Global, name: &str, bytes: &[u8]) -> Result<NamedFile, Fail> {
-    let Ok(name) = ArrayString::from(name) else {
-        return Err(Fail::from("a name"));
-    };
-    let bytes = Vec::from_slice(alloc, bytes)?;
-    Ok(NamedFile { name, bytes })
+/// The files that a task is answered from.
+#[derive(Clone, Copy)]
+enum Folder {
+    Empty,
+    /// A file that is no table.
+    Abc,
+    /// The knight's table.
+    Knight,
+    /// The tables of the worked rows.
+    Worked,
+    /// A knight's table that is damaged, and a queen's without distances.
+    Damaged,
+    /// A file that is no table, and one by the name of another material.
+    BothAtFault,
 }
 
-/// Adds the whole file of a front.
-fn add_table(
-    alloc: Global,
-    files: &mut Vec<NamedFile>,
-    name: &str,
-    front: &[u8],
-) -> Result<(), Fail> {
-    files.push(named(alloc, name, &whole(front))?)?;
+/// A file that a task is answered from.
+fn named(alloc: Global, file: File) -> Result<NamedFile, Fail> {
+    let bytes = bytes_of(alloc, file)?;
+    match ArrayString::from(file.0) {
+        Ok(name) => Ok(NamedFile { name, bytes }),
+        Err(_) => Err(Fail::from("a name")),
+    }
+}
+
+/// The files that a task is answered from.
+fn files_of(alloc: Global, files: &[File]) -> Result<Vec<NamedFile>, Fail> {
+    let mut list = Vec::new(alloc);
+    for file in files {
+        list.push(named(alloc, *file)?)?;
+    }
+    Ok(list)
+}
+
+/// The tables of the worked rows.
+const WORKED: [File; 5] = [
+    ("KNvK.rtbw", &KNIGHT, 80),
+    ("KPvK.rtbw", &PAWN, 80),
+    ("KPvKP.rtbw", &PAWNS, 80),
+    ("KQvK.rtbw", &QUEEN, 80),
+    ("KQvK.rtbz", &QUEEN_DISTANCE, 80),
+];
+
+const DAMAGED: [File; 2] = [
+    ("KNvK.rtbw", &DAMAGED_KNIGHT, 80),
+    ("KQvK.rtbw", &QUEEN, 80),
+];
+
+const BOTH_AT_FAULT: [File; 2] = [("KNvK.rtbw", b"abc", 3), ("KQvK.rtbw", &KNIGHT, 80)];
+
+/// The files of a folder.
+fn files_in(alloc: Global, folder: Folder) -> Result<Vec<NamedFile>, Fail> {
+    match folder {
+        Folder::Empty => files_of(alloc, &[]),
+        Folder::Abc => files_of(alloc, &[("KNvK.rtbw", b"abc", 3)]),
+        Folder::Knight => files_of(alloc, &[("KNvK.rtbw", &KNIGHT, 80)]),
+        Folder::Worked => files_of(alloc, &WORKED),
+        Folder::Damaged => files_of(alloc, &DAMAGED),
+        Folder::BothAtFault => files_of(alloc, &BOTH_AT_FAULT),
+    }
+}
+
+/// A folder and a manifest, and a row that is answered by them.
+type Case = (Folder, Option<&'static str>, Row);
+
+/// That this is answered.
+fn expect_case(alloc: Global, case: Case) -> Result<(), Fail> {
+    expect_answer(alloc, &files_in(alloc, case.0)?, case.1, case.2)
+}
+
+/// That each of these is answered.
+fn expect_cases(alloc: Global, cases: &[Case]) -> Result<(), Fail> {
+    for case in cases {
+        expect_case(alloc, *case)?;
+    }
     Ok(())
 }
 
-/// One whole file of a front.
-fn one_table(alloc: Global, name: &str, front: &[u8]) -> Result<Vec<NamedFile>, Fail> {
-    let mut files = Vec::new(alloc);
-    add_table(alloc, &mut files, name, front)?;
-    Ok(files)
-}
+// The words of tasks.
+const JUDGE: &str = "judge --tables tables FEN";
 
-/// A knight's file that is no table.
-fn abc(alloc: Global) -> Result<Vec<NamedFile>, Fail> {
-    let mut files = Vec::new(alloc);
-    files.push(named(alloc, "KNvK.rtbw", b"abc")?)?;
-    Ok(files)
-}
+const PROBE: &str = "probe --tables tables FEN";
 
-/// A set of tables of the worked rows.
-fn worked_tables(alloc: Global) -> Result<Vec<NamedFile>, Fail> {
-    let mut files = one_table(alloc, "KNvK.rtbw", &KNIGHT)?;
-    add_table(alloc, &mut files, "KPvK.rtbw", &PAWN)?;
-    add_table(alloc, &mut files, "KPvKP.rtbw", &PAWNS)?;
-    add_table(alloc, &mut files, "KQvK.rtbw", &QUEEN)?;
-    add_table(alloc, &mut files, "KQvK.rtbz", &QUEEN_DISTANCE)?;
-    Ok(files)
-}
+const LIST: &str = "list tables";
+
+const CHECK: &str = "check --manifest manifest tables";
 
 /// Verdicts by the worked tables.
-const VERDICTS: [Row; 10] = [
-    ("judge --tables tables", KNIGHT_FEN, "TableDraw\n", 0),
-    ("judge --tables tables", HANGING_FEN, "TableDraw\n", 0),
-    ("judge --tables tables", PASSED_FEN, "TableBlack\n", 0),
-    ("judge --tables tables", NOT_PASSED_FEN, "TableDraw\n", 0),
-    ("judge --tables tables", QUEEN_FEN, "TableWhite\n", 0),
-    ("judge --tables tables", LATE_FEN, "open\n", 0),
-    ("judge --tables tables", LOST_FEN, "TableWhite\n", 0),
-    ("judge --tables tables", ROOK_FEN, "open\n", 0),
-    ("judge --tables tables", START, "open\n", 0),
-    ("judge --tables tables", CASTLING_FEN, "open\n", 0),
-];
-
-/// What the worked tables tell of the same positions.
-const PROBES: [Row; 10] = [
-    ("probe --tables tables", KNIGHT_FEN, "wdl 0\ndtz 0\n", 0),
-    ("probe --tables tables", HANGING_FEN, "wdl 0\ndtz 0\n", 0),
-    ("probe --tables tables", PASSED_FEN, "wdl 2\ndtz 1\n", 0),
-    ("probe --tables tables", NOT_PASSED_FEN, "wdl 0\ndtz 0\n", 0),
-    ("probe --tables tables", QUEEN_FEN, "wdl 2\ndtz 10\n", 0),
-    ("probe --tables tables", LATE_FEN, "wdl 2\ndtz 10\n", 0),
-    ("probe --tables tables", LOST_FEN, "wdl -2\ndtz -11\n", 0),
-    ("probe --tables tables", ROOK_FEN, NO_ROOK, 1),
-    ("probe --tables tables", START, OUT_OF_SCOPE, 1),
-    ("probe --tables tables", CASTLING_FEN, OUT_OF_SCOPE, 1),
+const VERDICTS: [Case; 10] = [
+    (Folder::Worked, None, (JUDGE, KNIGHT_FEN, "TableDraw\n", 0)),
+    (Folder::Worked, None, (JUDGE, HANGING_FEN, "TableDraw\n", 0)),
+    (Folder::Worked, None, (JUDGE, PASSED_FEN, "TableBlack\n", 0)),
+    (
+        Folder::Worked,
+        None,
+        (JUDGE, NOT_PASSED_FEN, "TableDraw\n", 0),
+    ),
+    (Folder::Worked, None, (JUDGE, QUEEN_FEN, "TableWhite\n", 0)),
+    (Folder::Worked, None, (JUDGE, LATE_FEN, "open\n", 0)),
+    (Folder::Worked, None, (JUDGE, LOST_FEN, "TableWhite\n", 0)),
+    (Folder::Worked, None, (JUDGE, ROOK_FEN, "open\n", 0)),
+    (Folder::Worked, None, (JUDGE, START, "open\n", 0)),
+    (Folder::Worked, None, (JUDGE, CASTLING_FEN, "open\n", 0)),
 ];
 
 #[test]
 fn judges_by_tables(rt: HostRuntime) -> Result<(), Fail> {
-    expect_answers(rt.alloc(), &worked_tables(rt.alloc())?, None, &VERDICTS)
+    expect_cases(rt.alloc(), &VERDICTS)
 }
+
+/// What the worked tables tell of the same positions.
+const PROBES: [Case; 10] = [
+    (
+        Folder::Worked,
+        None,
+        (PROBE, KNIGHT_FEN, "wdl 0\ndtz 0\n", 0),
+    ),
+    (
+        Folder::Worked,
+        None,
+        (PROBE, HANGING_FEN, "wdl 0\ndtz 0\n", 0),
+    ),
+    (
+        Folder::Worked,
+        None,
+        (PROBE, PASSED_FEN, "wdl 2\ndtz 1\n", 0),
+    ),
+    (
+        Folder::Worked,
+        None,
+        (PROBE, NOT_PASSED_FEN, "wdl 0\ndtz 0\n", 0),
+    ),
+    (
+        Folder::Worked,
+        None,
+        (PROBE, QUEEN_FEN, "wdl 2\ndtz 10\n", 0),
+    ),
+    (
+        Folder::Worked,
+        None,
+        (PROBE, LATE_FEN, "wdl 2\ndtz 10\n", 0),
+    ),
+    (
+        Folder::Worked,
+        None,
+        (PROBE, LOST_FEN, "wdl -2\ndtz -11\n", 0),
+    ),
+    (Folder::Worked, None, (PROBE, ROOK_FEN, NO_ROOK, 1)),
+    (Folder::Worked, None, (PROBE, START, OUT_OF_SCOPE, 1)),
+    (Folder::Worked, None, (PROBE, CASTLING_FEN, OUT_OF_SCOPE, 1)),
+];
 
 #[test]
 fn probes_by_tables(rt: HostRuntime) -> Result<(), Fail> {
-    expect_answers(rt.alloc(), &worked_tables(rt.alloc())?, None, &PROBES)
+    expect_cases(rt.alloc(), &PROBES)
 }
 
-/// A knight's table is damaged, and a queen's has no distances.
-const FAULTS: [Row; 4] = [
-    ("judge --tables tables", KNIGHT_FEN, "Stopped\n", 0),
-    (
-        "probe --tables tables",
-        KNIGHT_FEN,
-        "wdl refused Damaged KNvK\ndtz refused Damaged KNvK\n",
-        1,
-    ),
-    ("judge --tables tables", QUEEN_FEN, "open\n", 0),
-    (
-        "probe --tables tables",
-        QUEEN_FEN,
-        "wdl 2\ndtz refused NotCovered KQvK\n",
-        1,
-    ),
+const NO_KNIGHT: &str = "wdl refused Damaged KNvK\ndtz refused Damaged KNvK\n";
+
+const NO_DISTANCE: &str = "wdl 2\ndtz refused NotCovered KQvK\n";
+
+/// What is told where a table is damaged or missing.
+const FAULTS: [Case; 4] = [
+    (Folder::Damaged, None, (JUDGE, KNIGHT_FEN, "Stopped\n", 0)),
+    (Folder::Damaged, None, (PROBE, KNIGHT_FEN, NO_KNIGHT, 1)),
+    (Folder::Damaged, None, (JUDGE, QUEEN_FEN, "open\n", 0)),
+    (Folder::Damaged, None, (PROBE, QUEEN_FEN, NO_DISTANCE, 1)),
 ];
 
 #[test]
 fn needs_each_table(rt: HostRuntime) -> Result<(), Fail> {
-    let mut files = one_table(rt.alloc(), "KNvK.rtbw", &DAMAGED_KNIGHT)?;
-    add_table(rt.alloc(), &mut files, "KQvK.rtbw", &QUEEN)?;
-    expect_answers(rt.alloc(), &files, None, &FAULTS)
+    expect_cases(rt.alloc(), &FAULTS)
 }
 
-#[test]
-fn lists_files(rt: HostRuntime) -> Result<(), Fail> {
-    expect_answers(
-        rt.alloc(),
-        &abc(rt.alloc())?,
-        None,
-        &[("list tables", "", ABC, 0)],
-    )
-}
-
-/// That files held to a manifest are told so.
-fn expect_checked(
-    alloc: Global,
-    files: &[NamedFile],
-    manifest: &[u8],
-    text: &'static str,
-    status: u8,
-) -> Result<(), Fail> {
-    let row = ("check --manifest manifest tables", "", text, status);
-    expect_answers(alloc, files, Some(manifest), &[row])
-}
-
-#[test]
-fn checks_a_file_that_is_no_table(rt: HostRuntime) -> Result<(), Fail> {
-    expect_checked(
-        rt.alloc(),
-        &abc(rt.alloc())?,
-        ABC.as_bytes(),
-        "KNvK.rtbw BadSize\n",
-        1,
-    )
-}
-
-#[test]
-fn checks_a_changed_file(rt: HostRuntime) -> Result<(), Fail> {
-    let files = one_table(rt.alloc(), "KNvK.rtbw", &KNIGHT)?;
-    expect_checked(rt.alloc(), &files, ABC.as_bytes(), "KNvK.rtbw changed\n", 1)
-}
-
-#[test]
-fn checks_a_missing_file(rt: HostRuntime) -> Result<(), Fail> {
-    expect_checked(rt.alloc(), &[], ABC.as_bytes(), "KNvK.rtbw missing\n", 1)
-}
-
-#[test]
-fn checks_what_it_listed(rt: HostRuntime) -> Result<(), Fail> {
-    let files = one_table(rt.alloc(), "KNvK.rtbw", &KNIGHT)?;
-    let (listed, _) = told(rt.alloc(), &["list", "tables"], &files, None)?;
-    expect_checked(rt.alloc(), &files, &listed, "KNvK.rtbw ok\n", 0)
-}
-
-#[test]
-fn checks_by_no_manifest(rt: HostRuntime) -> Result<(), Fail> {
-    let files = one_table(rt.alloc(), "KNvK.rtbw", &KNIGHT)?;
-    expect_checked(rt.alloc(), &files, b"x", "refused manifest 1\n", 1)
-}
-
-/// That judge and probe refuse a text, files or a manifest by this line.
-fn expect_refusal(
-    alloc: Global,
-    files: &[NamedFile],
-    manifest: Option<&[u8]>,
-    fen: &'static str,
-    line: &'static str,
-) -> Result<(), Fail> {
-    let rows = [
-        ("judge --tables tables", fen, line, 1),
-        ("probe --tables tables", fen, line, 1),
-    ];
-    expect_answers(alloc, files, manifest, &rows)
-}
-
-#[test]
-fn refuses_a_file_that_is_no_table(rt: HostRuntime) -> Result<(), Fail> {
-    let line = "refused KNvK.rtbw BadSize\n";
-    expect_refusal(
-        rt.alloc(),
-        &abc(rt.alloc())?,
-        Some(ABC.as_bytes()),
-        KNIGHT_FEN,
-        line,
-    )
-}
-
-#[test]
-fn refuses_a_missing_file(rt: HostRuntime) -> Result<(), Fail> {
-    let line = "refused KNvK.rtbw missing\n";
-    expect_refusal(rt.alloc(), &[], Some(ABC.as_bytes()), KNIGHT_FEN, line)
-}
-
-#[test]
-fn refuses_a_manifest_before_files(rt: HostRuntime) -> Result<(), Fail> {
-    let line = "refused manifest 1\n";
-    expect_refusal(
-        rt.alloc(),
-        &abc(rt.alloc())?,
-        Some(b"x\n"),
-        KNIGHT_FEN,
-        line,
-    )
-}
-
-#[test]
-fn refuses_a_text_before_a_manifest(rt: HostRuntime) -> Result<(), Fail> {
-    let line = "refused FEN FieldCount\n";
-    expect_refusal(rt.alloc(), &abc(rt.alloc())?, Some(b"x\n"), "x", line)
-}
-
-// The file is at fault, but the manifest names none.
-#[test]
-fn looks_at_no_file_that_a_manifest_does_not_name(rt: HostRuntime) -> Result<(), Fail> {
-    let row = ("judge --tables tables", KNIGHT_FEN, "open\n", 0);
-    expect_answers(rt.alloc(), &abc(rt.alloc())?, Some(&[]), &[row])
-}
-
-#[test]
-fn tells_the_first_of_two_files_at_fault(rt: HostRuntime) -> Result<(), Fail> {
-    let mut files = abc(rt.alloc())?;
-    add_table(rt.alloc(), &mut files, "KQvK.rtbw", &KNIGHT)?;
-    let line = "refused KNvK.rtbw BadSize\n";
-    expect_refusal(rt.alloc(), &files, None, KNIGHT_FEN, line)
-}
-
-/// The writes of answers without a manifest.
-const WRITES: [Writes; 3] = [
-    ("judge --tables tables", KNIGHT_FEN, 2),
-    ("probe --tables tables", KNIGHT_FEN, 6),
-    ("list tables", "", 1),
+/// Files that are listed, and files that are held to a manifest.
+const LISTS_AND_CHECKS: [Case; 7] = [
+    (Folder::Abc, None, (LIST, "", ABC, 0)),
+    (
+        Folder::Abc,
+        Some(ABC),
+        (CHECK, "", "KNvK.rtbw BadSize\n", 1),
+    ),
+    (
+        Folder::Knight,
+        Some(ABC),
+        (CHECK, "", "KNvK.rtbw changed\n", 1),
+    ),
+    (
+        Folder::Empty,
+        Some(ABC),
+        (CHECK, "", "KNvK.rtbw missing\n", 1),
+    ),
+    (Folder::Knight, None, (LIST, "", KNIGHT_LIST, 0)),
+    (
+        Folder::Knight,
+        Some(KNIGHT_LIST),
+        (CHECK, "", "KNvK.rtbw ok\n", 0),
+    ),
+    (
+        Folder::Knight,
+        Some("x"),
+        (CHECK, "", "refused manifest 1\n", 1),
+    ),
 ];
 
-/// The writes of answers by a manifest that is not that of the files.
-const WRITES_BY_A_MANIFEST: [Writes; 2] = [
-    ("judge --tables tables", KNIGHT_FEN, 4),
-    ("check --manifest manifest tables", "", 3),
+#[test]
+fn lists_and_checks_files(rt: HostRuntime) -> Result<(), Fail> {
+    expect_cases(rt.alloc(), &LISTS_AND_CHECKS)
+}
+
+const BAD_SIZE: &str = "refused KNvK.rtbw BadSize\n";
+
+const MISSING: &str = "refused KNvK.rtbw missing\n";
+
+const NO_TEXT: &str = "refused FEN FieldCount\n";
+
+const NO_MANIFEST: &str = "refused manifest 1\n";
+
+/// The text is refused first, then the manifest, then the first file at fault. A file that the manifest doesn't name isn't
+/// looked at.
+const REFUSALS: [Case; 11] = [
+    (Folder::Abc, Some(ABC), (JUDGE, KNIGHT_FEN, BAD_SIZE, 1)),
+    (Folder::Abc, Some(ABC), (PROBE, KNIGHT_FEN, BAD_SIZE, 1)),
+    (Folder::Empty, Some(ABC), (JUDGE, KNIGHT_FEN, MISSING, 1)),
+    (Folder::Empty, Some(ABC), (PROBE, KNIGHT_FEN, MISSING, 1)),
+    (
+        Folder::Abc,
+        Some("x\n"),
+        (JUDGE, KNIGHT_FEN, NO_MANIFEST, 1),
+    ),
+    (
+        Folder::Abc,
+        Some("x\n"),
+        (PROBE, KNIGHT_FEN, NO_MANIFEST, 1),
+    ),
+    (Folder::Abc, Some("x\n"), (JUDGE, "x", NO_TEXT, 1)),
+    (Folder::Abc, Some("x\n"), (PROBE, "x", NO_TEXT, 1)),
+    (Folder::Abc, Some(""), (JUDGE, KNIGHT_FEN, "open\n", 0)),
+    (Folder::BothAtFault, None, (JUDGE, KNIGHT_FEN, BAD_SIZE, 1)),
+    (Folder::BothAtFault, None, (PROBE, KNIGHT_FEN, BAD_SIZE, 1)),
 ];
+
+#[test]
+fn tells_the_first_refusal(rt: HostRuntime) -> Result<(), Fail> {
+    expect_cases(rt.alloc(), &REFUSALS)
+}
+
+/// A folder and a manifest, and the writes of an answer by them.
+type Failures = (Folder, Option<&'static str>, Writes);
+
+/// The writes of answers by the table of a knight, and with a manifest that is not its own.
+const FAILURES: [Failures; 5] = [
+    (Folder::Knight, None, (JUDGE, KNIGHT_FEN, 2)),
+    (Folder::Knight, Some(ABC), (JUDGE, KNIGHT_FEN, 4)),
+    (Folder::Knight, None, (PROBE, KNIGHT_FEN, 6)),
+    (Folder::Knight, None, (LIST, "", 1)),
+    (Folder::Knight, Some(ABC), (CHECK, "", 3)),
+];
+
+/// That each write that fails is told.
+fn expect_case_failures(alloc: Global, case: Failures) -> Result<(), Fail> {
+    expect_failures(alloc, &files_in(alloc, case.0)?, case.1, case.2)
+}
 
 #[test]
 fn tells_each_failed_write_of_tables(rt: HostRuntime) -> Result<(), Fail> {
-    let files = one_table(rt.alloc(), "KNvK.rtbw", &KNIGHT)?;
-    let given = Given {
-        files: &files,
-        manifest: None,
-        input: &[],
-    };
-    expect_all_failures(rt.alloc(), &given, &WRITES)
-}
-
-#[test]
-fn tells_each_failed_write_by_a_manifest(rt: HostRuntime) -> Result<(), Fail> {
-    let files = one_table(rt.alloc(), "KNvK.rtbw", &KNIGHT)?;
-    let given = Given {
-        files: &files,
-        manifest: Some(ABC.as_bytes()),
-        input: &[],
-    };
-    expect_all_failures(rt.alloc(), &given, &WRITES_BY_A_MANIFEST)
+    for case in &FAILURES {
+        expect_case_failures(rt.alloc(), *case)?;
+    }
+    Ok(())
 }

@@ -1,66 +1,88 @@
 //! The worked rows, the published counts of moves, refusals of words, and writers that fail.
 
 use crate::commands::{Task, parse};
+use crate::disk::Disk;
 use crate::fixtures::*;
+use crate::input::ReadFault;
+use crate::replies::answer;
 use crate::usage::Usage;
 use board_core::Position;
 use fen_text::{read, read_move};
 use std::alloc::{AllocError, Global};
-use std::io::Write;
 use std::test::*;
 
 /// Verdicts without tables, and texts that are refused.
 const VERDICTS: [Row; 14] = [
-    ("judge", "8/8/8/4k3/8/8/8/K7 w - - 0 1", "TableDraw\n", 0),
-    ("judge", "7k/5KQ1/8/8/8/8/8/8 b - - 0 1", "WhiteMates\n", 0),
-    ("judge", "7K/5kq1/8/8/8/8/8/8 w - - 0 1", "BlackMates\n", 0),
-    ("judge", "7k/5Q2/6K1/8/8/8/8/8 b - - 0 1", "Stalemate\n", 0),
-    ("judge", "8/8/8/4k3/8/8/8/KQ6 w - - 0 1", "open\n", 0),
-    ("judge", "4k3/8/8/8/8/8/8/4K2R w K - 0 1", "open\n", 0),
     (
-        "judge",
+        "judge FEN",
+        "8/8/8/4k3/8/8/8/K7 w - - 0 1",
+        "TableDraw\n",
+        0,
+    ),
+    (
+        "judge FEN",
+        "7k/5KQ1/8/8/8/8/8/8 b - - 0 1",
+        "WhiteMates\n",
+        0,
+    ),
+    (
+        "judge FEN",
+        "7K/5kq1/8/8/8/8/8/8 w - - 0 1",
+        "BlackMates\n",
+        0,
+    ),
+    (
+        "judge FEN",
+        "7k/5Q2/6K1/8/8/8/8/8 b - - 0 1",
+        "Stalemate\n",
+        0,
+    ),
+    ("judge FEN", "8/8/8/4k3/8/8/8/KQ6 w - - 0 1", "open\n", 0),
+    ("judge FEN", "4k3/8/8/8/8/8/8/4K2R w K - 0 1", "open\n", 0),
+    (
+        "judge FEN",
         "8/8/8/8/8/8/8/K7 w - - 0 1",
         "refused FEN BadPosition BadKings\n",
         1,
     ),
     (
-        "judge",
+        "judge FEN",
         "8/8/8/4k3/8/8/8/KN6 x - - 0 1",
         "refused FEN BadSide\n",
         1,
     ),
     (
-        "judge",
+        "judge FEN",
         "8/8/8/4k3/8/8/8/KN6 w - - 0",
         "refused FEN FieldCount\n",
         1,
     ),
     (
-        "judge",
+        "judge FEN",
         "8/8/8/4k3/8/8/8/KN5 w - - 0 1",
         "refused FEN BadPlacement\n",
         1,
     ),
     (
-        "judge",
+        "judge FEN",
         "8/8/8/4k3/8/8/8/KN6 w QK - 0 1",
         "refused FEN BadCastlingText\n",
         1,
     ),
     (
-        "judge",
+        "judge FEN",
         "8/8/8/4k3/8/8/8/KN6 w - e9 0 1",
         "refused FEN BadSquare\n",
         1,
     ),
     (
-        "judge",
+        "judge FEN",
         "8/8/8/4k3/8/8/8/KN6 w - - 007 1",
         "refused FEN BadNumber\n",
         1,
     ),
     (
-        "judge",
+        "judge FEN",
         "8/8/8/4k3/8/8/8/KN6 w K - 0 1",
         "refused FEN BadPosition BadCastling\n",
         1,
@@ -69,32 +91,32 @@ const VERDICTS: [Row; 14] = [
 
 #[test]
 fn judges_the_worked_rows(rt: HostRuntime) -> Result<(), Fail> {
-    expect_answers(rt.alloc(), &[], None, &VERDICTS)
+    expect_answers(rt.alloc(), &VERDICTS)
 }
 
 /// All legal moves of positions, and a text that is refused.
 const MOVES: [Row; 5] = [
     (
-        "moves",
+        "moves FEN",
         "8/8/8/K2pP2r/8/8/8/7k w - d6 0 1",
         "a5a4\na5b4\na5b5\na5a6\na5b6\ne5e6\n",
         0,
     ),
     (
-        "moves",
+        "moves FEN",
         "4k3/8/8/8/8/8/5r2/4K2R w K - 0 1",
         "e1d1\ne1f2\nh1f1\nh1g1\nh1h2\nh1h3\nh1h4\nh1h5\nh1h6\nh1h7\nh1h8\n",
         0,
     ),
     (
-        "moves",
+        "moves FEN",
         "8/P7/8/8/8/8/8/K6k w - - 0 1",
         "a1b1\na1a2\na1b2\na7a8q\na7a8r\na7a8b\na7a8n\n",
         0,
     ),
-    ("moves", "7k/5Q2/6K1/8/8/8/8/8 b - - 0 1", "", 0),
+    ("moves FEN", "7k/5Q2/6K1/8/8/8/8/8 b - - 0 1", "", 0),
     (
-        "moves",
+        "moves FEN",
         "8/8/8/8/8/8/8/K7 w - - 0 1",
         "refused FEN BadPosition BadKings\n",
         1,
@@ -103,18 +125,21 @@ const MOVES: [Row; 5] = [
 
 #[test]
 fn lists_the_worked_moves(rt: HostRuntime) -> Result<(), Fail> {
-    expect_answers(rt.alloc(), &[], None, &MOVES)
+    expect_answers(rt.alloc(), &MOVES)
 }
 
-/// Whether the list of the moves of a position begins so.
-fn begins(alloc: Global, fen: &str, first: &[u8]) -> Result<bool, Fail> {
-    let (lines, _) = told(alloc, &["moves", fen], &[], None)?;
-    Ok(lines.starts_with(first))
+/// The text of a list of moves.
+fn moves_of(alloc: Global, fen: &str) -> Result<Vec<u8>, Fail> {
+    let mut lines = Vec::new(alloc);
+    match answer(alloc, &Task::Moves { fen }, &[], None, &[], &mut lines) {
+        Ok(_) => Ok(lines),
+        Err(_) => Err(Fail::from("an answer")),
+    }
 }
 
 #[test]
 fn lists_the_moves_of_the_start_in_order(rt: HostRuntime) -> Result<(), Fail> {
-    assert!(rt; begins(rt.alloc(), START, b"b1a3\nb1c3\ng1f3\n")?);
+    assert!(rt; moves_of(rt.alloc(), START)?.starts_with(b"b1a3\nb1c3\ng1f3\n"));
     Ok(())
 }
 
@@ -137,25 +162,19 @@ const SEVENTH_RANK: &str = "rnbq1k1r/pp1Pbppp/2p5/8/2B5/8/PPP1NnPP/RNBQK2R w KQ 
 
 const CASTLINGS: &str = "r3k2r/8/8/8/8/8/8/R3K2R w KQkq - 0 1";
 
-/// How many captures positions have.
-const CAPTURES: [(&str, usize); 3] = [
-    (START, 0),
-    (MIDDLE_GAME, 8),
-    ("8/8/8/8/k2pP3/8/8/K7 b - e3 0 1", 1),
-];
-
-/// How many captures the position of a text has.
-fn captures_of(alloc: Global, fen: &str) -> Result<usize, Fail> {
-    let captures = position_of(fen)?.captures(alloc)?;
-    Ok(captures.len())
+/// That a position has so many captures.
+fn expect_captures(alloc: Global, fen: &str, captures: usize) -> Result<(), Fail> {
+    if position_of(fen)?.captures(alloc)?.len() == captures {
+        return Ok(());
+    }
+    Err(Fail::new(fen))
 }
 
 #[test]
 fn lists_the_captures(rt: HostRuntime) -> Result<(), Fail> {
-    for (fen, captures) in CAPTURES {
-        assert_eq!(rt; captures_of(rt.alloc(), fen)?, captures, "{fen}");
-    }
-    Ok(())
+    expect_captures(rt.alloc(), START, 0)?;
+    expect_captures(rt.alloc(), MIDDLE_GAME, 8)?;
+    expect_captures(rt.alloc(), "8/8/8/8/k2pP3/8/8/K7 b - e3 0 1", 1)
 }
 
 /// The number of ways to play so many moves from a position.
@@ -189,15 +208,18 @@ const COUNTS: [(&str, u32, u32); 13] = [
     (CASTLINGS, 1, 26),
 ];
 
-/// The number of ways to play so many moves from the position of a text.
-fn count_of(alloc: Global, fen: &str, depth: u32) -> Result<u32, Fail> {
-    Ok(count(alloc, &position_of(fen)?, depth)?)
+/// That there are so many ways to play so many moves.
+fn expect_count(alloc: Global, row: &(&str, u32, u32)) -> Result<(), Fail> {
+    if count(alloc, &position_of(row.0)?, row.1)? == row.2 {
+        return Ok(());
+    }
+    Err(Fail::new(row.0))
 }
 
 #[test]
 fn counts_the_published_moves(rt: HostRuntime) -> Result<(), Fail> {
-    for (fen, depth, nodes) in COUNTS {
-        assert_eq!(rt; count_of(rt.alloc(), fen, depth)?, nodes, "{fen}");
+    for row in &COUNTS {
+        expect_count(rt.alloc(), row)?;
     }
     Ok(())
 }
@@ -205,123 +227,127 @@ fn counts_the_published_moves(rt: HostRuntime) -> Result<(), Fail> {
 /// White is in check by a pawn other than the one that made the double step.
 const IN_CHECK: &str = "1R4rr/RN2ppp1/8/pPp3pp/2p1R2K/p1p4P/3ppQNB/2kB2Rr w - c6 3 24";
 
-/// Whether a move is legal.
-fn is_legal(fen: &str, text: &[u8]) -> Result<bool, Fail> {
+/// Whether a move is legal, and its side in check.
+fn is_legal(fen: &str, text: &[u8]) -> Result<(bool, bool), Fail> {
+    let position = position_of(fen)?;
     match read_move(text) {
-        Some(m) => Ok(position_of(fen)?.is_legal(m)),
+        Some(m) => Ok((position.is_legal(m), position.in_check())),
         None => Err(Fail::from("a move")),
     }
 }
 
 #[test]
 fn takes_en_passant_only_where_the_king_is_safe(rt: HostRuntime) -> Result<(), Fail> {
-    assert!(rt; position_of(IN_CHECK)?.in_check());
-    assert!(rt; !begins(rt.alloc(), IN_CHECK, b"b5c6\n")?);
-    assert!(rt; !is_legal(IN_CHECK, b"b5c6")?);
+    assert!(rt; is_legal(IN_CHECK, b"b5c6")? == (false, true));
+    assert!(rt; !moves_of(rt.alloc(), IN_CHECK)?.starts_with(b"b5c6\n"));
     Ok(())
 }
 
-/// Words and a FEN that name no task.
-const MISUSES: [(&str, &str); 8] = [
-    ("", ""),
-    ("judge", ""),
-    ("moves", ""),
-    ("probe", START),
-    ("--help", ""),
-    ("judge --help", ""),
-    ("judge --table here", START),
-    ("show", START),
+/// The name of the task that words are read as.
+fn task_of(alloc: Global, words: &[&str], wanted: &str) -> &'static str {
+    match parse(alloc, words) {
+        Err(Usage::Misuse) => "misuse",
+        Ok(Task::Show) => "show",
+        Ok(Task::Moves { fen }) if fen == wanted => "moves",
+        Ok(Task::Judge { fen, .. }) if fen == wanted => "judge",
+        _ => "another",
+    }
+}
+
+/// Words, their FEN, and the task that they are read as.
+const TASKS: [(&str, &str, &str); 12] = [
+    ("", "", "misuse"),
+    ("judge", "", "misuse"),
+    ("moves", "", "misuse"),
+    ("probe FEN", START, "misuse"),
+    ("--help", "", "misuse"),
+    ("judge --help", "", "misuse"),
+    ("judge FEN FEN", START, "misuse"),
+    ("judge --table here FEN", START, "misuse"),
+    ("show FEN", START, "misuse"),
+    ("show", "", "show"),
+    ("moves FEN", START, "moves"),
+    ("judge FEN", START, "judge"),
 ];
 
-/// Whether words are a misuse.
-fn is_misuse(alloc: Global, words: &[&str]) -> bool {
-    matches!(parse(alloc, words), Err(Usage::Misuse))
+/// That words are read as a task.
+fn expect_task(alloc: Global, words: &str, fen: &str, task: &str) -> Result<(), Fail> {
+    if task_of(alloc, &words_of(alloc, words, fen)?, fen) == task {
+        return Ok(());
+    }
+    Err(Fail::new(words))
 }
 
 #[test]
-fn refuses_misused_words(rt: HostRuntime) -> Result<(), Fail> {
-    for (words, fen) in MISUSES {
-        assert!(rt;
-            is_misuse(rt.alloc(), &words_of(rt.alloc(), words, fen)?),
-            "{words}"
-        );
+fn reads_words_as_tasks(rt: HostRuntime) -> Result<(), Fail> {
+    for row in &TASKS {
+        expect_task(rt.alloc(), row.0, row.1, row.2)?;
     }
-    assert!(rt; is_misuse(rt.alloc(), &["judge", START, START]));
     Ok(())
 }
 
-/// Whether these words ask for the messages of the input.
-fn is_show(alloc: Global, words: &[&str]) -> bool {
-    matches!(parse(alloc, words), Ok(Task::Show))
-}
+/// No folder and no file.
+pub(crate) struct NoDisk;
 
-/// Whether these words ask for the moves of a position.
-fn is_moves(alloc: Global, words: &[&str], wanted: &str) -> bool {
-    matches!(parse(alloc, words), Ok(Task::Moves { fen }) if fen == wanted)
-}
+impl Disk for NoDisk {
+    fn names(&self, _alloc: Global, _folder: &str) -> Result<Vec<String>, ReadFault> {
+        Err(ReadFault::Unreadable)
+    }
 
-/// Whether these words ask for the verdict of a position.
-fn is_judge(alloc: Global, words: &[&str], wanted: &str) -> bool {
-    matches!(parse(alloc, words), Ok(Task::Judge { fen, .. }) if fen == wanted)
-}
-
-#[test]
-fn reads_words_as_tasks(rt: HostRuntime) {
-    assert!(rt; is_show(rt.alloc(), &["show"]));
-    assert!(rt; is_moves(rt.alloc(), &["moves", START], START));
-    assert!(rt; is_judge(rt.alloc(), &["judge", START], START));
+    fn read(&self, _alloc: Global, _path: &str) -> Result<Vec<u8>, ReadFault> {
+        Err(ReadFault::Unreadable)
+    }
 }
 
 /// A task that is done, one that is refused, and two misuses.
 const STATUSES: [Row; 4] = [
-    ("judge", "8/8/8/4k3/8/8/8/K7 w - - 0 1", "TableDraw\n", 0),
-    ("judge", "x", "refused FEN FieldCount\n", 1),
-    ("prove", START, "", 2),
+    (
+        "judge FEN",
+        "8/8/8/4k3/8/8/8/K7 w - - 0 1",
+        "TableDraw\n",
+        0,
+    ),
+    ("judge x", "", "refused FEN FieldCount\n", 1),
+    ("prove FEN", START, "", 2),
     ("", "", "", 2),
 ];
 
-/// Whether the program tells its use, where it tells so.
-fn tells_its_use(alloc: Global, row: Row) -> Result<bool, Fail> {
+/// That the program tells so, and its use where it ends with status 2.
+fn expect_status(alloc: Global, row: Row) -> Result<(), Fail> {
     let mut errors = Vec::new(alloc);
     expect_run(alloc, &NoDisk, [].as_slice(), &mut errors, row)?;
-    Ok(errors.starts_with(b"usage: "))
+    if errors.starts_with(b"usage: ") == (row.3 == 2) {
+        return Ok(());
+    }
+    Err(Fail::from("its use"))
 }
 
 #[test]
 fn tells_each_status(rt: HostRuntime) -> Result<(), Fail> {
-    for row in STATUSES {
-        assert!(rt; tells_its_use(rt.alloc(), row)? == (row.3 == 2));
+    for row in &STATUSES {
+        expect_status(rt.alloc(), *row)?;
     }
     Ok(())
 }
 
 #[test]
-fn tells_each_status_where_errors_cannot_be_written(rt: HostRuntime) -> Result<(), Fail> {
-    for row in STATUSES {
+fn tells_each_status_where_its_use_cannot_be_written(rt: HostRuntime) -> Result<(), Fail> {
+    for row in &STATUSES {
         expect_run(
             rt.alloc(),
             &NoDisk,
             [].as_slice(),
             &mut Failing::after(0),
-            row,
+            *row,
         )?;
     }
     Ok(())
 }
 
-/// The writes of the moves of the start, of a verdict, and of a refusal.
-const FIRST_WRITES: [Writes; 3] = [
-    ("moves", START, 20),
-    ("judge", "8/8/8/4k3/8/8/8/K7 w - - 0 1", 1),
-    ("judge", "no position", 1),
-];
-
 #[test]
 fn tells_each_failed_write(rt: HostRuntime) -> Result<(), Fail> {
-    let given = Given {
-        files: &[],
-        manifest: None,
-        input: &[],
-    };
-    expect_all_failures(rt.alloc(), &given, &FIRST_WRITES)
+    let draw = "8/8/8/4k3/8/8/8/K7 w - - 0 1";
+    expect_failures(rt.alloc(), &[], None, ("moves FEN", START, 20))?;
+    expect_failures(rt.alloc(), &[], None, ("judge FEN", draw, 1))?;
+    expect_failures(rt.alloc(), &[], None, ("judge FEN", "no position", 1))
 }
