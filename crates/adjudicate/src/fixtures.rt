@@ -1,9 +1,8 @@
-//! What the tests share: files and words as rows of tables, how an answer is compared with a row, and a writer that fails.
+//! What the tests share: words and what is told for them as rows, and a writer that fails.
 
 use crate::commands::{Task, parse};
 use crate::disk::Disk;
-use crate::files::NamedFile;
-use crate::input::ReadFault;
+use crate::folders::{files_in, manifest_of};
 use crate::program::run;
 use crate::replies::{AnswerFault, answer};
 use crate::sources::are_files;
@@ -19,30 +18,6 @@ pub(crate) const KNIGHT_FEN: &str = "8/8/8/4k3/8/8/8/KN6 w - - 0 1";
 
 /// Queen b1 against the king on e5.
 pub(crate) const QUEEN_FEN: &str = "8/8/8/4k3/8/8/8/KQ6 w - - 0 1";
-
-/// A file by its name or path: how it begins, and its length. The other bytes are zero.
-pub(crate) type File = (&'static str, &'static [u8], usize);
-
-/// How a table of single values begins: a knight draws.
-pub(crate) const KNIGHT: [u8; 14] = [
-    0x71, 0xE8, 0x23, 0x5D, 0x01, 0x00, 0x66, 0x22, 0xEE, 0x00, 0x80, 0x02, 0x80, 0x02,
-];
-
-/// A queen wins, and loses for the other side.
-pub(crate) const QUEEN: [u8; 14] = [
-    0x71, 0xE8, 0x23, 0x5D, 0x01, 0x00, 0x66, 0x55, 0xEE, 0x00, 0x80, 0x04, 0x80, 0x00,
-];
-
-/// The manifest of the knight's table of 80 bytes (its digest by sha256sum).
-pub(crate) const KNIGHT_LIST: &str =
-    "87cdf77207282e1dea3ecceff56cc1cc1126b2cabc55a34e1dc17bd812a1a686  KNvK.rtbw\n";
-
-/// The bytes of a file.
-pub(crate) fn bytes_of(alloc: Global, file: File) -> Result<Vec<u8>, AllocError> {
-    let mut bytes = Vec::from_slice(alloc, file.1)?;
-    bytes.resize(file.2, 0)?;
-    Ok(bytes)
-}
 
 /// The words of a text that are parted by spaces; the word FEN stands for a FEN.
 pub(crate) fn words_of<'a>(
@@ -68,60 +43,62 @@ fn compare(row: Row, lines: &[u8], status: u8) -> Result<(), Fail> {
     Err(Fail::new(format_args!("{} {}", row.0, row.1)))
 }
 
-/// The bytes of a manifest, if there is one.
-fn bytes_in(manifest: Option<&str>) -> Option<&[u8]> {
-    match manifest {
-        Some(text) => Some(text.as_bytes()),
-        None => None,
+/// The names of the folder and the manifest that a task names, empty for none.
+fn names_in<'a>(task: &Task<'a>) -> (&'a str, &'a str) {
+    match *task {
+        Task::Judge {
+            tables,
+            manifest,
+            ..
+        } => (tables.unwrap_or(""), manifest.unwrap_or("")),
+        Task::Probe {
+            tables,
+            manifest,
+            ..
+        } => (tables, manifest.unwrap_or("")),
+        Task::List { folder } => (folder, ""),
+        Task::Check { manifest, folder } => (folder, manifest),
+        Task::Moves { .. } | Task::Show => ("", ""),
     }
 }
 
-/// What is answered to a task, and the status.
-fn answered(
+/// Answers a task from an input, and from the folder and the manifest that it names.
+pub(crate) fn answer_into<W: Write>(
     alloc: Global,
     task: &Task,
-    files: &[NamedFile],
-    manifest: Option<&str>,
-) -> Result<(Vec<u8>, u8), Fail> {
-    if !are_files(files) {
+    input: &[u8],
+    out: &mut W,
+) -> Result<Result<u8, AnswerFault>, Fail> {
+    let (folder, manifest) = names_in(task);
+    let files = files_in(alloc, folder)?;
+    if !are_files(&files) {
         return Err(Fail::from("files in order"));
     }
+    Ok(answer(alloc, task, &files, manifest_of(manifest), input, out))
+}
+
+/// That a task is answered with the lines and the status of a row.
+fn expect_lines(alloc: Global, task: &Task, row: Row) -> Result<(), Fail> {
     let mut out = Vec::new(alloc);
-    match answer(alloc, task, files, bytes_in(manifest), &[], &mut out) {
-        Ok(status) => Ok((out, status)),
+    match answer_into(alloc, task, &[], &mut out)? {
+        Ok(status) => compare(row, &out, status),
         Err(_) => Err(Fail::from("an answer")),
     }
 }
 
-/// What is answered to words, and the status.
-fn told(
-    alloc: Global,
-    words: &[&str],
-    files: &[NamedFile],
-    manifest: Option<&str>,
-) -> Result<(Vec<u8>, u8), Fail> {
-    match parse(alloc, words) {
-        Ok(task) => answered(alloc, &task, files, manifest),
+/// That the words of a row are answered so.
+fn expect_answer(alloc: Global, row: Row) -> Result<(), Fail> {
+    let words = words_of(alloc, row.0, row.1)?;
+    match parse(alloc, &words) {
+        Ok(task) => expect_lines(alloc, &task, row),
         Err(_) => Err(Fail::from("a task")),
     }
 }
 
-/// That a row is answered by files and a manifest.
-pub(crate) fn expect_answer(
-    alloc: Global,
-    files: &[NamedFile],
-    manifest: Option<&str>,
-    row: Row,
-) -> Result<(), Fail> {
-    let words = words_of(alloc, row.0, row.1)?;
-    let (lines, status) = told(alloc, &words, files, manifest)?;
-    compare(row, &lines, status)
-}
-
-/// That each row is answered without files and a manifest.
+/// That the words of each row are answered so.
 pub(crate) fn expect_answers(alloc: Global, rows: &[Row]) -> Result<(), Fail> {
     for row in rows {
-        expect_answer(alloc, &[], None, *row)?;
+        expect_answer(alloc, *row)?;
     }
     Ok(())
 }
@@ -171,33 +148,21 @@ impl Write for Failing {
 }
 
 /// Whether a write that fails after so many others is told.
-fn is_told(
-    alloc: Global,
-    task: &Task,
-    files: &[NamedFile],
-    manifest: Option<&str>,
-    input: &[u8],
-    writes: u32,
-) -> bool {
-    if !are_files(files) {
-        return false;
-    }
+fn is_told(alloc: Global, task: &Task, input: &[u8], writes: u32) -> Result<bool, Fail> {
     let mut out = Failing::after(writes);
-    let told = answer(alloc, task, files, bytes_in(manifest), input, &mut out);
-    matches!(told, Err(AnswerFault::Io))
+    let told = answer_into(alloc, task, input, &mut out)?;
+    Ok(matches!(told, Err(AnswerFault::Io)))
 }
 
 /// That each of so many writes that fails is told, and nothing else.
 pub(crate) fn expect_told(
     alloc: Global,
     task: &Task,
-    files: &[NamedFile],
-    manifest: Option<&str>,
     input: &[u8],
     writes: u32,
 ) -> Result<(), Fail> {
     for others in 0..writes {
-        if !is_told(alloc, task, files, manifest, input, others) {
+        if !is_told(alloc, task, input, others)? {
             return Err(Fail::new(format_args!("write {others}")));
         }
     }
@@ -208,15 +173,18 @@ pub(crate) fn expect_told(
 pub(crate) type Writes = (&'static str, &'static str, u32);
 
 /// That each write of an answer that fails is told.
-pub(crate) fn expect_failures(
-    alloc: Global,
-    files: &[NamedFile],
-    manifest: Option<&str>,
-    row: Writes,
-) -> Result<(), Fail> {
+fn expect_failures(alloc: Global, row: Writes) -> Result<(), Fail> {
     let words = words_of(alloc, row.0, row.1)?;
     match parse(alloc, &words) {
-        Ok(task) => expect_told(alloc, &task, files, manifest, &[], row.2),
+        Ok(task) => expect_told(alloc, &task, &[], row.2),
         Err(_) => Err(Fail::from("a task")),
     }
+}
+
+/// That each write of each of these answers that fails is told.
+pub(crate) fn expect_all_failures(alloc: Global, rows: &[Writes]) -> Result<(), Fail> {
+    for row in rows {
+        expect_failures(alloc, *row)?;
+    }
+    Ok(())
 }

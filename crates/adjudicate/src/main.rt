@@ -91,6 +91,8 @@ fn main(rt: HostRuntime) -> ExitCode {
 #[cfg(test)]
 mod fixtures;
 #[cfg(test)]
+mod folders;
+#[cfg(test)]
 mod message_tests;
 #[cfg(test)]
 mod run_tests;

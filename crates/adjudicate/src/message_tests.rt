@@ -132,5 +132,5 @@ fn tells_each_failed_read(rt: HostRuntime) -> Result<(), Fail> {
 #[test]
 fn tells_each_failed_write_of_a_message(rt: HostRuntime) -> Result<(), Fail> {
     let stream = three_messages(rt.alloc())?;
-    expect_told(rt.alloc(), &Task::Show, &[], None, &stream, 15)
+    expect_told(rt.alloc(), &Task::Show, &stream, 15)
 }

@@ -2,6 +2,7 @@
 
 use crate::disk::Disk;
 use crate::fixtures::*;
+use crate::folders::*;
 use crate::input::ReadFault;
 use std::alloc::{AllocError, Global};
 use std::test::*;

@@ -4,7 +4,6 @@ use crate::commands::{Task, parse};
 use crate::disk::Disk;
 use crate::fixtures::*;
 use crate::input::ReadFault;
-use crate::replies::answer;
 use crate::usage::Usage;
 use board_core::Position;
 use fen_text::{read, read_move};
@@ -128,19 +127,18 @@ fn lists_the_worked_moves(rt: HostRuntime) -> Result<(), Fail> {
     expect_answers(rt.alloc(), &MOVES)
 }
 
-/// The text of a list of moves.
-fn moves_of(alloc: Global, fen: &str) -> Result<Vec<u8>, Fail> {
+/// That the list of the moves of a position begins so, or that it doesn't.
+fn expect_beginning(alloc: Global, fen: &str, first: &[u8], wanted: bool) -> Result<(), Fail> {
     let mut lines = Vec::new(alloc);
-    match answer(alloc, &Task::Moves { fen }, &[], None, &[], &mut lines) {
-        Ok(_) => Ok(lines),
-        Err(_) => Err(Fail::from("an answer")),
+    match answer_into(alloc, &Task::Moves { fen }, &[], &mut lines)? {
+        Ok(0) if lines.starts_with(first) == wanted => Ok(()),
+        _ => Err(Fail::new(fen)),
     }
 }
 
 #[test]
 fn lists_the_moves_of_the_start_in_order(rt: HostRuntime) -> Result<(), Fail> {
-    assert!(rt; moves_of(rt.alloc(), START)?.starts_with(b"b1a3\nb1c3\ng1f3\n"));
-    Ok(())
+    expect_beginning(rt.alloc(), START, b"b1a3\nb1c3\ng1f3\n", true)
 }
 
 /// The position of a text.
@@ -227,20 +225,19 @@ fn counts_the_published_moves(rt: HostRuntime) -> Result<(), Fail> {
 /// White is in check by a pawn other than the one that made the double step.
 const IN_CHECK: &str = "1R4rr/RN2ppp1/8/pPp3pp/2p1R2K/p1p4P/3ppQNB/2kB2Rr w - c6 3 24";
 
-/// Whether a move is legal, and its side in check.
-fn is_legal(fen: &str, text: &[u8]) -> Result<(bool, bool), Fail> {
+/// That the side to move is in check, and that this is no legal move of it.
+fn expect_no_answer_to_check(fen: &str, text: &[u8]) -> Result<(), Fail> {
     let position = position_of(fen)?;
     match read_move(text) {
-        Some(m) => Ok((position.is_legal(m), position.in_check())),
-        None => Err(Fail::from("a move")),
+        Some(m) if position.in_check() && !position.is_legal(m) => Ok(()),
+        _ => Err(Fail::new(fen)),
     }
 }
 
 #[test]
 fn takes_en_passant_only_where_the_king_is_safe(rt: HostRuntime) -> Result<(), Fail> {
-    assert!(rt; is_legal(IN_CHECK, b"b5c6")? == (false, true));
-    assert!(rt; !moves_of(rt.alloc(), IN_CHECK)?.starts_with(b"b5c6\n"));
-    Ok(())
+    expect_no_answer_to_check(IN_CHECK, b"b5c6")?;
+    expect_beginning(rt.alloc(), IN_CHECK, b"b5c6\n", false)
 }
 
 /// The name of the task that words are read as.
@@ -344,10 +341,14 @@ fn tells_each_status_where_its_use_cannot_be_written(rt: HostRuntime) -> Result<
     Ok(())
 }
 
+/// The writes of the moves of the start, of a verdict, and of a refusal.
+const WRITES: [Writes; 3] = [
+    ("moves FEN", START, 20),
+    ("judge FEN", "8/8/8/4k3/8/8/8/K7 w - - 0 1", 1),
+    ("judge FEN", "no position", 1),
+];
+
 #[test]
 fn tells_each_failed_write(rt: HostRuntime) -> Result<(), Fail> {
-    let draw = "8/8/8/4k3/8/8/8/K7 w - - 0 1";
-    expect_failures(rt.alloc(), &[], None, ("moves FEN", START, 20))?;
-    expect_failures(rt.alloc(), &[], None, ("judge FEN", draw, 1))?;
-    expect_failures(rt.alloc(), &[], None, ("judge FEN", "no position", 1))
+    expect_all_failures(rt.alloc(), &WRITES)
 }
