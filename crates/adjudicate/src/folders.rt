@@ -93,7 +93,7 @@ const DAMAGED: [File; 2] = [
 /// A file that is no table, and a knight's table by the name of another.
 const AT_FAULT: [File; 2] = [("KNvK.rtbw", b"abc", 3), ("KQvK.rtbw", &KNIGHT, 80)];
 
-/// The files of the folder of this name.
+/// The files of the folder of this name; none where a task names no folder.
 pub(crate) fn files_in(alloc: Global, folder: &str) -> Result<Vec<NamedFile>, Fail> {
     match folder {
         "abc" => files_of(alloc, &[("KNvK.rtbw", b"abc", 3)]),
@@ -101,7 +101,8 @@ pub(crate) fn files_in(alloc: Global, folder: &str) -> Result<Vec<NamedFile>, Fa
         "worked" => files_of(alloc, &WORKED),
         "damaged" => files_of(alloc, &DAMAGED),
         "at_fault" => files_of(alloc, &AT_FAULT),
-        _ => Ok(Vec::new(alloc)),
+        "nothing" | "" => files_of(alloc, &[]),
+        _ => Err(Fail::from("a folder")),
     }
 }
 

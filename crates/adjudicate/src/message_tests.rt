@@ -11,6 +11,7 @@ use std::test::*;
 
 const STAMP: Stamp = Stamp([7; 16]);
 
+/// A move, the first of a game.
 fn first_move() -> Option<Message> {
     Some(Message::Move {
         stamp: STAMP,
@@ -28,6 +29,7 @@ fn acknowledgement() -> Option<Message> {
     })
 }
 
+/// That the game has ended at the fourth ply.
 fn verdict() -> Option<Message> {
     Some(Message::Verdict {
         stamp: STAMP,
