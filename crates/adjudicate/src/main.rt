@@ -89,6 +89,14 @@ fn main(rt: HostRuntime) -> ExitCode {
 }
 
 #[cfg(test)]
+mod fixtures;
+#[cfg(test)]
+mod folders;
+#[cfg(test)]
+mod message_tests;
+#[cfg(test)]
 mod run_tests;
+#[cfg(test)]
+mod table_tests;
 #[cfg(test)]
 mod tests;

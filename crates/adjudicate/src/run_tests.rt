@@ -1,39 +1,26 @@
 //! The program over folders and files in memory: what it reads for a task, and what it refuses.
 
 use crate::disk::Disk;
+use crate::fixtures::*;
+use crate::folders::*;
 use crate::input::ReadFault;
-use crate::program::run;
-use std::alloc::Global;
-use std::process::Abort;
+use std::alloc::{AllocError, Global};
 use std::test::*;
 
-/// One folder, `tables`, and files by their paths. A name of the folder without a file can't be read.
-#[derive(Drop)]
+/// One folder, `tables`, with these names, parted by spaces, and files by their paths. A name without a file can't be
+/// read.
 struct Memory {
-    names: Vec<&'static str>,
-    paths: Vec<&'static str>,
-    contents: Vec<Vec<u8>>,
+    names: &'static str,
+    files: &'static [File],
 }
 
-impl Memory {
-    fn new(alloc: Global) -> Memory {
-        Memory {
-            names: Vec::new(alloc),
-            paths: Vec::new(alloc),
-            contents: Vec::new(alloc),
-        }
+/// The names of a text, parted by spaces.
+fn names_of(alloc: Global, text: &str) -> Result<Vec<String>, AllocError> {
+    let mut names = Vec::new(alloc);
+    for name in text.split_ascii_whitespace() {
+        names.push(String::from_str(alloc, name)?)?;
     }
-
-    fn add_name(&mut self, name: &'static str) -> Result<(), Fail> {
-        self.names.push(name)?;
-        Ok(())
-    }
-
-    fn add_file(&mut self, alloc: Global, path: &'static str, bytes: &[u8]) -> Result<(), Fail> {
-        self.paths.push(path)?;
-        self.contents.push(bytes.to_vec(alloc)?)?;
-        Ok(())
-    }
+    Ok(names)
 }
 
 impl Disk for Memory {
@@ -41,193 +28,203 @@ impl Disk for Memory {
         if folder != "tables" {
             return Err(ReadFault::Unreadable);
         }
-        let mut names = Vec::new(alloc);
-        for name in &self.names {
-            let Ok(()) = names.push(String::from_str(alloc, name)?) else {
-                return Err(ReadFault::OutOfMemory);
-            };
-        }
-        Ok(names)
+        Ok(names_of(alloc, self.names)?)
     }
 
     fn read(&self, alloc: Global, path: &str) -> Result<Vec<u8>, ReadFault> {
-        for (known, bytes) in self.paths.iter().zip(&self.contents) {
-            if *known == path {
-                return Ok(bytes.to_vec(alloc)?);
+        for file in self.files {
+            if file.0 == path {
+                return Ok(bytes_of(alloc, *file)?);
             }
         }
         Err(ReadFault::Unreadable)
     }
 }
 
-/// A file of 80 bytes that begins so.
-fn file(first: &[u8]) -> [u8; 80] {
-    let mut bytes = [0; 80];
-    for (to, from) in bytes.iter_mut().zip(first) {
-        *to = *from;
+/// That the program tells so for the words of each row.
+fn expect_runs(alloc: Global, disk: &Memory, rows: &[Row]) -> Result<(), Fail> {
+    for row in rows {
+        expect_run(alloc, disk, [].as_slice(), &mut Vec::new(alloc), *row)?;
     }
-    bytes
-}
-
-const KNIGHT: &[u8] = &[
-    0x71, 0xE8, 0x23, 0x5D, 0x01, 0x00, 0x66, 0x22, 0xEE, 0x00, 0x80, 0x02, 0x80, 0x02,
-];
-
-const QUEEN: &[u8] = &[
-    0x71, 0xE8, 0x23, 0x5D, 0x01, 0x00, 0x66, 0x55, 0xEE, 0x00, 0x80, 0x04, 0x80, 0x00,
-];
-
-const QUEEN_FEN: &str = "8/8/8/4k3/8/8/8/KQ6 w - - 0 1";
-
-const KNIGHT_FEN: &str = "8/8/8/4k3/8/8/8/KN6 w - - 0 1";
-
-/// What the program writes, and its status.
-fn told(alloc: Global, disk: &Memory, words: &[&str]) -> Result<(Vec<u8>, u8), Fail> {
-    let mut out = Vec::new(alloc);
-    let mut errors = Vec::new(alloc);
-    match run(alloc, words, disk, [].as_slice(), &mut out, &mut errors) {
-        Ok(status) => Ok((out, status)),
-        Err(_) => Err(Fail::from("an answer")),
-    }
-}
-
-/// The program writes this text and tells this status.
-fn tells(
-    rt: &impl Abort,
-    alloc: Global,
-    disk: &Memory,
-    words: &[&str],
-    text: &str,
-    status: u8,
-) -> Result<(), Fail> {
-    let (out, ended) = told(alloc, disk, words)?;
-    assert_eq!(rt; out.as_slice(), text.as_bytes());
-    assert_eq!(rt; ended, status);
     Ok(())
 }
 
-/// The knight's table beside names that are no table's, and a file that is no manifest.
-fn knight_alone(alloc: Global) -> Result<Memory, Fail> {
-    let mut disk = Memory::new(alloc);
-    disk.add_name("notes.txt")?;
-    disk.add_name("KvK.rtbw")?;
-    disk.add_name("KNvK.rtbw.bak")?;
-    disk.add_name("KNvK.rtbw")?;
-    disk.add_file(alloc, "tables/KNvK.rtbw", &file(KNIGHT))?;
-    disk.add_file(alloc, "bad", b"abc")?;
-    Ok(disk)
-}
+const KNIGHT_FILE: File = ("tables/KNvK.rtbw", &KNIGHT, 80);
+
+const QUEEN_FILE: File = ("tables/KQvK.rtbw", &QUEEN, 80);
+
+/// A file that is no manifest.
+const BAD: File = ("bad", b"abc", 3);
+
+/// The manifest of the knight's table.
+const GOOD: File = (
+    "good",
+    b"87cdf77207282e1dea3ecceff56cc1cc1126b2cabc55a34e1dc17bd812a1a686  KNvK.rtbw\n",
+    76,
+);
+
+/// The knight's table beside names that are no table's.
+const KNIGHT_ALONE: Memory = Memory {
+    names: "notes.txt KvK.rtbw KNvK.rtbw.bak KNvK.rtbw",
+    files: &[KNIGHT_FILE, BAD],
+};
+
+/// What is told of the knight's table alone.
+const TOLD_OF_THE_KNIGHT: [Row; 3] = [
+    ("list tables", "", KNIGHT_LIST, 0),
+    ("judge --tables tables FEN", KNIGHT_FEN, "TableDraw\n", 0),
+    ("judge FEN", KNIGHT_FEN, "open\n", 0),
+];
 
 #[test]
 fn passes_over_other_names(rt: HostRuntime) -> Result<(), Fail> {
-    let alloc = rt.alloc();
-    let disk = knight_alone(alloc)?;
-    let (listed, status) = told(alloc, &disk, &["list", "tables"])?;
-    assert_eq!(rt; status, 0);
-    assert_eq!(rt; listed.len(), 64 + 2 + 9 + 1);
-    assert!(rt; listed.ends_with(b"  KNvK.rtbw\n"));
-    let words = ["judge", "--tables", "tables", KNIGHT_FEN];
-    tells(&rt, alloc, &disk, &words, "TableDraw\n", 0)?;
-    tells(&rt, alloc, &disk, &["judge", KNIGHT_FEN], "open\n", 0)?;
-    Ok(())
+    expect_runs(rt.alloc(), &KNIGHT_ALONE, &TOLD_OF_THE_KNIGHT)
 }
+
+/// A folder and files that can't be read, and words that are left out.
+const REFUSALS: [Row; 8] = [
+    ("judge --tables other x", "", "refused files\n", 1),
+    (
+        "judge --manifest absent FEN",
+        KNIGHT_FEN,
+        "refused files\n",
+        1,
+    ),
+    (
+        "judge --manifest bad FEN",
+        KNIGHT_FEN,
+        "refused manifest 1\n",
+        1,
+    ),
+    ("judge --manifest bad x", "", "refused FEN FieldCount\n", 1),
+    ("probe FEN", KNIGHT_FEN, "", 2),
+    ("list", "", "", 2),
+    ("check tables", "", "", 2),
+    ("check --manifest bad", "", "", 2),
+];
 
 #[test]
 fn refuses_what_it_cannot_read(rt: HostRuntime) -> Result<(), Fail> {
-    let alloc = rt.alloc();
-    let disk = knight_alone(alloc)?;
-    let words = ["judge", "--tables", "other", "x"];
-    tells(&rt, alloc, &disk, &words, "refused files\n", 1)?;
-    let words = ["judge", "--manifest", "absent", KNIGHT_FEN];
-    tells(&rt, alloc, &disk, &words, "refused files\n", 1)?;
-    let words = ["judge", "--manifest", "bad", KNIGHT_FEN];
-    tells(&rt, alloc, &disk, &words, "refused manifest 1\n", 1)?;
-    let words = ["judge", "--manifest", "bad", "x"];
-    tells(&rt, alloc, &disk, &words, "refused FEN FieldCount\n", 1)?;
-    tells(&rt, alloc, &disk, &["probe", KNIGHT_FEN], "", 2)?;
-    tells(&rt, alloc, &disk, &["list"], "", 2)?;
-    tells(&rt, alloc, &disk, &["check", "tables"], "", 2)?;
-    tells(&rt, alloc, &disk, &["check", "--manifest", "bad"], "", 2)?;
-    Ok(())
+    expect_runs(rt.alloc(), &KNIGHT_ALONE, &REFUSALS)
 }
 
-// Two more tables can't be read; with a manifest only those that it names are.
-#[test]
-fn reads_what_a_manifest_names(rt: HostRuntime) -> Result<(), Fail> {
-    let alloc = rt.alloc();
-    let disk = knight_alone(alloc)?;
-    let (listed, _) = told(alloc, &disk, &["list", "tables"])?;
-    let mut none = Memory::new(alloc);
-    none.add_file(alloc, "good", &listed)?;
-    let mut other = knight_alone(alloc)?;
-    other.add_name("KQvK.rtbw")?;
-    other.add_name("KBvK.rtbz")?;
-    other.add_file(alloc, "good", &listed)?;
-    tells(
-        &rt,
-        alloc,
-        &other,
-        &["list", "tables"],
+/// Two more tables can't be read.
+const UNREADABLE: Memory = Memory {
+    names: "notes.txt KvK.rtbw KNvK.rtbw.bak KNvK.rtbw KQvK.rtbw KBvK.rtbz",
+    files: &[KNIGHT_FILE, BAD, GOOD],
+};
+
+/// With a manifest only those tables that it names are read.
+const TOLD_BY_A_MANIFEST: [Row; 5] = [
+    ("list tables", "", "refused files\n", 1),
+    (
+        "judge --tables tables FEN",
+        KNIGHT_FEN,
         "refused files\n",
         1,
-    )?;
-    let words = ["judge", "--tables", "tables", KNIGHT_FEN];
-    tells(&rt, alloc, &other, &words, "refused files\n", 1)?;
-    let words = [
-        "judge",
-        "--tables",
-        "tables",
-        "--manifest",
-        "good",
+    ),
+    (
+        "judge --tables tables --manifest good FEN",
         KNIGHT_FEN,
-    ];
-    tells(&rt, alloc, &other, &words, "TableDraw\n", 0)?;
-    let words = [
-        "probe",
-        "--tables",
-        "tables",
-        "--manifest",
-        "bad",
+        "TableDraw\n",
+        0,
+    ),
+    (
+        "probe --tables tables --manifest bad FEN",
         KNIGHT_FEN,
-    ];
-    tells(&rt, alloc, &other, &words, "refused manifest 1\n", 1)?;
-    let words = ["check", "--manifest", "good", "tables"];
-    tells(&rt, alloc, &other, &words, "KNvK.rtbw ok\n", 0)?;
-    tells(&rt, alloc, &none, &words, "KNvK.rtbw missing\n", 1)?;
-    let words = ["judge", "--manifest", "good", KNIGHT_FEN];
-    tells(&rt, alloc, &none, &words, "refused KNvK.rtbw missing\n", 1)?;
-    tells(&rt, alloc, &none, &["list", "tables"], "", 0)?;
-    Ok(())
+        "refused manifest 1\n",
+        1,
+    ),
+    ("check --manifest good tables", "", "KNvK.rtbw ok\n", 0),
+];
+
+#[test]
+fn reads_what_a_manifest_names(rt: HostRuntime) -> Result<(), Fail> {
+    expect_runs(rt.alloc(), &UNREADABLE, &TOLD_BY_A_MANIFEST)
 }
 
-// The folder lists the later name first, and each table is read from its own path.
+/// An empty folder.
+const NO_TABLE: Memory = Memory {
+    names: "",
+    files: &[GOOD],
+};
+
+const TOLD_OF_NO_TABLE: [Row; 3] = [
+    ("check --manifest good tables", "", "KNvK.rtbw missing\n", 1),
+    (
+        "judge --manifest good FEN",
+        KNIGHT_FEN,
+        "refused KNvK.rtbw missing\n",
+        1,
+    ),
+    ("list tables", "", "", 0),
+];
+
+#[test]
+fn misses_what_a_manifest_names(rt: HostRuntime) -> Result<(), Fail> {
+    expect_runs(rt.alloc(), &NO_TABLE, &TOLD_OF_NO_TABLE)
+}
+
+/// A folder that lists the later name first.
+const TWO_TABLES: Memory = Memory {
+    names: "KQvK.rtbw KNvK.rtbw",
+    files: &[QUEEN_FILE, KNIGHT_FILE],
+};
+
+/// The manifest of both tables (the digests by sha256sum).
+const BOTH_LIST: &str = "87cdf77207282e1dea3ecceff56cc1cc1126b2cabc55a34e1dc17bd812a1a686  KNvK.rtbw
+c3398006a3ecec615745a9d81e5edc4e9b41c127aee6ad6f020016446fea291a  KQvK.rtbw
+";
+
+/// Each table is read from its own path.
+const TOLD_OF_BOTH: [Row; 3] = [
+    ("list tables", "", BOTH_LIST, 0),
+    (
+        "probe --tables tables FEN",
+        QUEEN_FEN,
+        "wdl 2\ndtz refused NotCovered KQvK\n",
+        1,
+    ),
+    ("probe --tables tables FEN", KNIGHT_FEN, "wdl 0\ndtz 0\n", 0),
+];
+
 #[test]
 fn reads_all_tables_of_a_folder(rt: HostRuntime) -> Result<(), Fail> {
-    let alloc = rt.alloc();
-    let mut disk = Memory::new(alloc);
-    disk.add_name("KQvK.rtbw")?;
-    disk.add_name("KNvK.rtbw")?;
-    disk.add_file(alloc, "tables/KQvK.rtbw", &file(QUEEN))?;
-    disk.add_file(alloc, "tables/KNvK.rtbw", &file(KNIGHT))?;
-    let (listed, status) = told(alloc, &disk, &["list", "tables"])?;
-    assert_eq!(rt; status, 0);
-    assert_eq!(rt; listed.len(), 2 * 76);
-    assert!(rt; listed.ends_with(b"  KQvK.rtbw\n"));
-    let words = ["probe", "--tables", "tables", QUEEN_FEN];
-    let text = "wdl 2\ndtz refused NotCovered KQvK\n";
-    tells(&rt, alloc, &disk, &words, text, 1)?;
-    let words = ["probe", "--tables", "tables", KNIGHT_FEN];
-    tells(&rt, alloc, &disk, &words, "wdl 0\ndtz 0\n", 0)?;
-    let mut other = Memory::new(alloc);
-    other.add_name("KQvK.rtbw")?;
-    other.add_name("KNvK.rtbw")?;
-    other.add_file(alloc, "tables/KQvK.rtbw", &file(QUEEN))?;
-    other.add_file(alloc, "tables/KNvK.rtbw", b"abc")?;
-    other.add_file(alloc, "manifest", &listed)?;
-    let words = ["check", "--manifest", "manifest", "tables"];
-    let text = "KNvK.rtbw changed\nKQvK.rtbw ok\n";
-    tells(&rt, alloc, &other, &words, text, 1)?;
-    let words = ["probe", "--tables", "tables", QUEEN_FEN];
-    tells(&rt, alloc, &other, &words, "refused KNvK.rtbw BadSize\n", 1)?;
-    Ok(())
+    expect_runs(rt.alloc(), &TWO_TABLES, &TOLD_OF_BOTH)
+}
+
+/// The knight's file is another than that of the manifest.
+const CHANGED: Memory = Memory {
+    names: "KQvK.rtbw KNvK.rtbw",
+    files: &[
+        QUEEN_FILE,
+        ("tables/KNvK.rtbw", b"abc", 3),
+        (
+            "manifest",
+            b"87cdf77207282e1dea3ecceff56cc1cc1126b2cabc55a34e1dc17bd812a1a686  KNvK.rtbw
+c3398006a3ecec615745a9d81e5edc4e9b41c127aee6ad6f020016446fea291a  KQvK.rtbw
+",
+            152,
+        ),
+    ],
+};
+
+const TOLD_OF_A_CHANGE: [Row; 2] = [
+    (
+        "check --manifest manifest tables",
+        "",
+        "KNvK.rtbw changed\nKQvK.rtbw ok\n",
+        1,
+    ),
+    (
+        "probe --tables tables FEN",
+        QUEEN_FEN,
+        "refused KNvK.rtbw BadSize\n",
+        1,
+    ),
+];
+
+#[test]
+fn tells_a_changed_table_of_a_folder(rt: HostRuntime) -> Result<(), Fail> {
+    expect_runs(rt.alloc(), &CHANGED, &TOLD_OF_A_CHANGE)
 }
