@@ -102,7 +102,7 @@ numbers_take men i c m a pawns pos le is e =
 
 -- ---- the highest square
 
-head_inserted : (s : ℕ) (xs : List ℕ) → ((slice_index xs 0 < s) × (slice_index (inserted s xs) 0 ≡ s)) ⊎ ((s ≤ slice_index xs 0) × (slice_index (inserted s xs) 0 ≡ slice_index xs 0))
+pub head_inserted : (s : ℕ) (xs : List ℕ) → ((slice_index xs 0 < s) × (slice_index (inserted s xs) 0 ≡ s)) ⊎ ((s ≤ slice_index xs 0) × (slice_index (inserted s xs) 0 ≡ slice_index xs 0))
 head_inserted s [] =
     elim (cases_lt 0 s) [
       | inl lt ↦ inl (lt, ap (λ l. slice_index l 0) (inserted_last s))
@@ -127,5 +127,25 @@ highest_same men i c highest m a pos le is e h lt =
     let all = ap (λ l. slice_index l 0) (squares_take men i c m a pos le is e) in
     elim (head_inserted m.square (squares_of (drop i men) c)) [
       | inl more ↦ absurd (omega (arith, h, lt, more.0))
+      | inr less ↦ h ∙ sym less.1 ∙ all
+    ]
+
+-- ---- the greatest pawn number
+
+pub greatest_more : (men : List Man) (i c greatest n : ℕ) (m : Man) → AreMen men → ((s : ℕ) → stands men c s ≡ true → (8 ≤ s) × (s < 56)) → 0 < i → i ≤ length men → m ≡ get_or men (i - 1) m → m.code ≡ c
+    → greatest ≡ slice_index (pawn_numbers_of (drop i men) c) 0 → n ≡ pawn_number m.square → greatest < n → n ≡ slice_index (pawn_numbers_of (drop (i - 1) men) c) 0
+greatest_more men i c greatest n m a pawns pos le is e h number lt =
+    let all = ap (λ l. slice_index l 0) (numbers_take men i c m a pawns pos le is e) in
+    elim (head_inserted (pawn_number m.square) (pawn_numbers_of (drop i men) c)) [
+      | inl more ↦ number ∙ sym more.1 ∙ all
+      | inr less ↦ absurd (omega (arith, h, lt, number, less.0))
+    ]
+
+pub greatest_same : (men : List Man) (i c greatest n : ℕ) (m : Man) → AreMen men → ((s : ℕ) → stands men c s ≡ true → (8 ≤ s) × (s < 56)) → 0 < i → i ≤ length men → m ≡ get_or men (i - 1) m → m.code ≡ c
+    → greatest ≡ slice_index (pawn_numbers_of (drop i men) c) 0 → n ≡ pawn_number m.square → n ≤ greatest → greatest ≡ slice_index (pawn_numbers_of (drop (i - 1) men) c) 0
+greatest_same men i c greatest n m a pawns pos le is e h number lt =
+    let all = ap (λ l. slice_index l 0) (numbers_take men i c m a pawns pos le is e) in
+    elim (head_inserted (pawn_number m.square) (pawn_numbers_of (drop i men) c)) [
+      | inl more ↦ absurd (omega (arith, h, lt, number, more.0))
       | inr less ↦ h ∙ sym less.1 ∙ all
     ]

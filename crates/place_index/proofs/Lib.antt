@@ -44,3 +44,5 @@ pub mod MenOn
 pub mod Symmetric
 pub mod Tallies
 pub mod Weighing
+pub mod TurnTable
+pub mod Summing

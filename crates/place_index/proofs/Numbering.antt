@@ -163,7 +163,7 @@ mapped_same : (first : ℕ) (one other xs : List ℕ) → ((s : ℕ) → taken o
 mapped_same first one other [] e = refl
 mapped_same first one other (x ∷ xs) e = rw (free_same first one other x (e x), mapped_same first one other xs e) refl
 
-numbers_more : (codes : List ℕ) (men : List Man) (g : Group) (gs : List Group)
+pub numbers_more : (codes : List ℕ) (men : List Man) (g : Group) (gs : List Group)
     → other_numbers codes men (g ∷ gs) ≡ free_set_number (first_square g.code) (squares_of_all men codes) (squares_of men g.code) ∷ other_numbers (g.code ∷ codes) men gs
 unfolding other_numbers
 numbers_more codes men g gs = refl

@@ -1,5 +1,5 @@
 -- The turning of all men of a placement (Syzygy index, mirrorings).
-use Rattle.std.specs.Prelude.{ℕ, ◌-◌, List, [], ◌∷◌, take, Bool, false, cond, nat_lt, slice_index}
+use Rattle.std.specs.Prelude.{ℕ, ◌+◌, ◌*◌, ◌-◌, List, [], ◌∷◌, take, Bool, false, cond, nat_lt, slice_index}
 use Rattle.place_index.specs.Square.{file, rank, on_diagonal, left_right, bottom_top, across}
 use Rattle.place_index.specs.Men.{square_of, moved}
 use Rattle.place_index.specs.Pawns.{pawn_square, pawn_numbers_of}
@@ -58,6 +58,10 @@ mirrored mirrors opposite s = cond mirrors (opposite s) s
 
 unfoldable pub turn_square : Turn → ℕ → ℕ
 turn_square t s = mirrored t.across across (mirrored t.bottom_top bottom_top (mirrored t.left_right left_right s))
+
+-- the number of a turn among the eight
+unfoldable pub turn_number : Turn → ℕ
+turn_number t = cond t.left_right 1 0 + 2 * cond t.bottom_top 1 0 + 4 * cond t.across 1 0
 
 abbrev pub turned_by : Turn → List Man → List Man
 turned_by t men = moved (turn_square t) men

@@ -2,7 +2,7 @@
 
 ghost use Rattle.std.specs.Prelude.{◌≡◌, ◌<◌, ◌≤◌, cond, length};
 ghost use Rattle.place_index.specs.Index.{AreTops, IsLeadTurned, IsShape, IsPlacement, lead_codes, squares_of_all, numbers_of, sum_of_products, index_of};
-ghost use Rattle.place_index.specs.Shape.{has_pawns, lead_men, size_of, greatest_size};
+ghost use Rattle.place_index.specs.Shape.{has_pawns, lead_men, factors_of, size_of, greatest_size};
 ghost use Rattle.place_index.specs.Turning.{turned_by};
 
 use crate::group::Group;
@@ -48,38 +48,24 @@ fn lead_squares(shape: &Shape, men: &[Man], tops: &[u8; 16], turn: Turn) -> Arra
     squares
 }
 
-/// The number of each group after the turn.
-fn numbers(shape: &Shape, men: &[Man], tops: &[u8; 16], turn: Turn) -> ArrayVec<u64, 5>
+/// The sum of the groups' numbers after the turn, each times its factor.
+fn sum_of_groups(shape: &Shape, men: &[Man], tops: &[u8; 16], turn: Turn) -> u64
     requires shape { IsShape shape.now }
     requires men { IsPlacement shape.now.material men.now }
     requires tops { AreTops men.now tops.now }
     requires turned { IsPlacement shape.now.material (turned_by turn men.now) }
     requires lead { IsLeadTurned shape.now (turned_by turn men.now) }
-    ensures { result.items ≡ numbers_of shape.now (turned_by turn men.now) }
+    requires fits { sum_of_products (numbers_of shape.now (turned_by turn men.now)) (factors_of shape.now) ≤ greatest_size }
+    ensures { result ≡ sum_of_products (numbers_of shape.now (turned_by turn men.now)) (factors_of shape.now) }
 {
     let groups = shape.groups();
-    let others = &groups[1..];
+    let factors = shape.factors();
     let mut earlier = lead_squares(shape, men, tops, turn);
     let lead = lead_number(shape, men, turn, earlier.as_slice());
-    let mut numbers = ArrayVec::<u64, 5>::new();
-    numbers.push(lead);
-    for group in others {
-        let number = number_group(&mut earlier, men, tops, turn, *group);
-        numbers.push(number);
-    }
-    numbers
-}
-
-/// The sum of the groups' numbers times their factors.
-fn sum_of_products(numbers: &[u64], factors: &[u64]) -> u64
-    requires groups { length numbers.now ≡ length factors.now }
-    requires fits { sum_of_products numbers.now factors.now ≤ greatest_size }
-    ensures { result ≡ sum_of_products numbers.now factors.now }
-{
-    let mut sum: u64 = 0;
-    for (i, number) in numbers.iter().enumerate() {
-        let part = *number * factors[i];
-        sum += part;
+    let mut sum = lead * factors[0];
+    for i in 1..groups.len() {
+        let number = number_group(&mut earlier, men, tops, turn, groups[i]);
+        sum += number * factors[i];
     }
     sum
 }
@@ -96,7 +82,5 @@ pub fn index(shape: &Shape, placed: &Placed) -> u64
     let men = placed.men();
     let tops = tops(men);
     let turn = turn_of(shape, men, &tops);
-    let numbers = numbers(shape, men, &tops, turn);
-    let factors = shape.factors();
-    sum_of_products(numbers.as_slice(), factors)
+    sum_of_groups(shape, men, &tops, turn)
 }
