@@ -46,3 +46,4 @@ pub mod Tallies
 pub mod Weighing
 pub mod TurnTable
 pub mod Summing
+pub mod Exchanging

@@ -50,7 +50,17 @@ turned l men = cond (has_pawns l.material) (turned_pawns l.material men) (turned
 unfoldable pub lead_file : ℕ → List Man → ℕ
 lead_file key men = cond (has_pawns key) (cond (nat_lt (file (lead_pawn key men)) 4) (file (lead_pawn key men)) (7 - file (lead_pawn key men))) 0
 
--- ---- for the code: all mirrorings in one
+-- ---- for the code
+
+-- the leading pawn's square, 0 without pawns
+abbrev pub lead_square : ℕ → List Man → ℕ
+lead_square key men = cond (has_pawns key) (lead_pawn key men) 0
+
+-- the file of a square after the turning to the left
+abbrev pub left_file : ℕ → ℕ
+left_file s = cond (nat_lt (file s) 4) (file s) (7 - file s)
+
+-- ---- all mirrorings in one
 
 -- a square mirrored, if so
 abbrev pub mirrored : Bool → (ℕ → ℕ) → ℕ → ℕ

@@ -81,6 +81,6 @@ pub fn index(shape: &Shape, placed: &Placed) -> u64
 {
     let men = placed.men();
     let tops = tops(men);
-    let turn = turn_of(shape, men, &tops);
+    let turn = turn_of(shape, placed, &tops);
     sum_of_groups(shape, men, &tops, turn)
 }

@@ -4,8 +4,9 @@ ghost use Rattle.std.specs.Prelude.{◌≡◌, ◌<◌, ◌≤◌, ◌↔◌, �
 ghost use Rattle.place_index.specs.Material.{tally_of};
 ghost use Rattle.place_index.specs.Men.{codes_of, exchanged, other_side};
 ghost use Rattle.place_index.specs.Placed.{IsNamed, code_of, men_on};
+ghost use Rattle.place_index.specs.Square.{bottom_top};
 
-use crate::man::{Man, Mirroring, opposite};
+use crate::man::Man;
 use crate::material::{Material, men as material_men};
 use crate::tables::CODE_TALLIES;
 use arrayvec::ArrayVec;
@@ -52,29 +53,23 @@ pub(crate) fn men_on(position: &Position) -> ArrayVec<Man, 5>
     men
 }
 
-/// The code of the same man of the other side.
-fn other_side(code: u8) -> u8
-    ensures { result ≡ other_side code }
+/// The same man of the other side, on the rank that lies opposite.
+fn exchanged(man: Man) -> Man
+    ensures code { result.code ≡ other_side man.code }
+    ensures square { result.square ≡ bottom_top man.square }
 {
-    if code / 8 % 2 == 0 {
-        code + 8
-    } else {
-        code - 8
-    }
+    let code = man.code ^ 8;
+    let square = Square::at(man.square.number() ^ 56);
+    Man { code, square }
 }
 
-/// Colours exchanged, and each man moved to the rank that lies opposite.
-pub(crate) fn exchanged(men: &[Man]) -> ArrayVec<Man, 5>
-    requires { length men.now ≤ 5 }
-    ensures { result.items ≡ exchanged men.now }
+/// Exchanges colours, and moves each man to the rank that lies opposite.
+pub(crate) fn exchange(men: &mut [Man])
+    ensures { men.new ≡ exchanged men.old }
 {
-    let mut exchanged = ArrayVec::<Man, 5>::new();
-    for man in men {
-        let code = other_side(man.code);
-        let square = opposite(Mirroring::BottomTop, man.square);
-        exchanged.push(Man { code, square });
+    for man in men.iter_mut() {
+        *man = exchanged(*man);
     }
-    exchanged
 }
 
 /// What a man with this code adds to a tally.

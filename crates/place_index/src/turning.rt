@@ -10,6 +10,7 @@ ghost use Rattle.place_index.specs.Turning.{lead_pawn, turned, turned_by, turn_s
 
 use crate::man::Man;
 use crate::material::{Material, leading_men, leading_pawn};
+use crate::placed::Placed;
 use crate::shape::Shape;
 use crate::squares::pawn_square;
 use crate::tables::PAWN_NUMBERS;
@@ -102,15 +103,16 @@ fn turn_of_pieces(tops: &[u8; 16], lead: &[u8]) -> Turn
 }
 
 /// How all men are turned for the shape's index: with pawns left and right alone, by the leading pawn.
-pub(crate) fn turn_of(shape: &Shape, men: &[Man], tops: &[u8; 16]) -> Turn
-    requires men { IsPlacement shape.now.material men.now }
-    requires tops { AreTops men.now tops.now }
-    ensures is { turned_by result men.now ≡ turned shape.now men.now }
+pub(crate) fn turn_of(shape: &Shape, placed: &Placed, tops: &[u8; 16]) -> Turn
+    requires material { placed.now.material ≡ shape.now.material }
+    requires tops { AreTops placed.now.men tops.now }
+    ensures is { turned_by result placed.now.men ≡ turned shape.now placed.now.men }
     ensures shape { IsShape shape.now }
 {
     let material = shape.material();
+    let _men = placed.men();
     if material.has_pawns() {
-        let lead = lead_pawn(material, men);
+        let lead = placed.lead_pawn();
         return Turn {
             left_right: lead % 8 >= 4,
             bottom_top: false,

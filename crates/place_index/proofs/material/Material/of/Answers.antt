@@ -33,5 +33,5 @@ returns-else-is_material_of-clause-none c key lt is =
     let men = ap (λ m. key_by_weight (weight_of (codes_of m))) (c.as_slice.ensures.value ∙ c.men_on-men.ensures) in
     let found : c.in-Some.material ≡ key =
     c.in-Some.ensures.is ∙ c.key_by_weight-key.ensures ∙ ap key_by_weight c.weight-weight.ensures ∙ men ∙ found_key key (men_on c.args.position.now.men) lt is in
-    let same : c.as_slice-2.result.now ≡ men_on c.args.position.now.men = c.as_slice-2.ensures.value ∙ c.men_on-men.ensures in
-    false≢true (sym c.if-is_material_of.false ∙ c.is_material_of.ensures.1 (subst (λ k. IsMaterialOf k c.as_slice-2.result.now) (sym found) (subst (IsMaterialOf key) (sym same) is)))
+    let same : c.as_mut_slice.result.now ≡ men_on c.args.position.now.men = c.as_mut_slice.ensures.value ∙ c.men_on-men.ensures in
+    false≢true (sym c.if-is_material_of.false ∙ c.is_material_of.ensures.1 (subst (λ k. IsMaterialOf k c.as_mut_slice.result.now) (sym found) (subst (IsMaterialOf key) (sym same) is)))
