@@ -47,3 +47,5 @@ pub mod Weighing
 pub mod TurnTable
 pub mod Summing
 pub mod Exchanging
+pub mod FewNumbers
+pub mod LeadSquares

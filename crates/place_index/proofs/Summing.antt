@@ -3,7 +3,7 @@ use Rattle.std.proofs.Common.{◌≡◌, ℕ, suc, ◌+◌, ◌*◌, ◌<◌, �
 use Rattle.std.proofs.lemmas.List.{drop_more, append-nil}
 use Rattle.place_index.specs.Shape.{Layout, factors_of, groups_of, other_groups, lead_men}
 use Rattle.place_index.specs.Men.{squares_of}
-use Rattle.place_index.specs.Others.{free_set_number}
+use Rattle.place_index.specs.Others.{CountLike, free_set_number}
 use Rattle.place_index.specs.Index.{lead_codes, lead_number, squares_of_all, first_square, other_numbers, numbers_of, sum_of_products, IsShape}
 use Rattle.place_index.specs.declared.group.Group.{Group}
 use Rattle.place_index.specs.declared.man.Man.{Man}
@@ -34,13 +34,12 @@ pub record IsSummed (l : Layout) (men : List Man) (gs : List Group) (earlier : L
   pub counted : length numbers ≡ count
   pub summed : sum ≡ sum_of_products numbers (factors_of l)
 
-pub summed_start : (l : Layout) (men : List Man) (gs : List Group) (earlier factors : List ℕ) (number sum : ℕ) → IsShape l → gs ≡ other_groups l.material l.pieces → earlier ≡ squares_of_all men (lead_codes l)
+pub summed_start : (l : Layout) (men : List Man) (gs : List Group) (earlier factors : List ℕ) (number sum : ℕ) → IsShape l → gs ≡ other_groups l.material l.pieces → CountLike earlier (squares_of_all men (lead_codes l))
     → factors ≡ factors_of l → number ≡ lead_number l men → sum ≡ number * get_or factors 0 0 → IsSummed l men gs earlier 1 sum
 summed_start l men gs earlier factors number sum s g e f n is =
     record {
       numbers = number ∷ [];
-      so_far = subst (λ x. IsNumbered l men x (number ∷ []) earlier) (sym g)
-          (subst (IsNumbered l men (other_groups l.material l.pieces) (number ∷ [])) (sym e) (numbered_start l men number (number ∷ []) s n refl));
+      so_far = subst (λ x. IsNumbered l men x (number ∷ []) earlier) (sym g) (numbered_start l men number (number ∷ []) earlier s n refl e);
       counted = refl;
       summed = omega (arith, is, ap (λ x. number * get_or x 0 0) f, products_append [] number (factors_of l), products_none (factors_of l));
     }

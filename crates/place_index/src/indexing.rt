@@ -1,51 +1,106 @@
 //! The index of a placement.
 
-ghost use Rattle.std.specs.Prelude.{◌≡◌, ◌<◌, ◌≤◌, cond, length};
-ghost use Rattle.place_index.specs.Index.{AreTops, IsLeadTurned, IsShape, IsPlacement, lead_codes, squares_of_all, numbers_of, sum_of_products, index_of};
-ghost use Rattle.place_index.specs.Shape.{has_pawns, lead_men, factors_of, size_of, greatest_size};
+ghost use Rattle.std.specs.Prelude.{◌≡◌, ◌<◌, ◌≤◌, [], true, false};
+ghost use Rattle.place_index.specs.Index.{AreTops, IsLeadTurned, IsShape, IsPlacement, lead_codes, lead_number, squares_of_all, numbers_of, sum_of_products, index_of};
+ghost use Rattle.place_index.specs.Others.{CountLike};
+ghost use Rattle.place_index.specs.Pawns.{pawn_numbers_of};
+ghost use Rattle.place_index.specs.Shape.{has_pawns, lead_code, factors_of, size_of, greatest_size};
 ghost use Rattle.place_index.specs.Turning.{turned_by};
 
-use crate::group::Group;
+use crate::few::{Earlier, Few};
 use crate::man::Man;
-use crate::material::{Material, leading_men};
-use crate::numbers::lead_number;
+use crate::material::{Material, leading_men, leading_pawn};
+use crate::numbers::{pawns_number, pieces_number};
 use crate::placed::Placed;
 use crate::shape::Shape;
-use crate::tops::{add_squares, number_group, tops};
+use crate::squares::{pawn_number, pawn_numbers_of, pawn_square};
+use crate::tops::{number_group, top, tops};
 use crate::turn::Turn;
 use crate::turning::{lead_codes, turn_of};
-use arrayvec::ArrayVec;
 
-/// How many leading men have the same code: all leading pawns do, and other leading men differ.
-fn leading_alike(material: Material) -> u8
-    ensures { result ≡ cond (has_pawns material) (lead_men material) 1 }
-{
-    if material.has_pawns() {
-        leading_men(material)
-    } else {
-        1
-    }
-}
-
-/// The squares to which the leading men go.
-fn lead_squares(shape: &Shape, men: &[Man], tops: &[u8; 16], turn: Turn) -> ArrayVec<u8, 5>
+/// The number of the leading pieces, whose squares are the first ones of earlier men.
+fn lead_pieces(
+    shape: &Shape,
+    men: &[Man],
+    tops: &[u8; 16],
+    turn: Turn,
+    earlier: &mut Earlier,
+) -> u64
     requires shape { IsShape shape.now }
     requires men { IsPlacement shape.now.material men.now }
     requires tops { AreTops men.now tops.now }
     requires turned { IsPlacement shape.now.material (turned_by turn men.now) }
-    ensures { result.items ≡ squares_of_all (turned_by turn men.now) (lead_codes shape.now) }
+    requires lead { IsLeadTurned shape.now (turned_by turn men.now) }
+    requires plain { has_pawns shape.now.material ≡ false }
+    requires none { earlier.old ≡ [] }
+    ensures number { result ≡ lead_number shape.now (turned_by turn men.now) }
+    ensures earlier { CountLike earlier.new (squares_of_all (turned_by turn men.now) (lead_codes shape.now)) }
 {
-    let codes = lead_codes(shape);
-    let alike = leading_alike(shape.material());
-    let mut squares = ArrayVec::<u8, 5>::new();
-    for code in codes {
-        let group = Group {
-            code: *code,
-            men: alike,
-        };
-        add_squares(&mut squares, men, tops, turn, group);
+    for code in lead_codes(shape) {
+        let from = top(tops, *code);
+        earlier.push(turn.square(from));
     }
-    squares
+    pieces_number(shape, men, turn, earlier.as_slice())
+}
+
+/// The pawn numbers to which the leading pawns go, the greatest first.
+fn lead_numbers(shape: &Shape, men: &[Man], tops: &[u8; 16], turn: Turn) -> Few
+    requires shape { IsShape shape.now }
+    requires men { IsPlacement shape.now.material men.now }
+    requires tops { AreTops men.now tops.now }
+    requires turned { IsPlacement shape.now.material (turned_by turn men.now) }
+    requires lead { IsLeadTurned shape.now (turned_by turn men.now) }
+    requires pawned { has_pawns shape.now.material ≡ true }
+    ensures { result ≡ pawn_numbers_of (turned_by turn men.now) (lead_code shape.now.material) }
+{
+    let material = shape.material();
+    let code = leading_pawn(material);
+    if leading_men(material) != 1 {
+        return pawn_numbers_of(men, turn, code);
+    }
+    let from = top(tops, code);
+    let number = pawn_number(turn.square(from));
+    let mut numbers = Few::new();
+    numbers.insert(number);
+    numbers
+}
+
+/// The number of the leading pawns, whose squares are the first ones of earlier men.
+fn lead_pawns(shape: &Shape, men: &[Man], tops: &[u8; 16], turn: Turn, earlier: &mut Earlier) -> u64
+    requires shape { IsShape shape.now }
+    requires men { IsPlacement shape.now.material men.now }
+    requires tops { AreTops men.now tops.now }
+    requires turned { IsPlacement shape.now.material (turned_by turn men.now) }
+    requires lead { IsLeadTurned shape.now (turned_by turn men.now) }
+    requires pawned { has_pawns shape.now.material ≡ true }
+    requires none { earlier.old ≡ [] }
+    ensures number { result ≡ lead_number shape.now (turned_by turn men.now) }
+    ensures earlier { CountLike earlier.new (squares_of_all (turned_by turn men.now) (lead_codes shape.now)) }
+{
+    let numbers = lead_numbers(shape, men, tops, turn);
+    for number in numbers.as_slice() {
+        earlier.push(pawn_square(*number));
+    }
+    pawns_number(shape.file(), numbers.as_slice())
+}
+
+/// The number of the leading group, whose squares are the first ones of earlier men.
+fn lead(shape: &Shape, men: &[Man], tops: &[u8; 16], turn: Turn, earlier: &mut Earlier) -> u64
+    requires shape { IsShape shape.now }
+    requires men { IsPlacement shape.now.material men.now }
+    requires tops { AreTops men.now tops.now }
+    requires turned { IsPlacement shape.now.material (turned_by turn men.now) }
+    requires lead { IsLeadTurned shape.now (turned_by turn men.now) }
+    requires none { earlier.old ≡ [] }
+    ensures number { result ≡ lead_number shape.now (turned_by turn men.now) }
+    ensures earlier { CountLike earlier.new (squares_of_all (turned_by turn men.now) (lead_codes shape.now)) }
+{
+    let material = shape.material();
+    if material.has_pawns() {
+        lead_pawns(shape, men, tops, turn, earlier)
+    } else {
+        lead_pieces(shape, men, tops, turn, earlier)
+    }
 }
 
 /// The sum of the groups' numbers after the turn, each times its factor.
@@ -60,8 +115,8 @@ fn sum_of_groups(shape: &Shape, men: &[Man], tops: &[u8; 16], turn: Turn) -> u64
 {
     let groups = shape.groups();
     let factors = shape.factors();
-    let mut earlier = lead_squares(shape, men, tops, turn);
-    let lead = lead_number(shape, men, turn, earlier.as_slice());
+    let mut earlier = Earlier::new();
+    let lead = lead(shape, men, tops, turn, &mut earlier);
     let mut sum = lead * factors[0];
     for i in 1..groups.len() {
         let number = number_group(&mut earlier, men, tops, turn, groups[i]);
