@@ -6,7 +6,7 @@ ghost use Rattle.place_index.specs.Placed.{IsMaterialOf, key_by_weight, men_on, 
 
 use crate::man::Man;
 use crate::material::Material;
-use crate::sweep::{exchange, is_named, men_on};
+use crate::sweep::{exchange, is_named, men_on, tally};
 use crate::tables::{KEYS, WEIGHTS};
 use board_core::Position;
 
@@ -46,11 +46,11 @@ fn is_material_of(material: Material, men: &mut [Man]) -> bool
     requires { length men.old ≤ 5 }
     ensures { IsTrue result ↔ IsMaterialOf material men.old }
 {
-    if is_named(material, men) {
+    if is_named(material, men, tally(men)) {
         return true;
     }
     exchange(men);
-    is_named(material, men)
+    is_named(material, men, tally(men))
 }
 
 impl Material {
@@ -64,7 +64,7 @@ impl Material {
         if position.men() > 5 {
             return None;
         }
-        let mut men = men_on(position);
+        let (mut men, _) = men_on(position);
         let weight = weight(men.as_slice());
         if weight >= 2233 {
             return None;

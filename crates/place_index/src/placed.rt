@@ -1,7 +1,8 @@
 ghost use Rattle.std.specs.Prelude.{◌≡◌, ◌<◌, ◌≤◌, ◌-◌, true, length, cond};
 ghost use Rattle.board_core.specs.Position.{IsPosition};
 ghost use Rattle.place_index.specs.Index.{IsPlacement};
-ghost use Rattle.place_index.specs.Men.{exchanged};
+ghost use Rattle.place_index.specs.Material.{tally_of};
+ghost use Rattle.place_index.specs.Men.{codes_of, exchanged};
 ghost use Rattle.place_index.specs.Placed.{IsNamed, IsMaterialOf, IsSymmetric, IsLookedUp, men_on, side_number};
 ghost use Rattle.place_index.specs.Shape.{has_pawns};
 ghost use Rattle.place_index.specs.Turning.{lead_file, lead_pawn, lead_square, left_file};
@@ -109,11 +110,12 @@ fn left_file(square: u8) -> u8
     if file < 4 { file } else { 7 - file }
 }
 
-/// Whether a position is looked up with colours exchanged: where white's men are the name's second side, and for symmetric
+/// Whether men with this tally are looked up with colours exchanged: where white's men are the name's second side, and for symmetric
 /// material with black to move.
-fn is_exchanged(material: Material, men: &[Man], side: u8) -> bool
+fn is_exchanged(material: Material, men: &[Man], tally: u64, side: u8) -> bool
     requires known { material < 145 }
     requires few { length men.now ≤ 5 }
+    requires tally { tally ≡ tally_of (codes_of men.now) }
     requires side { side < 2 }
     requires material { IsMaterialOf material men.now }
     ensures named { IsNamed material (cond result (exchanged men.now) men.now) }
@@ -122,7 +124,7 @@ fn is_exchanged(material: Material, men: &[Man], side: u8) -> bool
     if material.symmetric() {
         side == 1
     } else {
-        !is_named(material, men)
+        !is_named(material, men, tally)
     }
 }
 
@@ -153,9 +155,9 @@ pub fn place(position: &Position, material: &Material) -> Placed
 {
     let _position = position.parts();
     let _key = material.key();
-    let mut men = men_on(position);
+    let (mut men, tally) = men_on(position);
     let before = side_number(position.side());
-    let exchanges = is_exchanged(*material, men.as_slice(), before);
+    let exchanges = is_exchanged(*material, men.as_slice(), tally, before);
     in_colours(&mut men, exchanges);
     let lead = lead_square(*material, men.as_slice());
     Placed {

@@ -19,18 +19,18 @@ lead_square-lead-requires-clause-known c = omega (arith, c.key-key.ensures.is, c
 
 pub lead_square-lead-requires-clause-placed : goal.lead_square-lead-requires-clause-placed
 lead_square-lead-requires-clause-placed c =
-    let own : c.as_slice.result.now ≡ men_on c.args.position.now.men = c.as_slice.ensures.value ∙ c.men_on-men.ensures in
+    let own : c.as_slice.result.now ≡ men_on c.args.position.now.men = c.as_slice.ensures.value ∙ c.men_on-men.ensures.men in
     let men : c.as_slice-2.result.now ≡ cond c.is_exchanged-exchanges.result (exchanged (men_on c.args.position.now.men)) (men_on c.args.position.now.men) =
-    c.as_slice-2.ensures.value ∙ c.in_colours.ensures ∙ ap (λ l. cond c.is_exchanged-exchanges.result (exchanged l) l) c.men_on-men.ensures in
+    c.as_slice-2.ensures.value ∙ c.in_colours.ensures ∙ ap (λ l. cond c.is_exchanged-exchanges.result (exchanged l) l) c.men_on-men.ensures.men in
     subst (IsPlacement c.args.material.now) (sym men)
     (placement_in_colours c.args.material.now c.args.position.now.men c.is_exchanged-exchanges.result (stood c.args.position.now c.parts-position.ensures.position)
     (subst (λ l. IsNamed c.args.material.now (cond c.is_exchanged-exchanges.result (exchanged l) l)) own c.is_exchanged-exchanges.ensures.named))
 
 pub invariant_of-result : goal.invariant_of-result
 invariant_of-result c =
-    let own : c.as_slice.result.now ≡ men_on c.args.position.now.men = c.as_slice.ensures.value ∙ c.men_on-men.ensures in
+    let own : c.as_slice.result.now ≡ men_on c.args.position.now.men = c.as_slice.ensures.value ∙ c.men_on-men.ensures.men in
     let men : c.in_colours.new.men.items ≡ cond c.is_exchanged-exchanges.result (exchanged (men_on c.args.position.now.men)) (men_on c.args.position.now.men) =
-    c.in_colours.ensures ∙ ap (λ l. cond c.is_exchanged-exchanges.result (exchanged l) l) c.men_on-men.ensures in
+    c.in_colours.ensures ∙ ap (λ l. cond c.is_exchanged-exchanges.result (exchanged l) l) c.men_on-men.ensures.men in
     let lead : c.lead_square-lead.result ≡ lead_square c.args.material.now c.in_colours.new.men.items = c.lead_square-lead.ensures ∙ ap (lead_square c.args.material.now) c.as_slice-2.ensures.value in
     record {
       material = omega (arith, c.key-key.ensures.is, c.key-key.ensures.below);
@@ -44,9 +44,9 @@ invariant_of-result c =
 
 pub returns : goal.returns
 returns c =
-    let own : c.as_slice.result.now ≡ men_on c.args.position.now.men = c.as_slice.ensures.value ∙ c.men_on-men.ensures in
+    let own : c.as_slice.result.now ≡ men_on c.args.position.now.men = c.as_slice.ensures.value ∙ c.men_on-men.ensures.men in
     let men : c.in_colours.new.men.items ≡ cond c.is_exchanged-exchanges.result (exchanged (men_on c.args.position.now.men)) (men_on c.args.position.now.men) =
-    c.in_colours.ensures ∙ ap (λ l. cond c.is_exchanged-exchanges.result (exchanged l) l) c.men_on-men.ensures in
+    c.in_colours.ensures ∙ ap (λ l. cond c.is_exchanged-exchanges.result (exchanged l) l) c.men_on-men.ensures.men in
     let before : c.side_number-before.result ≡ side_number c.args.position.now.side = c.side_number-before.ensures.is ∙ ap side_number c.side.ensures in
     let lead : c.lead_square-lead.result ≡ lead_square c.args.material.now c.in_colours.new.men.items = c.lead_square-lead.ensures ∙ ap (lead_square c.args.material.now) c.as_slice-2.ensures.value in
     record {
