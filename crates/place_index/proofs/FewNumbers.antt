@@ -74,9 +74,9 @@ few_more xs ys count x size few none one is =
 
 -- ---- up to five squares
 
-pub past_more : (xs : List ℕ) (men s : ℕ) → length xs ≡ 5 → men < 5 → drop men xs ≡ replicate (5 - men) 64 → drop (men + 1) (slice_set xs men s) ≡ replicate (5 - (men + 1)) 64
+pub past_more : (xs : List ℕ) (men s : ℕ) → length xs ≡ 8 → men < 8 → drop men xs ≡ replicate (8 - men) 64 → drop (men + 1) (slice_set xs men s) ≡ replicate (8 - (men + 1)) 64
 past_more xs men s size lt past =
-    let down : 5 - men ≡ suc (5 - (men + 1)) = omega (arith, lt) in
+    let down : 8 - men ≡ suc (8 - (men + 1)) = omega (arith, lt) in
     drop-set-lt (men + 1) xs men s (omega arith) ∙ ap (drop 1) (sym (drop_more xs men 64 (omega (arith, size, lt))) ∙ past ∙ ap (λ n. replicate n 64) down)
 
 pub first_more : (xs : List ℕ) (men s : ℕ) → men < length xs → take (men + 1) (slice_set xs men s) ≡ take men xs ++ s ∷ []
@@ -96,9 +96,9 @@ unfolding taken before
 taken_past zero s le = refl
 taken_past (suc n) s le = rw (le-ltb 64 s le) (omega (arith, taken_past n s le))
 
-pub taken_first : (xs : List ℕ) (men s : ℕ) → s ≤ 64 → men ≤ 5 → drop men xs ≡ replicate (5 - men) 64 → taken xs s ≡ taken (take men xs) s
+pub taken_first : (xs : List ℕ) (men s : ℕ) → s ≤ 64 → men ≤ 5 → drop men xs ≡ replicate (8 - men) 64 → taken xs s ≡ taken (take men xs) s
 taken_first xs men s le few past =
-    omega (arith, ap (λ l. taken l s) (parted men xs), taken_append (take men xs) (drop men xs) s, ap (λ l. taken l s) past, taken_past (5 - men) s le)
+    omega (arith, ap (λ l. taken l s) (parted men xs), taken_append (take men xs) (drop men xs) s, ap (λ l. taken l s) past, taken_past (8 - men) s le)
 
 pub front_length : (n : ℕ) (xs : List ℕ) → n ≤ length xs → length (take n xs) ≡ n
 front_length zero xs le = refl

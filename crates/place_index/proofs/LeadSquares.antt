@@ -1,23 +1,24 @@
 -- The leading men's squares.
 use Rattle.std.proofs.Common.{◌≡◌, ℕ, zero, suc, ◌+◌, ◌-◌, ◌*◌, ◌<◌, ◌≤◌, true, cond, List, [], ◌∷◌, ◌++◌, length, take, map, slice_index, get_or, refl, sym, ap, ◌∙◌, subst, inl, inr, arith}
 use Rattle.std.proofs.lemmas.Bool.{cases_eq, cases_lt, lt-ltb, le-ltb}
-use Rattle.std.proofs.lemmas.List.{length-map, take_more, take_all}
-use Rattle.place_index.specs.Square.{before}
+use Rattle.std.proofs.lemmas.List.{append-nil, length-map, take_more}
+use Rattle.place_index.specs.Square.{file, rank, before}
 use Rattle.place_index.specs.Material.{pieces_of, count_of}
 use Rattle.place_index.specs.Men.{stands, squares_of, square_of, inserted}
 use Rattle.place_index.specs.Others.{taken, CountLike}
-use Rattle.place_index.specs.Pawns.{pawn_number, pawn_square, pawn_numbers_of}
-use Rattle.place_index.specs.Shape.{has_pawns, lead_code, lead_men}
+use Rattle.place_index.specs.Pawns.{pawn_number, pawn_square, pawn_numbers_of, pawns_before, pawns_number}
+use Rattle.place_index.specs.Shape.{Layout, has_pawns, lead_code, lead_men}
 use Rattle.place_index.specs.Turning.{turn_square, turned_by}
-use Rattle.place_index.specs.Index.{AreAlone, IsPlacement}
+use Rattle.place_index.specs.Index.{AreAlone, IsPlacement, IsShape, IsLeadTurned, lead_codes, lead_number, lead_pawns_number, squares_of_all}
 use Rattle.place_index.specs.declared.man.Man.{Man}
 use Rattle.place_index.specs.declared.turn.Turn.{Turn}
-use Rattle.place_index.specs.declared.tables.TheConstants.{COUNTS}
 use Rattle.place_index.proofs.Beginning.{lead_by_pawns}
 use Rattle.place_index.proofs.Board.{settled, stands_here, stands_later, squares_more, squares_still, inserted_below, length_inserted}
 use Rattle.place_index.proofs.Collecting.{inserted_above, inserted_last, squares_none, numbers_none}
+use Rattle.place_index.proofs.Falling.{falling_member}
+use Rattle.place_index.proofs.IndexLaw.{codes_by_pawns, number_by_pawns}
 use Rattle.place_index.proofs.KeyTables.{count_table, count_most}
-use Rattle.place_index.proofs.LayoutGroups.{lead_count, lead_is_pawn}
+use Rattle.place_index.proofs.LayoutGroups.{lead_count}
 use Rattle.place_index.proofs.MenTables.{codes_small}
 use Rattle.place_index.proofs.TurnedMen.{lead_range, lead_numbers_size, numbers_fall}
 use Rattle.place_index.proofs.TurnedPawns.{square_number, number_square, numbers_more, numbers_still}
@@ -130,6 +131,34 @@ lone_number key men t lt pawned one p q =
     one_square (pawn_square n) (turn_square t (square_of men (lead_code key)))
     (λ s. ap (λ l. taken (map pawn_square l) s) (sym numbers) ∙ pawns_taken (turned_by t men) (lead_code key) s q.alone (lead_range key (turned_by t men) q) ∙ ap (λ l. taken l s) squares) in
     numbers ∙ ap (λ k. k ∷ []) (sym (square_number n small) ∙ ap pawn_number same)
+
+first_stands : (men : List Man) (c s : ℕ) → squares_of men c ≡ s ∷ [] → stands men c s ≡ true
+unfolding squares_of
+first_stands men c s e = (falling_member (stands men c) 64 s [] e).0
+
+pub record LonePawn (l : Layout) (men : List Man) (s : ℕ) : Type 0 where
+  pub above : 1 ≤ rank s
+  pub below : rank s ≤ 6
+  pub on_file : file s ≡ l.file
+  pub number : lead_number l men ≡ pawns_before (file s) 0 (rank s - 1)
+  pub squares : squares_of_all men (lead_codes l) ≡ s ∷ []
+
+pub lone_pawn_is : (l : Layout) (men : List Man) (t : Turn) (s : ℕ) → IsShape l → has_pawns l.material ≡ true → lead_men l.material ≡ 1 → IsPlacement l.material men → IsPlacement l.material (turned_by t men)
+    → IsLeadTurned l (turned_by t men) → s ≡ turn_square t (square_of men (lead_code l.material)) → LonePawn l (turned_by t men) s
+lone_pawn_is l men t s shape pawned one p q lead is =
+    let numbers : pawn_numbers_of (turned_by t men) (lead_code l.material) ≡ pawn_number s ∷ [] =
+    lone_number l.material men t shape.material pawned one p q ∙ ap (λ x. pawn_number x ∷ []) (sym is) in
+    let squares : squares_of (turned_by t men) (lead_code l.material) ≡ s ∷ [] =
+    lone_squares l.material men t (lead_code l.material) shape.material p (lone_pawn_once l.material pawned one) ∙ ap (λ x. x ∷ []) (sym is) in
+    let range = lead_range l.material (turned_by t men) q s (first_stands (turned_by t men) (lead_code l.material) s squares) in
+    let same : pawn_square (pawn_number s) ≡ s = number_square s range.0 range.1 in
+    record {
+      above = omega (arith, range.0);
+      below = omega (arith, range.1);
+      on_file = ap (λ x. file x) (sym same ∙ ap (λ xs. pawn_square (slice_index xs 0)) (sym numbers)) ∙ (lead.pawns pawned).file;
+      number = number_by_pawns l (turned_by t men) pawned ∙ ap lead_pawns_number numbers ∙ ap (λ x. pawns_number x []) same ∙ omega arith;
+      squares = ap (squares_of_all (turned_by t men)) (codes_by_pawns l pawned) ∙ append-nil (squares_of (turned_by t men) (lead_code l.material)) ∙ squares;
+    }
 
 -- ---- no more than three men of a kind
 

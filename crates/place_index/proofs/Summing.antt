@@ -1,7 +1,6 @@
 -- The groups' numbers times their factors, summed one after another.
-use Rattle.std.proofs.Common.{◌≡◌, ℕ, suc, ◌+◌, ◌*◌, ◌<◌, ◌≤◌, List, [], ◌∷◌, ◌++◌, length, take, drop, get_or, slice_index, refl, sym, ap, ◌∙◌, subst, arith, length-append}
-use Rattle.std.proofs.lemmas.List.{drop_more, append-nil}
-use Rattle.place_index.specs.Shape.{Layout, factors_of, groups_of, other_groups, lead_men}
+use Rattle.std.proofs.Common.{◌≡◌, ℕ, ◌+◌, ◌*◌, ◌<◌, ◌≤◌, List, [], ◌∷◌, ◌++◌, length, get_or, refl, sym, ap, ◌∙◌, subst, arith, length-append}
+use Rattle.place_index.specs.Shape.{Layout, factors_of, other_groups}
 use Rattle.place_index.specs.Men.{squares_of}
 use Rattle.place_index.specs.Others.{CountLike, free_set_number}
 use Rattle.place_index.specs.Index.{lead_codes, lead_number, squares_of_all, first_square, other_numbers, numbers_of, sum_of_products, IsShape}

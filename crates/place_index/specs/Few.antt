@@ -1,5 +1,5 @@
 -- Short lists in arrays.
-use Rattle.std.specs.Prelude.{◌≡◌, ℕ, ◌-◌, ◌<◌, ◌≤◌, List, [], ◌∷◌, drop, replicate, length, slice_index, cond, nat_lt}
+use Rattle.std.specs.Prelude.{◌≡◌, ℕ, ◌-◌, ◌≤◌, List, [], ◌∷◌, drop, replicate, length, slice_index, cond, nat_lt}
 use Rattle.place_index.specs.declared.few.Few.TheInside.{Inside}
 use Rattle.place_index.specs.declared.few.Earlier.TheInside.{Inside as EarlierInside}
 
@@ -16,8 +16,8 @@ with_number xs x =
     cond (nat_lt (slice_index xs 0) x) (x ∷ slice_index xs 0 ∷ slice_index xs 1 ∷ [])
     (cond (nat_lt (slice_index xs 1) x) (slice_index xs 0 ∷ x ∷ slice_index xs 1 ∷ []) (slice_index xs 0 ∷ slice_index xs 1 ∷ x ∷ []))
 
--- up to five squares, and 64 past them
+-- up to five squares in eight places, and 64 past them
 pub record IsPadded (e : EarlierInside) : Type 0 where
   pub few : e.men ≤ 5
-  pub size : length e.squares ≡ 5
-  pub past : drop e.men e.squares ≡ replicate (5 - e.men) 64
+  pub size : length e.squares ≡ 8
+  pub past : drop e.men e.squares ≡ replicate (8 - e.men) 64

@@ -69,11 +69,11 @@ fn with_number(numbers: [u8; 3], number: u8) -> [u8; 3]
     }
 }
 
-/// The squares of earlier men, of up to five. The places past them have a number above each square, so that all five
-/// places may be compared with a square.
+/// The squares of earlier men, of up to five. The places past them have a number above each square, so that all eight
+/// places may be compared with a square at once.
 #[derive(Drop)]
 pub(crate) struct Earlier {
-    squares: [u8; 5],
+    squares: [u8; 8],
     men: usize,
 }
 
@@ -94,7 +94,7 @@ impl Earlier {
         ensures { result ≡ [] }
     {
         Earlier {
-            squares: [64; 5],
+            squares: [64; 8],
             men: 0,
         }
     }

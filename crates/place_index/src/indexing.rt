@@ -3,17 +3,16 @@
 ghost use Rattle.std.specs.Prelude.{◌≡◌, ◌<◌, ◌≤◌, [], true, false};
 ghost use Rattle.place_index.specs.Index.{AreTops, IsLeadTurned, IsShape, IsPlacement, lead_codes, lead_number, squares_of_all, numbers_of, sum_of_products, index_of};
 ghost use Rattle.place_index.specs.Others.{CountLike};
-ghost use Rattle.place_index.specs.Pawns.{pawn_numbers_of};
-ghost use Rattle.place_index.specs.Shape.{has_pawns, lead_code, factors_of, size_of, greatest_size};
+ghost use Rattle.place_index.specs.Shape.{has_pawns, lead_men, factors_of, size_of, greatest_size};
 ghost use Rattle.place_index.specs.Turning.{turned_by};
 
-use crate::few::{Earlier, Few};
+use crate::few::Earlier;
 use crate::man::Man;
 use crate::material::{Material, leading_men, leading_pawn};
-use crate::numbers::{pawns_number, pieces_number};
+use crate::numbers::{pawns_before, pawns_number, pieces_number};
 use crate::placed::Placed;
 use crate::shape::Shape;
-use crate::squares::{pawn_number, pawn_numbers_of, pawn_square};
+use crate::squares::{pawn_numbers_of, pawn_square};
 use crate::tops::{number_group, top, tops};
 use crate::turn::Turn;
 use crate::turning::{lead_codes, turn_of};
@@ -43,33 +42,30 @@ fn lead_pieces(
     pieces_number(shape, men, turn, earlier.as_slice())
 }
 
-/// The pawn numbers to which the leading pawns go, the greatest first.
-fn lead_numbers(shape: &Shape, men: &[Man], tops: &[u8; 16], turn: Turn) -> Few
+/// The number of a leading pawn without others, whose square is the first one of earlier men.
+fn lone_pawn(shape: &Shape, men: &[Man], tops: &[u8; 16], turn: Turn, earlier: &mut Earlier) -> u64
     requires shape { IsShape shape.now }
     requires men { IsPlacement shape.now.material men.now }
     requires tops { AreTops men.now tops.now }
     requires turned { IsPlacement shape.now.material (turned_by turn men.now) }
     requires lead { IsLeadTurned shape.now (turned_by turn men.now) }
     requires pawned { has_pawns shape.now.material ≡ true }
-    ensures { result ≡ pawn_numbers_of (turned_by turn men.now) (lead_code shape.now.material) }
+    requires one { lead_men shape.now.material ≡ 1 }
+    requires none { earlier.old ≡ [] }
+    ensures number { result ≡ lead_number shape.now (turned_by turn men.now) }
+    ensures earlier { CountLike earlier.new (squares_of_all (turned_by turn men.now) (lead_codes shape.now)) }
 {
     let material = shape.material();
-    let code = leading_pawn(material);
-    if leading_men(material) != 1 {
-        return pawn_numbers_of(men, turn, code);
-    }
-    let from = top(tops, code);
-    let number = pawn_number(turn.square(from));
-    let mut numbers = Few::new();
-    numbers.insert(number);
-    numbers
+    let from = top(tops, leading_pawn(material));
+    let square = turn.square(from);
+    earlier.push(square);
+    pawns_before(shape.file(), 0, (square / 8) as usize - 1)
 }
 
 /// The number of the leading pawns, whose squares are the first ones of earlier men.
-fn lead_pawns(shape: &Shape, men: &[Man], tops: &[u8; 16], turn: Turn, earlier: &mut Earlier) -> u64
+fn lead_pawns(shape: &Shape, men: &[Man], turn: Turn, earlier: &mut Earlier) -> u64
     requires shape { IsShape shape.now }
     requires men { IsPlacement shape.now.material men.now }
-    requires tops { AreTops men.now tops.now }
     requires turned { IsPlacement shape.now.material (turned_by turn men.now) }
     requires lead { IsLeadTurned shape.now (turned_by turn men.now) }
     requires pawned { has_pawns shape.now.material ≡ true }
@@ -77,7 +73,8 @@ fn lead_pawns(shape: &Shape, men: &[Man], tops: &[u8; 16], turn: Turn, earlier: 
     ensures number { result ≡ lead_number shape.now (turned_by turn men.now) }
     ensures earlier { CountLike earlier.new (squares_of_all (turned_by turn men.now) (lead_codes shape.now)) }
 {
-    let numbers = lead_numbers(shape, men, tops, turn);
+    let material = shape.material();
+    let numbers = pawn_numbers_of(men, turn, leading_pawn(material));
     for number in numbers.as_slice() {
         earlier.push(pawn_square(*number));
     }
@@ -96,10 +93,13 @@ fn lead(shape: &Shape, men: &[Man], tops: &[u8; 16], turn: Turn, earlier: &mut E
     ensures earlier { CountLike earlier.new (squares_of_all (turned_by turn men.now) (lead_codes shape.now)) }
 {
     let material = shape.material();
-    if material.has_pawns() {
-        lead_pawns(shape, men, tops, turn, earlier)
+    if !material.has_pawns() {
+        return lead_pieces(shape, men, tops, turn, earlier);
+    }
+    if leading_men(material) == 1 {
+        lone_pawn(shape, men, tops, turn, earlier)
     } else {
-        lead_pieces(shape, men, tops, turn, earlier)
+        lead_pawns(shape, men, turn, earlier)
     }
 }
 

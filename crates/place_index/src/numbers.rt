@@ -95,7 +95,7 @@ fn set_number(numbers: &[u8]) -> u64
 }
 
 /// The placements with the leading pawn on one of the first ranks of a file from the second on, and so many pawns beside it.
-fn pawns_before(file: u8, others: usize, ranks: usize) -> u64
+pub(crate) fn pawns_before(file: u8, others: usize, ranks: usize) -> u64
     requires file { file < 4 }
     requires others { others ≤ 2 }
     requires ranks { ranks ≤ 6 }
@@ -137,7 +137,7 @@ pub(crate) fn pieces_number(shape: &Shape, men: &[Man], turn: Turn, squares: &[u
 
 /// How many of these men stand on lower squares.
 pub(crate) fn taken(earlier: &[u8], square: u8) -> u64
-    requires { length earlier.now ≤ 5 }
+    requires { length earlier.now ≤ 8 }
     ensures { result ≡ taken earlier.now square }
 {
     let mut count: u64 = 0;

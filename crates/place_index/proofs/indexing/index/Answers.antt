@@ -1,9 +1,9 @@
-use Rattle.std.proofs.Common.{◌≡◌, ◌∙◌, ap, sym, subst, length, arith}
+use Rattle.std.proofs.Common.{◌≡◌, ◌∙◌, ap, sym, subst, arith}
 use Rattle.place_index.specs.Index.{AreMen, AreTops, IsPlacement, IsLeadTurned, numbers_of, sum_of_products}
 use Rattle.place_index.specs.Shape.{factors_of}
 use Rattle.place_index.specs.Turning.{turned, turned_by, lead_file}
 use Rattle.place_index.proofs.Greatest.{size_is_within}
-use Rattle.place_index.proofs.IndexLaw.{index_below, turned_placement, index_products, products_length}
+use Rattle.place_index.proofs.IndexLaw.{index_below, turned_placement, index_products}
 use Rattle.place_index.proofs.TurnedMen.{are_men, lead_is_turned}
 use Rattle.place_index.proofs.indexing.index.Goals as goal
 

@@ -1,4 +1,4 @@
-use Rattle.std.proofs.Common.{◌≡◌, ◌+◌, ◌++◌, ◌∷◌, [], ◌∙◌, ℕ, cond, ap, refl, sym, subst, length, take, get_or, slice_index, arith, length-append}
+use Rattle.std.proofs.Common.{◌≡◌, ◌+◌, ◌++◌, ◌∷◌, [], ◌∙◌, ℕ, cond, ap, sym, subst, length, take, get_or, slice_index, arith, length-append}
 use Rattle.std.proofs.lemmas.List.{take_all}
 use Rattle.place_index.specs.Men.{squares_of, square_of}
 use Rattle.place_index.specs.Others.{taken}

@@ -1,6 +1,6 @@
-use Rattle.std.proofs.Common.{◌≡◌, ◌∷◌, ◌∙◌, ◌+◌, ◌*◌, ◌<◌, ap, refl, sym, subst, length, drop, get_or, arith}
+use Rattle.std.proofs.Common.{◌+◌, ap, refl, subst, length, drop, get_or, arith}
 use Rattle.std.proofs.lemmas.List.{drop_more, drop_all}
-use Rattle.place_index.specs.Shape.{group, groups_of, other_groups}
+use Rattle.place_index.specs.Shape.{group}
 use Rattle.place_index.specs.Turning.{turned_by}
 use Rattle.place_index.proofs.LeadSquares.{group_few}
 use Rattle.place_index.proofs.LoneGroups.{lone_group}

@@ -1,4 +1,4 @@
-use Rattle.std.proofs.Common.{◌≤◌, length, drop}
+use Rattle.std.proofs.Common.{drop}
 use Rattle.place_index.specs.Turning.{turned_by}
 use Rattle.place_index.proofs.Summing.{IsSummed}
 use Rattle.place_index.proofs.indexing.sum_of_groups.Given as goal

@@ -1,15 +1,11 @@
 use Rattle.std.proofs.Common.{◌≡◌, true, false, ◌∙◌, ap, sym, subst, slice_index, arith}
-use Rattle.std.proofs.lemmas.Bool.{false≢true}
 use Rattle.place_index.specs.Kings.{AreTurnedKings, kings_number}
 use Rattle.place_index.specs.Three.{three_number}
 use Rattle.place_index.specs.Men.{square_of}
-use Rattle.place_index.specs.Pawns.{pawn_numbers_of}
-use Rattle.place_index.specs.Shape.{has_unique, has_pawns, lead_code, lead_men}
+use Rattle.place_index.specs.Shape.{has_unique, has_pawns, lead_men}
 use Rattle.place_index.specs.Turning.{turned_by}
-use Rattle.place_index.specs.Index.{lead_pawns_number}
 use Rattle.place_index.proofs.Beginning.{unique_by_three, none_by_two}
-use Rattle.place_index.proofs.IndexLaw.{number_by_pawns, number_by_three, number_by_kings}
-use Rattle.place_index.proofs.TurnedMen.{pawned_of, plain_of}
+use Rattle.place_index.proofs.IndexLaw.{number_by_three, number_by_kings}
 use Rattle.place_index.proofs.Turns.{stand_three, stand_two}
 use Rattle.place_index.proofs.numbers.pieces_number.Goals as goal
 

@@ -1,4 +1,4 @@
-use Rattle.std.proofs.Common.{◌≡◌, ◌≤◌, ◌+◌, length, drop}
+use Rattle.std.proofs.Common.{◌≡◌, ◌≤◌, length, drop}
 use Rattle.place_index.specs.Pawns.{pawn_numbers_of}
 use Rattle.place_index.specs.Turning.{turned_by}
 use Rattle.place_index.proofs.squares.pawn_numbers_of.Given as goal

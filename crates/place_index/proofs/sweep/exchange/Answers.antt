@@ -1,4 +1,3 @@
-use Rattle.std.proofs.Common.{arith}
 use Rattle.place_index.proofs.Exchanging.{exchanged_next}
 use Rattle.place_index.proofs.sweep.exchange.Goals as goal
 

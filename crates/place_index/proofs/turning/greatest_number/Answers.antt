@@ -1,5 +1,5 @@
-use Rattle.std.proofs.Common.{◌∙◌, ◌≡◌, sym, ap, length, drop, slice_index, arith}
-use Rattle.place_index.specs.Pawns.{pawn_number, pawn_numbers_of}
+use Rattle.std.proofs.Common.{◌∙◌, ◌≡◌, sym, ap, slice_index, arith}
+use Rattle.place_index.specs.Pawns.{pawn_number}
 use Rattle.place_index.specs.declared.tables.TheConstants.{PAWN_NUMBERS}
 use Rattle.place_index.proofs.Collecting.{numbers_end, numbers_pass, greatest_more, greatest_same}
 use Rattle.place_index.proofs.IndexTables.{number_table}

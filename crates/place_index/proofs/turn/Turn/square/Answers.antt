@@ -1,5 +1,4 @@
 use Rattle.std.proofs.Common.{◌∙◌, ◌+◌, ◌*◌, ap, slice_index, arith}
-use Rattle.place_index.specs.Turning.{turn_number}
 use Rattle.place_index.specs.declared.tables.TheConstants.{TURNED}
 use Rattle.place_index.proofs.TurnTable.{turned_table, turned_small}
 use Rattle.place_index.proofs.turn.Turn.square.Goals as goal
