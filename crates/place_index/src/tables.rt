@@ -382,8 +382,7 @@ pub const KINGS: [u16; 640] = [
     460, 440, 462, 462, 462, 462, 462, 462, 462, 461,
 ];
 
-/// Where each square goes, 64 squares for each of the eight turns: with 1 for files exchanged, 2 for ranks exchanged and 4
-/// for file and rank exchanged after that, in the sequence of the sums.
+/// Where each square goes, 64 squares for each of the eight turns in the order of their numbers.
 pub const TURNED: [u8; 512] = [
     0, 1, 2, 3, 4, 5, 6, 7, 8, 9, 10, 11, 12, 13, 14, 15, 16, 17, 18, 19, 20, 21, 22, 23, 24, 25,
     26, 27, 28, 29, 30, 31, 32, 33, 34, 35, 36, 37, 38, 39, 40, 41, 42, 43, 44, 45, 46, 47, 48, 49,

@@ -33,7 +33,8 @@ impl Turn {
         }
     }
 
-    /// The turn's number among the eight, by which the table of turned squares is read.
+    /// The turn's number among the eight, by which the table of turned squares is read: 1 for files exchanged, 2 for ranks
+    /// exchanged and 4 for file and rank exchanged, added.
     #[tactic(auto, unfolding(crate::specs::Turning::turn_number))]
     fn number(self) -> usize
         ensures is { result ≡ turn_number self }
