@@ -44,3 +44,8 @@ pub mod MenOn
 pub mod Symmetric
 pub mod Tallies
 pub mod Weighing
+pub mod TurnTable
+pub mod Summing
+pub mod Exchanging
+pub mod FewNumbers
+pub mod LeadSquares

@@ -5,7 +5,7 @@ use Rattle.std.proofs.lemmas.List.{drop_more, drop_all, append_assoc, append-nil
 use Rattle.place_index.specs.Material.{pieces_of, count_of}
 use Rattle.place_index.specs.Choose.{set_number}
 use Rattle.place_index.specs.Men.{squares_of}
-use Rattle.place_index.specs.Others.{taken, free_number, free_set_number}
+use Rattle.place_index.specs.Others.{CountLike, taken, free_number, free_set_number}
 use Rattle.place_index.specs.Shape.{Layout, has_pawns, has_unique, lead_code, lead_men, joined, runs, other_groups}
 use Rattle.place_index.specs.Index.{lead_codes, lead_number, squares_of_all, first_square, other_numbers, numbers_of, sum_of_products, IsPlacement, IsShape}
 use Rattle.place_index.specs.declared.group.Group.{Group}
@@ -137,20 +137,21 @@ unfolding runs
 runs_length [] = omega arith
 runs_length (x ∷ xs) = omega (arith, joined_length x (runs xs), runs_length xs)
 
-pub numbered_start : (l : Layout) (men : List Man) (number : ℕ) (numbers : List ℕ) → IsShape l → number ≡ lead_number l men → numbers ≡ number ∷ [] → IsNumbered l men (other_groups l.material l.pieces) numbers (squares_of_all men (lead_codes l))
-numbered_start l men number numbers s e f =
+pub numbered_start : (l : Layout) (men : List Man) (number : ℕ) (numbers earlier : List ℕ) → IsShape l → number ≡ lead_number l men → numbers ≡ number ∷ [] → CountLike earlier (squares_of_all men (lead_codes l))
+    → IsNumbered l men (other_groups l.material l.pieces) numbers earlier
+numbered_start l men number numbers earlier s e f like =
     let g = follow l s in
     record {
       codes = lead_codes l;
       is = ap (λ x. x ++ other_numbers (lead_codes l) men (other_groups l.material l.pieces)) f ∙ ap (λ n. n ∷ other_numbers (lead_codes l) men (other_groups l.material l.pieces)) e ∙ sym (numbers_are l men);
-      taken = λ s. refl;
-      size = refl;
+      taken = like.1;
+      size = like.0;
       distinct = g.distinct;
       groups = g.groups;
       room = omega (arith, ap length f, runs_length (drop (lead_men l.material) l.pieces), length-drop (lead_men l.material) l.pieces, good_length l.material l.pieces s.pieces, men_most l.material s.material, lead_least l.material s.material);
     }
 
-taken_append : (xs ys : List ℕ) (s : ℕ) → taken (xs ++ ys) s ≡ taken xs s + taken ys s
+pub taken_append : (xs ys : List ℕ) (s : ℕ) → taken (xs ++ ys) s ≡ taken xs s + taken ys s
 unfolding taken
 taken_append [] ys s = omega arith
 taken_append (x ∷ xs) ys s = omega (arith, taken_append xs ys s)
@@ -163,7 +164,7 @@ mapped_same : (first : ℕ) (one other xs : List ℕ) → ((s : ℕ) → taken o
 mapped_same first one other [] e = refl
 mapped_same first one other (x ∷ xs) e = rw (free_same first one other x (e x), mapped_same first one other xs e) refl
 
-numbers_more : (codes : List ℕ) (men : List Man) (g : Group) (gs : List Group)
+pub numbers_more : (codes : List ℕ) (men : List Man) (g : Group) (gs : List Group)
     → other_numbers codes men (g ∷ gs) ≡ free_set_number (first_square g.code) (squares_of_all men codes) (squares_of men g.code) ∷ other_numbers (g.code ∷ codes) men gs
 unfolding other_numbers
 numbers_more codes men g gs = refl

@@ -1,5 +1,5 @@
 -- Lists of equal tallies have equal counts.
-use Rattle.std.proofs.Common.{◌≡◌, ℕ, zero, suc, ◌+◌, ◌*◌, ◌<◌, ◌≤◌, Bool, true, false, cond, eqb, leb, List, [], ◌∷◌, length, drop, get_or, slice_index, refl, sym, ap, ◌∙◌, arith}
+use Rattle.std.proofs.Common.{◌≡◌, ℕ, zero, suc, ◌+◌, ◌*◌, ◌<◌, ◌≤◌, Bool, true, false, cond, eqb, leb, List, [], ◌∷◌, ◌++◌, length, drop, get_or, slice_index, refl, sym, ap, ◌∙◌, arith}
 use Rattle.std.specs.List.Sorted.{IsPermutation}
 use Rattle.std.proofs.lemmas.Bool.{agree_below_at, eqb-true, leb-true}
 use Rattle.std.proofs.lemmas.List.{drop_more, drop_all}
@@ -102,3 +102,18 @@ tally_more men i m lt is =
 
 pub tally_end : (men : List Man) (i : ℕ) → length men ≤ i → tally_of (codes_of (drop i men)) ≡ 0
 tally_end men i le = ap (λ l. tally_of (codes_of l)) (drop_all i men le) ∙ digits_nil 16 0
+
+digits_append : (n first : ℕ) (xs : List ℕ) (y : ℕ) → digits n first (xs ++ y ∷ []) ≡ digits n first xs + digits n first (y ∷ [])
+digits_append n first [] y = omega (arith, digits_nil n first)
+digits_append n first (x ∷ xs) y = omega (arith, digits_cons n first x (xs ++ y ∷ []), digits_append n first xs y, digits_cons n first x xs)
+
+codes_append : (men : List Man) (m : Man) → codes_of (men ++ m ∷ []) ≡ codes_of men ++ m.code ∷ []
+codes_append [] m = refl
+codes_append (x ∷ men) m = ap (λ l. x.code ∷ l) (codes_append men m)
+
+-- the tally with one man more
+pub tally_last : (men more : List Man) (m : Man) → more ≡ men ++ m ∷ [] → tally_of (codes_of more) ≡ tally_of (codes_of men) + tally_of (m.code ∷ [])
+tally_last men more m e = ap (λ l. tally_of (codes_of l)) e ∙ ap tally_of (codes_append men m) ∙ digits_append 16 0 (codes_of men) m.code
+
+pub tally_none : (men : List Man) → men ≡ [] → tally_of (codes_of men) ≡ 0
+tally_none men e = ap (λ l. tally_of (codes_of l)) e ∙ digits_nil 16 0

@@ -33,7 +33,7 @@ lead_range key men p s h = (settled key men p).pawns (lead_code key) s (lead_is_
 pub lead_numbers_size : (key : ℕ) (men : List Man) → has_pawns key ≡ true → IsPlacement key men → length (pawn_numbers_of men (lead_code key)) ≡ lead_men key
 lead_numbers_size key men pawned p = omega (arith, numbers_size key men (lead_code key) p (lead_is_pawn key), lead_count key, lead_by_pawns key pawned)
 
-numbers_fall : (men : List Man) (c k : ℕ) → k < length (pawn_numbers_of men c) → get_or (pawn_numbers_of men c) k 0 < 48
+pub numbers_fall : (men : List Man) (c k : ℕ) → k < length (pawn_numbers_of men c) → get_or (pawn_numbers_of men c) k 0 < 48
 unfolding pawn_numbers_of
 numbers_fall men c k lt = falling_at 48 (falling (λ n. stands men c (pawn_square n)) 48) k (falling_falls (λ n. stands men c (pawn_square n)) 48) lt
 

@@ -8,7 +8,7 @@ use Rattle.place_index.specs.Material.{count_of, pieces_of}
 use Rattle.place_index.specs.Men.{codes_of, stands, falling, squares_of, inserted, moved}
 use Rattle.place_index.specs.Pawns.{pawn_number, pawn_square, pawn_numbers_of, AreTurnedPawns}
 use Rattle.place_index.specs.Shape.{has_pawns, is_pawn, lead_code}
-use Rattle.place_index.specs.Turning.{lead_pawn, leftward, turned_pawns, lead_file}
+use Rattle.place_index.specs.Turning.{lead_pawn, leftward, turned_pawns, lead_file, lead_square, left_file}
 use Rattle.place_index.specs.Index.{AreAlone, IsPlacement}
 use Rattle.place_index.specs.declared.man.Man.{Man}
 use Rattle.place_index.proofs.Arranging.{count_nil, count_hit, count_miss, count_arranged}
@@ -204,6 +204,17 @@ file_right key men s pawned e le = rw (pawned, e, le-ltb (file s) 4 le) refl
 pub file_none : (key : ℕ) (men : List Man) → has_pawns key ≡ false → lead_file key men ≡ 0
 unfolding lead_file
 file_none key men plain = rw plain refl
+
+-- by the leading pawn's square, 0 without pawns
+pub left_is : (key : ℕ) (men : List Man) → left_file (lead_square key men) ≡ lead_file key men
+left_is key men =
+    elim (cases_Bool (has_pawns key)) [
+      | inr plain ↦ ap (λ b. left_file (cond {A = ℕ} b (lead_pawn key men) 0)) plain ∙ sym (file_none key men plain)
+      | inl pawned ↦ ap (λ b. left_file (cond {A = ℕ} b (lead_pawn key men) 0)) pawned ∙ (elim (cases_lt (file (lead_pawn key men)) 4) [
+        | inl lt ↦ rw (lt-ltb (file (lead_pawn key men)) 4 lt) (sym (file_left key men (lead_pawn key men) pawned refl lt))
+        | inr le ↦ rw (le-ltb (file (lead_pawn key men)) 4 le) (sym (file_right key men (lead_pawn key men) pawned refl le))
+      ])
+    ]
 
 file_opposite : (s : ℕ) → s < 64 → file (left_right s) ≡ 7 - file s
 file_opposite s lt = omega arith

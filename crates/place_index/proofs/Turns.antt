@@ -81,7 +81,7 @@ still_men t men l b x =
 
 -- ---- codes that occur once
 
-count_small : (n : ℕ) (xs : List ℕ) (c : ℕ) → list_all (λ x. ltb x n) xs ≡ true → n ≤ c → count_of xs c ≡ 0
+pub count_small : (n : ℕ) (xs : List ℕ) (c : ℕ) → list_all (λ x. ltb x n) xs ≡ true → n ≤ c → count_of xs c ≡ 0
 count_small n [] c all le = count_nil c
 count_small n (x ∷ xs) c all le =
     let both = and_parts (ltb x n) (list_all (λ x. ltb x n) xs) all in

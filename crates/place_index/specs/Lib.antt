@@ -13,3 +13,4 @@ pub mod Kept
 pub mod Turning
 pub mod Index
 pub mod Placed
+pub mod Few

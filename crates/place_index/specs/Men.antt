@@ -2,10 +2,8 @@
 -- king, 9 to 14 for the second side's.
 use Rattle.std.specs.Prelude.{ℕ, zero, suc, ◌+◌, ◌-◌, List, [], ◌∷◌, map, Bool, cond, nat_lt, ◌/◌, ◌%◌, ◌==◌, ◌&&◌, slice_index}
 use Rattle.std.specs.List.{list_any}
-use Rattle.place_index.specs.Square.{left_right, bottom_top, across}
+use Rattle.place_index.specs.Square.{bottom_top}
 use Rattle.place_index.specs.declared.man.Man.{Man}
-use Rattle.place_index.specs.declared.man.Mirroring.{Mirroring}
-use Rattle.place_index.specs.declared.man.Mirroring.TheVariants.{LeftRight, BottomTop, Across}
 
 abbrev pub man : ℕ → ℕ → Man
 man code square = record { code = code; square = square }
@@ -48,9 +46,3 @@ exchanged men = map (λ m. man (other_side m.code) (bottom_top m.square)) men
 unfoldable pub inserted : ℕ → List ℕ → List ℕ
 inserted s [] = s ∷ []
 inserted s (x ∷ xs) = cond (nat_lt x s) (s ∷ x ∷ xs) (x ∷ inserted s xs)
-
--- how the code mirrors: by the way in which it does so
-abbrev pub opposite : Mirroring → ℕ → ℕ
-opposite LeftRight = left_right
-opposite BottomTop = bottom_top
-opposite Across = across

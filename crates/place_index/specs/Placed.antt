@@ -9,7 +9,7 @@ use Rattle.board_core.specs.declared.piece.Kind.TheVariants.{Pawn, Knight, Bisho
 use Rattle.board_core.specs.declared.parts.Parts.{Parts}
 use Rattle.place_index.specs.Material.{men_of, pieces_of}
 use Rattle.place_index.specs.Men.{man, codes_of, exchanged}
-use Rattle.place_index.specs.Turning.{lead_file}
+use Rattle.place_index.specs.Turning.{lead_file, lead_square}
 use Rattle.place_index.specs.Index.{IsPlacement}
 use Rattle.place_index.specs.declared.man.Man.{Man}
 use Rattle.place_index.specs.declared.tables.TheConstants.{WEIGHTS, KEYS}
@@ -98,4 +98,5 @@ pub record IsPlaced (a : Inside) : Type 0 where
   pub material : a.material < 145
   pub men : IsPlacement a.material a.men.items
   pub side : a.side < 2
+  pub lead : a.lead ≡ lead_square a.material a.men.items
   pub file : a.file ≡ lead_file a.material a.men.items

@@ -1,5 +1,5 @@
 -- The turning of all men of a placement (Syzygy index, mirrorings).
-use Rattle.std.specs.Prelude.{ℕ, ◌-◌, List, [], ◌∷◌, take, Bool, false, cond, nat_lt, slice_index}
+use Rattle.std.specs.Prelude.{ℕ, ◌+◌, ◌*◌, ◌-◌, List, [], ◌∷◌, take, Bool, false, cond, nat_lt, slice_index}
 use Rattle.place_index.specs.Square.{file, rank, on_diagonal, left_right, bottom_top, across}
 use Rattle.place_index.specs.Men.{square_of, moved}
 use Rattle.place_index.specs.Pawns.{pawn_square, pawn_numbers_of}
@@ -50,7 +50,17 @@ turned l men = cond (has_pawns l.material) (turned_pawns l.material men) (turned
 unfoldable pub lead_file : ℕ → List Man → ℕ
 lead_file key men = cond (has_pawns key) (cond (nat_lt (file (lead_pawn key men)) 4) (file (lead_pawn key men)) (7 - file (lead_pawn key men))) 0
 
--- ---- for the code: all mirrorings in one
+-- ---- for the code
+
+-- the leading pawn's square, 0 without pawns
+abbrev pub lead_square : ℕ → List Man → ℕ
+lead_square key men = cond (has_pawns key) (lead_pawn key men) 0
+
+-- the file of a square after the turning to the left
+abbrev pub left_file : ℕ → ℕ
+left_file s = cond (nat_lt (file s) 4) (file s) (7 - file s)
+
+-- ---- all mirrorings in one
 
 -- a square mirrored, if so
 abbrev pub mirrored : Bool → (ℕ → ℕ) → ℕ → ℕ
@@ -58,6 +68,10 @@ mirrored mirrors opposite s = cond mirrors (opposite s) s
 
 unfoldable pub turn_square : Turn → ℕ → ℕ
 turn_square t s = mirrored t.across across (mirrored t.bottom_top bottom_top (mirrored t.left_right left_right s))
+
+-- the number of a turn among the eight
+unfoldable pub turn_number : Turn → ℕ
+turn_number t = cond t.left_right 1 0 + 2 * cond t.bottom_top 1 0 + 4 * cond t.across 1 0
 
 abbrev pub turned_by : Turn → List Man → List Man
 turned_by t men = moved (turn_square t) men

@@ -6,7 +6,7 @@ ghost use Rattle.place_index.specs.Placed.{IsMaterialOf, key_by_weight, men_on, 
 
 use crate::man::Man;
 use crate::material::Material;
-use crate::sweep::{exchanged, is_named, men_on};
+use crate::sweep::{exchange, is_named, men_on, tally};
 use crate::tables::{KEYS, WEIGHTS};
 use board_core::Position;
 
@@ -42,15 +42,15 @@ fn key_by_weight(weight: usize) -> u8
 }
 
 /// Whether the men are those of the table, in its colours or with colours exchanged.
-fn is_material_of(material: Material, men: &[Man]) -> bool
-    requires { length men.now ≤ 5 }
-    ensures { IsTrue result ↔ IsMaterialOf material men.now }
+fn is_material_of(material: Material, men: &mut [Man]) -> bool
+    requires { length men.old ≤ 5 }
+    ensures { IsTrue result ↔ IsMaterialOf material men.old }
 {
-    if is_named(material, men) {
+    if is_named(material, men, tally(men)) {
         return true;
     }
-    let other = exchanged(men);
-    is_named(material, other.as_slice())
+    exchange(men);
+    is_named(material, men, tally(men))
 }
 
 impl Material {
@@ -64,7 +64,7 @@ impl Material {
         if position.men() > 5 {
             return None;
         }
-        let men = men_on(position);
+        let (mut men, _) = men_on(position);
         let weight = weight(men.as_slice());
         if weight >= 2233 {
             return None;
@@ -73,7 +73,7 @@ impl Material {
         let Some(material) = Material::with_key(key) else {
             return None;
         };
-        if is_material_of(material, men.as_slice()) {
+        if is_material_of(material, men.as_mut_slice()) {
             Some(material)
         } else {
             None

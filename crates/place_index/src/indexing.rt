@@ -1,85 +1,126 @@
 //! The index of a placement.
 
-ghost use Rattle.std.specs.Prelude.{◌≡◌, ◌<◌, ◌≤◌, cond, length};
-ghost use Rattle.place_index.specs.Index.{AreTops, IsLeadTurned, IsShape, IsPlacement, lead_codes, squares_of_all, numbers_of, sum_of_products, index_of};
-ghost use Rattle.place_index.specs.Shape.{has_pawns, lead_men, size_of, greatest_size};
+ghost use Rattle.std.specs.Prelude.{◌≡◌, ◌<◌, ◌≤◌, [], true, false};
+ghost use Rattle.place_index.specs.Index.{AreTops, IsLeadTurned, IsShape, IsPlacement, lead_codes, lead_number, squares_of_all, numbers_of, sum_of_products, index_of};
+ghost use Rattle.place_index.specs.Others.{CountLike};
+ghost use Rattle.place_index.specs.Shape.{has_pawns, lead_men, factors_of, size_of, greatest_size};
 ghost use Rattle.place_index.specs.Turning.{turned_by};
 
-use crate::group::Group;
+use crate::few::Earlier;
 use crate::man::Man;
-use crate::material::{Material, leading_men};
-use crate::numbers::lead_number;
+use crate::material::{Material, leading_men, leading_pawn};
+use crate::numbers::{pawns_before, pawns_number, pieces_number};
 use crate::placed::Placed;
 use crate::shape::Shape;
-use crate::tops::{add_squares, number_group, tops};
+use crate::squares::{pawn_numbers_of, pawn_square};
+use crate::tops::{number_group, top, tops};
 use crate::turn::Turn;
 use crate::turning::{lead_codes, turn_of};
-use arrayvec::ArrayVec;
 
-/// How many leading men have the same code: all leading pawns do, and other leading men differ.
-fn leading_alike(material: Material) -> u8
-    ensures { result ≡ cond (has_pawns material) (lead_men material) 1 }
-{
-    if material.has_pawns() {
-        leading_men(material)
-    } else {
-        1
-    }
-}
-
-/// The squares to which the leading men go.
-fn lead_squares(shape: &Shape, men: &[Man], tops: &[u8; 16], turn: Turn) -> ArrayVec<u8, 5>
-    requires shape { IsShape shape.now }
-    requires men { IsPlacement shape.now.material men.now }
-    requires tops { AreTops men.now tops.now }
-    requires turned { IsPlacement shape.now.material (turned_by turn men.now) }
-    ensures { result.items ≡ squares_of_all (turned_by turn men.now) (lead_codes shape.now) }
-{
-    let codes = lead_codes(shape);
-    let alike = leading_alike(shape.material());
-    let mut squares = ArrayVec::<u8, 5>::new();
-    for code in codes {
-        let group = Group {
-            code: *code,
-            men: alike,
-        };
-        add_squares(&mut squares, men, tops, turn, group);
-    }
-    squares
-}
-
-/// The number of each group after the turn.
-fn numbers(shape: &Shape, men: &[Man], tops: &[u8; 16], turn: Turn) -> ArrayVec<u64, 5>
+/// The number of the leading pieces, whose squares are the first ones of earlier men.
+fn lead_pieces(
+    shape: &Shape,
+    men: &[Man],
+    tops: &[u8; 16],
+    turn: Turn,
+    earlier: &mut Earlier,
+) -> u64
     requires shape { IsShape shape.now }
     requires men { IsPlacement shape.now.material men.now }
     requires tops { AreTops men.now tops.now }
     requires turned { IsPlacement shape.now.material (turned_by turn men.now) }
     requires lead { IsLeadTurned shape.now (turned_by turn men.now) }
-    ensures { result.items ≡ numbers_of shape.now (turned_by turn men.now) }
+    requires plain { has_pawns shape.now.material ≡ false }
+    requires none { earlier.old ≡ [] }
+    ensures number { result ≡ lead_number shape.now (turned_by turn men.now) }
+    ensures earlier { CountLike earlier.new (squares_of_all (turned_by turn men.now) (lead_codes shape.now)) }
 {
-    let groups = shape.groups();
-    let others = &groups[1..];
-    let mut earlier = lead_squares(shape, men, tops, turn);
-    let lead = lead_number(shape, men, turn, earlier.as_slice());
-    let mut numbers = ArrayVec::<u64, 5>::new();
-    numbers.push(lead);
-    for group in others {
-        let number = number_group(&mut earlier, men, tops, turn, *group);
-        numbers.push(number);
+    for code in lead_codes(shape) {
+        let from = top(tops, *code);
+        earlier.push(turn.square(from));
     }
-    numbers
+    pieces_number(shape, men, turn, earlier.as_slice())
 }
 
-/// The sum of the groups' numbers times their factors.
-fn sum_of_products(numbers: &[u64], factors: &[u64]) -> u64
-    requires groups { length numbers.now ≡ length factors.now }
-    requires fits { sum_of_products numbers.now factors.now ≤ greatest_size }
-    ensures { result ≡ sum_of_products numbers.now factors.now }
+/// The number of a leading pawn without others, whose square is the first one of earlier men.
+fn lone_pawn(shape: &Shape, men: &[Man], tops: &[u8; 16], turn: Turn, earlier: &mut Earlier) -> u64
+    requires shape { IsShape shape.now }
+    requires men { IsPlacement shape.now.material men.now }
+    requires tops { AreTops men.now tops.now }
+    requires turned { IsPlacement shape.now.material (turned_by turn men.now) }
+    requires lead { IsLeadTurned shape.now (turned_by turn men.now) }
+    requires pawned { has_pawns shape.now.material ≡ true }
+    requires one { lead_men shape.now.material ≡ 1 }
+    requires none { earlier.old ≡ [] }
+    ensures number { result ≡ lead_number shape.now (turned_by turn men.now) }
+    ensures earlier { CountLike earlier.new (squares_of_all (turned_by turn men.now) (lead_codes shape.now)) }
 {
-    let mut sum: u64 = 0;
-    for (i, number) in numbers.iter().enumerate() {
-        let part = *number * factors[i];
-        sum += part;
+    let material = shape.material();
+    let from = top(tops, leading_pawn(material));
+    let square = turn.square(from);
+    earlier.push(square);
+    pawns_before(shape.file(), 0, (square / 8) as usize - 1)
+}
+
+/// The number of the leading pawns, whose squares are the first ones of earlier men.
+fn lead_pawns(shape: &Shape, men: &[Man], turn: Turn, earlier: &mut Earlier) -> u64
+    requires shape { IsShape shape.now }
+    requires men { IsPlacement shape.now.material men.now }
+    requires turned { IsPlacement shape.now.material (turned_by turn men.now) }
+    requires lead { IsLeadTurned shape.now (turned_by turn men.now) }
+    requires pawned { has_pawns shape.now.material ≡ true }
+    requires none { earlier.old ≡ [] }
+    ensures number { result ≡ lead_number shape.now (turned_by turn men.now) }
+    ensures earlier { CountLike earlier.new (squares_of_all (turned_by turn men.now) (lead_codes shape.now)) }
+{
+    let material = shape.material();
+    let numbers = pawn_numbers_of(men, turn, leading_pawn(material));
+    for number in numbers.as_slice() {
+        earlier.push(pawn_square(*number));
+    }
+    pawns_number(shape.file(), numbers.as_slice())
+}
+
+/// The number of the leading group, whose squares are the first ones of earlier men.
+fn lead(shape: &Shape, men: &[Man], tops: &[u8; 16], turn: Turn, earlier: &mut Earlier) -> u64
+    requires shape { IsShape shape.now }
+    requires men { IsPlacement shape.now.material men.now }
+    requires tops { AreTops men.now tops.now }
+    requires turned { IsPlacement shape.now.material (turned_by turn men.now) }
+    requires lead { IsLeadTurned shape.now (turned_by turn men.now) }
+    requires none { earlier.old ≡ [] }
+    ensures number { result ≡ lead_number shape.now (turned_by turn men.now) }
+    ensures earlier { CountLike earlier.new (squares_of_all (turned_by turn men.now) (lead_codes shape.now)) }
+{
+    let material = shape.material();
+    if !material.has_pawns() {
+        return lead_pieces(shape, men, tops, turn, earlier);
+    }
+    if leading_men(material) == 1 {
+        lone_pawn(shape, men, tops, turn, earlier)
+    } else {
+        lead_pawns(shape, men, turn, earlier)
+    }
+}
+
+/// The sum of the groups' numbers after the turn, each times its factor.
+fn sum_of_groups(shape: &Shape, men: &[Man], tops: &[u8; 16], turn: Turn) -> u64
+    requires shape { IsShape shape.now }
+    requires men { IsPlacement shape.now.material men.now }
+    requires tops { AreTops men.now tops.now }
+    requires turned { IsPlacement shape.now.material (turned_by turn men.now) }
+    requires lead { IsLeadTurned shape.now (turned_by turn men.now) }
+    requires fits { sum_of_products (numbers_of shape.now (turned_by turn men.now)) (factors_of shape.now) ≤ greatest_size }
+    ensures { result ≡ sum_of_products (numbers_of shape.now (turned_by turn men.now)) (factors_of shape.now) }
+{
+    let groups = shape.groups();
+    let factors = shape.factors();
+    let mut earlier = Earlier::new();
+    let lead = lead(shape, men, tops, turn, &mut earlier);
+    let mut sum = lead * factors[0];
+    for i in 1..groups.len() {
+        let number = number_group(&mut earlier, men, tops, turn, groups[i]);
+        sum += number * factors[i];
     }
     sum
 }
@@ -95,8 +136,6 @@ pub fn index(shape: &Shape, placed: &Placed) -> u64
 {
     let men = placed.men();
     let tops = tops(men);
-    let turn = turn_of(shape, men, &tops);
-    let numbers = numbers(shape, men, &tops, turn);
-    let factors = shape.factors();
-    sum_of_products(numbers.as_slice(), factors)
+    let turn = turn_of(shape, placed, &tops);
+    sum_of_groups(shape, men, &tops, turn)
 }

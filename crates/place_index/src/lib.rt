@@ -3,6 +3,7 @@
 
 mod arrangement;
 mod choose;
+mod few;
 mod finding;
 mod group;
 mod indexing;

@@ -1,6 +1,3 @@
-ghost use Rattle.std.specs.Prelude.{◌≡◌, ◌<◌};
-ghost use Rattle.place_index.specs.Men.{opposite};
-
 use board_core::Square;
 
 /// The code of the first side's pawns.
@@ -32,29 +29,5 @@ impl Default for Man {
             code: 0,
             square: Square::at(0),
         }
-    }
-}
-
-/// Ways to mirror the board.
-#[derive(Clone, Copy, PartialEq, Eq, Debug)]
-pub(crate) enum Mirroring {
-    /// Files a and h exchanged, and so on.
-    LeftRight,
-    /// Ranks 1 and 8 exchanged, and so on.
-    BottomTop,
-    /// File and rank of each square exchanged.
-    Across,
-}
-
-/// The square that lies opposite.
-pub(crate) fn opposite(mirroring: Mirroring, square: Square) -> Square
-    ensures { result ≡ opposite mirroring square }
-{
-    let file = square.file();
-    let rank = square.rank();
-    match mirroring {
-        Mirroring::LeftRight => Square::at(8 * rank + (7 - file)),
-        Mirroring::BottomTop => Square::at(8 * (7 - rank) + file),
-        Mirroring::Across => Square::at(8 * file + rank),
     }
 }

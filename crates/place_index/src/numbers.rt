@@ -1,20 +1,22 @@
 //! The numbers of the groups.
 
-ghost use Rattle.std.specs.Prelude.{◌≡◌, ◌<◌, ◌≤◌, ◌∷◌, ℕ, length, slice_index, true, cond};
+ghost use Rattle.std.specs.Prelude.{◌≡◌, ◌<◌, ◌≤◌, ◌∷◌, ℕ, length, slice_index, false, cond};
 ghost use Rattle.place_index.specs.Choose.{set_number};
-ghost use Rattle.place_index.specs.Index.{AreMen, ArePawnsAt, IsLeadTurned, IsPlacement, first_square, lead_codes, lead_pawns_number, lead_number, squares_of_all};
+ghost use Rattle.place_index.specs.Index.{ArePawnsAt, IsLeadTurned, IsPlacement, first_square, lead_codes, lead_pawns_number, lead_number, squares_of_all};
 ghost use Rattle.place_index.specs.Kings.{AreTurnedKings, kings_number};
 ghost use Rattle.place_index.specs.Others.{taken, free_number, free_set_number};
 ghost use Rattle.place_index.specs.Pawns.{pawns_before};
+ghost use Rattle.place_index.specs.Shape.{has_pawns};
 ghost use Rattle.place_index.specs.Square.{before};
 ghost use Rattle.place_index.specs.Three.{three_number, triangle_number, lower_number};
 ghost use Rattle.place_index.specs.Turning.{turned_by};
 
 use crate::choose::choices;
+use crate::few::Earlier;
 use crate::man::{BLACK_PAWN, Man, WHITE_PAWN};
-use crate::material::{leading_men, leading_pawn};
+use crate::material::leading_men;
 use crate::shape::Shape;
-use crate::squares::{pawn_numbers_of, pawn_square};
+use crate::squares::pawn_square;
 use crate::tables::{KINGS, LOWER, PAWNS_BEFORE, TRIANGLE};
 use crate::turn::Turn;
 
@@ -93,7 +95,7 @@ fn set_number(numbers: &[u8]) -> u64
 }
 
 /// The placements with the leading pawn on one of the first ranks of a file from the second on, and so many pawns beside it.
-fn pawns_before(file: u8, others: usize, ranks: usize) -> u64
+pub(crate) fn pawns_before(file: u8, others: usize, ranks: usize) -> u64
     requires file { file < 4 }
     requires others { others ≤ 2 }
     requires ranks { ranks ≤ 6 }
@@ -104,7 +106,7 @@ fn pawns_before(file: u8, others: usize, ranks: usize) -> u64
 }
 
 /// The number of leading pawns with these pawn numbers, the greatest first.
-fn pawns_number(file: u8, numbers: &[u8]) -> u64
+pub(crate) fn pawns_number(file: u8, numbers: &[u8]) -> u64
     requires file { file < 4 }
     requires pawns { ArePawnsAt file numbers.now }
     ensures { result ≡ lead_pawns_number numbers.now }
@@ -116,20 +118,15 @@ fn pawns_number(file: u8, numbers: &[u8]) -> u64
     earlier + lower
 }
 
-/// The number of the leading group, whose men go to these squares.
-pub(crate) fn lead_number(shape: &Shape, men: &[Man], turn: Turn, squares: &[u8]) -> u64
-    requires men { AreMen men.now }
+/// The number of a leading group without pawns, whose men go to these squares.
+pub(crate) fn pieces_number(shape: &Shape, men: &[Man], turn: Turn, squares: &[u8]) -> u64
     requires placed { IsPlacement shape.now.material (turned_by turn men.now) }
+    requires plain { has_pawns shape.now.material ≡ false }
     requires lead { IsLeadTurned shape.now (turned_by turn men.now) }
     requires squares { squares.now ≡ squares_of_all (turned_by turn men.now) (lead_codes shape.now) }
     ensures { result ≡ lead_number shape.now (turned_by turn men.now) }
 {
     let material = shape.material();
-    if material.has_pawns() {
-        let code = leading_pawn(material);
-        let numbers = pawn_numbers_of(men, turn, code);
-        return pawns_number(shape.file(), numbers.as_slice());
-    }
     let lead = leading_men(material);
     if lead == 3 {
         three_number(squares[0], squares[1], squares[2])
@@ -139,8 +136,8 @@ pub(crate) fn lead_number(shape: &Shape, men: &[Man], turn: Turn, squares: &[u8]
 }
 
 /// How many of these men stand on lower squares.
-fn taken(earlier: &[u8], square: u8) -> u64
-    requires { length earlier.now ≤ 5 }
+pub(crate) fn taken(earlier: &[u8], square: u8) -> u64
+    requires { length earlier.now ≤ 8 }
     ensures { result ≡ taken earlier.now square }
 {
     let mut count: u64 = 0;
@@ -163,20 +160,19 @@ pub(crate) fn first_square(code: u8) -> u8
 
 /// The square's number among the free ones from the first square on.
 #[tactic(auto, unfolding(crate::specs::Others::free_number))]
-pub(crate) fn free_number(first: u8, earlier: &[u8], square: u8) -> u64
-    requires { length earlier.now ≤ 5 }
+pub(crate) fn free_number(first: u8, earlier: &Earlier, square: u8) -> u64
+    requires { square ≤ 64 }
     ensures is { result ≡ free_number first earlier.now square }
     ensures small { result ≤ square }
 {
-    let lower = taken(earlier, square);
+    let lower = earlier.taken(square);
     (square as u64)
         .saturating_sub(lower)
         .saturating_sub(first as u64)
 }
 
 /// The number of a group on these squares, the highest first, among those that earlier men leave free.
-pub(crate) fn free_set_number(first: u8, earlier: &[u8], squares: &[u8]) -> u64
-    requires earlier { length earlier.now ≤ 5 }
+pub(crate) fn free_set_number(first: u8, earlier: &Earlier, squares: &[u8]) -> u64
     requires few { length squares.now ≤ 5 }
     requires board { (k : ℕ) → k < length squares.now → slice_index squares.now k ≤ 64 }
     ensures { result ≡ free_set_number first earlier.now squares.now }

@@ -1,13 +1,15 @@
-ghost use Rattle.std.specs.Prelude.{◌≡◌, ◌<◌, ◌≤◌, ◌-◌, length, cond};
+ghost use Rattle.std.specs.Prelude.{◌≡◌, ◌<◌, ◌≤◌, ◌-◌, true, length, cond};
 ghost use Rattle.board_core.specs.Position.{IsPosition};
 ghost use Rattle.place_index.specs.Index.{IsPlacement};
-ghost use Rattle.place_index.specs.Men.{exchanged};
+ghost use Rattle.place_index.specs.Material.{tally_of};
+ghost use Rattle.place_index.specs.Men.{codes_of, exchanged};
 ghost use Rattle.place_index.specs.Placed.{IsNamed, IsMaterialOf, IsSymmetric, IsLookedUp, men_on, side_number};
-ghost use Rattle.place_index.specs.Turning.{lead_file};
+ghost use Rattle.place_index.specs.Shape.{has_pawns};
+ghost use Rattle.place_index.specs.Turning.{lead_file, lead_pawn, lead_square, left_file};
 
 use crate::man::Man;
 use crate::material::Material;
-use crate::sweep::{exchanged, is_named, men_on};
+use crate::sweep::{exchange, is_named, men_on};
 use crate::turning::lead_pawn;
 use arrayvec::ArrayVec;
 use board_core::{Position, Side};
@@ -20,6 +22,7 @@ pub struct Placed {
     material: Material,
     men: ArrayVec<Man, 5>,
     side: u8,
+    lead: u8,
     file: u8,
 }
 
@@ -67,6 +70,13 @@ impl Placed {
     {
         self.file
     }
+
+    /// The square of the leading pawn, where there are pawns.
+    pub(crate) fn lead_pawn(&self) -> u8
+        ensures { has_pawns self.now.material ≡ true → result ≡ lead_pawn self.now.material self.now.men }
+    {
+        self.lead
+    }
 }
 
 fn side_number(side: Side) -> u8
@@ -79,25 +89,33 @@ fn side_number(side: Side) -> u8
     }
 }
 
-/// The file of the leading pawn after the turning, 0 to 3; 0 without pawns.
-fn lead_file(material: Material, men: &[Man]) -> u8
+/// The square of the leading pawn; 0 without pawns.
+fn lead_square(material: Material, men: &[Man]) -> u8
     requires known { material < 145 }
     requires placed { IsPlacement material men.now }
-    ensures { result ≡ lead_file material men.now }
+    ensures { result ≡ lead_square material men.now }
 {
-    if !material.has_pawns() {
-        return 0;
+    if material.has_pawns() {
+        lead_pawn(material, men)
+    } else {
+        0
     }
-    let lead = lead_pawn(material, men);
-    let file = lead % 8;
+}
+
+/// The file of a square after the turning to the left, 0 to 3.
+fn left_file(square: u8) -> u8
+    ensures { result ≡ left_file square }
+{
+    let file = square % 8;
     if file < 4 { file } else { 7 - file }
 }
 
-/// Whether a position is looked up with colours exchanged: where white's men are the name's second side, and for symmetric
+/// Whether men with this tally are looked up with colours exchanged: where white's men are the name's second side, and for symmetric
 /// material with black to move.
-fn is_exchanged(material: Material, men: &[Man], side: u8) -> bool
+fn is_exchanged(material: Material, men: &[Man], tally: u64, side: u8) -> bool
     requires known { material < 145 }
     requires few { length men.now ≤ 5 }
+    requires tally { tally ≡ tally_of (codes_of men.now) }
     requires side { side < 2 }
     requires material { IsMaterialOf material men.now }
     ensures named { IsNamed material (cond result (exchanged men.now) men.now) }
@@ -106,19 +124,16 @@ fn is_exchanged(material: Material, men: &[Man], side: u8) -> bool
     if material.symmetric() {
         side == 1
     } else {
-        !is_named(material, men)
+        !is_named(material, men, tally)
     }
 }
 
-/// The men with colours exchanged, if so.
-fn in_colours(men: ArrayVec<Man, 5>, exchange: bool) -> ArrayVec<Man, 5>
-    requires { length men.items ≤ 5 }
-    ensures { result.items ≡ cond exchange (exchanged men.items) men.items }
+/// Exchanges colours, if so.
+fn in_colours(men: &mut ArrayVec<Man, 5>, exchanges: bool)
+    ensures { men.new.items ≡ cond exchanges (exchanged men.old.items) men.old.items }
 {
-    if exchange {
-        exchanged(men.as_slice())
-    } else {
-        men
+    if exchanges {
+        exchange(men.as_mut_slice());
     }
 }
 
@@ -140,16 +155,16 @@ pub fn place(position: &Position, material: &Material) -> Placed
 {
     let _position = position.parts();
     let _key = material.key();
-    let own = men_on(position);
+    let (mut men, tally) = men_on(position);
     let before = side_number(position.side());
-    let exchange = is_exchanged(*material, own.as_slice(), before);
-    let men = in_colours(own, exchange);
-    let file = lead_file(*material, men.as_slice());
-    let side = side_after(before, exchange);
+    let exchanges = is_exchanged(*material, men.as_slice(), tally, before);
+    in_colours(&mut men, exchanges);
+    let lead = lead_square(*material, men.as_slice());
     Placed {
         material: *material,
         men,
-        side,
-        file,
+        side: side_after(before, exchanges),
+        lead,
+        file: left_file(lead),
     }
 }

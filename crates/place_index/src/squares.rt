@@ -2,36 +2,22 @@
 
 ghost use Rattle.std.specs.Prelude.{◌≡◌, ◌<◌, ◌≤◌, ◌+◌, length, slice_index, ℕ, true};
 ghost use Rattle.place_index.specs.Index.{AreMen};
-ghost use Rattle.place_index.specs.Men.{inserted, stands, squares_of};
-ghost use Rattle.place_index.specs.Pawns.{pawn_numbers_of, pawn_square};
+ghost use Rattle.place_index.specs.Men.{stands, squares_of};
+ghost use Rattle.place_index.specs.Pawns.{pawn_number, pawn_numbers_of, pawn_square};
 ghost use Rattle.place_index.specs.Turning.{turned_by};
 
+use crate::few::Few;
 use crate::man::Man;
 use crate::tables::{PAWN_NUMBERS, PAWN_SQUARES};
 use crate::turn::Turn;
-use arrayvec::ArrayVec;
-
-/// Puts a number into its place among falling ones.
-fn insert(numbers: &mut ArrayVec<u8, 5>, number: u8)
-    requires { length numbers.old.items < 5 }
-    ensures is { numbers.new.items ≡ inserted number numbers.old.items }
-    ensures len { length numbers.new.items ≡ length numbers.old.items + 1 }
-{
-    for at in 0..numbers.len() {
-        if numbers.as_slice()[at] < number {
-            numbers.insert(at, number);
-            return;
-        }
-    }
-    numbers.push(number);
-}
 
 /// The squares to which the men with this code go, the highest first.
-pub(crate) fn squares_of(men: &[Man], turn: Turn, code: u8) -> ArrayVec<u8, 5>
-    requires { AreMen men.now }
-    ensures { result.items ≡ squares_of (turned_by turn men.now) code }
+pub(crate) fn squares_of(men: &[Man], turn: Turn, code: u8) -> Few
+    requires men { AreMen men.now }
+    requires few { length (squares_of (turned_by turn men.now) code) ≤ 3 }
+    ensures { result ≡ squares_of (turned_by turn men.now) code }
 {
-    let mut squares = ArrayVec::<u8, 5>::new();
+    let mut squares = Few::new();
     let mut i = men.len();
     'men: while i > 0 {
         i -= 1;
@@ -40,18 +26,19 @@ pub(crate) fn squares_of(men: &[Man], turn: Turn, code: u8) -> ArrayVec<u8, 5>
             continue;
         }
         let square = turn.square(man.square);
-        insert(&mut squares, square);
+        squares.insert(square);
     }
     squares
 }
 
 /// The pawn numbers of the squares to which the men with this code go, the greatest first.
-pub(crate) fn pawn_numbers_of(men: &[Man], turn: Turn, code: u8) -> ArrayVec<u8, 5>
+pub(crate) fn pawn_numbers_of(men: &[Man], turn: Turn, code: u8) -> Few
     requires men { AreMen men.now }
+    requires few { length (pawn_numbers_of (turned_by turn men.now) code) ≤ 3 }
     requires pawns { (s : ℕ) → stands (turned_by turn men.now) code s ≡ true → (8 ≤ s) × (s < 56) }
-    ensures { result.items ≡ pawn_numbers_of (turned_by turn men.now) code }
+    ensures { result ≡ pawn_numbers_of (turned_by turn men.now) code }
 {
-    let mut numbers = ArrayVec::<u8, 5>::new();
+    let mut numbers = Few::new();
     let mut i = men.len();
     'men: while i > 0 {
         i -= 1;
@@ -60,10 +47,18 @@ pub(crate) fn pawn_numbers_of(men: &[Man], turn: Turn, code: u8) -> ArrayVec<u8,
             continue;
         }
         let square = turn.square(man.square);
-        let number = PAWN_NUMBERS[square as usize];
-        insert(&mut numbers, number);
+        let number = pawn_number(square);
+        numbers.insert(number);
     }
     numbers
+}
+
+/// The pawn number of a square.
+pub(crate) fn pawn_number(square: u8) -> u8
+    requires { square < 64 }
+    ensures { result ≡ pawn_number square }
+{
+    PAWN_NUMBERS[square as usize]
 }
 
 /// The square of a pawn number.

@@ -4,8 +4,9 @@ ghost use Rattle.std.specs.Prelude.{◌≡◌, ◌<◌, ◌≤◌, ◌↔◌, �
 ghost use Rattle.place_index.specs.Material.{tally_of};
 ghost use Rattle.place_index.specs.Men.{codes_of, exchanged, other_side};
 ghost use Rattle.place_index.specs.Placed.{IsNamed, code_of, men_on};
+ghost use Rattle.place_index.specs.Square.{bottom_top};
 
-use crate::man::{Man, Mirroring, opposite};
+use crate::man::Man;
 use crate::material::{Material, men as material_men};
 use crate::tables::CODE_TALLIES;
 use arrayvec::ArrayVec;
@@ -14,7 +15,8 @@ use board_core::{Kind, Piece, Position, Side, Square};
 /// The piece code of a man in the table file: 1 to 6 for white's pawn, knight, bishop, rook, queen and king, 9 to 14 for
 /// black's.
 fn code_of(piece: Piece) -> u8
-    ensures { result ≡ code_of piece }
+    ensures is { result ≡ code_of piece }
+    ensures most { result < 16 }
 {
     let code = match piece.kind {
         Kind::Pawn => 1u8,
@@ -30,13 +32,24 @@ fn code_of(piece: Piece) -> u8
     }
 }
 
-/// The men of a position in order of square.
-pub(crate) fn men_on(position: &Position) -> ArrayVec<Man, 5>
+/// What a man with this code adds to a tally.
+fn known_tally(code: u8) -> u64
+    requires { code < 16 }
+    ensures is { result ≡ tally_of (code ∷ []) }
+    ensures most { result ≤ 1152921504606846976 }
+{
+    CODE_TALLIES[code as usize]
+}
+
+/// The men of a position in order of square, with how often each code from 0 to 15 stands among them, four bits for each.
+pub(crate) fn men_on(position: &Position) -> (ArrayVec<Man, 5>, u64)
     requires { length (men_on position.now.men) ≤ 5 }
-    ensures { result.items ≡ men_on position.now.men }
+    ensures men { result.0.items ≡ men_on position.now.men }
+    ensures tally { result.1 ≡ tally_of (codes_of (men_on position.now.men)) }
 {
     let _position = position.parts();
     let mut men = ArrayVec::<Man, 5>::new();
+    let mut tally = 0u64;
     let mut rest = position.occupied();
     let mut next = 0u8;
     while !rest.is_empty() {
@@ -45,52 +58,43 @@ pub(crate) fn men_on(position: &Position) -> ArrayVec<Man, 5>
         if let Some(piece) = position.piece_at(square) {
             let code = code_of(piece);
             men.push(Man { code, square });
+            tally += known_tally(code);
         }
         rest = rest.without(square);
         next = number + 1;
     }
-    men
+    (men, tally)
 }
 
-/// The code of the same man of the other side.
-fn other_side(code: u8) -> u8
-    ensures { result ≡ other_side code }
+/// The same man of the other side, on the rank that lies opposite.
+fn exchanged(man: Man) -> Man
+    ensures code { result.code ≡ other_side man.code }
+    ensures square { result.square ≡ bottom_top man.square }
 {
-    if code / 8 % 2 == 0 {
-        code + 8
-    } else {
-        code - 8
+    let code = man.code ^ 8;
+    let square = Square::at(man.square.number() ^ 56);
+    Man { code, square }
+}
+
+/// Exchanges colours, and moves each man to the rank that lies opposite.
+pub(crate) fn exchange(men: &mut [Man])
+    ensures { men.new ≡ exchanged men.old }
+{
+    for man in men.iter_mut() {
+        *man = exchanged(*man);
     }
 }
 
-/// Colours exchanged, and each man moved to the rank that lies opposite.
-pub(crate) fn exchanged(men: &[Man]) -> ArrayVec<Man, 5>
-    requires { length men.now ≤ 5 }
-    ensures { result.items ≡ exchanged men.now }
-{
-    let mut exchanged = ArrayVec::<Man, 5>::new();
-    for man in men {
-        let code = other_side(man.code);
-        let square = opposite(Mirroring::BottomTop, man.square);
-        exchanged.push(Man { code, square });
-    }
-    exchanged
-}
-
-/// What a man with this code adds to a tally.
+/// What a man adds to a tally, nothing for a code from 16 on.
 fn code_tally(code: u8) -> u64
     ensures is { result ≡ tally_of (code ∷ []) }
     ensures most { result ≤ 1152921504606846976 }
 {
-    if code < 16 {
-        CODE_TALLIES[code as usize]
-    } else {
-        0
-    }
+    if code < 16 { known_tally(code) } else { 0 }
 }
 
 /// How often each code from 0 to 15 stands among the men, four bits for each.
-fn tally(men: &[Man]) -> u64
+pub(crate) fn tally(men: &[Man]) -> u64
     requires { length men.now ≤ 5 }
     ensures { result ≡ tally_of (codes_of men.now) }
 {
@@ -102,9 +106,10 @@ fn tally(men: &[Man]) -> u64
     sum
 }
 
-/// Whether the men are those of the table in its colours.
-pub(crate) fn is_named(material: Material, men: &[Man]) -> bool
-    requires { length men.now ≤ 5 }
+/// Whether the men, which have this tally, are those of the table in its colours.
+pub(crate) fn is_named(material: Material, men: &[Man], tally: u64) -> bool
+    requires few { length men.now ≤ 5 }
+    requires tally { tally ≡ tally_of (codes_of men.now) }
     ensures { IsTrue result ↔ IsNamed material men.now }
 {
     let number = material_men(material);
@@ -112,5 +117,5 @@ pub(crate) fn is_named(material: Material, men: &[Man]) -> bool
         return false;
     }
     let wanted = material.tally();
-    tally(men) == wanted
+    tally == wanted
 }

@@ -6,12 +6,12 @@ ghost use Rattle.place_index.specs.Men.{squares_of, square_of};
 ghost use Rattle.place_index.specs.Others.{free_set_number};
 ghost use Rattle.place_index.specs.Turning.{turn_square, turned_by};
 
+use crate::few::Earlier;
 use crate::group::Group;
 use crate::man::Man;
 use crate::numbers::{first_square, free_number, free_set_number};
 use crate::squares::squares_of;
 use crate::turn::Turn;
-use arrayvec::ArrayVec;
 use board_core::Square;
 
 /// The highest square of the men with each code, 0 where there are none.
@@ -47,66 +47,42 @@ pub(crate) fn top(tops: &[u8; 16], code: u8) -> Square
 }
 
 /// Adds these squares.
-fn append(earlier: &mut ArrayVec<u8, 5>, squares: &[u8])
-    requires { length earlier.old.items + length squares.now ≤ 5 }
-    ensures { earlier.new.items ≡ earlier.old.items ++ squares.now }
+fn append(earlier: &mut Earlier, squares: &[u8])
+    requires { length earlier.old + length squares.now ≤ 5 }
+    ensures { earlier.new ≡ earlier.old ++ squares.now }
 {
     for square in squares {
         earlier.push(*square);
     }
 }
 
-/// Adds the squares to which so many men with this code go, the highest first.
-pub(crate) fn add_squares(
-    earlier: &mut ArrayVec<u8, 5>,
-    men: &[Man],
-    tops: &[u8; 16],
-    turn: Turn,
-    group: Group,
-)
-    requires room { length earlier.old.items + length (squares_of (turned_by turn men.now) group.code) ≤ 5 }
-    requires men { AreMen men.now }
-    requires tops { AreTops men.now tops.now }
-    requires known { group.men ≡ 1 → group.code < 16 }
-    requires alone { group.men ≡ 1 → squares_of (turned_by turn men.now) group.code ≡ turn_square turn (square_of men.now group.code) ∷ [] }
-    ensures { earlier.new.items ≡ earlier.old.items ++ squares_of (turned_by turn men.now) group.code }
-{
-    if group.men != 1 {
-        let squares = squares_of(men, turn, group.code);
-        append(earlier, squares.as_slice());
-        return;
-    }
-    let from = top(tops, group.code);
-    let square = turn.square(from);
-    earlier.push(square);
-}
-
 /// The number of so many men with this code, after earlier men, among whom they are then.
 pub(crate) fn number_group(
-    earlier: &mut ArrayVec<u8, 5>,
+    earlier: &mut Earlier,
     men: &[Man],
     tops: &[u8; 16],
     turn: Turn,
     group: Group,
 ) -> u64
-    requires room { length earlier.old.items + length (squares_of (turned_by turn men.now) group.code) ≤ 5 }
+    requires room { length earlier.old + length (squares_of (turned_by turn men.now) group.code) ≤ 5 }
+    requires few { length (squares_of (turned_by turn men.now) group.code) ≤ 3 }
     requires men { AreMen men.now }
     requires tops { AreTops men.now tops.now }
     requires known { group.men ≡ 1 → group.code < 16 }
     requires alone { group.men ≡ 1 → squares_of (turned_by turn men.now) group.code ≡ turn_square turn (square_of men.now group.code) ∷ [] }
-    ensures number { result ≡ free_set_number (first_square group.code) earlier.old.items (squares_of (turned_by turn men.now) group.code) }
-    ensures earlier { earlier.new.items ≡ earlier.old.items ++ squares_of (turned_by turn men.now) group.code }
+    ensures number { result ≡ free_set_number (first_square group.code) earlier.old (squares_of (turned_by turn men.now) group.code) }
+    ensures earlier { earlier.new ≡ earlier.old ++ squares_of (turned_by turn men.now) group.code }
 {
     let first = first_square(group.code);
     if group.men != 1 {
         let squares = squares_of(men, turn, group.code);
-        let number = free_set_number(first, earlier.as_slice(), squares.as_slice());
+        let number = free_set_number(first, earlier, squares.as_slice());
         append(earlier, squares.as_slice());
         return number;
     }
     let from = top(tops, group.code);
     let square = turn.square(from);
-    let number = free_number(first, earlier.as_slice(), square);
+    let number = free_number(first, earlier, square);
     earlier.push(square);
     number
 }

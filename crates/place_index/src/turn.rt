@@ -1,10 +1,9 @@
 //! All mirrorings of a placement in one.
 
-ghost use Rattle.std.specs.Prelude.{◌≡◌, ◌<◌, false};
-ghost use Rattle.place_index.specs.Men.{opposite};
-ghost use Rattle.place_index.specs.Turning.{mirrored, turn_square};
+ghost use Rattle.std.specs.Prelude.{◌≡◌, ◌<◌, ◌≤◌, ◌+◌, ◌*◌, false};
+ghost use Rattle.place_index.specs.Turning.{turn_number, turn_square};
 
-use crate::man::{Mirroring, opposite};
+use crate::tables::TURNED;
 use board_core::Square;
 
 /// Which mirrorings all men go through, in this sequence.
@@ -18,17 +17,6 @@ pub(crate) struct Turn {
 
     /// Whether file and rank are exchanged.
     pub(crate) across: bool,
-}
-
-/// The square that lies opposite, if so.
-fn mirrored(mirrors: bool, mirroring: Mirroring, square: Square) -> Square
-    ensures { result ≡ mirrored mirrors (opposite mirroring) square }
-{
-    if mirrors {
-        opposite(mirroring, square)
-    } else {
-        square
-    }
 }
 
 impl Turn {
@@ -45,15 +33,25 @@ impl Turn {
         }
     }
 
+    /// The turn's number among the eight, by which the table of turned squares is read: 1 for files exchanged, 2 for ranks
+    /// exchanged and 4 for file and rank exchanged, added.
+    #[tactic(auto, unfolding(crate::specs::Turning::turn_number))]
+    fn number(self) -> usize
+        ensures is { result ≡ turn_number self }
+        ensures few { result ≤ 7 }
+    {
+        let left_right = self.left_right as usize;
+        let bottom_top = self.bottom_top as usize;
+        let across = self.across as usize;
+        left_right + 2 * bottom_top + 4 * across
+    }
+
     /// Where a man goes from this square.
-    #[tactic(auto, unfolding(crate::specs::Turning::turn_square))]
     pub(crate) fn square(self, square: Square) -> u8
         ensures is { result ≡ turn_square self square }
         ensures board { result < 64 }
     {
-        let left = mirrored(self.left_right, Mirroring::LeftRight, square);
-        let low = mirrored(self.bottom_top, Mirroring::BottomTop, left);
-        let turned = mirrored(self.across, Mirroring::Across, low);
-        turned.number()
+        let turn = self.number();
+        TURNED[64 * turn + square.number() as usize]
     }
 }

@@ -1,17 +1,43 @@
 //! The turning of all men, so that the leading group stands as its number wants.
 
 ghost use Rattle.std.specs.Prelude.{◌≡◌, ◌<◌, ◌≤◌, ℕ, length, map, not, nat_lt, slice_index, true};
-ghost use Rattle.place_index.specs.Index.{AreTops, IsPlacement, IsShape, lead_codes};
+ghost use Rattle.place_index.specs.Index.{AreMen, AreTops, IsPlacement, IsShape, lead_codes};
+ghost use Rattle.place_index.specs.Men.{stands};
+ghost use Rattle.place_index.specs.Pawns.{pawn_numbers_of};
 ghost use Rattle.place_index.specs.Shape.{has_pawns};
 ghost use Rattle.place_index.specs.Square.{file, rank};
 ghost use Rattle.place_index.specs.Turning.{lead_pawn, turned, turned_by, turn_square, low, is_first_above};
 
 use crate::man::Man;
 use crate::material::{Material, leading_men, leading_pawn};
+use crate::placed::Placed;
 use crate::shape::Shape;
-use crate::squares::{pawn_numbers_of, pawn_square};
+use crate::squares::pawn_square;
+use crate::tables::PAWN_NUMBERS;
 use crate::tops::top;
 use crate::turn::Turn;
+
+/// The greatest pawn number of the men with this code.
+fn greatest_number(men: &[Man], code: u8) -> u8
+    requires men { AreMen men.now }
+    requires pawns { (s : ℕ) → stands men.now code s ≡ true → (8 ≤ s) × (s < 56) }
+    ensures { result ≡ slice_index (pawn_numbers_of men.now code) 0 }
+{
+    let mut greatest = 0u8;
+    let mut i = men.len();
+    'men: while i > 0 {
+        i -= 1;
+        let man = men[i];
+        if man.code != code {
+            continue;
+        }
+        let number = PAWN_NUMBERS[man.square.number() as usize];
+        if number > greatest {
+            greatest = number;
+        }
+    }
+    greatest
+}
 
 /// The square of the leading pawn: of the leading colour's pawns the one with the greatest pawn number.
 pub(crate) fn lead_pawn(material: Material, men: &[Man]) -> u8
@@ -22,9 +48,7 @@ pub(crate) fn lead_pawn(material: Material, men: &[Man]) -> u8
     ensures board { result < 64 }
 {
     let code = leading_pawn(material);
-    let still = Turn::still();
-    let numbers = pawn_numbers_of(men, still, code);
-    let greatest = numbers.as_slice()[0];
+    let greatest = greatest_number(men, code);
     pawn_square(greatest)
 }
 
@@ -79,15 +103,16 @@ fn turn_of_pieces(tops: &[u8; 16], lead: &[u8]) -> Turn
 }
 
 /// How all men are turned for the shape's index: with pawns left and right alone, by the leading pawn.
-pub(crate) fn turn_of(shape: &Shape, men: &[Man], tops: &[u8; 16]) -> Turn
-    requires men { IsPlacement shape.now.material men.now }
-    requires tops { AreTops men.now tops.now }
-    ensures is { turned_by result men.now ≡ turned shape.now men.now }
+pub(crate) fn turn_of(shape: &Shape, placed: &Placed, tops: &[u8; 16]) -> Turn
+    requires material { placed.now.material ≡ shape.now.material }
+    requires tops { AreTops placed.now.men tops.now }
+    ensures is { turned_by result placed.now.men ≡ turned shape.now placed.now.men }
     ensures shape { IsShape shape.now }
 {
     let material = shape.material();
+    let _men = placed.men();
     if material.has_pawns() {
-        let lead = lead_pawn(material, men);
+        let lead = placed.lead_pawn();
         return Turn {
             left_right: lead % 8 >= 4,
             bottom_top: false,

@@ -1,52 +1,44 @@
-use Rattle.std.proofs.Common.{◌≡◌, ◌∙◌, ap, sym, subst, length, arith}
-use Rattle.place_index.specs.Index.{AreMen, IsPlacement, IsLeadTurned, numbers_of, sum_of_products}
+use Rattle.std.proofs.Common.{◌≡◌, ◌∙◌, ap, sym, subst, arith}
+use Rattle.place_index.specs.Index.{AreMen, AreTops, IsPlacement, IsLeadTurned, numbers_of, sum_of_products}
+use Rattle.place_index.specs.Shape.{factors_of}
 use Rattle.place_index.specs.Turning.{turned, turned_by, lead_file}
 use Rattle.place_index.proofs.Greatest.{size_is_within}
-use Rattle.place_index.proofs.IndexLaw.{index_below, turned_placement, index_products, products_length}
+use Rattle.place_index.proofs.IndexLaw.{index_below, turned_placement, index_products}
 use Rattle.place_index.proofs.TurnedMen.{are_men, lead_is_turned}
 use Rattle.place_index.proofs.indexing.index.Goals as goal
 
 pub tops-tops-requires : goal.tops-tops-requires
 tops-tops-requires c = subst AreMen (sym c.men-men.ensures.is) (are_men c.args.placed.now.material c.args.placed.now.men c.men-men.ensures.known c.men-men.ensures.placement)
 
-pub turn_of-turn-requires-clause-men : goal.turn_of-turn-requires-clause-men
-turn_of-turn-requires-clause-men c =
+pub turn_of-turn-requires-clause-tops : goal.turn_of-turn-requires-clause-tops
+turn_of-turn-requires-clause-tops c = subst (λ men. AreTops men c.tops-tops.result) c.men-men.ensures.is c.tops-tops.ensures
+
+pub sum_of_groups-requires-clause-men : goal.sum_of_groups-requires-clause-men
+sum_of_groups-requires-clause-men c =
     let placed : IsPlacement c.args.shape.now.material c.args.placed.now.men = subst (λ k. IsPlacement k c.args.placed.now.men) c.requires.material c.men-men.ensures.placement in
     subst (IsPlacement c.args.shape.now.material) (sym c.men-men.ensures.is) placed
 
-pub numbers-numbers-requires-clause-men : goal.numbers-numbers-requires-clause-men
-numbers-numbers-requires-clause-men c =
-    let placed : IsPlacement c.args.shape.now.material c.args.placed.now.men = subst (λ k. IsPlacement k c.args.placed.now.men) c.requires.material c.men-men.ensures.placement in
-    subst (IsPlacement c.args.shape.now.material) (sym c.men-men.ensures.is) placed
-
-pub numbers-numbers-requires-clause-turned : goal.numbers-numbers-requires-clause-turned
-numbers-numbers-requires-clause-turned c =
+pub sum_of_groups-requires-clause-turned : goal.sum_of_groups-requires-clause-turned
+sum_of_groups-requires-clause-turned c =
     let placed : IsPlacement c.args.shape.now.material c.args.placed.now.men = subst (λ k. IsPlacement k c.args.placed.now.men) c.requires.material c.men-men.ensures.placement in
     let file : lead_file c.args.shape.now.material c.args.placed.now.men ≡ c.args.shape.now.file = ap (λ k. lead_file k c.args.placed.now.men) (sym c.requires.material) ∙ c.men-men.ensures.file ∙ c.requires.file in
-    let is : turned_by c.turn_of-turn.result c.men-men.result.now ≡ turned c.args.shape.now c.args.placed.now.men = c.turn_of-turn.ensures.is ∙ ap (turned c.args.shape.now) c.men-men.ensures.is in
+    let is : turned_by c.turn_of-turn.result c.men-men.result.now ≡ turned c.args.shape.now c.args.placed.now.men = ap (turned_by c.turn_of-turn.result) c.men-men.ensures.is ∙ c.turn_of-turn.ensures.is in
     subst (IsPlacement c.args.shape.now.material) (sym is) (turned_placement c.args.shape.now c.args.placed.now.men c.turn_of-turn.ensures.shape placed file)
 
-pub numbers-numbers-requires-clause-lead : goal.numbers-numbers-requires-clause-lead
-numbers-numbers-requires-clause-lead c =
+pub sum_of_groups-requires-clause-lead : goal.sum_of_groups-requires-clause-lead
+sum_of_groups-requires-clause-lead c =
     let placed : IsPlacement c.args.shape.now.material c.args.placed.now.men = subst (λ k. IsPlacement k c.args.placed.now.men) c.requires.material c.men-men.ensures.placement in
     let file : lead_file c.args.shape.now.material c.args.placed.now.men ≡ c.args.shape.now.file = ap (λ k. lead_file k c.args.placed.now.men) (sym c.requires.material) ∙ c.men-men.ensures.file ∙ c.requires.file in
-    let is : turned_by c.turn_of-turn.result c.men-men.result.now ≡ turned c.args.shape.now c.args.placed.now.men = c.turn_of-turn.ensures.is ∙ ap (turned c.args.shape.now) c.men-men.ensures.is in
+    let is : turned_by c.turn_of-turn.result c.men-men.result.now ≡ turned c.args.shape.now c.args.placed.now.men = ap (turned_by c.turn_of-turn.result) c.men-men.ensures.is ∙ c.turn_of-turn.ensures.is in
     subst (IsLeadTurned c.args.shape.now) (sym is) (lead_is_turned c.args.shape.now c.args.placed.now.men c.turn_of-turn.ensures.shape placed file)
 
-pub sum_of_products-requires-clause-groups : goal.sum_of_products-requires-clause-groups
-sum_of_products-requires-clause-groups c =
-    ap length (c.as_slice.ensures.value ∙ c.numbers-numbers.ensures)
-    ∙ products_length c.args.shape.now (turned_by c.turn_of-turn.result c.men-men.result.now) c.turn_of-turn.ensures.shape ∙ sym (ap length c.factors-factors.ensures)
-
-pub sum_of_products-requires-clause-fits : goal.sum_of_products-requires-clause-fits
-sum_of_products-requires-clause-fits c =
+pub sum_of_groups-requires-clause-fits : goal.sum_of_groups-requires-clause-fits
+sum_of_groups-requires-clause-fits c =
     let placed : IsPlacement c.args.shape.now.material c.args.placed.now.men = subst (λ k. IsPlacement k c.args.placed.now.men) c.requires.material c.men-men.ensures.placement in
     let file : lead_file c.args.shape.now.material c.args.placed.now.men ≡ c.args.shape.now.file = ap (λ k. lead_file k c.args.placed.now.men) (sym c.requires.material) ∙ c.men-men.ensures.file ∙ c.requires.file in
-    let numbers = c.as_slice.ensures.value ∙ c.numbers-numbers.ensures ∙ ap (numbers_of c.args.shape.now) (c.turn_of-turn.ensures.is ∙ ap (turned c.args.shape.now) c.men-men.ensures.is) in
     omega (
       arith,
-      ap (λ l. sum_of_products l c.factors-factors.result.now) numbers,
-      ap (sum_of_products (numbers_of c.args.shape.now (turned c.args.shape.now c.args.placed.now.men))) c.factors-factors.ensures,
+      ap (λ men. sum_of_products (numbers_of c.args.shape.now men) (factors_of c.args.shape.now)) (ap (turned_by c.turn_of-turn.result) c.men-men.ensures.is ∙ c.turn_of-turn.ensures.is),
       index_products c.args.shape.now c.args.placed.now.men,
       index_below c.args.shape.now c.args.placed.now.men c.turn_of-turn.ensures.shape placed file,
       size_is_within c.args.shape.now.material c.args.shape.now.pieces c.args.shape.now.order c.args.shape.now.second c.args.shape.now.file c.turn_of-turn.ensures.shape.material c.turn_of-turn.ensures.shape.file
@@ -55,21 +47,18 @@ sum_of_products-requires-clause-fits c =
 
 pub returns-clause-is : goal.returns-clause-is
 returns-clause-is c =
-    let numbers = c.as_slice.ensures.value ∙ c.numbers-numbers.ensures ∙ ap (numbers_of c.args.shape.now) (c.turn_of-turn.ensures.is ∙ ap (turned c.args.shape.now) c.men-men.ensures.is) in
-    c.sum_of_products.ensures ∙ ap (λ l. sum_of_products l c.factors-factors.result.now) numbers
-    ∙ ap (sum_of_products (numbers_of c.args.shape.now (turned c.args.shape.now c.args.placed.now.men))) c.factors-factors.ensures
+    c.sum_of_groups.ensures
+    ∙ ap (λ men. sum_of_products (numbers_of c.args.shape.now men) (factors_of c.args.shape.now)) (ap (turned_by c.turn_of-turn.result) c.men-men.ensures.is ∙ c.turn_of-turn.ensures.is)
     ∙ index_products c.args.shape.now c.args.placed.now.men
 
 pub returns-clause-below : goal.returns-clause-below
 returns-clause-below c =
     let placed : IsPlacement c.args.shape.now.material c.args.placed.now.men = subst (λ k. IsPlacement k c.args.placed.now.men) c.requires.material c.men-men.ensures.placement in
     let file : lead_file c.args.shape.now.material c.args.placed.now.men ≡ c.args.shape.now.file = ap (λ k. lead_file k c.args.placed.now.men) (sym c.requires.material) ∙ c.men-men.ensures.file ∙ c.requires.file in
-    let numbers = c.as_slice.ensures.value ∙ c.numbers-numbers.ensures ∙ ap (numbers_of c.args.shape.now) (c.turn_of-turn.ensures.is ∙ ap (turned c.args.shape.now) c.men-men.ensures.is) in
     omega (
       arith,
-      c.sum_of_products.ensures,
-      ap (λ l. sum_of_products l c.factors-factors.result.now) numbers,
-      ap (sum_of_products (numbers_of c.args.shape.now (turned c.args.shape.now c.args.placed.now.men))) c.factors-factors.ensures,
+      c.sum_of_groups.ensures,
+      ap (λ men. sum_of_products (numbers_of c.args.shape.now men) (factors_of c.args.shape.now)) (ap (turned_by c.turn_of-turn.result) c.men-men.ensures.is ∙ c.turn_of-turn.ensures.is),
       index_products c.args.shape.now c.args.placed.now.men,
       index_below c.args.shape.now c.args.placed.now.men c.turn_of-turn.ensures.shape placed file,
     )

@@ -2,15 +2,13 @@ use Rattle.std.proofs.Common.{◌∙◌, sym, ap, length, drop, arith}
 use Rattle.place_index.specs.Men.{man, inserted}
 use Rattle.place_index.specs.Pawns.{pawn_number, pawn_numbers_of}
 use Rattle.place_index.specs.Turning.{turn_square, turned_by}
-use Rattle.place_index.proofs.Collecting.{numbers_end, numbers_pass, numbers_take}
-use Rattle.place_index.proofs.IndexTables.{number_table}
+use Rattle.place_index.proofs.Collecting.{numbers_end, numbers_pass, numbers_take, numbers_room}
 use Rattle.place_index.proofs.Turns.{turned_men, turned_at, turned_within, turned_length}
 use Rattle.place_index.proofs.squares.pawn_numbers_of.Goals as goal
 
 pub men-init : goal.men-init
 men-init c = record {
   is = c.new-numbers.ensures ∙ sym (numbers_end (turned_by c.args.turn c.args.men.now) c.args.code) ∙ ap (λ n. pawn_numbers_of (drop n (turned_by c.args.turn c.args.men.now)) c.args.code) (turned_length c.args.turn c.args.men.now);
-  len = omega (arith, ap length c.new-numbers.ensures);
   within = omega arith;
 }
 
@@ -19,17 +17,25 @@ men-preserved-then-man-code c = record {
   is = c.men.invariant.is
       ∙ numbers_pass (turned_by c.args.turn c.args.men.now) c.men.i c.args.code (man c.index-men-i.result.code (turn_square c.args.turn c.index-men-i.result.square)) c.men-test.true
       (turned_within c.args.turn c.args.men.now c.men.i c.men.invariant.within) (turned_at c.args.turn c.args.men.now c.men.i c.index-men-i.result c.men-test.true c.men.invariant.within c.index-men-i.is) c.if-man-code.true;
-  len = omega (arith, c.men.invariant.len);
   within = omega (arith, c.men.invariant.within);
 }
 
 pub men-preserved : goal.men-preserved
 men-preserved c = record {
-  is = c.insert.ensures.is
-      ∙ ap (λ n. inserted n c.men.numbers.items) (number_table c.square-square.result c.square-square.ensures.board ∙ ap pawn_number c.square-square.ensures.is)
+  is = c.insert.ensures
+      ∙ ap (λ n. inserted n c.men.numbers) (c.pawn_number-number.ensures ∙ ap pawn_number c.square-square.ensures.is)
       ∙ ap (inserted (pawn_number (turn_square c.args.turn c.index-men-i.result.square))) c.men.invariant.is
       ∙ numbers_take (turned_by c.args.turn c.args.men.now) c.men.i c.args.code (man c.index-men-i.result.code (turn_square c.args.turn c.index-men-i.result.square)) (turned_men c.args.turn c.args.men.now c.requires.men) c.requires.pawns c.men-test.true
       (turned_within c.args.turn c.args.men.now c.men.i c.men.invariant.within) (turned_at c.args.turn c.args.men.now c.men.i c.index-men-i.result c.men-test.true c.men.invariant.within c.index-men-i.is) c.if-man-code.false;
-  len = omega (arith, c.men.invariant.len, c.insert.ensures.len, c.men-test.true);
   within = omega (arith, c.men.invariant.within);
 }
+
+pub insert-requires : goal.insert-requires
+insert-requires c =
+    omega (
+      arith,
+      c.requires.few,
+      ap length c.men.invariant.is,
+      numbers_room (turned_by c.args.turn c.args.men.now) c.men.i c.args.code (man c.index-men-i.result.code (turn_square c.args.turn c.index-men-i.result.square)) (turned_men c.args.turn c.args.men.now c.requires.men) c.requires.pawns c.men-test.true
+          (turned_within c.args.turn c.args.men.now c.men.i c.men.invariant.within) (turned_at c.args.turn c.args.men.now c.men.i c.index-men-i.result c.men-test.true c.men.invariant.within c.index-men-i.is) c.if-man-code.false,
+    )

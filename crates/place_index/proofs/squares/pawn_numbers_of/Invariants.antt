@@ -1,12 +1,11 @@
-use Rattle.std.proofs.Common.{◌≡◌, ◌≤◌, ◌+◌, length, drop}
+use Rattle.std.proofs.Common.{◌≡◌, ◌≤◌, length, drop}
 use Rattle.place_index.specs.Pawns.{pawn_numbers_of}
 use Rattle.place_index.specs.Turning.{turned_by}
 use Rattle.place_index.proofs.squares.pawn_numbers_of.Given as goal
 
 abbrev pub invariant-men : goal.invariant-men
 invariant-men l = record {
-  is : l.numbers.items ≡ pawn_numbers_of (drop l.i (turned_by l.turn l.men)) l.code;
-  len : length l.numbers.items + l.i ≤ length l.men;
+  is : l.numbers ≡ pawn_numbers_of (drop l.i (turned_by l.turn l.men)) l.code;
   within : l.i ≤ length l.men;
 }
 

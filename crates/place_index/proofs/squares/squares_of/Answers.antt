@@ -1,14 +1,13 @@
 use Rattle.std.proofs.Common.{◌∙◌, sym, ap, length, drop, arith}
 use Rattle.place_index.specs.Men.{man, inserted, squares_of}
 use Rattle.place_index.specs.Turning.{turn_square, turned_by}
-use Rattle.place_index.proofs.Collecting.{squares_end, squares_pass, squares_take}
+use Rattle.place_index.proofs.Collecting.{squares_end, squares_pass, squares_take, squares_room}
 use Rattle.place_index.proofs.Turns.{turned_men, turned_at, turned_within, turned_length}
 use Rattle.place_index.proofs.squares.squares_of.Goals as goal
 
 pub men-init : goal.men-init
 men-init c = record {
   is = c.new-squares.ensures ∙ sym (squares_end (turned_by c.args.turn c.args.men.now) c.args.code) ∙ ap (λ n. squares_of (drop n (turned_by c.args.turn c.args.men.now)) c.args.code) (turned_length c.args.turn c.args.men.now);
-  len = omega (arith, ap length c.new-squares.ensures);
   within = omega arith;
 }
 
@@ -17,15 +16,23 @@ men-preserved-then-man-code c = record {
   is = c.men.invariant.is
       ∙ squares_pass (turned_by c.args.turn c.args.men.now) c.men.i c.args.code (man c.index-men-i.result.code (turn_square c.args.turn c.index-men-i.result.square)) c.men-test.true
       (turned_within c.args.turn c.args.men.now c.men.i c.men.invariant.within) (turned_at c.args.turn c.args.men.now c.men.i c.index-men-i.result c.men-test.true c.men.invariant.within c.index-men-i.is) c.if-man-code.true;
-  len = omega (arith, c.men.invariant.len);
   within = omega (arith, c.men.invariant.within);
 }
 
 pub men-preserved : goal.men-preserved
 men-preserved c = record {
-  is = c.insert.ensures.is ∙ ap (λ n. inserted n c.men.squares.items) c.square-square.ensures.is ∙ ap (inserted (turn_square c.args.turn c.index-men-i.result.square)) c.men.invariant.is
-      ∙ squares_take (turned_by c.args.turn c.args.men.now) c.men.i c.args.code (man c.index-men-i.result.code (turn_square c.args.turn c.index-men-i.result.square)) (turned_men c.args.turn c.args.men.now c.requires) c.men-test.true
+  is = c.insert.ensures ∙ ap (λ n. inserted n c.men.squares) c.square-square.ensures.is ∙ ap (inserted (turn_square c.args.turn c.index-men-i.result.square)) c.men.invariant.is
+      ∙ squares_take (turned_by c.args.turn c.args.men.now) c.men.i c.args.code (man c.index-men-i.result.code (turn_square c.args.turn c.index-men-i.result.square)) (turned_men c.args.turn c.args.men.now c.requires.men) c.men-test.true
       (turned_within c.args.turn c.args.men.now c.men.i c.men.invariant.within) (turned_at c.args.turn c.args.men.now c.men.i c.index-men-i.result c.men-test.true c.men.invariant.within c.index-men-i.is) c.if-man-code.false;
-  len = omega (arith, c.men.invariant.len, c.insert.ensures.len, c.men-test.true);
   within = omega (arith, c.men.invariant.within);
 }
+
+pub insert-requires : goal.insert-requires
+insert-requires c =
+    omega (
+      arith,
+      c.requires.few,
+      ap length c.men.invariant.is,
+      squares_room (turned_by c.args.turn c.args.men.now) c.men.i c.args.code (man c.index-men-i.result.code (turn_square c.args.turn c.index-men-i.result.square)) (turned_men c.args.turn c.args.men.now c.requires.men) c.men-test.true
+          (turned_within c.args.turn c.args.men.now c.men.i c.men.invariant.within) (turned_at c.args.turn c.args.men.now c.men.i c.index-men-i.result c.men-test.true c.men.invariant.within c.index-men-i.is) c.if-man-code.false,
+    )

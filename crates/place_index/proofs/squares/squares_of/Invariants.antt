@@ -1,12 +1,11 @@
-use Rattle.std.proofs.Common.{◌≡◌, ◌≤◌, ◌+◌, length, drop}
+use Rattle.std.proofs.Common.{◌≡◌, ◌≤◌, length, drop}
 use Rattle.place_index.specs.Men.{squares_of}
 use Rattle.place_index.specs.Turning.{turned_by}
 use Rattle.place_index.proofs.squares.squares_of.Given as goal
 
 abbrev pub invariant-men : goal.invariant-men
 invariant-men l = record {
-  is : l.squares.items ≡ squares_of (drop l.i (turned_by l.turn l.men)) l.code;
-  len : length l.squares.items + l.i ≤ length l.men;
+  is : l.squares ≡ squares_of (drop l.i (turned_by l.turn l.men)) l.code;
   within : l.i ≤ length l.men;
 }
 

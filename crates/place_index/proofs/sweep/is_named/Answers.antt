@@ -17,6 +17,6 @@ pub returns : goal.returns
 returns c =
     let len : length (codes_of c.args.men.now) ≡ length (pieces_of c.args.material) =
     omega (arith, length-map c.args.men.now (λ m. m.code), c.if-men-number.false, c.men-number.ensures.is) in (
-      λ t. tallied c.args.material (codes_of c.args.men.now) c.men-number.ensures.known len (sym c.tally.ensures ∙ eqb-true _ _ t ∙ c.tally-wanted.ensures),
-      λ p. eq-eqb _ _ (c.tally.ensures ∙ same_tally (codes_of c.args.men.now) (pieces_of c.args.material) p ∙ sym c.tally-wanted.ensures),
+      λ t. tallied c.args.material (codes_of c.args.men.now) c.men-number.ensures.known len (sym c.requires.tally ∙ eqb-true _ _ t ∙ c.tally-wanted.ensures),
+      λ p. eq-eqb _ _ (c.requires.tally ∙ same_tally (codes_of c.args.men.now) (pieces_of c.args.material) p ∙ sym c.tally-wanted.ensures),
     )

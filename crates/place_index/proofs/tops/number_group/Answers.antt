@@ -8,7 +8,7 @@ use Rattle.place_index.proofs.tops.number_group.Goals as goal
 
 pub free_set_number-number-requires-clause-board : goal.free_set_number-number-requires-clause-board
 free_set_number-number-requires-clause-board c =
-    subst (λ xs. (k : ℕ) → k < length xs → slice_index xs k ≤ 64) (sym (c.as_slice-then-group-ne1.ensures.value ∙ c.squares_of-squares.ensures))
+    subst (λ xs. (k : ℕ) → k < length xs → slice_index xs k ≤ 64) (sym (c.as_slice.ensures ∙ c.squares_of-squares.ensures))
     (λ k lt. turned_on_board c.args.turn c.args.men.now c.args.group.code k lt)
 
 pub returns-clause-number : goal.returns-clause-number
@@ -16,8 +16,7 @@ returns-clause-number c =
     let one = c.if-group-ne1.false in
     let square : c.square-square.result ≡ turn_square c.args.turn (square_of c.args.men.now c.args.group.code) = c.square-square.ensures.is ∙ ap (turn_square c.args.turn) (c.top-from.ensures ∙ c.requires.tops.is c.args.group.code (c.requires.known one)) in
     c.free_number-number.ensures.is
-    ∙ ap (λ f. free_number f c.as_slice-2.result.now c.square-square.result) c.first_square-first.ensures
-    ∙ ap (λ e. free_number (first_square c.args.group.code) e c.square-square.result) c.as_slice-2.ensures.value
-    ∙ sym (free_alone (first_square c.args.group.code) c.args.earlier.now.items c.square-square.result)
-    ∙ ap (λ s. free_set_number (first_square c.args.group.code) c.args.earlier.now.items (s ∷ [])) square
-    ∙ ap (free_set_number (first_square c.args.group.code) c.args.earlier.now.items) (sym (c.requires.alone one))
+    ∙ ap (λ f. free_number f c.args.earlier.now c.square-square.result) c.first_square-first.ensures
+    ∙ sym (free_alone (first_square c.args.group.code) c.args.earlier.now c.square-square.result)
+    ∙ ap (λ s. free_set_number (first_square c.args.group.code) c.args.earlier.now (s ∷ [])) square
+    ∙ ap (free_set_number (first_square c.args.group.code) c.args.earlier.now) (sym (c.requires.alone one))

@@ -4,7 +4,7 @@ use Rattle.std.proofs.lemmas.Bool.{false≢true}
 use Rattle.place_index.specs.Shape.{has_pawns}
 use Rattle.place_index.specs.Square.{file, rank}
 use Rattle.place_index.specs.Turning.{lead_pawn, low, turn_square, is_first_above}
-use Rattle.place_index.specs.Index.{lead_codes}
+use Rattle.place_index.specs.Index.{IsPlacement, lead_codes}
 use Rattle.place_index.proofs.TurnedMen.{pawned_of, plain_of}
 use Rattle.place_index.proofs.Turns.{pawns_turned, pieces_turned, lead_once, lead_some, all_small, at_least_four}
 use Rattle.place_index.proofs.turning.turn_of.Goals as goal
@@ -12,7 +12,9 @@ use Rattle.place_index.proofs.turning.turn_of.Goals as goal
 pub returns-then-has_pawns-clause-is : goal.returns-then-has_pawns-clause-is
 returns-then-has_pawns-clause-is c =
     let pawned : has_pawns c.args.shape.now.material ≡ true = subst (λ k. has_pawns k ≡ true) c.material-material.ensures.is (pawned_of c.material-material.result (c.has_pawns.ensures.0 c.if-has_pawns.true)) in
-    pawns_turned c.args.shape.now c.args.men.now c.lead_pawn-lead.result _ pawned (c.lead_pawn-lead.ensures.is ∙ ap (λ k. lead_pawn k c.args.men.now) c.material-material.ensures.is) (at_least_four (c.lead_pawn-lead.result % 8))
+    let lead : c.lead_pawn-lead.result ≡ lead_pawn c.args.shape.now.material c.args.placed.now.men =
+    c.lead_pawn-lead.ensures (subst (λ k. has_pawns k ≡ true) (sym c.requires.material) pawned) ∙ ap (λ k. lead_pawn k c.args.placed.now.men) c.requires.material in
+    pawns_turned c.args.shape.now c.args.placed.now.men c.lead_pawn-lead.result _ pawned lead (at_least_four (c.lead_pawn-lead.result % 8))
 
 pub turn_of_pieces-requires-clause-some : goal.turn_of_pieces-requires-clause-some
 turn_of_pieces-requires-clause-some c =
@@ -29,10 +31,11 @@ turn_of_pieces-requires-clause-codes c i lt =
 
 pub returns-clause-is : goal.returns-clause-is
 returns-clause-is c =
+    let placed : IsPlacement c.args.shape.now.material c.args.placed.now.men = subst (λ k. IsPlacement k c.args.placed.now.men) c.requires.material c.men-men.ensures.placement in
     let plain : has_pawns c.args.shape.now.material ≡ false =
     subst (λ k. has_pawns k ≡ false) c.material-material.ensures.is (plain_of c.material-material.result (λ some. false≢true (sym c.if-has_pawns.false ∙ c.has_pawns.ensures.1 some))) in
     let codes = c.lead_codes-lead.ensures in
-    pieces_turned c.args.shape.now c.args.men.now c.args.tops.now c.turn_of_pieces.result c.material-material.ensures.shape c.requires.men c.requires.tops plain
+    pieces_turned c.args.shape.now c.args.placed.now.men c.args.tops.now c.turn_of_pieces.result c.material-material.ensures.shape placed c.requires.tops plain
     (c.turn_of_pieces.ensures.left_right ∙ ap (λ xs. not (nat_lt (file (slice_index c.args.tops.now (slice_index xs 0))) 4)) codes)
     (c.turn_of_pieces.ensures.bottom_top ∙ ap (λ xs. not (nat_lt (rank (slice_index c.args.tops.now (slice_index xs 0))) 4)) codes)
     (c.turn_of_pieces.ensures.across ∙ ap (λ xs. is_first_above (map (λ k. turn_square (low c.turn_of_pieces.result) (slice_index c.args.tops.now k)) xs)) codes)

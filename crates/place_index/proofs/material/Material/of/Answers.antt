@@ -19,19 +19,19 @@ returns-then-weight-ge2233-clause-none c key lt is =
       arith,
       c.if-weight-ge2233.true,
       c.weight-weight.ensures,
-      ap (λ m. weight_of (codes_of m)) (c.as_slice.ensures.value ∙ c.men_on-men.ensures),
+      ap (λ m. weight_of (codes_of m)) (c.as_slice.ensures.value ∙ c.men_on-men.ensures.men),
       found_few key (men_on c.args.position.now.men) lt is,
     )
 
 pub returns-in_default-clause-none : goal.returns-in_default-clause-none
 returns-in_default-clause-none c key lt is =
-    let men = ap (λ m. key_by_weight (weight_of (codes_of m))) (c.as_slice.ensures.value ∙ c.men_on-men.ensures) in
+    let men = ap (λ m. key_by_weight (weight_of (codes_of m))) (c.as_slice.ensures.value ∙ c.men_on-men.ensures.men) in
     omega (arith, lt, c.key_by_weight-key.ensures, ap key_by_weight c.weight-weight.ensures, men, found_key key (men_on c.args.position.now.men) lt is, c.in_default.ensures.none)
 
 pub returns-else-is_material_of-clause-none : goal.returns-else-is_material_of-clause-none
 returns-else-is_material_of-clause-none c key lt is =
-    let men = ap (λ m. key_by_weight (weight_of (codes_of m))) (c.as_slice.ensures.value ∙ c.men_on-men.ensures) in
+    let men = ap (λ m. key_by_weight (weight_of (codes_of m))) (c.as_slice.ensures.value ∙ c.men_on-men.ensures.men) in
     let found : c.in-Some.material ≡ key =
     c.in-Some.ensures.is ∙ c.key_by_weight-key.ensures ∙ ap key_by_weight c.weight-weight.ensures ∙ men ∙ found_key key (men_on c.args.position.now.men) lt is in
-    let same : c.as_slice-2.result.now ≡ men_on c.args.position.now.men = c.as_slice-2.ensures.value ∙ c.men_on-men.ensures in
-    false≢true (sym c.if-is_material_of.false ∙ c.is_material_of.ensures.1 (subst (λ k. IsMaterialOf k c.as_slice-2.result.now) (sym found) (subst (IsMaterialOf key) (sym same) is)))
+    let same : c.as_mut_slice.result.now ≡ men_on c.args.position.now.men = c.as_mut_slice.ensures.value ∙ c.men_on-men.ensures.men in
+    false≢true (sym c.if-is_material_of.false ∙ c.is_material_of.ensures.1 (subst (λ k. IsMaterialOf k c.as_mut_slice.result.now) (sym found) (subst (IsMaterialOf key) (sym same) is)))

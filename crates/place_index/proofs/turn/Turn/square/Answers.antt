@@ -1,0 +1,13 @@
+use Rattle.std.proofs.Common.{◌∙◌, ◌+◌, ◌*◌, ap, slice_index, arith}
+use Rattle.place_index.specs.declared.tables.TheConstants.{TURNED}
+use Rattle.place_index.proofs.TurnTable.{turned_table, turned_small}
+use Rattle.place_index.proofs.turn.Turn.square.Goals as goal
+
+pub returns-clause-is : goal.returns-clause-is
+returns-clause-is c =
+    ap (λ s. slice_index TURNED (64 * c.number-turn.result + s)) c.number.ensures.value
+    ∙ ap (λ n. slice_index TURNED (64 * n + c.args.square)) c.number-turn.ensures.is
+    ∙ turned_table c.args.self c.args.square (omega (arith, c.number.ensures.value, c.number.ensures.on_board))
+
+pub returns-clause-board : goal.returns-clause-board
+returns-clause-board c = turned_small (64 * c.number-turn.result + c.number.result) (omega (arith, c.number-turn.ensures.few, c.number.ensures.on_board))
