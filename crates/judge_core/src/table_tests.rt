@@ -78,7 +78,7 @@ const OUTCOMES: [Outcome; 4] = [
 ];
 
 /// The front of a file, with zeros up to a length.
-pub(crate) fn padded(alloc: Global, front: &[u8], length: usize) -> Result<Vec<u8>, AllocError> {
+fn padded(alloc: Global, front: &[u8], length: usize) -> Result<Vec<u8>, AllocError> {
     let mut bytes = Vec::new(alloc);
     bytes.extend_from_slice(front)?;
     bytes.resize(length, 0)?;
@@ -100,7 +100,7 @@ fn push_ones(bytes: &mut Vec<u8>, front: &[u8]) -> Result<(), AllocError> {
 }
 
 /// The whole queen's table, 3984 bytes: 313 blocks of fifty pairs 4 0 and one of sixteen.
-pub(crate) fn queen(alloc: Global) -> Result<Vec<u8>, AllocError> {
+fn queen(alloc: Global) -> Result<Vec<u8>, AllocError> {
     let mut bytes = padded(alloc, &QUEEN, 38)?;
     for k in 0u16..123 {
         let middle = 256 * k + 128;
@@ -131,11 +131,7 @@ pub(crate) fn queen_file(rt: &impl Abort, alloc: Global) -> Vec<u8> {
 }
 
 /// A file as a table, or its fault. The functions down to `distance` show a table to the tests without its contracts.
-pub(crate) fn opened<'a>(
-    alloc: Global,
-    name: &str,
-    file: &'a [u8],
-) -> Result<Table<'a>, TableFault> {
+fn opened<'a>(alloc: Global, name: &str, file: &'a [u8]) -> Result<Table<'a>, TableFault> {
     open(alloc, name.as_bytes(), file)
 }
 
@@ -425,14 +421,18 @@ fn check_spots(rt: &impl Abort, table: &Table<'_>) {
     }
 }
 
+fn check_queen_table(rt: &impl Abort, alloc: Global, table: &Table<'_>) {
+    check_queen(rt, table);
+    check_spots(rt, table);
+    check_blocks(rt, alloc, table);
+}
+
 #[test]
 fn values_stand_in_blocks(rt: HostRuntime) {
     let file = queen_file(&rt, rt.alloc());
     check_queen_bytes(&rt, &file);
     let table = table_of(&rt, rt.alloc(), "KQvK.rtbw", &file);
-    check_queen(&rt, &table);
-    check_spots(&rt, &table);
-    check_blocks(&rt, rt.alloc(), &table);
+    check_queen_table(&rt, rt.alloc(), &table);
 }
 
 /// The queen's table whose first sparse entry names an earlier block, with an offset past its end.
