@@ -26,4 +26,3 @@ pub use parts::{Parts, Rights};
 pub use piece::{Kind, Men, Piece, Promotion, Side, Wing};
 pub use position::{Position, PositionFault};
 pub use square::Square;
-

@@ -30,4 +30,3 @@ pub use man::Man;
 pub use material::{Material, tables_are_numbered};
 pub use placed::{Placed, place};
 pub use shape::{Shape, ShapeFault};
-
