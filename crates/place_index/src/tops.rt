@@ -1,8 +1,8 @@
 //! The squares of the groups, those of men that are the only ones of their kind without a search.
 
-ghost use Rattle.std.specs.Prelude.{◌≡◌, ◌<◌, ◌≤◌, ◌+◌, ◌++◌, ◌∷◌, [], length, slice_index};
-ghost use Rattle.place_index.specs.Index.{AreMen, AreTops, first_square};
-ghost use Rattle.place_index.specs.Men.{squares_of, square_of};
+ghost use Rattle.std.specs.Prelude.{◌≡◌, ◌<◌, ◌≤◌, ◌+◌, ◌++◌, ◌∷◌, [], ℕ, true, length, slice_index};
+ghost use Rattle.place_index.specs.Index.{AreMen, IsOnly, AreTops, first_square};
+ghost use Rattle.place_index.specs.Men.{stands, squares_of, square_of};
 ghost use Rattle.place_index.specs.Others.{free_set_number};
 ghost use Rattle.place_index.specs.Turning.{turn_square, turned_by};
 
@@ -14,9 +14,9 @@ use crate::squares::squares_of;
 use crate::turn::Turn;
 use board_core::Square;
 
-/// The highest square of the men with each code, 0 where there are none.
+/// A square by each code, that of the man who is the only one with it.
 pub(crate) fn tops(men: &[Man]) -> [u8; 16]
-    requires { AreMen men.now }
+    requires { (c s : ℕ) → stands men.now c s ≡ true → c < 16 }
     ensures { AreTops men.now result }
 {
     let mut tops = [0u8; 16];
@@ -24,20 +24,12 @@ pub(crate) fn tops(men: &[Man]) -> [u8; 16]
     'men: while i > 0 {
         i -= 1;
         let man = men[i];
-        let square = man.square.number();
-        let code = man.code as usize;
-        if code >= 16 {
-            continue;
-        }
-        if square <= tops[code] {
-            continue;
-        }
-        tops[code] = square;
+        tops[man.code as usize] = man.square.number();
     }
     tops
 }
 
-/// The highest square of the men with this code.
+/// The square of the man who is the only one with this code.
 pub(crate) fn top(tops: &[u8; 16], code: u8) -> Square
     requires code { code < 16 }
     requires board { slice_index tops.now code < 64 }
@@ -69,6 +61,7 @@ pub(crate) fn number_group(
     requires men { AreMen men.now }
     requires tops { AreTops men.now tops.now }
     requires known { group.men ≡ 1 → group.code < 16 }
+    requires only { group.men ≡ 1 → IsOnly men.now group.code (square_of men.now group.code) }
     requires alone { group.men ≡ 1 → squares_of (turned_by turn men.now) group.code ≡ turn_square turn (square_of men.now group.code) ∷ [] }
     ensures number { result ≡ free_set_number (first_square group.code) earlier.old (squares_of (turned_by turn men.now) group.code) }
     ensures earlier { earlier.new ≡ earlier.old ++ squares_of (turned_by turn men.now) group.code }

@@ -41,6 +41,12 @@ number_group-number-requires-clause-alone c one =
     let h = subst (λ gs. IsSummed c.args.shape.now (turned_by c.args.turn c.args.men.now) gs c.loop-i.earlier c.loop-i.i c.loop-i.sum) (drop_more c.groups-groups.result.now c.loop-i.i (group 0 0) c.loop-i-test.true) c.loop-i.invariant in
     (lone_group c.args.shape.now c.args.men.now (turned_by c.args.turn c.args.men.now) c.args.turn g (drop (c.loop-i.i + 1) c.groups-groups.result.now) h.numbers c.loop-i.earlier c.requires.shape c.requires.men h.so_far one).1
 
+pub number_group-number-requires-clause-only : goal.number_group-number-requires-clause-only
+number_group-number-requires-clause-only c one =
+    let g = get_or c.groups-groups.result.now c.loop-i.i (group 0 0) in
+    let h = subst (λ gs. IsSummed c.args.shape.now (turned_by c.args.turn c.args.men.now) gs c.loop-i.earlier c.loop-i.i c.loop-i.sum) (drop_more c.groups-groups.result.now c.loop-i.i (group 0 0) c.loop-i-test.true) c.loop-i.invariant in
+    (lone_group c.args.shape.now c.args.men.now (turned_by c.args.turn c.args.men.now) c.args.turn g (drop (c.loop-i.i + 1) c.groups-groups.result.now) h.numbers c.loop-i.earlier c.requires.shape c.requires.men h.so_far one).2
+
 pub number_group-number-requires-clause-room : goal.number_group-number-requires-clause-room
 number_group-number-requires-clause-room c =
     let g = get_or c.groups-groups.result.now c.loop-i.i (group 0 0) in

@@ -14,7 +14,7 @@ free_set_number-number-requires-clause-board c =
 pub returns-clause-number : goal.returns-clause-number
 returns-clause-number c =
     let one = c.if-group-ne1.false in
-    let square : c.square-square.result ≡ turn_square c.args.turn (square_of c.args.men.now c.args.group.code) = c.square-square.ensures.is ∙ ap (turn_square c.args.turn) (c.top-from.ensures ∙ c.requires.tops.is c.args.group.code (c.requires.known one)) in
+    let square : c.square-square.result ≡ turn_square c.args.turn (square_of c.args.men.now c.args.group.code) = c.square-square.ensures.is ∙ ap (turn_square c.args.turn) (c.top-from.ensures ∙ c.requires.tops.is c.args.group.code (square_of c.args.men.now c.args.group.code) (c.requires.known one) (c.requires.only one)) in
     c.free_number-number.ensures.is
     ∙ ap (λ f. free_number f c.args.earlier.now c.square-square.result) c.first_square-first.ensures
     ∙ sym (free_alone (first_square c.args.group.code) c.args.earlier.now c.square-square.result)
