@@ -36,6 +36,7 @@ pub mod LayoutGroups
 pub mod IndexLaw
 pub mod Collecting
 pub mod TurnedMen
+pub mod Higher
 pub mod Highest
 pub mod Turns
 pub mod Numbering

@@ -38,17 +38,7 @@ pub(crate) fn top(tops: &[u8; 16], code: u8) -> Square
     Square::at(tops[code as usize])
 }
 
-/// Adds these squares.
-fn append(earlier: &mut Earlier, squares: &[u8])
-    requires { length earlier.old + length squares.now ≤ 5 }
-    ensures { earlier.new ≡ earlier.old ++ squares.now }
-{
-    for square in squares {
-        earlier.push(*square);
-    }
-}
-
-/// The number of so many men with this code, after earlier men, among whom they are then.
+/// The number of a group after earlier men, among whom its men are then.
 pub(crate) fn number_group(
     earlier: &mut Earlier,
     men: &[Man],
@@ -69,9 +59,7 @@ pub(crate) fn number_group(
     let first = first_square(group.code);
     if group.men != 1 {
         let squares = squares_of(men, turn, group.code);
-        let number = free_set_number(first, earlier, squares.as_slice());
-        append(earlier, squares.as_slice());
-        return number;
+        return free_set_number(first, earlier, squares.as_slice());
     }
     let from = top(tops, group.code);
     let square = turn.square(from);

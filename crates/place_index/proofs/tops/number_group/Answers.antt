@@ -2,14 +2,15 @@ use Rattle.std.proofs.Common.{◌≡◌, ◌≤◌, ◌∷◌, [], ◌∙◌, ap
 use Rattle.place_index.specs.Index.{first_square}
 use Rattle.place_index.specs.Men.{square_of}
 use Rattle.place_index.specs.Others.{free_number, free_set_number}
-use Rattle.place_index.specs.Turning.{turn_square}
-use Rattle.place_index.proofs.Turns.{free_alone, turned_on_board}
+use Rattle.place_index.specs.Turning.{turn_square, turned_by}
+use Rattle.place_index.specs.Choose.{IsFallingBelow}
+use Rattle.place_index.proofs.Settled.{squares_fall}
+use Rattle.place_index.proofs.Turns.{free_alone}
 use Rattle.place_index.proofs.tops.number_group.Goals as goal
 
-pub free_set_number-number-requires-clause-board : goal.free_set_number-number-requires-clause-board
-free_set_number-number-requires-clause-board c =
-    subst (λ xs. (k : ℕ) → k < length xs → slice_index xs k ≤ 64) (sym (c.as_slice.ensures ∙ c.squares_of-squares.ensures))
-    (λ k lt. turned_on_board c.args.turn c.args.men.now c.args.group.code k lt)
+pub free_set_number-requires-clause-falling : goal.free_set_number-requires-clause-falling
+free_set_number-requires-clause-falling c =
+    subst (IsFallingBelow 64) (sym (c.as_slice.ensures ∙ c.squares_of-squares.ensures)) (squares_fall (turned_by c.args.turn c.args.men.now) c.args.group.code)
 
 pub returns-clause-number : goal.returns-clause-number
 returns-clause-number c =
