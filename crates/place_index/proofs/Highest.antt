@@ -3,7 +3,7 @@ use Rattle.std.proofs.Common.{◌≡◌, ◌≢◌, ℕ, zero, suc, ◌-◌, ◌
 use Rattle.std.proofs.lemmas.Bool.{cases_eq}
 use Rattle.std.proofs.lemmas.List.{get_or-set_same, get_or-set_other, length-set, drop_all}
 use Rattle.place_index.specs.Men.{stands}
-use Rattle.place_index.specs.Index.{IsOnly, AreTops}
+use Rattle.place_index.specs.Index.{IsOnly, AreLoneSquares}
 use Rattle.place_index.specs.declared.man.Man.{Man}
 use Rattle.place_index.proofs.Board.{stands_nil, stands_here, stands_later, stands_other_code}
 use Rattle.place_index.proofs.Collecting.{drop_back}
@@ -25,8 +25,8 @@ zero_at c = zeros_at 16 c
 none_only : (c s : ℕ) → IsOnly [] c s → ⊥
 none_only c s only = (let e = sym (stands_nil c s) ∙ only.0 in cc)
 
-pub tops_start : (men : List Man) → AreTops (drop (length men) men) (0 ∷ 0 ∷ 0 ∷ 0 ∷ 0 ∷ 0 ∷ 0 ∷ 0 ∷ 0 ∷ 0 ∷ 0 ∷ 0 ∷ 0 ∷ 0 ∷ 0 ∷ 0 ∷ [])
-tops_start men = record {
+pub squares_start : (men : List Man) → AreLoneSquares (drop (length men) men) (0 ∷ 0 ∷ 0 ∷ 0 ∷ 0 ∷ 0 ∷ 0 ∷ 0 ∷ 0 ∷ 0 ∷ 0 ∷ 0 ∷ 0 ∷ 0 ∷ 0 ∷ 0 ∷ [])
+squares_start men = record {
   size = refl;
   is = λ c s lt only. absurd (none_only c s (subst (λ l. IsOnly l c s) (drop_all (length men) men (omega arith)) only));
   board = λ c lt. omega (arith, zero_at c);
@@ -36,25 +36,25 @@ tops_start men = record {
 other_only : (m : Man) (men : List Man) (c s : ℕ) → m.code ≢ c → IsOnly (m ∷ men) c s → IsOnly men c s
 other_only m men c s ne only = (sym (stands_other_code m men c s ne) ∙ only.0, λ t lt h. only.1 t lt (stands_other_code m men c t ne ∙ h))
 
-set_front : (m : Man) (men : List Man) (s : ℕ) (tops : List ℕ) → AreTops men tops → m.code < 16 → s ≡ m.square → s < 64 → AreTops (m ∷ men) (slice_set tops m.code s)
-set_front m men s tops t few square board = record {
-  size = length-set tops m.code s ∙ t.size;
+set_front : (m : Man) (men : List Man) (s : ℕ) (lone_squares : List ℕ) → AreLoneSquares men lone_squares → m.code < 16 → s ≡ m.square → s < 64 → AreLoneSquares (m ∷ men) (slice_set lone_squares m.code s)
+set_front m men s lone_squares t few square board = record {
+  size = length-set lone_squares m.code s ∙ t.size;
   is = λ c x lt only. elim (cases_eq m.code c) [
     | inl e ↦
-        ap (slice_index (slice_set tops m.code s)) (sym e) ∙ get_or-set_same tops m.code s 0 (omega (arith, few, t.size)) ∙ square
+        ap (slice_index (slice_set lone_squares m.code s)) (sym e) ∙ get_or-set_same lone_squares m.code s 0 (omega (arith, few, t.size)) ∙ square
         ∙ only.1 m.square (omega (arith, square, board)) (ap (λ k. stands (m ∷ men) k m.square) (sym e) ∙ stands_here m men)
-    | inr ne ↦ get_or-set_other tops m.code c s 0 (λ e. ne (sym e)) ∙ t.is c x lt (other_only m men c x ne only)
+    | inr ne ↦ get_or-set_other lone_squares m.code c s 0 (λ e. ne (sym e)) ∙ t.is c x lt (other_only m men c x ne only)
   ];
   board = λ c lt. elim (cases_eq m.code c) [
-    | inl e ↦ omega (arith, board, ap (slice_index (slice_set tops m.code s)) (sym e), get_or-set_same tops m.code s 0 (omega (arith, few, t.size)))
-    | inr ne ↦ omega (arith, t.board c lt, get_or-set_other tops m.code c s 0 (λ e. ne (sym e)))
+    | inl e ↦ omega (arith, board, ap (slice_index (slice_set lone_squares m.code s)) (sym e), get_or-set_same lone_squares m.code s 0 (omega (arith, few, t.size)))
+    | inr ne ↦ omega (arith, t.board c lt, get_or-set_other lone_squares m.code c s 0 (λ e. ne (sym e)))
   ];
 }
 
-pub tops_set : (men : List Man) (i s : ℕ) (m : Man) (tops : List ℕ) → AreTops (drop i men) tops → 0 < i → i ≤ length men → m ≡ get_or men (i - 1) m → m.code < 16 → s ≡ m.square → s < 64
-    → AreTops (drop (i - 1) men) (slice_set tops m.code s)
-tops_set men i s m tops t pos le is few square board =
-    subst (λ l. AreTops l (slice_set tops m.code s)) (sym (drop_back men i m pos le is)) (set_front m (drop i men) s tops t few square board)
+pub squares_set : (men : List Man) (i s : ℕ) (m : Man) (lone_squares : List ℕ) → AreLoneSquares (drop i men) lone_squares → 0 < i → i ≤ length men → m ≡ get_or men (i - 1) m → m.code < 16 → s ≡ m.square → s < 64
+    → AreLoneSquares (drop (i - 1) men) (slice_set lone_squares m.code s)
+squares_set men i s m lone_squares t pos le is few square board =
+    subst (λ l. AreLoneSquares l (slice_set lone_squares m.code s)) (sym (drop_back men i m pos le is)) (set_front m (drop i men) s lone_squares t few square board)
 
 stands_drop : (i : ℕ) (men : List Man) (c s : ℕ) → stands (drop i men) c s ≡ true → stands men c s ≡ true
 stands_drop zero men c s h = h

@@ -116,7 +116,7 @@ abbrev pub IsOnly : List Man → ℕ → ℕ → Type 0
 IsOnly men c s = (stands men c s ≡ true) × ((t : ℕ) → t < 64 → stands men c t ≡ true → t ≡ s)
 
 -- by each code a square, that of the man if he is the only one with it
-pub record AreTops (men : List Man) (tops : List ℕ) : Type 0 where
-  pub size : length tops ≡ 16
-  pub is : (c s : ℕ) → c < 16 → IsOnly men c s → slice_index tops c ≡ s
-  pub board : (c : ℕ) → c < 16 → slice_index tops c < 64
+pub record AreLoneSquares (men : List Man) (lone_squares : List ℕ) : Type 0 where
+  pub size : length lone_squares ≡ 16
+  pub is : (c s : ℕ) → c < 16 → IsOnly men c s → slice_index lone_squares c ≡ s
+  pub board : (c : ℕ) → c < 16 → slice_index lone_squares c < 64

@@ -18,8 +18,8 @@ loop-i-preserved c =
     let small : c.free_number-free.result ≤ 64 = omega (arith, c.free_number-free.ensures.small, falling_at 64 c.args.squares.now c.loop-i.i c.requires.falling c.loop-i-test.true) in
     let few = choose_few c.free_number-free.result (length c.args.squares.now - c.loop-i.i) small (omega (arith, c.requires.room)) in
     let free : c.free_number-free.result ≡ free_number c.args.first c.args.earlier.now (get_or c.args.squares.now c.loop-i.i 0) =
-        c.free_number-free.ensures.is ∙ ap (λ l. free_number c.args.first l (get_or c.args.squares.now c.loop-i.i 0)) c.loop-i.invariant.added
-        ∙ free_after c.args.first c.args.earlier.now c.args.squares.now c.loop-i.i c.requires.falling c.loop-i-test.true in
+    c.free_number-free.ensures.is ∙ ap (λ l. free_number c.args.first l (get_or c.args.squares.now c.loop-i.i 0)) c.loop-i.invariant.added
+    ∙ free_after c.args.first c.args.earlier.now c.args.squares.now c.loop-i.i c.requires.falling c.loop-i-test.true in
     record {
       is = omega (
         arith,
