@@ -21,7 +21,6 @@ use Rattle.place_index.proofs.IndexLaw.{leads_three, lead_kings, codes_by_pieces
 use Rattle.place_index.proofs.MenTables.{codes_small}
 use Rattle.place_index.proofs.Settled.{squares_fall}
 use Rattle.place_index.proofs.Choosing.{choose_one}
-use Rattle.place_index.proofs.MappedSets.{falling_at}
 use Rattle.place_index.specs.Others.{free_number, free_set_number}
 use Rattle.place_index.specs.Choose.{IsFallingBelow}
 
@@ -347,6 +346,3 @@ turned_within t men i le = omega (arith, le, turned_length t men)
 
 pub free_alone : (first : ℕ) (earlier : List ℕ) (s : ℕ) → free_set_number first earlier (s ∷ []) ≡ free_number first earlier s
 free_alone first earlier s = ap (λ n. n + 0) (choose_one (free_number first earlier s)) ∙ omega arith
-
-pub turned_on_board : (t : Turn) (men : List Man) (c k : ℕ) → k < length (squares_of (turned_by t men) c) → slice_index (squares_of (turned_by t men) c) k ≤ 64
-turned_on_board t men c k lt = omega (arith, falling_at 64 (squares_of (turned_by t men) c) k (squares_fall (turned_by t men) c) lt)

@@ -88,7 +88,7 @@ fn lead_pawns(shape: &Shape, men: &[Man], turn: Turn, earlier: &mut Earlier) -> 
 }
 
 /// The number of the leading group, whose squares are the first ones of earlier men.
-fn lead(
+fn lead_group(
     shape: &Shape,
     men: &[Man],
     lone_squares: &[u8; 16],
@@ -128,7 +128,7 @@ fn sum_of_groups(shape: &Shape, men: &[Man], lone_squares: &[u8; 16], turn: Turn
     let groups = shape.groups();
     let factors = shape.factors();
     let mut earlier = Earlier::new();
-    let lead = lead(shape, men, lone_squares, turn, &mut earlier);
+    let lead = lead_group(shape, men, lone_squares, turn, &mut earlier);
     let mut sum = lead * factors[0];
     for i in 1..groups.len() {
         let number = number_group(&mut earlier, men, lone_squares, turn, groups[i]);

@@ -17,14 +17,14 @@ bounds-factors-0 c = omega (arith, ap length c.factors-factors.ensures, first_ro
 
 pub overflow_mul-sum : goal.overflow_mul-sum
 overflow_mul-sum c =
-    let s = summed_start c.args.shape.now (turned_by c.args.turn c.args.men.now) (drop 1 c.groups-groups.result.now) c.lead-lead.new.earlier c.factors-factors.result.now c.lead-lead.result _ c.requires.shape
-    (ap (drop 1) c.groups-groups.ensures) c.lead-lead.ensures.earlier c.factors-factors.ensures c.lead-lead.ensures.number refl in
-    omega (arith, c.requires.fits, summed_within c.args.shape.now (turned_by c.args.turn c.args.men.now) _ c.lead-lead.new.earlier 1 _ s)
+    let s = summed_start c.args.shape.now (turned_by c.args.turn c.args.men.now) (drop 1 c.groups-groups.result.now) c.lead_group-lead.new.earlier c.factors-factors.result.now c.lead_group-lead.result _ c.requires.shape
+    (ap (drop 1) c.groups-groups.ensures) c.lead_group-lead.ensures.earlier c.factors-factors.ensures c.lead_group-lead.ensures.number refl in
+    omega (arith, c.requires.fits, summed_within c.args.shape.now (turned_by c.args.turn c.args.men.now) _ c.lead_group-lead.new.earlier 1 _ s)
 
 pub loop-i-init : goal.loop-i-init
 loop-i-init c =
-    summed_start c.args.shape.now (turned_by c.args.turn c.args.men.now) (drop 1 c.groups-groups.result.now) c.lead-lead.new.earlier c.factors-factors.result.now c.lead-lead.result _ c.requires.shape
-    (ap (drop 1) c.groups-groups.ensures) c.lead-lead.ensures.earlier c.factors-factors.ensures c.lead-lead.ensures.number refl
+    summed_start c.args.shape.now (turned_by c.args.turn c.args.men.now) (drop 1 c.groups-groups.result.now) c.lead_group-lead.new.earlier c.factors-factors.result.now c.lead_group-lead.result _ c.requires.shape
+    (ap (drop 1) c.groups-groups.ensures) c.lead_group-lead.ensures.earlier c.factors-factors.ensures c.lead_group-lead.ensures.number refl
 
 pub number_group-number-requires-clause-men : goal.number_group-number-requires-clause-men
 number_group-number-requires-clause-men c = are_men c.args.shape.now.material c.args.men.now c.requires.shape.material c.requires.men

@@ -1,4 +1,4 @@
-use Rattle.std.proofs.Common.{◌≡◌, ◌≤◌, ◌∷◌, [], ◌∙◌, ap, sym, subst, length, slice_index, ℕ, ◌<◌}
+use Rattle.std.proofs.Common.{◌≡◌, ◌∷◌, [], ◌∙◌, ap, sym, subst}
 use Rattle.place_index.specs.Index.{first_square}
 use Rattle.place_index.specs.Men.{square_of}
 use Rattle.place_index.specs.Others.{free_number, free_set_number}

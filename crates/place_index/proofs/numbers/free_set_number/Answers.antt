@@ -1,4 +1,4 @@
-use Rattle.std.proofs.Common.{◌≡◌, ◌≤◌, ◌<◌, ◌-◌, ◌∙◌, ◌++◌, ◌∷◌, [], length, take, get_or, ap, sym, arith}
+use Rattle.std.proofs.Common.{◌≡◌, ◌≤◌, ◌-◌, ◌∙◌, ◌++◌, ◌∷◌, [], length, take, get_or, ap, sym, arith}
 use Rattle.std.proofs.lemmas.List.{take_more, append_assoc}
 use Rattle.place_index.specs.Choose.{choose}
 use Rattle.place_index.specs.Others.{free_number}
