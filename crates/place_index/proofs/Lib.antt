@@ -43,6 +43,7 @@ pub mod Numbering
 pub mod LoneGroups
 pub mod MenOn
 pub mod Symmetric
+pub mod Colours
 pub mod Tallies
 pub mod Weighing
 pub mod TurnTable
