@@ -1,7 +1,7 @@
 -- Tables by the key of a material.
 use Rattle.std.proofs.Common.{◌≡◌, ◌≢◌, ◌↔◌, ℕ, ◌+◌, ◌*◌, ◌/◌, ◌%◌, ◌<◌, ◌≤◌, Bool, true, false, cond, IsTrue, eqb, leb, ltb, List, [], ◌∷◌, length, slice_index, refl, ap, sym, ◌∙◌, arith}
 use Rattle.std.specs.Prelude.{slice_index_or, not, ◌&&◌}
-use Rattle.std.proofs.lemmas.Bool.{agree_below_at, eqb-true, leb-true, lt-ltb, le-ltb, eq-eqb, ne_eqb, le-leb, and_parts, false≢true}
+use Rattle.std.proofs.lemmas.Bool.{agree_below_at, eqb-true, leb-true, lt-ltb, le-ltb, eq-eqb, ne_eqb, and_parts, false≢true}
 use Rattle.place_index.specs.Material.{men_of, name_at, pieces_of, count_of, white_pawns, black_pawns}
 use Rattle.place_index.specs.Place.{place_of}
 use Rattle.place_index.specs.Shape.{lead_code, leading_code}

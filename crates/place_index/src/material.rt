@@ -4,7 +4,9 @@ ghost use Rattle.place_index.specs.Shape.{lead_men, lead_code, leading_code, oth
 ghost use Rattle.place_index.specs.Place.{place_of, rank_of, pair_of, triple_of};
 
 use crate::man::{BLACK_PAWN, WHITE_PAWN};
-use crate::tables::{COUNTS, LEADING_MEN, LEADING_PAWNS, LETTERS, PAIRS, SYMMETRIC, TALLIES, TRIPLES};
+use crate::tables::{
+    COUNTS, LEADING_MEN, LEADING_PAWNS, LETTERS, PAIRS, SYMMETRIC, TALLIES, TRIPLES,
+};
 use arrayvec::ArrayString;
 use std::marker::Model;
 

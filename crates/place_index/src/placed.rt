@@ -20,7 +20,7 @@ use std::marker::Model;
 pub struct Placed {
     material: Material,
     men: [Man; 5],
-    count: usize,
+    count: u8,
     side: u8,
     lead: u8,
     file: u8,
@@ -51,7 +51,7 @@ impl Placed {
         ensures placement { IsPlacement self.now.material self.now.men }
         ensures file { lead_file self.now.material self.now.men ≡ self.now.file }
     {
-        &self.men[..self.count]
+        &self.men[..self.count as usize]
     }
 
     /// The side to move after the exchange of colours, 0 for white and 1 for black.
@@ -161,7 +161,7 @@ pub fn place(position: &Position, material: &Material) -> Placed
     Placed {
         material: *material,
         men,
-        count,
+        count: count as u8,
         side: side_after(side_number(position.side()), exchanges),
         lead,
         file: left_file(lead),

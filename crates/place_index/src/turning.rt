@@ -1,9 +1,9 @@
 //! The turning of all men, so that the leading group stands as its number wants.
 
-ghost use Rattle.std.specs.Prelude.{◌≡◌, ◌<◌, ◌≤◌, ℕ, length, map, not, nat_lt, slice_index, true};
+ghost use Rattle.std.specs.Prelude.{◌≡◌, ◌≢◌, ◌<◌, ◌≤◌, ℕ, length, map, not, nat_lt, slice_index, true};
 ghost use Rattle.place_index.specs.Index.{AreMen, AreLoneSquares, IsPlacement, IsShape, lead_codes};
 ghost use Rattle.place_index.specs.Men.{stands};
-ghost use Rattle.place_index.specs.Pawns.{pawn_numbers_of};
+ghost use Rattle.place_index.specs.Pawns.{pawn_number, pawn_numbers_of};
 ghost use Rattle.place_index.specs.Shape.{has_pawns};
 ghost use Rattle.place_index.specs.Square.{file, rank};
 ghost use Rattle.place_index.specs.Turning.{lead_pawn, turned, turned_by, turn_square, low, is_first_above};
@@ -17,6 +17,19 @@ use crate::squares::pawn_square;
 use crate::tables::PAWN_NUMBERS;
 use crate::turn::Turn;
 
+/// The greater of this number and the man's pawn number, which counts for a man with this code alone.
+fn raised(greatest: u8, man: Man, code: u8) -> u8
+    ensures other { man.code ≢ code → result ≡ greatest }
+    ensures more { man.code ≡ code → greatest < pawn_number man.square → result ≡ pawn_number man.square }
+    ensures same { man.code ≡ code → pawn_number man.square ≤ greatest → result ≡ greatest }
+{
+    if man.code != code {
+        return greatest;
+    }
+    let number = PAWN_NUMBERS[man.square.number() as usize];
+    if number > greatest { number } else { greatest }
+}
+
 /// The greatest pawn number of the men with this code.
 fn greatest_number(men: &[Man], code: u8) -> u8
     requires men { AreMen men.now }
@@ -27,14 +40,7 @@ fn greatest_number(men: &[Man], code: u8) -> u8
     let mut i = men.len();
     'men: while i > 0 {
         i -= 1;
-        let man = men[i];
-        if man.code != code {
-            continue;
-        }
-        let number = PAWN_NUMBERS[man.square.number() as usize];
-        if number > greatest {
-            greatest = number;
-        }
+        greatest = raised(greatest, men[i], code);
     }
     greatest
 }

@@ -1,4 +1,4 @@
-use Rattle.std.proofs.Common.{◌≡◌, ◌<◌, cond, sym, subst, arith}
+use Rattle.std.proofs.Common.{◌<◌, cond, sym, subst, arith}
 use Rattle.place_index.specs.Men.{exchanged}
 use Rattle.place_index.specs.Placed.{IsNamed, men_on}
 use Rattle.place_index.proofs.Colours.{named_by_tally, exchanged_by_tally, unlike_by_tally, named_if}

@@ -2,7 +2,7 @@ use Rattle.std.proofs.Common.{◌≡◌, ◌-◌, ◌∙◌, cond, take, ap, ref
 use Rattle.place_index.specs.Men.{exchanged}
 use Rattle.place_index.specs.Index.{IsPlacement}
 use Rattle.place_index.specs.Placed.{IsNamed, men_on, side_number}
-use Rattle.place_index.specs.Turning.{lead_square, left_file}
+use Rattle.place_index.specs.Turning.{left_file}
 use Rattle.place_index.proofs.Colours.{taken_in_colours}
 use Rattle.place_index.proofs.MenOn.{stood, placement_in_colours}
 use Rattle.place_index.proofs.Symmetric.{material_few}

@@ -1,9 +1,9 @@
-use Rattle.std.proofs.Common.{◌≡◌, ◌<◌, ◌+◌, ◌++◌, ◌∷◌, [], ◌∙◌, ap, sym, subst, take, drop, length, refl, arith}
+use Rattle.std.proofs.Common.{◌≡◌, ◌<◌, ◌+◌, ◌++◌, ◌∷◌, [], ◌∙◌, ap, sym, subst, take, refl, arith}
 use Rattle.std.specs.Prelude.{slice_set}
 use Rattle.std.proofs.lemmas.List.{take_more_set, drop-set-lt, length-take-le, length-set}
 use Rattle.place_index.specs.Material.{tally_of}
 use Rattle.place_index.specs.Men.{codes_of, man}
-use Rattle.place_index.proofs.MenOn.{IsSwept, swept_start, swept_next, swept_end, swept_room, swept_some, drop_on}
+use Rattle.place_index.proofs.MenOn.{IsSwept, swept_start, swept_next, swept_end, swept_room, drop_on}
 use Rattle.place_index.proofs.Tallies.{tally_last, tally_none}
 use Rattle.place_index.proofs.sweep.men_on.Goals as goal
 
