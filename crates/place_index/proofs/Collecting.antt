@@ -2,7 +2,7 @@
 use Rattle.std.proofs.Common.{◌≡◌, ◌≢◌, ℕ, zero, suc, ◌+◌, ◌-◌, ◌<◌, ◌≤◌, ◌⊎◌, true, List, [], ◌∷◌, ◌++◌, length, take, drop, slice_index, get_or, refl, sym, ap, ◌∙◌, subst, inl, inr, arith}
 use Rattle.std.proofs.lemmas.List.{drop_more, drop_all, take_more, append_assoc, take_all}
 use Rattle.std.proofs.lemmas.Bool.{cases_eq, cases_lt, lt-ltb}
-use Rattle.place_index.specs.Men.{stands, squares_of, square_of, falling, inserted}
+use Rattle.place_index.specs.Men.{stands, squares_of, falling, inserted}
 use Rattle.place_index.specs.Pawns.{pawn_number, pawn_numbers_of}
 use Rattle.place_index.specs.Index.{AreAlone, AreMen}
 use Rattle.place_index.specs.declared.man.Man.{Man}
@@ -163,22 +163,6 @@ head_inserted s (x ∷ xs) =
     elim (cases_lt x s) [
       | inl lt ↦ inl (lt, ap (λ l. slice_index l 0) (inserted_above s x xs lt))
       | inr le ↦ inr (le, ap (λ l. slice_index l 0) (inserted_below s x xs le))
-    ]
-
-pub highest_more : (men : List Man) (i c highest : ℕ) (m : Man) → AreMen men → 0 < i → i ≤ length men → m ≡ get_or men (i - 1) m → m.code ≡ c → highest ≡ square_of (drop i men) c → highest < m.square → m.square ≡ square_of (drop (i - 1) men) c
-highest_more men i c highest m a pos le is e h lt =
-    let all = ap (λ l. slice_index l 0) (squares_take men i c m a pos le is e) in
-    elim (head_inserted m.square (squares_of (drop i men) c)) [
-      | inl more ↦ sym more.1 ∙ all
-      | inr less ↦ absurd (omega (arith, h, lt, less.0))
-    ]
-
-pub highest_same : (men : List Man) (i c highest : ℕ) (m : Man) → AreMen men → 0 < i → i ≤ length men → m ≡ get_or men (i - 1) m → m.code ≡ c → highest ≡ square_of (drop i men) c → m.square ≤ highest → highest ≡ square_of (drop (i - 1) men) c
-highest_same men i c highest m a pos le is e h lt =
-    let all = ap (λ l. slice_index l 0) (squares_take men i c m a pos le is e) in
-    elim (head_inserted m.square (squares_of (drop i men) c)) [
-      | inl more ↦ absurd (omega (arith, h, lt, more.0))
-      | inr less ↦ h ∙ sym less.1 ∙ all
     ]
 
 -- ---- the greatest pawn number

@@ -1,10 +1,11 @@
 -- Tables by the key of a material.
-use Rattle.std.proofs.Common.{◌≡◌, ◌↔◌, ℕ, ◌+◌, ◌*◌, ◌/◌, ◌%◌, ◌<◌, ◌≤◌, Bool, true, false, cond, IsTrue, eqb, leb, ltb, List, [], ◌∷◌, length, slice_index, refl, ap, sym, ◌∙◌, arith}
-use Rattle.std.specs.Prelude.{slice_index_or, ◌&&◌}
-use Rattle.std.proofs.lemmas.Bool.{agree_below_at, eqb-true, leb-true, lt-ltb, le-ltb, eq-eqb, and_parts, false≢true}
-use Rattle.place_index.specs.Material.{men_of, name_at, pieces_of, count_of}
+use Rattle.std.proofs.Common.{◌≡◌, ◌≢◌, ◌↔◌, ℕ, ◌+◌, ◌*◌, ◌/◌, ◌%◌, ◌<◌, ◌≤◌, Bool, true, false, cond, IsTrue, eqb, leb, ltb, List, [], ◌∷◌, length, slice_index, refl, ap, sym, ◌∙◌, arith}
+use Rattle.std.specs.Prelude.{slice_index_or, not, ◌&&◌}
+use Rattle.std.proofs.lemmas.Bool.{agree_below_at, eqb-true, leb-true, lt-ltb, le-ltb, eq-eqb, ne_eqb, and_parts, false≢true}
+use Rattle.place_index.specs.Material.{men_of, name_at, pieces_of, count_of, white_pawns, black_pawns}
 use Rattle.place_index.specs.Place.{place_of}
-use Rattle.place_index.specs.declared.tables.TheConstants.{LETTERS, COUNTS, SYMMETRIC}
+use Rattle.place_index.specs.Shape.{lead_code, leading_code}
+use Rattle.place_index.specs.declared.tables.TheConstants.{LETTERS, COUNTS, SYMMETRIC, LEADING_PAWNS}
 
 count_test : (i : ℕ) → i < 2320 → eqb (slice_index COUNTS i) (count_of (pieces_of (i / 16)) (i % 16)) ≡ true
 unfolding pieces_of count_of men_of
@@ -87,3 +88,24 @@ symmetric_table k lt = (
   λ t. same-true _ _ (sym (symmetric_test k lt) ∙ t),
   λ e. symmetric_test k lt ∙ ap (λ xs. same (men_of k).first xs) (sym e) ∙ same-refl (men_of k).first,
 )
+
+-- ---- leading pawns
+
+pub leading_code_table : (k : ℕ) → k < 145 → slice_index LEADING_PAWNS k ≡ leading_code k
+unfolding men_of pieces_of count_of lead_code leading_code
+leading_code_table k lt = eqb-true _ _ (agree_below_at (λ k. eqb (slice_index LEADING_PAWNS k) (leading_code k)) (λ k. true) 145 k refl lt)
+
+lead_code_test : (k : ℕ) → k < 145 → eqb (cond (eqb (leading_code k) 0) 1 (leading_code k)) (lead_code k) ≡ true
+unfolding men_of pieces_of count_of lead_code leading_code
+lead_code_test k lt = agree_below_at (λ k. eqb (cond (eqb (leading_code k) 0) 1 (leading_code k)) (lead_code k)) (λ k. true) 145 k refl lt
+
+-- without pawns the word for the leading pawns' code is white's
+pub lead_code_none : (k : ℕ) → k < 145 → leading_code k ≡ 0 → 1 ≡ lead_code k
+lead_code_none k lt e = eqb-true _ _ (rw (eq-eqb (leading_code k) 0 e) at (lead_code_test k lt))
+
+pub lead_code_some : (k : ℕ) → k < 145 → leading_code k ≢ 0 → leading_code k ≡ lead_code k
+lead_code_some k lt ne = eqb-true _ _ (rw (ne_eqb (leading_code k) 0 ne) at (lead_code_test k lt))
+
+pub pawned_table : (k : ℕ) → k < 145 → not (eqb (leading_code k) 0) ≡ leb 1 (white_pawns k + black_pawns k)
+unfolding men_of pieces_of count_of lead_code leading_code
+pawned_table k lt = agree_below_at (λ k. not (eqb (leading_code k) 0)) (λ k. leb 1 (white_pawns k + black_pawns k)) 145 k refl lt

@@ -36,12 +36,14 @@ pub mod LayoutGroups
 pub mod IndexLaw
 pub mod Collecting
 pub mod TurnedMen
+pub mod Higher
 pub mod Highest
 pub mod Turns
 pub mod Numbering
 pub mod LoneGroups
 pub mod MenOn
 pub mod Symmetric
+pub mod Colours
 pub mod Tallies
 pub mod Weighing
 pub mod TurnTable

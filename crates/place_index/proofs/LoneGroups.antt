@@ -5,7 +5,7 @@ use Rattle.place_index.specs.Material.{pieces_of, count_of}
 use Rattle.place_index.specs.Men.{squares_of, square_of}
 use Rattle.place_index.specs.Shape.{Layout, has_pawns, lead_men, lead_code}
 use Rattle.place_index.specs.Turning.{turn_square, turned_by}
-use Rattle.place_index.specs.Index.{IsPlacement, IsShape, lead_codes}
+use Rattle.place_index.specs.Index.{IsOnly, IsPlacement, IsShape, lead_codes}
 use Rattle.place_index.specs.declared.group.Group.{Group}
 use Rattle.place_index.specs.declared.man.Man.{Man}
 use Rattle.place_index.specs.declared.turn.Turn.{Turn}
@@ -14,14 +14,14 @@ use Rattle.place_index.proofs.Beginning.{lead_by_pawns}
 use Rattle.place_index.proofs.IndexLaw.{codes_by_pawns}
 use Rattle.place_index.proofs.LayoutGroups.{lead_count}
 use Rattle.place_index.proofs.Numbering.{IsNumbered}
-use Rattle.place_index.proofs.Turns.{AllOnce, lead_once, once_small, lone_squares}
+use Rattle.place_index.proofs.Turns.{AllOnce, lead_once, once_small, lone_squares, only_once}
 
 -- where a man that occurs once goes
 abbrev pub IsFound : Layout → List Man → Turn → ℕ → Type 0
-IsFound l men t c = (c < 16) × (squares_of (turned_by t men) c ≡ turn_square t (square_of men c) ∷ [])
+IsFound l men t c = (c < 16) × (squares_of (turned_by t men) c ≡ turn_square t (square_of men c) ∷ []) × IsOnly men c (square_of men c)
 
 found : (l : Layout) (men : List Man) (t : Turn) (c : ℕ) → IsShape l → IsPlacement l.material men → count_of (pieces_of l.material) c ≡ 1 → IsFound l men t c
-found l men t c s p one = (once_small l.material c s.material one, lone_squares l.material men t c s.material p one)
+found l men t c s p one = (once_small l.material c s.material one, lone_squares l.material men t c s.material p one, only_once l.material men c p one)
 
 pub lone_group : (l : Layout) (men others : List Man) (t : Turn) (g : Group) (gs : List Group) (numbers earlier : List ℕ) → IsShape l → IsPlacement l.material men → IsNumbered l others (g ∷ gs) numbers earlier → g.men ≡ 1 → IsFound l men t g.code
 lone_group l men others t g gs numbers earlier s p n one =

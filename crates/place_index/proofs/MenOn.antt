@@ -395,3 +395,15 @@ swept_some board next set square items w lt here e = false≢true (sym (ap is_so
 pub placement_in_colours : (key : ℕ) (board : List (Option Piece)) (b : Bool) → Stood board → IsNamed key (cond b (exchanged (men_on board)) (men_on board)) → IsPlacement key (cond b (exchanged (men_on board)) (men_on board))
 placement_in_colours key board true q named = placement_of_exchanged key board q named
 placement_in_colours key board false q named = placement_of_men key board q named
+
+-- lists that agree from one place on agree from the next one on
+drop_next : (i : ℕ) (xs : List Man) → drop (suc i) xs ≡ drop 1 (drop i xs)
+drop_next zero [] = refl
+drop_next zero (x ∷ xs) = refl
+drop_next (suc i) [] = refl
+drop_next (suc i) (x ∷ xs) = drop_next i xs
+
+pub drop_on : (i : ℕ) (xs ys : List Man) → drop i xs ≡ drop i ys → drop (i + 1) xs ≡ drop (i + 1) ys
+drop_on i xs ys e =
+    let up : i + 1 ≡ suc i = omega arith in
+    rw up (drop_next i xs ∙ ap (drop 1) e ∙ sym (drop_next i ys))

@@ -156,7 +156,7 @@ unfolding taken
 taken_append [] ys s = omega arith
 taken_append (x ∷ xs) ys s = omega (arith, taken_append xs ys s)
 
-free_same : (first : ℕ) (one other : List ℕ) (s : ℕ) → taken one s ≡ taken other s → free_number first one s ≡ free_number first other s
+pub free_same : (first : ℕ) (one other : List ℕ) (s : ℕ) → taken one s ≡ taken other s → free_number first one s ≡ free_number first other s
 unfolding free_number
 free_same first one other s e = ap (λ t. s - t - first) e
 

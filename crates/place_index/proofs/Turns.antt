@@ -5,22 +5,22 @@ use Rattle.std.specs.List.{list_all}
 use Rattle.std.proofs.lemmas.Bool.{cases_lt, cases_Bool, and_parts, ltb-true, lt-ltb, le-ltb, ne_eqb, eq-eqb, lt-leb, le-leb}
 use Rattle.std.proofs.lemmas.List.{get_or-map, length-map, drop_more, drop_all}
 use Rattle.place_index.specs.Material.{pieces_of, count_of}
-use Rattle.place_index.specs.Men.{man, squares_of, square_of, moved}
+use Rattle.place_index.specs.Men.{man, stands, squares_of, square_of, moved}
 use Rattle.place_index.specs.Square.{file, rank, on_diagonal, left_right, bottom_top, across}
 use Rattle.place_index.specs.Shape.{Layout, has_pawns, has_unique}
 use Rattle.place_index.specs.Turning.{leftward, downward, under, is_above, to_left, to_bottom, turned_pieces, turned, lead_pawn, mirrored, turn_square, turned_by, low, is_first_above}
-use Rattle.place_index.specs.Index.{AreMen, AreTops, IsPlacement, IsShape, lead_codes, squares_of_all}
+use Rattle.place_index.specs.Index.{AreMen, IsOnly, AreLoneSquares, IsPlacement, IsShape, lead_codes, squares_of_all}
 use Rattle.place_index.specs.declared.man.Man.{Man}
 use Rattle.place_index.specs.declared.turn.Turn.{Turn}
 use Rattle.place_index.proofs.Arranging.{count_miss, count_nil}
 use Rattle.place_index.proofs.Board.{settled, IsMirroring, left_right_mirrors, bottom_top_mirrors, across_mirrors}
+use Rattle.place_index.proofs.TurnedPieces.{stands_nowhere}
 use Rattle.place_index.proofs.Alone.{IsAlone, alone_of, alone_moved, square_of_alone, squares_of_alone}
 use Rattle.place_index.proofs.TurnedMen.{are_men, moved_men, turned_pawned, turned_plain}
 use Rattle.place_index.proofs.IndexLaw.{leads_three, lead_kings, codes_by_pieces}
 use Rattle.place_index.proofs.MenTables.{codes_small}
 use Rattle.place_index.proofs.Settled.{squares_fall}
 use Rattle.place_index.proofs.Choosing.{choose_one}
-use Rattle.place_index.proofs.MappedSets.{falling_at}
 use Rattle.place_index.specs.Others.{free_number, free_set_number}
 use Rattle.place_index.specs.Choose.{IsFallingBelow}
 
@@ -223,27 +223,40 @@ all_small key [] lt once i few = absurd (omega (arith, few))
 all_small key (c ∷ codes) lt once zero few = once_small key c lt once.0
 all_small key (c ∷ codes) lt once (suc i) few = all_small key codes lt once.1 i (omega (arith, few))
 
-tops_goals : (key : ℕ) (men : List Man) (tops : List ℕ) (t : Turn) (codes : List ℕ) → key < 145 → AreTops men tops → AllOnce key codes
-    → map (λ c. turn_square t (slice_index tops c)) codes ≡ map (λ c. turn_square t (square_of men c)) codes
-tops_goals key men tops t [] lt at once = refl
-tops_goals key men tops t (c ∷ codes) lt at once = rw (at.is c (once_small key c lt once.0), tops_goals key men tops t codes lt at once.1) refl
+pub only_once : (key : ℕ) (men : List Man) (c : ℕ) → IsPlacement key men → count_of (pieces_of key) c ≡ 1 → IsOnly men c (square_of men c)
+only_once key men c p one = let a = lone key men c p one in (a.here, a.only)
+
+squares_turned : (key : ℕ) (men : List Man) (lone_squares : List ℕ) (t : Turn) (codes : List ℕ) → key < 145 → IsPlacement key men → AreLoneSquares men lone_squares → AllOnce key codes
+    → map (λ c. turn_square t (slice_index lone_squares c)) codes ≡ map (λ c. turn_square t (square_of men c)) codes
+squares_turned key men lone_squares t [] lt p at once = refl
+squares_turned key men lone_squares t (c ∷ codes) lt p at once = rw (at.is c (square_of men c) (once_small key c lt once.0) (only_once key men c p once.0), squares_turned key men lone_squares t codes lt p at once.1) refl
 
 first_once : (key : ℕ) (codes : List ℕ) → 1 ≤ length codes → AllOnce key codes → count_of (pieces_of key) (slice_index codes 0) ≡ 1
 first_once key [] some once = absurd (omega (arith, some))
 first_once key (c ∷ codes) some once = once.0
 
-pub pieces_turned : (l : Layout) (men : List Man) (tops : List ℕ) (t : Turn) → IsShape l → IsPlacement l.material men → AreTops men tops → has_pawns l.material ≡ false
-    → t.left_right ≡ not (ltb (file (slice_index tops (slice_index (lead_codes l) 0))) 4)
-    → t.bottom_top ≡ not (ltb (rank (slice_index tops (slice_index (lead_codes l) 0))) 4)
-    → t.across ≡ is_first_above (map (λ c. turn_square (low t) (slice_index tops c)) (lead_codes l))
+pub pieces_turned : (l : Layout) (men : List Man) (lone_squares : List ℕ) (t : Turn) → IsShape l → IsPlacement l.material men → AreLoneSquares men lone_squares → has_pawns l.material ≡ false
+    → t.left_right ≡ not (ltb (file (slice_index lone_squares (slice_index (lead_codes l) 0))) 4)
+    → t.bottom_top ≡ not (ltb (rank (slice_index lone_squares (slice_index (lead_codes l) 0))) 4)
+    → t.across ≡ is_first_above (map (λ c. turn_square (low t) (slice_index lone_squares c)) (lead_codes l))
     → turned_by t men ≡ turned l men
-pieces_turned l men tops t s p at plain le be xe =
+pieces_turned l men lone_squares t s p at plain le be xe =
     let once = lead_once l s plain in
     let some = lead_some l s plain in
-    let first : slice_index tops (slice_index (lead_codes l) 0) ≡ square_of men (slice_index (lead_codes l) 0) = at.is (slice_index (lead_codes l) 0) (once_small l.material (slice_index (lead_codes l) 0) s.material (first_once l.material (lead_codes l) some once)) in
+    let first : slice_index lone_squares (slice_index (lead_codes l) 0) ≡ square_of men (slice_index (lead_codes l) 0) =
+    at.is (slice_index (lead_codes l) 0) (square_of men (slice_index (lead_codes l) 0)) (once_small l.material (slice_index (lead_codes l) 0) s.material (first_once l.material (lead_codes l) some once))
+    (only_once l.material men (slice_index (lead_codes l) 0) p (first_once l.material (lead_codes l) some once)) in
     pieces_turned_by l.material men (lead_codes l) t.left_right t.bottom_top t.across s.material p once some (le ∙ ap (λ x. not (ltb (file x) 4)) first) (be ∙ ap (λ x. not (ltb (rank x) 4)) first)
-    (xe ∙ ap is_first_above (tops_goals l.material men tops (low t) (lead_codes l) s.material at once))
+    (xe ∙ ap is_first_above (squares_turned l.material men lone_squares (low t) (lead_codes l) s.material p at once))
     ∙ ap (λ codes. turned_pieces codes men) (codes_by_pieces l plain) ∙ turned_plain l men plain
+
+-- the codes of a placement's men
+pub codes_known : (key : ℕ) (men : List Man) → key < 145 → IsPlacement key men → (c s : ℕ) → stands men c s ≡ true → c < 16
+codes_known key men lt p c s h =
+    elim (cases_lt c 16) [
+      | inl small ↦ small
+      | inr le ↦ absurd (stands_nowhere key men c s (settled key men p) (count_small 16 (pieces_of key) c (codes_small key lt) le) h)
+    ]
 
 -- ---- the squares of the leading men
 
@@ -333,6 +346,3 @@ turned_within t men i le = omega (arith, le, turned_length t men)
 
 pub free_alone : (first : ℕ) (earlier : List ℕ) (s : ℕ) → free_set_number first earlier (s ∷ []) ≡ free_number first earlier s
 free_alone first earlier s = ap (λ n. n + 0) (choose_one (free_number first earlier s)) ∙ omega arith
-
-pub turned_on_board : (t : Turn) (men : List Man) (c k : ℕ) → k < length (squares_of (turned_by t men) c) → slice_index (squares_of (turned_by t men) c) k ≤ 64
-turned_on_board t men c k lt = omega (arith, falling_at 64 (squares_of (turned_by t men) c) k (squares_fall (turned_by t men) c) lt)

@@ -3,7 +3,7 @@ use Rattle.std.specs.Prelude.{◌≡◌, ℕ, ◌-◌, ◌≤◌, List, [], ◌�
 use Rattle.place_index.specs.declared.few.Few.TheInside.{Inside}
 use Rattle.place_index.specs.declared.few.Earlier.TheInside.{Inside as EarlierInside}
 
--- up to three numbers, and 0 past them
+-- up to three numbers, and 0 in the first two places where none stands
 pub record IsFew (f : Inside) : Type 0 where
   pub few : f.count ≤ 3
   pub size : length f.numbers ≡ 3

@@ -111,8 +111,12 @@ pub record IsLeadTurned (l : Layout) (men : List Man) : Type 0 where
   pub pawns : has_pawns l.material ≡ true → ArePawnsAt l.file (pawn_numbers_of men (lead_code l.material))
   pub kings : has_pawns l.material ≡ false → has_unique l.material ≡ false → AreTurnedKings (square_of men (slice_index l.pieces 0)) (square_of men (slice_index l.pieces 1))
 
--- the highest square of the men with each code, 0 where there are none
-pub record AreTops (men : List Man) (tops : List ℕ) : Type 0 where
-  pub size : length tops ≡ 16
-  pub is : (c : ℕ) → c < 16 → slice_index tops c ≡ square_of men c
-  pub board : (c : ℕ) → c < 16 → slice_index tops c < 64
+-- one man alone has this code, and stands on this square
+abbrev pub IsOnly : List Man → ℕ → ℕ → Type 0
+IsOnly men c s = (stands men c s ≡ true) × ((t : ℕ) → t < 64 → stands men c t ≡ true → t ≡ s)
+
+-- by each code a square, that of the man if he is the only one with it
+pub record AreLoneSquares (men : List Man) (lone_squares : List ℕ) : Type 0 where
+  pub size : length lone_squares ≡ 16
+  pub is : (c s : ℕ) → c < 16 → IsOnly men c s → slice_index lone_squares c ≡ s
+  pub board : (c : ℕ) → c < 16 → slice_index lone_squares c < 64

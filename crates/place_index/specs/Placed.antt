@@ -1,5 +1,5 @@
 -- How a position is looked up in its table: with colours exchanged where the table names them the other way (Syzygy tables).
-use Rattle.std.specs.Prelude.{◌≡◌, ℕ, suc, ◌+◌, ◌-◌, ◌<◌, ◌⊎◌, List, [], ◌∷◌, Bool, true, false, cond, slice_index, sum_by, Option, Some, None}
+use Rattle.std.specs.Prelude.{◌≡◌, ℕ, suc, ◌+◌, ◌-◌, ◌<◌, ◌≤◌, ◌⊎◌, List, [], ◌∷◌, Bool, true, false, cond, slice_index, sum_by, take, Option, Some, None}
 use Rattle.std.specs.List.Sorted.{IsPermutation}
 use Rattle.board_core.specs.declared.piece.Piece.{Piece}
 use Rattle.board_core.specs.declared.piece.Side.{Side}
@@ -92,11 +92,12 @@ pub record IsLookedUp (key : ℕ) (p : Parts) (placed : Placement) : Type 0 wher
 
 -- what a value of this type keeps
 abbrev pub placement_of : Inside → Placement
-placement_of a = record { material = a.material; men = a.men.items; side = a.side; file = a.file }
+placement_of a = record { material = a.material; men = take a.count a.men; side = a.side; file = a.file }
 
 pub record IsPlaced (a : Inside) : Type 0 where
   pub material : a.material < 145
-  pub men : IsPlacement a.material a.men.items
+  pub count : a.count ≤ 5
+  pub men : IsPlacement a.material (take a.count a.men)
   pub side : a.side < 2
-  pub lead : a.lead ≡ lead_square a.material a.men.items
-  pub file : a.file ≡ lead_file a.material a.men.items
+  pub lead : a.lead ≡ lead_square a.material (take a.count a.men)
+  pub file : a.file ≡ lead_file a.material (take a.count a.men)

@@ -64,8 +64,9 @@ impl Material {
         if position.men() > 5 {
             return None;
         }
-        let (mut men, _) = men_on(position);
-        let weight = weight(men.as_slice());
+        let mut men = [Man::default(); 5];
+        let (count, _) = men_on(position, &mut men);
+        let weight = weight(&men[..count]);
         if weight >= 2233 {
             return None;
         }
@@ -73,7 +74,7 @@ impl Material {
         let Some(material) = Material::with_key(key) else {
             return None;
         };
-        if is_material_of(material, men.as_mut_slice()) {
+        if is_material_of(material, &mut men[..count]) {
             Some(material)
         } else {
             None

@@ -1,19 +1,19 @@
 //! The index of a placement.
 
 ghost use Rattle.std.specs.Prelude.{◌≡◌, ◌<◌, ◌≤◌, [], true, false};
-ghost use Rattle.place_index.specs.Index.{AreTops, IsLeadTurned, IsShape, IsPlacement, lead_codes, lead_number, squares_of_all, numbers_of, sum_of_products, index_of};
+ghost use Rattle.place_index.specs.Index.{AreLoneSquares, IsLeadTurned, IsShape, IsPlacement, lead_codes, lead_number, squares_of_all, numbers_of, sum_of_products, index_of};
 ghost use Rattle.place_index.specs.Others.{CountLike};
 ghost use Rattle.place_index.specs.Shape.{has_pawns, lead_men, factors_of, size_of, greatest_size};
 ghost use Rattle.place_index.specs.Turning.{turned_by};
 
 use crate::few::Earlier;
+use crate::lone_squares::{lone_square, lone_squares, number_group};
 use crate::man::Man;
 use crate::material::{Material, leading_men, leading_pawn};
 use crate::numbers::{pawns_before, pawns_number, pieces_number};
 use crate::placed::Placed;
 use crate::shape::Shape;
 use crate::squares::{pawn_numbers_of, pawn_square};
-use crate::tops::{number_group, top, tops};
 use crate::turn::Turn;
 use crate::turning::{lead_codes, turn_of};
 
@@ -21,13 +21,13 @@ use crate::turning::{lead_codes, turn_of};
 fn lead_pieces(
     shape: &Shape,
     men: &[Man],
-    tops: &[u8; 16],
+    lone_squares: &[u8; 16],
     turn: Turn,
     earlier: &mut Earlier,
 ) -> u64
     requires shape { IsShape shape.now }
     requires men { IsPlacement shape.now.material men.now }
-    requires tops { AreTops men.now tops.now }
+    requires lone_squares { AreLoneSquares men.now lone_squares.now }
     requires turned { IsPlacement shape.now.material (turned_by turn men.now) }
     requires lead { IsLeadTurned shape.now (turned_by turn men.now) }
     requires plain { has_pawns shape.now.material ≡ false }
@@ -36,17 +36,23 @@ fn lead_pieces(
     ensures earlier { CountLike earlier.new (squares_of_all (turned_by turn men.now) (lead_codes shape.now)) }
 {
     for code in lead_codes(shape) {
-        let from = top(tops, *code);
+        let from = lone_square(lone_squares, *code);
         earlier.push(turn.square(from));
     }
     pieces_number(shape, men, turn, earlier.as_slice())
 }
 
 /// The number of a leading pawn without others, whose square is the first one of earlier men.
-fn lone_pawn(shape: &Shape, men: &[Man], tops: &[u8; 16], turn: Turn, earlier: &mut Earlier) -> u64
+fn lone_pawn(
+    shape: &Shape,
+    men: &[Man],
+    lone_squares: &[u8; 16],
+    turn: Turn,
+    earlier: &mut Earlier,
+) -> u64
     requires shape { IsShape shape.now }
     requires men { IsPlacement shape.now.material men.now }
-    requires tops { AreTops men.now tops.now }
+    requires lone_squares { AreLoneSquares men.now lone_squares.now }
     requires turned { IsPlacement shape.now.material (turned_by turn men.now) }
     requires lead { IsLeadTurned shape.now (turned_by turn men.now) }
     requires pawned { has_pawns shape.now.material ≡ true }
@@ -56,7 +62,7 @@ fn lone_pawn(shape: &Shape, men: &[Man], tops: &[u8; 16], turn: Turn, earlier: &
     ensures earlier { CountLike earlier.new (squares_of_all (turned_by turn men.now) (lead_codes shape.now)) }
 {
     let material = shape.material();
-    let from = top(tops, leading_pawn(material));
+    let from = lone_square(lone_squares, leading_pawn(material));
     let square = turn.square(from);
     earlier.push(square);
     pawns_before(shape.file(), 0, (square / 8) as usize - 1)
@@ -82,10 +88,16 @@ fn lead_pawns(shape: &Shape, men: &[Man], turn: Turn, earlier: &mut Earlier) -> 
 }
 
 /// The number of the leading group, whose squares are the first ones of earlier men.
-fn lead(shape: &Shape, men: &[Man], tops: &[u8; 16], turn: Turn, earlier: &mut Earlier) -> u64
+fn lead_group(
+    shape: &Shape,
+    men: &[Man],
+    lone_squares: &[u8; 16],
+    turn: Turn,
+    earlier: &mut Earlier,
+) -> u64
     requires shape { IsShape shape.now }
     requires men { IsPlacement shape.now.material men.now }
-    requires tops { AreTops men.now tops.now }
+    requires lone_squares { AreLoneSquares men.now lone_squares.now }
     requires turned { IsPlacement shape.now.material (turned_by turn men.now) }
     requires lead { IsLeadTurned shape.now (turned_by turn men.now) }
     requires none { earlier.old ≡ [] }
@@ -94,20 +106,20 @@ fn lead(shape: &Shape, men: &[Man], tops: &[u8; 16], turn: Turn, earlier: &mut E
 {
     let material = shape.material();
     if !material.has_pawns() {
-        return lead_pieces(shape, men, tops, turn, earlier);
+        return lead_pieces(shape, men, lone_squares, turn, earlier);
     }
     if leading_men(material) == 1 {
-        lone_pawn(shape, men, tops, turn, earlier)
+        lone_pawn(shape, men, lone_squares, turn, earlier)
     } else {
         lead_pawns(shape, men, turn, earlier)
     }
 }
 
 /// The sum of the groups' numbers after the turn, each times its factor.
-fn sum_of_groups(shape: &Shape, men: &[Man], tops: &[u8; 16], turn: Turn) -> u64
+fn sum_of_groups(shape: &Shape, men: &[Man], lone_squares: &[u8; 16], turn: Turn) -> u64
     requires shape { IsShape shape.now }
     requires men { IsPlacement shape.now.material men.now }
-    requires tops { AreTops men.now tops.now }
+    requires lone_squares { AreLoneSquares men.now lone_squares.now }
     requires turned { IsPlacement shape.now.material (turned_by turn men.now) }
     requires lead { IsLeadTurned shape.now (turned_by turn men.now) }
     requires fits { sum_of_products (numbers_of shape.now (turned_by turn men.now)) (factors_of shape.now) ≤ greatest_size }
@@ -116,10 +128,10 @@ fn sum_of_groups(shape: &Shape, men: &[Man], tops: &[u8; 16], turn: Turn) -> u64
     let groups = shape.groups();
     let factors = shape.factors();
     let mut earlier = Earlier::new();
-    let lead = lead(shape, men, tops, turn, &mut earlier);
+    let lead = lead_group(shape, men, lone_squares, turn, &mut earlier);
     let mut sum = lead * factors[0];
     for i in 1..groups.len() {
-        let number = number_group(&mut earlier, men, tops, turn, groups[i]);
+        let number = number_group(&mut earlier, men, lone_squares, turn, groups[i]);
         sum += number * factors[i];
     }
     sum
@@ -135,7 +147,7 @@ pub fn index(shape: &Shape, placed: &Placed) -> u64
     ensures below { result < size_of shape.now }
 {
     let men = placed.men();
-    let tops = tops(men);
-    let turn = turn_of(shape, placed, &tops);
-    sum_of_groups(shape, men, &tops, turn)
+    let lone_squares = lone_squares(men);
+    let turn = turn_of(shape, placed, &lone_squares);
+    sum_of_groups(shape, men, &lone_squares, turn)
 }

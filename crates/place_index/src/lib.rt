@@ -8,6 +8,7 @@ mod finding;
 mod group;
 mod indexing;
 mod laws;
+mod lone_squares;
 mod man;
 mod material;
 mod numbers;
@@ -18,7 +19,6 @@ mod sizes;
 mod squares;
 mod sweep;
 mod tables;
-mod tops;
 mod turn;
 mod turning;
 

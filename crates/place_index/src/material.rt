@@ -1,10 +1,12 @@
 ghost use Rattle.std.specs.Prelude.{◌≡◌, ◌+◌, ◌<◌, ◌≤◌, ◌↔◌, ℕ, IfSome, IfNone, IsTrue, length, slice_index};
 ghost use Rattle.place_index.specs.Material.{Men, IsTable, TablesAreNumbered, name_at, name_of, men_of, white_pawns, black_pawns, pieces_of, count_of, tally_of};
-ghost use Rattle.place_index.specs.Shape.{lead_men, lead_code, other_code, other_pawns, black_leads, both_have_pawns};
+ghost use Rattle.place_index.specs.Shape.{lead_men, lead_code, leading_code, other_code, other_pawns, black_leads, both_have_pawns};
 ghost use Rattle.place_index.specs.Place.{place_of, rank_of, pair_of, triple_of};
 
 use crate::man::{BLACK_PAWN, WHITE_PAWN};
-use crate::tables::{COUNTS, LEADING_MEN, LETTERS, PAIRS, SYMMETRIC, TALLIES, TRIPLES};
+use crate::tables::{
+    COUNTS, LEADING_MEN, LEADING_PAWNS, LETTERS, PAIRS, SYMMETRIC, TALLIES, TRIPLES,
+};
 use arrayvec::ArrayString;
 use std::marker::Model;
 
@@ -179,9 +181,7 @@ impl Material {
     pub fn has_pawns(&self) -> bool
         ensures { IsTrue result ↔ (1 ≤ white_pawns self.now + black_pawns self.now) }
     {
-        let white = self.count(WHITE_PAWN);
-        let black = self.count(BLACK_PAWN);
-        white + black != 0
+        leading_code(*self) != 0
     }
 
     /// How many men have this code of a table file: 1 to 6 for the first side's pawns, knights, bishops, rooks, queens and
@@ -238,16 +238,21 @@ fn black_leads(material: Material) -> bool
     black != 0 && (white == 0 || black < white)
 }
 
-/// The code of the leading pawns.
-#[tactic(auto, unfolding(crate::specs::Shape::lead_code))]
+/// The code of the leading pawns, 0 without pawns.
+fn leading_code(material: Material) -> u8
+    ensures is { result ≡ leading_code material }
+    ensures known { material < 145 }
+{
+    let key = material.key();
+    LEADING_PAWNS[key as usize]
+}
+
+/// The code of the leading pawns, white's without pawns.
 pub(crate) fn leading_pawn(material: Material) -> u8
     ensures { result ≡ lead_code material }
 {
-    if black_leads(material) {
-        BLACK_PAWN
-    } else {
-        WHITE_PAWN
-    }
+    let code = leading_code(material);
+    if code == 0 { WHITE_PAWN } else { code }
 }
 
 /// The code of the pawns that don't lead.

@@ -1,7 +1,7 @@
 //! The numbers of the groups.
 
-ghost use Rattle.std.specs.Prelude.{◌≡◌, ◌<◌, ◌≤◌, ◌∷◌, ℕ, length, slice_index, false, cond};
-ghost use Rattle.place_index.specs.Choose.{set_number};
+ghost use Rattle.std.specs.Prelude.{◌≡◌, ◌<◌, ◌≤◌, ◌+◌, ◌++◌, ◌∷◌, ℕ, length, slice_index, false, cond};
+ghost use Rattle.place_index.specs.Choose.{set_number, IsFallingBelow};
 ghost use Rattle.place_index.specs.Index.{ArePawnsAt, IsLeadTurned, IsPlacement, first_square, lead_codes, lead_pawns_number, lead_number, squares_of_all};
 ghost use Rattle.place_index.specs.Kings.{AreTurnedKings, kings_number};
 ghost use Rattle.place_index.specs.Others.{taken, free_number, free_set_number};
@@ -171,16 +171,19 @@ pub(crate) fn free_number(first: u8, earlier: &Earlier, square: u8) -> u64
         .saturating_sub(first as u64)
 }
 
-/// The number of a group on these squares, the highest first, among those that earlier men leave free.
-pub(crate) fn free_set_number(first: u8, earlier: &Earlier, squares: &[u8]) -> u64
-    requires few { length squares.now ≤ 5 }
-    requires board { (k : ℕ) → k < length squares.now → slice_index squares.now k ≤ 64 }
-    ensures { result ≡ free_set_number first earlier.now squares.now }
+/// The number of a group on these squares, the highest first, among those that earlier men leave free. Its men are among the
+/// earlier ones then; those on higher squares change no number.
+pub(crate) fn free_set_number(first: u8, earlier: &mut Earlier, squares: &[u8]) -> u64
+    requires room { length earlier.old + length squares.now ≤ 5 }
+    requires falling { IsFallingBelow 64 squares.now }
+    ensures number { result ≡ free_set_number first earlier.old squares.now }
+    ensures earlier { earlier.new ≡ earlier.old ++ squares.now }
 {
     let mut sum: u64 = 0;
     for (i, square) in squares.iter().enumerate() {
         let free = free_number(first, earlier, *square);
         sum += choices(free, (squares.len() - i) as u64);
+        earlier.push(*square);
     }
     sum
 }

@@ -9,9 +9,8 @@ ghost use Rattle.place_index.specs.Turning.{lead_file, lead_pawn, lead_square, l
 
 use crate::man::Man;
 use crate::material::Material;
-use crate::sweep::{exchange, is_named, men_on};
+use crate::sweep::{exchange, men_on};
 use crate::turning::lead_pawn;
-use arrayvec::ArrayVec;
 use board_core::{Position, Side};
 use std::marker::Model;
 
@@ -20,7 +19,8 @@ use std::marker::Model;
 #[derive(Drop, Debug)]
 pub struct Placed {
     material: Material,
-    men: ArrayVec<Man, 5>,
+    men: [Man; 5],
+    count: u8,
     side: u8,
     lead: u8,
     file: u8,
@@ -51,7 +51,7 @@ impl Placed {
         ensures placement { IsPlacement self.now.material self.now.men }
         ensures file { lead_file self.now.material self.now.men ≡ self.now.file }
     {
-        self.men.as_slice()
+        &self.men[..self.count as usize]
     }
 
     /// The side to move after the exchange of colours, 0 for white and 1 for black.
@@ -110,30 +110,28 @@ fn left_file(square: u8) -> u8
     if file < 4 { file } else { 7 - file }
 }
 
-/// Whether men with this tally are looked up with colours exchanged: where white's men are the name's second side, and for symmetric
-/// material with black to move.
-fn is_exchanged(material: Material, men: &[Man], tally: u64, side: u8) -> bool
-    requires known { material < 145 }
-    requires few { length men.now ≤ 5 }
-    requires tally { tally ≡ tally_of (codes_of men.now) }
-    requires side { side < 2 }
-    requires material { IsMaterialOf material men.now }
-    ensures named { IsNamed material (cond result (exchanged men.now) men.now) }
-    ensures white { IsSymmetric material → cond result (1 - side) side ≡ 0 }
+/// Whether the position, whose men have this tally, is looked up with colours exchanged: where white's men are the name's second
+/// side, and for symmetric material with black to move.
+fn is_exchanged(material: Material, position: &Position, tally: u64) -> bool
+    requires tally { tally ≡ tally_of (codes_of (men_on position.now.men)) }
+    requires material { IsMaterialOf material (men_on position.now.men) }
+    ensures named { IsNamed material (cond result (exchanged (men_on position.now.men)) (men_on position.now.men)) }
+    ensures white { IsSymmetric material → cond result (1 - side_number position.now.side) (side_number position.now.side) ≡ 0 }
 {
-    if material.symmetric() {
-        side == 1
-    } else {
-        !is_named(material, men, tally)
+    let _key = material.key();
+    // In either colours there are as many men as in the material, so equal tallies are equal men.
+    if tally != material.tally() {
+        return true;
     }
+    position.side() == Side::Black && material.symmetric()
 }
 
 /// Exchanges colours, if so.
-fn in_colours(men: &mut ArrayVec<Man, 5>, exchanges: bool)
-    ensures { men.new.items ≡ cond exchanges (exchanged men.old.items) men.old.items }
+fn in_colours(men: &mut [Man; 5], exchanges: bool)
+    ensures { men.new ≡ cond exchanges (exchanged men.old) men.old }
 {
     if exchanges {
-        exchange(men.as_mut_slice());
+        exchange(men);
     }
 }
 
@@ -155,15 +153,16 @@ pub fn place(position: &Position, material: &Material) -> Placed
 {
     let _position = position.parts();
     let _key = material.key();
-    let (mut men, tally) = men_on(position);
-    let before = side_number(position.side());
-    let exchanges = is_exchanged(*material, men.as_slice(), tally, before);
+    let mut men = [Man::default(); 5];
+    let (count, tally) = men_on(position, &mut men);
+    let exchanges = is_exchanged(*material, position, tally);
     in_colours(&mut men, exchanges);
-    let lead = lead_square(*material, men.as_slice());
+    let lead = lead_square(*material, &men[..count]);
     Placed {
         material: *material,
         men,
-        side: side_after(before, exchanges),
+        count: count as u8,
+        side: side_after(side_number(position.side()), exchanges),
         lead,
         file: left_file(lead),
     }

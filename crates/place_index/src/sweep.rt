@@ -1,6 +1,6 @@
 //! The men of a position, and their codes.
 
-ghost use Rattle.std.specs.Prelude.{◌≡◌, ◌<◌, ◌≤◌, ◌↔◌, ◌∷◌, [], IsTrue, length};
+ghost use Rattle.std.specs.Prelude.{◌≡◌, ◌<◌, ◌≤◌, ◌↔◌, ◌∷◌, [], IsTrue, drop, length, take};
 ghost use Rattle.place_index.specs.Material.{tally_of};
 ghost use Rattle.place_index.specs.Men.{codes_of, exchanged, other_side};
 ghost use Rattle.place_index.specs.Placed.{IsNamed, code_of, men_on};
@@ -9,7 +9,6 @@ ghost use Rattle.place_index.specs.Square.{bottom_top};
 use crate::man::Man;
 use crate::material::{Material, men as material_men};
 use crate::tables::CODE_TALLIES;
-use arrayvec::ArrayVec;
 use board_core::{Kind, Piece, Position, Side, Square};
 
 /// The piece code of a man in the table file: 1 to 6 for white's pawn, knight, bishop, rook, queen and king, 9 to 14 for
@@ -41,29 +40,34 @@ fn known_tally(code: u8) -> u64
     CODE_TALLIES[code as usize]
 }
 
-/// The men of a position in order of square, with how often each code from 0 to 15 stands among them, four bits for each.
-pub(crate) fn men_on(position: &Position) -> (ArrayVec<Man, 5>, u64)
+/// Puts the men of a position into the first places in order of square; how many they are, with how often each code from 0 to
+/// 15 stands among them, four bits for each.
+pub(crate) fn men_on(position: &Position, men: &mut [Man; 5]) -> (usize, u64)
     requires { length (men_on position.now.men) ≤ 5 }
-    ensures men { result.0.items ≡ men_on position.now.men }
+    ensures men { take result.0 men.new ≡ men_on position.now.men }
+    ensures later { drop result.0 men.new ≡ drop result.0 men.old }
+    ensures few { result.0 ≤ 5 }
     ensures tally { result.1 ≡ tally_of (codes_of (men_on position.now.men)) }
 {
     let _position = position.parts();
-    let mut men = ArrayVec::<Man, 5>::new();
+    let mut count = 0usize;
     let mut tally = 0u64;
     let mut rest = position.occupied();
     let mut next = 0u8;
     while !rest.is_empty() {
         let square = rest.lowest();
         let number = square.number();
-        if let Some(piece) = position.piece_at(square) {
-            let code = code_of(piece);
-            men.push(Man { code, square });
-            tally += known_tally(code);
-        }
+        let Some(piece) = position.piece_at(square) else {
+            break;
+        };
+        let code = code_of(piece);
+        men[count] = Man { code, square };
+        count += 1;
+        tally += known_tally(code);
         rest = rest.without(square);
         next = number + 1;
     }
-    (men, tally)
+    (count, tally)
 }
 
 /// The same man of the other side, on the rank that lies opposite.

@@ -1,21 +1,34 @@
 //! The turning of all men, so that the leading group stands as its number wants.
 
-ghost use Rattle.std.specs.Prelude.{◌≡◌, ◌<◌, ◌≤◌, ℕ, length, map, not, nat_lt, slice_index, true};
-ghost use Rattle.place_index.specs.Index.{AreMen, AreTops, IsPlacement, IsShape, lead_codes};
+ghost use Rattle.std.specs.Prelude.{◌≡◌, ◌≢◌, ◌<◌, ◌≤◌, ℕ, length, map, not, nat_lt, slice_index, true};
+ghost use Rattle.place_index.specs.Index.{AreMen, AreLoneSquares, IsPlacement, IsShape, lead_codes};
 ghost use Rattle.place_index.specs.Men.{stands};
-ghost use Rattle.place_index.specs.Pawns.{pawn_numbers_of};
+ghost use Rattle.place_index.specs.Pawns.{pawn_number, pawn_numbers_of};
 ghost use Rattle.place_index.specs.Shape.{has_pawns};
 ghost use Rattle.place_index.specs.Square.{file, rank};
 ghost use Rattle.place_index.specs.Turning.{lead_pawn, turned, turned_by, turn_square, low, is_first_above};
 
+use crate::lone_squares::lone_square;
 use crate::man::Man;
 use crate::material::{Material, leading_men, leading_pawn};
 use crate::placed::Placed;
 use crate::shape::Shape;
 use crate::squares::pawn_square;
 use crate::tables::PAWN_NUMBERS;
-use crate::tops::top;
 use crate::turn::Turn;
+
+/// The greater of this number and the man's pawn number, which counts for a man with this code alone.
+fn raised(greatest: u8, man: Man, code: u8) -> u8
+    ensures other { man.code ≢ code → result ≡ greatest }
+    ensures more { man.code ≡ code → greatest < pawn_number man.square → result ≡ pawn_number man.square }
+    ensures same { man.code ≡ code → pawn_number man.square ≤ greatest → result ≡ greatest }
+{
+    if man.code != code {
+        return greatest;
+    }
+    let number = PAWN_NUMBERS[man.square.number() as usize];
+    if number > greatest { number } else { greatest }
+}
 
 /// The greatest pawn number of the men with this code.
 fn greatest_number(men: &[Man], code: u8) -> u8
@@ -27,14 +40,7 @@ fn greatest_number(men: &[Man], code: u8) -> u8
     let mut i = men.len();
     'men: while i > 0 {
         i -= 1;
-        let man = men[i];
-        if man.code != code {
-            continue;
-        }
-        let number = PAWN_NUMBERS[man.square.number() as usize];
-        if number > greatest {
-            greatest = number;
-        }
+        greatest = raised(greatest, men[i], code);
     }
     greatest
 }
@@ -66,13 +72,13 @@ pub(crate) fn lead_codes(shape: &Shape) -> &[u8]
 }
 
 /// Whether the first of the leading men off the diagonal a1-h8, if there is one, stands above it after the turn.
-fn is_above(tops: &[u8; 16], turn: Turn, lead: &[u8]) -> bool
+fn is_above(lone_squares: &[u8; 16], turn: Turn, lead: &[u8]) -> bool
     requires codes { (i : ℕ) → i < length lead.now → slice_index lead.now i < 16 }
-    requires board { (c : ℕ) → c < 16 → slice_index tops.now c < 64 }
-    ensures { result ≡ is_first_above (map (λ c. turn_square turn (slice_index tops.now c)) lead.now) }
+    requires board { (c : ℕ) → c < 16 → slice_index lone_squares.now c < 64 }
+    ensures { result ≡ is_first_above (map (λ c. turn_square turn (slice_index lone_squares.now c)) lead.now) }
 {
     for code in lead {
-        let from = top(tops, *code);
+        let from = lone_square(lone_squares, *code);
         let square = turn.square(from);
         let file = square % 8;
         let rank = square / 8;
@@ -85,27 +91,27 @@ fn is_above(tops: &[u8; 16], turn: Turn, lead: &[u8]) -> bool
 
 /// The turn of pieces: the first of the leading men goes to the left and to the bottom, and then the first one off the
 /// diagonal a1-h8 to below it.
-fn turn_of_pieces(tops: &[u8; 16], lead: &[u8]) -> Turn
+fn turn_of_pieces(lone_squares: &[u8; 16], lead: &[u8]) -> Turn
     requires some { 1 ≤ length lead.now }
     requires codes { (i : ℕ) → i < length lead.now → slice_index lead.now i < 16 }
-    requires board { (c : ℕ) → c < 16 → slice_index tops.now c < 64 }
-    ensures left_right { result.left_right ≡ not (nat_lt (file (slice_index tops.now (slice_index lead.now 0))) 4) }
-    ensures bottom_top { result.bottom_top ≡ not (nat_lt (rank (slice_index tops.now (slice_index lead.now 0))) 4) }
-    ensures across { result.across ≡ is_first_above (map (λ c. turn_square (low result) (slice_index tops.now c)) lead.now) }
+    requires board { (c : ℕ) → c < 16 → slice_index lone_squares.now c < 64 }
+    ensures left_right { result.left_right ≡ not (nat_lt (file (slice_index lone_squares.now (slice_index lead.now 0))) 4) }
+    ensures bottom_top { result.bottom_top ≡ not (nat_lt (rank (slice_index lone_squares.now (slice_index lead.now 0))) 4) }
+    ensures across { result.across ≡ is_first_above (map (λ c. turn_square (low result) (slice_index lone_squares.now c)) lead.now) }
 {
-    let first = top(tops, lead[0]).number();
+    let first = lone_square(lone_squares, lead[0]).number();
     let mut turn = Turn::still();
     turn.left_right = first % 8 >= 4;
     turn.bottom_top = first / 8 >= 4;
-    let across = is_above(tops, turn, lead);
+    let across = is_above(lone_squares, turn, lead);
     turn.across = across;
     turn
 }
 
 /// How all men are turned for the shape's index: with pawns left and right alone, by the leading pawn.
-pub(crate) fn turn_of(shape: &Shape, placed: &Placed, tops: &[u8; 16]) -> Turn
+pub(crate) fn turn_of(shape: &Shape, placed: &Placed, lone_squares: &[u8; 16]) -> Turn
     requires material { placed.now.material ≡ shape.now.material }
-    requires tops { AreTops placed.now.men tops.now }
+    requires lone_squares { AreLoneSquares placed.now.men lone_squares.now }
     ensures is { turned_by result placed.now.men ≡ turned shape.now placed.now.men }
     ensures shape { IsShape shape.now }
 {
@@ -120,5 +126,5 @@ pub(crate) fn turn_of(shape: &Shape, placed: &Placed, tops: &[u8; 16]) -> Turn
         };
     }
     let lead = lead_codes(shape);
-    turn_of_pieces(tops, lead)
+    turn_of_pieces(lone_squares, lead)
 }

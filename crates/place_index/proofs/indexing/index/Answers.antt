@@ -1,17 +1,20 @@
-use Rattle.std.proofs.Common.{◌≡◌, ◌∙◌, ap, sym, subst, arith}
-use Rattle.place_index.specs.Index.{AreMen, AreTops, IsPlacement, IsLeadTurned, numbers_of, sum_of_products}
+use Rattle.std.proofs.Common.{◌≡◌, ◌<◌, ◌∙◌, ℕ, true, ap, sym, subst, arith}
+use Rattle.place_index.specs.Men.{stands}
+use Rattle.place_index.specs.Index.{AreLoneSquares, IsPlacement, IsLeadTurned, numbers_of, sum_of_products}
 use Rattle.place_index.specs.Shape.{factors_of}
 use Rattle.place_index.specs.Turning.{turned, turned_by, lead_file}
 use Rattle.place_index.proofs.Greatest.{size_is_within}
 use Rattle.place_index.proofs.IndexLaw.{index_below, turned_placement, index_products}
-use Rattle.place_index.proofs.TurnedMen.{are_men, lead_is_turned}
+use Rattle.place_index.proofs.TurnedMen.{lead_is_turned}
+use Rattle.place_index.proofs.Turns.{codes_known}
 use Rattle.place_index.proofs.indexing.index.Goals as goal
 
-pub tops-tops-requires : goal.tops-tops-requires
-tops-tops-requires c = subst AreMen (sym c.men-men.ensures.is) (are_men c.args.placed.now.material c.args.placed.now.men c.men-men.ensures.known c.men-men.ensures.placement)
+pub lone_squares-lone_squares-requires : goal.lone_squares-lone_squares-requires
+lone_squares-lone_squares-requires c =
+    subst (λ men. (k s : ℕ) → stands men k s ≡ true → k < 16) (sym c.men-men.ensures.is) (codes_known c.args.placed.now.material c.args.placed.now.men c.men-men.ensures.known c.men-men.ensures.placement)
 
-pub turn_of-turn-requires-clause-tops : goal.turn_of-turn-requires-clause-tops
-turn_of-turn-requires-clause-tops c = subst (λ men. AreTops men c.tops-tops.result) c.men-men.ensures.is c.tops-tops.ensures
+pub turn_of-turn-requires-clause-lone_squares : goal.turn_of-turn-requires-clause-lone_squares
+turn_of-turn-requires-clause-lone_squares c = subst (λ men. AreLoneSquares men c.lone_squares-lone_squares.result) c.men-men.ensures.is c.lone_squares-lone_squares.ensures
 
 pub sum_of_groups-requires-clause-men : goal.sum_of_groups-requires-clause-men
 sum_of_groups-requires-clause-men c =

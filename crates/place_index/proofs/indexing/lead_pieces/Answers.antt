@@ -13,8 +13,8 @@ use Rattle.place_index.proofs.indexing.lead_pieces.Goals as goal
 pub loop-code-init : goal.loop-code-init
 loop-code-init c = c.requires.none
 
-pub top-from-requires-clause-code : goal.top-from-requires-clause-code
-top-from-requires-clause-code c =
+pub lone_square-from-requires-clause-code : goal.lone_square-from-requires-clause-code
+lone_square-from-requires-clause-code c =
     let found = lone_lead c.args.shape.now c.args.men.now c.args.turn c.loop-code.code-index c.requires.shape c.requires.men
     (ap (λ b. cond {A = ℕ} b (lead_men c.args.shape.now.material) 1) c.requires.plain) (omega (arith, c.loop-code-test.true, ap length c.lead_codes-code-items.ensures)) in
     let here = subst (λ xs. IsFound c.args.shape.now c.args.men.now c.args.turn (slice_index xs c.loop-code.code-index)) (sym c.lead_codes-code-items.ensures) found in
@@ -43,7 +43,7 @@ loop-code-preserved c =
     (ap (λ b. cond {A = ℕ} b (lead_men c.args.shape.now.material) 1) c.requires.plain) (omega (arith, c.loop-code-test.true, ap length c.lead_codes-code-items.ensures)) in
     let here = subst (λ xs. IsFound c.args.shape.now c.args.men.now c.args.turn (slice_index xs c.loop-code.code-index)) (sym c.lead_codes-code-items.ensures) found in
     let code = get_or c.lead_codes-code-items.result.now c.loop-code.code-index 0 in
-    let square : c.square.result ≡ turn_square c.args.turn (square_of c.args.men.now code) = c.square.ensures.is ∙ ap (turn_square c.args.turn) (c.top-from.ensures ∙ c.requires.tops.is code here.0) in
+    let square : c.square.result ≡ turn_square c.args.turn (square_of c.args.men.now code) = c.square.ensures.is ∙ ap (turn_square c.args.turn) (c.lone_square-from.ensures ∙ c.requires.lone_squares.is code (square_of c.args.men.now code) here.0 here.2) in
     c.push.ensures ∙ ap (λ s. c.loop-code.earlier ++ s ∷ []) square ∙ ap (λ l. c.loop-code.earlier ++ l) (sym here.1)
     ∙ ap (λ l. l ++ squares_of (turned_by c.args.turn c.args.men.now) code) c.loop-code.invariant
     ∙ sym (all_more (turned_by c.args.turn c.args.men.now) c.lead_codes-code-items.result.now c.loop-code.code-index c.loop-code-test.true)

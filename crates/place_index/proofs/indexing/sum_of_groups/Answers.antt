@@ -17,14 +17,14 @@ bounds-factors-0 c = omega (arith, ap length c.factors-factors.ensures, first_ro
 
 pub overflow_mul-sum : goal.overflow_mul-sum
 overflow_mul-sum c =
-    let s = summed_start c.args.shape.now (turned_by c.args.turn c.args.men.now) (drop 1 c.groups-groups.result.now) c.lead-lead.new.earlier c.factors-factors.result.now c.lead-lead.result _ c.requires.shape
-    (ap (drop 1) c.groups-groups.ensures) c.lead-lead.ensures.earlier c.factors-factors.ensures c.lead-lead.ensures.number refl in
-    omega (arith, c.requires.fits, summed_within c.args.shape.now (turned_by c.args.turn c.args.men.now) _ c.lead-lead.new.earlier 1 _ s)
+    let s = summed_start c.args.shape.now (turned_by c.args.turn c.args.men.now) (drop 1 c.groups-groups.result.now) c.lead_group-lead.new.earlier c.factors-factors.result.now c.lead_group-lead.result _ c.requires.shape
+    (ap (drop 1) c.groups-groups.ensures) c.lead_group-lead.ensures.earlier c.factors-factors.ensures c.lead_group-lead.ensures.number refl in
+    omega (arith, c.requires.fits, summed_within c.args.shape.now (turned_by c.args.turn c.args.men.now) _ c.lead_group-lead.new.earlier 1 _ s)
 
 pub loop-i-init : goal.loop-i-init
 loop-i-init c =
-    summed_start c.args.shape.now (turned_by c.args.turn c.args.men.now) (drop 1 c.groups-groups.result.now) c.lead-lead.new.earlier c.factors-factors.result.now c.lead-lead.result _ c.requires.shape
-    (ap (drop 1) c.groups-groups.ensures) c.lead-lead.ensures.earlier c.factors-factors.ensures c.lead-lead.ensures.number refl
+    summed_start c.args.shape.now (turned_by c.args.turn c.args.men.now) (drop 1 c.groups-groups.result.now) c.lead_group-lead.new.earlier c.factors-factors.result.now c.lead_group-lead.result _ c.requires.shape
+    (ap (drop 1) c.groups-groups.ensures) c.lead_group-lead.ensures.earlier c.factors-factors.ensures c.lead_group-lead.ensures.number refl
 
 pub number_group-number-requires-clause-men : goal.number_group-number-requires-clause-men
 number_group-number-requires-clause-men c = are_men c.args.shape.now.material c.args.men.now c.requires.shape.material c.requires.men
@@ -40,6 +40,12 @@ number_group-number-requires-clause-alone c one =
     let g = get_or c.groups-groups.result.now c.loop-i.i (group 0 0) in
     let h = subst (λ gs. IsSummed c.args.shape.now (turned_by c.args.turn c.args.men.now) gs c.loop-i.earlier c.loop-i.i c.loop-i.sum) (drop_more c.groups-groups.result.now c.loop-i.i (group 0 0) c.loop-i-test.true) c.loop-i.invariant in
     (lone_group c.args.shape.now c.args.men.now (turned_by c.args.turn c.args.men.now) c.args.turn g (drop (c.loop-i.i + 1) c.groups-groups.result.now) h.numbers c.loop-i.earlier c.requires.shape c.requires.men h.so_far one).1
+
+pub number_group-number-requires-clause-only : goal.number_group-number-requires-clause-only
+number_group-number-requires-clause-only c one =
+    let g = get_or c.groups-groups.result.now c.loop-i.i (group 0 0) in
+    let h = subst (λ gs. IsSummed c.args.shape.now (turned_by c.args.turn c.args.men.now) gs c.loop-i.earlier c.loop-i.i c.loop-i.sum) (drop_more c.groups-groups.result.now c.loop-i.i (group 0 0) c.loop-i-test.true) c.loop-i.invariant in
+    (lone_group c.args.shape.now c.args.men.now (turned_by c.args.turn c.args.men.now) c.args.turn g (drop (c.loop-i.i + 1) c.groups-groups.result.now) h.numbers c.loop-i.earlier c.requires.shape c.requires.men h.so_far one).2
 
 pub number_group-number-requires-clause-room : goal.number_group-number-requires-clause-room
 number_group-number-requires-clause-room c =

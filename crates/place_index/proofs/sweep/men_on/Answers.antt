@@ -1,45 +1,59 @@
-use Rattle.std.proofs.Common.{◌≡◌, ◌<◌, ◌+◌, ◌++◌, ◌∷◌, [], ◌∙◌, ap, sym, subst, length, arith, length-append}
+use Rattle.std.proofs.Common.{◌≡◌, ◌<◌, ◌+◌, ◌++◌, ◌∷◌, [], ◌∙◌, ap, sym, subst, take, refl, arith}
+use Rattle.std.specs.Prelude.{slice_set}
+use Rattle.std.proofs.lemmas.List.{take_more_set, drop-set-lt, length-take-le, length-set}
 use Rattle.place_index.specs.Material.{tally_of}
 use Rattle.place_index.specs.Men.{codes_of, man}
-use Rattle.place_index.proofs.MenOn.{IsSwept, swept_start, swept_next, swept_end, swept_room, swept_some}
+use Rattle.place_index.proofs.MenOn.{IsSwept, swept_start, swept_next, swept_end, swept_room, drop_on}
 use Rattle.place_index.proofs.Tallies.{tally_last, tally_none}
 use Rattle.place_index.proofs.sweep.men_on.Goals as goal
-use Rattle.place_index.proofs.sweep.men_on.Goals.{in-Some, in_default}
 
-pub loop-next-init : goal.loop-next-init
-loop-next-init c = record {
-  swept = swept_start c.args.position.now.men c.occupied-rest.result c.new-men.result.items c.occupied-rest.ensures c.new-men.ensures;
-  tally = sym (tally_none c.new-men.result.items c.new-men.ensures);
+pub loop-rest-init : goal.loop-rest-init
+loop-rest-init c = record {
+  swept = swept_start c.args.position.now.men c.occupied-rest.result [] c.occupied-rest.ensures refl;
+  later = refl;
+  few = omega arith;
+  size = c.told-men;
+  tally = sym (tally_none [] refl);
   most = omega arith;
 }
 
-pub push-requires : goal.push-requires
-push-requires c = (
-  omega arith,
-  swept_room c.args.position.now.men c.loop-next.next c.loop-next.rest c.lowest-square.result c.loop-next.men.items c.in-Some.piece c.parts-position.ensures.position.squares c.loop-next.invariant.swept
-      (omega (arith, c.number-number.ensures.value, c.number-number.ensures.on_board)) c.lowest-square.ensures.here c.lowest-square.ensures.first (sym c.piece_at.ensures ∙ c.in-Some.is) c.requires,
-)
+pub bounds-men-count : goal.bounds-men-count
+bounds-men-count c =
+    let room = swept_room c.args.position.now.men c.loop-rest.next c.loop-rest.rest c.lowest-square.result (take c.loop-rest.count c.loop-rest.men) c.in-Some.piece c.parts-position.ensures.position.squares c.loop-rest.invariant.swept
+    (omega (arith, c.number-number.ensures.value, c.number-number.ensures.on_board)) c.lowest-square.ensures.here c.lowest-square.ensures.first (sym c.piece_at.ensures ∙ c.in-Some.is) c.requires in
+    omega (arith, room, length-take-le c.loop-rest.count c.loop-rest.men (omega (arith, c.loop-rest.invariant.size, c.loop-rest.invariant.few)))
 
-pub loop-next-preserved : goal.loop-next-preserved
-loop-next-preserved c =
+pub listed : goal.listed
+listed c =
+    let room = swept_room c.args.position.now.men c.loop-rest.next c.loop-rest.rest c.lowest-square.result (take c.loop-rest.count c.loop-rest.men) c.in-Some.piece c.parts-position.ensures.position.squares c.loop-rest.invariant.swept
+    (omega (arith, c.number-number.ensures.value, c.number-number.ensures.on_board)) c.lowest-square.ensures.here c.lowest-square.ensures.first (sym c.piece_at.ensures ∙ c.in-Some.is) c.requires in
+    omega (arith, room, length-take-le c.loop-rest.count c.loop-rest.men (omega (arith, c.loop-rest.invariant.size, c.loop-rest.invariant.few)), c.loop-rest.invariant.size)
+
+pub loop-rest-preserved : goal.loop-rest-preserved
+loop-rest-preserved c =
     let board : c.lowest-square.result < 64 = omega (arith, c.number-number.ensures.value, c.number-number.ensures.on_board) in
     let up : c.lowest-square.result + 1 ≡ c.number-number.result + 1 = ap (λ n. n + 1) (sym c.number-number.ensures.value) in
-    elim c.match-piece_at.branch [
-      | in-Some w ↦
-          let last : c.match-piece_at.men.items ≡ c.loop-next.men.items ++ man w.code_of-code.result c.lowest-square.result ∷ [] = ap (λ v. v.items) w.men-is ∙ w.push.ensures.items in
-          let more = tally_last c.loop-next.men.items c.match-piece_at.men.items (man w.code_of-code.result c.lowest-square.result) last in
-          record {
-            swept = subst (λ n. IsSwept c.args.position.now.men n c.without-rest.result c.match-piece_at.men.items) up
-                (swept_next c.args.position.now.men c.loop-next.next c.loop-next.rest c.lowest-square.result c.without-rest.result c.loop-next.men.items c.match-piece_at.men.items w.in-Some.piece
-                c.parts-position.ensures.position.squares c.loop-next.invariant.swept board c.lowest-square.ensures.here c.lowest-square.ensures.first c.without-rest.ensures.gone c.without-rest.ensures.kept
-                (sym c.piece_at.ensures ∙ w.in-Some.is) (last ∙ ap (λ n. c.loop-next.men.items ++ man n c.lowest-square.result ∷ []) w.code_of-code.ensures.is));
-            tally = omega (arith, w.tally-is, c.loop-next.invariant.tally, w.known_tally-tally.ensures.is, more);
-            most = omega (arith, w.tally-is, c.loop-next.invariant.most, w.known_tally-tally.ensures.most, ap length last, length-append c.loop-next.men.items (man w.code_of-code.result c.lowest-square.result ∷ []));
-          }
-      | in_default w ↦ absurd (swept_some c.args.position.now.men c.loop-next.next c.loop-next.rest c.lowest-square.result c.loop-next.men.items c.loop-next.invariant.swept board c.lowest-square.ensures.here (sym c.piece_at.ensures ∙ w.in_default.is))
-    ]
+    let room = swept_room c.args.position.now.men c.loop-rest.next c.loop-rest.rest c.lowest-square.result (take c.loop-rest.count c.loop-rest.men) c.in-Some.piece c.parts-position.ensures.position.squares c.loop-rest.invariant.swept
+    (omega (arith, c.number-number.ensures.value, c.number-number.ensures.on_board)) c.lowest-square.ensures.here c.lowest-square.ensures.first (sym c.piece_at.ensures ∙ c.in-Some.is) c.requires in
+    let below : c.loop-rest.count < 5 = omega (arith, room, length-take-le c.loop-rest.count c.loop-rest.men (omega (arith, c.loop-rest.invariant.size, c.loop-rest.invariant.few))) in
+    let next = man c.code_of-code.result c.lowest-square.result in
+    let more = take (c.loop-rest.count + 1) (slice_set c.loop-rest.men c.loop-rest.count next) in
+    let last : more ≡ take c.loop-rest.count c.loop-rest.men ++ next ∷ [] = take_more_set c.loop-rest.men c.loop-rest.count next (omega (arith, below, c.loop-rest.invariant.size)) in
+    record {
+      swept = subst (λ n. IsSwept c.args.position.now.men n c.without-rest.result more) up
+          (swept_next c.args.position.now.men c.loop-rest.next c.loop-rest.rest c.lowest-square.result c.without-rest.result (take c.loop-rest.count c.loop-rest.men) more c.in-Some.piece c.parts-position.ensures.position.squares
+          c.loop-rest.invariant.swept board c.lowest-square.ensures.here c.lowest-square.ensures.first c.without-rest.ensures.gone c.without-rest.ensures.kept (sym c.piece_at.ensures ∙ c.in-Some.is)
+          (last ∙ ap (λ n. take c.loop-rest.count c.loop-rest.men ++ man n c.lowest-square.result ∷ []) c.code_of-code.ensures.is));
+      later = drop-set-lt (c.loop-rest.count + 1) c.loop-rest.men c.loop-rest.count next (omega arith) ∙ drop_on c.loop-rest.count c.loop-rest.men c.args.men.now c.loop-rest.invariant.later;
+      few = omega (arith, below);
+      size = length-set c.loop-rest.men c.loop-rest.count next ∙ c.loop-rest.invariant.size;
+      tally = omega (arith, c.loop-rest.invariant.tally, c.known_tally-tally.ensures.is, tally_last (take c.loop-rest.count c.loop-rest.men) more next last);
+      most = omega (arith, c.loop-rest.invariant.most, c.known_tally-tally.ensures.most);
+    }
 
-pub returns : goal.returns
-returns c =
-    let all = swept_end c.args.position.now.men c.loop-next.next c.loop-next.rest c.loop-next.men.items c.parts-position.ensures.position.squares c.loop-next.invariant.swept (c.is_empty.ensures.0 c.loop-next-test.false) in
-    record { men = all; tally = c.loop-next.invariant.tally ∙ ap (λ men. tally_of (codes_of men)) all }
+pub returns-after-loop-rest-clause-men : goal.returns-after-loop-rest-clause-men
+returns-after-loop-rest-clause-men c =
+    swept_end c.args.position.now.men c.loop-rest.next c.loop-rest.rest (take c.loop-rest.count c.loop-rest.men) c.parts-position.ensures.position.squares c.loop-rest.invariant.swept (c.is_empty.ensures.0 c.loop-rest-test.false)
+
+pub returns-after-loop-rest-clause-tally : goal.returns-after-loop-rest-clause-tally
+returns-after-loop-rest-clause-tally c = c.loop-rest.invariant.tally ∙ ap (λ men. tally_of (codes_of men)) (returns-after-loop-rest-clause-men c)

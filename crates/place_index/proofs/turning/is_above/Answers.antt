@@ -5,13 +5,13 @@ use Rattle.place_index.proofs.turning.is_above.Goals as goal
 
 pub returns-then-file-rank : goal.returns-then-file-rank
 returns-then-file-rank c =
-    let at : c.square-square.result ≡ turn_square c.args.turn (slice_index c.args.tops.now (slice_index c.args.lead.now c.loop-code.code-index)) = c.square-square.ensures.is ∙ ap (turn_square c.args.turn) c.top-from.ensures in
-    sym (c.loop-code.invariant ∙ above_off (λ k. turn_square c.args.turn (slice_index c.args.tops.now k)) c.args.lead.now c.loop-code.code-index c.square-square.result c.loop-code-test.true at c.if-file-rank.true)
+    let at : c.square-square.result ≡ turn_square c.args.turn (slice_index c.args.lone_squares.now (slice_index c.args.lead.now c.loop-code.code-index)) = c.square-square.ensures.is ∙ ap (turn_square c.args.turn) c.lone_square-from.ensures in
+    sym (c.loop-code.invariant ∙ above_off (λ k. turn_square c.args.turn (slice_index c.args.lone_squares.now k)) c.args.lead.now c.loop-code.code-index c.square-square.result c.loop-code-test.true at c.if-file-rank.true)
 
 pub loop-code-preserved : goal.loop-code-preserved
 loop-code-preserved c =
-    let at : c.square-square.result ≡ turn_square c.args.turn (slice_index c.args.tops.now (slice_index c.args.lead.now c.loop-code.code-index)) = c.square-square.ensures.is ∙ ap (turn_square c.args.turn) c.top-from.ensures in
-    c.loop-code.invariant ∙ above_on (λ k. turn_square c.args.turn (slice_index c.args.tops.now k)) c.args.lead.now c.loop-code.code-index c.square-square.result c.loop-code-test.true at c.if-file-rank.false
+    let at : c.square-square.result ≡ turn_square c.args.turn (slice_index c.args.lone_squares.now (slice_index c.args.lead.now c.loop-code.code-index)) = c.square-square.ensures.is ∙ ap (turn_square c.args.turn) c.lone_square-from.ensures in
+    c.loop-code.invariant ∙ above_on (λ k. turn_square c.args.turn (slice_index c.args.lone_squares.now k)) c.args.lead.now c.loop-code.code-index c.square-square.result c.loop-code-test.true at c.if-file-rank.false
 
 pub returns : goal.returns
-returns c = sym (c.loop-code.invariant ∙ above_end (λ k. turn_square c.args.turn (slice_index c.args.tops.now k)) c.args.lead.now c.loop-code.code-index c.loop-code-test.false)
+returns c = sym (c.loop-code.invariant ∙ above_end (λ k. turn_square c.args.turn (slice_index c.args.lone_squares.now k)) c.args.lead.now c.loop-code.code-index c.loop-code-test.false)

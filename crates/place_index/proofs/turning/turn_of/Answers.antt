@@ -35,7 +35,7 @@ returns-clause-is c =
     let plain : has_pawns c.args.shape.now.material ≡ false =
     subst (λ k. has_pawns k ≡ false) c.material-material.ensures.is (plain_of c.material-material.result (λ some. false≢true (sym c.if-has_pawns.false ∙ c.has_pawns.ensures.1 some))) in
     let codes = c.lead_codes-lead.ensures in
-    pieces_turned c.args.shape.now c.args.placed.now.men c.args.tops.now c.turn_of_pieces.result c.material-material.ensures.shape placed c.requires.tops plain
-    (c.turn_of_pieces.ensures.left_right ∙ ap (λ xs. not (nat_lt (file (slice_index c.args.tops.now (slice_index xs 0))) 4)) codes)
-    (c.turn_of_pieces.ensures.bottom_top ∙ ap (λ xs. not (nat_lt (rank (slice_index c.args.tops.now (slice_index xs 0))) 4)) codes)
-    (c.turn_of_pieces.ensures.across ∙ ap (λ xs. is_first_above (map (λ k. turn_square (low c.turn_of_pieces.result) (slice_index c.args.tops.now k)) xs)) codes)
+    pieces_turned c.args.shape.now c.args.placed.now.men c.args.lone_squares.now c.turn_of_pieces.result c.material-material.ensures.shape placed c.requires.lone_squares plain
+    (c.turn_of_pieces.ensures.left_right ∙ ap (λ xs. not (nat_lt (file (slice_index c.args.lone_squares.now (slice_index xs 0))) 4)) codes)
+    (c.turn_of_pieces.ensures.bottom_top ∙ ap (λ xs. not (nat_lt (rank (slice_index c.args.lone_squares.now (slice_index xs 0))) 4)) codes)
+    (c.turn_of_pieces.ensures.across ∙ ap (λ xs. is_first_above (map (λ k. turn_square (low c.turn_of_pieces.result) (slice_index c.args.lone_squares.now k)) xs)) codes)

@@ -1,8 +1,8 @@
 //! The squares of the groups, those of men that are the only ones of their kind without a search.
 
-ghost use Rattle.std.specs.Prelude.{◌≡◌, ◌<◌, ◌≤◌, ◌+◌, ◌++◌, ◌∷◌, [], length, slice_index};
-ghost use Rattle.place_index.specs.Index.{AreMen, AreTops, first_square};
-ghost use Rattle.place_index.specs.Men.{squares_of, square_of};
+ghost use Rattle.std.specs.Prelude.{◌≡◌, ◌<◌, ◌≤◌, ◌+◌, ◌++◌, ◌∷◌, [], ℕ, true, length, slice_index};
+ghost use Rattle.place_index.specs.Index.{AreMen, IsOnly, AreLoneSquares, first_square};
+ghost use Rattle.place_index.specs.Men.{stands, squares_of, square_of};
 ghost use Rattle.place_index.specs.Others.{free_set_number};
 ghost use Rattle.place_index.specs.Turning.{turn_square, turned_by};
 
@@ -14,61 +14,44 @@ use crate::squares::squares_of;
 use crate::turn::Turn;
 use board_core::Square;
 
-/// The highest square of the men with each code, 0 where there are none.
-pub(crate) fn tops(men: &[Man]) -> [u8; 16]
-    requires { AreMen men.now }
-    ensures { AreTops men.now result }
+/// A square by each code, that of the man who is the only one with it.
+pub(crate) fn lone_squares(men: &[Man]) -> [u8; 16]
+    requires { (c s : ℕ) → stands men.now c s ≡ true → c < 16 }
+    ensures { AreLoneSquares men.now result }
 {
-    let mut tops = [0u8; 16];
+    let mut lone_squares = [0u8; 16];
     let mut i = men.len();
     'men: while i > 0 {
         i -= 1;
         let man = men[i];
-        let square = man.square.number();
-        let code = man.code as usize;
-        if code >= 16 {
-            continue;
-        }
-        if square <= tops[code] {
-            continue;
-        }
-        tops[code] = square;
+        lone_squares[man.code as usize] = man.square.number();
     }
-    tops
+    lone_squares
 }
 
-/// The highest square of the men with this code.
-pub(crate) fn top(tops: &[u8; 16], code: u8) -> Square
+/// The square of the man who is the only one with this code.
+pub(crate) fn lone_square(lone_squares: &[u8; 16], code: u8) -> Square
     requires code { code < 16 }
-    requires board { slice_index tops.now code < 64 }
-    ensures { result ≡ slice_index tops.now code }
+    requires board { slice_index lone_squares.now code < 64 }
+    ensures { result ≡ slice_index lone_squares.now code }
 {
-    Square::at(tops[code as usize])
+    Square::at(lone_squares[code as usize])
 }
 
-/// Adds these squares.
-fn append(earlier: &mut Earlier, squares: &[u8])
-    requires { length earlier.old + length squares.now ≤ 5 }
-    ensures { earlier.new ≡ earlier.old ++ squares.now }
-{
-    for square in squares {
-        earlier.push(*square);
-    }
-}
-
-/// The number of so many men with this code, after earlier men, among whom they are then.
+/// The number of a group after earlier men, among whom its men are then.
 pub(crate) fn number_group(
     earlier: &mut Earlier,
     men: &[Man],
-    tops: &[u8; 16],
+    lone_squares: &[u8; 16],
     turn: Turn,
     group: Group,
 ) -> u64
     requires room { length earlier.old + length (squares_of (turned_by turn men.now) group.code) ≤ 5 }
     requires few { length (squares_of (turned_by turn men.now) group.code) ≤ 3 }
     requires men { AreMen men.now }
-    requires tops { AreTops men.now tops.now }
+    requires lone_squares { AreLoneSquares men.now lone_squares.now }
     requires known { group.men ≡ 1 → group.code < 16 }
+    requires only { group.men ≡ 1 → IsOnly men.now group.code (square_of men.now group.code) }
     requires alone { group.men ≡ 1 → squares_of (turned_by turn men.now) group.code ≡ turn_square turn (square_of men.now group.code) ∷ [] }
     ensures number { result ≡ free_set_number (first_square group.code) earlier.old (squares_of (turned_by turn men.now) group.code) }
     ensures earlier { earlier.new ≡ earlier.old ++ squares_of (turned_by turn men.now) group.code }
@@ -76,11 +59,9 @@ pub(crate) fn number_group(
     let first = first_square(group.code);
     if group.men != 1 {
         let squares = squares_of(men, turn, group.code);
-        let number = free_set_number(first, earlier, squares.as_slice());
-        append(earlier, squares.as_slice());
-        return number;
+        return free_set_number(first, earlier, squares.as_slice());
     }
-    let from = top(tops, group.code);
+    let from = lone_square(lone_squares, group.code);
     let square = turn.square(from);
     let number = free_number(first, earlier, square);
     earlier.push(square);

@@ -1,10 +1,10 @@
 use Rattle.std.proofs.Common.{◌≤◌, length, drop}
-use Rattle.place_index.specs.Index.{AreTops}
-use Rattle.place_index.proofs.tops.tops.Given as goal
+use Rattle.place_index.specs.Index.{AreLoneSquares}
+use Rattle.place_index.proofs.lone_squares.lone_squares.Given as goal
 
 abbrev pub invariant-men : goal.invariant-men
 invariant-men l = record {
-  is : AreTops (drop l.i l.men) l.tops;
+  is : AreLoneSquares (drop l.i l.men) l.lone_squares;
   within : l.i ≤ length l.men;
 }
 
