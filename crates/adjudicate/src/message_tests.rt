@@ -29,7 +29,7 @@ fn acknowledgement() -> Option<Message> {
     })
 }
 
-/// That the game has ended at the fourth ply.
+/// That the game has ended at ply 4.
 fn verdict() -> Option<Message> {
     Some(Message::Verdict {
         stamp: STAMP,

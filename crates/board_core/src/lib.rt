@@ -3,6 +3,8 @@
 //! The rules are those of the FIDE Laws of Chess, article 3, with castling, en passant and promotion;
 //! `specs/` states them as relations over a map from squares to men. Squares are numbered a1 = 0,
 //! b1 = 1, .. h1 = 7, a2 = 8, .. h8 = 63.
+//!
+//! Its tests stand in `fen_text`.
 #![tactic(auto)]
 
 mod attack;

@@ -258,6 +258,7 @@ impl<'a> Set<'a> {
         ensures filed { AreFiled self.old.tables }
         ensures unchanged { self.new ≡ self.old }
     {
+        // Its contract tells that the tables are filed.
         let _cache = self.cache();
         if is_out_of_scope(position) {
             return Err(ProbeFault::OutOfScope);

@@ -131,7 +131,7 @@ fn queen_dtz(rt: &impl Abort, alloc: Global, part: PartPlan) -> Plan {
     plan(rt, Kind::Dtz, "KQvK", parts)
 }
 
-/// So many blocks of fifty pairs 4 0, and one of sixteen.
+/// 313 blocks of fifty pairs 4 0, and one of sixteen.
 fn queen_blocks(alloc: Global) -> Result<Vec<Vec<u16>>, AllocError> {
     let mut blocks = Vec::new(alloc);
     for _ in 0..313 {

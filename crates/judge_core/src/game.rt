@@ -43,6 +43,7 @@ impl<'a> Set<'a> {
         ensures filed { AreFiled self.old.tables }
         ensures unchanged { self.new ≡ self.old }
     {
+        // Its contract tells that the tables are filed.
         let _cache = self.cache();
         let mut position = *start;
         for ply in 0..moves.len() {

@@ -1,3 +1,5 @@
+//! Names, shapes and worked indices of `place_index`.
+
 ghost use Rattle.std.specs.Prelude.{◌<◌};
 
 use crate::table_tests::{check_bytes, check_same};

@@ -30,6 +30,7 @@ impl<'a> Set<'a> {
         ensures filed { AreFiled self.old.tables }
         ensures unchanged { self.new ≡ self.old }
     {
+        // Its contract tells that the tables are filed.
         let _cache = self.cache();
         if has_no_move(alloc, position)? {
             return Ok(Some(verdict::end_of(position)));

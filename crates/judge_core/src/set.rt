@@ -118,7 +118,8 @@ impl<'a> Set<'a> {
         })
     }
 
-    /// How many decoded blocks the set may keep, 1 to 4096.
+    /// How many decoded blocks the set may keep, 1 to 4096. Its contract also says that each table is in the slot of its kind
+    /// and its material.
     pub fn cache(&self) -> usize
         ensures is { result ≡ self.now.cache }
         ensures some { 1 ≤ result }

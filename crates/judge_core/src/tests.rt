@@ -10,7 +10,7 @@ use std::process::Abort;
 use std::test::Fail;
 use table_file::open;
 
-/// Knight a1 b1 against e5, white to move.
+/// King a1 and knight b1 against the king on e5, white to move.
 const KNIGHT_ROW: &str = "Ka1 Nb1 ke5 w";
 
 const QUEEN_ROW: &str = "Ka1 Qb1 ke5 w";

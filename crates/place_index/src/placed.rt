@@ -110,8 +110,8 @@ fn left_file(square: u8) -> u8
     if file < 4 { file } else { 7 - file }
 }
 
-/// Whether the position, whose men have this tally, is looked up with colours exchanged: where white's men are the name's second
-/// side, and for symmetric material with black to move.
+/// Whether the position, whose men have this tally, is looked up with colours exchanged: where white's men are the name's
+/// second side, and for symmetric material with black to move.
 fn is_exchanged(material: Material, position: &Position, tally: u64) -> bool
     requires tally { tally ≡ tally_of (codes_of (men_on position.now.men)) }
     requires material { IsMaterialOf material (men_on position.now.men) }
