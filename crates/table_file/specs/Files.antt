@@ -44,7 +44,7 @@ body_of file =
     if nat_lt (length file) 80 then Err BadSize
     else if length file % 64 == 16 then Ok (take (length file - 16) file) else Err BadSize
 
--- the bytes 71 E8 23 5D or D7 66 0C A5 as a number, the low byte first
+-- the bytes 0x71 0xE8 0x23 0x5D or 0xD7 0x66 0x0C 0xA5 as a number, the low byte first
 abbrev pub magic_of : Kind → ℕ
 magic_of Wdl = 1562634353
 magic_of Dtz = 2769053399
