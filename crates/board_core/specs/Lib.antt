@@ -9,3 +9,4 @@ pub mod Sides
 pub mod Computed
 pub mod ComputedMoves
 pub mod Laws
+pub mod Verdicts

@@ -21,6 +21,7 @@ mod rules;
 mod sides;
 mod square;
 mod targets;
+mod verdict;
 
 pub use bitboard::Bitboard;
 pub use moves::Move;
@@ -28,3 +29,4 @@ pub use parts::{Parts, Rights};
 pub use piece::{Kind, Men, Piece, Promotion, Side, Wing};
 pub use position::{Position, PositionFault};
 pub use square::Square;
+pub use verdict::Verdict;

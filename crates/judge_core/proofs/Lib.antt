@@ -3,6 +3,9 @@ pub mod Quiet
 pub mod Counting
 pub mod Reaching
 pub mod Plies
+pub mod StoodPlies
+pub mod WholeGames
+pub mod InWords
 pub mod SameTable
 pub mod TwoSteps
 pub mod OneOutcome

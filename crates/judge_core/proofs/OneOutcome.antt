@@ -4,12 +4,11 @@ use Rattle.std.proofs.lemmas.Bool.{cases_lt, false≢true}
 use Rattle.std.proofs.lemmas.List.{take_all, take_more}
 use Rattle.board_core.specs.declared.parts.Parts.{Parts}
 use Rattle.board_core.specs.declared.moves.Move.{Move}
-use Rattle.judge_core.specs.declared.verdict.Verdict.{Verdict}
+use Rattle.board_core.specs.declared.verdict.Verdict.{Verdict}
 use Rattle.judge_core.specs.declared.game.GameOutcome.{GameOutcome}
 use Rattle.judge_core.specs.declared.game.GameOutcome.TheVariants.{Ruled, Illegal, Going}
-use Rattle.judge_core.specs.Tables.{Tables}
 use Rattle.judge_core.proofs.Plies.{goes_on}
-use Rattle.judge_core.specs.Games.{position_after_all, verdict_after, IsFirst, IsIllegalAt, IsGoing, IsOutcome}
+use Rattle.judge_core.specs.Games.{Rules, position_after_all, verdict_after, IsFirst, IsIllegalAt, IsGoing, IsOutcome}
 
 some_move : Move
 some_move = record { from = 0; to = 0; promotion = None }
@@ -37,44 +36,44 @@ none_later start moves i k le none some =
 not_both : (o : Option Verdict) (v : Verdict) → o ≡ None → o ≡ Some v → ⊥
 not_both o v a b = let e : None ≡ Some v = sym a ∙ b in cc
 
-module _ (tables : Tables) (start : Parts) (moves : List Move) where
-  ruled_illegal : (k j : ℕ) (v : Verdict) → IsFirst tables start moves k v → IsIllegalAt tables start moves j → ⊥
+module _ (rules : Rules) (moves : List Move) where
+  ruled_illegal : (k j : ℕ) (v : Verdict) → IsFirst rules moves k v → IsIllegalAt rules moves j → ⊥
   ruled_illegal k j v x y = elim (cases_lt k (j + 1)) [
     | inl lt ↦ not_both _ v (y.unruled k lt) x.ruled
-    | inr le ↦ none_later start moves (j + 1) k le y.illegal x.legal
+    | inr le ↦ none_later rules.start moves (j + 1) k le y.illegal x.legal
   ]
 
-  ruled_going : (k : ℕ) (v : Verdict) → IsFirst tables start moves k v → IsGoing tables start moves → ⊥
+  ruled_going : (k : ℕ) (v : Verdict) → IsFirst rules moves k v → IsGoing rules moves → ⊥
   ruled_going k v x y = not_both _ v (y.unruled k (let le = x.within in omega arith)) x.ruled
 
-  illegal_going : (j : ℕ) → IsIllegalAt tables start moves j → IsGoing tables start moves → ⊥
+  illegal_going : (j : ℕ) → IsIllegalAt rules moves j → IsGoing rules moves → ⊥
   illegal_going j x y =
       let all : take (length moves) moves ≡ moves = take_all (length moves) moves (omega arith) in
-      none_later start moves (j + 1) (length moves) (let lt = x.within in omega arith) x.illegal (ap (λ ms. is_some (position_after_all start ms)) all ∙ y.legal)
+      none_later rules.start moves (j + 1) (length moves) (let lt = x.within in omega arith) x.illegal (ap (λ ms. is_some (position_after_all rules.start ms)) all ∙ y.legal)
 
-  one_ply : (k l : ℕ) (v w : Verdict) → IsFirst tables start moves k v → IsFirst tables start moves l w → Ruled k v ≡ Ruled l w
+  one_ply : (k l : ℕ) (v w : Verdict) → IsFirst rules moves k v → IsFirst rules moves l w → Ruled k v ≡ Ruled l w
   one_ply k l v w x y = elim (cases_lt k l) [
     | inl lt ↦ absurd (not_both _ v (y.unruled k lt) x.ruled)
     | inr le ↦ elim (cases_lt l k) [
       | inl lt ↦ absurd (not_both _ w (x.unruled l lt) y.ruled)
       | inr ge ↦ (
           let same : k ≡ l = omega (arith, le, ge) in
-          let e : Some v ≡ Some w = sym x.ruled ∙ ap (λ n. verdict_after tables start (take n moves)) same ∙ y.ruled in
+          let e : Some v ≡ Some w = sym x.ruled ∙ ap (λ n. verdict_after rules (take n moves)) same ∙ y.ruled in
           let verdict : v ≡ w = cc in
           ap (λ n. Ruled n v) same ∙ ap (Ruled l) verdict)
     ]
   ]
 
-  one_place : (i j : ℕ) → IsIllegalAt tables start moves i → IsIllegalAt tables start moves j → Illegal i ≡ Illegal j
+  one_place : (i j : ℕ) → IsIllegalAt rules moves i → IsIllegalAt rules moves j → Illegal i ≡ Illegal j
   one_place i j x y = elim (cases_lt i j) [
-    | inl lt ↦ absurd (none_later start moves (i + 1) j (omega arith) x.illegal y.legal)
+    | inl lt ↦ absurd (none_later rules.start moves (i + 1) j (omega arith) x.illegal y.legal)
     | inr le ↦ elim (cases_lt j i) [
-      | inl lt ↦ absurd (none_later start moves (j + 1) i (omega arith) y.illegal x.legal)
+      | inl lt ↦ absurd (none_later rules.start moves (j + 1) i (omega arith) y.illegal x.legal)
       | inr ge ↦ (let same : i ≡ j = omega (arith, le, ge) in ap (λ n. Illegal n) same)
     ]
   ]
 
-  pub one_outcome : (a b : GameOutcome) → IsOutcome tables start moves a → IsOutcome tables start moves b → a ≡ b
+  pub one_outcome : (a b : GameOutcome) → IsOutcome rules moves a → IsOutcome rules moves b → a ≡ b
   one_outcome (Ruled k v) (Ruled l w) x y = one_ply k l v w x y
   one_outcome (Ruled k v) (Illegal j) x y = absurd (ruled_illegal k j v x y)
   one_outcome (Ruled k v) Going x y = absurd (ruled_going k v x y)

@@ -11,7 +11,7 @@ use Rattle.board_core.specs.declared.piece.Side.{Side}
 use Rattle.board_core.specs.Side.{other}
 use Rattle.judge_core.specs.declared.wdl.Wdl.TheVariants.{Win, Loss}
 use Rattle.judge_core.specs.Tables.{Tables}
-use Rattle.judge_core.specs.declared.verdict.Verdict.{Verdict}
+use Rattle.board_core.specs.declared.verdict.Verdict.{Verdict}
 use Rattle.board_core.specs.ComputedMoves.{legal_moves}
 use Rattle.judge_core.specs.Values.{Reading}
 use Rattle.judge_core.specs.Ends.{has_no_move}
@@ -22,7 +22,7 @@ use Rattle.judge_core.specs.Probing.{weighed_by, wdl_of}
 use Rattle.judge_core.specs.Distances.{Reach, by_weighed, dtz_to, dtz_of}
 use Rattle.judge_core.proofs.Reaching.{some_left}
 use Rattle.judge_core.specs.Ruling.{is_out_of_scope, ruling_at, ruling_by, ruling}
-use Rattle.judge_core.specs.Games.{position_after_all, verdict_after, IsUnruled, IsFirst, IsIllegalAt, IsGoing}
+use Rattle.judge_core.specs.Games.{position_after_all}
 
 pub starts : (start : Parts) → position_after_all start [] ≡ Some start
 unfolding position_after_all
@@ -31,37 +31,6 @@ starts start = refl
 pub goes_on : (start : Parts) (ms : List Move) (m : Move) → position_after_all start (ms ++ m ∷ []) ≡ option_and_then (λ p. position_after p m) (position_after_all start ms)
 unfolding position_after_all
 goes_on start ms m = fold-append (λ position move. option_and_then (λ p. position_after p move) position) (Some start) ms (m ∷ [])
-
-rules_at : (tables : Tables) (start p : Parts) (ms : List Move) → position_after_all start ms ≡ Some p → verdict_after tables start ms ≡ ruling tables p
-unfolding verdict_after
-rules_at tables start p ms e = ap (option_and_then (ruling tables)) e
-
-module _ (tables tables' : Tables) (start p : Parts) (moves : List Move) (k : ℕ) (same : tables' ≡ tables) (at : position_after_all start (take k moves) ≡ Some p) (before : IsUnruled tables start moves k) where
-  there : IsSome (position_after_all start (take k moves))
-  there = rw at refl
-
-  pub is_first : (o : Option Verdict) (v : Verdict) → k ≤ length moves → o ≡ ruling tables' p → o ≡ Some v → IsFirst tables start moves k v
-  is_first o v le e is = record {
-    within = le;
-    legal = there;
-    ruled = rules_at tables start p (take k moves) at ∙ ap (λ (t : Tables). ruling t p) (sym same) ∙ sym e ∙ is;
-    unruled = before;
-  }
-
-  pub still_none : (o : Option Verdict) → o ≡ ruling tables' p → o ≡ None → IsUnruled tables start moves (k + 1)
-  still_none o e is = below_more (λ j. verdict_after tables start (take j moves) ≡ None) k before (rules_at tables start p (take k moves) at ∙ ap (λ (t : Tables). ruling t p) (sym same) ∙ sym e ∙ is)
-
-  pub one_on : (m : Move) (q : Option Parts) → k < length moves → m ≡ get_or moves k m → q ≡ position_after p m → position_after_all start (take (k + 1) moves) ≡ q
-  one_on m q lt is e = ap (position_after_all start) (take_more moves k m lt ∙ ap (λ x. take k moves ++ x ∷ []) (sym is)) ∙ goes_on start (take k moves) m ∙ ap (option_and_then (λ x. position_after x m)) at ∙ sym e
-
-  pub is_illegal : (o : Option Verdict) (m : Move) → k < length moves → o ≡ ruling tables' p → o ≡ None → m ≡ get_or moves k m → None ≡ position_after p m → IsIllegalAt tables start moves k
-  is_illegal o m lt e is im pm = record { within = lt; legal = there; illegal = one_on m None lt im pm; unruled = still_none o e is }
-
-  pub is_going : (o : Option Verdict) → k ≡ length moves → o ≡ ruling tables' p → o ≡ None → IsGoing tables start moves
-  is_going o le e is = record {
-    legal = subst (λ (ms : List Move). IsSome (position_after_all start ms)) (ap (λ (n : ℕ). take n moves) le ∙ take_all (length moves) moves (omega arith)) there;
-    unruled = subst (λ (n : ℕ). IsUnruled tables start moves (n + 1)) le (still_none o e is);
-  }
 
 -- the verdict of a position that has a move and is in scope
 pub ruled_by : (tables : Tables) (p : Parts) (reading : Reading) (r : Option Verdict) → has_no_move (legal_moves p) ≡ false → is_out_of_scope p ≡ false → reading ≡ wdl_of tables p → r ≡ ruling_by p reading (dtz_of tables p) → r ≡ ruling tables p

@@ -10,5 +10,6 @@ pub mod Distances
 pub mod Counts
 pub mod Ruling
 pub mod Games
+pub mod Standings
 pub mod Answers
 pub mod Laws

@@ -1,5 +1,5 @@
 -- The verdict on a position (FIDE articles 5.1.1 and 5.2.1; by tables this project's own).
-use Rattle.std.specs.Prelude.{ℕ, ◌+◌, nat_lt, nat_le, Bool, ◌||◌, List, Option, Some, None, Ok, Err, if◌then◌else◌, codes}
+use Rattle.std.specs.Prelude.{ℕ, ◌+◌, nat_lt, nat_le, Bool, ◌||◌, Option, Some, None, Ok, Err, if◌then◌else◌}
 use Rattle.board_core.specs.declared.parts.Parts.{Parts}
 use Rattle.board_core.specs.declared.parts.Rights.{Rights}
 use Rattle.board_core.specs.declared.piece.Side.{Side}
@@ -9,34 +9,13 @@ use Rattle.board_core.specs.Computed.{is_in_check}
 use Rattle.board_core.specs.ComputedMoves.{legal_moves, count_of_men}
 use Rattle.judge_core.specs.declared.wdl.Wdl.TheVariants.{Loss, BlessedLoss, Draw, CursedWin, Win}
 use Rattle.judge_core.specs.declared.fault.ValueFault.TheVariants.{NotCovered, Damaged}
-use Rattle.judge_core.specs.declared.verdict.Verdict.{Verdict}
-use Rattle.judge_core.specs.declared.verdict.Verdict.TheVariants.{WhiteMates, BlackMates, Stalemate, TableDraw, TableWhite, TableBlack, Stopped}
+use Rattle.board_core.specs.declared.verdict.Verdict.{Verdict}
+use Rattle.board_core.specs.declared.verdict.Verdict.TheVariants.{WhiteMates, BlackMates, Stalemate, TableDraw, TableWhite, TableBlack, Stopped}
 use Rattle.judge_core.specs.Values.{Reading}
 use Rattle.judge_core.specs.Tables.{Tables}
 use Rattle.judge_core.specs.Probing.{wdl_of}
 use Rattle.judge_core.specs.Ends.{has_no_move}
 use Rattle.judge_core.specs.Distances.{Reach, plies, dtz_of}
-
--- ---- codes and names
-
-abbrev pub code_of : Verdict → ℕ
-code_of WhiteMates = 1
-code_of BlackMates = 2
-code_of Stalemate = 3
-code_of TableDraw = 4
-code_of TableWhite = 5
-code_of TableBlack = 6
-code_of Stopped = 7
-
--- a verdict's name, as it is printed
-abbrev pub verdict_name : Verdict → List ℕ
-verdict_name WhiteMates = codes "WhiteMates"
-verdict_name BlackMates = codes "BlackMates"
-verdict_name Stalemate = codes "Stalemate"
-verdict_name TableDraw = codes "TableDraw"
-verdict_name TableWhite = codes "TableWhite"
-verdict_name TableBlack = codes "TableBlack"
-verdict_name Stopped = codes "Stopped"
 
 -- ---- the end of a game on the board
 

@@ -1,18 +1,19 @@
 //! The first verdict of a game.
 
-ghost use Rattle.std.specs.Prelude.{◌≡◌, IfOk};
+ghost use Rattle.std.specs.Prelude.{◌≡◌, ◌≤◌, ℕ, take, IfOk};
 ghost use Rattle.judge_core.specs.Tables.{AreFiled};
-ghost use Rattle.judge_core.specs.Games.{IsOutcome};
+ghost use Rattle.judge_core.specs.Games.{Rules, IsOutcome, plies_to, most_delay};
+ghost use Rattle.judge_core.specs.Standings.{IsAt};
 
 use crate::set::Set;
-use crate::verdict::Verdict;
-use board_core::{Move, Position};
+use crate::standing::Standing;
+use board_core::{Move, Position, Verdict};
 use std::alloc::{AllocError, Global};
 
 /// What a list of moves comes to. Plies and moves are counted from 0: ply 0 is the start, ply k the position after k moves.
 #[derive(Clone, Copy, PartialEq, Eq, Debug)]
 pub enum GameOutcome {
-    /// This is the first ply that has a verdict.
+    /// This is the first ply at which the rule gives a verdict.
     Ruled {
         /// The ply.
         ply: usize,
@@ -28,40 +29,75 @@ pub enum GameOutcome {
     Going,
 }
 
+/// What a list of moves comes to, and where the game stands there.
+#[derive(Drop)]
+pub struct Followed {
+    /// What the moves come to.
+    pub outcome: GameOutcome,
+    /// Where the game stands at the ply that is ruled, before the move that isn't legal, or after all moves.
+    pub standing: Standing,
+}
+
 impl<'a> Set<'a> {
-    /// The first verdict of the game of these moves from this start: each ply is judged as by `judge`, ply 0 among them, before
-    /// the move from it is played.
+    /// The first verdict of the game of these moves from this start, and where the game stands at that ply, before an illegal
+    /// move or at the end. Each ply is judged as by `judge`, ply 0 among them, before the move from it is played; checkmate and
+    /// stalemate end the game at once, and a verdict by tables must hold for `delay` further plies.
     ///
-    /// The error comes only where memory for a list of moves is refused. The set stays as it was but for its cache.
+    /// That the delay is at most 8 plies is the caller's condition. The error comes only where memory for a list of moves is
+    /// refused. The set stays as it was but for its cache.
+    pub fn follow(
+        &mut self,
+        alloc: Global,
+        start: &Position,
+        moves: &[Move],
+        delay: u8,
+    ) -> Result<Followed, AllocError>
+        requires { delay ≤ most_delay }
+        ensures value { IfOk result (λ f. IsOutcome (record { start = start.now; tables = self.old.tables; delay = delay }) moves.now f.outcome) }
+        ensures standing { IfOk result (λ f. IsAt (record { start = start.now; tables = self.old.tables; delay = delay }) (take (plies_to moves.now f.outcome) moves.now) f.standing) }
+        ensures filed { AreFiled self.old.tables }
+        ensures unchanged { self.new ≡ self.old }
+    {
+        let mut standing = self.begin(alloc, start)?;
+        for ply in 0..moves.len() {
+            if let Some(verdict) = standing.verdict(delay) {
+                return Ok(Followed {
+                    outcome: GameOutcome::Ruled { ply, verdict },
+                    standing,
+                });
+            }
+            let Some(position) = standing.position().play(moves[ply]) else {
+                return Ok(Followed {
+                    outcome: GameOutcome::Illegal { place: ply },
+                    standing,
+                });
+            };
+            standing = self.move_on(alloc, &standing, position)?;
+        }
+        let outcome = match standing.verdict(delay) {
+            Some(verdict) => GameOutcome::Ruled {
+                ply: moves.len(),
+                verdict,
+            },
+            None => GameOutcome::Going,
+        };
+        Ok(Followed { outcome, standing })
+    }
+
+    /// What `follow` tells, without where the game stands.
     pub fn judge_game(
         &mut self,
         alloc: Global,
         start: &Position,
         moves: &[Move],
+        delay: u8,
     ) -> Result<GameOutcome, AllocError>
-        ensures value { IfOk result (λ outcome. IsOutcome self.old.tables start.now moves.now outcome) }
+        requires { delay ≤ most_delay }
+        ensures value { IfOk result (λ outcome. IsOutcome (record { start = start.now; tables = self.old.tables; delay = delay }) moves.now outcome) }
         ensures filed { AreFiled self.old.tables }
         ensures unchanged { self.new ≡ self.old }
     {
-        // Its contract tells that the tables are filed.
-        let _cache = self.cache();
-        let mut position = *start;
-        for ply in 0..moves.len() {
-            if let Some(verdict) = self.judge(alloc, &position)? {
-                return Ok(GameOutcome::Ruled { ply, verdict });
-            }
-            let Some(next) = position.play(moves[ply]) else {
-                return Ok(GameOutcome::Illegal { place: ply });
-            };
-            position = next;
-        }
-        let last = self.judge(alloc, &position)?;
-        match last {
-            Some(verdict) => Ok(GameOutcome::Ruled {
-                ply: moves.len(),
-                verdict,
-            }),
-            None => Ok(GameOutcome::Going),
-        }
+        let followed = self.follow(alloc, start, moves, delay)?;
+        Ok(followed.outcome)
     }
 }

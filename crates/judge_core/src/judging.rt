@@ -7,9 +7,9 @@ ghost use Rattle.judge_core.specs.Ruling.{ruling};
 use crate::found::worth_in;
 use crate::mobility::has_no_move;
 use crate::set::Set;
-use crate::verdict::{self, Verdict};
+use crate::verdict;
 use crate::wdl::Wdl;
-use board_core::Position;
+use board_core::{Position, Verdict};
 use std::alloc::{AllocError, Global};
 
 impl<'a> Set<'a> {

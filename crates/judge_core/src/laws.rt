@@ -1,6 +1,6 @@
 //! Laws over the definitions of specs/, for proofs above: each function carries one law and does nothing.
 
-ghost use Rattle.judge_core.specs.Laws.{WdlMeetsItsRule, DtzMeetsItsRules, GameHasOneOutcome};
+ghost use Rattle.judge_core.specs.Laws.{WdlMeetsItsRule, DtzMeetsItsRules, GameHasOneOutcome, NoDelayIsTheRuling, FirstVerdictInWords, FirstVerdictLooksBack, IllegalStaysIllegal, OneMoveMore};
 
 /// The value of a position is what its rule makes of the values after its captures.
 pub fn wdl_meets_its_rule()
@@ -16,4 +16,30 @@ pub fn dtz_meets_its_rules()
 /// No game comes to two different things.
 pub fn game_has_one_outcome()
     ensures { GameHasOneOutcome }
+{}
+
+/// Without delay the verdict at a ply is its ruling.
+pub fn no_delay_is_the_ruling()
+    ensures { NoDelayIsTheRuling }
+{}
+
+/// The first verdict is that of the least ply whose ruling is a mate or a stalemate, or has held for as many plies as the delay
+/// says.
+pub fn first_verdict_in_words()
+    ensures { FirstVerdictInWords }
+{}
+
+/// The first verdict at a ply depends on the moves before that ply alone.
+pub fn first_verdict_looks_back()
+    ensures { FirstVerdictLooksBack }
+{}
+
+/// Moves of which one isn't legal in its turn stay so, whatever follows.
+pub fn illegal_stays_illegal()
+    ensures { IllegalStaysIllegal }
+{}
+
+/// One move more is played from the position that the moves before it lead to.
+pub fn one_move_more()
+    ensures { OneMoveMore }
 {}

@@ -18,13 +18,15 @@ mod mobility;
 mod moving;
 mod probing;
 mod set;
+mod standing;
 mod verdict;
 mod wdl;
 
+pub use board_core::Verdict;
 pub use fault::{ProbeFault, SetFault};
-pub use game::GameOutcome;
+pub use game::{Followed, GameOutcome};
 pub use set::Set;
-pub use verdict::Verdict;
+pub use standing::Standing;
 pub use wdl::Wdl;
 
 #[cfg(test)]

@@ -1,85 +1,16 @@
-//! Verdicts.
+//! The verdict by the end of a game on the board, by a value and by a distance.
 
-ghost use Rattle.std.specs.Prelude.{◌≡◌, ◌≢◌, ◌≤◌, ℕ, Ok, IfOk, IfSome, IfNone};
+ghost use Rattle.std.specs.Prelude.{◌≡◌, ◌≢◌, ◌≤◌, Ok, IfOk};
 ghost use Rattle.board_core.specs.declared.parts.Parts.{Parts};
 ghost use Rattle.board_core.specs.Position.{IsPosition};
-ghost use Rattle.judge_core.specs.declared.verdict.Verdict.{Verdict};
 ghost use Rattle.judge_core.specs.declared.wdl.Wdl.TheVariants.{Win, Loss};
 ghost use Rattle.judge_core.specs.Distances.{Reach, plies};
-ghost use Rattle.judge_core.specs.Ruling.{code_of, verdict_name, mate_of, end_of, has_rights, is_out_of_scope, won_by, ruling_at, ruling_by};
+ghost use Rattle.judge_core.specs.Ruling.{mate_of, end_of, has_rights, is_out_of_scope, won_by, ruling_at, ruling_by};
 
 use crate::distance::Distance;
 use crate::fault::ValueFault;
 use crate::wdl::Wdl;
-use board_core::{Position, Rights, Side};
-
-/// How a game ends.
-#[derive(Clone, Copy, PartialEq, Eq, Debug)]
-pub enum Verdict {
-    /// Black is checkmated (FIDE article 5.1.1).
-    WhiteMates,
-    /// White is checkmated (FIDE article 5.1.1).
-    BlackMates,
-    /// The side to move has no legal move and isn't in check (FIDE article 5.2.1).
-    Stalemate,
-    /// By the tables neither side wins.
-    TableDraw,
-    /// By the tables white wins.
-    TableWhite,
-    /// By the tables black wins.
-    TableBlack,
-    /// A table that is needed is damaged.
-    Stopped,
-}
-
-impl Verdict {
-    /// The verdict's number in messages and records, 1 to 7.
-    pub fn code(self) -> u8
-        ensures { result ≡ code_of self }
-    {
-        match self {
-            Verdict::WhiteMates => 1,
-            Verdict::BlackMates => 2,
-            Verdict::Stalemate => 3,
-            Verdict::TableDraw => 4,
-            Verdict::TableWhite => 5,
-            Verdict::TableBlack => 6,
-            Verdict::Stopped => 7,
-        }
-    }
-
-    /// The verdict with this number, 1 to 7; none for any other.
-    pub fn from_code(code: u8) -> Option<Verdict>
-        ensures found { IfSome result (λ v. code_of v ≡ code) }
-        ensures none { IfNone result ((v : Verdict) → code_of v ≢ code) }
-    {
-        match code {
-            1 => Some(Verdict::WhiteMates),
-            2 => Some(Verdict::BlackMates),
-            3 => Some(Verdict::Stalemate),
-            4 => Some(Verdict::TableDraw),
-            5 => Some(Verdict::TableWhite),
-            6 => Some(Verdict::TableBlack),
-            7 => Some(Verdict::Stopped),
-            _ => None,
-        }
-    }
-
-    /// The verdict's name, as it is printed.
-    pub fn name(self) -> &'static str
-        ensures { result.now ≡ verdict_name self }
-    {
-        match self {
-            Verdict::WhiteMates => "WhiteMates",
-            Verdict::BlackMates => "BlackMates",
-            Verdict::Stalemate => "Stalemate",
-            Verdict::TableDraw => "TableDraw",
-            Verdict::TableWhite => "TableWhite",
-            Verdict::TableBlack => "TableBlack",
-            Verdict::Stopped => "Stopped",
-        }
-    }
-}
+use board_core::{Position, Rights, Side, Verdict};
 
 /// The verdict where this side is checkmated.
 fn mate_of(side: Side) -> Verdict

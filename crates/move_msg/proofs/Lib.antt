@@ -2,10 +2,11 @@ pub mod WordLaws
 pub mod MessageLaws
 pub mod WordsLaws
 pub mod RecordLaws
-pub mod OneMessage
+pub mod HeardLaws
 pub mod StreamLaws
 pub mod CutBytes
 pub mod TableNameLaws
 pub mod HexDigits
 pub mod ManifestLaws
+pub mod FileLaws
 mod WorkedRows

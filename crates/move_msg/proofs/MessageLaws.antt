@@ -1,26 +1,28 @@
 -- Bytes that are laid out as a message are the frame of their fields, and a frame has the fields that it frames.
-use Rattle.std.proofs.Common.{◌≡◌, ℕ, suc, ◌+◌, ◌<◌, ◌≤◌, ◌^◌, List, ◌∷◌, ◌++◌, length, get_or, take, drop, slice_index, refl, sym, ap, ap₂, subst, ◌∙◌, arith, inl, inr, drop-cons}
+use Rattle.std.proofs.Common.{◌≡◌, ℕ, suc, ◌+◌, ◌<◌, ◌≤◌, ◌^◌, List, ◌∷◌, ◌++◌, length, get_or, take, drop, slice_index, refl, sym, ap, ap₂, subst, ◌∙◌, arith, inl, inr, ◌⊎◌, drop-cons}
 use Rattle.std.specs.Int.{w16, w32, to_be_bytes, from_be_bytes}
 use Rattle.std.proofs.lemmas.Bool.{cases_lt}
 use Rattle.std.proofs.lemmas.List.{take_at, drop_at, take-append-drop, drop-drop, get_or-append_right, length-append, length-take, length-drop, get_or-drop, get_or-take, get_or_past}
 use Rattle.std.proofs.lemmas.Nat.{be_bytes_2, be_bytes_4, from_be_bytes-to_be_bytes_2, from_be_bytes-to_be_bytes_4}
 use Rattle.move_msg.specs.declared.stamp.Stamp.{Stamp}
-use Rattle.move_msg.specs.declared.verdict.Verdict.{Verdict as Verdicts}
-use Rattle.move_msg.specs.declared.verdict.Verdict.TheVariants as verdict
+use Rattle.board_core.specs.declared.verdict.Verdict.{Verdict as Verdicts}
+use Rattle.board_core.specs.declared.verdict.Verdict.TheVariants as verdict
 use Rattle.move_msg.specs.declared.who.Who.{Who}
+use Rattle.move_msg.specs.declared.who.Sender.{Sender}
+use Rattle.move_msg.specs.declared.who.Sender.TheVariants.{Source, Arbiter}
 use Rattle.move_msg.specs.declared.message.Message.{Message}
-use Rattle.move_msg.specs.declared.message.Message.TheVariants.{Move, Ack, Verdict}
+use Rattle.move_msg.specs.declared.message.Message.TheVariants.{Move, Ack, Verdict, Fetch}
 use Rattle.move_msg.specs.declared.message.MessageFault.{MessageFault}
 use Rattle.move_msg.specs.declared.message.MessageFault.TheVariants.{BadLength, BadHead, BadKind, BadField}
 use Rattle.move_msg.specs.declared.coding.Kind.{Kind}
 use Rattle.move_msg.specs.declared.coding.Kind.TheVariants as kind
 use Rattle.move_msg.specs.declared.coding.Fields.{Fields}
 use Rattle.move_msg.specs.Senders.{who_number, sender_number}
-use Rattle.move_msg.specs.Verdicts.{code_of}
-use Rattle.move_msg.specs.Messages.{SpellsMessage, IsInRange, IsFirstMessageFault, HasHead, HasKind, frame, kind_of, stamp_in, sender_of, number_of, word_in}
-use Rattle.move_msg.specs.Layouts.{HasFields, fields_at, kind_number}
+use Rattle.board_core.specs.Verdicts.{code_of}
+use Rattle.move_msg.specs.Messages.{SpellsMessage, IsInRange, IsFirstMessageFault, HasHead, HasKind, frame, version_by, version_of, kind_of, stamp_in, sender_of, number_of, word_in}
+use Rattle.move_msg.specs.Layouts.{HasFields, fields_at, kind_number, version_number}
 use Rattle.board_core.specs.declared.moves.Move.{Move as Moves}
-use Rattle.move_msg.specs.Numbers.{most_moves}
+use Rattle.move_msg.specs.Numbers.{most_moves, most_wanted}
 use Rattle.move_msg.specs.Words.{SpellsWord}
 use Rattle.move_msg.proofs.WordLaws.{word_below}
 
@@ -41,7 +43,7 @@ cons_is : (x y : ℕ) (xs ys : List ℕ) → x ≡ y → xs ≡ ys → x ∷ xs 
 cons_is x y xs ys e f = ap₂ (λ (a : ℕ) (rest : List ℕ). a ∷ rest) e f
 
 abbrev frame_at : List ℕ → List ℕ
-frame_at t = frame (slice_index t 3) (fields_at t).stamp.0 (fields_at t).sender (fields_at t).number (fields_at t).word
+frame_at t = frame (slice_index t 2) (slice_index t 3) (fields_at t).stamp.0 (fields_at t).sender (fields_at t).number (fields_at t).word
 
 is_frame : (t : List ℕ) → IsBytes t → length t ≡ 27 → HasHead t → t ≡ frame_at t
 unfolding frame fields_at
@@ -60,11 +62,11 @@ is_frame t fits len head =
     after4 ∙ ap (λ (x : List ℕ). take 16 (drop 4 t) ++ (slice_index t 20 ∷ x)) after21 in
     d 0 (omega arith) ∙ cons_is _ _ _ _ head.0 (d 1 (omega arith)
     ∙ cons_is _ _ _ _ head.1 (d 2 (omega arith)
-    ∙ cons_is _ _ _ _ head.2 (d 3 (omega arith)
+    ∙ cons_is _ _ _ _ refl (d 3 (omega arith)
     ∙ ap (λ (x : List ℕ). slice_index t 3 ∷ x) tail)))
 
-abbrev whole : ℕ → List ℕ → ℕ → List ℕ → List ℕ → List ℕ
-whole kind stamp sender number word = 83 ∷ 65 ∷ 1 ∷ kind ∷ stamp ++ (sender ∷ number ++ word)
+abbrev whole : ℕ → ℕ → List ℕ → ℕ → List ℕ → List ℕ → List ℕ
+whole version kind stamp sender number word = 83 ∷ 65 ∷ version ∷ kind ∷ stamp ++ (sender ∷ number ++ word)
 
 record HasParts (bytes stamp : List ℕ) (sender : ℕ) (number word : List ℕ) : Type 0 where
   stamp_is : take 16 (drop 4 bytes) ≡ stamp
@@ -72,8 +74,8 @@ record HasParts (bytes stamp : List ℕ) (sender : ℕ) (number word : List ℕ)
   number_is : take 4 (drop 21 bytes) ≡ number
   word_is : drop 25 bytes ≡ word
 
-parts_back : (kind : ℕ) (stamp : List ℕ) (sender : ℕ) (number word : List ℕ) → length stamp ≡ 16 → length number ≡ 4 → HasParts (whole kind stamp sender number word) stamp sender number word
-parts_back kind stamp sender number word len four =
+parts_back : (version kind : ℕ) (stamp : List ℕ) (sender : ℕ) (number word : List ℕ) → length stamp ≡ 16 → length number ≡ 4 → HasParts (whole version kind stamp sender number word) stamp sender number word
+parts_back version kind stamp sender number word len four =
     let t : List ℕ = sender ∷ number ++ word in
     let at16 : drop 16 (stamp ++ t) ≡ t = drop_at stamp t 16 len in
     record {
@@ -89,23 +91,23 @@ made s a n w = record { stamp = record { 0 = s }; sender = a; number = n; word =
 made_is : (s s' : List ℕ) (a a' n n' w w' : ℕ) → s ≡ s' → a ≡ a' → n ≡ n' → w ≡ w' → made s a n w ≡ made s' a' n' w'
 made_is s s' a a' n n' w w' es ea en ew = cc
 
-fields_back : (k : ℕ) (s : List ℕ) (a n w : ℕ) → length s ≡ 16 → n < 2 ^ 32 → w < 2 ^ 16 → fields_at (frame k s a n w) ≡ made s a n w
+fields_back : (v k : ℕ) (s : List ℕ) (a n w : ℕ) → length s ≡ 16 → n < 2 ^ 32 → w < 2 ^ 16 → fields_at (frame v k s a n w) ≡ made s a n w
 unfolding frame fields_at
-fields_back k s a n w len small_n small_w =
-    let p = parts_back k s a (to_be_bytes w32 n) (to_be_bytes w16 w) len refl in
+fields_back v k s a n w len small_n small_w =
+    let p = parts_back v k s a (to_be_bytes w32 n) (to_be_bytes w16 w) len refl in
     made_is _ s _ a _ n _ w p.stamp_is p.sender_is
     (ap (from_be_bytes w32) p.number_is ∙ from_be_bytes-to_be_bytes_4 n small_n)
     (ap (from_be_bytes w16) p.word_is ∙ from_be_bytes-to_be_bytes_2 w small_w)
 
-length-frame : (k : ℕ) (s : List ℕ) (a n w : ℕ) → length s ≡ 16 → length (frame k s a n w) ≡ 27
+length-frame : (v k : ℕ) (s : List ℕ) (a n w : ℕ) → length s ≡ 16 → length (frame v k s a n w) ≡ 27
 unfolding frame
-length-frame k s a n w len = omega (arith, length-append s (a ∷ to_be_bytes w32 n ++ to_be_bytes w16 w), len)
+length-frame v k s a n w len = omega (arith, length-append s (a ∷ to_be_bytes w32 n ++ to_be_bytes w16 w), len)
 
-head_back : (k : ℕ) (s : List ℕ) (a n w : ℕ) → HasHead (frame k s a n w) × (slice_index (frame k s a n w) 3 ≡ k)
+head_back : (v k : ℕ) (s : List ℕ) (a n w : ℕ) → (slice_index (frame v k s a n w) 0 ≡ 83) × (slice_index (frame v k s a n w) 1 ≡ 65) × (slice_index (frame v k s a n w) 2 ≡ v) × (slice_index (frame v k s a n w) 3 ≡ k)
 unfolding frame
-head_back k s a n w = ((refl, refl, refl), refl)
+head_back v k s a n w = (refl, refl, refl, refl)
 
-code_below : (v : Verdicts) → code_of v ≤ 7
+pub code_below : (v : Verdicts) → code_of v ≤ 7
 code_below verdict.WhiteMates = omega arith
 code_below verdict.BlackMates = omega arith
 code_below verdict.Stalemate = omega arith
@@ -114,25 +116,51 @@ code_below verdict.TableWhite = omega arith
 code_below verdict.TableBlack = omega arith
 code_below verdict.Stopped = omega arith
 
+pub code_above : (v : Verdicts) → 1 ≤ code_of v
+code_above verdict.WhiteMates = omega arith
+code_above verdict.BlackMates = omega arith
+code_above verdict.Stalemate = omega arith
+code_above verdict.TableDraw = omega arith
+code_above verdict.TableWhite = omega arith
+code_above verdict.TableBlack = omega arith
+code_above verdict.Stopped = omega arith
+
 below : (m : Message) → IsInRange m → (number_of m < 2 ^ 32) × (word_in m < 2 ^ 16)
-below (Move stamp number m) h = (h.0, let b = word_below _ m h.1 in omega arith)
+below (Move stamp sender number m) h = (h.0, let b = word_below _ m h.1 in omega arith)
 below (Ack stamp a count) h = (omega arith, omega arith)
 below (Verdict stamp a ply v) h = (omega arith, let b = code_below v in omega arith)
+below (Fetch stamp a number wanted) h = (let b = h.0 in omega arith, let b = h.2 in omega arith)
 
-kind_below : (m : Message) → (1 ≤ kind_of m) × (kind_of m ≤ 3)
-kind_below (Move stamp number m) = (omega arith, omega arith)
-kind_below (Ack stamp a count) = (omega arith, omega arith)
-kind_below (Verdict stamp a ply v) = (omega arith, omega arith)
+-- a version and a kind of it
+abbrev pub IsKind : ℕ → ℕ → Type 0
+IsKind version kind = ((version ≡ 1) × (1 ≤ kind) × (kind ≤ 3)) ⊎ ((version ≡ 2) × ((kind ≡ 1) ⊎ (kind ≡ 4)))
 
-pub one_of_three : (t : List ℕ) (k : Kind) → slice_index t 3 ≡ kind_number k → HasKind t
-one_of_three t kind.Move is = (omega arith, omega arith)
-one_of_three t kind.Ack is = (omega arith, omega arith)
-one_of_three t kind.Verdict is = (omega arith, omega arith)
+kind_below : (m : Message) → IsKind (version_of m) (kind_of m)
+kind_below (Move stamp Source number m) = inl (refl, omega arith, omega arith)
+kind_below (Move stamp (Arbiter a) number m) = inr (refl, inl refl)
+kind_below (Ack stamp a count) = inl (refl, omega arith, omega arith)
+kind_below (Verdict stamp a ply v) = inl (refl, omega arith, omega arith)
+kind_below (Fetch stamp a number wanted) = inr (refl, inr refl)
+
+version_known : (m : Message) → (version_of m ≡ 1) ⊎ (version_of m ≡ 2)
+version_known (Move stamp Source number m) = inl refl
+version_known (Move stamp (Arbiter a) number m) = inr refl
+version_known (Ack stamp a count) = inl refl
+version_known (Verdict stamp a ply v) = inl refl
+version_known (Fetch stamp a number wanted) = inr refl
+
+pub one_of_five : (t : List ℕ) (k : Kind) → slice_index t 2 ≡ version_number k → slice_index t 3 ≡ kind_number k → HasKind t
+one_of_five t kind.Move v is = inl (v, omega arith, omega arith)
+one_of_five t kind.Ack v is = inl (v, omega arith, omega arith)
+one_of_five t kind.Verdict v is = inl (v, omega arith, omega arith)
+one_of_five t kind.Relayed v is = inr (v, inl is)
+one_of_five t kind.Fetch v is = inr (v, inr is)
 
 -- what a spelled message is read from
 pub record IsLaidOut (t : List ℕ) (m : Message) : Type 0 where
   pub len : length t ≡ 27
   pub head : HasHead t
+  pub version : slice_index t 2 ≡ version_of m
   pub kind : slice_index t 3 ≡ kind_of m
   pub fields : fields_at t ≡ made (stamp_in m).0 (sender_number (sender_of m)) (number_of m) (word_in m)
 
@@ -141,20 +169,27 @@ laid_out t m h =
     let b = below m h.in_range in
     let s = (stamp_in m).0 in
     let a = sender_number (sender_of m) in
-    let heads = head_back (kind_of m) s a (number_of m) (word_in m) in
+    let heads = head_back (version_of m) (kind_of m) s a (number_of m) (word_in m) in
+    let version : slice_index t 2 ≡ version_of m = ap (λ (x : List ℕ). slice_index x 2) h.text ∙ heads.2 in
     record {
-      len = ap length h.text ∙ length-frame (kind_of m) s a (number_of m) (word_in m) h.stamp;
-      head = subst HasHead (sym h.text) heads.0;
-      kind = ap (λ (x : List ℕ). slice_index x 3) h.text ∙ heads.1;
-      fields = ap fields_at h.text ∙ fields_back (kind_of m) s a (number_of m) (word_in m) h.stamp b.0 b.1;
+      len = ap length h.text ∙ length-frame (version_of m) (kind_of m) s a (number_of m) (word_in m) h.stamp;
+      head = (
+        ap (λ (x : List ℕ). slice_index x 0) h.text ∙ heads.0,
+        ap (λ (x : List ℕ). slice_index x 1) h.text ∙ heads.1,
+        subst (λ (n : ℕ). (n ≡ 1) ⊎ (n ≡ 2)) (sym version) (version_known m),
+      );
+      version = version;
+      kind = ap (λ (x : List ℕ). slice_index x 3) h.text ∙ heads.3;
+      fields = ap fields_at h.text ∙ fields_back (version_of m) (kind_of m) s a (number_of m) (word_in m) h.stamp b.0 b.1;
     }
 
 -- its fields are those that its kind has
-pub has_fields : (t : List ℕ) (k : Kind) (m : Message) → SpellsMessage t m → slice_index t 3 ≡ kind_number k → HasFields k (fields_at t) m
-has_fields t k m h is =
+pub has_fields : (t : List ℕ) (k : Kind) (m : Message) → SpellsMessage t m → slice_index t 2 ≡ version_number k → slice_index t 3 ≡ kind_number k → HasFields k (fields_at t) m
+has_fields t k m h version is =
     let p = laid_out t m h in
     record {
       in_range = h.in_range;
+      version = sym p.version ∙ version;
       kind = sym p.kind ∙ is;
       stamp = sym (ap (λ (f : Fields). f.stamp) p.fields);
       sender = sym (ap (λ (f : Fields). f.sender) p.fields);
@@ -162,19 +197,19 @@ has_fields t k m h is =
       word = sym (ap (λ (f : Fields). f.word) p.fields);
     }
 
-pub frame_is : (k k' : ℕ) (s s' : List ℕ) (a a' n n' w w' : ℕ) → k ≡ k' → s ≡ s' → a ≡ a' → n ≡ n' → w ≡ w' → frame k s a n w ≡ frame k' s' a' n' w'
-frame_is k k' s s' a a' n n' w w' ek es ea en ew = cc
+pub frame_is : (v v' k k' : ℕ) (s s' : List ℕ) (a a' n n' w w' : ℕ) → v ≡ v' → k ≡ k' → s ≡ s' → a ≡ a' → n ≡ n' → w ≡ w' → frame v k s a n w ≡ frame v' k' s' a' n' w'
+frame_is v v' k k' s s' a a' n n' w w' ev ek es ea en ew = cc
 
 -- bytes that are laid out as a message with these fields spell it
-pub found : (t : List ℕ) (k : Kind) (m : Message) → IsBytes t → length t ≡ 27 → HasHead t → slice_index t 3 ≡ kind_number k → HasFields k (fields_at t) m → SpellsMessage t m
+pub found : (t : List ℕ) (k : Kind) (m : Message) → IsBytes t → length t ≡ 27 → HasHead t → slice_index t 2 ≡ version_number k → slice_index t 3 ≡ kind_number k → HasFields k (fields_at t) m → SpellsMessage t m
 unfolding fields_at
-found t k m fits len head is f =
+found t k m fits len head version is f =
     let sixteen : length (take 16 (drop 4 t)) ≡ 16 = omega (arith, length-take 16 (drop 4 t), length-drop 4 t, len) in
     let stamp_is : (fields_at t).stamp.0 ≡ (stamp_in m).0 = sym (ap (λ (s : Stamp). s.0) f.stamp) in
     record {
       in_range = f.in_range;
       stamp = sym (ap length stamp_is) ∙ sixteen;
-      text = is_frame t fits len head ∙ frame_is _ _ _ _ _ _ _ _ _ _ (is ∙ sym f.kind) stamp_is (sym f.sender) (sym f.number) (sym f.word);
+      text = is_frame t fits len head ∙ frame_is _ _ _ _ _ _ _ _ _ _ _ _ (version ∙ sym f.version) (is ∙ sym f.kind) stamp_is (sym f.sender) (sym f.number) (sym f.word);
     }
 
 -- bytes that spell a message have no fault
@@ -183,31 +218,57 @@ no_fault t m BadLength h fault = fault (laid_out t m h).len
 no_fault t m BadHead h fault = fault.1 (laid_out t m h).head
 no_fault t m BadKind h fault =
     let p = laid_out t m h in
-    let b = kind_below m in
-    fault.2 (subst (λ (x : ℕ). 1 ≤ x) (sym p.kind) b.0, subst (λ (x : ℕ). x ≤ 3) (sym p.kind) b.1)
+    fault.2 (subst (λ (x : ℕ). IsKind x (slice_index t 3)) (sym p.version) (subst (λ (x : ℕ). IsKind (version_of m) x) (sym p.kind) (kind_below m)))
 no_fault t m BadField h fault = fault.3 m h
 
+-- bytes have one first fault
+pub one_fault : (t : List ℕ) (a b : MessageFault) → IsFirstMessageFault t a → IsFirstMessageFault t b → a ≡ b
+one_fault t BadLength BadLength h l = refl
+one_fault t BadLength BadHead h l = absurd (h l.0)
+one_fault t BadLength BadKind h l = absurd (h l.0)
+one_fault t BadLength BadField h l = absurd (h l.0)
+one_fault t BadHead BadLength h l = absurd (l h.0)
+one_fault t BadHead BadHead h l = refl
+one_fault t BadHead BadKind h l = absurd (h.1 l.1)
+one_fault t BadHead BadField h l = absurd (h.1 l.1)
+one_fault t BadKind BadLength h l = absurd (l h.0)
+one_fault t BadKind BadHead h l = absurd (l.1 h.1)
+one_fault t BadKind BadKind h l = refl
+one_fault t BadKind BadField h l = absurd (h.2 l.2)
+one_fault t BadField BadLength h l = absurd (l h.0)
+one_fault t BadField BadHead h l = absurd (l.1 h.1)
+one_fault t BadField BadKind h l = absurd (l.2 h.2)
+one_fault t BadField BadField h l = refl
+
 -- what each kind is written as
-pub move_spelled : (t : List ℕ) (s : Stamp) (n w : ℕ) (m : Moves) → (length s.0 ≡ 16) × (n < 2 ^ 32) → SpellsWord w m → t ≡ frame 1 s.0 0 n w → SpellsMessage t (Move s n m)
-move_spelled t s n w m fits word text =
+pub move_spelled : (t : List ℕ) (s : Stamp) (a : Sender) (k : Kind) (sender n w : ℕ) (m : Moves) → (length s.0 ≡ 16) × (n < 2 ^ 32) → version_number k ≡ version_by a → kind_number k ≡ 1 → sender ≡ sender_number a → SpellsWord w m → t ≡ frame (version_number k) (kind_number k) s.0 sender n w → SpellsMessage t (Move s a n m)
+move_spelled t s a k sender n w m fits version is from word text =
     record {
       in_range = (fits.1, subst (λ (x : ℕ). SpellsWord x m) word.value word);
       stamp = fits.0;
-      text = text ∙ ap (λ (x : ℕ). frame 1 s.0 0 n x) word.value;
+      text = text ∙ frame_is _ _ _ _ _ _ _ _ _ _ _ _ version is refl from refl word.value;
     }
 
-pub ack_spelled : (t : List ℕ) (s : Stamp) (a : Who) (sender count number : ℕ) → length s.0 ≡ 16 → sender ≡ who_number a → number ≡ count → number ≤ most_moves → t ≡ frame 2 s.0 sender number 0 → SpellsMessage t (Ack s a count)
+pub ack_spelled : (t : List ℕ) (s : Stamp) (a : Who) (sender count number : ℕ) → length s.0 ≡ 16 → sender ≡ who_number a → number ≡ count → number ≤ most_moves → t ≡ frame 1 2 s.0 sender number 0 → SpellsMessage t (Ack s a count)
 ack_spelled t s a sender count number len is same few text =
     record {
       in_range = subst (λ (x : ℕ). x ≤ most_moves) same few;
       stamp = len;
-      text = text ∙ frame_is _ _ _ _ _ _ _ _ _ _ refl refl is same refl;
+      text = text ∙ frame_is _ _ _ _ _ _ _ _ _ _ _ _ refl refl refl is same refl;
     }
 
-pub verdict_spelled : (t : List ℕ) (s : Stamp) (a : Who) (v : Verdicts) (sender ply number code : ℕ) → length s.0 ≡ 16 → sender ≡ who_number a → number ≡ ply → number ≤ most_moves → code ≡ code_of v → t ≡ frame 3 s.0 sender number code → SpellsMessage t (Verdict s a ply v)
+pub verdict_spelled : (t : List ℕ) (s : Stamp) (a : Who) (v : Verdicts) (sender ply number code : ℕ) → length s.0 ≡ 16 → sender ≡ who_number a → number ≡ ply → number ≤ most_moves → code ≡ code_of v → t ≡ frame 1 3 s.0 sender number code → SpellsMessage t (Verdict s a ply v)
 verdict_spelled t s a v sender ply number code len is same few coded text =
     record {
       in_range = subst (λ (x : ℕ). x ≤ most_moves) same few;
       stamp = len;
-      text = text ∙ frame_is _ _ _ _ _ _ _ _ _ _ refl refl is same coded;
+      text = text ∙ frame_is _ _ _ _ _ _ _ _ _ _ _ _ refl refl refl is same coded;
+    }
+
+pub fetch_spelled : (t : List ℕ) (s : Stamp) (a : Who) (sender first number wanted many : ℕ) → length s.0 ≡ 16 → sender ≡ who_number a → number ≡ first → number ≤ most_moves → many ≡ wanted → 1 ≤ many → many ≤ most_wanted → t ≡ frame 2 4 s.0 sender number many → SpellsMessage t (Fetch s a first wanted)
+fetch_spelled t s a sender first number wanted many len is same few many_is some most text =
+    record {
+      in_range = (subst (λ (x : ℕ). x ≤ most_moves) same few, subst (λ (x : ℕ). 1 ≤ x) many_is some, subst (λ (x : ℕ). x ≤ most_wanted) many_is most);
+      stamp = len;
+      text = text ∙ frame_is _ _ _ _ _ _ _ _ _ _ _ _ refl refl refl is same many_is;
     }

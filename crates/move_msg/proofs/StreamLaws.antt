@@ -3,11 +3,10 @@ use Rattle.std.proofs.Common.{◌≡◌, ℕ, ◌+◌, ◌<◌, ◌≤◌, List,
 use Rattle.std.proofs.lemmas.List.{take_at, drop_at, length-append, take_all}
 use Rattle.move_msg.specs.declared.message.Message.{Message}
 use Rattle.move_msg.specs.declared.message.MessageFault.{MessageFault}
-use Rattle.move_msg.specs.declared.message.MessageFault.TheVariants.{BadLength, BadHead, BadKind, BadField}
 use Rattle.move_msg.specs.Messages.{SpellsMessage, IsFirstMessageFault}
 use Rattle.move_msg.specs.Streams.{Answer, AnswersFor, BeginsBy, Call, End, EndsSo, AfterMessage, Cut, AtFault, Feed, IsRun, SpellsStream, end_at, message_in, messages_in, nothing_fed, taken_in}
-use Rattle.move_msg.proofs.MessageLaws.{laid_out, no_fault}
-use Rattle.move_msg.proofs.OneMessage.{one_message}
+use Rattle.move_msg.proofs.MessageLaws.{laid_out, no_fault, one_fault}
+use Rattle.move_msg.proofs.HeardLaws.{one_message}
 
 -- no message stands at the front
 abbrev pub HasNoFirst : List ℕ → Type 0
@@ -43,25 +42,6 @@ one_front t (m ∷ ms) (n ∷ ns) r q h l rh ql =
     let head : m ≡ n = one_message l.0 m n (subst (λ (x : List ℕ). SpellsMessage x m) text h.3) l.3 in
     let rest = one_front l.1 ms ns r q (subst (λ (x : List ℕ). BeginsBy x ms r) tail h.4) l.4 rh ql in
     (ap₂ (λ (x : Message) (xs : List Message). x ∷ xs) head rest.0, rest.1)
-
--- bytes have one first fault
-one_fault : (t : List ℕ) (a b : MessageFault) → IsFirstMessageFault t a → IsFirstMessageFault t b → a ≡ b
-one_fault t BadLength BadLength h l = refl
-one_fault t BadLength BadHead h l = absurd (h l.0)
-one_fault t BadLength BadKind h l = absurd (h l.0)
-one_fault t BadLength BadField h l = absurd (h l.0)
-one_fault t BadHead BadLength h l = absurd (l h.0)
-one_fault t BadHead BadHead h l = refl
-one_fault t BadHead BadKind h l = absurd (h.1 l.1)
-one_fault t BadHead BadField h l = absurd (h.1 l.1)
-one_fault t BadKind BadLength h l = absurd (l h.0)
-one_fault t BadKind BadHead h l = absurd (l.1 h.1)
-one_fault t BadKind BadKind h l = refl
-one_fault t BadKind BadField h l = absurd (h.2 l.2)
-one_fault t BadField BadLength h l = absurd (l h.0)
-one_fault t BadField BadHead h l = absurd (l.1 h.1)
-one_fault t BadField BadKind h l = absurd (l.2 h.2)
-one_fault t BadField BadField h l = refl
 
 abbrev faulty : MessageFault → Feed
 faulty e = record { held = []; fault = Some e }

@@ -63,6 +63,12 @@ one_list t (m ∷ ms) (n ∷ ns) p q =
     let tail : ms ≡ ns = one_list q.1 ms ns (subst (λ (x : List ℕ). SpellsMoves x ms) e.1 p.4) q.4 in
     ap₂ (λ (x : Move) (xs : List Move). x ∷ xs) head tail
 
+-- moves have one spelling
+pub one_text : (s t : List ℕ) (ms : List Move) → SpellsMoves s ms → SpellsMoves t ms → s ≡ t
+one_text s t [] p q = p ∙ sym q
+one_text s t (m ∷ ms) p q =
+    p.3 ∙ ap₂ (λ (w : ℕ) (x : List ℕ). to_be_bytes w16 w ++ x) (p.2.value ∙ sym q.2.value) (one_text p.1 q.1 ms p.4 q.4) ∙ sym q.3
+
 -- words have two bytes for each move
 pub words_length : (t : List ℕ) (ms : List Move) → SpellsMoves t ms → length t ≡ 2 * length ms
 words_length t [] e = ap length e

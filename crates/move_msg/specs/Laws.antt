@@ -1,5 +1,5 @@
 -- What holds of words, messages, records and streams.
-use Rattle.std.specs.Prelude.{◌≡◌, ℕ, List}
+use Rattle.std.specs.Prelude.{◌≡◌, ℕ, List, slice_index}
 use Rattle.board_core.specs.declared.moves.Move.{Move}
 use Rattle.move_msg.specs.declared.message.Message.{Message}
 use Rattle.move_msg.specs.declared.record_bytes.Record.{Record}
@@ -23,6 +23,11 @@ HasOneSpelling = (s t : List ℕ) (m : Message) → SpellsMessage s m → Spells
 -- bytes spell one record at most
 abbrev pub HasOneRecord : Type 0
 HasOneRecord = (t : List ℕ) (q r : Record) → SpellsRecord t q → SpellsRecord t r → q ≡ r
+
+-- and a record has one spelling of a version at most
+abbrev pub HasOneRecordSpelling : Type 0
+HasOneRecordSpelling =
+    (s t : List ℕ) (r : Record) → SpellsRecord s r → SpellsRecord t r → slice_index s 2 ≡ slice_index t 2 → s ≡ t
 
 -- a stream has one list of messages and one end
 abbrev pub HasOneReading : Type 0

@@ -6,14 +6,23 @@ use Rattle.move_msg.specs.declared.coding.Kind.TheVariants as kind
 use Rattle.move_msg.specs.declared.coding.Fields.{Fields}
 use Rattle.move_msg.specs.declared.record_bytes.Header.{Header}
 use Rattle.move_msg.specs.declared.message.Message.{Message}
-use Rattle.move_msg.specs.Messages.{IsInRange, kind_of, stamp_in, sender_of, number_of, word_in}
+use Rattle.move_msg.specs.Messages.{IsInRange, version_of, kind_of, stamp_in, sender_of, number_of, word_in}
 use Rattle.move_msg.specs.Senders.{sender_number}
-use Rattle.move_msg.specs.Records.{verdict_at, count_at}
+use Rattle.move_msg.specs.Records.{body_in, count_at, delay_in, verdict_at}
 
 abbrev pub kind_number : Kind → ℕ
 kind_number kind.Move = 1
 kind_number kind.Ack = 2
 kind_number kind.Verdict = 3
+kind_number kind.Relayed = 1
+kind_number kind.Fetch = 4
+
+abbrev pub version_number : Kind → ℕ
+version_number kind.Move = 1
+version_number kind.Ack = 1
+version_number kind.Verdict = 1
+version_number kind.Relayed = 2
+version_number kind.Fetch = 2
 
 -- stamp, sender, number and word of 27 bytes
 unfoldable pub fields_at : List ℕ → Fields
@@ -27,12 +36,18 @@ fields_at t = record {
 -- these are the fields of the message, whose kind this is
 pub record HasFields (k : Kind) (f : Fields) (m : Message) : Type 0 where
   pub in_range : IsInRange m
+  pub version : version_of m ≡ version_number k
   pub kind : kind_of m ≡ kind_number k
   pub stamp : stamp_in m ≡ f.stamp
   pub sender : sender_number (sender_of m) ≡ f.sender
   pub number : number_of m ≡ f.number
   pub word : word_in m ≡ f.word
 
--- stamp, verdict and number of moves of a record
+-- stamp, delay, code of the verdict and number of moves of a record
 unfoldable pub header_at : List ℕ → Header
-header_at t = record { stamp = record { 0 = take 16 (drop 3 t) }; verdict = verdict_at t; count = count_at t }
+header_at t = record {
+  stamp = record { 0 = take 16 (drop 3 t) };
+  delay = delay_in t;
+  code = verdict_at (body_in t);
+  count = count_at (body_in t);
+}

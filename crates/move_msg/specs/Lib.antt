@@ -1,9 +1,9 @@
 pub mod Words
 pub mod Numbers
 pub mod Senders
-pub mod Verdicts
 pub mod Stamps
 pub mod Messages
+pub mod Heard
 pub mod Layouts
 pub mod Streams
 pub mod Records
@@ -11,3 +11,4 @@ pub mod Laws
 pub mod Cut
 pub mod TableNames
 pub mod Manifests
+pub mod Files

@@ -1,60 +1,82 @@
--- Messages as bytes (message format, version 1).
-use Rattle.std.specs.Prelude.{◌≡◌, ◌≢◌, ◌≤◌, ◌<◌, ◌^◌, ◌++◌, ℕ, List, ◌∷◌, length, slice_index, codes}
+-- Messages as bytes (message format, versions 1 and 2).
+use Rattle.std.specs.Prelude.{◌≡◌, ◌≢◌, ◌≤◌, ◌<◌, ◌^◌, ◌++◌, ◌⊎◌, ℕ, List, ◌∷◌, length, slice_index, replicate, codes}
 use Rattle.std.specs.Int.{w16, w32, to_be_bytes}
 use Rattle.move_msg.specs.declared.stamp.Stamp.{Stamp}
+use Rattle.move_msg.specs.declared.who.Who.TheVariants.{A}
 use Rattle.move_msg.specs.declared.who.Sender.{Sender}
 use Rattle.move_msg.specs.declared.who.Sender.TheVariants.{Source, Arbiter}
 use Rattle.move_msg.specs.declared.message.Message.{Message}
-use Rattle.move_msg.specs.declared.message.Message.TheVariants.{Move, Ack, Verdict}
+use Rattle.move_msg.specs.declared.message.Message.TheVariants.{Move, Ack, Verdict, Fetch}
 use Rattle.move_msg.specs.declared.message.MessageFault.{MessageFault}
 use Rattle.move_msg.specs.declared.message.MessageFault.TheVariants.{BadLength, BadHead, BadKind, BadField}
 use Rattle.move_msg.specs.Words.{SpellsWord, word_of}
-use Rattle.move_msg.specs.Numbers.{most_moves}
+use Rattle.move_msg.specs.Numbers.{most_moves, most_wanted}
 use Rattle.move_msg.specs.Senders.{sender_number}
-use Rattle.move_msg.specs.Verdicts.{code_of}
+use Rattle.board_core.specs.Verdicts.{code_of}
 
 -- whose message it is
 abbrev pub sender_of : Message → Sender
-sender_of (Move stamp number m) = Source
+sender_of (Move stamp sender number m) = sender
 sender_of (Ack stamp who count) = Arbiter who
 sender_of (Verdict stamp who ply verdict) = Arbiter who
+sender_of (Fetch stamp who number wanted) = Arbiter who
 
 -- the game that it is about
 abbrev pub stamp_in : Message → Stamp
-stamp_in (Move stamp number m) = stamp
+stamp_in (Move stamp sender number m) = stamp
 stamp_in (Ack stamp who count) = stamp
 stamp_in (Verdict stamp who ply verdict) = stamp
+stamp_in (Fetch stamp who number wanted) = stamp
+
+-- what stands where there is no message
+abbrev pub no_message : Message
+no_message = Ack (record { 0 = replicate 16 0 }) A 0
+
+-- an arbiter's moves and what it asks for came with version 2
+abbrev pub version_by : Sender → ℕ
+version_by Source = 1
+version_by (Arbiter who) = 2
+
+abbrev pub version_of : Message → ℕ
+version_of (Move stamp sender number m) = version_by sender
+version_of (Ack stamp who count) = 1
+version_of (Verdict stamp who ply verdict) = 1
+version_of (Fetch stamp who number wanted) = 2
 
 -- a kind, the number and the word
 abbrev pub kind_of : Message → ℕ
-kind_of (Move stamp number m) = 1
+kind_of (Move stamp sender number m) = 1
 kind_of (Ack stamp who count) = 2
 kind_of (Verdict stamp who ply verdict) = 3
+kind_of (Fetch stamp who number wanted) = 4
 
 abbrev pub number_of : Message → ℕ
-number_of (Move stamp number m) = number
+number_of (Move stamp sender number m) = number
 number_of (Ack stamp who count) = count
 number_of (Verdict stamp who ply verdict) = ply
+number_of (Fetch stamp who number wanted) = number
 
 abbrev pub word_in : Message → ℕ
-word_in (Move stamp number m) = word_of m
+word_in (Move stamp sender number m) = word_of m
 word_in (Ack stamp who count) = 0
 word_in (Verdict stamp who ply verdict) = code_of verdict
+word_in (Fetch stamp who number wanted) = wanted
 
 -- what a message may have as its number and its word
 abbrev pub IsInRange : Message → Type 0
-IsInRange (Move stamp number m) = (number < 2 ^ 32) × SpellsWord (word_of m) m
+IsInRange (Move stamp sender number m) = (number < 2 ^ 32) × SpellsWord (word_of m) m
 IsInRange (Ack stamp who count) = count ≤ most_moves
 IsInRange (Verdict stamp who ply verdict) = ply ≤ most_moves
+IsInRange (Fetch stamp who number wanted) = (number ≤ most_moves) × (1 ≤ wanted) × (wanted ≤ most_wanted)
 
 -- two letters and the version, the kind, the stamp, the sender, the number and the word, each number with its highest
 -- byte first
-unfoldable pub frame : ℕ → List ℕ → ℕ → ℕ → ℕ → List ℕ
-frame kind stamp sender number word =
-    83 ∷ 65 ∷ 1 ∷ kind ∷ stamp ++ (sender ∷ to_be_bytes w32 number ++ to_be_bytes w16 word)
+unfoldable pub frame : ℕ → ℕ → List ℕ → ℕ → ℕ → ℕ → List ℕ
+frame version kind stamp sender number word =
+    83 ∷ 65 ∷ version ∷ kind ∷ stamp ++ (sender ∷ to_be_bytes w32 number ++ to_be_bytes w16 word)
 
 abbrev pub message_text : Message → List ℕ
-message_text m = frame (kind_of m) (stamp_in m).0 (sender_number (sender_of m)) (number_of m) (word_in m)
+message_text m = frame (version_of m) (kind_of m) (stamp_in m).0 (sender_number (sender_of m)) (number_of m) (word_in m)
 
 -- the bytes are those of the message
 pub record SpellsMessage (t : List ℕ) (m : Message) : Type 0 where
@@ -62,13 +84,15 @@ pub record SpellsMessage (t : List ℕ) (m : Message) : Type 0 where
   pub stamp : length (stamp_in m).0 ≡ 16
   pub text : t ≡ message_text m
 
--- S, A and the version
+-- S, A and a version
 abbrev pub HasHead : List ℕ → Type 0
-HasHead t = (slice_index t 0 ≡ 83) × (slice_index t 1 ≡ 65) × (slice_index t 2 ≡ 1)
+HasHead t = (slice_index t 0 ≡ 83) × (slice_index t 1 ≡ 65) × ((slice_index t 2 ≡ 1) ⊎ (slice_index t 2 ≡ 2))
 
--- the kind is one of the three
+-- the kind is one of the version
 abbrev pub HasKind : List ℕ → Type 0
-HasKind t = (1 ≤ slice_index t 3) × (slice_index t 3 ≤ 3)
+HasKind t =
+    ((slice_index t 2 ≡ 1) × (1 ≤ slice_index t 3) × (slice_index t 3 ≤ 3))
+    ⊎ ((slice_index t 2 ≡ 2) × ((slice_index t 3 ≡ 1) ⊎ (slice_index t 3 ≡ 4)))
 
 -- the first thing that bytes lack: the length, the head, the kind, and last the fields of a message of the kind
 abbrev pub IsFirstMessageFault : List ℕ → MessageFault → Type 0

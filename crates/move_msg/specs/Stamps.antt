@@ -1,5 +1,5 @@
 -- The mark of a game (this project's own): the first 16 bytes of a digest of its name, start and tables.
-use Rattle.std.specs.Prelude.{◌≡◌, ◌≤◌, ◌++◌, ◌&&◌, ℕ, Bool, true, List, [], ◌∷◌, length, take, nat_le}
+use Rattle.std.specs.Prelude.{◌≡◌, ◌≤◌, ◌++◌, ◌&&◌, ℕ, Bool, true, List, [], ◌∷◌, zero, suc, length, take, nat_le}
 use Rattle.std.specs.List.{list_all}
 use Rattle.sha2.specs.Sha256.{sha256}
 
@@ -11,10 +11,15 @@ is_printable byte = nat_le 32 byte && nat_le byte 126
 abbrev pub IsGameName : List ℕ → Type 0
 IsGameName name = (1 ≤ length name) × (length name ≤ 64) × (list_all is_printable name ≡ true)
 
--- name, line feed, the start's text, line feed, manifest
-abbrev pub stamped : List ℕ → List ℕ → List ℕ → List ℕ
-stamped name start manifest = name ++ 10 ∷ [] ++ start ++ 10 ∷ [] ++ manifest
+-- the delay of verdicts by tables, where there is one
+abbrev pub delay_byte : ℕ → List ℕ
+delay_byte zero = []
+delay_byte (suc n) = suc n ∷ []
+
+-- name, line feed, the start's text, line feed, manifest, delay
+abbrev pub stamped : List ℕ → List ℕ → List ℕ → ℕ → List ℕ
+stamped name start manifest delay = name ++ 10 ∷ [] ++ start ++ 10 ∷ [] ++ manifest ++ delay_byte delay
 
 -- the digest is that of FIPS 180-4
-abbrev pub stamp_of : List ℕ → List ℕ → List ℕ → List ℕ
-stamp_of name start manifest = take 16 (sha256 (stamped name start manifest))
+abbrev pub stamp_of : List ℕ → List ℕ → List ℕ → ℕ → List ℕ
+stamp_of name start manifest delay = take 16 (sha256 (stamped name start manifest delay))

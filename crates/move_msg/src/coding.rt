@@ -1,18 +1,19 @@
 //! Messages as bytes.
 
 ghost use Rattle.std.specs.Prelude.{◌≡◌, ◌<◌, ◌^◌, length, slice_index, IfSome, IfOk, IfErr, Ok, Err, Some};
-ghost use Rattle.move_msg.specs.Messages.{SpellsMessage, IsFirstMessageFault, HasHead, frame};
-ghost use Rattle.move_msg.specs.Layouts.{HasFields, fields_at, kind_number};
+ghost use Rattle.move_msg.specs.Messages.{SpellsMessage, IsFirstMessageFault, HasHead, frame, version_by};
+ghost use Rattle.move_msg.specs.Heard.{heard_in};
+ghost use Rattle.move_msg.specs.Layouts.{HasFields, fields_at, kind_number, version_number};
 ghost use Rattle.move_msg.specs.declared.message.Message.{Message};
 ghost use Rattle.move_msg.specs.declared.message.MessageFault.{MessageFault};
 
-use crate::count::Count;
+use crate::count::{Count, Wanted};
 use crate::message::{Message, MessageFault};
 use crate::stamp::Stamp;
-use crate::verdict::Verdict;
-use crate::who::Who;
+use crate::who::{Sender, Who};
 use crate::words::{of_word, word};
 use arrayvec::ArrayVec;
+use board_core::Verdict;
 use byteorder::{BigEndian, ByteOrder};
 
 /// The kinds of messages.
@@ -21,6 +22,9 @@ enum Kind {
     Move,
     Ack,
     Verdict,
+    /// A move that an arbiter tells.
+    Relayed,
+    Fetch,
 }
 
 /// What follows the kind in a message.
@@ -60,6 +64,7 @@ fn move_of(fields: &Fields) -> Option<Message>
     match of_word(fields.word) {
         Some(m) => Some(Message::Move {
             stamp: fields.stamp,
+            sender: Sender::Source,
             number: fields.number,
             m,
         }),
@@ -113,17 +118,69 @@ fn verdict_of(fields: &Fields) -> Option<Message>
     })
 }
 
+/// The move that an arbiter tells by these fields.
+fn relayed_of(fields: &Fields) -> Option<Message>
+    requires { fields.now.number < 2 ^ 32 }
+    ensures some { IfSome result (λ m. HasFields Kind.Relayed fields.now m) }
+    ensures only { (m : Message) → HasFields Kind.Relayed fields.now m → result ≡ Some m }
+{
+    let Some(who) = Who::of_number(fields.sender) else {
+        return None;
+    };
+    match of_word(fields.word) {
+        Some(m) => Some(Message::Move {
+            stamp: fields.stamp,
+            sender: Sender::Arbiter(who),
+            number: fields.number,
+            m,
+        }),
+        None => None,
+    }
+}
+
+/// What an arbiter asks for by these fields.
+fn fetch_of(fields: &Fields) -> Option<Message>
+    ensures some { IfSome result (λ m. HasFields Kind.Fetch fields.now m) }
+    ensures only { (m : Message) → HasFields Kind.Fetch fields.now m → result ≡ Some m }
+{
+    let Some(who) = Who::of_number(fields.sender) else {
+        return None;
+    };
+    let Some(number) = Count::new(fields.number) else {
+        return None;
+    };
+    if fields.word > 255 {
+        return None;
+    }
+    let Some(wanted) = Wanted::new(fields.word as u8) else {
+        return None;
+    };
+    Some(Message::Fetch {
+        stamp: fields.stamp,
+        who,
+        number,
+        wanted,
+    })
+}
+
 /// The kind of 27 bytes that begin as a message.
 fn kind_in(bytes: &[u8]) -> Result<Kind, MessageFault>
-    ensures ok { IfOk result (λ kind. (length bytes.now ≡ 27) × HasHead bytes.now × (slice_index bytes.now 3 ≡ kind_number kind)) }
+    ensures ok { IfOk result (λ kind. (length bytes.now ≡ 27) × HasHead bytes.now × (slice_index bytes.now 2 ≡ version_number kind) × (slice_index bytes.now 3 ≡ kind_number kind)) }
     ensures err { IfErr result (IsFirstMessageFault bytes.now) }
     ensures other { IfErr result (λ fault. fault ≡ MessageFault.BadField → ⊥) }
 {
     if bytes.len() != 27 {
         return Err(MessageFault::BadLength);
     }
-    if !(bytes[0] == b'S' && bytes[1] == b'A' && bytes[2] == 1) {
+    if !(bytes[0] == b'S' && bytes[1] == b'A' && (bytes[2] == 1 || bytes[2] == 2)) {
         return Err(MessageFault::BadHead);
+    }
+    if bytes[2] == 2 {
+        return match bytes[3] {
+            1 => Ok(Kind::Relayed),
+            4 => Ok(Kind::Fetch),
+            _ => Err(MessageFault::BadKind),
+        };
     }
     match bytes[3] {
         1 => Ok(Kind::Move),
@@ -143,6 +200,8 @@ fn message_of(kind: Kind, fields: &Fields) -> Option<Message>
         Kind::Move => move_of(fields),
         Kind::Ack => ack_of(fields),
         Kind::Verdict => verdict_of(fields),
+        Kind::Relayed => relayed_of(fields),
+        Kind::Fetch => fetch_of(fields),
     }
 }
 
@@ -155,6 +214,18 @@ impl Kind {
             Kind::Move => 1,
             Kind::Ack => 2,
             Kind::Verdict => 3,
+            Kind::Relayed => 1,
+            Kind::Fetch => 4,
+        }
+    }
+
+    /// The version of messages of the kind.
+    fn version(self) -> u8
+        ensures { result ≡ version_number self }
+    {
+        match self {
+            Kind::Move | Kind::Ack | Kind::Verdict => 1,
+            Kind::Relayed | Kind::Fetch => 2,
         }
     }
 }
@@ -162,7 +233,7 @@ impl Kind {
 /// The bytes of a message.
 #[tactic(auto, unfolding(crate::specs::Messages::frame))]
 fn frame(kind: Kind, stamp: Stamp, sender: u8, number: u32, word: u16) -> [u8; 27]
-    ensures text { result ≡ frame (kind_number kind) stamp.0 sender number word }
+    ensures text { result ≡ frame (version_number kind) (kind_number kind) stamp.0 sender number word }
     ensures fits { (length stamp.0 ≡ 16) × (number < 2 ^ 32) }
 {
     let mut number_bytes = [0; 4];
@@ -170,7 +241,7 @@ fn frame(kind: Kind, stamp: Stamp, sender: u8, number: u32, word: u16) -> [u8; 2
     let mut word_bytes = [0; 2];
     BigEndian::write_u16(&mut word_bytes, word);
     let mut out: ArrayVec<u8, 27> = ArrayVec::new();
-    out.try_extend_from_slice(&[b'S', b'A', 1, kind.number()])
+    out.try_extend_from_slice(&[b'S', b'A', kind.version(), kind.number()])
         .unwrap();
     out.try_extend_from_slice(&stamp.0).unwrap();
     out.push(sender);
@@ -179,13 +250,29 @@ fn frame(kind: Kind, stamp: Stamp, sender: u8, number: u32, word: u16) -> [u8; 2
     out.into_inner().unwrap()
 }
 
+/// The kind of a move by who tells it.
+fn kind_by(sender: Sender) -> Kind
+    ensures version { version_number result ≡ version_by sender }
+    ensures kind { kind_number result ≡ 1 }
+{
+    match sender {
+        Sender::Source => Kind::Move,
+        Sender::Arbiter(_) => Kind::Relayed,
+    }
+}
+
 impl Message {
     /// The 27 bytes of the message (message format): its one spelling.
     pub fn encode(&self) -> [u8; 27]
         ensures { SpellsMessage result self.now }
     {
         match *self {
-            Message::Move { stamp, number, m } => frame(Kind::Move, stamp, 0, number, word(m)),
+            Message::Move {
+                stamp,
+                sender,
+                number,
+                m,
+            } => frame(kind_by(sender), stamp, sender.number(), number, word(m)),
             Message::Ack { stamp, who, count } => {
                 frame(Kind::Ack, stamp, who.number(), count.number(), 0)
             }
@@ -201,6 +288,18 @@ impl Message {
                 ply.number(),
                 verdict.code() as u16,
             ),
+            Message::Fetch {
+                stamp,
+                who,
+                number,
+                wanted,
+            } => frame(
+                Kind::Fetch,
+                stamp,
+                who.number(),
+                number.number(),
+                wanted.number() as u16,
+            ),
         }
     }
 
@@ -211,6 +310,7 @@ impl Message {
         ensures only { (m : Message) → SpellsMessage bytes.now m → result ≡ Ok m }
         ensures err { IfErr result (IsFirstMessageFault bytes.now) }
         ensures only_fault { (fault : MessageFault) → IsFirstMessageFault bytes.now fault → result ≡ Err fault }
+        ensures computed { result ≡ heard_in bytes.now }
     {
         match kind_in(bytes) {
             Err(fault) => Err(fault),

@@ -1,9 +1,12 @@
 //! Numbers of moves.
 
 ghost use Rattle.std.specs.Prelude.{◌≡◌, ◌≤◌, ◌↔◌, IsSome, IfSome};
-ghost use Rattle.move_msg.specs.Numbers.{most_moves};
+ghost use Rattle.move_msg.specs.Numbers.{most_moves, most_wanted};
 
 use std::marker::Model;
+
+/// How many moves a game may have.
+pub const MOST_MOVES: u32 = 4096;
 
 /// A number of moves of a game, 0 to 4096; contracts see the number. Ply k is the position after k
 /// moves, so it is the number of a ply as well.
@@ -26,12 +29,19 @@ impl Model for Count {
 }
 
 impl Count {
+    /// No move.
+    pub fn none() -> Count
+        ensures { result ≡ 0 }
+    {
+        Count { moves: 0 }
+    }
+
     /// So many moves; none above 4096.
     pub fn new(moves: u32) -> Option<Count>
         ensures in_range { IsSome result ↔ (moves ≤ most_moves) }
         ensures number { IfSome result (λ count. count ≡ moves) }
     {
-        if moves <= 4096 {
+        if moves <= MOST_MOVES {
             Some(Count { moves })
         } else {
             None
@@ -44,5 +54,54 @@ impl Count {
         ensures in_range { result ≤ most_moves }
     {
         self.moves
+    }
+}
+
+/// How many moves an arbiter asks for at once, 1 to 8; contracts see the number.
+#[derive(Clone, Copy, PartialEq, Eq, Debug)]
+pub struct Wanted {
+    wanted: u8,
+}
+
+impl Model for Wanted {
+    ghost use Rattle.std.specs.Prelude.{ℕ, ◌≤◌};
+    ghost use Rattle.move_msg.specs.Numbers.{most_wanted};
+
+    ghost Value = { ℕ };
+
+    ghost view = { λ w. w.wanted };
+
+    ghost invariant = { λ w. (1 ≤ w.wanted) × (w.wanted ≤ most_wanted) };
+
+    ghost inverse = { λ n. record { wanted = n } };
+}
+
+impl Wanted {
+    /// So many moves; none for 0 and above 8.
+    pub fn new(moves: u8) -> Option<Wanted>
+        ensures in_range { IsSome result ↔ ((1 ≤ moves) × (moves ≤ most_wanted)) }
+        ensures number { IfSome result (λ wanted. wanted ≡ moves) }
+    {
+        if 1 <= moves && moves <= 8 {
+            Some(Wanted { wanted: moves })
+        } else {
+            None
+        }
+    }
+
+    /// As many as may be asked for, 8.
+    pub fn most() -> Wanted
+        ensures { result ≡ most_wanted }
+    {
+        Wanted { wanted: 8 }
+    }
+
+    /// The number, 1 to 8.
+    pub fn number(self) -> u8
+        ensures value { result ≡ self }
+        ensures some { 1 ≤ result }
+        ensures few { result ≤ most_wanted }
+    {
+        self.wanted
     }
 }

@@ -1,6 +1,6 @@
 //! Laws over the definitions alone, for the layers above.
 
-ghost use Rattle.move_msg.specs.Laws.{HasOneMove, HasOneMessage, HasOneSpelling, HasOneRecord, HasOneReading, HasOneManifest, HasOneBadLine, ReadsItsStream, PiecesDoNotMatter};
+ghost use Rattle.move_msg.specs.Laws.{HasOneMove, HasOneMessage, HasOneSpelling, HasOneRecord, HasOneRecordSpelling, HasOneReading, HasOneManifest, HasOneBadLine, ReadsItsStream, PiecesDoNotMatter};
 
 /// A word stands for one move at most.
 pub fn one_move()
@@ -20,6 +20,11 @@ pub fn one_spelling()
 /// Bytes spell one record at most.
 pub fn one_record()
     ensures { HasOneRecord }
+{}
+
+/// A record has one spelling of a version at most.
+pub fn one_record_spelling()
+    ensures { HasOneRecordSpelling }
 {}
 
 /// A stream has one list of messages, and ends in one way.

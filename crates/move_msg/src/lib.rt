@@ -1,12 +1,14 @@
 //! Messages between the source of a game and its arbiters, records of games, and their stamps.
 //!
-//! Each message has one spelling of 27 bytes; a record is spelled by the moves of a game and the
-//! verdict on it, if any. All numbers have their highest byte first.
+//! Each message has one spelling of 27 bytes; a record is spelled by the moves of a game, the
+//! delay of its verdicts by tables and the verdict on it, if any. All numbers have their highest
+//! byte first.
 #![tactic(auto)]
 
 mod coding;
 mod count;
 mod feeder;
+mod files;
 pub mod laws;
 mod manifest;
 mod message;
@@ -14,19 +16,19 @@ mod move_list;
 mod record_bytes;
 mod stamp;
 mod table_name;
-mod verdict;
 mod who;
 mod words;
 
-pub use count::Count;
+pub use board_core::Verdict;
+pub use count::{Count, MOST_MOVES, Wanted};
 pub use feeder::Feeder;
-pub use manifest::{Line, ManifestFault, manifest_read, manifest_write};
+pub use files::{NamedFile, file_digest};
+pub use manifest::{Line, ManifestFault, manifest_of, manifest_read, manifest_write};
 pub use message::{Message, MessageFault};
 pub use move_list::MoveList;
 pub use record_bytes::{Record, RecordFault};
-pub use stamp::Stamp;
+pub use stamp::{Stamp, is_game_name};
 pub use table_name::is_file_name;
-pub use verdict::Verdict;
 pub use who::{Sender, Who};
 pub use words::{of_word, word};
 

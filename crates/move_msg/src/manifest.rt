@@ -5,8 +5,10 @@ ghost use Rattle.hex.specs.Hex.{encode_lower};
 ghost use Rattle.move_msg.specs.declared.manifest.ManifestFault.{ManifestFault};
 ghost use Rattle.move_msg.specs.declared.manifest.ManifestFault.TheVariants.{BadLine, OutOfMemory};
 ghost use Rattle.move_msg.specs.Manifests.{Entry, AreEntries, IsEntry, IsAfter, IsBefore, IsFirstBadLine, HasFirstLine, SpellsManifest, entry_of, entry_text, line_text, lines_text};
+ghost use Rattle.move_msg.specs.Files.{AreFiles, entries_of, entry_for, file_of};
 ghost use Rattle.move_msg.specs.TableNames.{IsFileName};
 
+use crate::files::{NamedFile, file_digest};
 use crate::table_name::{after, cut, is_file_name};
 use arrayvec::ArrayString;
 use std::alloc::{AllocError, Global};
@@ -19,6 +21,19 @@ pub struct Line {
     pub digest: [u8; 32],
     /// The name of the file, as `KQvK.rtbw`.
     pub name: ArrayString<16>,
+}
+
+impl Line {
+    /// The line of the file with this name and these bytes.
+    pub fn of(name: ArrayString<16>, bytes: &[u8]) -> Line
+        ensures is { entry_of result ≡ entry_for (record { name = name.bytes; bytes = bytes.now }) }
+        ensures entry { IsFileName name.bytes → IsEntry (entry_of result) }
+    {
+        Line {
+            digest: file_digest(bytes),
+            name,
+        }
+    }
 }
 
 /// Why bytes are no manifest.
@@ -182,4 +197,18 @@ pub fn manifest_write(alloc: Global, lines: &[Line]) -> Result<Vec<u8>, AllocErr
         push_line(line, &mut bytes)?;
     }
     Ok(bytes)
+}
+
+/// The bytes of the manifest of these files, whose names are those of table files, each after the
+/// one before in the order of bytes; that is the caller's condition. The error comes only where
+/// memory is refused.
+pub fn manifest_of(alloc: Global, files: &[NamedFile]) -> Result<Vec<u8>, AllocError>
+    requires { AreFiles (map file_of files.now) }
+    ensures { IfOk result (λ bytes. SpellsManifest bytes.items (entries_of (map file_of files.now))) }
+{
+    let mut lines = Vec::new(alloc);
+    for file in files {
+        lines.push(Line::of(file.name, &file.bytes))?;
+    }
+    manifest_write(alloc, &lines)
 }

@@ -3,19 +3,20 @@
 ghost use Rattle.std.specs.Prelude.{◌≡◌};
 ghost use Rattle.move_msg.specs.Messages.{fault_name, sender_of, stamp_in};
 
-use crate::count::Count;
+use crate::count::{Count, Wanted};
 use crate::stamp::Stamp;
-use crate::verdict::Verdict;
 use crate::who::{Sender, Who};
-use board_core::Move;
+use board_core::{Move, Verdict};
 
 /// What the source of a game and its arbiters tell one another.
 #[derive(Clone, Copy, PartialEq, Eq, Debug)]
 pub enum Message {
-    /// The source tells a move of the game.
+    /// The source tells a move of the game, or an arbiter passes one on.
     Move {
         /// The game.
         stamp: Stamp,
+        /// Who tells it.
+        sender: Sender,
         /// How many moves come before it.
         number: u32,
         /// The move.
@@ -41,6 +42,17 @@ pub enum Message {
         /// How it ended.
         verdict: Verdict,
     },
+    /// An arbiter asks the other for moves of the game.
+    Fetch {
+        /// The game.
+        stamp: Stamp,
+        /// The arbiter.
+        who: Who,
+        /// The number of the first move that it wants.
+        number: Count,
+        /// How many it wants.
+        wanted: Wanted,
+    },
 }
 
 impl Message {
@@ -52,6 +64,7 @@ impl Message {
             Message::Move { stamp, .. } => stamp,
             Message::Ack { stamp, .. } => stamp,
             Message::Verdict { stamp, .. } => stamp,
+            Message::Fetch { stamp, .. } => stamp,
         }
     }
 
@@ -60,9 +73,27 @@ impl Message {
         ensures { result ≡ sender_of self.now }
     {
         match *self {
-            Message::Move { .. } => Sender::Source,
+            Message::Move { sender, .. } => sender,
             Message::Ack { who, .. } => Sender::Arbiter(who),
             Message::Verdict { who, .. } => Sender::Arbiter(who),
+            Message::Fetch { who, .. } => Sender::Arbiter(who),
+        }
+    }
+}
+
+/// What stands in a list with room for more messages where there is none: an acknowledgement of no
+/// move by the first arbiter, with a stamp of zeros.
+impl Default for Message {
+    ghost use Rattle.std.specs.Prelude.{◌≡◌};
+    ghost use Rattle.move_msg.specs.Messages.{no_message};
+
+    ghost is_default = { λ m. m ≡ no_message };
+
+    fn default() -> Message {
+        Message::Ack {
+            stamp: Stamp([0; 16]),
+            who: Who::A,
+            count: Count::none(),
         }
     }
 }
@@ -72,9 +103,9 @@ impl Message {
 pub enum MessageFault {
     /// There are not exactly 27 bytes.
     BadLength,
-    /// They don't begin by `SA` and the version 1.
+    /// They don't begin by `SA` and the version 1 or 2.
     BadHead,
-    /// The kind is none.
+    /// The kind is none of the version.
     BadKind,
     /// Sender, number and word are not those of a message of the kind.
     BadField,

@@ -3,6 +3,7 @@
 ghost use Rattle.std.specs.Prelude.{◌≡◌, ◌≤◌, length};
 ghost use Rattle.move_msg.specs.Numbers.{most_moves};
 
+use crate::count::Count;
 use board_core::Move;
 use std::marker::Model;
 
@@ -40,6 +41,13 @@ impl MoveList {
     {
         let MoveList { moves } = self;
         moves
+    }
+
+    /// How many moves there are.
+    pub fn count(&self) -> Count
+        ensures { result ≡ length self.now }
+    {
+        Count::new(self.moves.len() as u32).unwrap()
     }
 
     /// The moves in order.

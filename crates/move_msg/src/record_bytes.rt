@@ -3,17 +3,20 @@
 ghost use Rattle.std.specs.Prelude.{◌≡◌, ◌≤◌, ◌<◌, ◌^◌, ◌++◌, ◌⊎◌, ◌↔◌, List, length, IsTrue, IfSome, IfNone, IfOk, IfErr, OnOk, IsErrOf, Ok, Err, Some};
 ghost use Rattle.std.specs.Int.{w16, to_be_bytes};
 ghost use Rattle.board_core.specs.declared.moves.Move.{Move};
+ghost use Rattle.board_core.specs.declared.verdict.Verdict.{Verdict};
 ghost use Rattle.move_msg.specs.declared.record_bytes.Record.{Record};
 ghost use Rattle.move_msg.specs.declared.record_bytes.RecordFault.{RecordFault};
 ghost use Rattle.move_msg.specs.declared.record_bytes.RecordFault.TheVariants.{OutOfMemory};
-ghost use Rattle.move_msg.specs.Records.{AppendsMoves, SpellsRecord, SpellsMoves, HasCounts, HasRecordHead, HasRecordLayout, IsFirstRecordFault, record_frame, record_fault_name};
+ghost use Rattle.move_msg.specs.Numbers.{most_delay, most_moves};
+ghost use Rattle.move_msg.specs.Records.{AppendsMoves, SpellsRecord, WritesRecord, SpellsMoves, HasCounts, HasFront, HasRecordHead, HasRecordLayout, IsFirstRecordFault, body_in, body_text, code_or_none, delay_in, record_frame, record_fault_name, words_at};
 ghost use Rattle.move_msg.specs.Words.{SpellsWord};
 ghost use Rattle.move_msg.specs.Layouts.{header_at};
 
+use crate::count::MOST_MOVES;
 use crate::move_list::MoveList;
 use crate::stamp::Stamp;
 use crate::words::{of_word, word};
-use board_core::Move;
+use board_core::{Move, Verdict};
 use byteorder::{BigEndian, ByteOrder};
 use std::alloc::{AllocError, Global};
 
@@ -22,20 +25,25 @@ use std::alloc::{AllocError, Global};
 pub struct Record {
     /// The game.
     pub stamp: Stamp,
-    /// The code of the verdict after the moves, 1 to 7, or 0 for none.
-    pub verdict: u8,
+    /// How many plies more a verdict by tables has to hold, 0 to 8 in what has a spelling.
+    pub delay: u8,
+    /// The verdict after the moves, if there is one.
+    pub verdict: Option<Verdict>,
     /// The moves from the start on.
     pub moves: MoveList,
 }
 
-/// Why bytes are no record, in the order in which faults are told; the length is looked at twice.
+/// Why bytes are no record, in the order in which faults are told; the length and the numbers are
+/// looked at twice.
 #[derive(Clone, Copy, PartialEq, Eq, Debug)]
 pub enum RecordFault {
-    /// There are fewer than 24 bytes, or not as many as the number of moves wants.
+    /// There are fewer than 24 bytes, in version 2 fewer than 25, or not as many as the number of
+    /// moves wants.
     BadLength,
-    /// They don't begin by `SR` and the version 1.
+    /// They don't begin by `SR` and the version 1 or 2.
     BadHead,
-    /// The code of the verdict is above 7, the number of moves above 4096 or a word above 20479.
+    /// The delay is above 8, the code of the verdict above 7, the number of moves above 4096 or a
+    /// word above 20479.
     BadField,
     /// Memory was refused. All but the words is in order then.
     OutOfMemory,
@@ -63,6 +71,24 @@ impl From<AllocError> for RecordFault {
     }
 }
 
+/// The code of a verdict, 1 to 7; 0 for none.
+fn code_or_none(verdict: Option<Verdict>) -> u8
+    ensures { result ≡ code_or_none verdict }
+{
+    match verdict {
+        Some(verdict) => verdict.code(),
+        None => 0,
+    }
+}
+
+/// The verdict with this code; none for 0.
+fn verdict_of(code: u8) -> Option<Verdict>
+    requires { code ≤ 7 }
+    ensures { code_or_none result ≡ code }
+{
+    Verdict::from_code(code)
+}
+
 /// Appends the word of a move.
 fn push_word(m: Move, out: &mut Vec<u8>) -> Result<(), AllocError>
     ensures { OnOk result ((code : _) × SpellsWord code m × (out.new.items ≡ out.old.items ++ to_be_bytes w16 code)) }
@@ -83,17 +109,18 @@ fn push_words(moves: &[Move], out: &mut Vec<u8>) -> Result<(), AllocError>
     Ok(())
 }
 
-/// Appends all that stands before the words.
-#[tactic(auto, unfolding(crate::specs::Records::record_frame))]
-fn push_frame(game: &Record, out: &mut Vec<u8>) -> Result<(), AllocError>
-    ensures ok { OnOk result ((words : List _) → out.new.items ++ words ≡ out.old.items ++ record_frame game.now.stamp.0 game.now.verdict (length game.now.moves) words) }
-    ensures fits { (length game.now.stamp.0 ≡ 16) × (length game.now.moves ≤ 4096) }
+/// Appends all that stands before the words, version 2.
+#[tactic(auto, unfolding(crate::specs::Records::record_frame, crate::specs::Records::body_text))]
+fn push_front(game: &Record, out: &mut Vec<u8>) -> Result<(), AllocError>
+    ensures ok { OnOk result ((words : List _) → out.new.items ++ words ≡ out.old.items ++ record_frame game.now.stamp.0 game.now.delay (body_text (code_or_none game.now.verdict) (length game.now.moves) words)) }
+    ensures fits { (length game.now.stamp.0 ≡ 16) × (length game.now.moves ≤ most_moves) }
 {
     let mut count = [0; 4];
-    BigEndian::write_u32(&mut count, game.moves.as_slice().len() as u32);
-    out.extend_from_slice(&[b'S', b'R', 1])?;
+    BigEndian::write_u32(&mut count, game.moves.count().number());
+    out.extend_from_slice(&[b'S', b'R', 2])?;
     out.extend_from_slice(&game.stamp.0)?;
-    out.push(game.verdict)?;
+    out.push(game.delay)?;
+    out.push(code_or_none(game.verdict))?;
     out.extend_from_slice(&count)?;
     Ok(())
 }
@@ -151,7 +178,8 @@ fn read_words(alloc: Global, bytes: &[u8]) -> Result<Vec<Move>, RecordFault>
 #[derive(Clone, Copy)]
 struct Header {
     stamp: Stamp,
-    verdict: u8,
+    delay: u8,
+    code: u8,
     count: u32,
 }
 
@@ -160,13 +188,30 @@ fn has_head(bytes: &[u8]) -> bool
     requires { 24 ≤ length bytes.now }
     ensures { IsTrue result ↔ HasRecordHead bytes.now }
 {
-    bytes[0] == b'S' && bytes[1] == b'R' && bytes[2] == 1
+    bytes[0] == b'S' && bytes[1] == b'R' && (bytes[2] == 1 || bytes[2] == 2)
 }
 
-/// What stands before the words, of bytes that are a record unless their words are none.
+/// The delay, and the bytes after the stamp and the delay; version 1 has none, which is a delay of
+/// 0.
+fn body_of(bytes: &[u8]) -> (u8, &[u8])
+    requires { 24 ≤ length bytes.now }
+    ensures delay { result.0 ≡ delay_in bytes.now }
+    ensures body { result.1.now ≡ body_in bytes.now }
+{
+    if bytes[2] == 1 {
+        let (_, body) = bytes.split_at(19);
+        (0, body)
+    } else {
+        let (_, body) = bytes.split_at(20);
+        (bytes[19], body)
+    }
+}
+
+/// What stands before the words and the words, of bytes that are a record unless their words are
+/// none.
 #[tactic(auto, unfolding(crate::specs::Layouts::header_at))]
-fn read_header(bytes: &[u8]) -> Result<Header, RecordFault>
-    ensures ok { IfOk result (λ header. HasRecordLayout bytes.now × (header ≡ header_at bytes.now)) }
+fn read_front(bytes: &[u8]) -> Result<(Header, &[u8]), RecordFault>
+    ensures ok { IfOk result (λ front. HasRecordLayout bytes.now × (front.0 ≡ header_at bytes.now) × (front.1.now ≡ words_at (body_in bytes.now))) }
     ensures err { IfErr result (IsFirstRecordFault bytes.now) }
     ensures other { IfErr result (λ fault. fault ≡ RecordFault.BadField → HasCounts bytes.now → ⊥) }
 {
@@ -176,43 +221,54 @@ fn read_header(bytes: &[u8]) -> Result<Header, RecordFault>
     if !has_head(bytes) {
         return Err(RecordFault::BadHead);
     }
-    let verdict = bytes[19];
-    let count = u32::from_be_bytes([bytes[20], bytes[21], bytes[22], bytes[23]]);
-    if verdict > 7 || count > 4096 {
+    let (delay, body) = body_of(bytes);
+    if body.len() < 5 {
+        return Err(RecordFault::BadLength);
+    }
+    let code = body[0];
+    let count = u32::from_be_bytes([body[1], body[2], body[3], body[4]]);
+    if delay > 8 || code > 7 || count > MOST_MOVES {
         return Err(RecordFault::BadField);
     }
-    if bytes.len() != 24 + 2 * count as usize {
+    if body.len() != 5 + 2 * count as usize {
         return Err(RecordFault::BadLength);
     }
     let mut stamp = [0; 16];
     stamp.copy_from_slice(&bytes[3..19]);
-    Ok(Header {
+    let (_, words) = body.split_at(5);
+    let header = Header {
         stamp: Stamp(stamp),
-        verdict,
+        delay,
+        code,
         count,
-    })
+    };
+    Ok((header, words))
 }
 
 impl Record {
-    /// The bytes of the record (record format): 24 and two for each move.
+    /// The bytes of the record (record format, version 2): 25 and two for each move.
     ///
-    /// That the verdict's code is at most 7 is the caller's condition. The error comes only where
-    /// memory is refused.
+    /// That the delay is at most 8 is the caller's condition. The error comes only where memory is
+    /// refused.
     pub fn encode(&self, alloc: Global) -> Result<Vec<u8>, AllocError>
-        requires { self.now.verdict ≤ 7 }
-        ensures { IfOk result (λ bytes. SpellsRecord bytes.items self.now) }
+        requires { self.now.delay ≤ most_delay }
+        ensures written { IfOk result (λ bytes. WritesRecord bytes.items self.now) }
+        ensures spelled { IfOk result (λ bytes. SpellsRecord bytes.items self.now) }
+        ensures size { IfOk result (λ bytes. length bytes.items ≤ 8217) }
     {
-        let mut bytes = Vec::with_capacity(alloc, 24 + 2 * self.moves.as_slice().len())?;
-        push_frame(self, &mut bytes)?;
+        let mut bytes = Vec::with_capacity(alloc, 25 + 2 * self.moves.as_slice().len())?;
+        push_front(self, &mut bytes)?;
         push_words(self.moves.as_slice(), &mut bytes)?;
         Ok(bytes)
     }
 
-    /// The record that the bytes spell (record format), or the first fault of the bytes:
-    /// `BadLength` below 24 bytes, `BadHead`, `BadField` for the verdict's code and the number of
-    /// moves, `BadLength` where there are not as many bytes as that number wants, `BadField` for
-    /// the words. `OutOfMemory`, where memory is refused, comes only when all but the words is in
-    /// order.
+    /// The record that the bytes spell (record format, versions 1 and 2), or the first fault of the
+    /// bytes: `BadLength` below 24 bytes, `BadHead`, `BadLength` for version 2 below 25 bytes,
+    /// `BadField` for the delay, the verdict's code and the number of moves, `BadLength` where
+    /// there are not as many bytes as that number wants, `BadField` for the words. `OutOfMemory`,
+    /// where memory is refused, comes only when all but the words is in order.
+    ///
+    /// Version 1 has no delay: what it spells has the delay 0.
     pub fn decode(alloc: Global, bytes: &[u8]) -> Result<Record, RecordFault>
         ensures ok { IfOk result (SpellsRecord bytes.now) }
         ensures only { (r : Record) → SpellsRecord bytes.now r → (result ≡ Ok r) ⊎ (result ≡ Err RecordFault.OutOfMemory) }
@@ -220,34 +276,33 @@ impl Record {
         ensures only_fault { (fault : RecordFault) → IsFirstRecordFault bytes.now fault → (result ≡ Err fault) ⊎ (result ≡ Err RecordFault.OutOfMemory) }
         ensures memory { IsErrOf result RecordFault.OutOfMemory → HasRecordLayout bytes.now }
     {
-        let header = match read_header(bytes) {
-            Ok(header) => header,
+        let (header, words) = match read_front(bytes) {
+            Ok(front) => front,
             Err(fault) => return Err(fault),
         };
-        let (_, words) = bytes.split_at(24);
         match read_words(alloc, words) {
             Ok(moves) => Ok(Record {
                 stamp: header.stamp,
-                verdict: header.verdict,
+                delay: header.delay,
+                verdict: verdict_of(header.code),
                 moves: MoveList::from_vec(moves),
             }),
             Err(fault) => Err(fault),
         }
     }
 
-    /// The number of moves and the code of the verdict, 0 for none, of bytes that spell a record;
-    /// none of other bytes.
+    /// The number of moves, 0 to 4096, and the code of the verdict, 0 for none, of bytes that spell
+    /// a record (record format, versions 1 and 2); none of other bytes. It takes no memory.
     pub fn summary(bytes: &[u8]) -> Option<(u32, u8)>
-        ensures some { IfSome result (λ found. (r : Record) × SpellsRecord bytes.now r × (found ≡ (length r.moves, r.verdict))) }
-        ensures only { (r : Record) → SpellsRecord bytes.now r → result ≡ Some (length r.moves, r.verdict) }
+        ensures some { IfSome result (λ found. (r : Record) × SpellsRecord bytes.now r × (found ≡ (length r.moves, code_or_none r.verdict))) }
+        ensures only { (r : Record) → SpellsRecord bytes.now r → result ≡ Some (length r.moves, code_or_none r.verdict) }
     {
-        let Ok(header) = read_header(bytes) else {
+        let Ok((header, words)) = read_front(bytes) else {
             return None;
         };
-        let (_, words) = bytes.split_at(24);
         if !are_words(words) {
             return None;
         }
-        Some((header.count, header.verdict))
+        Some((header.count, header.code))
     }
 }

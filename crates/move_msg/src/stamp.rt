@@ -21,8 +21,9 @@ fn is_printable(name: &[u8]) -> bool
     name.iter().all(|byte| 0x20 <= *byte && *byte <= 0x7e)
 }
 
-/// Whether a game may have this name.
-fn is_game_name(name: &[u8]) -> bool
+/// Whether a game may have this name: 1 to 64 bytes, all from 0x20 (the space) to 0x7E (the tilde).
+/// It takes no memory.
+pub fn is_game_name(name: &[u8]) -> bool
     ensures { IsTrue result ↔ IsGameName name.now }
 {
     1 <= name.len() && name.len() <= 64 && is_printable(name)
@@ -31,9 +32,9 @@ fn is_game_name(name: &[u8]) -> bool
 /// What ends a line.
 const LINE_FEED: &str = "\n";
 
-/// The SHA-256 digest (FIPS 180-4) of name, line feed, start, line feed and manifest.
-fn digest(name: &[u8], start: &[u8], manifest: &[u8]) -> [u8; 32]
-    ensures { result ≡ sha256 (stamped name.now start.now manifest.now) }
+/// The SHA-256 digest (FIPS 180-4) of name, line feed, start, line feed, manifest and delay.
+fn digest(name: &[u8], start: &[u8], manifest: &[u8], delay: u8) -> [u8; 32]
+    ensures { result ≡ sha256 (stamped name.now start.now manifest.now delay) }
 {
     let mut hasher = Sha256::new();
     hasher.update(name);
@@ -41,23 +42,26 @@ fn digest(name: &[u8], start: &[u8], manifest: &[u8]) -> [u8; 32]
     hasher.update(start);
     hasher.update(LINE_FEED.as_bytes());
     hasher.update(manifest);
+    if delay > 0 {
+        hasher.update(&[delay]);
+    }
     hasher.finalize()
 }
 
 impl Stamp {
     /// The stamp of the game with this name, start and manifest of tables: the first 16 bytes of
-    /// the SHA-256 digest of the name, a line feed, the start's FEN text, a line feed and the
-    /// manifest's bytes.
+    /// the SHA-256 digest of the name, a line feed, the start's FEN text, a line feed, the
+    /// manifest's bytes, and the delay as one byte where it isn't 0.
     ///
-    /// None unless the name has 1 to 64 bytes, all from 0x20 (the space) to 0x7E (the tilde).
-    pub fn of(name: &[u8], start: &Position, manifest: &[u8]) -> Option<Stamp>
-        ensures some { IfSome result (λ stamp. IsGameName name.now × (stamp.0 ≡ stamp_of name.now (fen_of start.now) manifest.now)) }
+    /// None unless a game may have the name (`is_game_name`).
+    pub fn of(name: &[u8], start: &Position, manifest: &[u8], delay: u8) -> Option<Stamp>
+        ensures some { IfSome result (λ stamp. IsGameName name.now × (stamp.0 ≡ stamp_of name.now (fen_of start.now) manifest.now delay)) }
         ensures none { IfNone result (IsGameName name.now → ⊥) }
     {
         if !is_game_name(name) {
             return None;
         }
-        let digest = digest(name, write(start).as_str().as_bytes(), manifest);
+        let digest = digest(name, write(start).as_str().as_bytes(), manifest, delay);
         let mut stamp = [0; 16];
         stamp.copy_from_slice(&digest[..16]);
         Some(Stamp(stamp))

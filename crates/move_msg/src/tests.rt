@@ -1,10 +1,12 @@
 //! The worked rows, refusals in their order, streams in pieces, and digests from outside.
 
 use crate::{
-    Count, Feeder, ManifestFault, Message, MessageFault, MoveList, Record, RecordFault, Sender,
-    Stamp, Verdict, Who, laws, manifest_read, manifest_write, of_word, word,
+    Count, Feeder, Line, MOST_MOVES, ManifestFault, Message, MessageFault, MoveList, NamedFile,
+    Record, RecordFault, Sender, Stamp, Verdict, Wanted, Who, is_file_name, is_game_name, laws,
+    manifest_of, manifest_read, manifest_write, of_word, word,
 };
-use board_core::{Move, Promotion, Square};
+use arrayvec::ArrayString;
+use board_core::{Move, Position, Promotion, Square};
 use fen_text::read;
 use sha2::{Digest, Sha256};
 use std::alloc::Global;
@@ -37,10 +39,10 @@ fn count(rt: &impl Abort, moves: u32) -> Count {
     Count::new(moves).expect(rt, "a count")
 }
 
-/// A message of these fields, version 1, with the stamp of the tests.
-fn bytes_of(kind: u8, sender: u8, number: u32, word: u16) -> [u8; 27] {
+/// A message of these fields, with the stamp of the tests.
+fn bytes_of(version: u8, kind: u8, sender: u8, number: u32, word: u16) -> [u8; 27] {
     let mut bytes = [0; 27];
-    bytes[0..4].copy_from_slice(&[0x53, 0x41, 1, kind]);
+    bytes[0..4].copy_from_slice(&[0x53, 0x41, version, kind]);
     bytes[4..20].copy_from_slice(&STAMP.0);
     bytes[20] = sender;
     bytes[21..25].copy_from_slice(&number.to_be_bytes());
@@ -59,93 +61,133 @@ fn writes_words(rt: HostRuntime) {
     assert!(rt; of_word(65535).is_none());
 }
 
+/// Writes and reads a message.
+fn there_and_back(rt: &impl Abort, message: Message, bytes: &[u8; 27]) {
+    assert!(rt; message.encode() == *bytes, "{message:?}");
+    assert!(rt; Message::decode(bytes) == Ok(message), "{message:?}");
+    assert!(rt; message.stamp() == STAMP, "{message:?}");
+    assert!(rt; message.sender().number() == bytes[20], "{message:?}");
+}
+
+/// A move of e2e4.
+fn told(sender: Sender, number: u32, m: Move) -> Message {
+    Message::Move {
+        stamp: STAMP,
+        sender,
+        number,
+        m,
+    }
+}
+
 #[test]
 fn writes_and_reads_messages(rt: HostRuntime) {
-    let rows = [
+    let ack = Message::Ack {
+        stamp: STAMP,
+        who: Who::A,
+        count: count(&rt, 3),
+    };
+    let verdict = Message::Verdict {
+        stamp: STAMP,
+        who: Who::B,
+        ply: count(&rt, MOST_MOVES),
+        verdict: Verdict::Stopped,
+    };
+    let fetch = Message::Fetch {
+        stamp: STAMP,
+        who: Who::B,
+        number: Count::none(),
+        wanted: Wanted::most(),
+    };
+    for (message, bytes) in [
         (
-            Message::Move {
-                stamp: STAMP,
-                number: 0,
-                m: e2e4(),
-            },
-            (1u8, 0u8, 0u32, 0x070cu16),
+            told(Sender::Source, 0, e2e4()),
+            bytes_of(1, 1, 0, 0, 0x070c),
         ),
         (
-            Message::Move {
-                stamp: STAMP,
-                number: 4_294_967_295,
-                m: e7e8q(),
-            },
-            (1, 0, 4_294_967_295, 0x1f34),
+            told(Sender::Source, 4_294_967_295, e7e8q()),
+            bytes_of(1, 1, 0, 4_294_967_295, 0x1f34),
+        ),
+        (ack, bytes_of(1, 2, 1, 3, 0)),
+        (verdict, bytes_of(1, 3, 2, 4096, 7)),
+        (
+            told(Sender::Arbiter(Who::A), 5, e2e4()),
+            bytes_of(2, 1, 1, 5, 0x070c),
         ),
         (
-            Message::Ack {
-                stamp: STAMP,
-                who: Who::A,
-                count: count(&rt, 3),
-            },
-            (2, 1, 3, 0),
+            fetch,
+            [
+                0x53, 0x41, 2, 4, 0, 1, 2, 3, 4, 5, 6, 7, 8, 9, 10, 11, 12, 13, 14, 15, 2, 0, 0, 0,
+                0, 0, 8,
+            ],
         ),
-        (
-            Message::Verdict {
-                stamp: STAMP,
-                who: Who::B,
-                ply: count(&rt, 4096),
-                verdict: Verdict::Stopped,
-            },
-            (3, 2, 4096, 7),
-        ),
-    ];
-    for (message, (kind, sender, number, word)) in rows {
-        let bytes = bytes_of(kind, sender, number, word);
-        assert!(rt; message.encode() == bytes, "{message:?}");
-        assert!(rt; Message::decode(&bytes) == Ok(message), "{message:?}");
-        assert!(rt; message.stamp() == STAMP);
-        assert_eq!(rt; message.sender().number(), sender);
+    ] {
+        there_and_back(&rt, message, &bytes);
     }
     assert_eq!(rt;
-        bytes_of(1, 0, 0, 0x070c),
+        bytes_of(1, 1, 0, 0, 0x070c),
         [
             0x53, 0x41, 1, 1, 0, 1, 2, 3, 4, 5, 6, 7, 8, 9, 10, 11, 12, 13, 14, 15, 0, 0, 0, 0, 0,
             0x07, 0x0c,
         ]
     );
+}
+
+#[test]
+fn names_who_and_what(rt: HostRuntime) {
     assert!(rt; Sender::Arbiter(Who::A) != Sender::Source);
     assert!(rt; Who::of_number(2) == Some(Who::B));
     assert!(rt; Verdict::from_code(5) == Some(Verdict::TableWhite));
-    assert_eq!(rt; Verdict::TableWhite.name(), "TableWhite");
+    assert!(rt; Wanted::new(8) == Some(Wanted::most()));
+    assert!(rt; Message::default().sender() == Sender::Arbiter(Who::A));
+    assert_eq!(rt; MessageFault::BadKind.name(), "BadKind");
+    assert_eq!(rt; RecordFault::BadField.name(), "BadField");
+}
+
+/// Whether the bytes are refused so.
+fn refuses(bytes: &[u8], fault: MessageFault) -> bool {
+    Message::decode(bytes) == Err(fault)
 }
 
 #[test]
 fn refuses_other_messages(rt: HostRuntime) {
-    for (kind, sender, number, word, fault) in [
-        (0u8, 0u8, 0u32, 0u16, MessageFault::BadKind),
-        (4, 9, 9, 65535, MessageFault::BadKind),
-        (1, 1, 0, 0x070c, MessageFault::BadField),
-        (1, 0, 0, 20480, MessageFault::BadField),
-        (2, 0, 3, 0, MessageFault::BadField),
-        (2, 3, 3, 0, MessageFault::BadField),
-        (2, 1, 4097, 0, MessageFault::BadField),
-        (2, 1, 3, 1, MessageFault::BadField),
-        (3, 0, 4, 5, MessageFault::BadField),
-        (3, 1, 4097, 5, MessageFault::BadField),
-        (3, 1, 4, 0, MessageFault::BadField),
-        (3, 1, 4, 8, MessageFault::BadField),
-        (3, 1, 4, 257, MessageFault::BadField),
+    for (version, kind, sender, number, word, fault) in [
+        (1u8, 0u8, 0u8, 0u32, 0u16, MessageFault::BadKind),
+        (1, 4, 9, 9, 65535, MessageFault::BadKind),
+        (1, 1, 1, 0, 0x070c, MessageFault::BadField),
+        (1, 1, 0, 0, 20480, MessageFault::BadField),
+        (1, 2, 0, 3, 0, MessageFault::BadField),
+        (1, 2, 3, 3, 0, MessageFault::BadField),
+        (1, 2, 1, 4097, 0, MessageFault::BadField),
+        (1, 2, 1, 3, 1, MessageFault::BadField),
+        (1, 3, 0, 4, 5, MessageFault::BadField),
+        (1, 3, 1, 4097, 5, MessageFault::BadField),
+        (1, 3, 1, 4, 0, MessageFault::BadField),
+        (1, 3, 1, 4, 8, MessageFault::BadField),
+        (1, 3, 1, 4, 257, MessageFault::BadField),
+        (2, 2, 1, 3, 0, MessageFault::BadKind),
+        (2, 1, 0, 0, 0x070c, MessageFault::BadField),
+        (2, 1, 1, 0, 20480, MessageFault::BadField),
+        (2, 4, 0, 0, 8, MessageFault::BadField),
+        (2, 4, 2, 4097, 8, MessageFault::BadField),
+        (2, 4, 2, 0, 0, MessageFault::BadField),
+        (2, 4, 2, 0, 9, MessageFault::BadField),
+        (2, 4, 2, 0, 264, MessageFault::BadField),
+        (0, 1, 0, 0, 0x070c, MessageFault::BadHead),
+        (3, 4, 2, 0, 8, MessageFault::BadHead),
     ] {
-        let bytes = bytes_of(kind, sender, number, word);
         assert!(rt;
-            Message::decode(&bytes) == Err(fault),
-            "{kind} {sender} {number} {word}"
+            refuses(&bytes_of(version, kind, sender, number, word), fault),
+            "{version} {kind} {sender} {number} {word}"
         );
     }
-    let mut bytes = bytes_of(4, 0, 0, 0);
-    bytes[2] = 2;
-    assert!(rt; Message::decode(&bytes) == Err(MessageFault::BadHead));
-    assert!(rt; Message::decode(&[0; 26]) == Err(MessageFault::BadLength));
-    assert!(rt; Message::decode(&[]) == Err(MessageFault::BadLength));
-    assert!(rt; Message::decode(&[0; 28]) == Err(MessageFault::BadLength));
-    assert_eq!(rt; MessageFault::BadKind.name(), "BadKind");
+    for length in [0usize, 26, 28] {
+        assert!(rt;
+            refuses(
+                [0; 28].get(..length).unwrap_or(&[]),
+                MessageFault::BadLength
+            )
+        );
+    }
 }
 
 /// The messages that a feeder answers for a piece, compared with those from a place on in the
@@ -179,12 +221,7 @@ fn feed_all(rt: &impl Abort, feeder: &mut Feeder, piece: &[u8], first: u32) -> u
 fn hundred(alloc: Global) -> Result<Vec<u8>, Fail> {
     let mut stream = Vec::new(alloc);
     for number in 0..100u32 {
-        let message = Message::Move {
-            stamp: STAMP,
-            number,
-            m: e2e4(),
-        };
-        stream.extend_from_slice(&message.encode())?;
+        stream.extend_from_slice(&told(Sender::Source, number, e2e4()).encode())?;
     }
     Ok(stream)
 }
@@ -215,71 +252,125 @@ fn reads_a_stream_cut_anywhere(rt: HostRuntime) -> Result<(), Fail> {
 #[test]
 fn keeps_its_fault(rt: HostRuntime) {
     let mut feeder = Feeder::new();
-    let bytes = bytes_of(4, 0, 0, 0);
+    let bytes = bytes_of(1, 4, 0, 0, 0);
     assert!(rt; feeder.feed(&bytes[..5]) == (5, None));
     assert_eq!(rt; feeder.held(), 5);
     assert!(rt; feeder.feed(&bytes[5..]) == (22, Some(Err(MessageFault::BadKind))));
     assert_eq!(rt; feeder.held(), 0);
-    assert!(rt; feeder.feed(&bytes_of(1, 0, 0, 0)) == (0, Some(Err(MessageFault::BadKind))));
+    assert!(rt; feeder.feed(&bytes_of(1, 1, 0, 0, 0)) == (0, Some(Err(MessageFault::BadKind))));
     assert!(rt; feeder.feed(&[]) == (0, Some(Err(MessageFault::BadKind))));
 }
 
-/// A record's bytes before its words.
-fn header_of(verdict: u8, count: u32) -> [u8; 24] {
-    let mut bytes = [0; 24];
-    bytes[0..3].copy_from_slice(&[0x53, 0x52, 1]);
-    bytes[3..19].copy_from_slice(&STAMP.0);
-    bytes[19] = verdict;
-    bytes[20..24].copy_from_slice(&count.to_be_bytes());
-    bytes
-}
-
-/// A record's bytes.
-fn record_of(alloc: Global, verdict: u8, count: u32, words: &[u16]) -> Result<Vec<u8>, Fail> {
-    let mut bytes = Vec::from_slice(alloc, &header_of(verdict, count))?;
+/// A record's bytes: a version and what stands between the stamp and the words, and the words.
+fn record_of(alloc: Global, version: u8, middle: &[u8], words: &[u16]) -> Result<Vec<u8>, Fail> {
+    let mut bytes = Vec::from_slice(alloc, &[0x53, 0x52, version])?;
+    bytes.extend_from_slice(&STAMP.0)?;
+    bytes.extend_from_slice(middle)?;
     for word in words {
         bytes.extend_from_slice(&word.to_be_bytes())?;
     }
     Ok(bytes)
 }
 
-#[test]
-fn writes_and_reads_records(rt: HostRuntime) -> Result<(), Fail> {
-    let alloc = rt.alloc();
-    let mut moves = Vec::new(alloc);
-    let none = Record {
-        stamp: STAMP,
-        verdict: 0,
-        moves: MoveList::from_vec(moves),
-    };
-    let bytes = none.encode(alloc)?;
-    assert_eq!(rt; bytes.as_slice(), header_of(0, 0).as_slice());
-    assert!(rt; Record::summary(&bytes) == Some((0, 0)));
-    moves = none.moves.into_vec();
-    moves.push(e2e4()).map_err(|_| Fail::from("room"))?;
-    let one = Record {
-        stamp: STAMP,
-        verdict: 0,
-        moves: MoveList::from_vec(moves),
-    };
-    let bytes = one.encode(alloc)?;
-    assert_eq!(rt;
-        bytes.as_slice(),
-        record_of(alloc, 0, 1, &[0x070c])?.as_slice()
-    );
-    let many = record_of(alloc, 7, 3, &[0x070c, 0, 20479])?;
-    assert!(rt; Record::summary(&many) == Some((3, 7)));
-    match Record::decode(alloc, &many) {
-        Ok(read) => {
-            assert!(rt; read.stamp == STAMP && read.verdict == 7);
-            assert_eq!(rt; read.moves.as_slice().len(), 3);
-            assert_eq!(rt; read.encode(alloc)?.as_slice(), many.as_slice());
-        }
-        Err(_) => assert!(rt; false),
+/// The bytes that are written of a record.
+fn written(
+    alloc: Global,
+    delay: u8,
+    verdict: Option<Verdict>,
+    moves: &[Move],
+) -> Result<Vec<u8>, Fail> {
+    if delay > 8 || moves.len() > 4096 {
+        return Err(Fail::from("a record"));
     }
-    let longest = record_of(alloc, 1, 4096, &[0x070c; 4096])?;
-    assert_eq!(rt; longest.len(), 8216);
-    assert!(rt; Record::summary(&longest) == Some((4096, 1)));
+    let record = Record {
+        stamp: STAMP,
+        delay,
+        verdict,
+        moves: MoveList::from_vec(Vec::from_slice(alloc, moves)?),
+    };
+    Ok(record.encode(alloc)?)
+}
+
+#[test]
+fn writes_records(rt: HostRuntime) -> Result<(), Fail> {
+    let alloc = rt.alloc();
+    let moves = [e2e4(), e7e8q()];
+    let words = [0x070c, 0x1f34];
+    for (delay, verdict, count, middle) in [
+        (0u8, None, 0usize, [0, 0, 0, 0, 0, 0]),
+        (0, None, 1, [0, 0, 0, 0, 0, 1]),
+        (3, None, 1, [3, 0, 0, 0, 0, 1]),
+        (8, Some(Verdict::Stopped), 2, [8, 7, 0, 0, 0, 2]),
+    ] {
+        let (Some(moves), Some(words)) = (moves.get(..count), words.get(..count)) else {
+            return Err(Fail::from("two moves"));
+        };
+        let bytes = written(alloc, delay, verdict, moves)?;
+        let other = record_of(alloc, 2, &middle, words)?;
+        assert_eq!(rt; bytes.as_slice(), other.as_slice());
+    }
+    Ok(())
+}
+
+/// Whether the bytes are read as a record of so many moves with this delay and this verdict.
+fn reads(
+    alloc: Global,
+    bytes: &[u8],
+    delay: u8,
+    verdict: Option<Verdict>,
+    moves: u32,
+) -> Result<bool, Fail> {
+    let code = verdict.map_or(0, |verdict| verdict.code());
+    if Record::summary(bytes) != Some((moves, code)) {
+        return Ok(false);
+    }
+    let Ok(read) = Record::decode(alloc, bytes) else {
+        return Ok(false);
+    };
+    Ok(
+        read.stamp == STAMP
+            && read.delay == delay
+            && read.verdict == verdict
+            && read.moves.count().number() == moves,
+    )
+}
+
+#[test]
+fn reads_records_of_both_versions(rt: HostRuntime) -> Result<(), Fail> {
+    let alloc = rt.alloc();
+    for (version, middle, words, delay, verdict) in [
+        (1u8, [0u8, 0, 0, 0, 0].as_slice(), [].as_slice(), 0u8, None),
+        (1, &[0, 0, 0, 0, 1], &[0x070cu16], 0, None),
+        (
+            1,
+            &[7, 0, 0, 0, 3],
+            &[0x070c, 0, 20479],
+            0,
+            Some(Verdict::Stopped),
+        ),
+        (2, &[0, 0, 0, 0, 0, 1], &[0x070c], 0, None),
+        (2, &[3, 0, 0, 0, 0, 1], &[0x070c], 3, None),
+        (
+            2,
+            &[8, 1, 0, 0, 0, 2],
+            &[0x070c, 0],
+            8,
+            Some(Verdict::WhiteMates),
+        ),
+        (
+            2,
+            &[0, 1, 0, 0, 16, 0],
+            &[0x070c; 4096],
+            0,
+            Some(Verdict::WhiteMates),
+        ),
+    ] {
+        let bytes = record_of(alloc, version, middle, words)?;
+        assert!(rt;
+            reads(alloc, &bytes, delay, verdict, words.len() as u32)?,
+            "{version} {middle:?}"
+        );
+    }
     Ok(())
 }
 
@@ -287,45 +378,59 @@ fn writes_and_reads_records(rt: HostRuntime) -> Result<(), Fail> {
 #[test]
 fn tells_refused_memory(rt: HostRuntime) {
     let bytes = [
-        0x53, 0x52, 1, 0, 1, 2, 3, 4, 5, 6, 7, 8, 9, 10, 11, 12, 13, 14, 15, 3, 0, 0, 0, 1, 0x07,
-        0x0c,
+        0x53, 0x52, 2, 0, 1, 2, 3, 4, 5, 6, 7, 8, 9, 10, 11, 12, 13, 14, 15, 4, 3, 0, 0, 0, 1,
+        0x07, 0x0c,
     ];
     match Record::decode(rt.alloc(), &bytes) {
-        Ok(record) => match record.encode(rt.alloc()) {
-            Ok(again) => assert_eq!(rt; again.as_slice(), bytes.as_slice()),
-            Err(_) => {}
-        },
+        Ok(record) => {
+            if record.delay <= 8 {
+                match record.encode(rt.alloc()) {
+                    Ok(again) => assert_eq!(rt; again.as_slice(), bytes.as_slice()),
+                    Err(_) => {}
+                }
+            }
+        }
         Err(fault) => assert!(rt; fault == RecordFault::OutOfMemory),
     }
+}
+
+/// Whether the bytes are no record for this reason.
+fn refuses_record(alloc: Global, bytes: &[u8], fault: RecordFault) -> bool {
+    Record::summary(bytes).is_none()
+        && Record::decode(alloc, bytes).is_err_and(|told| told == fault)
 }
 
 #[test]
 fn refuses_other_records(rt: HostRuntime) -> Result<(), Fail> {
     let alloc = rt.alloc();
-    let mut other = header_of(0, 0);
-    other[2] = 3;
-    let mut heads = header_of(9, 9999);
-    heads[0] = 0;
-    for (bytes, fault) in [
-        (Vec::new(alloc), RecordFault::BadLength),
-        (Vec::from_slice(alloc, &[0; 23])?, RecordFault::BadLength),
-        (Vec::from_slice(alloc, &[0; 24])?, RecordFault::BadHead),
-        (Vec::from_slice(alloc, &other)?, RecordFault::BadHead),
-        (Vec::from_slice(alloc, &heads)?, RecordFault::BadHead),
-        (record_of(alloc, 8, 2, &[0x070c])?, RecordFault::BadField),
-        (record_of(alloc, 0, 4097, &[])?, RecordFault::BadField),
-        (record_of(alloc, 0, 2, &[0x070c])?, RecordFault::BadLength),
-        (record_of(alloc, 0, 1, &[0, 20480])?, RecordFault::BadLength),
-        (record_of(alloc, 0, 2, &[0, 20480])?, RecordFault::BadField),
+    for (version, middle, words, fault) in [
+        (9u8, [].as_slice(), [].as_slice(), RecordFault::BadLength),
+        (9, &[9, 9, 9, 9], &[], RecordFault::BadLength),
+        (3, &[9, 9, 9, 9, 9], &[], RecordFault::BadHead),
+        (0, &[0, 0, 0, 0, 0], &[], RecordFault::BadHead),
+        (2, &[0, 0, 0, 0, 0], &[], RecordFault::BadLength),
+        (2, &[9, 9, 9, 9, 9], &[], RecordFault::BadLength),
+        (2, &[9, 0, 0, 0, 0, 0], &[], RecordFault::BadField),
+        (2, &[0, 8, 0, 0, 0, 2], &[0x070c], RecordFault::BadField),
+        (1, &[8, 0, 0, 0, 2], &[0x070c], RecordFault::BadField),
+        (1, &[0, 0, 0, 16, 1], &[], RecordFault::BadField),
+        (1, &[0, 0, 0, 0, 2], &[0x070c], RecordFault::BadLength),
+        (2, &[0, 0, 0, 0, 0, 2], &[0x070c], RecordFault::BadLength),
+        (1, &[0, 0, 0, 0, 1], &[0, 20480], RecordFault::BadLength),
+        (1, &[0, 0, 0, 0, 2], &[0, 20480], RecordFault::BadField),
+        (2, &[0, 0, 0, 0, 0, 2], &[0, 20480], RecordFault::BadField),
     ] {
-        assert!(rt; Record::summary(&bytes).is_none(), "{bytes:?}");
-        match Record::decode(alloc, &bytes) {
-            Ok(_) => assert!(rt; false, "{bytes:?}"),
-            Err(told) => assert!(rt; told == fault, "{bytes:?}"),
-        }
+        let bytes = record_of(alloc, version, middle, words)?;
+        assert!(rt; refuses_record(alloc, &bytes, fault), "{bytes:?}");
     }
-    assert_eq!(rt; RecordFault::BadField.name(), "BadField");
+    assert!(rt; refuses_record(alloc, &[], RecordFault::BadLength));
+    assert!(rt; refuses_record(alloc, &[0; 24], RecordFault::BadHead));
     Ok(())
+}
+
+/// Whether a game with the name `Test 1` has this stamp.
+fn stamps(start: &Position, manifest: &[u8], delay: u8, stamp: [u8; 16]) -> bool {
+    Stamp::of(b"Test 1", start, manifest, delay) == Some(Stamp(stamp))
 }
 
 #[test]
@@ -342,26 +447,49 @@ fn stamps_games(rt: HostRuntime) {
         assert!(rt; false);
         return;
     };
-    assert!(rt;
-        Stamp::of(b"Test 1", &start, b"")
-            == Some(Stamp([
+    let manifest = b"ba7816bf8f01cfea414140de5dae2223b00361a396177a9cb410ff61f20015ad  KQvK.rtbw\n";
+    for (manifest, delay, stamp) in [
+        (
+            b"".as_slice(),
+            0u8,
+            [
                 0xa8, 0xce, 0xd5, 0xad, 0xf7, 0xf7, 0xc2, 0x63, 0x3e, 0x42, 0xb3, 0x4d, 0xe9, 0x8e,
                 0xb1, 0xff,
-            ]))
-    );
-    let manifest = "ba7816bf8f01cfea414140de5dae2223b00361a396177a9cb410ff61f20015ad  KQvK.rtbw\n";
-    assert!(rt;
-        Stamp::of(b"Test 1", &start, manifest.as_bytes())
-            == Some(Stamp([
+            ],
+        ),
+        (
+            b"",
+            1,
+            [
+                0x84, 0x18, 0x17, 0x5e, 0xb7, 0xef, 0xf0, 0x92, 0xb8, 0xd6, 0x84, 0xe2, 0x8a, 0x2b,
+                0x5f, 0xa7,
+            ],
+        ),
+        (
+            manifest,
+            0,
+            [
                 0x95, 0xd2, 0xaf, 0xd9, 0xf4, 0xc2, 0xb0, 0x55, 0xb7, 0x76, 0xeb, 0xd4, 0x3a, 0x32,
                 0xea, 0xef,
-            ]))
-    );
-    for name in [b"".as_slice(), &[b'a'; 65], b"a\nb", b"a\x7f", b"a\x1f"] {
-        assert!(rt; Stamp::of(name, &start, b"").is_none());
+            ],
+        ),
+        (
+            manifest,
+            3,
+            [
+                0xbc, 0x0e, 0xcd, 0xaa, 0x49, 0x40, 0x37, 0xc1, 0xb0, 0xbd, 0xde, 0x45, 0x8c, 0x5e,
+                0xd6, 0xe7,
+            ],
+        ),
+    ] {
+        assert!(rt; stamps(&start, manifest, delay, stamp), "{delay}");
     }
-    assert!(rt; Stamp::of(&[b'~'; 64], &start, b"").is_some());
-    assert!(rt; Stamp::of(b" ", &start, b"").is_some());
+    for name in [b"".as_slice(), &[b'a'; 65], b"a\nb", b"a\x7f", b"a\x1f"] {
+        assert!(rt; !is_game_name(name));
+        assert!(rt; Stamp::of(name, &start, b"", 0).is_none());
+    }
+    assert!(rt; is_game_name(&[b'~'; 64]));
+    assert!(rt; is_game_name(b" "));
 }
 
 #[test]
@@ -372,6 +500,7 @@ fn calls_the_laws(_rt: HostRuntime) {
     laws::one_bad_line();
     laws::one_spelling();
     laws::one_record();
+    laws::one_record_spelling();
     laws::one_reading();
     laws::reads_its_stream();
     laws::pieces_do_not_matter();
@@ -381,7 +510,7 @@ fn calls_the_laws(_rt: HostRuntime) {
 const ABC: &str = "ba7816bf8f01cfea414140de5dae2223b00361a396177a9cb410ff61f20015ad";
 
 /// A manifest of one line for each name, all with the digest of `abc`.
-fn manifest_of(alloc: Global, names: &[&str]) -> Result<Vec<u8>, Fail> {
+fn manifest_for(alloc: Global, names: &[&str]) -> Result<Vec<u8>, Fail> {
     let mut bytes = Vec::new(alloc);
     for name in names {
         bytes.extend_from_slice(ABC.as_bytes())?;
@@ -394,7 +523,7 @@ fn manifest_of(alloc: Global, names: &[&str]) -> Result<Vec<u8>, Fail> {
 
 #[test]
 fn reads_and_writes_manifests(rt: HostRuntime) -> Result<(), Fail> {
-    let bytes = manifest_of(
+    let bytes = manifest_for(
         rt.alloc(),
         &["KBvK.rtbw", "KNvK.rtbw", "KNvK.rtbz", "KQRvKP.rtbw"],
     )?;
@@ -418,6 +547,38 @@ fn reads_and_writes_manifests(rt: HostRuntime) -> Result<(), Fail> {
     Ok(())
 }
 
+/// The line of a file with this name and the bytes `abc`.
+fn line_of_abc(name: &str) -> Result<Line, Fail> {
+    let Ok(name) = ArrayString::from(name) else {
+        return Err(Fail::from("a name"));
+    };
+    Ok(Line::of(name, b"abc"))
+}
+
+/// The manifest of a file with this name and the bytes `abc`.
+fn manifest_of_abc(alloc: Global, name: &str) -> Result<Vec<u8>, Fail> {
+    let bytes = Vec::from_slice(alloc, b"abc")?;
+    if !is_file_name(name.as_bytes()) {
+        return Err(Fail::from("a file of a table"));
+    }
+    let Ok(name) = ArrayString::from(name) else {
+        return Err(Fail::from("a name"));
+    };
+    Ok(manifest_of(alloc, &[NamedFile { name, bytes }])?)
+}
+
+#[test]
+fn makes_lines_of_files(rt: HostRuntime) -> Result<(), Fail> {
+    let alloc = rt.alloc();
+    let line = line_of_abc("KQvK.rtbw")?;
+    assert!(rt; line.name.as_str() == "KQvK.rtbw");
+    assert!(rt; line.digest[0] == 0xba && line.digest[31] == 0xad);
+    let manifest = manifest_of_abc(alloc, "KQvK.rtbw")?;
+    let lines = manifest_for(alloc, &["KQvK.rtbw"])?;
+    assert_eq!(rt; manifest.as_slice(), lines.as_slice());
+    Ok(())
+}
+
 #[test]
 fn refuses_other_manifests(rt: HostRuntime) -> Result<(), Fail> {
     for (names, fault) in [
@@ -430,12 +591,12 @@ fn refuses_other_manifests(rt: HostRuntime) -> Result<(), Fail> {
         (["KQQQQvK.rtbw", "KQvK.rtbz"], 1),
         (["KQQvKQQ.rtbw", "KQvK.rtbz"], 1),
     ] {
-        let bytes = manifest_of(rt.alloc(), &names)?;
+        let bytes = manifest_for(rt.alloc(), &names)?;
         assert!(rt;
             manifest_read(rt.alloc(), bytes.as_slice()).err() == Some(ManifestFault::BadLine(fault))
         );
     }
-    let whole = manifest_of(rt.alloc(), &["KNvK.rtbw"])?;
+    let whole = manifest_for(rt.alloc(), &["KNvK.rtbw"])?;
     let Some((_, cut)) = whole.as_slice().split_last() else {
         return Err(Fail::from("a line"));
     };

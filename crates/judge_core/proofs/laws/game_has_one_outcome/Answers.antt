@@ -2,4 +2,4 @@ use Rattle.judge_core.proofs.OneOutcome.{one_outcome}
 use Rattle.judge_core.proofs.laws.game_has_one_outcome.Goals as goal
 
 pub returns : goal.returns
-returns c = λ tables start moves a b x y. one_outcome tables start moves a b x y
+returns c = one_outcome

@@ -1,4 +1,4 @@
-use Rattle.move_msg.proofs.OneMessage.{one_message}
+use Rattle.move_msg.proofs.HeardLaws.{one_message}
 use Rattle.move_msg.proofs.laws.one_message.Goals as goal
 
 pub returns : goal.returns

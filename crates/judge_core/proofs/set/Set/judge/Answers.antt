@@ -2,7 +2,7 @@ use Rattle.std.proofs.Common.{rules, ◌≡◌, ◌<◌, ◌∙◌, sym, refl, a
 use Rattle.board_core.specs.ComputedMoves.{count_of_men}
 use Rattle.board_core.specs.Side.{other}
 use Rattle.judge_core.specs.declared.wdl.Wdl.TheVariants.{Draw, Win, Loss}
-use Rattle.judge_core.specs.declared.verdict.Verdict.TheVariants.{TableDraw}
+use Rattle.board_core.specs.declared.verdict.Verdict.TheVariants.{TableDraw}
 use Rattle.judge_core.specs.Distances.{dtz_of}
 use Rattle.judge_core.proofs.Rule.{bare, weighed}
 use Rattle.judge_core.proofs.Plies.{ruled_by, by_win, by_loss, reached}

@@ -1,0 +1,117 @@
+-- What bytes say, and the answer to it.
+use Rattle.std.proofs.Common.{◌≡◌, ◌≢◌, ℕ, ◌+◌, ◌<◌, Bool, true, false, cond, List, [], ◌∷◌, ◌++◌, length, suc, Option, Some, None, Result, Ok, Err, refl, sym, ap, ◌∙◌, subst}
+use Rattle.std.specs.Prelude.{is_some, is_none}
+use Rattle.std.proofs.lemmas.Bool.{cond-true, cond-false}
+use Rattle.board_core.specs.declared.parts.Parts.{Parts}
+use Rattle.board_core.specs.declared.moves.Move.{Move as Moves}
+use Rattle.board_core.specs.ComputedMoves.{position_after}
+use Rattle.judge_core.specs.Games.{position_after_all, Rules}
+use Rattle.move_msg.specs.declared.stamp.Stamp.{Stamp}
+use Rattle.move_msg.specs.declared.who.Who.{Who}
+use Rattle.move_msg.specs.declared.who.Sender.{Sender}
+use Rattle.board_core.specs.declared.verdict.Verdict.{Verdict as Verdicts}
+use Rattle.move_msg.specs.declared.message.Message.{Message}
+use Rattle.move_msg.specs.declared.message.Message.TheVariants.{Move, Ack, Verdict, Fetch}
+use Rattle.move_msg.specs.declared.message.MessageFault.{MessageFault}
+use Rattle.std.specs.Str.{bytes_eq}
+use Rattle.move_msg.specs.Messages.{stamp_in}
+use Rattle.move_msg.specs.Heard.{heard_in}
+use Rattle.move_msg.specs.Numbers.{most_moves}
+use Rattle.judge_core.specs.Standings.{Reached, IsAt}
+use Rattle.arbiter_core.specs.declared.fault.DeliverFault.{DeliverFault}
+use Rattle.arbiter_core.specs.declared.fault.DeliverFault.TheVariants.{NotAMessage, Stranger, IllegalMove, TooFarAhead, TooLong, Down, KeeperFailed, OutOfMemory}
+use Rattle.arbiter_core.specs.Recording.{Recorded, count_of, advance}
+use Rattle.arbiter_core.specs.Answering.{Answer, Refuses, Sends, Puts, fetched, sent_by, puts, answer_to, answer_to_move, answer_heard}
+use Rattle.arbiter_core.specs.Setups.{rules_at}
+use Rattle.arbiter_core.specs.Views.{View}
+use Rattle.arbiter_core.specs.declared.keeper.Keep.{Keep}
+use Rattle.arbiter_core.specs.Delivers.{heard, in_game, answer_of, Told as Outcome, RefusesOrSends, PutsIfAny}
+use Rattle.arbiter_core.proofs.RunLaws.{next_position}
+use Rattle.arbiter_core.proofs.Cases.{case_turn, at_turn}
+
+-- ---- what bytes say
+
+pub heard_own : (stamp own : Stamp) (t : List ℕ) (m : Message) → heard_in t ≡ Ok m → own ≡ stamp → bytes_eq (stamp_in m).0 own.0 ≡ true → Ok m ≡ heard stamp t
+heard_own stamp own t m e same is =
+    sym (ap (in_game stamp) e ∙ cond-true (bytes_eq (stamp_in m).0 stamp.0) (Ok m) (Err Stranger) (ap (λ (s : Stamp). bytes_eq (stamp_in m).0 s.0) (sym same) ∙ is))
+
+pub heard_other : (stamp own : Stamp) (t : List ℕ) (m : Message) → heard_in t ≡ Ok m → own ≡ stamp → bytes_eq (stamp_in m).0 own.0 ≡ false → Err Stranger ≡ heard stamp t
+heard_other stamp own t m e same is =
+    sym (ap (in_game stamp) e ∙ cond-false (bytes_eq (stamp_in m).0 stamp.0) (Ok m) (Err Stranger) (ap (λ (s : Stamp). bytes_eq (stamp_in m).0 s.0) (sym same) ∙ is))
+
+pub heard_none : (stamp : Stamp) (t : List ℕ) (fault : MessageFault) → heard_in t ≡ Err fault → Err (NotAMessage fault) ≡ heard stamp t
+heard_none stamp t fault e = sym (ap (in_game stamp) e)
+
+-- ---- the answer to it
+
+heard_is : (old : View) (heard : Result Message DeliverFault) → old.is_down ≡ false → answer_of old heard ≡ answer_heard (rules_at old.setup) old.me old.kept old.window heard
+heard_is old heard up = cond-false old.is_down (Refuses Down) (answer_heard (rules_at old.setup) old.me old.kept old.window heard) up
+
+pub hears_down : (old : View) (heard : Result Message DeliverFault) → old.is_down ≡ true → answer_of old heard ≡ Refuses Down
+hears_down old heard down = cond-true old.is_down (Refuses Down) (answer_heard (rules_at old.setup) old.me old.kept old.window heard) down
+
+pub hears_move : (old : View) (stamp : Stamp) (sender : Sender) (number : ℕ) (m : Moves) → old.is_down ≡ false → answer_of old (Ok (Move stamp sender number m)) ≡ answer_to_move (rules_at old.setup) old.me old.kept old.window number m
+unfolding answer_to
+hears_move old stamp sender number m up = heard_is old (Ok (Move stamp sender number m)) up
+
+pub hears_ack : (old : View) (stamp : Stamp) (who : Who) (count : ℕ) → old.is_down ≡ false → answer_of old (Ok (Ack stamp who count)) ≡ Sends [] old.window
+unfolding answer_to
+hears_ack old stamp who count up = heard_is old (Ok (Ack stamp who count)) up
+
+pub hears_verdict : (old : View) (stamp : Stamp) (who : Who) (ply : ℕ) (v : Verdicts) → old.is_down ≡ false → answer_of old (Ok (Verdict stamp who ply v)) ≡ Sends [] old.window
+unfolding answer_to
+hears_verdict old stamp who ply v up = heard_is old (Ok (Verdict stamp who ply v)) up
+
+pub hears_fetch : (old : View) (stamp : Stamp) (who : Who) (number wanted : ℕ) → old.is_down ≡ false → answer_of old (Ok (Fetch stamp who number wanted)) ≡ Sends (fetched old.me old.kept number wanted) old.window
+unfolding answer_to
+hears_fetch old stamp who number wanted up = heard_is old (Ok (Fetch stamp who number wanted)) up
+
+pub hears_fault : (old : View) (fault : DeliverFault) → old.is_down ≡ false → answer_of old (Err fault) ≡ Refuses fault
+hears_fault old fault up = heard_is old (Err fault) up
+
+-- the answer to the move whose turn it is
+pub turn_is : (v : View) (q : Parts) (number : ℕ) (m : Moves) → number < most_moves → is_some v.kept.verdict ≡ false → number ≡ count_of v.kept → position_after_all v.setup.start (v.kept.moves ++ m ∷ []) ≡ Some q → answer_to_move (rules_at v.setup) v.me v.kept v.window number m ≡ puts v.me v.kept v.window (advance (rules_at v.setup) v.kept.moves m v.window)
+turn_is v q number m short going turn after =
+    case_turn (rules_at v.setup) v.me v.kept v.window number m short going turn ∙ cond-false (is_none (position_after_all v.setup.start (v.kept.moves ++ m ∷ []))) (Refuses IllegalMove) (puts v.me v.kept v.window (advance (rules_at v.setup) v.kept.moves m v.window)) (ap is_none after)
+
+pub illegal_is : (v : View) (number : ℕ) (m : Moves) → number < most_moves → is_some v.kept.verdict ≡ false → number ≡ count_of v.kept → position_after_all v.setup.start (v.kept.moves ++ m ∷ []) ≡ None → answer_to_move (rules_at v.setup) v.me v.kept v.window number m ≡ Refuses IllegalMove
+illegal_is v number m short going turn after =
+    case_turn (rules_at v.setup) v.me v.kept v.window number m short going turn ∙ cond-true (is_none (position_after_all v.setup.start (v.kept.moves ++ m ∷ []))) (Refuses IllegalMove) (puts v.me v.kept v.window (advance (rules_at v.setup) v.kept.moves m v.window)) (ap is_none after)
+
+-- ---- what holds of an answer holds of an equal one
+
+pub sends_as : {K : Type 0} (old : View) (before now : K) (new : View) (told : Outcome) (a b : Answer) → a ≡ b → RefusesOrSends old before now new told b → RefusesOrSends old before now new told a
+sends_as old before now new told a b e h = subst (RefusesOrSends old before now new told) (sym e) h
+
+pub puts_as : {K : Type 0} (may_be : K → Keep → Type 0) (kept : K → Option (List ℕ)) (faults : K → ℕ) (old : View) (before now : K) (new : View) (told : Outcome) (a b : Answer) → a ≡ b → PutsIfAny may_be kept faults old before now new told b → PutsIfAny may_be kept faults old before now new told a
+puts_as may_be kept faults old before now new told a b e h = subst (PutsIfAny may_be kept faults old before now new told) (sym e) h
+
+module _ (v : View) (message : Message) where
+  abbrev pub answered : Answer
+  answered = answer_to (rules_at v.setup) v.me v.kept v.window message
+
+  pub to_move : (stamp : Stamp) (sender : Sender) (number : ℕ) (m : Moves) → message ≡ Move stamp sender number m → answered ≡ answer_to_move (rules_at v.setup) v.me v.kept v.window number m
+  unfolding answer_to
+  to_move stamp sender number m e = ap (λ (x : Message). answer_to (rules_at v.setup) v.me v.kept v.window x) e
+
+  pub to_ack : (stamp : Stamp) (who : Who) (count : ℕ) → message ≡ Ack stamp who count → answered ≡ Sends [] v.window
+  unfolding answer_to
+  to_ack stamp who count e = ap (λ (x : Message). answer_to (rules_at v.setup) v.me v.kept v.window x) e
+
+  pub to_verdict : (stamp : Stamp) (who : Who) (ply : ℕ) (t : Verdicts) → message ≡ Verdict stamp who ply t → answered ≡ Sends [] v.window
+  unfolding answer_to
+  to_verdict stamp who ply t e = ap (λ (x : Message). answer_to (rules_at v.setup) v.me v.kept v.window x) e
+
+  pub to_fetch : (stamp : Stamp) (who : Who) (number wanted : ℕ) → message ≡ Fetch stamp who number wanted → answered ≡ Sends (fetched v.me v.kept number wanted) v.window
+  unfolding answer_to
+  to_fetch stamp who number wanted e = ap (λ (x : Message). answer_to (rules_at v.setup) v.me v.kept v.window x) e
+
+  pub to_heard : (heard : Result Message DeliverFault) → v.is_down ≡ false → Ok message ≡ heard → answer_of v heard ≡ answered
+  to_heard heard up e = ap (answer_of v) (sym e) ∙ heard_is v (Ok message) up
+
+pub to_fault : (v : View) (fault : DeliverFault) (heard : Result Message DeliverFault) → v.is_down ≡ false → Err fault ≡ heard → answer_of v heard ≡ Refuses fault
+to_fault v fault heard up e = ap (answer_of v) (sym e) ∙ heard_is v (Err fault) up
+
+pub length_sent : (stamp : Stamp) (sender : Sender) (number : ℕ) (moves : List Moves) → length (sent_by stamp sender number moves) ≡ length moves
+length_sent stamp sender number [] = refl
+length_sent stamp sender number (m ∷ moves) = ap suc (length_sent stamp sender (suc number) moves)

@@ -1,0 +1,10 @@
+pub mod Reach
+pub mod Waiting
+pub mod RunLaws
+pub mod Cases
+pub mod Settling
+pub mod Hearing
+pub mod Opened
+pub mod Going
+pub mod StillKept
+pub mod InWords

@@ -1,0 +1,310 @@
+-- A kept record is followed to its end.
+use Rattle.std.proofs.Common.{◌≡◌, ◌≢◌, ◌∙◌, sym, ap, subst, refl, ℕ, zero, suc, ◌+◌, ◌<◌, ◌≤◌, Bool, true, false, cond, ◌==◌, List, [], ◌∷◌, ◌++◌, length, take, get_or, Option, Some, None, Result, Ok, Err, inl, inr, ◌⊎◌, arith, add-one}
+use Rattle.std.specs.Prelude.{IsSome, is_some, IfOk, IfErr, ◌↔◌}
+use Rattle.std.specs.Option.{option_and_then, option_map}
+use Rattle.std.proofs.lemmas.Bool.{cases_lt, cases_Bool, cond-true, cond-false, eqb-true, eq-eqb}
+use Rattle.std.proofs.lemmas.List.{take_more, take_all}
+use Rattle.board_core.specs.declared.parts.Parts.{Parts}
+use Rattle.board_core.specs.declared.moves.Move.{Move}
+use Rattle.board_core.specs.ComputedMoves.{position_after}
+use Rattle.board_core.specs.declared.verdict.Verdict.{Verdict}
+use Rattle.judge_core.specs.declared.game.GameOutcome.{GameOutcome}
+use Rattle.judge_core.specs.declared.game.GameOutcome.TheVariants.{Ruled, Illegal, Going}
+use Rattle.judge_core.specs.Games.{position_after_all, Rules, verdict_after, IsUnruled, IsOutcome, plies_to, most_delay}
+use Rattle.move_msg.specs.declared.stamp.Stamp.{Stamp}
+use Rattle.move_msg.specs.declared.record_bytes.Record.{Record}
+use Rattle.move_msg.specs.declared.record_bytes.RecordFault.{RecordFault}
+use Rattle.move_msg.specs.declared.record_bytes.RecordFault.TheVariants.{OutOfMemory as NoMemory}
+use Rattle.move_msg.specs.Records.{SpellsRecord, WritesRecord}
+use Rattle.move_msg.proofs.RecordLaws.{one_record}
+use Rattle.move_msg.specs.Numbers.{most_moves}
+use Rattle.judge_core.specs.Standings.{IsAt}
+use Rattle.judge_core.proofs.Plies.{goes_on}
+use Rattle.arbiter_core.specs.Recording.{Recorded, reaches, record_at}
+use Rattle.arbiter_core.specs.declared.arbiter.Played.{Played}
+use Rattle.std.specs.Result.{IsErrOf}
+use Rattle.arbiter_core.specs.declared.keeper.Keep.{Keep}
+use Rattle.arbiter_core.specs.declared.keeper.Keep.TheVariants.{Good, FailsOld, FailsNew}
+use Rattle.arbiter_core.specs.declared.keeper.KeepFault.{KeepFault}
+use Rattle.arbiter_core.specs.declared.keeper.KeepFault.TheVariants.{Failed}
+use Rattle.arbiter_core.specs.declared.fault.OpenFault.{OpenFault}
+use Rattle.arbiter_core.specs.declared.fault.OpenFault.TheVariants.{KeeperFailed, OutOfMemory as Memory}
+use Rattle.arbiter_core.specs.Keeping.{PutIs, PutLeaves, Risen}
+use Rattle.arbiter_core.specs.Delivers.{IsSpelled, IsWritten, Keeps}
+use Rattle.arbiter_core.specs.Answering.{Identity, nothing_waits}
+use Rattle.arbiter_core.specs.Setups.{SetupView, rules_at}
+use Rattle.move_msg.specs.declared.who.Who.{Who}
+use Rattle.arbiter_core.specs.Views.{View, spelled_as, IsSettled}
+use Rattle.arbiter_core.specs.Starting.{IsPlayed, IsPutSo, IsPutFirst, recorded_in, told_from}
+use Rattle.arbiter_core.specs.Opens.{IsWhole, IsResumed, IsBadKept, at_end, first_record, running, Told, FirstLands, PutsFirst, OpensOver, NoMemory as MemoryRefused, Opens}
+use Rattle.arbiter_core.proofs.Settling.{near_nothing}
+use Rattle.arbiter_core.proofs.Reach.{step_to, step_of, reach_below, unruled_below}
+
+some_move : Move
+some_move = record { from = 0; to = 0; promotion = None }
+
+whole_list : (ms : List Move) → take (length ms) ms ≡ ms
+whole_list ms = take_all (length ms) ms (omega arith)
+
+-- a front of legal moves is legal
+legal_before : (r : Rules) (ms : List Move) (k : ℕ) → k < length ms → IsSome (position_after_all r.start (take (suc k) ms)) → IsSome (position_after_all r.start (take k ms))
+legal_before r ms k lt some = by_cases (position_after_all r.start (take k ms)) refl
+  where
+    next : position_after_all r.start (take (suc k) ms) ≡ option_and_then (λ p. position_after p (get_or ms k some_move)) (position_after_all r.start (take k ms))
+    next = ap (λ n. position_after_all r.start (take n ms)) (sym (add-one k)) ∙ ap (position_after_all r.start) (take_more ms k some_move lt) ∙ goes_on r.start (take k ms) (get_or ms k some_move)
+
+    by_cases : (o : Option Parts) → position_after_all r.start (take k ms) ≡ o → IsSome (position_after_all r.start (take k ms))
+    by_cases None e =
+        let none : position_after_all r.start (take (suc k) ms) ≡ None = next ∙ ap (option_and_then (λ p. position_after p (get_or ms k some_move))) e in
+        let f : is_some (position_after_all r.start (take (suc k) ms)) ≡ false = ap is_some none in
+        let t : is_some (position_after_all r.start (take (suc k) ms)) ≡ true = some in
+        absurd (let x : true ≡ false = sym t ∙ f in cc)
+    by_cases (Some p) e = ap is_some e
+
+-- legal moves without a verdict before the last ply reach it
+pub reaching : (r : Rules) (ms : List Move) (k : ℕ) → k ≤ length ms → IsSome (position_after_all r.start (take k ms)) → IsUnruled r ms k → reaches r ms k ≡ true
+reaching r ms zero le some none = refl
+reaching r ms (suc k) le some none = step_to r ms k (record {
+  before = reaching r ms k (omega arith) (legal_before r ms k (omega arith) some) (λ j lt. none j (omega arith));
+  unruled = none k (omega arith);
+  within = omega arith;
+  legal = some;
+})
+
+pub record Ends (r : Rules) (ms : List Move) (v : Option Verdict) : Type 0 where
+  pub reached : reaches r ms (length ms) ≡ true
+  pub ruled : verdict_after r ms ≡ v
+
+at_ply : (ply n : ℕ) (w : Verdict) (v : Option Verdict) → cond (ply == n) (Some (Some w)) None ≡ Some v → (ply ≡ n) × (Some w ≡ v)
+at_ply ply n w v e = by_cases (ply == n) refl
+  where
+    by_cases : (b : Bool) → (ply == n) ≡ b → (ply ≡ n) × (Some w ≡ v)
+    by_cases true is = let f : Some (Some w) ≡ Some v = sym (cond-true (ply == n) (Some (Some w)) None is) ∙ e in (eqb-true ply n is, cc)
+    by_cases false is = let f : None ≡ Some v = sym (cond-false (ply == n) (Some (Some w)) None is) ∙ e in absurd cc
+
+pub ends : (r : Rules) (ms : List Move) (o : GameOutcome) (v : Option Verdict) → IsOutcome r ms o → at_end o (length ms) ≡ Some v → Ends r ms v
+ends r ms (Ruled ply w) v h e =
+    let p = at_ply ply (length ms) w v e in
+    let all : take ply ms ≡ ms = ap (λ n. take n ms) p.0 ∙ whole_list ms in
+    record {
+      reached = subst (λ n. reaches r ms n ≡ true) p.0 (reaching r ms ply h.within h.legal h.unruled);
+      ruled = ap (verdict_after r) (sym all) ∙ h.ruled ∙ p.1;
+    }
+ends r ms (Illegal place) v h e = absurd (let f : None ≡ Some v = e in cc)
+ends r ms Going v h e =
+    let f : Some None ≡ Some v = e in
+    let none : None ≡ v = cc in
+    record {
+      reached = reaching r ms (length ms) (omega arith) (subst (λ (xs : List Move). IsSome (position_after_all r.start xs)) (sym (whole_list ms)) h.legal) (λ j lt. h.unruled j (omega arith));
+      ruled = ap (verdict_after r) (sym (whole_list ms)) ∙ h.unruled (length ms) (omega arith) ∙ none;
+    }
+
+pub plies_all : (ms : List Move) (o : GameOutcome) (v : Option Verdict) → at_end o (length ms) ≡ Some v → take (plies_to ms o) ms ≡ ms
+plies_all ms (Ruled ply w) v e = ap (λ n. take n ms) (at_ply ply (length ms) w v e).0 ∙ whole_list ms
+plies_all ms (Illegal place) v e = absurd (let f : None ≡ Some v = e in cc)
+plies_all ms Going v e = whole_list ms
+
+-- a game that doesn't get to its last ply
+pub never : (r : Rules) (ms : List Move) (o : GameOutcome) → IsOutcome r ms o → at_end o (length ms) ≡ None → reaches r ms (length ms) ≡ true → ⊥
+never r ms (Ruled ply w) h e reach = elim (cases_lt ply (length ms)) [
+  | inl lt ↦ (let f : None ≡ Some w = sym (unruled_below r ms ply (length ms) lt reach) ∙ h.ruled in cc)
+  | inr le ↦ (
+      let within = h.within in
+      let same : ply ≡ length ms = omega arith in
+      let is : (ply == length ms) ≡ true = eq-eqb ply (length ms) same in
+      let f : Some (Some w) ≡ None = sym (cond-true (ply == length ms) (Some (Some w)) None is) ∙ e in cc)
+]
+never r ms (Illegal place) h e reach =
+    let within = h.within in
+    let s = step_of r ms place (reach_below r ms (suc place) (length ms) (omega arith) reach) in
+    let none : position_after_all r.start (take (suc place) ms) ≡ None = ap (λ n. position_after_all r.start (take n ms)) (sym (add-one place)) ∙ h.illegal in
+    let f : is_some (position_after_all r.start (take (suc place) ms)) ≡ false = ap is_some none in
+    let x : true ≡ false = sym s.legal ∙ f in cc
+never r ms Going h e reach = let f : Some None ≡ None = e in cc
+
+-- ---- whole records
+
+pub whole : (r : Rules) (ms : List Move) (v : Option Verdict) → Ends r ms v → IsWhole r (record { moves = ms; verdict = v })
+whole r ms v h = record {
+  game = ms;
+  reached = h.reached;
+  is = ap (λ (o : Option Verdict). record { moves = ms; verdict = o }) (sym h.ruled) ∙ ap (λ (xs : List Move). record { moves = xs; verdict = verdict_after r xs }) (sym (whole_list ms));
+}
+
+pub from_whole : (r : Rules) (kept : Recorded) → IsWhole r kept → Ends r kept.moves kept.verdict
+from_whole r kept h =
+    let moves : kept.moves ≡ h.game = ap (λ (k : Recorded). k.moves) h.is ∙ whole_list h.game in
+    let verdict : kept.verdict ≡ verdict_after r h.game = ap (λ (k : Recorded). k.verdict) h.is ∙ ap (verdict_after r) (whole_list h.game) in
+    record {
+      reached = subst (λ (xs : List Move). reaches r xs (length xs) ≡ true) (sym moves) h.reached;
+      ruled = ap (verdict_after r) moves ∙ sym verdict;
+    }
+
+module _ (r : Rules) (stamp : Stamp) (bytes : List ℕ) (q : Record) (spelled : SpellsRecord bytes q) where
+  is_spelled : (kept : Recorded) → IsResumed r stamp bytes kept → q ≡ spelled_as stamp r.delay kept
+  is_spelled kept h = one_record bytes q (spelled_as stamp r.delay kept) spelled h.0
+
+  -- a kept record whose moves don't get to their last ply, or have another verdict there
+  pub cut_short : (o : GameOutcome) → IsOutcome r q.moves o → at_end o (length q.moves) ≡ None → (kept : Recorded) → IsResumed r stamp bytes kept → ⊥
+  cut_short o h e kept k =
+      let moves : kept.moves ≡ q.moves = ap (λ (x : Record). x.moves) (sym (is_spelled kept k)) in
+      never r q.moves o h e (subst (λ (xs : List Move). reaches r xs (length xs) ≡ true) moves (from_whole r kept k.1).reached)
+
+  pub other_verdict : (o : GameOutcome) (v : Option Verdict) → IsOutcome r q.moves o → at_end o (length q.moves) ≡ Some v → q.verdict ≢ v → (kept : Recorded) → IsResumed r stamp bytes kept → ⊥
+  other_verdict o v h e other kept k =
+      let moves : kept.moves ≡ q.moves = ap (λ (x : Record). x.moves) (sym (is_spelled kept k)) in
+      let ruled : kept.verdict ≡ v = sym (from_whole r kept k.1).ruled ∙ ap (verdict_after r) moves ∙ (ends r q.moves o v h e).ruled in
+      other (ap (λ (x : Record). x.verdict) (is_spelled kept k) ∙ ruled)
+
+-- a record that is read, with the verdict that its moves have at their end
+pub resumed : (r : Rules) (stamp : Stamp) (bytes : List ℕ) (q : Record) (o : GameOutcome) (v : Option Verdict) → SpellsRecord bytes q → (q.stamp ≡ stamp) × (q.delay ≡ r.delay) → IsOutcome r q.moves o → at_end o (length q.moves) ≡ Some v → q.verdict ≡ v → IsResumed r stamp bytes (record { moves = q.moves; verdict = q.verdict })
+resumed r stamp bytes q o v spelled same h e ruled = (
+  subst (SpellsRecord bytes) (made q.stamp stamp q.delay r.delay q.verdict q.moves same.0 same.1) spelled,
+  subst (λ (w : Option Verdict). IsWhole r (record { moves = q.moves; verdict = w })) (sym ruled) (whole r q.moves v (ends r q.moves o v h e)),
+)
+  where
+    made : (s t : Stamp) (n k : ℕ) (o : Option Verdict) (ms : List Move) → s ≡ t → n ≡ k → ◌≡◌ {A = Record} (record { stamp = s; delay = n; verdict = o; moves = ms }) (record { stamp = t; delay = k; verdict = o; moves = ms })
+    made s t n k o ms es en = cc
+
+-- what is recorded before the first move
+pub first_is : (setup : SetupView) (stamp : Stamp) (p : Played) → p.record.stamp ≡ stamp → p.record.moves ≡ [] → IsAt (rules_at setup) [] p.standing → p.record.verdict ≡ verdict_after (rules_at setup) [] → p.record.delay ≡ setup.delay → IsPlayed setup stamp p × (recorded_in p ≡ first_record (rules_at setup))
+first_is setup stamp p same none at ruled delay = (
+  record {
+    stamp_is = same;
+    delay_is = delay;
+    at = subst (λ (ms : List Move). IsAt (rules_at setup) ms p.standing) (sym none) at;
+    ruled = ruled ∙ ap (verdict_after (rules_at setup)) (sym none);
+    reached = subst (λ (ms : List Move). reaches (rules_at setup) ms (length ms) ≡ true) (sym none) refl;
+    short = let n : length p.record.moves ≡ 0 = ap length none in omega arith;
+  },
+  recorded_is p.record.moves [] p.record.verdict (verdict_after (rules_at setup) []) none ruled,
+)
+  where
+    recorded_is : (ms ns : List Move) (v w : Option Verdict) → ms ≡ ns → v ≡ w → ◌≡◌ {A = Recorded} (record { moves = ms; verdict = v }) (record { moves = ns; verdict = w })
+    recorded_is ms ns v w e f = cc
+
+-- what is recorded by a record that is read
+pub played_is : (setup : SetupView) (stamp : Stamp) (p : Played) (o : GameOutcome) (v : Option Verdict) → p.record.stamp ≡ stamp → IsOutcome (rules_at setup) p.record.moves o → at_end o (length p.record.moves) ≡ Some v → p.record.verdict ≡ v → p.record.delay ≡ setup.delay → IsAt (rules_at setup) (take (plies_to p.record.moves o) p.record.moves) p.standing → length p.record.moves ≤ most_moves → IsPlayed setup stamp p
+played_is setup stamp p o v same h e verdict delay at short =
+    let x = ends (rules_at setup) p.record.moves o v h e in
+    record {
+      stamp_is = same;
+      delay_is = delay;
+      at = subst (λ (ms : List Move). IsAt (rules_at setup) ms p.standing) (plies_all p.record.moves o v e) at;
+      ruled = verdict ∙ sym x.ruled;
+      reached = x.reached;
+      short = short;
+    }
+
+-- an arbiter that is opened is settled
+pub settled_first : (setup : SetupView) (stamp : Stamp) (p : Played) → setup.delay ≤ most_delay → IsPlayed setup stamp p → IsSettled setup (recorded_in p) p.standing nothing_waits
+settled_first setup stamp p few h = record { at = h.at; ruled = h.ruled; reached = h.reached; short = h.short; near = near_nothing (length p.record.moves + 1); delay = few }
+
+-- bytes that are read as none spell no record
+pub no_record : (t : List ℕ) (d : Result Record RecordFault) (fault : RecordFault) → d ≡ Err fault → (fault ≡ NoMemory → ⊥) → ((r : Record) → SpellsRecord t r → (d ≡ Ok r) ⊎ (d ≡ Err NoMemory)) → (r : Record) → SpellsRecord t r → ⊥
+no_record t d fault e other only r h = elim (only r h) [
+  | inl ok ↦ (let x : ◌≡◌ {A = Result Record RecordFault} (Err fault) (Ok r) = sym e ∙ ok in cc)
+  | inr memory ↦ other (let x : ◌≡◌ {A = Result Record RecordFault} (Err fault) (Err NoMemory) = sym e ∙ memory in cc)
+]
+
+-- ---- the first put
+
+record_is : (s t : Stamp) (n k : ℕ) (o : Option Verdict) (ms : List Move) → s ≡ t → n ≡ k → ◌≡◌ {A = Record} (record { stamp = s; delay = n; verdict = o; moves = ms }) (record { stamp = t; delay = k; verdict = o; moves = ms })
+record_is s t n k o ms es en = cc
+
+-- bytes that spell what is recorded are what an arbiter keeps
+pub kept_so : (stamp : Stamp) (delay : ℕ) (p : Played) (kept : Recorded) (sent : List ℕ) (now : Option (List ℕ)) → p.record.stamp ≡ stamp → p.record.delay ≡ delay → recorded_in p ≡ kept → SpellsRecord sent p.record → now ≡ Some sent → IsSpelled stamp delay kept now
+kept_so stamp delay p kept sent now same same_delay is spelled there =
+    subst (IsSpelled stamp delay kept) (sym there)
+    (subst (λ (k : Recorded). SpellsRecord sent (spelled_as stamp delay k)) is
+    (subst (SpellsRecord sent) (record_is p.record.stamp stamp p.record.delay delay p.record.verdict p.record.moves same same_delay) spelled))
+
+pub wrote_so : (stamp : Stamp) (delay : ℕ) (p : Played) (kept : Recorded) (sent : List ℕ) (now : Option (List ℕ)) → p.record.stamp ≡ stamp → p.record.delay ≡ delay → recorded_in p ≡ kept → WritesRecord sent p.record → now ≡ Some sent → IsWritten stamp delay kept now
+wrote_so stamp delay p kept sent now same same_delay is written there =
+    subst (IsWritten stamp delay kept) (sym there)
+    (subst (λ (k : Recorded). WritesRecord sent (spelled_as stamp delay k)) is
+    (subst (WritesRecord sent) (record_is p.record.stamp stamp p.record.delay delay p.record.verdict p.record.moves same same_delay) written))
+
+pub put_fails : {K : Type 0} {T : Type 0} (may_be : K → Keep → Type 0) (kept : K → Option (List ℕ)) (faults : K → ℕ) (setup : SetupView) (me : Identity) (before now : K) (sent : List ℕ) (p : Played) (f : KeepFault) → PutLeaves {T = T} (may_be before) (kept before) sent (kept now) (Err f) → (IsErrOf {T = T} (Err f) Failed → Risen (faults before) (faults now)) → IsPlayed setup me.stamp p × (recorded_in p ≡ first_record (rules_at setup)) → SpellsRecord sent p.record → WritesRecord sent p.record → IsPutFirst may_be kept faults setup me before now (Err KeeperFailed)
+put_fails {T = T} may_be kept faults setup me before now sent p f o cause first spelled written = by_keep o.keep o.stated o.is
+  where
+    by_keep : (keep : Keep) → may_be before keep → PutIs {T = T} keep (kept before) sent (kept now) (Err f) → IsPutFirst may_be kept faults setup me before now (Err KeeperFailed)
+    by_keep Good stated is = absurd (let x = is.0 in cc)
+    by_keep FailsOld stated is = inr (record { keep = FailsOld; stated = stated; is = (refl, is.1); written = inl is.1; cause = λ _. cause is.0 })
+    by_keep FailsNew stated is = inr (record { keep = FailsNew; stated = stated; is = (refl, kept_so me.stamp setup.delay p (first_record (rules_at setup)) sent (kept now) first.0.stamp_is first.0.delay_is first.1 spelled is.1); written = inr (wrote_so me.stamp setup.delay p (first_record (rules_at setup)) sent (kept now) first.0.stamp_is first.0.delay_is first.1 written is.1); cause = λ _. cause is.0 })
+
+-- ---- over what is kept
+
+risen_from : (before mid now : ℕ) → before ≤ mid → Risen mid now → Risen before now
+risen_from before mid now le (inl lt) = inl (omega arith)
+risen_from before mid now le (inr most) = inr most
+
+module _ {K : Type 0} (may_be : K → Keep → Type 0) (kept : K → Option (List ℕ)) (faults : K → ℕ) (get_may_fail : K → Type 0) (setup : SetupView) (me : Identity) where
+  pub over_bytes : (before now : K) (bytes : List ℕ) (result : Result Played OpenFault) → Some bytes ≡ kept before → kept now ≡ kept before → IfOk result (λ p. IsPlayed setup me.stamp p × IsResumed (rules_at setup) me.stamp bytes (recorded_in p)) → IfErr result (IsBadKept (rules_at setup) me.stamp bytes) → Opens may_be kept faults get_may_fail setup me before now (told_from setup me result)
+  over_bytes before now bytes (Ok p) e still ok err = inr (inr (subst (λ (o : Option (List ℕ)). OpensOver may_be kept faults setup me o before now (told_from setup me (Ok p))) e (still, (refl, ok.1))))
+  over_bytes before now bytes (Err f) e still ok err = inr (inr (subst (λ (o : Option (List ℕ)). OpensOver may_be kept faults setup me o before now (told_from setup me (Err f))) e (still, err)))
+
+  pub played_first : (mid now : K) (result : Result Played OpenFault) → IsPutFirst may_be kept faults setup me mid now result → IfOk result (IsPlayed setup me.stamp)
+  played_first mid now (Err f) h = tt
+  played_first mid now (Ok p) (inl m) = absurd (let x : ◌≡◌ {A = Result Played OpenFault} (Ok p) (Err Memory) = m.0 in cc)
+  played_first mid now (Ok p) (inr o) = by_keep o.keep o.is
+    where
+      by_keep : (keep : Keep) → IsPutSo keep setup me (kept mid) (kept now) (Ok p) → IsPlayed setup me.stamp p
+      by_keep Good is = is.0
+      by_keep FailsOld is = absurd (let x : ◌≡◌ {A = Result Played OpenFault} (Ok p) (Err KeeperFailed) = is.0 in cc)
+      by_keep FailsNew is = absurd (let x : ◌≡◌ {A = Result Played OpenFault} (Ok p) (Err KeeperFailed) = is.0 in cc)
+
+  first_lands : (keep : Keep) (before mid now : Option (List ℕ)) (result : Result Played OpenFault) → mid ≡ before → IsPutSo keep setup me mid now result → FirstLands keep setup me before now (told_from setup me result)
+  first_lands Good before mid now (Ok p) e is = (ap (λ (k : Recorded). Ok (running setup me k)) is.1, is.2)
+  first_lands Good before mid now (Err f) e is = absurd is
+  first_lands FailsOld before mid now result e is = (ap (told_from setup me) is.0, is.1 ∙ e)
+  first_lands FailsNew before mid now result e is = (ap (told_from setup me) is.0, is.1)
+
+  wrote_later : (before mid now : Option (List ℕ)) → mid ≡ before → (now ≡ mid) ⊎ IsWritten me.stamp setup.delay (first_record (rules_at setup)) now → (now ≡ before) ⊎ IsWritten me.stamp setup.delay (first_record (rules_at setup)) now
+  wrote_later before mid now e (inl same) = inl (same ∙ e)
+  wrote_later before mid now e (inr written) = inr written
+
+  failed_first : (result : Result Played OpenFault) → told_from setup me result ≡ Err KeeperFailed → result ≡ Err KeeperFailed
+  failed_first (Ok p) e = absurd (let x : ◌≡◌ {A = Told} (Ok (running setup me (recorded_in p))) (Err KeeperFailed) = e in cc)
+  failed_first (Err f) e = let x : ◌≡◌ {A = Told} (Err f) (Err KeeperFailed) = e in cc
+
+  pub over_nothing : (before mid now : K) (result : Result Played OpenFault) → None ≡ kept before → kept mid ≡ kept before → ((k : Keep) → may_be mid k ↔ may_be before k) → faults before ≤ faults mid → IsPutFirst may_be kept faults setup me mid now result → Opens may_be kept faults get_may_fail setup me before now (told_from setup me result)
+  over_nothing before mid now result e still same rise (inl m) = inr (inl (record { answer = ap (told_from setup me) m.0; still = ap kept m.1 ∙ still }))
+  over_nothing before mid now result e still same rise (inr o) =
+      inr (inr (subst (λ (k : Option (List ℕ)). OpensOver may_be kept faults setup me k before now (told_from setup me result)) e
+      (record { keep = o.keep; stated = (same o.keep).0 o.stated; lands = first_lands o.keep (kept before) (kept mid) (kept now) result still o.is; written = wrote_later (kept before) (kept mid) (kept now) still o.written; cause = λ f. risen_from (faults before) (faults mid) (faults now) rise (o.cause (failed_first result f)) })))
+
+pub runs_is : (s t : SetupView) (own stamp : Stamp) (who : Who) (kept : Recorded) → s ≡ t → own ≡ stamp → ◌≡◌ {A = View} (record { setup = s; me = record { stamp = own; who = who }; kept = kept; window = nothing_waits; is_down = false }) (running t (record { stamp = stamp; who = who }) kept)
+runs_is s t own stamp who kept e f =
+    ap (λ (x : SetupView). running x (record { stamp = own; who = who }) kept) e ∙ ap (λ (x : Stamp). running t (record { stamp = x; who = who }) kept) f
+
+pub opens_as : {K : Type 0} (may_be : K → Keep → Type 0) (kept : K → Option (List ℕ)) (faults : K → ℕ) (get_may_fail : K → Type 0) (setup : SetupView) (me : Identity) (before now : K) (told other : Told) → told ≡ other → Opens may_be kept faults get_may_fail setup me before now told → Opens may_be kept faults get_may_fail setup me before now other
+opens_as may_be kept faults get_may_fail setup me before now told other e h = subst (Opens may_be kept faults get_may_fail setup me before now) e h
+
+pub was_some : {T : Type 0} (f : T → List ℕ) (o : Option T) (x : T) (k : Option (List ℕ)) → o ≡ Some x → option_map f o ≡ k → Some (f x) ≡ k
+was_some f o x k e h = ap (option_map f) (sym e) ∙ h
+
+pub was_none : {T : Type 0} (f : T → List ℕ) (o : Option T) (k : Option (List ℕ)) → o ≡ None → option_map f o ≡ k → None ≡ k
+was_none f o k e h = ap (option_map f) (sym e) ∙ h
+
+-- ---- what an opened arbiter has recorded is what is kept
+
+module _ {K : Type 0} (may_be : K → Keep → Type 0) (kept : K → Option (List ℕ)) (faults : K → ℕ) (get_may_fail : K → Type 0) (setup : SetupView) (me : Identity) (before now : K) (v : View) where
+  not_failed : (fault : OpenFault) → Ok v ≡ Err fault → ⊥
+  not_failed fault e = let f : ◌≡◌ {A = Told} (Ok v) (Err fault) = e in cc
+
+  first_kept : (keep : Keep) → FirstLands keep setup me (kept before) (kept now) (Ok v) → Keeps (kept now) v
+  first_kept Good h = let e : ◌≡◌ {A = Told} (Ok v) (Ok (running setup me (first_record (rules_at setup)))) = h.0 in let same : v ≡ running setup me (first_record (rules_at setup)) = cc in subst (Keeps (kept now)) (sym same) h.1
+  first_kept FailsOld h = absurd (not_failed KeeperFailed h.0)
+  first_kept FailsNew h = absurd (not_failed KeeperFailed h.0)
+
+  over_kept : (o : Option (List ℕ)) → kept before ≡ o → OpensOver may_be kept faults setup me o before now (Ok v) → Keeps (kept now) v
+  over_kept None e h = first_kept h.keep h.lands
+  over_kept (Some bytes) e h =
+      let spelled : Keeps (Some bytes) (running setup me v.kept) = h.1.1.0 in
+      subst (λ (o : Option (List ℕ)). Keeps o v) (sym (h.0 ∙ e)) (subst (Keeps (Some bytes)) (sym h.1.0) spelled)
+
+  pub opened_keeps : Opens may_be kept faults get_may_fail setup me before now (Ok v) → Keeps (kept now) v
+  opened_keeps (inl h) = absurd (not_failed KeeperFailed h.answer)
+  opened_keeps (inr (inl h)) = absurd (not_failed Memory h.answer)
+  opened_keeps (inr (inr h)) = over_kept (kept before) refl h

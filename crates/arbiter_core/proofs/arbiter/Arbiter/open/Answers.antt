@@ -1,0 +1,39 @@
+use Rattle.std.proofs.Common.{ap, sym, ◌∙◌, subst, Ok}
+use Rattle.arbiter_core.specs.declared.setup.Setup.{Setup}
+use Rattle.arbiter_core.specs.Answering.{Identity, nothing_waits}
+use Rattle.arbiter_core.specs.Setups.{setup_view}
+use Rattle.arbiter_core.specs.Views.{View, IsSettled}
+use Rattle.arbiter_core.specs.Opens.{Told}
+use Rattle.arbiter_core.specs.Starting.{recorded_in}
+use Rattle.arbiter_core.proofs.Opened.{settled_first, runs_is, opens_as, opened_keeps}
+use Rattle.arbiter_core.proofs.arbiter.Arbiter.open.Goals as goal
+
+pub running-requires-clause-settled : goal.running-requires-clause-settled
+running-requires-clause-settled g c =
+    subst (λ (s : Setup). IsSettled (setup_view s) (recorded_in c.in-Ok.played) c.in-Ok.played.standing nothing_waits) (sym c.in-Ok.ensures.same)
+    (settled_first (setup_view c.args.setup) c.in-Some.stamp c.in-Ok.played c.in-Some.ensures.some.0.delay c.in-Ok.ensures.played)
+
+pub running-requires-clause-delay : goal.running-requires-clause-delay
+running-requires-clause-delay g c = c.in-Ok.ensures.played.delay_is ∙ ap (λ (s : Setup). s.delay) (sym c.in-Ok.ensures.same)
+
+pub returns-in-Ok-clause-good : goal.returns-in-Ok-clause-good
+returns-in-Ok-clause-good g c = λ good.
+    let me : Identity = record { stamp = c.in-Some.stamp; who = c.in-Some.who } in (
+      me,
+      c.in-Some.ensures.some.1,
+      opens_as g.K.Keeper.may_be g.K.Keeper.kept g.K.Keeper.faults g.K.Keeper.get_may_fail (setup_view c.args.setup) me c.args.keeper.now c.recorded.new.keeper _ _
+          (ap (λ (v : View). Ok v) (sym (c.running.ensures ∙ runs_is _ (setup_view c.args.setup) _ c.in-Some.stamp c.in-Some.who (recorded_in c.in-Ok.played) (ap setup_view c.in-Ok.ensures.same) c.in-Ok.ensures.played.stamp_is)))
+          (c.in-Ok.ensures.opens c.in-Some.who),
+    )
+
+pub returns-in-Err-clause-good : goal.returns-in-Err-clause-good
+returns-in-Err-clause-good g c = λ good.
+    (record { stamp = c.in-Some.stamp; who = c.in-Some.who }, c.in-Some.ensures.some.1, c.in-Err.ensures.opens c.in-Some.who)
+
+pub returns-in-Ok-clause-keeps : goal.returns-in-Ok-clause-keeps
+returns-in-Ok-clause-keeps g c = λ up.
+    let me : Identity = record { stamp = c.in-Some.stamp; who = c.in-Some.who } in
+    opened_keeps g.K.Keeper.may_be g.K.Keeper.kept g.K.Keeper.faults g.K.Keeper.get_may_fail (setup_view c.args.setup) me c.args.keeper.now c.recorded.new.keeper c.running.result
+    (opens_as g.K.Keeper.may_be g.K.Keeper.kept g.K.Keeper.faults g.K.Keeper.get_may_fail (setup_view c.args.setup) me c.args.keeper.now c.recorded.new.keeper _ _
+    (ap (λ (v : View). Ok v) (sym (c.running.ensures ∙ runs_is _ (setup_view c.args.setup) _ c.in-Some.stamp c.in-Some.who (recorded_in c.in-Ok.played) (ap setup_view c.in-Ok.ensures.same) c.in-Ok.ensures.played.stamp_is)))
+    (c.in-Ok.ensures.opens c.in-Some.who))

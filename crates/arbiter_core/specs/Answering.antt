@@ -1,0 +1,85 @@
+-- What a running arbiter answers to a message.
+use Rattle.std.specs.Prelude.{◌≡◌, ℕ, zero, suc, ◌+◌, ◌-◌, Bool, true, false, cond, ◌||◌, nat_lt, nat_le, List, [], ◌∷◌, ◌++◌, length, take, drop, replicate, Option, Some, None, is_some, is_none, Result, Ok, Err, slice_set, slice_index_or}
+use Rattle.board_core.specs.declared.moves.Move.{Move as Moves}
+use Rattle.board_core.specs.declared.verdict.Verdict.{Verdict as Verdicts}
+use Rattle.judge_core.specs.Games.{position_after_all, Rules}
+use Rattle.move_msg.specs.declared.stamp.Stamp.{Stamp}
+use Rattle.move_msg.specs.declared.who.Who.{Who}
+use Rattle.move_msg.specs.declared.who.Sender.{Sender}
+use Rattle.move_msg.specs.declared.who.Sender.TheVariants.{Arbiter}
+use Rattle.move_msg.specs.declared.message.Message.{Message}
+use Rattle.move_msg.specs.declared.message.Message.TheVariants.{Move, Ack, Verdict, Fetch}
+use Rattle.move_msg.specs.Numbers.{most_moves, most_wanted}
+use Rattle.arbiter_core.specs.declared.fault.DeliverFault.{DeliverFault}
+use Rattle.arbiter_core.specs.declared.fault.DeliverFault.TheVariants.{IllegalMove, TooFarAhead, TooLong}
+use Rattle.arbiter_core.specs.Recording.{Recorded, Window, count_of, advance}
+
+-- who an arbiter is in its messages: the stamp of its game, and which of the two it is
+pub record Identity : Type 0 where
+  pub stamp : Stamp
+  pub who : Who
+
+abbrev pub nothing_waits : Window
+nothing_waits = replicate 31 None
+
+-- a move that waits already stays
+abbrev pub waits_too : Window → ℕ → Moves → Window
+waits_too window place m = cond (is_some (slice_index_or window place None)) window (slice_set window place (Some m))
+
+-- the moves that still wait once the count is higher by n
+abbrev pub still_waits : Window → ℕ → Window
+still_waits window n = take 31 (drop n window ++ nothing_waits)
+
+-- what an arbiter tells of its record
+abbrev pub told_of : Identity → ℕ → Option Verdicts → List Message
+told_of me count None = Ack me.stamp me.who count ∷ []
+told_of me count (Some v) = Ack me.stamp me.who count ∷ Verdict me.stamp me.who count v ∷ []
+
+abbrev pub told_now : Identity → Recorded → List Message
+told_now me old = told_of me (count_of old) old.verdict
+
+pub data Answer : Type 0 where
+  -- nothing changes
+  Refuses : (fault : DeliverFault) → Answer
+  -- these messages go out and these moves wait; nothing is put
+  Sends : (outputs : List Message) (window : Window) → Answer
+  -- this record is put; if it lands, these messages go out and these moves wait
+  Puts : (next : Recorded) (outputs : List Message) (window : Window) → Answer
+
+-- the record to be put, and what goes with it
+abbrev pub puts : Identity → Recorded → Window → Recorded → Answer
+puts me old window next = Puts next (told_now me next) (cond (is_some next.verdict) nothing_waits (still_waits window (count_of next - count_of old)))
+
+abbrev pub answer_to_move : Rules → Identity → Recorded → Window → ℕ → Moves → Answer
+answer_to_move rules me old window number m =
+    cond (nat_le most_moves number) (Refuses TooLong)
+    (cond (is_some old.verdict || nat_lt number (count_of old)) (Sends (told_now me old) window)
+    (cond (nat_le (count_of old + 32) number) (Refuses TooFarAhead)
+    (cond (nat_lt (count_of old) number) (Sends (Ack me.stamp me.who (count_of old) ∷ []) (waits_too window (number - (count_of old + 1)) m))
+    (cond (is_none (position_after_all rules.start (old.moves ++ m ∷ []))) (Refuses IllegalMove)
+    (puts me old window (advance rules old.moves m window))))))
+
+-- these moves as messages of this sender, the first with this number
+abbrev pub sent_by : Stamp → Sender → ℕ → List Moves → List Message
+sent_by stamp sender number [] = []
+sent_by stamp sender number (m ∷ moves) = Move stamp sender number m ∷ sent_by stamp sender (suc number) moves
+
+-- the recorded moves from this number on, so many at most
+abbrev pub fetched : Identity → Recorded → ℕ → ℕ → List Message
+fetched me old number wanted = sent_by me.stamp (Arbiter me.who) number (take wanted (drop number old.moves))
+
+-- what a running arbiter asks for, which has no verdict and room for more moves
+abbrev pub asked : Identity → Recorded → Option Message
+asked me old = cond (is_some old.verdict || nat_le most_moves (count_of old)) None (Some (Fetch me.stamp me.who (count_of old) most_wanted))
+
+-- what a running arbiter answers to a message
+unfoldable pub answer_to : Rules → Identity → Recorded → Window → Message → Answer
+answer_to rules me old window (Move stamp sender number m) = answer_to_move rules me old window number m
+answer_to rules me old window (Ack stamp who count) = Sends [] window
+answer_to rules me old window (Verdict stamp who ply verdict) = Sends [] window
+answer_to rules me old window (Fetch stamp who number wanted) = Sends (fetched me old number wanted) window
+
+-- the same of what was heard: a message, or why it is none
+abbrev pub answer_heard : Rules → Identity → Recorded → Window → Result Message DeliverFault → Answer
+answer_heard rules me old window (Ok message) = answer_to rules me old window message
+answer_heard rules me old window (Err fault) = Refuses fault

@@ -1,0 +1,96 @@
+-- What a delivery leaves.
+use Rattle.std.specs.Prelude.{◌≡◌, ℕ, ◌<◌, Bool, true, false, cond, List, length, Option, Some, None, Result, Ok, Err, ◌⊎◌}
+use Rattle.std.specs.Str.{bytes_eq}
+use Rattle.move_msg.specs.declared.stamp.Stamp.{Stamp}
+use Rattle.move_msg.specs.declared.message.Message.{Message}
+use Rattle.move_msg.specs.declared.message.MessageFault.{MessageFault}
+use Rattle.move_msg.specs.Messages.{stamp_in}
+use Rattle.move_msg.specs.Heard.{heard_in}
+use Rattle.move_msg.specs.Records.{SpellsRecord, WritesRecord}
+use Rattle.arbiter_core.specs.declared.keeper.Keep.{Keep}
+use Rattle.arbiter_core.specs.declared.keeper.Keep.TheVariants.{Good, FailsOld, FailsNew}
+use Rattle.arbiter_core.specs.declared.fault.DeliverFault.{DeliverFault}
+use Rattle.arbiter_core.specs.declared.fault.DeliverFault.TheVariants.{NotAMessage, Stranger, Down, KeeperFailed, OutOfMemory}
+use Rattle.arbiter_core.specs.Recording.{Recorded, Window}
+use Rattle.arbiter_core.specs.Answering.{Answer, Refuses, Sends, Puts, answer_heard}
+use Rattle.arbiter_core.specs.Keeping.{Risen}
+use Rattle.arbiter_core.specs.Setups.{rules_at}
+use Rattle.arbiter_core.specs.Views.{View, spelled_as}
+
+-- what a reading of bytes says to an arbiter of the game with this stamp
+abbrev pub in_game : Stamp → Result Message MessageFault → Result Message DeliverFault
+in_game stamp (Ok message) = cond (bytes_eq (stamp_in message).0 stamp.0) (Ok message) (Err Stranger)
+in_game stamp (Err fault) = Err (NotAMessage fault)
+
+-- what bytes say to it: a message of the game, or why there is none
+abbrev pub heard : Stamp → List ℕ → Result Message DeliverFault
+heard stamp bytes = in_game stamp (heard_in bytes)
+
+-- the answer to what was heard
+abbrev pub answer_of : View → Result Message DeliverFault → Answer
+answer_of old heard = cond old.is_down (Refuses Down) (answer_heard (rules_at old.setup) old.me old.kept old.window heard)
+
+-- these bytes spell the record of an arbiter with this stamp and this delay
+abbrev pub IsSpelled : Stamp → ℕ → Recorded → Option (List ℕ) → Type 0
+IsSpelled stamp delay kept None = ⊥
+IsSpelled stamp delay kept (Some bytes) = SpellsRecord bytes (spelled_as stamp delay kept)
+
+-- these bytes are written of it: version 2 of the record format
+abbrev pub IsWritten : Stamp → ℕ → Recorded → Option (List ℕ) → Type 0
+IsWritten stamp delay kept None = ⊥
+IsWritten stamp delay kept (Some bytes) = WritesRecord bytes (spelled_as stamp delay kept)
+
+-- the keeper keeps the arbiter's record
+abbrev pub Keeps : Option (List ℕ) → View → Type 0
+Keeps bytes v = IsSpelled v.me.stamp v.setup.delay v.kept bytes
+
+-- what a running arbiter has recorded is what is kept
+abbrev pub IsKept : Option (List ℕ) → View → Type 0
+IsKept bytes v = v.is_down ≡ false → Keeps bytes v
+
+abbrev pub downed : View → View
+downed v = record { setup = v.setup; me = v.me; kept = v.kept; window = v.window; is_down = true }
+
+abbrev pub with_window : View → Window → View
+with_window v window = record { setup = v.setup; me = v.me; kept = v.kept; window = window; is_down = v.is_down }
+
+abbrev pub with_record : View → Recorded → Window → View
+with_record v next window = record { setup = v.setup; me = v.me; kept = next; window = window; is_down = v.is_down }
+
+abbrev pub Told : Type 0
+Told = Result (List Message) DeliverFault
+
+-- a put of the next record with this outcome, and what is then answered
+abbrev pub Lands : Keep → View → Recorded → List Message → Window → Option (List ℕ) → Option (List ℕ) → View → Told → Type 0
+Lands Good old next outputs window before now new told = (told ≡ Ok outputs) × (new ≡ with_record old next window) × IsSpelled old.me.stamp old.setup.delay next now
+Lands FailsOld old next outputs window before now new told = (told ≡ Err KeeperFailed) × (new ≡ downed old) × (now ≡ before)
+Lands FailsNew old next outputs window before now new told = (told ≡ Err KeeperFailed) × (new ≡ downed old) × IsSpelled old.me.stamp old.setup.delay next now
+
+-- one put, with an outcome that the keeper stated
+pub record PutsOnce {K : Type 0} (may_be : K → Keep → Type 0) (kept : K → Option (List ℕ)) (faults : K → ℕ) (old : View) (next : Recorded) (outputs : List Message) (window : Window) (before now : K) (new : View) (told : Told) : Type 0 where
+  pub keep : Keep
+  pub stated : may_be before keep
+  pub lands : Lands keep old next outputs window (kept before) (kept now) new told
+  pub written : (kept now ≡ kept before) ⊎ IsWritten old.me.stamp old.setup.delay next (kept now)
+  pub cause : told ≡ Err KeeperFailed → Risen (faults before) (faults now)
+
+-- nothing has changed but to this view, and the answer is this
+pub record Unchanged {K : Type 0} (old : View) (before now : K) (new : View) (told wanted : Told) : Type 0 where
+  pub answer : told ≡ wanted
+  pub arbiter : new ≡ old
+  pub keeper : now ≡ before
+
+-- where the answer is a refusal, or messages without a put; more than four messages may be refused for want of memory
+abbrev pub RefusesOrSends : {K : Type 0} → View → K → K → View → Told → Answer → Type 0
+RefusesOrSends old before now new told (Refuses fault) = Unchanged old before now new told (Err fault)
+RefusesOrSends old before now new told (Sends outputs window) =
+    Unchanged (with_window old window) before now new told (Ok outputs)
+    ⊎ ((4 < length outputs) × Unchanged old before now new told (Err OutOfMemory))
+RefusesOrSends old before now new told (Puts next outputs window) = Unit {0}
+
+-- where the answer is a put: it is made once, or memory was refused before it
+abbrev pub PutsIfAny : {K : Type 0} → (K → Keep → Type 0) → (K → Option (List ℕ)) → (K → ℕ) → View → K → K → View → Told → Answer → Type 0
+PutsIfAny may_be kept faults old before now new told (Refuses fault) = Unit {0}
+PutsIfAny may_be kept faults old before now new told (Sends outputs window) = Unit {0}
+PutsIfAny may_be kept faults old before now new told (Puts next outputs window) =
+    Unchanged old before now new told (Err OutOfMemory) ⊎ PutsOnce may_be kept faults old next outputs window before now new told

@@ -1,0 +1,11 @@
+pub mod Recording
+pub mod Answering
+pub mod Keeping
+pub mod Memory
+pub mod Setups
+pub mod Views
+pub mod Inside
+pub mod Delivers
+pub mod Opens
+pub mod Starting
+pub mod Laws

@@ -1,0 +1,433 @@
+//! A running arbiter.
+
+ghost use Rattle.std.specs.Prelude.{◌≡◌, ◌≢◌, ℕ, ◌+◌, ◌-◌, ◌<◌, ◌≤◌, List, [], ◌∷◌, ◌++◌, length, IfOk, IsErr, cond, Option, Some, None, Result, Ok, Err, true, false};
+ghost use Rattle.std.specs.Result.{result_map_both};
+ghost use Rattle.std.specs.Str.{bytes_eq};
+ghost use Rattle.board_core.specs.ComputedMoves.{position_after};
+ghost use Rattle.judge_core.specs.Games.{position_after_all};
+ghost use Rattle.move_msg.specs.declared.message.Message.{Message};
+ghost use Rattle.move_msg.specs.Numbers.{most_moves};
+ghost use Rattle.move_msg.specs.declared.who.Sender.{Sender};
+ghost use Rattle.arbiter_core.specs.declared.fault.DeliverFault.{DeliverFault};
+ghost use Rattle.arbiter_core.specs.Recording.{advance, count_of};
+ghost use Rattle.arbiter_core.specs.Answering.{Identity, asked, fetched, sent_by, told_of, puts, nothing_waits, answer_to, answer_to_move};
+ghost use Rattle.arbiter_core.specs.Setups.{rules_at, setup_view};
+ghost use Rattle.arbiter_core.specs.Views.{IsSettled};
+ghost use Rattle.arbiter_core.specs.Delivers.{heard, Keeps, IsKept, RefusesOrSends, PutsIfAny, answer_of};
+
+use crate::fault::DeliverFault;
+use crate::keeper::Keeper;
+use crate::planning::plan;
+use crate::setup::Setup;
+use crate::window::{Window, still_waiting, wait_too};
+use board_core::{Move, Position};
+use judge_core::{Standing, Verdict};
+use move_msg::{Count, Message, MoveList, Record, Sender, Stamp, Wanted, Who};
+use smallvec::SmallVec;
+use std::alloc::{AllocError, Global};
+use std::marker::Model;
+
+/// What a delivery sends.
+pub type Outputs = SmallVec<Message, 4>;
+
+/// What is recorded, and where the game stands.
+#[derive(Drop)]
+pub(crate) struct Played {
+    /// The record as it is kept.
+    pub record: Record,
+    /// Where the game stands after its moves.
+    pub standing: Standing,
+}
+
+/// An arbiter that is open: it runs, or it is down.
+#[derive(Drop)]
+pub struct Arbiter<'a> {
+    setup: Setup<'a>,
+    who: Who,
+    played: Played,
+    window: Window,
+    down: bool,
+}
+
+impl<'a> Model for Arbiter<'a> {
+    ghost use Rattle.arbiter_core.specs.Views.{View};
+    ghost use Rattle.arbiter_core.specs.Inside.{view_of, IsInOrder};
+
+    ghost Value = { View };
+
+    ghost view = { view_of };
+
+    ghost invariant = { IsInOrder };
+}
+
+/// Whether two messages or records with these stamps are of one game.
+fn is_same(a: Stamp, b: Stamp) -> bool
+    ensures { result ≡ bytes_eq a.0 b.0 }
+{
+    a == b
+}
+
+/// What an arbiter tells of its record.
+fn tell(alloc: Global, stamp: Stamp, who: Who, count: Count, verdict: Option<Verdict>) -> Outputs
+    ensures { result.items ≡ told_of (record { stamp = stamp; who = who }) count verdict }
+{
+    let mut outputs = SmallVec::new(alloc);
+    outputs.push_reserved(Message::Ack { stamp, who, count });
+    if let Some(verdict) = verdict {
+        outputs.push_reserved(Message::Verdict {
+            stamp,
+            who,
+            ply: count,
+            verdict,
+        });
+    }
+    outputs
+}
+
+/// These moves as messages of an arbiter, the first with this number.
+fn relayed(
+    alloc: Global,
+    stamp: Stamp,
+    who: Who,
+    number: u32,
+    moves: &[Move],
+) -> Result<Outputs, AllocError>
+    requires few { length moves.now ≤ 8 }
+    requires in_range { number ≤ 4096 }
+    ensures ok { IfOk result (λ o. o.items ≡ sent_by stamp (Sender.Arbiter who) number moves.now) }
+    ensures inline { IsErr result → 4 < length moves.now }
+{
+    let mut outputs = SmallVec::new(alloc);
+    for i in 0..moves.len() {
+        let message = Message::Move {
+            stamp,
+            sender: Sender::Arbiter(who),
+            number: number + i as u32,
+            m: moves[i],
+        };
+        let Ok(()) = outputs.push(message) else {
+            return Err(AllocError);
+        };
+    }
+    Ok(outputs)
+}
+
+/// The same; the error comes only where there are more than four messages.
+fn sent(
+    alloc: Global,
+    stamp: Stamp,
+    who: Who,
+    number: u32,
+    moves: &[Move],
+) -> Result<Outputs, AllocError>
+    requires few { length moves.now ≤ 8 }
+    requires in_range { number ≤ 4096 }
+    ensures ok { IfOk result (λ o. o.items ≡ sent_by stamp (Sender.Arbiter who) number moves.now) }
+    ensures inline { IsErr result → 4 < length (sent_by stamp (Sender.Arbiter who) number moves.now) }
+{
+    relayed(alloc, stamp, who, number, moves)
+}
+
+impl<'a> Arbiter<'a> {
+    /// Plays a legal move and what waits behind it, and has the record kept.
+    fn go_on<K: Keeper>(
+        &mut self,
+        alloc: Global,
+        keeper: &mut K,
+        m: &Move,
+        position: &Position,
+    ) -> Result<Outputs, DeliverFault>
+        requires unruled { self.old.kept.verdict ≡ None }
+        requires legal { position_after_all self.old.setup.start (self.old.kept.moves ++ m.now ∷ []) ≡ Some position.now }
+        requires short { length self.old.kept.moves < most_moves }
+        requires keeps { Keeps (K.kept keeper.old) self.old }
+        ensures { PutsIfAny K.may_be K.kept K.faults self.old keeper.old keeper.new self.new (result_map_both (λ o. o.items) (λ e. e) result) (puts self.old.me self.old.kept self.old.window (advance (rules_at self.old.setup) self.old.kept.moves m.now self.old.window)) }
+    {
+        let count = self.played.record.moves.as_slice().len();
+        let Ok(next) = plan(
+            alloc,
+            &mut self.setup,
+            self.played.record.moves.as_slice(),
+            *m,
+            &self.played.standing,
+            *position,
+            &self.window,
+        ) else {
+            return Err(DeliverFault::OutOfMemory);
+        };
+        let more = next.moves.len() - count;
+        let played = Played {
+            record: Record {
+                stamp: self.played.record.stamp,
+                delay: self.played.record.delay,
+                verdict: next.verdict,
+                moves: MoveList::from_vec(next.moves),
+            },
+            standing: next.standing,
+        };
+        let Ok(bytes) = played.record.encode(alloc) else {
+            return Err(DeliverFault::OutOfMemory);
+        };
+        let outputs = tell(
+            alloc,
+            played.record.stamp,
+            self.who,
+            played.record.moves.count(),
+            played.record.verdict,
+        );
+        let window = if played.record.verdict.is_some() {
+            [None; 31]
+        } else {
+            still_waiting(&self.window, more)
+        };
+        match keeper.put(&bytes) {
+            Ok(()) => {
+                self.played = played;
+                self.window = window;
+                Ok(outputs)
+            }
+            Err(_) => {
+                self.down = true;
+                Err(DeliverFault::KeeperFailed)
+            }
+        }
+    }
+
+    /// The position after the recorded moves and one more; none where that isn't legal.
+    fn position_after(&self, m: Move) -> Option<Position>
+        ensures { result ≡ position_after_all self.now.setup.start (self.now.kept.moves ++ m ∷ []) }
+    {
+        self.played.standing.position().play(m)
+    }
+
+    /// Answers a move.
+    fn take_move<K: Keeper>(
+        &mut self,
+        alloc: Global,
+        keeper: &mut K,
+        number: u32,
+        m: &Move,
+    ) -> Result<Outputs, DeliverFault>
+        requires { Keeps (K.kept keeper.old) self.old }
+        ensures answered { RefusesOrSends self.old keeper.old keeper.new self.new (result_map_both (λ o. o.items) (λ e. e) result) (answer_to_move (rules_at self.old.setup) self.old.me self.old.kept self.old.window number m.now) }
+        ensures put { PutsIfAny K.may_be K.kept K.faults self.old keeper.old keeper.new self.new (result_map_both (λ o. o.items) (λ e. e) result) (answer_to_move (rules_at self.old.setup) self.old.me self.old.kept self.old.window number m.now) }
+    {
+        if number >= 4096 {
+            return Err(DeliverFault::TooLong);
+        }
+        let count = self.played.record.moves.count();
+        if self.played.record.verdict.is_some() || number < count.number() {
+            return Ok(tell(
+                alloc,
+                self.played.record.stamp,
+                self.who,
+                count,
+                self.played.record.verdict,
+            ));
+        }
+        if number >= count.number() + 32 {
+            return Err(DeliverFault::TooFarAhead);
+        }
+        if number > count.number() {
+            wait_too(&mut self.window, (number - count.number() - 1) as usize, *m);
+            return Ok(tell(alloc, self.played.record.stamp, self.who, count, None));
+        }
+        let Some(position) = self.position_after(*m) else {
+            return Err(DeliverFault::IllegalMove);
+        };
+        self.go_on(alloc, keeper, m, &position)
+    }
+
+    /// The message of this arbiter's game that bytes spell, or why there is none.
+    fn hear(&self, bytes: &[u8]) -> Result<Message, DeliverFault>
+        ensures { result ≡ heard self.now.me.stamp bytes.now }
+    {
+        match Message::decode(bytes) {
+            Ok(message) => {
+                if is_same(message.stamp(), self.played.record.stamp) {
+                    Ok(message)
+                } else {
+                    Err(DeliverFault::Stranger)
+                }
+            }
+            Err(fault) => Err(DeliverFault::NotAMessage(fault)),
+        }
+    }
+
+    /// The recorded moves from this number on, so many at most, as messages of this arbiter. The error comes only where
+    /// there are more than four, and memory for them is refused.
+    fn fetched(&self, alloc: Global, number: Count, wanted: Wanted) -> Result<Outputs, AllocError>
+        ensures ok { IfOk result (λ o. o.items ≡ fetched self.now.me self.now.kept number wanted) }
+        ensures inline { IsErr result → 4 < length (fetched self.now.me self.now.kept number wanted) }
+    {
+        let moves = self.played.record.moves.as_slice();
+        let first = (number.number() as usize).min(moves.len());
+        let last = (first + wanted.number() as usize).min(moves.len());
+        sent(
+            alloc,
+            self.played.record.stamp,
+            self.who,
+            number.number(),
+            &moves[first..last],
+        )
+    }
+
+    /// What the arbiter asks the other for: moves from its count on. None where it is down, has a verdict or has room for no
+    /// more moves.
+    pub fn ask(&self) -> Option<Message>
+        ensures { result ≡ cond self.now.is_down None (asked self.now.me self.now.kept) }
+    {
+        let count = self.played.record.moves.count();
+        if self.down || self.played.record.verdict.is_some() || count.number() >= 4096 {
+            return None;
+        }
+        Some(Message::Fetch {
+            stamp: self.played.record.stamp,
+            who: self.who,
+            number: count,
+            wanted: Wanted::most(),
+        })
+    }
+
+    /// Answers a message.
+    fn answer<K: Keeper>(
+        &mut self,
+        alloc: Global,
+        keeper: &mut K,
+        message: &Message,
+    ) -> Result<Outputs, DeliverFault>
+        requires { Keeps (K.kept keeper.old) self.old }
+        ensures answered { RefusesOrSends self.old keeper.old keeper.new self.new (result_map_both (λ o. o.items) (λ e. e) result) (answer_to (rules_at self.old.setup) self.old.me self.old.kept self.old.window message.now) }
+        ensures put { PutsIfAny K.may_be K.kept K.faults self.old keeper.old keeper.new self.new (result_map_both (λ o. o.items) (λ e. e) result) (answer_to (rules_at self.old.setup) self.old.me self.old.kept self.old.window message.now) }
+    {
+        match *message {
+            Message::Move { number, m, .. } => self.take_move(alloc, keeper, number, &m),
+            Message::Ack { .. } => Ok(SmallVec::new(alloc)),
+            Message::Verdict { .. } => Ok(SmallVec::new(alloc)),
+            Message::Fetch { number, wanted, .. } => match self.fetched(alloc, number, wanted) {
+                Ok(outputs) => Ok(outputs),
+                Err(_) => Err(DeliverFault::OutOfMemory),
+            },
+        }
+    }
+
+    /// Answers a datagram: what `deliver` does.
+    fn respond<K: Keeper>(
+        &mut self,
+        alloc: Global,
+        keeper: &mut K,
+        bytes: &[u8],
+    ) -> Result<Outputs, DeliverFault>
+        requires { IsKept (K.kept keeper.old) self.old }
+        ensures answered { RefusesOrSends self.old keeper.old keeper.new self.new (result_map_both (λ o. o.items) (λ e. e) result) (answer_of self.old (heard self.old.me.stamp bytes.now)) }
+        ensures put { PutsIfAny K.may_be K.kept K.faults self.old keeper.old keeper.new self.new (result_map_both (λ o. o.items) (λ e. e) result) (answer_of self.old (heard self.old.me.stamp bytes.now)) }
+    {
+        let heard = self.hear(bytes);
+        if self.down {
+            return Err(DeliverFault::Down);
+        }
+        match heard {
+            Ok(message) => self.answer(alloc, keeper, &message),
+            Err(fault) => Err(fault),
+        }
+    }
+
+    /// Hears a datagram, and answers with the messages to be sent. With k the count of recorded moves, in this order:
+    ///
+    /// 1. An arbiter that is down answers `Down`.
+    /// 2. Bytes that spell no message are `NotAMessage`, a message of another game is `Stranger`.
+    /// 3. An `Ack` or a `Verdict` changes nothing, and nothing is sent. A `Fetch` is answered with the recorded moves from its
+    ///    number on, as many as it wants and there are, as messages of this arbiter; nothing changes.
+    /// 4. A `Move` of number 4096 or more is `TooLong`.
+    /// 5. Where a verdict is recorded or the number is below k, the count and the verdict, if any, are told; the move isn't
+    ///    looked at.
+    /// 6. A number of k + 32 or more is `TooFarAhead`.
+    /// 7. A move with a number above k waits, unless one waits there already; the count is told.
+    /// 8. The move with number k is `IllegalMove` where it isn't legal. Otherwise it is played, and then the moves that wait
+    ///    behind it without a gap, until there is a verdict; one that isn't legal in its turn is dropped and ends the run. The
+    ///    record is put once. Where that succeeds the new count and the verdict, if any, are told, and at a verdict nothing waits
+    ///    any more. Otherwise it is `KeeperFailed`: the arbiter is down, and its readers tell the record from before.
+    ///
+    /// `OutOfMemory` comes only in case 8, before the put, and for a `Fetch` that is answered by more than four moves. It leaves
+    /// the keeper and all of the arbiter but its cache as before, and so does each refusal but `KeeperFailed`. That the keeper
+    /// keeps this arbiter's record, as `open` and each answer but `KeeperFailed` leave it, is the caller's condition.
+    pub fn deliver<K: Keeper>(
+        &mut self,
+        alloc: Global,
+        keeper: &mut K,
+        bytes: &[u8],
+    ) -> Result<Outputs, DeliverFault>
+        // A running arbiter's record is the one that the keeper keeps.
+        requires { IsKept (K.kept keeper.old) self.old }
+
+        // A refusal leaves arbiter and keeper as they were, and so does what is sent without a put, but for the window.
+        ensures answered { RefusesOrSends self.old keeper.old keeper.new self.new (result_map_both (λ o. o.items) (λ e. e) result) (answer_of self.old (heard self.old.me.stamp bytes.now)) }
+
+        // A record to be put is put once, with an outcome that the keeper states, or memory was refused before it.
+        ensures put { PutsIfAny K.may_be K.kept K.faults self.old keeper.old keeper.new self.new (result_map_both (λ o. o.items) (λ e. e) result) (answer_of self.old (heard self.old.me.stamp bytes.now)) }
+
+        // So it is afterwards.
+        ensures keeps { IsKept (K.kept keeper.new) self.new }
+    {
+        self.respond(alloc, keeper, bytes)
+    }
+
+    /// Gives back what the arbiter was opened from.
+    pub fn close(self) -> Setup<'a>
+        ensures { setup_view result ≡ self.entry.setup }
+    {
+        let Arbiter {
+            setup,
+            who: _,
+            played: _,
+            window: _,
+            down: _,
+        } = self;
+        setup
+    }
+
+    /// The moves that are recorded.
+    pub fn moves(&self) -> &[Move]
+        ensures moves { result.now ≡ self.now.kept.moves }
+        ensures few { length result.now ≤ most_moves }
+    {
+        self.played.record.moves.as_slice()
+    }
+
+    /// How many moves are recorded.
+    pub fn count(&self) -> u32
+        ensures is { result ≡ count_of self.now.kept }
+        ensures few { result ≤ most_moves }
+    {
+        self.played.record.moves.as_slice().len() as u32
+    }
+
+    /// The verdict that is recorded.
+    pub fn verdict(&self) -> Option<Verdict>
+        ensures { result ≡ self.now.kept.verdict }
+    {
+        self.played.record.verdict
+    }
+
+    /// Whether the keeper has failed; then the arbiter is to be closed and opened again.
+    pub fn is_down(&self) -> bool
+        ensures { result ≡ self.now.is_down }
+    {
+        self.down
+    }
+
+    /// An arbiter that runs from this record.
+    pub(crate) fn running(setup: Setup<'a>, who: Who, played: Played) -> Arbiter<'a>
+        requires settled { IsSettled (setup_view setup) (record { moves = played.record.moves; verdict = played.record.verdict }) played.standing nothing_waits }
+        requires delay { played.record.delay ≡ setup.delay }
+        ensures { result ≡ record { setup = setup_view setup.entry; me = record { stamp = played.record.stamp; who = who }; kept = record { moves = played.record.moves; verdict = played.record.verdict }; window = nothing_waits; is_down = false } }
+    {
+        Arbiter {
+            setup,
+            who,
+            played,
+            window: [None; 31],
+            down: false,
+        }
+    }
+}

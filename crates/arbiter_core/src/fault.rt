@@ -1,0 +1,40 @@
+//! Why an arbiter refuses.
+
+use move_msg::MessageFault;
+
+/// Why a delivery is refused; `Arbiter::deliver` has the order.
+#[derive(Clone, Copy, PartialEq, Eq, Debug)]
+pub enum DeliverFault {
+    /// The bytes are no message.
+    NotAMessage(MessageFault),
+    /// The message is of another game.
+    Stranger,
+    /// The move isn't legal in its turn.
+    IllegalMove,
+    /// The move comes 32 numbers or more before its turn.
+    TooFarAhead,
+    /// The move's number is 4096 or more.
+    TooLong,
+    /// The keeper failed to keep the new record.
+    KeeperFailed,
+    /// The keeper failed before; close the arbiter and open it again.
+    Down,
+    /// Memory was refused.
+    OutOfMemory,
+}
+
+/// Why an arbiter can't be opened, in the order in which it is told; want of memory is told where it comes.
+#[derive(Clone, Copy, PartialEq, Eq, Debug)]
+pub enum OpenFault {
+    /// The name is none of a game, the number is none of an arbiter, or the delay is above 8.
+    BadSetup,
+    /// The keeper failed.
+    KeeperFailed,
+    /// What is kept is no record, or its moves aren't legal in turn, or its verdict isn't the first one of its moves, at the last
+    /// of them.
+    BadRecord,
+    /// What is kept is a record of another game, or of one with another delay.
+    OtherStamp,
+    /// Memory was refused.
+    OutOfMemory,
+}

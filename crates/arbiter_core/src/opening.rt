@@ -1,0 +1,209 @@
+//! How an arbiter is opened.
+
+ghost use Rattle.std.specs.Prelude.{◌≡◌, ℕ, ◌≤◌, List, [], length, IfOk, IfErr, IsErr, IsTrue, ◌↔◌, IfSome, IfNone, Option, Some, None, Result, Ok, Err};
+ghost use Rattle.arbiter_core.specs.Setups.{setup_view, rules_at, IsGood, IsIdentity};
+ghost use Rattle.std.specs.Result.{result_map_both};
+ghost use Rattle.move_msg.specs.declared.who.Who.{Who};
+ghost use Rattle.arbiter_core.specs.Answering.{Identity};
+ghost use Rattle.arbiter_core.specs.Opens.{Opens, IsResumed, IsBadKept, at_end, first_record};
+ghost use Rattle.arbiter_core.specs.Delivers.{IsKept};
+ghost use Rattle.arbiter_core.specs.Starting.{IsPlayed, IsPutFirst, told_from};
+
+use crate::arbiter::{Arbiter, Played};
+use crate::fault::OpenFault;
+use crate::keeper::{KeepFault, Keeper};
+use crate::setup::Setup;
+use judge_core::{GameOutcome, Verdict};
+use move_msg::{MoveList, Record, RecordFault, Stamp, Who};
+use std::alloc::{AllocError, Global};
+
+/// Why an arbiter was not opened, and the setup as it was handed in.
+#[derive(Drop)]
+pub struct Refused<'a> {
+    /// Why.
+    pub fault: OpenFault,
+    /// The setup.
+    pub setup: Setup<'a>,
+}
+
+/// Who an arbiter is by its setup; none where the setup is bad.
+fn identify(setup: &Setup<'_>) -> Option<(Stamp, Who)>
+    ensures some { IfSome result (λ me. IsGood (setup_view setup.now) × IsIdentity (setup_view setup.now) (record { stamp = me.0; who = me.1 })) }
+    ensures none { IfNone result (IsGood (setup_view setup.now) → ⊥) }
+{
+    if setup.delay > 8 {
+        return None;
+    }
+    let Some(who) = Who::of_number(setup.me) else {
+        return None;
+    };
+    let Some(stamp) = Stamp::of(setup.name, &setup.start, setup.manifest, setup.delay) else {
+        return None;
+    };
+    Some((stamp, who))
+}
+
+/// The verdict at the last ply of a game of so many moves; none where the game doesn't get there.
+fn at_end(outcome: GameOutcome, count: usize) -> Option<Option<Verdict>>
+    ensures { result ≡ at_end outcome count }
+{
+    match outcome {
+        GameOutcome::Ruled { ply, verdict } => {
+            if ply == count {
+                Some(Some(verdict))
+            } else {
+                None
+            }
+        }
+        GameOutcome::Illegal { .. } => None,
+        GameOutcome::Going => Some(None),
+    }
+}
+
+/// Whether a record is of the game with this stamp, judged with this delay.
+fn is_of_game(record: &Record, stamp: Stamp, delay: u8) -> bool
+    ensures { IsTrue result ↔ ((record.now.stamp ≡ stamp) × (record.now.delay ≡ delay)) }
+{
+    record.stamp == stamp && record.delay == delay
+}
+
+/// Whether two verdicts are one, or both none.
+fn is_same(a: Option<Verdict>, b: Option<Verdict>) -> bool
+    ensures { IsTrue result ↔ (a ≡ b) }
+{
+    a == b
+}
+
+/// What is recorded by kept bytes, if they are a record of this game.
+fn resume(
+    alloc: Global,
+    setup: &mut Setup<'_>,
+    stamp: Stamp,
+    bytes: &[u8],
+) -> Result<Played, OpenFault>
+    requires { setup.old.delay ≤ 8 }
+    ensures same { setup.new ≡ setup.old }
+    ensures ok { IfOk result (λ p. IsPlayed (setup_view setup.old) stamp p × IsResumed (rules_at (setup_view setup.old)) stamp bytes.now (record { moves = p.record.moves; verdict = p.record.verdict })) }
+    ensures err { IfErr result (IsBadKept (rules_at (setup_view setup.old)) stamp bytes.now) }
+{
+    let record = match Record::decode(alloc, bytes) {
+        Ok(record) => record,
+        Err(fault) => {
+            return match fault {
+                RecordFault::OutOfMemory => Err(OpenFault::OutOfMemory),
+                _ => Err(OpenFault::BadRecord),
+            };
+        }
+    };
+    if !is_of_game(&record, stamp, setup.delay) {
+        return Err(OpenFault::OtherStamp);
+    }
+    let moves = record.moves.as_slice();
+    let Ok(followed) = setup.set.follow(alloc, &setup.start, moves, setup.delay) else {
+        return Err(OpenFault::OutOfMemory);
+    };
+    let Some(verdict) = at_end(followed.outcome, moves.len()) else {
+        return Err(OpenFault::BadRecord);
+    };
+    if !is_same(record.verdict, verdict) {
+        return Err(OpenFault::BadRecord);
+    }
+    Ok(Played {
+        record,
+        standing: followed.standing,
+    })
+}
+
+/// What is recorded before the first move.
+fn first(alloc: Global, setup: &mut Setup<'_>, stamp: Stamp) -> Result<Played, AllocError>
+    requires { setup.old.delay ≤ 8 }
+    ensures same { setup.new ≡ setup.old }
+    ensures ok { IfOk result (λ p. IsPlayed (setup_view setup.old) stamp p × (record { moves = p.record.moves; verdict = p.record.verdict } ≡ first_record (rules_at (setup_view setup.old)))) }
+{
+    let standing = setup.set.begin(alloc, &setup.start)?;
+    let verdict = standing.verdict(setup.delay);
+    let record = Record {
+        stamp,
+        delay: setup.delay,
+        verdict,
+        moves: MoveList::from_vec(Vec::new(alloc)),
+    };
+    Ok(Played { record, standing })
+}
+
+/// Has the first record kept.
+fn put_first<K: Keeper>(
+    alloc: Global,
+    keeper: &mut K,
+    setup: &mut Setup<'_>,
+    stamp: Stamp,
+) -> Result<Played, OpenFault>
+    requires { setup.old.delay ≤ 8 }
+    ensures same { setup.new ≡ setup.old }
+    ensures put { (who : Who) → IsPutFirst K.may_be K.kept K.faults (setup_view setup.old) (record { stamp = stamp; who = who }) keeper.old keeper.new result }
+{
+    let Ok(played) = first(alloc, setup, stamp) else {
+        return Err(OpenFault::OutOfMemory);
+    };
+    let Ok(bytes) = played.record.encode(alloc) else {
+        return Err(OpenFault::OutOfMemory);
+    };
+    match keeper.put(&bytes) {
+        Ok(()) => Ok(played),
+        Err(_) => Err(OpenFault::KeeperFailed),
+    }
+}
+
+/// What is recorded over what is kept.
+fn recorded<K: Keeper>(
+    alloc: Global,
+    keeper: &mut K,
+    setup: &mut Setup<'_>,
+    stamp: Stamp,
+) -> Result<Played, OpenFault>
+    requires { setup.old.delay ≤ 8 }
+    ensures same { setup.new ≡ setup.old }
+    ensures played { IfOk result (IsPlayed (setup_view setup.old) stamp) }
+    ensures opens { (who : Who) → Opens K.may_be K.kept K.faults K.get_may_fail (setup_view setup.old) (record { stamp = stamp; who = who }) keeper.old keeper.new (told_from (setup_view setup.old) (record { stamp = stamp; who = who }) result) }
+{
+    match keeper.get(alloc) {
+        Ok(Some(bytes)) => resume(alloc, setup, stamp, &bytes),
+        Ok(None) => put_first(alloc, keeper, setup, stamp),
+        Err(KeepFault::Failed) => Err(OpenFault::KeeperFailed),
+        Err(KeepFault::OutOfMemory) => Err(OpenFault::OutOfMemory),
+    }
+}
+
+impl<'a> Arbiter<'a> {
+    /// Opens an arbiter over what is kept: it runs from a kept record of this game, and where nothing is kept it has the record
+    /// before the first move kept first.
+    ///
+    /// In this order: `BadSetup` where the name is none of a game, the number none of an arbiter or the delay above 8;
+    /// `KeeperFailed` where the get failed; over something kept `BadRecord` where it is no record, `OtherStamp` where its stamp or
+    /// its delay is another, `BadRecord` where its moves aren't legal in turn, or its verdict is not the first one of its moves at
+    /// the last of them; over nothing kept `KeeperFailed` where the put failed. `OutOfMemory` comes where memory was refused, and
+    /// before a put. Over a kept record, of either version, nothing is put. A refusal hands the setup back, but for its cache.
+    pub fn open<K: Keeper>(
+        alloc: Global,
+        keeper: &mut K,
+        setup: Setup<'a>,
+    ) -> Result<Arbiter<'a>, Refused<'a>>
+        ensures back { IfErr result (λ r. setup_view r.setup ≡ setup_view setup.entry) }
+        ensures bad { (IsGood (setup_view setup.entry) → ⊥) → IfErr result (λ r. r.fault ≡ OpenFault.BadSetup) × IsErr result × (keeper.new ≡ keeper.old) }
+        // What a running arbiter has recorded is what is kept.
+        ensures keeps { IfOk result (λ a. IsKept (K.kept keeper.new) a) }
+        ensures good { IsGood (setup_view setup.entry) → (me : Identity) × IsIdentity (setup_view setup.entry) me × Opens K.may_be K.kept K.faults K.get_may_fail (setup_view setup.entry) me keeper.old keeper.new (result_map_both (λ a. a) (λ r. r.fault) result) }
+    {
+        let Some((stamp, who)) = identify(&setup) else {
+            return Err(Refused {
+                fault: OpenFault::BadSetup,
+                setup,
+            });
+        };
+        let mut setup = setup;
+        match recorded(alloc, keeper, &mut setup, stamp) {
+            Ok(played) => Ok(Arbiter::running(setup, who, played)),
+            Err(fault) => Err(Refused { fault, setup }),
+        }
+    }
+}
