@@ -22,7 +22,6 @@ use Rattle.judge_core.specs.Tables.{Tables}
 use Rattle.board_core.specs.declared.verdict.Verdict.{Verdict}
 use Rattle.move_msg.specs.declared.message.Message.{Message}
 use Rattle.move_msg.specs.declared.message.Message.TheVariants as message
-use Rattle.move_msg.specs.declared.who.Sender.TheVariants.{Source}
 use Rattle.move_msg.specs.Senders.{who_number, sender_number}
 use Rattle.board_core.specs.Verdicts.{verdict_name}
 use Rattle.move_msg.specs.Messages.{fault_name as message_fault_name}
@@ -142,11 +141,13 @@ moves_lines p = map move_text (legal_moves p)
 
 -- show: a line a message: what it is, its sender's number, its number, and the move or the verdict
 abbrev pub message_line : Message → List ℕ
-message_line (message.Move stamp number m) =
-    codes "Move " ++ decimal (sender_number Source) ++ codes " " ++ decimal number ++ codes " " ++ move_text m
+message_line (message.Move stamp sender number m) =
+    codes "Move " ++ decimal (sender_number sender) ++ codes " " ++ decimal number ++ codes " " ++ move_text m
 message_line (message.Ack stamp who count) = codes "Ack " ++ decimal (who_number who) ++ codes " " ++ decimal count
 message_line (message.Verdict stamp who ply verdict) =
     codes "Verdict " ++ decimal (who_number who) ++ codes " " ++ decimal ply ++ codes " " ++ verdict_name verdict
+message_line (message.Fetch stamp who number wanted) =
+    codes "Fetch " ++ decimal (who_number who) ++ codes " " ++ decimal number ++ codes " " ++ decimal wanted
 
 -- the refusal of a message by its number, the first being 1
 abbrev pub refused_message : ℕ → List ℕ → List ℕ

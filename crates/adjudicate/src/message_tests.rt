@@ -4,7 +4,7 @@ use crate::commands::Task;
 use crate::fixtures::*;
 use crate::tests::NoDisk;
 use fen_text::read_move;
-use move_msg::{Count, Message, Stamp, Verdict, Who};
+use move_msg::{Count, Message, Sender, Stamp, Verdict, Wanted, Who};
 use std::alloc::Global;
 use std::io::{self, Read};
 use std::test::*;
@@ -15,6 +15,7 @@ const STAMP: Stamp = Stamp([7; 16]);
 fn first_move() -> Option<Message> {
     Some(Message::Move {
         stamp: STAMP,
+        sender: Sender::Source,
         number: 0,
         m: read_move(b"e2e4")?,
     })

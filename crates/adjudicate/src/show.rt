@@ -56,6 +56,22 @@ fn put_told_verdict<W: Write>(
     }
 }
 
+/// Writes the line of moves that are asked for.
+fn put_told_fetch<W: Write>(
+    out: &mut W,
+    sender: u8,
+    number: u32,
+    wanted: u8,
+) -> Result<(), Stop>
+    ensures ok { OnOk result (Appends (W.contents out.old) (W.contents out.new) ((codes "Fetch " ++ decimal sender ++ codes " " ++ decimal number ++ codes " " ++ decimal wanted) ++ 10 ∷ [])) }
+    ensures io { IfErr result (λ stop. stop ≡ Stop.Io) }
+{
+    match writeln!(out, "Fetch {sender} {number} {wanted}") {
+        Ok(()) => Ok(()),
+        Err(_) => Err(Stop::Io),
+    }
+}
+
 /// Writes the line of a message.
 fn put_message<W: Write>(out: &mut W, message: &Message) -> Result<(), Stop>
     ensures ok { OnOk result (Appends (W.contents out.old) (W.contents out.new) (message_line message.now ++ 10 ∷ [])) }
@@ -67,6 +83,9 @@ fn put_message<W: Write>(out: &mut W, message: &Message) -> Result<(), Stop>
         Message::Ack { count, .. } => put_told_count(out, sender, count.number()),
         Message::Verdict { ply, verdict, .. } => {
             put_told_verdict(out, sender, ply.number(), verdict)
+        }
+        Message::Fetch { number, wanted, .. } => {
+            put_told_fetch(out, sender, number.number(), wanted.number())
         }
     }
 }

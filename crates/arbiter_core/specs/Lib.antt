@@ -1,3 +1,4 @@
+pub mod Faults
 pub mod Recording
 pub mod Answering
 pub mod Keeping

@@ -1,5 +1,8 @@
 //! Why an arbiter refuses.
 
+ghost use Rattle.std.specs.Prelude.{◌≡◌};
+ghost use Rattle.arbiter_core.specs.Faults.{deliver_fault_name, open_fault_name};
+
 use move_msg::MessageFault;
 
 /// Why a delivery is refused; `Arbiter::deliver` has the order.
@@ -23,6 +26,24 @@ pub enum DeliverFault {
     OutOfMemory,
 }
 
+impl DeliverFault {
+    /// The name of the fault, for printing; of `NotAMessage` without the fault of the bytes.
+    pub fn name(self) -> &'static str
+        ensures { result.now ≡ deliver_fault_name self }
+    {
+        match self {
+            DeliverFault::NotAMessage(_) => "NotAMessage",
+            DeliverFault::Stranger => "Stranger",
+            DeliverFault::IllegalMove => "IllegalMove",
+            DeliverFault::TooFarAhead => "TooFarAhead",
+            DeliverFault::TooLong => "TooLong",
+            DeliverFault::KeeperFailed => "KeeperFailed",
+            DeliverFault::Down => "Down",
+            DeliverFault::OutOfMemory => "OutOfMemory",
+        }
+    }
+}
+
 /// Why an arbiter can't be opened, in the order in which it is told; want of memory is told where it comes.
 #[derive(Clone, Copy, PartialEq, Eq, Debug)]
 pub enum OpenFault {
@@ -37,4 +58,19 @@ pub enum OpenFault {
     OtherStamp,
     /// Memory was refused.
     OutOfMemory,
+}
+
+impl OpenFault {
+    /// The name of the fault, for printing.
+    pub fn name(self) -> &'static str
+        ensures { result.now ≡ open_fault_name self }
+    {
+        match self {
+            OpenFault::BadSetup => "BadSetup",
+            OpenFault::KeeperFailed => "KeeperFailed",
+            OpenFault::BadRecord => "BadRecord",
+            OpenFault::OtherStamp => "OtherStamp",
+            OpenFault::OutOfMemory => "OutOfMemory",
+        }
+    }
 }

@@ -61,10 +61,10 @@ fn at_end(outcome: GameOutcome, count: usize) -> Option<Option<Verdict>>
 }
 
 /// Whether a record is of the game with this stamp, judged with this delay.
-fn is_of_game(record: &Record, stamp: Stamp, delay: u8) -> bool
-    ensures { IsTrue result ↔ ((record.now.stamp ≡ stamp) × (record.now.delay ≡ delay)) }
+fn is_of_game(kept: &Record, stamp: Stamp, delay: u8) -> bool
+    ensures { IsTrue result ↔ ((kept.now.stamp ≡ stamp) × (kept.now.delay ≡ delay)) }
 {
-    record.stamp == stamp && record.delay == delay
+    kept.stamp == stamp && kept.delay == delay
 }
 
 /// Whether two verdicts are one, or both none.

@@ -136,7 +136,7 @@ seen_as men by to King from a = inl (stepped men by to King from a a.2)
 pub seen : (men : List (Option Piece)) (by : Side) (to : ℕ) → IsAttacked men by to → Seen men by to
 seen men by to h = seen_as men by to h.kind h.from (h.on_board, h.stands, h.reaches)
 
-along_unique : (d : Direction) (n from a b : ℕ) → Along d n from a → Along d n from b → a ≡ b
+pub along_unique : (d : Direction) (n from a b : ℕ) → Along d n from a → Along d n from b → a ≡ b
 along_unique North n from a b h i = omega arith
 along_unique South n from a b h i = omega arith
 along_unique East n from a b h i = omega arith

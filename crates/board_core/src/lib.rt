@@ -4,7 +4,7 @@
 //! `specs/` states them as relations over a map from squares to men. Squares are numbered a1 = 0,
 //! b1 = 1, .. h1 = 7, a2 = 8, .. h8 = 63.
 //!
-//! Its tests stand in `fen_text`.
+//! Its tests stand in `checks`.
 #![tactic(auto)]
 
 mod attack;

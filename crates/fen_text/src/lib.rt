@@ -18,8 +18,3 @@ pub use coordinates::{read_move, write_move};
 pub use fault::FenFault;
 pub use reading::read;
 pub use writing::write;
-
-#[cfg(test)]
-mod board_tests;
-#[cfg(test)]
-mod tests;

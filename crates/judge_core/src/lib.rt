@@ -28,18 +28,3 @@ pub use game::{Followed, GameOutcome};
 pub use set::Set;
 pub use standing::Standing;
 pub use wdl::Wdl;
-
-#[cfg(test)]
-mod boards;
-#[cfg(test)]
-mod forge_tests;
-#[cfg(test)]
-mod forged;
-#[cfg(test)]
-mod index_tests;
-#[cfg(test)]
-mod seeded;
-#[cfg(test)]
-mod table_tests;
-#[cfg(test)]
-mod tests;

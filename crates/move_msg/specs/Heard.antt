@@ -1,5 +1,5 @@
 -- The message that bytes spell, computed (message format, versions 1 and 2).
-use Rattle.std.specs.Prelude.{◌≡◌, ◌*◌, ◌/◌, ◌%◌, ◌==◌, ◌&&◌, ◌||◌, if◌then◌else◌, nat_le, ℕ, Bool, List, [], ◌∷◌, Option, Some, None, Result, Ok, Err, length, take, drop, slice_index, find, option_map, option_and_then}
+use Rattle.std.specs.Prelude.{◌/◌, ◌%◌, ◌==◌, ◌&&◌, ◌||◌, if◌then◌else◌, nat_le, ℕ, Bool, List, [], ◌∷◌, Option, Some, None, Result, Err, length, take, drop, slice_index, find, option_map, option_and_then}
 use Rattle.std.specs.Option.{ok_or}
 use Rattle.std.specs.Int.{w16, w32, from_be_bytes}
 use Rattle.board_core.specs.declared.piece.Promotion.{Promotion}

@@ -31,6 +31,3 @@ pub use stamp::{Stamp, is_game_name};
 pub use table_name::is_file_name;
 pub use who::{Sender, Who};
 pub use words::{of_word, word};
-
-#[cfg(test)]
-mod tests;

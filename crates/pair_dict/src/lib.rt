@@ -11,8 +11,6 @@ mod fault;
 mod laws;
 mod layout;
 mod symbols;
-#[cfg(test)]
-mod tests;
 mod window;
 mod words;
 

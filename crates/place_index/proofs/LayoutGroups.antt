@@ -1,13 +1,14 @@
 -- The groups of a shape by its kind of leading group: pawns, three men, two kings.
 use Rattle.std.proofs.Common.{◌≡◌, ◌≢◌, ℕ, zero, suc, ◌+◌, ◌<◌, ◌≤◌, ◌⊎◌, Bool, true, false, eqb, List, [], ◌∷◌, ◌++◌, length, take, drop, get_or, refl, sym, ap, ◌∙◌, subst, inl, inr, arith}
 use Rattle.std.specs.Prelude.{◌&&◌}
-use Rattle.std.proofs.lemmas.Bool.{cases_Bool, eqb-true, or_cases, not-false, false≢true, agree_below_at}
-use Rattle.place_index.specs.Material.{men_of, pieces_of, count_of, white_pawns, black_pawns}
+use Rattle.std.proofs.lemmas.Bool.{cases_Bool, eqb-true, or_cases, not-false, false≢true}
+use Rattle.place_index.specs.Material.{pieces_of, count_of, white_pawns, black_pawns}
 use Rattle.place_index.specs.Shape.{HasGoodPieces, runs, has_pawns, black_leads, lead_code, other_code, lead_pawns, other_pawns, lead_men, is_pawn}
 use Rattle.place_index.specs.declared.group.Group.{Group}
 use Rattle.place_index.proofs.Arranging.{count_cons, count_nil, count_hit, count_miss, count_append, count_arranged}
 use Rattle.place_index.proofs.Beginning.{lead_by_pawns}
 use Rattle.place_index.proofs.Greatest.{good_length}
+use Rattle.place_index.proofs.KeyWalk.{each, each_pieces, pieces}
 use Rattle.place_index.proofs.MenTables.{pawns_within}
 use Rattle.place_index.proofs.Factors.{IsApart, AreDistinct}
 use Rattle.place_index.proofs.Grouping.{AllOf, AllGroups, all_map, runs_all, all_runs, count_apart, all_at, IsSided, sided, sided_drop, AreRuns, are_runs, runs_begin, begins, AreGroups, are_groups}
@@ -52,8 +53,8 @@ other_pawn key c pawn ne =
     ]
 
 kings_test : (k : ℕ) → k < 145 → (eqb (count_of (pieces_of k) 6) 1 && eqb (count_of (pieces_of k) 14) 1) ≡ true
-unfolding men_of pieces_of count_of
-kings_test k lt = agree_below_at (λ k. eqb (count_of (pieces_of k) 6) 1 && eqb (count_of (pieces_of k) 14) 1) (λ k. true) 145 k refl lt
+unfolding each pieces count_of
+kings_test k lt = each_pieces (λ k ps. eqb (count_of ps 6) 1 && eqb (count_of ps 14) 1) refl k lt
 
 both_true : (a b : Bool) → (a && b) ≡ true → (a ≡ true) × (b ≡ true)
 both_true true b h = (refl, h)

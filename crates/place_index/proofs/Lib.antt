@@ -1,3 +1,4 @@
+pub mod KeyWalk
 pub mod KeyTables
 pub mod TableLaw
 pub mod Choosing

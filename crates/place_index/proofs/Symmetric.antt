@@ -1,17 +1,18 @@
 -- Symmetric material has the same men with colours exchanged.
-use Rattle.std.proofs.Common.{◌≡◌, ℕ, ◌+◌, ◌-◌, ◌*◌, ◌/◌, ◌%◌, ◌<◌, ◌≤◌, Bool, true, false, cond, eqb, List, [], ◌∷◌, length, map, refl, sym, ap, subst, inl, inr, arith}
-use Rattle.std.specs.Prelude.{slice_index_or, not, ◌||◌}
+use Rattle.std.proofs.Common.{◌≡◌, ℕ, zero, suc, ◌+◌, ◌-◌, ◌/◌, ◌%◌, ◌<◌, ◌≤◌, Bool, true, false, cond, eqb, List, [], ◌∷◌, length, map, refl, sym, ap, subst, inl, inr, arith}
+use Rattle.std.specs.Prelude.{slice_index_or, not, ◌&&◌, ◌||◌}
 use Rattle.std.specs.List.Sorted.{IsPermutation}
-use Rattle.std.proofs.lemmas.Bool.{agree_below_at, cases_eq, eq-eqb, ne_eqb, eqb-true}
+use Rattle.std.proofs.lemmas.Bool.{and_parts, cases_eq, eq-eqb, ne_eqb, eqb-true}
 use Rattle.std.proofs.lemmas.List.{length-map}
 use Rattle.std.proofs.lemmas.List.Sorted.{IsPermutation-trans, IsPermutation-map}
-use Rattle.place_index.specs.Material.{men_of, pieces_of, count_of}
+use Rattle.place_index.specs.Material.{pieces_of, count_of}
 use Rattle.place_index.specs.Men.{codes_of, other_side, exchanged}
 use Rattle.place_index.specs.Placed.{IsNamed, IsMaterialOf, IsSymmetric}
 use Rattle.place_index.specs.declared.man.Man.{Man}
 use Rattle.place_index.specs.declared.tables.TheConstants.{SYMMETRIC}
 use Rattle.place_index.proofs.Arranging.{arranged_by_counts, arranged_length}
 use Rattle.place_index.proofs.KeyTables.{symmetric_table}
+use Rattle.place_index.proofs.KeyWalk.{each, each_pieces, pieces}
 use Rattle.place_index.proofs.MenTables.{codes_small, men_most}
 
 other_twice : (c : ℕ) → other_side (other_side c) ≡ c
@@ -29,17 +30,27 @@ pub twice : (codes : List ℕ) → map other_side (map other_side codes) ≡ cod
 twice [] = refl
 twice (c ∷ codes) = rw (other_twice c, twice codes) refl
 
-symmetric_test : (i : ℕ) → i < 2320 → (not (slice_index_or SYMMETRIC (i / 16) false) || eqb (count_of (map other_side (pieces_of (i / 16))) (i % 16)) (count_of (pieces_of (i / 16)) (i % 16))) ≡ true
-unfolding men_of pieces_of count_of
-symmetric_test i lt =
-    agree_below_at (λ i. not (slice_index_or SYMMETRIC (i / 16) false) || eqb (count_of (map other_side (pieces_of (i / 16))) (i % 16)) (count_of (pieces_of (i / 16)) (i % 16))) (λ i. true) 2320 i refl lt
+-- the counts of the codes below a number are those with colours exchanged
+same_below : ℕ → List ℕ → Bool
+same_below zero ps = true
+same_below (suc n) ps = eqb (count_of (map other_side ps) n) (count_of ps n) && same_below n ps
+
+same_at : (n c : ℕ) (ps : List ℕ) → same_below n ps ≡ true → c < n → count_of (map other_side ps) c ≡ count_of ps c
+unfolding same_below
+same_at zero c ps e lt = absurd (omega arith)
+same_at (suc n) c ps e lt =
+    let both = and_parts (eqb (count_of (map other_side ps) n) (count_of ps n)) (same_below n ps) e in
+    elim (cases_eq c n) [
+      | inl is ↦ rw is (eqb-true _ _ both.0)
+      | inr ne ↦ same_at n c ps both.1 (omega (arith, ne))
+    ]
+
+symmetric_test : (k : ℕ) → k < 145 → (not (slice_index_or SYMMETRIC k false) || same_below 16 (pieces_of k)) ≡ true
+unfolding each pieces count_of same_below
+symmetric_test k lt = each_pieces (λ k ps. not (slice_index_or SYMMETRIC k false) || same_below 16 ps) refl k lt
 
 symmetric_counts : (k c : ℕ) → k < 145 → c < 16 → slice_index_or SYMMETRIC k false ≡ true → count_of (map other_side (pieces_of k)) c ≡ count_of (pieces_of k) c
-symmetric_counts k c kk cc16 is =
-    let a : (k * 16 + c) / 16 ≡ k = omega arith in
-    let b : (k * 16 + c) % 16 ≡ c = omega arith in
-    let lt : k * 16 + c < 2320 = omega arith in
-    eqb-true _ _ (rw is at (rw (a, b) at (symmetric_test (k * 16 + c) lt)))
+symmetric_counts k c kk cc16 is = same_at 16 c (pieces_of k) (rw is at (symmetric_test k kk)) cc16
 
 symmetric_pieces : (k : ℕ) → k < 145 → IsSymmetric k → IsPermutation (map other_side (pieces_of k)) (pieces_of k)
 symmetric_pieces k lt is =

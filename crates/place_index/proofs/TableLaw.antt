@@ -1,9 +1,10 @@
 -- The keys stand for the tables one to one.
 use Rattle.std.proofs.Common.{◌≡◌, ℕ, suc, ◌+◌, ◌-◌, ◌*◌, ◌/◌, ◌%◌, ◌<◌, ◌≤◌, Bool, true, false, eqb, leb, List, [], ◌∷◌, length, slice_index, refl, ap, sym, ◌∙◌, arith}
-use Rattle.std.specs.Prelude.{◌&&◌, ◌||◌, not}
-use Rattle.std.proofs.lemmas.Bool.{agree_below_at, leb-true, le-leb, eq-eqb, and_parts, and_from, false≢true}
-use Rattle.place_index.specs.Material.{Men, IsTable, IsInOrder, men_of, name_at, name_of}
+use Rattle.std.specs.Prelude.{slice_index_or, ◌&&◌, ◌||◌, not}
+use Rattle.std.proofs.lemmas.Bool.{agree_below, agree_below_at, leb-true, le-leb, eq-eqb, and_parts, and_from, false≢true}
+use Rattle.place_index.specs.Material.{Men, IsTable, IsInOrder, tables, alone, men_of, name_at, name_of}
 use Rattle.place_index.specs.Place.{place_of}
+use Rattle.place_index.proofs.KeyWalk.{each, each_key}
 use Rattle.place_index.proofs.KeyTables.{same, same-true, place_table}
 
 -- ---- each key is a table's
@@ -21,22 +22,18 @@ in_order-true most (a ∷ rest) e =
     (leb-true 1 a one.0, leb-true a most two.0, in_order-true a rest two.1)
 
 orders_test : (k : ℕ) → k < 145 → (in_order 5 (men_of k).first && in_order 5 (men_of k).second) ≡ true
-unfolding men_of in_order
-orders_test k lt = agree_below_at (λ k. in_order 5 (men_of k).first && in_order 5 (men_of k).second) (λ k. true) 145 k refl lt
+unfolding each in_order
+orders_test k lt = each_key (λ k m. in_order 5 m.first && in_order 5 m.second) refl k lt
 
 lengths_test : (k : ℕ) → k < 145
     → (leb 1 (length (men_of k).first) && (leb (length (men_of k).second) (length (men_of k).first) && leb (length (men_of k).first + length (men_of k).second) 3)) ≡ true
-unfolding men_of
-lengths_test k lt =
-    agree_below_at (λ k. leb 1 (length (men_of k).first) && (leb (length (men_of k).second) (length (men_of k).first) && leb (length (men_of k).first + length (men_of k).second) 3))
-    (λ k. true) 145 k refl lt
+unfolding each
+lengths_test k lt = each_key (λ k m. leb 1 (length m.first) && (leb (length m.second) (length m.first) && leb (length m.first + length m.second) 3)) refl k lt
 
 earlier_test : (k : ℕ) → k < 145
     → (not (eqb (length (men_of k).first) (length (men_of k).second)) || leb (slice_index (men_of k).second 0) (slice_index (men_of k).first 0)) ≡ true
-unfolding men_of
-earlier_test k lt =
-    agree_below_at (λ k. not (eqb (length (men_of k).first) (length (men_of k).second)) || leb (slice_index (men_of k).second 0) (slice_index (men_of k).first 0))
-    (λ k. true) 145 k refl lt
+unfolding each
+earlier_test k lt = each_key (λ k m. not (eqb (length m.first) (length m.second)) || leb (slice_index m.second 0) (slice_index m.first 0)) refl k lt
 
 -- a test that passes where another one does
 passes_where : (a b : ℕ) (y : Bool) → a ≡ b → (not (eqb a b) || y) ≡ true → y ≡ true
@@ -67,12 +64,12 @@ men a b = record { first = a; second = b }
 key_of : List ℕ → List ℕ → ℕ
 key_of a b = place_of (name_of (record { first = a; second = b }))
 
--- these men are those of the key where their name stands
-is_found : List ℕ → List ℕ → Bool
-is_found a b = leb (suc (key_of a b)) 145 && (same (men_of (key_of a b)).first a && same (men_of (key_of a b)).second b)
+-- these men are those of the key where their name stands, in a list of tables
+is_found : List Men → List ℕ → List ℕ → Bool
+is_found ts a b = leb (suc (key_of a b)) 145 && (same (slice_index_or ts (key_of a b) (alone [])).first a && same (slice_index_or ts (key_of a b) (alone [])).second b)
 
-found : (a b : List ℕ) → is_found a b ≡ true → (k : ℕ) × (k < 145) × (men_of k ≡ record { first = a; second = b })
-unfolding is_found
+found : (a b : List ℕ) → is_found tables a b ≡ true → (k : ℕ) × (k < 145) × (men_of k ≡ record { first = a; second = b })
+unfolding is_found men_of
 found a b e =
     let one = and_parts (leb (suc (key_of a b)) 145) _ e in
     let two = and_parts (same (men_of (key_of a b)).first a) _ one.1 in
@@ -81,55 +78,61 @@ found a b e =
     made : (m : Men) → m.first ≡ a → m.second ≡ b → m ≡ record { first = a; second = b }
     made m x y = rw (← x, ← y) refl
 
-one_test : (i : ℕ) → i < 5 → is_found ((1 + i) ∷ []) [] ≡ true
-unfolding men_of place_of same is_found key_of
-one_test i lt = agree_below_at (λ i. is_found ((1 + i) ∷ []) []) (λ i. true) 5 i refl lt
+-- a test of numbers with the list of the tables, which is made once
+below : (List Men → ℕ → Bool) → ℕ → List Men → Bool
+below test n ts = agree_below (test ts) (λ i. true) n
 
-two_test : (i : ℕ) → i < 25 → (not (leb (1 + i % 5) (1 + i / 5)) || is_found ((1 + i / 5) ∷ (1 + i % 5) ∷ []) []) ≡ true
-unfolding men_of place_of same is_found key_of
-two_test i lt = agree_below_at (λ i. not (leb (1 + i % 5) (1 + i / 5)) || is_found ((1 + i / 5) ∷ (1 + i % 5) ∷ []) []) (λ i. true) 25 i refl lt
+below_at : (test : List Men → ℕ → Bool) (n i : ℕ) → below test n tables ≡ true → i < n → test tables i ≡ true
+unfolding below
+below_at test n i e lt = agree_below_at (test tables) (λ i. true) n i e lt
 
-each_test : (i : ℕ) → i < 25 → (not (leb (1 + i % 5) (1 + i / 5)) || is_found ((1 + i / 5) ∷ []) ((1 + i % 5) ∷ [])) ≡ true
-unfolding men_of place_of same is_found key_of
-each_test i lt = agree_below_at (λ i. not (leb (1 + i % 5) (1 + i / 5)) || is_found ((1 + i / 5) ∷ []) ((1 + i % 5) ∷ [])) (λ i. true) 25 i refl lt
+one_test : (i : ℕ) → i < 5 → is_found tables ((1 + i) ∷ []) [] ≡ true
+unfolding below place_of same is_found key_of
+one_test i lt = below_at (λ ts i. is_found ts ((1 + i) ∷ []) []) 5 i refl lt
+
+two_test : (i : ℕ) → i < 25 → (not (leb (1 + i % 5) (1 + i / 5)) || is_found tables ((1 + i / 5) ∷ (1 + i % 5) ∷ []) []) ≡ true
+unfolding below place_of same is_found key_of
+two_test i lt = below_at (λ ts i. not (leb (1 + i % 5) (1 + i / 5)) || is_found ts ((1 + i / 5) ∷ (1 + i % 5) ∷ []) []) 25 i refl lt
+
+each_test : (i : ℕ) → i < 25 → (not (leb (1 + i % 5) (1 + i / 5)) || is_found tables ((1 + i / 5) ∷ []) ((1 + i % 5) ∷ [])) ≡ true
+unfolding below place_of same is_found key_of
+each_test i lt = below_at (λ ts i. not (leb (1 + i % 5) (1 + i / 5)) || is_found ts ((1 + i / 5) ∷ []) ((1 + i % 5) ∷ [])) 25 i refl lt
 
 three_test : (i : ℕ) → i < 125
-    → (not (leb (1 + i / 5 % 5) (1 + i / 25) && leb (1 + i % 5) (1 + i / 5 % 5)) || is_found ((1 + i / 25) ∷ (1 + i / 5 % 5) ∷ (1 + i % 5) ∷ []) []) ≡ true
-unfolding men_of place_of same is_found key_of
+    → (not (leb (1 + i / 5 % 5) (1 + i / 25) && leb (1 + i % 5) (1 + i / 5 % 5)) || is_found tables ((1 + i / 25) ∷ (1 + i / 5 % 5) ∷ (1 + i % 5) ∷ []) []) ≡ true
+unfolding below place_of same is_found key_of
 three_test i lt =
-    agree_below_at (λ i. not (leb (1 + i / 5 % 5) (1 + i / 25) && leb (1 + i % 5) (1 + i / 5 % 5)) || is_found ((1 + i / 25) ∷ (1 + i / 5 % 5) ∷ (1 + i % 5) ∷ []) [])
-    (λ i. true) 125 i refl lt
+    below_at (λ ts i. not (leb (1 + i / 5 % 5) (1 + i / 25) && leb (1 + i % 5) (1 + i / 5 % 5)) || is_found ts ((1 + i / 25) ∷ (1 + i / 5 % 5) ∷ (1 + i % 5) ∷ []) [])
+    125 i refl lt
 
 against_test : (i : ℕ) → i < 125
-    → (not (leb (1 + i / 5 % 5) (1 + i / 25)) || is_found ((1 + i / 25) ∷ (1 + i / 5 % 5) ∷ []) ((1 + i % 5) ∷ [])) ≡ true
-unfolding men_of place_of same is_found key_of
-against_test i lt =
-    agree_below_at (λ i. not (leb (1 + i / 5 % 5) (1 + i / 25)) || is_found ((1 + i / 25) ∷ (1 + i / 5 % 5) ∷ []) ((1 + i % 5) ∷ []))
-    (λ i. true) 125 i refl lt
+    → (not (leb (1 + i / 5 % 5) (1 + i / 25)) || is_found tables ((1 + i / 25) ∷ (1 + i / 5 % 5) ∷ []) ((1 + i % 5) ∷ [])) ≡ true
+unfolding below place_of same is_found key_of
+against_test i lt = below_at (λ ts i. not (leb (1 + i / 5 % 5) (1 + i / 25)) || is_found ts ((1 + i / 25) ∷ (1 + i / 5 % 5) ∷ []) ((1 + i % 5) ∷ [])) 125 i refl lt
 
 -- what a test says at an index stands for what it says of codes
 when : (x y : Bool) → x ≡ true → (not x || y) ≡ true → y ≡ true
 when true y e h = h
 when false y e h = absurd (false≢true e)
 
-one_found : (a : ℕ) → 1 ≤ a → a ≤ 5 → is_found (a ∷ []) [] ≡ true
+one_found : (a : ℕ) → 1 ≤ a → a ≤ 5 → is_found tables (a ∷ []) [] ≡ true
 one_found a low high =
     let e : 1 + (a - 1) ≡ a = omega arith in
     rw e at (one_test (a - 1) (omega arith))
 
-two_found : (a b : ℕ) → a ≤ 5 → 1 ≤ b → b ≤ a → is_found (a ∷ b ∷ []) [] ≡ true
+two_found : (a b : ℕ) → a ≤ 5 → 1 ≤ b → b ≤ a → is_found tables (a ∷ b ∷ []) [] ≡ true
 two_found a b high low le =
     let x : 1 + (5 * (a - 1) + (b - 1)) / 5 ≡ a = omega arith in
     let y : 1 + (5 * (a - 1) + (b - 1)) % 5 ≡ b = omega arith in
     when (leb b a) _ (le-leb b a le) (rw (x, y) at (two_test (5 * (a - 1) + (b - 1)) (omega arith)))
 
-each_found : (a b : ℕ) → a ≤ 5 → 1 ≤ b → b ≤ a → is_found (a ∷ []) (b ∷ []) ≡ true
+each_found : (a b : ℕ) → a ≤ 5 → 1 ≤ b → b ≤ a → is_found tables (a ∷ []) (b ∷ []) ≡ true
 each_found a b high low le =
     let x : 1 + (5 * (a - 1) + (b - 1)) / 5 ≡ a = omega arith in
     let y : 1 + (5 * (a - 1) + (b - 1)) % 5 ≡ b = omega arith in
     when (leb b a) _ (le-leb b a le) (rw (x, y) at (each_test (5 * (a - 1) + (b - 1)) (omega arith)))
 
-three_found : (a b d : ℕ) → a ≤ 5 → b ≤ a → 1 ≤ d → d ≤ b → is_found (a ∷ b ∷ d ∷ []) [] ≡ true
+three_found : (a b d : ℕ) → a ≤ 5 → b ≤ a → 1 ≤ d → d ≤ b → is_found tables (a ∷ b ∷ d ∷ []) [] ≡ true
 three_found a b d high mid low le =
     let x : 1 + (25 * (a - 1) + (5 * (b - 1) + (d - 1))) / 25 ≡ a = omega arith in
     let y : 1 + (25 * (a - 1) + (5 * (b - 1) + (d - 1))) / 5 % 5 ≡ b = omega arith in
@@ -137,14 +140,14 @@ three_found a b d high mid low le =
     when (leb b a && leb d b) _ (and_from (leb b a) (leb d b) (le-leb b a mid) (le-leb d b le))
     (rw (x, y, z) at (three_test (25 * (a - 1) + (5 * (b - 1) + (d - 1))) (omega arith)))
 
-against_found : (a b d : ℕ) → a ≤ 5 → 1 ≤ b → b ≤ a → 1 ≤ d → d ≤ 5 → is_found (a ∷ b ∷ []) (d ∷ []) ≡ true
+against_found : (a b d : ℕ) → a ≤ 5 → 1 ≤ b → b ≤ a → 1 ≤ d → d ≤ 5 → is_found tables (a ∷ b ∷ []) (d ∷ []) ≡ true
 against_found a b d high mid le low top =
     let x : 1 + (25 * (a - 1) + (5 * (b - 1) + (d - 1))) / 25 ≡ a = omega arith in
     let y : 1 + (25 * (a - 1) + (5 * (b - 1) + (d - 1))) / 5 % 5 ≡ b = omega arith in
     let z : 1 + (25 * (a - 1) + (5 * (b - 1) + (d - 1))) % 5 ≡ d = omega arith in
     when (leb b a) _ (le-leb b a le) (rw (x, y, z) at (against_test (25 * (a - 1) + (5 * (b - 1) + (d - 1))) (omega arith)))
 
-each_is_found : (a b : List ℕ) → IsTable (record { first = a; second = b }) → is_found a b ≡ true
+each_is_found : (a b : List ℕ) → IsTable (record { first = a; second = b }) → is_found tables a b ≡ true
 each_is_found [] b t = absurd (omega (arith, t.one))
 each_is_found (x ∷ []) [] t = one_found x t.first.0 t.first.1
 each_is_found (x ∷ []) (y ∷ []) t = each_found x y t.first.1 t.second.0 (t.earlier refl)

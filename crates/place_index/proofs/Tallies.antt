@@ -3,11 +3,12 @@ use Rattle.std.proofs.Common.{◌≡◌, ℕ, zero, suc, ◌+◌, ◌*◌, ◌<�
 use Rattle.std.specs.List.Sorted.{IsPermutation}
 use Rattle.std.proofs.lemmas.Bool.{agree_below_at, eqb-true, leb-true}
 use Rattle.std.proofs.lemmas.List.{drop_more, drop_all}
-use Rattle.place_index.specs.Material.{men_of, pieces_of, count_of, digits, tally_of}
+use Rattle.place_index.specs.Material.{pieces_of, count_of, digits, tally_of}
 use Rattle.place_index.specs.Men.{codes_of}
 use Rattle.place_index.specs.declared.man.Man.{Man}
 use Rattle.place_index.specs.declared.tables.TheConstants.{CODE_TALLIES, TALLIES}
 use Rattle.place_index.proofs.Arranging.{count_cons, count_nil, count_arranged, arranged_by_counts, count_miss}
+use Rattle.place_index.proofs.KeyWalk.{each, each_pieces, pieces}
 use Rattle.place_index.proofs.MenTables.{codes_small, men_most}
 
 -- ---- digits of lists
@@ -76,8 +77,8 @@ pub same_tally : (xs ys : List ℕ) → IsPermutation xs ys → tally_of xs ≡ 
 same_tally xs ys p = same_digits 16 0 xs ys p
 
 pub tally_table : (k : ℕ) → k < 145 → slice_index TALLIES k ≡ tally_of (pieces_of k)
-unfolding men_of pieces_of count_of digits
-tally_table k lt = eqb-true _ _ (agree_below_at (λ k. eqb (slice_index TALLIES k) (tally_of (pieces_of k))) (λ k. true) 145 k refl lt)
+unfolding each pieces count_of digits
+tally_table k lt = eqb-true _ _ (each_pieces (λ k ps. eqb (slice_index TALLIES k) (tally_of ps)) refl k lt)
 
 pub code_tally_table : (c : ℕ) → c < 16 → slice_index CODE_TALLIES c ≡ tally_of (c ∷ [])
 unfolding count_of digits

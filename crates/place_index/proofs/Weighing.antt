@@ -10,29 +10,30 @@ use Rattle.board_core.specs.declared.piece.Piece.{Piece}
 use Rattle.board_core.specs.declared.piece.Side.{Side}
 use Rattle.board_core.specs.declared.piece.Side.TheVariants.{White, Black}
 use Rattle.board_core.specs.Position.{is_of, is_same_side}
-use Rattle.place_index.specs.Material.{men_of, pieces_of}
+use Rattle.place_index.specs.Material.{pieces_of}
 use Rattle.place_index.specs.Men.{codes_of, other_side, exchanged}
 use Rattle.place_index.specs.Placed.{weight, weight_of, men_from, IsNamed, IsMaterialOf}
 use Rattle.place_index.specs.declared.man.Man.{Man}
 use Rattle.place_index.specs.declared.tables.TheConstants.{WEIGHTS, KEYS}
+use Rattle.place_index.proofs.KeyWalk.{each, each_pieces, pieces}
 use Rattle.place_index.proofs.MenOn.{men_none, men_some, men_nil}
 use Rattle.place_index.proofs.Symmetric.{codes_exchanged, twice}
 
 own_test : (k : ℕ) → k < 145 → eqb (slice_index KEYS (weight_of (pieces_of k))) k ≡ true
-unfolding weight_of men_of pieces_of
-own_test k lt = agree_below_at (λ k. eqb (slice_index KEYS (weight_of (pieces_of k))) k) (λ k. true) 145 k refl lt
+unfolding each pieces weight_of
+own_test k lt = each_pieces (λ k ps. eqb (slice_index KEYS (weight_of ps)) k) refl k lt
 
 other_test : (k : ℕ) → k < 145 → eqb (slice_index KEYS (weight_of (map other_side (pieces_of k)))) k ≡ true
-unfolding weight_of men_of pieces_of
-other_test k lt = agree_below_at (λ k. eqb (slice_index KEYS (weight_of (map other_side (pieces_of k)))) k) (λ k. true) 145 k refl lt
+unfolding each pieces weight_of
+other_test k lt = each_pieces (λ k ps. eqb (slice_index KEYS (weight_of (map other_side ps))) k) refl k lt
 
 own_few : (k : ℕ) → k < 145 → leb (suc (weight_of (pieces_of k))) (length KEYS) ≡ true
-unfolding weight_of men_of pieces_of
-own_few k lt = agree_below_at (λ k. leb (suc (weight_of (pieces_of k))) (length KEYS)) (λ k. true) 145 k refl lt
+unfolding each pieces weight_of
+own_few k lt = each_pieces (λ k ps. leb (suc (weight_of ps)) (length KEYS)) refl k lt
 
 other_few : (k : ℕ) → k < 145 → leb (suc (weight_of (map other_side (pieces_of k)))) (length KEYS) ≡ true
-unfolding weight_of men_of pieces_of
-other_few k lt = agree_below_at (λ k. leb (suc (weight_of (map other_side (pieces_of k)))) (length KEYS)) (λ k. true) 145 k refl lt
+unfolding each pieces weight_of
+other_few k lt = each_pieces (λ k ps. leb (suc (weight_of (map other_side ps))) (length KEYS)) refl k lt
 
 same_weight : (xs ys : List ℕ) → IsPermutation xs ys → weight_of xs ≡ weight_of ys
 unfolding weight_of

@@ -1,4 +1,4 @@
-//! Which men a table of three to five men is for, and how it numbers their placements. Its tests stand in `judge_core`.
+//! Which men a table of three to five men is for, and how it numbers their placements. Its tests stand in `checks`.
 #![tactic(auto)]
 
 mod arrangement;

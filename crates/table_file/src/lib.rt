@@ -1,7 +1,7 @@
 //! Syzygy table files: what a file says, checked once when it is opened, and single values and blocks read from it.
 //!
 //! A table borrows the bytes of its file, and keeps beside them what its size records say. Its tests stand in
-//! `judge_core`.
+//! `checks`.
 #![tactic(auto)]
 
 mod codes;

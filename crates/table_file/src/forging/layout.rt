@@ -47,6 +47,27 @@ fn check_dictionary(alloc: Global, bytes: &[u8]) -> Result<(), ForgeFault>
     }
 }
 
+/// The greatest code length and the least, the lowest symbols, the count of symbols, the symbols, and a fill byte.
+fn spelled(
+    alloc: Global,
+    plan: &PairsPlan,
+    count: u16,
+    symbols: &[u8],
+) -> Result<Vec<u8>, AllocError> {
+    let mut bytes = Vec::new(alloc);
+    bytes.push(plan.greatest)?;
+    bytes.push(plan.least)?;
+    for low in &plan.lowest {
+        bytes.extend_from_slice(&low.to_le_bytes())?;
+    }
+    bytes.extend_from_slice(&count.to_le_bytes())?;
+    bytes.extend_from_slice(symbols)?;
+    if count % 2 == 1 {
+        bytes.push(0)?;
+    }
+    Ok(bytes)
+}
+
 /// The bytes of a dictionary (Syzygy table format, a size record from its greatest code length on). One that can't be read,
 /// or whose symbols don't all have values, makes the plan bad.
 fn dictionary_of(alloc: Global, plan: &PairsPlan, symbols: &[u8]) -> Result<Vec<u8>, ForgeFault>
@@ -59,17 +80,7 @@ fn dictionary_of(alloc: Global, plan: &PairsPlan, symbols: &[u8]) -> Result<Vec<
     if plan.least as usize + plan.lowest.len() != plan.greatest as usize + 1 {
         return Err(ForgeFault::BadPlan);
     }
-    let mut bytes = Vec::new(alloc);
-    bytes.push(plan.greatest)?;
-    bytes.push(plan.least)?;
-    for low in &plan.lowest {
-        bytes.extend_from_slice(&low.to_le_bytes())?;
-    }
-    bytes.extend_from_slice(&count.to_le_bytes())?;
-    bytes.extend_from_slice(symbols)?;
-    if count % 2 == 1 {
-        bytes.push(0)?;
-    }
+    let bytes = spelled(alloc, plan, count, symbols)?;
     check_dictionary(alloc, &bytes)?;
     Ok(bytes)
 }
@@ -375,6 +386,53 @@ fn put_sections(parts: &[LaidPart<'_>], file: &mut Vec<u8>) -> Result<(), ForgeF
     Ok(())
 }
 
+/// The size records.
+fn put_size_records(
+    parts: &[PartPlan],
+    laid: &[LaidPart<'_>],
+    file: &mut Vec<u8>,
+) -> Result<(), ForgeFault>
+    ensures { IfErr result (λ e. e ≢ ForgeFault.Io) }
+{
+    for (part, laid) in parts.iter().zip(laid) {
+        put_size_record(part.flags, laid, file)?;
+    }
+    Ok(())
+}
+
+/// What stands before the size records: head, shapes and a fill byte.
+fn front(alloc: Global, plan: &Plan, sides: usize) -> Result<Vec<u8>, AllocError>
+    requires { 1 ≤ sides }
+{
+    let mut file = Vec::new(alloc);
+    put_head(plan, &mut file)?;
+    put_setups(&plan.parts, sides, &mut file)?;
+    fill_to(2, &mut file)?;
+    Ok(file)
+}
+
+/// What stands behind the sections: fill and the checksum.
+fn put_end(file: &mut Vec<u8>) -> Result<(), AllocError> {
+    fill_to(64, file)?;
+    file.extend_from_slice(&[0; 16])
+}
+
+/// What stands behind the front.
+fn put_rest(
+    alloc: Global,
+    plan: &Plan,
+    laid: &[LaidPart<'_>],
+    file: &mut Vec<u8>,
+) -> Result<(), ForgeFault>
+    ensures { IfErr result (λ e. e ≢ ForgeFault.Io) }
+{
+    put_size_records(&plan.parts, laid, file)?;
+    put_all_maps(alloc, plan, file)?;
+    put_sections(laid, file)?;
+    put_end(file)?;
+    Ok(())
+}
+
 /// The bytes of the file that a plan describes. What makes the plan bad is told as it is met; that the file says what the
 /// plan says is for the caller to look at.
 pub(super) fn laid_out(alloc: Global, plan: &Plan) -> Result<Vec<u8>, ForgeFault>
@@ -383,16 +441,7 @@ pub(super) fn laid_out(alloc: Global, plan: &Plan) -> Result<Vec<u8>, ForgeFault
 {
     let sides = sides(plan.kind, &plan.material);
     let parts = laid_parts(alloc, plan, sides)?;
-    let mut file = Vec::new(alloc);
-    put_head(plan, &mut file)?;
-    put_setups(&plan.parts, sides, &mut file)?;
-    fill_to(2, &mut file)?;
-    for (part, laid) in plan.parts.iter().zip(&parts) {
-        put_size_record(part.flags, laid, &mut file)?;
-    }
-    put_all_maps(alloc, plan, &mut file)?;
-    put_sections(&parts, &mut file)?;
-    fill_to(64, &mut file)?;
-    file.extend_from_slice(&[0; 16])?;
+    let mut file = front(alloc, plan, sides)?;
+    put_rest(alloc, plan, &parts, &mut file)?;
     Ok(file)
 }

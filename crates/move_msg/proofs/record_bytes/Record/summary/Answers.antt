@@ -1,4 +1,4 @@
-use Rattle.std.proofs.Common.{ap₂, subst, arith, ℕ, ◌≡◌, refl, ◌∙◌, sym}
+use Rattle.std.proofs.Common.{ap₂, arith, ℕ, refl}
 use Rattle.move_msg.proofs.RecordLaws.{code_few, front_read, spelled_so, read_back, read_as, no_record_fault, spelled_words, summary_is, verdict_coded}
 use Rattle.move_msg.proofs.record_bytes.Record.summary.Goals as goal
 

@@ -1,13 +1,13 @@
 //! The worked rows, refusals in their order, streams in pieces, and digests from outside.
 
-use crate::{
-    Count, Feeder, Line, MOST_MOVES, ManifestFault, Message, MessageFault, MoveList, NamedFile,
-    Record, RecordFault, Sender, Stamp, Verdict, Wanted, Who, is_file_name, is_game_name, laws,
-    manifest_of, manifest_read, manifest_write, of_word, word,
-};
 use arrayvec::ArrayString;
-use board_core::{Move, Position, Promotion, Square};
+use board_core::{Move, Position, Promotion, Square, Verdict};
 use fen_text::read;
+use move_msg::{
+    Count, Feeder, Line, MOST_MOVES, ManifestFault, Message, MessageFault, MoveList, NamedFile,
+    Record, RecordFault, Sender, Stamp, Wanted, Who, is_file_name, is_game_name, laws, manifest_of,
+    manifest_read, manifest_write, of_word, word,
+};
 use sha2::{Digest, Sha256};
 use std::alloc::Global;
 use std::process::Abort;

@@ -1,12 +1,10 @@
-//! Forged table files of 80 bytes, and sets of them.
+//! Forged table files of 80 bytes, by the bytes that aren't zero at their end: single values for both sides, and for all files
+//! where there are pawns.
 
-use crate::Set;
-use std::alloc::Global;
+use std::alloc::{AllocError, Global};
 use std::process::Abort;
-use table_file::open;
 
-/// The fronts of table files of 80 bytes, all others zero: single values for both sides, and for all files where there are
-/// pawns. A knight draws.
+/// A knight draws.
 pub(crate) const KNIGHT: [u8; 14] = [
     0x71, 0xE8, 0x23, 0x5D, 0x01, 0x00, 0x66, 0x22, 0xEE, 0x00, 0x80, 0x02, 0x80, 0x02,
 ];
@@ -19,6 +17,11 @@ pub(crate) const DAMAGED_KNIGHT: [u8; 14] = [
 /// A queen wins, and loses for the other side.
 pub(crate) const QUEEN: [u8; 14] = [
     0x71, 0xE8, 0x23, 0x5D, 0x01, 0x00, 0x66, 0x55, 0xEE, 0x00, 0x80, 0x04, 0x80, 0x00,
+];
+
+/// A bishop draws.
+pub(crate) const BISHOP: [u8; 14] = [
+    0x71, 0xE8, 0x23, 0x5D, 0x01, 0x00, 0x66, 0x33, 0xEE, 0x00, 0x80, 0x02, 0x80, 0x02,
 ];
 
 /// A pawn wins, and loses for the other side.
@@ -72,6 +75,21 @@ pub(crate) const PAWN_PLIES: [u8; 50] = [
     0x00, 0x00,
 ];
 
+/// A pawn's distances for files that store sides 0, 1, 0 and 1: all but the last are mapped, to 9, 8 and 7 for a win.
+pub(crate) const PAWN_FILES: [u8; 45] = [
+    0xD7, 0x66, 0x0C, 0xA5, 0x02, 0x00, 0x01, 0x06, 0x0E, 0x00, 0x01, 0x06, 0x0E, 0x00, 0x01, 0x06,
+    0x0E, 0x00, 0x01, 0x06, 0x0E, 0x00, 0x86, 0x00, 0x87, 0x00, 0x82, 0x00, 0x81, 0x00, 0x01, 0x09,
+    0x00, 0x00, 0x00, 0x01, 0x08, 0x00, 0x00, 0x00, 0x01, 0x07, 0x00, 0x00, 0x00,
+];
+
+/// The bytes of the queen's table with blocks before its sparse entries: side 0 has 314 blocks of eight bytes, spans of 256
+/// values and one padding entry, side 1 the single value 0.
+const QUEEN_BLOCKS: [u8; 38] = [
+    0x71, 0xE8, 0x23, 0x5D, 0x01, 0x00, 0x66, 0x55, 0xEE, 0x00, 0x00, 0x03, 0x08, 0x01, 0x3A, 0x01,
+    0x00, 0x00, 0x02, 0x01, 0x02, 0x00, 0x00, 0x00, 0x03, 0x00, 0x04, 0xF0, 0xFF, 0x00, 0xF0, 0xFF,
+    0x00, 0x10, 0x00, 0x00, 0x80, 0x00,
+];
+
 /// The whole file of such a front.
 pub(crate) fn file_of(front: &[u8]) -> [u8; 80] {
     let mut file = [0u8; 80];
@@ -86,33 +104,50 @@ pub(crate) fn files_of(first: &[u8], second: &[u8]) -> [[u8; 80]; 2] {
     [file_of(first), file_of(second)]
 }
 
-/// A set without tables that may keep 64 blocks.
-fn empty_set<'a>(rt: &impl Abort, alloc: Global) -> Set<'a> {
-    Set::new(alloc, 64).expect(rt, "a set")
-}
-
-/// Adds the table of this name and file.
-pub(crate) fn add<'a>(
-    rt: &impl Abort,
-    alloc: Global,
-    set: &mut Set<'a>,
-    name: &str,
-    file: &'a [u8; 80],
-) {
-    let table = open(alloc, name.as_bytes(), file).expect(rt, "a table");
-    assert!(rt; set.add(table).is_ok(), "{name}");
-}
-
-/// The set of the tables of these names and files.
-pub(crate) fn set_of<'a>(
-    rt: &impl Abort,
-    alloc: Global,
-    names: &[&str],
-    files: &'a [[u8; 80]],
-) -> Set<'a> {
-    let mut set = empty_set(rt, alloc);
-    for (name, file) in names.iter().zip(files.iter()) {
-        add(rt, alloc, &mut set, *name, file);
+/// The sparse entries: of each 256 values the block of the middle one, and its offset there.
+fn push_entries(bytes: &mut Vec<u8>) -> Result<(), AllocError> {
+    for k in 0u16..123 {
+        let middle = 256 * k + 128;
+        let block = if middle < 31332 { middle / 100 } else { 314 };
+        let offset = if middle < 31332 {
+            middle % 100
+        } else {
+            middle - 31332
+        };
+        bytes.extend_from_slice(&(block as u32).to_le_bytes())?;
+        bytes.extend_from_slice(&offset.to_le_bytes())?;
     }
-    set
+    Ok(())
+}
+
+/// The block lengths less one, the last one of the padding entry.
+fn push_lengths(bytes: &mut Vec<u8>) -> Result<(), AllocError> {
+    for _ in 0..313 {
+        bytes.extend_from_slice(&[99, 0])?;
+    }
+    bytes.extend_from_slice(&[31, 0, 0xFF, 0xFF])
+}
+
+/// 313 blocks of fifty pairs 4 0, and one of sixteen.
+fn push_blocks(bytes: &mut Vec<u8>) -> Result<(), AllocError> {
+    for _ in 0..313 {
+        bytes.extend_from_slice(&[0xFF, 0xFF, 0xFF, 0xFF, 0xFF, 0xFF, 0xC0, 0])?;
+    }
+    bytes.extend_from_slice(&[0xFF, 0xFF, 0, 0, 0, 0, 0, 0])
+}
+
+/// The whole queen's table with blocks, 3984 bytes.
+fn queen(alloc: Global) -> Result<Vec<u8>, AllocError> {
+    let mut bytes = QUEEN_BLOCKS.to_vec(alloc)?;
+    push_entries(&mut bytes)?;
+    push_lengths(&mut bytes)?;
+    bytes.resize(1408, 0)?;
+    push_blocks(&mut bytes)?;
+    bytes.resize(3984, 0)?;
+    Ok(bytes)
+}
+
+/// The whole queen's table with blocks, where there is memory.
+pub(crate) fn queen_file(rt: &impl Abort, alloc: Global) -> Vec<u8> {
+    queen(alloc).expect(rt, "memory")
 }

@@ -1,0 +1,408 @@
+//! The worked files as plans, plans that no file says, and writers that fail.
+
+use crate::comparing::{check_bytes, check_same};
+use crate::files::{BISHOP, KNIGHT, PAWN, PAWNS, QUEEN, QUEEN_PLIES, file_of, queen_file};
+use crate::index_tests::material;
+use crate::table_tests::{distance, table_of};
+use std::alloc::{AllocError, Global};
+use std::io::{self, Write};
+use std::process::Abort;
+use table_file::{
+    Content, ForgeFault, Kind, MapsPlan, Outcome, PairsPlan, PartPlan, Plan, Table, forge,
+};
+
+/// Maps of wins and of cursed wins alone.
+fn maps_of(alloc: Global, win: &[u16], cursed_win: &[u16]) -> Result<MapsPlan, AllocError> {
+    Ok(MapsPlan {
+        win: win.to_vec(alloc)?,
+        loss: Vec::new(alloc),
+        cursed_win: cursed_win.to_vec(alloc)?,
+        blessed_loss: Vec::new(alloc),
+    })
+}
+
+fn maps(rt: &impl Abort, alloc: Global, win: &[u16], cursed_win: &[u16]) -> MapsPlan {
+    maps_of(alloc, win, cursed_win).expect(rt, "memory")
+}
+
+fn no_maps(rt: &impl Abort, alloc: Global) -> MapsPlan {
+    maps(rt, alloc, &[], &[])
+}
+
+fn pieces_of(rt: &impl Abort, alloc: Global, pieces: &[u8]) -> Vec<u8> {
+    pieces.to_vec(alloc).expect(rt, "memory")
+}
+
+/// A part of the queen's table.
+fn queen_part(
+    rt: &impl Abort,
+    alloc: Global,
+    flags: u8,
+    content: Content,
+    maps: MapsPlan,
+) -> PartPlan {
+    PartPlan {
+        pieces: pieces_of(rt, alloc, &[6, 5, 14]),
+        order: 0,
+        second: None,
+        flags,
+        content,
+        maps,
+    }
+}
+
+fn push(rt: &impl Abort, parts: &mut Vec<PartPlan>, part: PartPlan) {
+    assert!(rt; parts.push(part).is_ok());
+}
+
+/// A WDL file of single values: so many files of the leading pawn, of each the values of its sides.
+struct Singles {
+    name: &'static str,
+    pieces: &'static [u8],
+    second: Option<u8>,
+    files: u8,
+    values: &'static [u16],
+    front: &'static [u8],
+}
+
+const SINGLES: [Singles; 5] = [
+    Singles {
+        name: "KNvK",
+        pieces: &[6, 2, 14],
+        second: None,
+        files: 1,
+        values: &[2, 2],
+        front: &KNIGHT,
+    },
+    Singles {
+        name: "KQvK",
+        pieces: &[6, 5, 14],
+        second: None,
+        files: 1,
+        values: &[4, 0],
+        front: &QUEEN,
+    },
+    Singles {
+        name: "KBvK",
+        pieces: &[6, 3, 14],
+        second: None,
+        files: 1,
+        values: &[2, 2],
+        front: &BISHOP,
+    },
+    Singles {
+        name: "KPvK",
+        pieces: &[1, 6, 14],
+        second: None,
+        files: 4,
+        values: &[4, 0],
+        front: &PAWN,
+    },
+    Singles {
+        name: "KPvKP",
+        pieces: &[1, 9, 6, 14],
+        second: Some(1),
+        files: 4,
+        values: &[2],
+        front: &PAWNS,
+    },
+];
+
+/// A part of one value, without maps.
+fn single(rt: &impl Abort, alloc: Global, row: &Singles, value: u16) -> PartPlan {
+    PartPlan {
+        pieces: pieces_of(rt, alloc, row.pieces),
+        order: 0,
+        second: row.second,
+        flags: 0x80,
+        content: Content::Single(value),
+        maps: no_maps(rt, alloc),
+    }
+}
+
+/// Appends a part for each side.
+fn push_sides(rt: &impl Abort, alloc: Global, parts: &mut Vec<PartPlan>, row: &Singles) {
+    for value in row.values {
+        push(rt, parts, single(rt, alloc, row, *value));
+    }
+}
+
+fn plan_of(rt: &impl Abort, alloc: Global, row: &Singles) -> Plan {
+    let mut parts = Vec::new(alloc);
+    for _ in 0..row.files {
+        push_sides(rt, alloc, &mut parts, row);
+    }
+    Plan {
+        kind: Kind::Wdl,
+        material: material(rt, row.name),
+        parts,
+    }
+}
+
+/// The queen's table of single values.
+fn queen_plan(rt: &impl Abort, alloc: Global) -> Plan {
+    let [_, queen, ..] = &SINGLES;
+    plan_of(rt, alloc, queen)
+}
+
+/// What is told of a plan, and what was written.
+fn forged(alloc: Global, plan: &Plan) -> (Result<(), ForgeFault>, Vec<u8>) {
+    let mut file = Vec::new(alloc);
+    let told = forge(alloc, plan, &mut file);
+    (told, file)
+}
+
+/// The file of a plan that is good.
+fn forged_file(rt: &impl Abort, alloc: Global, plan: &Plan) -> Vec<u8> {
+    let (told, file) = forged(alloc, plan);
+    check_same(rt, told, Ok(()), "forged");
+    file
+}
+
+/// A plan is refused, and nothing is written.
+fn check_refused(rt: &impl Abort, alloc: Global, plan: &Plan, row: &str) {
+    let (told, file) = forged(alloc, plan);
+    check_same(rt, told, Err(ForgeFault::BadPlan), row);
+    check_same(rt, file.len(), 0, row);
+}
+
+fn check_forged(rt: &impl Abort, alloc: Global, plan: &Plan, file: &[u8]) {
+    check_bytes(rt, &forged_file(rt, alloc, plan), file, "file");
+}
+
+#[test]
+fn worked_results_give_their_bytes(rt: HostRuntime) {
+    for row in &SINGLES {
+        let plan = plan_of(&rt, rt.alloc(), row);
+        check_forged(&rt, rt.alloc(), &plan, &file_of(row.front));
+    }
+}
+
+/// The queen's DTZ table of one part.
+fn queen_dtz(rt: &impl Abort, alloc: Global, part: PartPlan) -> Plan {
+    let mut parts = Vec::new(alloc);
+    push(rt, &mut parts, part);
+    Plan {
+        kind: Kind::Dtz,
+        material: material(rt, "KQvK"),
+        parts,
+    }
+}
+
+/// A part of one value, with maps for wins and for cursed wins.
+fn mapped(rt: &impl Abort, alloc: Global, flags: u8, win: &[u16], cursed_win: &[u16]) -> PartPlan {
+    let maps = maps(rt, alloc, win, cursed_win);
+    queen_part(rt, alloc, flags, Content::Single(0), maps)
+}
+
+#[test]
+fn worked_distances_give_their_bytes(rt: HostRuntime) {
+    let part = mapped(&rt, rt.alloc(), 0x86, &[9], &[]);
+    let plan = queen_dtz(&rt, rt.alloc(), part);
+    check_forged(&rt, rt.alloc(), &plan, &file_of(&QUEEN_PLIES));
+}
+
+fn check_wide_bytes(rt: &impl Abort, file: &[u8]) {
+    let maps = [1u8, 0, 9, 0, 0, 0, 1, 0, 2, 1, 0, 0];
+    assert_eq!(rt; file.len(), 80);
+    check_bytes(rt, &file[10..12], &[0x96, 0], "flags");
+    check_bytes(rt, &file[12..24], &maps, "maps");
+}
+
+/// Two wide maps make the offset even first: 9 for a win, and two bytes for a cursed win.
+#[test]
+fn wide_maps_are_forged(rt: HostRuntime) {
+    let part = mapped(&rt, rt.alloc(), 0x96, &[9], &[0x0102]);
+    let plan = queen_dtz(&rt, rt.alloc(), part);
+    check_wide_bytes(&rt, &forged_file(&rt, rt.alloc(), &plan));
+}
+
+/// 313 blocks of fifty pairs 4 0, and one of sixteen.
+fn queen_blocks(alloc: Global) -> Result<Vec<Vec<u16>>, AllocError> {
+    let mut blocks = Vec::new(alloc);
+    for _ in 0..313 {
+        blocks.push(vec![in alloc; 2; 50]?)?;
+    }
+    blocks.push(vec![in alloc; 2; 16]?)?;
+    Ok(blocks)
+}
+
+fn queen_pairs(alloc: Global) -> Result<PairsPlan, AllocError> {
+    Ok(PairsPlan {
+        block_exponent: 3,
+        span_exponent: 8,
+        least: 1,
+        greatest: 2,
+        lowest: [2, 0].to_vec(alloc)?,
+        symbols: [[4, 0xF0, 0xFF], [0, 0xF0, 0xFF], [0, 0x10, 0]].to_vec(alloc)?,
+        blocks: queen_blocks(alloc)?,
+    })
+}
+
+fn pairs(rt: &impl Abort, alloc: Global) -> PairsPlan {
+    queen_pairs(alloc).expect(rt, "memory")
+}
+
+/// The queen's WDL table with these blocks for one side and the single value 0 for the other.
+fn queen_of_pairs(rt: &impl Abort, alloc: Global, pairs: PairsPlan) -> Plan {
+    let first = queen_part(rt, alloc, 0, Content::Pairs(pairs), no_maps(rt, alloc));
+    let second = queen_part(rt, alloc, 0x80, Content::Single(0), no_maps(rt, alloc));
+    let mut parts = Vec::new(alloc);
+    push(rt, &mut parts, first);
+    push(rt, &mut parts, second);
+    Plan {
+        kind: Kind::Wdl,
+        material: material(rt, "KQvK"),
+        parts,
+    }
+}
+
+#[test]
+fn blocks_are_forged(rt: HostRuntime) {
+    let plan = queen_of_pairs(&rt, rt.alloc(), pairs(&rt, rt.alloc()));
+    check_forged(&rt, rt.alloc(), &plan, &queen_file(&rt, rt.alloc()));
+}
+
+/// Blocks of two bytes, which are too short for their values.
+fn with_short_blocks(rt: &impl Abort, alloc: Global) -> Plan {
+    let mut pairs = pairs(rt, alloc);
+    pairs.block_exponent = 1;
+    queen_of_pairs(rt, alloc, pairs)
+}
+
+/// One block fewer, so that there are fewer values than indices.
+fn with_a_block_fewer(rt: &impl Abort, alloc: Global) -> Plan {
+    let mut pairs = pairs(rt, alloc);
+    pairs.blocks.truncate(313);
+    queen_of_pairs(rt, alloc, pairs)
+}
+
+/// One part where there are two sides.
+fn with_a_side_fewer(rt: &impl Abort, alloc: Global) -> Plan {
+    let mut plan = queen_plan(rt, alloc);
+    plan.parts.truncate(1);
+    plan
+}
+
+/// A map that the flags don't tell of.
+fn with_maps_untold(rt: &impl Abort, alloc: Global) -> Plan {
+    queen_dtz(rt, alloc, mapped(rt, alloc, 0x84, &[9], &[]))
+}
+
+#[test]
+fn plans_that_no_file_says_are_refused(rt: HostRuntime) {
+    let alloc = rt.alloc();
+    check_refused(&rt, alloc, &with_short_blocks(&rt, alloc), "short blocks");
+    check_refused(&rt, alloc, &with_a_block_fewer(&rt, alloc), "a block");
+    check_refused(&rt, alloc, &with_a_side_fewer(&rt, alloc), "a side");
+    check_refused(&rt, alloc, &with_maps_untold(&rt, alloc), "maps");
+}
+
+/// A writer that takes at most 16 bytes at once and fails at one call.
+#[derive(Drop)]
+struct Failing {
+    calls: u32,
+    fails_at: u32,
+}
+
+impl Write for Failing {
+    fn write(&mut self, buf: &[u8]) -> io::Result<usize> {
+        if self.calls == self.fails_at {
+            return Err(io::Error::from(io::ErrorKind::BrokenPipe));
+        }
+        self.calls = self.calls.wrapping_add(1);
+        Ok(buf.len().min(16))
+    }
+
+    fn flush(&mut self) -> io::Result<()> {
+        Ok(())
+    }
+}
+
+/// What is told where the writer fails at one call.
+fn told_at(alloc: Global, plan: &Plan, fails_at: u32) -> Result<(), ForgeFault> {
+    let mut out = Failing { calls: 0, fails_at };
+    forge(alloc, plan, &mut out)
+}
+
+#[test]
+fn each_failed_write_is_told(rt: HostRuntime) {
+    let plan = queen_plan(&rt, rt.alloc());
+    for fails_at in 0..6u32 {
+        let wanted = if fails_at < 5 {
+            Err(ForgeFault::Io)
+        } else {
+            Ok(())
+        };
+        let told = told_at(rt.alloc(), &plan, fails_at);
+        check_same(&rt, (fails_at, told), (fails_at, wanted), "told");
+    }
+}
+
+/// The queen's DTZ table with blocks of values 4 and 0 in turn, and a map for wins.
+fn queen_distances(rt: &impl Abort, alloc: Global, flags: u8, win: &[u16]) -> Vec<u8> {
+    let content = Content::Pairs(pairs(rt, alloc));
+    let part = queen_part(rt, alloc, flags, content, maps(rt, alloc, win, &[]));
+    forged_file(rt, alloc, &queen_dtz(rt, alloc, part))
+}
+
+/// Flags, the map for wins, and the plies at even indices and at odd ones.
+struct Places {
+    flags: u8,
+    win: &'static [u16],
+    even: Option<u32>,
+    odd: Option<u32>,
+}
+
+const PLACES: [Places; 5] = [
+    Places {
+        flags: 0x06,
+        win: &[10, 20, 30, 40, 50],
+        even: Some(50),
+        odd: Some(10),
+    },
+    Places {
+        flags: 0x06,
+        win: &[10, 20, 30, 40],
+        even: None,
+        odd: Some(10),
+    },
+    Places {
+        flags: 0x16,
+        win: &[10, 20, 30, 40, 50],
+        even: Some(50),
+        odd: Some(10),
+    },
+    Places {
+        flags: 0x04,
+        win: &[],
+        even: Some(4),
+        odd: Some(0),
+    },
+    Places {
+        flags: 0x00,
+        win: &[],
+        even: Some(8),
+        odd: Some(0),
+    },
+];
+
+fn plies(rt: &impl Abort, table: &Table<'_>, index: u64) -> Option<u32> {
+    distance(rt, table, 0, index, Outcome::Win).ok()
+}
+
+fn check_places(rt: &impl Abort, alloc: Global, row: &Places) {
+    let file = queen_distances(rt, alloc, row.flags, row.win);
+    let table = table_of(rt, alloc, "KQvK.rtbz", &file);
+    check_same(rt, plies(rt, &table, 0), row.even, "first");
+    check_same(rt, plies(rt, &table, 31331), row.odd, "last");
+    check_same(rt, plies(rt, &table, 31332), None, "past");
+}
+
+/// A stored value is a place in the map where there is one, and no value is past its end.
+#[test]
+fn values_are_places_in_maps(rt: HostRuntime) {
+    for row in &PLACES {
+        check_places(&rt, rt.alloc(), row);
+    }
+}

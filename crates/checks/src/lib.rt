@@ -1,0 +1,29 @@
+//! Tests of the libraries by their public calls, of what no contract says: worked rows, published counts, printed text, each
+//! call once with memory at hand, and refused memory. They stand in a crate of their own, since a crate is proved a second
+//! time for its tests.
+#![tactic(auto)]
+
+#[cfg(test)]
+mod arbiter_tests;
+#[cfg(test)]
+mod board_tests;
+#[cfg(test)]
+mod comparing;
+#[cfg(test)]
+mod dictionary_tests;
+#[cfg(test)]
+mod fen_tests;
+#[cfg(test)]
+mod files;
+#[cfg(test)]
+mod forge_tests;
+#[cfg(test)]
+mod index_tests;
+#[cfg(test)]
+mod message_tests;
+#[cfg(test)]
+mod positions;
+#[cfg(test)]
+mod probe_tests;
+#[cfg(test)]
+mod table_tests;

@@ -1,0 +1,604 @@
+//! The worked rows with forged table files, each call once, games, and refused memory.
+
+ghost use Rattle.std.specs.Prelude.{◌≤◌};
+ghost use Rattle.judge_core.specs.Games.{most_delay};
+
+use crate::comparing::{check_same, check_text};
+use crate::files::{
+    CURSED_MOVES, CURSED_QUEEN, DAMAGED_KNIGHT, KNIGHT, PAWN, PAWN_PLIES, PAWNS, QUEEN,
+    QUEEN_AGAINST, QUEEN_MOVES, QUEEN_PLIES, file_of, files_of,
+};
+use crate::index_tests::material;
+use crate::positions::{moves_of, position_of};
+use board_core::{Move, Verdict};
+use judge_core::{GameOutcome, ProbeFault, Set, SetFault};
+use std::alloc::{AllocError, Global};
+use std::process::Abort;
+use std::test::Fail;
+use table_file::{Table, open};
+
+/// King a1 and knight b1 against the king on e5.
+const KNIGHT_ROW: &str = "8/8/8/4k3/8/8/8/KN6 w - - 0 1";
+
+const QUEEN_ROW: &str = "8/8/8/4k3/8/8/8/KQ6 w - - 0 1";
+
+/// The queen stands beside the king that is to move.
+const HANGING_ROW: &str = "7K/8/8/4k3/3Q4/8/8/8 b - - 0 1";
+
+/// The queen gives check from h1.
+const CHECKING_ROW: &str = "8/8/8/8/8/2k5/8/K6Q b - - 0 1";
+
+/// White's pawn on e4 has passed e3.
+const PASSED_ROW: &str = "8/8/8/8/k2pP3/8/8/K7 b - e3 0 1";
+
+const CASTLING_ROW: &str = "4k3/8/8/8/8/8/8/4K2R w K - 0 1";
+
+const SIX_ROW: &str = "1nb4k/8/8/8/8/8/8/KNB5 w - - 0 1";
+
+const ROOK_ROW: &str = "8/8/8/4k3/8/8/K7/1Q5r b - - 0 1";
+
+const PAWN_ROW: &str = "8/8/8/4k3/4P3/8/8/K7 w - - 0 1";
+
+const QUEEN_TABLES: [&str; 2] = ["KQvK.rtbw", "KQvK.rtbz"];
+
+/// A set without tables that may keep 64 blocks.
+fn empty_set<'a>(rt: &impl Abort, alloc: Global) -> Set<'a> {
+    Set::new(alloc, 64).expect(rt, "a set")
+}
+
+fn table_of<'a>(rt: &impl Abort, alloc: Global, name: &str, file: &'a [u8; 80]) -> Table<'a> {
+    open(alloc, name.as_bytes(), file).expect(rt, name)
+}
+
+fn added<'a>(
+    rt: &impl Abort,
+    alloc: Global,
+    set: &mut Set<'a>,
+    name: &str,
+    file: &'a [u8; 80],
+) -> Result<(), SetFault> {
+    set.add(table_of(rt, alloc, name, file))
+}
+
+/// Adds the table of this name and file.
+fn add<'a>(rt: &impl Abort, alloc: Global, set: &mut Set<'a>, name: &str, file: &'a [u8; 80]) {
+    check_same(rt, added(rt, alloc, set, name, file), Ok(()), name);
+}
+
+/// The set of the tables of these names and files.
+fn set_of<'a>(rt: &impl Abort, alloc: Global, names: &[&str], files: &'a [[u8; 80]]) -> Set<'a> {
+    let mut set = empty_set(rt, alloc);
+    for (name, file) in names.iter().zip(files.iter()) {
+        add(rt, alloc, &mut set, *name, file);
+    }
+    set
+}
+
+fn value(rt: &impl Abort, alloc: Global, set: &mut Set<'_>, row: &str) -> Result<i8, ProbeFault> {
+    match set.wdl(alloc, &position_of(rt, row)) {
+        Ok(value) => Ok(value.number()),
+        Err(fault) => Err(fault),
+    }
+}
+
+fn distance(
+    rt: &impl Abort,
+    alloc: Global,
+    set: &mut Set<'_>,
+    row: &str,
+) -> Result<i32, ProbeFault> {
+    set.dtz(alloc, &position_of(rt, row))
+}
+
+fn judged(
+    rt: &impl Abort,
+    alloc: Global,
+    set: &mut Set<'_>,
+    row: &str,
+) -> Result<Option<Verdict>, AllocError> {
+    set.judge(alloc, &position_of(rt, row))
+}
+
+fn check_value(
+    rt: &impl Abort,
+    alloc: Global,
+    set: &mut Set<'_>,
+    row: &str,
+    wanted: Result<i8, ProbeFault>,
+) {
+    check_same(rt, value(rt, alloc, set, row), wanted, row);
+}
+
+fn check_distance(
+    rt: &impl Abort,
+    alloc: Global,
+    set: &mut Set<'_>,
+    row: &str,
+    wanted: Result<i32, ProbeFault>,
+) {
+    check_same(rt, distance(rt, alloc, set, row), wanted, row);
+}
+
+fn check_verdict(
+    rt: &impl Abort,
+    alloc: Global,
+    set: &mut Set<'_>,
+    row: &str,
+    wanted: Option<Verdict>,
+) {
+    check_same(rt, judged(rt, alloc, set, row).ok(), Some(wanted), row);
+}
+
+fn not_covered(rt: &impl Abort, name: &str) -> ProbeFault {
+    ProbeFault::NotCovered(material(rt, name))
+}
+
+fn damaged(rt: &impl Abort, name: &str) -> ProbeFault {
+    ProbeFault::Damaged(material(rt, name))
+}
+
+/// A position with its value, and the verdict without tables of distances.
+struct Worked {
+    row: &'static str,
+    value: i8,
+    verdict: Option<Verdict>,
+}
+
+const WORKED: [Worked; 7] = [
+    Worked {
+        row: KNIGHT_ROW,
+        value: 0,
+        verdict: Some(Verdict::TableDraw),
+    },
+    Worked {
+        row: HANGING_ROW,
+        value: 0,
+        verdict: Some(Verdict::TableDraw),
+    },
+    Worked {
+        row: PASSED_ROW,
+        value: 2,
+        verdict: Some(Verdict::TableBlack),
+    },
+    Worked {
+        row: "8/8/8/8/k2pP3/8/8/K7 b - - 0 1",
+        value: 0,
+        verdict: Some(Verdict::TableDraw),
+    },
+    Worked {
+        row: QUEEN_ROW,
+        value: 2,
+        verdict: None,
+    },
+    Worked {
+        row: "8/8/8/4k3/8/8/8/KQ6 b - - 0 1",
+        value: -2,
+        verdict: None,
+    },
+    Worked {
+        row: "8/8/8/4k3/8/8/8/K7 w - - 0 1",
+        value: 0,
+        verdict: Some(Verdict::TableDraw),
+    },
+];
+
+/// The value is told before and after the verdict.
+fn check_worked(rt: &impl Abort, alloc: Global, set: &mut Set<'_>, worked: &Worked) {
+    check_value(rt, alloc, set, worked.row, Ok(worked.value));
+    check_verdict(rt, alloc, set, worked.row, worked.verdict);
+    check_value(rt, alloc, set, worked.row, Ok(worked.value));
+}
+
+const WORKED_TABLES: [&str; 4] = ["KNvK.rtbw", "KQvK.rtbw", "KPvK.rtbw", "KPvKP.rtbw"];
+
+fn worked_files() -> [[u8; 80]; 4] {
+    [
+        file_of(&KNIGHT),
+        file_of(&QUEEN),
+        file_of(&PAWN),
+        file_of(&PAWNS),
+    ]
+}
+
+#[test]
+fn worked_rows(rt: HostRuntime) {
+    let files = worked_files();
+    let mut set = set_of(&rt, rt.alloc(), &WORKED_TABLES, &files);
+    for worked in &WORKED {
+        check_worked(&rt, rt.alloc(), &mut set, worked);
+    }
+    check_same(&rt, set.cache(), 64, "blocks");
+}
+
+fn check_missing(rt: &impl Abort, alloc: Global, set: &mut Set<'_>) {
+    check_value(rt, alloc, set, KNIGHT_ROW, Err(not_covered(rt, "KNvK")));
+    check_verdict(rt, alloc, set, KNIGHT_ROW, None);
+}
+
+fn check_damaged(rt: &impl Abort, alloc: Global, set: &mut Set<'_>) {
+    check_value(rt, alloc, set, KNIGHT_ROW, Err(damaged(rt, "KNvK")));
+    check_verdict(rt, alloc, set, KNIGHT_ROW, Some(Verdict::Stopped));
+}
+
+/// Pawn takes knight comes to a table that is missing, which goes before the damaged one.
+fn check_missing_first(rt: &impl Abort, alloc: Global, set: &mut Set<'_>) {
+    let taken = "7k/8/8/3p4/4N3/8/8/K7 b - - 0 1";
+    check_value(rt, alloc, set, taken, Err(not_covered(rt, "KPvK")));
+    let own = "7k/8/8/3p4/8/8/8/K6N b - - 0 1";
+    check_value(rt, alloc, set, own, Err(not_covered(rt, "KNvKP")));
+}
+
+#[test]
+fn damaged_and_missing_tables(rt: HostRuntime) {
+    let file = file_of(&DAMAGED_KNIGHT);
+    let mut set = empty_set(&rt, rt.alloc());
+    check_missing(&rt, rt.alloc(), &mut set);
+    add(&rt, rt.alloc(), &mut set, "KNvK.rtbw", &file);
+    check_damaged(&rt, rt.alloc(), &mut set);
+    check_missing_first(&rt, rt.alloc(), &mut set);
+    let again = added(&rt, rt.alloc(), &mut set, "KNvK.rtbw", &file);
+    check_same(&rt, again, Err(SetFault::Duplicate), "again");
+}
+
+/// Castling rights, six men, mates and stalemate.
+const ROWS_WITHOUT_TABLES: [(&str, Option<Verdict>); 5] = [
+    (CASTLING_ROW, None),
+    (SIX_ROW, None),
+    ("7k/5KQ1/8/8/8/8/8/8 b - - 0 1", Some(Verdict::WhiteMates)),
+    ("8/8/8/8/8/8/5kq1/7K w - - 0 1", Some(Verdict::BlackMates)),
+    ("7k/5Q2/6K1/8/8/8/8/8 b - - 0 1", Some(Verdict::Stalemate)),
+];
+
+#[test]
+fn verdicts_without_tables(rt: HostRuntime) {
+    let mut set = empty_set(&rt, rt.alloc());
+    for (row, verdict) in ROWS_WITHOUT_TABLES {
+        check_verdict(&rt, rt.alloc(), &mut set, row, verdict);
+    }
+}
+
+fn check_out_of_scope(rt: &impl Abort, alloc: Global, set: &mut Set<'_>, row: &str) {
+    check_value(rt, alloc, set, row, Err(ProbeFault::OutOfScope));
+}
+
+#[test]
+fn values_are_told_within_scope(rt: HostRuntime) {
+    let mut set = empty_set(&rt, rt.alloc());
+    check_out_of_scope(&rt, rt.alloc(), &mut set, CASTLING_ROW);
+    check_out_of_scope(&rt, rt.alloc(), &mut set, SIX_ROW);
+    check_text(&rt, ProbeFault::OutOfScope.name(), "OutOfScope");
+}
+
+fn check_both(
+    rt: &impl Abort,
+    alloc: Global,
+    set: &mut Set<'_>,
+    row: &str,
+    distance: i32,
+    verdict: Option<Verdict>,
+) {
+    check_distance(rt, alloc, set, row, Ok(distance));
+    check_verdict(rt, alloc, set, row, verdict);
+}
+
+/// A position with its distance and the verdict by it.
+struct Measured {
+    row: &'static str,
+    plies: i32,
+    verdict: Option<Verdict>,
+}
+
+/// 10 plies of white's, 11 of black's, and clocks with which they make 99 or 100.
+const QUEEN_ROWS: [Measured; 6] = [
+    Measured {
+        row: QUEEN_ROW,
+        plies: 10,
+        verdict: Some(Verdict::TableWhite),
+    },
+    Measured {
+        row: "8/8/8/4k3/8/8/8/KQ6 w - - 89 1",
+        plies: 10,
+        verdict: Some(Verdict::TableWhite),
+    },
+    Measured {
+        row: "8/8/8/4k3/8/8/8/KQ6 w - - 90 1",
+        plies: 10,
+        verdict: None,
+    },
+    Measured {
+        row: "8/8/8/8/8/2k5/8/K6Q b - - 88 1",
+        plies: -11,
+        verdict: Some(Verdict::TableWhite),
+    },
+    Measured {
+        row: "8/8/8/8/8/2k5/8/K6Q b - - 89 1",
+        plies: -11,
+        verdict: None,
+    },
+    Measured {
+        row: HANGING_ROW,
+        plies: 0,
+        verdict: Some(Verdict::TableDraw),
+    },
+];
+
+fn check_queen_rows(rt: &impl Abort, alloc: Global, set: &mut Set<'_>) {
+    for it in &QUEEN_ROWS {
+        check_both(rt, alloc, set, it.row, it.plies, it.verdict);
+    }
+}
+
+/// A queen's values are there, and no distances.
+fn check_queen_without_distances(rt: &impl Abort, alloc: Global, set: &mut Set<'_>) {
+    check_distance(rt, alloc, set, QUEEN_ROW, Err(not_covered(rt, "KQvK")));
+    check_verdict(rt, alloc, set, QUEEN_ROW, None);
+    check_distance(rt, alloc, set, HANGING_ROW, Ok(0));
+}
+
+#[test]
+fn worked_distances(rt: HostRuntime) {
+    let values = [file_of(&QUEEN)];
+    let distances = file_of(&QUEEN_PLIES);
+    let mut set = set_of(&rt, rt.alloc(), &["KQvK.rtbw"], &values);
+    check_queen_without_distances(&rt, rt.alloc(), &mut set);
+    add(&rt, rt.alloc(), &mut set, "KQvK.rtbz", &distances);
+    check_queen_rows(&rt, rt.alloc(), &mut set);
+}
+
+/// A distance with the queen's tables of these files.
+fn check_queen_tables(rt: &impl Abort, alloc: Global, files: &[[u8; 80]], row: &str, plies: i32) {
+    let mut set = set_of(rt, alloc, &QUEEN_TABLES, files);
+    check_distance(rt, alloc, &mut set, row, Ok(plies));
+}
+
+/// In moves of one side, by the other side's table, and where the queen goes to b8 with mate.
+#[test]
+fn distances_in_moves_and_of_the_other_side(rt: HostRuntime) {
+    let moves = files_of(&QUEEN, &QUEEN_MOVES);
+    check_queen_tables(&rt, rt.alloc(), &moves, QUEEN_ROW, 19);
+    let against = files_of(&QUEEN, &QUEEN_AGAINST);
+    check_queen_tables(&rt, rt.alloc(), &against, QUEEN_ROW, 6);
+    let mating = "7k/8/6K1/8/8/8/8/1Q6 w - - 0 1";
+    check_queen_tables(&rt, rt.alloc(), &against, mating, 1);
+}
+
+/// En passant wins, and the pawn on e4 goes on: no DTZ table is asked but at last.
+fn check_pawns_without_distances(rt: &impl Abort, alloc: Global, set: &mut Set<'_>) {
+    check_both(rt, alloc, set, PASSED_ROW, 1, Some(Verdict::TableBlack));
+    let free = "2k5/8/8/8/4P3/8/8/K7 w - - 0 1";
+    check_distance(rt, alloc, set, free, Ok(1));
+    check_distance(rt, alloc, set, PAWN_ROW, Err(not_covered(rt, "KPvK")));
+}
+
+/// From d6 black's king stops the pawn on e5 or meets it on e6, by neither its first nor its last move.
+fn check_stopped_pawn(rt: &impl Abort, alloc: Global, set: &mut Set<'_>) {
+    check_distance(rt, alloc, set, PAWN_ROW, Ok(10));
+    let stopped = "8/8/3k4/8/4P3/8/8/K7 b - - 0 1";
+    check_both(rt, alloc, set, stopped, -11, Some(Verdict::TableWhite));
+}
+
+/// Each promotion's table is needed, though the own one stores the side.
+fn check_promotion(rt: &impl Abort, alloc: Global, set: &mut Set<'_>) {
+    let row = "8/4P3/3k4/8/8/8/8/K7 w - - 0 1";
+    check_distance(rt, alloc, set, row, Err(not_covered(rt, "KQvK")));
+    check_verdict(rt, alloc, set, row, None);
+}
+
+#[test]
+fn captures_and_pawn_moves(rt: HostRuntime) {
+    let values = files_of(&PAWN, &PAWNS);
+    let distances = file_of(&PAWN_PLIES);
+    let mut set = set_of(&rt, rt.alloc(), &["KPvK.rtbw", "KPvKP.rtbw"], &values);
+    check_pawns_without_distances(&rt, rt.alloc(), &mut set);
+    add(&rt, rt.alloc(), &mut set, "KPvK.rtbz", &distances);
+    check_stopped_pawn(&rt, rt.alloc(), &mut set);
+    check_promotion(&rt, rt.alloc(), &mut set);
+}
+
+fn check_far_out(rt: &impl Abort, alloc: Global, set: &mut Set<'_>) {
+    check_distance(rt, alloc, set, SIX_ROW, Err(ProbeFault::OutOfScope));
+}
+
+#[test]
+fn cursed_moves(rt: HostRuntime) {
+    let files = files_of(&CURSED_QUEEN, &CURSED_MOVES);
+    let mut set = set_of(&rt, rt.alloc(), &QUEEN_TABLES, &files);
+    check_both(&rt, rt.alloc(), &mut set, QUEEN_ROW, 111, None);
+    check_both(&rt, rt.alloc(), &mut set, CHECKING_ROW, -112, None);
+    check_far_out(&rt, rt.alloc(), &mut set);
+}
+
+/// A delay is at most 8 plies.
+fn check_delay(rt: &impl Abort, delay: u8)
+    ensures { delay ≤ most_delay }
+{
+    assert!(rt; delay <= 8);
+}
+
+fn outcome(
+    rt: &impl Abort,
+    alloc: Global,
+    set: &mut Set<'_>,
+    start: &str,
+    moves: &[Move],
+    delay: u8,
+) -> Result<GameOutcome, AllocError> {
+    check_delay(rt, delay);
+    set.judge_game(alloc, &position_of(rt, start), moves, delay)
+}
+
+/// What the game of these moves comes to.
+fn game_of(
+    rt: &impl Abort,
+    alloc: Global,
+    set: &mut Set<'_>,
+    start: &str,
+    moves: &str,
+    delay: u8,
+) -> Result<GameOutcome, AllocError> {
+    let moves = moves_of(rt, alloc, moves)?;
+    outcome(rt, alloc, set, start, moves.as_slice(), delay)
+}
+
+/// A game: where it starts, its moves, for how many further plies a verdict by tables must hold, and what it comes to.
+struct Game {
+    start: &'static str,
+    moves: &'static str,
+    delay: u8,
+    outcome: GameOutcome,
+}
+
+/// The rook is taken at ply 4, and the queen wins from then on.
+const MOVES: &str = "h1h8 b1b8 e5e4 b8h8 e4d3 a2b3 d3d2 h8d4 d2e2";
+
+const WHITE_WINS: GameOutcome = GameOutcome::Ruled {
+    ply: 4,
+    verdict: Verdict::TableWhite,
+};
+
+/// Two games with a verdict, one that is cut before it, one without moves, one whose second move is its first again, and the
+/// first with delays.
+const GAMES: [Game; 7] = [
+    Game {
+        start: ROOK_ROW,
+        moves: MOVES,
+        delay: 0,
+        outcome: WHITE_WINS,
+    },
+    Game {
+        start: QUEEN_ROW,
+        moves: MOVES,
+        delay: 0,
+        outcome: GameOutcome::Ruled {
+            ply: 0,
+            verdict: Verdict::TableWhite,
+        },
+    },
+    Game {
+        start: ROOK_ROW,
+        moves: "h1h8 b1b8 e5e4",
+        delay: 0,
+        outcome: GameOutcome::Going,
+    },
+    Game {
+        start: ROOK_ROW,
+        moves: "",
+        delay: 0,
+        outcome: GameOutcome::Going,
+    },
+    Game {
+        start: ROOK_ROW,
+        moves: "h1h8 h1h8",
+        delay: 0,
+        outcome: GameOutcome::Illegal { place: 1 },
+    },
+    Game {
+        start: ROOK_ROW,
+        moves: MOVES,
+        delay: 2,
+        outcome: GameOutcome::Ruled {
+            ply: 6,
+            verdict: Verdict::TableWhite,
+        },
+    },
+    Game {
+        start: ROOK_ROW,
+        moves: MOVES,
+        delay: 8,
+        outcome: GameOutcome::Going,
+    },
+];
+
+fn check_game(rt: &impl Abort, alloc: Global, set: &mut Set<'_>, game: &Game) {
+    let told = game_of(rt, alloc, set, game.start, game.moves, game.delay).ok();
+    check_same(rt, told, Some(game.outcome), game.moves);
+}
+
+#[test]
+fn first_verdicts_of_games(rt: HostRuntime) {
+    let files = files_of(&QUEEN, &QUEEN_PLIES);
+    let mut set = set_of(&rt, rt.alloc(), &QUEEN_TABLES, &files);
+    for game in &GAMES {
+        check_game(&rt, rt.alloc(), &mut set, game);
+    }
+}
+
+/// The value of the hanging queen where memory may be refused: the right one or that.
+fn check_value_or_refusal(rt: &impl Abort, alloc: Global, set: &mut Set<'_>) {
+    match value(rt, alloc, set, HANGING_ROW) {
+        Ok(value) => check_same(rt, value, 0, HANGING_ROW),
+        Err(fault) => check_same(rt, fault, ProbeFault::OutOfMemory, HANGING_ROW),
+    }
+}
+
+fn check_verdict_or_refusal(rt: &impl Abort, alloc: Global, set: &mut Set<'_>) {
+    if let Ok(verdict) = judged(rt, alloc, set, HANGING_ROW) {
+        check_same(rt, verdict, Some(Verdict::TableDraw), HANGING_ROW);
+    }
+}
+
+/// The distance by a quiet move.
+fn check_distance_or_refusal(rt: &impl Abort, alloc: Global, set: &mut Set<'_>) {
+    match distance(rt, alloc, set, CHECKING_ROW) {
+        Ok(distance) => check_same(rt, distance, -11, CHECKING_ROW),
+        Err(fault) => check_same(rt, fault, ProbeFault::OutOfMemory, CHECKING_ROW),
+    }
+}
+
+fn check_game_or_refusal(rt: &impl Abort, alloc: Global, set: &mut Set<'_>) {
+    if let Ok(outcome) = game_of(rt, alloc, set, ROOK_ROW, "h1h8 b1b8 e5e4 b8h8", 0) {
+        check_same(rt, outcome, WHITE_WINS, "a game");
+    }
+}
+
+/// Whether the table is added; where it isn't, memory was refused.
+fn is_added<'a>(
+    rt: &impl Abort,
+    alloc: Global,
+    set: &mut Set<'a>,
+    name: &str,
+    file: &'a [u8; 80],
+) -> Result<bool, Fail> {
+    let table = open(alloc, name.as_bytes(), file)?;
+    let told = set.add(table);
+    if told.is_err() {
+        check_same(rt, told, Err(SetFault::OutOfMemory), name);
+    }
+    Ok(told.is_ok())
+}
+
+fn check_values_added<'a>(
+    rt: &impl Abort,
+    alloc: Global,
+    set: &mut Set<'a>,
+    file: &'a [u8; 80],
+) -> Result<(), Fail> {
+    if is_added(rt, alloc, set, "KQvK.rtbw", file)? {
+        check_value_or_refusal(rt, alloc, set);
+        check_verdict_or_refusal(rt, alloc, set);
+        check_value_or_refusal(rt, alloc, set);
+    }
+    Ok(())
+}
+
+fn check_distances_added<'a>(
+    rt: &impl Abort,
+    alloc: Global,
+    set: &mut Set<'a>,
+    file: &'a [u8; 80],
+) -> Result<(), Fail> {
+    if is_added(rt, alloc, set, "KQvK.rtbz", file)? && value(rt, alloc, set, QUEEN_ROW).is_ok() {
+        check_distance_or_refusal(rt, alloc, set);
+        check_game_or_refusal(rt, alloc, set);
+    }
+    Ok(())
+}
+
+#[test]
+fn refused_memory_changes_no_answer(rt: HostRuntime) -> Result<(), Fail> {
+    let values = file_of(&QUEEN);
+    let distances = file_of(&QUEEN_PLIES);
+    let mut set = Set::new(rt.alloc(), 64)?;
+    check_values_added(&rt, rt.alloc(), &mut set, &values)?;
+    check_distances_added(&rt, rt.alloc(), &mut set, &distances)
+}
