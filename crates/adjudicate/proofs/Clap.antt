@@ -5,8 +5,10 @@ use Rattle.clap.specs.Kinds.{Kinds, HasKind, IsAmong}
 use Rattle.clap.specs.declared.error.Error.{Error}
 use Rattle.clap.proofs.OnLiterals.{clap_on_literals}
 use Rattle.adjudicate.specs.declared.usage.Usage.TheVariants.{Misuse, OutOfMemory}
+use Rattle.adjudicate.specs.declared.commands.Name.{Name}
+use Rattle.adjudicate.specs.declared.commands.Name.TheVariants as name
 use Rattle.adjudicate.specs.Usage.{usage_of}
-use Rattle.adjudicate.specs.Commands.{judge_app, probe_app, moves_app, list_app, check_app, show_app}
+use Rattle.adjudicate.specs.Commands.{app_for}
 
 pub is_taken_for_memory : (kinds : Kinds) (e : Error) → HasKind kinds e → kinds ≡ [] → usage_of (kind_of e) ≡ Misuse → ⊥
 is_taken_for_memory kinds e h none is =
@@ -15,26 +17,11 @@ is_taken_for_memory kinds e h none is =
       | inr among ↦ subst (IsAmong (kind_of e)) none among
     ]
 
-pub judge_is_simple : is_simple_and_free judge_app ≡ true
-unfolding clap_on_literals judge_app
-judge_is_simple = refl
-
-pub moves_is_simple : is_simple_and_free moves_app ≡ true
-unfolding clap_on_literals moves_app
-moves_is_simple = refl
-
-pub show_is_simple : is_simple_and_free show_app ≡ true
-unfolding clap_on_literals show_app
-show_is_simple = refl
-
-pub probe_is_simple : is_simple_and_free probe_app ≡ true
-unfolding clap_on_literals probe_app
-probe_is_simple = refl
-
-pub list_is_simple : is_simple_and_free list_app ≡ true
-unfolding clap_on_literals list_app
-list_is_simple = refl
-
-pub check_is_simple : is_simple_and_free check_app ≡ true
-unfolding clap_on_literals check_app
-check_is_simple = refl
+pub is_simple : (name : Name) → is_simple_and_free (app_for name) ≡ true
+unfolding clap_on_literals app_for
+is_simple name.Judge = refl
+is_simple name.Probe = refl
+is_simple name.Moves = refl
+is_simple name.List = refl
+is_simple name.Check = refl
+is_simple name.Show = refl

@@ -3,7 +3,7 @@ use Rattle.std.proofs.Common.{◌≡◌, ℕ, ◌+◌, ◌≤◌, List, [], ◌+
 use Rattle.std.specs.Prelude.{IfSome}
 use Rattle.std.specs.Option.{option_map}
 use Rattle.std.proofs.lemmas.List.{length-take, take_all}
-use Rattle.adjudicate.specs.Running.{most_bytes}
+use Rattle.adjudicate.specs.Outside.{most_bytes}
 
 pub whole_input : (known : Option (List ℕ)) (input : List ℕ) (limit : ℕ) → limit ≡ most_bytes + 1 → IfSome (option_map (take limit) known) (λ all. input ≡ all) → length input ≤ most_bytes → IfSome known (λ all. input ≡ all)
 whole_input None input limit is h short = tt {0}

@@ -1,47 +1,51 @@
 -- The commands of the program (this project's own), as the parser of command lines reads them.
-use Rattle.std.specs.Prelude.{List, Option, Some, codes, true}
+use Rattle.std.specs.Prelude.{List, [], ◌∷◌, Option, Some, codes, true}
 use Rattle.clap.specs.Words.{App, Rule, Text, fault_of, first_of, matches_of, new_app, new_rule, with_rule}
 use Rattle.clap.specs.Kinds.{Kinds}
+use Rattle.adjudicate.specs.declared.commands.Name.{Name}
+use Rattle.adjudicate.specs.declared.commands.Name.TheVariants as name
+use Rattle.adjudicate.specs.declared.commands.Form.{Form}
+use Rattle.adjudicate.specs.declared.commands.Form.TheVariants as form
+use Rattle.adjudicate.specs.declared.commands.Value.{Value}
 
--- a word that has to be there
-abbrev pub needed_rule : Text → Rule
-needed_rule name = record (new_rule name) { required = true }
+-- the word that names a command
+abbrev pub word_of : Name → Text
+word_of name.Judge = codes "judge"
+word_of name.Probe = codes "probe"
+word_of name.Moves = codes "moves"
+word_of name.List = codes "list"
+word_of name.Check = codes "check"
+word_of name.Show = codes "show"
 
--- an option with this name, as `--tables DIR`
-abbrev pub option_rule : Text → Rule
-option_rule name = record (new_rule name) { long = Some name }
+-- a value of this name: a word that has to be there, an option as `--tables DIR`, or an option that has to be there
+abbrev pub rule_of_form : Form → Text → Rule
+rule_of_form form.Word id = record (new_rule id) { required = true }
+rule_of_form form.Option id = record (new_rule id) { long = Some id }
+rule_of_form form.NeededOption id = record (new_rule id) { long = Some id; required = true }
 
--- the same, of an option that has to be there
-abbrev pub needed_option_rule : Text → Rule
-needed_option_rule name = record (option_rule name) { required = true }
+abbrev pub rule_of_value : Value → Rule
+rule_of_value v = rule_of_form v.form v.name.now
 
--- judge [--tables DIR] [--manifest FILE] FEN
-unfoldable pub judge_app : App
-judge_app =
-    with_rule (with_rule (with_rule (new_app (codes "judge")) (option_rule (codes "tables"))) (option_rule (codes "manifest")))
-    (needed_rule (codes "FEN"))
+-- judge [--tables DIR] [--manifest FILE] FEN; probe --tables DIR [--manifest FILE] FEN; moves FEN; list DIR;
+-- check --manifest FILE DIR; show
+abbrev pub rules_of : Name → List Rule
+rules_of name.Judge =
+    rule_of_form form.Option (codes "tables") ∷ rule_of_form form.Option (codes "manifest") ∷ rule_of_form form.Word (codes "FEN") ∷ []
+rules_of name.Probe =
+    rule_of_form form.NeededOption (codes "tables") ∷ rule_of_form form.Option (codes "manifest") ∷ rule_of_form form.Word (codes "FEN") ∷ []
+rules_of name.Moves = rule_of_form form.Word (codes "FEN") ∷ []
+rules_of name.List = rule_of_form form.Word (codes "DIR") ∷ []
+rules_of name.Check = rule_of_form form.NeededOption (codes "manifest") ∷ rule_of_form form.Word (codes "DIR") ∷ []
+rules_of name.Show = []
 
--- probe --tables DIR [--manifest FILE] FEN
-unfoldable pub probe_app : App
-probe_app =
-    with_rule (with_rule (with_rule (new_app (codes "probe")) (needed_option_rule (codes "tables"))) (option_rule (codes "manifest")))
-    (needed_rule (codes "FEN"))
+-- a command with more rules
+abbrev pub with_rules : App → List Rule → App
+with_rules app [] = app
+with_rules app (rule ∷ rules) = with_rules (with_rule app rule) rules
 
--- moves FEN
-unfoldable pub moves_app : App
-moves_app = with_rule (new_app (codes "moves")) (needed_rule (codes "FEN"))
-
--- list DIR
-unfoldable pub list_app : App
-list_app = with_rule (new_app (codes "list")) (needed_rule (codes "DIR"))
-
--- check --manifest FILE DIR
-unfoldable pub check_app : App
-check_app = with_rule (with_rule (new_app (codes "check")) (needed_option_rule (codes "manifest"))) (needed_rule (codes "DIR"))
-
--- show
-unfoldable pub show_app : App
-show_app = new_app (codes "show")
+-- the command as the parser reads it
+unfoldable pub app_for : Name → App
+app_for name = with_rules (new_app (word_of name)) (rules_of name)
 
 -- the value that a command gives an argument at the words
 unfoldable pub value_in : App → List Text → Text → Option Text

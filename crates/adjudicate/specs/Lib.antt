@@ -2,10 +2,15 @@ pub mod Commands
 pub mod Tasks
 pub mod Usage
 pub mod Files
+pub mod Given
+pub mod ToldBy
+pub mod Outside
+pub mod Placing
+pub mod Lines
+pub mod Reads
 pub mod Looks
 pub mod Refusals
-pub mod Probes
 pub mod Reply
-pub mod Questions
+pub mod Asked
 pub mod Fronts
 pub mod Running

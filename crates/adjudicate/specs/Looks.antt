@@ -1,39 +1,19 @@
 -- What is found where the files of tables are looked at (this project's own).
-use Rattle.std.specs.Prelude.{◌≡◌, ◌⊎◌, ℕ, Bool, List, [], ◌∷◌, ◌++◌, map, replicate, Option, Some, None, is_some, Result, Ok, Err, slice_set, if◌then◌else◌, codes}
+use Rattle.std.specs.Prelude.{◌≡◌, ℕ, Bool, List, [], ◌∷◌, map, replicate, Option, Some, None, is_some, Result, Ok, Err, slice_set, if◌then◌else◌}
 use Rattle.std.specs.List.{list_all}
 use Rattle.std.specs.Str.{bytes_eq}
-use Rattle.std.specs.Fmt.{decimal}
 use Rattle.std.specs.Result.{is_ok}
 use Rattle.sha2.specs.Sha256.{sha256}
-use Rattle.move_msg.specs.Manifests.{Entry, SpellsManifest, IsFirstBadLine}
+use Rattle.move_msg.specs.Files.{File}
+use Rattle.move_msg.specs.Manifests.{Entry}
 use Rattle.table_file.specs.declared.fault.TableFault.{TableFault}
-use Rattle.table_file.specs.declared.fault.TableFault.TheVariants as table
 use Rattle.table_file.specs.Tables.{Contents, table_at as contents_at}
 use Rattle.judge_core.specs.Tables.{Tables, slot, table_at}
 use Rattle.adjudicate.specs.declared.tables.FileFault.{FileFault}
 use Rattle.adjudicate.specs.declared.tables.FileFault.TheVariants.{Missing, Changed, Bad}
-use Rattle.adjudicate.specs.Files.{File, file_named}
-
--- ---- faults by name
-
-abbrev pub table_fault_name : TableFault → List ℕ
-table_fault_name table.BadName = codes "BadName"
-table_fault_name table.BadSize = codes "BadSize"
-table_fault_name table.BadMagic = codes "BadMagic"
-table_fault_name table.BadFlags = codes "BadFlags"
-table_fault_name table.BadPieces = codes "BadPieces"
-table_fault_name table.BadOrder = codes "BadOrder"
-table_fault_name table.Truncated = codes "Truncated"
-table_fault_name table.BadExponent = codes "BadExponent"
-table_fault_name table.BadCode = codes "BadCode"
-table_fault_name table.BadSymbol = codes "BadSymbol"
-table_fault_name table.BadSparse = codes "BadSparse"
-table_fault_name table.OutOfMemory = codes "OutOfMemory"
-
-abbrev pub file_fault_name : FileFault → List ℕ
-file_fault_name Missing = codes "missing"
-file_fault_name Changed = codes "changed"
-file_fault_name (Bad fault) = table_fault_name fault
+use Rattle.adjudicate.specs.Files.{file_named}
+use Rattle.adjudicate.specs.Given.{Given, Told}
+use Rattle.adjudicate.specs.Lines.{file_fault_name, look_words, refused_file, refused_manifest}
 
 -- ---- one file
 
@@ -77,11 +57,7 @@ no_tables = replicate 290 None
 abbrev pub with_table : Tables → Contents → Tables
 with_table tables t = if is_some (table_at tables t.kind t.material) then tables else slice_set tables (slot t.kind t.material) (Some t)
 
--- the line that refuses a file
-abbrev pub refused_file : List ℕ → List ℕ → List ℕ
-refused_file name word = codes "refused " ++ name ++ codes " " ++ word
-
--- a set with what was found, or the line that refuses it
+-- a set with what was found, or the words that refuse it
 abbrev pub with_found : Tables → List ℕ → Found → Result Tables (List ℕ)
 with_found tables name (Ok t) = Ok (with_table tables t)
 with_found tables name (Err fault) = Err (refused_file name (file_fault_name fault))
@@ -91,32 +67,30 @@ abbrev pub ◌>>=◌ : {A B E : Type 0} → Result A E → (A → Result B E) �
 (Ok x) >>= f = f x
 (Err e) >>= f = Err e
 
--- the tables with all that is found in turn, or the line that refuses the first that is at fault
+-- the tables with all that is found in turn, or the words that refuse the first that is at fault
 unfoldable pub tables_from : Tables → List Look → Result Tables (List ℕ)
 tables_from tables [] = Ok tables
 tables_from tables (look ∷ looks) = do
   more ← with_found tables look.name look.found
   tables_from more looks
 
--- the line that refuses a manifest by the number of its first line at fault
-abbrev pub refused_manifest : ℕ → List ℕ
-refused_manifest number = codes "refused manifest " ++ decimal number
+-- what files and a manifest give: the tables of a set, or the words that refuse them
+abbrev pub gathered_by : List File → Option Told → Result Tables (List ℕ)
+gathered_by files None = tables_from no_tables (map look_at files)
+gathered_by files (Some (Ok es)) = tables_from no_tables (map (look_for files) es)
+gathered_by files (Some (Err number)) = Err (refused_manifest number)
 
--- what files and a manifest give: the tables of a set, or the line that refuses them
-abbrev pub Gathers : List File → Option (List ℕ) → Result Tables (List ℕ) → Type 0
-Gathers files None r = r ≡ tables_from no_tables (map look_at files)
-Gathers files (Some text) r =
-    ((es : List Entry) × SpellsManifest text es × (r ≡ tables_from no_tables (map (look_for files) es)))
-    ⊎ ((k : ℕ) × IsFirstBadLine text k × (r ≡ Err (refused_manifest k)))
+unfoldable pub gathered : Given → Result Tables (List ℕ)
+gathered given = gathered_by given.files given.told
 
 -- ---- what is told of each
 
-abbrev pub found_word : Found → List ℕ
-found_word (Ok t) = codes "ok"
-found_word (Err fault) = file_fault_name fault
+abbrev pub fault_in : Found → Option FileFault
+fault_in (Ok t) = None
+fault_in (Err fault) = Some fault
 
 abbrev pub look_line : Look → List ℕ
-look_line look = look.name ++ codes " " ++ found_word look.found
+look_line look = look_words look.name (fault_in look.found)
 
 -- each is the table that it should be
 abbrev pub are_tables : List Look → Bool

@@ -1,9 +1,9 @@
 //! Command lines, as tasks.
 
-ghost use Rattle.std.specs.Prelude.{◌≡◌, List, [], map, true, IfOk, IfErr, Err, codes};
-ghost use Rattle.clap.specs.Words.{app_of, is_simple_and_free, found_of, first_value};
-ghost use Rattle.adjudicate.specs.Commands.{judge_app, probe_app, moves_app, list_app, check_app, show_app, value_in};
-ghost use Rattle.adjudicate.specs.Tasks.{IsTask, IsMisuse, IsTaken, IsMisused, IsMisusedOfTwo, Names, NamesNone};
+ghost use Rattle.std.specs.Prelude.{◌≡◌, ◌∷◌, List, [], map, true, false, IfOk, IfErr, IfSome, IfNone, Err, Option};
+ghost use Rattle.clap.specs.Words.{Text, app_of, is_simple_and_free, found_of, first_value, rule_of, with_rule};
+ghost use Rattle.adjudicate.specs.Commands.{app_for, rule_of_value, rules_of, value_in, word_of};
+ghost use Rattle.adjudicate.specs.Tasks.{HasValues, IsTask, IsMisuse, IsTaken, Lacks, Names, NamesNone, name_of};
 
 use crate::usage::Usage;
 use clap::{Arg, ArgMatches, Command};
@@ -51,6 +51,178 @@ pub enum Task<'a> {
     Show,
 }
 
+/// The commands.
+#[derive(Clone, Copy, PartialEq, Eq, Debug)]
+pub enum Name {
+    /// Judges a position.
+    Judge,
+    /// Probes tables for a position.
+    Probe,
+    /// Lists legal moves.
+    Moves,
+    /// Lists tables.
+    List,
+    /// Checks tables.
+    Check,
+    /// Shows messages.
+    Show,
+}
+
+/// How a command is given a value.
+#[derive(Clone, Copy, PartialEq, Eq, Debug)]
+pub enum Form {
+    /// As a word that has to be there.
+    Word,
+    /// After `--` and its name, or not at all.
+    Option,
+    /// After `--` and its name.
+    NeededOption,
+}
+
+/// A value that a command is given.
+#[derive(Clone, Copy, Debug)]
+pub struct Value {
+    name: &'static str,
+    form: Form,
+}
+
+/// The values of `judge`.
+const OF_JUDGE: [Value; 3] = [
+    Value {
+        name: "tables",
+        form: Form::Option,
+    },
+    Value {
+        name: "manifest",
+        form: Form::Option,
+    },
+    Value {
+        name: "FEN",
+        form: Form::Word,
+    },
+];
+
+/// The values of `probe`.
+const OF_PROBE: [Value; 3] = [
+    Value {
+        name: "tables",
+        form: Form::NeededOption,
+    },
+    Value {
+        name: "manifest",
+        form: Form::Option,
+    },
+    Value {
+        name: "FEN",
+        form: Form::Word,
+    },
+];
+
+/// The values of `moves`.
+const OF_MOVES: [Value; 1] = [Value {
+    name: "FEN",
+    form: Form::Word,
+}];
+
+/// The values of `list`.
+const OF_LIST: [Value; 1] = [Value {
+    name: "DIR",
+    form: Form::Word,
+}];
+
+/// The values of `check`.
+const OF_CHECK: [Value; 2] = [
+    Value {
+        name: "manifest",
+        form: Form::NeededOption,
+    },
+    Value {
+        name: "DIR",
+        form: Form::Word,
+    },
+];
+
+impl Name {
+    /// The command that a word names.
+    fn of(word: &str) -> Option<Name>
+        ensures some { IfSome result (λ name. word.now ≡ word_of name) }
+        ensures none { IfNone result ((name : Name) → word.now ≡ word_of name → ⊥) }
+    {
+        match word {
+            "judge" => Some(Name::Judge),
+            "probe" => Some(Name::Probe),
+            "moves" => Some(Name::Moves),
+            "list" => Some(Name::List),
+            "check" => Some(Name::Check),
+            "show" => Some(Name::Show),
+            _ => None,
+        }
+    }
+
+    /// The word that names the command.
+    fn word<'a>(self) -> &'a str
+        ensures { result.now ≡ word_of self }
+    {
+        match self {
+            Name::Judge => "judge",
+            Name::Probe => "probe",
+            Name::Moves => "moves",
+            Name::List => "list",
+            Name::Check => "check",
+            Name::Show => "show",
+        }
+    }
+
+    /// The values that the command is given.
+    fn values(self) -> &'static [Value]
+        ensures { map rule_of_value result.now ≡ rules_of self }
+    {
+        match self {
+            Name::Judge => &OF_JUDGE,
+            Name::Probe => &OF_PROBE,
+            Name::Moves => &OF_MOVES,
+            Name::List => &OF_LIST,
+            Name::Check => &OF_CHECK,
+            Name::Show => &[],
+        }
+    }
+}
+
+/// A value, as `clap` reads it.
+fn arg_of<'a>(alloc: Global, value: &Value) -> Arg<'a>
+    ensures rule { rule_of result ≡ rule_of_value value.now }
+    ensures own { result.global ≡ false }
+{
+    let arg = Arg::new(alloc, value.name);
+    match value.form {
+        Form::Word => arg.required(true),
+        Form::Option => arg.long(value.name),
+        Form::NeededOption => arg.long(value.name).required(true),
+    }
+}
+
+/// A command with one more value.
+fn with_value<'a>(
+    alloc: Global,
+    command: Command<'a>,
+    value: &Value,
+) -> Result<Command<'a>, AllocError>
+    ensures { IfOk result (λ c. app_of c ≡ with_rule (app_of command.entry) (rule_of_value value.now)) }
+{
+    command.arg(arg_of(alloc, value))
+}
+
+/// A command, as `clap` reads it.
+fn command_of<'a>(alloc: Global, name: Name) -> Result<Command<'a>, AllocError>
+    ensures { IfOk result (λ c. app_of c ≡ app_for name) }
+{
+    let mut command = Command::new(alloc, name.word());
+    for value in name.values() {
+        command = with_value(alloc, command, value)?;
+    }
+    Ok(command)
+}
+
 /// The matches of a simple command at the words, of which the first is the command's name.
 fn matches_at<'a>(command: Command<'a>, words: &'a [&'a str]) -> Result<ArgMatches<'a>, Usage>
     requires { is_simple_and_free (app_of command) ≡ true }
@@ -64,157 +236,69 @@ fn matches_at<'a>(command: Command<'a>, words: &'a [&'a str]) -> Result<ArgMatch
     }
 }
 
-/// `judge [--tables DIR] [--manifest FILE] FEN`, as `clap` reads it.
-fn judge_command<'a>(alloc: Global) -> Result<Command<'a>, AllocError>
-    ensures { IfOk result (λ c. app_of c ≡ judge_app) }
+/// The task of a command with these values; none where it lacks one that it needs.
+fn task_of<'a>(name: Name, matches: &ArgMatches<'a>) -> Option<Task<'a>>
+    ensures named { IfSome result (λ t. name_of t ≡ name) }
+    ensures values { IfSome result (HasValues (first_value (found_of matches.now))) }
+    ensures lacks { IfNone result (Lacks (first_value (found_of matches.now)) name) }
 {
-    let tables = Arg::new(alloc, "tables").long("tables");
-    let manifest = Arg::new(alloc, "manifest").long("manifest");
-    let fen = Arg::new(alloc, "FEN").required(true);
-    Command::new(alloc, "judge")
-        .arg(tables)?
-        .arg(manifest)?
-        .arg(fen)
-}
-
-/// A position to judge.
-fn judge_of<'a>(alloc: Global, words: &'a [&'a str]) -> Result<Task<'a>, Usage>
-    requires { Names (map (λ w. w.now) words.now) (codes "judge") }
-    ensures ok { IfOk result (IsTask (map (λ w. w.now) words.entry.now)) }
-    ensures misuse { IfErr result (λ e. e ≡ Usage.Misuse → IsMisused judge_app (codes "FEN") (map (λ w. w.now) words.entry.now)) }
-{
-    let command = judge_command(alloc)?;
-    let matches = matches_at(command, words)?;
-    match matches.get_str("FEN") {
-        None => Err(Usage::Misuse),
-        Some(fen) => Ok(Task::Judge {
-            tables: matches.get_str("tables"),
-            manifest: matches.get_str("manifest"),
-            fen,
-        }),
+    match name {
+        Name::Judge => {
+            let Some(fen) = matches.get_str("FEN") else {
+                return None;
+            };
+            Some(Task::Judge {
+                tables: matches.get_str("tables"),
+                manifest: matches.get_str("manifest"),
+                fen,
+            })
+        }
+        Name::Probe => {
+            let Some(tables) = matches.get_str("tables") else {
+                return None;
+            };
+            let Some(fen) = matches.get_str("FEN") else {
+                return None;
+            };
+            Some(Task::Probe {
+                tables,
+                manifest: matches.get_str("manifest"),
+                fen,
+            })
+        }
+        Name::Moves => {
+            let Some(fen) = matches.get_str("FEN") else {
+                return None;
+            };
+            Some(Task::Moves { fen })
+        }
+        Name::List => {
+            let Some(folder) = matches.get_str("DIR") else {
+                return None;
+            };
+            Some(Task::List { folder })
+        }
+        Name::Check => {
+            let Some(manifest) = matches.get_str("manifest") else {
+                return None;
+            };
+            let Some(folder) = matches.get_str("DIR") else {
+                return None;
+            };
+            Some(Task::Check { manifest, folder })
+        }
+        Name::Show => Some(Task::Show),
     }
 }
 
-/// `probe --tables DIR [--manifest FILE] FEN`, as `clap` reads it.
-fn probe_command<'a>(alloc: Global) -> Result<Command<'a>, AllocError>
-    ensures { IfOk result (λ c. app_of c ≡ probe_app) }
+/// The command that the first word names.
+fn name_in(words: &[&str]) -> Option<Name>
+    ensures some { IfSome result (Names (map (λ w. w.now) words.now)) }
+    ensures none { IfNone result (NamesNone (map (λ w. w.now) words.now)) }
 {
-    let tables = Arg::new(alloc, "tables").long("tables").required(true);
-    let manifest = Arg::new(alloc, "manifest").long("manifest");
-    let fen = Arg::new(alloc, "FEN").required(true);
-    Command::new(alloc, "probe")
-        .arg(tables)?
-        .arg(manifest)?
-        .arg(fen)
-}
-
-/// A position to probe.
-fn probe_of<'a>(alloc: Global, words: &'a [&'a str]) -> Result<Task<'a>, Usage>
-    requires { Names (map (λ w. w.now) words.now) (codes "probe") }
-    ensures ok { IfOk result (IsTask (map (λ w. w.now) words.entry.now)) }
-    ensures misuse { IfErr result (λ e. e ≡ Usage.Misuse → IsMisusedOfTwo probe_app (codes "tables") (codes "FEN") (map (λ w. w.now) words.entry.now)) }
-{
-    let command = probe_command(alloc)?;
-    let matches = matches_at(command, words)?;
-    let Some(tables) = matches.get_str("tables") else {
-        return Err(Usage::Misuse);
-    };
-    let Some(fen) = matches.get_str("FEN") else {
-        return Err(Usage::Misuse);
-    };
-    Ok(Task::Probe {
-        tables,
-        manifest: matches.get_str("manifest"),
-        fen,
-    })
-}
-
-/// `moves FEN`, as `clap` reads it.
-fn moves_command<'a>(alloc: Global) -> Result<Command<'a>, AllocError>
-    ensures { IfOk result (λ c. app_of c ≡ moves_app) }
-{
-    let fen = Arg::new(alloc, "FEN").required(true);
-    Command::new(alloc, "moves").arg(fen)
-}
-
-/// A position whose moves are asked for.
-fn moves_of<'a>(alloc: Global, words: &'a [&'a str]) -> Result<Task<'a>, Usage>
-    requires { Names (map (λ w. w.now) words.now) (codes "moves") }
-    ensures ok { IfOk result (IsTask (map (λ w. w.now) words.entry.now)) }
-    ensures misuse { IfErr result (λ e. e ≡ Usage.Misuse → IsMisused moves_app (codes "FEN") (map (λ w. w.now) words.entry.now)) }
-{
-    let command = moves_command(alloc)?;
-    let matches = matches_at(command, words)?;
-    match matches.get_str("FEN") {
-        None => Err(Usage::Misuse),
-        Some(fen) => Ok(Task::Moves { fen }),
-    }
-}
-
-/// `list DIR`, as `clap` reads it.
-fn list_command<'a>(alloc: Global) -> Result<Command<'a>, AllocError>
-    ensures { IfOk result (λ c. app_of c ≡ list_app) }
-{
-    let folder = Arg::new(alloc, "DIR").required(true);
-    Command::new(alloc, "list").arg(folder)
-}
-
-/// A folder whose tables are listed.
-fn list_of<'a>(alloc: Global, words: &'a [&'a str]) -> Result<Task<'a>, Usage>
-    requires { Names (map (λ w. w.now) words.now) (codes "list") }
-    ensures ok { IfOk result (IsTask (map (λ w. w.now) words.entry.now)) }
-    ensures misuse { IfErr result (λ e. e ≡ Usage.Misuse → IsMisused list_app (codes "DIR") (map (λ w. w.now) words.entry.now)) }
-{
-    let command = list_command(alloc)?;
-    let matches = matches_at(command, words)?;
-    match matches.get_str("DIR") {
-        None => Err(Usage::Misuse),
-        Some(folder) => Ok(Task::List { folder }),
-    }
-}
-
-/// `check --manifest FILE DIR`, as `clap` reads it.
-fn check_command<'a>(alloc: Global) -> Result<Command<'a>, AllocError>
-    ensures { IfOk result (λ c. app_of c ≡ check_app) }
-{
-    let manifest = Arg::new(alloc, "manifest").long("manifest").required(true);
-    let folder = Arg::new(alloc, "DIR").required(true);
-    Command::new(alloc, "check").arg(manifest)?.arg(folder)
-}
-
-/// A folder whose tables are held to a manifest.
-fn check_of<'a>(alloc: Global, words: &'a [&'a str]) -> Result<Task<'a>, Usage>
-    requires { Names (map (λ w. w.now) words.now) (codes "check") }
-    ensures ok { IfOk result (IsTask (map (λ w. w.now) words.entry.now)) }
-    ensures misuse { IfErr result (λ e. e ≡ Usage.Misuse → IsMisusedOfTwo check_app (codes "manifest") (codes "DIR") (map (λ w. w.now) words.entry.now)) }
-{
-    let command = check_command(alloc)?;
-    let matches = matches_at(command, words)?;
-    let Some(manifest) = matches.get_str("manifest") else {
-        return Err(Usage::Misuse);
-    };
-    let Some(folder) = matches.get_str("DIR") else {
-        return Err(Usage::Misuse);
-    };
-    Ok(Task::Check { manifest, folder })
-}
-
-/// `show`, as `clap` reads it.
-fn show_command<'a>(alloc: Global) -> Command<'a>
-    ensures { app_of result ≡ show_app }
-{
-    Command::new(alloc, "show")
-}
-
-/// That the messages of the input are asked for.
-fn show_of<'a>(alloc: Global, words: &'a [&'a str]) -> Result<Task<'a>, Usage>
-    requires { Names (map (λ w. w.now) words.now) (codes "show") }
-    ensures ok { IfOk result (IsTask (map (λ w. w.now) words.entry.now)) }
-    ensures misuse { IfErr result (λ e. e ≡ Usage.Misuse → IsTaken show_app (map (λ w. w.now) words.entry.now) → ⊥) }
-{
-    match matches_at(show_command(alloc), words) {
-        Ok(_) => Ok(Task::Show),
-        Err(usage) => Err(usage),
+    match words {
+        [] => None,
+        [word, ..] => Name::of(word),
     }
 }
 
@@ -227,16 +311,18 @@ pub fn parse<'a>(alloc: Global, words: &'a [&'a str]) -> Result<Task<'a>, Usage>
     ensures misuse { IfErr result (λ e. e ≡ Usage.Misuse → IsMisuse (map (λ w. w.now) words.entry.now)) }
     ensures unnamed { NamesNone (map (λ w. w.now) words.entry.now) → result ≡ Err Usage.Misuse }
 {
-    match words {
-        [] => Err(Usage::Misuse),
-        [name, ..] => match *name {
-            "judge" => judge_of(alloc, words),
-            "probe" => probe_of(alloc, words),
-            "moves" => moves_of(alloc, words),
-            "list" => list_of(alloc, words),
-            "check" => check_of(alloc, words),
-            "show" => show_of(alloc, words),
-            _ => Err(Usage::Misuse),
+    let Some(name) = name_in(words) else {
+        return Err(Usage::Misuse);
+    };
+    let matches = match command_of(alloc, name) {
+        Ok(command) => match matches_at(command, words) {
+            Ok(matches) => matches,
+            Err(usage) => return Err(usage),
         },
+        Err(_) => return Err(Usage::OutOfMemory),
+    };
+    match task_of(name, &matches) {
+        Some(task) => Ok(task),
+        None => Err(Usage::Misuse),
     }
 }

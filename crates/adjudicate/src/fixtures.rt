@@ -1,13 +1,11 @@
 //! What the tests share: words and what is told for them as rows, and a writer that fails.
 
-use crate::commands::{Task, parse};
 use crate::disk::Disk;
-use crate::folders::{files_in, manifest_of};
+use crate::folders::Folders;
+use crate::lines::AnswerFault;
 use crate::program::run;
-use crate::replies::{AnswerFault, answer};
-use crate::sources::are_files;
 use std::alloc::{AllocError, Global};
-use std::io::{self, Read, Write};
+use std::io::{self, Write};
 use std::test::*;
 
 /// The usual start of a game.
@@ -43,77 +41,24 @@ fn compare(row: Row, lines: &[u8], status: u8) -> Result<(), Fail> {
     Err(Fail::new(format_args!("{} {}", row.0, row.1)))
 }
 
-/// The names of the folder and the manifest that a task names, empty for none.
-fn names_in<'a>(task: &Task<'a>) -> (&'a str, &'a str) {
-    match *task {
-        Task::Judge {
-            tables,
-            manifest,
-            ..
-        } => (tables.unwrap_or(""), manifest.unwrap_or("")),
-        Task::Probe {
-            tables,
-            manifest,
-            ..
-        } => (tables, manifest.unwrap_or("")),
-        Task::List { folder } => (folder, ""),
-        Task::Check { manifest, folder } => (folder, manifest),
-        Task::Moves { .. } | Task::Show => ("", ""),
-    }
-}
-
-/// Answers a task from an input, and from the folder and the manifest that it names.
-pub(crate) fn answer_into<W: Write>(
-    alloc: Global,
-    task: &Task,
-    input: &[u8],
-    out: &mut W,
-) -> Result<Result<u8, AnswerFault>, Fail> {
-    let (folder, manifest) = names_in(task);
-    let files = files_in(alloc, folder)?;
-    if !are_files(&files) {
-        return Err(Fail::from("files in order"));
-    }
-    Ok(answer(alloc, task, &files, manifest_of(manifest), input, out))
-}
-
-/// That a task is answered with the lines and the status of a row.
-fn expect_lines(alloc: Global, task: &Task, row: Row) -> Result<(), Fail> {
-    let mut out = Vec::new(alloc);
-    match answer_into(alloc, task, &[], &mut out)? {
-        Ok(status) => compare(row, &out, status),
-        Err(_) => Err(Fail::from("an answer")),
-    }
-}
-
-/// That the words of a row are answered so.
-fn expect_answer(alloc: Global, row: Row) -> Result<(), Fail> {
-    let words = words_of(alloc, row.0, row.1)?;
-    match parse(alloc, &words) {
-        Ok(task) => expect_lines(alloc, &task, row),
-        Err(_) => Err(Fail::from("a task")),
-    }
-}
-
 /// That the words of each row are answered so.
 pub(crate) fn expect_answers(alloc: Global, rows: &[Row]) -> Result<(), Fail> {
     for row in rows {
-        expect_answer(alloc, *row)?;
+        expect_run(alloc, &Folders, &mut Vec::new(alloc), *row)?;
     }
     Ok(())
 }
 
 /// That the program writes the lines of a row to its words, and ends with its status.
-pub(crate) fn expect_run<D: Disk, I: Read + Drop, E: Write>(
+pub(crate) fn expect_run<D: Disk, E: Write>(
     alloc: Global,
     disk: &D,
-    input: I,
     errors: &mut E,
     row: Row,
 ) -> Result<(), Fail> {
     let words = words_of(alloc, row.0, row.1)?;
     let mut out = Vec::new(alloc);
-    match run(alloc, &words, disk, input, &mut out, errors) {
+    match run(alloc, &words, disk, &mut out, errors) {
         Ok(status) => compare(row, &out, status),
         Err(_) => Err(Fail::from("an answer")),
     }
@@ -148,43 +93,30 @@ impl Write for Failing {
 }
 
 /// Whether a write that fails after so many others is told.
-fn is_told(alloc: Global, task: &Task, input: &[u8], writes: u32) -> Result<bool, Fail> {
+fn is_told<D: Disk>(alloc: Global, disk: &D, words: &[&str], writes: u32) -> Result<bool, Fail> {
     let mut out = Failing::after(writes);
-    let told = answer_into(alloc, task, input, &mut out)?;
+    let told = run(alloc, words, disk, &mut out, &mut Vec::new(alloc));
     Ok(matches!(told, Err(AnswerFault::Io)))
 }
 
+/// Words, their FEN, and how many writes an answer to them takes at least.
+pub(crate) type Writes = (&'static str, &'static str, u32);
+
 /// That each of so many writes that fails is told, and nothing else.
-pub(crate) fn expect_told(
-    alloc: Global,
-    task: &Task,
-    input: &[u8],
-    writes: u32,
-) -> Result<(), Fail> {
-    for others in 0..writes {
-        if !is_told(alloc, task, input, others)? {
+pub(crate) fn expect_told<D: Disk>(alloc: Global, disk: &D, row: Writes) -> Result<(), Fail> {
+    let words = words_of(alloc, row.0, row.1)?;
+    for others in 0..row.2 {
+        if !is_told(alloc, disk, &words, others)? {
             return Err(Fail::new(format_args!("write {others}")));
         }
     }
     Ok(())
 }
 
-/// Words, their FEN, and how many writes an answer to them takes at least.
-pub(crate) type Writes = (&'static str, &'static str, u32);
-
-/// That each write of an answer that fails is told.
-fn expect_failures(alloc: Global, row: Writes) -> Result<(), Fail> {
-    let words = words_of(alloc, row.0, row.1)?;
-    match parse(alloc, &words) {
-        Ok(task) => expect_told(alloc, &task, &[], row.2),
-        Err(_) => Err(Fail::from("a task")),
-    }
-}
-
 /// That each write of each of these answers that fails is told.
 pub(crate) fn expect_all_failures(alloc: Global, rows: &[Writes]) -> Result<(), Fail> {
     for row in rows {
-        expect_failures(alloc, *row)?;
+        expect_told(alloc, &Folders, *row)?;
     }
     Ok(())
 }

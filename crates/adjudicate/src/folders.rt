@@ -1,9 +1,8 @@
 //! Folders of tables in memory and manifests, by names that the words of tests have.
 
-use crate::files::NamedFile;
-use arrayvec::ArrayString;
+use crate::disk::Disk;
+use crate::input::{ReadFault, read_all};
 use std::alloc::{AllocError, Global};
-use std::test::*;
 
 /// A file by its name or path: how it begins, and its length. The other bytes are zero.
 pub(crate) type File = (&'static str, &'static [u8], usize);
@@ -16,6 +15,11 @@ pub(crate) const KNIGHT: [u8; 14] = [
 /// A queen wins, and loses for the other side.
 pub(crate) const QUEEN: [u8; 14] = [
     0x71, 0xE8, 0x23, 0x5D, 0x01, 0x00, 0x66, 0x55, 0xEE, 0x00, 0x80, 0x04, 0x80, 0x00,
+];
+
+/// A rook wins, and loses for the other side.
+pub(crate) const ROOK: [u8; 14] = [
+    0x71, 0xE8, 0x23, 0x5D, 0x01, 0x00, 0x66, 0x44, 0xEE, 0x00, 0x80, 0x04, 0x80, 0x00,
 ];
 
 /// A knight's table with values that stand for nothing.
@@ -38,7 +42,7 @@ const PAWNS: [u8; 38] = [
 ];
 
 /// With a queen it is 10 plies to the end, of one side alone.
-const QUEEN_DISTANCE: [u8; 16] = [
+pub(crate) const QUEEN_DISTANCE: [u8; 16] = [
     0xD7, 0x66, 0x0C, 0xA5, 0x01, 0x00, 0x06, 0x05, 0x0E, 0x00, 0x86, 0x00, 0x01, 0x09, 0x00, 0x00,
 ];
 
@@ -55,24 +59,6 @@ pub(crate) fn bytes_of(alloc: Global, file: File) -> Result<Vec<u8>, AllocError>
     let mut bytes = Vec::from_slice(alloc, file.1)?;
     bytes.resize(file.2, 0)?;
     Ok(bytes)
-}
-
-/// A file that a task is answered from.
-fn named(alloc: Global, file: File) -> Result<NamedFile, Fail> {
-    let bytes = bytes_of(alloc, file)?;
-    match ArrayString::from(file.0) {
-        Ok(name) => Ok(NamedFile { name, bytes }),
-        Err(_) => Err(Fail::from("a name")),
-    }
-}
-
-/// The files that a task is answered from.
-fn files_of(alloc: Global, files: &[File]) -> Result<Vec<NamedFile>, Fail> {
-    let mut list = Vec::new(alloc);
-    for file in files {
-        list.push(named(alloc, *file)?)?;
-    }
-    Ok(list)
 }
 
 /// The tables of the worked rows.
@@ -93,21 +79,27 @@ const DAMAGED: [File; 2] = [
 /// A file that is no table, and a knight's table by the name of another.
 const AT_FAULT: [File; 2] = [("KNvK.rtbw", b"abc", 3), ("KQvK.rtbw", &KNIGHT, 80)];
 
-/// The files of the folder of this name; none where a task names no folder.
-pub(crate) fn files_in(alloc: Global, folder: &str) -> Result<Vec<NamedFile>, Fail> {
+/// A file with three bytes that are no table.
+const ABC: [File; 1] = [("KNvK.rtbw", b"abc", 3)];
+
+/// The knight's table alone.
+const KNIGHT_ALONE: [File; 1] = [("KNvK.rtbw", &KNIGHT, 80)];
+
+/// The files of the folder of this name.
+fn files_in(folder: &str) -> Option<&'static [File]> {
     match folder {
-        "abc" => files_of(alloc, &[("KNvK.rtbw", b"abc", 3)]),
-        "knight" => files_of(alloc, &[("KNvK.rtbw", &KNIGHT, 80)]),
-        "worked" => files_of(alloc, &WORKED),
-        "damaged" => files_of(alloc, &DAMAGED),
-        "at_fault" => files_of(alloc, &AT_FAULT),
-        "nothing" | "" => files_of(alloc, &[]),
-        _ => Err(Fail::from("a folder")),
+        "abc" => Some(&ABC),
+        "knight" => Some(&KNIGHT_ALONE),
+        "worked" => Some(&WORKED),
+        "damaged" => Some(&DAMAGED),
+        "at_fault" => Some(&AT_FAULT),
+        "nothing" => Some(&[]),
+        _ => None,
     }
 }
 
 /// The manifest of this name, if there is one.
-pub(crate) fn manifest_of(name: &str) -> Option<&'static [u8]> {
+fn manifest_of(name: &str) -> Option<&'static [u8]> {
     match name {
         "of_abc" => Some(ABC_LIST.as_bytes()),
         "of_knight" => Some(KNIGHT_LIST.as_bytes()),
@@ -115,5 +107,67 @@ pub(crate) fn manifest_of(name: &str) -> Option<&'static [u8]> {
         "x" => Some(b"x"),
         "line_x" => Some(b"x\n"),
         _ => None,
+    }
+}
+
+/// The names of files.
+fn names_of(alloc: Global, files: &[File]) -> Result<Vec<String>, AllocError> {
+    let mut names = Vec::new(alloc);
+    for file in files {
+        names.push(String::from_str(alloc, file.0)?)?;
+    }
+    Ok(names)
+}
+
+/// The file of this name.
+fn file_at(alloc: Global, files: &[File], name: &str) -> Result<Vec<u8>, ReadFault> {
+    for file in files {
+        if file.0 == name {
+            return Ok(bytes_of(alloc, *file)?);
+        }
+    }
+    Err(ReadFault::Unreadable)
+}
+
+/// The file at a path: a manifest, or a file of a folder.
+fn read_at(alloc: Global, path: &str) -> Result<Vec<u8>, ReadFault> {
+    if let Some(manifest) = manifest_of(path) {
+        return Ok(Vec::from_slice(alloc, manifest)?);
+    }
+    let Some((folder, name)) = path.split_once('/') else {
+        return Err(ReadFault::Unreadable);
+    };
+    match files_in(folder) {
+        Some(files) => file_at(alloc, files, name),
+        None => Err(ReadFault::Unreadable),
+    }
+}
+
+/// These folders and manifests, and no input.
+pub(crate) struct Folders;
+
+impl Disk for Folders {
+    ghost lists = { λ _ _ _. Unit {0} };
+
+    ghost holds = { λ _ _ _. Unit {0} };
+
+    ghost gives = { λ _ _. Unit {0} };
+
+    ghost fails = { λ _ _. Unit {0} };
+
+    fn names(&self, alloc: Global, folder: &str) -> Result<Vec<String>, ReadFault> {
+        match files_in(folder) {
+            Some(files) => Ok(names_of(alloc, files)?),
+            None => Err(ReadFault::Unreadable),
+        }
+    }
+
+    fn read(&self, alloc: Global, path: &str) -> Result<Vec<u8>, ReadFault> {
+        let bytes = read_at(alloc, path)?;
+        read_all(alloc, bytes.as_slice(), 0)
+    }
+
+    fn input(&self, _alloc: Global) -> Result<Vec<u8>, ReadFault> {
+        Err(ReadFault::Unreadable)
     }
 }

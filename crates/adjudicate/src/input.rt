@@ -1,7 +1,7 @@
 //! What the program reads.
 
-ghost use Rattle.std.specs.Prelude.{◌≡◌, IfOk};
-ghost use Rattle.adjudicate.specs.Running.{IsInput};
+ghost use Rattle.std.specs.Prelude.{◌≡◌, ◌≤◌, length, IfOk, IfSome};
+ghost use Rattle.adjudicate.specs.Outside.{most_bytes};
 ghost use Rattle.adjudicate.specs.declared.input.ReadFault.TheVariants.{OutOfMemory};
 
 use std::alloc::{AllocError, Global};
@@ -36,11 +36,20 @@ impl From<io::Error> for ReadFault {
     }
 }
 
-/// All that a reader has, at most 2^30 bytes.
-pub fn read_all<R: Read + Drop>(alloc: Global, reader: R) -> Result<Vec<u8>, ReadFault>
-    ensures { IfOk result (λ bytes. IsInput (R.remaining reader) bytes.items) }
+/// All that a reader has, at most 2^30 bytes. Room for so many bytes as are expected, and one, is
+/// taken at once.
+pub fn read_all<R: Read + Drop>(
+    alloc: Global,
+    reader: R,
+    expected: u64,
+) -> Result<Vec<u8>, ReadFault>
+    ensures whole { IfOk result (λ bytes. IfSome (R.remaining reader) (λ all. bytes.items ≡ all)) }
+    ensures short { IfOk result (λ bytes. length bytes.items ≤ most_bytes) }
 {
-    let mut bytes = Vec::new(alloc);
+    if expected > MOST_BYTES {
+        return Err(ReadFault::Unreadable);
+    }
+    let mut bytes = Vec::with_capacity(alloc, expected as usize + 1)?;
     match reader.take(MOST_BYTES + 1).read_to_end(&mut bytes) {
         Ok(_) => {}
         Err(error) => return Err(ReadFault::from(error)),

@@ -6,22 +6,23 @@
 //! messages on standard input. Statuses: 0 done, 1 refused, 2 misuse.
 #![tactic(auto)]
 
+mod answers;
 mod commands;
 mod disk;
 mod files;
 mod input;
-mod judging;
-mod listing;
+mod lines;
+mod manifest;
 mod program;
-mod replies;
+mod reading;
 mod show;
 mod sources;
 mod tables;
 mod usage;
 
 use disk::SystemDisk;
-use program::run;
-use replies::{AnswerFault, put_refused_memory};
+use lines::{AnswerFault, Line, put_refusal};
+use program::{Output, end, run};
 use std::alloc::{AllocError, Global};
 use std::io::{self, BufWriter, Write};
 use std::process::ExitCode;
@@ -55,18 +56,29 @@ fn tail_of<'a>(alloc: Global, words: &'a [String]) -> Result<Vec<&'a str>, Alloc
 fn run_into<W: Write>(rt: &HostRuntime, out: &mut W) -> Result<u8, AnswerFault> {
     let words = match words_of(rt) {
         Ok(words) => words,
-        Err(Usage::OutOfMemory) => return put_refused_memory(out),
+        Err(Usage::OutOfMemory) => return put_refusal(out, &Line::RefusedMemory),
         Err(Usage::Misuse) => {
             let disk = SystemDisk::new(rt);
-            return run(rt.alloc(), &[], &disk, rt.reader(), out, &mut rt.stderr());
+            return run(rt.alloc(), &[], &disk, out, &mut rt.stderr());
         }
     };
     match tail_of(rt.alloc(), &words) {
         Ok(tail) => {
             let disk = SystemDisk::new(rt);
-            run(rt.alloc(), &tail, &disk, rt.reader(), out, &mut rt.stderr())
+            run(rt.alloc(), &tail, &disk, out, &mut rt.stderr())
         }
-        Err(_) => put_refused_memory(out),
+        Err(_) => put_refusal(out, &Line::RefusedMemory),
+    }
+}
+
+impl<W: Write + Drop> Output for BufWriter<W> {
+    ghost gone = { λ _. Unit {0} };
+
+    fn finish(&mut self) -> Result<(), AnswerFault> {
+        match self.flush() {
+            Ok(()) => Ok(()),
+            Err(_) => Err(AnswerFault::Io),
+        }
     }
 }
 
@@ -75,19 +87,18 @@ fn run_into<W: Write>(rt: &HostRuntime, out: &mut W) -> Result<u8, AnswerFault> 
 fn status_of(rt: &HostRuntime) -> u8 {
     let mut out = match BufWriter::new(rt.alloc(), io::writer(rt)) {
         Ok(out) => out,
-        Err(_) => return put_refused_memory(&mut io::writer(rt)).unwrap_or(1),
+        Err(_) => return put_refusal(&mut io::writer(rt), &Line::RefusedMemory).unwrap_or(1),
     };
-    let status = run_into(rt, &mut out).unwrap_or(1);
-    match out.flush() {
-        Ok(()) => status,
-        Err(_) => 1,
-    }
+    let answered = run_into(rt, &mut out);
+    end(&mut out, answered)
 }
 
 fn main(rt: HostRuntime) -> ExitCode {
     ExitCode::from(status_of(&rt))
 }
 
+#[cfg(test)]
+mod disk_tests;
 #[cfg(test)]
 mod fixtures;
 #[cfg(test)]

@@ -1,8 +1,8 @@
 //! The messages of an input, inputs that are none, and readers and writers that fail.
 
-use crate::commands::Task;
+use crate::disk::Disk;
 use crate::fixtures::*;
-use crate::tests::NoDisk;
+use crate::input::{ReadFault, read_all};
 use fen_text::read_move;
 use move_msg::{Count, Message, Sender, Stamp, Verdict, Wanted, Who};
 use std::alloc::Global;
@@ -40,6 +40,16 @@ fn verdict() -> Option<Message> {
     })
 }
 
+/// That eight moves are wanted from the first on.
+fn wish() -> Option<Message> {
+    Some(Message::Fetch {
+        stamp: STAMP,
+        who: Who::B,
+        number: Count::none(),
+        wanted: Wanted::most(),
+    })
+}
+
 /// Adds the bytes of a message.
 fn add(stream: &mut Vec<u8>, message: Option<Message>) -> Result<(), Fail> {
     match message {
@@ -48,38 +58,75 @@ fn add(stream: &mut Vec<u8>, message: Option<Message>) -> Result<(), Fail> {
     }
 }
 
-/// A move, an acknowledgement and a verdict, one after the other.
-fn three_messages(alloc: Global) -> Result<Vec<u8>, Fail> {
+/// A move, an acknowledgement, a verdict and a wish for moves, one after the other.
+fn all_messages(alloc: Global) -> Result<Vec<u8>, Fail> {
     let mut stream = Vec::new(alloc);
     add(&mut stream, first_move())?;
     add(&mut stream, acknowledgement())?;
     add(&mut stream, verdict())?;
+    add(&mut stream, wish())?;
     Ok(stream)
 }
 
+/// An input, which fails at one of its calls, if at any, and no folder and no file.
+#[derive(Drop)]
+struct Input<'a> {
+    bytes: &'a [u8],
+    fails_at: Option<u32>,
+}
+
+impl<'a> Disk for Input<'a> {
+    ghost lists = { λ _ _ _. Unit {0} };
+
+    ghost holds = { λ _ _ _. Unit {0} };
+
+    ghost gives = { λ _ _. Unit {0} };
+
+    ghost fails = { λ _ _. Unit {0} };
+
+    fn names(&self, _alloc: Global, _folder: &str) -> Result<Vec<String>, ReadFault> {
+        Err(ReadFault::Unreadable)
+    }
+
+    fn read(&self, _alloc: Global, _path: &str) -> Result<Vec<u8>, ReadFault> {
+        Err(ReadFault::Unreadable)
+    }
+
+    fn input(&self, alloc: Global) -> Result<Vec<u8>, ReadFault> {
+        match self.fails_at {
+            None => read_all(alloc, self.bytes, 0),
+            Some(fails_at) => read_all(alloc, Breaking { calls: 0, fails_at }, 0),
+        }
+    }
+}
+
 /// That `show` tells so of an input.
-fn expect_shown<R: Read + Drop>(
-    alloc: Global,
-    input: R,
-    text: &'static str,
-    status: u8,
-) -> Result<(), Fail> {
-    let row = ("show", "", text, status);
-    expect_run(alloc, &NoDisk, input, &mut Vec::new(alloc), row)
+fn expect_shown(alloc: Global, bytes: &[u8], text: &'static str, status: u8) -> Result<(), Fail> {
+    let input = Input {
+        bytes,
+        fails_at: None,
+    };
+    expect_run(
+        alloc,
+        &input,
+        &mut Vec::new(alloc),
+        ("show", "", text, status),
+    )
 }
 
 #[test]
 fn shows_messages(rt: HostRuntime) -> Result<(), Fail> {
-    let stream = three_messages(rt.alloc())?;
-    let lines = "Move 0 0 e2e4\nAck 1 3\nVerdict 2 4 TableWhite\n";
+    let stream = all_messages(rt.alloc())?;
+    let lines = "Move 0 0 e2e4\nAck 1 3\nVerdict 2 4 TableWhite\nFetch 2 0 8\n";
     expect_shown(rt.alloc(), stream.as_slice(), lines, 0)
 }
 
 #[test]
 fn shows_messages_before_a_cut_one(rt: HostRuntime) -> Result<(), Fail> {
-    let mut stream = three_messages(rt.alloc())?;
+    let mut stream = all_messages(rt.alloc())?;
     stream.extend_from_slice(&[0x53, 0x41, 1, 1, 0])?;
-    let lines = "Move 0 0 e2e4\nAck 1 3\nVerdict 2 4 TableWhite\nrefused message 4 Cut\n";
+    let lines =
+        "Move 0 0 e2e4\nAck 1 3\nVerdict 2 4 TableWhite\nFetch 2 0 8\nrefused message 5 Cut\n";
     expect_shown(rt.alloc(), stream.as_slice(), lines, 1)
 }
 
@@ -126,14 +173,22 @@ impl Read for Breaking {
 #[test]
 fn tells_each_failed_read(rt: HostRuntime) -> Result<(), Fail> {
     for fails_at in 0..30u32 {
-        let input = Breaking { calls: 0, fails_at };
-        expect_shown(rt.alloc(), input, "refused files\n", 1)?;
+        let input = Input {
+            bytes: &[],
+            fails_at: Some(fails_at),
+        };
+        let row = ("show", "", "refused files\n", 1);
+        expect_run(rt.alloc(), &input, &mut Vec::new(rt.alloc()), row)?;
     }
     Ok(())
 }
 
 #[test]
 fn tells_each_failed_write_of_a_message(rt: HostRuntime) -> Result<(), Fail> {
-    let stream = three_messages(rt.alloc())?;
-    expect_told(rt.alloc(), &Task::Show, &stream, 15)
+    let stream = all_messages(rt.alloc())?;
+    let input = Input {
+        bytes: &stream,
+        fails_at: None,
+    };
+    expect_told(rt.alloc(), &input, ("show", "", 15))
 }

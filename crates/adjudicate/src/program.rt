@@ -1,17 +1,17 @@
-//! The program's words, its input, its output and its status.
+//! The program's words, its output and its status.
 
-ghost use Rattle.std.specs.Prelude.{◌≡◌, map, is_some, IfOk};
-ghost use Rattle.adjudicate.specs.declared.commands.Task.TheVariants.{Show};
-ghost use Rattle.adjudicate.specs.Running.{AnswersTask, Runs, TellsFault, names_folder, names_manifest};
+ghost use Rattle.std.specs.Prelude.{map, IfOk, OnOk};
+ghost use Rattle.adjudicate.specs.Running.{AnswersTask, Runs, HasEnded};
 
+use crate::answers::answer_task;
 use crate::commands::{Task, parse};
 use crate::disk::Disk;
-use crate::input::{ReadFault, read_all};
-use crate::replies::{AnswerFault, answer, put_refused_files, put_refused_memory};
+use crate::input::ReadFault;
+use crate::lines::{AnswerFault, Line, put_refusal};
 use crate::sources::Sources;
 use crate::usage::Usage;
 use std::alloc::Global;
-use std::io::{Read, Write};
+use std::io::Write;
 
 /// What a misuse is told.
 const USAGE: &str = "usage: adjudicate judge [--tables DIR] [--manifest FILE] FEN
@@ -29,69 +29,19 @@ fn put_usage<E: Write>(errors: &mut E) {
     }
 }
 
-/// The folder and the manifest that a task names, if it does.
-fn named<'a>(task: &Task<'a>) -> (Option<&'a str>, Option<&'a str>)
-    ensures folder { is_some result.0 ≡ names_folder task.now }
-    ensures manifest { is_some result.1 ≡ names_manifest task.now }
-{
-    match *task {
-        Task::Judge {
-            tables,
-            manifest,
-            ..
-        } => (tables, manifest),
-        Task::Probe {
-            tables,
-            manifest,
-            ..
-        } => (Some(tables), manifest),
-        Task::List { folder } => (Some(folder), None),
-        Task::Check { manifest, folder } => (Some(folder), Some(manifest)),
-        Task::Moves { .. } | Task::Show => (None, None),
-    }
-}
-
-/// Writes that something can't be read, or that memory was refused, and tells the status.
-fn put_fault<W: Write>(out: &mut W, fault: ReadFault) -> Result<u8, AnswerFault>
-    ensures { IfOk result (λ status. TellsFault (W.contents out.old) (W.contents out.new) status) }
-{
-    match fault {
-        ReadFault::Unreadable => put_refused_files(out),
-        ReadFault::OutOfMemory => put_refused_memory(out),
-    }
-}
-
-/// Shows the input.
-fn answer_input<I: Read + Drop, W: Write>(
-    alloc: Global,
-    input: I,
-    out: &mut W,
-) -> Result<u8, AnswerFault>
-    ensures { IfOk result (AnswersTask Show (I.remaining input) (W.contents out.old) (W.contents out.new)) }
-{
-    match read_all(alloc, input) {
-        Ok(bytes) => answer(alloc, &Task::Show, &[], None, &bytes, out),
-        Err(fault) => put_fault(out, fault),
-    }
-}
-
-/// Answers a task from the folder and the manifest that it names.
-fn answer_files<D: Disk, W: Write>(
+/// Answers a task from what it reads.
+fn run_task<D: Disk, W: Write>(
     alloc: Global,
     task: &Task,
     disk: &D,
     out: &mut W,
 ) -> Result<u8, AnswerFault>
-    requires { task.now ≡ Show → ⊥ }
-    ensures { IfOk result (λ status. (known : _) → AnswersTask task.now known (W.contents out.old) (W.contents out.new) status) }
+    ensures { IfOk result (AnswersTask (D.lists disk.now) (D.holds disk.now) (D.gives disk.now) (D.fails disk.now) task.now (W.contents out.old) (W.contents out.new)) }
 {
-    let (folder, manifest) = named(task);
-    match Sources::read(alloc, disk, folder, manifest) {
-        Ok(sources) => {
-            let manifest = sources.manifest.as_deref();
-            answer(alloc, task, &sources.files, manifest, &[], out)
-        }
-        Err(fault) => put_fault(out, fault),
+    match Sources::read(alloc, disk, task) {
+        Ok(sources) => answer_task(alloc, task, &sources, out),
+        Err(ReadFault::Unreadable) => put_refusal(out, &Line::RefusedFiles),
+        Err(ReadFault::OutOfMemory) => put_refusal(out, &Line::RefusedMemory),
     }
 }
 
@@ -102,23 +52,42 @@ fn answer_files<D: Disk, W: Write>(
 /// tables are looked at, its manifest, and for `show` the input, to its end. What can't be read or
 /// has more than 2^30 bytes is told as `refused files`. Answers go to `out` and the text of a
 /// misuse to `errors`, whose failure changes nothing. The error comes only where `out` failed.
-pub fn run<D: Disk, I: Read + Drop, W: Write, E: Write>(
+pub fn run<D: Disk, W: Write, E: Write>(
     alloc: Global,
     words: &[&str],
     disk: &D,
-    input: I,
     out: &mut W,
     errors: &mut E,
 ) -> Result<u8, AnswerFault>
-    ensures { IfOk result (Runs (map (λ w. w.now) words.now) (I.remaining input) (W.contents out.old) (W.contents out.new)) }
+    ensures { IfOk result (Runs (D.lists disk.now) (D.holds disk.now) (D.gives disk.now) (D.fails disk.now) (map (λ w. w.now) words.now) (W.contents out.old) (W.contents out.new)) }
 {
     match parse(alloc, words) {
-        Ok(Task::Show) => answer_input(alloc, input, out),
-        Ok(task) => answer_files(alloc, &task, disk, out),
-        Err(Usage::OutOfMemory) => put_refused_memory(out),
+        Ok(task) => run_task(alloc, &task, disk, out),
+        Err(Usage::OutOfMemory) => put_refusal(out, &Line::RefusedMemory),
         Err(Usage::Misuse) => {
             put_usage(errors);
             Ok(2)
         }
+    }
+}
+
+/// Where the program's output goes.
+pub trait Output: Write {
+    /// All that was written has gone out.
+    ghost gone: { Self → Type 0 };
+
+    /// Lets all that was written go out.
+    fn finish(&mut self) -> Result<(), AnswerFault>
+        ensures { OnOk result (gone self.new) };
+}
+
+/// Ends the output, and tells the program's status: that of its answer where all of it has gone
+/// out, and 1 where it was not written or not gone out.
+pub fn end<O: Output>(out: &mut O, answered: Result<u8, AnswerFault>) -> u8
+    ensures { HasEnded (O.gone out.new) answered result }
+{
+    match (answered, out.finish()) {
+        (Ok(status), Ok(())) => status,
+        _ => 1,
     }
 }

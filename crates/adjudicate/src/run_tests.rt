@@ -3,7 +3,7 @@
 use crate::disk::Disk;
 use crate::fixtures::*;
 use crate::folders::*;
-use crate::input::ReadFault;
+use crate::input::{ReadFault, read_all};
 use std::alloc::{AllocError, Global};
 use std::test::*;
 
@@ -24,6 +24,14 @@ fn names_of(alloc: Global, text: &str) -> Result<Vec<String>, AllocError> {
 }
 
 impl Disk for Memory {
+    ghost lists = { λ _ _ _. Unit {0} };
+
+    ghost holds = { λ _ _ _. Unit {0} };
+
+    ghost gives = { λ _ _. Unit {0} };
+
+    ghost fails = { λ _ _. Unit {0} };
+
     fn names(&self, alloc: Global, folder: &str) -> Result<Vec<String>, ReadFault> {
         if folder != "tables" {
             return Err(ReadFault::Unreadable);
@@ -34,9 +42,14 @@ impl Disk for Memory {
     fn read(&self, alloc: Global, path: &str) -> Result<Vec<u8>, ReadFault> {
         for file in self.files {
             if file.0 == path {
-                return Ok(bytes_of(alloc, *file)?);
+                let bytes = bytes_of(alloc, *file)?;
+                return read_all(alloc, bytes.as_slice(), 80);
             }
         }
+        Err(ReadFault::Unreadable)
+    }
+
+    fn input(&self, _alloc: Global) -> Result<Vec<u8>, ReadFault> {
         Err(ReadFault::Unreadable)
     }
 }
@@ -44,7 +57,7 @@ impl Disk for Memory {
 /// That the program tells so for the words of each row.
 fn expect_runs(alloc: Global, disk: &Memory, rows: &[Row]) -> Result<(), Fail> {
     for row in rows {
-        expect_run(alloc, disk, [].as_slice(), &mut Vec::new(alloc), *row)?;
+        expect_run(alloc, disk, &mut Vec::new(alloc), *row)?;
     }
     Ok(())
 }
@@ -227,4 +240,44 @@ const TOLD_OF_A_CHANGE: [Row; 2] = [
 #[test]
 fn tells_a_changed_table_of_a_folder(rt: HostRuntime) -> Result<(), Fail> {
     expect_runs(rt.alloc(), &CHANGED, &TOLD_OF_A_CHANGE)
+}
+
+/// Three tables and distances, the names in no order.
+const FOUR_FILES: Memory = Memory {
+    names: "KQvK.rtbz KRvK.rtbw KQvK.rtbw KNvK.rtbw",
+    files: &[
+        QUEEN_FILE,
+        KNIGHT_FILE,
+        ("tables/KQvK.rtbz", &QUEEN_DISTANCE, 80),
+        ("tables/KRvK.rtbw", &ROOK, 80),
+    ],
+};
+
+/// The distance of the queen shows, and a third table is read.
+const TOLD_OF_FOUR: [Row; 3] = [
+    ("probe --tables tables FEN", QUEEN_FEN, "wdl 2\ndtz 10\n", 0),
+    (
+        "probe --tables tables FEN",
+        "8/8/8/4k3/8/8/8/KR6 w - - 0 1",
+        "wdl 2\ndtz refused NotCovered KRvK\n",
+        1,
+    ),
+    ("probe --tables tables FEN", KNIGHT_FEN, "wdl 0\ndtz 0\n", 0),
+];
+
+#[test]
+fn reads_distances_and_three_tables(rt: HostRuntime) -> Result<(), Fail> {
+    expect_runs(rt.alloc(), &FOUR_FILES, &TOLD_OF_FOUR)
+}
+
+/// A folder that lists a name twice isn't read.
+const TWICE: Memory = Memory {
+    names: "KNvK.rtbw notes.txt KNvK.rtbw",
+    files: &[KNIGHT_FILE],
+};
+
+#[test]
+fn reads_no_folder_that_lists_a_name_twice(rt: HostRuntime) -> Result<(), Fail> {
+    let rows = [("list tables", "", "refused files\n", 1)];
+    expect_runs(rt.alloc(), &TWICE, &rows)
 }

@@ -1,171 +1,175 @@
-//! What a task is answered from: the files of its folder, and its manifest.
+//! What a task is answered from: the files of its folder, its manifest and the input.
 
-ghost use Rattle.std.specs.Prelude.{◌≡◌, ◌↔◌, ◌∷◌, ◌||◌, true, IfOk, OnErr, IsTrue, is_some, map};
-ghost use Rattle.std.specs.Ordering.{nat_cmp};
-ghost use Rattle.std.specs.Cmp.Lexicographic.{slice_cmp};
-ghost use Rattle.std.specs.declared.cmp.Ordering.TheVariants.{Less};
-ghost use Rattle.adjudicate.specs.Files.{AreFiles, file_of};
-ghost use Rattle.adjudicate.specs.Running.{AreFilesOf};
+ghost use Rattle.std.specs.Prelude.{◌≡◌, ◌≤◌, List, ℕ, length, map, option_map, is_some, true, Some, IfOk, OnErr, IsErrOf};
+ghost use Rattle.move_msg.specs.Files.{AreFiles, file_of};
+ghost use Rattle.adjudicate.specs.ToldBy.{told_by};
+ghost use Rattle.adjudicate.specs.Outside.{AtFile, AtInput, AreFilesAt, FolderFails, IsToldAt};
+ghost use Rattle.adjudicate.specs.Reads.{CannotRead, IsGiven, IsInputAt, folder_of, manifest_of, reads_input, reads_some};
 
+use crate::commands::Task;
 use crate::disk::Disk;
-use crate::files::NamedFile;
 use crate::input::ReadFault;
-use arrayvec::ArrayString;
-use move_msg::{Line, ManifestFault, is_file_name, manifest_read};
+use crate::manifest::Manifest;
+use crate::reading::files_in;
+use move_msg::NamedFile;
 use std::alloc::Global;
-use std::cmp::Ordering;
+use std::marker::Model;
 
-/// The files of a folder that a task looks at, and the bytes of its manifest.
+/// What a task is answered from. Contracts see the files, what the manifest tells, and the input.
 #[derive(Drop)]
 pub struct Sources {
-    /// In rising order of names; none where the task names no folder.
-    pub files: Vec<NamedFile>,
-    /// None where the task names none.
-    pub manifest: Option<Vec<u8>>,
+    files: Vec<NamedFile>,
+    manifest: Manifest,
+    input: Vec<u8>,
 }
 
-/// Whether a manifest names the file; without one each file is wanted.
-fn is_wanted(name: &str, lines: Option<&[Line]>) -> bool {
-    match lines {
-        None => true,
-        Some(lines) => lines
-            .binary_search_by(|line| line.name.as_str().cmp(name))
-            .is_ok(),
+impl Model for Sources {
+    ghost use Rattle.std.specs.Prelude.{map};
+    ghost use Rattle.move_msg.specs.Files.{AreFiles, file_of};
+    ghost use Rattle.adjudicate.specs.Given.{Given};
+    ghost use Rattle.adjudicate.specs.ToldBy.{told_by};
+
+    ghost Value = { Given };
+
+    ghost view = { λ s. record { files = map file_of s.files.items; told = told_by s.manifest; input = s.input.items } };
+
+    ghost invariant = { λ s. AreFiles (map file_of s.files.items) };
+}
+
+/// The folder that a task names, if it does.
+fn folder_of<'a>(task: &Task<'a>) -> Option<&'a str>
+    ensures { option_map (λ s. s.now) result ≡ folder_of task.now }
+{
+    match *task {
+        Task::Judge { tables, .. } => tables,
+        Task::Probe { tables, .. } => Some(tables),
+        Task::List { folder } => Some(folder),
+        Task::Check { folder, .. } => Some(folder),
+        Task::Moves { .. } | Task::Show => None,
     }
 }
 
-/// The names of the table files in a folder that are wanted, in rising order.
-fn table_names<D: Disk>(
+/// The file of the manifest that a task names, if it does.
+fn manifest_of<'a>(task: &Task<'a>) -> Option<&'a str>
+    ensures { option_map (λ s. s.now) result ≡ manifest_of task.now }
+{
+    match *task {
+        Task::Judge { manifest, .. } => manifest,
+        Task::Probe { manifest, .. } => manifest,
+        Task::Check { manifest, .. } => Some(manifest),
+        Task::List { .. } | Task::Moves { .. } | Task::Show => None,
+    }
+}
+
+/// Whether the input is read for a task.
+fn reads_input(task: &Task) -> bool
+    ensures { result ≡ reads_input task.now }
+{
+    matches!(*task, Task::Show)
+}
+
+/// The manifest at a path, if there is one.
+fn read_manifest<D: Disk>(
     alloc: Global,
     disk: &D,
-    folder: &str,
-    lines: Option<&[Line]>,
-) -> Result<Vec<ArrayString<16>>, ReadFault> {
-    let mut names = Vec::new(alloc);
-    for name in &disk.names(alloc, folder)? {
-        if !is_file_name(name.as_bytes()) || !is_wanted(name.as_str(), lines) {
-            continue;
-        }
-        let Ok(name) = ArrayString::from(name.as_str()) else {
-            continue;
-        };
-        let Ok(()) = names.push(name) else {
-            return Err(ReadFault::OutOfMemory);
-        };
-    }
-    names.sort_unstable();
-    Ok(names)
-}
-
-/// The files of these names in a folder.
-fn read_files<D: Disk>(
-    alloc: Global,
-    disk: &D,
-    folder: &str,
-    names: &[ArrayString<16>],
-) -> Result<Vec<NamedFile>, ReadFault> {
-    let mut files = Vec::with_capacity(alloc, names.len())?;
-    for name in names {
-        let text = name.as_str();
-        let path = format!(in alloc; "{folder}/{text}")?;
-        let bytes = disk.read(alloc, path.as_str())?;
-        let Ok(()) = files.push(NamedFile { name: *name, bytes }) else {
-            return Err(ReadFault::OutOfMemory);
-        };
-    }
-    Ok(files)
-}
-
-/// Whether the one file's name comes before the other's in the order of bytes.
-fn is_before(first: &NamedFile, second: &NamedFile) -> bool
-    ensures { IsTrue result ↔ (slice_cmp nat_cmp first.now.name.bytes second.now.name.bytes ≡ Less) }
+    path: Option<&str>,
+) -> Result<Manifest, ReadFault>
+    ensures ok { IfOk result (λ manifest. IsToldAt (D.holds disk.now) (option_map (λ s. s.now) path.entry) (told_by manifest)) }
+    ensures cause { IsErrOf result ReadFault.Unreadable → (p : List ℕ) × (option_map (λ s. s.now) path.entry ≡ Some p) × D.fails disk.now (AtFile p) }
+    ensures some { OnErr result (is_some path.entry ≡ true) }
 {
-    match first.name.as_str().cmp(second.name.as_str()) {
-        Ordering::Less => true,
-        Ordering::Equal | Ordering::Greater => false,
-    }
-}
-
-/// Whether a file has a table's name, and the next one's comes after it.
-fn is_in_order(first: &NamedFile, others: &[NamedFile]) -> bool
-    ensures { IsTrue result → AreFiles (map file_of others.now) → AreFiles (file_of first.now ∷ map file_of others.now) }
-{
-    if !is_file_name(first.name.as_str().as_bytes()) {
-        return false;
-    }
-    match others {
-        [] => true,
-        [next, ..] => is_before(first, next),
-    }
-}
-
-/// Whether the files have tables' names, each after the one before it: a folder that lists a name twice isn't read.
-pub(crate) fn are_files(files: &[NamedFile]) -> bool
-    ensures { IsTrue result → AreFiles (map file_of files.now) }
-{
-    let mut rest = files;
-    while let [first, others @ ..] = rest {
-        if !is_in_order(first, others) {
-            return false;
-        }
-        rest = others;
-    }
-    true
-}
-
-/// The lines of a manifest. One that is at fault names no file, so that none is read for it.
-fn lines_of(alloc: Global, manifest: &[u8]) -> Result<Vec<Line>, ReadFault> {
-    match manifest_read(alloc, manifest) {
-        Ok(lines) => Ok(lines),
-        Err(ManifestFault::BadLine(_)) => Ok(Vec::new(alloc)),
-        Err(ManifestFault::OutOfMemory) => Err(ReadFault::OutOfMemory),
-    }
-}
-
-/// The files of tables that a folder has; with a manifest those alone that it names.
-fn files_in<D: Disk>(
-    alloc: Global,
-    disk: &D,
-    folder: &str,
-    manifest: Option<&[u8]>,
-) -> Result<Vec<NamedFile>, ReadFault>
-    ensures { IfOk result (λ files. AreFiles (map file_of files.items)) }
-{
-    let lines = match manifest {
-        None => None,
-        Some(bytes) => Some(lines_of(alloc, bytes)?),
+    let Some(path) = path else {
+        return Ok(Manifest::Unnamed);
     };
-    let names = table_names(alloc, disk, folder, lines.as_deref())?;
-    let files = read_files(alloc, disk, folder, &names)?;
-    if !are_files(&files) {
-        return Err(ReadFault::Unreadable);
+    let text = match disk.read(alloc, path) {
+        Ok(text) => text,
+        Err(fault) => return Err(fault),
+    };
+    match Manifest::of(alloc, &text) {
+        Ok(manifest) => Ok(manifest),
+        Err(_) => Err(ReadFault::OutOfMemory),
     }
-    Ok(files)
+}
+
+/// The wanted files of a folder, if there is one.
+fn read_folder<D: Disk>(
+    alloc: Global,
+    disk: &D,
+    folder: Option<&str>,
+    manifest: &Manifest,
+) -> Result<Vec<NamedFile>, ReadFault>
+    ensures ok { IfOk result (λ files. AreFilesAt (D.lists disk.now) (D.holds disk.now) (option_map (λ s. s.now) folder.entry) (told_by manifest.now) (map file_of files.items)) }
+    ensures files { IfOk result (λ files. AreFiles (map file_of files.items)) }
+    ensures cause { IsErrOf result ReadFault.Unreadable → (f : List ℕ) × (option_map (λ s. s.now) folder.entry ≡ Some f) × FolderFails (D.lists disk.now) (D.fails disk.now) f (told_by manifest.now) }
+    ensures some { OnErr result (is_some folder.entry ≡ true) }
+{
+    match folder {
+        None => Ok(Vec::new(alloc)),
+        Some(folder) => files_in(alloc, disk, folder, manifest),
+    }
+}
+
+/// The input, if it is wanted.
+fn read_input<D: Disk>(alloc: Global, disk: &D, is_wanted: bool) -> Result<Vec<u8>, ReadFault>
+    ensures ok { IfOk result (λ bytes. IsInputAt (D.gives disk.now) is_wanted bytes.items) }
+    ensures cause { IsErrOf result ReadFault.Unreadable → D.fails disk.now AtInput }
+    ensures some { OnErr result (is_wanted ≡ true) }
+{
+    if is_wanted {
+        disk.input(alloc)
+    } else {
+        Ok(Vec::new(alloc))
+    }
 }
 
 impl Sources {
-    /// Reads a folder's files of tables and a manifest, where they are named.
+    /// Reads what a task names: its manifest, the wanted files of its folder, and for `show` the input.
     ///
     /// Files whose names are not those of tables are passed over, and with a manifest those that it doesn't name.
-    /// `Unreadable` where the folder, one of these files or the manifest can't be read.
-    pub fn read<D: Disk>(
-        alloc: Global,
-        disk: &D,
-        folder: Option<&str>,
-        manifest: Option<&str>,
-    ) -> Result<Sources, ReadFault>
-        ensures files { IfOk result (λ s. AreFilesOf (is_some folder.entry) (map file_of s.files.items)) }
-        ensures manifest { IfOk result (λ s. is_some s.manifest ≡ is_some manifest.entry) }
-        ensures unread { OnErr result ((is_some folder.entry || is_some manifest.entry) ≡ true) }
+    /// `Unreadable` where the folder, one of these files, the manifest or the input can't be read, or the folder lists a
+    /// name twice.
+    pub fn read<D: Disk>(alloc: Global, disk: &D, task: &Task) -> Result<Sources, ReadFault>
+        ensures given { IfOk result (IsGiven (D.lists disk.now) (D.holds disk.now) (D.gives disk.now) task.now) }
+        ensures cause { IsErrOf result ReadFault.Unreadable → CannotRead (D.lists disk.now) (D.holds disk.now) (D.fails disk.now) task.now }
+        ensures some { OnErr result (reads_some task.now ≡ true) }
     {
-        let manifest = match manifest {
-            None => None,
-            Some(path) => Some(disk.read(alloc, path)?),
+        let manifest = match read_manifest(alloc, disk, manifest_of(task)) {
+            Ok(manifest) => manifest,
+            Err(fault) => return Err(fault),
         };
-        let files = match folder {
-            None => Vec::new(alloc),
-            Some(folder) => files_in(alloc, disk, folder, manifest.as_deref())?,
+        let files = match read_folder(alloc, disk, folder_of(task), &manifest) {
+            Ok(files) => files,
+            Err(fault) => return Err(fault),
         };
-        Ok(Sources { files, manifest })
+        match read_input(alloc, disk, reads_input(task)) {
+            Ok(input) => Ok(Sources {
+                files,
+                manifest,
+                input,
+            }),
+            Err(fault) => Err(fault),
+        }
+    }
+
+    /// The files, in rising order of names; none where the task names no folder.
+    pub fn files(&self) -> &[NamedFile]
+        ensures files { map file_of result.now ≡ self.now.files }
+        ensures rising { AreFiles (map file_of result.now) }
+    {
+        &self.files
+    }
+
+    /// The manifest.
+    pub fn manifest(&self) -> &Manifest
+        ensures { told_by result.now ≡ self.now.told }
+    {
+        &self.manifest
+    }
+
+    /// The input; empty where the task reads none.
+    pub fn input(&self) -> &[u8]
+        ensures { result.now ≡ self.now.input }
+    {
+        &self.input
     }
 }

@@ -1,17 +1,19 @@
 //! The tables of files, with or without a manifest.
 
-ghost use Rattle.std.specs.Prelude.{◌≡◌, ◌<◌, ℕ, length, map, slice_index, option_map, IfOk, Some, None};
-ghost use Rattle.sha2.specs.Sha256.{sha256};
+ghost use Rattle.std.specs.Prelude.{◌≡◌, map, option_map, IfOk, Some, None, Ok};
+ghost use Rattle.move_msg.specs.Files.{file_of};
 ghost use Rattle.move_msg.specs.Manifests.{entry_of};
-ghost use Rattle.adjudicate.specs.Files.{file_named, file_of};
-ghost use Rattle.adjudicate.specs.Looks.{Gathers, file_fault_name, found_in, held, look_at, look_for, table_fault_name, tables_from, with_found};
-ghost use Rattle.adjudicate.specs.Refusals.{filled, gathered};
+ghost use Rattle.adjudicate.specs.Files.{file_named};
+ghost use Rattle.adjudicate.specs.Lines.{file_fault_name};
+ghost use Rattle.adjudicate.specs.Looks.{found_in, gathered, gathered_by, held, look_at, look_for, tables_from, with_found};
+ghost use Rattle.adjudicate.specs.Refusals.{filled, tables_in};
 
-use crate::files::NamedFile;
+use crate::lines::Line;
+use crate::manifest::Manifest;
+use crate::sources::Sources;
 use arrayvec::ArrayString;
 use judge_core::{Set, SetFault};
-use move_msg::{Line, ManifestFault, manifest_read};
-use sha2::{Digest, Sha256};
+use move_msg::{Line as Entry, NamedFile, file_digest};
 use std::alloc::{AllocError, Global};
 use table_file::{Table, TableFault, open};
 
@@ -29,26 +31,6 @@ pub enum FileFault {
     Bad(TableFault),
 }
 
-/// The name of a table file's fault.
-fn table_fault_name(fault: TableFault) -> &'static str
-    ensures { result.now ≡ table_fault_name fault }
-{
-    match fault {
-        TableFault::BadName => "BadName",
-        TableFault::BadSize => "BadSize",
-        TableFault::BadMagic => "BadMagic",
-        TableFault::BadFlags => "BadFlags",
-        TableFault::BadPieces => "BadPieces",
-        TableFault::BadOrder => "BadOrder",
-        TableFault::Truncated => "Truncated",
-        TableFault::BadExponent => "BadExponent",
-        TableFault::BadCode => "BadCode",
-        TableFault::BadSymbol => "BadSymbol",
-        TableFault::BadSparse => "BadSparse",
-        TableFault::OutOfMemory => "OutOfMemory",
-    }
-}
-
 impl FileFault {
     /// The fault's name, as it is printed.
     pub fn name(self) -> &'static str
@@ -57,27 +39,9 @@ impl FileFault {
         match self {
             FileFault::Missing => "missing",
             FileFault::Changed => "changed",
-            FileFault::Bad(fault) => table_fault_name(fault),
+            FileFault::Bad(fault) => fault.name(),
         }
     }
-}
-
-/// Why there is no set of tables.
-#[derive(Clone, Copy, Debug)]
-pub(crate) enum Refusal {
-    /// The line of the manifest with this number, the first being 1, is at fault.
-    Manifest(usize),
-    /// The file of this name is at fault.
-    File(ArrayString<16>, FileFault),
-}
-
-/// The SHA-256 digest of bytes (FIPS 180-4).
-pub(crate) fn digest_of(bytes: &[u8]) -> [u8; 32]
-    ensures is { result ≡ sha256 bytes.now }
-    ensures long { length result ≡ 32 }
-    ensures each { (i : ℕ) → slice_index result i < 256 }
-{
-    Sha256::digest(bytes)
 }
 
 /// The table that a file is.
@@ -110,14 +74,14 @@ fn file_named<'f>(files: &'f [NamedFile], name: &str) -> Option<&'f NamedFile>
 pub(crate) fn open_line<'f>(
     alloc: Global,
     files: &'f [NamedFile],
-    line: &Line,
+    line: &Entry,
 ) -> Result<Result<Table<'f>, FileFault>, AllocError>
     ensures { IfOk result (λ found. found ≡ held line.now.digest (file_named line.now.name.bytes (map file_of files.now))) }
 {
     let Some(file) = file_named(files, line.name.as_str()) else {
         return Ok(Err(FileFault::Missing));
     };
-    if digest_of(&file.bytes) != line.digest {
+    if file_digest(&file.bytes) != line.digest {
         return Ok(Err(FileFault::Changed));
     }
     open_file(alloc, file)
@@ -128,11 +92,11 @@ fn add_found<'f>(
     set: &mut Set<'f>,
     name: &ArrayString<16>,
     found: Result<Table<'f>, FileFault>,
-) -> Result<Result<(), Refusal>, AllocError>
+) -> Result<Result<(), Line>, AllocError>
     ensures { IfOk result (λ added. filled added set.new.tables ≡ with_found set.old.tables name.now.bytes found.entry) }
 {
     match found {
-        Err(fault) => Ok(Err(Refusal::File(*name, fault))),
+        Err(fault) => Ok(Err(Line::RefusedFile(*name, fault))),
         Ok(table) => match set.add(table) {
             Ok(()) | Err(SetFault::Duplicate) => Ok(Ok(())),
             Err(SetFault::OutOfMemory) => Err(AllocError),
@@ -145,14 +109,14 @@ fn add_files<'f>(
     alloc: Global,
     set: &mut Set<'f>,
     files: &'f [NamedFile],
-) -> Result<Result<(), Refusal>, AllocError>
+) -> Result<Result<(), Line>, AllocError>
     ensures { IfOk result (λ added. filled added set.new.tables ≡ tables_from set.old.tables (map look_at (map file_of files.now))) }
 {
     for file in files {
         let found = open_file(alloc, file)?;
         match add_found(set, &file.name, found)? {
             Ok(()) => {}
-            Err(refusal) => return Ok(Err(refusal)),
+            Err(line) => return Ok(Err(line)),
         }
     }
     Ok(Ok(()))
@@ -163,15 +127,15 @@ fn add_lines<'f>(
     alloc: Global,
     set: &mut Set<'f>,
     files: &'f [NamedFile],
-    lines: &[Line],
-) -> Result<Result<(), Refusal>, AllocError>
+    lines: &[Entry],
+) -> Result<Result<(), Line>, AllocError>
     ensures { IfOk result (λ added. filled added set.new.tables ≡ tables_from set.old.tables (map (look_for (map file_of files.now)) (map entry_of lines.now))) }
 {
     for line in lines {
         let found = open_line(alloc, files, line)?;
         match add_found(set, &line.name, found)? {
             Ok(()) => {}
-            Err(refusal) => return Ok(Err(refusal)),
+            Err(line) => return Ok(Err(line)),
         }
     }
     Ok(Ok(()))
@@ -181,48 +145,44 @@ fn add_lines<'f>(
 fn gather_files<'f>(
     alloc: Global,
     files: &'f [NamedFile],
-) -> Result<Result<Set<'f>, Refusal>, AllocError>
-    ensures { IfOk result (λ set. Gathers (map file_of files.now) None (gathered set)) }
+) -> Result<Result<Set<'f>, Line>, AllocError>
+    ensures { IfOk result (λ set. tables_in set ≡ gathered_by (map file_of files.now) None) }
 {
     let mut set = Set::new(alloc, CACHE)?;
     match add_files(alloc, &mut set, files)? {
         Ok(()) => Ok(Ok(set)),
-        Err(refusal) => Ok(Err(refusal)),
+        Err(line) => Ok(Err(line)),
     }
 }
 
-/// The set of the files that a manifest names.
+/// The set of the files that the lines of a manifest name.
 fn gather_lines<'f>(
     alloc: Global,
     files: &'f [NamedFile],
-    manifest: &[u8],
-) -> Result<Result<Set<'f>, Refusal>, AllocError>
-    ensures { IfOk result (λ set. Gathers (map file_of files.now) (Some manifest.now) (gathered set)) }
+    lines: &[Entry],
+) -> Result<Result<Set<'f>, Line>, AllocError>
+    ensures { IfOk result (λ set. tables_in set ≡ gathered_by (map file_of files.now) (Some (Ok (map entry_of lines.now)))) }
 {
-    let lines = match manifest_read(alloc, manifest) {
-        Ok(lines) => lines,
-        Err(ManifestFault::BadLine(number)) => return Ok(Err(Refusal::Manifest(number))),
-        Err(ManifestFault::OutOfMemory) => return Err(AllocError),
-    };
     let mut set = Set::new(alloc, CACHE)?;
-    match add_lines(alloc, &mut set, files, &lines)? {
+    match add_lines(alloc, &mut set, files, lines)? {
         Ok(()) => Ok(Ok(set)),
-        Err(refusal) => Ok(Err(refusal)),
+        Err(line) => Ok(Err(line)),
     }
 }
 
 /// The set of the files that are looked at, or the first refusal: without a manifest all files are,
 /// in their order; with one those that its lines name, in its order. The error comes only where
 /// memory is refused.
+#[tactic(auto, unfolding(crate::specs::Looks::gathered))]
 pub(crate) fn gather<'f>(
     alloc: Global,
-    files: &'f [NamedFile],
-    manifest: Option<&[u8]>,
-) -> Result<Result<Set<'f>, Refusal>, AllocError>
-    ensures { IfOk result (λ set. Gathers (map file_of files.now) (option_map (λ m. m.now) manifest.entry) (gathered set)) }
+    sources: &'f Sources,
+) -> Result<Result<Set<'f>, Line>, AllocError>
+    ensures { IfOk result (λ set. tables_in set ≡ gathered sources.now) }
 {
-    match manifest {
-        None => gather_files(alloc, files),
-        Some(text) => gather_lines(alloc, files, text),
+    match sources.manifest() {
+        Manifest::Unnamed => gather_files(alloc, sources.files()),
+        Manifest::Lines(lines) => gather_lines(alloc, sources.files(), lines),
+        Manifest::BadLine(number) => Ok(Err(Line::RefusedManifest(*number))),
     }
 }

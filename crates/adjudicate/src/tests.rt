@@ -4,6 +4,7 @@ use crate::commands::{Task, parse};
 use crate::disk::Disk;
 use crate::fixtures::*;
 use crate::input::ReadFault;
+use crate::program::run;
 use crate::usage::Usage;
 use board_core::Position;
 use fen_text::{read, read_move};
@@ -130,7 +131,8 @@ fn lists_the_worked_moves(rt: HostRuntime) -> Result<(), Fail> {
 /// That the list of the moves of a position begins so, or that it doesn't.
 fn expect_beginning(alloc: Global, fen: &str, first: &[u8], wanted: bool) -> Result<(), Fail> {
     let mut lines = Vec::new(alloc);
-    match answer_into(alloc, &Task::Moves { fen }, &[], &mut lines)? {
+    let words = ["moves", fen];
+    match run(alloc, &words, &NoDisk, &mut lines, &mut Vec::new(alloc)) {
         Ok(0) if lines.starts_with(first) == wanted => Ok(()),
         _ => Err(Fail::new(fen)),
     }
@@ -284,14 +286,26 @@ fn reads_words_as_tasks(rt: HostRuntime) -> Result<(), Fail> {
 }
 
 /// No folder and no file.
-pub(crate) struct NoDisk;
+struct NoDisk;
 
 impl Disk for NoDisk {
+    ghost lists = { λ _ _ _. Unit {0} };
+
+    ghost holds = { λ _ _ _. Unit {0} };
+
+    ghost gives = { λ _ _. Unit {0} };
+
+    ghost fails = { λ _ _. Unit {0} };
+
     fn names(&self, _alloc: Global, _folder: &str) -> Result<Vec<String>, ReadFault> {
         Err(ReadFault::Unreadable)
     }
 
     fn read(&self, _alloc: Global, _path: &str) -> Result<Vec<u8>, ReadFault> {
+        Err(ReadFault::Unreadable)
+    }
+
+    fn input(&self, _alloc: Global) -> Result<Vec<u8>, ReadFault> {
         Err(ReadFault::Unreadable)
     }
 }
@@ -312,7 +326,7 @@ const STATUSES: [Row; 4] = [
 /// That the program tells so, and its use where it ends with status 2.
 fn expect_status(alloc: Global, row: Row) -> Result<(), Fail> {
     let mut errors = Vec::new(alloc);
-    expect_run(alloc, &NoDisk, [].as_slice(), &mut errors, row)?;
+    expect_run(alloc, &NoDisk, &mut errors, row)?;
     if errors.starts_with(b"usage: ") == (row.3 == 2) {
         return Ok(());
     }
@@ -330,13 +344,7 @@ fn tells_each_status(rt: HostRuntime) -> Result<(), Fail> {
 #[test]
 fn tells_each_status_where_its_use_cannot_be_written(rt: HostRuntime) -> Result<(), Fail> {
     for row in &STATUSES {
-        expect_run(
-            rt.alloc(),
-            &NoDisk,
-            [].as_slice(),
-            &mut Failing::after(0),
-            *row,
-        )?;
+        expect_run(rt.alloc(), &NoDisk, &mut Failing::after(0), *row)?;
     }
     Ok(())
 }

@@ -7,7 +7,8 @@ use Rattle.board_core.specs.declared.parts.Parts.{Parts}
 use Rattle.board_core.specs.declared.moves.Move.{Move}
 use Rattle.board_core.specs.ComputedMoves.{position_after}
 use Rattle.board_core.specs.declared.verdict.Verdict.{Verdict}
-use Rattle.judge_core.specs.Games.{position_after_all, Rules, verdict_after, most_delay}
+use Rattle.board_core.specs.Delays.{most_delay}
+use Rattle.judge_core.specs.Games.{position_after_all, Rules, verdict_after}
 use Rattle.move_msg.specs.Numbers.{most_moves}
 use Rattle.judge_core.specs.Standings.{Reached, IsAt}
 use Rattle.arbiter_core.specs.Recording.{Recorded, Window, reaches, last_ply, advance}

@@ -8,7 +8,7 @@ use Rattle.arbiter_core.specs.Answering.{Answer, Refuses, Sends, Puts}
 use Rattle.arbiter_core.specs.Views.{View}
 use Rattle.arbiter_core.specs.Delivers.{Keeps, IsKept, Told, Lands, RefusesOrSends, PutsIfAny, with_window, with_record, downed}
 
-module _ {K : Type 0} (may_be : K → Keep → Type 0) (kept : K → Option (List ℕ)) (faults : K → ℕ) (old new : View) (before now : K) (told : Told) where
+module _ {K : Type 0} (may_be : K → Keep → Type 0) (kept : K → Option (List ℕ)) (faults : K → ℕ) (leaves : K → List ℕ → K → Type 0) (old new : View) (before now : K) (told : Told) where
   same_kept : new ≡ old → now ≡ before → IsKept (kept before) old → IsKept (kept now) new
   same_kept e f k = subst (IsKept (kept now)) (sym e) (subst (λ (x : K). IsKept (kept x) old) (sym f) k)
 
@@ -27,7 +27,7 @@ module _ {K : Type 0} (may_be : K → Keep → Type 0) (kept : K → Option (Lis
   landed FailsOld next outputs window h = downed_keeps h.1
   landed FailsNew next outputs window h = downed_keeps h.1
 
-  pub still_kept : (a : Answer) → RefusesOrSends old before now new told a → PutsIfAny may_be kept faults old before now new told a → IsKept (kept before) old → IsKept (kept now) new
+  pub still_kept : (a : Answer) → RefusesOrSends old before now new told a → PutsIfAny may_be kept faults leaves old before now new told a → IsKept (kept before) old → IsKept (kept now) new
   still_kept (Refuses fault) h p k = same_kept h.arbiter h.keeper k
   still_kept (Sends outputs window) (inl h) p k = windowed window h.arbiter h.keeper k
   still_kept (Sends outputs window) (inr h) p k = let u = h.1 in same_kept u.arbiter u.keeper k

@@ -67,11 +67,13 @@ Lands FailsOld old next outputs window before now new told = (told ≡ Err Keepe
 Lands FailsNew old next outputs window before now new told = (told ≡ Err KeeperFailed) × (new ≡ downed old) × IsSpelled old.me.stamp old.setup.delay next now
 
 -- one put, with an outcome that the keeper stated
-pub record PutsOnce {K : Type 0} (may_be : K → Keep → Type 0) (kept : K → Option (List ℕ)) (faults : K → ℕ) (old : View) (next : Recorded) (outputs : List Message) (window : Window) (before now : K) (new : View) (told : Told) : Type 0 where
+pub record PutsOnce {K : Type 0} (may_be : K → Keep → Type 0) (kept : K → Option (List ℕ)) (faults : K → ℕ) (leaves : K → List ℕ → K → Type 0) (old : View) (next : Recorded) (outputs : List Message) (window : Window) (before now : K) (new : View) (told : Told) : Type 0 where
   pub keep : Keep
   pub stated : may_be before keep
   pub lands : Lands keep old next outputs window (kept before) (kept now) new told
   pub written : (kept now ≡ kept before) ⊎ IsWritten old.me.stamp old.setup.delay next (kept now)
+  pub sent : List ℕ
+  pub once : leaves before sent now
   pub cause : told ≡ Err KeeperFailed → Risen (faults before) (faults now)
 
 -- nothing has changed but to this view, and the answer is this
@@ -89,8 +91,8 @@ RefusesOrSends old before now new told (Sends outputs window) =
 RefusesOrSends old before now new told (Puts next outputs window) = Unit {0}
 
 -- where the answer is a put: it is made once, or memory was refused before it
-abbrev pub PutsIfAny : {K : Type 0} → (K → Keep → Type 0) → (K → Option (List ℕ)) → (K → ℕ) → View → K → K → View → Told → Answer → Type 0
-PutsIfAny may_be kept faults old before now new told (Refuses fault) = Unit {0}
-PutsIfAny may_be kept faults old before now new told (Sends outputs window) = Unit {0}
-PutsIfAny may_be kept faults old before now new told (Puts next outputs window) =
-    Unchanged old before now new told (Err OutOfMemory) ⊎ PutsOnce may_be kept faults old next outputs window before now new told
+abbrev pub PutsIfAny : {K : Type 0} → (K → Keep → Type 0) → (K → Option (List ℕ)) → (K → ℕ) → (K → List ℕ → K → Type 0) → View → K → K → View → Told → Answer → Type 0
+PutsIfAny may_be kept faults leaves old before now new told (Refuses fault) = Unit {0}
+PutsIfAny may_be kept faults leaves old before now new told (Sends outputs window) = Unit {0}
+PutsIfAny may_be kept faults leaves old before now new told (Puts next outputs window) =
+    Unchanged old before now new told (Err OutOfMemory) ⊎ PutsOnce may_be kept faults leaves old next outputs window before now new told

@@ -6,10 +6,13 @@ use Rattle.judge_core.specs.declared.game.GameOutcome.{GameOutcome}
 use Rattle.judge_core.specs.declared.game.GameOutcome.TheVariants.{Ruled, Illegal, Going}
 use Rattle.move_msg.specs.declared.stamp.Stamp.{Stamp}
 use Rattle.move_msg.specs.declared.record_bytes.Record.{Record}
-use Rattle.move_msg.specs.Records.{SpellsRecord}
+use Rattle.move_msg.specs.Records.{SpellsRecord, HasRecordLayout}
 use Rattle.judge_core.specs.Games.{Rules}
 use Rattle.arbiter_core.specs.declared.keeper.Keep.{Keep}
 use Rattle.arbiter_core.specs.declared.keeper.Keep.TheVariants.{Good, FailsOld, FailsNew}
+use Rattle.arbiter_core.specs.declared.keeper.KeepFault.{KeepFault}
+use Rattle.arbiter_core.specs.declared.keeper.KeepFault.TheVariants.{Failed}
+use Rattle.arbiter_core.specs.declared.keeper.KeepFault.TheVariants as keep_fault
 use Rattle.arbiter_core.specs.declared.fault.OpenFault.{OpenFault}
 use Rattle.arbiter_core.specs.declared.fault.OpenFault.TheVariants.{BadSetup, KeeperFailed, BadRecord, OtherStamp, OutOfMemory}
 use Rattle.arbiter_core.specs.Recording.{Recorded, reaches, record_at}
@@ -33,13 +36,13 @@ IsResumed rules stamp bytes kept = SpellsRecord bytes (spelled_as stamp rules.de
 abbrev pub IsOfGame : Rules → Stamp → Record → Type 0
 IsOfGame rules stamp r = (r.stamp ≡ stamp) × (r.delay ≡ rules.delay)
 
--- why bytes are none
+-- why bytes are none; memory is wanted only for what is laid out as a record
 abbrev pub IsBadKept : Rules → Stamp → List ℕ → OpenFault → Type 0
 IsBadKept rules stamp bytes BadRecord =
     ((r : Record) → SpellsRecord bytes r → ⊥)
     ⊎ ((r : Record) × SpellsRecord bytes r × IsOfGame rules stamp r × ((kept : Recorded) → IsResumed rules stamp bytes kept → ⊥))
 IsBadKept rules stamp bytes OtherStamp = (r : Record) × SpellsRecord bytes r × (IsOfGame rules stamp r → ⊥)
-IsBadKept rules stamp bytes OutOfMemory = Unit {0}
+IsBadKept rules stamp bytes OutOfMemory = HasRecordLayout bytes ⊎ ((r : Record) × SpellsRecord bytes r)
 IsBadKept rules stamp bytes BadSetup = ⊥
 IsBadKept rules stamp bytes KeeperFailed = ⊥
 
@@ -67,11 +70,15 @@ FirstLands FailsOld setup me before now told = (told ≡ Err KeeperFailed) × (n
 FirstLands FailsNew setup me before now told = (told ≡ Err KeeperFailed) × IsSpelled me.stamp setup.delay (first_record (rules_at setup)) now
 
 -- over nothing kept one put is made, with an outcome that the keeper stated
-pub record PutsFirst {K : Type 0} (may_be : K → Keep → Type 0) (kept : K → Option (List ℕ)) (faults : K → ℕ) (setup : SetupView) (me : Identity) (before now : K) (told : Told) : Type 0 where
+pub record PutsFirst {K : Type 0} (may_be : K → Keep → Type 0) (kept : K → Option (List ℕ)) (faults : K → ℕ) (leaves : K → List ℕ → K → Type 0) (reads : K → Option KeepFault → K → Type 0) (setup : SetupView) (me : Identity) (before now : K) (told : Told) : Type 0 where
   pub keep : Keep
   pub stated : may_be before keep
   pub lands : FirstLands keep setup me (kept before) (kept now) told
   pub written : (kept now ≡ kept before) ⊎ IsWritten me.stamp setup.delay (first_record (rules_at setup)) (kept now)
+  pub mid : K
+  pub got : reads before None mid
+  pub sent : List ℕ
+  pub once : leaves mid sent now
   pub cause : told ≡ Err KeeperFailed → Risen (faults before) (faults now)
 
 -- over kept bytes nothing is put
@@ -80,24 +87,26 @@ Resumes setup me bytes (Ok v) = (v ≡ running setup me v.kept) × IsResumed (ru
 Resumes setup me bytes (Err fault) = IsBadKept (rules_at setup) me.stamp bytes fault
 
 -- by what was kept
-abbrev pub OpensOver : {K : Type 0} → (K → Keep → Type 0) → (K → Option (List ℕ)) → (K → ℕ) → SetupView → Identity → Option (List ℕ) → K → K → Told → Type 0
-OpensOver may_be kept faults setup me None before now told = PutsFirst may_be kept faults setup me before now told
-OpensOver may_be kept faults setup me (Some bytes) before now told = (kept now ≡ kept before) × Resumes setup me bytes told
+abbrev pub OpensOver : {K : Type 0} → (K → Keep → Type 0) → (K → Option (List ℕ)) → (K → ℕ) → (K → List ℕ → K → Type 0) → (K → Option KeepFault → K → Type 0) → SetupView → Identity → Option (List ℕ) → K → K → Told → Type 0
+OpensOver may_be kept faults leaves reads setup me None before now told = PutsFirst may_be kept faults leaves reads setup me before now told
+OpensOver may_be kept faults leaves reads setup me (Some bytes) before now told = (kept now ≡ kept before) × Resumes setup me bytes told × reads before None now
 
 -- the get failed, and nothing was put
-pub record GetFails {K : Type 0} (kept : K → Option (List ℕ)) (faults : K → ℕ) (get_may_fail : K → Type 0) (before now : K) (told : Told) : Type 0 where
+pub record GetFails {K : Type 0} (kept : K → Option (List ℕ)) (faults : K → ℕ) (get_may_fail : K → Type 0) (reads : K → Option KeepFault → K → Type 0) (before now : K) (told : Told) : Type 0 where
   pub answer : told ≡ Err KeeperFailed
   pub still : kept now ≡ kept before
   pub stated : get_may_fail before
+  pub got : reads before (Some Failed) now
   pub cause : Risen (faults before) (faults now)
 
--- memory was refused, and nothing was put
-pub record NoMemory {K : Type 0} (kept : K → Option (List ℕ)) (before now : K) (told : Told) : Type 0 where
+-- memory was refused, to the get or, where nothing was kept, for the first record; nothing was put
+pub record NoMemory {K : Type 0} (kept : K → Option (List ℕ)) (reads : K → Option KeepFault → K → Type 0) (before now : K) (told : Told) : Type 0 where
   pub answer : told ≡ Err OutOfMemory
   pub still : kept now ≡ kept before
+  pub cause : reads before (Some keep_fault.OutOfMemory) now ⊎ ((kept before ≡ None) × reads before None now)
 
 -- what opening a good setup leaves
-abbrev pub Opens : {K : Type 0} → (K → Keep → Type 0) → (K → Option (List ℕ)) → (K → ℕ) → (K → Type 0) → SetupView → Identity → K → K → Told → Type 0
-Opens may_be kept faults get_may_fail setup me before now told =
-    GetFails kept faults get_may_fail before now told
-    ⊎ (NoMemory kept before now told ⊎ OpensOver may_be kept faults setup me (kept before) before now told)
+abbrev pub Opens : {K : Type 0} → (K → Keep → Type 0) → (K → Option (List ℕ)) → (K → ℕ) → (K → Type 0) → (K → List ℕ → K → Type 0) → (K → Option KeepFault → K → Type 0) → SetupView → Identity → K → K → Told → Type 0
+Opens may_be kept faults get_may_fail leaves reads setup me before now told =
+    GetFails kept faults get_may_fail reads before now told
+    ⊎ (NoMemory kept reads before now told ⊎ OpensOver may_be kept faults leaves reads setup me (kept before) before now told)

@@ -5,7 +5,8 @@ use Rattle.fen_text.specs.Written.{fen_of}
 use Rattle.judge_core.specs.Tables.{Holding}
 use Rattle.move_msg.specs.Stamps.{IsGameName, stamp_of}
 use Rattle.move_msg.specs.Senders.{who_number}
-use Rattle.judge_core.specs.Games.{Rules, most_delay}
+use Rattle.board_core.specs.Delays.{most_delay}
+use Rattle.judge_core.specs.Games.{Rules}
 use Rattle.arbiter_core.specs.declared.setup.Setup.{Setup}
 use Rattle.arbiter_core.specs.Answering.{Identity}
 

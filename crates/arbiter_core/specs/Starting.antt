@@ -35,17 +35,19 @@ IsPutSo Good setup me before now (Err fault) = ⊥
 IsPutSo FailsOld setup me before now result = (result ≡ Err KeeperFailed) × (now ≡ before)
 IsPutSo FailsNew setup me before now result = (result ≡ Err KeeperFailed) × IsSpelled me.stamp setup.delay (first_record (rules_at setup)) now
 
-pub record IsPutOnce {K : Type 0} (may_be : K → Keep → Type 0) (kept : K → Option (List ℕ)) (faults : K → ℕ) (setup : SetupView) (me : Identity) (before now : K) (result : Result Played OpenFault) : Type 0 where
+pub record IsPutOnce {K : Type 0} (may_be : K → Keep → Type 0) (kept : K → Option (List ℕ)) (faults : K → ℕ) (leaves : K → List ℕ → K → Type 0) (setup : SetupView) (me : Identity) (before now : K) (result : Result Played OpenFault) : Type 0 where
   pub keep : Keep
   pub stated : may_be before keep
   pub is : IsPutSo keep setup me (kept before) (kept now) result
   pub written : (kept now ≡ kept before) ⊎ IsWritten me.stamp setup.delay (first_record (rules_at setup)) (kept now)
+  pub sent : List ℕ
+  pub once : leaves before sent now
   pub cause : result ≡ Err KeeperFailed → Risen (faults before) (faults now)
 
 -- the put was made once, or memory was refused before it
-abbrev pub IsPutFirst : {K : Type 0} → (K → Keep → Type 0) → (K → Option (List ℕ)) → (K → ℕ) → SetupView → Identity → K → K → Result Played OpenFault → Type 0
-IsPutFirst may_be kept faults setup me before now result =
-    ((result ≡ Err OutOfMemory) × (now ≡ before)) ⊎ IsPutOnce may_be kept faults setup me before now result
+abbrev pub IsPutFirst : {K : Type 0} → (K → Keep → Type 0) → (K → Option (List ℕ)) → (K → ℕ) → (K → List ℕ → K → Type 0) → SetupView → Identity → K → K → Result Played OpenFault → Type 0
+IsPutFirst may_be kept faults leaves setup me before now result =
+    ((result ≡ Err OutOfMemory) × (now ≡ before)) ⊎ IsPutOnce may_be kept faults leaves setup me before now result
 
 -- what is answered where this is recorded
 abbrev pub told_from : SetupView → Identity → Result Played OpenFault → Told

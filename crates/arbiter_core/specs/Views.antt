@@ -4,7 +4,8 @@ use Rattle.board_core.specs.declared.moves.Move.{Move}
 use Rattle.move_msg.specs.declared.record_bytes.Record.{Record}
 use Rattle.move_msg.specs.declared.stamp.Stamp.{Stamp}
 use Rattle.move_msg.specs.Numbers.{most_moves}
-use Rattle.judge_core.specs.Games.{verdict_after, most_delay}
+use Rattle.board_core.specs.Delays.{most_delay}
+use Rattle.judge_core.specs.Games.{verdict_after}
 use Rattle.judge_core.specs.Standings.{Reached, IsAt}
 use Rattle.arbiter_core.specs.Recording.{Recorded, Window, reaches}
 use Rattle.arbiter_core.specs.Answering.{Identity}

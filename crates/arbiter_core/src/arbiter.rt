@@ -27,13 +27,13 @@ use smallvec::SmallVec;
 use std::alloc::{AllocError, Global};
 use std::marker::Model;
 
-/// What a delivery sends.
+/// What a delivery sends: at most two messages, or for a `Fetch` at most eight; up to four take no memory.
 pub type Outputs = SmallVec<Message, 4>;
 
 /// What is recorded, and where the game stands.
 #[derive(Drop)]
 pub(crate) struct Played {
-    /// The record as it is kept.
+    /// The record: what is kept, unless the arbiter is down.
     pub record: Record,
     /// Where the game stands after its moves.
     pub standing: Standing,
@@ -141,7 +141,7 @@ impl<'a> Arbiter<'a> {
         requires legal { position_after_all self.old.setup.start (self.old.kept.moves ++ m.now ∷ []) ≡ Some position.now }
         requires short { length self.old.kept.moves < most_moves }
         requires keeps { Keeps (K.kept keeper.old) self.old }
-        ensures { PutsIfAny K.may_be K.kept K.faults self.old keeper.old keeper.new self.new (result_map_both (λ o. o.items) (λ e. e) result) (puts self.old.me self.old.kept self.old.window (advance (rules_at self.old.setup) self.old.kept.moves m.now self.old.window)) }
+        ensures { PutsIfAny K.may_be K.kept K.faults K.leaves self.old keeper.old keeper.new self.new (result_map_both (λ o. o.items) (λ e. e) result) (puts self.old.me self.old.kept self.old.window (advance (rules_at self.old.setup) self.old.kept.moves m.now self.old.window)) }
     {
         let count = self.played.record.moves.as_slice().len();
         let Ok(next) = plan(
@@ -210,7 +210,7 @@ impl<'a> Arbiter<'a> {
     ) -> Result<Outputs, DeliverFault>
         requires { Keeps (K.kept keeper.old) self.old }
         ensures answered { RefusesOrSends self.old keeper.old keeper.new self.new (result_map_both (λ o. o.items) (λ e. e) result) (answer_to_move (rules_at self.old.setup) self.old.me self.old.kept self.old.window number m.now) }
-        ensures put { PutsIfAny K.may_be K.kept K.faults self.old keeper.old keeper.new self.new (result_map_both (λ o. o.items) (λ e. e) result) (answer_to_move (rules_at self.old.setup) self.old.me self.old.kept self.old.window number m.now) }
+        ensures put { PutsIfAny K.may_be K.kept K.faults K.leaves self.old keeper.old keeper.new self.new (result_map_both (λ o. o.items) (λ e. e) result) (answer_to_move (rules_at self.old.setup) self.old.me self.old.kept self.old.window number m.now) }
     {
         if number >= 4096 {
             return Err(DeliverFault::TooLong);
@@ -272,8 +272,8 @@ impl<'a> Arbiter<'a> {
         )
     }
 
-    /// What the arbiter asks the other for: moves from its count on. None where it is down, has a verdict or has room for no
-    /// more moves.
+    /// What the arbiter asks the other for: a `Fetch` of eight moves from its count on. None where it is down, has a verdict, or
+    /// has 4096 moves.
     pub fn ask(&self) -> Option<Message>
         ensures { result ≡ cond self.now.is_down None (asked self.now.me self.now.kept) }
     {
@@ -298,7 +298,7 @@ impl<'a> Arbiter<'a> {
     ) -> Result<Outputs, DeliverFault>
         requires { Keeps (K.kept keeper.old) self.old }
         ensures answered { RefusesOrSends self.old keeper.old keeper.new self.new (result_map_both (λ o. o.items) (λ e. e) result) (answer_to (rules_at self.old.setup) self.old.me self.old.kept self.old.window message.now) }
-        ensures put { PutsIfAny K.may_be K.kept K.faults self.old keeper.old keeper.new self.new (result_map_both (λ o. o.items) (λ e. e) result) (answer_to (rules_at self.old.setup) self.old.me self.old.kept self.old.window message.now) }
+        ensures put { PutsIfAny K.may_be K.kept K.faults K.leaves self.old keeper.old keeper.new self.new (result_map_both (λ o. o.items) (λ e. e) result) (answer_to (rules_at self.old.setup) self.old.me self.old.kept self.old.window message.now) }
     {
         match *message {
             Message::Move { number, m, .. } => self.take_move(alloc, keeper, number, &m),
@@ -320,7 +320,7 @@ impl<'a> Arbiter<'a> {
     ) -> Result<Outputs, DeliverFault>
         requires { IsKept (K.kept keeper.old) self.old }
         ensures answered { RefusesOrSends self.old keeper.old keeper.new self.new (result_map_both (λ o. o.items) (λ e. e) result) (answer_of self.old (heard self.old.me.stamp bytes.now)) }
-        ensures put { PutsIfAny K.may_be K.kept K.faults self.old keeper.old keeper.new self.new (result_map_both (λ o. o.items) (λ e. e) result) (answer_of self.old (heard self.old.me.stamp bytes.now)) }
+        ensures put { PutsIfAny K.may_be K.kept K.faults K.leaves self.old keeper.old keeper.new self.new (result_map_both (λ o. o.items) (λ e. e) result) (answer_of self.old (heard self.old.me.stamp bytes.now)) }
     {
         let heard = self.hear(bytes);
         if self.down {
@@ -350,7 +350,7 @@ impl<'a> Arbiter<'a> {
     ///
     /// `OutOfMemory` comes only in case 8, before the put, and for a `Fetch` that is answered by more than four moves. It leaves
     /// the keeper and all of the arbiter but its cache as before, and so does each refusal but `KeeperFailed`. That the keeper
-    /// keeps this arbiter's record, as `open` and each answer but `KeeperFailed` leave it, is the caller's condition.
+    /// keeps this arbiter's record while it runs, as `open` and each delivery leave it, is the caller's condition.
     pub fn deliver<K: Keeper>(
         &mut self,
         alloc: Global,
@@ -364,7 +364,7 @@ impl<'a> Arbiter<'a> {
         ensures answered { RefusesOrSends self.old keeper.old keeper.new self.new (result_map_both (λ o. o.items) (λ e. e) result) (answer_of self.old (heard self.old.me.stamp bytes.now)) }
 
         // A record to be put is put once, with an outcome that the keeper states, or memory was refused before it.
-        ensures put { PutsIfAny K.may_be K.kept K.faults self.old keeper.old keeper.new self.new (result_map_both (λ o. o.items) (λ e. e) result) (answer_of self.old (heard self.old.me.stamp bytes.now)) }
+        ensures put { PutsIfAny K.may_be K.kept K.faults K.leaves self.old keeper.old keeper.new self.new (result_map_both (λ o. o.items) (λ e. e) result) (answer_of self.old (heard self.old.me.stamp bytes.now)) }
 
         // So it is afterwards.
         ensures keeps { IsKept (K.kept keeper.new) self.new }
@@ -394,7 +394,7 @@ impl<'a> Arbiter<'a> {
         self.played.record.moves.as_slice()
     }
 
-    /// How many moves are recorded.
+    /// How many moves are recorded, 0 to 4096.
     pub fn count(&self) -> u32
         ensures is { result ≡ count_of self.now.kept }
         ensures few { result ≤ most_moves }

@@ -51,8 +51,8 @@ pub enum OpenFault {
     BadSetup,
     /// The keeper failed.
     KeeperFailed,
-    /// What is kept is no record, or its moves aren't legal in turn, or its verdict isn't the first one of its moves, at the last
-    /// of them.
+    /// What is kept is no record, or its moves aren't legal in turn, or a ply before its last has a verdict, or its verdict isn't
+    /// the one at its last ply.
     BadRecord,
     /// What is kept is a record of another game, or of one with another delay.
     OtherStamp,

@@ -1,10 +1,11 @@
 //! Where an arbiter's record is kept.
 
-ghost use Rattle.std.specs.Prelude.{◌≡◌, ℕ, ◌+◌, ◌<◌, ◌≤◌, ◌^◌, ◌↔◌, List, length, IfOk, Option, Some, None, Result, Ok, Err};
+ghost use Rattle.std.specs.Prelude.{◌≡◌, ℕ, ◌+◌, ◌<◌, ◌≤◌, ◌^◌, ◌↔◌, List, length, IfOk, IfErr, Option, Some, None, Result, Ok, Err};
 ghost use Rattle.std.specs.Option.{option_map};
 ghost use Rattle.std.specs.Result.{IsErrOf};
 ghost use Rattle.arbiter_core.specs.Keeping.{PutLeaves, Risen};
 ghost use Rattle.arbiter_core.specs.declared.keeper.Keep.{Keep};
+ghost use Rattle.arbiter_core.specs.declared.keeper.KeepFault.{KeepFault};
 
 use std::alloc::{AllocError, Global};
 use std::marker::Model;
@@ -28,7 +29,7 @@ pub enum Keep {
 pub enum KeepFault {
     /// It failed.
     Failed,
-    /// Memory was refused.
+    /// Memory for a copy was refused; only a get tells it.
     OutOfMemory,
 }
 
@@ -47,6 +48,12 @@ pub trait Keeper {
     /// Whether a get may fail.
     ghost get_may_fail: { Self → Type 0 };
 
+    /// What one put of these bytes may make of it.
+    ghost leaves: { Self → List ℕ → Self → Type 0 };
+
+    /// What one get may make of it, with the fault that it tells, if any.
+    ghost reads: { Self → Option KeepFault → Self → Type 0 };
+
     /// Keeps these bytes in place of what was kept. Where it fails, what is kept is the old or the new, and stays so.
     ///
     /// That there are at most 8217 bytes is the caller's condition. `Failed` comes only where the failures rose in this call;
@@ -54,7 +61,9 @@ pub trait Keeper {
     fn put(&mut self, bytes: &[u8]) -> Result<(), KeepFault>
         requires { length bytes.now ≤ 8217 }
         ensures outcome { PutLeaves (may_be self.old) (kept self.old) bytes.now (kept self.new) result }
-        ensures cause { IsErrOf result KeepFault.Failed → Risen (faults self.old) (faults self.new) };
+        ensures cause { IsErrOf result KeepFault.Failed → Risen (faults self.old) (faults self.new) }
+        ensures count { faults self.old ≤ faults self.new }
+        ensures once { leaves self.old bytes.now self.new };
 
     /// A copy of what is kept, which stays kept. `Failed` comes only where the failures rose in this call and the keeper states
     /// that a get may fail, `OutOfMemory` where memory for the copy is refused.
@@ -64,9 +73,11 @@ pub trait Keeper {
         ensures count { faults self.old ≤ faults self.new }
         ensures outcomes { (keep : Keep) → may_be self.new keep ↔ may_be self.old keep }
         ensures cause { IsErrOf result KeepFault.Failed → Risen (faults self.old) (faults self.new) }
-        ensures stated { IsErrOf result KeepFault.Failed → get_may_fail self.old };
+        ensures stated { IsErrOf result KeepFault.Failed → get_may_fail self.old }
+        ensures once { IfOk result (λ got. reads self.old None self.new) }
+        ensures told { IfErr result (λ fault. reads self.old (Some fault) self.new) };
 
-    /// How often the keeper has failed.
+    /// How often the keeper has failed; at its greatest value the count stays.
     fn failures(&self) -> u64
         ensures { result ≡ faults self.now };
 }
@@ -154,6 +165,10 @@ impl Keeper for MemoryKeeper {
     ghost may_be = { λ m keep. m.keep ≡ keep };
 
     ghost get_may_fail = { λ m. ⊥ };
+
+    ghost leaves = { λ m bytes n. (n.keep ≡ m.keep) × (m.keep ≡ Keep.Good → n.failures ≡ m.failures) };
+
+    ghost reads = { λ m fault n. n ≡ m };
 
     fn put(&mut self, bytes: &[u8]) -> Result<(), KeepFault> {
         match self.keep {

@@ -17,7 +17,7 @@ use judge_core::{GameOutcome, Verdict};
 use move_msg::{MoveList, Record, RecordFault, Stamp, Who};
 use std::alloc::{AllocError, Global};
 
-/// Why an arbiter was not opened, and the setup as it was handed in.
+/// Why an arbiter was not opened, and the setup as it was handed in, but for its cache.
 #[derive(Drop)]
 pub struct Refused<'a> {
     /// Why.
@@ -140,7 +140,7 @@ fn put_first<K: Keeper>(
 ) -> Result<Played, OpenFault>
     requires { setup.old.delay ≤ 8 }
     ensures same { setup.new ≡ setup.old }
-    ensures put { (who : Who) → IsPutFirst K.may_be K.kept K.faults (setup_view setup.old) (record { stamp = stamp; who = who }) keeper.old keeper.new result }
+    ensures put { (who : Who) → IsPutFirst K.may_be K.kept K.faults K.leaves (setup_view setup.old) (record { stamp = stamp; who = who }) keeper.old keeper.new result }
 {
     let Ok(played) = first(alloc, setup, stamp) else {
         return Err(OpenFault::OutOfMemory);
@@ -164,7 +164,7 @@ fn recorded<K: Keeper>(
     requires { setup.old.delay ≤ 8 }
     ensures same { setup.new ≡ setup.old }
     ensures played { IfOk result (IsPlayed (setup_view setup.old) stamp) }
-    ensures opens { (who : Who) → Opens K.may_be K.kept K.faults K.get_may_fail (setup_view setup.old) (record { stamp = stamp; who = who }) keeper.old keeper.new (told_from (setup_view setup.old) (record { stamp = stamp; who = who }) result) }
+    ensures opens { (who : Who) → Opens K.may_be K.kept K.faults K.get_may_fail K.leaves K.reads (setup_view setup.old) (record { stamp = stamp; who = who }) keeper.old keeper.new (told_from (setup_view setup.old) (record { stamp = stamp; who = who }) result) }
 {
     match keeper.get(alloc) {
         Ok(Some(bytes)) => resume(alloc, setup, stamp, &bytes),
@@ -178,11 +178,12 @@ impl<'a> Arbiter<'a> {
     /// Opens an arbiter over what is kept: it runs from a kept record of this game, and where nothing is kept it has the record
     /// before the first move kept first.
     ///
-    /// In this order: `BadSetup` where the name is none of a game, the number none of an arbiter or the delay above 8;
-    /// `KeeperFailed` where the get failed; over something kept `BadRecord` where it is no record, `OtherStamp` where its stamp or
-    /// its delay is another, `BadRecord` where its moves aren't legal in turn, or its verdict is not the first one of its moves at
-    /// the last of them; over nothing kept `KeeperFailed` where the put failed. `OutOfMemory` comes where memory was refused, and
-    /// before a put. Over a kept record, of either version, nothing is put. A refusal hands the setup back, but for its cache.
+    /// In this order: `BadSetup` where the name is none of a game, the number none of an arbiter or the delay above 8 plies;
+    /// `KeeperFailed` where the get failed; over something kept `BadRecord` where it is no record, `OtherStamp` where its stamp
+    /// or its delay is another, `BadRecord` where its moves aren't legal in turn, a ply before its last has a verdict, or its
+    /// verdict isn't the one at its last ply; over nothing kept `KeeperFailed` where the put failed. `OutOfMemory` comes where
+    /// memory was refused, and before a put. Over a kept record, of either version, nothing is put. A refusal hands the setup
+    /// back, but for its cache.
     pub fn open<K: Keeper>(
         alloc: Global,
         keeper: &mut K,
@@ -192,7 +193,7 @@ impl<'a> Arbiter<'a> {
         ensures bad { (IsGood (setup_view setup.entry) → ⊥) → IfErr result (λ r. r.fault ≡ OpenFault.BadSetup) × IsErr result × (keeper.new ≡ keeper.old) }
         // What a running arbiter has recorded is what is kept.
         ensures keeps { IfOk result (λ a. IsKept (K.kept keeper.new) a) }
-        ensures good { IsGood (setup_view setup.entry) → (me : Identity) × IsIdentity (setup_view setup.entry) me × Opens K.may_be K.kept K.faults K.get_may_fail (setup_view setup.entry) me keeper.old keeper.new (result_map_both (λ a. a) (λ r. r.fault) result) }
+        ensures good { IsGood (setup_view setup.entry) → (me : Identity) × IsIdentity (setup_view setup.entry) me × Opens K.may_be K.kept K.faults K.get_may_fail K.leaves K.reads (setup_view setup.entry) me keeper.old keeper.new (result_map_both (λ a. a) (λ r. r.fault) result) }
     {
         let Some((stamp, who)) = identify(&setup) else {
             return Err(Refused {

@@ -10,3 +10,4 @@ pub mod Computed
 pub mod ComputedMoves
 pub mod Laws
 pub mod Verdicts
+pub mod Delays

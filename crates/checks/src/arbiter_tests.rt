@@ -418,6 +418,76 @@ const FETCHES: [Step; 6] = [
     },
 ];
 
+/// The first eight moves of a game, for longer answers.
+const EIGHT: [Step; 11] = [
+    Step {
+        sent: "Move 7 f8c5",
+        keep: Keep::Good,
+        told: "Ack 0",
+        count: 0,
+    },
+    Step {
+        sent: "Move 6 c2c3",
+        keep: Keep::Good,
+        told: "Ack 0",
+        count: 0,
+    },
+    Step {
+        sent: "Move 5 g8f6",
+        keep: Keep::Good,
+        told: "Ack 0",
+        count: 0,
+    },
+    Step {
+        sent: "Move 4 f1c4",
+        keep: Keep::Good,
+        told: "Ack 0",
+        count: 0,
+    },
+    Step {
+        sent: "Move 3 b8c6",
+        keep: Keep::Good,
+        told: "Ack 0",
+        count: 0,
+    },
+    Step {
+        sent: "Move 2 g1f3",
+        keep: Keep::Good,
+        told: "Ack 0",
+        count: 0,
+    },
+    Step {
+        sent: "Move 1 e7e5",
+        keep: Keep::Good,
+        told: "Ack 0",
+        count: 0,
+    },
+    Step {
+        sent: "Move 0 e2e4",
+        keep: Keep::Good,
+        told: "Ack 8",
+        count: 8,
+    },
+    Step {
+        sent: "Fetch 2 4",
+        keep: Keep::Good,
+        told: "Move 2 g1f3, Move 3 b8c6, Move 4 f1c4, Move 5 g8f6",
+        count: 8,
+    },
+    Step {
+        sent: "Fetch 4 8",
+        keep: Keep::Good,
+        told: "Move 4 f1c4, Move 5 g8f6, Move 6 c2c3, Move 7 f8c5",
+        count: 8,
+    },
+    Step {
+        sent: "Fetch 0 8",
+        keep: Keep::Good,
+        told: "Move 0 e2e4, Move 1 e7e5, Move 2 g1f3, Move 3 b8c6, Move 4 f1c4, Move 5 g8f6, Move 6 c2c3, Move 7 f8c5",
+        count: 8,
+    },
+];
+
 /// Bare kings, with a verdict that must hold for one ply more; a waiting move doesn't outlive the verdict.
 const ONE_PLY_MORE: [Step; 4] = [
     Step {
@@ -483,6 +553,11 @@ fn keeps_what_waits(rt: HostRuntime) -> Result<(), Fail> {
 #[test]
 fn answers_fetches(rt: HostRuntime) -> Result<(), Fail> {
     check_steps(&rt, rt.alloc(), START, 0, &FETCHES, 3)
+}
+
+#[test]
+fn answers_long_fetches(rt: HostRuntime) -> Result<(), Fail> {
+    check_steps(&rt, rt.alloc(), START, 0, &EIGHT, 8)
 }
 
 #[test]
@@ -770,6 +845,10 @@ impl Keeper for Broken {
 
     ghost get_may_fail = { λ k. Unit {0} };
 
+    ghost leaves = { λ k bytes n. Unit {0} };
+
+    ghost reads = { λ k fault n. Unit {0} };
+
     fn put(&mut self, _bytes: &[u8]) -> Result<(), KeepFault> {
         self.failures = self.failures.saturating_add(1);
         Err(KeepFault::Failed)
@@ -785,16 +864,24 @@ impl Keeper for Broken {
     }
 }
 
-/// Why an arbiter isn't opened over a keeper whose get fails, and its setup.
-fn refused<'a>(alloc: Global, setup: Setup<'a>) -> Option<Refused<'a>> {
+/// Why an arbiter isn't opened over a keeper whose get fails, with its setup, and how often the keeper failed.
+fn refused<'a>(alloc: Global, setup: Setup<'a>) -> (Option<Refused<'a>>, u64) {
     let mut keeper = Broken { failures: 0 };
-    Arbiter::open(alloc, &mut keeper, setup).err()
+    let told = Arbiter::open(alloc, &mut keeper, setup).err();
+    (told, keeper.failures())
 }
 
 fn check_refused(rt: &impl Abort, alloc: Global, setup: Setup<'_>, fault: OpenFault) {
     let (name, me, delay) = (setup.name, setup.me, setup.delay);
-    let refused = refused(alloc, setup).expect(rt, "a refusal");
+    let (told, failures) = refused(alloc, setup);
+    let refused = told.expect(rt, "a refusal");
     check_same(rt, refused.fault, fault, fault.name());
+    let wanted = if fault == OpenFault::KeeperFailed {
+        1
+    } else {
+        0
+    };
+    check_same(rt, failures, wanted, "failures");
     check_bytes(rt, refused.setup.name, name, "the name");
     check_same(rt, refused.setup.me, me, "the arbiter");
     check_same(rt, refused.setup.delay, delay, "the delay");

@@ -26,4 +26,6 @@ mod positions;
 #[cfg(test)]
 mod probe_tests;
 #[cfg(test)]
+mod seeded_tests;
+#[cfg(test)]
 mod table_tests;

@@ -1,7 +1,7 @@
 //! The worked rows with forged table files, each call once, games, and refused memory.
 
 ghost use Rattle.std.specs.Prelude.{◌≤◌};
-ghost use Rattle.judge_core.specs.Games.{most_delay};
+ghost use Rattle.board_core.specs.Delays.{most_delay};
 
 use crate::comparing::{check_same, check_text};
 use crate::files::{

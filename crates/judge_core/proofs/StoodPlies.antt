@@ -12,7 +12,8 @@ use Rattle.board_core.specs.declared.verdict.Verdict.{Verdict}
 use Rattle.board_core.specs.declared.verdict.Verdict.TheVariants.{WhiteMates, BlackMates, Stalemate, TableDraw, TableWhite, TableBlack, Stopped}
 use Rattle.board_core.specs.Verdicts.{code_of}
 use Rattle.judge_core.specs.Ruling.{ruling}
-use Rattle.judge_core.specs.Games.{position_after_all, judged_after, Rules, is_end, is_judged, has_stood, verdict_by, verdict_after, most_delay}
+use Rattle.board_core.specs.Delays.{most_delay}
+use Rattle.judge_core.specs.Games.{position_after_all, judged_after, Rules, is_end, is_judged, has_stood, verdict_by, verdict_after}
 use Rattle.judge_core.proofs.Plies.{starts, goes_on}
 use Rattle.judge_core.specs.Standings.{Reached, IsAt, HasStood, plies_by, verdict_of}
 

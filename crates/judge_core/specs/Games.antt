@@ -27,10 +27,6 @@ pub record Rules : Type 0 where
   pub tables : Tables
   pub delay : ℕ
 
--- the greatest delay
-abbrev pub most_delay : ℕ
-most_delay = 8
-
 -- checkmate and stalemate end a game at once
 abbrev pub is_end : Verdict → Bool
 is_end WhiteMates = true

@@ -4,7 +4,8 @@ use Rattle.board_core.specs.declared.parts.Parts.{Parts}
 use Rattle.board_core.specs.declared.moves.Move.{Move}
 use Rattle.board_core.specs.declared.verdict.Verdict.{Verdict}
 use Rattle.judge_core.specs.Ruling.{ruling}
-use Rattle.judge_core.specs.Games.{Rules, position_after_all, has_stood, is_judged, is_end, most_delay}
+use Rattle.board_core.specs.Delays.{most_delay}
+use Rattle.judge_core.specs.Games.{Rules, position_after_all, has_stood, is_judged, is_end}
 
 -- the position, its ruling, and how many plies before it had the same ruling, counted up to the greatest delay
 pub record Reached : Type 0 where

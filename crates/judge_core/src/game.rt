@@ -2,7 +2,8 @@
 
 ghost use Rattle.std.specs.Prelude.{◌≡◌, ◌≤◌, ℕ, take, IfOk};
 ghost use Rattle.judge_core.specs.Tables.{AreFiled};
-ghost use Rattle.judge_core.specs.Games.{Rules, IsOutcome, plies_to, most_delay};
+ghost use Rattle.board_core.specs.Delays.{most_delay};
+ghost use Rattle.judge_core.specs.Games.{Rules, IsOutcome, plies_to};
 ghost use Rattle.judge_core.specs.Standings.{IsAt};
 
 use crate::set::Set;

@@ -7,7 +7,3 @@ most_moves = 4096
 -- how many moves an arbiter may ask for at once
 abbrev pub most_wanted : ℕ
 most_wanted = 8
-
--- how many plies more a verdict by tables may have to hold
-abbrev pub most_delay : ℕ
-most_delay = 8

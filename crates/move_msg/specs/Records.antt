@@ -8,7 +8,8 @@ use Rattle.move_msg.specs.declared.record_bytes.RecordFault.{RecordFault}
 use Rattle.move_msg.specs.declared.record_bytes.RecordFault.TheVariants.{BadLength, BadHead, BadField, OutOfMemory}
 use Rattle.move_msg.specs.declared.record_bytes.Record.{Record}
 use Rattle.move_msg.specs.Words.{SpellsWord}
-use Rattle.move_msg.specs.Numbers.{most_moves, most_delay}
+use Rattle.board_core.specs.Delays.{most_delay}
+use Rattle.move_msg.specs.Numbers.{most_moves}
 
 -- the words of the moves one after the other, two bytes each
 abbrev pub SpellsMoves : List ℕ → List Move → Type 0

@@ -1,4 +1,5 @@
 pub mod Reading
+pub mod Faults
 pub mod Names
 pub mod Dictionaries
 pub mod Figures

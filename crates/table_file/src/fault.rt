@@ -2,6 +2,7 @@
 
 ghost use Rattle.std.specs.Prelude.{◌≡◌};
 ghost use Rattle.table_file.specs.declared.fault.TableFault.TheVariants.{OutOfMemory};
+ghost use Rattle.table_file.specs.Faults.{table_fault_name};
 
 use std::alloc::{AllocError, AllocFailed};
 
@@ -34,6 +35,28 @@ pub enum TableFault {
     BadSparse,
     /// Memory was refused. Name, size, magic and flags are good then.
     OutOfMemory,
+}
+
+impl TableFault {
+    /// The name of the fault, for printing.
+    pub fn name(self) -> &'static str
+        ensures { result.now ≡ table_fault_name self }
+    {
+        match self {
+            TableFault::BadName => "BadName",
+            TableFault::BadSize => "BadSize",
+            TableFault::BadMagic => "BadMagic",
+            TableFault::BadFlags => "BadFlags",
+            TableFault::BadPieces => "BadPieces",
+            TableFault::BadOrder => "BadOrder",
+            TableFault::Truncated => "Truncated",
+            TableFault::BadExponent => "BadExponent",
+            TableFault::BadCode => "BadCode",
+            TableFault::BadSymbol => "BadSymbol",
+            TableFault::BadSparse => "BadSparse",
+            TableFault::OutOfMemory => "OutOfMemory",
+        }
+    }
 }
 
 impl From<AllocError> for TableFault {

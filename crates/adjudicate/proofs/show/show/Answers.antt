@@ -6,15 +6,15 @@ use Rattle.adjudicate.proofs.show.show.Goals as goal
 pub loop-message-preserved : goal.loop-message-preserved
 loop-message-preserved g c =
     let front = c.in-Message.ensures in
-    (front.4, shows_more _ _ _ front.0 c.in-Message.message _ _ _ _ c.loop-message.invariant.1 front.1 front.2 front.3 c.in-Ok.ensures.ok)
+    (front.4, shows_more _ _ _ front.0 c.in-Message.message _ _ _ _ c.loop-message.invariant.1 front.1 front.2 front.3 c.in-Ok.ensures)
 
-pub returns-in-Fault-clause-ok : goal.returns-in-Fault-clause-ok
-returns-in-Fault-clause-ok g c =
-    IfOk-weaker c.refuse_message.result _ _ (λ status h. shown_fault _ _ _ _ _ _ status c.in-Fault.fault _ c.loop-message.invariant.1 c.in-Fault.ensures c.name.ensures h) c.refuse_message.ensures.ok
+pub returns-in-Fault : goal.returns-in-Fault
+returns-in-Fault g c =
+    IfOk-weaker c.put_refusal.result _ _ (λ status h. shown_fault _ _ _ _ _ _ status c.in-Fault.fault _ c.loop-message.invariant.1 c.in-Fault.ensures refl h) c.put_refusal.ensures
 
-pub returns-in-Cut-clause-ok : goal.returns-in-Cut-clause-ok
-returns-in-Cut-clause-ok g c =
-    IfOk-weaker c.refuse_message-in-Cut.result _ _ (λ status h. shown_cut _ _ _ _ _ _ status _ c.loop-message.invariant.1 c.in-Cut.ensures refl h) c.refuse_message-in-Cut.ensures.ok
+pub returns-in-Cut : goal.returns-in-Cut
+returns-in-Cut g c =
+    IfOk-weaker c.put_refusal-in-Cut.result _ _ (λ status h. shown_cut _ _ _ _ _ _ status _ c.loop-message.invariant.1 c.in-Cut.ensures refl h) c.put_refusal-in-Cut.ensures
 
-pub returns-in-End-clause-ok : goal.returns-in-End-clause-ok
-returns-in-End-clause-ok g c = shown_whole _ _ _ _ _ c.loop-message.invariant.1 c.in-End.ensures
+pub returns-in-End : goal.returns-in-End
+returns-in-End g c = shown_whole _ _ _ _ _ c.loop-message.invariant.1 c.in-End.ensures

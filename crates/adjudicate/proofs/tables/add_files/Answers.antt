@@ -1,6 +1,6 @@
 use Rattle.std.proofs.Common.{map, sym, ◌∙◌, arith}
 use Rattle.std.proofs.lemmas.List.{at_drop_all}
-use Rattle.adjudicate.specs.Files.{file_of}
+use Rattle.move_msg.specs.Files.{file_of}
 use Rattle.adjudicate.specs.Looks.{look_at, tables_from}
 use Rattle.adjudicate.proofs.TableLaws.{goes_on, is_refused, none_left}
 use Rattle.adjudicate.proofs.tables.add_files.Goals as goal

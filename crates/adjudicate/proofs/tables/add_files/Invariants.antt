@@ -1,5 +1,5 @@
 use Rattle.std.proofs.Common.{◌≡◌, map, drop}
-use Rattle.adjudicate.specs.Files.{file_of}
+use Rattle.move_msg.specs.Files.{file_of}
 use Rattle.adjudicate.specs.Looks.{look_at, tables_from}
 use Rattle.adjudicate.proofs.tables.add_files.Given as goal
 

@@ -1,6 +1,6 @@
 use Rattle.std.proofs.Common.{◌≡◌, map, drop}
 use Rattle.move_msg.specs.Manifests.{entry_of}
-use Rattle.adjudicate.specs.Files.{file_of}
+use Rattle.move_msg.specs.Files.{file_of}
 use Rattle.adjudicate.specs.Looks.{look_for, tables_from}
 use Rattle.adjudicate.proofs.tables.add_lines.Given as goal
 

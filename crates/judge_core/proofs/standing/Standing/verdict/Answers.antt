@@ -1,5 +1,5 @@
 use Rattle.std.proofs.Common.{◌≤◌, sym, ap, subst, ◌∙◌}
-use Rattle.judge_core.specs.Games.{most_delay}
+use Rattle.board_core.specs.Delays.{most_delay}
 use Rattle.judge_core.specs.Standings.{verdict_of}
 use Rattle.judge_core.proofs.StoodPlies.{verdict_is}
 use Rattle.judge_core.proofs.standing.Standing.verdict.Goals as goal

@@ -1,0 +1,11 @@
+use Rattle.std.proofs.Common.{Err, ap}
+use Rattle.std.proofs.lemmas.Result.{IfOk-weaker}
+use Rattle.adjudicate.specs.Running.{FromGiven, Unread}
+use Rattle.adjudicate.proofs.program.run_task.Goals as goal
+
+pub returns-in-Ok : goal.returns-in-Ok
+returns-in-Ok g c = IfOk-weaker c.answer_task.result _ _ (λ status h. FromGiven _ c.in-Ok.ensures.given h) c.answer_task.ensures
+
+pub returns-in-Err-Unreadable : goal.returns-in-Err-Unreadable
+returns-in-Err-Unreadable g c =
+    IfOk-weaker c.put_refusal.result _ _ (λ status h. Unread (c.in-Err-Unreadable.ensures.cause (ap Err c.in-Err-Unreadable.field-0-is)) h) c.put_refusal.ensures

@@ -1,0 +1,124 @@
+-- The lines that the program writes (this project's own).
+use Rattle.std.specs.Prelude.{ℕ, ℤ, pos, ◌-ℤ◌, List, [], ◌∷◌, ◌++◌, Option, Some, None, Result, Ok, Err, codes}
+use Rattle.std.specs.Fmt.{decimal, signed_decimal}
+use Rattle.std.specs.List.{flat_map}
+use Rattle.board_core.specs.declared.verdict.Verdict.{Verdict}
+use Rattle.board_core.specs.Position.{fault_name as position_fault_name}
+use Rattle.board_core.specs.Verdicts.{verdict_name}
+use Rattle.fen_text.specs.declared.fault.FenFault.{FenFault}
+use Rattle.fen_text.specs.declared.fault.FenFault.TheVariants as fen
+use Rattle.fen_text.specs.Fen.{fault_name as fen_fault_name}
+use Rattle.fen_text.specs.Coordinates.{move_text}
+use Rattle.place_index.specs.Material.{name_of, men_of}
+use Rattle.table_file.specs.Faults.{table_fault_name}
+use Rattle.judge_core.specs.declared.fault.ProbeFault.{ProbeFault}
+use Rattle.judge_core.specs.declared.fault.ProbeFault.TheVariants as probe
+use Rattle.move_msg.specs.declared.message.Message.{Message}
+use Rattle.move_msg.specs.declared.message.Message.TheVariants as message
+use Rattle.move_msg.specs.declared.message.MessageFault.{MessageFault}
+use Rattle.move_msg.specs.Messages.{fault_name as message_fault_name}
+use Rattle.move_msg.specs.Senders.{who_number, sender_number}
+use Rattle.adjudicate.specs.declared.tables.FileFault.{FileFault}
+use Rattle.adjudicate.specs.declared.tables.FileFault.TheVariants.{Missing, Changed, Bad}
+use Rattle.adjudicate.specs.declared.lines.Line.{Line}
+use Rattle.adjudicate.specs.declared.lines.Line.TheVariants as line
+
+-- a line ends with a line feed
+abbrev pub ended : List ℕ → List ℕ
+ended words = words ++ 10 ∷ []
+
+abbrev pub text_of : List (List ℕ) → List ℕ
+text_of = flat_map ended
+
+-- ---- names
+
+abbrev pub file_fault_name : FileFault → List ℕ
+file_fault_name Missing = codes "missing"
+file_fault_name Changed = codes "changed"
+file_fault_name (Bad fault) = table_fault_name fault
+
+-- the fault of a text, with that of the position after it where the text spells its parts
+abbrev pub fault_text : FenFault → List ℕ
+fault_text (fen.BadPosition fault) = codes "BadPosition " ++ position_fault_name fault
+fault_text fen.FieldCount = fen_fault_name fen.FieldCount
+fault_text fen.BadPlacement = fen_fault_name fen.BadPlacement
+fault_text fen.BadSide = fen_fault_name fen.BadSide
+fault_text fen.BadCastlingText = fen_fault_name fen.BadCastlingText
+fault_text fen.BadSquare = fen_fault_name fen.BadSquare
+fault_text fen.BadNumber = fen_fault_name fen.BadNumber
+
+-- a fault's name, and that of the table that is missing or damaged
+abbrev pub fault_words : ProbeFault → List ℕ
+fault_words probe.OutOfScope = codes "OutOfScope"
+fault_words (probe.NotCovered key) = codes "NotCovered" ++ codes " " ++ name_of (men_of key)
+fault_words (probe.Damaged key) = codes "Damaged" ++ codes " " ++ name_of (men_of key)
+fault_words probe.OutOfMemory = codes "OutOfMemory"
+
+-- ---- lines
+
+-- the verdict's name, or that the game goes on
+abbrev pub verdict_words : Option Verdict → List ℕ
+verdict_words None = codes "open"
+verdict_words (Some v) = verdict_name v
+
+abbrev pub refused_fen : FenFault → List ℕ
+refused_fen fault = codes "refused FEN " ++ fault_text fault
+
+-- what a probe tells, or why it tells nothing
+unfoldable pub told_words : List ℕ → Result ℤ ProbeFault → List ℕ
+told_words question (Ok number) = question ++ codes " " ++ signed_decimal number
+told_words question (Err fault) = question ++ codes " refused " ++ fault_words fault
+
+-- the refusal of a manifest by the number of its first line at fault, and of a file
+abbrev pub refused_manifest : ℕ → List ℕ
+refused_manifest number = codes "refused manifest " ++ decimal number
+
+abbrev pub refused_file : List ℕ → List ℕ → List ℕ
+refused_file name word = codes "refused " ++ name ++ codes " " ++ word
+
+-- a name, and what was found there
+abbrev pub look_word : Option FileFault → List ℕ
+look_word None = codes "ok"
+look_word (Some fault) = file_fault_name fault
+
+abbrev pub look_words : List ℕ → Option FileFault → List ℕ
+look_words name fault = name ++ codes " " ++ look_word fault
+
+-- a message: what it is, its sender's number, its number, and the move, the verdict or how many moves are wanted
+unfoldable pub message_words : Message → List ℕ
+message_words (message.Move stamp sender number m) =
+    codes "Move " ++ decimal (sender_number sender) ++ codes " " ++ decimal number ++ codes " " ++ move_text m
+message_words (message.Ack stamp who count) = codes "Ack " ++ decimal (who_number who) ++ codes " " ++ decimal count
+message_words (message.Verdict stamp who ply verdict) =
+    codes "Verdict " ++ decimal (who_number who) ++ codes " " ++ decimal ply ++ codes " " ++ verdict_name verdict
+message_words (message.Fetch stamp who number wanted) =
+    codes "Fetch " ++ decimal (who_number who) ++ codes " " ++ decimal number ++ codes " " ++ decimal wanted
+
+-- what is wrong with a message; nothing where the stream ends inside it
+abbrev pub message_fault : Option MessageFault → List ℕ
+message_fault None = codes "Cut"
+message_fault (Some fault) = message_fault_name fault
+
+-- the refusal of a message by its number, the first being 1
+abbrev pub refused_message : ℕ → List ℕ → List ℕ
+refused_message number name = codes "refused message " ++ decimal number ++ codes " " ++ name
+
+abbrev pub refused_files : List ℕ
+refused_files = codes "refused files"
+
+abbrev pub refused_memory : List ℕ
+refused_memory = codes "refused memory"
+
+abbrev pub words_of : Line → List ℕ
+words_of (line.Ruling verdict) = verdict_words verdict
+words_of (line.RefusedFen fault) = refused_fen fault
+words_of (line.Move m) = move_text m
+words_of (line.RefusedManifest number) = refused_manifest number
+words_of (line.RefusedFile name fault) = refused_file name.bytes (file_fault_name fault)
+words_of (line.Look name fault) = look_words name.bytes fault
+words_of (line.Wdl told) = told_words (codes "wdl") told
+words_of (line.Dtz told) = told_words (codes "dtz") told
+words_of (line.Message m) = message_words m
+words_of (line.RefusedMessage number fault) = refused_message number (message_fault fault)
+words_of line.RefusedFiles = refused_files
+words_of line.RefusedMemory = refused_memory

@@ -1,0 +1,158 @@
+//! The lines that the program writes.
+
+ghost use Rattle.std.specs.Prelude.{◌≡◌, Some, IfOk, OnOk};
+ghost use Rattle.std.specs.Fmt.{DisplaysOnOk};
+ghost use Rattle.std.specs.Io.KnownBytes.{Appends};
+ghost use Rattle.adjudicate.specs.Lines.{ended, message_words, refused_fen, told_words, words_of};
+
+use crate::tables::FileFault;
+use arrayvec::ArrayString;
+use board_core::{Move, Verdict};
+use fen_text::{FenFault, write_move};
+use judge_core::ProbeFault;
+use move_msg::{Message, MessageFault};
+use std::fmt;
+use std::io::Write;
+use thiserror::Error;
+
+/// Why an answer was not written to its end.
+#[derive(Clone, Copy, PartialEq, Eq, Debug, Error)]
+pub enum AnswerFault {
+    /// The writer failed.
+    #[error("the output can't be written")]
+    Io,
+}
+
+/// A line, without its line feed.
+#[derive(Clone, Copy)]
+pub(crate) enum Line {
+    /// The verdict on a position; none where the game goes on.
+    Ruling(Option<Verdict>),
+    /// Why a text is no position.
+    RefusedFen(FenFault),
+    /// A move in coordinates.
+    Move(Move),
+    /// The number of the first line of a manifest that is at fault, the first being 1.
+    RefusedManifest(usize),
+    /// The first file that isn't the table that it should be.
+    RefusedFile(ArrayString<16>, FileFault),
+    /// Whether the file of this name is the table that it should be.
+    Look(ArrayString<16>, Option<FileFault>),
+    /// The value that the tables tell, or why they tell none.
+    Wdl(Result<i32, ProbeFault>),
+    /// The distance that the tables tell, or why they tell none.
+    Dtz(Result<i32, ProbeFault>),
+    /// A message.
+    Message(Message),
+    /// The number of a message, the first being 1, and what is wrong with it; nothing where it is cut.
+    RefusedMessage(usize, Option<MessageFault>),
+    /// Something can't be read.
+    RefusedFiles,
+    /// Memory was refused.
+    RefusedMemory,
+}
+
+/// Tells why a text is no position.
+fn fmt_fen<W: fmt::Write>(f: &mut fmt::Formatter<W>, fault: FenFault) -> fmt::Result
+    ensures { DisplaysOnOk W.Write.write_str_gives f.old result (Some (refused_fen fault)) f.new }
+{
+    match fault {
+        FenFault::BadPosition(fault) => write!(f, "refused FEN BadPosition {}", fault.name()),
+        _ => write!(f, "refused FEN {}", fault.name()),
+    }
+}
+
+/// Tells what the tables tell, or why they tell nothing.
+#[tactic(auto, unfolding(crate::specs::Lines::told_words))]
+fn fmt_told<W: fmt::Write>(
+    f: &mut fmt::Formatter<W>,
+    question: &str,
+    told: &Result<i32, ProbeFault>,
+) -> fmt::Result
+    ensures { DisplaysOnOk W.Write.write_str_gives f.old result (Some (told_words question.now told.now)) f.new }
+{
+    match told {
+        Ok(number) => write!(f, "{question} {number}"),
+        Err(fault) => match fault {
+            ProbeFault::NotCovered(material) | ProbeFault::Damaged(material) => {
+                let name = material.name();
+                write!(f, "{question} refused {} {}", fault.name(), name.as_str())
+            }
+            ProbeFault::OutOfScope | ProbeFault::OutOfMemory => {
+                write!(f, "{question} refused {}", fault.name())
+            }
+        },
+    }
+}
+
+/// Tells a message.
+#[tactic(auto, unfolding(crate::specs::Lines::message_words))]
+fn fmt_message<W: fmt::Write>(f: &mut fmt::Formatter<W>, message: &Message) -> fmt::Result
+    ensures { DisplaysOnOk W.Write.write_str_gives f.old result (Some (message_words message.now)) f.new }
+{
+    let sender = message.sender().number();
+    match *message {
+        Message::Move { number, m, .. } => {
+            let text = write_move(&m);
+            write!(f, "Move {sender} {number} {}", text.as_str())
+        }
+        Message::Ack { count, .. } => write!(f, "Ack {sender} {}", count.number()),
+        Message::Verdict { ply, verdict, .. } => {
+            write!(f, "Verdict {sender} {} {}", ply.number(), verdict.name())
+        }
+        Message::Fetch { number, wanted, .. } => {
+            write!(f, "Fetch {sender} {} {}", number.number(), wanted.number())
+        }
+    }
+}
+
+impl fmt::Display for Line {
+    ghost use Rattle.std.specs.Prelude.{Some};
+    ghost use Rattle.adjudicate.specs.Lines.{words_of};
+
+    ghost output = { λ l. Some (words_of l) };
+
+    fn fmt<W: fmt::Write>(&self, f: &mut fmt::Formatter<W>) -> fmt::Result {
+        match self {
+            Line::Ruling(None) => f.write_str("open"),
+            Line::Ruling(Some(verdict)) => f.write_str(verdict.name()),
+            Line::RefusedFen(fault) => fmt_fen(f, *fault),
+            Line::Move(m) => f.write_str(write_move(m).as_str()),
+            Line::RefusedManifest(number) => write!(f, "refused manifest {number}"),
+            Line::RefusedFile(name, fault) => {
+                write!(f, "refused {} {}", name.as_str(), fault.name())
+            }
+            Line::Look(name, None) => write!(f, "{} ok", name.as_str()),
+            Line::Look(name, Some(fault)) => write!(f, "{} {}", name.as_str(), fault.name()),
+            Line::Wdl(told) => fmt_told(f, "wdl", told),
+            Line::Dtz(told) => fmt_told(f, "dtz", told),
+            Line::Message(message) => fmt_message(f, message),
+            Line::RefusedMessage(number, None) => write!(f, "refused message {number} Cut"),
+            Line::RefusedMessage(number, Some(fault)) => {
+                write!(f, "refused message {number} {}", fault.name())
+            }
+            Line::RefusedFiles => f.write_str("refused files"),
+            Line::RefusedMemory => f.write_str("refused memory"),
+        }
+    }
+}
+
+/// Writes a line.
+pub(crate) fn put_line<W: Write>(out: &mut W, line: &Line) -> Result<(), AnswerFault>
+    ensures { OnOk result (Appends (W.contents out.old) (W.contents out.new) (ended (words_of line.now))) }
+{
+    match writeln!(out, "{line}") {
+        Ok(()) => Ok(()),
+        Err(_) => Err(AnswerFault::Io),
+    }
+}
+
+/// Writes a line that refuses all else, and tells the status 1.
+pub(crate) fn put_refusal<W: Write>(out: &mut W, line: &Line) -> Result<u8, AnswerFault>
+    ensures { IfOk result (λ status. Appends (W.contents out.old) (W.contents out.new) (ended (words_of line.now)) × (status ≡ 1)) }
+{
+    match put_line(out, line) {
+        Ok(()) => Ok(1),
+        Err(fault) => Err(fault),
+    }
+}

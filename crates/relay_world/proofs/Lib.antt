@@ -1,0 +1,14 @@
+pub mod Steps
+pub mod Schedules
+pub mod Rising
+pub mod Stamped
+pub mod Handing
+pub mod Reopening
+pub mod Pairing
+pub mod Faithful
+pub mod Gathered
+pub mod Naming
+pub mod Placing
+pub mod Told
+pub mod Places
+pub mod Reading

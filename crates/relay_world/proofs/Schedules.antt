@@ -1,0 +1,73 @@
+-- The laws over whole schedules.
+use Rattle.std.proofs.Common.{◌≡◌, ℕ, ◌+◌, ◌<◌, ◌≤◌, Bool, true, false, cond, List, [], ◌∷◌, ◌++◌, length, take, Option, Some, None, zero, suc, sym, refl, ap, ◌∙◌, subst, arith}
+use Rattle.std.specs.Prelude.{slice_get}
+use Rattle.std.specs.List.{AllByRecursion}
+use Rattle.board_core.specs.declared.moves.Move.{Move as Moves}
+use Rattle.board_core.specs.declared.verdict.Verdict.{Verdict as Ruling}
+use Rattle.judge_core.specs.Games.{position_after_all}
+use Rattle.move_msg.specs.declared.stamp.Stamp.{Stamp}
+use Rattle.move_msg.specs.declared.who.Who.{Who}
+use Rattle.move_msg.specs.declared.who.Who.TheVariants.{A, B}
+use Rattle.move_msg.specs.declared.who.Sender.{Sender}
+use Rattle.move_msg.specs.declared.who.Sender.TheVariants.{Source, Arbiter}
+use Rattle.move_msg.specs.declared.message.Message.{Message}
+use Rattle.move_msg.specs.declared.message.Message.TheVariants.{Move, Ack, Verdict, Fetch}
+use Rattle.move_msg.specs.Numbers.{most_moves, most_wanted}
+use Rattle.judge_core.specs.Games.{Rules, IsFirst, verdict_after}
+use Rattle.arbiter_core.specs.declared.fault.DeliverFault.{DeliverFault}
+use Rattle.arbiter_core.specs.declared.fault.DeliverFault.TheVariants.{IllegalMove, TooFarAhead, TooLong}
+use Rattle.arbiter_core.specs.declared.keeper.Keep.{Keep}
+use Rattle.arbiter_core.specs.declared.keeper.Keep.TheVariants.{Good, FailsOld, FailsNew}
+use Rattle.arbiter_core.specs.Recording.{Recorded, Window, count_of, reaches, record_at, last_ply, advance}
+use Rattle.arbiter_core.specs.Answering.{Identity, waits_too, still_waits, nothing_waits, told_of, told_now, Answer, Refuses, Sends, Puts, puts, asked, fetched, sent_by, answer_to_move, answer_to, answer_heard}
+use Rattle.arbiter_core.proofs.Reach.{none_from, some_from, Step, step_of, step_to, reach_within, reach_below, unruled_below, reach_front, reach_more, same_record, last_reached, last_bound, last_is}
+use Rattle.arbiter_core.proofs.Waiting.{Fits, drop_at, gapless, fits_too, fits_still, fits_nothing}
+use Rattle.relay_world.specs.declared.event.Event.{Event}
+use Rattle.relay_world.specs.declared.event.Event.TheVariants.{Deliver, Noise, Restart, Ask}
+use Rattle.relay_world.specs.Worlds.{Life, Closed, Down, Running, Side, World, Game, identity, side_of, turned, put, answered, handed_at, handed, opened, restarted, delivered, listed, wants, happens, first_world, after, worlds}
+use Rattle.relay_world.specs.Headline.{IsRecordOf, IsOneVerdict, Agree, IsRight, kept_count, Grows}
+use Rattle.relay_world.proofs.Steps.{IsSound, all_at, Holds, Goes, happens_goes, first_holds, run_goes, right_of}
+
+after_append : (game : Game) (world : World) (early late : List Event) → after game world (early ++ late) ≡ after game (after game world early) late
+after_append game world [] late = refl
+after_append game world (e ∷ early) late = after_append game (happens game world e) early late
+
+pub worlds_right : (game : Game) (world : World) (events : List Event) → Holds game world → AllByRecursion (IsRight game) (worlds game world events)
+worlds_right game world [] h = (right_of game world h, tt)
+worlds_right game world (e ∷ events) h = (right_of game world h, worlds_right game (happens game world e) events (happens_goes game world e h).holds)
+
+pub first_is_right : (game : Game) (events : List Event) → AllByRecursion (IsRight game) (worlds game (first_world game) events)
+first_is_right game events = worlds_right game (first_world game) events (first_holds game)
+
+pub holds_after : (game : Game) (events : List Event) → Holds game (after game (first_world game) events)
+holds_after game events = (run_goes game (first_world game) events (first_holds game)).holds
+
+pub later : (game : Game) (early late : List Event) → Goes game (after game (first_world game) early) (after game (first_world game) (early ++ late))
+later game early late =
+    rw (after_append game (first_world game) early late)
+    (run_goes game (after game (first_world game) early) late (holds_after game early))
+
+pub grows_at : (game : Game) (early late : World) (who : Who) → Goes game early late → Grows (side_of early who).kept (side_of late who).kept
+grows_at game early late A g = g.a
+grows_at game early late B g = g.b
+
+pub counts : (game : Game) (early late : List Event) (who : Who) → kept_count (side_of (after game (first_world game) early) who).kept ≤ kept_count (side_of (after game (first_world game) (early ++ late)) who).kept
+counts game early late who = (grows_at game _ _ who (later game early late)).count
+
+ack_at : (game : Game) (world : World) (i : ℕ) (stamp : Stamp) (who : Who) (n : ℕ) → Holds game world → slice_get world.log i ≡ Some (Ack stamp who n) → n ≤ kept_count (side_of world who).kept
+ack_at game world i stamp A n h e = all_at _ world.log i _ h.log e
+ack_at game world i stamp B n h e = all_at _ world.log i _ h.log e
+
+pub acks : (game : Game) (early late : List Event) (i : ℕ) (stamp : Stamp) (who : Who) (n : ℕ) → slice_get (after game (first_world game) early).log i ≡ Some (Ack stamp who n) → n ≤ kept_count (side_of (after game (first_world game) (early ++ late)) who).kept
+acks game early late i stamp who n e =
+    let g = later game early late in
+    ack_at game _ i stamp who n g.holds (g.log i _ e)
+
+pub verdicts : (game : Game) (events : List Event) (i : ℕ) (stamp : Stamp) (who : Who) (ply : ℕ) (v : Ruling) → slice_get (after game (first_world game) events).log i ≡ Some (Verdict stamp who ply v) → IsFirst game.rules game.moves ply v
+verdicts game events i stamp who ply v e = all_at _ _ i _ (holds_after game events).log e
+
+pub stay : (game : Game) (early late : List Event) (who : Who) (kept : Recorded) (v : Ruling) → (side_of (after game (first_world game) early) who).kept ≡ Some kept → kept.verdict ≡ Some v → (side_of (after game (first_world game) (early ++ late)) who).kept ≡ Some kept
+stay game early late who kept v e s = (grows_at game _ _ who (later game early late)).verdict kept v e s
+
+pub moves_are : (game : Game) (events : List Event) (i : ℕ) (stamp : Stamp) (sender : Sender) (n : ℕ) (m : Moves) → slice_get (after game (first_world game) events).log i ≡ Some (Move stamp sender n m) → slice_get game.moves n ≡ Some m
+moves_are game events i stamp sender n m e = all_at _ _ i _ (holds_after game events).log e

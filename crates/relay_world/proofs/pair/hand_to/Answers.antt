@@ -1,0 +1,23 @@
+use Rattle.std.proofs.Common.{◌≡◌, ◌∙◌, ℕ, List, [], ◌∷◌, ◌++◌, Option, Result, Ok, Err, sym, refl, ap, subst}
+use Rattle.std.specs.Prelude.{IfOk, IfSome}
+use Rattle.std.proofs.lemmas.List.{append-nil}
+use Rattle.move_msg.specs.declared.message.Message.{Message}
+use Rattle.move_msg.specs.declared.who.Who.{Who}
+use Rattle.move_msg.specs.declared.who.Who.TheVariants.{A, B}
+use Rattle.judge_core.specs.Games.{Rules}
+use Rattle.arbiter_core.specs.Answering.{answer_heard}
+use Rattle.arbiter_core.specs.Delivers.{heard}
+use Rattle.arbiter_core.specs.Setups.{rules_at}
+use Rattle.relay_world.specs.Seats.{Stands, Steps}
+use Rattle.relay_world.specs.Pairs.{PairIs, IsWorld}
+use Rattle.relay_world.specs.Worlds.{Side, World, identity, side_of, turned, handed, restarted, wants, listed}
+use Rattle.relay_world.proofs.Pairing.{turned_a, turned_b, whole_of}
+use Rattle.relay_world.proofs.pair.hand_to.Goals as goal
+
+pub returns-in-A : goal.returns-in-A
+returns-in-A c game a b world setups is =
+    subst (λ (w : Who). IfOk c.hand_first.result (λ late. PairIs game a b late (turned world w (handed c.args.keep (side_of world w) (λ old window. answer_heard game.rules (identity game w) old window (heard game.stamp c.args.bytes.now)))))) (sym c.in-A.is) (c.hand_first.ensures game a b world setups is)
+
+pub returns-in-B : goal.returns-in-B
+returns-in-B c game a b world setups is =
+    subst (λ (w : Who). IfOk c.hand_second.result (λ late. PairIs game a b late (turned world w (handed c.args.keep (side_of world w) (λ old window. answer_heard game.rules (identity game w) old window (heard game.stamp c.args.bytes.now)))))) (sym c.in-B.is) (c.hand_second.ensures game a b world setups is)

@@ -1,0 +1,23 @@
+use Rattle.std.proofs.Common.{◌≡◌, ◌∙◌, ℕ, List, [], ◌∷◌, ◌++◌, Option, Result, Ok, Err, sym, refl, ap, subst}
+use Rattle.std.specs.Prelude.{IfOk, IfSome}
+use Rattle.std.proofs.lemmas.List.{append-nil}
+use Rattle.move_msg.specs.declared.message.Message.{Message}
+use Rattle.move_msg.specs.declared.who.Who.{Who}
+use Rattle.move_msg.specs.declared.who.Who.TheVariants.{A, B}
+use Rattle.judge_core.specs.Games.{Rules}
+use Rattle.arbiter_core.specs.Answering.{answer_heard}
+use Rattle.arbiter_core.specs.Opens.{IsWhole}
+use Rattle.arbiter_core.specs.Setups.{rules_at}
+use Rattle.relay_world.specs.Seats.{Stands, Steps}
+use Rattle.relay_world.specs.Pairs.{PairIs, IsWorld}
+use Rattle.relay_world.specs.Worlds.{Side, World, identity, side_of, turned, handed, restarted, wants, listed}
+use Rattle.relay_world.proofs.Pairing.{turned_a, turned_b, whole_of}
+use Rattle.relay_world.proofs.pair.restart_first.Goals as goal
+
+pub returns : goal.returns
+returns c game a b world setups right is =
+    let whole : IfSome world.a.kept (IsWhole (rules_at a)) = subst (λ (r : Rules). IfSome world.a.kept (IsWhole r)) (sym setups.rules_a) (whole_of game.rules game.moves world.a.kept right.a) in
+    let at : Stands (identity game A) a c.in_ok-first.first c.restart.new.keeper (restarted (rules_at a) c.args.keep world.a.kept) = c.in_ok-first.ensures (identity game A) a world.a setups.good_a setups.who_a whole is.a_stands in
+    let late : Side × List Message = (restarted game.rules c.args.keep world.a.kept, []) in
+    let step : Steps (identity game A) a c.in_ok-first.first c.restart.new.keeper [] late = record { stands = subst (λ (r : Rules). Stands (identity game A) a c.in_ok-first.first c.restart.new.keeper (restarted r c.args.keep world.a.kept)) setups.rules_a at; sent = refl } in
+    turned_a game a b _ _ _ _ _ _ _ _ _ [] world late is step (sym (append-nil c.args.pair.log.items))

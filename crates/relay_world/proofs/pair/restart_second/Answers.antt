@@ -1,0 +1,23 @@
+use Rattle.std.proofs.Common.{◌≡◌, ◌∙◌, ℕ, List, [], ◌∷◌, ◌++◌, Option, Result, Ok, Err, sym, refl, ap, subst}
+use Rattle.std.specs.Prelude.{IfOk, IfSome}
+use Rattle.std.proofs.lemmas.List.{append-nil}
+use Rattle.move_msg.specs.declared.message.Message.{Message}
+use Rattle.move_msg.specs.declared.who.Who.{Who}
+use Rattle.move_msg.specs.declared.who.Who.TheVariants.{A, B}
+use Rattle.judge_core.specs.Games.{Rules}
+use Rattle.arbiter_core.specs.Answering.{answer_heard}
+use Rattle.arbiter_core.specs.Opens.{IsWhole}
+use Rattle.arbiter_core.specs.Setups.{rules_at}
+use Rattle.relay_world.specs.Seats.{Stands, Steps}
+use Rattle.relay_world.specs.Pairs.{PairIs, IsWorld}
+use Rattle.relay_world.specs.Worlds.{Side, World, identity, side_of, turned, handed, restarted, wants, listed}
+use Rattle.relay_world.proofs.Pairing.{turned_a, turned_b, whole_of}
+use Rattle.relay_world.proofs.pair.restart_second.Goals as goal
+
+pub returns : goal.returns
+returns c game a b world setups right is =
+    let whole : IfSome world.b.kept (IsWhole (rules_at b)) = subst (λ (r : Rules). IfSome world.b.kept (IsWhole r)) (sym setups.rules_b) (whole_of game.rules game.moves world.b.kept right.b) in
+    let at : Stands (identity game B) b c.in_ok-second.second c.restart.new.keeper (restarted (rules_at b) c.args.keep world.b.kept) = c.in_ok-second.ensures (identity game B) b world.b setups.good_b setups.who_b whole is.b_stands in
+    let late : Side × List Message = (restarted game.rules c.args.keep world.b.kept, []) in
+    let step : Steps (identity game B) b c.in_ok-second.second c.restart.new.keeper [] late = record { stands = subst (λ (r : Rules). Stands (identity game B) b c.in_ok-second.second c.restart.new.keeper (restarted r c.args.keep world.b.kept)) setups.rules_b at; sent = refl } in
+    turned_b game a b _ _ _ _ _ _ _ _ _ [] world late is step (sym (append-nil c.args.pair.log.items))

@@ -1,0 +1,8 @@
+pub mod Worlds
+pub mod Headline
+pub mod InOrder
+pub mod Gathering
+pub mod Seats
+pub mod Runs
+pub mod Texts
+pub mod Pairs

@@ -1,0 +1,95 @@
+-- What a run of a schedule comes to.
+use Rattle.std.specs.Prelude.{◌≡◌, ◌≤◌, ℕ, ◌+◌, List, length, Option, Some, Ok, slice_get}
+use Rattle.board_core.specs.declared.parts.Parts.{Parts}
+use Rattle.board_core.specs.declared.moves.Move.{Move as Moves}
+use Rattle.fen_text.specs.Written.{fen_of}
+use Rattle.board_core.specs.Delays.{most_delay}
+use Rattle.judge_core.specs.Tables.{Tables}
+use Rattle.move_msg.specs.declared.stamp.Stamp.{Stamp}
+use Rattle.move_msg.specs.declared.message.Message.{Message}
+use Rattle.move_msg.specs.declared.who.Who.{Who}
+use Rattle.move_msg.specs.declared.who.Who.TheVariants.{A, B}
+use Rattle.move_msg.specs.Numbers.{most_moves}
+use Rattle.move_msg.specs.Stamps.{IsGameName, stamp_of}
+use Rattle.relay_world.specs.declared.event.Event.{Event}
+use Rattle.relay_world.specs.declared.world.State.{State}
+use Rattle.relay_world.specs.declared.world.State.TheVariants as state
+use Rattle.move_msg.specs.Files.{File}
+use Rattle.relay_world.specs.Gathering.{tables_of, IsManifestOf}
+use Rattle.relay_world.specs.Headline.{IsFaithful}
+use Rattle.relay_world.specs.Seats.{KeptIs}
+use Rattle.relay_world.specs.Worlds.{Game, Side, World, Life, Closed, Down, Running, first_world, happens}
+
+-- ---- a game
+
+-- a game as it is given: its name, the position before the first move, the moves that its source sends, and for how many
+-- further plies a verdict by tables must hold
+pub record GameView : Type 0 where
+  pub name : List ℕ
+  pub start : Parts
+  pub moves : List Moves
+  pub delay : ℕ
+
+pub record IsGame (game : GameView) : Type 0 where
+  pub name : IsGameName game.name
+  pub few : length game.moves ≤ most_moves
+  pub delay : game.delay ≤ most_delay
+
+-- the game as it is judged by tables with this manifest
+abbrev pub judged_by : GameView → Tables → List ℕ → Game
+judged_by game tables manifest = record {
+  rules = record { start = game.start; tables = tables; delay = game.delay };
+  stamp = record { 0 = stamp_of game.name (fen_of game.start) manifest game.delay };
+  moves = game.moves;
+}
+
+-- ---- what a world tells
+
+abbrev pub state_of : Life → State
+state_of Closed = state.Closed
+state_of Down = state.Down
+state_of (Running window) = state.Running
+
+-- what is told of an arbiter: its state, and the bytes that are kept
+pub record SideView : Type 0 where
+  pub state : State
+  pub bytes : Option (List ℕ)
+
+pub record WorldView : Type 0 where
+  pub a : SideView
+  pub b : SideView
+  pub log : List Message
+
+abbrev pub told_of : WorldView → Who → SideView
+told_of told A = told.a
+told_of told B = told.b
+
+-- the bytes that are told spell the record that is kept
+pub record TellsSide (stamp : Stamp) (delay : ℕ) (told : SideView) (side : Side) : Type 0 where
+  pub state : told.state ≡ state_of side.life
+  pub bytes : KeptIs stamp delay told.bytes side.kept
+
+pub record Tells (game : Game) (told : WorldView) (world : World) : Type 0 where
+  pub a : TellsSide game.stamp game.rules.delay told.a world.a
+  pub b : TellsSide game.stamp game.rules.delay told.b world.b
+  pub log : told.log ≡ world.log
+
+-- ---- a run
+
+-- the worlds of a schedule: the first, and the one after each event
+pub record AreWorlds (game : Game) (events : List Event) (worlds : List World) : Type 0 where
+  pub many : length worlds ≡ length events + 1
+  pub first : slice_get worlds 0 ≡ Some (first_world game)
+  pub each : (i : ℕ) (event : Event) (old new : World) → slice_get events i ≡ Some event → slice_get worlds i ≡ Some old → slice_get worlds (i + 1) ≡ Some new → new ≡ happens game old event
+
+-- The files are tables. There are worlds of the schedule, of which the last is told; and in each of them what both arbiters
+-- keep is true to the game.
+pub record Runs (given : GameView) (files : List File) (events : List Event) (told : WorldView) : Type 0 where
+  pub tables : Tables
+  pub gathered : tables_of files ≡ Ok tables
+  pub manifest : List ℕ
+  pub listed : IsManifestOf files manifest
+  pub worlds : List World
+  pub are : AreWorlds (judged_by given tables manifest) events worlds
+  pub last : (world : World) → slice_get worlds (length events) ≡ Some world → Tells (judged_by given tables manifest) told world
+  pub faithful : (i : ℕ) (world : World) → slice_get worlds i ≡ Some world → IsFaithful (judged_by given tables manifest) world

@@ -1,0 +1,127 @@
+-- Two arbiters and all that was ever sent, step by step.
+use Rattle.std.specs.Prelude.{◌≡◌, ℕ, Bool, true, false, cond, List, [], ◌∷◌, ◌++◌, slice_get, Option, Some, None, Result, Ok, Err, is_ok}
+use Rattle.board_core.specs.declared.moves.Move.{Move as Moves}
+use Rattle.judge_core.specs.Games.{Rules}
+use Rattle.move_msg.specs.declared.stamp.Stamp.{Stamp}
+use Rattle.move_msg.specs.declared.who.Who.{Who}
+use Rattle.move_msg.specs.declared.who.Who.TheVariants.{A, B}
+use Rattle.move_msg.specs.declared.who.Sender.TheVariants.{Source}
+use Rattle.move_msg.specs.declared.message.Message.{Message}
+use Rattle.arbiter_core.specs.declared.fault.DeliverFault.{DeliverFault}
+use Rattle.arbiter_core.specs.declared.keeper.Keep.{Keep}
+use Rattle.arbiter_core.specs.declared.keeper.Keep.TheVariants.{Good, FailsOld, FailsNew}
+use Rattle.arbiter_core.specs.Recording.{Recorded, Window, record_at}
+use Rattle.arbiter_core.specs.Answering.{Identity, nothing_waits, asked, sent_by, Answer, Refuses, Sends, Puts, answer_to, answer_heard}
+use Rattle.arbiter_core.specs.Delivers.{heard}
+use Rattle.relay_world.specs.declared.event.Event.{Event}
+use Rattle.relay_world.specs.declared.event.Event.TheVariants.{Deliver, Noise, Restart, Ask}
+
+-- how an arbiter is
+pub data Life : Type 0 where
+  Closed : Life
+  Down : Life
+  -- with the moves that wait; its record is the one that is kept
+  Running : (window : Window) → Life
+
+-- one arbiter and what its keeper keeps
+pub record Side : Type 0 where
+  pub kept : Option Recorded
+  pub life : Life
+
+pub record World : Type 0 where
+  pub a : Side
+  pub b : Side
+  -- every message that was ever sent, in order
+  pub log : List Message
+
+-- What a game is: its rules, its stamp and the moves that the source sends.
+pub record Game : Type 0 where
+  pub rules : Rules
+  pub stamp : Stamp
+  pub moves : List Moves
+
+abbrev pub identity : Game → Who → Identity
+identity game who = record { stamp = game.stamp; who = who }
+
+abbrev pub side_of : World → Who → Side
+side_of world A = world.a
+side_of world B = world.b
+
+-- one side changes, and it sends these messages
+abbrev pub turned : World → Who → Side × List Message → World
+turned world A (side, outputs) = record { a = side; b = world.b; log = world.log ++ outputs }
+turned world B (side, outputs) = record { a = world.a; b = side; log = world.log ++ outputs }
+
+-- a put of the next record: it lands, or it fails and the old or the new record is kept
+abbrev pub put : Keep → Option Recorded → Recorded → List Message → Window → Side × List Message
+put Good old next outputs window = (record { kept = Some next; life = Running window }, outputs)
+put FailsOld old next outputs window = (record { kept = old; life = Down }, [])
+put FailsNew old next outputs window = (record { kept = Some next; life = Down }, [])
+
+-- what an answer does to a running arbiter
+abbrev pub answered : Keep → Recorded → Window → Answer → Side × List Message
+answered keep old window (Refuses fault) = (record { kept = Some old; life = Running window }, [])
+answered keep old window (Sends outputs later) = (record { kept = Some old; life = Running later }, outputs)
+answered keep old window (Puts next outputs later) = put keep (Some old) next outputs later
+
+-- A side is handed something that has this answer where it runs. A closed one and one that is down hear nothing.
+abbrev pub handed_at : Keep → Option Recorded → Life → (Recorded → Window → Answer) → Side × List Message
+handed_at keep (Some old) (Running window) respond = answered keep old window (respond old window)
+handed_at keep kept life respond = (record { kept = kept; life = life }, [])
+
+abbrev pub handed : Keep → Side → (Recorded → Window → Answer) → Side × List Message
+handed keep side respond = handed_at keep side.kept side.life respond
+
+-- an open over nothing kept whose put fails leaves the arbiter closed
+abbrev pub opened : Keep → Recorded → Side
+opened Good first = record { kept = Some first; life = Running nothing_waits }
+opened FailsOld first = record { kept = None; life = Closed }
+opened FailsNew first = record { kept = Some first; life = Closed }
+
+-- closed, and opened again over what is kept
+abbrev pub restarted : Rules → Keep → Option Recorded → Side
+restarted rules keep (Some old) = record { kept = Some old; life = Running nothing_waits }
+restarted rules keep None = opened keep (record_at rules [] 0)
+
+abbrev pub delivered : Game → World → Who → Keep → Option Message → World
+delivered game world who keep None = world
+delivered game world who keep (Some message) =
+    turned world who (handed keep (side_of world who) (λ old window. answer_to game.rules (identity game who) old window message))
+
+abbrev pub listed : Option Message → List Message
+listed None = []
+listed (Some message) = message ∷ []
+
+-- what an arbiter asks for, which runs
+abbrev pub wants : Identity → Option Recorded → Life → List Message
+wants me (Some old) (Running window) = listed (asked me old)
+wants me (Some old) Closed = []
+wants me (Some old) Down = []
+wants me None life = []
+
+-- noise that is a message of the game does nothing
+abbrev pub noised : Game → World → Who → Keep → Result Message DeliverFault → World
+noised game world who keep said =
+    cond (is_ok said) world
+    (turned world who (handed keep (side_of world who) (λ old window. answer_heard game.rules (identity game who) old window said)))
+
+-- one step: the world after the event
+unfoldable pub happens : Game → World → Event → World
+happens game world (Deliver who index keep) = delivered game world who keep (slice_get world.log index)
+happens game world (Noise who bytes keep) = noised game world who keep (heard game.stamp bytes.items)
+happens game world (Ask who) = turned world who (side_of world who, wants (identity game who) (side_of world who).kept (side_of world who).life)
+happens game world (Restart who keep) = turned world who (restarted game.rules keep (side_of world who).kept, [])
+
+-- both closed, nothing kept, and the game's moves sent
+abbrev pub first_world : Game → World
+first_world game = record { a = record { kept = None; life = Closed }; b = record { kept = None; life = Closed }; log = sent_by game.stamp Source 0 game.moves }
+
+-- the world after a whole schedule
+abbrev pub after : Game → World → List Event → World
+after game world [] = world
+after game world (event ∷ events) = after game (happens game world event) events
+
+-- every world of a schedule, one more than its events
+abbrev pub worlds : Game → World → List Event → List World
+worlds game world [] = world ∷ []
+worlds game world (event ∷ events) = world ∷ worlds game (happens game world event) events

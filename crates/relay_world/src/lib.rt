@@ -1,0 +1,28 @@
+//! Two arbiters of one game, and everything that was ever sent between them and its source.
+#![tactic(auto)]
+
+mod event;
+mod fault;
+mod file;
+mod game;
+mod gathering;
+pub mod laws;
+mod lines;
+mod listing;
+mod pair;
+mod running;
+pub mod schedule;
+mod seat;
+mod words;
+mod world;
+
+pub use event::Event;
+pub use fault::{GameFault, WorldFault};
+pub use game::Game;
+pub use running::run;
+pub use world::{State, World};
+
+#[cfg(test)]
+mod seeded;
+#[cfg(test)]
+mod tests;

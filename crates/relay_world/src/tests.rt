@@ -1,0 +1,215 @@
+//! Schedules and what is told of them.
+
+use crate::schedule::{Schedule, ScheduleFault, read};
+use crate::{Game, GameFault, State, World, WorldFault, run};
+use move_msg::Who;
+use std::alloc::Global;
+use std::string::String;
+use std::test::Fail;
+
+/// KQvK.rtbw: a queen wins, and loses for the other side.
+const QUEEN: [u8; 14] = [
+    0x71, 0xE8, 0x23, 0x5D, 0x01, 0x00, 0x66, 0x55, 0xEE, 0x00, 0x80, 0x04, 0x80, 0x00,
+];
+
+/// KQvK.rtbz: a queen's distances for white to move, 9 plies.
+const QUEEN_PLIES: [u8; 17] = [
+    0xD7, 0x66, 0x0C, 0xA5, 0x01, 0x00, 0x06, 0x05, 0x0E, 0x00, 0x86, 0x00, 0x01, 0x09, 0x00, 0x00,
+    0x00,
+];
+
+/// The three moves of an opening.
+const OPENING: &str =
+    "name Test 1\nstart rnbqkbnr/pppppppp/8/8/8/8/PPPPPPPP/RNBQKBNR w KQkq - 0 1\nmoves e2e4 e7e5 g1f3\n";
+
+/// One arbiter asks the other.
+const ASKS: &str =
+    "restart A good\nrestart B good\ndeliver A 0 good\ndeliver A 1 good\ndeliver A 2 good\nask B\ndeliver A 6 good\ndeliver B 8 good\ndeliver B 7 good\ndeliver B 9 good\n";
+
+/// A queen against a rook, which falls after four plies.
+const ENDING: &str =
+    "name Test 2\nstart 8/8/8/4k3/8/8/K7/1Q5r b - - 0 1\nmoves h1h8 b1b8 e5e4 b8h8 e4d3 a2b3 d3d2 h8d4 d2e2\nrestart A good\nrestart B good\n";
+
+/// One move from the usual start.
+const ONE_MOVE: &str =
+    "name Test 3\nstart rnbqkbnr/pppppppp/8/8/8/8/PPPPPPPP/RNBQKBNR w KQkq - 0 1\nmoves e2e4\n";
+
+/// Two bare kings and a move.
+const BARE_KINGS: &str = "name Test 3\nstart 8/8/8/4k3/8/8/8/K7 w - - 0 1\nmoves a1a2\n";
+
+/// A file of 80 bytes with this front, all others zero.
+fn file_of(front: &[u8]) -> [u8; 80] {
+    let mut file = [0u8; 80];
+    for (byte, value) in file.iter_mut().zip(front.iter()) {
+        *byte = *value;
+    }
+    file
+}
+
+/// The schedule of a text.
+pub(crate) fn schedule_of(alloc: Global, text: &str) -> Result<Schedule, ScheduleFault> {
+    read(alloc, text.as_bytes())
+}
+
+/// The game of a schedule.
+pub(crate) fn game_of(alloc: Global, schedule: &Schedule, delay: u8) -> Result<Game, GameFault> {
+    Game::new(
+        alloc,
+        &schedule.name,
+        schedule.start,
+        &schedule.moves,
+        delay,
+    )
+}
+
+/// The world after a schedule with the queen's tables.
+pub(crate) fn world_of(
+    alloc: Global,
+    game: &Game,
+    schedule: &Schedule,
+) -> Result<World, WorldFault> {
+    let wins = file_of(&QUEEN);
+    let plies = file_of(&QUEEN_PLIES);
+    let tables: [(&[u8], &[u8]); 2] = [(b"KQvK.rtbz", &plies), (b"KQvK.rtbw", &wins)];
+    run(alloc, game, &tables, 64, &schedule.events)
+}
+
+/// A state's name.
+fn name_of(state: State) -> &'static str {
+    match state {
+        State::Running => "running",
+        State::Down => "down",
+        State::Closed => "closed",
+    }
+}
+
+/// What is told of an arbiter.
+fn line_of(alloc: Global, world: &World, who: Who) -> Result<String, Fail> {
+    let state = name_of(world.state(who));
+    match world.kept(who) {
+        Some((count, code)) => Ok(format!(in alloc; "{state} {count} {code}")?),
+        None => Ok(format!(in alloc; "{state} - 0")?),
+    }
+}
+
+/// What is told after a schedule: each arbiter's state, kept count and code, and how many were sent.
+fn told(alloc: Global, text: &str, delay: u8) -> Result<String, Fail> {
+    let Ok(schedule) = schedule_of(alloc, text) else {
+        return Err(Fail::new(format_args!("no schedule: {text}")));
+    };
+    let Ok(game) = game_of(alloc, &schedule, delay) else {
+        return Err(Fail::new(format_args!("no game: {text}")));
+    };
+    let Ok(world) = world_of(alloc, &game, &schedule) else {
+        return Err(Fail::new(format_args!("no world: {text}")));
+    };
+    let a = line_of(alloc, &world, Who::A)?;
+    let b = line_of(alloc, &world, Who::B)?;
+    let sent = world.log().len();
+    Ok(format!(in alloc; "A {a}, B {b}, sent {sent}")?)
+}
+
+/// That this is told after a schedule.
+fn expect_told(alloc: Global, text: &str, delay: u8, wanted: &str) -> Result<(), Fail> {
+    let lines = told(alloc, text, delay)?;
+    if lines.as_str() == wanted {
+        return Ok(());
+    }
+    Err(Fail::new(format_args!("{lines} for {wanted}")))
+}
+
+/// A head and its events.
+fn joined(alloc: Global, head: &str, events: &str) -> Result<String, Fail> {
+    Ok(format!(in alloc; "{head}{events}")?)
+}
+
+/// That this is told after a head and its events.
+fn expect(alloc: Global, head: &str, events: &str, wanted: &str) -> Result<(), Fail> {
+    let text = joined(alloc, head, events)?;
+    expect_told(alloc, text.as_str(), 0, wanted)
+}
+
+#[test]
+fn failed_puts(rt: HostRuntime) -> Result<(), Fail> {
+    let alloc = rt.alloc();
+    let new =
+        "restart A good\ndeliver A 2 good\ndeliver A 0 good\ndeliver A 0 good\ndeliver A 1 new\nrestart A good\ndeliver A 2 good\n";
+    expect(alloc, OPENING, new, "A running 3 0, B closed - 0, sent 7")?;
+    let old =
+        "restart A good\ndeliver A 2 good\ndeliver A 0 good\ndeliver A 0 good\ndeliver A 1 old\nrestart A good\ndeliver A 2 good\n";
+    expect(alloc, OPENING, old, "A running 1 0, B closed - 0, sent 7")
+}
+
+#[test]
+fn one_asks_the_other(rt: HostRuntime) -> Result<(), Fail> {
+    expect(
+        rt.alloc(),
+        OPENING,
+        ASKS,
+        "A running 3 0, B running 3 0, sent 13",
+    )
+}
+
+#[test]
+fn first_puts(rt: HostRuntime) -> Result<(), Fail> {
+    let alloc = rt.alloc();
+    expect(
+        alloc,
+        ONE_MOVE,
+        "restart A new\n",
+        "A closed 0 0, B closed - 0, sent 1",
+    )?;
+    expect(
+        alloc,
+        ONE_MOVE,
+        "restart A new\nrestart A good\n",
+        "A running 0 0, B closed - 0, sent 1",
+    )?;
+    expect(
+        alloc,
+        ONE_MOVE,
+        "restart A old\n",
+        "A closed - 0, B closed - 0, sent 1",
+    )?;
+    expect(
+        alloc,
+        BARE_KINGS,
+        "restart A good\ndeliver A 0 good\n",
+        "A running 0 4, B closed - 0, sent 3",
+    )
+}
+
+/// The schedule in which B is brought the moves from the last to the first, and then in order.
+fn ending(alloc: Global) -> Result<String, Fail> {
+    let mut text = String::new(alloc);
+    text.push_str(ENDING)?;
+    for i in 0..9 {
+        text.push_str(format!(in alloc; "deliver A {i} good\n")?.as_str())?;
+    }
+    for i in 0..9 {
+        let back = 8 - i;
+        text.push_str(format!(in alloc; "deliver B {back} good\n")?.as_str())?;
+    }
+    for i in 0..9 {
+        text.push_str(format!(in alloc; "deliver B {i} good\n")?.as_str())?;
+    }
+    Ok(text)
+}
+
+/// What is told of the ending by the delay of verdicts by tables.
+const BY_DELAY: [(u8, &str); 4] = [
+    (0, "A running 4 5, B running 4 5, sent 52"),
+    (1, "A running 5 5, B running 5 5, sent 51"),
+    (4, "A running 8 5, B running 8 5, sent 48"),
+    (6, "A running 9 0, B running 9 0, sent 36"),
+];
+
+#[test]
+fn verdicts_by_delay(rt: HostRuntime) -> Result<(), Fail> {
+    let alloc = rt.alloc();
+    let text = ending(alloc)?;
+    for row in BY_DELAY {
+        expect_told(alloc, text.as_str(), row.0, row.1)?;
+    }
+    Ok(())
+}

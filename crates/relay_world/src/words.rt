@@ -1,0 +1,134 @@
+//! The words of a line.
+
+ghost use Rattle.std.specs.Prelude.{◌≡◌, ◌↔◌, ◌==◌, ◌<◌, ◌+◌, ◌++◌, ◌∷◌, [], ℕ, List, position, IsTrue, IfOk, IfSome, IfNone};
+ghost use Rattle.std.specs.Fmt.{decimal};
+ghost use Rattle.arrayvec.specs.ArrayString.{array_string_len};
+ghost use Rattle.fen_text.specs.Cuts.{cut_at};
+ghost use Rattle.move_msg.specs.declared.who.Who.{Who};
+ghost use Rattle.arbiter_core.specs.declared.keeper.Keep.{Keep};
+ghost use Rattle.relay_world.specs.Texts.{SpellsBytes, SpellsPlace, who_word, keep_word};
+
+use arbiter_core::Keep;
+use arrayvec::ArrayString;
+use hex::FromHexError;
+use move_msg::Who;
+use std::alloc::{AllocError, Global};
+use std::vec::Vec;
+
+/// The first place of a byte.
+fn place_of(text: &[u8], separator: u8) -> Option<usize>
+    ensures { result ≡ position (λ b. b == separator) text.now }
+{
+    text.iter().position(|b| *b == separator)
+}
+
+/// The first piece, and the text after the byte that ends it; none where the byte isn't there.
+pub(crate) fn cut_first(text: &[u8], separator: u8) -> Option<(&[u8], &[u8])>
+    ensures some { IfSome result (λ x. cut_at separator text.now ≡ x.0.now ∷ cut_at separator x.1.now) }
+    ensures none { IfNone result (cut_at separator text.now ≡ text.now ∷ []) }
+{
+    match place_of(text, separator) {
+        None => None,
+        Some(i) => Some((&text[..i], &text[i + 1..])),
+    }
+}
+
+/// Whether a word is this one.
+pub(crate) fn is_word(word: &[u8], other: &[u8]) -> bool
+    ensures { IsTrue result ↔ (word.now ≡ other.now) }
+{
+    word == other
+}
+
+/// The arbiter that a word names.
+pub(crate) fn read_who(word: &[u8]) -> Option<Who>
+    ensures some { IfSome result (λ who. word.now ≡ who_word who) }
+    ensures none { IfNone result ((who : Who) → word.now ≡ who_word who → ⊥) }
+{
+    if is_word(word, b"A") {
+        Some(Who::A)
+    } else if is_word(word, b"B") {
+        Some(Who::B)
+    } else {
+        None
+    }
+}
+
+/// The outcome of a put that a word names.
+pub(crate) fn read_keep(word: &[u8]) -> Option<Keep>
+    ensures some { IfSome result (λ keep. word.now ≡ keep_word keep) }
+    ensures none { IfNone result ((keep : Keep) → word.now ≡ keep_word keep → ⊥) }
+{
+    if is_word(word, b"good") {
+        Some(Keep::Good)
+    } else if is_word(word, b"old") {
+        Some(Keep::FailsOld)
+    } else if is_word(word, b"new") {
+        Some(Keep::FailsNew)
+    } else {
+        None
+    }
+}
+
+/// Writes a digit.
+fn push_digit(digit: u8, text: &mut ArrayString<20>)
+    requires digit { digit < 10 }
+    requires room { array_string_len text.old < 20 }
+    ensures { text.new.bytes ≡ text.old.bytes ++ (48 + digit) ∷ [] }
+{
+    text.push((b'0' + digit) as char);
+}
+
+/// The digits of a number.
+fn digits(number: u32) -> ArrayString<20>
+    ensures { result.bytes ≡ decimal number }
+{
+    let mut text = if number < 10 {
+        ArrayString::new()
+    } else {
+        digits(number / 10)
+    };
+    push_digit((number % 10) as u8, &mut text);
+    text
+}
+
+/// The place in the log that a word tells, 0 to 999999 in digits without needless zeros.
+pub(crate) fn read_place(text: &[u8]) -> Option<usize>
+    ensures some { IfSome result (SpellsPlace text.now) }
+    ensures none { IfNone result ((n : ℕ) → SpellsPlace text.now n → ⊥) }
+{
+    let Ok(word) = str::from_utf8(text) else {
+        return None;
+    };
+    let Ok(number) = word.parse::<u32>() else {
+        return None;
+    };
+    if number > 999_999 {
+        return None;
+    }
+    if digits(number).as_str() != word {
+        return None;
+    }
+    Some(number as usize)
+}
+
+/// The bytes that a word spells: two hexadecimal digits of either case for each, and a hyphen for no bytes.
+pub(crate) fn read_bytes(alloc: Global, word: &[u8]) -> Result<Option<Vec<u8>>, AllocError>
+    ensures some { IfOk result (λ read. IfSome read (λ bytes. SpellsBytes word.now bytes.items)) }
+    ensures none { IfOk result (λ read. IfNone read ((bytes : List ℕ) → SpellsBytes word.now bytes → ⊥)) }
+{
+    if is_word(word, b"-") {
+        return Ok(Some(Vec::new(alloc)));
+    }
+    match hex::decode(alloc, word) {
+        Ok(bytes) => {
+            if bytes.is_empty() {
+                Ok(None)
+            } else {
+                Ok(Some(bytes))
+            }
+        }
+        Err(FromHexError::OutOfMemory) => Err(AllocError),
+        Err(_) => Ok(None),
+    }
+}

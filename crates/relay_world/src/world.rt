@@ -1,0 +1,80 @@
+//! What is told of two arbiters after a schedule.
+
+ghost use Rattle.std.specs.Prelude.{◌≡◌, option_map, length, Option, Some, None, List};
+ghost use Rattle.move_msg.specs.declared.record_bytes.Record.{Record};
+ghost use Rattle.move_msg.specs.Records.{SpellsRecord, code_or_none};
+ghost use Rattle.relay_world.specs.Runs.{told_of};
+
+use arbiter_core::MemoryKeeper;
+use move_msg::{Message, Record, Who};
+use std::marker::Model;
+use std::vec::Vec;
+
+/// How an arbiter is.
+#[derive(Clone, Copy, PartialEq, Eq, Debug)]
+pub enum State {
+    /// It runs.
+    Running,
+    /// Its keeper failed, and it was not opened again.
+    Down,
+    /// It is closed.
+    Closed,
+}
+
+/// Two arbiters after a schedule: how each is, what each keeps, and everything that was ever sent. No reader takes memory.
+#[derive(Drop)]
+pub struct World {
+    pub(crate) first: State,
+    pub(crate) first_keeper: MemoryKeeper,
+    pub(crate) second: State,
+    pub(crate) second_keeper: MemoryKeeper,
+    pub(crate) log: Vec<Message>,
+}
+
+impl Model for World {
+    ghost use Rattle.relay_world.specs.Runs.{WorldView};
+
+    ghost Value = { WorldView };
+
+    ghost view = { λ w. record { a = record { state = w.first; bytes = w.first_keeper.kept }; b = record { state = w.second; bytes = w.second_keeper.kept }; log = w.log.items } };
+}
+
+impl World {
+    /// How an arbiter is.
+    pub fn state(&self, who: Who) -> State
+        ensures { result ≡ (told_of self.now who).state }
+    {
+        match who {
+            Who::A => self.first,
+            Who::B => self.second,
+        }
+    }
+
+    /// The bytes of the record that an arbiter's keeper keeps; none where nothing is kept.
+    pub fn bytes(&self, who: Who) -> Option<&[u8]>
+        ensures { option_map (λ b. b.now) result ≡ (told_of self.now who).bytes }
+    {
+        match who {
+            Who::A => self.first_keeper.kept(),
+            Who::B => self.second_keeper.kept(),
+        }
+    }
+
+    /// How many moves are kept by an arbiter's keeper, and the code of the kept verdict, 0 for none; none where nothing is kept.
+    pub fn kept(&self, who: Who) -> Option<(u32, u8)>
+        ensures nothing { (told_of self.now who).bytes ≡ None → result ≡ None }
+        ensures record { (bytes : List _) (r : Record) → (told_of self.now who).bytes ≡ Some bytes → SpellsRecord bytes r → result ≡ Some (length r.moves, code_or_none r.verdict) }
+    {
+        match self.bytes(who) {
+            Some(bytes) => Record::summary(bytes),
+            None => None,
+        }
+    }
+
+    /// Everything that was ever sent, in order.
+    pub fn log(&self) -> &[Message]
+        ensures { result.now ≡ self.now.log }
+    {
+        self.log.as_slice()
+    }
+}
