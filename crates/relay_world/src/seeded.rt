@@ -1,5 +1,7 @@
 //! Random schedules against a plain model of two arbiters.
 
+ghost use Rattle.std.specs.Prelude.{◌<◌};
+
 use crate::tests::{game_of, schedule_of, world_of};
 use crate::{Event, State, World};
 use arbiter_core::Keep;
@@ -96,7 +98,9 @@ fn code_at(model: &Model, count: u32) -> u8 {
 }
 
 /// An arbiter tells its count, and its verdict if there is one.
-fn tell(model: &mut Model, me: usize, count: u32) -> Result<(), AllocError> {
+fn tell(model: &mut Model, me: usize, count: u32) -> Result<(), AllocError>
+    requires { me < 2 }
+{
     let sender = me as u8 + 1;
     model.log.push((2, sender, count, 0))?;
     let code = code_at(model, count);
@@ -118,7 +122,9 @@ fn run_on(model: &Model, side: &Side, count: u32) -> u32 {
 }
 
 /// A put of a record with so many moves.
-fn put(model: &mut Model, me: usize, count: u32, keep: Keep) -> Result<(), AllocError> {
+fn put(model: &mut Model, me: usize, count: u32, keep: Keep) -> Result<(), AllocError>
+    requires { me < 2 }
+{
     match keep {
         Keep::Good => {
             model.sides[me].kept = Some(count);
@@ -143,7 +149,9 @@ fn take_move(
     count: u32,
     number: u32,
     keep: Keep,
-) -> Result<(), AllocError> {
+) -> Result<(), AllocError>
+    requires { me < 2 }
+{
     if code_at(model, count) > 0 || number < count {
         return tell(model, me, count);
     }
@@ -160,7 +168,9 @@ fn take_move(
 }
 
 /// A running arbiter with so many moves kept is asked for moves.
-fn pass_on(model: &mut Model, me: usize, count: u32, number: u32) -> Result<(), AllocError> {
+fn pass_on(model: &mut Model, me: usize, count: u32, number: u32) -> Result<(), AllocError>
+    requires { me < 2 }
+{
     for i in 0..8u32 {
         let told = number.wrapping_add(i);
         if told < count {
@@ -171,7 +181,9 @@ fn pass_on(model: &mut Model, me: usize, count: u32, number: u32) -> Result<(), 
 }
 
 /// An arbiter is handed what was said.
-fn hand(model: &mut Model, me: usize, said: Said, keep: Keep) -> Result<(), AllocError> {
+fn hand(model: &mut Model, me: usize, said: Said, keep: Keep) -> Result<(), AllocError>
+    requires { me < 2 }
+{
     let side = model.sides[me];
     let Some(count) = side.kept else {
         return Ok(());
@@ -187,7 +199,9 @@ fn hand(model: &mut Model, me: usize, said: Said, keep: Keep) -> Result<(), Allo
 }
 
 /// An arbiter is closed and opened.
-fn restart(model: &mut Model, me: usize, keep: Keep) {
+fn restart(model: &mut Model, me: usize, keep: Keep)
+    requires { me < 2 }
+{
     let side = &mut model.sides[me];
     side.waiting = [false; 16];
     side.state = State::Running;
@@ -205,7 +219,9 @@ fn restart(model: &mut Model, me: usize, keep: Keep) {
 }
 
 /// An arbiter asks the other for moves.
-fn ask(model: &mut Model, me: usize) -> Result<(), AllocError> {
+fn ask(model: &mut Model, me: usize) -> Result<(), AllocError>
+    requires { me < 2 }
+{
     let side = model.sides[me];
     let Some(count) = side.kept else {
         return Ok(());
@@ -231,7 +247,9 @@ fn who_of(me: usize) -> Who {
 }
 
 /// A message of the log is handed over.
-fn deliver(model: &mut Model, me: usize, keep: Keep, seed: &mut u64) -> Result<Event, AllocError> {
+fn deliver(model: &mut Model, me: usize, keep: Keep, seed: &mut u64) -> Result<Event, AllocError>
+    requires { me < 2 }
+{
     let index = (next(seed) as usize) % (model.log.len().wrapping_add(2)).max(1);
     if let Some(said) = model.log.get(index) {
         let said = *said;
@@ -288,7 +306,9 @@ fn said_by(message: &Message) -> Said {
 }
 
 /// Whether an arbiter is as in the model.
-fn is_side(model: &Model, world: &World, me: usize) -> bool {
+fn is_side(model: &Model, world: &World, me: usize) -> bool
+    requires { me < 2 }
+{
     let side = model.sides[me];
     let kept = match side.kept {
         Some(count) => Some((count, code_at(model, count))),

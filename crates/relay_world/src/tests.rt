@@ -26,9 +26,9 @@ const OPENING: &str =
 const ASKS: &str =
     "restart A good\nrestart B good\ndeliver A 0 good\ndeliver A 1 good\ndeliver A 2 good\nask B\ndeliver A 6 good\ndeliver B 8 good\ndeliver B 7 good\ndeliver B 9 good\n";
 
-/// A queen against a rook, which falls after four plies.
+/// A queen against a rook, which falls after four plies: each move to A, to B from the last to the first, and to B in order.
 const ENDING: &str =
-    "name Test 2\nstart 8/8/8/4k3/8/8/K7/1Q5r b - - 0 1\nmoves h1h8 b1b8 e5e4 b8h8 e4d3 a2b3 d3d2 h8d4 d2e2\nrestart A good\nrestart B good\n";
+    "name Test 2\nstart 8/8/8/4k3/8/8/K7/1Q5r b - - 0 1\nmoves h1h8 b1b8 e5e4 b8h8 e4d3 a2b3 d3d2 h8d4 d2e2\nrestart A good\nrestart B good\ndeliver A 0 good\ndeliver A 1 good\ndeliver A 2 good\ndeliver A 3 good\ndeliver A 4 good\ndeliver A 5 good\ndeliver A 6 good\ndeliver A 7 good\ndeliver A 8 good\ndeliver B 8 good\ndeliver B 7 good\ndeliver B 6 good\ndeliver B 5 good\ndeliver B 4 good\ndeliver B 3 good\ndeliver B 2 good\ndeliver B 1 good\ndeliver B 0 good\ndeliver B 0 good\ndeliver B 1 good\ndeliver B 2 good\ndeliver B 3 good\ndeliver B 4 good\ndeliver B 5 good\ndeliver B 6 good\ndeliver B 7 good\ndeliver B 8 good\n";
 
 /// One move from the usual start.
 const ONE_MOVE: &str =
@@ -179,23 +179,6 @@ fn first_puts(rt: HostRuntime) -> Result<(), Fail> {
     )
 }
 
-/// The schedule in which B is brought the moves from the last to the first, and then in order.
-fn ending(alloc: Global) -> Result<String, Fail> {
-    let mut text = String::new(alloc);
-    text.push_str(ENDING)?;
-    for i in 0..9 {
-        text.push_str(format!(in alloc; "deliver A {i} good\n")?.as_str())?;
-    }
-    for i in 0..9 {
-        let back = 8 - i;
-        text.push_str(format!(in alloc; "deliver B {back} good\n")?.as_str())?;
-    }
-    for i in 0..9 {
-        text.push_str(format!(in alloc; "deliver B {i} good\n")?.as_str())?;
-    }
-    Ok(text)
-}
-
 /// What is told of the ending by the delay of verdicts by tables.
 const BY_DELAY: [(u8, &str); 4] = [
     (0, "A running 4 5, B running 4 5, sent 52"),
@@ -207,9 +190,8 @@ const BY_DELAY: [(u8, &str); 4] = [
 #[test]
 fn verdicts_by_delay(rt: HostRuntime) -> Result<(), Fail> {
     let alloc = rt.alloc();
-    let text = ending(alloc)?;
     for row in BY_DELAY {
-        expect_told(alloc, text.as_str(), row.0, row.1)?;
+        expect_told(alloc, ENDING, row.0, row.1)?;
     }
     Ok(())
 }
