@@ -12,6 +12,8 @@ pub mod Reads
 pub mod Looks
 pub mod Refusals
 pub mod Schedules
+pub mod Played
+pub mod PlayedSteps
 pub mod Reply
 pub mod Asked
 pub mod Fronts

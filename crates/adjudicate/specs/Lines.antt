@@ -11,6 +11,8 @@ use Rattle.fen_text.specs.Fen.{fault_name as fen_fault_name}
 use Rattle.fen_text.specs.Coordinates.{move_text}
 use Rattle.place_index.specs.Material.{name_of, men_of}
 use Rattle.table_file.specs.Faults.{table_fault_name}
+use Rattle.judge_core.specs.declared.game.GameOutcome.{GameOutcome}
+use Rattle.judge_core.specs.declared.game.GameOutcome.TheVariants.{Ruled, Illegal, Going}
 use Rattle.judge_core.specs.declared.fault.ProbeFault.{ProbeFault}
 use Rattle.judge_core.specs.declared.fault.ProbeFault.TheVariants as probe
 use Rattle.move_msg.specs.declared.message.Message.{Message}
@@ -129,6 +131,17 @@ arbiter_words who state (Some kept) =
 abbrev pub sent_words : ℕ → List ℕ
 sent_words number = codes "sent " ++ decimal number
 
+-- what a game comes to, of so many moves: the ply of its first verdict and that, the place of its first illegal move, or that
+-- it goes on after its last ply
+unfoldable pub outcome_words : GameOutcome → ℕ → List ℕ
+outcome_words (Ruled ply verdict) plies = codes "ruled " ++ decimal ply ++ codes " " ++ verdict_name verdict
+outcome_words (Illegal place) plies = codes "illegal " ++ decimal place
+outcome_words Going plies = codes "open " ++ decimal plies
+
+-- the refusal of a word that is no move by its place, the first being 0
+abbrev pub refused_move : ℕ → List ℕ
+refused_move place = codes "refused move " ++ decimal place
+
 -- the refusal of a schedule by the number of its first line at fault
 abbrev pub refused_line : ℕ → List ℕ
 refused_line number = codes "refused line " ++ decimal number
@@ -153,5 +166,7 @@ words_of (line.RefusedMessage number fault) = refused_message number (message_fa
 words_of (line.Arbiter who state kept) = arbiter_words who state kept
 words_of (line.Sent number) = sent_words number
 words_of (line.RefusedLine number) = refused_line number
+words_of (line.Outcome outcome plies) = outcome_words outcome plies
+words_of (line.RefusedMove place) = refused_move place
 words_of line.RefusedFiles = refused_files
 words_of line.RefusedMemory = refused_memory

@@ -3,6 +3,7 @@ use Rattle.std.specs.Prelude.{◌≡◌, ◌≢◌, ◌+◌, ◌++◌, ◌&&◌,
 use Rattle.std.specs.Result.{is_ok}
 use Rattle.std.specs.Io.KnownBytes.{Appends}
 use Rattle.board_core.specs.declared.parts.Parts.{Parts}
+use Rattle.board_core.specs.declared.moves.Move.{Move as Moves}
 use Rattle.board_core.specs.Position.{IsPosition}
 use Rattle.board_core.specs.ComputedMoves.{legal_moves}
 use Rattle.fen_text.specs.declared.fault.FenFault.{FenFault}
@@ -13,6 +14,9 @@ use Rattle.move_msg.specs.Manifests.{SpellsManifest}
 use Rattle.move_msg.specs.declared.message.Message.{Message}
 use Rattle.move_msg.specs.Messages.{fault_name as message_fault_name}
 use Rattle.move_msg.specs.Streams.{End, AfterMessage, Cut, AtFault, SpellsStream}
+use Rattle.judge_core.specs.declared.game.GameOutcome.{GameOutcome}
+use Rattle.judge_core.specs.declared.game.GameOutcome.TheVariants.{Ruled, Illegal, Going}
+use Rattle.judge_core.specs.Games.{IsOutcome}
 use Rattle.judge_core.specs.declared.wdl.Wdl.{Wdl}
 use Rattle.judge_core.specs.declared.fault.ProbeFault.{ProbeFault}
 use Rattle.judge_core.specs.declared.fault.ProbeFault.TheVariants.{OutOfMemory}
@@ -29,7 +33,8 @@ use Rattle.relay_world.specs.Worlds.{World}
 use Rattle.adjudicate.specs.declared.commands.Task.{Task}
 use Rattle.adjudicate.specs.declared.commands.Task.TheVariants as task
 use Rattle.adjudicate.specs.Given.{Given, Told}
-use Rattle.adjudicate.specs.Lines.{ended, text_of, verdict_words, told_words, refused_fen, refused_manifest, message_words, refused_message, refused_line, refused_memory}
+use Rattle.adjudicate.specs.Lines.{ended, text_of, verdict_words, told_words, refused_fen, refused_manifest, message_words, refused_message, refused_line, refused_memory, outcome_words, refused_move}
+use Rattle.adjudicate.specs.Played.{IsBadWordAt, TellsMoves, words_in}
 use Rattle.adjudicate.specs.Schedules.{RefusesTable, game_of, world_words}
 use Rattle.adjudicate.specs.Looks.{Look, gathered, look_for, look_line, are_tables}
 
@@ -134,6 +139,23 @@ pub data IsRun (text : List ℕ) (files : List File) (delay : ℕ) (r : Reply) :
   BadLine : (number : ℕ) → IsFirstBadLine text number → r ≡ refused (refused_line number) → IsRun text files delay r
   BadTable : (schedule : Schedule) → SpellsSchedule text schedule → (words : List ℕ) → RefusesTable files words → r ≡ refused words → IsRun text files delay r
   Ran : (schedule : Schedule) → SpellsSchedule text schedule → (told : WorldView) (runs : Runs (game_of schedule delay) files schedule.events.items told) (last : World) → slice_get runs.worlds (length schedule.events.items) ≡ Some last → r ≡ record { text = text_of (world_words last); status = 0 } → IsRun text files delay r
+
+-- ---- replies to a game
+
+-- 0 where all moves are legal, 1 where one isn't
+abbrev pub outcome_status : GameOutcome → ℕ
+outcome_status (Ruled ply verdict) = 0
+outcome_status (Illegal place) = 1
+outcome_status Going = 0
+
+abbrev pub outcome_reply : GameOutcome → List Moves → Reply
+outcome_reply outcome moves = record { text = ended (outcome_words outcome (length moves)); status = outcome_status outcome }
+
+-- game: the refusal of the first word that is no move; or else that of the tables; or else what the game comes to
+pub data IsPlayed (text : List ℕ) (gathered : Result Tables (List ℕ)) (delay : ℕ) (start : Parts) (r : Reply) : Type 0 where
+  BadWord : (place : ℕ) → IsBadWordAt (words_in text) place → r ≡ refused (refused_move place) → IsPlayed text gathered delay start r
+  BadTables : (moves : List Moves) → TellsMoves text moves → (words : List ℕ) → gathered ≡ Err words → r ≡ refused words → IsPlayed text gathered delay start r
+  Played : (moves : List Moves) → TellsMoves text moves → (tables : Tables) → gathered ≡ Ok tables → (outcome : GameOutcome) → IsOutcome (record { start = start; tables = tables; delay = delay }) moves outcome → r ≡ outcome_reply outcome moves → IsPlayed text gathered delay start r
 
 -- ---- the reply to a task
 

@@ -3,14 +3,14 @@
 ghost use Rattle.std.specs.Prelude.{◌≡◌, Some, IfOk, OnOk};
 ghost use Rattle.std.specs.Fmt.{DisplaysOnOk};
 ghost use Rattle.std.specs.Io.KnownBytes.{Appends};
-ghost use Rattle.adjudicate.specs.Lines.{arbiter_words, ended, message_words, refused_fen, state_word, told_words, verdict_or_none, words_of};
+ghost use Rattle.adjudicate.specs.Lines.{arbiter_words, ended, message_words, outcome_words, refused_fen, state_word, told_words, verdict_or_none, words_of};
 ghost use Rattle.relay_world.specs.Texts.{who_word};
 
 use crate::tables::FileFault;
 use arrayvec::ArrayString;
 use board_core::{Move, Verdict};
 use fen_text::{FenFault, write_move};
-use judge_core::ProbeFault;
+use judge_core::{GameOutcome, ProbeFault};
 use move_msg::{Message, MessageFault, Who};
 use relay_world::State;
 use std::fmt;
@@ -63,6 +63,10 @@ pub(crate) enum Line {
     Sent(usize),
     /// The number of the first line of a schedule that is at fault, the first being 1.
     RefusedLine(usize),
+    /// What a game of so many moves comes to.
+    Outcome(GameOutcome, usize),
+    /// The place of a word that is no move, the first being 0.
+    RefusedMove(usize),
     /// Something can't be read.
     RefusedFiles,
     /// Memory was refused.
@@ -175,6 +179,22 @@ fn fmt_arbiter<W: fmt::Write>(
     }
 }
 
+/// Tells what a game of so many moves comes to.
+#[tactic(auto, unfolding(crate::specs::Lines::outcome_words))]
+fn fmt_outcome<W: fmt::Write>(
+    f: &mut fmt::Formatter<W>,
+    outcome: GameOutcome,
+    plies: usize,
+) -> fmt::Result
+    ensures { DisplaysOnOk W.Write.write_str_gives f.old result (Some (outcome_words outcome plies)) f.new }
+{
+    match outcome {
+        GameOutcome::Ruled { ply, verdict } => write!(f, "ruled {ply} {}", verdict.name()),
+        GameOutcome::Illegal { place } => write!(f, "illegal {place}"),
+        GameOutcome::Going => write!(f, "open {plies}"),
+    }
+}
+
 impl fmt::Display for Line {
     ghost use Rattle.std.specs.Prelude.{Some};
     ghost use Rattle.adjudicate.specs.Lines.{words_of};
@@ -203,6 +223,8 @@ impl fmt::Display for Line {
             Line::Arbiter(who, state, kept) => fmt_arbiter(f, *who, *state, *kept),
             Line::Sent(number) => write!(f, "sent {number}"),
             Line::RefusedLine(number) => write!(f, "refused line {number}"),
+            Line::Outcome(outcome, plies) => fmt_outcome(f, *outcome, *plies),
+            Line::RefusedMove(place) => write!(f, "refused move {place}"),
             Line::RefusedFiles => f.write_str("refused files"),
             Line::RefusedMemory => f.write_str("refused memory"),
         }

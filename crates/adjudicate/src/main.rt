@@ -106,6 +106,7 @@ mod disk_tests;
 mod fixtures;
 #[cfg(test)]
 mod folders;
+mod games;
 #[cfg(test)]
 mod message_tests;
 #[cfg(test)]
