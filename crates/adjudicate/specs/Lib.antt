@@ -16,3 +16,8 @@ pub mod Reply
 pub mod Asked
 pub mod Fronts
 pub mod Running
+pub mod Ports
+pub mod KeptFiles
+pub mod StoredBytes
+pub mod Serving
+pub mod Steps

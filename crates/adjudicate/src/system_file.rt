@@ -1,0 +1,78 @@
+//! A file of the system, and the one beside it.
+
+use crate::input::{ReadFault, read_all};
+use crate::kept_file::KeptFile;
+use std::alloc::{AllocError, Global};
+use std::fs::OpenFile;
+use std::io::Write;
+use std::rt::Files;
+use std::{fs, io};
+
+/// A file of the system by its path. The one beside it has the same path with `.new` at its end. Nothing is claimed of them.
+#[derive(Drop)]
+pub struct SystemFile<'a, R: Files + AllocGlobal> {
+    rt: &'a R,
+    path: &'a str,
+    beside: String,
+    open: Option<R::File>,
+}
+
+/// The path of the folder in which a file stands.
+fn folder_of(path: &str) -> &str {
+    match path.rfind('/') {
+        None => ".",
+        Some(0) => "/",
+        Some(end) => &path[..end],
+    }
+}
+
+impl<'a, R: Files + AllocGlobal> SystemFile<'a, R> {
+    /// The file at a path.
+    pub fn at(rt: &'a R, path: &'a str) -> Result<SystemFile<'a, R>, AllocError> {
+        let beside = format!(in rt.alloc(); "{path}.new")?;
+        Ok(SystemFile {
+            rt,
+            path,
+            beside,
+            open: None,
+        })
+    }
+}
+
+impl<'a, R: Files + AllocGlobal> KeptFile for SystemFile<'a, R> {
+    ghost reached = { λ _ _ _. Unit {0} };
+
+    ghost finds = { λ _ _ _. Unit {0} };
+
+    fn read(&self, alloc: Global) -> Result<Option<Vec<u8>>, ReadFault> {
+        let file = match fs::open(self.rt, self.path) {
+            Ok(file) => file,
+            Err(error) if error.kind() == io::ErrorKind::NotFound => return Ok(None),
+            Err(error) => return Err(ReadFault::from(error)),
+        };
+        let length = file.metadata()?.len();
+        Ok(Some(read_all(alloc, file, length)?))
+    }
+
+    fn write_beside(&mut self, bytes: &[u8]) -> io::Result<()> {
+        let mut file = fs::create(self.rt, self.beside.as_str())?;
+        file.write_all(bytes)?;
+        self.open = Some(file);
+        Ok(())
+    }
+
+    fn sync_beside(&mut self) -> io::Result<()> {
+        match self.open.take() {
+            Some(file) => file.sync_all(),
+            None => Err(io::Error::from(io::ErrorKind::NotFound)),
+        }
+    }
+
+    fn rename(&mut self) -> io::Result<()> {
+        fs::rename(self.rt, self.beside.as_str(), self.path)
+    }
+
+    fn sync_folder(&mut self) -> io::Result<()> {
+        fs::open(self.rt, folder_of(self.path))?.sync_all()
+    }
+}
