@@ -1,6 +1,6 @@
 //! The keeper over a file.
 
-ghost use Rattle.std.specs.Prelude.{◌≡◌, ◌≤◌, ℕ, List, Option, Some, length, vec_capacity, IfOk, IfErr, OnOk, OnErr};
+ghost use Rattle.std.specs.Prelude.{◌≡◌, ◌≤◌, ℕ, List, Option, Some, length, vec_capacity, IfOk, IfErr, OnOk, OnErr, IsErrOf};
 ghost use Rattle.arbiter_core.specs.Keeping.{Risen};
 ghost use Rattle.adjudicate.specs.KeptFiles.{FindsOldOrNew};
 
@@ -23,14 +23,11 @@ pub struct FileKeeper<F: Drop> {
     ghost room: { 8217 ≤ vec_capacity bytes },
 }
 
-/// Bytes in room for as many as are ever kept; none where they are too many.
-fn roomy(alloc: Global, bytes: &[u8]) -> Result<Vec<u8>, ReadFault>
+/// Bytes in room for as many as are ever kept.
+fn roomy(alloc: Global, bytes: &[u8]) -> Result<Vec<u8>, AllocError>
     ensures items { IfOk result (λ v. v.items ≡ bytes.now) }
     ensures room { IfOk result (λ v. 8217 ≤ vec_capacity v) }
 {
-    if bytes.len() > MOST_BYTES {
-        return Err(ReadFault::Unreadable);
-    }
     let mut all = Vec::with_capacity(alloc, MOST_BYTES)?;
     all.extend_from_slice(bytes)?;
     Ok(all)
@@ -42,11 +39,17 @@ impl<F: KeptFile + Drop> FileKeeper<F> {
     /// A keeper over a file, which is read here and never again: a file that isn't there is nothing kept. `Unreadable` where the
     /// file can't be read or has more than 8217 bytes.
     pub fn new(alloc: Global, file: F) -> Result<FileKeeper<F>, ReadFault>
-        ensures { IfOk result (λ k. F.finds k.file (stored k) (stored k)) }
+        ensures found { IfOk result (λ k. F.finds file (stored k) (stored k)) }
+        ensures file { IfOk result (λ k. k.file ≡ file) }
+        ensures cause { IsErrOf result ReadFault.Unreadable → F.unreadable file }
     {
-        let (bytes, is_kept) = match file.read(alloc)? {
+        let got = match file.read(alloc) {
+            Ok(got) => got,
+            Err(fault) => return Err(fault),
+        };
+        let (bytes, is_kept) = match got {
             Some(bytes) => (roomy(alloc, &bytes)?, true),
-            None => (Vec::with_capacity(alloc, MOST_BYTES)?, false),
+            None => (roomy(alloc, &[])?, false),
         };
         Ok(FileKeeper {
             file,
@@ -54,6 +57,13 @@ impl<F: KeptFile + Drop> FileKeeper<F> {
             is_kept,
             failures: 0,
         })
+    }
+
+    /// The file.
+    pub fn file(&self) -> &F
+        ensures { result.now ≡ self.now.file }
+    {
+        &self.file
     }
 
     /// Stores bytes that are in the file.
@@ -103,20 +113,20 @@ impl<F: KeptFile + Drop> FileKeeper<F> {
 }
 
 impl<F: KeptFile + Drop> Keeper for FileKeeper<F> {
-    ghost use Rattle.adjudicate.specs.StoredBytes.{stored};
+    ghost use Rattle.adjudicate.specs.StoredBytes.{any_outcome, any_put, keeper_faults, never_fails, reads_so, stored};
 
     ghost kept = { stored };
 
-    ghost faults = { λ k. k.failures };
+    ghost faults = { keeper_faults };
 
     // Which record a start finds after a put that failed isn't known.
-    ghost may_be = { λ _ _. Unit {0} };
+    ghost may_be = { any_outcome };
 
-    ghost get_may_fail = { λ _. ⊥ };
+    ghost get_may_fail = { never_fails };
 
-    ghost leaves = { λ _ _ _. Unit {0} };
+    ghost leaves = { any_put };
 
-    ghost reads = { λ k _ n. n ≡ k };
+    ghost reads = { reads_so };
 
     fn put(&mut self, bytes: &[u8]) -> Result<(), KeepFault> {
         self.keep(bytes)

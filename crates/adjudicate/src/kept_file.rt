@@ -1,6 +1,6 @@
 //! The file in which an arbiter's record is kept, and how another takes its place.
 
-ghost use Rattle.std.specs.Prelude.{◌≡◌, ℕ, List, Option, Some, option_map, IfOk, OnOk, OnErr};
+ghost use Rattle.std.specs.Prelude.{◌≡◌, ◌≤◌, ℕ, List, Option, Some, length, option_map, IfOk, IfSome, OnOk, OnErr, IsErrOf};
 ghost use Rattle.adjudicate.specs.KeptFiles.{Stage, Written, Synced, Renamed, FindsOldOrNew};
 
 use crate::input::ReadFault;
@@ -16,9 +16,14 @@ pub trait KeptFile {
     /// A start that comes now finds the one or the other under the name: the bytes of the file, or that there is none.
     ghost finds: { Self → Option (List ℕ) → Option (List ℕ) → Type 0 };
 
-    /// The bytes of the file under the name, or that there is none.
+    /// What stands under the name can't be read, or has more than 8217 bytes.
+    ghost unreadable: { Self → Type 0 };
+
+    /// The bytes of the file under the name, at most 8217, or that there is none.
     fn read(&self, alloc: Global) -> Result<Option<Vec<u8>>, ReadFault>
-        ensures { IfOk result (λ got. finds self.now (option_map (λ v. v.items) got) (option_map (λ v. v.items) got)) };
+        ensures found { IfOk result (λ got. finds self.now (option_map (λ v. v.items) got) (option_map (λ v. v.items) got)) }
+        ensures short { IfOk result (λ got. IfSome got (λ v. length v.items ≤ 8217)) }
+        ensures cause { IsErrOf result ReadFault.Unreadable → unreadable self.now };
 
     /// Writes bytes to the file beside, in place of what an earlier run may have left there.
     fn write_beside(&mut self, bytes: &[u8]) -> io::Result<()>

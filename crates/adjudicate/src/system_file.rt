@@ -8,11 +8,14 @@ use std::io::Write;
 use std::rt::Files;
 use std::{fs, io};
 
+/// How many bytes a record has at most: 25 and two for each of 4096 moves (record format).
+const MOST_BYTES: usize = 8217;
+
 /// A file of the system by its path. The one beside it has the same path with `.new` at its end. Nothing is claimed of them.
 #[derive(Drop)]
 pub struct SystemFile<'a, R: Files + AllocGlobal> {
     rt: &'a R,
-    path: &'a str,
+    path: String,
     beside: String,
     open: Option<R::File>,
 }
@@ -28,8 +31,9 @@ fn folder_of(path: &str) -> &str {
 
 impl<'a, R: Files + AllocGlobal> SystemFile<'a, R> {
     /// The file at a path.
-    pub fn at(rt: &'a R, path: &'a str) -> Result<SystemFile<'a, R>, AllocError> {
-        let beside = format!(in rt.alloc(); "{path}.new")?;
+    pub fn at(rt: &'a R, alloc: Global, path: &str) -> Result<SystemFile<'a, R>, AllocError> {
+        let beside = format!(in alloc; "{path}.new")?;
+        let path = String::from_str(alloc, path)?;
         Ok(SystemFile {
             rt,
             path,
@@ -44,14 +48,20 @@ impl<'a, R: Files + AllocGlobal> KeptFile for SystemFile<'a, R> {
 
     ghost finds = { λ _ _ _. Unit {0} };
 
+    ghost unreadable = { λ _. Unit {0} };
+
     fn read(&self, alloc: Global) -> Result<Option<Vec<u8>>, ReadFault> {
-        let file = match fs::open(self.rt, self.path) {
+        let file = match fs::open(self.rt, self.path.as_str()) {
             Ok(file) => file,
             Err(error) if error.kind() == io::ErrorKind::NotFound => return Ok(None),
             Err(error) => return Err(ReadFault::from(error)),
         };
         let length = file.metadata()?.len();
-        Ok(Some(read_all(alloc, file, length)?))
+        let bytes = read_all(alloc, file, length)?;
+        if bytes.len() > MOST_BYTES {
+            return Err(ReadFault::Unreadable);
+        }
+        Ok(Some(bytes))
     }
 
     fn write_beside(&mut self, bytes: &[u8]) -> io::Result<()> {
@@ -69,10 +79,10 @@ impl<'a, R: Files + AllocGlobal> KeptFile for SystemFile<'a, R> {
     }
 
     fn rename(&mut self) -> io::Result<()> {
-        fs::rename(self.rt, self.beside.as_str(), self.path)
+        fs::rename(self.rt, self.beside.as_str(), self.path.as_str())
     }
 
     fn sync_folder(&mut self) -> io::Result<()> {
-        fs::open(self.rt, folder_of(self.path))?.sync_all()
+        fs::open(self.rt, folder_of(self.path.as_str()))?.sync_all()
     }
 }

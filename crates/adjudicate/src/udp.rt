@@ -4,31 +4,33 @@ ghost use Rattle.std.specs.Prelude.{◌≤◌, None};
 ghost use Rattle.arbiter_core.specs.Keeping.{Risen};
 
 use crate::port::{Port, PortFault};
+use std::alloc::Global;
 use std::io;
 use std::net::{Net, UdpSocket};
 
 /// A socket, and the address to which it sends. Nothing is claimed of what passes there.
 #[derive(Drop)]
-pub struct UdpPort<'a> {
+pub struct UdpPort {
     socket: UdpSocket,
-    to: &'a str,
+    to: String,
     failures: u64,
 }
 
-impl<'a> UdpPort<'a> {
+impl UdpPort {
     /// One that is bound to an address and sends to another, each an IP address or a host's name, a colon and a port. The
-    /// error comes where the first can't be bound; where the other can't be sent to, each send fails.
-    pub fn bind<R: Net>(rt: &R, address: &str, to: &'a str) -> io::Result<UdpPort<'a>> {
-        Ok(UdpPort::over(UdpSocket::bind(rt, address)?, to))
+    /// error comes where the first can't be bound, or memory is refused; where the other can't be sent to, each send fails.
+    pub fn bind<R: Net>(rt: &R, alloc: Global, address: &str, to: &str) -> io::Result<UdpPort> {
+        UdpPort::over(alloc, UdpSocket::bind(rt, address)?, to)
     }
 
     /// One over a socket that is bound already.
-    pub fn over(socket: UdpSocket, to: &'a str) -> UdpPort<'a> {
-        UdpPort {
+    pub fn over(alloc: Global, socket: UdpSocket, to: &str) -> io::Result<UdpPort> {
+        let to = String::from_str(alloc, to)?;
+        Ok(UdpPort {
             socket,
             to,
             failures: 0,
-        }
+        })
     }
 
     /// Counts one failure.
@@ -41,7 +43,7 @@ impl<'a> UdpPort<'a> {
     }
 }
 
-impl<'a> Port for UdpPort<'a> {
+impl Port for UdpPort {
     ghost passed = { λ _. None };
 
     ghost faults = { λ p. p.failures };
@@ -54,7 +56,7 @@ impl<'a> Port for UdpPort<'a> {
     }
 
     fn send(&mut self, bytes: &[u8]) -> Result<(), PortFault> {
-        match self.socket.send_to(bytes, self.to) {
+        match self.socket.send_to(bytes, self.to.as_str()) {
             Ok(_) => Ok(()),
             Err(_) => Err(self.fail()),
         }
