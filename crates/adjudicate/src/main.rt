@@ -4,7 +4,8 @@
 //! `probe --tables DIR FEN` prints what tables say of it; `list DIR` prints the manifest of a
 //! folder's tables, and `check --manifest FILE DIR` whether they are those of one; `show` prints the
 //! messages on standard input; `run` runs the schedule on standard input, and prints what becomes of its
-//! two arbiters. Statuses: 0 done, 1 refused, 2 misuse.
+//! two arbiters; `listen` is an arbiter that answers the datagrams of a socket and keeps its record in a file.
+//! Statuses: 0 done, 1 refused, 2 misuse.
 #![tactic(auto)]
 
 mod answers;
