@@ -1,11 +1,11 @@
 -- Schedules that are run, and what is told of them.
-use Rattle.std.proofs.Common.{◌≡◌, ◌≢◌, ◌<◌, ◌≤◌, ◌+◌, ◌×◌, ◌⊎◌, ℕ, zero, suc, List, [], ◌∷◌, length, map, get_or, replicate, Option, Some, None, Result, Ok, Err, refl, sym, ap, ◌∙◌, subst, arith, inl, inr}
+use Rattle.std.proofs.Common.{◌≡◌, ◌≢◌, ◌<◌, ◌≤◌, ◌+◌, ◌⊎◌, ℕ, zero, suc, List, [], ◌∷◌, length, map, get_or, replicate, Option, Some, None, Result, Ok, Err, refl, sym, ap, ◌∙◌, subst, arith, inl, inr}
 use Rattle.std.specs.Prelude.{is_some, if◌then◌else◌, slice_get, slice_set, slice_index_or}
-use Rattle.std.specs.Ordering.{nat_cmp}
+use Rattle.std.specs.Ordering.{nat_cmp, ordering_reverse}
 use Rattle.std.specs.Cmp.Lexicographic.{slice_cmp}
-use Rattle.std.specs.declared.cmp.Ordering.TheVariants.{Less, Equal}
+use Rattle.std.specs.declared.cmp.Ordering.TheVariants.{Less, Greater}
 use Rattle.std.proofs.lemmas.Cmp.{nat_list_cmp_total}
-use Rattle.std.proofs.lemmas.List.{get_or-set_other}
+use Rattle.std.proofs.lemmas.List.{get_or-set_other, length-map}
 use Rattle.std.proofs.lemmas.Option.{slice_get_cases}
 use Rattle.table_file.specs.declared.fault.TableFault.{TableFault}
 use Rattle.table_file.specs.declared.kind.Kind.{Kind}
@@ -24,36 +24,40 @@ use Rattle.relay_world.specs.Gathering.{and_then, with_table, tables_from, table
 abbrev Found : Type 0
 Found = Result Contents TableFault
 
-within : (founds : List Found) (tables : Tables) (start place : ℕ) (fault : TableFault) → tables_from tables start founds ≡ Err (BadTable place fault) → (start ≤ place) × (place < start + length founds)
+abbrev place_in : Result Tables WorldFault → ℕ
+place_in (Ok tables) = 0
+place_in (Err (BadTable place fault)) = place
+place_in (Err (DuplicateTable place)) = place
+place_in (Err OutOfMemory) = 0
+
+-- the place is this one, or one of so many after it
+abbrev IsBetween : ℕ → ℕ → ℕ → Type 0
+IsBetween start place many = (start ≤ place) × (place < start + many)
+
+-- what is found at a place is at fault there, or nothing is and what follows decides
+step : (tables : Tables) (start place many : ℕ) (fault : TableFault) (found : Found) (next : Tables → Result Tables WorldFault) → ((more : Tables) → next more ≡ Err (BadTable place fault) → IsBetween (suc start) place many) → and_then (with_table tables start found) next ≡ Err (BadTable place fault) → IsBetween start place (suc many)
+step tables start place many fault (Err other) next later e = let same : start ≡ place = ap place_in e in (omega arith, omega arith)
+step tables start place many fault (Ok t) next later e = by_slot (table_at tables t.kind t.material) e
+  where
+    by_slot : (o : Option Contents) → and_then (if is_some o then Err (DuplicateTable start) else Ok (slice_set tables (slot t.kind t.material) (Some t))) next ≡ Err (BadTable place fault) → IsBetween start place (suc many)
+    by_slot None e = let h = later (slice_set tables (slot t.kind t.material) (Some t)) e in (omega (arith, h.0), omega (arith, h.1))
+    by_slot (Some x) e = absurd (cc)
+
+within : (founds : List Found) (tables : Tables) (start place : ℕ) (fault : TableFault) → tables_from tables start founds ≡ Err (BadTable place fault) → IsBetween start place (length founds)
 unfolding tables_from
 within [] tables start place fault e = absurd (cc)
-within (Err other ∷ founds) tables start place fault e =
-    let same : start ≡ place = place_same start place other fault e in
-    (omega arith, omega arith)
-  where
-    bad_of : WorldFault → ℕ
-    bad_of (BadTable p f) = p
-    bad_of (DuplicateTable p) = 0
-    bad_of OutOfMemory = 0
-
-    err_of : Result Tables WorldFault → ℕ
-    err_of (Ok t) = 0
-    err_of (Err f) = bad_of f
-
-    place_same : (p q : ℕ) (f g : TableFault) → ◌≡◌ {A = Result Tables WorldFault} (Err (BadTable p f)) (Err (BadTable q g)) → p ≡ q
-    place_same p q f g e = ap err_of e
-within (Ok t ∷ founds) tables start place fault e = by_free (table_at tables t.kind t.material) e
-  where
-    by_free : (o : Option Contents) → and_then (if is_some o then Err (DuplicateTable start) else Ok (slice_set tables (slot t.kind t.material) (Some t))) (λ more. tables_from more (suc start) founds) ≡ Err (BadTable place fault) → (start ≤ place) × (place < start + (suc (length founds)))
-    by_free None e =
-        let h = within founds (slice_set tables (slot t.kind t.material) (Some t)) (suc start) place fault e in
-        let l : suc start ≤ place = h.0 in
-        let u : place < suc start + length founds = h.1 in
-        (omega arith, omega arith)
-    by_free (Some x) e = absurd (cc)
+within (found ∷ founds) tables start place fault e =
+    step tables start place (length founds) fault found (λ more. tables_from more (suc start) founds) (λ more. within founds more (suc start) place fault) e
 
 pub in_files : {X : Type 0} (view : X → File) (files : List X) (place : ℕ) (fault : TableFault) → tables_of (map view files) ≡ Err (BadTable place fault) → place < length files
-in_files view files place fault e = ?
+in_files view files place fault e =
+    let h = within (map found_in (map view files)) (replicate 290 None) 0 place fault e in
+    omega (arith, h.1, length-map (map view files) found_in, length-map files view)
+
+-- a fault that is not want of memory is that of the files
+pub the_fault : (found : Result Tables WorldFault) (fault told : WorldFault) → (told ≡ OutOfMemory → ⊥) → fault ≡ told → (fault ≡ OutOfMemory) ⊎ (found ≡ Err fault) → found ≡ Err told
+the_fault found fault told other is (inl memory) = absurd (other (sym is ∙ memory))
+the_fault found fault told other is (inr h) = h ∙ ap Err is
 
 -- ---- files of different names are different tables
 
@@ -81,13 +85,17 @@ abbrev AreApart : List File → Type 0
 AreApart [] = Unit {0}
 AreApart (f ∷ others) = IsApart f.name others × AreApart others
 
+differ : (a b : List ℕ) → slice_cmp nat_cmp a b ≡ Less → a ≡ b → ⊥
+differ a b less same =
+    let other : slice_cmp nat_cmp b a ≡ Less = subst (λ x. slice_cmp nat_cmp x a ≡ Less) same (subst (λ y. slice_cmp nat_cmp a y ≡ Less) (sym same) less) in
+    let back : slice_cmp nat_cmp a b ≡ Greater = nat_list_cmp_total.antisymm a b ∙ ap ordering_reverse other in
+    let bad : Less ≡ Greater = sym less ∙ back in
+    cc
+
 before : (name : List ℕ) (f : File) (others : List File) → slice_cmp nat_cmp name f.name ≡ Less → AreSorted (f ∷ others) → IsApart name (f ∷ others)
 before name f [] less sorted = (differ name f.name less, tt)
 before name f (g ∷ others) less sorted =
     (differ name f.name less, before name g others (nat_list_cmp_total.trans name f.name g.name less sorted.0) sorted.1)
-
-differ : (a b : List ℕ) → slice_cmp nat_cmp a b ≡ Less → a ≡ b → ⊥
-differ a b less same = ?
 
 all_apart : (files : List File) → AreSorted files → AreApart files
 all_apart [] sorted = tt
@@ -110,28 +118,44 @@ still_free laid f c tables (g ∷ others) is apart free = (
   still_free laid f c tables others is apart.1 free.1,
 )
 
+-- a file whose slot is free is at fault, or what follows is
+free_step : (tables : Tables) (start place : ℕ) (f : File) (next : Tables → Result Tables WorldFault) → ((t : Contents) → found_in f ≡ Ok t → table_at tables t.kind t.material ≡ None) → ((t : Contents) → found_in f ≡ Ok t → next (slice_set tables (slot t.kind t.material) (Some t)) ≡ Err (DuplicateTable place) → ⊥) → (r : Found) → found_in f ≡ r → and_then (with_table tables start r) next ≡ Err (DuplicateTable place) → ⊥
+free_step tables start place f next free later (Err fault) is e = cc
+free_step tables start place f next free later (Ok t) is e = by_slot (table_at tables t.kind t.material) (free t is) e
+  where
+    by_slot : (o : Option Contents) → o ≡ None → and_then (if is_some o then Err (DuplicateTable start) else Ok (slice_set tables (slot t.kind t.material) (Some t))) next ≡ Err (DuplicateTable place) → ⊥
+    by_slot None none e = later t is e
+    by_slot (Some x) none e = cc
+
 none_twice : ReadsWhatIsLaidOut → (files : List File) (tables : Tables) (start place : ℕ) → AreApart files → AreFree tables files → tables_from tables start (map found_in files) ≡ Err (DuplicateTable place) → ⊥
 unfolding tables_from
 none_twice laid [] tables start place apart free e = cc
-none_twice laid (f ∷ others) tables start place apart free e = by_found (found_in f) refl e
-  where
-    by_free : (t : Contents) → found_in f ≡ Ok t → (o : Option Contents) → table_at tables t.kind t.material ≡ o → and_then (if is_some o then Err (DuplicateTable start) else Ok (slice_set tables (slot t.kind t.material) (Some t))) (λ more. tables_from more (suc start) (map found_in others)) ≡ Err (DuplicateTable place) → ⊥
-    by_free t is None none e = none_twice laid others (slice_set tables (slot t.kind t.material) (Some t)) (suc start) place apart.1 (still_free laid f t tables others is apart.0 free.1) e
-    by_free t is (Some x) some e = let none = free.0 t is in let bad : ◌≡◌ {A = Option Contents} None (Some x) = sym none ∙ some in cc
+none_twice laid (f ∷ others) tables start place apart free e =
+    free_step tables start place f (λ more. tables_from more (suc start) (map found_in others)) free.0
+    (λ t is. none_twice laid others (slice_set tables (slot t.kind t.material) (Some t)) (suc start) place apart.1 (still_free laid f t tables others is apart.0 free.1))
+    (found_in f) refl e
 
-    by_found : (r : Found) → found_in f ≡ r → and_then (with_table tables start r) (λ more. tables_from more (suc start) (map found_in others)) ≡ Err (DuplicateTable place) → ⊥
-    by_found (Err fault) is e = cc
-    by_found (Ok t) is e = by_free t is (table_at tables t.kind t.material) refl e
+abbrev no_table : Option Contents
+no_table = None
 
-nothing_at : (n i : ℕ) → get_or (replicate n (None {A = Contents})) i None ≡ None
+nothing_at : (n i : ℕ) → get_or (replicate n no_table) i None ≡ None
 nothing_at zero i = refl
 nothing_at (suc n) zero = refl
 nothing_at (suc n) (suc i) = nothing_at n i
 
-all_free : (files : List File) → AreFree (replicate 290 None) files
+all_free : (files : List File) → AreFree (replicate 290 no_table) files
 all_free [] = tt
 all_free (f ∷ others) = ((λ t found. nothing_at 290 (slot t.kind t.material)), all_free others)
 
 -- no file of a folder is a table of the kind and the men of another
 pub no_duplicate : ReadsWhatIsLaidOut → (files : List File) (place : ℕ) → AreSorted files → tables_of files ≡ Err (DuplicateTable place) → ⊥
-no_duplicate laid files place sorted e = none_twice laid files (replicate 290 None) 0 place (all_apart files sorted) (all_free files) e
+no_duplicate laid files place sorted e = none_twice laid files (replicate 290 no_table) 0 place (all_apart files sorted) (all_free files) e
+
+-- ---- the last world
+
+pub last_of : {W : Type 0} (worlds : List W) (many : ℕ) → length worlds ≡ many + 1 → (last : W) × (slice_get worlds many ≡ Some last)
+last_of worlds many e =
+    elim (slice_get_cases worlds many).1 [
+      | inl there ↦ (there.0, there.2)
+      | inr past ↦ absurd (let l : length worlds ≤ many = past.0 in omega arith)
+    ]

@@ -36,7 +36,7 @@ IsOpened setup before now told =
 -- an arbiter is opened over the keeper and serves so many datagrams; or it isn't opened
 pub data OpensAndServes {F : Type 0} (n : ℕ) (fetch : Bool) (setup : SetupView) (before : FileKeeper F) (passed passed' : Option (List Passing)) (faults faults' : ℕ) (old new : Option (List ℕ)) (status : ℕ) : Type 0 where
   Served : (v v' : View) (mid now : FileKeeper F) → IsOpened setup before mid (Ok v) → (run : Run) → IsRun any_outcome stored keeper_faults any_put v v' mid now passed passed' faults faults' (asked_first fetch v) run → TellsRun n run old new (Ok status) → OpensAndServes n fetch setup before passed passed' faults faults' old new status
-  NotOpened : (now : FileKeeper F) (fault : OpenFault) → (IsGood setup → fault ≢ OutOfMemory) → IsOpened setup before now (Err fault) → TellsOne refused_keeper old new status → OpensAndServes n fetch setup before passed passed' faults faults' old new status
+  NotOpened : (now : FileKeeper F) (fault : OpenFault) → fault ≢ OutOfMemory → IsOpened setup before now (Err fault) → TellsOne refused_keeper old new status → OpensAndServes n fetch setup before passed passed' faults faults' old new status
   NoRoomToOpen : TellsOne refused_memory old new status → OpensAndServes n fetch setup before passed passed' faults faults' old new status
 
 -- over a port and the file in which the record is kept: it can't be read; or an arbiter is opened over a keeper of its bytes

@@ -1,6 +1,6 @@
 //! The schedule of an input, run.
 
-ghost use Rattle.std.specs.Prelude.{◌≡◌, ℕ, Option, map, Err, IfOk, IfErr};
+ghost use Rattle.std.specs.Prelude.{◌≡◌, ◌<◌, ℕ, Option, length, map, Err, IfOk, IfErr};
 ghost use Rattle.move_msg.specs.declared.stamp.Stamp.{Stamp};
 ghost use Rattle.move_msg.specs.Files.{AreFiles, file_of};
 ghost use Rattle.arbiter_core.specs.Recording.{Recorded};
@@ -71,7 +71,8 @@ fn named_bytes<'f>(
 
 /// The line that refuses the first file that is no table.
 fn refused_table(files: &[NamedFile], place: usize, fault: TableFault) -> Line
-    requires { tables_of (map file_of files.now) ≡ Err (BadTable place fault) }
+    requires within { place < length files.now }
+    requires refused { tables_of (map file_of files.now) ≡ Err (BadTable place fault) }
     ensures { RefusesTable (map file_of files.now) (words_of result) }
 {
     Line::RefusedFile(files[place].name, FileFault::Bad(fault))
@@ -123,11 +124,12 @@ fn line_of(world: &World, who: Who) -> Line
 fn lines_of(alloc: Global, world: &World) -> Result<Vec<Line>, AllocError>
     ensures { IfOk result (λ lines. (game : Judged) (last : Worlds) → Tells game world.now last → map words_of lines.items ≡ world_words last) }
 {
-    let mut lines = Vec::new(alloc);
-    lines.push(line_of(world, Who::A))?;
-    lines.push(line_of(world, Who::B))?;
-    lines.push(Line::Sent(world.log().len()))?;
-    Ok(lines)
+    let lines = [
+        line_of(world, Who::A),
+        line_of(world, Who::B),
+        Line::Sent(world.log().len()),
+    ];
+    Vec::from_slice(alloc, &lines)
 }
 
 /// What becomes of two arbiters under the schedule of the input: the first line at fault is refused,
