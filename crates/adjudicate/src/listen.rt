@@ -4,7 +4,7 @@ ghost use Rattle.std.specs.Prelude.{◌≡◌, IfOk, Ok};
 ghost use Rattle.board_core.specs.Position.{IsPosition};
 ghost use Rattle.fen_text.specs.Fen.{SpellsPosition};
 ghost use Rattle.arbiter_core.specs.Setups.{setup_view};
-ghost use Rattle.adjudicate.specs.Listens.{BindsAndServes, KeepsAndServes, Listens, OpensAndServes};
+ghost use Rattle.adjudicate.specs.Listens.{BindsAndServes, KeepsAndServes, Listens, OpensAndServes, ServesAt, TellsUnopened};
 ghost use Rattle.adjudicate.specs.Looks.{gathered};
 
 use crate::file_keeper::FileKeeper;
@@ -25,6 +25,16 @@ use move_msg::manifest_of;
 use std::alloc::Global;
 use std::io::Write;
 
+/// Tells that no arbiter is opened: `refused keeper`, or `refused memory` where memory was refused.
+fn put_unopened<W: Write>(fault: OpenFault, out: &mut W) -> Result<u8, AnswerFault>
+    ensures { IfOk result (TellsUnopened fault (W.contents out.old) (W.contents out.new)) }
+{
+    match fault {
+        OpenFault::OutOfMemory => put_refusal(out, &Line::RefusedMemory),
+        _ => put_refusal(out, &Line::RefusedKeeper),
+    }
+}
+
 /// Opens an arbiter over a keeper, and lets it answer the datagrams of a port. An arbiter that can't be opened is told as
 /// `refused keeper`.
 fn open_and_serve<F: KeptFile + Drop, P: Port, W: Write>(
@@ -37,21 +47,21 @@ fn open_and_serve<F: KeptFile + Drop, P: Port, W: Write>(
 ) -> Result<u8, AnswerFault>
     ensures { IfOk result (OpensAndServes listening.now.datagrams listening.now.fetch (setup_view setup.entry) keeper.old (P.passed port.old) (P.passed port.new) (P.faults port.old) (P.faults port.new) (W.contents out.old) (W.contents out.new)) }
 {
-    match Arbiter::open(alloc, keeper, setup) {
-        Ok(mut arbiter) => serve(
-            alloc,
-            &mut arbiter,
-            keeper,
-            port,
-            listening.datagrams,
-            listening.fetch,
-            out,
-        ),
-        Err(refused) => match refused.fault {
-            OpenFault::OutOfMemory => put_refusal(out, &Line::RefusedMemory),
-            _ => put_refusal(out, &Line::RefusedKeeper),
-        },
-    }
+    let fault = match Arbiter::open(alloc, keeper, setup) {
+        Ok(mut arbiter) => {
+            return serve(
+                alloc,
+                &mut arbiter,
+                keeper,
+                port,
+                listening.datagrams,
+                listening.fetch,
+                out,
+            );
+        }
+        Err(refused) => refused.fault,
+    };
+    put_unopened(fault, out)
 }
 
 /// The same over a file in which the record is kept. A file that can't be read is told as `refused keeper`.
@@ -72,6 +82,23 @@ fn keep_and_serve<F: KeptFile + Drop, P: Port, W: Write>(
     }
 }
 
+/// The same over the file that the words name.
+fn serve_at<H: Host, W: Write>(
+    alloc: Global,
+    listening: &Listening<'_>,
+    setup: Setup<'_>,
+    host: &H,
+    port: &mut H::Port,
+    out: &mut W,
+) -> Result<u8, AnswerFault>
+    ensures { IfOk result (ServesAt (H.is_at host.now) H.File.unreadable H.File.finds listening.now (setup_view setup.entry) (H.Port.passed port.old) (H.Port.passed port.new) (H.Port.faults port.old) (H.Port.faults port.new) (W.contents out.old) (W.contents out.new)) }
+{
+    match host.file(alloc, listening.kept) {
+        Ok(file) => keep_and_serve(alloc, listening, setup, file, port, out),
+        Err(_) => put_refusal(out, &Line::RefusedMemory),
+    }
+}
+
 /// The same at the address and over the file that the words name. An address that can't be bound is told as `refused port`.
 fn bind_and_serve<H: Host, W: Write>(
     alloc: Global,
@@ -82,14 +109,10 @@ fn bind_and_serve<H: Host, W: Write>(
 ) -> Result<u8, AnswerFault>
     ensures { IfOk result (BindsAndServes (H.binds host.now) (H.unbound host.now) (H.is_at host.now) H.Port.passed H.Port.faults H.File.unreadable H.File.finds listening.now (setup_view setup.entry) (W.contents out.old) (W.contents out.new)) }
 {
-    let mut port = match host.bind(alloc, listening.bind, listening.to) {
-        Ok(port) => port,
-        Err(BindFault::Unbound) => return put_refusal(out, &Line::RefusedPort),
-        Err(BindFault::OutOfMemory) => return put_refusal(out, &Line::RefusedMemory),
-    };
-    match host.file(alloc, listening.kept) {
-        Ok(file) => keep_and_serve(alloc, listening, setup, file, &mut port, out),
-        Err(_) => put_refusal(out, &Line::RefusedMemory),
+    match host.bind(alloc, listening.bind, listening.to) {
+        Ok(mut port) => serve_at(alloc, listening, setup, host, &mut port, out),
+        Err(BindFault::Unbound) => put_refusal(out, &Line::RefusedPort),
+        Err(BindFault::OutOfMemory) => put_refusal(out, &Line::RefusedMemory),
     }
 }
 
