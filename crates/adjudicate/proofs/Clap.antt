@@ -26,3 +26,4 @@ is_simple name.List = refl
 is_simple name.Check = refl
 is_simple name.Show = refl
 is_simple name.Run = refl
+is_simple name.Listen = refl

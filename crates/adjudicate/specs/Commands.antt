@@ -2,6 +2,7 @@
 use Rattle.std.specs.Prelude.{List, [], ◌∷◌, Option, Some, codes, true}
 use Rattle.clap.specs.Words.{App, Rule, Text, fault_of, first_of, matches_of, new_app, new_rule, with_rule}
 use Rattle.clap.specs.Kinds.{Kinds}
+use Rattle.clap.specs.declared.builder.action.ArgAction.TheVariants.{SetTrue}
 use Rattle.adjudicate.specs.declared.commands.Name.{Name}
 use Rattle.adjudicate.specs.declared.commands.Name.TheVariants as name
 use Rattle.adjudicate.specs.declared.commands.Form.{Form}
@@ -17,18 +18,22 @@ word_of name.List = codes "list"
 word_of name.Check = codes "check"
 word_of name.Show = codes "show"
 word_of name.Run = codes "run"
+word_of name.Listen = codes "listen"
 
--- a value of this name: a word that has to be there, an option as `--tables DIR`, or an option that has to be there
+-- a value of this name: a word that has to be there, an option as `--tables DIR`, an option that has to be there, or a flag
+-- as `--fetch`
 abbrev pub rule_of_form : Form → Text → Rule
 rule_of_form form.Word id = record (new_rule id) { required = true }
 rule_of_form form.Option id = record (new_rule id) { long = Some id }
 rule_of_form form.NeededOption id = record (new_rule id) { long = Some id; required = true }
+rule_of_form form.Flag id = record (new_rule id) { long = Some id; action = Some SetTrue }
 
 abbrev pub rule_of_value : Value → Rule
 rule_of_value v = rule_of_form v.form v.name.now
 
 -- judge [--tables DIR] [--manifest FILE] FEN; probe --tables DIR [--manifest FILE] FEN; moves FEN; list DIR;
--- check --manifest FILE DIR; show; run [--tables DIR] [--cache N] [--delay N]
+-- check --manifest FILE DIR; show; run [--tables DIR] [--cache N] [--delay N];
+-- listen --name N --start FEN --tables DIR --me M --bind ADDR --to ADDR --kept FILE --datagrams N [--delay N] [--fetch]
 abbrev pub rules_of : Name → List Rule
 rules_of name.Judge =
     rule_of_form form.Option (codes "tables") ∷ rule_of_form form.Option (codes "manifest") ∷ rule_of_form form.Word (codes "FEN") ∷ []
@@ -40,6 +45,12 @@ rules_of name.Check = rule_of_form form.NeededOption (codes "manifest") ∷ rule
 rules_of name.Show = []
 rules_of name.Run =
     rule_of_form form.Option (codes "tables") ∷ rule_of_form form.Option (codes "cache") ∷ rule_of_form form.Option (codes "delay") ∷ []
+rules_of name.Listen =
+    rule_of_form form.NeededOption (codes "name") ∷ rule_of_form form.NeededOption (codes "start")
+    ∷ rule_of_form form.NeededOption (codes "tables") ∷ rule_of_form form.NeededOption (codes "me")
+    ∷ rule_of_form form.NeededOption (codes "bind") ∷ rule_of_form form.NeededOption (codes "to")
+    ∷ rule_of_form form.NeededOption (codes "kept") ∷ rule_of_form form.NeededOption (codes "datagrams")
+    ∷ rule_of_form form.Option (codes "delay") ∷ rule_of_form form.Flag (codes "fetch") ∷ []
 
 -- a command with more rules
 abbrev pub with_rules : App → List Rule → App

@@ -17,4 +17,12 @@ pub mod PlayedSteps
 pub mod Reply
 pub mod Asked
 pub mod Fronts
+pub mod Telling
 pub mod Running
+pub mod Listenings
+pub mod Ports
+pub mod KeptFiles
+pub mod StoredBytes
+pub mod Serving
+pub mod Steps
+pub mod Listens

@@ -24,6 +24,9 @@ use Rattle.move_msg.specs.declared.who.Who.{Who}
 use Rattle.relay_world.specs.declared.world.State.{State}
 use Rattle.relay_world.specs.declared.world.State.TheVariants as state
 use Rattle.relay_world.specs.Texts.{who_word}
+use Rattle.arbiter_core.specs.declared.fault.DeliverFault.{DeliverFault}
+use Rattle.arbiter_core.specs.declared.fault.DeliverFault.TheVariants as deliver
+use Rattle.arbiter_core.specs.Faults.{deliver_fault_name}
 use Rattle.adjudicate.specs.declared.tables.FileFault.{FileFault}
 use Rattle.adjudicate.specs.declared.tables.FileFault.TheVariants.{Missing, Changed, Bad}
 use Rattle.adjudicate.specs.declared.lines.Kept.{Kept}
@@ -146,6 +149,27 @@ refused_move place = codes "refused move " ++ decimal place
 abbrev pub refused_line : ℕ → List ℕ
 refused_line number = codes "refused line " ++ decimal number
 
+-- how many moves an arbiter has recorded, and its verdict
+abbrev pub heard_words : ℕ → Option Verdict → List ℕ
+heard_words count verdict = codes "ok " ++ decimal count ++ codes " " ++ verdict_or_none verdict
+
+-- why an arbiter refuses a datagram; where it is no message, with what is wrong with it
+abbrev pub refused_datagram : DeliverFault → List ℕ
+refused_datagram (deliver.NotAMessage fault) = codes "refused NotAMessage " ++ message_fault_name fault
+refused_datagram deliver.Stranger = codes "refused " ++ deliver_fault_name deliver.Stranger
+refused_datagram deliver.IllegalMove = codes "refused " ++ deliver_fault_name deliver.IllegalMove
+refused_datagram deliver.TooFarAhead = codes "refused " ++ deliver_fault_name deliver.TooFarAhead
+refused_datagram deliver.TooLong = codes "refused " ++ deliver_fault_name deliver.TooLong
+refused_datagram deliver.KeeperFailed = codes "refused " ++ deliver_fault_name deliver.KeeperFailed
+refused_datagram deliver.Down = codes "refused " ++ deliver_fault_name deliver.Down
+refused_datagram deliver.OutOfMemory = codes "refused " ++ deliver_fault_name deliver.OutOfMemory
+
+abbrev pub refused_port : List ℕ
+refused_port = codes "refused port"
+
+abbrev pub refused_keeper : List ℕ
+refused_keeper = codes "refused keeper"
+
 abbrev pub refused_files : List ℕ
 refused_files = codes "refused files"
 
@@ -168,5 +192,9 @@ words_of (line.Sent number) = sent_words number
 words_of (line.RefusedLine number) = refused_line number
 words_of (line.Outcome outcome plies) = outcome_words outcome plies
 words_of (line.RefusedMove place) = refused_move place
+words_of (line.Heard count verdict) = heard_words count verdict
+words_of (line.RefusedDatagram fault) = refused_datagram fault
+words_of line.RefusedPort = refused_port
+words_of line.RefusedKeeper = refused_keeper
 words_of line.RefusedFiles = refused_files
 words_of line.RefusedMemory = refused_memory

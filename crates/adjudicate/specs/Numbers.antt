@@ -1,7 +1,10 @@
 -- Numbers of the command line, as Rust reads integers (this project's own bounds).
-use Rattle.std.specs.Prelude.{◌≡◌, ◌≤◌, ℕ, List, Option, Some, None}
+use Rattle.std.specs.Prelude.{◌≡◌, ◌≤◌, ◌<◌, ◌^◌, ℕ, Bool, false, List, Option, Some, None, codes}
+use Rattle.std.specs.Str.{bytes_eq}
 use Rattle.std.specs.Str.Parse.{IsNumeral, digits_value, without_leading_plus}
 use Rattle.board_core.specs.Delays.{most_delay}
+use Rattle.move_msg.specs.declared.who.Who.{Who}
+use Rattle.move_msg.specs.Senders.{who_number}
 
 -- the text is this number in decimal digits, perhaps after a plus
 abbrev pub IsNumber : List ℕ → ℕ → Type 0
@@ -16,3 +19,18 @@ IsCache (Some text) blocks = IsNumber text blocks × (1 ≤ blocks) × (blocks �
 abbrev pub IsDelay : Option (List ℕ) → ℕ → Type 0
 IsDelay None plies = plies ≡ 0
 IsDelay (Some text) plies = IsNumber text plies × (plies ≤ most_delay)
+
+-- a number of datagrams has to be given, 0 to 2^32 - 1
+abbrev pub IsDatagrams : Option (List ℕ) → ℕ → Type 0
+IsDatagrams None n = ⊥
+IsDatagrams (Some text) n = IsNumber text n × (n < 2 ^ 32)
+
+-- the number of an arbiter has to be given, 1 or 2
+abbrev pub IsMe : Option (List ℕ) → Who → Type 0
+IsMe None who = ⊥
+IsMe (Some text) who = IsNumber text (who_number who)
+
+-- a flag is given
+abbrev pub is_set : Option (List ℕ) → Bool
+is_set None = false
+is_set (Some text) = bytes_eq text (codes "true")

@@ -14,6 +14,7 @@ folder_of (task.List folder) = Some folder.now
 folder_of (task.Check manifest folder) = Some folder.now
 folder_of task.Show = None
 folder_of (task.Run tables cache delay) = option_map (λ s. s.now) tables
+folder_of (task.Listen l) = Some l.tables.now
 
 abbrev pub manifest_of : Task → Option (List ℕ)
 manifest_of (task.Judge tables manifest fen) = option_map (λ s. s.now) manifest
@@ -23,6 +24,7 @@ manifest_of (task.List folder) = None
 manifest_of (task.Check manifest folder) = Some manifest.now
 manifest_of task.Show = None
 manifest_of (task.Run tables cache delay) = None
+manifest_of (task.Listen l) = None
 
 -- only show and run read the input
 abbrev pub reads_input : Task → Bool
@@ -33,6 +35,7 @@ reads_input (task.List folder) = false
 reads_input (task.Check manifest folder) = false
 reads_input task.Show = true
 reads_input (task.Run tables cache delay) = true
+reads_input (task.Listen l) = false
 
 -- some folder, file or input is read for the task
 abbrev pub reads_some : Task → Bool

@@ -167,6 +167,7 @@ IsReply (task.List folder) given r = IsListed given.files r
 IsReply (task.Check manifest folder) given r = r ≡ checked_by given.files given.told
 IsReply task.Show given r = IsShown given.input r
 IsReply (task.Run tables cache delay) given r = IsRun given.input given.files delay r
+IsReply (task.Listen l) given r = ⊥
 
 -- a reply takes memory but where a text is refused, and where messages are shown
 abbrev pub TakesMemory : Task → Type 0
@@ -177,6 +178,7 @@ TakesMemory (task.List folder) = Unit {0}
 TakesMemory (task.Check manifest folder) = Unit {0}
 TakesMemory task.Show = ⊥
 TakesMemory (task.Run tables cache delay) = Unit {0}
+TakesMemory (task.Listen l) = ⊥
 
 -- the reply was written whole, and its status told
 abbrev pub WritesReply : Option (List ℕ) → Option (List ℕ) → Reply → ℕ → Type 0

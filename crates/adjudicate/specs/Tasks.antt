@@ -1,8 +1,10 @@
 -- What a task says of the words that it was read from (this project's own commands).
-use Rattle.std.specs.Prelude.{◌≡◌, ◌⊎◌, ℕ, List, [], Option, Some, None, codes, option_map, slice_get}
+use Rattle.std.specs.Prelude.{◌≡◌, ◌⊎◌, ℕ, Bool, true, false, List, [], Option, Some, None, codes, option_map, slice_get}
 use Rattle.clap.specs.Words.{App, Text}
 use Rattle.adjudicate.specs.Commands.{app_for, fault_in, value_in, word_of}
+use Rattle.adjudicate.specs.Listenings.{IsListening}
 use Rattle.adjudicate.specs.Numbers.{IsCache, IsDelay}
+use Rattle.adjudicate.specs.declared.listening.Listening.{Listening}
 use Rattle.adjudicate.specs.declared.commands.Name.{Name}
 use Rattle.adjudicate.specs.declared.commands.Name.TheVariants as name
 use Rattle.adjudicate.specs.declared.commands.Task.{Task}
@@ -28,6 +30,18 @@ name_of (task.List folder) = name.List
 name_of (task.Check manifest folder) = name.Check
 name_of task.Show = name.Show
 name_of (task.Run tables cache delay) = name.Run
+name_of (task.Listen l) = name.Listen
+
+-- the task is to listen
+abbrev pub listens : Task → Bool
+listens (task.Judge tables manifest fen) = false
+listens (task.Probe tables manifest fen) = false
+listens (task.Moves fen) = false
+listens (task.List folder) = false
+listens (task.Check manifest folder) = false
+listens task.Show = false
+listens (task.Run tables cache delay) = false
+listens (task.Listen l) = true
 
 -- the task has these values of its command's arguments
 abbrev pub HasValues : (Text → Option Text) → Task → Type 0
@@ -44,6 +58,7 @@ HasValues value (task.Check manifest folder) =
 HasValues value task.Show = Unit {0}
 HasValues value (task.Run tables cache delay) =
     (option_map (λ s. s.now) tables ≡ value (codes "tables")) × IsCache (value (codes "cache")) cache × IsDelay (value (codes "delay")) delay
+HasValues value (task.Listen l) = IsListening value l
 
 -- the words name the task's command, which takes them and gives the task's values
 pub record IsTask (words : List Text) (t : Task) : Type 0 where
@@ -61,6 +76,7 @@ Lacks value name.Check = (value (codes "manifest") ≡ None) ⊎ (value (codes "
 Lacks value name.Show = ⊥
 Lacks value name.Run =
     ((blocks : ℕ) → IsCache (value (codes "cache")) blocks → ⊥) ⊎ ((plies : ℕ) → IsDelay (value (codes "delay")) plies → ⊥)
+Lacks value name.Listen = (l : Listening) → IsListening value l → ⊥
 
 -- the command refuses the words or their numbers, or they lack the value of a needed argument
 abbrev pub IsMisused : Name → List Text → Type 0

@@ -1,6 +1,6 @@
 //! What is answered to a task, as a value and as it is written.
 
-ghost use Rattle.std.specs.Prelude.{◌≡◌, ◌≢◌, map, Err, IfOk, OnOk, OnErr};
+ghost use Rattle.std.specs.Prelude.{◌≡◌, ◌≢◌, false, map, Err, IfOk, OnOk, OnErr};
 ghost use Rattle.std.specs.Result.{is_ok};
 ghost use Rattle.std.specs.Io.KnownBytes.{Appends};
 ghost use Rattle.judge_core.specs.declared.fault.ProbeFault.TheVariants.{OutOfMemory};
@@ -14,6 +14,7 @@ ghost use Rattle.adjudicate.specs.declared.commands.Task.TheVariants.{Show};
 ghost use Rattle.adjudicate.specs.Lines.{text_of, words_of};
 ghost use Rattle.adjudicate.specs.Looks.{gathered, look_for, look_line};
 ghost use Rattle.adjudicate.specs.Reply.{Answers, ByTables, IsForText, IsJudged, IsListed, IsMoves, IsReply, IsText, IsTold, TakesMemory, WritesReply, checked, checked_by, numbered, status_if, told};
+ghost use Rattle.adjudicate.specs.Tasks.{listens};
 ghost use Rattle.adjudicate.specs.Asked.{IsAsked, reply_of};
 
 use crate::commands::Task;
@@ -255,9 +256,10 @@ fn answer_check(alloc: Global, sources: &Sources) -> Result<Answer, AllocError>
     }
 }
 
-/// The answer to a task other than `show`.
+/// The answer to a task other than `show` and `listen`.
 fn answer_to(alloc: Global, task: &Task, sources: &Sources) -> Result<Answer, AllocError>
-    requires { task.now ≡ Show → ⊥ }
+    requires show { task.now ≡ Show → ⊥ }
+    requires listen { listens task.now ≡ false }
     ensures ok { IfOk result (λ a. IsReply task.now sources.now (reply_of a)) }
     ensures memory { OnErr result (TakesMemory task.now) }
 {
@@ -268,7 +270,7 @@ fn answer_to(alloc: Global, task: &Task, sources: &Sources) -> Result<Answer, Al
         Task::List { .. } => answer_list(alloc, sources),
         Task::Check { .. } => answer_check(alloc, sources),
         Task::Run { cache, delay, .. } => answer_run(alloc, sources, cache, delay),
-        Task::Show => unreachable!(),
+        Task::Show | Task::Listen(_) => unreachable!(),
     }
 }
 
@@ -305,7 +307,7 @@ fn put_answer<W: Write>(out: &mut W, answer: &Answer) -> Result<u8, AnswerFault>
     }
 }
 
-/// Answers a task from what was read for it: writes the answer, and tells the status, 0 done or 1
+/// Answers a task other than `listen` from what was read for it: writes the answer, and tells the status, 0 done or 1
 /// refused.
 ///
 /// `judge` and `probe` look at all files, or with a manifest at those of its lines, in its order, and
@@ -322,6 +324,7 @@ pub fn answer_task<W: Write>(
     sources: &Sources,
     out: &mut W,
 ) -> Result<u8, AnswerFault>
+    requires { listens task.now ≡ false }
     ensures { IfOk result (Answers task.now sources.now (W.contents out.old) (W.contents out.new)) }
 {
     match task {

@@ -5,9 +5,10 @@ ghost use Rattle.clap.specs.Words.{Text, app_of, is_simple_and_free, found_of, f
 ghost use Rattle.adjudicate.specs.Commands.{app_for, rule_of_value, rules_of, value_in, word_of};
 ghost use Rattle.adjudicate.specs.Tasks.{HasValues, IsTask, IsMisuse, IsTaken, Lacks, Names, NamesNone, name_of};
 
+use crate::listening::Listening;
 use crate::numbers::{CacheSize, Delay};
 use crate::usage::Usage;
-use clap::{Arg, ArgMatches, Command};
+use clap::{Arg, ArgAction, ArgMatches, Command};
 use std::alloc::{AllocError, Global};
 
 /// What a command line asks for.
@@ -59,6 +60,8 @@ pub enum Task<'a> {
         /// For how many further plies a verdict by tables must hold.
         delay: Delay,
     },
+    /// An arbiter that answers datagrams.
+    Listen(Listening<'a>),
 }
 
 /// The commands.
@@ -78,6 +81,8 @@ pub enum Name {
     Show,
     /// Runs a schedule.
     Run,
+    /// Answers datagrams.
+    Listen,
 }
 
 /// How a command is given a value.
@@ -89,6 +94,8 @@ pub enum Form {
     Option,
     /// After `--` and its name.
     NeededOption,
+    /// As `--` and its name alone, or not at all.
+    Flag,
 }
 
 /// A value that a command is given.
@@ -170,6 +177,50 @@ const OF_RUN: [Value; 3] = [
     },
 ];
 
+/// The values of `listen`.
+const OF_LISTEN: [Value; 10] = [
+    Value {
+        name: "name",
+        form: Form::NeededOption,
+    },
+    Value {
+        name: "start",
+        form: Form::NeededOption,
+    },
+    Value {
+        name: "tables",
+        form: Form::NeededOption,
+    },
+    Value {
+        name: "me",
+        form: Form::NeededOption,
+    },
+    Value {
+        name: "bind",
+        form: Form::NeededOption,
+    },
+    Value {
+        name: "to",
+        form: Form::NeededOption,
+    },
+    Value {
+        name: "kept",
+        form: Form::NeededOption,
+    },
+    Value {
+        name: "datagrams",
+        form: Form::NeededOption,
+    },
+    Value {
+        name: "delay",
+        form: Form::Option,
+    },
+    Value {
+        name: "fetch",
+        form: Form::Flag,
+    },
+];
+
 impl Name {
     /// The command that a word names.
     fn of(word: &str) -> Option<Name>
@@ -184,6 +235,7 @@ impl Name {
             "check" => Some(Name::Check),
             "show" => Some(Name::Show),
             "run" => Some(Name::Run),
+            "listen" => Some(Name::Listen),
             _ => None,
         }
     }
@@ -200,6 +252,7 @@ impl Name {
             Name::Check => "check",
             Name::Show => "show",
             Name::Run => "run",
+            Name::Listen => "listen",
         }
     }
 
@@ -215,6 +268,7 @@ impl Name {
             Name::Check => &OF_CHECK,
             Name::Show => &[],
             Name::Run => &OF_RUN,
+            Name::Listen => &OF_LISTEN,
         }
     }
 }
@@ -229,6 +283,7 @@ fn arg_of<'a>(alloc: Global, value: &Value) -> Arg<'a>
         Form::Word => arg.required(true),
         Form::Option => arg.long(value.name),
         Form::NeededOption => arg.long(value.name).required(true),
+        Form::Flag => arg.long(value.name).action(ArgAction::SetTrue),
     }
 }
 
@@ -333,6 +388,10 @@ fn task_of<'a>(name: Name, matches: &ArgMatches<'a>) -> Option<Task<'a>>
                 delay,
             })
         }
+        Name::Listen => match Listening::of(matches) {
+            Some(listening) => Some(Task::Listen(listening)),
+            None => None,
+        },
     }
 }
 

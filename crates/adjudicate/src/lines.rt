@@ -3,10 +3,11 @@
 ghost use Rattle.std.specs.Prelude.{◌≡◌, Some, IfOk, OnOk};
 ghost use Rattle.std.specs.Fmt.{DisplaysOnOk};
 ghost use Rattle.std.specs.Io.KnownBytes.{Appends};
-ghost use Rattle.adjudicate.specs.Lines.{arbiter_words, ended, message_words, outcome_words, refused_fen, state_word, told_words, verdict_or_none, words_of};
+ghost use Rattle.adjudicate.specs.Lines.{arbiter_words, column_words, columns_words, ended, heard_words, message_words, outcome_words, refused_datagram, refused_fen, state_word, told_words, verdict_or_none, verdict_words, words_of};
 ghost use Rattle.relay_world.specs.Texts.{who_word};
 
 use crate::tables::FileFault;
+use arbiter_core::DeliverFault;
 use arrayvec::ArrayString;
 use board_core::{Move, Verdict};
 use fen_text::{FenFault, write_move};
@@ -67,6 +68,14 @@ pub(crate) enum Line {
     Outcome(GameOutcome, usize),
     /// The place of a word that is no move, the first being 0.
     RefusedMove(usize),
+    /// How many moves an arbiter has recorded after a datagram, and its verdict.
+    Heard(u32, Option<Verdict>),
+    /// Why it refused a datagram.
+    RefusedDatagram(DeliverFault),
+    /// The port can't be bound, or no datagram can be received.
+    RefusedPort,
+    /// What is kept can't be read or isn't that of the game, or the keeper failed.
+    RefusedKeeper,
     /// Something can't be read.
     RefusedFiles,
     /// Memory was refused.
@@ -195,6 +204,31 @@ fn fmt_outcome<W: fmt::Write>(
     }
 }
 
+/// Tells what an arbiter has recorded.
+fn fmt_heard<W: fmt::Write>(
+    f: &mut fmt::Formatter<W>,
+    count: u32,
+    verdict: Option<Verdict>,
+) -> fmt::Result
+    ensures { DisplaysOnOk W.Write.write_str_gives f.old result (Some (heard_words count verdict)) f.new }
+{
+    let verdict = verdict_or_none(verdict);
+    write!(f, "ok {count} {verdict}")
+}
+
+/// Tells why an arbiter refused a datagram.
+fn fmt_refused_datagram<W: fmt::Write>(
+    f: &mut fmt::Formatter<W>,
+    fault: DeliverFault,
+) -> fmt::Result
+    ensures { DisplaysOnOk W.Write.write_str_gives f.old result (Some (refused_datagram fault)) f.new }
+{
+    match fault {
+        DeliverFault::NotAMessage(fault) => write!(f, "refused NotAMessage {}", fault.name()),
+        _ => write!(f, "refused {}", fault.name()),
+    }
+}
+
 impl fmt::Display for Line {
     ghost use Rattle.std.specs.Prelude.{Some};
     ghost use Rattle.adjudicate.specs.Lines.{words_of};
@@ -225,6 +259,10 @@ impl fmt::Display for Line {
             Line::RefusedLine(number) => write!(f, "refused line {number}"),
             Line::Outcome(outcome, plies) => fmt_outcome(f, *outcome, *plies),
             Line::RefusedMove(place) => write!(f, "refused move {place}"),
+            Line::Heard(count, verdict) => fmt_heard(f, *count, *verdict),
+            Line::RefusedDatagram(fault) => fmt_refused_datagram(f, *fault),
+            Line::RefusedPort => f.write_str("refused port"),
+            Line::RefusedKeeper => f.write_str("refused keeper"),
             Line::RefusedFiles => f.write_str("refused files"),
             Line::RefusedMemory => f.write_str("refused memory"),
         }

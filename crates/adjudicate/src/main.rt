@@ -4,26 +4,37 @@
 //! `probe --tables DIR FEN` prints what tables say of it; `list DIR` prints the manifest of a
 //! folder's tables, and `check --manifest FILE DIR` whether they are those of one; `show` prints the
 //! messages on standard input; `run` runs the schedule on standard input, and prints what becomes of its
-//! two arbiters. Statuses: 0 done, 1 refused, 2 misuse.
+//! two arbiters; `listen` is an arbiter that answers the datagrams of a socket and keeps its record in a file.
+//! Statuses: 0 done, 1 refused, 2 misuse.
 #![tactic(auto)]
 
 mod answers;
 mod commands;
 mod disk;
+mod file_keeper;
 mod files;
+mod host;
 mod input;
+mod kept_file;
 mod lines;
+mod listen;
+mod listening;
 mod manifest;
 mod numbers;
+mod port;
 mod program;
 mod reading;
 mod schedules;
+mod serve;
 mod show;
 mod sources;
+mod system_file;
 mod tables;
+mod udp;
 mod usage;
 
 use disk::SystemDisk;
+use host::SystemHost;
 use lines::{AnswerFault, Line, put_refusal};
 use program::{Output, end, run};
 use std::alloc::{AllocError, Global};
@@ -62,13 +73,13 @@ fn run_into<W: Write>(rt: &HostRuntime, out: &mut W) -> Result<u8, AnswerFault> 
         Err(Usage::OutOfMemory) => return put_refusal(out, &Line::RefusedMemory),
         Err(Usage::Misuse) => {
             let disk = SystemDisk::new(rt);
-            return run(rt.alloc(), &[], &disk, out, &mut rt.stderr());
+            return run(rt.alloc(), &[], &disk, &SystemHost::new(rt), out, &mut rt.stderr());
         }
     };
     match tail_of(rt.alloc(), &words) {
         Ok(tail) => {
             let disk = SystemDisk::new(rt);
-            run(rt.alloc(), &tail, &disk, out, &mut rt.stderr())
+            run(rt.alloc(), &tail, &disk, &SystemHost::new(rt), out, &mut rt.stderr())
         }
         Err(_) => put_refusal(out, &Line::RefusedMemory),
     }
@@ -107,6 +118,14 @@ mod fixtures;
 #[cfg(test)]
 mod folders;
 mod games;
+#[cfg(test)]
+mod kept_tests;
+#[cfg(test)]
+mod listen_tests;
+#[cfg(test)]
+mod memory_file;
+#[cfg(test)]
+mod memory_port;
 #[cfg(test)]
 mod message_tests;
 #[cfg(test)]

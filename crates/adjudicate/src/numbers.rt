@@ -1,9 +1,11 @@
 //! Numbers of the command line.
 
 ghost use Rattle.std.specs.Prelude.{◌≡◌, ◌≤◌, ℕ, option_map, IfSome, IfNone};
+ghost use Rattle.move_msg.specs.declared.who.Who.{Who};
 ghost use Rattle.board_core.specs.Delays.{most_delay};
-ghost use Rattle.adjudicate.specs.Numbers.{IsCache, IsDelay};
+ghost use Rattle.adjudicate.specs.Numbers.{IsCache, IsDatagrams, IsDelay, IsMe, is_set};
 
+use move_msg::Who;
 use std::marker::Model;
 
 /// How many decoded blocks the cache of an arbiter's tables may have, 1 to 4096; contracts see the
@@ -90,5 +92,43 @@ impl Delay {
         ensures most { result ≤ most_delay }
     {
         self.plies
+    }
+}
+
+/// How many datagrams a text tells, 0 to 2^32 - 1; none where there is no text, or it tells no such number.
+pub fn datagrams_of(text: Option<&str>) -> Option<u32>
+    ensures some { IfSome result (IsDatagrams (option_map (λ s. s.now) text.entry)) }
+    ensures none { IfNone result ((n : ℕ) → IsDatagrams (option_map (λ s. s.now) text.entry) n → ⊥) }
+{
+    let Some(text) = text else {
+        return None;
+    };
+    match text.parse::<u32>() {
+        Ok(datagrams) => Some(datagrams),
+        Err(_) => None,
+    }
+}
+
+/// Which of the two arbiters a text tells, 1 or 2; none where there is no text, or it tells another number.
+pub fn me_of(text: Option<&str>) -> Option<Who>
+    ensures some { IfSome result (IsMe (option_map (λ s. s.now) text.entry)) }
+    ensures none { IfNone result ((who : Who) → IsMe (option_map (λ s. s.now) text.entry) who → ⊥) }
+{
+    let Some(text) = text else {
+        return None;
+    };
+    match text.parse::<u8>() {
+        Ok(number) => Who::of_number(number),
+        Err(_) => None,
+    }
+}
+
+/// Whether a flag is given: its value is `true`.
+pub fn is_set(text: Option<&str>) -> bool
+    ensures { result ≡ is_set (option_map (λ s. s.now) text.entry) }
+{
+    match text {
+        Some(text) => text == "true",
+        None => false,
     }
 }

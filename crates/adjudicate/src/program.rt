@@ -1,13 +1,16 @@
 //! The program's words, its output and its status.
 
 ghost use Rattle.std.specs.Prelude.{map, IfOk, OnOk};
+ghost use Rattle.adjudicate.specs.Listens.{Listens};
 ghost use Rattle.adjudicate.specs.Running.{AnswersTask, Runs, HasEnded};
 
 use crate::answers::answer_task;
 use crate::commands::{Task, parse};
 use crate::disk::Disk;
+use crate::host::Host;
 use crate::input::ReadFault;
 use crate::lines::{AnswerFault, Line, put_refusal};
+use crate::listen::listen;
 use crate::sources::Sources;
 use crate::usage::Usage;
 use std::alloc::Global;
@@ -20,7 +23,9 @@ const USAGE: &str = "usage: adjudicate judge [--tables DIR] [--manifest FILE] FE
        adjudicate list DIR
        adjudicate check --manifest FILE DIR
        adjudicate show
-       adjudicate run [--tables DIR] [--cache N] [--delay N]";
+       adjudicate run [--tables DIR] [--cache N] [--delay N]
+       adjudicate listen --name N --start FEN --tables DIR --me M --bind ADDR --to ADDR --kept FILE
+                         --datagrams N [--delay N] [--fetch]";
 
 /// Writes what a misuse is told; a failure changes nothing.
 fn put_usage<E: Write>(errors: &mut E) {
@@ -31,16 +36,20 @@ fn put_usage<E: Write>(errors: &mut E) {
 }
 
 /// Answers a task from what it reads.
-fn run_task<D: Disk, W: Write>(
+fn run_task<D: Disk, H: Host, W: Write>(
     alloc: Global,
     task: &Task,
     disk: &D,
+    host: &H,
     out: &mut W,
 ) -> Result<u8, AnswerFault>
-    ensures { IfOk result (AnswersTask (D.lists disk.now) (D.holds disk.now) (D.gives disk.now) (D.fails disk.now) task.now (W.contents out.old) (W.contents out.new)) }
+    ensures { IfOk result (AnswersTask (D.lists disk.now) (D.holds disk.now) (D.gives disk.now) (D.fails disk.now) (Listens (H.binds host.now) (H.unbound host.now) (H.is_at host.now) H.Port.passed H.Port.faults H.File.unreadable H.File.finds) task.now (W.contents out.old) (W.contents out.new)) }
 {
     match Sources::read(alloc, disk, task) {
-        Ok(sources) => answer_task(alloc, task, &sources, out),
+        Ok(sources) => match task {
+            Task::Listen(listening) => listen(alloc, listening, &sources, host, out),
+            _ => answer_task(alloc, task, &sources, out),
+        },
         Err(ReadFault::Unreadable) => put_refusal(out, &Line::RefusedFiles),
         Err(ReadFault::OutOfMemory) => put_refusal(out, &Line::RefusedMemory),
     }
@@ -51,19 +60,20 @@ fn run_task<D: Disk, W: Write>(
 ///
 /// All that a task names is read before anything is answered: its folder, of which the files of
 /// tables are looked at, its manifest, and for `show` and `run` the input, to its end. What can't be read or
-/// has more than 2^30 bytes is told as `refused files`. Answers go to `out` and the text of a
+/// has more than 2^30 bytes is told as `refused files`. Only `listen` opens a port and a kept file. Answers go to `out` and the text of a
 /// misuse to `errors`, whose failure changes nothing. The error comes only where `out` failed.
-pub fn run<D: Disk, W: Write, E: Write>(
+pub fn run<D: Disk, H: Host, W: Write, E: Write>(
     alloc: Global,
     words: &[&str],
     disk: &D,
+    host: &H,
     out: &mut W,
     errors: &mut E,
 ) -> Result<u8, AnswerFault>
-    ensures { IfOk result (Runs (D.lists disk.now) (D.holds disk.now) (D.gives disk.now) (D.fails disk.now) (map (λ w. w.now) words.now) (W.contents out.old) (W.contents out.new)) }
+    ensures { IfOk result (Runs (D.lists disk.now) (D.holds disk.now) (D.gives disk.now) (D.fails disk.now) (Listens (H.binds host.now) (H.unbound host.now) (H.is_at host.now) H.Port.passed H.Port.faults H.File.unreadable H.File.finds) (map (λ w. w.now) words.now) (W.contents out.old) (W.contents out.new)) }
 {
     match parse(alloc, words) {
-        Ok(task) => run_task(alloc, &task, disk, out),
+        Ok(task) => run_task(alloc, &task, disk, host, out),
         Err(Usage::OutOfMemory) => put_refusal(out, &Line::RefusedMemory),
         Err(Usage::Misuse) => {
             put_usage(errors);

@@ -9,6 +9,7 @@ ghost use Rattle.adjudicate.specs.Reads.{CannotRead, IsGiven, IsInputAt, folder_
 use crate::commands::Task;
 use crate::disk::Disk;
 use crate::input::ReadFault;
+use crate::listening::Listening;
 use crate::manifest::Manifest;
 use crate::reading::files_in;
 use move_msg::NamedFile;
@@ -44,6 +45,7 @@ fn folder_of<'a>(task: &Task<'a>) -> Option<&'a str>
         Task::Judge { tables, .. } => tables,
         Task::Probe { tables, .. } => Some(tables),
         Task::Run { tables, .. } => tables,
+        Task::Listen(Listening { tables, .. }) => Some(tables),
         Task::List { folder } => Some(folder),
         Task::Check { folder, .. } => Some(folder),
         Task::Moves { .. } | Task::Show => None,
@@ -58,7 +60,8 @@ fn manifest_of<'a>(task: &Task<'a>) -> Option<&'a str>
         Task::Judge { manifest, .. } => manifest,
         Task::Probe { manifest, .. } => manifest,
         Task::Check { manifest, .. } => Some(manifest),
-        Task::List { .. } | Task::Moves { .. } | Task::Show | Task::Run { .. } => None,
+        Task::List { .. } | Task::Moves { .. } | Task::Show => None,
+        Task::Run { .. } | Task::Listen(_) => None,
     }
 }
 

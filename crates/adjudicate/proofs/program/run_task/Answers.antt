@@ -1,10 +1,14 @@
 use Rattle.std.proofs.Common.{Err, ap}
 use Rattle.std.proofs.lemmas.Result.{IfOk-weaker}
-use Rattle.adjudicate.specs.Running.{FromGiven, Unread}
+use Rattle.adjudicate.specs.Running.{FromGiven, FromListening, Unread}
 use Rattle.adjudicate.proofs.program.run_task.Goals as goal
 
-pub returns-in-Ok : goal.returns-in-Ok
-returns-in-Ok g c = IfOk-weaker c.answer_task.result _ _ (λ status h. FromGiven _ c.in-Ok.ensures.given h) c.answer_task.ensures
+pub returns-in-Listen : goal.returns-in-Listen
+returns-in-Listen g c =
+    IfOk-weaker c.listen.result _ _ (λ status h. FromListening _ c.in-Ok.ensures.given _ c.in-Listen.is h) c.listen.ensures
+
+pub returns-in_default : goal.returns-in_default
+returns-in_default g c = IfOk-weaker c.answer_task.result _ _ (λ status h. FromGiven _ c.in-Ok.ensures.given h) c.answer_task.ensures
 
 pub returns-in-Err-Unreadable : goal.returns-in-Err-Unreadable
 returns-in-Err-Unreadable g c =

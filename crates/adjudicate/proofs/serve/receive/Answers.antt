@@ -1,0 +1,15 @@
+use Rattle.std.proofs.Common.{refl}
+use Rattle.adjudicate.specs.declared.lines.Line.TheVariants.{RefusedPort}
+use Rattle.adjudicate.proofs.StepLaws.{heard, missed}
+use Rattle.adjudicate.proofs.ServingLaws.{going_on}
+use Rattle.adjudicate.proofs.serve.receive.Goals as goal
+
+pub returns-in-Ok-clause-run : goal.returns-in-Ok-clause-run
+returns-in-Ok-clause-run g c =
+    let h = heard g.row.K.Denot _ _ _ _ _ _ _ _ _ _ _ _ _ _ _ _ _ c.in-Ok.ensures.came c.receive.ensures.count c.hear.ensures.hears in
+    (going_on h.exchanges h.loss, h.run, h.is)
+
+pub returns-in-Err-clause-run : goal.returns-in-Err-clause-run
+returns-in-Err-clause-run g c =
+    let h = missed g.row.K.Denot _ _ _ _ _ _ _ _ _ _ RefusedPort c.in-Err.ensures.missed c.in-Err.ensures.cause c.receive.ensures.count refl in
+    (going_on h.exchanges h.loss, h.run, h.is)

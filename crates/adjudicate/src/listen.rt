@@ -1,0 +1,169 @@
+//! An arbiter that answers datagrams, from its words to its status.
+
+ghost use Rattle.std.specs.Prelude.{◌≡◌, IfOk, Ok};
+ghost use Rattle.board_core.specs.Position.{IsPosition};
+ghost use Rattle.fen_text.specs.Fen.{SpellsPosition};
+ghost use Rattle.arbiter_core.specs.Setups.{setup_view};
+ghost use Rattle.adjudicate.specs.Listens.{BindsAndServes, KeepsAndServes, Listens, OpensAndServes, ServesAt, TellsUnopened};
+ghost use Rattle.adjudicate.specs.Looks.{gathered};
+
+use crate::file_keeper::FileKeeper;
+use crate::host::{BindFault, Host};
+use crate::input::ReadFault;
+use crate::kept_file::KeptFile;
+use crate::lines::{AnswerFault, Line, put_refusal};
+use crate::listening::Listening;
+use crate::port::Port;
+use crate::serve::serve;
+use crate::sources::Sources;
+use crate::tables::gather;
+use arbiter_core::{Arbiter, OpenFault, Setup};
+use board_core::Position;
+use fen_text::read;
+use judge_core::Set;
+use move_msg::manifest_of;
+use std::alloc::Global;
+use std::io::Write;
+
+/// Tells that no arbiter is opened: `refused keeper`, or `refused memory` where memory was refused.
+fn put_unopened<W: Write>(fault: OpenFault, out: &mut W) -> Result<u8, AnswerFault>
+    ensures { IfOk result (TellsUnopened fault (W.contents out.old) (W.contents out.new)) }
+{
+    match fault {
+        OpenFault::OutOfMemory => put_refusal(out, &Line::RefusedMemory),
+        _ => put_refusal(out, &Line::RefusedKeeper),
+    }
+}
+
+/// Opens an arbiter over a keeper, and lets it answer the datagrams of a port. An arbiter that can't be opened is told as
+/// `refused keeper`.
+fn open_and_serve<F: KeptFile + Drop, P: Port, W: Write>(
+    alloc: Global,
+    listening: &Listening<'_>,
+    setup: Setup<'_>,
+    keeper: &mut FileKeeper<F>,
+    port: &mut P,
+    out: &mut W,
+) -> Result<u8, AnswerFault>
+    ensures { IfOk result (OpensAndServes listening.now.datagrams listening.now.fetch (setup_view setup.entry) keeper.old (P.passed port.old) (P.passed port.new) (P.faults port.old) (P.faults port.new) (W.contents out.old) (W.contents out.new)) }
+{
+    let fault = match Arbiter::open(alloc, keeper, setup) {
+        Ok(mut arbiter) => {
+            return serve(
+                alloc,
+                &mut arbiter,
+                keeper,
+                port,
+                listening.datagrams,
+                listening.fetch,
+                out,
+            );
+        }
+        Err(refused) => refused.fault,
+    };
+    put_unopened(fault, out)
+}
+
+/// The same over a file in which the record is kept. A file that can't be read is told as `refused keeper`.
+fn keep_and_serve<F: KeptFile + Drop, P: Port, W: Write>(
+    alloc: Global,
+    listening: &Listening<'_>,
+    setup: Setup<'_>,
+    file: F,
+    port: &mut P,
+    out: &mut W,
+) -> Result<u8, AnswerFault>
+    ensures { IfOk result (KeepsAndServes F.unreadable F.finds listening.now.datagrams listening.now.fetch (setup_view setup.entry) file (P.passed port.old) (P.passed port.new) (P.faults port.old) (P.faults port.new) (W.contents out.old) (W.contents out.new)) }
+{
+    match FileKeeper::new(alloc, file) {
+        Ok(mut keeper) => open_and_serve(alloc, listening, setup, &mut keeper, port, out),
+        Err(ReadFault::Unreadable) => put_refusal(out, &Line::RefusedKeeper),
+        Err(ReadFault::OutOfMemory) => put_refusal(out, &Line::RefusedMemory),
+    }
+}
+
+/// The same over the file that the words name.
+fn serve_at<H: Host, W: Write>(
+    alloc: Global,
+    listening: &Listening<'_>,
+    setup: Setup<'_>,
+    host: &H,
+    port: &mut H::Port,
+    out: &mut W,
+) -> Result<u8, AnswerFault>
+    ensures { IfOk result (ServesAt (H.is_at host.now) H.File.unreadable H.File.finds listening.now (setup_view setup.entry) (H.Port.passed port.old) (H.Port.passed port.new) (H.Port.faults port.old) (H.Port.faults port.new) (W.contents out.old) (W.contents out.new)) }
+{
+    match host.file(alloc, listening.kept) {
+        Ok(file) => keep_and_serve(alloc, listening, setup, file, port, out),
+        Err(_) => put_refusal(out, &Line::RefusedMemory),
+    }
+}
+
+/// The same at the address and over the file that the words name. An address that can't be bound is told as `refused port`.
+fn bind_and_serve<H: Host, W: Write>(
+    alloc: Global,
+    listening: &Listening<'_>,
+    setup: Setup<'_>,
+    host: &H,
+    out: &mut W,
+) -> Result<u8, AnswerFault>
+    ensures { IfOk result (BindsAndServes (H.binds host.now) (H.unbound host.now) (H.is_at host.now) H.Port.passed H.Port.faults H.File.unreadable H.File.finds listening.now (setup_view setup.entry) (W.contents out.old) (W.contents out.new)) }
+{
+    match host.bind(alloc, listening.bind, listening.to) {
+        Ok(mut port) => serve_at(alloc, listening, setup, host, &mut port, out),
+        Err(BindFault::Unbound) => put_refusal(out, &Line::RefusedPort),
+        Err(BindFault::OutOfMemory) => put_refusal(out, &Line::RefusedMemory),
+    }
+}
+
+/// The same with the tables of a set.
+fn listen_by<H: Host, W: Write>(
+    alloc: Global,
+    listening: &Listening<'_>,
+    sources: &Sources,
+    start: Position,
+    set: Set<'_>,
+    host: &H,
+    out: &mut W,
+) -> Result<u8, AnswerFault>
+    ensures { Ok set.entry.tables ≡ gathered sources.now → SpellsPosition listening.now.start.now start → IsPosition start → IfOk result (Listens (H.binds host.now) (H.unbound host.now) (H.is_at host.now) H.Port.passed H.Port.faults H.File.unreadable H.File.finds listening.now sources.now (W.contents out.old) (W.contents out.new)) }
+{
+    let manifest = match manifest_of(alloc, sources.files()) {
+        Ok(manifest) => manifest,
+        Err(_) => return put_refusal(out, &Line::RefusedMemory),
+    };
+    let setup = Setup {
+        name: listening.name.as_bytes(),
+        start,
+        manifest: &manifest,
+        me: listening.me.number(),
+        delay: listening.delay.plies(),
+        set,
+    };
+    bind_and_serve(alloc, listening, setup, host, out)
+}
+
+/// Opens an arbiter as its words say, lets it answer datagrams, and tells the status.
+///
+/// What is refused is told in one line, in this order: the text of its start, the tables, the address, and the file in which the
+/// record is kept or what stands there. Where memory is refused the line is `refused memory`. The error comes only where the
+/// writer failed.
+pub fn listen<H: Host, W: Write>(
+    alloc: Global,
+    listening: &Listening<'_>,
+    sources: &Sources,
+    host: &H,
+    out: &mut W,
+) -> Result<u8, AnswerFault>
+    ensures { IfOk result (Listens (H.binds host.now) (H.unbound host.now) (H.is_at host.now) H.Port.passed H.Port.faults H.File.unreadable H.File.finds listening.now sources.now (W.contents out.old) (W.contents out.new)) }
+{
+    let start = match read(listening.start.as_bytes()) {
+        Ok(start) => start,
+        Err(fault) => return put_refusal(out, &Line::RefusedFen(fault)),
+    };
+    match gather(alloc, sources) {
+        Ok(Ok(set)) => listen_by(alloc, listening, sources, start, set, host, out),
+        Ok(Err(line)) => put_refusal(out, &line),
+        Err(_) => put_refusal(out, &Line::RefusedMemory),
+    }
+}

@@ -1,0 +1,90 @@
+//! The words of `listen`.
+
+ghost use Rattle.std.specs.Prelude.{IfSome, IfNone};
+ghost use Rattle.clap.specs.Words.{found_of, first_value};
+
+use crate::numbers::{Delay, datagrams_of, is_set, me_of};
+use clap::ArgMatches;
+use move_msg::{Who, is_game_name};
+
+/// What an arbiter that answers datagrams is opened from.
+#[derive(Clone, Copy, Debug)]
+pub struct Listening<'a> {
+    /// The name of the game.
+    pub name: &'a str,
+    /// The FEN text of its start.
+    pub start: &'a str,
+    /// The folder of the tables.
+    pub tables: &'a str,
+    /// Which of the two arbiters it is.
+    pub me: Who,
+    /// The address at which datagrams come.
+    pub bind: &'a str,
+    /// The address to which messages are sent.
+    pub to: &'a str,
+    /// The file in which the record is kept.
+    pub kept: &'a str,
+    /// How many datagrams are answered.
+    pub datagrams: u32,
+    /// For how many further plies a verdict by tables must hold.
+    pub delay: Delay,
+    /// Whether the other arbiter is asked for moves first.
+    pub fetch: bool,
+}
+
+impl<'a> Listening<'a> {
+    ghost use Rattle.std.specs.Prelude.{IfSome, IfNone};
+    ghost use Rattle.clap.specs.Words.{found_of, first_value};
+    ghost use Rattle.adjudicate.specs.declared.listening.Listening.{Listening};
+    ghost use Rattle.adjudicate.specs.Listenings.{IsListening};
+
+    /// What these values tell; none where one that is needed has none, a number isn't one that the command takes, or no game
+    /// may have the name.
+    pub fn of(matches: &ArgMatches<'a>) -> Option<Listening<'a>>
+        ensures some { IfSome result (IsListening (first_value (found_of matches.now))) }
+        ensures none { IfNone result ((l : Listening) → IsListening (first_value (found_of matches.now)) l → ⊥) }
+    {
+        let Some(name) = matches.get_str("name") else {
+            return None;
+        };
+        if !is_game_name(name.as_bytes()) {
+            return None;
+        }
+        let Some(start) = matches.get_str("start") else {
+            return None;
+        };
+        let Some(tables) = matches.get_str("tables") else {
+            return None;
+        };
+        let Some(me) = me_of(matches.get_str("me")) else {
+            return None;
+        };
+        let Some(bind) = matches.get_str("bind") else {
+            return None;
+        };
+        let Some(to) = matches.get_str("to") else {
+            return None;
+        };
+        let Some(kept) = matches.get_str("kept") else {
+            return None;
+        };
+        let Some(datagrams) = datagrams_of(matches.get_str("datagrams")) else {
+            return None;
+        };
+        let Some(delay) = Delay::of(matches.get_str("delay")) else {
+            return None;
+        };
+        Some(Listening {
+            name,
+            start,
+            tables,
+            me,
+            bind,
+            to,
+            kept,
+            datagrams,
+            delay,
+            fetch: is_set(matches.get_str("fetch")),
+        })
+    }
+}

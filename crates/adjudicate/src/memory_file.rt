@@ -1,0 +1,82 @@
+//! A kept file in memory, which fails when it is told to.
+
+ghost use Rattle.std.specs.Prelude.{◌≡◌};
+
+use crate::input::ReadFault;
+use crate::kept_file::KeptFile;
+use std::alloc::Global;
+use std::io;
+
+/// A call that changes a file.
+#[derive(Clone, Copy, PartialEq, Eq, Debug)]
+pub(crate) enum Call {
+    Write,
+    Sync,
+    Rename,
+    SyncFolder,
+}
+
+/// A file that isn't there, and the calls that were made of it.
+#[derive(Drop)]
+pub(crate) struct MemoryFile {
+    calls: [Option<Call>; 8],
+    count: usize,
+    fails_at: usize,
+}
+
+impl MemoryFile {
+    /// One that fails at the call of this number, the first being 0.
+    pub(crate) fn new(fails_at: usize) -> MemoryFile {
+        MemoryFile {
+            calls: [None; 8],
+            count: 0,
+            fails_at,
+        }
+    }
+
+    /// The calls, in order; the first eight of them.
+    pub(crate) fn calls(&self) -> [Option<Call>; 8] {
+        self.calls
+    }
+
+    /// Keeps a call, and lets it fail.
+    fn note(&mut self, call: Call) -> io::Result<()> {
+        let at = self.count;
+        if at < 8 {
+            self.calls[at] = Some(call);
+        }
+        self.count = at.saturating_add(1);
+        if at == self.fails_at {
+            return Err(io::Error::from(io::ErrorKind::StorageFull));
+        }
+        Ok(())
+    }
+}
+
+impl KeptFile for MemoryFile {
+    ghost reached = { λ _ _ _. Unit {0} };
+
+    ghost finds = { λ _ _ _. Unit {0} };
+
+    ghost unreadable = { λ _. Unit {0} };
+
+    fn read(&self, _alloc: Global) -> Result<Option<Vec<u8>>, ReadFault> {
+        Ok(None)
+    }
+
+    fn write_beside(&mut self, _bytes: &[u8]) -> io::Result<()> {
+        self.note(Call::Write)
+    }
+
+    fn sync_beside(&mut self) -> io::Result<()> {
+        self.note(Call::Sync)
+    }
+
+    fn rename(&mut self) -> io::Result<()> {
+        self.note(Call::Rename)
+    }
+
+    fn sync_folder(&mut self) -> io::Result<()> {
+        self.note(Call::SyncFolder)
+    }
+}

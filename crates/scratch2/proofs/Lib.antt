@@ -1,0 +1,3 @@
+pub mod PortLaws
+pub mod ServingLaws
+pub mod StepLaws

@@ -1,0 +1,205 @@
+//! Where an arbiter's record is kept.
+
+ghost use Rattle.std.specs.Prelude.{◌≡◌, ℕ, ◌+◌, ◌<◌, ◌≤◌, ◌^◌, ◌↔◌, List, length, IfOk, IfErr, Option, Some, None, Result, Ok, Err};
+ghost use Rattle.std.specs.Option.{option_map};
+ghost use Rattle.std.specs.Result.{IsErrOf};
+ghost use Rattle.scratch2.specs.Keeping.{PutLeaves, Risen};
+ghost use Rattle.scratch2.specs.declared.keeper.Keep.{Keep};
+ghost use Rattle.scratch2.specs.declared.keeper.KeepFault.{KeepFault};
+
+use std::alloc::{AllocError, Global};
+use std::marker::Model;
+
+/// How many bytes a record has at most: 25 and two for each of 4096 moves (record format).
+const MOST_BYTES: usize = 8217;
+
+/// The outcome of a put.
+#[derive(Clone, Copy, PartialEq, Eq, Debug)]
+pub enum Keep {
+    /// The new bytes are kept.
+    Good,
+    /// It fails, and what was kept before stays.
+    FailsOld,
+    /// It fails, and yet the new bytes are kept.
+    FailsNew,
+}
+
+/// Why a keeper gives no answer.
+#[derive(Clone, Copy, PartialEq, Eq, Debug)]
+pub enum KeepFault {
+    /// It failed.
+    Failed,
+    /// Memory for a copy was refused; only a get tells it.
+    OutOfMemory,
+}
+
+/// Keeps nothing or one list of bytes, at most 8217. Proofs see what it keeps, how often it has failed, which outcomes its next
+/// put may have and whether a get may fail.
+pub trait Keeper {
+    /// What is kept.
+    ghost kept: { Self → Option (List ℕ) };
+
+    /// How often it has failed.
+    ghost faults: { Self → ℕ };
+
+    /// Which outcomes its next put may have.
+    ghost may_be: { Self → Keep → Type 0 };
+
+    /// Whether a get may fail.
+    ghost get_may_fail: { Self → Type 0 };
+
+    /// What one put of these bytes may make of it.
+    ghost leaves: { Self → List ℕ → Self → Type 0 };
+
+    /// What one get may make of it, with the fault that it tells, if any.
+    ghost reads: { Self → Option KeepFault → Self → Type 0 };
+
+    /// Keeps these bytes in place of what was kept. Where it fails, what is kept is the old or the new, and stays so.
+    ///
+    /// That there are at most 8217 bytes is the caller's condition. `Failed` comes only where the failures rose in this call;
+    /// a count that stands at its greatest value stays there and is taken as risen.
+    fn put(&mut self, bytes: &[u8]) -> Result<(), KeepFault>
+        requires { length bytes.now ≤ 8217 }
+        ensures outcome { PutLeaves (may_be self.old) (kept self.old) bytes.now (kept self.new) result }
+        ensures cause { IsErrOf result KeepFault.Failed → Risen (faults self.old) (faults self.new) }
+        ensures count { faults self.old ≤ faults self.new }
+        ensures once { leaves self.old bytes.now self.new };
+
+    /// A copy of what is kept, which stays kept. `Failed` comes only where the failures rose in this call and the keeper states
+    /// that a get may fail, `OutOfMemory` where memory for the copy is refused.
+    fn get(&mut self, alloc: Global) -> Result<Option<Vec<u8>>, KeepFault>
+        ensures value { IfOk result (λ got. option_map (λ v. v.items) got ≡ kept self.old) }
+        ensures kept { kept self.new ≡ kept self.old }
+        ensures count { faults self.old ≤ faults self.new }
+        ensures outcomes { (keep : Keep) → may_be self.new keep ↔ may_be self.old keep }
+        ensures cause { IsErrOf result KeepFault.Failed → Risen (faults self.old) (faults self.new) }
+        ensures stated { IsErrOf result KeepFault.Failed → get_may_fail self.old }
+        ensures once { IfOk result (λ got. reads self.old None self.new) }
+        ensures told { IfErr result (λ fault. reads self.old (Some fault) self.new) };
+
+    /// How often the keeper has failed; at its greatest value the count stays.
+    fn failures(&self) -> u64
+        ensures { result ≡ faults self.now };
+}
+
+/// Keeps bytes in memory, in room for 8217 that `new` makes; no other call takes memory but `get`. The outcome of each put is
+/// chosen by `set`, and a get never fails.
+#[derive(Drop)]
+pub struct MemoryKeeper {
+    bytes: Vec<u8>,
+    is_kept: bool,
+    keep: Keep,
+    failures: u64,
+}
+
+impl Model for MemoryKeeper {
+    ghost use Rattle.std.specs.Prelude.{◌≤◌, cond, Some, None, vec_capacity};
+    ghost use Rattle.scratch2.specs.Memory.{Memory};
+
+    ghost Value = { Memory };
+
+    ghost view = { λ m. record { kept = cond m.is_kept (Some m.bytes.items) None; keep = m.keep; failures = m.failures } };
+
+    ghost invariant = { λ m. 8217 ≤ vec_capacity m.bytes };
+}
+
+impl MemoryKeeper {
+    ghost use Rattle.scratch2.specs.Memory.{Memory};
+
+    /// A keeper that keeps nothing, and whose puts succeed. The error comes only where memory is refused.
+    pub fn new(alloc: Global) -> Result<MemoryKeeper, AllocError>
+        ensures { IfOk result (λ m. m ≡ record { kept = None; keep = Keep.Good; failures = 0 }) }
+    {
+        let bytes = Vec::with_capacity(alloc, MOST_BYTES)?;
+        Ok(MemoryKeeper {
+            bytes,
+            is_kept: false,
+            keep: Keep::Good,
+            failures: 0,
+        })
+    }
+
+    /// Names the outcome of each put from now on.
+    pub fn set(&mut self, keep: Keep)
+        ensures { self.new ≡ record self.old { keep = keep } }
+    {
+        self.keep = keep;
+    }
+
+    /// What is kept.
+    pub fn kept(&self) -> Option<&[u8]>
+        ensures { option_map (λ b. b.now) result ≡ self.now.kept }
+    {
+        if self.is_kept {
+            Some(self.bytes.as_slice())
+        } else {
+            None
+        }
+    }
+
+    /// Keeps these bytes.
+    fn store(&mut self, bytes: &[u8])
+        requires { length bytes.now ≤ 8217 }
+        ensures { self.new ≡ record self.old { kept = Some bytes.now } }
+    {
+        self.bytes.clear();
+        let _done = self.bytes.extend_from_slice(bytes);
+        self.is_kept = true;
+    }
+
+    /// Counts one failure.
+    fn fail(&mut self)
+        ensures kept { self.new.kept ≡ self.old.kept }
+        ensures keep { self.new.keep ≡ self.old.keep }
+        ensures risen { Risen self.old.failures self.new.failures }
+    {
+        self.failures = self.failures.saturating_add(1);
+    }
+}
+
+impl Keeper for MemoryKeeper {
+    ghost kept = { λ m. m.kept };
+
+    ghost faults = { λ m. m.failures };
+
+    ghost may_be = { λ m keep. m.keep ≡ keep };
+
+    ghost get_may_fail = { λ m. ⊥ };
+
+    ghost leaves = { λ m bytes n. (n.keep ≡ m.keep) × (m.keep ≡ Keep.Good → n.failures ≡ m.failures) };
+
+    ghost reads = { λ m fault n. n ≡ m };
+
+    fn put(&mut self, bytes: &[u8]) -> Result<(), KeepFault> {
+        match self.keep {
+            Keep::Good => {
+                self.store(bytes);
+                Ok(())
+            }
+            Keep::FailsOld => {
+                self.fail();
+                Err(KeepFault::Failed)
+            }
+            Keep::FailsNew => {
+                self.store(bytes);
+                self.fail();
+                Err(KeepFault::Failed)
+            }
+        }
+    }
+
+    fn get(&mut self, alloc: Global) -> Result<Option<Vec<u8>>, KeepFault> {
+        if !self.is_kept {
+            return Ok(None);
+        }
+        let mut copy = Vec::new(alloc);
+        match copy.extend_from_slice(&self.bytes) {
+            Ok(()) => Ok(Some(copy)),
+            Err(_) => Err(KeepFault::OutOfMemory),
+        }
+    }
+
+    fn failures(&self) -> u64 {
+        self.failures
+    }
+}
