@@ -168,6 +168,7 @@ IsReply (task.Check manifest folder) given r = r ≡ checked_by given.files give
 IsReply task.Show given r = IsShown given.input r
 IsReply (task.Run tables cache delay) given r = IsRun given.input given.files delay r
 IsReply (task.Listen l) given r = ⊥
+IsReply (task.Game tables manifest delay fen) given r = IsForText fen.now (IsPlayed given.input (gathered given) delay) r
 
 -- a reply takes memory but where a text is refused, and where messages are shown
 abbrev pub TakesMemory : Task → Type 0
@@ -179,6 +180,7 @@ TakesMemory (task.Check manifest folder) = Unit {0}
 TakesMemory task.Show = ⊥
 TakesMemory (task.Run tables cache delay) = Unit {0}
 TakesMemory (task.Listen l) = ⊥
+TakesMemory (task.Game tables manifest delay fen) = IsText fen.now
 
 -- the reply was written whole, and its status told
 abbrev pub WritesReply : Option (List ℕ) → Option (List ℕ) → Reply → ℕ → Type 0

@@ -31,6 +31,7 @@ name_of (task.Check manifest folder) = name.Check
 name_of task.Show = name.Show
 name_of (task.Run tables cache delay) = name.Run
 name_of (task.Listen l) = name.Listen
+name_of (task.Game tables manifest delay fen) = name.Game
 
 -- the task is to listen
 abbrev pub listens : Task → Bool
@@ -42,6 +43,7 @@ listens (task.Check manifest folder) = false
 listens task.Show = false
 listens (task.Run tables cache delay) = false
 listens (task.Listen l) = true
+listens (task.Game tables manifest delay fen) = false
 
 -- the task has these values of its command's arguments
 abbrev pub HasValues : (Text → Option Text) → Task → Type 0
@@ -59,6 +61,9 @@ HasValues value task.Show = Unit {0}
 HasValues value (task.Run tables cache delay) =
     (option_map (λ s. s.now) tables ≡ value (codes "tables")) × IsCache (value (codes "cache")) cache × IsDelay (value (codes "delay")) delay
 HasValues value (task.Listen l) = IsListening value l
+HasValues value (task.Game tables manifest delay fen) =
+    (option_map (λ s. s.now) tables ≡ value (codes "tables")) × (option_map (λ s. s.now) manifest ≡ value (codes "manifest"))
+    × IsDelay (value (codes "delay")) delay × (Some fen.now ≡ value (codes "FEN"))
 
 -- the words name the task's command, which takes them and gives the task's values
 pub record IsTask (words : List Text) (t : Task) : Type 0 where
@@ -77,6 +82,7 @@ Lacks value name.Show = ⊥
 Lacks value name.Run =
     ((blocks : ℕ) → IsCache (value (codes "cache")) blocks → ⊥) ⊎ ((plies : ℕ) → IsDelay (value (codes "delay")) plies → ⊥)
 Lacks value name.Listen = (l : Listening) → IsListening value l → ⊥
+Lacks value name.Game = (value (codes "FEN") ≡ None) ⊎ ((plies : ℕ) → IsDelay (value (codes "delay")) plies → ⊥)
 
 -- the command refuses the words or their numbers, or they lack the value of a needed argument
 abbrev pub IsMisused : Name → List Text → Type 0

@@ -18,6 +18,7 @@ ghost use Rattle.adjudicate.specs.Tasks.{listens};
 ghost use Rattle.adjudicate.specs.Asked.{IsAsked, reply_of};
 
 use crate::commands::Task;
+use crate::games::answer_game;
 use crate::lines::{AnswerFault, Line, put_line, put_refusal};
 use crate::manifest::Manifest;
 use crate::schedules::answer_run;
@@ -270,6 +271,7 @@ fn answer_to(alloc: Global, task: &Task, sources: &Sources) -> Result<Answer, Al
         Task::List { .. } => answer_list(alloc, sources),
         Task::Check { .. } => answer_check(alloc, sources),
         Task::Run { cache, delay, .. } => answer_run(alloc, sources, cache, delay),
+        Task::Game { delay, fen, .. } => answer_game(alloc, sources, delay, fen),
         Task::Show | Task::Listen(_) => unreachable!(),
     }
 }

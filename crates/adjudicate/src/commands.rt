@@ -62,6 +62,17 @@ pub enum Task<'a> {
     },
     /// An arbiter that answers datagrams.
     Listen(Listening<'a>),
+    /// What the game of the input comes to.
+    Game {
+        /// The folder of the tables, if one is named.
+        tables: Option<&'a str>,
+        /// The file of the manifest that the tables are held to, if one is named.
+        manifest: Option<&'a str>,
+        /// For how many further plies a verdict by tables must hold.
+        delay: Delay,
+        /// The FEN text of the position before the first move.
+        fen: &'a str,
+    },
 }
 
 /// The commands.
@@ -83,6 +94,8 @@ pub enum Name {
     Run,
     /// Answers datagrams.
     Listen,
+    /// Judges a game.
+    Game,
 }
 
 /// How a command is given a value.
@@ -221,6 +234,26 @@ const OF_LISTEN: [Value; 10] = [
     },
 ];
 
+/// The values of `game`.
+const OF_GAME: [Value; 4] = [
+    Value {
+        name: "tables",
+        form: Form::Option,
+    },
+    Value {
+        name: "manifest",
+        form: Form::Option,
+    },
+    Value {
+        name: "delay",
+        form: Form::Option,
+    },
+    Value {
+        name: "FEN",
+        form: Form::Word,
+    },
+];
+
 impl Name {
     /// The command that a word names.
     fn of(word: &str) -> Option<Name>
@@ -236,6 +269,7 @@ impl Name {
             "show" => Some(Name::Show),
             "run" => Some(Name::Run),
             "listen" => Some(Name::Listen),
+            "game" => Some(Name::Game),
             _ => None,
         }
     }
@@ -253,6 +287,7 @@ impl Name {
             Name::Show => "show",
             Name::Run => "run",
             Name::Listen => "listen",
+            Name::Game => "game",
         }
     }
 
@@ -269,6 +304,7 @@ impl Name {
             Name::Show => &[],
             Name::Run => &OF_RUN,
             Name::Listen => &OF_LISTEN,
+            Name::Game => &OF_GAME,
         }
     }
 }
@@ -392,6 +428,20 @@ fn task_of<'a>(name: Name, matches: &ArgMatches<'a>) -> Option<Task<'a>>
             Some(listening) => Some(Task::Listen(listening)),
             None => None,
         },
+        Name::Game => {
+            let Some(fen) = matches.get_str("FEN") else {
+                return None;
+            };
+            let Some(delay) = Delay::of(matches.get_str("delay")) else {
+                return None;
+            };
+            Some(Task::Game {
+                tables: matches.get_str("tables"),
+                manifest: matches.get_str("manifest"),
+                delay,
+                fen,
+            })
+        }
     }
 }
 
