@@ -27,4 +27,5 @@ is_simple name.Check = refl
 is_simple name.Show = refl
 is_simple name.Run = refl
 is_simple name.Listen = refl
+is_simple name.Probes = refl
 is_simple name.Game = refl

@@ -19,6 +19,7 @@ word_of name.Check = codes "check"
 word_of name.Show = codes "show"
 word_of name.Run = codes "run"
 word_of name.Listen = codes "listen"
+word_of name.Probes = codes "probes"
 word_of name.Game = codes "game"
 
 -- a value of this name: a word that has to be there, an option as `--tables DIR`, an option that has to be there, or a flag
@@ -52,6 +53,7 @@ rules_of name.Listen =
     ∷ rule_of_form form.NeededOption (codes "bind") ∷ rule_of_form form.NeededOption (codes "to")
     ∷ rule_of_form form.NeededOption (codes "kept") ∷ rule_of_form form.NeededOption (codes "datagrams")
     ∷ rule_of_form form.Option (codes "delay") ∷ rule_of_form form.Flag (codes "fetch") ∷ []
+rules_of name.Probes = rule_of_form form.NeededOption (codes "tables") ∷ rule_of_form form.Option (codes "manifest") ∷ []
 rules_of name.Game =
     rule_of_form form.Option (codes "tables") ∷ rule_of_form form.Option (codes "manifest") ∷ rule_of_form form.Option (codes "delay")
     ∷ rule_of_form form.Word (codes "FEN") ∷ []

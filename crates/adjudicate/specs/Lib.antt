@@ -12,9 +12,10 @@ pub mod Reads
 pub mod Looks
 pub mod Refusals
 pub mod Schedules
-pub mod Played
-pub mod PlayedSteps
+pub mod Inputs
+pub mod InputSteps
 pub mod Reply
+pub mod ProbeSteps
 pub mod Asked
 pub mod Fronts
 pub mod Telling

@@ -74,10 +74,18 @@ verdict_words (Some v) = verdict_name v
 abbrev pub refused_fen : FenFault → List ℕ
 refused_fen fault = codes "refused FEN " ++ fault_text fault
 
+-- a number, or why there is none
+unfoldable pub column_words : Result ℤ ProbeFault → List ℕ
+column_words (Ok number) = signed_decimal number
+column_words (Err fault) = codes "refused " ++ fault_words fault
+
 -- what a probe tells, or why it tells nothing
-unfoldable pub told_words : List ℕ → Result ℤ ProbeFault → List ℕ
-told_words question (Ok number) = question ++ codes " " ++ signed_decimal number
-told_words question (Err fault) = question ++ codes " refused " ++ fault_words fault
+abbrev pub told_words : List ℕ → Result ℤ ProbeFault → List ℕ
+told_words question told = question ++ codes " " ++ column_words told
+
+-- what both probes tell and the verdict, with a tab between
+abbrev pub columns_words : Result ℤ ProbeFault → Result ℤ ProbeFault → Option Verdict → List ℕ
+columns_words wdl dtz verdict = column_words wdl ++ 9 ∷ column_words dtz ++ 9 ∷ verdict_words verdict
 
 -- the refusal of a manifest by the number of its first line at fault, and of a file
 abbrev pub refused_manifest : ℕ → List ℕ
@@ -191,6 +199,7 @@ words_of (line.Arbiter who state kept) = arbiter_words who state kept
 words_of (line.Sent number) = sent_words number
 words_of (line.RefusedLine number) = refused_line number
 words_of (line.Outcome outcome plies) = outcome_words outcome plies
+words_of (line.Columns wdl dtz verdict) = columns_words wdl dtz verdict
 words_of (line.RefusedMove place) = refused_move place
 words_of (line.Heard count verdict) = heard_words count verdict
 words_of (line.RefusedDatagram fault) = refused_datagram fault

@@ -1,5 +1,6 @@
 -- What the program answers: a text and a status (this project's own).
-use Rattle.std.specs.Prelude.{◌≡◌, ◌≢◌, ◌+◌, ◌++◌, ◌&&◌, ℕ, ℤ, pos, ◌-ℤ◌, Bool, List, [], ◌∷◌, length, map, Option, Some, None, Result, Ok, Err, if◌then◌else◌, codes, slice_get}
+use Rattle.std.specs.Prelude.{◌≡◌, ◌≢◌, ◌+◌, ◌++◌, ◌&&◌, ℕ, ℤ, pos, ◌-ℤ◌, Bool, false, List, [], ◌∷◌, length, map, Option, Some, None, Result, Ok, Err, if◌then◌else◌, codes, slice_get}
+use Rattle.std.specs.List.{list_all}
 use Rattle.std.specs.Result.{is_ok}
 use Rattle.std.specs.Io.KnownBytes.{Appends}
 use Rattle.board_core.specs.declared.parts.Parts.{Parts}
@@ -33,8 +34,8 @@ use Rattle.relay_world.specs.Worlds.{World}
 use Rattle.adjudicate.specs.declared.commands.Task.{Task}
 use Rattle.adjudicate.specs.declared.commands.Task.TheVariants as task
 use Rattle.adjudicate.specs.Given.{Given, Told}
-use Rattle.adjudicate.specs.Lines.{ended, text_of, verdict_words, told_words, refused_fen, refused_manifest, message_words, refused_message, refused_line, refused_memory, outcome_words, refused_move}
-use Rattle.adjudicate.specs.Played.{IsBadWordAt, TellsMoves, words_in}
+use Rattle.adjudicate.specs.Lines.{ended, text_of, verdict_words, told_words, refused_fen, refused_manifest, message_words, refused_message, refused_line, refused_memory, outcome_words, refused_move, columns_words}
+use Rattle.adjudicate.specs.Inputs.{IsBadWordAt, TellsMoves, lines_in, words_in}
 use Rattle.adjudicate.specs.Schedules.{RefusesTable, game_of, world_words}
 use Rattle.adjudicate.specs.Looks.{Look, gathered, look_for, look_line, are_tables}
 
@@ -73,13 +74,17 @@ told wdl dtz = record {
 }
 
 -- what both probes answer where memory is not refused
-pub record IsTold (tables : Tables) (p : Parts) (r : Reply) : Type 0 where
-  pub wdl : Result Wdl ProbeFault
-  pub dtz : Result ℤ ProbeFault
+pub record AreProbed (tables : Tables) (p : Parts) (wdl : Result Wdl ProbeFault) (dtz : Result ℤ ProbeFault) : Type 0 where
   pub wdl_answered : wdl ≢ Err OutOfMemory
   pub wdl_is : IsProbe wdl (is_out_of_scope p) (wdl_of tables p)
   pub dtz_answered : dtz ≢ Err OutOfMemory
   pub dtz_is : IsProbe dtz (is_out_of_scope p) (signed_in (dtz_of tables p))
+
+-- probe: what they answer, told
+pub record IsTold (tables : Tables) (p : Parts) (r : Reply) : Type 0 where
+  pub wdl : Result Wdl ProbeFault
+  pub dtz : Result ℤ ProbeFault
+  pub are : AreProbed tables p wdl dtz
   pub reply : r ≡ told (numbered wdl) dtz
 
 -- moves: the legal moves in coordinates, one a line
@@ -157,6 +162,47 @@ pub data IsPlayed (text : List ℕ) (gathered : Result Tables (List ℕ)) (delay
   BadTables : (moves : List Moves) → TellsMoves text moves → (words : List ℕ) → gathered ≡ Err words → r ≡ refused words → IsPlayed text gathered delay start r
   Played : (moves : List Moves) → TellsMoves text moves → (tables : Tables) → gathered ≡ Ok tables → (outcome : GameOutcome) → IsOutcome (record { start = start; tables = tables; delay = delay }) moves outcome → r ≡ outcome_reply outcome moves → IsPlayed text gathered delay start r
 
+-- ---- replies to many positions
+
+-- what is told of a line, and whether all of it is told
+pub record LineTold : Type 0 where
+  pub words : List ℕ
+  pub done : Bool
+
+-- a line: what `probe` and `judge` tell of its position, in columns, or the refusal of the text
+pub data TellsLine (tables : Tables) (text : List ℕ) (told : LineTold) : Type 0 where
+  OfPosition : (p : Parts) → SpellsPosition text p → IsPosition p → (wdl : Result Wdl ProbeFault) (dtz : Result ℤ ProbeFault) → AreProbed tables p wdl dtz → told ≡ record { words = columns_words (numbered wdl) dtz (ruling tables p); done = is_ok wdl && is_ok dtz } → TellsLine tables text told
+  OfNone : (fault : FenFault) → IsFirstFenFault text fault → told ≡ record { words = refused_fen fault; done = false } → TellsLine tables text told
+
+-- each line in turn
+abbrev pub TellsLines : Tables → List (List ℕ) → List LineTold → Type 0
+TellsLines tables [] [] = Unit {0}
+TellsLines tables [] (told ∷ others) = ⊥
+TellsLines tables (line ∷ lines) [] = ⊥
+TellsLines tables (line ∷ lines) (told ∷ others) = TellsLine tables line told × TellsLines tables lines others
+
+abbrev pub words_told : List LineTold → List (List ℕ)
+words_told = map (λ t. t.words)
+
+abbrev pub all_told : List LineTold → Bool
+all_told = list_all (λ t. t.done)
+
+-- probes: the refusal of the tables, or else a line for each line of the input
+pub data IsProbes (text : List ℕ) (gathered : Result Tables (List ℕ)) (r : Reply) : Type 0 where
+  NoTables : (words : List ℕ) → gathered ≡ Err words → r ≡ refused words → IsProbes text gathered r
+  Probed : (tables : Tables) → gathered ≡ Ok tables → (told : List LineTold) → TellsLines tables (lines_in text) told → r ≡ record { text = text_of (words_told told); status = status_if (all_told told) } → IsProbes text gathered r
+
+-- the first lines of such a reply
+pub record IsFront (text : List ℕ) (gathered : Result Tables (List ℕ)) (lines : List (List ℕ)) : Type 0 where
+  pub tables : Tables
+  pub gathered_is : gathered ≡ Ok tables
+  pub front : List (List ℕ)
+  pub rest : List (List ℕ)
+  pub parts : lines_in text ≡ front ++ rest
+  pub told : List LineTold
+  pub are : TellsLines tables front told
+  pub lines_are : lines ≡ words_told told
+
 -- ---- the reply to a task
 
 abbrev pub IsReply : Task → Given → Reply → Type 0
@@ -168,6 +214,7 @@ IsReply (task.Check manifest folder) given r = r ≡ checked_by given.files give
 IsReply task.Show given r = IsShown given.input r
 IsReply (task.Run tables cache delay) given r = IsRun given.input given.files delay r
 IsReply (task.Listen l) given r = ⊥
+IsReply (task.Probes tables manifest) given r = IsProbes given.input (gathered given) r
 IsReply (task.Game tables manifest delay fen) given r = IsForText fen.now (IsPlayed given.input (gathered given) delay) r
 
 -- a reply takes memory but where a text is refused, and where messages are shown
@@ -180,7 +227,21 @@ TakesMemory (task.Check manifest folder) = Unit {0}
 TakesMemory task.Show = ⊥
 TakesMemory (task.Run tables cache delay) = Unit {0}
 TakesMemory (task.Listen l) = ⊥
+TakesMemory (task.Probes tables manifest) = Unit {0}
 TakesMemory (task.Game tables manifest delay fen) = IsText fen.now
+
+-- only the reply to `probes` is written line by line as it is made
+abbrev pub IsFrontOf : Task → Given → List (List ℕ) → Type 0
+IsFrontOf (task.Judge tables manifest fen) given lines = ⊥
+IsFrontOf (task.Probe tables manifest fen) given lines = ⊥
+IsFrontOf (task.Moves fen) given lines = ⊥
+IsFrontOf (task.List folder) given lines = ⊥
+IsFrontOf (task.Check manifest folder) given lines = ⊥
+IsFrontOf task.Show given lines = ⊥
+IsFrontOf (task.Run tables cache delay) given lines = ⊥
+IsFrontOf (task.Listen l) given lines = ⊥
+IsFrontOf (task.Probes tables manifest) given lines = IsFront given.input (gathered given) lines
+IsFrontOf (task.Game tables manifest delay fen) given lines = ⊥
 
 -- the reply was written whole, and its status told
 abbrev pub WritesReply : Option (List ℕ) → Option (List ℕ) → Reply → ℕ → Type 0
@@ -189,4 +250,6 @@ WritesReply old new r status = Appends old new r.text × (status ≡ r.status)
 -- what the program answers to a task: its reply, or, where the reply takes memory, that memory was refused
 pub data Answers (t : Task) (given : Given) (old new : Option (List ℕ)) (status : ℕ) : Type 0 where
   Replied : (r : Reply) → IsReply t given r → WritesReply old new r status → Answers t given old new status
+  -- the first lines were written before memory was refused
+  CutShort : (lines : List (List ℕ)) → IsFrontOf t given lines → Appends old new (text_of (lines ++ refused_memory ∷ [])) → status ≡ 1 → Answers t given old new status
   Refused : TakesMemory t → Appends old new (ended refused_memory) → status ≡ 1 → Answers t given old new status

@@ -32,6 +32,7 @@ name_of task.Show = name.Show
 name_of (task.Run tables cache delay) = name.Run
 name_of (task.Listen l) = name.Listen
 name_of (task.Game tables manifest delay fen) = name.Game
+name_of (task.Probes tables manifest) = name.Probes
 
 -- the task is to listen
 abbrev pub listens : Task → Bool
@@ -44,6 +45,20 @@ listens task.Show = false
 listens (task.Run tables cache delay) = false
 listens (task.Listen l) = true
 listens (task.Game tables manifest delay fen) = false
+listens (task.Probes tables manifest) = false
+
+-- the lines for the task are written as they are made
+abbrev pub streams : Task → Bool
+streams (task.Judge tables manifest fen) = false
+streams (task.Probe tables manifest fen) = false
+streams (task.Moves fen) = false
+streams (task.List folder) = false
+streams (task.Check manifest folder) = false
+streams task.Show = true
+streams (task.Run tables cache delay) = false
+streams (task.Listen l) = false
+streams (task.Game tables manifest delay fen) = false
+streams (task.Probes tables manifest) = true
 
 -- the task has these values of its command's arguments
 abbrev pub HasValues : (Text → Option Text) → Task → Type 0
@@ -61,6 +76,8 @@ HasValues value task.Show = Unit {0}
 HasValues value (task.Run tables cache delay) =
     (option_map (λ s. s.now) tables ≡ value (codes "tables")) × IsCache (value (codes "cache")) cache × IsDelay (value (codes "delay")) delay
 HasValues value (task.Listen l) = IsListening value l
+HasValues value (task.Probes tables manifest) =
+    (Some tables.now ≡ value (codes "tables")) × (option_map (λ s. s.now) manifest ≡ value (codes "manifest"))
 HasValues value (task.Game tables manifest delay fen) =
     (option_map (λ s. s.now) tables ≡ value (codes "tables")) × (option_map (λ s. s.now) manifest ≡ value (codes "manifest"))
     × IsDelay (value (codes "delay")) delay × (Some fen.now ≡ value (codes "FEN"))
@@ -82,6 +99,7 @@ Lacks value name.Show = ⊥
 Lacks value name.Run =
     ((blocks : ℕ) → IsCache (value (codes "cache")) blocks → ⊥) ⊎ ((plies : ℕ) → IsDelay (value (codes "delay")) plies → ⊥)
 Lacks value name.Listen = (l : Listening) → IsListening value l → ⊥
+Lacks value name.Probes = value (codes "tables") ≡ None
 Lacks value name.Game = (value (codes "FEN") ≡ None) ⊎ ((plies : ℕ) → IsDelay (value (codes "delay")) plies → ⊥)
 
 -- the command refuses the words or their numbers, or they lack the value of a needed argument

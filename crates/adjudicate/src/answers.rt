@@ -14,7 +14,7 @@ ghost use Rattle.adjudicate.specs.declared.commands.Task.TheVariants.{Show};
 ghost use Rattle.adjudicate.specs.Lines.{text_of, words_of};
 ghost use Rattle.adjudicate.specs.Looks.{gathered, look_for, look_line};
 ghost use Rattle.adjudicate.specs.Reply.{Answers, ByTables, IsForText, IsJudged, IsListed, IsMoves, IsReply, IsText, IsTold, TakesMemory, WritesReply, checked, checked_by, numbered, status_if, told};
-ghost use Rattle.adjudicate.specs.Tasks.{listens};
+ghost use Rattle.adjudicate.specs.Tasks.{listens, streams};
 ghost use Rattle.adjudicate.specs.Asked.{IsAsked, reply_of};
 
 use crate::commands::Task;
@@ -22,6 +22,7 @@ use crate::games::answer_game;
 use crate::lines::{AnswerFault, Line, put_line, put_refusal};
 use crate::manifest::Manifest;
 use crate::schedules::answer_run;
+use crate::probes::probes;
 use crate::show::show;
 use crate::sources::Sources;
 use crate::tables::{gather, open_line};
@@ -53,7 +54,7 @@ pub(crate) enum Answer {
 }
 
 /// The status: 0 where all is done, 1 where something is refused.
-fn status_if(done: bool) -> u8
+pub(crate) fn status_if(done: bool) -> u8
     ensures { result ≡ status_if done }
 {
     if done { 0 } else { 1 }
@@ -86,7 +87,7 @@ fn answer_verdict(
 }
 
 /// A WDL probe, whose error comes only where memory is refused.
-fn ask_wdl(
+pub(crate) fn ask_wdl(
     alloc: Global,
     set: &mut Set<'_>,
     position: &Position,
@@ -103,7 +104,7 @@ fn ask_wdl(
 }
 
 /// The number that a WDL probe tells.
-fn number_in(wdl: &Result<Wdl, ProbeFault>) -> Result<i32, ProbeFault>
+pub(crate) fn number_in(wdl: &Result<Wdl, ProbeFault>) -> Result<i32, ProbeFault>
     ensures { result ≡ numbered wdl.now }
 {
     match wdl {
@@ -113,7 +114,7 @@ fn number_in(wdl: &Result<Wdl, ProbeFault>) -> Result<i32, ProbeFault>
 }
 
 /// A DTZ probe, whose error comes only where memory is refused.
-fn ask_dtz(
+pub(crate) fn ask_dtz(
     alloc: Global,
     set: &mut Set<'_>,
     position: &Position,
@@ -257,9 +258,9 @@ fn answer_check(alloc: Global, sources: &Sources) -> Result<Answer, AllocError>
     }
 }
 
-/// The answer to a task other than `show` and `listen`.
+/// The answer to a task other than `show`, `probes` and `listen`.
 fn answer_to(alloc: Global, task: &Task, sources: &Sources) -> Result<Answer, AllocError>
-    requires show { task.now ≡ Show → ⊥ }
+    requires whole { streams task.now ≡ false }
     requires listen { listens task.now ≡ false }
     ensures ok { IfOk result (λ a. IsReply task.now sources.now (reply_of a)) }
     ensures memory { OnErr result (TakesMemory task.now) }
@@ -272,7 +273,7 @@ fn answer_to(alloc: Global, task: &Task, sources: &Sources) -> Result<Answer, Al
         Task::Check { .. } => answer_check(alloc, sources),
         Task::Run { cache, delay, .. } => answer_run(alloc, sources, cache, delay),
         Task::Game { delay, fen, .. } => answer_game(alloc, sources, delay, fen),
-        Task::Show | Task::Listen(_) => unreachable!(),
+        Task::Show | Task::Probes { .. } | Task::Listen(_) => unreachable!(),
     }
 }
 
@@ -331,6 +332,7 @@ pub fn answer_task<W: Write>(
 {
     match task {
         Task::Show => show(sources.input(), out),
+        Task::Probes { .. } => probes(alloc, sources, out),
         _ => match answer_to(alloc, task, sources) {
             Ok(answer) => put_answer(out, &answer),
             Err(_) => put_refusal(out, &Line::RefusedMemory),

@@ -62,6 +62,13 @@ pub enum Task<'a> {
     },
     /// An arbiter that answers datagrams.
     Listen(Listening<'a>),
+    /// What tables tell of the positions of the input.
+    Probes {
+        /// The folder of the tables.
+        tables: &'a str,
+        /// The file of the manifest that the tables are held to, if one is named.
+        manifest: Option<&'a str>,
+    },
     /// What the game of the input comes to.
     Game {
         /// The folder of the tables, if one is named.
@@ -94,6 +101,8 @@ pub enum Name {
     Run,
     /// Answers datagrams.
     Listen,
+    /// Probes tables for many positions.
+    Probes,
     /// Judges a game.
     Game,
 }
@@ -234,6 +243,18 @@ const OF_LISTEN: [Value; 10] = [
     },
 ];
 
+/// The values of `probes`.
+const OF_PROBES: [Value; 2] = [
+    Value {
+        name: "tables",
+        form: Form::NeededOption,
+    },
+    Value {
+        name: "manifest",
+        form: Form::Option,
+    },
+];
+
 /// The values of `game`.
 const OF_GAME: [Value; 4] = [
     Value {
@@ -269,6 +290,7 @@ impl Name {
             "show" => Some(Name::Show),
             "run" => Some(Name::Run),
             "listen" => Some(Name::Listen),
+            "probes" => Some(Name::Probes),
             "game" => Some(Name::Game),
             _ => None,
         }
@@ -287,6 +309,7 @@ impl Name {
             Name::Show => "show",
             Name::Run => "run",
             Name::Listen => "listen",
+            Name::Probes => "probes",
             Name::Game => "game",
         }
     }
@@ -304,6 +327,7 @@ impl Name {
             Name::Show => &[],
             Name::Run => &OF_RUN,
             Name::Listen => &OF_LISTEN,
+            Name::Probes => &OF_PROBES,
             Name::Game => &OF_GAME,
         }
     }
@@ -428,6 +452,15 @@ fn task_of<'a>(name: Name, matches: &ArgMatches<'a>) -> Option<Task<'a>>
             Some(listening) => Some(Task::Listen(listening)),
             None => None,
         },
+        Name::Probes => {
+            let Some(tables) = matches.get_str("tables") else {
+                return None;
+            };
+            Some(Task::Probes {
+                tables,
+                manifest: matches.get_str("manifest"),
+            })
+        }
         Name::Game => {
             let Some(fen) = matches.get_str("FEN") else {
                 return None;

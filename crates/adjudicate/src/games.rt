@@ -7,8 +7,8 @@ ghost use Rattle.fen_text.specs.Coordinates.{SpellsMove};
 ghost use Rattle.adjudicate.specs.Asked.{reply_of};
 ghost use Rattle.adjudicate.specs.Looks.{gathered};
 ghost use Rattle.adjudicate.specs.Reply.{IsForText, IsPlayed, IsText, outcome_status, status_if};
-ghost use Rattle.adjudicate.specs.Played.{IsBadWordAt, TellsMoves, is_gap, words_in};
-ghost use Rattle.adjudicate.specs.PlayedSteps.{AddsWord};
+ghost use Rattle.adjudicate.specs.Inputs.{IsBadWordAt, TellsMoves, is_gap, words_in};
+ghost use Rattle.adjudicate.specs.InputSteps.{AddsWord};
 
 use crate::answers::Answer;
 use crate::lines::Line;

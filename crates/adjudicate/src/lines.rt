@@ -66,6 +66,8 @@ pub(crate) enum Line {
     RefusedLine(usize),
     /// What a game of so many moves comes to.
     Outcome(GameOutcome, usize),
+    /// What both probes tell of a position, and the verdict on it.
+    Columns(Result<i32, ProbeFault>, Result<i32, ProbeFault>, Option<Verdict>),
     /// The place of a word that is no move, the first being 0.
     RefusedMove(usize),
     /// How many moves an arbiter has recorded after a datagram, and its verdict.
@@ -92,8 +94,34 @@ fn fmt_fen<W: fmt::Write>(f: &mut fmt::Formatter<W>, fault: FenFault) -> fmt::Re
     }
 }
 
+/// A number that the tables tell, or why they tell none.
+#[derive(Clone, Copy)]
+struct Column(Result<i32, ProbeFault>);
+
+impl fmt::Display for Column {
+    ghost use Rattle.std.specs.Prelude.{Some};
+    ghost use Rattle.adjudicate.specs.Lines.{column_words};
+
+    ghost output = { λ c. Some (column_words c.0) };
+
+    #[tactic(auto, unfolding(crate::specs::Lines::column_words))]
+    fn fmt<W: fmt::Write>(&self, f: &mut fmt::Formatter<W>) -> fmt::Result {
+        match &self.0 {
+            Ok(number) => write!(f, "{number}"),
+            Err(fault) => match fault {
+                ProbeFault::NotCovered(material) | ProbeFault::Damaged(material) => {
+                    let name = material.name();
+                    write!(f, "refused {} {}", fault.name(), name.as_str())
+                }
+                ProbeFault::OutOfScope | ProbeFault::OutOfMemory => {
+                    write!(f, "refused {}", fault.name())
+                }
+            },
+        }
+    }
+}
+
 /// Tells what the tables tell, or why they tell nothing.
-#[tactic(auto, unfolding(crate::specs::Lines::told_words))]
 fn fmt_told<W: fmt::Write>(
     f: &mut fmt::Formatter<W>,
     question: &str,
@@ -101,18 +129,33 @@ fn fmt_told<W: fmt::Write>(
 ) -> fmt::Result
     ensures { DisplaysOnOk W.Write.write_str_gives f.old result (Some (told_words question.now told.now)) f.new }
 {
-    match told {
-        Ok(number) => write!(f, "{question} {number}"),
-        Err(fault) => match fault {
-            ProbeFault::NotCovered(material) | ProbeFault::Damaged(material) => {
-                let name = material.name();
-                write!(f, "{question} refused {} {}", fault.name(), name.as_str())
-            }
-            ProbeFault::OutOfScope | ProbeFault::OutOfMemory => {
-                write!(f, "{question} refused {}", fault.name())
-            }
-        },
+    let column = Column(*told);
+    write!(f, "{question} {column}")
+}
+
+/// The name of a verdict, or that the game goes on.
+fn verdict_or_open(verdict: Option<Verdict>) -> &'static str
+    ensures { result.now ≡ verdict_words verdict }
+{
+    match verdict {
+        None => "open",
+        Some(verdict) => verdict.name(),
     }
+}
+
+/// Tells what both probes tell and the verdict, with a tab between.
+fn fmt_columns<W: fmt::Write>(
+    f: &mut fmt::Formatter<W>,
+    wdl: &Result<i32, ProbeFault>,
+    dtz: &Result<i32, ProbeFault>,
+    verdict: Option<Verdict>,
+) -> fmt::Result
+    ensures { DisplaysOnOk W.Write.write_str_gives f.old result (Some (columns_words wdl.now dtz.now verdict)) f.new }
+{
+    let wdl = Column(*wdl);
+    let dtz = Column(*dtz);
+    let verdict = verdict_or_open(verdict);
+    write!(f, "{wdl}\t{dtz}\t{verdict}")
 }
 
 /// Tells a message.
@@ -237,8 +280,7 @@ impl fmt::Display for Line {
 
     fn fmt<W: fmt::Write>(&self, f: &mut fmt::Formatter<W>) -> fmt::Result {
         match self {
-            Line::Ruling(None) => f.write_str("open"),
-            Line::Ruling(Some(verdict)) => f.write_str(verdict.name()),
+            Line::Ruling(verdict) => f.write_str(verdict_or_open(*verdict)),
             Line::RefusedFen(fault) => fmt_fen(f, *fault),
             Line::Move(m) => f.write_str(write_move(m).as_str()),
             Line::RefusedManifest(number) => write!(f, "refused manifest {number}"),
@@ -258,6 +300,7 @@ impl fmt::Display for Line {
             Line::Sent(number) => write!(f, "sent {number}"),
             Line::RefusedLine(number) => write!(f, "refused line {number}"),
             Line::Outcome(outcome, plies) => fmt_outcome(f, *outcome, *plies),
+            Line::Columns(wdl, dtz, verdict) => fmt_columns(f, wdl, dtz, *verdict),
             Line::RefusedMove(place) => write!(f, "refused move {place}"),
             Line::Heard(count, verdict) => fmt_heard(f, *count, *verdict),
             Line::RefusedDatagram(fault) => fmt_refused_datagram(f, *fault),

@@ -22,6 +22,7 @@ mod listening;
 mod manifest;
 mod numbers;
 mod port;
+mod probes;
 mod program;
 mod reading;
 mod schedules;

@@ -23,6 +23,7 @@ const USAGE: &str = "usage: adjudicate judge [--tables DIR] [--manifest FILE] FE
        adjudicate list DIR
        adjudicate check --manifest FILE DIR
        adjudicate show
+       adjudicate probes --tables DIR [--manifest FILE]
        adjudicate game [--tables DIR] [--manifest FILE] [--delay N] FEN
        adjudicate run [--tables DIR] [--cache N] [--delay N]
        adjudicate listen --name N --start FEN --tables DIR --me M --bind ADDR --to ADDR --kept FILE
@@ -60,7 +61,7 @@ fn run_task<D: Disk, H: Host, W: Write>(
 /// misuse.
 ///
 /// All that a task names is read before anything is answered: its folder, of which the files of
-/// tables are looked at, its manifest, and for `show`, `run` and `game` the input, to its end. What can't be read or
+/// tables are looked at, its manifest, and for `show`, `run`, `probes` and `game` the input, to its end. What can't be read or
 /// has more than 2^30 bytes is told as `refused files`. Only `listen` opens a port and a kept file. Answers go to `out` and the text of a
 /// misuse to `errors`, whose failure changes nothing. The error comes only where `out` failed.
 pub fn run<D: Disk, H: Host, W: Write, E: Write>(

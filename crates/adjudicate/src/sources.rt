@@ -46,6 +46,7 @@ fn folder_of<'a>(task: &Task<'a>) -> Option<&'a str>
         Task::Probe { tables, .. } => Some(tables),
         Task::Run { tables, .. } => tables,
         Task::Game { tables, .. } => tables,
+        Task::Probes { tables, .. } => Some(tables),
         Task::Listen(Listening { tables, .. }) => Some(tables),
         Task::List { folder } => Some(folder),
         Task::Check { folder, .. } => Some(folder),
@@ -62,6 +63,7 @@ fn manifest_of<'a>(task: &Task<'a>) -> Option<&'a str>
         Task::Probe { manifest, .. } => manifest,
         Task::Check { manifest, .. } => Some(manifest),
         Task::Game { manifest, .. } => manifest,
+        Task::Probes { manifest, .. } => manifest,
         Task::List { .. } | Task::Moves { .. } | Task::Show => None,
         Task::Run { .. } | Task::Listen(_) => None,
     }
@@ -71,7 +73,10 @@ fn manifest_of<'a>(task: &Task<'a>) -> Option<&'a str>
 fn reads_input(task: &Task) -> bool
     ensures { result ≡ reads_input task.now }
 {
-    matches!(*task, Task::Show | Task::Run { .. } | Task::Game { .. })
+    matches!(
+        *task,
+        Task::Show | Task::Run { .. } | Task::Probes { .. } | Task::Game { .. }
+    )
 }
 
 /// The manifest at a path, if there is one.
@@ -129,8 +134,8 @@ fn read_input<D: Disk>(alloc: Global, disk: &D, is_wanted: bool) -> Result<Vec<u
 }
 
 impl Sources {
-    /// Reads what a task names: its manifest, the wanted files of its folder, and for `show`, `run` and `game`
-    /// the input.
+    /// Reads what a task names: its manifest, the wanted files of its folder, and for `show`, `run`, `probes` and
+    /// `game` the input.
     ///
     /// Files whose names are not those of tables are passed over, and with a manifest those that it doesn't name.
     /// `Unreadable` where the folder, one of these files, the manifest or the input can't be read, or the folder lists a

@@ -12,10 +12,10 @@ use Rattle.adjudicate.proofs.commands.parse.Goals as goal
 pub matches_at-requires : goal.matches_at-requires
 matches_at-requires c = ap is_simple_and_free c.in-Ok.ensures ∙ is_simple c.in-Some.name
 
--- the commands' words begin with eight letters, and only `listen` has six
+-- the commands' words are told apart by their first letters and by whether they have six
 begun_by : ℕ → ℕ → Name
 begun_by letter long =
-    if long == 6 then name.Listen else if letter == 103 then name.Game else if letter == 106 then name.Judge else if letter == 112 then name.Probe else if letter == 109 then name.Moves
+    if long == 6 then (if letter == 112 then name.Probes else name.Listen) else if letter == 103 then name.Game else if letter == 106 then name.Judge else if letter == 112 then name.Probe else if letter == 109 then name.Moves
     else if letter == 108 then name.List else if letter == 99 then name.Check else if letter == 115 then name.Show else name.Run
 
 by_word : (name : Name) → begun_by (slice_index (word_of name) 0) (length (word_of name)) ≡ name
@@ -28,6 +28,7 @@ by_word name.Check = refl
 by_word name.Show = refl
 by_word name.Run = refl
 by_word name.Listen = refl
+by_word name.Probes = refl
 by_word name.Game = refl
 
 word_in : Option Text → Text
@@ -50,6 +51,7 @@ lacks_same v w name.Check same (inl h) = inl (sym (same _) ∙ h)
 lacks_same v w name.Check same (inr h) = inr (sym (same _) ∙ h)
 lacks_same v w name.Show same h = h
 lacks_same v w name.Run same (inl h) = inl (λ blocks is. h blocks (subst (λ text. IsCache text blocks) (sym (same _)) is))
+lacks_same v w name.Probes same h = sym (same _) ∙ h
 lacks_same v w name.Game same (inl h) = inl (sym (same _) ∙ h)
 lacks_same v w name.Game same (inr h) = inr (λ plies is. h plies (subst (λ text. IsDelay text plies) (sym (same _)) is))
 lacks_same v w name.Listen same h = λ l is. h l (record {

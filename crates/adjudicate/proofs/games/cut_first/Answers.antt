@@ -1,7 +1,7 @@
 use Rattle.std.proofs.Common.{◌+◌, ◌∙◌, ap, sym, ℕ, List, ◌∷◌, take}
 use Rattle.std.specs.List.{slice_split}
 use Rattle.fen_text.proofs.CutLaws.{rest_is, cut_none, cut_some}
-use Rattle.adjudicate.specs.Played.{is_gap}
+use Rattle.adjudicate.specs.Inputs.{is_gap}
 use Rattle.adjudicate.proofs.games.cut_first.Goals as goal
 
 pub returns-in-None-clause-none : goal.returns-in-None-clause-none

@@ -1,6 +1,6 @@
 use Rattle.std.proofs.Common.{length}
 use Rattle.std.specs.List.{slice_split}
-use Rattle.adjudicate.specs.Played.{is_gap}
+use Rattle.adjudicate.specs.Inputs.{is_gap}
 use Rattle.adjudicate.proofs.GameLaws.{AreRead}
 use Rattle.adjudicate.proofs.games.read_game.Given as goal
 

@@ -1,10 +1,11 @@
--- Games that are told by their moves, and what they come to (this project's own).
+-- Words and lines of an input, and the moves that its words tell (this project's own).
 use Rattle.std.specs.Prelude.{◌≡◌, ◌==◌, ◌||◌, ◌++◌, ℕ, zero, suc, Bool, true, false, List, [], ◌∷◌, filter, length, Result, Ok, Err, codes}
 use Rattle.std.specs.Fmt.{decimal}
 use Rattle.std.specs.List.{slice_split}
 use Rattle.board_core.specs.declared.parts.Parts.{Parts}
 use Rattle.board_core.specs.declared.moves.Move.{Move as Moves}
 use Rattle.fen_text.specs.Coordinates.{SpellsMove}
+use Rattle.fen_text.specs.Cuts.{cut_at}
 use Rattle.relay_world.specs.Texts.{AreMoves}
 
 -- ---- words
@@ -20,6 +21,16 @@ has_bytes (byte ∷ bytes) = true
 -- the words of a text: what stands between its gaps, where something does
 unfoldable pub words_in : List ℕ → List (List ℕ)
 words_in text = filter has_bytes (slice_split is_gap text)
+
+-- a text that a line feed ends has no line after it
+abbrev pub whole_lines : List (List ℕ) → List (List ℕ)
+whole_lines [] = []
+whole_lines (last ∷ []) = filter has_bytes (last ∷ [])
+whole_lines (line ∷ next ∷ lines) = line ∷ whole_lines (next ∷ lines)
+
+-- the lines of a text, of which the last may lack its line feed
+unfoldable pub lines_in : List ℕ → List (List ℕ)
+lines_in text = whole_lines (cut_at 10 text)
 
 -- the moves that a text tells, a word each
 abbrev pub TellsMoves : List ℕ → List Moves → Type 0

@@ -3,7 +3,7 @@ use Rattle.std.specs.Prelude.{◌≡◌, ℕ, Bool, true, false, List, [], ◌�
 use Rattle.board_core.specs.declared.moves.Move.{Move as Moves}
 use Rattle.fen_text.specs.Coordinates.{SpellsMove}
 use Rattle.relay_world.specs.Texts.{AreMoves}
-use Rattle.adjudicate.specs.Played.{has_bytes}
+use Rattle.adjudicate.specs.Inputs.{has_bytes}
 
 -- the move of a word is added, or none where there is no word; or the word is no move
 abbrev pub AddsWord : List ℕ → List Moves → List Moves → Bool → Type 0

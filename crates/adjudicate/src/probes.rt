@@ -1,0 +1,125 @@
+//! What tables tell of many positions, a line each.
+
+ghost use Rattle.std.specs.Prelude.{◌≡◌, ◌<◌, ◌==◌, ◌&&◌, ◌∷◌, true, length, position, IfOk};
+ghost use Rattle.std.specs.Result.{is_ok};
+ghost use Rattle.board_core.specs.Position.{IsPosition};
+ghost use Rattle.fen_text.specs.Fen.{SpellsPosition};
+ghost use Rattle.adjudicate.specs.Inputs.{has_bytes, lines_in};
+ghost use Rattle.adjudicate.specs.Lines.{words_of};
+ghost use Rattle.adjudicate.specs.ProbeSteps.{PutsLines, PutsProbes};
+ghost use Rattle.adjudicate.specs.Reply.{TellsLine};
+
+use crate::answers::{ask_dtz, ask_wdl, number_in, status_if};
+use crate::lines::{AnswerFault, Line, put_line, put_refusal};
+use crate::sources::Sources;
+use crate::tables::gather;
+use board_core::Position;
+use fen_text::read;
+use judge_core::{ProbeFault, Set, Wdl};
+use std::alloc::{AllocError, Global};
+use std::io::Write;
+
+/// The first place of a line feed.
+fn line_feed_in(text: &[u8]) -> Option<usize>
+    ensures { result ≡ position (λ b. b == 10) text.now }
+{
+    text.iter().position(|b| *b == b'\n')
+}
+
+/// The first line of a text that isn't empty, and the text after it.
+fn first_line(text: &[u8]) -> (&[u8], &[u8])
+    requires { has_bytes text.now ≡ true }
+    ensures lines { lines_in text.now ≡ result.0.now ∷ lines_in result.1.now }
+    ensures shorter { length result.1.now < length text.now }
+{
+    match line_feed_in(text) {
+        None => (text, &[]),
+        Some(i) => (&text[..i], &text[i + 1..]),
+    }
+}
+
+/// Whether both probes tell a number.
+fn are_told(wdl: &Result<Wdl, ProbeFault>, dtz: &Result<i32, ProbeFault>) -> bool
+    ensures { result ≡ (is_ok wdl.now && is_ok dtz.now) }
+{
+    wdl.is_ok() && dtz.is_ok()
+}
+
+/// What the tables tell of a position, in columns, and whether all of it is told.
+fn columns(
+    alloc: Global,
+    set: &mut Set<'_>,
+    text: &[u8],
+    position: &Position,
+) -> Result<(Line, bool), AllocError>
+    requires spelled { SpellsPosition text.now position.now }
+    requires position { IsPosition position.now }
+    ensures told { IfOk result (λ told. TellsLine set.old.tables text.now (record { words = words_of told.0; done = told.1 })) }
+    ensures unchanged { set.new.tables ≡ set.old.tables }
+{
+    let wdl = ask_wdl(alloc, set, position)?;
+    let dtz = ask_dtz(alloc, set, position)?;
+    let verdict = set.judge(alloc, position)?;
+    let done = are_told(&wdl, &dtz);
+    Ok((Line::Columns(number_in(&wdl), dtz, verdict), done))
+}
+
+/// What is told of a line, and whether all of it is told.
+fn probe_line(
+    alloc: Global,
+    set: &mut Set<'_>,
+    text: &[u8],
+) -> Result<(Line, bool), AllocError>
+    ensures told { IfOk result (λ told. TellsLine set.old.tables text.now (record { words = words_of told.0; done = told.1 })) }
+    ensures unchanged { set.new.tables ≡ set.old.tables }
+{
+    match read(text) {
+        Ok(position) => columns(alloc, set, text, &position),
+        Err(fault) => Ok((Line::RefusedFen(fault), false)),
+    }
+}
+
+/// Writes a line for each line of a text as it is made, and tells the status.
+fn put_probes<W: Write>(
+    alloc: Global,
+    set: &mut Set<'_>,
+    text: &[u8],
+    out: &mut W,
+) -> Result<u8, AnswerFault>
+    ensures { IfOk result (PutsLines set.old.tables text.now (W.contents out.old) (W.contents out.new)) }
+{
+    let mut rest = text;
+    let mut done = true;
+    while !rest.is_empty() {
+        let (line, tail) = first_line(rest);
+        let Ok((told, is_told)) = probe_line(alloc, set, line) else {
+            return put_refusal(out, &Line::RefusedMemory);
+        };
+        match put_line(out, &told) {
+            Ok(()) => {}
+            Err(fault) => return Err(fault),
+        }
+        done = done && is_told;
+        rest = tail;
+    }
+    Ok(status_if(done))
+}
+
+/// Writes what the tables of files tell of each line of the input, or the refusal of the tables;
+/// tells the status, 0 where all is told, else 1.
+///
+/// Each line goes out as it is made, so that memory doesn't grow with their number; where memory is
+/// refused, the line `refused memory` follows the whole lines before it.
+pub(crate) fn probes<W: Write>(
+    alloc: Global,
+    sources: &Sources,
+    out: &mut W,
+) -> Result<u8, AnswerFault>
+    ensures { IfOk result (PutsProbes sources.now (W.contents out.old) (W.contents out.new)) }
+{
+    match gather(alloc, sources) {
+        Ok(Ok(mut set)) => put_probes(alloc, &mut set, sources.input(), out),
+        Ok(Err(line)) => put_refusal(out, &line),
+        Err(_) => put_refusal(out, &Line::RefusedMemory),
+    }
+}
