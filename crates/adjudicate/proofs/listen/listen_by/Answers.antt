@@ -7,4 +7,4 @@ returns-in-Err g c = λ tables spells legal. IfOk-weaker c.put_refusal.result _ 
 
 pub returns : goal.returns
 returns g c = λ tables spells legal.
-    IfOk-weaker c.listen_with.result _ _ (λ status h. Opened _ spells legal _ tables _ c.in-Ok.ensures h) c.listen_with.ensures
+    IfOk-weaker c.listen_with.result _ _ (λ status h. Opened c.args.start spells legal c.args.set tables c.in-Ok.manifest.items c.in-Ok.ensures h) (rw c.deref.ensures.value at c.listen_with.ensures)
