@@ -7,6 +7,7 @@ pub mod Reopening
 pub mod Pairing
 pub mod Faithful
 pub mod Gathered
+pub mod FileNames
 pub mod Naming
 pub mod Placing
 pub mod Told

@@ -15,6 +15,9 @@ ghost use Rattle.relay_world.specs.Headline.{IsFaithful, kept_count};
 ghost use Rattle.relay_world.specs.InOrder.{RunsThrough, brought};
 ghost use Rattle.relay_world.specs.Pairs.{AreStamped};
 ghost use Rattle.relay_world.specs.Runs.{AreWorlds};
+ghost use Rattle.relay_world.specs.FileNames.{FileNamesAreThoseOfTables};
+
+use place_index::tables_are_numbered;
 
 /// In each world of each schedule each kept record is that of the game's first so many moves, with the first verdict exactly at
 /// its ply, and two kept verdicts are one.
@@ -69,3 +72,10 @@ pub fn moves_are_the_games()
 pub fn log_is_of_the_game()
     ensures { (game : Game) (events : List Event) → AreStamped game (after game (first_world game) events) }
 {}
+
+/// The file names that a manifest may have are those of the 145 tables, each with either ending, and no others.
+pub fn file_names_are_those_of_tables()
+    ensures { FileNamesAreThoseOfTables }
+{
+    tables_are_numbered();
+}
