@@ -1,6 +1,6 @@
 -- What an arbiter answers, computed on deliveries whose answers are known from outside: each row holds by evaluation alone, for
 -- every game. Rows whose answer plays a move take seconds for each position that is judged, so that these are tests.
-use Rattle.std.proofs.Common.{◌≡◌, ℕ, ◌+◌, true, false, List, [], ◌∷◌, ◌++◌, Option, Some, None, Ok, Err, refl, replicate}
+use Rattle.std.proofs.Common.{◌≡◌, ℕ, List, [], ◌∷◌, Some, None, refl, replicate}
 use Rattle.std.specs.Prelude.{slice_set}
 use Rattle.board_core.specs.declared.moves.Move.{Move as Moves}
 use Rattle.board_core.specs.declared.verdict.Verdict.TheVariants as verdict
@@ -11,7 +11,7 @@ use Rattle.move_msg.specs.declared.who.Sender.TheVariants.{Source, Arbiter}
 use Rattle.move_msg.specs.declared.message.Message.{Message}
 use Rattle.move_msg.specs.declared.message.Message.TheVariants.{Move, Ack, Verdict, Fetch}
 use Rattle.arbiter_core.specs.declared.fault.DeliverFault.TheVariants.{TooFarAhead, TooLong}
-use Rattle.arbiter_core.specs.Recording.{Recorded, Window}
+use Rattle.arbiter_core.specs.Recording.{Recorded}
 use Rattle.arbiter_core.specs.Answering.{Identity, Answer, Refuses, Sends, nothing_waits, still_waits, answer_to, asked}
 
 abbrev move : ℕ → ℕ → Moves
