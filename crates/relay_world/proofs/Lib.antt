@@ -13,3 +13,4 @@ pub mod Placing
 pub mod Told
 pub mod Places
 pub mod Reading
+pub mod BadLines

@@ -15,6 +15,8 @@ ghost use Rattle.relay_world.specs.Headline.{IsFaithful, kept_count};
 ghost use Rattle.relay_world.specs.InOrder.{RunsThrough, brought};
 ghost use Rattle.relay_world.specs.Pairs.{AreStamped};
 ghost use Rattle.relay_world.specs.Runs.{AreWorlds};
+ghost use Rattle.relay_world.specs.declared.schedule.Schedule.{Schedule};
+ghost use Rattle.relay_world.specs.Texts.{IsFirstBadLine, SpellsSchedule};
 ghost use Rattle.relay_world.specs.FileNames.{FileNamesAreThoseOfTables};
 
 use place_index::tables_are_numbered;
@@ -79,3 +81,9 @@ pub fn file_names_are_those_of_tables()
 {
     tables_are_numbered();
 }
+
+/// A text that has a line at fault spells no schedule, and one line is its first at fault.
+pub fn one_bad_line()
+    ensures none { (text : List ℕ) (k : ℕ) (schedule : Schedule) → IsFirstBadLine text k → SpellsSchedule text schedule → ⊥ }
+    ensures one { (text : List ℕ) (j k : ℕ) → IsFirstBadLine text j → IsFirstBadLine text k → j ≡ k }
+{}
