@@ -25,3 +25,4 @@ is_simple name.Moves = refl
 is_simple name.List = refl
 is_simple name.Check = refl
 is_simple name.Show = refl
+is_simple name.Run = refl

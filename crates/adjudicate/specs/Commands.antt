@@ -16,6 +16,7 @@ word_of name.Moves = codes "moves"
 word_of name.List = codes "list"
 word_of name.Check = codes "check"
 word_of name.Show = codes "show"
+word_of name.Run = codes "run"
 
 -- a value of this name: a word that has to be there, an option as `--tables DIR`, or an option that has to be there
 abbrev pub rule_of_form : Form → Text → Rule
@@ -27,7 +28,7 @@ abbrev pub rule_of_value : Value → Rule
 rule_of_value v = rule_of_form v.form v.name.now
 
 -- judge [--tables DIR] [--manifest FILE] FEN; probe --tables DIR [--manifest FILE] FEN; moves FEN; list DIR;
--- check --manifest FILE DIR; show
+-- check --manifest FILE DIR; show; run [--tables DIR] [--cache N] [--delay N]
 abbrev pub rules_of : Name → List Rule
 rules_of name.Judge =
     rule_of_form form.Option (codes "tables") ∷ rule_of_form form.Option (codes "manifest") ∷ rule_of_form form.Word (codes "FEN") ∷ []
@@ -37,6 +38,8 @@ rules_of name.Moves = rule_of_form form.Word (codes "FEN") ∷ []
 rules_of name.List = rule_of_form form.Word (codes "DIR") ∷ []
 rules_of name.Check = rule_of_form form.NeededOption (codes "manifest") ∷ rule_of_form form.Word (codes "DIR") ∷ []
 rules_of name.Show = []
+rules_of name.Run =
+    rule_of_form form.Option (codes "tables") ∷ rule_of_form form.Option (codes "cache") ∷ rule_of_form form.Option (codes "delay") ∷ []
 
 -- a command with more rules
 abbrev pub with_rules : App → List Rule → App

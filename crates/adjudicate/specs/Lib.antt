@@ -1,3 +1,4 @@
+pub mod Numbers
 pub mod Commands
 pub mod Tasks
 pub mod Usage
@@ -10,6 +11,7 @@ pub mod Lines
 pub mod Reads
 pub mod Looks
 pub mod Refusals
+pub mod Schedules
 pub mod Reply
 pub mod Asked
 pub mod Fronts

@@ -18,8 +18,13 @@ use Rattle.move_msg.specs.declared.message.Message.TheVariants as message
 use Rattle.move_msg.specs.declared.message.MessageFault.{MessageFault}
 use Rattle.move_msg.specs.Messages.{fault_name as message_fault_name}
 use Rattle.move_msg.specs.Senders.{who_number, sender_number}
+use Rattle.move_msg.specs.declared.who.Who.{Who}
+use Rattle.relay_world.specs.declared.world.State.{State}
+use Rattle.relay_world.specs.declared.world.State.TheVariants as state
+use Rattle.relay_world.specs.Texts.{who_word}
 use Rattle.adjudicate.specs.declared.tables.FileFault.{FileFault}
 use Rattle.adjudicate.specs.declared.tables.FileFault.TheVariants.{Missing, Changed, Bad}
+use Rattle.adjudicate.specs.declared.lines.Kept.{Kept}
 use Rattle.adjudicate.specs.declared.lines.Line.{Line}
 use Rattle.adjudicate.specs.declared.lines.Line.TheVariants as line
 
@@ -103,6 +108,31 @@ message_fault (Some fault) = message_fault_name fault
 abbrev pub refused_message : ℕ → List ℕ → List ℕ
 refused_message number name = codes "refused message " ++ decimal number ++ codes " " ++ name
 
+-- how an arbiter is
+abbrev pub state_word : State → List ℕ
+state_word state.Running = codes "running"
+state_word state.Down = codes "down"
+state_word state.Closed = codes "closed"
+
+-- the verdict's name, or that there is none
+abbrev pub verdict_or_none : Option Verdict → List ℕ
+verdict_or_none None = codes "none"
+verdict_or_none (Some v) = verdict_name v
+
+-- an arbiter: its letter, how it is, how many moves it keeps and its verdict
+unfoldable pub arbiter_words : Who → State → Option Kept → List ℕ
+arbiter_words who state None = who_word who ++ codes " " ++ state_word state ++ codes " - none"
+arbiter_words who state (Some kept) =
+    who_word who ++ codes " " ++ state_word state ++ codes " " ++ decimal kept.count ++ codes " " ++ verdict_or_none kept.verdict
+
+-- how many messages were sent
+abbrev pub sent_words : ℕ → List ℕ
+sent_words number = codes "sent " ++ decimal number
+
+-- the refusal of a schedule by the number of its first line at fault
+abbrev pub refused_line : ℕ → List ℕ
+refused_line number = codes "refused line " ++ decimal number
+
 abbrev pub refused_files : List ℕ
 refused_files = codes "refused files"
 
@@ -120,5 +150,8 @@ words_of (line.Wdl told) = told_words (codes "wdl") told
 words_of (line.Dtz told) = told_words (codes "dtz") told
 words_of (line.Message m) = message_words m
 words_of (line.RefusedMessage number fault) = refused_message number (message_fault fault)
+words_of (line.Arbiter who state kept) = arbiter_words who state kept
+words_of (line.Sent number) = sent_words number
+words_of (line.RefusedLine number) = refused_line number
 words_of line.RefusedFiles = refused_files
 words_of line.RefusedMemory = refused_memory

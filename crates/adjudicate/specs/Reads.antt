@@ -13,6 +13,7 @@ folder_of (task.Moves fen) = None
 folder_of (task.List folder) = Some folder.now
 folder_of (task.Check manifest folder) = Some folder.now
 folder_of task.Show = None
+folder_of (task.Run tables cache delay) = option_map (λ s. s.now) tables
 
 abbrev pub manifest_of : Task → Option (List ℕ)
 manifest_of (task.Judge tables manifest fen) = option_map (λ s. s.now) manifest
@@ -21,8 +22,9 @@ manifest_of (task.Moves fen) = None
 manifest_of (task.List folder) = None
 manifest_of (task.Check manifest folder) = Some manifest.now
 manifest_of task.Show = None
+manifest_of (task.Run tables cache delay) = None
 
--- only show reads the input
+-- only show and run read the input
 abbrev pub reads_input : Task → Bool
 reads_input (task.Judge tables manifest fen) = false
 reads_input (task.Probe tables manifest fen) = false
@@ -30,6 +32,7 @@ reads_input (task.Moves fen) = false
 reads_input (task.List folder) = false
 reads_input (task.Check manifest folder) = false
 reads_input task.Show = true
+reads_input (task.Run tables cache delay) = true
 
 -- some folder, file or input is read for the task
 abbrev pub reads_some : Task → Bool

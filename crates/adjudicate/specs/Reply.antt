@@ -1,5 +1,5 @@
 -- What the program answers: a text and a status (this project's own).
-use Rattle.std.specs.Prelude.{◌≡◌, ◌≢◌, ◌+◌, ◌++◌, ◌&&◌, ℕ, ℤ, pos, ◌-ℤ◌, Bool, List, [], ◌∷◌, length, map, Option, Some, None, Result, Ok, Err, if◌then◌else◌, codes}
+use Rattle.std.specs.Prelude.{◌≡◌, ◌≢◌, ◌+◌, ◌++◌, ◌&&◌, ℕ, ℤ, pos, ◌-ℤ◌, Bool, List, [], ◌∷◌, length, map, Option, Some, None, Result, Ok, Err, if◌then◌else◌, codes, slice_get}
 use Rattle.std.specs.Result.{is_ok}
 use Rattle.std.specs.Io.KnownBytes.{Appends}
 use Rattle.board_core.specs.declared.parts.Parts.{Parts}
@@ -22,10 +22,15 @@ use Rattle.judge_core.specs.Probing.{wdl_of}
 use Rattle.judge_core.specs.Ruling.{ruling, is_out_of_scope}
 use Rattle.judge_core.specs.Tables.{Tables}
 use Rattle.judge_core.specs.Values.{points}
+use Rattle.relay_world.specs.declared.schedule.Schedule.{Schedule}
+use Rattle.relay_world.specs.Runs.{Runs, WorldView}
+use Rattle.relay_world.specs.Texts.{SpellsSchedule, IsFirstBadLine}
+use Rattle.relay_world.specs.Worlds.{World}
 use Rattle.adjudicate.specs.declared.commands.Task.{Task}
 use Rattle.adjudicate.specs.declared.commands.Task.TheVariants as task
 use Rattle.adjudicate.specs.Given.{Given, Told}
-use Rattle.adjudicate.specs.Lines.{ended, text_of, verdict_words, told_words, refused_fen, refused_manifest, message_words, refused_message, refused_memory}
+use Rattle.adjudicate.specs.Lines.{ended, text_of, verdict_words, told_words, refused_fen, refused_manifest, message_words, refused_message, refused_line, refused_memory}
+use Rattle.adjudicate.specs.Schedules.{RefusesTable, game_of, world_words}
 use Rattle.adjudicate.specs.Looks.{Look, gathered, look_for, look_line, are_tables}
 
 pub record Reply : Type 0 where
@@ -121,6 +126,15 @@ shown ms (AtFault fault) =
 abbrev pub IsShown : List ℕ → Reply → Type 0
 IsShown input r = (ms : List Message) × (end : End) × SpellsStream input ms end × (r ≡ shown ms end)
 
+-- ---- replies to a schedule
+
+-- run: the refusal of the first line at fault; or else that of the first file that is no table; or else there are worlds of the
+-- schedule, in each of which what both arbiters keep is true to the game, and the last of them is told
+pub data IsRun (text : List ℕ) (files : List File) (delay : ℕ) (r : Reply) : Type 0 where
+  BadLine : (number : ℕ) → IsFirstBadLine text number → r ≡ refused (refused_line number) → IsRun text files delay r
+  BadTable : (schedule : Schedule) → SpellsSchedule text schedule → (words : List ℕ) → RefusesTable files words → r ≡ refused words → IsRun text files delay r
+  Ran : (schedule : Schedule) → SpellsSchedule text schedule → (told : WorldView) (runs : Runs (game_of schedule delay) files schedule.events.items told) (last : World) → slice_get runs.worlds (length schedule.events.items) ≡ Some last → r ≡ record { text = text_of (world_words last); status = 0 } → IsRun text files delay r
+
 -- ---- the reply to a task
 
 abbrev pub IsReply : Task → Given → Reply → Type 0
@@ -130,6 +144,7 @@ IsReply (task.Moves fen) given r = IsForText fen.now IsMoves r
 IsReply (task.List folder) given r = IsListed given.files r
 IsReply (task.Check manifest folder) given r = r ≡ checked_by given.files given.told
 IsReply task.Show given r = IsShown given.input r
+IsReply (task.Run tables cache delay) given r = IsRun given.input given.files delay r
 
 -- a reply takes memory but where a text is refused, and where messages are shown
 abbrev pub TakesMemory : Task → Type 0
@@ -139,6 +154,7 @@ TakesMemory (task.Moves fen) = IsText fen.now
 TakesMemory (task.List folder) = Unit {0}
 TakesMemory (task.Check manifest folder) = Unit {0}
 TakesMemory task.Show = ⊥
+TakesMemory (task.Run tables cache delay) = Unit {0}
 
 -- the reply was written whole, and its status told
 abbrev pub WritesReply : Option (List ℕ) → Option (List ℕ) → Reply → ℕ → Type 0

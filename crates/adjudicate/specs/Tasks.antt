@@ -1,7 +1,8 @@
 -- What a task says of the words that it was read from (this project's own commands).
-use Rattle.std.specs.Prelude.{◌≡◌, ◌⊎◌, List, [], Option, Some, None, codes, option_map, slice_get}
+use Rattle.std.specs.Prelude.{◌≡◌, ◌⊎◌, ℕ, List, [], Option, Some, None, codes, option_map, slice_get}
 use Rattle.clap.specs.Words.{App, Text}
 use Rattle.adjudicate.specs.Commands.{app_for, fault_in, value_in, word_of}
+use Rattle.adjudicate.specs.Numbers.{IsCache, IsDelay}
 use Rattle.adjudicate.specs.declared.commands.Name.{Name}
 use Rattle.adjudicate.specs.declared.commands.Name.TheVariants as name
 use Rattle.adjudicate.specs.declared.commands.Task.{Task}
@@ -26,6 +27,7 @@ name_of (task.Moves fen) = name.Moves
 name_of (task.List folder) = name.List
 name_of (task.Check manifest folder) = name.Check
 name_of task.Show = name.Show
+name_of (task.Run tables cache delay) = name.Run
 
 -- the task has these values of its command's arguments
 abbrev pub HasValues : (Text → Option Text) → Task → Type 0
@@ -40,6 +42,8 @@ HasValues value (task.List folder) = Some folder.now ≡ value (codes "DIR")
 HasValues value (task.Check manifest folder) =
     (Some manifest.now ≡ value (codes "manifest")) × (Some folder.now ≡ value (codes "DIR"))
 HasValues value task.Show = Unit {0}
+HasValues value (task.Run tables cache delay) =
+    (option_map (λ s. s.now) tables ≡ value (codes "tables")) × IsCache (value (codes "cache")) cache × IsDelay (value (codes "delay")) delay
 
 -- the words name the task's command, which takes them and gives the task's values
 pub record IsTask (words : List Text) (t : Task) : Type 0 where
@@ -47,7 +51,7 @@ pub record IsTask (words : List Text) (t : Task) : Type 0 where
   pub taken : IsTaken (app_for (name_of t)) words
   pub values : HasValues (value_in (app_for (name_of t)) words) t
 
--- a needed argument of the command has no value
+-- a needed argument of the command has no value, or a number is none that the command takes
 abbrev pub Lacks : (Text → Option Text) → Name → Type 0
 Lacks value name.Judge = value (codes "FEN") ≡ None
 Lacks value name.Probe = (value (codes "tables") ≡ None) ⊎ (value (codes "FEN") ≡ None)
@@ -55,8 +59,10 @@ Lacks value name.Moves = value (codes "FEN") ≡ None
 Lacks value name.List = value (codes "DIR") ≡ None
 Lacks value name.Check = (value (codes "manifest") ≡ None) ⊎ (value (codes "DIR") ≡ None)
 Lacks value name.Show = ⊥
+Lacks value name.Run =
+    ((blocks : ℕ) → IsCache (value (codes "cache")) blocks → ⊥) ⊎ ((plies : ℕ) → IsDelay (value (codes "delay")) plies → ⊥)
 
--- the command refuses the words, or they lack the value of a needed argument
+-- the command refuses the words or their numbers, or they lack the value of a needed argument
 abbrev pub IsMisused : Name → List Text → Type 0
 IsMisused name words = (IsTaken (app_for name) words → ⊥) ⊎ Lacks (value_in (app_for name) words) name
 

@@ -19,6 +19,7 @@ ghost use Rattle.adjudicate.specs.Asked.{IsAsked, reply_of};
 use crate::commands::Task;
 use crate::lines::{AnswerFault, Line, put_line, put_refusal};
 use crate::manifest::Manifest;
+use crate::schedules::answer_run;
 use crate::show::show;
 use crate::sources::Sources;
 use crate::tables::{gather, open_line};
@@ -266,6 +267,7 @@ fn answer_to(alloc: Global, task: &Task, sources: &Sources) -> Result<Answer, Al
         Task::Moves { fen } => answer_fen(alloc, fen),
         Task::List { .. } => answer_list(alloc, sources),
         Task::Check { .. } => answer_check(alloc, sources),
+        Task::Run { cache, delay, .. } => answer_run(alloc, sources, cache, delay),
         Task::Show => unreachable!(),
     }
 }
@@ -307,7 +309,9 @@ fn put_answer<W: Write>(out: &mut W, answer: &Answer) -> Result<u8, AnswerFault>
 /// refused.
 ///
 /// `judge` and `probe` look at all files, or with a manifest at those of its lines, in its order, and
-/// tell the first refusal: of the text, then of the manifest, then of a file.
+/// tell the first refusal: of the text, then of the manifest, then of a file. `run` tells that of a line of
+/// the schedule, then of a file; and where it refuses nothing, there are worlds of the schedule, in each of
+/// which the records of both arbiters are true to the game and their verdicts one, and it tells the last.
 ///
 /// Where memory is refused, the line `refused memory` comes in place of all else, with status 1; a
 /// text that is no position takes none, and `show` takes none. The error comes only where the writer

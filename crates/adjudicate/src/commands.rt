@@ -5,6 +5,7 @@ ghost use Rattle.clap.specs.Words.{Text, app_of, is_simple_and_free, found_of, f
 ghost use Rattle.adjudicate.specs.Commands.{app_for, rule_of_value, rules_of, value_in, word_of};
 ghost use Rattle.adjudicate.specs.Tasks.{HasValues, IsTask, IsMisuse, IsTaken, Lacks, Names, NamesNone, name_of};
 
+use crate::numbers::{CacheSize, Delay};
 use crate::usage::Usage;
 use clap::{Arg, ArgMatches, Command};
 use std::alloc::{AllocError, Global};
@@ -49,6 +50,15 @@ pub enum Task<'a> {
     },
     /// The messages of the input.
     Show,
+    /// What becomes of two arbiters under the schedule of the input.
+    Run {
+        /// The folder of the tables, if one is named.
+        tables: Option<&'a str>,
+        /// How many decoded blocks the cache of each arbiter may have.
+        cache: CacheSize,
+        /// For how many further plies a verdict by tables must hold.
+        delay: Delay,
+    },
 }
 
 /// The commands.
@@ -66,6 +76,8 @@ pub enum Name {
     Check,
     /// Shows messages.
     Show,
+    /// Runs a schedule.
+    Run,
 }
 
 /// How a command is given a value.
@@ -142,6 +154,22 @@ const OF_CHECK: [Value; 2] = [
     },
 ];
 
+/// The values of `run`.
+const OF_RUN: [Value; 3] = [
+    Value {
+        name: "tables",
+        form: Form::Option,
+    },
+    Value {
+        name: "cache",
+        form: Form::Option,
+    },
+    Value {
+        name: "delay",
+        form: Form::Option,
+    },
+];
+
 impl Name {
     /// The command that a word names.
     fn of(word: &str) -> Option<Name>
@@ -155,6 +183,7 @@ impl Name {
             "list" => Some(Name::List),
             "check" => Some(Name::Check),
             "show" => Some(Name::Show),
+            "run" => Some(Name::Run),
             _ => None,
         }
     }
@@ -170,6 +199,7 @@ impl Name {
             Name::List => "list",
             Name::Check => "check",
             Name::Show => "show",
+            Name::Run => "run",
         }
     }
 
@@ -184,6 +214,7 @@ impl Name {
             Name::List => &OF_LIST,
             Name::Check => &OF_CHECK,
             Name::Show => &[],
+            Name::Run => &OF_RUN,
         }
     }
 }
@@ -236,7 +267,8 @@ fn matches_at<'a>(command: Command<'a>, words: &'a [&'a str]) -> Result<ArgMatch
     }
 }
 
-/// The task of a command with these values; none where it lacks one that it needs.
+/// The task of a command with these values; none where it lacks one that it needs, or a number isn't one
+/// that the command takes.
 fn task_of<'a>(name: Name, matches: &ArgMatches<'a>) -> Option<Task<'a>>
     ensures named { IfSome result (λ t. name_of t ≡ name) }
     ensures values { IfSome result (HasValues (first_value (found_of matches.now))) }
@@ -288,6 +320,19 @@ fn task_of<'a>(name: Name, matches: &ArgMatches<'a>) -> Option<Task<'a>>
             Some(Task::Check { manifest, folder })
         }
         Name::Show => Some(Task::Show),
+        Name::Run => {
+            let Some(cache) = CacheSize::of(matches.get_str("cache")) else {
+                return None;
+            };
+            let Some(delay) = Delay::of(matches.get_str("delay")) else {
+                return None;
+            };
+            Some(Task::Run {
+                tables: matches.get_str("tables"),
+                cache,
+                delay,
+            })
+        }
     }
 }
 

@@ -85,11 +85,18 @@ const ABC: [File; 1] = [("KNvK.rtbw", b"abc", 3)];
 /// The knight's table alone.
 const KNIGHT_ALONE: [File; 1] = [("KNvK.rtbw", &KNIGHT, 80)];
 
+/// The queen's tables.
+const QUEEN_ALONE: [File; 2] = [
+    ("KQvK.rtbw", &QUEEN, 80),
+    ("KQvK.rtbz", &QUEEN_DISTANCE, 80),
+];
+
 /// The files of the folder of this name.
 fn files_in(folder: &str) -> Option<&'static [File]> {
     match folder {
         "abc" => Some(&ABC),
         "knight" => Some(&KNIGHT_ALONE),
+        "queen" => Some(&QUEEN_ALONE),
         "worked" => Some(&WORKED),
         "damaged" => Some(&DAMAGED),
         "at_fault" => Some(&AT_FAULT),

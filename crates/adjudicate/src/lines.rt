@@ -3,14 +3,16 @@
 ghost use Rattle.std.specs.Prelude.{◌≡◌, Some, IfOk, OnOk};
 ghost use Rattle.std.specs.Fmt.{DisplaysOnOk};
 ghost use Rattle.std.specs.Io.KnownBytes.{Appends};
-ghost use Rattle.adjudicate.specs.Lines.{ended, message_words, refused_fen, told_words, words_of};
+ghost use Rattle.adjudicate.specs.Lines.{arbiter_words, ended, message_words, refused_fen, state_word, told_words, verdict_or_none, words_of};
+ghost use Rattle.relay_world.specs.Texts.{who_word};
 
 use crate::tables::FileFault;
 use arrayvec::ArrayString;
 use board_core::{Move, Verdict};
 use fen_text::{FenFault, write_move};
 use judge_core::ProbeFault;
-use move_msg::{Message, MessageFault};
+use move_msg::{Message, MessageFault, Who};
+use relay_world::State;
 use std::fmt;
 use std::io::Write;
 use thiserror::Error;
@@ -21,6 +23,15 @@ pub enum AnswerFault {
     /// The writer failed.
     #[error("the output can't be written")]
     Io,
+}
+
+/// What an arbiter keeps.
+#[derive(Clone, Copy)]
+pub(crate) struct Kept {
+    /// How many moves.
+    pub(crate) count: u32,
+    /// The verdict, if there is one.
+    pub(crate) verdict: Option<Verdict>,
 }
 
 /// A line, without its line feed.
@@ -46,6 +57,12 @@ pub(crate) enum Line {
     Message(Message),
     /// The number of a message, the first being 1, and what is wrong with it; nothing where it is cut.
     RefusedMessage(usize, Option<MessageFault>),
+    /// How an arbiter is, and what it keeps, if anything.
+    Arbiter(Who, State, Option<Kept>),
+    /// How many messages were sent.
+    Sent(usize),
+    /// The number of the first line of a schedule that is at fault, the first being 1.
+    RefusedLine(usize),
     /// Something can't be read.
     RefusedFiles,
     /// Memory was refused.
@@ -106,6 +123,58 @@ fn fmt_message<W: fmt::Write>(f: &mut fmt::Formatter<W>, message: &Message) -> f
     }
 }
 
+/// The letter of an arbiter.
+fn letter_of(who: Who) -> &'static str
+    ensures { result.now ≡ who_word who }
+{
+    match who {
+        Who::A => "A",
+        Who::B => "B",
+    }
+}
+
+/// The word for how an arbiter is.
+fn state_word(state: State) -> &'static str
+    ensures { result.now ≡ state_word state }
+{
+    match state {
+        State::Running => "running",
+        State::Down => "down",
+        State::Closed => "closed",
+    }
+}
+
+/// The name of a verdict, or that there is none.
+fn verdict_or_none(verdict: Option<Verdict>) -> &'static str
+    ensures { result.now ≡ verdict_or_none verdict }
+{
+    match verdict {
+        None => "none",
+        Some(verdict) => verdict.name(),
+    }
+}
+
+/// Tells how an arbiter is, and what it keeps.
+#[tactic(auto, unfolding(crate::specs::Lines::arbiter_words))]
+fn fmt_arbiter<W: fmt::Write>(
+    f: &mut fmt::Formatter<W>,
+    who: Who,
+    state: State,
+    kept: Option<Kept>,
+) -> fmt::Result
+    ensures { DisplaysOnOk W.Write.write_str_gives f.old result (Some (arbiter_words who state kept)) f.new }
+{
+    let letter = letter_of(who);
+    let word = state_word(state);
+    match kept {
+        None => write!(f, "{letter} {word} - none"),
+        Some(kept) => {
+            let verdict = verdict_or_none(kept.verdict);
+            write!(f, "{letter} {word} {} {verdict}", kept.count)
+        }
+    }
+}
+
 impl fmt::Display for Line {
     ghost use Rattle.std.specs.Prelude.{Some};
     ghost use Rattle.adjudicate.specs.Lines.{words_of};
@@ -131,6 +200,9 @@ impl fmt::Display for Line {
             Line::RefusedMessage(number, Some(fault)) => {
                 write!(f, "refused message {number} {}", fault.name())
             }
+            Line::Arbiter(who, state, kept) => fmt_arbiter(f, *who, *state, *kept),
+            Line::Sent(number) => write!(f, "sent {number}"),
+            Line::RefusedLine(number) => write!(f, "refused line {number}"),
             Line::RefusedFiles => f.write_str("refused files"),
             Line::RefusedMemory => f.write_str("refused memory"),
         }

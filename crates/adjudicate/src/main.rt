@@ -3,7 +3,8 @@
 //! `judge FEN` prints the verdict on a position, or `open`; `moves FEN` prints its legal moves;
 //! `probe --tables DIR FEN` prints what tables say of it; `list DIR` prints the manifest of a
 //! folder's tables, and `check --manifest FILE DIR` whether they are those of one; `show` prints the
-//! messages on standard input. Statuses: 0 done, 1 refused, 2 misuse.
+//! messages on standard input; `run` runs the schedule on standard input, and prints what becomes of its
+//! two arbiters. Statuses: 0 done, 1 refused, 2 misuse.
 #![tactic(auto)]
 
 mod answers;
@@ -13,8 +14,10 @@ mod files;
 mod input;
 mod lines;
 mod manifest;
+mod numbers;
 mod program;
 mod reading;
+mod schedules;
 mod show;
 mod sources;
 mod tables;
@@ -107,6 +110,8 @@ mod folders;
 mod message_tests;
 #[cfg(test)]
 mod run_tests;
+#[cfg(test)]
+mod schedule_tests;
 #[cfg(test)]
 mod table_tests;
 #[cfg(test)]

@@ -19,7 +19,8 @@ const USAGE: &str = "usage: adjudicate judge [--tables DIR] [--manifest FILE] FE
        adjudicate probe --tables DIR [--manifest FILE] FEN
        adjudicate list DIR
        adjudicate check --manifest FILE DIR
-       adjudicate show";
+       adjudicate show
+       adjudicate run [--tables DIR] [--cache N] [--delay N]";
 
 /// Writes what a misuse is told; a failure changes nothing.
 fn put_usage<E: Write>(errors: &mut E) {
@@ -49,7 +50,7 @@ fn run_task<D: Disk, W: Write>(
 /// misuse.
 ///
 /// All that a task names is read before anything is answered: its folder, of which the files of
-/// tables are looked at, its manifest, and for `show` the input, to its end. What can't be read or
+/// tables are looked at, its manifest, and for `show` and `run` the input, to its end. What can't be read or
 /// has more than 2^30 bytes is told as `refused files`. Answers go to `out` and the text of a
 /// misuse to `errors`, whose failure changes nothing. The error comes only where `out` failed.
 pub fn run<D: Disk, W: Write, E: Write>(

@@ -43,6 +43,7 @@ fn folder_of<'a>(task: &Task<'a>) -> Option<&'a str>
     match *task {
         Task::Judge { tables, .. } => tables,
         Task::Probe { tables, .. } => Some(tables),
+        Task::Run { tables, .. } => tables,
         Task::List { folder } => Some(folder),
         Task::Check { folder, .. } => Some(folder),
         Task::Moves { .. } | Task::Show => None,
@@ -57,7 +58,7 @@ fn manifest_of<'a>(task: &Task<'a>) -> Option<&'a str>
         Task::Judge { manifest, .. } => manifest,
         Task::Probe { manifest, .. } => manifest,
         Task::Check { manifest, .. } => Some(manifest),
-        Task::List { .. } | Task::Moves { .. } | Task::Show => None,
+        Task::List { .. } | Task::Moves { .. } | Task::Show | Task::Run { .. } => None,
     }
 }
 
@@ -65,7 +66,7 @@ fn manifest_of<'a>(task: &Task<'a>) -> Option<&'a str>
 fn reads_input(task: &Task) -> bool
     ensures { result ≡ reads_input task.now }
 {
-    matches!(*task, Task::Show)
+    matches!(*task, Task::Show | Task::Run { .. })
 }
 
 /// The manifest at a path, if there is one.
@@ -123,7 +124,8 @@ fn read_input<D: Disk>(alloc: Global, disk: &D, is_wanted: bool) -> Result<Vec<u
 }
 
 impl Sources {
-    /// Reads what a task names: its manifest, the wanted files of its folder, and for `show` the input.
+    /// Reads what a task names: its manifest, the wanted files of its folder, and for `show` and `run` the
+    /// input.
     ///
     /// Files whose names are not those of tables are passed over, and with a manifest those that it doesn't name.
     /// `Unreadable` where the folder, one of these files, the manifest or the input can't be read, or the folder lists a

@@ -1,0 +1,18 @@
+-- Numbers of the command line, as Rust reads integers (this project's own bounds).
+use Rattle.std.specs.Prelude.{◌≡◌, ◌≤◌, ℕ, List, Option, Some, None}
+use Rattle.std.specs.Str.Parse.{IsNumeral, digits_value, without_leading_plus}
+use Rattle.board_core.specs.Delays.{most_delay}
+
+-- the text is this number in decimal digits, perhaps after a plus
+abbrev pub IsNumber : List ℕ → ℕ → Type 0
+IsNumber text n = IsNumeral 10 (without_leading_plus text) × (digits_value 10 (without_leading_plus text) ≡ n)
+
+-- a cache has 1 to 4096 blocks, and 64 where no number is given
+abbrev pub IsCache : Option (List ℕ) → ℕ → Type 0
+IsCache None blocks = blocks ≡ 64
+IsCache (Some text) blocks = IsNumber text blocks × (1 ≤ blocks) × (blocks ≤ 4096)
+
+-- a delay has 0 to 8 plies, and 0 where no number is given
+abbrev pub IsDelay : Option (List ℕ) → ℕ → Type 0
+IsDelay None plies = plies ≡ 0
+IsDelay (Some text) plies = IsNumber text plies × (plies ≤ most_delay)

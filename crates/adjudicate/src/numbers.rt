@@ -1,0 +1,94 @@
+//! Numbers of the command line.
+
+ghost use Rattle.std.specs.Prelude.{◌≡◌, ◌≤◌, ℕ, option_map, IfSome, IfNone};
+ghost use Rattle.board_core.specs.Delays.{most_delay};
+ghost use Rattle.adjudicate.specs.Numbers.{IsCache, IsDelay};
+
+use std::marker::Model;
+
+/// How many decoded blocks the cache of an arbiter's tables may have, 1 to 4096; contracts see the
+/// number.
+#[derive(Clone, Copy, PartialEq, Eq, Debug)]
+pub struct CacheSize {
+    blocks: u16,
+}
+
+impl Model for CacheSize {
+    ghost use Rattle.std.specs.Prelude.{ℕ, ◌≤◌};
+
+    ghost Value = { ℕ };
+
+    ghost view = { λ c. c.blocks };
+
+    ghost invariant = { λ c. (1 ≤ c.blocks) × (c.blocks ≤ 4096) };
+
+    ghost inverse = { λ n. record { blocks = n } };
+}
+
+impl CacheSize {
+    /// The number of blocks that a text tells, and 64 where there is no text; none outside 1 to 4096.
+    pub fn of(text: Option<&str>) -> Option<CacheSize>
+        ensures some { IfSome result (IsCache (option_map (λ s. s.now) text.entry)) }
+        ensures none { IfNone result ((n : ℕ) → IsCache (option_map (λ s. s.now) text.entry) n → ⊥) }
+    {
+        let Some(text) = text else {
+            return Some(CacheSize { blocks: 64 });
+        };
+        match text.parse::<u16>() {
+            Ok(blocks) if 1 <= blocks && blocks <= 4096 => Some(CacheSize { blocks }),
+            _ => None,
+        }
+    }
+
+    /// The number of blocks.
+    pub fn blocks(self) -> usize
+        ensures value { result ≡ self }
+        ensures some { 1 ≤ result }
+        ensures most { result ≤ 4096 }
+    {
+        usize::from(self.blocks)
+    }
+}
+
+/// For how many further plies a verdict by tables must hold, 0 to 8; contracts see the number.
+#[derive(Clone, Copy, PartialEq, Eq, Debug)]
+pub struct Delay {
+    plies: u8,
+}
+
+impl Model for Delay {
+    ghost use Rattle.std.specs.Prelude.{ℕ, ◌≤◌};
+    ghost use Rattle.board_core.specs.Delays.{most_delay};
+
+    ghost Value = { ℕ };
+
+    ghost view = { λ d. d.plies };
+
+    ghost invariant = { λ d. d.plies ≤ most_delay };
+
+    ghost inverse = { λ n. record { plies = n } };
+}
+
+impl Delay {
+    /// The number of plies that a text tells, and 0 where there is no text; none above 8.
+    pub fn of(text: Option<&str>) -> Option<Delay>
+        ensures some { IfSome result (IsDelay (option_map (λ s. s.now) text.entry)) }
+        ensures none { IfNone result ((n : ℕ) → IsDelay (option_map (λ s. s.now) text.entry) n → ⊥) }
+    {
+        let Some(text) = text else {
+            return Some(Delay { plies: 0 });
+        };
+        match text.parse::<u8>() {
+            Ok(plies) if plies <= 8 => Some(Delay { plies }),
+            _ => None,
+        }
+    }
+
+    /// The number of plies.
+    pub fn plies(self) -> u8
+        ensures value { result ≡ self }
+        ensures most { result ≤ most_delay }
+    {
+        self.plies
+    }
+}
