@@ -1,6 +1,7 @@
 //! Codes of symbols.
 
 ghost use Rattle.std.specs.Prelude.{◌≡◌, ◌+◌, ◌*◌, ◌<◌, ◌≤◌, length, true, IfOk, IfSome};
+ghost use Rattle.pair_dict.specs.ShortCodes.{AreShortCodes, IsShortCode};
 ghost use Rattle.pair_dict.specs.Codes.{bases, code_from};
 ghost use Rattle.pair_dict.specs.Reading.{falls, words};
 ghost use Rattle.pair_dict.specs.Windows.{AreFirsts, IsFirst, IsSound};
@@ -43,7 +44,6 @@ pub(crate) fn firsts_of(alloc: Global, least: u32, lowest: &[u8]) -> Result<Vec<
 }
 
 /// The symbol and the length of the code at a bit of a block, by the first number of each length.
-#[inline]
 pub(crate) fn code_in(
     limit: usize,
     block: &[u8],
@@ -76,4 +76,59 @@ pub(crate) fn code_in(
         }
     }
     None
+}
+
+/// A code of at most eight bits: its symbol, and its length in bits. The length 0 stands for no such code.
+#[derive(Clone, Copy, Debug, PartialEq, Eq)]
+pub(crate) struct ShortCode {
+    pub(crate) symbol: u16,
+    pub(crate) length: u8,
+}
+
+/// The code of at most eight bits with which a byte begins.
+fn short_code_of(
+    limit: usize,
+    byte: u8,
+    least: u32,
+    firsts: &[u64],
+    lowest: &[u8],
+) -> ShortCode
+    requires few { limit ≤ 4095 }
+    requires least { 1 ≤ least }
+    requires greatest { least + length (words lowest.now) ≤ 33 }
+    requires firsts { AreFirsts least (words lowest.now) firsts.now }
+    ensures { IsShortCode limit least (words lowest.now) byte result }
+{
+    match code_in(limit, &[byte], 0, least, firsts, lowest) {
+        Some((symbol, length)) => ShortCode {
+            symbol: symbol as u16,
+            length: length as u8,
+        },
+        None => ShortCode {
+            symbol: 0,
+            length: 0,
+        },
+    }
+}
+
+/// The code of at most eight bits with which each byte begins.
+pub(crate) fn short_codes_of(
+    alloc: Global,
+    limit: usize,
+    least: u32,
+    firsts: &[u64],
+    lowest: &[u8],
+) -> Result<Vec<ShortCode>, AllocError>
+    requires few { limit ≤ 4095 }
+    requires least { 1 ≤ least }
+    requires greatest { least + length (words lowest.now) ≤ 33 }
+    requires firsts { AreFirsts least (words lowest.now) firsts.now }
+    ensures all { IfOk result (λ codes. length codes.items ≡ 256) }
+    ensures each { IfOk result (λ codes. AreShortCodes limit least (words lowest.now) codes.items) }
+{
+    let mut codes = Vec::with_capacity(alloc, 256)?;
+    for byte in 0u16..256 {
+        codes.push_reserved(short_code_of(limit, byte as u8, least, firsts, lowest));
+    }
+    Ok(codes)
 }

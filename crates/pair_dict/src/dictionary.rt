@@ -1,6 +1,6 @@
 //! Dictionaries.
 
-ghost use Rattle.std.specs.Prelude.{◌≡◌, ◌+◌, ◌*◌, ◌<◌, ◌≤◌, ◌++◌, length, slice_index, slice_get, take, vec_len, vec_capacity, Some, IsOk, IfOk, IfErr, OnErr, IfSome};
+ghost use Rattle.std.specs.Prelude.{◌≡◌, ◌≢◌, [], ◌∷◌, ◌+◌, ◌*◌, ◌<◌, ◌≤◌, ◌++◌, length, slice_index, slice_get, take, vec_len, vec_capacity, Some, IsOk, IfOk, IfErr, OnErr, IfSome};
 ghost use Rattle.pair_dict.specs.Symbols.{symbol_count, values_of, AllHaveValues};
 ghost use Rattle.pair_dict.specs.Codes.{code_at};
 ghost use Rattle.pair_dict.specs.Windows.{IsSound};
@@ -8,23 +8,25 @@ ghost use Rattle.pair_dict.specs.Reading.{Gives, layout_at, dictionary_at};
 ghost use Rattle.pair_dict.specs.declared.fault.DictFault.TheVariants.{OutOfMemory};
 ghost use Rattle.pair_dict.specs.Blocks.{block_values, BlockIsComputed, BlockBeginsWithValues};
 
-use crate::codes::{code_in, firsts_of};
+use crate::codes::{ShortCode, code_in, firsts_of, short_codes_of};
 use crate::counts::counts_of;
 use crate::fault::{Damaged, DictFault};
 use crate::layout::Layout;
 use crate::symbols::{MOST_VALUES, Symbol, symbol_at};
+use crate::window::window;
 use std::alloc::{AllocError, Global};
 use std::marker::Model;
 
 /// The symbols of a table and their codes.
 ///
-/// It borrows the bytes that it was read from, and keeps beside them a number for each code length and how many values
-/// each symbol stands for.
+/// It borrows the bytes that it was read from, and keeps beside them a number for each code length, the codes of at most
+/// eight bits by their first byte, and how many values each symbol stands for.
 #[derive(Drop)]
 pub struct Dictionary<'a> {
     least: u32,
     lowest: &'a [u8],
     firsts: Vec<u64>,
+    short_codes: Vec<ShortCode>,
     symbols: &'a [u8],
     counts: Vec<u16>,
 }
@@ -57,14 +59,30 @@ impl<'a> Dictionary<'a> {
         let layout = Layout::read(bytes)?;
         let counts = counts_of(alloc, layout.symbols)?;
         let firsts = firsts_of(alloc, layout.least, layout.lowest)?;
+        let short_codes = short_codes_of(
+            alloc,
+            counts.len(),
+            layout.least,
+            &firsts,
+            layout.lowest,
+        )?;
         let dictionary = Dictionary {
             least: layout.least,
             lowest: layout.lowest,
             firsts,
+            short_codes,
             symbols: layout.symbols,
             counts,
         };
         Ok((dictionary, layout.taken))
+    }
+
+    /// The code of at most eight bits that the byte begins with.
+    #[inline]
+    fn short_code(&self, byte: u8) -> ShortCode
+        ensures { result.length ≢ 0 → code_at self.now (byte ∷ []) 0 ≡ Some (result.symbol, result.length) }
+    {
+        self.short_codes[byte as usize]
     }
 
     /// The symbol and the length of the code at a bit of a block.
@@ -74,8 +92,15 @@ impl<'a> Dictionary<'a> {
         ensures is { result ≡ code_at self.now block.now at }
         ensures sound { IfSome result (λ code. IsSound (symbol_count self.now.symbols) block.now at code) }
     {
+        // Eight bytes from here on hold all of a code, so that a short one needs no look at the block's end.
+        if block.len() - at / 8 >= 8 {
+            let code = self.short_code((window(block, at) >> 56) as u8);
+            if code.length != 0 {
+                return Some((code.symbol as usize, code.length as u32));
+            }
+        }
         code_in(
-            self.symbols.len() / 3,
+            self.counts.len(),
             block,
             at,
             self.least,
