@@ -1,12 +1,14 @@
 -- Codes of at most eight bits, by the byte that begins with them.
-use Rattle.std.proofs.Common.{◌≡◌, ◌≢◌, ℕ, ◌+◌, ◌-◌, ◌*◌, ◌/◌, ◌%◌, ◌^◌, ◌<◌, ◌≤◌, List, [], ◌∷◌, ◌++◌, length, get_or, Some, refl, sym, ap, ◌∙◌, inl, inr, arith}
+use Rattle.std.proofs.Common.{◌≡◌, ℕ, ◌+◌, ◌-◌, ◌*◌, ◌/◌, ◌%◌, ◌^◌, ◌≤◌, List, [], ◌∷◌, ◌++◌, length, Some, refl, sym, ap, ◌∙◌, inl, inr, arith}
 use Rattle.std.proofs.lemmas.Bool.{cases_lt}
 use Rattle.std.proofs.lemmas.List.{length-append, get_or_append_left, get_or-append_right}
-use Rattle.std.proofs.lemmas.Nat.{shr-shr}
+use Rattle.std.proofs.lemmas.Nat.{shr-shr, shl-shr, field_of, pow-add}
 use Rattle.std.proofs.Math.Nat.{mod-eq_of_lt}
+use Rattle.std.proofs.Math.Pow.{mod-mod-pow}
 use Rattle.pair_dict.specs.Symbols.{symbol_count}
 use Rattle.pair_dict.specs.Codes.{Pairing, number_of, bits, code_at}
-use Rattle.pair_dict.specs.Windows.{IsWindow, IsSound}
+use Rattle.pair_dict.specs.Windows.{IsSound, Shows}
+use Rattle.pair_dict.specs.declared.window.BitBuffer.{BitBuffer}
 use Rattle.pair_dict.specs.ShortCodes.{IsShortCode, AreShortCodes}
 use Rattle.pair_dict.specs.declared.codes.ShortCode.{ShortCode}
 use Rattle.pair_dict.proofs.Longest.{bits_below, code_sound, code_complete}
@@ -20,10 +22,10 @@ bits_of_byte byte n few =
     rw (number, k) refl
 
 -- a word's highest byte begins as the word
-byte_bits : (block : List ℕ) (p word n : ℕ) → IsWindow block p word → n ≤ 8 → p + n ≤ 8 * length block → bits (word / 2 ^ 56 ∷ []) 0 n ≡ bits block p n
-byte_bits block p word n window few fits =
+byte_bits : (block : List ℕ) (p word n : ℕ) → n ≤ 8 → word / 2 ^ (64 - n) ≡ bits block p n → bits (word / 2 ^ 56 ∷ []) 0 n ≡ bits block p n
+byte_bits block p word n few same =
     let e : 56 + (8 - n) ≡ 64 - n = omega arith in
-    let top : word / 2 ^ 56 / 2 ^ (8 - n) ≡ bits block p n = shr-shr word 56 (8 - n) ∙ ap (λ (k : ℕ). word / 2 ^ k) e ∙ window n (omega arith) fits in
+    let top : word / 2 ^ 56 / 2 ^ (8 - n) ≡ bits block p n = shr-shr word 56 (8 - n) ∙ ap (λ (k : ℕ). word / 2 ^ k) e ∙ same in
     bits_of_byte (word / 2 ^ 56) n few ∙ ap (λ (x : ℕ). x % 2 ^ n) top ∙ mod-eq_of_lt (bits_below block p n)
 
 -- the code at a bit of a block
@@ -31,15 +33,52 @@ pub record IsCodeAt (d : Pairing) (block : List ℕ) (p s n : ℕ) : Type 0 wher
   pub is : code_at d block p ≡ Some (s, n)
   pub sound : IsSound (symbol_count d.symbols) block p (s, n)
 
--- where eight bits are left, the code of the highest byte is the block's
-pub short_code_at : (d : Pairing) (block : List ℕ) (p word s n : ℕ) → n ≢ 0 → IsWindow block p word → p + 8 ≤ 8 * length block → code_at d (word / 2 ^ 56 ∷ []) 0 ≡ Some (s, n) → IsCodeAt d block p s n
-short_code_at d block p word s n some window fits e =
-    let f = code_sound d (word / 2 ^ 56 ∷ []) 0 s n e in
+-- the code of the highest byte of a buffer that holds all of it is the block's
+pub short_code_at : (d : Pairing) (block : List ℕ) (p : ℕ) (b : BitBuffer) (s n : ℕ) → 1 ≤ d.least → Shows block p b → n ≤ b.held → code_at d (b.bits / 2 ^ 56 ∷ []) 0 ≡ Some (s, n) → IsCodeAt d block p s n
+short_code_at d block p b s n some shows held e =
+    let f = code_sound d (b.bits / 2 ^ 56 ∷ []) 0 s n e in
     let few : n ≤ 8 = omega (arith, f.within) in
-    let within : p + n ≤ 8 * length block = omega arith in
+    let within : p + n ≤ 8 * length block = omega (arith, shows.within) in
     record {
-      is = code_complete d block p n s (rw (byte_bits block p word n window few within) at f.code) within;
-      sound = record { known = f.code.known; some = omega (arith, some); short = omega arith; within = within };
+      is = code_complete d block p n s (rw (byte_bits block p b.bits n few (shows.same n held)) at f.code) within;
+      sound = record { known = f.code.known; some = omega (arith, some, f.code.shortest); short = omega arith; within = within };
+    }
+
+-- ---- buffers
+
+-- a buffer that holds no bits
+pub shows_none : (block : List ℕ) (p : ℕ) → p ≤ 8 * length block → Shows block p (record { bits = 0; held = 0 })
+shows_none block p le = record {
+  few = omega arith;
+  within = omega arith;
+  same = λ n n-le. let none : n ≡ 0 = omega arith in rw none (omega (arith, bits_below block p 0));
+}
+
+-- the bits after the first ones
+bits_after : (block : List ℕ) (p m n : ℕ) → p + (m + n) ≤ 8 * length block → bits block (p + m) n ≡ bits block p (m + n) % 2 ^ n
+unfolding bits
+bits_after block p m n fits =
+    let k = 8 * length block - (p + (m + n)) in
+    let j : 8 * length block - (p + m + n) ≡ k = omega arith in
+    let whole : 2 ^ (m + n) ≡ 2 ^ m * 2 ^ n = pow-add 2 m n in
+    ap (λ (x : ℕ). number_of block / 2 ^ x % 2 ^ n) j ∙ sym (mod-mod-pow (number_of block / 2 ^ k) m n)
+
+-- a buffer moved up shows the bits that follow
+pub shows_after : (block : List ℕ) (end length-1 : ℕ) (w v : BitBuffer) → length-1 ≤ end → length-1 ≤ w.held → Shows block (end - length-1) w → v.bits ≡ w.bits * 2 ^ length-1 % 2 ^ 64 → v.held ≡ w.held - length-1 → Shows block end v
+shows_after block end m w v le held shows bits-is held-is =
+    record {
+      few = omega (arith, shows.few);
+      within = omega (arith, shows.within);
+      same = λ n n-le.
+          let up : 64 - n ≡ m + (64 - (m + n)) = omega (arith, shows.few) in
+          let all : n + (64 - n) ≡ 64 = omega (arith, shows.few) in
+          let there : end - m + m ≡ end = omega arith in
+          let cut : v.bits / 2 ^ (64 - n) ≡ (w.bits * 2 ^ m) / 2 ^ (64 - n) % 2 ^ n =
+          ap (λ (x : ℕ). x / 2 ^ (64 - n)) (bits-is ∙ ap (λ (x : ℕ). w.bits * 2 ^ m % 2 ^ x) (sym all)) ∙ field_of (w.bits * 2 ^ m) n (64 - n) in
+          let top : (w.bits * 2 ^ m) / 2 ^ (64 - n) ≡ w.bits / 2 ^ (64 - (m + n)) =
+          ap (λ (x : ℕ). (w.bits * 2 ^ m) / 2 ^ x) up ∙ sym (shr-shr (w.bits * 2 ^ m) m (64 - (m + n))) ∙ ap (λ (x : ℕ). x / 2 ^ (64 - (m + n))) (shl-shr w.bits m) in
+          let shown : w.bits / 2 ^ (64 - (m + n)) ≡ bits block (end - m) (m + n) = shows.same (m + n) (omega arith) in
+          cut ∙ ap (λ (x : ℕ). x % 2 ^ n) (top ∙ shown) ∙ sym (bits_after block (end - m) m n (omega (arith, shows.within))) ∙ ap (λ (x : ℕ). bits block x n) there;
     }
 
 -- one byte more

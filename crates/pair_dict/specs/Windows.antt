@@ -1,6 +1,7 @@
 -- A few bits of a block at the top of a word.
 use Rattle.std.specs.Prelude.{◌≡◌, ℕ, ◌+◌, ◌-◌, ◌*◌, ◌/◌, ◌^◌, ◌<◌, ◌≤◌, List, length, slice_index}
 use Rattle.pair_dict.specs.Codes.{bases, bits, number_of}
+use Rattle.pair_dict.specs.declared.window.BitBuffer.{BitBuffer}
 
 -- the highest n bits of the word are the first n bits of the bytes
 abbrev pub IsWord : List ℕ → ℕ → Type 0
@@ -10,6 +11,12 @@ IsWord bytes word =
 -- the highest n bits of the word are the n bits of the block from bit p on
 abbrev pub IsWindow : List ℕ → ℕ → ℕ → Type 0
 IsWindow block p word = (n : ℕ) → n ≤ 57 → p + n ≤ 8 * length block → word / 2 ^ (64 - n) ≡ bits block p n
+
+-- the bits that are held are the block's from bit p on
+pub record Shows (block : List ℕ) (p : ℕ) (b : BitBuffer) : Type 0 where
+  pub few : b.held ≤ 57
+  pub within : p + b.held ≤ 8 * length block
+  pub same : (n : ℕ) → n ≤ b.held → b.bits / 2 ^ (64 - n) ≡ bits block p n
 
 -- the least number of 63 bits whose first n bits are at least the base, or 2^63 where n bits are never
 pub record IsFirst (n base first : ℕ) : Type 0 where

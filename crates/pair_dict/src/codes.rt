@@ -78,7 +78,10 @@ pub(crate) fn code_in(
     None
 }
 
-/// A code of at most eight bits: its symbol, and its length in bits. The length 0 stands for no such code.
+/// The length that stands for no code of at most eight bits. It is greater than the number of bits that a window holds.
+const NO_LENGTH: u8 = 255;
+
+/// A code of at most eight bits: its symbol, and its length in bits, or `NO_LENGTH`.
 #[derive(Clone, Copy, Debug, PartialEq, Eq)]
 pub(crate) struct ShortCode {
     pub(crate) symbol: u16,
@@ -86,13 +89,7 @@ pub(crate) struct ShortCode {
 }
 
 /// The code of at most eight bits with which a byte begins.
-fn short_code_of(
-    limit: usize,
-    byte: u8,
-    least: u32,
-    firsts: &[u64],
-    lowest: &[u8],
-) -> ShortCode
+fn short_code_of(limit: usize, byte: u8, least: u32, firsts: &[u64], lowest: &[u8]) -> ShortCode
     requires few { limit ≤ 4095 }
     requires least { 1 ≤ least }
     requires greatest { least + length (words lowest.now) ≤ 33 }
@@ -106,7 +103,7 @@ fn short_code_of(
         },
         None => ShortCode {
             symbol: 0,
-            length: 0,
+            length: NO_LENGTH,
         },
     }
 }

@@ -3,7 +3,7 @@
 ghost use Rattle.std.specs.Prelude.{◌≡◌, ◌≢◌, [], ◌∷◌, ◌+◌, ◌*◌, ◌<◌, ◌≤◌, ◌++◌, length, slice_index, slice_get, take, vec_len, vec_capacity, Some, IsOk, IfOk, IfErr, OnErr, IfSome};
 ghost use Rattle.pair_dict.specs.Symbols.{symbol_count, values_of, AllHaveValues};
 ghost use Rattle.pair_dict.specs.Codes.{code_at};
-ghost use Rattle.pair_dict.specs.Windows.{IsSound};
+ghost use Rattle.pair_dict.specs.Windows.{IsSound, Shows};
 ghost use Rattle.pair_dict.specs.Reading.{Gives, layout_at, dictionary_at};
 ghost use Rattle.pair_dict.specs.declared.fault.DictFault.TheVariants.{OutOfMemory};
 ghost use Rattle.pair_dict.specs.Blocks.{block_values, BlockIsComputed, BlockBeginsWithValues};
@@ -13,7 +13,7 @@ use crate::counts::counts_of;
 use crate::fault::{Damaged, DictFault};
 use crate::layout::Layout;
 use crate::symbols::{MOST_VALUES, Symbol, symbol_at};
-use crate::window::window;
+use crate::window::BitBuffer;
 use std::alloc::{AllocError, Global};
 use std::marker::Model;
 
@@ -77,27 +77,27 @@ impl<'a> Dictionary<'a> {
         Ok((dictionary, layout.taken))
     }
 
-    /// The code of at most eight bits that the byte begins with.
+    /// The code of at most eight bits that the byte begins with; a length of 255 where there is none.
     #[inline]
     fn short_code(&self, byte: u8) -> ShortCode
-        ensures { result.length ≢ 0 → code_at self.now (byte ∷ []) 0 ≡ Some (result.symbol, result.length) }
+        ensures is { result.length < 255 → code_at self.now (byte ∷ []) 0 ≡ Some (result.symbol, result.length) }
+        ensures least { 1 ≤ self.now.least }
     {
         self.short_codes[byte as usize]
     }
 
-    /// The symbol and the length of the code at a bit of a block.
+    /// The symbol and the length of the code at a bit of a block, of which a buffer shows the bits from there on. Where it
+    /// holds a code of at most eight bits the block isn't looked at.
     #[inline]
-    fn code_at(&self, block: &[u8], at: usize) -> Option<(usize, u32)>
-        requires { at ≤ 8 * length block.now }
+    fn code_at(&self, buffer: BitBuffer, block: &[u8], at: usize) -> Option<(usize, u32)>
+        requires at { at ≤ 8 * length block.now }
+        requires shows { Shows block.now at buffer }
         ensures is { result ≡ code_at self.now block.now at }
         ensures sound { IfSome result (λ code. IsSound (symbol_count self.now.symbols) block.now at code) }
     {
-        // Eight bytes from here on hold all of a code, so that a short one needs no look at the block's end.
-        if block.len() - at / 8 >= 8 {
-            let code = self.short_code((window(block, at) >> 56) as u8);
-            if code.length != 0 {
-                return Some((code.symbol as usize, code.length as u32));
-            }
+        let code = self.short_code(buffer.first_byte());
+        if code.length as u32 <= buffer.held() {
+            return Some((code.symbol as usize, code.length as u32));
         }
         code_in(
             self.counts.len(),
@@ -153,13 +153,15 @@ impl<'a> Dictionary<'a> {
     {
         let mut left = offset as usize;
         let mut at: usize = 0;
-        'codes: while let Some((symbol, length)) = self.code_at(block, at) {
+        let mut buffer = BitBuffer::at(block, 0);
+        'codes: while let Some((symbol, length)) = self.code_at(buffer, block, at) {
             let skipped = self.values(symbol);
             if left < skipped {
                 return Ok(self.value_in(symbol, left));
             }
             left -= skipped;
             at += length as usize;
+            buffer = buffer.after(length, block, at);
         }
         Err(Damaged)
     }
@@ -224,12 +226,14 @@ impl<'a> Dictionary<'a> {
         let mut values = Vec::with_capacity(alloc, limit)?;
         let mut waiting = [0u16; MOST_VALUES];
         let mut at: usize = 0;
+        let mut buffer = BitBuffer::at(block, 0);
         'codes: while values.len() < limit {
-            let Some((symbol, length)) = self.code_at(block, at) else {
+            let Some((symbol, length)) = self.code_at(buffer, block, at) else {
                 break;
             };
             self.push_values(symbol, limit, &mut waiting, &mut values);
             at += length as usize;
+            buffer = buffer.after(length, block, at);
         }
         Ok(values)
     }
