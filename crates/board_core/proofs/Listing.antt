@@ -172,5 +172,5 @@ last_promotion P q r b (Knight, h) = h
 pub plain_or_promotion : (p : Parts) (from to : ℕ) (o : Option Promotion) → IsLegal p (make from to o)
     → IsLegal p (make from to None) ⊎ (((k : Promotion) × IsLegal p (make from to (Some k))) × Stands p.men from p.side Pawn × (rank_of to ≡ last_rank p.side))
 plain_or_promotion p from to None l = inl l
-plain_or_promotion p from to (Some k) l = 
+plain_or_promotion p from to (Some k) l =
     let pawn = promotes_pawn p (make from to (Some k)) l.1.case k l.1.rule refl in inr ((k, l), pawn.0, pawn.1)

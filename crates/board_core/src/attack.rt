@@ -380,8 +380,9 @@ fn some_strikes(men: &Men, by: Side, squares: Bitboard, to: Square) -> bool
     false
 }
 
-/// Up to so many men it is quicker to ask each of them than to look out from the square.
-const FEW: u32 = 4;
+/// Up to so many men it is quicker to ask of each of them whether a line or a step joins it to a square than to look out
+/// from the square.
+pub const FEW: u32 = 4;
 
 /// Whether some man of this side attacks the square; all its men stand on these squares.
 pub fn is_attacked_from(men: &Men, by: Side, squares: Bitboard, to: Square) -> bool

@@ -353,10 +353,15 @@ fn steps(p: &Parts, v: &Survey, which: Which, kind: Kind, from: Square) -> Bitbo
     ensures steps { (s : ℕ) → bit_at result s ≡ 1 → IsStep p.now which kind from s }
     ensures whole { (m : Move) → IsListed which p.now m → m.from ≡ from → bit_at result m.to ≡ 1 }
 {
-    let set = targets::plain_targets(&p.men, p.side, kind, from);
     match which {
-        Which::Every => set,
-        Which::Captures => set & v.enemy,
+        Which::Every => targets::plain_targets(&p.men, p.side, kind, from),
+        Which::Captures => {
+            if v.enemy.len() <= attack::FEW {
+                return targets::reached_of(&p.men, p.side, kind, from, v.enemy);
+            }
+            let set = targets::plain_targets(&p.men, p.side, kind, from);
+            set & v.enemy
+        }
     }
 }
 

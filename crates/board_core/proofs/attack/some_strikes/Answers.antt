@@ -1,5 +1,4 @@
 use Rattle.std.proofs.Common.{arith, rules}
-use Rattle.board_core.specs.Search.{Strikes}
 use Rattle.board_core.proofs.Sweep.{Rests-begin, Rests-without, none_on, none_left}
 use Rattle.board_core.proofs.attack.some_strikes.Goals as goal
 

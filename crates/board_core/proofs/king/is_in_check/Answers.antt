@@ -1,6 +1,5 @@
-use Rattle.std.proofs.Common.{◌∙◌, ap, arith, rules}
+use Rattle.std.proofs.Common.{◌∙◌, ap, arith}
 use Rattle.board_core.specs.declared.sides.Sides.{Sides}
-use Rattle.board_core.specs.Side.{other}
 use Rattle.board_core.specs.Sides.{squares_of}
 use Rattle.board_core.proofs.Computed.{check_computed}
 use Rattle.board_core.proofs.SideSets.{side_set, set_of_side}

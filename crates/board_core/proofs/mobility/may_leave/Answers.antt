@@ -1,4 +1,4 @@
-use Rattle.std.proofs.Common.{rules, refl}
+use Rattle.std.proofs.Common.{refl}
 use Rattle.board_core.proofs.mobility.may_leave.Goals as goal
 
 pub may_go_within-requires-clause-whole : goal.may_go_within-requires-clause-whole

@@ -1,6 +1,5 @@
-use Rattle.std.proofs.Common.{arith, rules, ◌∙◌, ap, sym}
+use Rattle.std.proofs.Common.{arith, rules}
 use Rattle.board_core.specs.Moves.{IsMove}
-use Rattle.board_core.specs.Sides.{sides_of}
 use Rattle.board_core.proofs.Safety.{men_of, only_played}
 use Rattle.board_core.proofs.SoleKing.{one_king_after}
 use Rattle.board_core.proofs.playing.play.Goals as goal

@@ -1,4 +1,3 @@
-use Rattle.std.proofs.Common.{rules}
 use Rattle.board_core.proofs.Preserved.{IsPosition-play}
 use Rattle.board_core.proofs.ComputedMoves.{computed_none, computed_some}
 use Rattle.board_core.proofs.position.Position.play.Goals as goal
