@@ -1,46 +1,45 @@
--- Codes of at most eight bits, by the byte that begins with them.
+-- Short codes, by the bits that begin with them.
 use Rattle.std.proofs.Common.{◌≡◌, ℕ, ◌+◌, ◌-◌, ◌*◌, ◌/◌, ◌%◌, ◌^◌, ◌≤◌, List, [], ◌∷◌, ◌++◌, length, Some, refl, sym, ap, ◌∙◌, inl, inr, arith}
 use Rattle.std.proofs.lemmas.Bool.{cases_lt}
 use Rattle.std.proofs.lemmas.List.{length-append, get_or_append_left, get_or-append_right}
 use Rattle.std.proofs.lemmas.Nat.{shr-shr, shl-shr, field_of, pow-add}
 use Rattle.std.proofs.Math.Nat.{mod-eq_of_lt}
 use Rattle.std.proofs.Math.Pow.{mod-mod-pow}
-use Rattle.pair_dict.specs.Symbols.{symbol_count}
 use Rattle.pair_dict.specs.Codes.{Pairing, number_of, bits, code_at}
-use Rattle.pair_dict.specs.Windows.{IsSound, Shows}
+use Rattle.pair_dict.specs.Windows.{IsCodeAt, Shows}
 use Rattle.pair_dict.specs.declared.window.BitBuffer.{BitBuffer}
-use Rattle.pair_dict.specs.ShortCodes.{IsShortCode, AreShortCodes}
+use Rattle.pair_dict.specs.ShortCodes.{two_bytes, IsShortCode, AreShortCodes}
 use Rattle.pair_dict.specs.declared.codes.ShortCode.{ShortCode}
 use Rattle.pair_dict.proofs.Longest.{bits_below, code_sound, code_complete}
 
--- the first bits of a byte
-bits_of_byte : (byte n : ℕ) → n ≤ 8 → bits (byte ∷ []) 0 n ≡ byte / 2 ^ (8 - n) % 2 ^ n
+-- the first bits of two bytes
+bits_of_two : (x n : ℕ) → n ≤ 16 → bits (x / 256 ∷ x % 256 ∷ []) 0 n ≡ x / 2 ^ (16 - n) % 2 ^ n
 unfolding bits
-bits_of_byte byte n few =
-    let number : number_of (byte ∷ []) ≡ byte = omega arith in
-    let k : 8 * length (byte ∷ []) - (0 + n) ≡ 8 - n = omega arith in
+bits_of_two x n few =
+    let number : number_of (x / 256 ∷ x % 256 ∷ []) ≡ x = omega arith in
+    let k : 8 * length (x / 256 ∷ x % 256 ∷ []) - (0 + n) ≡ 16 - n = omega arith in
     rw (number, k) refl
 
--- a word's highest byte begins as the word
-byte_bits : (block : List ℕ) (p word n : ℕ) → n ≤ 8 → word / 2 ^ (64 - n) ≡ bits block p n → bits (word / 2 ^ 56 ∷ []) 0 n ≡ bits block p n
-byte_bits block p word n few same =
-    let e : 56 + (8 - n) ≡ 64 - n = omega arith in
-    let top : word / 2 ^ 56 / 2 ^ (8 - n) ≡ bits block p n = shr-shr word 56 (8 - n) ∙ ap (λ (k : ℕ). word / 2 ^ k) e ∙ same in
-    bits_of_byte (word / 2 ^ 56) n few ∙ ap (λ (x : ℕ). x % 2 ^ n) top ∙ mod-eq_of_lt (bits_below block p n)
+-- two bytes made of a word's first bits begin as the word
+front_bits : (block : List ℕ) (p word width n : ℕ) → n ≤ width → width ≤ 12 → word / 2 ^ (64 - n) ≡ bits block p n → bits (two_bytes width (word / 2 ^ (64 - width))) 0 n ≡ bits block p n
+front_bits block p word width n few most same =
+    let v = word / 2 ^ (64 - width) in
+    let k = 16 - width in
+    let j = width - n in
+    let up : 16 - n ≡ k + j = omega arith in
+    let e : 64 - width + j ≡ 64 - n = omega arith in
+    let cut : v * 2 ^ k / 2 ^ (16 - n) ≡ v / 2 ^ j =
+    ap (λ (x : ℕ). v * 2 ^ k / 2 ^ x) up ∙ sym (shr-shr (v * 2 ^ k) k j) ∙ ap (λ (x : ℕ). x / 2 ^ j) (shl-shr v k) in
+    let top : v / 2 ^ j ≡ bits block p n = shr-shr word (64 - width) j ∙ ap (λ (x : ℕ). word / 2 ^ x) e ∙ same in
+    bits_of_two (v * 2 ^ k) n (omega arith) ∙ ap (λ (x : ℕ). x % 2 ^ n) (cut ∙ top) ∙ mod-eq_of_lt (bits_below block p n)
 
--- the code at a bit of a block
-pub record IsCodeAt (d : Pairing) (block : List ℕ) (p s n : ℕ) : Type 0 where
-  pub is : code_at d block p ≡ Some (s, n)
-  pub sound : IsSound (symbol_count d.symbols) block p (s, n)
-
--- the code of the highest byte of a buffer that holds all of it is the block's
-pub short_code_at : (d : Pairing) (block : List ℕ) (p : ℕ) (b : BitBuffer) (s n : ℕ) → 1 ≤ d.least → Shows block p b → n ≤ b.held → code_at d (b.bits / 2 ^ 56 ∷ []) 0 ≡ Some (s, n) → IsCodeAt d block p s n
-short_code_at d block p b s n some shows held e =
-    let f = code_sound d (b.bits / 2 ^ 56 ∷ []) 0 s n e in
-    let few : n ≤ 8 = omega (arith, f.within) in
+-- the short code of a buffer that holds all of it is the block's
+pub short_code_at : (d : Pairing) (block : List ℕ) (p : ℕ) (b : BitBuffer) (width s n : ℕ) → 1 ≤ d.least → width ≤ 12 → Shows block p b → n ≤ b.held → n ≤ width → code_at d (two_bytes width (b.bits / 2 ^ (64 - width))) 0 ≡ Some (s, n) → IsCodeAt d block p s n
+short_code_at d block p b width s n some most shows held few e =
+    let f = code_sound d (two_bytes width (b.bits / 2 ^ (64 - width))) 0 s n e in
     let within : p + n ≤ 8 * length block = omega (arith, shows.within) in
     record {
-      is = code_complete d block p n s (rw (byte_bits block p b.bits n few (shows.same n held)) at f.code) within;
+      is = code_complete d block p n s (rw (front_bits block p b.bits width n few most (shows.same n held)) at f.code) within;
       sound = record { known = f.code.known; some = omega (arith, some, f.code.shortest); short = omega arith; within = within };
     }
 
@@ -81,13 +80,13 @@ shows_after block end m w v le held shows bits-is held-is =
           cut ∙ ap (λ (x : ℕ). x % 2 ^ n) (top ∙ shown) ∙ sym (bits_after block (end - m) m n (omega (arith, shows.within))) ∙ ap (λ (x : ℕ). bits block x n) there;
     }
 
--- one byte more
-pub short_codes_more : (limit least : ℕ) (lowest : List ℕ) (codes : List ShortCode) (code : ShortCode) → AreShortCodes limit least lowest codes → IsShortCode limit least lowest (length codes) code → AreShortCodes limit least lowest (codes ++ code ∷ [])
-short_codes_more limit least lowest codes code all next byte other lt =
-    elim (cases_lt byte (length codes)) [
-      | inl before ↦ rw (get_or_append_left codes (code ∷ []) other byte before) (all byte other before)
+-- one short code more
+pub short_codes_more : (limit width least : ℕ) (lowest : List ℕ) (codes : List ShortCode) (code : ShortCode) → AreShortCodes limit width least lowest codes → IsShortCode limit width least lowest (length codes) code → AreShortCodes limit width least lowest (codes ++ code ∷ [])
+short_codes_more limit width least lowest codes code all next front other lt =
+    elim (cases_lt front (length codes)) [
+      | inl before ↦ rw (get_or_append_left codes (code ∷ []) other front before) (all front other before)
       | inr past ↦
-          let last : byte ≡ length codes = omega (arith, length-append codes (code ∷ []), lt) in
-          let zero_is : byte - length codes ≡ 0 = omega arith in
-          rw (get_or-append_right codes (code ∷ []) (length codes) byte other refl past, zero_is, last) next
+          let last : front ≡ length codes = omega (arith, length-append codes (code ∷ []), lt) in
+          let zero_is : front - length codes ≡ 0 = omega arith in
+          rw (get_or-append_right codes (code ∷ []) (length codes) front other refl past, zero_is, last) next
     ]

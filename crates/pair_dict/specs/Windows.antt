@@ -1,6 +1,7 @@
 -- A few bits of a block at the top of a word.
-use Rattle.std.specs.Prelude.{◌≡◌, ℕ, ◌+◌, ◌-◌, ◌*◌, ◌/◌, ◌^◌, ◌<◌, ◌≤◌, List, length, slice_index}
-use Rattle.pair_dict.specs.Codes.{bases, bits, number_of}
+use Rattle.std.specs.Prelude.{◌≡◌, ℕ, ◌+◌, ◌-◌, ◌*◌, ◌/◌, ◌^◌, ◌<◌, ◌≤◌, List, length, slice_index, Some}
+use Rattle.pair_dict.specs.Symbols.{symbol_count}
+use Rattle.pair_dict.specs.Codes.{Pairing, bases, bits, number_of, code_at}
 use Rattle.pair_dict.specs.declared.window.BitBuffer.{BitBuffer}
 
 -- the highest n bits of the word are the first n bits of the bytes
@@ -34,3 +35,8 @@ pub record IsSound (limit : ℕ) (block : List ℕ) (p : ℕ) (code : ℕ × ℕ
   pub some : 1 ≤ code.1
   pub short : code.1 ≤ 32
   pub within : p + code.1 ≤ 8 * length block
+
+-- the code at a bit of a block, a sound one
+pub record IsCodeAt (d : Pairing) (block : List ℕ) (p s n : ℕ) : Type 0 where
+  pub is : code_at d block p ≡ Some (s, n)
+  pub sound : IsSound (symbol_count d.symbols) block p (s, n)

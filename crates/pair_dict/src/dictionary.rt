@@ -1,14 +1,14 @@
 //! Dictionaries.
 
-ghost use Rattle.std.specs.Prelude.{◌≡◌, ◌≢◌, [], ◌∷◌, ◌+◌, ◌*◌, ◌<◌, ◌≤◌, ◌++◌, length, slice_index, slice_get, take, vec_len, vec_capacity, Some, IsOk, IfOk, IfErr, OnErr, IfSome};
+ghost use Rattle.std.specs.Prelude.{◌≡◌, ℕ, List, ◌+◌, ◌*◌, ◌<◌, ◌≤◌, ◌++◌, length, slice_index, slice_get, take, vec_len, vec_capacity, Some, IsOk, IfOk, IfErr, OnErr, IfSome};
 ghost use Rattle.pair_dict.specs.Symbols.{symbol_count, values_of, AllHaveValues};
 ghost use Rattle.pair_dict.specs.Codes.{code_at};
-ghost use Rattle.pair_dict.specs.Windows.{IsSound, Shows};
+ghost use Rattle.pair_dict.specs.Windows.{IsCodeAt, IsSound, Shows};
 ghost use Rattle.pair_dict.specs.Reading.{Gives, layout_at, dictionary_at};
 ghost use Rattle.pair_dict.specs.declared.fault.DictFault.TheVariants.{OutOfMemory};
 ghost use Rattle.pair_dict.specs.Blocks.{block_values, BlockIsComputed, BlockBeginsWithValues};
 
-use crate::codes::{ShortCode, code_in, firsts_of, short_codes_of};
+use crate::codes::{ShortCode, code_in, firsts_of, short_codes_of, short_width};
 use crate::counts::counts_of;
 use crate::fault::{Damaged, DictFault};
 use crate::layout::Layout;
@@ -19,13 +19,14 @@ use std::marker::Model;
 
 /// The symbols of a table and their codes.
 ///
-/// It borrows the bytes that it was read from, and keeps beside them a number for each code length, the codes of at most
-/// eight bits by their first byte, and how many values each symbol stands for.
+/// It borrows the bytes that it was read from, and keeps beside them a number for each code length, the short codes
+/// by the bits that begin with them, and how many values each symbol stands for.
 #[derive(Drop)]
 pub struct Dictionary<'a> {
     least: u32,
     lowest: &'a [u8],
     firsts: Vec<u64>,
+    short_width: u32,
     short_codes: Vec<ShortCode>,
     symbols: &'a [u8],
     counts: Vec<u16>,
@@ -59,9 +60,11 @@ impl<'a> Dictionary<'a> {
         let layout = Layout::read(bytes)?;
         let counts = counts_of(alloc, layout.symbols)?;
         let firsts = firsts_of(alloc, layout.least, layout.lowest)?;
+        let short_width = short_width(counts.len());
         let short_codes = short_codes_of(
             alloc,
             counts.len(),
+            short_width,
             layout.least,
             &firsts,
             layout.lowest,
@@ -70,6 +73,7 @@ impl<'a> Dictionary<'a> {
             least: layout.least,
             lowest: layout.lowest,
             firsts,
+            short_width,
             short_codes,
             symbols: layout.symbols,
             counts,
@@ -77,17 +81,17 @@ impl<'a> Dictionary<'a> {
         Ok((dictionary, layout.taken))
     }
 
-    /// The code of at most eight bits that the byte begins with; a length of 255 where there is none.
+    /// The short code with which the bits of a buffer begin; a length of 255 where there is none.
     #[inline]
-    fn short_code(&self, byte: u8) -> ShortCode
-        ensures is { result.length < 255 → code_at self.now (byte ∷ []) 0 ≡ Some (result.symbol, result.length) }
-        ensures least { 1 ≤ self.now.least }
+    fn short_code(&self, buffer: BitBuffer) -> ShortCode
+        ensures { (block : List ℕ) (p : ℕ) → Shows block p buffer → result.length ≤ buffer.held
+            → IsCodeAt self.now block p result.symbol result.length }
     {
-        self.short_codes[byte as usize]
+        self.short_codes[buffer.front(self.short_width)]
     }
 
     /// The symbol and the length of the code at a bit of a block, of which a buffer shows the bits from there on. Where it
-    /// holds a code of at most eight bits the block isn't looked at.
+    /// holds a short code the block isn't looked at.
     #[inline]
     fn code_at(&self, buffer: BitBuffer, block: &[u8], at: usize) -> Option<(usize, u32)>
         requires at { at ≤ 8 * length block.now }
@@ -95,7 +99,7 @@ impl<'a> Dictionary<'a> {
         ensures is { result ≡ code_at self.now block.now at }
         ensures sound { IfSome result (λ code. IsSound (symbol_count self.now.symbols) block.now at code) }
     {
-        let code = self.short_code(buffer.first_byte());
+        let code = self.short_code(buffer);
         if code.length as u32 <= buffer.held() {
             return Some((code.symbol as usize, code.length as u32));
         }

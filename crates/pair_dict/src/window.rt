@@ -96,12 +96,15 @@ impl BitBuffer {
         }
     }
 
-    /// The first eight bits.
+    /// The first bits, so many.
     #[inline]
-    pub(crate) fn first_byte(self) -> u8
-        ensures { result ≡ self.bits / 2 ^ 56 }
+    pub(crate) fn front(self, width: u32) -> usize
+        requires some { 1 ≤ width }
+        requires few { width ≤ 12 }
+        ensures is { result ≡ self.bits / 2 ^ (64 - width) }
+        ensures below { result < 2 ^ width }
     {
-        (self.bits >> 56) as u8
+        (self.bits >> (64 - width)) as usize
     }
 
     /// How many bits are held, up to 57.

@@ -3,10 +3,10 @@ use Rattle.pair_dict.specs.Reading.{words}
 use Rattle.pair_dict.specs.ShortCodes.{AreShortCodes}
 use Rattle.pair_dict.proofs.codes.short_codes_of.Given as goal
 
-abbrev pub invariant-loop-byte : goal.invariant-loop-byte
-invariant-loop-byte l =
+abbrev pub invariant-loop-front : goal.invariant-loop-front
+invariant-loop-front l =
     record {
-      so_far : length l.codes.items ≡ l.byte;
-      room : 256 ≤ vec_capacity l.codes;
-      each : AreShortCodes l.limit l.least (words l.lowest) l.codes.items;
+      so_far : length l.codes.items ≡ l.front;
+      room : l.count ≤ vec_capacity l.codes;
+      each : AreShortCodes l.limit l.width l.least (words l.lowest) l.codes.items;
     }
