@@ -55,6 +55,9 @@ pub(crate) fn room_at(block: &[u8], at: usize) -> usize
     if rest < 8 { 8 * rest - at % 8 } else { 57 }
 }
 
+/// A buffer that would hold fewer bits is filled again: so many hold each short code.
+const FEW_BITS: u32 = 12;
+
 /// The bits of a block from some bit on, at the top of a word, and how many of them it holds.
 #[derive(Clone, Copy, Debug, PartialEq, Eq)]
 pub(crate) struct BitBuffer {
@@ -78,8 +81,8 @@ impl BitBuffer {
         }
     }
 
-    /// The bits that follow so many that are taken, up to a bit of the block: those that are held, and otherwise the
-    /// block's.
+    /// The bits that follow so many that are taken, up to a bit of the block: those that are held, or the block's where few
+    /// are left.
     #[inline]
     pub(crate) fn after(self, taken: u32, block: &[u8], end: usize) -> BitBuffer
         requires taken { taken ≤ end }
@@ -87,7 +90,7 @@ impl BitBuffer {
         requires shows { Shows block.now (end - taken) self }
         ensures { Shows block.now end result }
     {
-        if taken > self.held {
+        if taken > self.held || self.held - taken < FEW_BITS {
             return BitBuffer::at(block, end);
         }
         BitBuffer {
