@@ -5,8 +5,8 @@ ghost use Rattle.arbiter_core.specs.Keeping.{Risen};
 ghost use Rattle.adjudicate.specs.KeptFiles.{FindsOldOrNew};
 
 use crate::input::ReadFault;
-use arbiter_core::{KeepFault, Keeper};
 use crate::kept_file::{KeptFile, replace};
+use arbiter_core::{KeepFault, Keeper};
 use std::alloc::{AllocError, Global};
 
 /// How many bytes a record has at most: 25 and two for each of 4096 moves (record format).

@@ -33,7 +33,11 @@ const CALLS: [Call; 4] = [Call::Write, Call::Sync, Call::Rename, Call::SyncFolde
 /// That so many calls were made, in order, and no more.
 fn expect_calls(calls: &[Option<Call>], count: usize) -> Result<(), Fail> {
     for i in 0..calls.len() {
-        let wanted = if i < count { CALLS.get(i).copied() } else { None };
+        let wanted = if i < count {
+            CALLS.get(i).copied()
+        } else {
+            None
+        };
         if calls[i] != wanted {
             return Err(Fail::new(format_args!("call {i}")));
         }
@@ -73,7 +77,9 @@ fn stores_what_has_come_to_the_name(rt: HostRuntime) -> Result<(), Fail> {
 
 /// The folder of the test, its kept file and the one beside it.
 const FOLDER: &str = "/tmp/adjudicate-test-kept";
+
 const KEPT: &str = "/tmp/adjudicate-test-kept/kept";
+
 const BESIDE: &str = "/tmp/adjudicate-test-kept/kept.new";
 
 /// A keeper over the kept file, or why there is none.
@@ -134,6 +140,7 @@ fn keeps_a_file_of_the_system(rt: HostRuntime) -> Result<(), Fail> {
 
 /// The folder of the other test.
 const OTHER: &str = "/tmp/adjudicate-test-unkept";
+
 const LONG: &str = "/tmp/adjudicate-test-unkept/long";
 
 /// A folder in the file's place and a file of too many bytes are refused.

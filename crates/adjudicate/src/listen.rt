@@ -3,8 +3,10 @@
 ghost use Rattle.std.specs.Prelude.{◌≡◌, IfOk, Ok};
 ghost use Rattle.board_core.specs.Position.{IsPosition};
 ghost use Rattle.fen_text.specs.Fen.{SpellsPosition};
+ghost use Rattle.move_msg.specs.Files.{entries_of};
+ghost use Rattle.move_msg.specs.Manifests.{SpellsManifest};
 ghost use Rattle.arbiter_core.specs.Setups.{setup_view};
-ghost use Rattle.adjudicate.specs.Listens.{BindsAndServes, KeepsAndServes, Listens, OpensAndServes, ServesAt, TellsUnopened};
+ghost use Rattle.adjudicate.specs.Listens.{BindsAndServes, KeepsAndServes, Listens, OpensAndServes, ServesAt, TellsUnopened, setup_for};
 ghost use Rattle.adjudicate.specs.Looks.{gathered};
 
 use crate::file_keeper::FileKeeper;
@@ -22,7 +24,7 @@ use board_core::Position;
 use fen_text::read;
 use judge_core::Set;
 use move_msg::manifest_of;
-use std::alloc::Global;
+use std::alloc::{AllocError, Global};
 use std::io::Write;
 
 /// Tells that no arbiter is opened: `refused keeper`, or `refused memory` where memory was refused.
@@ -116,26 +118,31 @@ fn bind_and_serve<H: Host, W: Write>(
     }
 }
 
-/// The same with the tables of a set.
-fn listen_by<H: Host, W: Write>(
+/// The manifest of the tables.
+fn manifest_for(alloc: Global, sources: &Sources) -> Result<Vec<u8>, AllocError>
+    ensures { IfOk result (λ text. SpellsManifest text.items (entries_of sources.now.files)) }
+{
+    manifest_of(alloc, sources.files())
+}
+
+/// The same with the tables of a set and their manifest.
+fn listen_with<'a, H: Host, W: Write>(
     alloc: Global,
     listening: &Listening<'_>,
-    sources: &Sources,
+    name: &'a [u8],
     start: Position,
-    set: Set<'_>,
+    manifest: &'a [u8],
+    set: Set<'a>,
     host: &H,
     out: &mut W,
 ) -> Result<u8, AnswerFault>
-    ensures { Ok set.entry.tables ≡ gathered sources.now → SpellsPosition listening.now.start.now start → IsPosition start → IfOk result (Listens (H.binds host.now) (H.unbound host.now) (H.is_at host.now) H.Port.passed H.Port.faults H.File.unreadable H.File.finds listening.now sources.now (W.contents out.old) (W.contents out.new)) }
+    requires { name.now ≡ listening.now.name.now }
+    ensures { IfOk result (BindsAndServes (H.binds host.now) (H.unbound host.now) (H.is_at host.now) H.Port.passed H.Port.faults H.File.unreadable H.File.finds listening.now (setup_for listening.now start set.entry manifest.entry.now) (W.contents out.old) (W.contents out.new)) }
 {
-    let manifest = match manifest_of(alloc, sources.files()) {
-        Ok(manifest) => manifest,
-        Err(_) => return put_refusal(out, &Line::RefusedMemory),
-    };
     let setup = Setup {
-        name: listening.name.as_bytes(),
+        name,
         start,
-        manifest: &manifest,
+        manifest,
         me: listening.me.number(),
         delay: listening.delay.plies(),
         set,
@@ -143,15 +150,35 @@ fn listen_by<H: Host, W: Write>(
     bind_and_serve(alloc, listening, setup, host, out)
 }
 
+/// The same with the tables of a set.
+fn listen_by<'a, H: Host, W: Write>(
+    alloc: Global,
+    listening: &Listening<'a>,
+    sources: &Sources,
+    start: Position,
+    set: Set<'a>,
+    host: &H,
+    out: &mut W,
+) -> Result<u8, AnswerFault>
+    ensures { Ok set.entry.tables ≡ gathered sources.now → SpellsPosition listening.now.start.now start → IsPosition start → IfOk result (Listens (H.binds host.now) (H.unbound host.now) (H.is_at host.now) H.Port.passed H.Port.faults H.File.unreadable H.File.finds listening.now sources.now (W.contents out.old) (W.contents out.new)) }
+{
+    let manifest = match manifest_for(alloc, sources) {
+        Ok(manifest) => manifest,
+        Err(_) => return put_refusal(out, &Line::RefusedMemory),
+    };
+    let name = listening.name.as_bytes();
+    listen_with(alloc, listening, name, start, &manifest, set, host, out)
+}
+
 /// Opens an arbiter as its words say, lets it answer datagrams, and tells the status.
 ///
 /// What is refused is told in one line, in this order: the text of its start, the tables, the address, and the file in which the
 /// record is kept or what stands there. Where memory is refused the line is `refused memory`. The error comes only where the
 /// writer failed.
-pub fn listen<H: Host, W: Write>(
+pub fn listen<'a, H: Host, W: Write>(
     alloc: Global,
-    listening: &Listening<'_>,
-    sources: &Sources,
+    listening: &Listening<'a>,
+    sources: &'a Sources,
     host: &H,
     out: &mut W,
 ) -> Result<u8, AnswerFault>

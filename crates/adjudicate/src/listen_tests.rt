@@ -187,7 +187,12 @@ fn expect_passed(port: &MemoryPort<'_>, letters: &str) -> Result<(), Fail> {
     };
     let wanted = letters.as_bytes();
     let same = events.len() == wanted.len();
-    if same && events.iter().zip(wanted).all(|(event, letter)| letter_of(event) == *letter) {
+    if same
+        && events
+            .iter()
+            .zip(wanted)
+            .all(|(event, letter)| letter_of(event) == *letter)
+    {
         return Ok(());
     }
     Err(Fail::from(letters))
@@ -237,7 +242,12 @@ fn a_failed_send_is_a_loss_and_a_failed_receive_the_end(rt: HostRuntime) -> Resu
 /// No more datagrams are received than were asked for.
 #[test]
 fn receives_no_more_than_it_should(rt: HostRuntime) -> Result<(), Fail> {
-    expect_in_memory(rt.alloc(), 9, row_of(2, "ok 1 none\nok 2 none\n", 0), "chch")?;
+    expect_in_memory(
+        rt.alloc(),
+        9,
+        row_of(2, "ok 1 none\nok 2 none\n", 0),
+        "chch",
+    )?;
     expect_in_memory(rt.alloc(), 9, row_of(0, "", 0), "")
 }
 

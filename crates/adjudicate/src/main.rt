@@ -74,13 +74,27 @@ fn run_into<W: Write>(rt: &HostRuntime, out: &mut W) -> Result<u8, AnswerFault> 
         Err(Usage::OutOfMemory) => return put_refusal(out, &Line::RefusedMemory),
         Err(Usage::Misuse) => {
             let disk = SystemDisk::new(rt);
-            return run(rt.alloc(), &[], &disk, &SystemHost::new(rt), out, &mut rt.stderr());
+            return run(
+                rt.alloc(),
+                &[],
+                &disk,
+                &SystemHost::new(rt),
+                out,
+                &mut rt.stderr(),
+            );
         }
     };
     match tail_of(rt.alloc(), &words) {
         Ok(tail) => {
             let disk = SystemDisk::new(rt);
-            run(rt.alloc(), &tail, &disk, &SystemHost::new(rt), out, &mut rt.stderr())
+            run(
+                rt.alloc(),
+                &tail,
+                &disk,
+                &SystemHost::new(rt),
+                out,
+                &mut rt.stderr(),
+            )
         }
         Err(_) => put_refusal(out, &Line::RefusedMemory),
     }

@@ -99,7 +99,12 @@ const OPENINGS: [Row; 3] = [
         "A running 1 none\nB closed - none\nsent 7\n",
         0,
     ),
-    ("run", ASKS, "A running 3 none\nB running 3 none\nsent 13\n", 0),
+    (
+        "run",
+        ASKS,
+        "A running 3 none\nB running 3 none\nsent 13\n",
+        0,
+    ),
 ];
 
 #[test]

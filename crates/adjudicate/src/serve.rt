@@ -68,7 +68,10 @@ fn hear<K: Keeper, P: Port>(
     match arbiter.deliver(alloc, keeper, bytes) {
         Ok(outputs) => {
             send_all(port, outputs.as_slice());
-            (Line::Heard(arbiter.count(), arbiter.verdict()), Next::GoesOn)
+            (
+                Line::Heard(arbiter.count(), arbiter.verdict()),
+                Next::GoesOn,
+            )
         }
         Err(fault) => refusal(fault),
     }

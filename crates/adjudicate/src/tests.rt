@@ -132,7 +132,14 @@ fn lists_the_worked_moves(rt: HostRuntime) -> Result<(), Fail> {
 fn expect_beginning(alloc: Global, fen: &str, first: &[u8], wanted: bool) -> Result<(), Fail> {
     let mut lines = Vec::new(alloc);
     let words = ["moves", fen];
-    match run(alloc, &words, &NoDisk, &NoHost, &mut lines, &mut Vec::new(alloc)) {
+    match run(
+        alloc,
+        &words,
+        &NoDisk,
+        &NoHost,
+        &mut lines,
+        &mut Vec::new(alloc),
+    ) {
         Ok(0) if lines.starts_with(first) == wanted => Ok(()),
         _ => Err(Fail::new(fen)),
     }

@@ -1,13 +1,13 @@
 -- The cases of an answer to a move.
-use Rattle.std.proofs.Common.{◌≡◌, ℕ, ◌+◌, ◌-◌, ◌<◌, ◌≤◌, Bool, true, false, cond, ◌||◌, List, [], ◌∷◌, ◌++◌, length, Option, Some, None, sym, refl, ap, ◌∙◌, arith}
+use Rattle.std.proofs.Common.{◌≡◌, ℕ, ◌+◌, ◌-◌, ◌<◌, ◌≤◌, true, false, cond, ◌||◌, [], ◌∷◌, ◌++◌, ◌∙◌, arith}
 use Rattle.std.specs.Prelude.{is_some, is_none, nat_lt, nat_le}
-use Rattle.std.proofs.lemmas.Bool.{cond-true, cond-false, le-leb, lt-leb, lt-ltb, le-ltb, or_from, or_left, or_right}
+use Rattle.std.proofs.lemmas.Bool.{cond-true, cond-false, le-leb, lt-leb, lt-ltb, le-ltb, or_from}
 use Rattle.board_core.specs.declared.moves.Move.{Move as Moves}
 use Rattle.judge_core.specs.Games.{position_after_all, Rules}
 use Rattle.move_msg.specs.declared.message.Message.TheVariants.{Ack}
 use Rattle.move_msg.specs.Numbers.{most_moves}
 use Rattle.arbiter_core.specs.Recording.{Recorded, Window, count_of, advance}
-use Rattle.arbiter_core.specs.Answering.{Identity, waits_too, told_now, Answer, Refuses, Sends, Puts, puts, answer_to_move}
+use Rattle.arbiter_core.specs.Answering.{Identity, waits_too, told_now, Answer, Refuses, Sends, puts, answer_to_move}
 use Rattle.arbiter_core.specs.declared.fault.DeliverFault.TheVariants.{IllegalMove, TooFarAhead, TooLong}
 
 module _ (r : Rules) (me : Identity) (old : Recorded) (window : Window) (number : ℕ) (m : Moves) where

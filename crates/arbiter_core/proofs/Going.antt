@@ -1,5 +1,5 @@
 -- The put of a new record.
-use Rattle.std.proofs.Common.{◌≡◌, ◌∙◌, sym, ap, subst, refl, ℕ, true, cond, ◌-◌, inl, inr, ◌⊎◌, List, Option, Some, None, Result, Ok, Err}
+use Rattle.std.proofs.Common.{◌≡◌, ◌∙◌, sym, ap, subst, refl, ℕ, true, cond, ◌-◌, inl, inr, ◌⊎◌, List, Option, Some, Ok, Err}
 use Rattle.std.specs.Prelude.{is_some}
 use Rattle.std.specs.Result.{IsErrOf}
 use Rattle.board_core.specs.declared.moves.Move.{Move as Moves}
@@ -8,7 +8,6 @@ use Rattle.arbiter_core.specs.declared.keeper.Keep.{Keep}
 use Rattle.arbiter_core.specs.declared.keeper.Keep.TheVariants.{Good, FailsOld, FailsNew}
 use Rattle.arbiter_core.specs.declared.keeper.KeepFault.{KeepFault}
 use Rattle.arbiter_core.specs.declared.keeper.KeepFault.TheVariants.{Failed}
-use Rattle.arbiter_core.specs.declared.fault.DeliverFault.{DeliverFault}
 use Rattle.arbiter_core.specs.declared.fault.DeliverFault.TheVariants.{KeeperFailed}
 use Rattle.arbiter_core.specs.Recording.{Recorded, Window, advance, count_of}
 use Rattle.arbiter_core.specs.Answering.{still_waits, nothing_waits, told_now, puts}

@@ -1,11 +1,10 @@
 -- What bytes say, and the answer to it.
-use Rattle.std.proofs.Common.{◌≡◌, ◌≢◌, ℕ, ◌+◌, ◌<◌, Bool, true, false, cond, List, [], ◌∷◌, ◌++◌, length, suc, Option, Some, None, Result, Ok, Err, refl, sym, ap, ◌∙◌, subst}
+use Rattle.std.proofs.Common.{◌≡◌, ℕ, ◌<◌, true, false, List, [], ◌∷◌, ◌++◌, length, suc, Option, Some, None, Result, Ok, Err, refl, sym, ap, ◌∙◌, subst}
 use Rattle.std.specs.Prelude.{is_some, is_none}
 use Rattle.std.proofs.lemmas.Bool.{cond-true, cond-false}
 use Rattle.board_core.specs.declared.parts.Parts.{Parts}
 use Rattle.board_core.specs.declared.moves.Move.{Move as Moves}
-use Rattle.board_core.specs.ComputedMoves.{position_after}
-use Rattle.judge_core.specs.Games.{position_after_all, Rules}
+use Rattle.judge_core.specs.Games.{position_after_all}
 use Rattle.move_msg.specs.declared.stamp.Stamp.{Stamp}
 use Rattle.move_msg.specs.declared.who.Who.{Who}
 use Rattle.move_msg.specs.declared.who.Sender.{Sender}
@@ -17,17 +16,15 @@ use Rattle.std.specs.Str.{bytes_eq}
 use Rattle.move_msg.specs.Messages.{stamp_in}
 use Rattle.move_msg.specs.Heard.{heard_in}
 use Rattle.move_msg.specs.Numbers.{most_moves}
-use Rattle.judge_core.specs.Standings.{Reached, IsAt}
 use Rattle.arbiter_core.specs.declared.fault.DeliverFault.{DeliverFault}
-use Rattle.arbiter_core.specs.declared.fault.DeliverFault.TheVariants.{NotAMessage, Stranger, IllegalMove, TooFarAhead, TooLong, Down, KeeperFailed, OutOfMemory}
-use Rattle.arbiter_core.specs.Recording.{Recorded, count_of, advance}
-use Rattle.arbiter_core.specs.Answering.{Answer, Refuses, Sends, Puts, fetched, sent_by, puts, answer_to, answer_to_move, answer_heard}
+use Rattle.arbiter_core.specs.declared.fault.DeliverFault.TheVariants.{NotAMessage, Stranger, IllegalMove, Down}
+use Rattle.arbiter_core.specs.Recording.{count_of, advance}
+use Rattle.arbiter_core.specs.Answering.{Answer, Refuses, Sends, fetched, sent_by, puts, answer_to, answer_to_move, answer_heard}
 use Rattle.arbiter_core.specs.Setups.{rules_at}
 use Rattle.arbiter_core.specs.Views.{View}
 use Rattle.arbiter_core.specs.declared.keeper.Keep.{Keep}
 use Rattle.arbiter_core.specs.Delivers.{heard, in_game, answer_of, Told as Outcome, RefusesOrSends, PutsIfAny}
-use Rattle.arbiter_core.proofs.RunLaws.{next_position}
-use Rattle.arbiter_core.proofs.Cases.{case_turn, at_turn}
+use Rattle.arbiter_core.proofs.Cases.{case_turn}
 
 -- ---- what bytes say
 

@@ -8,3 +8,4 @@ pub mod Opened
 pub mod Going
 pub mod StillKept
 pub mod InWords
+pub mod WorkedRows

@@ -1,8 +1,8 @@
 -- A kept record is followed to its end.
-use Rattle.std.proofs.Common.{◌≡◌, ◌≢◌, ◌∙◌, sym, ap, subst, refl, ℕ, zero, suc, ◌+◌, ◌<◌, ◌≤◌, Bool, true, false, cond, ◌==◌, List, [], ◌∷◌, ◌++◌, length, take, get_or, Option, Some, None, Result, Ok, Err, inl, inr, ◌⊎◌, arith, add-one}
+use Rattle.std.proofs.Common.{◌≡◌, ◌≢◌, ◌∙◌, sym, ap, subst, refl, ℕ, zero, suc, ◌+◌, ◌<◌, ◌≤◌, Bool, true, false, cond, ◌==◌, List, [], length, take, get_or, Option, Some, None, Result, Ok, Err, inl, inr, ◌⊎◌, arith, add-one}
 use Rattle.std.specs.Prelude.{IsSome, is_some, IfOk, IfErr, ◌↔◌}
 use Rattle.std.specs.Option.{option_and_then, option_map}
-use Rattle.std.proofs.lemmas.Bool.{cases_lt, cases_Bool, cond-true, cond-false, eqb-true, eq-eqb}
+use Rattle.std.proofs.lemmas.Bool.{cases_lt, cond-true, cond-false, eqb-true, eq-eqb}
 use Rattle.std.proofs.lemmas.List.{take_more, take_all}
 use Rattle.board_core.specs.declared.parts.Parts.{Parts}
 use Rattle.board_core.specs.declared.moves.Move.{Move}
@@ -21,7 +21,7 @@ use Rattle.move_msg.proofs.RecordLaws.{one_record}
 use Rattle.move_msg.specs.Numbers.{most_moves}
 use Rattle.judge_core.specs.Standings.{IsAt}
 use Rattle.judge_core.proofs.Plies.{goes_on}
-use Rattle.arbiter_core.specs.Recording.{Recorded, reaches, record_at}
+use Rattle.arbiter_core.specs.Recording.{Recorded, reaches}
 use Rattle.arbiter_core.specs.declared.arbiter.Played.{Played}
 use Rattle.std.specs.Result.{IsErrOf}
 use Rattle.arbiter_core.specs.declared.keeper.Keep.{Keep}
@@ -37,7 +37,7 @@ use Rattle.arbiter_core.specs.Setups.{SetupView, rules_at}
 use Rattle.move_msg.specs.declared.who.Who.{Who}
 use Rattle.arbiter_core.specs.Views.{View, spelled_as, IsSettled}
 use Rattle.arbiter_core.specs.Starting.{IsPlayed, IsPutSo, IsPutFirst, recorded_in, told_from}
-use Rattle.arbiter_core.specs.Opens.{IsWhole, IsResumed, IsBadKept, at_end, first_record, running, Told, FirstLands, PutsFirst, OpensOver, NoMemory as MemoryRefused, Opens}
+use Rattle.arbiter_core.specs.Opens.{IsWhole, IsResumed, IsBadKept, at_end, first_record, running, Told, FirstLands, OpensOver, Opens}
 use Rattle.arbiter_core.proofs.Settling.{near_nothing}
 use Rattle.arbiter_core.proofs.Reach.{step_to, step_of, reach_below, unruled_below}
 

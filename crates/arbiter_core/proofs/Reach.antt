@@ -1,12 +1,11 @@
 -- What it means that a game reaches a ply.
-use Rattle.std.proofs.Common.{◌≡◌, ℕ, ◌+◌, ◌-◌, ◌<◌, ◌≤◌, Bool, true, false, cond, ◌&&◌, not, length-append, ltb, List, [], ◌∷◌, ◌++◌, length, take, drop, Option, Some, None, zero, suc, sym, refl, ap, ◌∙◌, subst, inl, inr, ◌⊎◌, arith, rules, ⊎_elim}
-use Rattle.std.specs.Prelude.{is_some, is_none, nat_lt}
-use Rattle.std.proofs.lemmas.Bool.{and_parts, and_from, ltb-true, lt-ltb, cases_Bool, both_ways, cond-true, cond-false, cases_lt, cases_eq}
-use Rattle.std.proofs.lemmas.List.{take-append-le, length-take-le}
-use Rattle.std.proofs.lemmas.Grind.{common_steps}
+use Rattle.std.proofs.Common.{◌≡◌, ℕ, ◌<◌, ◌≤◌, Bool, true, false, length-append, List, ◌++◌, length, take, Option, Some, None, zero, suc, sym, refl, ap, subst, arith, ⊎_elim}
+use Rattle.std.specs.Prelude.{is_some, is_none}
+use Rattle.std.proofs.lemmas.Bool.{and_parts, and_from, ltb-true, lt-ltb, cases_Bool, both_ways, cases_lt}
+use Rattle.std.proofs.lemmas.List.{take-append-le}
 use Rattle.board_core.specs.declared.moves.Move.{Move}
 use Rattle.judge_core.specs.Games.{position_after_all, Rules, verdict_after}
-use Rattle.arbiter_core.specs.Recording.{Recorded, reaches, record_at, greatest, last_ply}
+use Rattle.arbiter_core.specs.Recording.{reaches, record_at, greatest, last_ply}
 
 pub none_from : {A : Type 0} (o : Option A) → is_none o ≡ true → o ≡ None
 none_from None h = refl

@@ -1,9 +1,9 @@
 -- A run of waiting moves, move by move.
-use Rattle.std.proofs.Common.{◌≡◌, ◌≢◌, ℕ, ◌+◌, ◌-◌, ◌<◌, ◌≤◌, Bool, true, false, cond, List, [], ◌∷◌, ◌++◌, length, length-append, take, drop, get_or, Option, Some, None, zero, suc, sym, refl, ap, ◌∙◌, subst, inl, inr, ◌⊎◌, arith, ⊎_elim, append_assoc, add-one}
-use Rattle.std.specs.Prelude.{is_some, is_none, replicate}
+use Rattle.std.proofs.Common.{◌≡◌, ◌≢◌, ℕ, ◌+◌, ◌-◌, ◌<◌, ◌≤◌, true, false, List, [], ◌∷◌, ◌++◌, length, length-append, take, drop, get_or, Option, Some, None, zero, suc, sym, refl, ap, ◌∙◌, subst, arith, ⊎_elim, append_assoc, add-one}
+use Rattle.std.specs.Prelude.{is_some, replicate}
 use Rattle.std.specs.Option.{some_prefix, option_and_then}
 use Rattle.std.proofs.lemmas.Bool.{cases_lt, false_from_ne_true}
-use Rattle.std.proofs.lemmas.List.{take_at, append-nil, take_all, get_or-take, get_or-drop, get_or_past, length-take, length-take-le}
+use Rattle.std.proofs.lemmas.List.{take_at, append-nil, get_or-take, get_or-drop, get_or_past, length-take, length-take-le}
 use Rattle.std.proofs.Math.Seq.{drop-cons}
 use Rattle.std.proofs.Math.ListN.{set}
 use Rattle.std.proofs.lemmas.List.{get_or-set_other}
@@ -14,9 +14,9 @@ use Rattle.board_core.specs.declared.verdict.Verdict.{Verdict}
 use Rattle.judge_core.specs.Games.{position_after_all, Rules, verdict_after}
 use Rattle.judge_core.specs.Standings.{Reached, IsAt}
 use Rattle.judge_core.proofs.Plies.{goes_on as after_one}
-use Rattle.arbiter_core.specs.Recording.{Recorded, Window, reaches, record_at, last_ply, advance}
+use Rattle.arbiter_core.specs.Recording.{Window, reaches, record_at, last_ply, advance}
 use Rattle.arbiter_core.specs.Answering.{still_waits, nothing_waits}
-use Rattle.arbiter_core.proofs.Reach.{Step, step_of, step_to, reach_within, reach_more, last_is, same_record}
+use Rattle.arbiter_core.proofs.Reach.{Step, step_of, step_to, reach_more, last_is}
 
 -- how far the run has come after the first n places of the window
 pub record Runs (r : Rules) (before : List Move) (m : Move) (window : Window) (n : ℕ) (moves : List Move) (standing : Reached) (verdict : Option Verdict) : Type 0 where

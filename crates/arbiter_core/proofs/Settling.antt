@@ -1,6 +1,6 @@
 -- An arbiter stays settled.
-use Rattle.std.proofs.Common.{◌≡◌, ℕ, ◌+◌, ◌-◌, ◌<◌, ◌≤◌, Bool, true, false, cond, List, [], ◌∷◌, ◌++◌, length, length-append, take, drop, get_or, Option, Some, None, zero, suc, sym, refl, ap, ◌∙◌, subst, arith, take-append-drop, add-one}
-use Rattle.std.specs.Prelude.{is_some, is_none}
+use Rattle.std.proofs.Common.{◌≡◌, ℕ, ◌+◌, ◌-◌, ◌<◌, ◌≤◌, true, List, [], ◌∷◌, ◌++◌, length, length-append, take, drop, Option, Some, None, suc, sym, refl, ap, ◌∙◌, subst, arith, take-append-drop, add-one}
+use Rattle.std.specs.Prelude.{is_some}
 use Rattle.std.specs.Option.{some_prefix}
 use Rattle.std.proofs.lemmas.List.{take_at, length-take-le}
 use Rattle.board_core.specs.declared.parts.Parts.{Parts}
@@ -16,7 +16,7 @@ use Rattle.arbiter_core.specs.Answering.{still_waits, nothing_waits, waits_too}
 use Rattle.arbiter_core.specs.Setups.{SetupView, rules_at}
 use Rattle.arbiter_core.specs.Views.{IsSettled, IsNear}
 use Rattle.arbiter_core.proofs.Reach.{step_to, reach_within, reach_more, reach_front, last_reached}
-use Rattle.arbiter_core.proofs.Waiting.{Each, each_nothing, each_still, each_too}
+use Rattle.arbiter_core.proofs.Waiting.{each_nothing, each_still, each_too}
 use Rattle.arbiter_core.proofs.RunLaws.{next_position}
 
 -- after a legal move the next ply is reached

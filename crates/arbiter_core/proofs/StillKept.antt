@@ -1,12 +1,12 @@
 -- What a running arbiter has recorded stays what is kept.
-use Rattle.std.proofs.Common.{◌≡◌, ◌∙◌, sym, ap, subst, ℕ, Bool, true, false, List, Option, inl, inr, ◌⊎◌}
+use Rattle.std.proofs.Common.{◌≡◌, ◌∙◌, sym, ap, subst, ℕ, true, false, List, Option, inl, inr}
 use Rattle.move_msg.specs.declared.message.Message.{Message}
 use Rattle.arbiter_core.specs.declared.keeper.Keep.{Keep}
 use Rattle.arbiter_core.specs.declared.keeper.Keep.TheVariants.{Good, FailsOld, FailsNew}
 use Rattle.arbiter_core.specs.Recording.{Recorded, Window}
 use Rattle.arbiter_core.specs.Answering.{Answer, Refuses, Sends, Puts}
 use Rattle.arbiter_core.specs.Views.{View}
-use Rattle.arbiter_core.specs.Delivers.{Keeps, IsKept, Told, Lands, RefusesOrSends, PutsIfAny, with_window, with_record, downed}
+use Rattle.arbiter_core.specs.Delivers.{IsKept, Told, Lands, RefusesOrSends, PutsIfAny, with_window, with_record, downed}
 
 module _ {K : Type 0} (may_be : K → Keep → Type 0) (kept : K → Option (List ℕ)) (faults : K → ℕ) (leaves : K → List ℕ → K → Type 0) (old new : View) (before now : K) (told : Told) where
   same_kept : new ≡ old → now ≡ before → IsKept (kept before) old → IsKept (kept now) new

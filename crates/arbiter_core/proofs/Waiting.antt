@@ -1,9 +1,8 @@
 -- The moves that wait are the game's.
-use Rattle.std.proofs.Common.{◌≡◌, ◌≢◌, ℕ, ◌+◌, ◌-◌, ◌<◌, ◌≤◌, Bool, true, false, cond, ◌&&◌, not, length-append, List, [], ◌∷◌, ◌++◌, length, take, drop, get_or, Option, Some, None, zero, suc, sym, refl, ap, ◌∙◌, subst, inl, inr, ◌⊎◌, arith, ⊎_elim, add-one, get_or-set_other, get_or-set_same}
-use Rattle.std.specs.Prelude.{is_some, is_none, slice_get, slice_set, replicate}
+use Rattle.std.proofs.Common.{◌≡◌, ℕ, ◌+◌, true, false, List, [], ◌∷◌, ◌++◌, length, take, drop, get_or, Option, Some, None, zero, suc, sym, refl, ap, ◌∙◌, subst, arith, ⊎_elim}
+use Rattle.std.specs.Prelude.{is_some, slice_get, slice_set, replicate}
 use Rattle.std.specs.Option.{some_prefix}
-use Rattle.std.proofs.lemmas.Bool.{cases_Bool, cases_lt, cases_eq}
-use Rattle.std.proofs.lemmas.Option.{slice_get_within}
+use Rattle.std.proofs.lemmas.Bool.{cases_Bool}
 use Rattle.board_core.specs.declared.moves.Move.{Move}
 use Rattle.arbiter_core.specs.Recording.{Window}
 use Rattle.arbiter_core.specs.Answering.{waits_too, still_waits, nothing_waits}

@@ -1,5 +1,5 @@
 -- What a running arbiter answers to a message.
-use Rattle.std.specs.Prelude.{◌≡◌, ℕ, zero, suc, ◌+◌, ◌-◌, Bool, true, false, cond, ◌||◌, nat_lt, nat_le, List, [], ◌∷◌, ◌++◌, length, take, drop, replicate, Option, Some, None, is_some, is_none, Result, Ok, Err, slice_set, slice_index_or}
+use Rattle.std.specs.Prelude.{ℕ, suc, ◌+◌, ◌-◌, cond, ◌||◌, nat_lt, nat_le, List, [], ◌∷◌, ◌++◌, take, drop, replicate, Option, Some, None, is_some, is_none, Result, Ok, Err, slice_set, slice_index_or}
 use Rattle.board_core.specs.declared.moves.Move.{Move as Moves}
 use Rattle.board_core.specs.declared.verdict.Verdict.{Verdict as Verdicts}
 use Rattle.judge_core.specs.Games.{position_after_all, Rules}

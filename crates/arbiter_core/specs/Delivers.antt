@@ -1,5 +1,5 @@
 -- What a delivery leaves.
-use Rattle.std.specs.Prelude.{◌≡◌, ℕ, ◌<◌, Bool, true, false, cond, List, length, Option, Some, None, Result, Ok, Err, ◌⊎◌}
+use Rattle.std.specs.Prelude.{◌≡◌, ℕ, ◌<◌, true, false, cond, List, length, Option, Some, None, Result, Ok, Err, ◌⊎◌}
 use Rattle.std.specs.Str.{bytes_eq}
 use Rattle.move_msg.specs.declared.stamp.Stamp.{Stamp}
 use Rattle.move_msg.specs.declared.message.Message.{Message}

@@ -1,8 +1,8 @@
 -- What the fields of an arbiter stand for.
-use Rattle.std.specs.Prelude.{◌≡◌, ℕ}
+use Rattle.std.specs.Prelude.{◌≡◌}
 use Rattle.arbiter_core.specs.declared.arbiter.Arbiter.TheInside.{Inside}
 use Rattle.arbiter_core.specs.Recording.{Recorded}
-use Rattle.arbiter_core.specs.Setups.{setup_view, IsIdentity}
+use Rattle.arbiter_core.specs.Setups.{setup_view}
 use Rattle.arbiter_core.specs.Answering.{Identity}
 use Rattle.arbiter_core.specs.Views.{View, IsSettled}
 

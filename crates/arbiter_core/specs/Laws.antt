@@ -1,9 +1,9 @@
 -- Laws over the definitions. The functions of src/laws.rt carry these.
-use Rattle.std.specs.Prelude.{◌≡◌, ◌≤◌, ◌<◌, ◌↔◌, ℕ, true, List, length, take, Some, None, IsSome}
+use Rattle.std.specs.Prelude.{◌≡◌, ◌≤◌, ◌↔◌, ℕ, true, List, length, take, Some, IsSome}
 use Rattle.board_core.specs.declared.moves.Move.{Move}
 use Rattle.board_core.specs.declared.verdict.Verdict.{Verdict}
 use Rattle.move_msg.specs.declared.stamp.Stamp.{Stamp}
-use Rattle.judge_core.specs.Games.{Rules, position_after_all, verdict_after, IsUnruled, IsFirst}
+use Rattle.judge_core.specs.Games.{Rules, position_after_all, IsUnruled, IsFirst}
 use Rattle.arbiter_core.specs.Recording.{Recorded, reaches, record_at, last_ply}
 use Rattle.arbiter_core.specs.Opens.{IsResumed}
 

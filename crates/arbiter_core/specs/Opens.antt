@@ -1,5 +1,5 @@
 -- What opening an arbiter leaves.
-use Rattle.std.specs.Prelude.{◌≡◌, ◌≢◌, ℕ, ◌==◌, Bool, true, false, cond, List, [], length, Option, Some, None, Result, Ok, Err, ◌⊎◌}
+use Rattle.std.specs.Prelude.{◌≡◌, ℕ, ◌==◌, true, false, cond, List, [], length, Option, Some, None, Result, Ok, Err, ◌⊎◌}
 use Rattle.board_core.specs.declared.moves.Move.{Move}
 use Rattle.board_core.specs.declared.verdict.Verdict.{Verdict}
 use Rattle.judge_core.specs.declared.game.GameOutcome.{GameOutcome}
@@ -18,7 +18,7 @@ use Rattle.arbiter_core.specs.declared.fault.OpenFault.TheVariants.{BadSetup, Ke
 use Rattle.arbiter_core.specs.Recording.{Recorded, reaches, record_at}
 use Rattle.arbiter_core.specs.Answering.{Identity, nothing_waits}
 use Rattle.arbiter_core.specs.Keeping.{Risen}
-use Rattle.arbiter_core.specs.Setups.{SetupView, rules_at, IsIdentity}
+use Rattle.arbiter_core.specs.Setups.{SetupView, rules_at}
 use Rattle.arbiter_core.specs.Views.{View, spelled_as}
 use Rattle.arbiter_core.specs.Delivers.{IsSpelled, IsWritten}
 

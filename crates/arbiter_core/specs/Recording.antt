@@ -1,5 +1,5 @@
 -- What is recorded of a game: its moves as far as it goes, and the first verdict where there is one.
-use Rattle.std.specs.Prelude.{◌≡◌, ℕ, zero, suc, ◌+◌, Bool, true, cond, ◌&&◌, nat_lt, List, [], ◌∷◌, ◌++◌, length, take, Option, Some, None, is_some, is_none}
+use Rattle.std.specs.Prelude.{ℕ, zero, suc, Bool, true, cond, ◌&&◌, nat_lt, List, ◌∷◌, ◌++◌, length, take, Option, is_some, is_none}
 use Rattle.std.specs.Option.{some_prefix}
 use Rattle.board_core.specs.declared.moves.Move.{Move}
 use Rattle.board_core.specs.declared.verdict.Verdict.{Verdict}

@@ -14,7 +14,7 @@ use Rattle.arbiter_core.specs.Answering.{Identity}
 use Rattle.arbiter_core.specs.Keeping.{Risen}
 use Rattle.arbiter_core.specs.Setups.{SetupView, rules_at}
 use Rattle.arbiter_core.specs.Delivers.{IsSpelled, IsWritten}
-use Rattle.arbiter_core.specs.Opens.{first_record, PutsFirst, Told, running}
+use Rattle.arbiter_core.specs.Opens.{first_record, Told, running}
 
 abbrev pub recorded_in : Played → Recorded
 recorded_in p = record { moves = p.record.moves; verdict = p.record.verdict }

@@ -8,7 +8,7 @@ use Rattle.board_core.specs.Attack.{man_at}
 use Rattle.board_core.specs.declared.parts.Parts.{Parts}
 use Rattle.board_core.specs.declared.moves.Move.{Move}
 use Rattle.board_core.specs.Moves.{IsLegal, HasLegal, IsEnPassant, IsCapture, IsLegalCapture, HasLegalCaptures, place_of, promotion_place}
-use Rattle.board_core.specs.ComputedMoves.{position_after, is_legal, promotion_at, move_at, moves_from, all_moves, legal_moves, is_capture, legal_captures, is_en_passant}
+use Rattle.board_core.specs.ComputedMoves.{position_after, is_legal, promotion_at, move_at, moves_from, all_moves, legal_moves, has_some, has_legal_move, is_capture, legal_captures, is_en_passant}
 use Rattle.board_core.proofs.Listing.{promotion_below, same_place}
 use Rattle.board_core.proofs.ComputedMoves.{position_legal, legal_position, Decides-en_passant}
 
@@ -176,3 +176,12 @@ captures_listed p xs h = one_list_of_captures p xs (legal_captures p) h (HasLega
 -- what decides that a move is legal is the computed test
 pub legal_computed : (p : Parts) (m : Move) (r : Bool) → Decides r (IsLegal p m) → r ≡ is_legal p m
 legal_computed p m r h = same_from_decides r (is_legal p m) h (Decides-legal p m)
+
+-- the computed list has a move exactly where some move is legal
+has_some_of : (p : Parts) (moves : List Move) → HasLegal p moves → Decides (has_some moves) ((m : Move) × IsLegal p m)
+has_some_of p [] h = (λ t. absurd (let f = t in cc), λ a. absurd (let lt = (h.complete a.0 a.1).1 in omega arith))
+has_some_of p (m ∷ moves) h = (λ _. (m, h.sound 0 m (omega arith)), λ _. refl)
+
+pub some_computed : (p : Parts) (r : Bool) → Decides r ((m : Move) × IsLegal p m) → r ≡ has_legal_move p
+unfolding has_legal_move
+some_computed p r h = same_from_decides r (has_some (legal_moves p)) h (has_some_of p (legal_moves p) (HasLegal-moves p))

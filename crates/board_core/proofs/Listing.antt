@@ -1,4 +1,4 @@
-use Rattle.std.proofs.Common.{sym, ◌∙◌, ℕ, ◌≡◌, ◌<◌, ◌≤◌, ◌+◌, ◌*◌, ◌++◌, ◌∷◌, [], List, Option, Some, None, length, arith, inl, inr, refl}
+use Rattle.std.proofs.Common.{sym, ◌∙◌, ℕ, ◌≡◌, ◌<◌, ◌≤◌, ◌+◌, ◌*◌, ◌++◌, ◌∷◌, [], ◌⊎◌, List, Option, Some, None, length, arith, inl, inr, refl}
 use Rattle.std.specs.Prelude.{All, AllPairs}
 use Rattle.std.proofs.lemmas.List.Elements.{All-push, Contains-append_left, Contains-push}
 use Rattle.std.proofs.lemmas.List.{get_or_append_left, get_or_push, length_push}
@@ -135,7 +135,7 @@ Lists-every p moves h = record {
 }
 
 -- a legal move with a promotion is a pawn's to its last rank
-promotes_pawn : (p : Parts) (m : Move) (c : MoveCase) (k : Promotion) → IsMove p m c → m.promotion ≡ Some k → Stands p.men m.from p.side Pawn × (rank_of m.to ≡ last_rank p.side)
+pub promotes_pawn : (p : Parts) (m : Move) (c : MoveCase) (k : Promotion) → IsMove p m c → m.promotion ≡ Some k → Stands p.men m.from p.side Pawn × (rank_of m.to ≡ last_rank p.side)
 promotes_pawn p m Plain k r e = absurd (let f = sym r.whole ∙ e in cc)
 promotes_pawn p m Advance k r e = (r.stands, r.promotes.1 k e)
 promotes_pawn p m DoubleStep k r e = absurd (let f = sym r.whole ∙ e in cc)
@@ -160,3 +160,17 @@ IsLegal-promotion p m from to l lt low high =
 abbrev pub side_on : Option Piece → Side
 side_on None = White
 side_on (Some man) = man.side
+
+-- where no other promotion has the fact, the last one has it
+pub last_promotion : (P : Promotion → Type 0) → (P Queen → ⊥) → (P Rook → ⊥) → (P Bishop → ⊥) → ((k : Promotion) × P k) → P Knight
+last_promotion P q r b (Queen, h) = absurd (q h)
+last_promotion P q r b (Rook, h) = absurd (r h)
+last_promotion P q r b (Bishop, h) = absurd (b h)
+last_promotion P q r b (Knight, h) = h
+
+-- a legal move that is no promotion is the plain one, and a promotion is a pawn's to its last rank
+pub plain_or_promotion : (p : Parts) (from to : ℕ) (o : Option Promotion) → IsLegal p (make from to o)
+    → IsLegal p (make from to None) ⊎ (((k : Promotion) × IsLegal p (make from to (Some k))) × Stands p.men from p.side Pawn × (rank_of to ≡ last_rank p.side))
+plain_or_promotion p from to None l = inl l
+plain_or_promotion p from to (Some k) l =
+    let pawn = promotes_pawn p (make from to (Some k)) l.1.case k l.1.rule refl in inr ((k, l), pawn.0, pawn.1)

@@ -16,10 +16,12 @@ use Rattle.board_core.specs.declared.moves.Move.{Move}
 use Rattle.board_core.specs.declared.moves.MoveCase.{MoveCase}
 use Rattle.board_core.specs.declared.moves.MoveCase.TheVariants.{Plain, Advance, DoubleStep, PawnCapture, EnPassant, Castle}
 use Rattle.board_core.specs.declared.parts.Parts.{Parts}
+use Rattle.board_core.specs.declared.sides.Sides.{Sides}
 use Rattle.board_core.specs.Side.{other}
+use Rattle.board_core.specs.Sides.{sides_of}
 use Rattle.board_core.specs.Attack.{man_at, Along, IsClear, Ray, Reaches, IsAttacked, IsInCheck}
 use Rattle.board_core.specs.Castling.{rook_home, king_end, rook_end}
-use Rattle.board_core.specs.Moves.{IsMove, IsLegal, carried, landed, behind, men_after, after, kind_of}
+use Rattle.board_core.specs.Moves.{IsMove, Legal, IsLegal, carried, landed, behind, men_after, after, kind_of}
 use Rattle.board_core.proofs.Outward.{opposite, along_back, along_split, along_rest, along_distance, clear_back}
 
 abbrev pub some_man : Side → Kind → Option Piece
@@ -231,7 +233,7 @@ pub safe_legal : (p : Parts) (m : Move) (c : MoveCase) → m.from < 64 → m.to 
 unfolding after
 safe_legal p m c lf lt r safe = (after p m c, record { case = c; from_board = lf; to_board = lt; rule = r; becomes = refl; safe = safe })
 
-men_of_after : (p : Parts) (m : Move) (c : MoveCase) → (after p m c).men ≡ men_after p m c
+pub men_of_after : (p : Parts) (m : Move) (c : MoveCase) → (after p m c).men ≡ men_after p m c
 unfolding after
 men_of_after p m c = refl
 
@@ -247,3 +249,14 @@ same_case p m o c only e l =
 pub no_case : (p : Parts) (m : Move) (o : Option MoveCase) → ((c : MoveCase) → IsMove p m c → o ≡ Some c) → o ≡ None → IsLegal p m → ⊥
 no_case p m o only e l =
     let f = sym e ∙ only l.1.case l.1.rule in cc
+
+-- what stands where after a move
+pub men_of : (p q : Parts) (m : Move) (c : MoveCase) → q ≡ after p m c → q.men ≡ men_after p m c
+men_of p q m c e = ap (λ (x : Parts). x.men) e ∙ men_of_after p m c
+
+-- the position after a move is the only one
+pub only_played : (p q r : Parts) (m : Move) (c : MoveCase) (sides : Sides) → ((d : MoveCase) → IsMove p m d → Some c ≡ Some d) → r ≡ after p m c → sides ≡ sides_of r.men → Legal p m q → ◌≡◌ {A = Option (Parts × Sides)} (Some (r, sides)) (Some (q, sides_of q.men))
+only_played p q r m c sides only is sides-is l =
+    let same : l.case ≡ c = same_case p m (Some c) c only refl (q, l) in
+    let e : q ≡ r = l.becomes ∙ ap (after p m) same ∙ sym is in
+    rw (e, sides-is) refl

@@ -99,3 +99,10 @@ king_stands_after p m c k k' i lf lt r only there here =
     let king = the_king (men_after p m c) p.side (keeps.kings p.side ∙ king_of_position p p.side i.kings) in
     let at : king.square ≡ k' = only_after p m c k k' i.squares lf lt r only there here king.square (omega (arith, king.on_board, keeps.squares, i.squares)) king.stands in
     rw (sym at) king.stands
+
+-- a position has one king of each side, and after a move there is still one of the side that moves
+pub one_king : (p : Parts) (side : Side) → IsPosition p → count_by (is_king_of side) p.men ≡ 1
+one_king p side i = king_of_position p side i.kings
+
+pub one_king_after : (p : Parts) (m : Move) (c : MoveCase) → IsPosition p → m.from < 64 → m.to < 64 → IsMove p m c → count_by (is_king_of p.side) (men_after p m c) ≡ 1
+one_king_after p m c i lf lt r = (Keeps-move p m c i lf lt r).kings p.side ∙ king_of_position p p.side i.kings

@@ -45,6 +45,27 @@ Rests-between Q next set to s r first b low high q = zero_one _ (first s high) (
 pub Rests-empty : (Q : ℕ → Type 0) (next set s : ℕ) → Rests Q next set → set ≡ 0 → s < 64 → next ≤ s → Q s → ⊥
 Rests-empty Q next set s r none b low q = zero_one _ (bit_at-zero s) (rw none at (r.rest s b low q))
 
+-- where neither a square below `next` has the fact nor the lowest of the set, none below the square after it has it
+pub none_on : (Q : ℕ → Type 0) (next set to : ℕ) → to < 64 → Rests Q next set → ((s : ℕ) → s < to → bit_at set s ≡ 0) → ((s : ℕ) → s < next → Q s → ⊥) → (Q to → ⊥) → (s : ℕ) → s < to + 1 → Q s → ⊥
+none_on Q next set to b r first below here s lt q = elim (cases_lt s next) [
+  | inl x ↦ below s x q
+  | inr ge ↦ elim (cases_lt s to) [
+    | inl x ↦ Rests-between Q next set to s r first (omega arith) ge x q
+    | inr y ↦ let e : s ≡ to = omega arith in here (rw e at q)
+  ]
+]
+
+-- and where the set is empty no square of the board has it
+pub none_left : (Q : ℕ → Type 0) (next set : ℕ) → Rests Q next set → set ≡ 0 → ((s : ℕ) → s < next → Q s → ⊥) → (s : ℕ) → s < 64 → Q s → ⊥
+none_left Q next set r none below s b q = elim (cases_lt s next) [
+  | inl x ↦ below s x q
+  | inr ge ↦ Rests-empty Q next set s r none b ge q
+]
+
+-- a sweep over a set with all squares that have the fact begins
+pub Rests-begin : (Q : ℕ → Type 0) (set : ℕ) → ((s : ℕ) → s < 64 → Q s → bit_at set s ≡ 1) → Rests Q 0 set
+Rests-begin Q set whole = record { within = omega arith; gone = λ s lt. absurd (omega arith); rest = λ s b _ q. whole s b q }
+
 -- some move asked for goes from the one square to the other
 abbrev pub Goes : Parts → Which → ℕ → ℕ → Type 0
 Goes p which from to = (m : Move) × IsListed which p m × (m.from ≡ from) × (m.to ≡ to)

@@ -132,6 +132,14 @@ all_moves = moves_from 0 (64 * 320)
 unfoldable pub legal_moves : Parts → List Move
 legal_moves p = filter (is_legal p) all_moves
 
+abbrev pub has_some : List Move → Bool
+has_some [] = false
+has_some (m ∷ moves) = true
+
+-- whether there is a legal move
+unfoldable pub has_legal_move : Parts → Bool
+has_legal_move p = has_some (legal_moves p)
+
 -- the move takes what stands on its square, or a pawn en passant
 abbrev pub is_capture : Parts → Move → Bool
 is_capture p m = is_some (man_at p.men m.to) || is_en_passant p m

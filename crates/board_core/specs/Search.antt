@@ -4,6 +4,7 @@ use Rattle.board_core.specs.declared.piece.Piece.{Piece}
 use Rattle.board_core.specs.declared.piece.Side.{Side}
 use Rattle.board_core.specs.declared.piece.Kind.{Kind}
 use Rattle.board_core.specs.declared.piece.Kind.TheVariants.{Knight, King}
+use Rattle.board_core.specs.declared.piece.Promotion.{Promotion}
 use Rattle.board_core.specs.declared.parts.Parts.{Parts}
 use Rattle.board_core.specs.declared.moves.Move.{Move}
 use Rattle.board_core.specs.declared.generation.Guard.{Guard}
@@ -32,6 +33,12 @@ pub record IsStruck (men : List (Option Piece)) (by : Side) (direction : Directi
   pub away : 0 < distance
   pub along : Along direction distance to from
   pub clear : IsClear men direction distance to
+  pub stands : man_at men from ≡ Some (record { side = by; kind = kind })
+  pub reaches : Reaches men by kind from to
+
+-- a man of this side stands on `from` and attacks `to`
+pub record Strikes (men : List (Option Piece)) (by : Side) (to from : ℕ) : Type 0 where
+  pub kind : Kind
   pub stands : man_at men from ≡ Some (record { side = by; kind = kind })
   pub reaches : Reaches men by kind from to
 
@@ -136,3 +143,10 @@ pub record IsRayEnd (men : List (Option Piece)) (side : Side) (direction : Direc
   pub along : Along direction distance from to
   pub clear : IsClear men direction distance from
   pub free : IsFree men side to
+
+-- some legal move goes from one square to the other, and from a square to any
+abbrev pub MayGo : Parts → ℕ → ℕ → Type 0
+MayGo p from to = (promotion : Option Promotion) × IsLegal p (record { from = from; to = to; promotion = promotion })
+
+abbrev pub MayLeave : Parts → ℕ → Type 0
+MayLeave p from = (to : ℕ) × MayGo p from to

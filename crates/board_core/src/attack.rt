@@ -1,10 +1,13 @@
 //! Attack and check: steps, and rays over empty squares.
 
+ghost use Rattle.std.specs.Int.{bit_at};
 ghost use Rattle.std.specs.Prelude.{◌≡◌, ◌<◌, ◌≤◌, ◌↔◌, ◌+◌, ◌-◌, ℕ, IsTrue, IfSome, IfNone};
-ghost use Rattle.board_core.specs.Search.{IsHop, IsHopped, IsInside, IsStruck};
+ghost use Rattle.board_core.specs.Search.{IsHop, IsHopped, IsInside, IsStruck, Strikes};
+ghost use Rattle.board_core.specs.Moves.{IsTaken};
 ghost use Rattle.board_core.specs.Attack.{Along, IsClear, Goes, Ray, IsKingStep, IsKnightStep, IsPawnAttack, Reaches, IsAttacked, IsInCheck, forward};
 ghost use Rattle.board_core.specs.Computed.{is_in_check};
 
+use crate::bitboard::Bitboard;
 use crate::piece::{Kind, Men, Piece, Side};
 use crate::square::Square;
 
@@ -347,6 +350,50 @@ pub fn is_attacked(men: &Men, by: Side, to: Square) -> bool
         return true;
     }
     false
+}
+
+/// Whether a man of this side stands on `from` and attacks `to`.
+fn strikes(men: &Men, by: Side, from: Square, to: Square) -> bool
+    ensures { IsTrue result ↔ Strikes men.now by to from }
+{
+    match men[from.number() as usize] {
+        Some(man) => man.side == by && reaches(men, by, man.kind, from, to),
+        None => false,
+    }
+}
+
+/// Whether some man of this side attacks the square, asked of each man in turn; all its men stand on these squares.
+fn some_strikes(men: &Men, by: Side, squares: Bitboard, to: Square) -> bool
+    requires { (s : ℕ) → s < 64 → IsTaken men.now by s → bit_at squares s ≡ 1 }
+    ensures { IsTrue result ↔ IsAttacked men.now by to }
+{
+    let mut rest = squares;
+    let mut next = 0u8;
+    'enemies: while !rest.is_empty() {
+        let from = rest.lowest();
+        if strikes(men, by, from, to) {
+            return true;
+        }
+        rest = rest.without(from);
+        next = from.number() + 1;
+    }
+    false
+}
+
+/// Up to so many men it is quicker to ask of each of them whether a line or a step joins it to a square than to look out
+/// from the square.
+pub const FEW: u32 = 4;
+
+/// Whether some man of this side attacks the square; all its men stand on these squares.
+pub fn is_attacked_from(men: &Men, by: Side, squares: Bitboard, to: Square) -> bool
+    requires { (s : ℕ) → s < 64 → IsTaken men.now by s → bit_at squares s ≡ 1 }
+    ensures { IsTrue result ↔ IsAttacked men.now by to }
+{
+    if squares.len() <= FEW {
+        some_strikes(men, by, squares, to)
+    } else {
+        is_attacked(men, by, to)
+    }
 }
 
 /// Whether a king of this side is attacked.

@@ -15,6 +15,7 @@ ghost use Rattle.board_core.specs.Position.{IsPosition, is_of};
 ghost use Rattle.board_core.specs.Square.{rank_of};
 
 use crate::bitboard::Bitboard;
+use crate::king::king_of;
 use crate::moves::{Move, MoveCase};
 use crate::parts::Parts;
 use crate::piece::{Kind, Men, Promotion, Side};
@@ -51,24 +52,6 @@ pub struct Guard {
     pub danger: Bitboard,
 }
 
-/// The square of the king of the side that moves, one of the squares of its men.
-fn king_of(p: &Parts, own: Bitboard) -> Square
-    requires position { IsPosition p.now }
-    requires own { own ≡ squares_where (is_of p.now.side) p.now.men }
-    ensures stands { Stands p.now.men result p.now.side Kind.King }
-    ensures only { IsOnlyKing p.now.men p.now.side result }
-{
-    let mut rest = own;
-    let mut next = 0u8;
-    let mut square = rest.lowest();
-    while !stands(&p.men, square, p.side, Kind::King) {
-        rest = rest.without(square);
-        next = square.number() + 1;
-        square = rest.lowest();
-    }
-    square
-}
-
 /// Where the men stand.
 fn survey_of(p: &Parts, sides: &Sides) -> Survey
     requires position { IsPosition p.now }
@@ -79,7 +62,7 @@ fn survey_of(p: &Parts, sides: &Sides) -> Survey
     Survey {
         own,
         enemy: sides.of_side(p.side.other()),
-        king: king_of(p, own),
+        king: king_of(&p.men, p.side, own),
     }
 }
 
@@ -242,7 +225,7 @@ fn add(
 }
 
 /// Whether a pawn of the side that moves would reach its last rank.
-fn may_promote(p: &Parts, from: Square, to: Square) -> bool
+pub fn may_promote(p: &Parts, from: Square, to: Square) -> bool
     ensures { IsTrue result
         ↔ (Stands p.now.men from p.now.side Kind.Pawn × (rank_of to ≡ last_rank p.now.side)) }
 {
@@ -370,10 +353,15 @@ fn steps(p: &Parts, v: &Survey, which: Which, kind: Kind, from: Square) -> Bitbo
     ensures steps { (s : ℕ) → bit_at result s ≡ 1 → IsStep p.now which kind from s }
     ensures whole { (m : Move) → IsListed which p.now m → m.from ≡ from → bit_at result m.to ≡ 1 }
 {
-    let set = targets::plain_targets(&p.men, p.side, kind, from);
     match which {
-        Which::Every => set,
-        Which::Captures => set & v.enemy,
+        Which::Every => targets::plain_targets(&p.men, p.side, kind, from),
+        Which::Captures => {
+            if v.enemy.len() <= attack::FEW {
+                return targets::reached_of(&p.men, p.side, kind, from, v.enemy);
+            }
+            let set = targets::plain_targets(&p.men, p.side, kind, from);
+            set & v.enemy
+        }
     }
 }
 

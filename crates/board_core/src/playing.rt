@@ -1,19 +1,23 @@
 //! The position after a move.
 
-ghost use Rattle.std.specs.Prelude.{◌≡◌, ◌<◌, ◌↔◌, ◌+◌, ◌-◌, IsTrue, IfSome, Option};
+ghost use Rattle.std.specs.Prelude.{◌≡◌, ◌<◌, ◌↔◌, ◌+◌, ◌-◌, IsTrue, IfSome, Option, Some};
 ghost use Rattle.board_core.specs.Search.{IsInside};
 ghost use Rattle.board_core.specs.Attack.{forward};
 ghost use Rattle.board_core.specs.Moves.{IsMove, Legal, IsLegal, after, rights_after, keeps_right, en_passant_after, halfmove_after, behind, one_more, kind_of, carried, landed, men_after, fullmove_after};
 ghost use Rattle.board_core.specs.Side.{other};
 ghost use Rattle.board_core.specs.Castling.{king_home, rook_home};
-ghost use Rattle.board_core.specs.ComputedMoves.{position_after, is_legal};
+ghost use Rattle.board_core.specs.ComputedMoves.{is_legal};
+ghost use Rattle.board_core.specs.Position.{IsPosition};
+ghost use Rattle.board_core.specs.Sides.{sides_of};
 
+use crate::castling;
+use crate::king::is_in_check;
 use crate::moves::{Move, MoveCase};
 use crate::parts::{Parts, Rights};
 use crate::piece::{Kind, Men, Piece, Promotion, Side, Wing};
 use crate::rules::{case_of, is_empty};
+use crate::sides::Sides;
 use crate::square::Square;
-use crate::{attack, castling};
 
 /// Moves what stands on `from` to `to`, where it is then this man.
 fn carry(men: &mut Men, from: Square, to: Square, man: Option<Piece>)
@@ -168,27 +172,63 @@ fn after(p: &Parts, m: &Move, case: MoveCase) -> Parts
     }
 }
 
-/// The position after the move, where the move is legal.
-pub fn play(p: &Parts, m: &Move) -> Option<Parts>
-    ensures legal { IfSome result (λ q. Legal p.now m.now q) }
-    ensures only { (q : Parts) → Legal p.now m.now q → result ≡ Some q }
-    ensures computed { result ≡ position_after p.now m.now }
+/// Where the men of each side stand after the move.
+fn sides_after(p: &Parts, sides: &Sides, m: &Move, case: MoveCase) -> Sides
+    requires rule { IsMove p.now m.now case }
+    requires sides { sides.now ≡ sides_of p.now.men }
+    ensures { result ≡ sides_of (men_after p.now m.now case) }
+{
+    let man = p.men[m.from.number() as usize];
+    match case {
+        MoveCase::Plain | MoveCase::DoubleStep => sides.carry(m.from, m.to, man),
+        MoveCase::Advance | MoveCase::PawnCapture => {
+            sides.carry(m.from, m.to, landed(p.side, man, m.promotion))
+        }
+        MoveCase::EnPassant => sides
+            .carry(m.from, m.to, man)
+            .put(behind(p.side, m.to), None),
+        MoveCase::Castle(wing) => {
+            let rook = Some(Piece {
+                side: p.side,
+                kind: Kind::Rook,
+            });
+            sides.carry(m.from, m.to, man).carry(
+                castling::rook_home(p.side, wing),
+                castling::rook_end(p.side, wing),
+                rook,
+            )
+        }
+    }
+}
+
+/// The position after the move and where the men of each side then stand, where the move is legal.
+pub fn play(p: &Parts, sides: &Sides, m: &Move) -> Option<(Parts, Sides)>
+    requires position { IsPosition p.now }
+    requires sides { sides.now ≡ sides_of p.now.men }
+    ensures legal { IfSome result (λ q. Legal p.now m.now q.0) }
+    ensures sides { IfSome result (λ q. q.1 ≡ sides_of q.0.men) }
+    ensures only { (q : Parts) → Legal p.now m.now q → result ≡ Some (q, sides_of q.men) }
 {
     prove!(m.from.number() < 64);
     prove!(m.to.number() < 64);
-    let case = case_of(p, m)?;
+    let Some(case) = case_of(p, m) else {
+        return None;
+    };
     let q = after(p, m, case);
-    if attack::is_in_check(&q.men, p.side) {
+    let sides = sides_after(p, sides, m, case);
+    if is_in_check(&q.men, &sides, p.side) {
         return None;
     }
-    Some(q)
+    Some((q, sides))
 }
 
-pub fn is_legal(p: &Parts, m: &Move) -> bool
+pub fn is_legal(p: &Parts, sides: &Sides, m: &Move) -> bool
+    requires position { IsPosition p.now }
+    requires sides { sides.now ≡ sides_of p.now.men }
     ensures relation { IsTrue result ↔ IsLegal p.now m.now }
     ensures computed { result ≡ is_legal p.now m.now }
 {
-    match play(p, m) {
+    match play(p, sides, m) {
         Some(_) => true,
         None => false,
     }

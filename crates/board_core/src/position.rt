@@ -5,7 +5,7 @@ ghost use Rattle.board_core.specs.Position.{is_of, is_king_of, HasOneKingEach, H
 ghost use Rattle.board_core.specs.Moves.{IsLegal, Legal, HasLegal, HasLegalCaptures};
 ghost use Rattle.board_core.specs.Attack.{man_at, IsInCheck};
 ghost use Rattle.board_core.specs.Computed.{is_in_check};
-ghost use Rattle.board_core.specs.ComputedMoves.{position_after, is_legal, legal_captures, legal_moves, count_of_men};
+ghost use Rattle.board_core.specs.ComputedMoves.{position_after, is_legal, has_legal_move, legal_captures, legal_moves, count_of_men};
 ghost use Rattle.board_core.specs.Side.{other};
 ghost use Rattle.board_core.specs.Sides.{IsOccupied};
 
@@ -13,9 +13,9 @@ use crate::bitboard::Bitboard;
 use crate::moves::Move;
 use crate::parts::{Parts, Rights};
 use crate::piece::{Kind, Men, Piece, Side, Wing};
-use crate::sides::Sides;
+use crate::sides::{Sides, is_of};
 use crate::square::Square;
-use crate::{attack, castling, generation, playing, rules};
+use crate::{attack, castling, generation, king, mobility, playing, rules};
 use std::alloc::{AllocError, Global};
 use std::marker::Model;
 
@@ -53,18 +53,6 @@ impl PositionFault {
             PositionFault::OpponentInCheck => "OpponentInCheck",
             PositionFault::BadCounter => "BadCounter",
         }
-    }
-}
-
-fn is_of(side: Side, man: Option<Piece>) -> bool
-    ensures { result ≡ is_of side man }
-{
-    match man {
-        Some(man) => match (side, man.side) {
-            (Side::White, Side::White) | (Side::Black, Side::Black) => true,
-            _ => false,
-        },
-        None => false,
     }
 }
 
@@ -251,7 +239,7 @@ impl Position {
         ensures relation { IsTrue result ↔ IsInCheck self.now.men self.now.side }
         ensures computed { result ≡ is_in_check self.now.men self.now.side }
     {
-        attack::is_in_check(&self.parts.men, self.parts.side)
+        king::is_in_check(&self.parts.men, &self.sides, self.parts.side)
     }
 
     /// How many men stand on the board, 2 to 32.
@@ -274,7 +262,15 @@ impl Position {
         ensures relation { IsTrue result ↔ IsLegal self.now m }
         ensures computed { result ≡ is_legal self.now m }
     {
-        playing::is_legal(&self.parts, &m)
+        playing::is_legal(&self.parts, &self.sides, &m)
+    }
+
+    /// Whether some move is legal. It takes no memory and stops at the first one.
+    pub fn has_legal_move(&self) -> bool
+        ensures relation { IsTrue result ↔ ((m : Move) × IsLegal self.now m) }
+        ensures computed { result ≡ has_legal_move self.now }
+    {
+        mobility::has_legal_move(&self.parts, &self.sides)
     }
 
     /// The position after the move; none where the move isn't legal. A right to castle is lost when
@@ -287,8 +283,9 @@ impl Position {
         ensures only { (q : Parts) → Legal self.now m q → result ≡ Some q }
         ensures computed { result ≡ position_after self.now m }
     {
-        let parts = playing::play(&self.parts, &m)?;
-        let sides = Sides::of(&parts.men);
+        let Some((parts, sides)) = playing::play(&self.parts, &self.sides, &m) else {
+            return None;
+        };
         Some(Position { parts, sides })
     }
 

@@ -156,6 +156,46 @@ pub fn plain_targets(men: &Men, side: Side, kind: Kind, from: Square) -> Bitboar
     }
 }
 
+/// The set with the square, where a man of this kind reaches it.
+fn with_reached(
+    men: &Men,
+    side: Side,
+    kind: Kind,
+    from: Square,
+    to: Square,
+    set: Bitboard,
+) -> Bitboard
+    ensures kept { (s : ℕ) → bit_at set s ≡ 1 → bit_at result s ≡ 1 }
+    ensures reached { Reaches men.now side kind from to → bit_at result to ≡ 1 }
+    ensures only { (s : ℕ) → bit_at result s ≡ 1
+        → (bit_at set s ≡ 1) ⊎ ((s ≡ to) × Reaches men.now side kind from to) }
+{
+    if attack::reaches(men, side, kind, from, to) {
+        set.with(to)
+    } else {
+        set
+    }
+}
+
+/// Those of the squares of a set that a man of this kind reaches, asked of each in turn.
+pub fn reached_of(men: &Men, side: Side, kind: Kind, from: Square, set: Bitboard) -> Bitboard
+    ensures reached { (s : ℕ) → s < 64 → bit_at set s ≡ 1 → Reaches men.now side kind from s
+        → bit_at result s ≡ 1 }
+    ensures only { (s : ℕ) → bit_at result s ≡ 1
+        → (bit_at set s ≡ 1) × Reaches men.now side kind from s }
+{
+    let mut reached = Bitboard::empty();
+    let mut rest = set;
+    let mut next = 0u8;
+    'squares: while !rest.is_empty() {
+        let to = rest.lowest();
+        reached = with_reached(men, side, kind, from, to, reached);
+        rest = rest.without(to);
+        next = to.number() + 1;
+    }
+    reached
+}
+
 /// The squares that a pawn of the other side attacks, but for those of men of this side.
 pub fn pawn_attacks(men: &Men, side: Side, from: Square) -> Bitboard
     ensures { (s : ℕ) → s < 64 → IsPawnAttack (other side) from s → IsFree men.now side s

@@ -4,11 +4,13 @@
 #![tactic(auto)]
 
 #[cfg(test)]
-mod arbiter_tests;
+mod arbiters;
 #[cfg(test)]
 mod board_tests;
 #[cfg(test)]
 mod comparing;
+#[cfg(test)]
+mod delivery_tests;
 #[cfg(test)]
 mod dictionary_tests;
 #[cfg(test)]
@@ -21,6 +23,8 @@ mod forge_tests;
 mod index_tests;
 #[cfg(test)]
 mod message_tests;
+#[cfg(test)]
+mod opening_tests;
 #[cfg(test)]
 mod positions;
 #[cfg(test)]

@@ -7,6 +7,9 @@ use std::process::Abort;
 
 pub(crate) const START: &str = "rnbqkbnr/pppppppp/8/8/8/8/PPPPPPPP/RNBQKBNR w KQkq - 0 1";
 
+/// Bare kings, white to move.
+pub(crate) const KINGS: &str = "8/8/8/4k3/8/8/8/K7 w - - 0 1";
+
 /// The position of a FEN text that is good.
 pub(crate) fn position_of(rt: &impl Abort, text: &str) -> Position {
     read(text.as_bytes()).expect(rt, text)

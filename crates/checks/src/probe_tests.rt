@@ -9,7 +9,7 @@ use crate::files::{
     QUEEN_AGAINST, QUEEN_MOVES, QUEEN_PLIES, file_of, files_of,
 };
 use crate::index_tests::material;
-use crate::positions::{moves_of, position_of};
+use crate::positions::{KINGS, moves_of, position_of};
 use board_core::{Move, Verdict};
 use judge_core::{GameOutcome, ProbeFault, Set, SetFault};
 use std::alloc::{AllocError, Global};
@@ -35,11 +35,14 @@ const CASTLING_ROW: &str = "4k3/8/8/8/8/8/8/4K2R w K - 0 1";
 
 const SIX_ROW: &str = "1nb4k/8/8/8/8/8/8/KNB5 w - - 0 1";
 
-const ROOK_ROW: &str = "8/8/8/4k3/8/8/K7/1Q5r b - - 0 1";
+pub(crate) const ROOK_ROW: &str = "8/8/8/4k3/8/8/K7/1Q5r b - - 0 1";
 
 const PAWN_ROW: &str = "8/8/8/4k3/4P3/8/8/K7 w - - 0 1";
 
-const QUEEN_TABLES: [&str; 2] = ["KQvK.rtbw", "KQvK.rtbz"];
+/// The queen mates on b8.
+const MATING_ROW: &str = "7k/8/6K1/8/8/8/8/1Q6 w - - 0 1";
+
+pub(crate) const QUEEN_TABLES: [&str; 2] = ["KQvK.rtbw", "KQvK.rtbz"];
 
 /// A set without tables that may keep 64 blocks.
 fn empty_set<'a>(rt: &impl Abort, alloc: Global) -> Set<'a> {
@@ -66,7 +69,7 @@ fn add<'a>(rt: &impl Abort, alloc: Global, set: &mut Set<'a>, name: &str, file: 
 }
 
 /// The set of the tables of these names and files.
-fn set_of<'a>(rt: &impl Abort, alloc: Global, names: &[&str], files: &'a [[u8; 80]]) -> Set<'a> {
+pub(crate) fn set_of<'a>(rt: &impl Abort, alloc: Global, names: &[&str], files: &'a [[u8; 80]]) -> Set<'a> {
     let mut set = empty_set(rt, alloc);
     for (name, file) in names.iter().zip(files.iter()) {
         add(rt, alloc, &mut set, *name, file);
@@ -358,8 +361,7 @@ fn distances_in_moves_and_of_the_other_side(rt: HostRuntime) {
     check_queen_tables(&rt, rt.alloc(), &moves, QUEEN_ROW, 19);
     let against = files_of(&QUEEN, &QUEEN_AGAINST);
     check_queen_tables(&rt, rt.alloc(), &against, QUEEN_ROW, 6);
-    let mating = "7k/8/6K1/8/8/8/8/1Q6 w - - 0 1";
-    check_queen_tables(&rt, rt.alloc(), &against, mating, 1);
+    check_queen_tables(&rt, rt.alloc(), &against, MATING_ROW, 1);
 }
 
 /// En passant wins, and the pawn on e4 goes on: no DTZ table is asked but at last.
@@ -456,9 +458,9 @@ const WHITE_WINS: GameOutcome = GameOutcome::Ruled {
     verdict: Verdict::TableWhite,
 };
 
-/// Two games with a verdict, one that is cut before it, one without moves, one whose second move is its first again, and the
-/// first with delays.
-const GAMES: [Game; 7] = [
+/// Two games with a verdict, one that is cut before it, one without moves, one whose second move is its first again; then with
+/// delays: the first one, bare kings, mate on the board, and a queen that hangs for one ply.
+const GAMES: [Game; 12] = [
     Game {
         start: ROOK_ROW,
         moves: MOVES,
@@ -495,6 +497,15 @@ const GAMES: [Game; 7] = [
     Game {
         start: ROOK_ROW,
         moves: MOVES,
+        delay: 1,
+        outcome: GameOutcome::Ruled {
+            ply: 5,
+            verdict: Verdict::TableWhite,
+        },
+    },
+    Game {
+        start: ROOK_ROW,
+        moves: MOVES,
         delay: 2,
         outcome: GameOutcome::Ruled {
             ply: 6,
@@ -504,8 +515,44 @@ const GAMES: [Game; 7] = [
     Game {
         start: ROOK_ROW,
         moves: MOVES,
-        delay: 8,
+        delay: 4,
+        outcome: GameOutcome::Ruled {
+            ply: 8,
+            verdict: Verdict::TableWhite,
+        },
+    },
+    Game {
+        start: ROOK_ROW,
+        moves: MOVES,
+        delay: 6,
         outcome: GameOutcome::Going,
+    },
+    Game {
+        start: KINGS,
+        moves: "a1a2",
+        delay: 1,
+        outcome: GameOutcome::Ruled {
+            ply: 1,
+            verdict: Verdict::TableDraw,
+        },
+    },
+    Game {
+        start: MATING_ROW,
+        moves: "b1b8",
+        delay: 8,
+        outcome: GameOutcome::Ruled {
+            ply: 1,
+            verdict: Verdict::WhiteMates,
+        },
+    },
+    Game {
+        start: QUEEN_ROW,
+        moves: "b1e4 e5f6 e4e1",
+        delay: 1,
+        outcome: GameOutcome::Ruled {
+            ply: 3,
+            verdict: Verdict::TableWhite,
+        },
     },
 ];
 

@@ -9,10 +9,9 @@ use Rattle.board_core.specs.declared.parts.Parts.{Parts}
 use Rattle.board_core.specs.declared.moves.Move.{Move}
 use Rattle.board_core.specs.Attack.{man_at}
 use Rattle.board_core.specs.Position.{IsPosition}
-use Rattle.board_core.specs.ComputedMoves.{is_en_passant, is_capture, legal_moves, legal_captures, position_after, count_of_men, is_legal}
+use Rattle.board_core.specs.ComputedMoves.{has_some, has_legal_move, is_en_passant, is_capture, legal_moves, legal_captures, position_after, count_of_men}
 use Rattle.board_core.proofs.ComputedMoves.{position_legal}
 use Rattle.board_core.proofs.ComputedMen.{capture_takes}
-use Rattle.board_core.proofs.ComputedLists.{HasLegal-moves, Decides-legal}
 use Rattle.judge_core.specs.Ends.{has_no_move}
 use Rattle.judge_core.specs.Probing.{is_forced, are_en_passant}
 use Rattle.judge_core.specs.Found.{lands_empty}
@@ -144,11 +143,12 @@ is_captured p xs i m e lt at =
 pub falls : (p q : Parts) (m : Move) → IsPosition p → is_capture p m ≡ true → position_after p m ≡ Some q → count_of_men q + 1 ≡ count_of_men p
 falls p q m position c e = capture_takes p m q position (position_legal p m q e) c
 
--- ---- a legal move is listed
+-- ---- no legal move
 
-not_nothing : (moves : List Move) (m : Move) → Contains moves m → has_no_move moves ≡ false
-not_nothing [] m h = absurd (let lt = h.1 in omega arith)
-not_nothing (x ∷ xs) m h = refl
+none_in : (moves : List Move) → not (has_some moves) ≡ has_no_move moves
+none_in [] = refl
+none_in (m ∷ moves) = refl
 
-pub some_move : (p : Parts) (m : Move) → is_legal p m ≡ true → has_no_move (legal_moves p) ≡ false
-some_move p m e = not_nothing (legal_moves p) m ((HasLegal-moves p).complete m ((Decides-legal p m).0 e))
+pub no_move : (p : Parts) → not (has_legal_move p) ≡ has_no_move (legal_moves p)
+unfolding has_legal_move
+no_move p = none_in (legal_moves p)

@@ -93,7 +93,7 @@ impl<'a> Set<'a> {
         ensures within { IfOk result (λ count. IfOk count (λ n. IfSome n (λ k. k ≤ 131172 + left))) }
     {
         let won = is_won(outcome);
-        if won && is_mate(alloc, after)? {
+        if won && is_mate(after) {
             return Ok(Ok(Some(1)));
         }
         let reach = self.dtz_to(alloc, after, left)?;

@@ -32,7 +32,7 @@ impl<'a> Set<'a> {
     {
         // Its contract tells that the tables are filed.
         let _cache = self.cache();
-        if has_no_move(alloc, position)? {
+        if has_no_move(position) {
             return Ok(Some(verdict::end_of(position)));
         }
         if verdict::is_out_of_scope(position) {

@@ -6,6 +6,7 @@ pub mod Settling
 pub mod ValueCounts
 pub mod WordLemmas
 pub mod Longest
+pub mod ShortLemmas
 pub mod FirstLemmas
 pub mod Pending
 pub mod Chain

@@ -23,7 +23,7 @@ bits_front block p m n le fits =
     let j : k + (n - m) ≡ 8 * length block - (p + m) = omega arith in
     f ∙ ap (λ (x : ℕ). x % 2 ^ m) (shr-shr (number_of block) k (n - m) ∙ ap (λ (i : ℕ). number_of block / 2 ^ i) j)
 
-bits_below : (block : List ℕ) (p n : ℕ) → bits block p n < 2 ^ n
+pub bits_below : (block : List ℕ) (p n : ℕ) → bits block p n < 2 ^ n
 unfolding bits
 bits_below block p n = mod_below (number_of block / 2 ^ (8 * length block - (p + n))) (2 ^ n) (pow_pos n)
 

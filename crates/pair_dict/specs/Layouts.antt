@@ -1,6 +1,7 @@
 -- A dictionary whose symbols' values are not looked at yet.
 use Rattle.std.specs.Prelude.{◌≡◌, ℕ, ◌+◌, ◌≤◌, length, true}
 use Rattle.pair_dict.specs.Codes.{Pairing}
+use Rattle.pair_dict.specs.Symbols.{symbol_count}
 use Rattle.pair_dict.specs.Reading.{falls, words}
 use Rattle.pair_dict.specs.declared.layout.Layout.{Layout}
 
@@ -12,3 +13,4 @@ pub record IsLayout (a : Layout) : Type 0 where
   pub some : 1 ≤ length (words a.lowest.now)
   pub greatest : a.least + length (words a.lowest.now) ≤ 33
   pub falling : falls (words a.lowest.now) ≡ true
+  pub few : symbol_count a.symbols.now ≤ 4095

@@ -4,6 +4,7 @@ pub mod Blocks
 pub mod Reading
 pub mod Counts
 pub mod Windows
+pub mod ShortCodes
 pub mod Kept
 pub mod Layouts
 pub mod Beginnings

@@ -1,6 +1,8 @@
 -- A few bits of a block at the top of a word.
-use Rattle.std.specs.Prelude.{◌≡◌, ℕ, ◌+◌, ◌-◌, ◌*◌, ◌/◌, ◌^◌, ◌<◌, ◌≤◌, List, length, slice_index}
-use Rattle.pair_dict.specs.Codes.{bases, bits, number_of}
+use Rattle.std.specs.Prelude.{◌≡◌, ℕ, ◌+◌, ◌-◌, ◌*◌, ◌/◌, ◌^◌, ◌<◌, ◌≤◌, List, length, slice_index, Some}
+use Rattle.pair_dict.specs.Symbols.{symbol_count}
+use Rattle.pair_dict.specs.Codes.{Pairing, bases, bits, number_of, code_at}
+use Rattle.pair_dict.specs.declared.window.BitBuffer.{BitBuffer}
 
 -- the highest n bits of the word are the first n bits of the bytes
 abbrev pub IsWord : List ℕ → ℕ → Type 0
@@ -10,6 +12,12 @@ IsWord bytes word =
 -- the highest n bits of the word are the n bits of the block from bit p on
 abbrev pub IsWindow : List ℕ → ℕ → ℕ → Type 0
 IsWindow block p word = (n : ℕ) → n ≤ 57 → p + n ≤ 8 * length block → word / 2 ^ (64 - n) ≡ bits block p n
+
+-- the bits that are held are the block's from bit p on
+pub record Shows (block : List ℕ) (p : ℕ) (b : BitBuffer) : Type 0 where
+  pub few : b.held ≤ 57
+  pub within : p + b.held ≤ 8 * length block
+  pub same : (n : ℕ) → n ≤ b.held → b.bits / 2 ^ (64 - n) ≡ bits block p n
 
 -- the least number of 63 bits whose first n bits are at least the base, or 2^63 where n bits are never
 pub record IsFirst (n base first : ℕ) : Type 0 where
@@ -27,3 +35,8 @@ pub record IsSound (limit : ℕ) (block : List ℕ) (p : ℕ) (code : ℕ × ℕ
   pub some : 1 ≤ code.1
   pub short : code.1 ≤ 32
   pub within : p + code.1 ≤ 8 * length block
+
+-- the code at a bit of a block, a sound one
+pub record IsCodeAt (d : Pairing) (block : List ℕ) (p s n : ℕ) : Type 0 where
+  pub is : code_at d block p ≡ Some (s, n)
+  pub sound : IsSound (symbol_count d.symbols) block p (s, n)

@@ -1,6 +1,7 @@
 //! Codes of symbols.
 
-ghost use Rattle.std.specs.Prelude.{◌≡◌, ◌+◌, ◌*◌, ◌<◌, ◌≤◌, length, true, IfOk, IfSome};
+ghost use Rattle.std.specs.Prelude.{◌≡◌, ◌+◌, ◌*◌, ◌^◌, ◌<◌, ◌≤◌, length, true, IfOk, IfSome};
+ghost use Rattle.pair_dict.specs.ShortCodes.{AreShortCodes, IsShortCode};
 ghost use Rattle.pair_dict.specs.Codes.{bases, code_from};
 ghost use Rattle.pair_dict.specs.Reading.{falls, words};
 ghost use Rattle.pair_dict.specs.Windows.{AreFirsts, IsFirst, IsSound};
@@ -43,7 +44,6 @@ pub(crate) fn firsts_of(alloc: Global, least: u32, lowest: &[u8]) -> Result<Vec<
 }
 
 /// The symbol and the length of the code at a bit of a block, by the first number of each length.
-#[inline]
 pub(crate) fn code_in(
     limit: usize,
     block: &[u8],
@@ -76,4 +76,92 @@ pub(crate) fn code_in(
         }
     }
     None
+}
+
+/// The length that stands for no short code. It is greater than the number of bits that a buffer holds.
+const NO_LENGTH: u8 = 255;
+
+/// A short code: its symbol, and its length in bits, or `NO_LENGTH`.
+#[derive(Clone, Copy, Debug, PartialEq, Eq)]
+pub(crate) struct ShortCode {
+    pub(crate) symbol: u16,
+    pub(crate) length: u8,
+}
+
+/// The most bits that a short code has.
+const MOST_BITS: u32 = 12;
+
+/// How many bits short codes have where there are so many symbols: as many as the symbols' numbers, up to `MOST_BITS`.
+pub(crate) fn short_width(symbols: usize) -> u32
+    ensures some { 1 ≤ result }
+    ensures few { result ≤ 12 }
+{
+    for width in 1..MOST_BITS {
+        if symbols < 1 << width {
+            return width;
+        }
+    }
+    MOST_BITS
+}
+
+/// The short code with which these bits begin, so many as short codes have.
+fn short_code_of(
+    limit: usize,
+    width: u32,
+    front: u16,
+    least: u32,
+    firsts: &[u64],
+    lowest: &[u8],
+) -> ShortCode
+    requires few { limit ≤ 4095 }
+    requires some { 1 ≤ width }
+    requires width { width ≤ 12 }
+    requires front { front < 2 ^ width }
+    requires least { 1 ≤ least }
+    requires greatest { least + length (words lowest.now) ≤ 33 }
+    requires firsts { AreFirsts least (words lowest.now) firsts.now }
+    ensures { IsShortCode limit width least (words lowest.now) front result }
+{
+    let none = ShortCode {
+        symbol: 0,
+        length: NO_LENGTH,
+    };
+    let word = front << (16 - width);
+    let block = [(word / 256) as u8, (word % 256) as u8];
+    let Some((symbol, length)) = code_in(limit, &block, 0, least, firsts, lowest) else {
+        return none;
+    };
+    if length > width {
+        return none;
+    }
+    ShortCode {
+        symbol: symbol as u16,
+        length: length as u8,
+    }
+}
+
+/// The short codes with which so many bits begin, from all bits 0 on.
+pub(crate) fn short_codes_of(
+    alloc: Global,
+    limit: usize,
+    width: u32,
+    least: u32,
+    firsts: &[u64],
+    lowest: &[u8],
+) -> Result<Vec<ShortCode>, AllocError>
+    requires few { limit ≤ 4095 }
+    requires some { 1 ≤ width }
+    requires width { width ≤ 12 }
+    requires least { 1 ≤ least }
+    requires greatest { least + length (words lowest.now) ≤ 33 }
+    requires firsts { AreFirsts least (words lowest.now) firsts.now }
+    ensures all { IfOk result (λ codes. length codes.items ≡ 2 ^ width) }
+    ensures each { IfOk result (λ codes. AreShortCodes limit width least (words lowest.now) codes.items) }
+{
+    let count = 1u16 << width;
+    let mut codes = Vec::with_capacity(alloc, count as usize)?;
+    for front in 0..count {
+        codes.push_reserved(short_code_of(limit, width, front, least, firsts, lowest));
+    }
+    Ok(codes)
 }

@@ -1,30 +1,33 @@
 //! Dictionaries.
 
-ghost use Rattle.std.specs.Prelude.{◌≡◌, ◌+◌, ◌*◌, ◌<◌, ◌≤◌, ◌++◌, length, slice_index, slice_get, take, vec_len, vec_capacity, Some, IsOk, IfOk, IfErr, OnErr, IfSome};
+ghost use Rattle.std.specs.Prelude.{◌≡◌, ℕ, List, ◌+◌, ◌*◌, ◌<◌, ◌≤◌, ◌++◌, length, slice_index, slice_get, take, vec_len, vec_capacity, Some, IsOk, IfOk, IfErr, OnErr, IfSome};
 ghost use Rattle.pair_dict.specs.Symbols.{symbol_count, values_of, AllHaveValues};
 ghost use Rattle.pair_dict.specs.Codes.{code_at};
-ghost use Rattle.pair_dict.specs.Windows.{IsSound};
+ghost use Rattle.pair_dict.specs.Windows.{IsCodeAt, IsSound, Shows};
 ghost use Rattle.pair_dict.specs.Reading.{Gives, layout_at, dictionary_at};
 ghost use Rattle.pair_dict.specs.declared.fault.DictFault.TheVariants.{OutOfMemory};
 ghost use Rattle.pair_dict.specs.Blocks.{block_values, BlockIsComputed, BlockBeginsWithValues};
 
-use crate::codes::{code_in, firsts_of};
+use crate::codes::{ShortCode, code_in, firsts_of, short_codes_of, short_width};
 use crate::counts::counts_of;
 use crate::fault::{Damaged, DictFault};
 use crate::layout::Layout;
 use crate::symbols::{MOST_VALUES, Symbol, symbol_at};
+use crate::window::BitBuffer;
 use std::alloc::{AllocError, Global};
 use std::marker::Model;
 
 /// The symbols of a table and their codes.
 ///
-/// It borrows the bytes that it was read from, and keeps beside them a number for each code length and how many values
-/// each symbol stands for.
+/// It borrows the bytes that it was read from, and keeps beside them a number for each code length, the short codes
+/// by the bits that begin with them, and how many values each symbol stands for.
 #[derive(Drop)]
 pub struct Dictionary<'a> {
     least: u32,
     lowest: &'a [u8],
     firsts: Vec<u64>,
+    short_width: u32,
+    short_codes: Vec<ShortCode>,
     symbols: &'a [u8],
     counts: Vec<u16>,
 }
@@ -57,25 +60,51 @@ impl<'a> Dictionary<'a> {
         let layout = Layout::read(bytes)?;
         let counts = counts_of(alloc, layout.symbols)?;
         let firsts = firsts_of(alloc, layout.least, layout.lowest)?;
+        let short_width = short_width(counts.len());
+        let short_codes = short_codes_of(
+            alloc,
+            counts.len(),
+            short_width,
+            layout.least,
+            &firsts,
+            layout.lowest,
+        )?;
         let dictionary = Dictionary {
             least: layout.least,
             lowest: layout.lowest,
             firsts,
+            short_width,
+            short_codes,
             symbols: layout.symbols,
             counts,
         };
         Ok((dictionary, layout.taken))
     }
 
-    /// The symbol and the length of the code at a bit of a block.
+    /// The short code with which the bits of a buffer begin; a length of 255 where there is none.
     #[inline]
-    fn code_at(&self, block: &[u8], at: usize) -> Option<(usize, u32)>
-        requires { at ≤ 8 * length block.now }
+    fn short_code(&self, buffer: BitBuffer) -> ShortCode
+        ensures { (block : List ℕ) (p : ℕ) → Shows block p buffer → result.length ≤ buffer.held
+            → IsCodeAt self.now block p result.symbol result.length }
+    {
+        self.short_codes[buffer.front(self.short_width)]
+    }
+
+    /// The symbol and the length of the code at a bit of a block, of which a buffer shows the bits from there on. Where it
+    /// holds a short code the block isn't looked at.
+    #[inline]
+    fn code_at(&self, buffer: BitBuffer, block: &[u8], at: usize) -> Option<(usize, u32)>
+        requires at { at ≤ 8 * length block.now }
+        requires shows { Shows block.now at buffer }
         ensures is { result ≡ code_at self.now block.now at }
         ensures sound { IfSome result (λ code. IsSound (symbol_count self.now.symbols) block.now at code) }
     {
+        let code = self.short_code(buffer);
+        if code.length as u32 <= buffer.held() {
+            return Some((code.symbol as usize, code.length as u32));
+        }
         code_in(
-            self.symbols.len() / 3,
+            self.counts.len(),
             block,
             at,
             self.least,
@@ -128,13 +157,15 @@ impl<'a> Dictionary<'a> {
     {
         let mut left = offset as usize;
         let mut at: usize = 0;
-        'codes: while let Some((symbol, length)) = self.code_at(block, at) {
+        let mut buffer = BitBuffer::at(block, 0);
+        'codes: while let Some((symbol, length)) = self.code_at(buffer, block, at) {
             let skipped = self.values(symbol);
             if left < skipped {
                 return Ok(self.value_in(symbol, left));
             }
             left -= skipped;
             at += length as usize;
+            buffer = buffer.after(length, block, at);
         }
         Err(Damaged)
     }
@@ -199,12 +230,14 @@ impl<'a> Dictionary<'a> {
         let mut values = Vec::with_capacity(alloc, limit)?;
         let mut waiting = [0u16; MOST_VALUES];
         let mut at: usize = 0;
+        let mut buffer = BitBuffer::at(block, 0);
         'codes: while values.len() < limit {
-            let Some((symbol, length)) = self.code_at(block, at) else {
+            let Some((symbol, length)) = self.code_at(buffer, block, at) else {
                 break;
             };
             self.push_values(symbol, limit, &mut waiting, &mut values);
             at += length as usize;
+            buffer = buffer.after(length, block, at);
         }
         Ok(values)
     }

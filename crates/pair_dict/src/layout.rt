@@ -80,6 +80,7 @@ fn symbols_of(n: usize, bytes: &[u8]) -> Result<&[u8], DictFault>
     requires { n ≤ 4095 }
     ensures is { Reads (λ x. x.now) result (symbols_at n bytes.now) }
     ensures fits { IfOk result (λ _. 3 * n + n % 2 ≤ length bytes.now) }
+    ensures length { IfOk result (λ x. length x.now ≡ 3 * n) }
 {
     if bytes.len() < 3 * n + n % 2 {
         return Err(DictFault::Truncated);

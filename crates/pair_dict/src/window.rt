@@ -1,8 +1,8 @@
 //! Bits of a block.
 
-ghost use Rattle.std.specs.Prelude.{◌≡◌, ◌+◌, ◌-◌, ◌*◌, ◌/◌, ◌^◌, ◌<◌, ◌≤◌, ℕ, length, drop};
+ghost use Rattle.std.specs.Prelude.{List, ◌≡◌, ◌+◌, ◌-◌, ◌*◌, ◌/◌, ◌^◌, ◌<◌, ◌≤◌, ℕ, length, drop};
 ghost use Rattle.pair_dict.specs.Codes.{bits, number_of};
-ghost use Rattle.pair_dict.specs.Windows.{IsWord, IsWindow};
+ghost use Rattle.pair_dict.specs.Windows.{IsWord, IsWindow, Shows};
 
 use byteorder::{BigEndian, ByteOrder};
 
@@ -53,4 +53,68 @@ pub(crate) fn room_at(block: &[u8], at: usize) -> usize
 {
     let rest = block.len() - at / 8;
     if rest < 8 { 8 * rest - at % 8 } else { 57 }
+}
+
+/// A buffer that would hold fewer bits is filled again: so many hold each short code.
+const FEW_BITS: u32 = 12;
+
+/// The bits of a block from some bit on, at the top of a word, and how many of them it holds.
+#[derive(Clone, Copy, Debug, PartialEq, Eq)]
+pub(crate) struct BitBuffer {
+    bits: u64,
+    held: u32,
+}
+
+impl BitBuffer {
+    /// The bits from a bit on; none where fewer than eight bytes are left from there.
+    #[inline]
+    pub(crate) fn at(block: &[u8], at: usize) -> BitBuffer
+        requires { at ≤ 8 * length block.now }
+        ensures { Shows block.now at result }
+    {
+        if block.len() - at / 8 < 8 {
+            return BitBuffer { bits: 0, held: 0 };
+        }
+        BitBuffer {
+            bits: window(block, at),
+            held: 57,
+        }
+    }
+
+    /// The bits that follow so many that are taken, up to a bit of the block: those that are held, or the block's where few
+    /// are left.
+    #[inline]
+    pub(crate) fn after(self, taken: u32, block: &[u8], end: usize) -> BitBuffer
+        requires taken { taken ≤ end }
+        requires end { end ≤ 8 * length block.now }
+        requires shows { Shows block.now (end - taken) self }
+        ensures { Shows block.now end result }
+    {
+        if taken > self.held || self.held - taken < FEW_BITS {
+            return BitBuffer::at(block, end);
+        }
+        BitBuffer {
+            bits: self.bits << taken,
+            held: self.held - taken,
+        }
+    }
+
+    /// The first bits, so many.
+    #[inline]
+    pub(crate) fn front(self, width: u32) -> usize
+        requires some { 1 ≤ width }
+        requires few { width ≤ 12 }
+        ensures is { result ≡ self.bits / 2 ^ (64 - width) }
+        ensures below { result < 2 ^ width }
+    {
+        (self.bits >> (64 - width)) as usize
+    }
+
+    /// How many bits are held, up to 57.
+    #[inline]
+    pub(crate) fn held(self) -> u32
+        ensures { result ≡ self.held }
+    {
+        self.held
+    }
 }

@@ -43,6 +43,7 @@ pub mod Turns
 pub mod Numbering
 pub mod LoneGroups
 pub mod MenOn
+pub mod Covered
 pub mod Symmetric
 pub mod Colours
 pub mod Tallies

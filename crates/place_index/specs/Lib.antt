@@ -13,4 +13,5 @@ pub mod Kept
 pub mod Turning
 pub mod Index
 pub mod Placed
+pub mod Covered
 pub mod Few

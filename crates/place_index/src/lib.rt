@@ -25,7 +25,7 @@ mod turning;
 pub use choose::{parts_are_listed, pascals_rule};
 pub use group::Group;
 pub use indexing::index;
-pub use laws::{groups_are_numbered, indices_are_one};
+pub use laws::{few_men_have_tables, groups_are_numbered, indices_are_one};
 pub use man::Man;
 pub use material::{Material, tables_are_numbered};
 pub use placed::{Placed, place};

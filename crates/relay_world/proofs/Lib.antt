@@ -7,8 +7,10 @@ pub mod Reopening
 pub mod Pairing
 pub mod Faithful
 pub mod Gathered
+pub mod FileNames
 pub mod Naming
 pub mod Placing
 pub mod Told
 pub mod Places
 pub mod Reading
+pub mod BadLines

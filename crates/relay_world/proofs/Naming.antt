@@ -17,55 +17,8 @@ use Rattle.move_msg.specs.Manifests.{Entry}
 use Rattle.move_msg.specs.TableNames.{man_place, are_men_from, are_paired, IsTableName, IsFileName}
 use Rattle.relay_world.specs.declared.fault.WorldFault.{WorldFault}
 use Rattle.relay_world.specs.declared.fault.WorldFault.TheVariants.{BadTable, DuplicateTable}
+use Rattle.relay_world.proofs.FileNames.{is_file_name}
 use Rattle.relay_world.specs.Gathering.{and_then, with_table, tables_from, tables_of, found_in, HasOther, AreTables}
-
--- ---- the name of a table's file is one
-
-place_of : (a : ℕ) → 1 ≤ a → a ≤ 5 → man_place (letter a) ≡ 5 - a
-place_of zero l u = absurd (omega arith)
-place_of (suc zero) l u = refl
-place_of (suc (suc zero)) l u = refl
-place_of (suc (suc (suc zero))) l u = refl
-place_of (suc (suc (suc (suc zero)))) l u = refl
-place_of (suc (suc (suc (suc (suc zero))))) l u = refl
-place_of (suc (suc (suc (suc (suc (suc n)))))) l u = absurd (omega arith)
-
-men_from : (most : ℕ) (xs : List ℕ) → most ≤ 5 → IsInOrder most xs → are_men_from (5 - most) (map letter xs) ≡ true
-unfolding are_men_from
-men_from most [] l h = refl
-men_from most (a ∷ rest) l h =
-    let one : 1 ≤ a = h.0 in
-    let low : a ≤ most = h.1 in
-    rw (place_of a one (omega arith)) (and_from _ _ (le-leb (5 - most) (5 - a) (omega arith)) (and_from _ _ (lt-ltb (5 - a) 5 (omega arith)) (men_from a rest (omega arith) h.2)))
-
-paired_by : (first second : List ℕ) → IsInOrder 5 first → IsInOrder 5 second → 1 ≤ length first → length second ≤ length first → length first + length second ≤ 3 → (length first ≡ length second → slice_index second 0 ≤ slice_index first 0) → are_paired (map letter first) (map letter second) ≡ true
-paired_by [] second f s one more few earlier = absurd (omega arith)
-paired_by (a ∷ []) [] f s one more few earlier = refl
-paired_by (a ∷ []) (b ∷ []) f s one more few earlier =
-    let le : b ≤ a = earlier refl in
-    rw (place_of a f.0 f.1, place_of b s.0 s.1) (le-leb (5 - a) (5 - b) (omega arith))
-paired_by (a ∷ []) (b ∷ c ∷ d) f s one more few earlier = absurd (omega arith)
-paired_by (a ∷ b ∷ []) [] f s one more few earlier = refl
-paired_by (a ∷ b ∷ []) (c ∷ []) f s one more few earlier = refl
-paired_by (a ∷ b ∷ []) (c ∷ d ∷ e) f s one more few earlier = absurd (omega arith)
-paired_by (a ∷ b ∷ c ∷ []) [] f s one more few earlier = refl
-paired_by (a ∷ b ∷ c ∷ []) (d ∷ e) f s one more few earlier = absurd (omega arith)
-paired_by (a ∷ b ∷ c ∷ d ∷ e) second f s one more few earlier = absurd (omega arith)
-
-is_table_name : (m : Men) → IsTable m → IsTableName (75 ∷ map letter m.first ++ 118 ∷ 75 ∷ map letter m.second)
-is_table_name m t = record {
-  first = map letter m.first;
-  second = map letter m.second;
-  first_men = men_from 5 m.first (omega arith) t.first;
-  second_men = men_from 5 m.second (omega arith) t.second;
-  paired = paired_by m.first m.second t.first t.second t.one t.more t.few t.earlier;
-  text = refl;
-}
-
-is_file_name : TablesAreNumbered → (kind : Kind) (m : ℕ) → m < 145 → IsFileName (file_name kind m)
-unfolding file_name
-is_file_name law Wdl m l = record { table = name_at m; is_table = is_table_name (men_of m) (law.0 m l); ending = inl refl }
-is_file_name law Dtz m l = record { table = name_at m; is_table = is_table_name (men_of m) (law.0 m l); ending = inr refl }
 
 -- ---- tables that are gathered are tables, each of another name
 

@@ -6,3 +6,4 @@ pub mod Seats
 pub mod Runs
 pub mod Texts
 pub mod Pairs
+pub mod FileNames

@@ -15,6 +15,11 @@ ghost use Rattle.relay_world.specs.Headline.{IsFaithful, kept_count};
 ghost use Rattle.relay_world.specs.InOrder.{RunsThrough, brought};
 ghost use Rattle.relay_world.specs.Pairs.{AreStamped};
 ghost use Rattle.relay_world.specs.Runs.{AreWorlds};
+ghost use Rattle.relay_world.specs.declared.schedule.Schedule.{Schedule};
+ghost use Rattle.relay_world.specs.Texts.{IsFirstBadLine, SpellsSchedule};
+ghost use Rattle.relay_world.specs.FileNames.{FileNamesAreThoseOfTables};
+
+use place_index::tables_are_numbered;
 
 /// In each world of each schedule each kept record is that of the game's first so many moves, with the first verdict exactly at
 /// its ply, and two kept verdicts are one.
@@ -68,4 +73,17 @@ pub fn moves_are_the_games()
 /// Every message that was ever sent is of the game.
 pub fn log_is_of_the_game()
     ensures { (game : Game) (events : List Event) → AreStamped game (after game (first_world game) events) }
+{}
+
+/// The file names that a manifest may have are those of the 145 tables, each with either ending, and no others.
+pub fn file_names_are_those_of_tables()
+    ensures { FileNamesAreThoseOfTables }
+{
+    tables_are_numbered();
+}
+
+/// A text that has a line at fault spells no schedule, and one line is its first at fault.
+pub fn one_bad_line()
+    ensures none { (text : List ℕ) (k : ℕ) (schedule : Schedule) → IsFirstBadLine text k → SpellsSchedule text schedule → ⊥ }
+    ensures one { (text : List ℕ) (j k : ℕ) → IsFirstBadLine text j → IsFirstBadLine text k → j ≡ k }
 {}

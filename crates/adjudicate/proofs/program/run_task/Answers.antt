@@ -7,8 +7,8 @@ pub returns-in-Listen : goal.returns-in-Listen
 returns-in-Listen g c =
     IfOk-weaker c.listen.result _ _ (λ status h. FromListening _ c.in-Ok.ensures.given _ c.in-Listen.is h) c.listen.ensures
 
-pub returns-in_default : goal.returns-in_default
-returns-in_default g c = IfOk-weaker c.answer_task.result _ _ (λ status h. FromGiven _ c.in-Ok.ensures.given h) c.answer_task.ensures
+pub returns-in-Ok : goal.returns-in-Ok
+returns-in-Ok g c = IfOk-weaker c.answer_task.result _ _ (λ status h. FromGiven _ c.in-Ok.ensures.given h) c.answer_task.ensures
 
 pub returns-in-Err-Unreadable : goal.returns-in-Err-Unreadable
 returns-in-Err-Unreadable g c =

@@ -7,7 +7,7 @@ use Rattle.relay_world.specs.Texts.{SpellsSchedule, IsFirstBadLine}
 use Rattle.relay_world.specs.Worlds.{Game, World}
 use Rattle.adjudicate.specs.Lines.{text_of, refused_line}
 use Rattle.adjudicate.specs.Reply.{BadLine, BadTable, IsRun, Ran, Reply, refused}
-use Rattle.adjudicate.specs.Schedules.{RefusesTable, game_of, world_words}
+use Rattle.adjudicate.specs.Schedules.{game_of, world_words}
 use Rattle.adjudicate.proofs.ScheduleLaws.{last_of}
 use Rattle.adjudicate.proofs.schedules.answer_run.Goals as goal
 

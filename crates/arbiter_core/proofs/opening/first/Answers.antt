@@ -1,4 +1,4 @@
-use Rattle.std.proofs.Common.{[], refl, ap, ◌∙◌}
+use Rattle.std.proofs.Common.{[], refl, ◌∙◌}
 use Rattle.arbiter_core.specs.Setups.{rules_at, setup_view}
 use Rattle.arbiter_core.proofs.Opened.{first_is}
 use Rattle.arbiter_core.proofs.opening.first.Goals as goal

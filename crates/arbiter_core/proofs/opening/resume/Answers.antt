@@ -1,10 +1,6 @@
-use Rattle.std.proofs.Common.{◌≡◌, ◌∙◌, sym, ap, subst, refl, inl, inr, List, length, Option, Some, None, take, Result, Ok, Err, ◌≤◌, ⊎_elim}
+use Rattle.std.proofs.Common.{◌≡◌, ◌∙◌, sym, ap, subst, refl, inl, inr, List, length, Some, None, take}
 use Rattle.std.proofs.lemmas.Bool.{false≢true}
 use Rattle.board_core.specs.declared.moves.Move.{Move}
-use Rattle.move_msg.specs.Numbers.{most_moves}
-use Rattle.move_msg.specs.declared.record_bytes.Record.{Record}
-use Rattle.move_msg.specs.declared.record_bytes.RecordFault.{RecordFault}
-use Rattle.move_msg.specs.declared.record_bytes.RecordFault.TheVariants.{OutOfMemory}
 use Rattle.judge_core.specs.Games.{IsOutcome, plies_to}
 use Rattle.judge_core.specs.Standings.{IsAt}
 use Rattle.arbiter_core.specs.Opens.{at_end}

@@ -1,4 +1,4 @@
-use Rattle.std.proofs.Common.{◌≡◌, ℕ, ◌+◌, ◌-◌, ◌<◌, ◌≤◌, List, [], ◌∷◌, ◌++◌, length, length-append, get_or, Option, Some, None, true, false, arith, rules, refl, sym, ◌∙◌, ap, subst}
+use Rattle.std.proofs.Common.{◌≡◌, ◌+◌, ◌<◌, List, [], ◌∷◌, ◌++◌, length, length-append, Some, None, arith, refl, sym, ◌∙◌, ap}
 use Rattle.board_core.specs.declared.parts.Parts.{Parts}
 use Rattle.board_core.specs.declared.moves.Move.{Move}
 use Rattle.board_core.specs.ComputedMoves.{position_after}
@@ -8,7 +8,7 @@ use Rattle.judge_core.specs.Games.{Rules}
 use Rattle.judge_core.specs.Standings.{IsAt}
 use Rattle.arbiter_core.specs.declared.setup.Setup.{Setup}
 use Rattle.arbiter_core.specs.Setups.{rules_at, setup_view}
-use Rattle.arbiter_core.proofs.RunLaws.{Runs, run_starts, ends_ruled, ends_none, ends_past, ends_illegal, goes_on, default_free}
+use Rattle.arbiter_core.proofs.RunLaws.{run_starts, ends_ruled, ends_none, ends_past, ends_illegal, goes_on, default_free}
 use Rattle.arbiter_core.proofs.planning.plan.Goals as goal
 
 same_setup : (s t : Setup) (set : Holding) → set ≡ s.set → s ≡ t → record { name = s.name; start = s.start; manifest = s.manifest; me = s.me; delay = s.delay; set = set } ≡ t

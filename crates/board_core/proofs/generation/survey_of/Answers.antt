@@ -4,11 +4,15 @@ use Rattle.board_core.specs.Side.{other}
 use Rattle.board_core.specs.Sides.{squares_of, squares_where}
 use Rattle.board_core.specs.declared.sides.Sides.{Sides}
 use Rattle.board_core.proofs.SideSets.{in_set, set_only, side_set}
+use Rattle.board_core.proofs.SoleKing.{one_king}
 use Rattle.board_core.proofs.generation.survey_of.Goals as goal
 
 pub king_of-requires-clause-own : goal.king_of-requires-clause-own
 king_of-requires-clause-own c =
     c.of_side-own.ensures ∙ ap (λ (x : Sides). squares_of x c.args.p.now.side) c.requires.sides ∙ side_set c.args.p.now.men c.args.p.now.side
+
+pub king_of-requires-clause-one : goal.king_of-requires-clause-one
+king_of-requires-clause-one c = one_king c.args.p.now c.args.p.now.side c.requires.position
 
 pub returns : goal.returns
 returns c =

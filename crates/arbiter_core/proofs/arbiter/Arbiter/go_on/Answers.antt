@@ -1,21 +1,18 @@
-use Rattle.std.proofs.Common.{◌≡◌, ℕ, ◌+◌, ◌-◌, ◌<◌, ◌≤◌, List, [], ◌∷◌, ◌++◌, length, vec_len, Option, Some, None, Result, Ok, Err, true, false, cond, sym, ap, ◌∙◌, subst, arith, refl, inr}
+use Rattle.std.proofs.Common.{◌≡◌, ℕ, ◌+◌, ◌-◌, ◌<◌, ◌≤◌, List, [], ◌∷◌, ◌++◌, length, Option, Some, None, true, cond, sym, ap, ◌∙◌, subst, arith, refl}
 use Rattle.std.specs.Prelude.{is_some}
 use Rattle.std.proofs.lemmas.Bool.{cond-true, cond-false}
 use Rattle.board_core.specs.declared.moves.Move.{Move}
 use Rattle.board_core.specs.declared.verdict.Verdict.{Verdict}
 use Rattle.judge_core.specs.Games.{position_after_all, Rules}
-use Rattle.move_msg.specs.declared.message.Message.{Message}
-use Rattle.move_msg.specs.declared.record_bytes.Record.{Record}
 use Rattle.move_msg.specs.Records.{SpellsRecord, WritesRecord}
 use Rattle.move_msg.specs.Numbers.{most_moves}
 use Rattle.judge_core.specs.Standings.{IsAt}
 use Rattle.arbiter_core.specs.declared.setup.Setup.{Setup}
 use Rattle.arbiter_core.specs.Recording.{Recorded, Window, reaches, advance, count_of}
 use Rattle.arbiter_core.specs.Answering.{still_waits, nothing_waits, told_now, told_of}
-use Rattle.arbiter_core.specs.Setups.{SetupView, rules_at, setup_view}
+use Rattle.arbiter_core.specs.Setups.{rules_at, setup_view}
 use Rattle.arbiter_core.specs.Views.{View, IsNear, IsSettled, spelled_as}
 use Rattle.arbiter_core.specs.Inside.{view_of}
-use Rattle.arbiter_core.specs.Delivers.{PutsOnce, Told, with_record}
 use Rattle.arbiter_core.proofs.RunLaws.{next_position}
 use Rattle.arbiter_core.proofs.Settling.{reach_next, settled_next, near_still, near_nothing}
 use Rattle.arbiter_core.proofs.Going.{new_is, down_is, goes_ok, goes_err}

@@ -5,16 +5,16 @@ use Rattle.judge_core.specs.Counts.{no_counts, with_count}
 use Rattle.judge_core.proofs.Asking.{noted_all, walk-passed, walk-noted}
 use Rattle.judge_core.proofs.Counting.{counts_told-is, within-count}
 use Rattle.judge_core.proofs.Reaching.{if_same, mate_counts, other_counts, bare_own, missing_own, stored_own, quiet_own, reached_by, reached_is, lost_is, none_left, few_men, some_left}
-use Rattle.judge_core.proofs.set.Set.+dtz.Goals.{by_moves-then-is_won+in_ok-reached+in-Ok+else-reached, by_moves-else-is_won, by_quiet_moves-in-Some+in_ok-count, by_quiet_moves-in_default, dtz_to-then-left-eq0-via-then-left-eq0, dtz_to-then-left-eq0-via-else-left-eq0+then-men-le2, move_counts-else-won-via-then-won+in_ok-is_mate+else-branch, move_counts-else-won-via-else-won}
+use Rattle.judge_core.proofs.set.Set.+dtz.Goals.{by_moves-then-is_won+in_ok-reached+in-Ok+else-reached, by_moves-else-is_won, by_quiet_moves-in-Some+in_ok-count, by_quiet_moves-in_default, dtz_to-then-left-eq0-via-then-left-eq0, dtz_to-then-left-eq0-via-else-left-eq0+then-men-le2, move_counts-else-won-via-then-won+else-is_mate, move_counts-else-won-via-else-won}
 use Rattle.judge_core.proofs.set.Set.+dtz.Goals as goal
 
-pub move_counts-returns-then-branch-clause-is : goal.move_counts-returns-then-branch-clause-is
-move_counts-returns-then-branch-clause-is t c = mate_counts c.args.outcome (dtz_to c.args.self.now.tables c.args.left) c.args.after.now (sym c.is_won-won.ensures ∙ c.if-won.true) (sym c.in_ok-is_mate.ensures ∙ c.if-branch.true)
+pub move_counts-returns-then-is_mate-clause-is : goal.move_counts-returns-then-is_mate-clause-is
+move_counts-returns-then-is_mate-clause-is t c = mate_counts c.args.outcome (dtz_to c.args.self.now.tables c.args.left) c.args.after.now (sym c.is_won-won.ensures ∙ c.if-won.true) (sym c.is_mate.ensures ∙ c.if-is_mate.true)
 
 pub move_counts-returns-clause-is : goal.move_counts-returns-clause-is
 move_counts-returns-clause-is t c = elim c.else-won.branch [
-  | move_counts-else-won-via-then-won+in_ok-is_mate+else-branch w ↦
-      other_counts c.args.outcome (dtz_to c.args.self.now.tables c.args.left) c.args.after.now c.is_won-won.result c.in_ok-reach.reach c.counted.result c.is_won-won.ensures (λ won. sym w.in_ok-is_mate.ensures ∙ w.if-branch.false) c.in_ok-reach.ensures.is c.counted.ensures
+  | move_counts-else-won-via-then-won+else-is_mate w ↦
+      other_counts c.args.outcome (dtz_to c.args.self.now.tables c.args.left) c.args.after.now c.is_won-won.result c.in_ok-reach.reach c.counted.result c.is_won-won.ensures (λ won. sym w.is_mate.ensures ∙ w.if-is_mate.false) c.in_ok-reach.ensures.is c.counted.ensures
   | move_counts-else-won-via-else-won w ↦
       other_counts c.args.outcome (dtz_to c.args.self.now.tables c.args.left) c.args.after.now c.is_won-won.result c.in_ok-reach.reach c.counted.result c.is_won-won.ensures (λ won. (let e = sym won ∙ w.if-won.false in cc)) c.in_ok-reach.ensures.is c.counted.ensures
 ]

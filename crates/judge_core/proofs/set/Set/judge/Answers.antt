@@ -12,13 +12,13 @@ use Rattle.judge_core.proofs.set.Set.judge.Goals as goal
 pub returns-then-men-le2-clause-value : goal.returns-then-men-le2-clause-value
 returns-then-men-le2-clause-value c =
     ruled_by c.args.self.now.tables c.args.position.now (Ok Draw) (Some TableDraw)
-    (sym c.in_ok-has_no_move.ensures ∙ c.if-branch.false) (sym c.is_out_of_scope.ensures.is ∙ c.if-is_out_of_scope.false)
+    (sym c.has_no_move.ensures ∙ c.if-has_no_move.false) (sym c.is_out_of_scope.ensures.is ∙ c.if-is_out_of_scope.false)
     (bare _ _ c.is_out_of_scope.ensures.position (omega (arith, c.men.ensures.computed, c.if-men-le2.true))) refl
 
 pub returns-in_default-clause-value : goal.returns-in_default-clause-value
 returns-in_default-clause-value c =
     ruled_by c.args.self.now.tables c.args.position.now c.worth_in-reading.result c.by_value.result
-    (sym c.in_ok-has_no_move.ensures ∙ c.if-branch.false) (sym c.is_out_of_scope.ensures.is ∙ c.if-is_out_of_scope.false)
+    (sym c.has_no_move.ensures ∙ c.if-has_no_move.false) (sym c.is_out_of_scope.ensures.is ∙ c.if-is_out_of_scope.false)
     (c.worth_in-reading.ensures ∙ weighed c.args.self.now.tables c.args.position.now c.in_ok-weighed.weighed c.is_out_of_scope.ensures.position (omega (arith, c.men.ensures.computed, c.if-men-le2.false)) c.in_ok-weighed.ensures)
     (c.by_value.ensures c.args.position.now (dtz_of c.args.self.now.tables c.args.position.now))
 
@@ -26,7 +26,7 @@ pub returns-clause-value : goal.returns-clause-value
 returns-clause-value c =
     let many : 2 < count_of_men c.args.position.now = omega (arith, c.men.ensures.computed, c.if-men-le2.false) in
     let scope = sym c.is_out_of_scope.ensures.is ∙ c.if-is_out_of_scope.false in
-    let moves = sym c.in_ok-has_no_move.ensures ∙ c.if-branch.false in
+    let moves = sym c.has_no_move.ensures ∙ c.if-has_no_move.false in
     let value = c.worth_in-reading.ensures ∙ weighed c.args.self.now.tables c.args.position.now c.in_ok-weighed.weighed c.is_out_of_scope.ensures.position many c.in_ok-weighed.ensures in
     let reach = c.in_ok-reach.ensures.is ∙ reached c.args.self.now.tables c.args.position.now c.in_ok-weighed.weighed many c.in_ok-weighed.ensures in
     elim c.match-reading-2.branch [

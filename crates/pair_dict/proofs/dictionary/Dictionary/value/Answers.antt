@@ -3,7 +3,7 @@ use Rattle.pair_dict.proofs.BlockValues.{left_first, left_next, left_found, left
 use Rattle.pair_dict.proofs.dictionary.Dictionary.value.Goals as goal
 
 pub codes-init : goal.codes-init
-codes-init c = record { within = omega arith; slow = omega arith; rest = left_first c.args.self.now c.args.block.now c.args.offset }
+codes-init c = record { within = omega arith; slow = omega arith; shows = c.at-buffer.ensures; rest = left_first c.args.self.now c.args.block.now c.args.offset }
 
 pub returns-then-left-skipped-clause-found : goal.returns-then-left-skipped-clause-found
 returns-then-left-skipped-clause-found c =
@@ -16,6 +16,7 @@ codes-preserved c =
     record {
       within = c.in-Some.ensures.sound.within;
       slow = omega (arith, c.codes.invariant.slow, c.in-Some.ensures.sound.short, c.values-skipped.ensures.some);
+      shows = c.after-buffer.ensures;
       rest = rw c.values-skipped.ensures.is (left_next c.args.self.now c.args.block.now c.codes.at c.codes.left c.args.offset c.in-Some.symbol c.in-Some.length (sym c.in-Some.ensures.is) c.in-Some.ensures.sound.some c.in-Some.ensures.sound.within
           (rw c.values-skipped.ensures.is at c.if-left-skipped.false) c.codes.invariant.rest);
     }

@@ -1,4 +1,5 @@
 use Rattle.std.proofs.Common.{◌≤◌, ◌+◌, ◌-◌, ◌*◌, length}
+use Rattle.pair_dict.specs.Windows.{Shows}
 use Rattle.pair_dict.proofs.BlockValues.{IsLeft}
 use Rattle.pair_dict.proofs.dictionary.Dictionary.value.Given as goal
 
@@ -7,6 +8,7 @@ invariant-codes l =
     record {
       within : l.at ≤ 8 * length l.block;
       slow : l.at + 32 * l.left ≤ 32 * l.offset;
+      shows : Shows l.block l.at l.buffer;
       rest : IsLeft l.self l.block l.at l.left l.offset;
     }
 

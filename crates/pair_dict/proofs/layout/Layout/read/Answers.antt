@@ -10,4 +10,5 @@ returns-clause-sound c =
       some = omega (arith, len, c.in_ok-lowest.ensures.length, c.in_ok-greatest.ensures.sound.1);
       greatest = omega (arith, len, c.in_ok-lowest.ensures.length, c.in_ok-greatest.ensures.sound.1, c.in_ok-greatest.ensures.sound.2);
       falling = c.in_ok-lowest.ensures.falls;
+      few = omega (arith, c.in_ok-n.ensures.few, c.in_ok-symbols.ensures.length);
     }

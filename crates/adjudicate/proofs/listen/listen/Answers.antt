@@ -1,0 +1,14 @@
+use Rattle.std.proofs.Common.{sym}
+use Rattle.std.proofs.lemmas.Result.{IfOk-weaker}
+use Rattle.adjudicate.specs.Listens.{BadStart, BadTables}
+use Rattle.adjudicate.proofs.listen.listen.Goals as goal
+
+pub returns-in-Err : goal.returns-in-Err
+returns-in-Err g c =
+    let fault = rw c.as_bytes.ensures.value at c.in-Err.ensures.err in
+    IfOk-weaker c.put_refusal.result _ _ (λ status h. BadStart c.in-Err.fault fault h) c.put_refusal.ensures
+
+pub returns-in-Ok-Err : goal.returns-in-Ok-Err
+returns-in-Ok-Err g c =
+    let refused = rw c.in-Ok-Err.field-0-is at c.in-Ok-Err.ensures in
+    IfOk-weaker c.put_refusal-in-Ok-Err.result _ _ (λ status h. BadTables _ (sym refused) h) c.put_refusal-in-Ok-Err.ensures

@@ -1,0 +1,13 @@
+use Rattle.std.proofs.Common.{ℕ, ◌<◌, ◌-◌}
+use Rattle.board_core.specs.Search.{Strikes}
+use Rattle.board_core.proofs.Sweep.{Rests}
+use Rattle.board_core.proofs.attack.some_strikes.Given as goal
+
+abbrev pub invariant-enemies : goal.invariant-enemies
+invariant-enemies l = record {
+  rests : Rests (Strikes l.men l.by l.to) l.next l.rest;
+  none : (s : ℕ) → s < l.next → Strikes l.men l.by l.to s → ⊥;
+}
+
+abbrev pub decreases-enemies : goal.decreases-enemies
+decreases-enemies l = 64 - l.next

@@ -1,3 +1,0 @@
-pub mod PortLaws
-pub mod ServingLaws
-pub mod StepLaws
