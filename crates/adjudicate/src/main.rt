@@ -138,6 +138,8 @@ mod kept_tests;
 #[cfg(test)]
 mod listen_tests;
 #[cfg(test)]
+mod many_tests;
+#[cfg(test)]
 mod memory_file;
 #[cfg(test)]
 mod memory_port;

@@ -9,8 +9,8 @@ use std::test::*;
 
 /// The folders of the other tests, and a schedule as input.
 #[derive(Drop)]
-struct Scheduled {
-    text: &'static str,
+pub(crate) struct Scheduled {
+    pub(crate) text: &'static str,
 }
 
 impl Disk for Scheduled {

@@ -1,0 +1,125 @@
+//! Many positions, and games told by their moves.
+
+use crate::fixtures::*;
+use crate::schedule_tests::Scheduled;
+use std::alloc::Global;
+use std::test::*;
+
+/// Rook h1 against queen b1; the rook is taken at ply 4.
+const ROOK_FEN: &str = "8/8/8/4k3/8/8/K7/1Q5r b - - 0 1";
+
+/// Words, the FEN among them, the input, and what is told.
+struct Given {
+    words: &'static str,
+    fen: &'static str,
+    input: &'static str,
+    lines: &'static str,
+    status: u8,
+}
+
+/// That the program tells so of the input.
+fn expect_given(alloc: Global, given: &Given) -> Result<(), Fail> {
+    let disk = Scheduled { text: given.input };
+    let row = (given.words, given.fen, given.lines, given.status);
+    expect_run(alloc, &disk, &mut Vec::new(alloc), row)
+}
+
+/// A position, a text that is none, and one without a table at the end, without a line feed; no line; an empty one.
+const POSITIONS: [Given; 4] = [
+    Given {
+        words: "probes --tables worked",
+        fen: "",
+        input: "8/8/8/4k3/8/8/8/KN6 w - - 0 1\n8/8 w\n8/8/8/4k3/8/8/8/KR6 w - - 0 1",
+        lines: "0\t0\tTableDraw\nrefused FEN FieldCount\nrefused NotCovered KRvK\trefused NotCovered KRvK\topen\n",
+        status: 1,
+    },
+    Given {
+        words: "probes --tables worked",
+        fen: "",
+        input: "8/8/8/4k3/8/8/8/KQ6 w - - 0 1\n",
+        lines: "2\t10\tTableWhite\n",
+        status: 0,
+    },
+    Given {
+        words: "probes --tables worked",
+        fen: "",
+        input: "",
+        lines: "",
+        status: 0,
+    },
+    Given {
+        words: "probes --tables worked",
+        fen: "",
+        input: "\n",
+        lines: "refused FEN FieldCount\n",
+        status: 1,
+    },
+];
+
+#[test]
+fn probes_many_positions(rt: HostRuntime) -> Result<(), Fail> {
+    for given in &POSITIONS {
+        expect_given(rt.alloc(), given)?;
+    }
+    Ok(())
+}
+
+const GAMES: [Given; 7] = [
+    Given {
+        words: "game --tables worked FEN",
+        fen: ROOK_FEN,
+        input: "h1h8 b1b8\ne5e4  b8h8\r\ne4d3",
+        lines: "ruled 4 TableWhite\n",
+        status: 0,
+    },
+    Given {
+        words: "game --tables worked --delay 1 FEN",
+        fen: ROOK_FEN,
+        input: "h1h8 b1b8 e5e4 b8h8 e4d3\n",
+        lines: "ruled 5 TableWhite\n",
+        status: 0,
+    },
+    Given {
+        words: "game --tables worked FEN",
+        fen: ROOK_FEN,
+        input: "h1h8 b1b8 e5e4",
+        lines: "open 3\n",
+        status: 0,
+    },
+    Given {
+        words: "game FEN",
+        fen: ROOK_FEN,
+        input: "h1h8 h1h8",
+        lines: "illegal 1\n",
+        status: 1,
+    },
+    Given {
+        words: "game FEN",
+        fen: ROOK_FEN,
+        input: "h1h8 b1b9",
+        lines: "refused move 1\n",
+        status: 1,
+    },
+    Given {
+        words: "game FEN",
+        fen: "8/8",
+        input: "no move",
+        lines: "refused FEN FieldCount\n",
+        status: 1,
+    },
+    Given {
+        words: "game --delay 9 FEN",
+        fen: ROOK_FEN,
+        input: "",
+        lines: "",
+        status: 2,
+    },
+];
+
+#[test]
+fn judges_games(rt: HostRuntime) -> Result<(), Fail> {
+    for given in &GAMES {
+        expect_given(rt.alloc(), given)?;
+    }
+    Ok(())
+}
