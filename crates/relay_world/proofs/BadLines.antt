@@ -1,11 +1,12 @@
 -- A text with a line at fault is no schedule, and one line is the first at fault.
-use Rattle.std.proofs.Common.{◌≡◌, ℕ, suc, List, [], ◌∷◌, sym, ◌∙◌, subst, inl, inr}
+use Rattle.std.proofs.Common.{◌≡◌, ◌≤◌, ℕ, suc, List, [], ◌∷◌, length, sym, ◌∙◌, subst, arith, inl, inr}
 use Rattle.board_core.specs.declared.parts.Parts.{Parts}
 use Rattle.board_core.specs.declared.moves.Move.{Move as Moves}
 use Rattle.fen_text.specs.Cuts.{cut_at}
 use Rattle.relay_world.specs.declared.event.Event.{Event}
 use Rattle.relay_world.specs.declared.schedule.Schedule.{Schedule}
 use Rattle.relay_world.specs.Texts.{IsNameLine, IsStartLine, IsMovesLine, AreEvents, SpellsSchedule, NeedsLine, IsBadEvent, IsFirstBadLine}
+use Rattle.relay_world.proofs.Reading.{has_piece}
 
 -- ---- none in a schedule
 
@@ -49,8 +50,8 @@ good_text k name start moves [] s name_is start_is moves_are events_are = λ bad
 good_text k name start moves (line ∷ lines) s name_is start_is moves_are events_are =
     good_line IsName 1 k (FromStart k) name start (moves ∷ line ∷ lines) (s.name.items, name_is)
     (good_line IsStart 2 k (FromMoves k) start moves (line ∷ lines) (s.start, start_is)
-      (good_line AreMoves 3 k (IsBadEvent 4 k) moves line lines (s.moves.items, moves_are)
-        (good_events 4 k (line ∷ lines) s.events.items events_are)))
+    (good_line AreMoves 3 k (IsBadEvent 4 k) moves line lines (s.moves.items, moves_are)
+    (good_events 4 k (line ∷ lines) s.events.items events_are)))
 
 pub spells_none : (text : List ℕ) (k : ℕ) (s : Schedule) → IsFirstBadLine text k → SpellsSchedule text s → ⊥
 spells_none text k s bad spells =
@@ -92,5 +93,43 @@ one_line IsGood number j k J K (line ∷ next ∷ lines) one a b =
 pub one_first : (text : List ℕ) (j k : ℕ) → IsFirstBadLine text j → IsFirstBadLine text k → j ≡ k
 one_first text j k =
     one_line IsName 1 j k (FromStart j) (FromStart k) (cut_at 10 text) (λ later.
-        one_line IsStart 2 j k (FromMoves j) (FromMoves k) later (λ later.
-            one_line AreMoves 3 j k (IsBadEvent 4 j) (IsBadEvent 4 k) later (one_event 4 j k)))
+    one_line IsStart 2 j k (FromMoves j) (FromMoves k) later (λ later.
+    one_line AreMoves 3 j k (IsBadEvent 4 j) (IsBadEvent 4 k) later (one_event 4 j k)))
+
+-- ---- what is at fault where the first lines are good
+
+late_event : (number k : ℕ) (lines : List (List ℕ)) → IsBadEvent number k lines → number ≤ k
+late_event number k [] bad = absurd bad
+late_event number k (last ∷ []) bad = let e = bad.0 in omega (arith, e)
+late_event number k (line ∷ next ∷ lines) bad =
+    elim bad [
+      | inl here ↦ let e = here.0 in omega (arith, e)
+      | inr later ↦ let l = late_event (suc number) k (next ∷ lines) later.1 in omega (arith, l)
+    ]
+
+late_line : (IsGood : List ℕ → Type 0) (number k : ℕ) (Later : List (List ℕ) → Type 0) (lines : List (List ℕ)) → ((later : List (List ℕ)) → Later later → number ≤ k) → NeedsLine IsGood number k Later lines → number ≤ k
+late_line IsGood number k Later [] late bad = absurd bad
+late_line IsGood number k Later (last ∷ []) late bad = omega (arith, bad)
+late_line IsGood number k Later (line ∷ next ∷ lines) late bad =
+    elim bad [
+      | inl here ↦ let e = here.0 in omega (arith, e)
+      | inr later ↦ late (next ∷ lines) later.1
+    ]
+
+-- after a line that has to be there and is good
+past_line : (IsGood : List ℕ → Type 0) (number k least : ℕ) (Later : List (List ℕ) → Type 0) (line : List ℕ) (lines : List (List ℕ)) → 1 ≤ length lines → IsGood line → (Later lines → least ≤ k) → NeedsLine IsGood number k Later (line ∷ lines) → least ≤ k
+past_line IsGood number k least Later line [] some good late bad = absurd (omega (arith, some))
+past_line IsGood number k least Later line (next ∷ lines) some good late bad =
+    elim bad [
+      | inl here ↦ absurd (here.1 good)
+      | inr later ↦ late later.1
+    ]
+
+-- where the first two lines are good, none before the third is at fault
+pub third_or_later : (text one rest two more name : List ℕ) (start : Parts) → cut_at 10 text ≡ one ∷ cut_at 10 rest → IsNameLine one name → cut_at 10 rest ≡ two ∷ cut_at 10 more → IsStartLine two start → (k : ℕ) → IsFirstBadLine text k → 3 ≤ k
+third_or_later text one rest two more name start a n b s k bad =
+    past_line IsName 1 k 3 (FromStart k) one (cut_at 10 rest) (has_piece 10 rest) (name, n)
+    (λ bad. past_line IsStart 2 k 3 (FromMoves k) two (cut_at 10 more) (has_piece 10 more) (start, s)
+    (λ bad. late_line AreMoves 3 k (IsBadEvent 4 k) (cut_at 10 more) (λ later bad. let l = late_event 4 k later bad in omega (arith, l)) bad)
+    (subst (FromStart k) b bad))
+    (subst (NeedsLine IsName 1 k (FromStart k)) a bad)

@@ -1,20 +1,19 @@
 -- What both keep is true to the game, in plain words.
-use Rattle.std.proofs.Common.{◌≡◌, ◌≤◌, ◌<◌, ◌+◌, ℕ, zero, suc, true, is_some, List, [], ◌∷◌, ◌++◌, length, take, get_or, Option, Some, None, sym, refl, ap, ◌∙◌, subst, arith}
-use Rattle.std.specs.Prelude.{IfSome, IsSome, slice_get, ◌↔◌, option_and_then}
+use Rattle.std.proofs.Common.{◌≡◌, ◌≤◌, ◌+◌, ℕ, zero, suc, true, is_some, List, [], ◌∷◌, ◌++◌, length, take, get_or, Option, Some, None, sym, refl, ap, ◌∙◌, subst, arith}
+use Rattle.std.specs.Prelude.{IfSome, slice_get, option_and_then}
 use Rattle.std.proofs.lemmas.List.{take_more}
 use Rattle.board_core.specs.ComputedMoves.{position_after}
 use Rattle.judge_core.proofs.Plies.{goes_on}
-use Rattle.std.specs.List.{AllByRecursion}
 use Rattle.board_core.specs.declared.moves.Move.{Move as Moves}
 use Rattle.board_core.specs.declared.verdict.Verdict.{Verdict as Ruling}
-use Rattle.judge_core.specs.Games.{Rules, IsFirst, IsUnruled, position_after_all, verdict_after}
-use Rattle.arbiter_core.specs.Recording.{Recorded, reaches, record_at, count_of}
-use Rattle.arbiter_core.proofs.Reach.{Step, step_of, step_to, reach_within, unruled_below}
+use Rattle.judge_core.specs.Games.{Rules, IsFirst, IsUnruled, position_after_all}
+use Rattle.arbiter_core.specs.Recording.{Recorded, reaches, count_of}
+use Rattle.arbiter_core.proofs.Reach.{step_to, reach_within, unruled_below}
 use Rattle.relay_world.specs.declared.event.Event.{Event}
 use Rattle.relay_world.specs.Worlds.{Game, World, happens, after, worlds, first_world}
 use Rattle.relay_world.specs.Headline.{IsFrontOf, IsFaithful, IsRecordOf, IsOneVerdict, Agree, IsRight}
 use Rattle.relay_world.specs.Runs.{AreWorlds}
-use Rattle.relay_world.proofs.Steps.{start_legal, right_of, all_at}
+use Rattle.relay_world.proofs.Steps.{start_legal, all_at}
 use Rattle.relay_world.proofs.Schedules.{first_is_right}
 
 pub front_of : (r : Rules) (game : List Moves) (kept : Recorded) → IsRecordOf r game kept → IsFrontOf r game kept
@@ -79,6 +78,11 @@ each_of game world (e ∷ events) zero event old new p q r =
     some_one : (x y : World) → Some x ≡ Some y → x ≡ y
     some_one x y e = cc
 each_of game world (e ∷ events) (suc i) event old new p q r = each_of game (happens game world e) events i event old new p q r
+
+-- the world at a place is the one after so many events
+pub at_of : (game : Game) (world : World) (early late : List Event) → slice_get (worlds game world (early ++ late)) (length early) ≡ Some (after game world early)
+at_of game world [] late = first_of game world late
+at_of game world (e ∷ early) late = at_of game (happens game world e) early late
 
 pub last_of : (game : Game) (world : World) (events : List Event) → slice_get (worlds game world events) (length events) ≡ Some (after game world events)
 last_of game world [] = refl

@@ -1,6 +1,6 @@
 -- The file names that a manifest may have are those of table files.
 use Rattle.std.proofs.Common.{◌≡◌, ◌<◌, ◌≤◌, ◌+◌, ◌-◌, ◌⊎◌, ℕ, zero, suc, Bool, true, false, cond, List, [], ◌∷◌, ◌++◌, map, length, refl, sym, ap, ◌∙◌, arith, inl, inr}
-use Rattle.std.specs.Prelude.{◌==◌, nat_le, nat_lt, slice_index}
+use Rattle.std.specs.Prelude.{◌==◌, slice_index}
 use Rattle.std.proofs.lemmas.Bool.{and_from, and_parts, or_cases, eqb-true, leb-true, ltb-true, le-leb, lt-ltb}
 use Rattle.std.proofs.lemmas.List.{length-map}
 use Rattle.place_index.specs.Material.{Men, IsInOrder, IsTable, TablesAreNumbered, letter, name_at, name_of, men_of}
@@ -131,18 +131,21 @@ table_of name t =
     let p : ArePaired (map letter f.men) (map letter s.men) = rw (sym f.are, sym s.are) (paired t.first t.second t.paired) in
     let fs : length (map letter f.men) ≡ length f.men = length-map f.men letter in
     let ss : length (map letter s.men) ≡ length s.men = length-map s.men letter in
-    let one : 1 ≤ length f.men = omega (arith, p.one, fs) in
-    (record { first = f.men; second = s.men }, record {
-      first = f.in_order;
-      second = s.in_order;
-      one = one;
-      more = elim p.more [
-        | inl less ↦ omega (arith, less, fs, ss)
-        | inr same ↦ omega (arith, same.0, fs, ss)
-      ];
-      few = omega (arith, p.few, fs, ss);
-      earlier = earlier f.men s.men f.in_order s.in_order one p;
-    }, rw (sym f.are, sym s.are) (sym t.text))
+    let one : 1 ≤ length f.men = omega (arith, p.one, fs) in (
+      record { first = f.men; second = s.men },
+      record {
+        first = f.in_order;
+        second = s.in_order;
+        one = one;
+        more = elim p.more [
+          | inl less ↦ omega (arith, less, fs, ss)
+          | inr same ↦ omega (arith, same.0, fs, ss)
+        ];
+        few = omega (arith, p.few, fs, ss);
+        earlier = earlier f.men s.men f.in_order s.in_order one p;
+      },
+      rw (sym f.are, sym s.are) (sym t.text),
+    )
 
 pub file_names_are_those_of_tables : TablesAreNumbered → FileNamesAreThoseOfTables
 unfolding file_name

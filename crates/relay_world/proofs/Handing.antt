@@ -1,10 +1,10 @@
 -- A delivery is the step of its side.
-use Rattle.std.proofs.Common.{◌≡◌, ◌≢◌, ℕ, Bool, true, false, cond, List, [], ◌∷◌, Option, Some, None, Result, Ok, Err, sym, refl, ap, ◌∙◌, subst, inl, inr, ◌⊎◌}
+use Rattle.std.proofs.Common.{◌≡◌, ◌≢◌, ℕ, Bool, true, false, List, [], Option, Some, None, Result, Ok, Err, sym, refl, ap, ◌∙◌, subst, inl, inr}
 use Rattle.std.specs.Prelude.{MatchBool}
 use Rattle.std.proofs.lemmas.Bool.{cond-true, cond-false}
 use Rattle.move_msg.specs.declared.message.Message.{Message}
 use Rattle.arbiter_core.specs.declared.fault.DeliverFault.{DeliverFault}
-use Rattle.arbiter_core.specs.declared.fault.DeliverFault.TheVariants.{OutOfMemory, KeeperFailed, Down as IsDown}
+use Rattle.arbiter_core.specs.declared.fault.DeliverFault.TheVariants.{OutOfMemory, Down as IsDown}
 use Rattle.arbiter_core.specs.declared.keeper.Keep.{Keep}
 use Rattle.arbiter_core.specs.declared.keeper.KeepFault.{KeepFault}
 use Rattle.arbiter_core.specs.declared.keeper.Keep.TheVariants.{Good, FailsOld, FailsNew}
@@ -13,11 +13,11 @@ use Rattle.arbiter_core.specs.Answering.{Identity, Answer, Refuses, Sends, Puts,
 use Rattle.arbiter_core.specs.Memory.{Memory}
 use Rattle.arbiter_core.specs.Setups.{SetupView, rules_at}
 use Rattle.arbiter_core.specs.Views.{View}
-use Rattle.arbiter_core.specs.Delivers.{Told, answer_of, with_window, with_record, downed, RefusesOrSends, PutsIfAny, PutsOnce, Unchanged, Lands, IsSpelled}
+use Rattle.arbiter_core.specs.Delivers.{Told, answer_of, RefusesOrSends, PutsIfAny, Unchanged, Lands, IsSpelled}
 use Rattle.relay_world.specs.declared.seat.Place.{Place}
-use Rattle.relay_world.specs.declared.seat.Place.TheVariants.{Shut, Open}
-use Rattle.relay_world.specs.Worlds.{Side, Life, Closed, Down, Running, put, answered, handed, handed_at}
-use Rattle.relay_world.specs.Seats.{PlaceIs, IsOpen, KeptIs, Stands, Steps}
+use Rattle.relay_world.specs.declared.seat.Place.TheVariants.{Open}
+use Rattle.relay_world.specs.Worlds.{Side, Life, Closed, Down, Running, answered, handed, handed_at}
+use Rattle.relay_world.specs.Seats.{PlaceIs, KeptIs, Stands, Steps}
 
 abbrev pub may_be : Memory → Keep → Type 0
 may_be m keep = m.keep ≡ keep

@@ -14,3 +14,4 @@ pub mod Told
 pub mod Places
 pub mod Reading
 pub mod BadLines
+pub mod OneSchedule

@@ -1,24 +1,22 @@
 -- The names of files that are tables.
-use Rattle.std.proofs.Common.{◌≡◌, ◌≢◌, ◌<◌, ◌≤◌, ◌+◌, ◌-◌, ℕ, zero, suc, Bool, true, false, List, [], ◌∷◌, ◌++◌, map, length, replicate, Option, Some, None, Result, Ok, Err, refl, sym, ap, ◌∙◌, subst, arith, inl, inr, ◌⊎◌, ⊎_elim, get_or}
-use Rattle.std.specs.Prelude.{◌==◌, ◌&&◌, ◌||◌, nat_le, nat_lt, is_some, if◌then◌else◌, slice_index, slice_index_or, slice_set}
-use Rattle.std.proofs.lemmas.Bool.{and_from, le-leb, lt-ltb, cases_eq, cases_Bool}
+use Rattle.std.proofs.Common.{◌≡◌, ◌≢◌, ◌<◌, ◌≤◌, ℕ, suc, List, [], ◌∷◌, map, length, replicate, Option, Some, None, Result, Ok, Err, refl, sym, ap, ◌∙◌, subst, arith, ⊎_elim}
+use Rattle.std.specs.Prelude.{is_some, if◌then◌else◌, slice_index_or, slice_set}
+use Rattle.std.proofs.lemmas.Bool.{cases_eq}
 use Rattle.std.proofs.lemmas.List.{get_or-set_same, get_or-set_other, length-set, length-replicate}
-use Rattle.place_index.specs.Material.{Men, IsInOrder, IsTable, TablesAreNumbered, letter, name_at, men_of}
+use Rattle.place_index.specs.Material.{TablesAreNumbered}
 use Rattle.table_file.specs.declared.fault.TableFault.{TableFault}
 use Rattle.table_file.specs.declared.kind.Kind.{Kind}
 use Rattle.table_file.specs.declared.kind.Kind.TheVariants.{Wdl, Dtz}
 use Rattle.table_file.specs.Layouts.{IsLayout, ReadsWhatIsLaidOut}
-use Rattle.table_file.specs.Names.{file_name, title_of}
-use Rattle.table_file.specs.Tables.{Contents, table_at as contents_at}
+use Rattle.table_file.specs.Names.{file_name}
+use Rattle.table_file.specs.Tables.{Contents}
 use Rattle.table_file.proofs.NameLemmas.{title_is}
 use Rattle.judge_core.specs.Tables.{Tables, slot, table_at}
 use Rattle.move_msg.specs.Files.{File, entry_for, entries_of}
-use Rattle.move_msg.specs.Manifests.{Entry}
-use Rattle.move_msg.specs.TableNames.{man_place, are_men_from, are_paired, IsTableName, IsFileName}
-use Rattle.relay_world.specs.declared.fault.WorldFault.{WorldFault}
-use Rattle.relay_world.specs.declared.fault.WorldFault.TheVariants.{BadTable, DuplicateTable}
+use Rattle.move_msg.specs.TableNames.{IsFileName}
+use Rattle.relay_world.specs.declared.fault.WorldFault.TheVariants.{DuplicateTable}
 use Rattle.relay_world.proofs.FileNames.{is_file_name}
-use Rattle.relay_world.specs.Gathering.{and_then, with_table, tables_from, tables_of, found_in, HasOther, AreTables}
+use Rattle.relay_world.specs.Gathering.{and_then, with_table, tables_from, tables_of, found_in, IsNew, AreTables}
 
 -- ---- tables that are gathered are tables, each of another name
 
@@ -69,7 +67,7 @@ slot_below Wdl m l = omega arith
 slot_below Dtz m l = omega arith
 
 -- the others' slots are not the one that is filled
-other_names : (f : File) (c : Contents) (tables : Tables) (others : List File) → IsNamed f c → 290 ≤ length tables → AreFree (slice_set tables (slot c.kind c.material) (Some c)) others → HasOther (entry_for f) (entries_of others)
+other_names : (f : File) (c : Contents) (tables : Tables) (others : List File) → IsNamed f c → 290 ≤ length tables → AreFree (slice_set tables (slot c.kind c.material) (Some c)) others → IsNew (entry_for f) (entries_of others)
 other_names f c tables [] n l h = tt
 other_names f c tables (g ∷ others) n l h = (
   λ same.

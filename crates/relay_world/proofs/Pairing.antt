@@ -1,32 +1,27 @@
 -- A step of one seat is a step of the world.
-use Rattle.std.proofs.Common.{◌≡◌, ℕ, List, [], ◌∷◌, ◌++◌, Option, Some, None, Result, Ok, Err, sym, refl, ap, ◌∙◌, subst}
-use Rattle.std.specs.Prelude.{IfSome, MatchBool, false, true}
-use Rattle.std.proofs.lemmas.List.{append-nil}
+use Rattle.std.proofs.Common.{◌≡◌, ℕ, List, ◌++◌, Option, Some, None, sym, ap, ◌∙◌, subst}
+use Rattle.std.specs.Prelude.{IfSome, MatchBool, true}
 use Rattle.move_msg.specs.declared.stamp.Stamp.{Stamp}
 use Rattle.move_msg.specs.declared.message.Message.{Message}
-use Rattle.move_msg.specs.declared.who.Who.{Who}
 use Rattle.move_msg.specs.declared.who.Who.TheVariants.{A, B}
 use Rattle.board_core.specs.declared.moves.Move.{Move as Moves}
 use Rattle.judge_core.specs.Games.{Rules}
-use Rattle.arbiter_core.specs.declared.fault.DeliverFault.{DeliverFault}
-use Rattle.arbiter_core.specs.declared.keeper.Keep.{Keep}
-use Rattle.arbiter_core.specs.Recording.{Recorded, Window}
-use Rattle.arbiter_core.specs.Answering.{Identity, answer_heard}
+use Rattle.arbiter_core.specs.Recording.{Recorded}
+use Rattle.arbiter_core.specs.Answering.{Identity}
 use Rattle.arbiter_core.specs.Memory.{Memory}
 use Rattle.arbiter_core.specs.Opens.{IsWhole}
-use Rattle.arbiter_core.specs.Setups.{SetupView, rules_at}
-use Rattle.arbiter_core.specs.Views.{View}
-use Rattle.arbiter_core.specs.Delivers.{IsSpelled, Keeps}
+use Rattle.arbiter_core.specs.Setups.{SetupView}
+use Rattle.arbiter_core.specs.Delivers.{IsSpelled}
 use Rattle.relay_world.specs.declared.seat.Place.{Place}
 use Rattle.relay_world.specs.declared.seat.Place.TheVariants.{Shut, Open}
-use Rattle.relay_world.specs.Headline.{IsRecordOf, IsRight}
-use Rattle.relay_world.specs.Worlds.{Side, World, Life, Closed, Down, Running, Game, identity, side_of, turned, handed, restarted, happens}
-use Rattle.relay_world.specs.Seats.{Stands, Steps, KeptIs, IsOpen, IsKept}
-use Rattle.relay_world.specs.Pairs.{AreSetups, AreStamped, IsWorld}
+use Rattle.relay_world.specs.Headline.{IsRecordOf}
+use Rattle.relay_world.specs.Worlds.{Side, World, Down, Running, Game, identity, turned}
+use Rattle.relay_world.specs.Seats.{Stands, Steps, KeptIs, IsKept}
+use Rattle.relay_world.specs.Pairs.{IsWorld}
 use Rattle.arbiter_core.proofs.Reach.{reach_front, reach_within}
 use Rattle.std.proofs.lemmas.List.{length-take-le, take_all}
 use Rattle.std.proofs.Common.{length, take, drop, take-append-drop, arith}
-use Rattle.arbiter_core.specs.Recording.{reaches, record_at}
+use Rattle.arbiter_core.specs.Recording.{reaches}
 use Rattle.judge_core.specs.Games.{verdict_after}
 
 -- what a running arbiter has recorded is what is kept

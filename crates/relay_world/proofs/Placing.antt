@@ -1,5 +1,5 @@
 -- Entries by rising name, with one more.
-use Rattle.std.proofs.Common.{◌≡◌, ◌<◌, ◌≤◌, ◌+◌, ℕ, zero, suc, List, [], ◌∷◌, ◌++◌, map, length, take, drop, get_or, refl, sym, ap, ◌∙◌, subst, arith, take-append-drop}
+use Rattle.std.proofs.Common.{◌≡◌, ◌<◌, ◌≤◌, ◌+◌, ℕ, zero, suc, List, [], ◌∷◌, ◌++◌, map, length, take, drop, get_or, refl, sym, ap, ◌∙◌, subst, arith}
 use Rattle.std.specs.Ordering.{nat_cmp}
 use Rattle.std.specs.declared.cmp.Ordering.{Ordering}
 use Rattle.std.specs.declared.cmp.Ordering.TheVariants.{Less, Equal, Greater}
@@ -15,7 +15,7 @@ use Rattle.move_msg.specs.Files.{File, entry_for, entries_of}
 use Rattle.move_msg.specs.declared.manifest.Line.{Line}
 use Rattle.move_msg.specs.Manifests.{AreEntries, AreOfFiles, AreRising, Entry, IsAfter, IsBefore, IsEntry, entry_of}
 use Rattle.move_msg.specs.TableNames.{IsFileName}
-use Rattle.relay_world.specs.Gathering.{AreTables, HasOther, Inserts, IsAhead}
+use Rattle.relay_world.specs.Gathering.{AreTables, IsNew, Inserts, IsAhead}
 
 -- ---- the place of an entry
 
@@ -36,12 +36,12 @@ other_way x e differ never = by_order (slice_cmp nat_cmp e.name x.name) refl
     by_order Equal h = absurd (differ (slice_cmp-IsAntisymmetric nat_cmp-IsAntisymmetric e.name x.name h))
     by_order Greater h = absurd (never (nat_list_cmp_total.antisymm x.name e.name ∙ ap ordering_reverse h))
 
-other_at : (e : Entry) (es : List Entry) (i : ℕ) (x : Entry) → HasOther e es → i < length es → x ≡ get_or es i x → e.name ≡ x.name → ⊥
+other_at : (e : Entry) (es : List Entry) (i : ℕ) (x : Entry) → IsNew e es → i < length es → x ≡ get_or es i x → e.name ≡ x.name → ⊥
 other_at e [] i x h l is = absurd (omega arith)
 other_at e (y ∷ es) zero x h l is = λ same. h.0 (same ∙ ap (λ (z : Entry). z.name) is)
 other_at e (y ∷ es) (suc i) x h l is = other_at e es i x h.1 (omega arith) is
 
-pub ahead_at : (e : Entry) (es : List Entry) (i : ℕ) (x : Entry) → HasOther e es → i < length es → x ≡ get_or es i x → (IsBefore x e → ⊥) → IsAhead e (drop i es)
+pub ahead_at : (e : Entry) (es : List Entry) (i : ℕ) (x : Entry) → IsNew e es → i < length es → x ≡ get_or es i x → (IsBefore x e → ⊥) → IsAhead e (drop i es)
 ahead_at e es i x h l is never =
     subst (IsAhead e) (sym (drop_more es i x l)) (other_way (get_or es i x) e (subst (λ (y : Entry). e.name ≡ y.name → ⊥) is (other_at e es i x h l is)) (subst (λ (y : Entry). IsBefore y e → ⊥) is never))
 
@@ -81,7 +81,7 @@ of_insert (suc i) (x ∷ xs) e h is = (h.0, of_insert i xs e h.1 is)
 entries_insert : (i : ℕ) (xs : List Entry) (e : Entry) → AreEntries xs → IsEntry e → Inserts e xs i → AreEntries (insert xs i e)
 entries_insert i xs e h is p = (of_insert i xs e h.0 is, rising_seam (take i xs) e (drop i xs) (rising_take i xs h.1) p.after p.before (rising_drop i xs h.1))
 
-other_insert : (g : Entry) (i : ℕ) (xs : List Entry) (e : Entry) → HasOther g xs → (g.name ≡ e.name → ⊥) → HasOther g (insert xs i e)
+other_insert : (g : Entry) (i : ℕ) (xs : List Entry) (e : Entry) → IsNew g xs → (g.name ≡ e.name → ⊥) → IsNew g (insert xs i e)
 other_insert g zero xs e h n = (n, h)
 other_insert g (suc i) [] e h n = (n, tt)
 other_insert g (suc i) (x ∷ xs) e h n = (h.0, other_insert g i xs e h.1 n)
@@ -91,13 +91,13 @@ other_insert g (suc i) (x ∷ xs) e h n = (h.0, other_insert g i xs e h.1 n)
 -- no file has the name of an entry
 abbrev pub AreFresh : List Entry → List File → Type 0
 AreFresh es [] = Unit {0}
-AreFresh es (f ∷ others) = HasOther (entry_for f) es × AreFresh es others
+AreFresh es (f ∷ others) = IsNew (entry_for f) es × AreFresh es others
 
 pub fresh_first : (files : List File) → AreFresh [] files
 fresh_first [] = tt
 fresh_first (f ∷ others) = (tt, fresh_first others)
 
-fresh_insert : (i : ℕ) (es : List Entry) (e : Entry) (others : List File) → AreFresh es others → HasOther e (entries_of others) → AreFresh (insert es i e) others
+fresh_insert : (i : ℕ) (es : List Entry) (e : Entry) (others : List File) → AreFresh es others → IsNew e (entries_of others) → AreFresh (insert es i e) others
 fresh_insert i es e [] h o = tt
 fresh_insert i es e (g ∷ others) h o = (other_insert (entry_for g) i es e h.0 (λ same. o.0 (sym same)), fresh_insert i es e others h.1 o.1)
 
@@ -146,7 +146,7 @@ goes_on xs i x l is lines more line place h e entry p m =
     map_insert (suc n) (y ∷ ls) = ap (λ zs. entry_of y ∷ zs) (map_insert n ls)
 
 -- the file whose turn it is
-pub turn_of : (xs : List File) (i : ℕ) (x : File) → i < length xs → x ≡ get_or xs i x → (es : List Entry) → AreListed (take i xs) (drop i xs) es → IsFileName x.name × HasOther (entry_for x) es
+pub turn_of : (xs : List File) (i : ℕ) (x : File) → i < length xs → x ≡ get_or xs i x → (es : List Entry) → AreListed (take i xs) (drop i xs) es → IsFileName x.name × IsNew (entry_for x) es
 turn_of xs i x l is es h =
     let left : drop i xs ≡ x ∷ drop (i + 1) xs = drop_more xs i x l ∙ ap (λ y. y ∷ drop (i + 1) xs) (sym is) in
     let here : AreListed (take i xs) (x ∷ drop (i + 1) xs) es = subst (λ fs. AreListed (take i xs) fs es) left h in

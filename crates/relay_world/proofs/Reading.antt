@@ -1,5 +1,5 @@
 -- Lines and words of a schedule.
-use Rattle.std.proofs.Common.{◌≡◌, ◌≢◌, ◌≤◌, ◌+◌, ℕ, zero, suc, List, [], ◌∷◌, ◌++◌, length, Option, Some, None, refl, sym, ap, ◌∙◌, subst, arith, inl, inr, ◌⊎◌, append_assoc}
+use Rattle.std.proofs.Common.{◌≡◌, ◌≢◌, ◌≤◌, ◌+◌, ℕ, suc, List, [], ◌∷◌, ◌++◌, length, Option, Some, None, refl, sym, ap, ◌∙◌, subst, arith, inl, inr, append_assoc, length-append}
 use Rattle.std.specs.Prelude.{◌==◌, codes, MatchOption, IfSome, IfNone}
 use Rattle.std.proofs.lemmas.List.{append-nil}
 use Rattle.board_core.specs.declared.parts.Parts.{Parts}
@@ -8,6 +8,7 @@ use Rattle.fen_text.specs.Coordinates.{SpellsMove}
 use Rattle.fen_text.specs.Cuts.{cut_at}
 use Rattle.fen_text.proofs.CutLaws.{is_cut}
 use Rattle.move_msg.specs.declared.who.Who.{Who}
+use Rattle.move_msg.specs.Numbers.{most_moves}
 use Rattle.arbiter_core.specs.declared.keeper.Keep.{Keep}
 use Rattle.relay_world.specs.declared.event.Event.{Event}
 use Rattle.relay_world.specs.declared.event.Event.TheVariants.{Deliver, Noise, Restart, Ask}
@@ -96,9 +97,14 @@ later_moves w ws (m ∷ ms) h = (ms, h.1)
 pub record AreLeft (text rest : List ℕ) (moves : List Moves) : Type 0 where
   pub some : (ms : List Moves) → AreMoves (cut_at 32 rest) ms → AreMoves (cut_at 32 text) (moves ++ ms)
   pub none : (ms : List Moves) → AreMoves (cut_at 32 text) ms → (left : List Moves) × AreMoves (cut_at 32 rest) left
+  pub words : length (cut_at 32 text) ≡ length moves + length (cut_at 32 rest)
 
 pub left_first : (text : List ℕ) (moves : List Moves) → moves ≡ [] → AreLeft text text moves
-left_first text moves e = record { some = λ ms h. subst (λ (xs : List Moves). AreMoves (cut_at 32 text) (xs ++ ms)) (sym e) h; none = λ ms h. (ms, h) }
+left_first text moves e = record {
+  some = λ ms h. subst (λ (xs : List Moves). AreMoves (cut_at 32 text) (xs ++ ms)) (sym e) h;
+  none = λ ms h. (ms, h);
+  words = let held : length moves ≡ 0 = ap length e in omega (arith, held);
+}
 
 pub left_more : (text rest tail word : List ℕ) (moves more : List Moves) (m : Moves) → AreLeft text rest moves → cut_at 32 rest ≡ word ∷ cut_at 32 tail → SpellsMove word m → more ≡ moves ++ m ∷ [] → AreLeft text tail more
 left_more text rest tail word moves more m h e s is = record {
@@ -106,6 +112,11 @@ left_more text rest tail word moves more m h e s is = record {
       let all : AreMoves (cut_at 32 text) (moves ++ m ∷ ms) = h.some (m ∷ ms) (subst (λ ws. AreMoves ws (m ∷ ms)) (sym e) (s, g)) in
       subst (AreMoves (cut_at 32 text)) (sym (ap (λ (xs : List Moves). xs ++ ms) is ∙ append_assoc moves (m ∷ []) ms)) all;
   none = λ ms g. let l = h.none ms g in later_moves word (cut_at 32 tail) l.0 (subst (λ ws. AreMoves ws l.0) e l.1);
+  words =
+      let all = h.words in
+      let one : length (cut_at 32 rest) ≡ length (word ∷ cut_at 32 tail) = ap length e in
+      let longer : length more ≡ length moves + length (m ∷ []) = ap length is ∙ length-append moves (m ∷ []) in
+      omega (arith, all, one, longer);
 }
 
 pub no_move : (text rest word : List ℕ) (ws : List (List ℕ)) (moves : List Moves) → AreLeft text rest moves → cut_at 32 rest ≡ word ∷ ws → ((m : Moves) → SpellsMove word m → ⊥) → (ms : List Moves) → AreMoves (cut_at 32 text) ms → ⊥
@@ -221,3 +232,12 @@ length_moves [] [] h = refl
 length_moves [] (m ∷ ms) h = absurd h
 length_moves (w ∷ ws) [] h = absurd h
 length_moves (w ∷ ws) (m ∷ ms) h = ap suc (length_moves ws ms h.1)
+
+-- with 4095 moves held, a word that is not the last makes too many
+pub too_many : (text rest tail word : List ℕ) (moves ms : List Moves) → AreLeft text rest moves → cut_at 32 rest ≡ word ∷ cut_at 32 tail → 4095 ≤ length moves → AreMoves (cut_at 32 text) ms → length ms ≤ most_moves → ⊥
+too_many text rest tail word moves ms h cut held are few =
+    let all = h.words in
+    let one : length (cut_at 32 rest) ≡ length (word ∷ cut_at 32 tail) = ap length cut in
+    let more = has_piece 32 tail in
+    let read = length_moves (cut_at 32 text) ms are in
+    absurd (omega (arith, all, one, more, read, held, few))

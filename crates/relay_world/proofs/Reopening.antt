@@ -1,32 +1,30 @@
 -- An opening over what is kept is the restart of its side.
-use Rattle.std.proofs.Common.{◌≡◌, ◌≢◌, ℕ, Bool, true, false, List, [], ◌∷◌, length, Option, Some, None, Result, Ok, Err, sym, refl, ap, ◌∙◌, subst, inl, inr, ◌⊎◌}
-use Rattle.std.specs.Prelude.{MatchBool, IfSome}
+use Rattle.std.proofs.Common.{◌≡◌, ◌≢◌, ℕ, List, Option, Some, None, Ok, Err, sym, refl, ap, ◌∙◌, subst, inl, inr}
+use Rattle.std.specs.Prelude.{IfSome}
 use Rattle.board_core.specs.declared.moves.Move.{Move}
 use Rattle.board_core.specs.declared.verdict.Verdict.{Verdict}
 use Rattle.move_msg.specs.declared.stamp.Stamp.{Stamp}
 use Rattle.move_msg.specs.declared.who.Who.{Who}
 use Rattle.move_msg.specs.declared.who.Who.TheVariants.{A, B}
 use Rattle.move_msg.specs.declared.record_bytes.Record.{Record}
-use Rattle.move_msg.specs.Records.{SpellsRecord}
 use Rattle.move_msg.specs.Senders.{who_number}
 use Rattle.move_msg.proofs.RecordLaws.{one_record}
 use Rattle.judge_core.specs.Games.{Rules, verdict_after}
-use Rattle.arbiter_core.specs.declared.fault.OpenFault.{OpenFault}
 use Rattle.arbiter_core.specs.declared.fault.OpenFault.TheVariants.{BadSetup, KeeperFailed, BadRecord, OtherStamp, OutOfMemory}
 use Rattle.arbiter_core.specs.declared.keeper.Keep.{Keep}
 use Rattle.arbiter_core.specs.declared.keeper.Keep.TheVariants.{Good, FailsOld, FailsNew}
 use Rattle.arbiter_core.specs.declared.setup.Setup.{Setup}
-use Rattle.arbiter_core.specs.Recording.{Recorded, record_at}
+use Rattle.arbiter_core.specs.Recording.{Recorded}
 use Rattle.arbiter_core.specs.Answering.{Identity}
 use Rattle.arbiter_core.specs.Memory.{Memory}
 use Rattle.arbiter_core.specs.Setups.{SetupView, setup_view, rules_at, IsIdentity}
 use Rattle.arbiter_core.specs.Views.{View, spelled_as}
 use Rattle.arbiter_core.specs.Delivers.{IsSpelled}
-use Rattle.arbiter_core.specs.Opens.{Told, Opens, OpensOver, PutsFirst, FirstLands, Resumes, IsResumed, IsBadKept, IsWhole, running, first_record}
+use Rattle.arbiter_core.specs.Opens.{Told, Opens, OpensOver, FirstLands, Resumes, IsResumed, IsWhole, running, first_record}
 use Rattle.arbiter_core.proofs.Opened.{from_whole}
 use Rattle.relay_world.specs.declared.seat.Place.{Place}
 use Rattle.relay_world.specs.declared.seat.Place.TheVariants.{Shut, Open}
-use Rattle.relay_world.specs.Worlds.{Side, Life, Closed, Down, Running, opened, restarted}
+use Rattle.relay_world.specs.Worlds.{Side, opened, restarted}
 use Rattle.relay_world.specs.Seats.{PlaceIs, IsOpen, KeptIs, Stands, setup_in}
 use Rattle.relay_world.proofs.Handing.{may_be, leaves, reads}
 

@@ -1,9 +1,9 @@
 -- An arbiter that runs all the time and is brought the moves in order keeps them.
-use Rattle.std.proofs.Common.{◌≡◌, ℕ, ◌+◌, ◌-◌, ◌<◌, ◌≤◌, Bool, true, false, cond, ◌&&◌, ◌||◌, List, [], ◌∷◌, ◌++◌, length, take, drop, get_or, min, Option, Some, None, zero, suc, sym, refl, ap, ◌∙◌, subst, inl, inr, ◌⊎◌, arith, ⊎_elim, add-one}
-use Rattle.std.specs.Prelude.{is_some, is_none, slice_get, nat_lt, nat_le, nat_eq, IsTrue}
-use Rattle.std.proofs.lemmas.Bool.{cases_Bool, cases_lt, and_parts, eqb-true, cond-true, cond-false, le-ltb, lt-leb, or_from, both_ways}
-use Rattle.std.proofs.lemmas.List.{length-take-le, take_more}
-use Rattle.std.proofs.lemmas.Option.{get_or_from_slice_get, slice_get_within}
+use Rattle.std.proofs.Common.{◌≡◌, ℕ, ◌+◌, ◌-◌, ◌<◌, ◌≤◌, true, false, cond, ◌||◌, List, [], ◌∷◌, ◌++◌, length, take, min, Option, Some, None, suc, sym, refl, ap, ◌∙◌, subst, arith, ⊎_elim, add-one}
+use Rattle.std.specs.Prelude.{is_some, is_none, slice_get, nat_lt, nat_le}
+use Rattle.std.proofs.lemmas.Bool.{cases_Bool, cases_lt, and_parts, eqb-true, cond-false, le-ltb, lt-leb, or_from}
+use Rattle.std.proofs.lemmas.List.{take_more}
+use Rattle.std.proofs.lemmas.Option.{get_or_from_slice_get}
 use Rattle.board_core.specs.declared.moves.Move.{Move as Moves}
 use Rattle.board_core.specs.declared.verdict.Verdict.{Verdict as Ruling}
 use Rattle.judge_core.specs.Games.{position_after_all}
@@ -11,25 +11,22 @@ use Rattle.move_msg.specs.declared.stamp.Stamp.{Stamp}
 use Rattle.move_msg.specs.declared.who.Who.{Who}
 use Rattle.move_msg.specs.declared.who.Who.TheVariants.{A, B}
 use Rattle.move_msg.specs.declared.who.Sender.{Sender}
-use Rattle.move_msg.specs.declared.who.Sender.TheVariants.{Source, Arbiter}
 use Rattle.move_msg.specs.declared.message.Message.{Message}
 use Rattle.move_msg.specs.declared.message.Message.TheVariants.{Move, Ack, Verdict, Fetch}
-use Rattle.move_msg.specs.Numbers.{most_moves, most_wanted}
-use Rattle.judge_core.specs.Games.{Rules, IsFirst, verdict_after}
-use Rattle.arbiter_core.specs.declared.fault.DeliverFault.{DeliverFault}
+use Rattle.move_msg.specs.Numbers.{most_moves}
+use Rattle.judge_core.specs.Games.{Rules, verdict_after}
 use Rattle.arbiter_core.specs.declared.fault.DeliverFault.TheVariants.{IllegalMove, TooFarAhead, TooLong}
 use Rattle.arbiter_core.specs.declared.keeper.Keep.{Keep}
 use Rattle.arbiter_core.specs.declared.keeper.Keep.TheVariants.{Good, FailsOld, FailsNew}
-use Rattle.arbiter_core.specs.Recording.{Recorded, Window, count_of, reaches, record_at, last_ply, advance}
-use Rattle.arbiter_core.specs.Answering.{Identity, waits_too, still_waits, nothing_waits, told_of, told_now, Answer, Refuses, Sends, Puts, puts, asked, fetched, sent_by, answer_to_move, answer_to, answer_heard}
-use Rattle.arbiter_core.proofs.Reach.{none_from, some_from, Step, step_of, step_to, reach_within, reach_below, unruled_below, reach_front, reach_more, same_record, last_reached, last_bound, last_is}
-use Rattle.arbiter_core.proofs.Waiting.{Fits, drop_at, gapless, fits_too, fits_still, fits_nothing}
+use Rattle.arbiter_core.specs.Recording.{Recorded, Window, count_of, reaches, last_ply, advance}
+use Rattle.arbiter_core.specs.Answering.{Identity, waits_too, told_now, Answer, Refuses, Sends, puts, answer_to_move, answer_to}
+use Rattle.arbiter_core.proofs.Reach.{step_of, reach_below, last_reached}
 use Rattle.relay_world.specs.declared.event.Event.{Event}
 use Rattle.relay_world.specs.declared.event.Event.TheVariants.{Deliver, Noise, Restart, Ask}
-use Rattle.relay_world.specs.Worlds.{Life, Closed, Down, Running, Side, World, Game, identity, side_of, turned, put, answered, handed_at, handed, opened, restarted, delivered, listed, wants, happens, first_world, after, worlds}
-use Rattle.relay_world.specs.Headline.{IsRecordOf, IsOneVerdict, Agree, IsRight, kept_count, Grows}
+use Rattle.relay_world.specs.Worlds.{Life, Closed, Down, Running, Side, World, Game, identity, side_of, turned, answered, handed_at, delivered, happens, first_world, after}
+use Rattle.relay_world.specs.Headline.{IsRecordOf, kept_count}
 use Rattle.relay_world.specs.InOrder.{is_running, is_same, is_move, brings, brought, RunsThrough}
-use Rattle.relay_world.proofs.Steps.{SideHolds, WaitsHold, IsSound, all_at, Moved, moved, count_at, Holds, Goes, happens_goes}
+use Rattle.relay_world.proofs.Steps.{SideHolds, all_at, moved, count_at, Holds, Goes, happens_goes}
 use Rattle.relay_world.proofs.Schedules.{grows_at, holds_after}
 
 none_is_some : (o : Option Ruling) → o ≡ None → is_some o ≡ false

@@ -1,32 +1,20 @@
 -- The laws over whole schedules.
-use Rattle.std.proofs.Common.{◌≡◌, ℕ, ◌+◌, ◌<◌, ◌≤◌, Bool, true, false, cond, List, [], ◌∷◌, ◌++◌, length, take, Option, Some, None, zero, suc, sym, refl, ap, ◌∙◌, subst, arith}
+use Rattle.std.proofs.Common.{◌≡◌, ℕ, ◌≤◌, List, [], ◌∷◌, ◌++◌, Some, refl}
 use Rattle.std.specs.Prelude.{slice_get}
 use Rattle.std.specs.List.{AllByRecursion}
 use Rattle.board_core.specs.declared.moves.Move.{Move as Moves}
 use Rattle.board_core.specs.declared.verdict.Verdict.{Verdict as Ruling}
-use Rattle.judge_core.specs.Games.{position_after_all}
 use Rattle.move_msg.specs.declared.stamp.Stamp.{Stamp}
 use Rattle.move_msg.specs.declared.who.Who.{Who}
 use Rattle.move_msg.specs.declared.who.Who.TheVariants.{A, B}
 use Rattle.move_msg.specs.declared.who.Sender.{Sender}
-use Rattle.move_msg.specs.declared.who.Sender.TheVariants.{Source, Arbiter}
-use Rattle.move_msg.specs.declared.message.Message.{Message}
-use Rattle.move_msg.specs.declared.message.Message.TheVariants.{Move, Ack, Verdict, Fetch}
-use Rattle.move_msg.specs.Numbers.{most_moves, most_wanted}
-use Rattle.judge_core.specs.Games.{Rules, IsFirst, verdict_after}
-use Rattle.arbiter_core.specs.declared.fault.DeliverFault.{DeliverFault}
-use Rattle.arbiter_core.specs.declared.fault.DeliverFault.TheVariants.{IllegalMove, TooFarAhead, TooLong}
-use Rattle.arbiter_core.specs.declared.keeper.Keep.{Keep}
-use Rattle.arbiter_core.specs.declared.keeper.Keep.TheVariants.{Good, FailsOld, FailsNew}
-use Rattle.arbiter_core.specs.Recording.{Recorded, Window, count_of, reaches, record_at, last_ply, advance}
-use Rattle.arbiter_core.specs.Answering.{Identity, waits_too, still_waits, nothing_waits, told_of, told_now, Answer, Refuses, Sends, Puts, puts, asked, fetched, sent_by, answer_to_move, answer_to, answer_heard}
-use Rattle.arbiter_core.proofs.Reach.{none_from, some_from, Step, step_of, step_to, reach_within, reach_below, unruled_below, reach_front, reach_more, same_record, last_reached, last_bound, last_is}
-use Rattle.arbiter_core.proofs.Waiting.{Fits, drop_at, gapless, fits_too, fits_still, fits_nothing}
+use Rattle.move_msg.specs.declared.message.Message.TheVariants.{Move, Ack, Verdict}
+use Rattle.judge_core.specs.Games.{IsFirst}
+use Rattle.arbiter_core.specs.Recording.{Recorded}
 use Rattle.relay_world.specs.declared.event.Event.{Event}
-use Rattle.relay_world.specs.declared.event.Event.TheVariants.{Deliver, Noise, Restart, Ask}
-use Rattle.relay_world.specs.Worlds.{Life, Closed, Down, Running, Side, World, Game, identity, side_of, turned, put, answered, handed_at, handed, opened, restarted, delivered, listed, wants, happens, first_world, after, worlds}
-use Rattle.relay_world.specs.Headline.{IsRecordOf, IsOneVerdict, Agree, IsRight, kept_count, Grows}
-use Rattle.relay_world.proofs.Steps.{IsSound, all_at, Holds, Goes, happens_goes, first_holds, run_goes, right_of}
+use Rattle.relay_world.specs.Worlds.{World, Game, side_of, happens, first_world, after, worlds}
+use Rattle.relay_world.specs.Headline.{IsRight, kept_count}
+use Rattle.relay_world.proofs.Steps.{Grows, all_at, Holds, Goes, happens_goes, first_holds, run_goes, right_of}
 
 after_append : (game : Game) (world : World) (early late : List Event) → after game world (early ++ late) ≡ after game (after game world early) late
 after_append game world [] late = refl

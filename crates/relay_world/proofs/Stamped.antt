@@ -1,5 +1,5 @@
 -- Every message in the log is of the game.
-use Rattle.std.proofs.Common.{◌≡◌, ℕ, ◌+◌, ◌-◌, Bool, true, false, cond, ◌||◌, List, [], ◌∷◌, ◌++◌, length, take, drop, Option, Some, None, Result, Ok, Err, zero, suc, sym, refl, ap, ◌∙◌, subst}
+use Rattle.std.proofs.Common.{◌≡◌, ℕ, ◌+◌, ◌-◌, cond, ◌||◌, List, [], ◌∷◌, ◌++◌, take, drop, Option, Some, None, Result, Ok, Err, suc, refl}
 use Rattle.std.specs.Prelude.{is_some, is_none, slice_get, nat_lt, nat_le, is_ok}
 use Rattle.std.specs.List.{AllByRecursion}
 use Rattle.std.proofs.lemmas.Bool.{cond_both}
@@ -21,10 +21,10 @@ use Rattle.arbiter_core.specs.declared.fault.DeliverFault.TheVariants.{IllegalMo
 use Rattle.arbiter_core.specs.declared.keeper.Keep.{Keep}
 use Rattle.arbiter_core.specs.declared.keeper.Keep.TheVariants.{Good, FailsOld, FailsNew}
 use Rattle.arbiter_core.specs.Recording.{Recorded, Window, count_of, advance}
-use Rattle.arbiter_core.specs.Answering.{Identity, waits_too, told_of, told_now, Answer, Refuses, Sends, Puts, puts, asked, sent_by, answer_to_move, answer_to, answer_heard}
+use Rattle.arbiter_core.specs.Answering.{Identity, waits_too, told_of, told_now, Answer, Refuses, Sends, Puts, puts, sent_by, answer_to_move, answer_to, answer_heard}
 use Rattle.relay_world.specs.declared.event.Event.{Event}
 use Rattle.relay_world.specs.declared.event.Event.TheVariants.{Deliver, Noise, Restart, Ask}
-use Rattle.relay_world.specs.Worlds.{Life, Closed, Down, Running, Side, World, Game, identity, side_of, turned, answered, handed_at, handed, restarted, delivered, listed, wants, happens, first_world, after}
+use Rattle.relay_world.specs.Worlds.{Life, Closed, Down, Running, Side, World, Game, identity, side_of, turned, answered, handed_at, delivered, listed, wants, happens, first_world, after}
 use Rattle.arbiter_core.specs.Delivers.{heard}
 use Rattle.relay_world.specs.Pairs.{AreStamped}
 use Rattle.relay_world.proofs.Steps.{all_append}

@@ -1,11 +1,10 @@
 -- Each event keeps the invariant of a world.
-use Rattle.std.proofs.Common.{◌≡◌, ◌≢◌, ℕ, ◌+◌, ◌-◌, ◌<◌, ◌≤◌, Bool, true, false, cond, ◌&&◌, ◌||◌, not, length-append, List, [], ◌∷◌, ◌++◌, length, take, drop, get_or, Option, Some, None, zero, suc, sym, refl, ap, ◌∙◌, subst, inl, inr, ◌⊎◌, arith, ⊎_elim, append_assoc, take-append-drop}
-use Rattle.std.specs.Prelude.{is_some, is_none, slice_get, slice_set, replicate, nat_lt, nat_le, IfSome, IsSome, Result, Ok, Err, is_ok}
+use Rattle.std.proofs.Common.{◌≡◌, ℕ, ◌+◌, ◌-◌, ◌<◌, ◌≤◌, true, false, cond, ◌||◌, length-append, List, [], ◌∷◌, ◌++◌, length, take, drop, Option, Some, None, zero, suc, sym, refl, ap, ◌∙◌, subst, arith, ⊎_elim, append_assoc, take-append-drop}
+use Rattle.std.specs.Prelude.{is_some, is_none, slice_get, nat_lt, nat_le, IfSome, IsSome, Result, Ok, Err, is_ok}
 use Rattle.std.specs.List.{AllByRecursion}
 use Rattle.std.specs.Option.{some_prefix}
-use Rattle.std.proofs.lemmas.Bool.{cases_Bool, cases_lt, cases_eq, ltb-true, ltb-false, leb-true, leb-false, or_parts, cond_both}
-use Rattle.std.proofs.lemmas.Option.{slice_get_within}
-use Rattle.std.proofs.lemmas.List.{length-take-le, take_all, append-nil}
+use Rattle.std.proofs.lemmas.Bool.{cases_lt, ltb-true, ltb-false, or_parts, cond_both}
+use Rattle.std.proofs.lemmas.List.{length-take-le, append-nil}
 use Rattle.board_core.specs.declared.moves.Move.{Move as Moves}
 use Rattle.board_core.specs.declared.verdict.Verdict.{Verdict as Ruling}
 use Rattle.judge_core.specs.Games.{position_after_all}
@@ -23,14 +22,14 @@ use Rattle.arbiter_core.specs.declared.fault.DeliverFault.TheVariants.{IllegalMo
 use Rattle.arbiter_core.specs.declared.keeper.Keep.{Keep}
 use Rattle.arbiter_core.specs.declared.keeper.Keep.TheVariants.{Good, FailsOld, FailsNew}
 use Rattle.arbiter_core.specs.Recording.{Recorded, Window, count_of, reaches, record_at, last_ply, advance}
-use Rattle.arbiter_core.specs.Answering.{Identity, waits_too, still_waits, nothing_waits, told_of, told_now, Answer, Refuses, Sends, Puts, puts, asked, fetched, sent_by, answer_to_move, answer_to, answer_heard}
-use Rattle.arbiter_core.proofs.Reach.{none_from, some_from, Step, step_of, step_to, reach_within, reach_below, unruled_below, reach_front, reach_more, same_record, last_reached, last_bound, last_is}
+use Rattle.arbiter_core.specs.Answering.{Identity, waits_too, still_waits, nothing_waits, told_of, told_now, Answer, Refuses, Sends, Puts, puts, fetched, sent_by, answer_to_move, answer_to, answer_heard}
+use Rattle.arbiter_core.proofs.Reach.{step_of, reach_within, unruled_below, reach_front, reach_more, same_record, last_reached, last_bound}
 use Rattle.arbiter_core.proofs.Waiting.{Fits, drop_at, gapless, fits_too, fits_still, fits_nothing}
 use Rattle.arbiter_core.specs.Delivers.{heard}
 use Rattle.relay_world.specs.declared.event.Event.{Event}
 use Rattle.relay_world.specs.declared.event.Event.TheVariants.{Deliver, Noise, Restart, Ask}
-use Rattle.relay_world.specs.Worlds.{Life, Closed, Down, Running, Side, World, Game, identity, side_of, turned, put, answered, handed_at, handed, opened, restarted, delivered, listed, wants, happens, first_world, after, worlds}
-use Rattle.relay_world.specs.Headline.{IsRecordOf, IsOneVerdict, Agree, IsRight, kept_count, Grows}
+use Rattle.relay_world.specs.Worlds.{Life, Closed, Down, Running, Side, World, Game, identity, side_of, turned, answered, handed_at, restarted, delivered, listed, wants, happens, first_world, after}
+use Rattle.relay_world.specs.Headline.{IsRecordOf, Agree, IsRight, kept_count}
 
 -- what waits at a running arbiter is the game's
 abbrev pub WaitsHold : List Moves → Option Recorded → Life → Type 0
@@ -75,6 +74,11 @@ pub all_at : {X : Type 0} (Q : X → Type 0) (xs : List X) (i : ℕ) (x : X) →
 all_at Q [] i x h e = cc
 all_at Q (y ∷ ys) zero x h e = let s : y ≡ x = cc in subst Q s h.0
 all_at Q (y ∷ ys) (suc i) x h e = all_at Q ys i x h.1 e
+
+-- from one moment to a later one no kept count falls, and a kept verdict stays with its record
+pub record Grows (early late : Option Recorded) : Type 0 where
+  pub count : kept_count early ≤ kept_count late
+  pub verdict : (kept : Recorded) (v : Ruling) → early ≡ Some kept → kept.verdict ≡ Some v → late ≡ Some kept
 
 -- what one turn of a side leaves
 pub record Turn (r : Rules) (game : List Moves) (me : Identity) (early : Option Recorded) (late : Side × List Message) : Type 0 where

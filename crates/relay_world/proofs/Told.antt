@@ -1,5 +1,5 @@
 -- What is told of a run.
-use Rattle.std.proofs.Common.{◌≡◌, ℕ, List, length, Option, Some, Ok, refl, sym, ap, ◌∙◌, subst}
+use Rattle.std.proofs.Common.{◌≡◌, ℕ, List, length, Some, Ok, sym, ◌∙◌, subst}
 use Rattle.std.specs.Prelude.{slice_get}
 use Rattle.judge_core.specs.Tables.{Tables}
 use Rattle.move_msg.specs.Files.{File}

@@ -1,8 +1,8 @@
--- The tables that files are, and their manifest.
+-- The tables that files are, and their manifest (this project's own, docs/RULES.md).
 use Rattle.std.specs.Prelude.{◌≡◌, ◌≤◌, ℕ, suc, length, take, drop, if◌then◌else◌, List, [], ◌∷◌, map, replicate, None, Some, is_some, Result, Ok, Err, slice_set}
 use Rattle.std.specs.List.Sorted.{IsPermutation}
 use Rattle.move_msg.specs.Files.{File, entries_of, entry_for}
-use Rattle.move_msg.specs.Manifests.{Entry, SpellsManifest, IsAfter, IsBefore, AreRising}
+use Rattle.move_msg.specs.Manifests.{Entry, SpellsManifest, IsAfter, IsBefore}
 use Rattle.move_msg.specs.TableNames.{IsFileName}
 use Rattle.table_file.specs.declared.fault.TableFault.{TableFault}
 use Rattle.table_file.specs.Tables.{Contents, table_at as contents_at}
@@ -53,14 +53,14 @@ filled (Ok x) tables = Ok tables
 filled (Err fault) tables = Err fault
 
 -- no entry has this one's name
-abbrev pub HasOther : Entry → List Entry → Type 0
-HasOther e [] = Unit {0}
-HasOther e (x ∷ others) = (e.name ≡ x.name → ⊥) × HasOther e others
+abbrev pub IsNew : Entry → List Entry → Type 0
+IsNew e [] = Unit {0}
+IsNew e (x ∷ others) = (e.name ≡ x.name → ⊥) × IsNew e others
 
 -- each file has the name of a table's file, and each another one
 abbrev pub AreTables : List File → Type 0
 AreTables [] = Unit {0}
-AreTables (f ∷ others) = IsFileName f.name × HasOther (entry_for f) (entries_of others) × AreTables others
+AreTables (f ∷ others) = IsFileName f.name × IsNew (entry_for f) (entries_of others) × AreTables others
 
 -- it comes before the first of these
 abbrev pub IsAhead : Entry → List Entry → Type 0

@@ -1,4 +1,4 @@
--- What holds of every world of a schedule.
+-- What holds of every world of a schedule (this project's own, docs/RULES.md).
 use Rattle.std.specs.Prelude.{◌≡◌, ◌↔◌, ℕ, ◌≤◌, true, List, length, take, Option, Some, None, IfSome, IsSome}
 use Rattle.board_core.specs.declared.moves.Move.{Move as Moves}
 use Rattle.board_core.specs.declared.verdict.Verdict.{Verdict as Ruling}
@@ -25,7 +25,12 @@ pub record IsFaithful (game : Game) (world : World) : Type 0 where
   pub b : IfSome world.b.kept (IsFrontOf game.rules game.moves)
   pub agree : (one other : Recorded) (v w : Ruling) → world.a.kept ≡ Some one → world.b.kept ≡ Some other → one.verdict ≡ Some v → other.verdict ≡ Some w → (count_of one ≡ count_of other) × (v ≡ w)
 
--- ---- as it is proved
+-- how many moves are kept
+abbrev pub kept_count : Option Recorded → ℕ
+kept_count None = 0
+kept_count (Some kept) = count_of kept
+
+-- ---- as it is proved; cited by private functions alone
 
 -- the record of the game's first k moves, k a ply that the game reaches
 pub record IsRecordOf (rules : Rules) (game : List Moves) (kept : Recorded) : Type 0 where
@@ -46,13 +51,3 @@ pub record IsRight (game : Game) (world : World) : Type 0 where
   pub a : IfSome world.a.kept (IsRecordOf game.rules game.moves)
   pub b : IfSome world.b.kept (IsRecordOf game.rules game.moves)
   pub agree : IfSome world.a.kept (λ one. IfSome world.b.kept (Agree game.rules game.moves one))
-
--- how many moves are kept
-abbrev pub kept_count : Option Recorded → ℕ
-kept_count None = 0
-kept_count (Some kept) = count_of kept
-
--- from one moment to a later one no kept count falls, and a kept verdict stays with its record
-pub record Grows (early late : Option Recorded) : Type 0 where
-  pub count : kept_count early ≤ kept_count late
-  pub verdict : (kept : Recorded) (v : Ruling) → early ≡ Some kept → kept.verdict ≡ Some v → late ≡ Some kept

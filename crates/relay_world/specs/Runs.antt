@@ -1,4 +1,4 @@
--- What a run of a schedule comes to.
+-- What a run of a schedule comes to (this project's own, docs/RULES.md).
 use Rattle.std.specs.Prelude.{◌≡◌, ◌≤◌, ℕ, ◌+◌, List, length, Option, Some, Ok, slice_get}
 use Rattle.board_core.specs.declared.parts.Parts.{Parts}
 use Rattle.board_core.specs.declared.moves.Move.{Move as Moves}

@@ -10,7 +10,7 @@ use Rattle.arbiter_core.specs.Delivers.{IsSpelled, Keeps}
 use Rattle.arbiter_core.specs.Memory.{Memory}
 use Rattle.relay_world.specs.declared.seat.Place.{Place}
 use Rattle.relay_world.specs.declared.seat.Place.TheVariants.{Shut, Open}
-use Rattle.relay_world.specs.Worlds.{Side, Life, Closed, Down, Running}
+use Rattle.relay_world.specs.Worlds.{Side, Closed, Down, Running}
 
 abbrev pub setup_in : Place → SetupView
 setup_in (Shut s) = setup_view s

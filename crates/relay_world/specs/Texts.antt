@@ -90,6 +90,25 @@ pub record SpellsSchedule (text : List ℕ) (schedule : Schedule) : Type 0 where
   pub moves_are : IsMovesLine moves schedule.moves.items
   pub events_are : AreEvents events schedule.events.items
 
+-- ---- schedules that are one
+
+-- one event; two lists of bytes are one where they have the same items
+abbrev pub IsSameEvent : Event → Event → Type 0
+IsSameEvent (Noise who bytes keep) (Noise other more how) = (who ≡ other) × (bytes.items ≡ more.items) × (keep ≡ how)
+IsSameEvent e f = e ≡ f
+
+abbrev pub AreSameEvents : List Event → List Event → Type 0
+AreSameEvents [] [] = Unit {0}
+AreSameEvents [] (f ∷ fs) = ⊥
+AreSameEvents (e ∷ es) [] = ⊥
+AreSameEvents (e ∷ es) (f ∷ fs) = IsSameEvent e f × AreSameEvents es fs
+
+pub record IsSameSchedule (s t : Schedule) : Type 0 where
+  pub name : s.name.items ≡ t.name.items
+  pub start : s.start ≡ t.start
+  pub moves : s.moves.items ≡ t.moves.items
+  pub events : AreSameEvents s.events.items t.events.items
+
 -- ---- the first line at fault, the lines counted from 1
 
 -- A line that has to be there has this number: it has no line feed, or is not as it should be, or else it is and a later line

@@ -1,5 +1,5 @@
--- Two arbiters and all that was ever sent, step by step.
-use Rattle.std.specs.Prelude.{◌≡◌, ℕ, Bool, true, false, cond, List, [], ◌∷◌, ◌++◌, slice_get, Option, Some, None, Result, Ok, Err, is_ok}
+-- Two arbiters and all that was ever sent, step by step (this project's own, docs/RULES.md).
+use Rattle.std.specs.Prelude.{cond, List, [], ◌∷◌, ◌++◌, slice_get, Option, Some, None, Result, is_ok}
 use Rattle.board_core.specs.declared.moves.Move.{Move as Moves}
 use Rattle.judge_core.specs.Games.{Rules}
 use Rattle.move_msg.specs.declared.stamp.Stamp.{Stamp}

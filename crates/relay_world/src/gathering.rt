@@ -31,7 +31,8 @@ fn add<'f>(
     place: usize,
     found: Result<Table<'f>, TableFault>,
 ) -> Result<Result<(), WorldFault>, AllocError>
-    ensures { IfOk result (λ added. filled added set.new.tables ≡ with_table set.old.tables place found.entry) }
+    ensures tables { IfOk result (λ added. filled added set.new.tables ≡ with_table set.old.tables place found.entry) }
+    ensures cache { IfOk result (λ _. set.new.cache ≡ set.old.cache) }
 {
     match found {
         Err(fault) => Ok(Err(WorldFault::BadTable(place, fault))),
@@ -49,7 +50,8 @@ fn add_all<'f>(
     set: &mut Set<'f>,
     files: &'f [(&'f [u8], &'f [u8])],
 ) -> Result<Result<(), WorldFault>, AllocError>
-    ensures { IfOk result (λ added. filled added set.new.tables ≡ tables_from set.old.tables 0 (map found_in (map (λ f. record { name = f.0.now; bytes = f.1.now }) files.now))) }
+    ensures tables { IfOk result (λ added. filled added set.new.tables ≡ tables_from set.old.tables 0 (map found_in (map (λ f. record { name = f.0.now; bytes = f.1.now }) files.now))) }
+    ensures cache { IfOk result (λ _. set.new.cache ≡ set.old.cache) }
 {
     for place in 0..files.len() {
         let file = file_at(files, place);
@@ -62,7 +64,7 @@ fn add_all<'f>(
     Ok(Ok(()))
 }
 
-/// The set of the tables that files are, or the first fault, place by place.
+/// The set of the tables that files are, with a cache of so many blocks, or the first fault, place by place.
 pub(crate) fn gather<'f>(
     alloc: Global,
     cache: usize,
@@ -71,6 +73,7 @@ pub(crate) fn gather<'f>(
     requires some { 1 ≤ cache }
     requires most { cache ≤ 4096 }
     ensures ok { IfOk result (λ set. tables_of (map (λ f. record { name = f.0.now; bytes = f.1.now }) files.now) ≡ Ok set.tables) }
+    ensures cache { IfOk result (λ set. set.cache ≡ cache) }
     ensures err { IfErr result (λ fault. (fault ≡ OutOfMemory) ⊎ (tables_of (map (λ f. record { name = f.0.now; bytes = f.1.now }) files.now) ≡ Err fault)) }
 {
     let Ok(set) = Set::new(alloc, cache) else {

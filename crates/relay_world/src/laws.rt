@@ -16,9 +16,10 @@ ghost use Rattle.relay_world.specs.InOrder.{RunsThrough, brought};
 ghost use Rattle.relay_world.specs.Pairs.{AreStamped};
 ghost use Rattle.relay_world.specs.Runs.{AreWorlds};
 ghost use Rattle.relay_world.specs.declared.schedule.Schedule.{Schedule};
-ghost use Rattle.relay_world.specs.Texts.{IsFirstBadLine, SpellsSchedule};
+ghost use Rattle.relay_world.specs.Texts.{IsFirstBadLine, IsSameSchedule, SpellsSchedule};
 ghost use Rattle.relay_world.specs.FileNames.{FileNamesAreThoseOfTables};
 
+use fen_text::laws::{one_move, one_position};
 use place_index::tables_are_numbered;
 
 /// In each world of each schedule each kept record is that of the game's first so many moves, with the first verdict exactly at
@@ -27,10 +28,11 @@ pub fn headline()
     ensures { (game : Game) (events : List Event) (i : ℕ) (world : World) → slice_get (worlds game (first_world game) events) i ≡ Some world → IsFaithful game world }
 {}
 
-/// The first world and the steps leave one list of worlds, so that these laws are about those of `run`; its last world is the one
-/// after all events.
+/// The first world and the steps leave one list of worlds, so that these laws are about those of `run`: the world at a place is
+/// the one after so many events, and the last is the one after all.
 pub fn one_list_of_worlds()
     ensures list { (game : Game) (events : List Event) (ws : List World) → AreWorlds game events ws → ws ≡ worlds game (first_world game) events }
+    ensures each { (game : Game) (early late : List Event) → slice_get (worlds game (first_world game) (early ++ late)) (length early) ≡ Some (after game (first_world game) early) }
     ensures last { (game : Game) (events : List Event) → slice_get (worlds game (first_world game) events) (length events) ≡ Some (after game (first_world game) events) }
 {}
 
@@ -87,3 +89,13 @@ pub fn one_bad_line()
     ensures none { (text : List ℕ) (k : ℕ) (schedule : Schedule) → IsFirstBadLine text k → SpellsSchedule text schedule → ⊥ }
     ensures one { (text : List ℕ) (j k : ℕ) → IsFirstBadLine text j → IsFirstBadLine text k → j ≡ k }
 {}
+
+/// Two schedules that one text spells have one name, one start, the same moves and the same events; lists of bytes are one where
+/// they have the same items. Schedules that are so one come to the same worlds.
+pub fn one_schedule()
+    ensures one { (text : List ℕ) (s t : Schedule) → SpellsSchedule text s → SpellsSchedule text t → IsSameSchedule s t }
+    ensures worlds { (game : Game) (s t : Schedule) → IsSameSchedule s t → worlds game (first_world game) s.events.items ≡ worlds game (first_world game) t.events.items }
+{
+    one_position();
+    one_move();
+}

@@ -55,14 +55,19 @@ pub(crate) fn read_start(line: &[u8]) -> Option<Position>
     }
 }
 
-/// The moves that the words after the first one tell.
+/// The moves that the words after the first one tell. No more than 4096 are ever held.
 fn read_words(alloc: Global, text: &[u8]) -> Result<Option<Vec<Move>>, AllocError>
     ensures some { IfOk result (λ read. IfSome read (λ moves. AreMoves (cut_at 32 text.now) moves.items)) }
-    ensures none { IfOk result (λ read. IfNone read ((moves : List Moves) → AreMoves (cut_at 32 text.now) moves → ⊥)) }
+    ensures few { IfOk result (λ read. IfSome read (λ moves. length moves.items ≤ most_moves)) }
+    ensures none { IfOk result (λ read. IfNone read ((moves : List Moves) → AreMoves (cut_at 32 text.now) moves → length moves ≤ most_moves → ⊥)) }
 {
     let mut moves = Vec::new(alloc);
     let mut rest = text;
     while let Some((word, tail)) = cut_first(rest, b' ') {
+        // A word follows this one, so that there would be more than 4096.
+        if moves.len() >= 4095 {
+            return Ok(None);
+        }
         let Some(m) = read_move(word) else {
             return Ok(None);
         };
@@ -90,13 +95,7 @@ pub(crate) fn read_moves(alloc: Global, line: &[u8]) -> Result<Option<Vec<Move>>
     if !is_word(verb, b"moves") {
         return Ok(None);
     }
-    let Some(moves) = read_words(alloc, text)? else {
-        return Ok(None);
-    };
-    if moves.len() > 4096 {
-        return Ok(None);
-    }
-    Ok(Some(moves))
+    read_words(alloc, text)
 }
 
 /// The arbiter that a line names in its second word, and the words after it.

@@ -4,7 +4,7 @@ ghost use Rattle.std.specs.Prelude.{◌≡◌, ◌↔◌, ℕ, List, map, take, 
 ghost use Rattle.move_msg.specs.Files.{entry_for};
 ghost use Rattle.move_msg.specs.Manifests.{AreEntries, Entry, IsAfter, IsBefore, IsEntry, entry_of};
 ghost use Rattle.move_msg.specs.TableNames.{IsFileName};
-ghost use Rattle.relay_world.specs.Gathering.{AreTables, HasOther, IsManifestOf, Inserts};
+ghost use Rattle.relay_world.specs.Gathering.{AreTables, IsNew, IsManifestOf, Inserts};
 
 use crate::file::file_at;
 use arrayvec::ArrayString;
@@ -33,7 +33,7 @@ fn is_before(first: &Line, second: &Line) -> bool
 
 /// How many of these lines by rising name come before this one.
 fn place_of(lines: &[Line], line: &Line) -> usize
-    requires { HasOther (entry_of line.now) (map entry_of lines.now) }
+    requires { IsNew (entry_of line.now) (map entry_of lines.now) }
     ensures { Inserts (entry_of line.now) (map entry_of lines.now) result }
 {
     let mut place = 0;

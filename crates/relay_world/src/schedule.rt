@@ -1,6 +1,6 @@
 //! The text of a schedule.
 
-ghost use Rattle.std.specs.Prelude.{◌≡◌, ◌⊎◌, ◌≤◌, ◌++◌, ◌∷◌, [], ℕ, List, IfOk, IfErr};
+ghost use Rattle.std.specs.Prelude.{◌≡◌, ◌⊎◌, ◌≤◌, ◌++◌, ◌∷◌, [], ℕ, List, IfOk, IfErr, IsErrOf};
 ghost use Rattle.fen_text.specs.Cuts.{cut_at};
 ghost use Rattle.relay_world.specs.declared.event.Event.{Event};
 ghost use Rattle.relay_world.specs.declared.schedule.ScheduleFault.TheVariants.{BadLine, OutOfMemory};
@@ -63,10 +63,11 @@ fn read_events(alloc: Global, text: &[u8]) -> Result<Result<Vec<Event>, usize>, 
 /// further line is an event: `restart WHO KEEP`, `deliver WHO INDEX KEEP`, `noise WHO HEX KEEP` or `ask WHO`. WHO is `A` or `B`;
 /// KEEP is `good`, `old` or `new`; INDEX is 0 to 999999 in digits without needless zeros; HEX is two digits of either case for
 /// each byte, and `-` for no bytes. A missing line counts as the one after the last. `OutOfMemory` comes where memory is
-/// refused.
+/// refused, and no memory is taken where one of the first two lines is at fault.
 pub fn read(alloc: Global, text: &[u8]) -> Result<Schedule, ScheduleFault>
     ensures ok { IfOk result (SpellsSchedule text.now) }
     ensures err { IfErr result (λ fault. (fault ≡ OutOfMemory) ⊎ ((k : ℕ) × (fault ≡ BadLine k) × IsFirstBadLine text.now k)) }
+    ensures memory { IsErrOf result OutOfMemory → (k : ℕ) → IsFirstBadLine text.now k → 3 ≤ k }
 {
     let Some((line, rest)) = cut_first(text, b'\n') else {
         return Err(ScheduleFault::BadLine(1));

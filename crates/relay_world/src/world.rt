@@ -1,6 +1,6 @@
 //! What is told of two arbiters after a schedule.
 
-ghost use Rattle.std.specs.Prelude.{◌≡◌, option_map, length, Option, Some, None, List};
+ghost use Rattle.std.specs.Prelude.{◌≡◌, option_map, length, Option, Some, None, List, IfSome};
 ghost use Rattle.move_msg.specs.declared.record_bytes.Record.{Record};
 ghost use Rattle.move_msg.specs.Records.{SpellsRecord, code_or_none};
 ghost use Rattle.relay_world.specs.Runs.{told_of};
@@ -60,10 +60,12 @@ impl World {
         }
     }
 
-    /// How many moves are kept by an arbiter's keeper, and the code of the kept verdict, 0 for none; none where nothing is kept.
+    /// How many moves are kept by an arbiter's keeper, and the code of the kept verdict, 0 for none; none where nothing is kept,
+    /// or where what is kept spells no record.
     pub fn kept(&self, who: Who) -> Option<(u32, u8)>
         ensures nothing { (told_of self.now who).bytes ≡ None → result ≡ None }
         ensures record { (bytes : List _) (r : Record) → (told_of self.now who).bytes ≡ Some bytes → SpellsRecord bytes r → result ≡ Some (length r.moves, code_or_none r.verdict) }
+        ensures some { IfSome result (λ found. (bytes : List _) × (r : Record) × ((told_of self.now who).bytes ≡ Some bytes) × SpellsRecord bytes r × (found ≡ (length r.moves, code_or_none r.verdict))) }
     {
         match self.bytes(who) {
             Some(bytes) => Record::summary(bytes),

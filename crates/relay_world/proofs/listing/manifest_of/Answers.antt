@@ -1,5 +1,4 @@
-use Rattle.std.proofs.Common.{rules, ◌≡◌, ◌∙◌, ◌<◌, ℕ, length, List, [], map, take, drop, refl, sym, ap, subst, arith}
-use Rattle.std.specs.Prelude.{IfOk}
+use Rattle.std.proofs.Common.{rules, ◌≡◌, ◌∙◌, ◌<◌, ℕ, List, map, sym, ap, subst, arith}
 use Rattle.std.specs.List.{insert}
 use Rattle.std.proofs.lemmas.List.{take_all, length-map}
 use Rattle.std.proofs.lemmas.Result.{IfOk-weaker}
@@ -7,8 +6,8 @@ use Rattle.move_msg.specs.declared.manifest.Line.{Line}
 use Rattle.std.specs.List.Sorted.{IsPermutation}
 use Rattle.move_msg.specs.Files.{File, entry_for, entries_of}
 use Rattle.move_msg.specs.Manifests.{AreEntries, Entry, entry_of}
-use Rattle.relay_world.specs.Gathering.{HasOther, IsManifestOf, Inserts}
-use Rattle.relay_world.proofs.Placing.{AreListed, begins, goes_on, turn_of}
+use Rattle.relay_world.specs.Gathering.{IsNew, Inserts}
+use Rattle.relay_world.proofs.Placing.{begins, goes_on, turn_of}
 use Rattle.relay_world.proofs.listing.manifest_of.Goals as goal
 
 pub loop-i-init : goal.loop-i-init
@@ -22,8 +21,8 @@ pub place_of-place-requires : goal.place_of-place-requires
 place_of-place-requires c =
     let e : entry_of c.of-line.result ≡ entry_for (record { name = c.file_at-file.result.name.now; bytes = c.file_at-file.result.bytes.now }) =
     c.of-line.ensures.is ∙ ap (λ (n : List ℕ). entry_for (record { name = n; bytes = c.file_at-file.result.bytes.now })) c.text_of.ensures in
-    subst (λ (ls : List Line). HasOther (entry_of c.of-line.result) (map entry_of ls)) (sym c.deref.ensures.value)
-    (subst (λ (x : Entry). HasOther x (map entry_of c.loop-i.lines.items)) (sym e)
+    subst (λ (ls : List Line). IsNew (entry_of c.of-line.result) (map entry_of ls)) (sym c.deref.ensures.value)
+    (subst (λ (x : Entry). IsNew x (map entry_of c.loop-i.lines.items)) (sym e)
     (turn_of (map (λ f. record { name = f.0.now; bytes = f.1.now }) c.args.files.now) c.loop-i.i (record { name = c.file_at-file.result.name.now; bytes = c.file_at-file.result.bytes.now }) (subst (λ n. c.loop-i.i < n) (sym (length-map c.args.files.now (λ f. record { name = f.0.now; bytes = f.1.now }))) c.loop-i-test.true) (sym c.file_at-file.ensures) (map entry_of c.loop-i.lines.items) c.loop-i.invariant).1)
 
 pub loop-i-preserved : goal.loop-i-preserved

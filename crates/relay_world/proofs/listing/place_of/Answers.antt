@@ -1,8 +1,7 @@
-use Rattle.std.proofs.Common.{◌≡◌, ◌<◌, ◌≤◌, ◌+◌, ℕ, zero, suc, true, false, List, [], ◌∷◌, map, length, take, drop, get_or, refl, sym, ap, ◌∙◌, subst, arith}
+use Rattle.std.proofs.Common.{◌≡◌, ◌<◌, ◌≤◌, ℕ, zero, suc, true, false, List, [], ◌∷◌, map, length, get_or, refl, sym, ap, ◌∙◌, subst, arith}
 use Rattle.move_msg.specs.declared.manifest.Line.{Line}
-use Rattle.move_msg.specs.Manifests.{Entry, IsAfter, IsBefore, entry_of}
-use Rattle.relay_world.specs.Gathering.{Inserts}
-use Rattle.relay_world.proofs.Placing.{after_more, ahead_at, ahead_end}
+use Rattle.move_msg.specs.Manifests.{entry_of}
+use Rattle.relay_world.proofs.Placing.{after_more, ahead_at}
 use Rattle.relay_world.proofs.listing.place_of.Goals as goal
 
 entry_at : (lines : List Line) (i : ℕ) (x : Line) → i < length lines → x ≡ get_or lines i x → entry_of x ≡ get_or (map entry_of lines) i (entry_of x)

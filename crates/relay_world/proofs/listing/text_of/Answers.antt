@@ -1,4 +1,4 @@
-use Rattle.std.proofs.Common.{◌≡◌, Result, Ok, Err}
+use Rattle.std.proofs.Common.{Result, Ok, Err}
 use Rattle.std.specs.Prelude.{IsOk, MatchResult}
 use Rattle.move_msg.proofs.ManifestLaws.{name_utf8}
 use Rattle.relay_world.proofs.listing.text_of.Goals as goal

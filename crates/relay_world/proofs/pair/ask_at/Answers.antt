@@ -1,17 +1,11 @@
-use Rattle.std.proofs.Common.{◌≡◌, ◌∙◌, ℕ, List, [], ◌∷◌, ◌++◌, Option, Result, Ok, Err, sym, refl, ap, subst}
-use Rattle.std.specs.Prelude.{IfOk, IfSome}
-use Rattle.std.proofs.lemmas.List.{append-nil}
+use Rattle.std.proofs.Common.{List, sym, subst}
 use Rattle.move_msg.specs.declared.message.Message.{Message}
 use Rattle.move_msg.specs.declared.who.Who.{Who}
 use Rattle.move_msg.specs.declared.who.Who.TheVariants.{A, B}
-use Rattle.judge_core.specs.Games.{Rules}
-use Rattle.arbiter_core.specs.Answering.{answer_heard}
-use Rattle.arbiter_core.specs.Opens.{IsWhole}
-use Rattle.arbiter_core.specs.Setups.{rules_at}
-use Rattle.relay_world.specs.Seats.{Stands, Steps}
-use Rattle.relay_world.specs.Pairs.{PairIs, IsWorld}
-use Rattle.relay_world.specs.Worlds.{Side, World, identity, side_of, turned, handed, restarted, wants, listed}
-use Rattle.relay_world.proofs.Pairing.{turned_a, turned_b, whole_of}
+use Rattle.relay_world.specs.Seats.{Steps}
+use Rattle.relay_world.specs.Pairs.{IsWorld}
+use Rattle.relay_world.specs.Worlds.{Side, identity, side_of, turned, wants, listed}
+use Rattle.relay_world.proofs.Pairing.{turned_a, turned_b}
 use Rattle.relay_world.proofs.pair.ask_at.Goals as goal
 
 pub returns-in_ok-note-in-A : goal.returns-in_ok-note-in-A

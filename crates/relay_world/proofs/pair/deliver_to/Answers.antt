@@ -1,4 +1,4 @@
-use Rattle.std.proofs.Common.{◌≡◌, ◌∙◌, ℕ, ◌<◌, zero, suc, List, [], ◌∷◌, length, get_or, Option, Some, Result, Ok, Err, true, cond, sym, ap, subst, arith}
+use Rattle.std.proofs.Common.{◌≡◌, ◌∙◌, ℕ, ◌<◌, zero, suc, List, [], ◌∷◌, length, get_or, Option, Some, Result, Ok, Err, sym, ap, subst, arith}
 use Rattle.std.specs.Prelude.{IfOk, slice_get}
 use Rattle.move_msg.specs.declared.message.Message.{Message}
 use Rattle.move_msg.specs.Messages.{stamp_in}
@@ -12,7 +12,7 @@ use Rattle.std.specs.Str.{bytes_eq}
 use Rattle.std.proofs.lemmas.Bool.{cond-true}
 use Rattle.std.proofs.lemmas.Slice.Eq.{bytes_eq-Decides}
 use Rattle.relay_world.specs.Pairs.{PairIs}
-use Rattle.relay_world.specs.Worlds.{World, delivered, turned, handed, side_of, identity}
+use Rattle.relay_world.specs.Worlds.{delivered, turned, handed, side_of, identity}
 use Rattle.relay_world.proofs.Steps.{all_at}
 use Rattle.relay_world.proofs.pair.deliver_to.Goals as goal
 

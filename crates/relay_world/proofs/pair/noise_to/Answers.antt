@@ -1,4 +1,4 @@
-use Rattle.std.proofs.Common.{◌≡◌, ◌∙◌, false, cond, List, Result, Ok, Err, sym, ap, subst}
+use Rattle.std.proofs.Common.{◌≡◌, ◌∙◌, false, Result, sym, ap, subst}
 use Rattle.std.specs.Prelude.{IfOk, is_ok}
 use Rattle.std.proofs.lemmas.Bool.{cond-false}
 use Rattle.move_msg.specs.declared.message.Message.{Message}
@@ -7,7 +7,7 @@ use Rattle.arbiter_core.specs.declared.fault.DeliverFault.{DeliverFault}
 use Rattle.arbiter_core.specs.Answering.{answer_heard}
 use Rattle.arbiter_core.specs.Delivers.{heard}
 use Rattle.relay_world.specs.Pairs.{PairIs}
-use Rattle.relay_world.specs.Worlds.{World, identity, side_of, turned, handed, noised}
+use Rattle.relay_world.specs.Worlds.{World, identity, side_of, turned, handed}
 use Rattle.relay_world.proofs.pair.noise_to.Goals as goal
 
 pub returns : goal.returns

@@ -1,17 +1,14 @@
-use Rattle.std.proofs.Common.{◌≡◌, ◌∙◌, ℕ, List, [], ◌∷◌, ◌++◌, Option, Result, Ok, Err, sym, refl, ap, subst}
-use Rattle.std.specs.Prelude.{IfOk, IfSome}
+use Rattle.std.proofs.Common.{List, [], sym, refl, subst}
+use Rattle.std.specs.Prelude.{IfSome}
 use Rattle.std.proofs.lemmas.List.{append-nil}
 use Rattle.move_msg.specs.declared.message.Message.{Message}
-use Rattle.move_msg.specs.declared.who.Who.{Who}
-use Rattle.move_msg.specs.declared.who.Who.TheVariants.{A, B}
+use Rattle.move_msg.specs.declared.who.Who.TheVariants.{A}
 use Rattle.judge_core.specs.Games.{Rules}
-use Rattle.arbiter_core.specs.Answering.{answer_heard}
 use Rattle.arbiter_core.specs.Opens.{IsWhole}
 use Rattle.arbiter_core.specs.Setups.{rules_at}
 use Rattle.relay_world.specs.Seats.{Stands, Steps}
-use Rattle.relay_world.specs.Pairs.{PairIs, IsWorld}
-use Rattle.relay_world.specs.Worlds.{Side, World, identity, side_of, turned, handed, restarted, wants, listed}
-use Rattle.relay_world.proofs.Pairing.{turned_a, turned_b, whole_of}
+use Rattle.relay_world.specs.Worlds.{Side, identity, restarted}
+use Rattle.relay_world.proofs.Pairing.{turned_a, whole_of}
 use Rattle.relay_world.proofs.pair.restart_first.Goals as goal
 
 pub returns : goal.returns

@@ -1,8 +1,7 @@
-use Rattle.std.proofs.Common.{◌≡◌, ◌∙◌, ℕ, List, [], Option, Result, refl, sym, ap, subst}
+use Rattle.std.proofs.Common.{◌≡◌, ◌∙◌, ℕ, List, [], refl, sym, ap, subst}
 use Rattle.std.specs.Prelude.{IfOk, slice_get}
 use Rattle.move_msg.specs.declared.who.Who.{Who}
 use Rattle.arbiter_core.specs.declared.keeper.Keep.{Keep}
-use Rattle.relay_world.specs.declared.event.Event.{Event}
 use Rattle.relay_world.specs.declared.event.Event.TheVariants.{Deliver, Noise, Restart, Ask}
 use Rattle.arbiter_core.specs.Delivers.{heard}
 use Rattle.relay_world.specs.Pairs.{PairIs}

@@ -1,4 +1,4 @@
-use Rattle.std.proofs.Common.{◌≡◌, ◌∙◌, ℕ, List, refl, sym, ap, subst}
+use Rattle.std.proofs.Common.{◌∙◌, List, refl, sym, ap, subst}
 use Rattle.board_core.specs.declared.moves.Move.{Move}
 use Rattle.judge_core.specs.Tables.{Tables}
 use Rattle.move_msg.specs.declared.stamp.Stamp.{Stamp}

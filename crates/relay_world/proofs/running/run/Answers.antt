@@ -1,9 +1,9 @@
-use Rattle.std.proofs.Common.{◌≡◌, ◌∙◌, ◌≤◌, ℕ, List, map, Result, Ok, sym, refl, ap, subst}
+use Rattle.std.proofs.Common.{◌≡◌, ◌∙◌, List, map, Result, Ok, sym, refl, ap, subst}
 use Rattle.judge_core.specs.Games.{Rules}
 use Rattle.judge_core.specs.Tables.{Tables}
 use Rattle.move_msg.specs.Files.{File}
 use Rattle.relay_world.specs.declared.fault.WorldFault.{WorldFault}
-use Rattle.relay_world.specs.Gathering.{IsManifestOf, tables_of}
+use Rattle.relay_world.specs.Gathering.{IsManifestOf}
 use Rattle.relay_world.specs.Runs.{Tells, judged_by}
 use Rattle.relay_world.specs.Worlds.{Game, after, first_world}
 use Rattle.relay_world.proofs.Naming.{are_all_tables}

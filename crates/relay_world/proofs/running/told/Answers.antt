@@ -1,4 +1,4 @@
-use Rattle.std.proofs.Common.{◌≡◌, ℕ, subst}
+use Rattle.std.proofs.Common.{ℕ, subst}
 use Rattle.move_msg.specs.declared.who.Who.TheVariants.{A, B}
 use Rattle.relay_world.specs.Seats.{KeptIs}
 use Rattle.relay_world.specs.Worlds.{identity}

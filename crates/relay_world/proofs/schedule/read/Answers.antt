@@ -1,7 +1,8 @@
-use Rattle.std.proofs.Common.{◌≡◌, ℕ, List, refl, inr}
+use Rattle.std.proofs.Common.{List, refl, inr}
 use Rattle.board_core.specs.declared.moves.Move.{Move as Moves}
 use Rattle.fen_text.specs.Cuts.{cut_at}
 use Rattle.relay_world.specs.Texts.{IsBadEvent, IsMovesLine}
+use Rattle.relay_world.proofs.BadLines.{third_or_later}
 use Rattle.relay_world.proofs.Reading.{bad_second, bad_third, bad_later}
 use Rattle.relay_world.proofs.schedule.read.Goals as goal
 
@@ -34,3 +35,18 @@ returns-in-Ok-Err-clause-err c =
       bad_later c.in-Ok-Err.number c.args.text.now c.in-Some.line.now c.in-Some.rest.now c.in-Some-cut_first.line.now c.in-Some-cut_first.rest.now c.in-Some-cut_first-2.line.now c.in-Some-cut_first-2.rest.now
           c.in-Some.ensures.some (c.in-Some-read_name.name.now, c.in-Some-read_name.ensures.some) c.in-Some-cut_first.ensures.some (c.in-Some-read_start.start, c.in-Some-read_start.ensures.some) c.in-Some-cut_first-2.ensures.some (c.in-Ok-Some.moves.items, moves) bad,
     )
+
+pub returns-in-Err-clause-memory : goal.returns-in-Err-clause-memory
+returns-in-Err-clause-memory c = λ _.
+    third_or_later c.args.text.now c.in-Some.line.now c.in-Some.rest.now c.in-Some-cut_first.line.now c.in-Some-cut_first.rest.now c.in-Some-read_name.name.now c.in-Some-read_start.start
+    c.in-Some.ensures.some c.in-Some-read_name.ensures.some c.in-Some-cut_first.ensures.some c.in-Some-read_start.ensures.some
+
+pub returns-in-Err-read_events-clause-memory : goal.returns-in-Err-read_events-clause-memory
+returns-in-Err-read_events-clause-memory c = λ _.
+    third_or_later c.args.text.now c.in-Some.line.now c.in-Some.rest.now c.in-Some-cut_first.line.now c.in-Some-cut_first.rest.now c.in-Some-read_name.name.now c.in-Some-read_start.start
+    c.in-Some.ensures.some c.in-Some-read_name.ensures.some c.in-Some-cut_first.ensures.some c.in-Some-read_start.ensures.some
+
+pub returns-in_default-from_slice-clause-memory : goal.returns-in_default-from_slice-clause-memory
+returns-in_default-from_slice-clause-memory c = λ _.
+    third_or_later c.args.text.now c.in-Some.line.now c.in-Some.rest.now c.in-Some-cut_first.line.now c.in-Some-cut_first.rest.now c.in-Some-read_name.name.now c.in-Some-read_start.start
+    c.in-Some.ensures.some c.in-Some-read_name.ensures.some c.in-Some-cut_first.ensures.some c.in-Some-read_start.ensures.some

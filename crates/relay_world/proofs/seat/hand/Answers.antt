@@ -1,4 +1,4 @@
-use Rattle.std.proofs.Common.{◌≡◌, ◌∙◌, ℕ, List, Result, Ok, Err, sym, ap, subst}
+use Rattle.std.proofs.Common.{◌≡◌, Result, Err, ap, subst}
 use Rattle.move_msg.specs.declared.message.Message.{Message}
 use Rattle.arbiter_core.specs.declared.fault.DeliverFault.{DeliverFault}
 use Rattle.arbiter_core.specs.declared.fault.DeliverFault.TheVariants.{OutOfMemory}
@@ -8,7 +8,7 @@ use Rattle.arbiter_core.specs.Memory.{Memory}
 use Rattle.relay_world.specs.Seats.{Stands}
 use Rattle.relay_world.specs.declared.seat.Place.{Place}
 use Rattle.relay_world.specs.declared.seat.Place.TheVariants.{Open}
-use Rattle.relay_world.proofs.Handing.{may_be, leaves, reads, delivered_steps}
+use Rattle.relay_world.proofs.Handing.{may_be, leaves, delivered_steps}
 use Rattle.relay_world.proofs.seat.hand.Goals as goal
 
 pub returns-in_default : goal.returns-in_default

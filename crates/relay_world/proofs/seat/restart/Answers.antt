@@ -1,4 +1,4 @@
-use Rattle.std.proofs.Common.{◌≡◌, ◌≢◌, ◌∙◌, ℕ, Result, Ok, Err, sym, ap, subst}
+use Rattle.std.proofs.Common.{◌≡◌, ◌∙◌, Ok, Err, ap, subst}
 use Rattle.arbiter_core.specs.declared.fault.OpenFault.{OpenFault}
 use Rattle.arbiter_core.specs.declared.fault.OpenFault.TheVariants.{OutOfMemory}
 use Rattle.arbiter_core.specs.Answering.{Identity}
