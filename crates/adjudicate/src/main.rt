@@ -2,7 +2,9 @@
 //!
 //! `judge FEN` prints the verdict on a position, or `open`; `moves FEN` prints its legal moves;
 //! `probe --tables DIR FEN` prints what tables say of it; `list DIR` prints the manifest of a
-//! folder's tables, and `check --manifest FILE DIR` whether they are those of one; `show` prints the
+//! folder's tables, and `check --manifest FILE DIR` whether they are those of one; `probes --tables DIR`
+//! prints what tables say of each line of standard input, and `game FEN` what the game of the moves there
+//! comes to; `show` prints the
 //! messages on standard input; `run` runs the schedule on standard input, and prints what becomes of its
 //! two arbiters; `listen` is an arbiter that answers the datagrams of a socket and keeps its record in a file.
 //! Statuses: 0 done, 1 refused, 2 misuse.
@@ -13,6 +15,7 @@ mod commands;
 mod disk;
 mod file_keeper;
 mod files;
+mod games;
 mod host;
 mod input;
 mod kept_file;
@@ -132,7 +135,6 @@ mod disk_tests;
 mod fixtures;
 #[cfg(test)]
 mod folders;
-mod games;
 #[cfg(test)]
 mod kept_tests;
 #[cfg(test)]
