@@ -4,13 +4,13 @@ use Rattle.std.specs.Prelude.{◌==◌, ◌&&◌, position}
 use Rattle.std.specs.Io.KnownBytes.{Appends}
 use Rattle.std.specs.List.{list_all}
 use Rattle.std.proofs.KnownBytes.{Appends-nil}
-use Rattle.std.proofs.lemmas.List.{map-append}
+use Rattle.std.proofs.lemmas.List.{append-nil, map-append}
 use Rattle.judge_core.specs.Tables.{Tables}
 use Rattle.fen_text.specs.Cuts.{cut_at}
 use Rattle.fen_text.proofs.CutLaws.{cut_none, cut_some, is_cut}
 use Rattle.adjudicate.specs.Inputs.{has_bytes, lines_in, whole_lines}
 use Rattle.adjudicate.specs.Lines.{ended, refused_memory, text_of}
-use Rattle.adjudicate.specs.Reply.{LineTold, TellsLine, TellsLines, all_told, words_told}
+use Rattle.adjudicate.specs.Reply.{LineTold, TellsLine, TellsLines, all_told, status_if, words_told}
 use Rattle.adjudicate.specs.ProbeSteps.{PutsLines, PutsAll, PutsSome}
 use Rattle.adjudicate.proofs.LineLaws.{more_lines}
 
@@ -85,3 +85,14 @@ probed_more tables text rest tail line words is_told done old mid now h cut tell
 
 pub probed_short : (tables : Tables) (text rest : List ℕ) (done : Bool) (old mid now : Option (List ℕ)) (status : ℕ) → HasProbed tables text rest old mid done → Appends mid now (ended refused_memory) → status ≡ 1 → PutsLines tables text old now status
 probed_short tables text rest done old mid now status h wrote is = PutsSome h.front (lines_in rest) h.parts h.told h.are (more_lines old mid now (words_told h.told) refused_memory h.written wrote) is
+
+pub still_all : (tables : Tables) (text rest : List ℕ) (old now : Option (List ℕ)) (done is_told : Bool) → done ≡ true → HasProbed tables text rest old now (done && is_told) → HasProbed tables text rest old now is_told
+still_all tables text rest old now done is_told e h = subst (λ d. HasProbed tables text rest old now (d && is_told)) e h
+
+pub not_all : (tables : Tables) (text rest : List ℕ) (old now : Option (List ℕ)) (done is_told : Bool) → done ≡ false → HasProbed tables text rest old now (done && is_told) → HasProbed tables text rest old now done
+not_all tables text rest old now done is_told e h = subst (HasProbed tables text rest old now) (ap (λ d. d && is_told) e ∙ sym e) h
+
+pub probed_all : (tables : Tables) (text rest : List ℕ) (old now : Option (List ℕ)) (done : Bool) (status : ℕ) → HasProbed tables text rest old now done → has_bytes rest ≡ false → status ≡ status_if done → PutsLines tables text old now status
+probed_all tables text rest old now done status h none is =
+    let all : lines_in text ≡ h.front = h.parts ∙ ap (λ ls. h.front ++ ls) (no_lines rest none) ∙ append-nil h.front in
+    PutsAll h.told (subst (λ ls. TellsLines tables ls h.told) (sym all) h.are) h.written (is ∙ ap status_if h.done_is)

@@ -1,13 +1,29 @@
-use Rattle.std.proofs.Common.{◌≡◌, ℕ, List, Option, sym, subst}
+use Rattle.std.proofs.Common.{refl, ◌≡◌, ℕ, List, Option, sym, subst}
 use Rattle.std.proofs.lemmas.Result.{IfOk-weaker}
 use Rattle.adjudicate.specs.declared.commands.Task.{Task}
-use Rattle.adjudicate.specs.declared.commands.Task.TheVariants.{Show}
+use Rattle.adjudicate.specs.declared.commands.Task.TheVariants.{Show, Probes}
 use Rattle.adjudicate.specs.Given.{Given}
-use Rattle.adjudicate.specs.Reply.{Answers, IsShown, Replied, Reply, WritesReply}
+use Rattle.adjudicate.specs.Lines.{text_of}
+use Rattle.adjudicate.specs.Looks.{gathered}
+use Rattle.adjudicate.specs.ProbeSteps.{PutsProbes, PutsRefusal, PutsLinesOf, PutsNoLine, PutsAll, PutsSome}
+use Rattle.adjudicate.specs.Reply.{Answers, CutShort, IsFront, IsFrontOf, IsProbes, IsReply, IsShown, NoTables, Probed, Refused, Replied, Reply, TakesMemory, WritesReply, all_told, refused, status_if, words_told}
 use Rattle.adjudicate.proofs.answers.answer_task.Goals as goal
 
 shown_to : (t : Task) (given : Given) (old new : Option (List ℕ)) (status : ℕ) → t ≡ Show → (r : Reply) × IsShown given.input r × WritesReply old new r status → Answers t given old new status
 shown_to t given old new status is h = subst (λ (u : Task). Answers u given old new status) (sym is) (Replied h.0 h.1 h.2)
+
+-- the reply to `probes`, whole or cut short
+probes_to : (t : Task) (given : Given) (old new : Option (List ℕ)) (status : ℕ) → ((r : Reply) → IsProbes given.input (gathered given) r → IsReply t given r) → ((lines : List (List ℕ)) → IsFront given.input (gathered given) lines → IsFrontOf t given lines) → TakesMemory t → PutsProbes given old new status → Answers t given old new status
+probes_to t given old new status reply front memory (PutsRefusal words e wrote is) = Replied (refused words) (reply (refused words) (NoTables words e refl)) (wrote, is)
+probes_to t given old new status reply front memory (PutsLinesOf tables e (PutsAll told are wrote is)) =
+    Replied (record { text = text_of (words_told told); status = status_if (all_told told) }) (reply _ (Probed tables e told are refl)) (wrote, is)
+probes_to t given old new status reply front memory (PutsLinesOf tables e (PutsSome first rest parts told are wrote is)) =
+    CutShort (words_told told) (front _ (record { tables = tables; gathered_is = e; front = first; rest = rest; parts = parts; told = told; are = are; lines_are = refl })) wrote is
+probes_to t given old new status reply front memory (PutsNoLine wrote is) = Refused memory wrote is
+
+pub returns-in-Probes : goal.returns-in-Probes
+returns-in-Probes g c =
+    IfOk-weaker c.probes.result _ _ (λ status h. subst (λ (t : Task). Answers t c.args.sources.now _ _ status) (sym c.in-Probes.is) (probes_to (Probes c.in-Probes.tables c.in-Probes.manifest) c.args.sources.now _ _ status (λ r h. h) (λ lines h. h) tt h)) c.probes.ensures
 
 pub returns-in-Show : goal.returns-in-Show
 returns-in-Show g c =

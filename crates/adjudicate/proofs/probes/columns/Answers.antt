@@ -11,4 +11,4 @@ returns-clause-told c =
     let value : c.in_ok-verdict.verdict ≡ ruling c.args.set.now.tables c.args.position.now = search rules in
     OfPosition c.args.position.now c.requires.spelled c.requires.position c.in_ok-wdl.wdl c.in_ok-dtz.dtz
     (record { wdl_answered = c.in_ok-wdl.ensures.answered; wdl_is = c.in_ok-wdl.ensures.answer; dtz_answered = c.in_ok-dtz.ensures.answered; dtz_is = dtz_is })
-    (rw (c.number_in.ensures, value, c.are_told.ensures) refl)
+    (rw (c.number_in.ensures, value, c.are_told-done.ensures) refl)
