@@ -262,8 +262,35 @@ fn deliver(model: &mut Model, me: usize, keep: Keep, seed: &mut u64) -> Result<E
     })
 }
 
+/// The bytes of the game's move with this number, as the source of a game with this delay sends them.
+fn spoken(alloc: Global, text: &str, delay: u8, number: usize) -> Result<Vec<u8>, Fail> {
+    let Ok(schedule) = schedule_of(alloc, text) else {
+        return Err(Fail::new(format_args!("no schedule")));
+    };
+    let Ok(game) = game_of(alloc, &schedule, delay) else {
+        return Err(Fail::new(format_args!("no game")));
+    };
+    let Ok(world) = world_of(alloc, &game, &schedule) else {
+        return Err(Fail::new(format_args!("no world")));
+    };
+    match world.log().get(number) {
+        Some(message) => Ok(Vec::from_slice(alloc, &message.encode())?),
+        None => Err(Fail::new(format_args!("no move {number}"))),
+    }
+}
+
+/// Noise: bytes that are no message, a move of another game, whose delay alone is another, or a move of this one.
+fn noise(alloc: Global, row: Row, seed: &mut u64) -> Result<Vec<u8>, Fail> {
+    let number = (next(seed) % 5) as usize;
+    match next(seed) % 3 {
+        0 => Ok(Vec::from_slice(alloc, &[0x53, 0x41])?),
+        1 => spoken(alloc, row.0, row.1 ^ 1, number),
+        _ => spoken(alloc, row.0, row.1, number),
+    }
+}
+
 /// A random event, with what it does in the model.
-fn event(alloc: Global, model: &mut Model, seed: &mut u64) -> Result<Event, AllocError> {
+fn event(alloc: Global, row: Row, model: &mut Model, seed: &mut u64) -> Result<Event, Fail> {
     let me = (next(seed) % 2) as usize;
     let keep = keep_of(seed);
     let who = who_of(me);
@@ -278,10 +305,10 @@ fn event(alloc: Global, model: &mut Model, seed: &mut u64) -> Result<Event, Allo
         }
         3 => Ok(Event::Noise {
             who,
-            bytes: Vec::from_slice(alloc, &[0x53, 0x41])?,
+            bytes: noise(alloc, row, seed)?,
             keep,
         }),
-        _ => deliver(model, me, keep, seed),
+        _ => Ok(deliver(model, me, keep, seed)?),
     }
 }
 
@@ -342,7 +369,7 @@ fn expect_model(alloc: Global, row: Row, mut seed: u64, events: u32) -> Result<(
     };
     let mut model = begin(alloc, row)?;
     for _ in 0..events {
-        let more = event(alloc, &mut model, &mut seed)?;
+        let more = event(alloc, row, &mut model, &mut seed)?;
         schedule.events.push(more)?;
     }
     let Ok(game) = game_of(alloc, &schedule, row.1) else {

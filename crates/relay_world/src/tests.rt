@@ -6,6 +6,8 @@ use move_msg::Who;
 use std::alloc::Global;
 use std::string::String;
 use std::test::Fail;
+use std::vec::Vec;
+use table_file::TableFault;
 
 /// KQvK.rtbw: a queen wins, and loses for the other side.
 const QUEEN: [u8; 14] = [
@@ -192,6 +194,129 @@ fn verdicts_by_delay(rt: HostRuntime) -> Result<(), Fail> {
     let alloc = rt.alloc();
     for row in BY_DELAY {
         expect_told(alloc, ENDING, row.0, row.1)?;
+    }
+    Ok(())
+}
+
+/// Texts that are no schedule, each with the number of its first line at fault.
+const AT_FAULT: [(&str, usize); 6] = [
+    ("name \nstart 8/8/8/4k3/8/8/8/K7 w - - 0 1\nmoves a1a2\n", 1),
+    (
+        "name Test 3\nstart 8/8/8/8/8/8/8/K7 w - - 0 1\nmoves a1a9\n",
+        2,
+    ),
+    (
+        "name Test 3\nstart 8/8/8/4k3/8/8/8/K7 w - - 0 1\nmoves a1a9\n",
+        3,
+    ),
+    ("name Test 3\nstart 8/8/8/4k3/8/8/8/K7 w - - 0 1\n", 3),
+    (
+        "name Test 3\nstart 8/8/8/4k3/8/8/8/K7 w - - 0 1\nmoves a1a2\nrestart A good\ndeliver A 00 good\n",
+        5,
+    ),
+    (
+        "name Test 3\nstart 8/8/8/4k3/8/8/8/K7 w - - 0 1\nmoves a1a2\nrestart A good\nask A",
+        5,
+    ),
+];
+
+/// The first line at fault of a text, 0 for none.
+fn bad_line(alloc: Global, text: &str) -> usize {
+    match schedule_of(alloc, text) {
+        Err(ScheduleFault::BadLine(number)) => number,
+        _ => 0,
+    }
+}
+
+#[test]
+fn lines_at_fault(rt: HostRuntime) -> Result<(), Fail> {
+    let alloc = rt.alloc();
+    for row in AT_FAULT {
+        let line = bad_line(alloc, row.0);
+        if line != row.1 {
+            return Err(Fail::new(format_args!("line {line} of {}", row.0)));
+        }
+    }
+    Ok(())
+}
+
+/// What is at fault of these tables; no fault counts as want of memory.
+fn fault_of<'a>(alloc: Global, game: &'a Game, tables: &'a [(&'a [u8], &'a [u8])]) -> WorldFault {
+    match run(alloc, game, tables, 1, &[]) {
+        Ok(_) => WorldFault::OutOfMemory,
+        Err(fault) => fault,
+    }
+}
+
+/// That this is at fault of these tables.
+fn expect_fault(alloc: Global, tables: &[(&[u8], &[u8])], wanted: WorldFault) -> Result<(), Fail> {
+    let Ok(schedule) = schedule_of(alloc, ONE_MOVE) else {
+        return Err(Fail::new(format_args!("no schedule")));
+    };
+    let Ok(game) = game_of(alloc, &schedule, 0) else {
+        return Err(Fail::new(format_args!("no game")));
+    };
+    let fault = fault_of(alloc, &game, tables);
+    if fault == wanted {
+        return Ok(());
+    }
+    Err(Fail::new(format_args!("{fault:?} for {wanted:?}")))
+}
+
+#[test]
+fn tables_at_fault(rt: HostRuntime) -> Result<(), Fail> {
+    let alloc = rt.alloc();
+    let wins = file_of(&QUEEN);
+    let plies = file_of(&QUEEN_PLIES);
+    let bad: [(&[u8], &[u8]); 3] = [
+        (b"KQvK.rtbw", &wins),
+        (b"KQvK.rtbz", &wins),
+        (b"KQvK.rtbw", &wins),
+    ];
+    expect_fault(alloc, &bad, WorldFault::BadTable(1, TableFault::BadMagic))?;
+    let doubled: [(&[u8], &[u8]); 3] = [
+        (b"KQvK.rtbw", &wins),
+        (b"KQvK.rtbz", &plies),
+        (b"KQvK.rtbw", &wins),
+    ];
+    expect_fault(alloc, &doubled, WorldFault::DuplicateTable(2))
+}
+
+/// Why there is no game of this name with so many moves and this delay.
+fn game_fault(
+    alloc: Global,
+    name: &str,
+    count: usize,
+    delay: u8,
+) -> Result<Option<GameFault>, Fail> {
+    let Ok(schedule) = schedule_of(alloc, ONE_MOVE) else {
+        return Err(Fail::new(format_args!("no schedule")));
+    };
+    let mut moves = Vec::new(alloc);
+    for _ in 0..count {
+        moves.extend_from_slice(&schedule.moves)?;
+    }
+    match Game::new(alloc, name.as_bytes(), schedule.start, &moves, delay) {
+        Ok(_) => Ok(None),
+        Err(fault) => Ok(Some(fault)),
+    }
+}
+
+/// A name, how many moves there are, the delay, and what is told first.
+const NO_GAMES: [(&str, usize, u8, GameFault); 3] = [
+    ("", 4097, 9, GameFault::BadName),
+    ("Test 3", 4097, 9, GameFault::TooManyMoves),
+    ("Test 3", 4096, 9, GameFault::BadDelay),
+];
+
+#[test]
+fn games_at_fault(rt: HostRuntime) -> Result<(), Fail> {
+    let alloc = rt.alloc();
+    for row in NO_GAMES {
+        let fault = game_fault(alloc, row.0, row.1, row.2)?;
+        if fault != Some(row.3) {
+            return Err(Fail::new(format_args!("{fault:?} of {}", row.0)));
+        }
     }
     Ok(())
 }
