@@ -20,6 +20,7 @@ use Rattle.adjudicate.specs.Given.{Given}
 use Rattle.adjudicate.specs.Lines.{refused_fen, refused_keeper, refused_memory, refused_port}
 use Rattle.adjudicate.specs.Looks.{gathered}
 use Rattle.adjudicate.specs.Ports.{Passing}
+use Rattle.adjudicate.specs.Reply.{IsText}
 use Rattle.adjudicate.specs.Serving.{Run, IsRun, TellsRun, asked_first}
 use Rattle.adjudicate.specs.StoredBytes.{any_outcome, any_put, keeper_faults, never_fails, reads_so, stored}
 use Rattle.adjudicate.specs.Telling.{TellsOne}
@@ -67,6 +68,6 @@ pub data BindsAndServes {P F : Type 0} (binds : List ℕ → List ℕ → P → 
 -- tables' files
 pub data Listens {P F : Type 0} (binds : List ℕ → List ℕ → P → Type 0) (unbound : List ℕ → Type 0) (is_at : List ℕ → F → Type 0) (passed : P → Option (List Passing)) (faults : P → ℕ) (unreadable : F → Type 0) (finds : F → Option (List ℕ) → Option (List ℕ) → Type 0) (l : Listening) (given : Given) (old new : Option (List ℕ)) (status : ℕ) : Type 0 where
   BadStart : (fault : FenFault) → IsFirstFenFault l.start.now fault → TellsOne (refused_fen fault) old new status → Listens binds unbound is_at passed faults unreadable finds l given old new status
-  BadTables : (words : List ℕ) → gathered given ≡ Err words → TellsOne words old new status → Listens binds unbound is_at passed faults unreadable finds l given old new status
-  NoRoom : TellsOne refused_memory old new status → Listens binds unbound is_at passed faults unreadable finds l given old new status
+  BadTables : IsText l.start.now → (words : List ℕ) → gathered given ≡ Err words → TellsOne words old new status → Listens binds unbound is_at passed faults unreadable finds l given old new status
+  NoRoom : IsText l.start.now → TellsOne refused_memory old new status → Listens binds unbound is_at passed faults unreadable finds l given old new status
   Opened : (start : Parts) → SpellsPosition l.start.now start → IsPosition start → (set : Holding) → Ok set.tables ≡ gathered given → (manifest : List ℕ) → SpellsManifest manifest (entries_of given.files) → BindsAndServes binds unbound is_at passed faults unreadable finds l (setup_for l start set manifest) old new status → Listens binds unbound is_at passed faults unreadable finds l given old new status

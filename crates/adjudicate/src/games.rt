@@ -24,7 +24,8 @@ use std::alloc::{AllocError, Global};
 fn gap_in(text: &[u8]) -> Option<usize>
     ensures { result ≡ position is_gap text.now }
 {
-    text.iter().position(|b| *b == b' ' || *b == b'\n' || *b == b'\r')
+    text.iter()
+        .position(|b| *b == b' ' || *b == b'\n' || *b == b'\r')
 }
 
 /// What stands before the first gap, and the text after it; none where there is no gap.
@@ -91,10 +92,7 @@ fn answer_moves(
         Err(line) => return Ok(Answer::One(line, false)),
     };
     let outcome = set.judge_game(alloc, start, moves, delay.plies())?;
-    Ok(Answer::One(
-        Line::Outcome(outcome, moves.len()),
-        is_legal(outcome),
-    ))
+    Ok(Answer::One(Line::Outcome(outcome, moves.len()), is_legal(outcome)))
 }
 
 /// Whether all moves of a game are legal.

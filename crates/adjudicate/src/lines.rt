@@ -322,6 +322,20 @@ pub(crate) fn put_line<W: Write>(out: &mut W, line: &Line) -> Result<(), AnswerF
     }
 }
 
+/// Writes a line, and lets it go out at once.
+pub(crate) fn put_line_now<W: Write>(out: &mut W, line: &Line) -> Result<(), AnswerFault>
+    ensures { OnOk result (Appends (W.contents out.old) (W.contents out.new) (ended (words_of line.now))) }
+{
+    match put_line(out, line) {
+        Ok(()) => {}
+        Err(fault) => return Err(fault),
+    }
+    match out.flush() {
+        Ok(()) => Ok(()),
+        Err(_) => Err(AnswerFault::Io),
+    }
+}
+
 /// Writes a line that refuses all else, and tells the status 1.
 pub(crate) fn put_refusal<W: Write>(out: &mut W, line: &Line) -> Result<u8, AnswerFault>
     ensures { IfOk result (λ status. Appends (W.contents out.old) (W.contents out.new) (ended (words_of line.now)) × (status ≡ 1)) }

@@ -65,11 +65,7 @@ fn columns(
 }
 
 /// What is told of a line, and whether all of it is told.
-fn probe_line(
-    alloc: Global,
-    set: &mut Set<'_>,
-    text: &[u8],
-) -> Result<(Line, bool), AllocError>
+fn probe_line(alloc: Global, set: &mut Set<'_>, text: &[u8]) -> Result<(Line, bool), AllocError>
     ensures told { IfOk result (λ told. TellsLine set.old.tables text.now (record { words = words_of told.0; done = told.1 })) }
     ensures unchanged { set.new.tables ≡ set.old.tables }
 {

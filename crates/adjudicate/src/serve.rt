@@ -8,7 +8,7 @@ ghost use Rattle.adjudicate.specs.Ports.{Passes};
 ghost use Rattle.adjudicate.specs.Serving.{Run, IsRun, TellsRun, asked_first, handed, handed_if_any, is_loss};
 ghost use Rattle.adjudicate.specs.Steps.{Hears, IsOneStep, status_by, stops};
 
-use crate::lines::{AnswerFault, Line, put_line};
+use crate::lines::{AnswerFault, Line, put_line_now};
 use crate::port::Port;
 use arbiter_core::{Arbiter, DeliverFault, Keeper};
 use move_msg::Message;
@@ -108,7 +108,7 @@ fn serve_one<K: Keeper, P: Port, W: Write>(
     ensures keeps { IsKept (K.kept keeper.new) arbiter.new }
 {
     let (line, next) = receive(alloc, arbiter, keeper, port);
-    match put_line(out, &line) {
+    match put_line_now(out, &line) {
         Ok(()) => Ok(next),
         Err(fault) => Err(fault),
     }
@@ -128,7 +128,7 @@ fn ask_if<P: Port>(arbiter: &Arbiter<'_>, port: &mut P, fetch: bool)
 
 /// Receives so many datagrams, hands each to the arbiter in turn, and sends what it answers; tells the status, 0 where all came.
 ///
-/// A line is written for each datagram: `ok`, how many moves are recorded and the verdict or `none`, or else `refused` and
+/// A line is written for each datagram, and goes out at once: `ok`, how many moves are recorded and the verdict or `none`, or else `refused` and
 /// why. Each message of an answer is handed to the port once, in order, and one that isn't sent is lost, as it may be on its
 /// way. Where the keeper fails or has failed the line is `refused keeper`, and where no datagram can be received `refused
 /// port`; each ends the run with status 1. Where `fetch` is set, the arbiter's question for moves, if it has one, is sent once

@@ -23,7 +23,7 @@ probes_to t given old new status reply front memory (PutsNoLine wrote is) = Refu
 
 pub returns-in-Probes : goal.returns-in-Probes
 returns-in-Probes g c =
-    IfOk-weaker c.probes.result _ _ (λ status h. subst (λ (t : Task). Answers t c.args.sources.now _ _ status) (sym c.in-Probes.is) (probes_to (Probes c.in-Probes.tables c.in-Probes.manifest) c.args.sources.now _ _ status (λ r h. h) (λ lines h. h) tt h)) c.probes.ensures
+    IfOk-weaker c.probes.result _ _ (λ status h. subst (λ (t : Task). Answers t c.args.sources.now (g.W.Write.contents c.args.out.now) (g.W.Write.contents c.probes.new.out) status) (sym c.in-Probes.is) (probes_to (Probes c.in-Probes.tables c.in-Probes.manifest) c.args.sources.now (g.W.Write.contents c.args.out.now) (g.W.Write.contents c.probes.new.out) status (λ r h. h) (λ lines h. h) tt h)) c.probes.ensures
 
 pub returns-in-Show : goal.returns-in-Show
 returns-in-Show g c =

@@ -1,6 +1,7 @@
 use Rattle.std.proofs.Common.{sym}
 use Rattle.std.proofs.lemmas.Result.{IfOk-weaker}
 use Rattle.adjudicate.specs.Listens.{BadStart, BadTables}
+use Rattle.adjudicate.specs.Reply.{IsText}
 use Rattle.adjudicate.proofs.listen.listen.Goals as goal
 
 pub returns-in-Err : goal.returns-in-Err
@@ -10,5 +11,6 @@ returns-in-Err g c =
 
 pub returns-in-Ok-Err : goal.returns-in-Ok-Err
 returns-in-Ok-Err g c =
+    let text : IsText c.args.listening.now.start.now = (c.in-Ok.start, rw c.as_bytes.ensures.value at c.in-Ok.ensures.ok, c.in-Ok.ensures.position) in
     let refused = rw c.in-Ok-Err.field-0-is at c.in-Ok-Err.ensures in
-    IfOk-weaker c.put_refusal-in-Ok-Err.result _ _ (λ status h. BadTables _ (sym refused) h) c.put_refusal-in-Ok-Err.ensures
+    IfOk-weaker c.put_refusal-in-Ok-Err.result _ _ (λ status h. BadTables text _ (sym refused) h) c.put_refusal-in-Ok-Err.ensures

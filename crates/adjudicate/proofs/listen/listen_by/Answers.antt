@@ -3,7 +3,7 @@ use Rattle.adjudicate.specs.Listens.{NoRoom, Opened}
 use Rattle.adjudicate.proofs.listen.listen_by.Goals as goal
 
 pub returns-in-Err : goal.returns-in-Err
-returns-in-Err g c = λ tables spells legal. IfOk-weaker c.put_refusal.result _ _ (λ status h. NoRoom h) c.put_refusal.ensures
+returns-in-Err g c = λ tables spells legal. IfOk-weaker c.put_refusal.result _ _ (λ status h. NoRoom (c.args.start, spells, legal) h) c.put_refusal.ensures
 
 pub returns : goal.returns
 returns g c = λ tables spells legal.

@@ -7,7 +7,7 @@ use Rattle.adjudicate.proofs.probes.probes.Goals as goal
 pub returns-in-Ok-Ok : goal.returns-in-Ok-Ok
 returns-in-Ok-Ok g c =
     let is = sym (rw c.in-Ok-Ok.field-0-is at c.in-Ok-Ok.ensures) in
-    IfOk-weaker c.put_probes.result _ _ (λ status h. PutsLinesOf c.in-Ok-Ok.set.tables is (subst (λ text. PutsLines c.in-Ok-Ok.set.tables text _ _ status) c.input.ensures h)) c.put_probes.ensures
+    IfOk-weaker c.put_probes.result _ _ (λ status h. PutsLinesOf c.in-Ok-Ok.set.tables is (subst (λ text. PutsLines c.in-Ok-Ok.set.tables text (g.W.Write.contents c.args.out.now) (g.W.Write.contents c.put_probes.new.out) status) c.input.ensures h)) c.put_probes.ensures
 
 pub returns-in-Ok-Err : goal.returns-in-Ok-Err
 returns-in-Ok-Err g c =
