@@ -137,14 +137,25 @@ fn send_game(client: &UdpSocket, to: SocketAddr) -> Result<(), Fail> {
     Ok(())
 }
 
+/// The count that a message acknowledges, if it is an acknowledgement.
+fn acknowledged(message: &Message) -> Option<u32> {
+    match *message {
+        Message::Ack { count, .. } => Some(count.number()),
+        _ => None,
+    }
+}
+
 /// That the next datagram is the first arbiter's word that so many moves are recorded.
 fn expect_ack(client: &UdpSocket, count: u32) -> Result<(), Fail> {
     let mut buffer = [0u8; 64];
     let (length, _) = client.recv_from(&mut buffer)?;
-    match Message::decode(&buffer[..length]) {
-        Ok(Message::Ack { count: told, .. }) if told.number() == count => Ok(()),
-        _ => Err(Fail::new(format_args!("Ack {count}"))),
+    let Ok(message) = Message::decode(&buffer[..length]) else {
+        return Err(Fail::from("a message"));
+    };
+    if acknowledged(&message) == Some(count) {
+        return Ok(());
     }
+    Err(Fail::new(format_args!("Ack {count}")))
 }
 
 /// Three moves and a datagram of one byte over the loopback, after which the socket is served.
