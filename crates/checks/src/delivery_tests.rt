@@ -471,7 +471,11 @@ fn records_4096_moves(rt: HostRuntime) -> Result<(), Fail> {
     let setup = setup_of(&rt, rt.alloc(), START, 0)?;
     let mut arbiter = open_over(&rt, rt.alloc(), &mut keeper, setup);
     let asked = arbiter.ask().ok_or("nothing is asked for")?;
-    check_text(&rt, text_of(&rt, rt.alloc(), &asked)?.as_str(), "Fetch 4095 8");
+    check_text(
+        &rt,
+        text_of(&rt, rt.alloc(), &asked)?.as_str(),
+        "Fetch 4095 8",
+    );
     take_steps(&rt, rt.alloc(), &mut arbiter, &mut keeper, stamp, &LAST)?;
     check_same(&rt, arbiter.ask(), None, "no room for more");
     Ok(())
@@ -525,7 +529,14 @@ fn rules_by_tables(rt: HostRuntime) -> Result<(), Fail> {
     let mut keeper = MemoryKeeper::new(rt.alloc())?;
     let mut arbiter = open_over(&rt, rt.alloc(), &mut keeper, setup);
     let stamp = stamp_of(&rt, ROOK_ROW, 1);
-    take_steps(&rt, rt.alloc(), &mut arbiter, &mut keeper, stamp, &BY_TABLES)?;
+    take_steps(
+        &rt,
+        rt.alloc(),
+        &mut arbiter,
+        &mut keeper,
+        stamp,
+        &BY_TABLES,
+    )?;
     let arbiter = open_over(&rt, rt.alloc(), &mut keeper, arbiter.close());
     check_same(&rt, arbiter.verdict(), Some(Verdict::TableWhite), "kept");
     Ok(())

@@ -3,9 +3,7 @@
 use crate::arbiters::{keeper_of, record_of, setup_of, stamp_of};
 use crate::comparing::{check_bytes, check_same};
 use crate::positions::{KINGS, START};
-use arbiter_core::{
-    Arbiter, Keep, KeepFault, Keeper, MemoryKeeper, OpenFault, Refused, Setup,
-};
+use arbiter_core::{Arbiter, Keep, KeepFault, Keeper, MemoryKeeper, OpenFault, Refused, Setup};
 use board_core::Verdict;
 use std::alloc::Global;
 use std::process::Abort;

@@ -69,7 +69,12 @@ fn add<'a>(rt: &impl Abort, alloc: Global, set: &mut Set<'a>, name: &str, file: 
 }
 
 /// The set of the tables of these names and files.
-pub(crate) fn set_of<'a>(rt: &impl Abort, alloc: Global, names: &[&str], files: &'a [[u8; 80]]) -> Set<'a> {
+pub(crate) fn set_of<'a>(
+    rt: &impl Abort,
+    alloc: Global,
+    names: &[&str],
+    files: &'a [[u8; 80]],
+) -> Set<'a> {
     let mut set = empty_set(rt, alloc);
     for (name, file) in names.iter().zip(files.iter()) {
         add(rt, alloc, &mut set, *name, file);
