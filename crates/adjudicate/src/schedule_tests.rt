@@ -9,11 +9,11 @@ use std::test::*;
 
 /// The folders of the other tests, and a schedule as input.
 #[derive(Drop)]
-pub(crate) struct Scheduled {
-    pub(crate) text: &'static str,
+pub(crate) struct Scheduled<'a> {
+    pub(crate) text: &'a str,
 }
 
-impl Disk for Scheduled {
+impl<'a> Disk for Scheduled<'a> {
     ghost lists = { λ _ _ _. Unit {0} };
 
     ghost holds = { λ _ _ _. Unit {0} };
