@@ -155,7 +155,7 @@ fn expect_refusals<E: Write>(
 fn tells_how_many_are_done(rt: HostRuntime) -> Result<(), Fail> {
     let mut told = Vec::new(rt.alloc());
     expect_refusals(rt.alloc(), "probes --tables worked --progress", &mut told)?;
-    assert!(rt; told == b"10000 done\n20000 done\n");
+    assert!(rt; told.as_slice() == b"10000 done\n20000 done\n".as_slice());
     Ok(())
 }
 
