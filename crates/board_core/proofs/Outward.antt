@@ -1,6 +1,6 @@
 use Rattle.std.proofs.Common.{ℕ, ◌≡◌, ◌<◌, ◌-◌, List, Option, Some, None, arith, inl, inr, sym, ap, ◌∙◌, ◌⊎◌}
 use Rattle.std.proofs.lemmas.Bool.{cases_lt}
-use Rattle.board_core.specs.Search.{IsHop, IsHopped, IsInside, IsStruck}
+use Rattle.board_core.specs.Search.{IsKnightStepBy, IsAttackedByKnight, IsInside, IsAttackedAlong}
 use Rattle.board_core.specs.declared.piece.Piece.{Piece}
 use Rattle.board_core.specs.declared.piece.Side.{Side}
 use Rattle.board_core.specs.declared.piece.Side.TheVariants.{White, Black}
@@ -8,8 +8,8 @@ use Rattle.board_core.specs.declared.piece.Kind.{Kind}
 use Rattle.board_core.specs.declared.piece.Kind.TheVariants.{Pawn, Knight, Bishop, Rook, Queen, King}
 use Rattle.board_core.specs.declared.attack.Direction.{Direction}
 use Rattle.board_core.specs.declared.attack.Direction.TheVariants.{North, South, East, West, NorthEast, NorthWest, SouthEast, SouthWest}
-use Rattle.board_core.specs.declared.attack.Hop.{Hop}
-use Rattle.board_core.specs.declared.attack.Hop.TheVariants.{EastEastNorth, EastEastSouth, EastNorthNorth, EastSouthSouth, WestWestNorth, WestWestSouth, WestNorthNorth, WestSouthSouth}
+use Rattle.board_core.specs.declared.attack.KnightStep.{KnightStep}
+use Rattle.board_core.specs.declared.attack.KnightStep.TheVariants.{EastEastNorth, EastEastSouth, EastNorthNorth, EastSouthSouth, WestWestNorth, WestWestSouth, WestNorthNorth, WestSouthSouth}
 use Rattle.board_core.specs.Square.{file_of, rank_of}
 use Rattle.board_core.specs.Attack.{man_at, Along, IsClear, Ray, IsKingStep, IsKnightStep, IsPawnAttack, Reaches, IsAttacked}
 
@@ -77,41 +77,41 @@ step_of from to h = elim (cases_lt (file_of to) (file_of from)) [
 ]
 
 -- a knight's step is one of the eight
-hop_of : (from to : ℕ) → IsKnightStep from to → (h : Hop) × IsHop h to from
-hop_of from to (inl h) = elim (cases_lt (file_of to) (file_of from)) [
+knight_step_of : (from to : ℕ) → IsKnightStep from to → (h : KnightStep) × IsKnightStepBy h to from
+knight_step_of from to (inl h) = elim (cases_lt (file_of to) (file_of from)) [
   | inl e ↦ elim (cases_lt (rank_of to) (rank_of from)) [ inl n ↦ (EastNorthNorth, omega arith) | inr n ↦ (EastSouthSouth, omega arith) ]
   | inr e ↦ elim (cases_lt (rank_of to) (rank_of from)) [ inl n ↦ (WestNorthNorth, omega arith) | inr n ↦ (WestSouthSouth, omega arith) ]
 ]
-hop_of from to (inr h) = elim (cases_lt (file_of to) (file_of from)) [
+knight_step_of from to (inr h) = elim (cases_lt (file_of to) (file_of from)) [
   | inl e ↦ elim (cases_lt (rank_of to) (rank_of from)) [ inl n ↦ (EastEastNorth, omega arith) | inr n ↦ (EastEastSouth, omega arith) ]
   | inr e ↦ elim (cases_lt (rank_of to) (rank_of from)) [ inl n ↦ (WestWestNorth, omega arith) | inr n ↦ (WestWestSouth, omega arith) ]
 ]
 
-hop_step : (h : Hop) (from to : ℕ) → IsHop h to from → IsKnightStep from to
-hop_step EastEastNorth from to x = inr (omega arith)
-hop_step EastEastSouth from to x = inr (omega arith)
-hop_step EastNorthNorth from to x = inl (omega arith)
-hop_step EastSouthSouth from to x = inl (omega arith)
-hop_step WestWestNorth from to x = inr (omega arith)
-hop_step WestWestSouth from to x = inr (omega arith)
-hop_step WestNorthNorth from to x = inl (omega arith)
-hop_step WestSouthSouth from to x = inl (omega arith)
+by_knight_step : (h : KnightStep) (from to : ℕ) → IsKnightStepBy h to from → IsKnightStep from to
+by_knight_step EastEastNorth from to x = inr (omega arith)
+by_knight_step EastEastSouth from to x = inr (omega arith)
+by_knight_step EastNorthNorth from to x = inl (omega arith)
+by_knight_step EastSouthSouth from to x = inl (omega arith)
+by_knight_step WestWestNorth from to x = inr (omega arith)
+by_knight_step WestWestSouth from to x = inr (omega arith)
+by_knight_step WestNorthNorth from to x = inl (omega arith)
+by_knight_step WestSouthSouth from to x = inl (omega arith)
 
-pub struck : (men : List (Option Piece)) (by : Side) (d : Direction) (to : ℕ) → IsStruck men by d to → IsAttacked men by to
-struck men by d to h = record { from = h.from; kind = h.kind; on_board = h.on_board; stands = h.stands; reaches = h.reaches }
+pub attacked_along : (men : List (Option Piece)) (by : Side) (d : Direction) (to : ℕ) → IsAttackedAlong men by d to → IsAttacked men by to
+attacked_along men by d to h = record { from = h.from; kind = h.kind; on_board = h.on_board; stands = h.stands; reaches = h.reaches }
 
-pub hopped : (men : List (Option Piece)) (by : Side) (h : Hop) (to : ℕ) → IsHopped men by h to → IsAttacked men by to
-hopped men by h to x = record { from = x.from; kind = Knight; on_board = x.on_board; stands = x.stands; reaches = hop_step h x.from to x.step }
+pub attacked_by_knight : (men : List (Option Piece)) (by : Side) (h : KnightStep) (to : ℕ) → IsAttackedByKnight men by h to → IsAttacked men by to
+attacked_by_knight men by h to x = record { from = x.from; kind = Knight; on_board = x.on_board; stands = x.stands; reaches = by_knight_step h x.from to x.step }
 
 abbrev Attacks : List (Option Piece) → Side → ℕ → Kind → ℕ → Type 0
 Attacks men by to kind from = (from < 64) × (man_at men from ≡ Some (record { side = by; kind = kind })) × Reaches men by kind from to
 
-stepped : (men : List (Option Piece)) (by : Side) (to : ℕ) (kind : Kind) (from : ℕ) → Attacks men by to kind from → IsKingStep from to → (d : Direction) × IsStruck men by d to
+stepped : (men : List (Option Piece)) (by : Side) (to : ℕ) (kind : Kind) (from : ℕ) → Attacks men by to kind from → IsKingStep from to → (d : Direction) × IsAttackedAlong men by d to
 stepped men by to kind from a h =
     let d = step_of from to h in
     (d.0, record { from = from; kind = kind; distance = 1; on_board = a.0; away = omega arith; along = d.1; clear = λ k s away within. absurd (omega arith); stands = a.1; reaches = a.2 })
 
-rayed : (men : List (Option Piece)) (by : Side) (to : ℕ) (kind : Kind) (from : ℕ) → Attacks men by to kind from → Ray men kind from to → (d : Direction) × IsStruck men by d to
+rayed : (men : List (Option Piece)) (by : Side) (to : ℕ) (kind : Kind) (from : ℕ) → Attacks men by to kind from → Ray men kind from to → (d : Direction) × IsAttackedAlong men by d to
 rayed men by to kind from a r =
     (opposite r.direction, record { from = from; kind = kind; distance = r.distance; on_board = a.0; away = r.away; along = along_back r.direction r.distance from to r.along; clear = clear_back men r.direction r.distance from to r.along r.clear; stands = a.1; reaches = a.2 })
 
@@ -120,12 +120,12 @@ pawn_step White from to h = omega arith
 pawn_step Black from to h = omega arith
 
 abbrev Seen : List (Option Piece) → Side → ℕ → Type 0
-Seen men by to = ((d : Direction) × IsStruck men by d to) ⊎ ((h : Hop) × IsHopped men by h to)
+Seen men by to = ((d : Direction) × IsAttackedAlong men by d to) ⊎ ((h : KnightStep) × IsAttackedByKnight men by h to)
 
 seen_as : (men : List (Option Piece)) (by : Side) (to : ℕ) (kind : Kind) (from : ℕ) → Attacks men by to kind from → Seen men by to
 seen_as men by to Pawn from a = inl (stepped men by to Pawn from a (pawn_step by from to a.2))
 seen_as men by to Knight from a =
-    let h = hop_of from to a.2 in
+    let h = knight_step_of from to a.2 in
     inr (h.0, record { from = from; on_board = a.0; step = h.1; stands = a.1 })
 seen_as men by to Bishop from a = inl (rayed men by to Bishop from a a.2)
 seen_as men by to Rook from a = inl (rayed men by to Rook from a a.2)
@@ -164,8 +164,8 @@ kind_on None = King
 kind_on (Some man) = man.kind
 
 -- a man that is seen is the first one
-pub struck_first : (men : List (Option Piece)) (by : Side) (d : Direction) (to k s : ℕ) (man : Piece) → (h : IsStruck men by d to) → 0 < k → IsClear men d k to → Along d k to s → man_at men s ≡ Some man → h.from ≡ s
-struck_first men by d to k s man h away clear along stands = elim (cases_lt h.distance k) [
+pub along_first : (men : List (Option Piece)) (by : Side) (d : Direction) (to k s : ℕ) (man : Piece) → (h : IsAttackedAlong men by d to) → 0 < k → IsClear men d k to → Along d k to s → man_at men s ≡ Some man → h.from ≡ s
+along_first men by d to k s man h away clear along stands = elim (cases_lt h.distance k) [
   | inl lt ↦ absurd (none_some _ _ (clear h.distance h.from h.away lt h.along) h.stands)
   | inr ge ↦ elim (cases_lt k h.distance) [
     | inl lt ↦ absurd (none_some _ _ (h.clear k s away lt along) stands)
@@ -175,12 +175,12 @@ struck_first men by d to k s man h away clear along stands = elim (cases_lt h.di
   ]
 ]
 
-pub struck_within : (men : List (Option Piece)) (by : Side) (d : Direction) (to k : ℕ) → (h : IsStruck men by d to) → h.distance < k → IsClear men d k to → ⊥
-struck_within men by d to k h lt clear = none_some _ _ (clear h.distance h.from h.away lt h.along) h.stands
+pub along_within : (men : List (Option Piece)) (by : Side) (d : Direction) (to k : ℕ) → (h : IsAttackedAlong men by d to) → h.distance < k → IsClear men d k to → ⊥
+along_within men by d to k h lt clear = none_some _ _ (clear h.distance h.from h.away lt h.along) h.stands
 
-pub struck_reaches : (men : List (Option Piece)) (by : Side) (d : Direction) (to k s : ℕ) (man : Piece) → IsStruck men by d to → 0 < k → IsClear men d k to → Along d k to s → man_at men s ≡ Some man → Reaches men by man.kind s to
-struck_reaches men by d to k s man h away clear along stands =
-    let e = struck_first men by d to k s man h away clear along stands in
+pub along_reaches : (men : List (Option Piece)) (by : Side) (d : Direction) (to k s : ℕ) (man : Piece) → IsAttackedAlong men by d to → 0 < k → IsClear men d k to → Along d k to s → man_at men s ≡ Some man → Reaches men by man.kind s to
+along_reaches men by d to k s man h away clear along stands =
+    let e = along_first men by d to k s man h away clear along stands in
     let there = rw e at h.stands in
     let same : h.kind ≡ man.kind = ap kind_on (sym there ∙ stands) in
     rw (e, same) at h.reaches
@@ -195,18 +195,18 @@ each_direction P a b c d e f g h NorthWest = f
 each_direction P a b c d e f g h SouthEast = g
 each_direction P a b c d e f g h SouthWest = h
 
-pub each_hop : (P : Hop → Type 0) → P EastEastNorth → P EastEastSouth → P EastNorthNorth → P EastSouthSouth → P WestWestNorth → P WestWestSouth → P WestNorthNorth → P WestSouthSouth → (h : Hop) → P h
-each_hop P a b c d e f g h EastEastNorth = a
-each_hop P a b c d e f g h EastEastSouth = b
-each_hop P a b c d e f g h EastNorthNorth = c
-each_hop P a b c d e f g h EastSouthSouth = d
-each_hop P a b c d e f g h WestWestNorth = e
-each_hop P a b c d e f g h WestWestSouth = f
-each_hop P a b c d e f g h WestNorthNorth = g
-each_hop P a b c d e f g h WestSouthSouth = h
+pub each_knight_step : (P : KnightStep → Type 0) → P EastEastNorth → P EastEastSouth → P EastNorthNorth → P EastSouthSouth → P WestWestNorth → P WestWestSouth → P WestNorthNorth → P WestSouthSouth → (h : KnightStep) → P h
+each_knight_step P a b c d e f g h EastEastNorth = a
+each_knight_step P a b c d e f g h EastEastSouth = b
+each_knight_step P a b c d e f g h EastNorthNorth = c
+each_knight_step P a b c d e f g h EastSouthSouth = d
+each_knight_step P a b c d e f g h WestWestNorth = e
+each_knight_step P a b c d e f g h WestWestSouth = f
+each_knight_step P a b c d e f g h WestNorthNorth = g
+each_knight_step P a b c d e f g h WestSouthSouth = h
 
-pub unseen : (men : List (Option Piece)) (by : Side) (to : ℕ) → ((d : Direction) → IsStruck men by d to → ⊥) → ((h : Hop) → IsHopped men by h to → ⊥) → IsAttacked men by to → ⊥
-unseen men by to rays hops a = elim (seen men by to a) [ inl s ↦ rays s.0 s.1 | inr h ↦ hops h.0 h.1 ]
+pub unseen : (men : List (Option Piece)) (by : Side) (to : ℕ) → ((d : Direction) → IsAttackedAlong men by d to → ⊥) → ((h : KnightStep) → IsAttackedByKnight men by h to → ⊥) → IsAttacked men by to → ⊥
+unseen men by to rays knights a = elim (seen men by to a) [ inl s ↦ rays s.0 s.1 | inr h ↦ knights h.0 h.1 ]
 
 -- what lies j squares on, seen back from n squares on, lies n - j squares off
 pub along_rest : (d : Direction) (n j from to s : ℕ) → j < n → Along d n from to → Along d j from s → Along (opposite d) (n - j) to s

@@ -1,7 +1,7 @@
 use Rattle.std.proofs.Common.{ℕ, ◌≡◌, ◌≢◌, ◌<◌, ◌-◌, ◌⊎◌, List, Option, Some, None, length, set, refl, sym, ap, ◌∙◌, arith, inl, inr, get_or-set_other, get_or-set_same}
 use Rattle.std.proofs.lemmas.Bool.{cases_eq}
 use Rattle.std.proofs.Math.ListN.{length-set}
-use Rattle.board_core.specs.Search.{IsCarry, IsOnlyKing, IsStruck}
+use Rattle.board_core.specs.Search.{IsCarry, IsOnlyKing, IsAttackedAlong}
 use Rattle.board_core.specs.declared.piece.Piece.{Piece}
 use Rattle.board_core.specs.declared.piece.Side.{Side}
 use Rattle.board_core.specs.declared.piece.Side.TheVariants.{White, Black}
@@ -130,7 +130,7 @@ other_side side sort sort' e = not_other side (ap side_on e)
 
 -- a line that is clear after a man of ours was carried was clear before, or he uncovered it: then he stood between the
 -- king and a man that attacked him
-clear_before : (men : List (Option Piece)) (side : Side) (what : Kind) (d : Direction) (n a k f t : ℕ) (x : Option Piece) → length men ≡ 64 → f < 64 → t < 64 → x ≡ some_man side what → ((r : Ray men Queen k f) → IsStruck men (other side) r.direction f → ⊥) → ((j : ℕ) → 0 < j → Along d j a f → IsClear men d j a → IsStruck men (other side) (opposite d) f) → Along d n a k → IsClear (carried men f t x) d n a → IsClear men d n a
+clear_before : (men : List (Option Piece)) (side : Side) (what : Kind) (d : Direction) (n a k f t : ℕ) (x : Option Piece) → length men ≡ 64 → f < 64 → t < 64 → x ≡ some_man side what → ((r : Ray men Queen k f) → IsAttackedAlong men (other side) r.direction f → ⊥) → ((j : ℕ) → 0 < j → Along d j a f → IsClear men d j a → IsAttackedAlong men (other side) (opposite d) f) → Along d n a k → IsClear (carried men f t x) d n a → IsClear men d n a
 clear_before men side what d n a k f t x len lf lt own shut hit along clear =
     let emptied : (s : ℕ) → s ≢ f → man_at (carried men f t x) s ≡ None → man_at men s ≡ None = λ s nf h. elim (spot men f t x s len lf lt) [
       | inl b ↦ absurd (none_man side what _ h (b.1 ∙ own))
@@ -161,7 +161,7 @@ clear_before men side what d n a k f t x len lf lt own shut hit along clear =
     ]
 
 -- the ray of an attacker, before and after one of our men was carried
-ray_before : (men : List (Option Piece)) (side : Side) (what sort : Kind) (a k f t : ℕ) (x : Option Piece) → length men ≡ 64 → f < 64 → t < 64 → x ≡ some_man side what → ((r : Ray men Queen k f) → IsStruck men (other side) r.direction f → ⊥) → a < 64 → man_at men a ≡ some_man (other side) sort → ((r : Ray men sort a f) → Reaches men (other side) sort a f) → Ray (carried men f t x) sort a k → Ray men sort a k
+ray_before : (men : List (Option Piece)) (side : Side) (what sort : Kind) (a k f t : ℕ) (x : Option Piece) → length men ≡ 64 → f < 64 → t < 64 → x ≡ some_man side what → ((r : Ray men Queen k f) → IsAttackedAlong men (other side) r.direction f → ⊥) → a < 64 → man_at men a ≡ some_man (other side) sort → ((r : Ray men sort a f) → Reaches men (other side) sort a f) → Ray (carried men f t x) sort a k → Ray men sort a k
 ray_before men side what sort a k f t x len lf lt own shut on_board stands reach r = record {
   direction = r.direction;
   distance = r.distance;
@@ -183,7 +183,7 @@ ray_before men side what sort a k f t x len lf lt own shut on_board stands reach
       r.along r.clear;
 }
 
-reaches_before : (men : List (Option Piece)) (side : Side) (what sort : Kind) (a k f t : ℕ) (x : Option Piece) → length men ≡ 64 → f < 64 → t < 64 → x ≡ some_man side what → ((r : Ray men Queen k f) → IsStruck men (other side) r.direction f → ⊥) → a < 64 → man_at men a ≡ some_man (other side) sort → Reaches (carried men f t x) (other side) sort a k → Reaches men (other side) sort a k
+reaches_before : (men : List (Option Piece)) (side : Side) (what sort : Kind) (a k f t : ℕ) (x : Option Piece) → length men ≡ 64 → f < 64 → t < 64 → x ≡ some_man side what → ((r : Ray men Queen k f) → IsAttackedAlong men (other side) r.direction f → ⊥) → a < 64 → man_at men a ≡ some_man (other side) sort → Reaches (carried men f t x) (other side) sort a k → Reaches men (other side) sort a k
 reaches_before men side what Pawn a k f t x len lf lt own shut on_board stands r = r
 reaches_before men side what Knight a k f t x len lf lt own shut on_board stands r = r
 reaches_before men side what Bishop a k f t x len lf lt own shut on_board stands r = ray_before men side what Bishop a k f t x len lf lt own shut on_board stands (λ q. q) r
@@ -191,7 +191,7 @@ reaches_before men side what Rook a k f t x len lf lt own shut on_board stands r
 reaches_before men side what Queen a k f t x len lf lt own shut on_board stands r = ray_before men side what Queen a k f t x len lf lt own shut on_board stands (λ q. q) r
 reaches_before men side what King a k f t x len lf lt own shut on_board stands r = r
 
-attack_before : (men : List (Option Piece)) (side : Side) (what : Kind) (k f t : ℕ) (x : Option Piece) → length men ≡ 64 → f < 64 → t < 64 → x ≡ some_man side what → ((r : Ray men Queen k f) → IsStruck men (other side) r.direction f → ⊥) → IsAttacked (carried men f t x) (other side) k → IsAttacked men (other side) k
+attack_before : (men : List (Option Piece)) (side : Side) (what : Kind) (k f t : ℕ) (x : Option Piece) → length men ≡ 64 → f < 64 → t < 64 → x ≡ some_man side what → ((r : Ray men Queen k f) → IsAttackedAlong men (other side) r.direction f → ⊥) → IsAttacked (carried men f t x) (other side) k → IsAttacked men (other side) k
 attack_before men side what k f t x len lf lt own shut h =
     let before : man_at men h.from ≡ some_man (other side) h.kind = elim (spot men f t x h.from len lf lt) [
       | inl b ↦ absurd (other_side side what h.kind (sym own ∙ sym b.1 ∙ h.stands))
@@ -222,7 +222,7 @@ carries p m EnPassant r y = absurd y
 carries p m (Castle wing) r y = absurd y
 
 -- a man may go where no man pins him to a king that isn't attacked
-pub free_to_go : (p : Parts) (m : Move) (c : MoveCase) (k : ℕ) → length p.men ≡ 64 → m.from < 64 → m.to < 64 → IsMove p m c → IsCarry c → m.from ≢ k → IsOnlyKing p.men p.side k → (IsAttacked p.men (other p.side) k → ⊥) → ((r : Ray p.men Queen k m.from) → IsStruck p.men (other p.side) r.direction m.from → ⊥) → IsInCheck (men_after p m c) p.side → ⊥
+pub free_to_go : (p : Parts) (m : Move) (c : MoveCase) (k : ℕ) → length p.men ≡ 64 → m.from < 64 → m.to < 64 → IsMove p m c → IsCarry c → m.from ≢ k → IsOnlyKing p.men p.side k → (IsAttacked p.men (other p.side) k → ⊥) → ((r : Ray p.men Queen k m.from) → IsAttackedAlong p.men (other p.side) r.direction m.from → ⊥) → IsInCheck (men_after p m c) p.side → ⊥
 free_to_go p m c k len lf lt r y ne only safe shut =
     let x = carries p m c r y in
     only_safe (men_after p m c) p.side k (only_after p m c k k len lf lt r only (λ e. absurd (ne e)) (λ _. refl))

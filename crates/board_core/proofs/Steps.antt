@@ -105,16 +105,16 @@ takes_step p which v sort from set s e survey bit only =
     }
 
 -- the same where a set has exactly the men of the other side that are reached
-pub strikes_whole : (p : Parts) (which : Which) (v : Survey) (m : Move) (sort : Kind) (from set : ℕ) → which ≡ Captures → IsSurvey p v → Stands p.men from p.side sort → sort ≢ Pawn → sort ≢ King → IsListed which p m → m.from ≡ from → ((s : ℕ) → s < 64 → bit_at v.enemy s ≡ 1 → Reaches p.men p.side sort from s → bit_at set s ≡ 1) → bit_at set m.to ≡ 1
-strikes_whole p which v m sort from set e survey st np nk l here reached =
+pub attacks_to_whole : (p : Parts) (which : Which) (v : Survey) (m : Move) (sort : Kind) (from set : ℕ) → which ≡ Captures → IsSurvey p v → Stands p.men from p.side sort → sort ≢ Pawn → sort ≢ King → IsListed which p m → m.from ≡ from → ((s : ℕ) → s < 64 → bit_at v.enemy s ≡ 1 → Reaches p.men p.side sort from s → bit_at set s ≡ 1) → bit_at set m.to ≡ 1
+attacks_to_whole p which v m sort from set e survey st np nk l here reached =
     let own : Stands p.men m.from p.side sort = rw here st in
     let r = piece_moves p m sort l.0.1.case own np nk l.0.1.rule in
     let same : r.kind ≡ sort = sym (ap kind_on r.stands) ∙ ap kind_on own in
     let wanted : IsCapture p m = rw e at l.1 in
     reached m.to l.0.1.to_board (survey.enemy m.to l.0.1.to_board (piece_takes p m sort l.0.1.case own np l.0.1.rule wanted)) (rw (same, here) at r.reaches)
 
-pub strikes_step : (p : Parts) (which : Which) (v : Survey) (sort : Kind) (from s : ℕ) → which ≡ Captures → IsSurvey p v → bit_at v.enemy s ≡ 1 → Reaches p.men p.side sort from s → IsStep p which sort from s
-strikes_step p which v sort from s e survey bit reaches =
+pub attacks_to_step : (p : Parts) (which : Which) (v : Survey) (sort : Kind) (from s : ℕ) → which ≡ Captures → IsSurvey p v → bit_at v.enemy s ≡ 1 → Reaches p.men p.side sort from s → IsStep p which sort from s
+attacks_to_step p which v sort from s e survey bit reaches =
     let enemy = survey.enemy_only s bit in record {
       reaches = reaches;
       free = λ kind st. other_side p.side kind enemy.0 (sym st ∙ enemy.1);

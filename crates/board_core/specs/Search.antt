@@ -21,11 +21,11 @@ use Rattle.board_core.specs.Moves.{Stands, IsFree, IsTaken, IsLegal, IsMove, IsC
 use Rattle.board_core.specs.Square.{file_of}
 use Rattle.board_core.specs.declared.attack.Direction.{Direction}
 use Rattle.board_core.specs.declared.attack.Direction.TheVariants.{North, South, East, West, NorthEast, NorthWest, SouthEast, SouthWest}
-use Rattle.board_core.specs.declared.attack.Hop.{Hop}
-use Rattle.board_core.specs.declared.attack.Hop.TheVariants.{EastEastNorth, EastEastSouth, EastNorthNorth, EastSouthSouth, WestWestNorth, WestWestSouth, WestNorthNorth, WestSouthSouth}
+use Rattle.board_core.specs.declared.attack.KnightStep.{KnightStep}
+use Rattle.board_core.specs.declared.attack.KnightStep.TheVariants.{EastEastNorth, EastEastSouth, EastNorthNorth, EastSouthSouth, WestWestNorth, WestWestSouth, WestNorthNorth, WestSouthSouth}
 
 -- a man of this side, the first that is seen from `to` in this direction, attacks `to`
-pub record IsStruck (men : List (Option Piece)) (by : Side) (direction : Direction) (to : ℕ) : Type 0 where
+pub record IsAttackedAlong (men : List (Option Piece)) (by : Side) (direction : Direction) (to : ℕ) : Type 0 where
   pub from : ℕ
   pub kind : Kind
   pub distance : ℕ
@@ -37,27 +37,27 @@ pub record IsStruck (men : List (Option Piece)) (by : Side) (direction : Directi
   pub reaches : Reaches men by kind from to
 
 -- a man of this side stands on `from` and attacks `to`
-pub record Strikes (men : List (Option Piece)) (by : Side) (to from : ℕ) : Type 0 where
+pub record AttacksTo (men : List (Option Piece)) (by : Side) (to from : ℕ) : Type 0 where
   pub kind : Kind
   pub stands : man_at men from ≡ Some (record { side = by; kind = kind })
   pub reaches : Reaches men by kind from to
 
 -- the eight steps of a knight
-abbrev pub IsHop : Hop → ℕ → ℕ → Type 0
-IsHop EastEastNorth from to = (file_of to ≡ file_of from + 2) × (rank_of to ≡ rank_of from + 1)
-IsHop EastEastSouth from to = (file_of to ≡ file_of from + 2) × (rank_of to + 1 ≡ rank_of from)
-IsHop EastNorthNorth from to = (file_of to ≡ file_of from + 1) × (rank_of to ≡ rank_of from + 2)
-IsHop EastSouthSouth from to = (file_of to ≡ file_of from + 1) × (rank_of to + 2 ≡ rank_of from)
-IsHop WestWestNorth from to = (file_of to + 2 ≡ file_of from) × (rank_of to ≡ rank_of from + 1)
-IsHop WestWestSouth from to = (file_of to + 2 ≡ file_of from) × (rank_of to + 1 ≡ rank_of from)
-IsHop WestNorthNorth from to = (file_of to + 1 ≡ file_of from) × (rank_of to ≡ rank_of from + 2)
-IsHop WestSouthSouth from to = (file_of to + 1 ≡ file_of from) × (rank_of to + 2 ≡ rank_of from)
+abbrev pub IsKnightStepBy : KnightStep → ℕ → ℕ → Type 0
+IsKnightStepBy EastEastNorth from to = (file_of to ≡ file_of from + 2) × (rank_of to ≡ rank_of from + 1)
+IsKnightStepBy EastEastSouth from to = (file_of to ≡ file_of from + 2) × (rank_of to + 1 ≡ rank_of from)
+IsKnightStepBy EastNorthNorth from to = (file_of to ≡ file_of from + 1) × (rank_of to ≡ rank_of from + 2)
+IsKnightStepBy EastSouthSouth from to = (file_of to ≡ file_of from + 1) × (rank_of to + 2 ≡ rank_of from)
+IsKnightStepBy WestWestNorth from to = (file_of to + 2 ≡ file_of from) × (rank_of to ≡ rank_of from + 1)
+IsKnightStepBy WestWestSouth from to = (file_of to + 2 ≡ file_of from) × (rank_of to + 1 ≡ rank_of from)
+IsKnightStepBy WestNorthNorth from to = (file_of to + 1 ≡ file_of from) × (rank_of to ≡ rank_of from + 2)
+IsKnightStepBy WestSouthSouth from to = (file_of to + 1 ≡ file_of from) × (rank_of to + 2 ≡ rank_of from)
 
 -- a knight of this side attacks `to` from there
-pub record IsHopped (men : List (Option Piece)) (by : Side) (hop : Hop) (to : ℕ) : Type 0 where
+pub record IsAttackedByKnight (men : List (Option Piece)) (by : Side) (knight_step : KnightStep) (to : ℕ) : Type 0 where
   pub from : ℕ
   pub on_board : from < 64
-  pub step : IsHop hop to from
+  pub step : IsKnightStepBy knight_step to from
   pub stands : man_at men from ≡ Some (record { side = by; kind = Knight })
 
 -- k squares on in this direction there still is a square
@@ -99,8 +99,8 @@ pub record IsSurvey (p : Parts) (v : Survey) : Type 0 where
   pub stands : Stands p.men v.king p.side King
 
 -- the men without the one on this square
-abbrev pub bared : List (Option Piece) → ℕ → List (Option Piece)
-bared men s = slice_set men s None
+abbrev pub emptied : List (Option Piece) → ℕ → List (Option Piece)
+emptied men s = slice_set men s None
 
 -- the set has each square on which a man of the other side could take, were it not for our own men there
 abbrev pub HasAttacked : List (Option Piece) → Side → ℕ → Type 0
@@ -108,13 +108,13 @@ HasAttacked men side set = (t : ℕ) → t < 64 → IsFree men side t → IsAtta
 
 -- the attacked squares, where they were worked out, with our king's square bare
 abbrev pub IsKnown : Parts → Survey → Option ℕ → Type 0
-IsKnown p v danger = IfSome danger (HasAttacked (bared p.men v.king) p.side)
+IsKnown p v attacked = IfSome attacked (HasAttacked (emptied p.men v.king) p.side)
 
 -- what is known of the king of the side that moves
 pub record IsGuard (p : Parts) (g : Guard) : Type 0 where
   pub only : IsOnlyKing p.men p.side g.king
-  pub calm : IsTrue g.calm → IsAttacked p.men (other p.side) g.king → ⊥
-  pub danger : HasAttacked (bared p.men g.king) p.side g.danger
+  pub out_of_check : IsTrue g.out_of_check → IsAttacked p.men (other p.side) g.king → ⊥
+  pub attacked : HasAttacked (emptied p.men g.king) p.side g.attacked
 
 -- the cases in which one man goes from one square to the other, and nothing else changes
 abbrev pub IsCarry : MoveCase → Type 0

@@ -2,7 +2,7 @@
 
 ghost use Rattle.std.specs.Int.{bit_at};
 ghost use Rattle.std.specs.Prelude.{◌≡◌, ◌<◌, ◌≤◌, ◌↔◌, ◌+◌, ◌-◌, ℕ, IsTrue, IfSome, IfNone};
-ghost use Rattle.board_core.specs.Search.{IsHop, IsHopped, IsInside, IsStruck, Strikes};
+ghost use Rattle.board_core.specs.Search.{IsKnightStepBy, IsAttackedByKnight, IsInside, IsAttackedAlong, AttacksTo};
 ghost use Rattle.board_core.specs.Moves.{IsTaken};
 ghost use Rattle.board_core.specs.Attack.{Along, IsClear, Goes, Ray, IsKingStep, IsKnightStep, IsPawnAttack, Reaches, IsAttacked, IsInCheck, forward};
 ghost use Rattle.board_core.specs.Computed.{is_in_check};
@@ -26,7 +26,7 @@ pub enum Direction {
 
 /// The eight steps of a knight.
 #[derive(Clone, Copy, PartialEq, Eq, Debug)]
-pub enum Hop {
+pub enum KnightStep {
     EastEastNorth,
     EastEastSouth,
     EastNorthNorth,
@@ -207,8 +207,8 @@ pub fn room(direction: Direction, from: Square) -> u8
 
 /// Whether the first man that is seen from a square in this direction is one of this side that
 /// attacks it.
-fn is_struck(men: &Men, by: Side, direction: Direction, to: Square) -> bool
-    ensures { IsTrue result ↔ IsStruck men.now by direction to }
+fn is_attacked_along(men: &Men, by: Side, direction: Direction, to: Square) -> bool
+    ensures { IsTrue result ↔ IsAttackedAlong men.now by direction to }
 {
     let end = room(direction, to) + 1;
     for k in 1..end {
@@ -223,59 +223,59 @@ fn is_struck(men: &Men, by: Side, direction: Direction, to: Square) -> bool
 /// Whether a man of this side may pin the man on `from` to the king: along the line over empty
 /// squares that leads from the king to him, the next man attacks him.
 pub fn is_pinned(men: &Men, by: Side, king: Square, from: Square) -> bool
-    ensures { (r : Ray men.now Kind.Queen king from) → IsStruck men.now by r.direction from → IsTrue result }
+    ensures { (r : Ray men.now Kind.Queen king from) → IsAttackedAlong men.now by r.direction from → IsTrue result }
 {
     match line(king, from) {
         Some((direction, n)) => {
-            is_clear(men, direction, n, king) && is_struck(men, by, direction, from)
+            is_clear(men, direction, n, king) && is_attacked_along(men, by, direction, from)
         }
         None => false,
     }
 }
 
 /// The square to which a knight goes.
-pub fn hop_to(hop: Hop, from: Square) -> Option<Square>
-    ensures found { IfSome result (λ to. IsHop hop from to) }
-    ensures none { IfNone result ((to : ℕ) → to < 64 → IsHop hop from to → ⊥) }
+pub fn knight_step_to(knight_step: KnightStep, from: Square) -> Option<Square>
+    ensures found { IfSome result (λ to. IsKnightStepBy knight_step from to) }
+    ensures none { IfNone result ((to : ℕ) → to < 64 → IsKnightStepBy knight_step from to → ⊥) }
 {
     let (file, rank, place) = (from.file(), from.rank(), from.number());
-    match hop {
-        Hop::EastEastNorth => {
+    match knight_step {
+        KnightStep::EastEastNorth => {
             if file < 6 && rank < 7 {
                 return Some(Square::at(place + 10));
             }
         }
-        Hop::EastEastSouth => {
+        KnightStep::EastEastSouth => {
             if file < 6 && rank > 0 {
                 return Some(Square::at(place - 6));
             }
         }
-        Hop::EastNorthNorth => {
+        KnightStep::EastNorthNorth => {
             if file < 7 && rank < 6 {
                 return Some(Square::at(place + 17));
             }
         }
-        Hop::EastSouthSouth => {
+        KnightStep::EastSouthSouth => {
             if file < 7 && rank > 1 {
                 return Some(Square::at(place - 15));
             }
         }
-        Hop::WestWestNorth => {
+        KnightStep::WestWestNorth => {
             if file > 1 && rank < 7 {
                 return Some(Square::at(place + 6));
             }
         }
-        Hop::WestWestSouth => {
+        KnightStep::WestWestSouth => {
             if file > 1 && rank > 0 {
                 return Some(Square::at(place - 10));
             }
         }
-        Hop::WestNorthNorth => {
+        KnightStep::WestNorthNorth => {
             if file > 0 && rank < 6 {
                 return Some(Square::at(place + 15));
             }
         }
-        Hop::WestSouthSouth => {
+        KnightStep::WestSouthSouth => {
             if file > 0 && rank > 1 {
                 return Some(Square::at(place - 17));
             }
@@ -285,10 +285,10 @@ pub fn hop_to(hop: Hop, from: Square) -> Option<Square>
 }
 
 /// Whether a knight of this side attacks the square from there.
-fn is_hopped(men: &Men, by: Side, hop: Hop, to: Square) -> bool
-    ensures { IsTrue result ↔ IsHopped men.now by hop to }
+fn is_attacked_by_knight(men: &Men, by: Side, knight_step: KnightStep, to: Square) -> bool
+    ensures { IsTrue result ↔ IsAttackedByKnight men.now by knight_step to }
 {
-    match hop_to(hop, to) {
+    match knight_step_to(knight_step, to) {
         Some(from) => match men[from.number() as usize] {
             Some(man) => man.side == by && man.kind == Kind::Knight,
             None => false,
@@ -301,60 +301,60 @@ fn is_hopped(men: &Men, by: Side, hop: Hop, to: Square) -> bool
 pub fn is_attacked(men: &Men, by: Side, to: Square) -> bool
     ensures { IsTrue result ↔ IsAttacked men.now by to }
 {
-    if is_struck(men, by, Direction::North, to) {
+    if is_attacked_along(men, by, Direction::North, to) {
         return true;
     }
-    if is_struck(men, by, Direction::South, to) {
+    if is_attacked_along(men, by, Direction::South, to) {
         return true;
     }
-    if is_struck(men, by, Direction::East, to) {
+    if is_attacked_along(men, by, Direction::East, to) {
         return true;
     }
-    if is_struck(men, by, Direction::West, to) {
+    if is_attacked_along(men, by, Direction::West, to) {
         return true;
     }
-    if is_struck(men, by, Direction::NorthEast, to) {
+    if is_attacked_along(men, by, Direction::NorthEast, to) {
         return true;
     }
-    if is_struck(men, by, Direction::NorthWest, to) {
+    if is_attacked_along(men, by, Direction::NorthWest, to) {
         return true;
     }
-    if is_struck(men, by, Direction::SouthEast, to) {
+    if is_attacked_along(men, by, Direction::SouthEast, to) {
         return true;
     }
-    if is_struck(men, by, Direction::SouthWest, to) {
+    if is_attacked_along(men, by, Direction::SouthWest, to) {
         return true;
     }
-    if is_hopped(men, by, Hop::EastEastNorth, to) {
+    if is_attacked_by_knight(men, by, KnightStep::EastEastNorth, to) {
         return true;
     }
-    if is_hopped(men, by, Hop::EastEastSouth, to) {
+    if is_attacked_by_knight(men, by, KnightStep::EastEastSouth, to) {
         return true;
     }
-    if is_hopped(men, by, Hop::EastNorthNorth, to) {
+    if is_attacked_by_knight(men, by, KnightStep::EastNorthNorth, to) {
         return true;
     }
-    if is_hopped(men, by, Hop::EastSouthSouth, to) {
+    if is_attacked_by_knight(men, by, KnightStep::EastSouthSouth, to) {
         return true;
     }
-    if is_hopped(men, by, Hop::WestWestNorth, to) {
+    if is_attacked_by_knight(men, by, KnightStep::WestWestNorth, to) {
         return true;
     }
-    if is_hopped(men, by, Hop::WestWestSouth, to) {
+    if is_attacked_by_knight(men, by, KnightStep::WestWestSouth, to) {
         return true;
     }
-    if is_hopped(men, by, Hop::WestNorthNorth, to) {
+    if is_attacked_by_knight(men, by, KnightStep::WestNorthNorth, to) {
         return true;
     }
-    if is_hopped(men, by, Hop::WestSouthSouth, to) {
+    if is_attacked_by_knight(men, by, KnightStep::WestSouthSouth, to) {
         return true;
     }
     false
 }
 
 /// Whether a man of this side stands on `from` and attacks `to`.
-fn strikes(men: &Men, by: Side, from: Square, to: Square) -> bool
-    ensures { IsTrue result ↔ Strikes men.now by to from }
+fn attacks_to(men: &Men, by: Side, from: Square, to: Square) -> bool
+    ensures { IsTrue result ↔ AttacksTo men.now by to from }
 {
     match men[from.number() as usize] {
         Some(man) => man.side == by && reaches(men, by, man.kind, from, to),
@@ -363,7 +363,7 @@ fn strikes(men: &Men, by: Side, from: Square, to: Square) -> bool
 }
 
 /// Whether some man of this side attacks the square, asked of each man in turn; all its men stand on these squares.
-fn some_strikes(men: &Men, by: Side, squares: Bitboard, to: Square) -> bool
+fn some_attacks_to(men: &Men, by: Side, squares: Bitboard, to: Square) -> bool
     requires { (s : ℕ) → s < 64 → IsTaken men.now by s → bit_at squares s ≡ 1 }
     ensures { IsTrue result ↔ IsAttacked men.now by to }
 {
@@ -371,7 +371,7 @@ fn some_strikes(men: &Men, by: Side, squares: Bitboard, to: Square) -> bool
     let mut next = 0u8;
     'enemies: while !rest.is_empty() {
         let from = rest.lowest();
-        if strikes(men, by, from, to) {
+        if attacks_to(men, by, from, to) {
             return true;
         }
         rest = rest.without(from);
@@ -390,7 +390,7 @@ pub fn is_attacked_from(men: &Men, by: Side, squares: Bitboard, to: Square) -> b
     ensures { IsTrue result ↔ IsAttacked men.now by to }
 {
     if squares.len() <= FEW {
-        some_strikes(men, by, squares, to)
+        some_attacks_to(men, by, squares, to)
     } else {
         is_attacked(men, by, to)
     }

@@ -8,7 +8,7 @@ ghost use Rattle.std.specs.Int.{bit_at};
 ghost use Rattle.board_core.specs.Attack.{IsInCheck, Reaches};
 ghost use Rattle.board_core.specs.Moves.{Stands, IsFree, IsTaken, IsMove, Lists, HasLegal, HasLegalCaptures, place_of, men_after, last_rank};
 ghost use Rattle.board_core.specs.ComputedMoves.{legal_captures, legal_moves};
-ghost use Rattle.board_core.specs.Search.{HasListedBelow, IsCarry, IsGuard, IsListed, IsUnpinned, IsStep, IsSurvey, IsWanted, IsKnown, IsOnlyKing, HasAttacked, bared};
+ghost use Rattle.board_core.specs.Search.{HasListedBelow, IsCarry, IsGuard, IsListed, IsUnpinned, IsStep, IsSurvey, IsWanted, IsKnown, IsOnlyKing, HasAttacked, emptied};
 ghost use Rattle.board_core.specs.Side.{other};
 ghost use Rattle.board_core.specs.Sides.{sides_of, squares_where};
 ghost use Rattle.board_core.specs.Position.{IsPosition, is_of};
@@ -48,8 +48,8 @@ pub struct Survey {
 #[derive(Clone, Copy, PartialEq, Eq, Debug)]
 pub struct Guard {
     pub king: Square,
-    pub calm: bool,
-    pub danger: Bitboard,
+    pub out_of_check: bool,
+    pub attacked: Bitboard,
 }
 
 /// Where the men stand.
@@ -99,9 +99,9 @@ fn attacked_squares(men: &Men, side: Side, enemy: Bitboard) -> Bitboard
 }
 
 /// The squares that the other side attacks, were it not for the king of the side that moves.
-fn danger_of(p: &Parts, v: &Survey) -> Bitboard
+fn attacked_without_king(p: &Parts, v: &Survey) -> Bitboard
     requires { IsSurvey p.now v.now }
-    ensures { HasAttacked (bared p.now.men v.now.king) p.now.side result }
+    ensures { HasAttacked (emptied p.now.men v.now.king) p.now.side result }
 {
     let mut men = p.men;
     men[v.king.number() as usize] = None;
@@ -109,16 +109,16 @@ fn danger_of(p: &Parts, v: &Survey) -> Bitboard
 }
 
 /// What is known of the king of the side that moves, by the squares that the other side attacks.
-fn guard_of(p: &Parts, v: &Survey, danger: Bitboard) -> Guard
+fn guard_of(p: &Parts, v: &Survey, attacked: Bitboard) -> Guard
     requires survey { IsSurvey p.now v.now }
-    requires danger { HasAttacked (bared p.now.men v.now.king) p.now.side danger }
+    requires attacked { HasAttacked (emptied p.now.men v.now.king) p.now.side attacked }
     ensures { IsGuard p.now result }
 {
     prove!(v.king.number() < 64);
     Guard {
         king: v.king,
-        calm: !danger.has(v.king),
-        danger,
+        out_of_check: !attacked.has(v.king),
+        attacked,
     }
 }
 
@@ -138,7 +138,7 @@ fn is_unpinned(p: &Parts, g: &Guard, from: Square) -> bool
     ensures { IsTrue result → IsUnpinned p.now from }
 {
     prove!(from.number() < 64);
-    if !g.calm {
+    if !g.out_of_check {
         return false;
     }
     if from == g.king {
@@ -150,9 +150,9 @@ fn is_unpinned(p: &Parts, g: &Guard, from: Square) -> bool
 /// Whether the move is a step of the king to a square that isn't attacked.
 fn is_king_away(m: &Move, case: MoveCase, g: &Guard) -> bool
     ensures { IsTrue result → (m.now.from ≡ g.now.king) × (case ≡ MoveCase.Plain)
-        × (bit_at g.now.danger m.now.to ≡ 0) }
+        × (bit_at g.now.attacked m.now.to ≡ 0) }
 {
-    m.from == g.king && case == MoveCase::Plain && !g.danger.has(m.to)
+    m.from == g.king && case == MoveCase::Plain && !g.attacked.has(m.to)
 }
 
 /// Where the king of the guard stands after the move.
@@ -388,12 +388,12 @@ fn guard_in(p: &Parts, v: &Survey, known: &mut Option<Bitboard>) -> Guard
     ensures guard { IsGuard p.now result }
     ensures known { IsKnown p.now v.now known.new }
 {
-    if let Some(danger) = *known {
-        return guard_of(p, v, danger);
+    if let Some(attacked) = *known {
+        return guard_of(p, v, attacked);
     }
-    let danger = danger_of(p, v);
-    *known = Some(danger);
-    guard_of(p, v, danger)
+    let attacked = attacked_without_king(p, v);
+    *known = Some(attacked);
+    guard_of(p, v, attacked)
 }
 
 /// Adds the moves asked for from a square.

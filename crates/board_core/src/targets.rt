@@ -2,7 +2,7 @@
 
 ghost use Rattle.std.specs.Prelude.{◌≡◌, ◌≢◌, ◌<◌, ◌↔◌, ◌+◌, ◌-◌, ◌⊎◌, ℕ, IsTrue, Some, None};
 ghost use Rattle.std.specs.Int.{bit_at};
-ghost use Rattle.board_core.specs.Search.{IsHop, IsRayEnd};
+ghost use Rattle.board_core.specs.Search.{IsKnightStepBy, IsRayEnd};
 ghost use Rattle.board_core.specs.Attack.{Along, IsClear, IsStraight, IsDiagonal, IsKingStep, IsKnightStep, IsPawnAttack, Reaches, forward, man_at};
 ghost use Rattle.board_core.specs.Moves.{Stands, IsFree, IsTaken, IsLegal};
 ghost use Rattle.board_core.specs.Castling.{has_right, king_end};
@@ -10,7 +10,7 @@ ghost use Rattle.board_core.specs.declared.moves.Move.{Move};
 ghost use Rattle.board_core.specs.Side.{other};
 ghost use Rattle.board_core.specs.declared.attack.Direction.{Direction};
 
-use crate::attack::{self, Direction, Hop};
+use crate::attack::{self, Direction, KnightStep};
 use crate::bitboard::Bitboard;
 use crate::parts::Parts;
 use crate::piece::{Kind, Men, Side, Wing};
@@ -59,14 +59,20 @@ fn with_step(men: &Men, side: Side, direction: Direction, from: Square, mask: Bi
 }
 
 /// The mask with the square of this step of a knight, unless a man of this side stands there.
-fn with_hop(men: &Men, side: Side, hop: Hop, from: Square, mask: Bitboard) -> Bitboard
+fn with_knight_step(
+    men: &Men,
+    side: Side,
+    knight_step: KnightStep,
+    from: Square,
+    mask: Bitboard,
+) -> Bitboard
     ensures kept { (s : ℕ) → bit_at mask s ≡ 1 → bit_at result s ≡ 1 }
-    ensures reached { (s : ℕ) → s < 64 → IsHop hop from s → IsFree men.now side s
+    ensures reached { (s : ℕ) → s < 64 → IsKnightStepBy knight_step from s → IsFree men.now side s
         → bit_at result s ≡ 1 }
     ensures only { (s : ℕ) → bit_at result s ≡ 1
-        → (bit_at mask s ≡ 1) ⊎ (IsHop hop from s × IsFree men.now side s) }
+        → (bit_at mask s ≡ 1) ⊎ (IsKnightStepBy knight_step from s × IsFree men.now side s) }
 {
-    match attack::hop_to(hop, from) {
+    match attack::knight_step_to(knight_step, from) {
         Some(to) => {
             if rules::is_taken(men, side, to) {
                 mask
@@ -126,14 +132,20 @@ fn knight_targets(men: &Men, side: Side, from: Square) -> Bitboard
     ensures reached { (s : ℕ) → s < 64 → IsKnightStep from s → IsFree men.now side s → bit_at result s ≡ 1 }
     ensures only { (s : ℕ) → bit_at result s ≡ 1 → IsKnightStep from s × IsFree men.now side s }
 {
-    let a = with_hop(men, side, Hop::EastEastNorth, from, Bitboard::empty());
-    let b = with_hop(men, side, Hop::EastEastSouth, from, a);
-    let c = with_hop(men, side, Hop::EastNorthNorth, from, b);
-    let d = with_hop(men, side, Hop::EastSouthSouth, from, c);
-    let e = with_hop(men, side, Hop::WestWestNorth, from, d);
-    let f = with_hop(men, side, Hop::WestWestSouth, from, e);
-    let g = with_hop(men, side, Hop::WestNorthNorth, from, f);
-    with_hop(men, side, Hop::WestSouthSouth, from, g)
+    let a = with_knight_step(
+        men,
+        side,
+        KnightStep::EastEastNorth,
+        from,
+        Bitboard::empty(),
+    );
+    let b = with_knight_step(men, side, KnightStep::EastEastSouth, from, a);
+    let c = with_knight_step(men, side, KnightStep::EastNorthNorth, from, b);
+    let d = with_knight_step(men, side, KnightStep::EastSouthSouth, from, c);
+    let e = with_knight_step(men, side, KnightStep::WestWestNorth, from, d);
+    let f = with_knight_step(men, side, KnightStep::WestWestSouth, from, e);
+    let g = with_knight_step(men, side, KnightStep::WestNorthNorth, from, f);
+    with_knight_step(men, side, KnightStep::WestSouthSouth, from, g)
 }
 
 /// The squares that a man other than a pawn may go to by a step or along a line.

@@ -1,7 +1,7 @@
 use Rattle.std.proofs.Common.{arith, inl, inr}
 use Rattle.std.proofs.lemmas.Bool.{cases_lt}
 use Rattle.board_core.proofs.Sweep.{Rests-without, Rests-empty}
-use Rattle.board_core.proofs.Danger.{Covers-all, Covers-more}
+use Rattle.board_core.proofs.Attacked.{Covers-all, Covers-more}
 use Rattle.board_core.proofs.generation.attacked_squares.Goals as goal
 
 pub loop-next-preserved : goal.loop-next-preserved

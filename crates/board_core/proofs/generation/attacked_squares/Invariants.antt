@@ -2,7 +2,7 @@ use Rattle.std.proofs.Common.{ℕ, ◌<◌, ◌-◌}
 use Rattle.board_core.specs.Moves.{IsTaken}
 use Rattle.board_core.specs.Side.{other}
 use Rattle.board_core.proofs.Sweep.{Rests}
-use Rattle.board_core.proofs.Danger.{Covers}
+use Rattle.board_core.proofs.Attacked.{Covers}
 use Rattle.board_core.proofs.generation.attacked_squares.Given as goal
 
 abbrev pub invariant-loop-next : goal.invariant-loop-next

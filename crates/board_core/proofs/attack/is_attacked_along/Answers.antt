@@ -1,6 +1,6 @@
 use Rattle.std.proofs.Common.{arith, rules}
-use Rattle.board_core.proofs.Outward.{struck_reaches, struck_within, inside}
-use Rattle.board_core.proofs.attack.is_struck.Goals as goal
+use Rattle.board_core.proofs.Outward.{along_reaches, along_within, inside}
+use Rattle.board_core.proofs.attack.is_attacked_along.Goals as goal
 
 pub returns-then-eq : goal.returns-then-eq
 returns-then-eq c = (
@@ -15,7 +15,7 @@ returns-then-eq c = (
     stands = search rules;
     reaches = search rules;
   },
-  λ h. c.reaches.ensures.1 (struck_reaches _ _ _ _ _ _ c.in-Some.man h (omega arith) c.loop-k.invariant c.along-from.ensures (search rules)),
+  λ h. c.reaches.ensures.1 (along_reaches _ _ _ _ _ _ c.in-Some.man h (omega arith) c.loop-k.invariant c.along-from.ensures (search rules)),
 )
 
 pub returns : goal.returns
@@ -23,5 +23,5 @@ returns c = (
   λ t. search rules,
   λ h.
       let within = inside c.args.direction h.distance c.args.to h.from (omega arith) h.on_board h.along in
-      absurd (struck_within _ _ _ _ _ h (omega (arith, (c.room-end.ensures.inside _).1 within)) c.loop-k.invariant),
+      absurd (along_within _ _ _ _ _ h (omega (arith, (c.room-end.ensures.inside _).1 within)) c.loop-k.invariant),
 )

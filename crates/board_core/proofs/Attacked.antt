@@ -14,7 +14,7 @@ use Rattle.board_core.specs.declared.parts.Parts.{Parts}
 use Rattle.board_core.specs.Side.{other}
 use Rattle.board_core.specs.Attack.{man_at, Ray, Reaches, IsAttacked, IsInCheck}
 use Rattle.board_core.specs.Moves.{Stands, IsFree, IsTaken, IsPlain, men_after}
-use Rattle.board_core.specs.Search.{HasAttacked, IsOnlyKing, bared}
+use Rattle.board_core.specs.Search.{HasAttacked, IsOnlyKing, emptied}
 use Rattle.board_core.proofs.Outward.{along_distance}
 use Rattle.board_core.proofs.Sweep.{zero_one, Rests, Rests-between}
 use Rattle.board_core.proofs.Safety.{some_man, none_man, other_side, only_after, only_safe}
@@ -81,14 +81,14 @@ attack_bare men side what t lt a =
       reaches = reaches_bare men (other side) a.kind (some_man side what) a.from t a.reaches;
     }
 
-pub bared_here : (men : List (Option Piece)) (k : ℕ) → k < length men → man_at (bared men k) k ≡ None
-bared_here men k lt = rw get_or-set_same refl
+pub emptied_here : (men : List (Option Piece)) (k : ℕ) → k < length men → man_at (emptied men k) k ≡ None
+emptied_here men k lt = rw get_or-set_same refl
 
-pub bared_free : (men : List (Option Piece)) (side : Side) (k : ℕ) → k < length men → IsFree (bared men k) side k
-bared_free men side k lt = λ what st. none_man side what _ (bared_here men k lt) st
+pub emptied_free : (men : List (Option Piece)) (side : Side) (k : ℕ) → k < length men → IsFree (emptied men k) side k
+emptied_free men side k lt = λ what st. none_man side what _ (emptied_here men k lt) st
 
-ray_bared : (men : List (Option Piece)) (sort : Kind) (a t : ℕ) → Ray men sort a t → Ray (bared men t) sort a t
-ray_bared men sort a t r = record {
+ray_emptied : (men : List (Option Piece)) (sort : Kind) (a t : ℕ) → Ray men sort a t → Ray (emptied men t) sort a t
+ray_emptied men sort a t r = record {
   direction = r.direction;
   distance = r.distance;
   goes = r.goes;
@@ -99,36 +99,36 @@ ray_bared men sort a t r = record {
       elsewhere men t s None before ∙ r.clear j s away within here;
 }
 
-reaches_bared : (men : List (Option Piece)) (by : Side) (sort : Kind) (a t : ℕ) → Reaches men by sort a t → Reaches (bared men t) by sort a t
-reaches_bared men by Pawn a t r = r
-reaches_bared men by Knight a t r = r
-reaches_bared men by Bishop a t r = ray_bared men Bishop a t r
-reaches_bared men by Rook a t r = ray_bared men Rook a t r
-reaches_bared men by Queen a t r = ray_bared men Queen a t r
-reaches_bared men by King a t r = r
+reaches_emptied : (men : List (Option Piece)) (by : Side) (sort : Kind) (a t : ℕ) → Reaches men by sort a t → Reaches (emptied men t) by sort a t
+reaches_emptied men by Pawn a t r = r
+reaches_emptied men by Knight a t r = r
+reaches_emptied men by Bishop a t r = ray_emptied men Bishop a t r
+reaches_emptied men by Rook a t r = ray_emptied men Rook a t r
+reaches_emptied men by Queen a t r = ray_emptied men Queen a t r
+reaches_emptied men by King a t r = r
 
 -- what attacks our man on a square attacks the bare square
-pub attack_bared : (men : List (Option Piece)) (side : Side) (what : Kind) (k : ℕ) → k < length men → Stands men k side what → IsAttacked men (other side) k → IsAttacked (bared men k) (other side) k
-attack_bared men side what k lt st a =
+pub attack_emptied : (men : List (Option Piece)) (side : Side) (what : Kind) (k : ℕ) → k < length men → Stands men k side what → IsAttacked men (other side) k → IsAttacked (emptied men k) (other side) k
+attack_emptied men side what k lt st a =
     let away : a.from ≢ k = λ e. other_side side what a.kind (sym st ∙ rw e at a.stands) in
     record {
       from = a.from;
       kind = a.kind;
       on_board = a.on_board;
       stands = elsewhere men k a.from None away ∙ a.stands;
-      reaches = reaches_bared men (other side) a.kind a.from k a.reaches;
+      reaches = reaches_emptied men (other side) a.kind a.from k a.reaches;
     }
 
 -- the king's own square shuts no line to where it goes
-pub king_away : (p : Parts) (m : Move) (k set : ℕ) → length p.men ≡ 64 → m.from < 64 → m.to < 64 → IsPlain p m → m.from ≡ k → IsOnlyKing p.men p.side k → HasAttacked (bared p.men k) p.side set → bit_at set m.to ≡ 0 → IsInCheck (men_after p m Plain) p.side → ⊥
-king_away p m k set len lf lt r at only danger none =
+pub king_away : (p : Parts) (m : Move) (k set : ℕ) → length p.men ≡ 64 → m.from < 64 → m.to < 64 → IsPlain p m → m.from ≡ k → IsOnlyKing p.men p.side k → HasAttacked (emptied p.men k) p.side set → bit_at set m.to ≡ 0 → IsInCheck (men_after p m Plain) p.side → ⊥
+king_away p m k set len lf lt r at only attacked none =
     only_safe (men_after p m Plain) p.side m.to (only_after p m Plain k m.to len lf lt r only (λ _. refl) (λ ne. absurd (ne at)))
     (λ a.
     let own : man_at p.men m.from ≡ some_man p.side r.kind = r.stands in
-    let within : m.to < length (bared p.men m.from) = omega (arith, length-set {A = Option Piece}) in
-    let bare = attack_bare (bared p.men m.from) p.side r.kind m.to within (rw own at a) in
-    let free : IsFree (bared p.men k) p.side m.to = λ sort st. elim (cases_eq m.to k) [
-      | inl e ↦ bared_free p.men p.side k (omega arith) sort (rw e at st)
+    let within : m.to < length (emptied p.men m.from) = omega (arith, length-set {A = Option Piece}) in
+    let bare = attack_bare (emptied p.men m.from) p.side r.kind m.to within (rw own at a) in
+    let free : IsFree (emptied p.men k) p.side m.to = λ sort st. elim (cases_eq m.to k) [
+      | inl e ↦ emptied_free p.men p.side k (omega arith) sort (rw e at st)
       | inr ne ↦ r.free sort (sym (elsewhere p.men k m.to None ne) ∙ st)
     ] in
-    zero_one _ none (danger m.to lt free (rw at at bare)))
+    zero_one _ none (attacked m.to lt free (rw at at bare)))

@@ -1,6 +1,6 @@
 use Rattle.std.proofs.Common.{arith, rules}
 use Rattle.board_core.proofs.Sweep.{Rests-begin, Rests-without, none_on, none_left}
-use Rattle.board_core.proofs.attack.some_strikes.Goals as goal
+use Rattle.board_core.proofs.attack.some_attacks_to.Goals as goal
 
 pub enemies-init : goal.enemies-init
 enemies-init c = record {
@@ -8,16 +8,16 @@ enemies-init c = record {
   none = λ s lt. absurd (omega arith);
 }
 
-pub returns-then-strikes : goal.returns-then-strikes
-returns-then-strikes c = (
-  λ _. let q = c.strikes.ensures.0 c.if-strikes.true in record { from = c.lowest-from.result; kind = q.kind; on_board = omega arith; stands = q.stands; reaches = q.reaches },
+pub returns-then-attacks_to : goal.returns-then-attacks_to
+returns-then-attacks_to c = (
+  λ _. let q = c.attacks_to.ensures.0 c.if-attacks_to.true in record { from = c.lowest-from.result; kind = q.kind; on_board = omega arith; stands = q.stands; reaches = q.reaches },
   λ _. search rules,
 )
 
 pub enemies-preserved : goal.enemies-preserved
 enemies-preserved c = record {
   rests = rw c.number-next.ensures.value (Rests-without _ _ _ _ _ (omega arith) c.enemies.invariant.rests c.lowest-from.ensures.first c.lowest-from.ensures.here c.without-rest.ensures.gone c.without-rest.ensures.kept);
-  none = rw c.number-next.ensures.value (none_on _ _ _ _ (omega arith) c.enemies.invariant.rests c.lowest-from.ensures.first c.enemies.invariant.none (λ q. let t = c.strikes.ensures.1 q in search rules));
+  none = rw c.number-next.ensures.value (none_on _ _ _ _ (omega arith) c.enemies.invariant.rests c.lowest-from.ensures.first c.enemies.invariant.none (λ q. let t = c.attacks_to.ensures.1 q in search rules));
 }
 
 pub returns : goal.returns
