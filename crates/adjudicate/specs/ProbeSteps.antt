@@ -1,5 +1,5 @@
 -- How the lines of `probes` are written; cited by private functions alone.
-use Rattle.std.specs.Prelude.{◌≡◌, ◌++◌, ℕ, List, [], ◌∷◌, Option, Result, Ok, Err}
+use Rattle.std.specs.Prelude.{◌≡◌, ◌++◌, ℕ, List, [], ◌∷◌, Option, Ok, Err}
 use Rattle.std.specs.Io.KnownBytes.{Appends}
 use Rattle.judge_core.specs.Tables.{Tables}
 use Rattle.adjudicate.specs.Given.{Given}

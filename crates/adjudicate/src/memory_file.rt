@@ -58,7 +58,13 @@ impl KeptFile for MemoryFile {
 
     ghost finds = { λ _ _ _. Unit {0} };
 
+    ghost settled = { λ _. Unit {0} };
+
     ghost unreadable = { λ _. Unit {0} };
+
+    fn settle(&self) -> Result<(), ReadFault> {
+        Ok(())
+    }
 
     fn read(&self, _alloc: Global) -> Result<Option<Vec<u8>>, ReadFault> {
         Ok(None)

@@ -1,7 +1,7 @@
 //! The program's words, its output and its status.
 
 ghost use Rattle.std.specs.Prelude.{map, IfOk, OnOk};
-ghost use Rattle.adjudicate.specs.Listens.{Listens};
+ghost use Rattle.adjudicate.specs.Listens.{Listens, hosted};
 ghost use Rattle.adjudicate.specs.Running.{AnswersTask, Runs, HasEnded};
 
 use crate::answers::answer_task;
@@ -45,7 +45,7 @@ fn run_task<D: Disk, H: Host, W: Write>(
     host: &H,
     out: &mut W,
 ) -> Result<u8, AnswerFault>
-    ensures { IfOk result (AnswersTask (D.lists disk.now) (D.holds disk.now) (D.gives disk.now) (D.fails disk.now) (Listens (H.binds host.now) (H.unbound host.now) (H.is_at host.now) H.Port.passed H.Port.faults H.File.unreadable H.File.finds) task.now (W.contents out.old) (W.contents out.new)) }
+    ensures { IfOk result (AnswersTask (D.lists disk.now) (D.holds disk.now) (D.gives disk.now) (D.fails disk.now) (Listens (hosted (H.binds host.now) (H.unbound host.now) (H.is_at host.now) H.Port.passed H.Port.faults H.File.unreadable H.File.finds)) task.now (W.contents out.old) (W.contents out.new)) }
 {
     match Sources::read(alloc, disk, task) {
         Ok(sources) => match task {
@@ -72,7 +72,7 @@ pub fn run<D: Disk, H: Host, W: Write, E: Write>(
     out: &mut W,
     errors: &mut E,
 ) -> Result<u8, AnswerFault>
-    ensures { IfOk result (Runs (D.lists disk.now) (D.holds disk.now) (D.gives disk.now) (D.fails disk.now) (Listens (H.binds host.now) (H.unbound host.now) (H.is_at host.now) H.Port.passed H.Port.faults H.File.unreadable H.File.finds) (map (λ w. w.now) words.now) (W.contents out.old) (W.contents out.new)) }
+    ensures { IfOk result (Runs (D.lists disk.now) (D.holds disk.now) (D.gives disk.now) (D.fails disk.now) (Listens (hosted (H.binds host.now) (H.unbound host.now) (H.is_at host.now) H.Port.passed H.Port.faults H.File.unreadable H.File.finds)) (map (λ w. w.now) words.now) (W.contents out.old) (W.contents out.new)) }
 {
     match parse(alloc, words) {
         Ok(task) => run_task(alloc, &task, disk, host, out),

@@ -1,4 +1,4 @@
-use Rattle.std.proofs.Common.{rules, ◌≡◌, ◌∙◌, true, false, refl, subst}
+use Rattle.std.proofs.Common.{rules, ◌≡◌, ◌∙◌, false, refl, subst}
 use Rattle.std.proofs.lemmas.Result.{IfOk-weaker}
 use Rattle.judge_core.specs.Tables.{Tables}
 use Rattle.adjudicate.specs.Inputs.{has_bytes}
