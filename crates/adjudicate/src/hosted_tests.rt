@@ -196,15 +196,22 @@ fn refuses_a_record_that_is_cut(rt: HostRuntime) -> Result<(), Fail> {
     expect_case(rt.alloc(), true, Stands::Bytes(&whole), row)
 }
 
-/// What is told where the write after so many others fails.
-fn told_after(alloc: Global, host: &MemoryHost<'_>, others: u32) -> Result<bool, Fail> {
+/// Whether the write after so many others that fails is told, where the first two moves come.
+fn is_told_after(alloc: Global, others: u32) -> Result<bool, Fail> {
+    let first = move_message(0, "e2e4")?;
+    let second = move_message(1, "e7e5")?;
+    let host = MemoryHost {
+        is_bound: true,
+        waiting: &[&first, &second],
+        stands: Stands::Nothing,
+    };
     let words = words_of(alloc, LISTEN, START)?;
     let mut out = Failing::after(others);
     let told = run(
         alloc,
         &words,
         &Folders,
-        host,
+        &host,
         &mut out,
         &mut Vec::new(alloc),
     );
@@ -214,15 +221,8 @@ fn told_after(alloc: Global, host: &MemoryHost<'_>, others: u32) -> Result<bool,
 /// Each write of the lines of a run that fails is told; there are at least eight.
 #[test]
 fn tells_each_failed_write_of_a_run(rt: HostRuntime) -> Result<(), Fail> {
-    let first = move_message(0, "e2e4")?;
-    let second = move_message(1, "e7e5")?;
-    let host = MemoryHost {
-        is_bound: true,
-        waiting: &[&first, &second],
-        stands: Stands::Nothing,
-    };
     for others in 0..8 {
-        if !told_after(rt.alloc(), &host, others)? {
+        if !is_told_after(rt.alloc(), others)? {
             return Err(Fail::new(format_args!("write {others}")));
         }
     }
