@@ -9,7 +9,7 @@ use Rattle.fen_text.specs.Cuts.{cut_at}
 use Rattle.fen_text.proofs.CutLaws.{cut_none, cut_some, is_cut}
 use Rattle.adjudicate.specs.Inputs.{has_bytes, lines_in, whole_lines}
 use Rattle.adjudicate.specs.Lines.{ended, refused_memory, text_of}
-use Rattle.adjudicate.specs.Reply.{LineTold, TellsLine, TellsLines, all_told, status_if, words_told}
+use Rattle.adjudicate.specs.Reply.{IsText, LineTold, TellsLine, TellsLines, all_told, status_if, words_told}
 use Rattle.adjudicate.specs.ProbeSteps.{PutsLines, PutsAll, PutsSome}
 use Rattle.adjudicate.proofs.LineLaws.{more_lines}
 
@@ -82,8 +82,9 @@ probed_more tables text rest tail line words is_told done old mid now h cut tell
       done_is = ap (λ b. b && is_told) h.done_is ∙ sym (all_more h.told one);
     }
 
-pub probed_short : (tables : Tables) (text rest : List ℕ) (done : Bool) (old mid now : Option (List ℕ)) (status : ℕ) → HasProbed tables text rest old mid done → Appends mid now (ended refused_memory) → status ≡ 1 → PutsLines tables text old now status
-probed_short tables text rest done old mid now status h wrote is = PutsSome h.front (lines_in rest) h.parts h.told h.are (more_lines old mid now (words_told h.told) refused_memory h.written wrote) is
+pub probed_short : (tables : Tables) (text rest line tail : List ℕ) (done : Bool) (old mid now : Option (List ℕ)) (status : ℕ) → HasProbed tables text rest old mid done → lines_in rest ≡ line ∷ lines_in tail → IsText line → Appends mid now (ended refused_memory) → status ≡ 1 → PutsLines tables text old now status
+probed_short tables text rest line tail done old mid now status h cut is_text wrote is =
+    PutsSome h.front line (lines_in tail) (h.parts ∙ ap (λ ls. h.front ++ ls) cut) is_text h.told h.are (more_lines old mid now (words_told h.told) refused_memory h.written wrote) is
 
 pub still_all : (tables : Tables) (text rest : List ℕ) (old now : Option (List ℕ)) (done is_told : Bool) → done ≡ true → HasProbed tables text rest old now (done && is_told) → HasProbed tables text rest old now is_told
 still_all tables text rest old now done is_told e h = subst (λ d. HasProbed tables text rest old now (d && is_told)) e h

@@ -53,7 +53,9 @@ rules_of name.Listen =
     ∷ rule_of_form form.NeededOption (codes "bind") ∷ rule_of_form form.NeededOption (codes "to")
     ∷ rule_of_form form.NeededOption (codes "kept") ∷ rule_of_form form.NeededOption (codes "datagrams")
     ∷ rule_of_form form.Option (codes "delay") ∷ rule_of_form form.Flag (codes "fetch") ∷ []
-rules_of name.Probes = rule_of_form form.NeededOption (codes "tables") ∷ rule_of_form form.Option (codes "manifest") ∷ []
+rules_of name.Probes =
+    rule_of_form form.NeededOption (codes "tables") ∷ rule_of_form form.Option (codes "manifest")
+    ∷ rule_of_form form.Flag (codes "progress") ∷ []
 rules_of name.Game =
     rule_of_form form.Option (codes "tables") ∷ rule_of_form form.Option (codes "manifest") ∷ rule_of_form form.Option (codes "delay")
     ∷ rule_of_form form.Word (codes "FEN") ∷ []

@@ -6,12 +6,12 @@ use Rattle.adjudicate.specs.Given.{Given}
 use Rattle.adjudicate.specs.Inputs.{lines_in}
 use Rattle.adjudicate.specs.Lines.{ended, refused_memory, text_of}
 use Rattle.adjudicate.specs.Looks.{gathered}
-use Rattle.adjudicate.specs.Reply.{LineTold, TellsLines, all_told, status_if, words_told}
+use Rattle.adjudicate.specs.Reply.{IsText, LineTold, TellsLines, all_told, status_if, words_told}
 
--- all lines were written, or the first ones before memory was refused
+-- all lines were written, or the first ones before memory was refused for a position
 pub data PutsLines (tables : Tables) (text : List ℕ) (old new : Option (List ℕ)) (status : ℕ) : Type 0 where
   PutsAll : (told : List LineTold) → TellsLines tables (lines_in text) told → Appends old new (text_of (words_told told)) → status ≡ status_if (all_told told) → PutsLines tables text old new status
-  PutsSome : (front rest : List (List ℕ)) → lines_in text ≡ front ++ rest → (told : List LineTold) → TellsLines tables front told → Appends old new (text_of (words_told told ++ refused_memory ∷ [])) → status ≡ 1 → PutsLines tables text old new status
+  PutsSome : (front : List (List ℕ)) (line : List ℕ) (rest : List (List ℕ)) → lines_in text ≡ front ++ line ∷ rest → IsText line → (told : List LineTold) → TellsLines tables front told → Appends old new (text_of (words_told told ++ refused_memory ∷ [])) → status ≡ 1 → PutsLines tables text old new status
 
 -- the tables are refused, or these lines were written, or memory was refused before them
 pub data PutsProbes (given : Given) (old new : Option (List ℕ)) (status : ℕ) : Type 0 where

@@ -15,7 +15,7 @@ folder_of (task.Check manifest folder) = Some folder.now
 folder_of task.Show = None
 folder_of (task.Run tables cache delay) = option_map (λ s. s.now) tables
 folder_of (task.Listen l) = Some l.tables.now
-folder_of (task.Probes tables manifest) = Some tables.now
+folder_of (task.Probes tables manifest progress) = Some tables.now
 folder_of (task.Game tables manifest delay fen) = option_map (λ s. s.now) tables
 
 abbrev pub manifest_of : Task → Option (List ℕ)
@@ -27,7 +27,7 @@ manifest_of (task.Check manifest folder) = Some manifest.now
 manifest_of task.Show = None
 manifest_of (task.Run tables cache delay) = None
 manifest_of (task.Listen l) = None
-manifest_of (task.Probes tables manifest) = option_map (λ s. s.now) manifest
+manifest_of (task.Probes tables manifest progress) = option_map (λ s. s.now) manifest
 manifest_of (task.Game tables manifest delay fen) = option_map (λ s. s.now) manifest
 
 -- only show, run, probes and game read the input
@@ -40,7 +40,7 @@ reads_input (task.Check manifest folder) = false
 reads_input task.Show = true
 reads_input (task.Run tables cache delay) = true
 reads_input (task.Listen l) = false
-reads_input (task.Probes tables manifest) = true
+reads_input (task.Probes tables manifest progress) = true
 reads_input (task.Game tables manifest delay fen) = true
 
 -- some folder, file or input is read for the task

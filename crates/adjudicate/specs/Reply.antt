@@ -192,13 +192,15 @@ pub data IsProbes (text : List ℕ) (gathered : Result Tables (List ℕ)) (r : R
   NoTables : (words : List ℕ) → gathered ≡ Err words → r ≡ refused words → IsProbes text gathered r
   Probed : (tables : Tables) → gathered ≡ Ok tables → (told : List LineTold) → TellsLines tables (lines_in text) told → r ≡ record { text = text_of (words_told told); status = status_if (all_told told) } → IsProbes text gathered r
 
--- the first lines of such a reply
+-- the first lines of such a reply, up to a position for which there was no memory
 pub record IsFront (text : List ℕ) (gathered : Result Tables (List ℕ)) (lines : List (List ℕ)) : Type 0 where
   pub tables : Tables
   pub gathered_is : gathered ≡ Ok tables
   pub front : List (List ℕ)
+  pub line : List ℕ
   pub rest : List (List ℕ)
-  pub parts : lines_in text ≡ front ++ rest
+  pub parts : lines_in text ≡ front ++ line ∷ rest
+  pub is_text : IsText line
   pub told : List LineTold
   pub are : TellsLines tables front told
   pub lines_are : lines ≡ words_told told
@@ -214,7 +216,7 @@ IsReply (task.Check manifest folder) given r = r ≡ checked_by given.files give
 IsReply task.Show given r = IsShown given.input r
 IsReply (task.Run tables cache delay) given r = IsRun given.input given.files delay r
 IsReply (task.Listen l) given r = ⊥
-IsReply (task.Probes tables manifest) given r = IsProbes given.input (gathered given) r
+IsReply (task.Probes tables manifest progress) given r = IsProbes given.input (gathered given) r
 IsReply (task.Game tables manifest delay fen) given r = IsForText fen.now (IsPlayed given.input (gathered given) delay) r
 
 -- a reply takes memory but where a text is refused, and where messages are shown
@@ -227,7 +229,7 @@ TakesMemory (task.Check manifest folder) = Unit {0}
 TakesMemory task.Show = ⊥
 TakesMemory (task.Run tables cache delay) = Unit {0}
 TakesMemory (task.Listen l) = ⊥
-TakesMemory (task.Probes tables manifest) = Unit {0}
+TakesMemory (task.Probes tables manifest progress) = Unit {0}
 TakesMemory (task.Game tables manifest delay fen) = IsText fen.now
 
 -- only the reply to `probes` is written line by line as it is made
@@ -240,7 +242,7 @@ IsFrontOf (task.Check manifest folder) given lines = ⊥
 IsFrontOf task.Show given lines = ⊥
 IsFrontOf (task.Run tables cache delay) given lines = ⊥
 IsFrontOf (task.Listen l) given lines = ⊥
-IsFrontOf (task.Probes tables manifest) given lines = IsFront given.input (gathered given) lines
+IsFrontOf (task.Probes tables manifest progress) given lines = IsFront given.input (gathered given) lines
 IsFrontOf (task.Game tables manifest delay fen) given lines = ⊥
 
 -- the reply was written whole, and its status told

@@ -3,7 +3,7 @@ use Rattle.std.specs.Prelude.{◌≡◌, ◌⊎◌, ℕ, Bool, true, false, List
 use Rattle.clap.specs.Words.{App, Text}
 use Rattle.adjudicate.specs.Commands.{app_for, fault_in, value_in, word_of}
 use Rattle.adjudicate.specs.Listenings.{IsListening}
-use Rattle.adjudicate.specs.Numbers.{IsCache, IsDelay}
+use Rattle.adjudicate.specs.Numbers.{IsCache, IsDelay, is_set}
 use Rattle.adjudicate.specs.declared.listening.Listening.{Listening}
 use Rattle.adjudicate.specs.declared.commands.Name.{Name}
 use Rattle.adjudicate.specs.declared.commands.Name.TheVariants as name
@@ -32,7 +32,7 @@ name_of task.Show = name.Show
 name_of (task.Run tables cache delay) = name.Run
 name_of (task.Listen l) = name.Listen
 name_of (task.Game tables manifest delay fen) = name.Game
-name_of (task.Probes tables manifest) = name.Probes
+name_of (task.Probes tables manifest progress) = name.Probes
 
 -- the task is to listen
 abbrev pub listens : Task → Bool
@@ -45,7 +45,7 @@ listens task.Show = false
 listens (task.Run tables cache delay) = false
 listens (task.Listen l) = true
 listens (task.Game tables manifest delay fen) = false
-listens (task.Probes tables manifest) = false
+listens (task.Probes tables manifest progress) = false
 
 -- the lines for the task are written as they are made
 abbrev pub streams : Task → Bool
@@ -58,7 +58,20 @@ streams task.Show = true
 streams (task.Run tables cache delay) = false
 streams (task.Listen l) = false
 streams (task.Game tables manifest delay fen) = false
-streams (task.Probes tables manifest) = true
+streams (task.Probes tables manifest progress) = true
+
+-- how far it is, is told on the way
+abbrev pub tells_progress : Task → Bool
+tells_progress (task.Judge tables manifest fen) = false
+tells_progress (task.Probe tables manifest fen) = false
+tells_progress (task.Moves fen) = false
+tells_progress (task.List folder) = false
+tells_progress (task.Check manifest folder) = false
+tells_progress task.Show = false
+tells_progress (task.Run tables cache delay) = false
+tells_progress (task.Listen l) = false
+tells_progress (task.Game tables manifest delay fen) = false
+tells_progress (task.Probes tables manifest progress) = progress
 
 -- the task has these values of its command's arguments
 abbrev pub HasValues : (Text → Option Text) → Task → Type 0
@@ -76,8 +89,9 @@ HasValues value task.Show = Unit {0}
 HasValues value (task.Run tables cache delay) =
     (option_map (λ s. s.now) tables ≡ value (codes "tables")) × IsCache (value (codes "cache")) cache × IsDelay (value (codes "delay")) delay
 HasValues value (task.Listen l) = IsListening value l
-HasValues value (task.Probes tables manifest) =
+HasValues value (task.Probes tables manifest progress) =
     (Some tables.now ≡ value (codes "tables")) × (option_map (λ s. s.now) manifest ≡ value (codes "manifest"))
+    × (progress ≡ is_set (value (codes "progress")))
 HasValues value (task.Game tables manifest delay fen) =
     (option_map (λ s. s.now) tables ≡ value (codes "tables")) × (option_map (λ s. s.now) manifest ≡ value (codes "manifest"))
     × IsDelay (value (codes "delay")) delay × (Some fen.now ≡ value (codes "FEN"))

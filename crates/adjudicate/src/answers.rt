@@ -14,7 +14,7 @@ ghost use Rattle.adjudicate.specs.declared.commands.Task.TheVariants.{Show};
 ghost use Rattle.adjudicate.specs.Lines.{text_of, words_of};
 ghost use Rattle.adjudicate.specs.Looks.{gathered, look_for, look_line};
 ghost use Rattle.adjudicate.specs.Reply.{Answers, ByTables, IsForText, IsJudged, IsListed, IsMoves, IsReply, IsText, IsTold, TakesMemory, WritesReply, checked, checked_by, numbered, status_if, told};
-ghost use Rattle.adjudicate.specs.Tasks.{listens, streams};
+ghost use Rattle.adjudicate.specs.Tasks.{listens, streams, tells_progress};
 ghost use Rattle.adjudicate.specs.Asked.{IsAsked, reply_of};
 
 use crate::commands::Task;
@@ -320,19 +320,21 @@ fn put_answer<W: Write>(out: &mut W, answer: &Answer) -> Result<u8, AnswerFault>
 ///
 /// Where memory is refused, the line `refused memory` comes in place of all else, with status 1; a
 /// text that is no position takes none, and `show` takes none. The error comes only where the writer
-/// failed.
-pub fn answer_task<W: Write>(
+/// failed. With `--progress`, `probes` tells `errors` after every 10,000 lines how many are done; no other task writes there.
+pub fn answer_task<W: Write, E: Write>(
     alloc: Global,
     task: &Task,
     sources: &Sources,
     out: &mut W,
+    errors: &mut E,
 ) -> Result<u8, AnswerFault>
     requires { listens task.now ≡ false }
-    ensures { IfOk result (Answers task.now sources.now (W.contents out.old) (W.contents out.new)) }
+    ensures answered { IfOk result (Answers task.now sources.now (W.contents out.old) (W.contents out.new)) }
+    ensures quiet { tells_progress task.now ≡ false → errors.new ≡ errors.old }
 {
     match task {
         Task::Show => show(sources.input(), out),
-        Task::Probes { .. } => probes(alloc, sources, out),
+        Task::Probes { progress, .. } => probes(alloc, sources, out, errors, *progress),
         _ => match answer_to(alloc, task, sources) {
             Ok(answer) => put_answer(out, &answer),
             Err(_) => put_refusal(out, &Line::RefusedMemory),

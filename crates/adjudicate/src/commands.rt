@@ -6,7 +6,7 @@ ghost use Rattle.adjudicate.specs.Commands.{app_for, rule_of_value, rules_of, va
 ghost use Rattle.adjudicate.specs.Tasks.{HasValues, IsTask, IsMisuse, IsTaken, Lacks, Names, NamesNone, name_of};
 
 use crate::listening::Listening;
-use crate::numbers::{CacheSize, Delay};
+use crate::numbers::{CacheSize, Delay, is_set};
 use crate::usage::Usage;
 use clap::{Arg, ArgAction, ArgMatches, Command};
 use std::alloc::{AllocError, Global};
@@ -68,6 +68,8 @@ pub enum Task<'a> {
         tables: &'a str,
         /// The file of the manifest that the tables are held to, if one is named.
         manifest: Option<&'a str>,
+        /// Whether it is told on the way how many are done.
+        progress: bool,
     },
     /// What the game of the input comes to.
     Game {
@@ -244,7 +246,7 @@ const OF_LISTEN: [Value; 10] = [
 ];
 
 /// The values of `probes`.
-const OF_PROBES: [Value; 2] = [
+const OF_PROBES: [Value; 3] = [
     Value {
         name: "tables",
         form: Form::NeededOption,
@@ -252,6 +254,10 @@ const OF_PROBES: [Value; 2] = [
     Value {
         name: "manifest",
         form: Form::Option,
+    },
+    Value {
+        name: "progress",
+        form: Form::Flag,
     },
 ];
 
@@ -459,6 +465,7 @@ fn task_of<'a>(name: Name, matches: &ArgMatches<'a>) -> Option<Task<'a>>
             Some(Task::Probes {
                 tables,
                 manifest: matches.get_str("manifest"),
+                progress: is_set(matches.get_str("progress")),
             })
         }
         Name::Game => {

@@ -1,8 +1,10 @@
 //! Many positions, and games told by their moves.
 
 use crate::fixtures::*;
+use crate::program::run;
 use crate::schedule_tests::Scheduled;
-use std::alloc::Global;
+use std::alloc::{AllocError, Global};
+use std::io::Write;
 use std::test::*;
 
 /// Rook h1 against queen b1; the rook is taken at ply 4.
@@ -122,4 +124,55 @@ fn judges_games(rt: HostRuntime) -> Result<(), Fail> {
         expect_given(rt.alloc(), given)?;
     }
     Ok(())
+}
+
+/// Lines that are no positions, so many that it is told twice how many are done.
+fn many_lines(alloc: Global) -> Result<String, AllocError> {
+    let mut text = String::new(alloc);
+    for _ in 0..20_001 {
+        text.push_str("\n")?;
+    }
+    Ok(text)
+}
+
+/// That the words are answered over many lines, with this writer for what is told on the way.
+fn expect_refusals<E: Write>(
+    alloc: Global,
+    words: &'static str,
+    errors: &mut E,
+) -> Result<(), Fail> {
+    let text = many_lines(alloc)?;
+    let disk = Scheduled { text: &text };
+    let words = words_of(alloc, words, "")?;
+    let mut out = Vec::new(alloc);
+    match run(alloc, &words, &disk, &NoHost, &mut out, errors) {
+        Ok(1) => Ok(()),
+        _ => Err(Fail::from("a refusal")),
+    }
+}
+
+#[test]
+fn tells_how_many_are_done(rt: HostRuntime) -> Result<(), Fail> {
+    let mut told = Vec::new(rt.alloc());
+    expect_refusals(rt.alloc(), "probes --tables worked --progress", &mut told)?;
+    assert!(rt; told.as_slice() == b"10000 done\n20000 done\n".as_slice());
+    Ok(())
+}
+
+#[test]
+fn tells_nothing_on_the_way_unasked(rt: HostRuntime) -> Result<(), Fail> {
+    let mut told = Vec::new(rt.alloc());
+    expect_refusals(rt.alloc(), "probes --tables worked", &mut told)?;
+    assert!(rt; told.is_empty());
+    Ok(())
+}
+
+#[test]
+fn progress_that_fails_changes_nothing(rt: HostRuntime) -> Result<(), Fail> {
+    let mut failing = Failing::after(0);
+    expect_refusals(
+        rt.alloc(),
+        "probes --tables worked --progress",
+        &mut failing,
+    )
 }

@@ -1,13 +1,13 @@
 //! What tables tell of many positions, a line each.
 
-ghost use Rattle.std.specs.Prelude.{◌≡◌, ◌<◌, ◌==◌, ◌&&◌, ◌∷◌, true, length, position, IfOk};
+ghost use Rattle.std.specs.Prelude.{◌≡◌, ◌<◌, ◌==◌, ◌&&◌, ◌∷◌, true, false, length, position, IfOk, OnErr};
 ghost use Rattle.std.specs.Result.{is_ok};
 ghost use Rattle.board_core.specs.Position.{IsPosition};
 ghost use Rattle.fen_text.specs.Fen.{SpellsPosition};
 ghost use Rattle.adjudicate.specs.Inputs.{has_bytes, lines_in};
 ghost use Rattle.adjudicate.specs.Lines.{words_of};
 ghost use Rattle.adjudicate.specs.ProbeSteps.{PutsLines, PutsProbes};
-ghost use Rattle.adjudicate.specs.Reply.{TellsLine};
+ghost use Rattle.adjudicate.specs.Reply.{IsText, TellsLine};
 
 use crate::answers::{ask_dtz, ask_wdl, number_in, status_if};
 use crate::lines::{AnswerFault, Line, put_line, put_refusal};
@@ -18,6 +18,9 @@ use fen_text::read;
 use judge_core::{ProbeFault, Set, Wdl};
 use std::alloc::{AllocError, Global};
 use std::io::Write;
+
+/// After how many lines it is told how many are done.
+const PROGRESS_STEP: usize = 10_000;
 
 /// The first place of a line feed.
 fn line_feed_in(text: &[u8]) -> Option<usize>
@@ -68,6 +71,7 @@ fn columns(
 fn probe_line(alloc: Global, set: &mut Set<'_>, text: &[u8]) -> Result<(Line, bool), AllocError>
     ensures told { IfOk result (λ told. TellsLine set.old.tables text.now (record { words = words_of told.0; done = told.1 })) }
     ensures unchanged { set.new.tables ≡ set.old.tables }
+    ensures memory { OnErr result (IsText text.now) }
 {
     match read(text) {
         Ok(position) => columns(alloc, set, text, &position),
@@ -75,17 +79,35 @@ fn probe_line(alloc: Global, set: &mut Set<'_>, text: &[u8]) -> Result<(Line, bo
     }
 }
 
-/// Writes a line for each line of a text as it is made, and tells the status.
-fn put_probes<W: Write>(
+/// Tells how many lines are done, where that is wanted and enough are done; a failure changes nothing.
+fn tell_progress<E: Write>(errors: &mut E, progress: bool, lines: usize)
+    ensures { progress ≡ false → errors.new ≡ errors.old }
+{
+    if !progress || lines % PROGRESS_STEP != 0 {
+        return;
+    }
+    match writeln!(errors, "{lines} done") {
+        Ok(()) => {}
+        Err(_) => {}
+    }
+}
+
+/// Writes a line for each line of a text as it is made, and tells the status; on the way it tells how far it is, where that is
+/// wanted.
+fn put_probes<W: Write, E: Write>(
     alloc: Global,
     set: &mut Set<'_>,
     text: &[u8],
     out: &mut W,
+    errors: &mut E,
+    progress: bool,
 ) -> Result<u8, AnswerFault>
-    ensures { IfOk result (PutsLines set.old.tables text.now (W.contents out.old) (W.contents out.new)) }
+    ensures written { IfOk result (PutsLines set.old.tables text.now (W.contents out.old) (W.contents out.new)) }
+    ensures quiet { progress ≡ false → errors.new ≡ errors.old }
 {
     let mut rest = text;
     let mut done = true;
+    let mut lines = 0usize;
     while !rest.is_empty() {
         let (line, tail) = first_line(rest);
         let Ok((told, is_told)) = probe_line(alloc, set, line) else {
@@ -95,6 +117,8 @@ fn put_probes<W: Write>(
             Ok(()) => {}
             Err(fault) => return Err(fault),
         }
+        lines = lines.saturating_add(1);
+        tell_progress(errors, progress, lines);
         done = done && is_told;
         rest = tail;
     }
@@ -105,16 +129,20 @@ fn put_probes<W: Write>(
 /// tells the status, 0 where all is told, else 1.
 ///
 /// Each line goes out as it is made, so that memory doesn't grow with their number; where memory is
-/// refused, the line `refused memory` follows the whole lines before it.
-pub(crate) fn probes<W: Write>(
+/// refused, the line `refused memory` follows the whole lines before it. With `progress` it tells `errors` after every 10,000
+/// lines how many are done; without, nothing is written there.
+pub(crate) fn probes<W: Write, E: Write>(
     alloc: Global,
     sources: &Sources,
     out: &mut W,
+    errors: &mut E,
+    progress: bool,
 ) -> Result<u8, AnswerFault>
-    ensures { IfOk result (PutsProbes sources.now (W.contents out.old) (W.contents out.new)) }
+    ensures written { IfOk result (PutsProbes sources.now (W.contents out.old) (W.contents out.new)) }
+    ensures quiet { progress ≡ false → errors.new ≡ errors.old }
 {
     match gather(alloc, sources) {
-        Ok(Ok(mut set)) => put_probes(alloc, &mut set, sources.input(), out),
+        Ok(Ok(mut set)) => put_probes(alloc, &mut set, sources.input(), out, errors, progress),
         Ok(Err(line)) => put_refusal(out, &line),
         Err(_) => put_refusal(out, &Line::RefusedMemory),
     }

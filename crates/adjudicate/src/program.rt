@@ -1,8 +1,10 @@
 //! The program's words, its output and its status.
 
-ghost use Rattle.std.specs.Prelude.{map, IfOk, OnOk};
+ghost use Rattle.std.specs.Prelude.{◌≡◌, ◌≢◌, ◌⊎◌, map, true, false, IfOk, OnOk};
+ghost use Rattle.adjudicate.specs.declared.commands.Task.{Task};
 ghost use Rattle.adjudicate.specs.Listens.{Listens, hosted};
 ghost use Rattle.adjudicate.specs.Running.{AnswersTask, Runs, HasEnded};
+ghost use Rattle.adjudicate.specs.Tasks.{IsTask, tells_progress};
 
 use crate::answers::answer_task;
 use crate::commands::{Task, parse};
@@ -23,7 +25,7 @@ const USAGE: &str = "usage: adjudicate judge [--tables DIR] [--manifest FILE] FE
        adjudicate list DIR
        adjudicate check --manifest FILE DIR
        adjudicate show
-       adjudicate probes --tables DIR [--manifest FILE]
+       adjudicate probes --tables DIR [--manifest FILE] [--progress]
        adjudicate game [--tables DIR] [--manifest FILE] [--delay N] FEN
        adjudicate run [--tables DIR] [--cache N] [--delay N]
        adjudicate listen --name N --start FEN --tables DIR --me M --bind ADDR --to ADDR --kept FILE
@@ -38,19 +40,21 @@ fn put_usage<E: Write>(errors: &mut E) {
 }
 
 /// Answers a task from what it reads.
-fn run_task<D: Disk, H: Host, W: Write>(
+fn run_task<D: Disk, H: Host, W: Write, E: Write>(
     alloc: Global,
     task: &Task,
     disk: &D,
     host: &H,
     out: &mut W,
+    errors: &mut E,
 ) -> Result<u8, AnswerFault>
-    ensures { IfOk result (AnswersTask (D.lists disk.now) (D.holds disk.now) (D.gives disk.now) (D.fails disk.now) (Listens (hosted (H.binds host.now) (H.unbound host.now) (H.is_at host.now) H.Port.passed H.Port.faults H.File.unreadable H.File.finds)) task.now (W.contents out.old) (W.contents out.new)) }
+    ensures quiet { tells_progress task.now ≡ false → errors.new ≡ errors.old }
+    ensures answered { IfOk result (AnswersTask (D.lists disk.now) (D.holds disk.now) (D.gives disk.now) (D.fails disk.now) (Listens (hosted (H.binds host.now) (H.unbound host.now) (H.is_at host.now) H.Port.passed H.Port.faults H.File.unreadable H.File.finds)) task.now (W.contents out.old) (W.contents out.new)) }
 {
     match Sources::read(alloc, disk, task) {
         Ok(sources) => match task {
             Task::Listen(listening) => listen(alloc, listening, &sources, host, out),
-            _ => answer_task(alloc, task, &sources, out),
+            _ => answer_task(alloc, task, &sources, out, errors),
         },
         Err(ReadFault::Unreadable) => put_refusal(out, &Line::RefusedFiles),
         Err(ReadFault::OutOfMemory) => put_refusal(out, &Line::RefusedMemory),
@@ -63,7 +67,7 @@ fn run_task<D: Disk, H: Host, W: Write>(
 /// All that a task names is read before anything is answered: its folder, of which the files of
 /// tables are looked at, its manifest, and for `show`, `run`, `probes` and `game` the input, to its end. What can't be read or
 /// has more than 2^30 bytes is told as `refused files`. Only `listen` opens a port and a kept file. Answers go to `out` and the text of a
-/// misuse to `errors`, whose failure changes nothing. The error comes only where `out` failed.
+/// misuse to `errors`, as does how far `probes --progress` is; nothing else is written there, and its failure changes nothing. The error comes only where `out` failed.
 pub fn run<D: Disk, H: Host, W: Write, E: Write>(
     alloc: Global,
     words: &[&str],
@@ -72,10 +76,11 @@ pub fn run<D: Disk, H: Host, W: Write, E: Write>(
     out: &mut W,
     errors: &mut E,
 ) -> Result<u8, AnswerFault>
-    ensures { IfOk result (Runs (D.lists disk.now) (D.holds disk.now) (D.gives disk.now) (D.fails disk.now) (Listens (hosted (H.binds host.now) (H.unbound host.now) (H.is_at host.now) H.Port.passed H.Port.faults H.File.unreadable H.File.finds)) (map (λ w. w.now) words.now) (W.contents out.old) (W.contents out.new)) }
+    ensures quiet { IfOk result (λ status. errors.new ≢ errors.old → (status ≡ 2) ⊎ ((t : Task) × IsTask (map (λ w. w.now) words.now) t × (tells_progress t ≡ true))) }
+    ensures answered { IfOk result (Runs (D.lists disk.now) (D.holds disk.now) (D.gives disk.now) (D.fails disk.now) (Listens (hosted (H.binds host.now) (H.unbound host.now) (H.is_at host.now) H.Port.passed H.Port.faults H.File.unreadable H.File.finds)) (map (λ w. w.now) words.now) (W.contents out.old) (W.contents out.new)) }
 {
     match parse(alloc, words) {
-        Ok(task) => run_task(alloc, &task, disk, host, out),
+        Ok(task) => run_task(alloc, &task, disk, host, out, errors),
         Err(Usage::OutOfMemory) => put_refusal(out, &Line::RefusedMemory),
         Err(Usage::Misuse) => {
             put_usage(errors);

@@ -84,8 +84,8 @@ fn tell(alloc: Global, stamp: Stamp, who: Who, count: Count, verdict: Option<Ver
     outputs
 }
 
-/// These moves as messages of an arbiter, the first with this number.
-fn relayed(
+/// These moves as messages of an arbiter, the first with this number; the error comes only where there are more than four.
+fn sent(
     alloc: Global,
     stamp: Stamp,
     who: Who,
@@ -95,7 +95,7 @@ fn relayed(
     requires few { length moves.now ≤ 8 }
     requires in_range { number ≤ 4096 }
     ensures ok { IfOk result (λ o. o.items ≡ sent_by stamp (Sender.Arbiter who) number moves.now) }
-    ensures inline { IsErr result → 4 < length moves.now }
+    ensures inline { IsErr result → 4 < length (sent_by stamp (Sender.Arbiter who) number moves.now) }
 {
     let mut outputs = SmallVec::new(alloc);
     for i in 0..moves.len() {
@@ -110,22 +110,6 @@ fn relayed(
         };
     }
     Ok(outputs)
-}
-
-/// The same; the error comes only where there are more than four messages.
-fn sent(
-    alloc: Global,
-    stamp: Stamp,
-    who: Who,
-    number: u32,
-    moves: &[Move],
-) -> Result<Outputs, AllocError>
-    requires few { length moves.now ≤ 8 }
-    requires in_range { number ≤ 4096 }
-    ensures ok { IfOk result (λ o. o.items ≡ sent_by stamp (Sender.Arbiter who) number moves.now) }
-    ensures inline { IsErr result → 4 < length (sent_by stamp (Sender.Arbiter who) number moves.now) }
-{
-    relayed(alloc, stamp, who, number, moves)
 }
 
 impl<'a> Arbiter<'a> {

@@ -1,4 +1,4 @@
-use Rattle.std.proofs.Common.{refl, ◌≡◌, ℕ, List, Option, sym, subst}
+use Rattle.std.proofs.Common.{refl, ◌≡◌, ◌∙◌, ap, ℕ, List, Option, sym, subst}
 use Rattle.std.proofs.lemmas.Result.{IfOk-weaker}
 use Rattle.adjudicate.specs.declared.commands.Task.{Task}
 use Rattle.adjudicate.specs.declared.commands.Task.TheVariants.{Show, Probes}
@@ -7,6 +7,7 @@ use Rattle.adjudicate.specs.Lines.{text_of}
 use Rattle.adjudicate.specs.Looks.{gathered}
 use Rattle.adjudicate.specs.ProbeSteps.{PutsProbes, PutsRefusal, PutsLinesOf, PutsNoLine, PutsAll, PutsSome}
 use Rattle.adjudicate.specs.Reply.{Answers, CutShort, IsFront, IsFrontOf, IsProbes, IsReply, IsShown, NoTables, Probed, Refused, Replied, Reply, TakesMemory, WritesReply, all_told, refused, status_if, words_told}
+use Rattle.adjudicate.specs.Tasks.{tells_progress}
 use Rattle.adjudicate.proofs.answers.answer_task.Goals as goal
 
 shown_to : (t : Task) (given : Given) (old new : Option (List ℕ)) (status : ℕ) → t ≡ Show → (r : Reply) × IsShown given.input r × WritesReply old new r status → Answers t given old new status
@@ -17,17 +18,17 @@ probes_to : (t : Task) (given : Given) (old new : Option (List ℕ)) (status : �
 probes_to t given old new status reply front memory (PutsRefusal words e wrote is) = Replied (refused words) (reply (refused words) (NoTables words e refl)) (wrote, is)
 probes_to t given old new status reply front memory (PutsLinesOf tables e (PutsAll told are wrote is)) =
     Replied (record { text = text_of (words_told told); status = status_if (all_told told) }) (reply _ (Probed tables e told are refl)) (wrote, is)
-probes_to t given old new status reply front memory (PutsLinesOf tables e (PutsSome first rest parts told are wrote is)) =
-    CutShort (words_told told) (front _ (record { tables = tables; gathered_is = e; front = first; rest = rest; parts = parts; told = told; are = are; lines_are = refl })) wrote is
+probes_to t given old new status reply front memory (PutsLinesOf tables e (PutsSome first line rest parts is_text told are wrote is)) =
+    CutShort (words_told told) (front _ (record { tables = tables; gathered_is = e; front = first; line = line; rest = rest; parts = parts; is_text = is_text; told = told; are = are; lines_are = refl })) wrote is
 probes_to t given old new status reply front memory (PutsNoLine wrote is) = Refused memory wrote is
 
 pub returns-in-Probes : goal.returns-in-Probes
 returns-in-Probes g c =
-    IfOk-weaker c.probes.result _ _ (λ status h. subst (λ (t : Task). Answers t c.args.sources.now (g.W.Write.contents c.args.out.now) (g.W.Write.contents c.probes.new.out) status) (sym c.in-Probes.is) (probes_to (Probes c.in-Probes.tables c.in-Probes.manifest) c.args.sources.now (g.W.Write.contents c.args.out.now) (g.W.Write.contents c.probes.new.out) status (λ r h. h) (λ lines h. h) tt h)) c.probes.ensures
+    record { answered = IfOk-weaker c.probes.result _ _ (λ status h. subst (λ (t : Task). Answers t c.args.sources.now (g.W.Write.contents c.args.out.now) (g.W.Write.contents c.probes.new.out) status) (sym c.in-Probes.is) (probes_to (Probes c.in-Probes.tables c.in-Probes.manifest c.in-Probes.progress) c.args.sources.now (g.W.Write.contents c.args.out.now) (g.W.Write.contents c.probes.new.out) status (λ r h. h) (λ lines h. h) tt h)) c.probes.ensures.written; quiet = λ unasked. c.probes.ensures.quiet (ap tells_progress (sym c.in-Probes.is) ∙ unasked) }
 
 pub returns-in-Show : goal.returns-in-Show
 returns-in-Show g c =
-    IfOk-weaker c.show.result _ _ (λ status h. shown_to c.args.task.now c.args.sources.now _ _ status c.in-Show.is h) (rw c.input.ensures at c.show.ensures)
+    record { answered = IfOk-weaker c.show.result _ _ (λ status h. shown_to c.args.task.now c.args.sources.now _ _ status c.in-Show.is h) (rw c.input.ensures at c.show.ensures); quiet = λ unasked. refl }
 
 pub returns-in-Ok : goal.returns-in-Ok
-returns-in-Ok g c = IfOk-weaker c.put_answer.result _ _ (λ status h. Replied _ c.in-Ok.ensures.ok h) c.put_answer.ensures
+returns-in-Ok g c = record { answered = IfOk-weaker c.put_answer.result _ _ (λ status h. Replied _ c.in-Ok.ensures.ok h) c.put_answer.ensures; quiet = λ unasked. refl }
