@@ -61,13 +61,16 @@ fn record(alloc: Global) -> Result<Vec<u8>, Fail> {
 /// A record of no moves with the stamp of another game.
 const OTHER_GAME: [u8; 25] = *b"SR\x02\0\0\0\0\0\0\0\0\0\0\0\0\0\0\0\0\0\0\0\0\0\0";
 
-const LISTEN: &str = "listen --name Test --start FEN --tables nothing --me 1 --bind b --to t --kept k --datagrams 2";
+const LISTEN: &str =
+    "listen --name Test --start FEN --tables nothing --me 1 --bind b --to t --kept k --datagrams 2";
 
 /// The same with a file that is no table.
-const WITH_ABC: &str = "listen --name Test --start FEN --tables abc --me 1 --bind b --to t --kept k --datagrams 2";
+const WITH_ABC: &str =
+    "listen --name Test --start FEN --tables abc --me 1 --bind b --to t --kept k --datagrams 2";
 
 /// The same with a folder that isn't there.
-const WITH_NOWHERE: &str = "listen --name Test --start FEN --tables nowhere --me 1 --bind b --to t --kept k --datagrams 2";
+const WITH_NOWHERE: &str =
+    "listen --name Test --start FEN --tables nowhere --me 1 --bind b --to t --kept k --datagrams 2";
 
 /// Whether the address can be bound, what stands under the kept name, and what is told.
 #[derive(Clone, Copy)]
