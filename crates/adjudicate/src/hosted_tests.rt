@@ -200,24 +200,18 @@ fn refuses_a_record_that_is_cut(rt: HostRuntime) -> Result<(), Fail> {
 }
 
 /// Whether the write after so many others that fails is told, where the first two moves come.
-fn is_told_after(alloc: Global, others: u32) -> Result<bool, Fail> {
+fn is_told_after(alloc: Global, stands: Stands<'_>, others: u32) -> Result<bool, Fail> {
     let first = move_message(0, "e2e4")?;
     let second = move_message(1, "e7e5")?;
     let host = MemoryHost {
         is_bound: true,
         waiting: &[&first, &second],
-        stands: Stands::Nothing,
+        stands,
     };
     let words = words_of(alloc, LISTEN, START)?;
     let mut out = Failing::after(others);
-    let told = run(
-        alloc,
-        &words,
-        &Folders,
-        &host,
-        &mut out,
-        &mut Vec::new(alloc),
-    );
+    let errors = &mut Vec::new(alloc);
+    let told = run(alloc, &words, &Folders, &host, &mut out, errors);
     Ok(matches!(told, Err(AnswerFault::Io)))
 }
 
@@ -225,7 +219,7 @@ fn is_told_after(alloc: Global, others: u32) -> Result<bool, Fail> {
 #[test]
 fn tells_each_failed_write_of_a_run(rt: HostRuntime) -> Result<(), Fail> {
     for others in 0..8 {
-        if !is_told_after(rt.alloc(), others)? {
+        if !is_told_after(rt.alloc(), Stands::Nothing, others)? {
             return Err(Fail::new(format_args!("write {others}")));
         }
     }
