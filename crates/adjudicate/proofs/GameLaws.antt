@@ -1,7 +1,6 @@
 -- Words and moves of a text.
-use Rattle.std.proofs.Common.{◌≡◌, ℕ, zero, suc, Bool, true, false, List, [], ◌∷◌, ◌++◌, length, filter, refl, sym, ap, ◌∙◌, subst, append_assoc}
+use Rattle.std.proofs.Common.{◌≡◌, ℕ, true, false, List, [], ◌∷◌, ◌++◌, length, filter, refl, sym, ap, ◌∙◌, subst, append_assoc}
 use Rattle.std.specs.List.{slice_split}
-use Rattle.std.proofs.lemmas.List.{append-nil}
 use Rattle.board_core.specs.declared.moves.Move.{Move as Moves}
 use Rattle.fen_text.specs.Coordinates.{SpellsMove}
 use Rattle.relay_world.specs.Texts.{AreMoves}

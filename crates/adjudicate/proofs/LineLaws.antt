@@ -1,6 +1,5 @@
 -- Lines that were written.
 use Rattle.std.proofs.Common.{List, [], ◌∷◌, ◌++◌, ℕ, Option, ap, sym, append-nil, subst, ◌∙◌}
-use Rattle.std.specs.Prelude.{Result, Ok, Err, OnErr}
 use Rattle.std.specs.Io.KnownBytes.{Appends}
 use Rattle.std.proofs.KnownBytes.{Appends-trans}
 use Rattle.std.proofs.lemmas.List.Concat.{flat_map-append}
@@ -11,7 +10,3 @@ pub more_lines : (old mid new : Option (List ℕ)) (first : List (List ℕ)) (la
 more_lines old mid new first last p q =
     let joined = flat_map-append ended first (last ∷ []) ∙ ap (λ (t : List ℕ). text_of first ++ t) (append-nil (ended last)) in
     subst (Appends old new) (sym joined) (Appends-trans old mid new _ _ p q)
-
-pub on_err : {T E : Type 0} {P : Type 0} (r : Result T E) → P → OnErr r P
-on_err (Ok x) p = tt
-on_err (Err e) p = p

@@ -1,12 +1,12 @@
 -- A stream that is shown message by message.
-use Rattle.std.proofs.Common.{◌≡◌, ℕ, ◌+◌, ◌≤◌, ◌<◌, List, [], ◌∷◌, ◌++◌, length, map, Option, codes, refl, sym, ap, ap₂, subst, ◌∙◌, arith}
+use Rattle.std.proofs.Common.{◌≡◌, ℕ, ◌+◌, ◌≤◌, List, [], ◌∷◌, ◌++◌, length, map, Option, codes, refl, sym, ap, ap₂, subst, ◌∙◌, arith}
 use Rattle.std.specs.Io.KnownBytes.{Appends}
 use Rattle.std.proofs.KnownBytes.{Appends-nil}
 use Rattle.std.proofs.lemmas.List.{length-append, map-append}
 use Rattle.move_msg.specs.declared.message.Message.{Message}
 use Rattle.move_msg.specs.declared.message.MessageFault.{MessageFault}
 use Rattle.move_msg.specs.Messages.{SpellsMessage, fault_name}
-use Rattle.move_msg.specs.Streams.{BeginsBy, End, EndsSo, AfterMessage, Cut, AtFault}
+use Rattle.move_msg.specs.Streams.{BeginsBy, EndsSo, AfterMessage, Cut, AtFault}
 use Rattle.adjudicate.specs.Lines.{ended, message_words, refused_message, text_of}
 use Rattle.adjudicate.specs.Reply.{IsShown, Reply, WritesReply, shown}
 use Rattle.adjudicate.proofs.LineLaws.{more_lines}

@@ -1,37 +1,34 @@
 -- One datagram, or none.
-use Rattle.std.proofs.Common.{◌≡◌, ℕ, ◌≤◌, ◌<◌, Bool, true, false, List, [], ◌∷◌, ◌++◌, length, map, Option, Some, None, refl, sym, ap, subst, ◌∙◌, append_assoc, append-nil, arith}
-use Rattle.std.specs.Prelude.{Result, Ok, Err}
-use Rattle.std.specs.List.{AllByRecursion, flat_map}
+use Rattle.std.proofs.Common.{◌≡◌, ℕ, ◌≤◌, List, [], ◌∷◌, ◌++◌, length, map, Option, refl, sym, ap, subst, append-nil, arith}
+use Rattle.std.specs.Prelude.{Ok, Err}
 use Rattle.std.specs.Io.KnownBytes.{Appends}
-use Rattle.arbiter_core.specs.declared.keeper.Keep.{Keep}
 use Rattle.arbiter_core.specs.Keeping.{Risen}
-use Rattle.arbiter_core.specs.Views.{View}
 use Rattle.arbiter_core.specs.Delivers.{Told}
 use Rattle.adjudicate.specs.declared.lines.AnswerFault.{AnswerFault}
 use Rattle.adjudicate.specs.declared.lines.Line.{Line}
 use Rattle.adjudicate.specs.declared.serve.Next.{Next}
 use Rattle.adjudicate.specs.declared.serve.Next.TheVariants.{GoesOn, Stops}
 use Rattle.adjudicate.specs.Lines.{ended, refused_port, text_of, words_of}
-use Rattle.adjudicate.specs.Ports.{Passing, Came, Missed, Passes}
-use Rattle.adjudicate.specs.Serving.{Exchange, InTurn, Loss, NoLoss, KeeperLost, PortLost, Run, IsRun, IsStatus, TellsRun, exchanges_of, handed, line_for, lines_of, loses_keeper, outputs_of, with_last}
-use Rattle.adjudicate.specs.Steps.{Hears, IsOneStep, status_by, stops}
+use Rattle.adjudicate.specs.Ports.{Came, Missed, Passes, AtPort}
+use Rattle.adjudicate.specs.Serving.{Stated, Moment, Exchange, InTurn, Loss, NoLoss, KeeperLost, PortLost, Run, ServesRun, TellsRun, handed, lines_of, outputs_of}
+use Rattle.adjudicate.specs.Steps.{Hears, IsOneStep, status_by}
 use Rattle.adjudicate.proofs.PortLaws.{Passes-trans}
 use Rattle.adjudicate.proofs.ServingLaws.{going_on}
 
 -- a run of one datagram at most, with this line
-pub record Steps (K : Type 0) (may_be : K → Keep → Type 0) (kept : K → Option (List ℕ)) (kf : K → ℕ) (leaves : K → List ℕ → K → Type 0) (old new : View) (before now : K) (p p' : Option (List Passing)) (f f' : ℕ) (line : Line) (next : Next) : Type 0 where
-  pub exchanges : List Exchange
-  pub loss : Loss
-  pub run : IsRun may_be kept kf leaves old new before now p p' f f' [] (going_on exchanges loss)
+pub record Steps {K : Type 0} (s : Stated K) (old new : Moment K) (port port' : AtPort) (line : Line) (next : Next) : Type 0 where
+  pub exchanges : List (Exchange K)
+  pub loss : Loss K
+  pub run : ServesRun s old new port port' [] (going_on exchanges loss)
   pub is : IsOneStep (going_on exchanges loss) line next
 
 came_and_sent : (d : List ℕ) (told : Told) → ((Came d ∷ []) ++ map handed (outputs_of told)) ≡ [] ++ (((Came d ∷ map handed (outputs_of told)) ++ []) ++ [])
 came_and_sent d told = simp append-nil
 
-pub heard : (K : Type 0) (may_be : K → Keep → Type 0) (kept : K → Option (List ℕ)) (kf : K → ℕ) (leaves : K → List ℕ → K → Type 0) (old new : View) (before now : K) (p p1 p2 : Option (List Passing)) (f f1 f2 : ℕ) (d : List ℕ) (line : Line) (next : Next) → Passes p p1 (Came d ∷ []) → f ≤ f1 → Hears may_be kept kf leaves old new before now p1 p2 f1 f2 d line next → Steps K may_be kept kf leaves old new before now p p2 f f2 line next
+pub heard : {K : Type 0} (s : Stated K) (old new : Moment K) (port came_at port' : AtPort) (d : List ℕ) (line : Line) (next : Next) → Passes port.passed came_at.passed (Came d ∷ []) → port.faults ≤ came_at.faults → Hears s old new came_at port' d line next → Steps s old new port port' line next
 unfolding InTurn
-heard K may_be kept kf leaves old new before now p p1 p2 f f1 f2 d line GoesOn came le h =
-    let e : Exchange = record { datagram = d; told = h.told; after = new } in
+heard {K = K} s old new port came_at port' d line GoesOn came le h =
+    let e : Exchange K = record { datagram = d; told = h.told; after = new } in
     let counted = h.count in
     record {
       exchanges = e ∷ [];
@@ -39,15 +36,15 @@ heard K may_be kept kf leaves old new before now p p1 p2 f f1 f2 d line GoesOn c
       run = record {
         going = (sym h.stop, tt);
         loss = tt;
-        delivered = (now, h.delivered, (refl, refl));
-        passes = subst (Passes p p2) (came_and_sent d h.told) (Passes-trans p p1 p2 _ _ came h.passes);
+        delivered = (h.delivered, refl);
+        passes = subst (Passes port.passed port'.passed) (came_and_sent d h.told) (Passes-trans port.passed came_at.passed port'.passed _ _ came h.passes);
         cause = λ is. absurd (cc);
         count = omega arith;
       };
       is = (ap (λ (l : List ℕ). l ∷ []) (sym h.words), (refl, refl));
     }
-heard K may_be kept kf leaves old new before now p p1 p2 f f1 f2 d line Stops came le h =
-    let e : Exchange = record { datagram = d; told = h.told; after = new } in
+heard {K = K} s old new port came_at port' d line Stops came le h =
+    let e : Exchange K = record { datagram = d; told = h.told; after = new } in
     let counted = h.count in
     record {
       exchanges = [];
@@ -55,24 +52,24 @@ heard K may_be kept kf leaves old new before now p p1 p2 f f1 f2 d line Stops ca
       run = record {
         going = tt;
         loss = sym h.stop;
-        delivered = (now, h.delivered, (refl, refl));
-        passes = subst (Passes p p2) (came_and_sent d h.told) (Passes-trans p p1 p2 _ _ came h.passes);
+        delivered = (h.delivered, refl);
+        passes = subst (Passes port.passed port'.passed) (came_and_sent d h.told) (Passes-trans port.passed came_at.passed port'.passed _ _ came h.passes);
         cause = λ is. absurd (cc);
         count = omega arith;
       };
       is = (ap (λ (l : List ℕ). l ∷ []) (sym h.words), (omega arith, refl));
     }
 
-pub missed : (K : Type 0) (may_be : K → Keep → Type 0) (kept : K → Option (List ℕ)) (kf : K → ℕ) (leaves : K → List ℕ → K → Type 0) (v : View) (k : K) (p p1 : Option (List Passing)) (f f1 : ℕ) (line : Line) → Passes p p1 (Missed ∷ []) → Risen f f1 → f ≤ f1 → words_of line ≡ refused_port → Steps K may_be kept kf leaves v v k k p p1 f f1 line Stops
+pub missed : {K : Type 0} (s : Stated K) (at : Moment K) (port port' : AtPort) (line : Line) → Passes port.passed port'.passed (Missed ∷ []) → Risen port.faults port'.faults → port.faults ≤ port'.faults → words_of line ≡ refused_port → Steps s at at port port' line Stops
 unfolding InTurn
-missed K may_be kept kf leaves v k p p1 f f1 line passes risen le words =
+missed s at port port' line passes risen le words =
     record {
       exchanges = [];
       loss = PortLost;
       run = record {
         going = tt;
         loss = tt;
-        delivered = (refl, refl);
+        delivered = refl;
         passes = passes;
         cause = λ is. risen;
         count = le;
@@ -81,15 +78,10 @@ missed K may_be kept kf leaves v k p p1 f f1 line passes risen le words =
     }
 
 -- its line was written
-pub told_one : (run : Run) (line : Line) (next : Next) (out out1 : Option (List ℕ)) → IsOneStep run line next → Appends out out1 (ended (words_of line)) → TellsRun 1 run out out1 (Ok (status_by next))
+pub told_one : {K : Type 0} (run : Run K) (line : Line) (next : Next) (out out1 : Option (List ℕ)) → IsOneStep run line next → Appends out out1 (ended (words_of line)) → TellsRun 1 run out out1 (Ok (status_by next))
 told_one run line next out out1 is p =
     (is.1, subst (λ (ls : List (List ℕ)). Appends out out1 (text_of ls)) (sym is.0) (subst (Appends out out1) (sym (append-nil (ended (words_of line)))) p))
 
-came_at_most : (loss : Loss) (n came status : ℕ) → IsStatus loss n came status → came ≤ n
-came_at_most NoLoss n came status h = let e = h.0 in omega arith
-came_at_most (KeeperLost last) n came status h = h.0
-came_at_most PortLost n came status h = let e = h.0 in omega arith
-
 -- or not
-pub untold_one : (run : Run) (line : Line) (next : Next) (out out1 : Option (List ℕ)) (fault : AnswerFault) → IsOneStep run line next → TellsRun 1 run out out1 (Err fault)
-untold_one run line next out out1 fault is = came_at_most run.loss 1 _ _ is.1
+pub untold_one : {K : Type 0} (run : Run K) (line : Line) (next : Next) (out out1 : Option (List ℕ)) (fault : AnswerFault) → IsOneStep run line next → TellsRun 1 run out out1 (Err fault)
+untold_one run line next out out1 fault is = let one : length (lines_of run) ≡ 1 = ap length is.0 in (omega arith, omega arith)

@@ -1,5 +1,5 @@
 -- What is asked of a position, and answers before they are written; cited by private functions alone.
-use Rattle.std.specs.Prelude.{List, map}
+use Rattle.std.specs.Prelude.{map}
 use Rattle.board_core.specs.declared.parts.Parts.{Parts}
 use Rattle.judge_core.specs.Tables.{Tables}
 use Rattle.adjudicate.specs.declared.answers.Question.{Question}

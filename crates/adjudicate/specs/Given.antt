@@ -1,5 +1,5 @@
 -- What a task is answered from (this project's own).
-use Rattle.std.specs.Prelude.{◌≡◌, ℕ, List, Option, Result, Ok, Err}
+use Rattle.std.specs.Prelude.{ℕ, List, Option, Result, Ok, Err}
 use Rattle.move_msg.specs.Manifests.{Entry, SpellsManifest, IsFirstBadLine}
 use Rattle.move_msg.specs.Files.{File}
 

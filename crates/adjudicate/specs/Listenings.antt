@@ -1,5 +1,5 @@
 -- What the words of `listen` tell (this project's own).
-use Rattle.std.specs.Prelude.{◌≡◌, ℕ, List, Option, Some, codes}
+use Rattle.std.specs.Prelude.{◌≡◌, Option, Some, codes}
 use Rattle.clap.specs.Words.{Text}
 use Rattle.move_msg.specs.Stamps.{IsGameName}
 use Rattle.adjudicate.specs.declared.listening.Listening.{Listening}

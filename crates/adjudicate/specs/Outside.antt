@@ -1,7 +1,6 @@
 -- What the program reads, and what can fail there (this project's own).
-use Rattle.std.specs.Prelude.{◌≡◌, ◌≤◌, ◌⊎◌, ◌++◌, ◌∷◌, [], ℕ, List, length, map, Option, Some, None, Result, Ok, Err}
+use Rattle.std.specs.Prelude.{◌≡◌, ◌≤◌, ◌⊎◌, ◌++◌, ◌∷◌, [], ℕ, List, length, map, Option, Some, None, Ok, Err}
 use Rattle.std.specs.List.{Contains, AllByRecursion}
-use Rattle.move_msg.specs.Manifests.{Entry}
 use Rattle.move_msg.specs.TableNames.{IsFileName}
 use Rattle.move_msg.specs.Files.{File}
 use Rattle.adjudicate.specs.Files.{AreRisingNames, names_of}

@@ -1,5 +1,5 @@
 -- What passes at a port (this project's own).
-use Rattle.std.specs.Prelude.{◌≡◌, ◌++◌, ℕ, Bool, List, Option, Some, None, cond}
+use Rattle.std.specs.Prelude.{◌≡◌, ◌++◌, ℕ, Bool, List, [], Option, Some, None, cond}
 
 pub data Passing : Type 0 where
   -- a datagram came; these are its first 64 bytes
@@ -23,3 +23,15 @@ passing is_missed is_handed bytes = cond is_missed Missed (cond is_handed (Hande
 -- what a port tells that keeps a list of it, and says whether the list is whole
 abbrev pub told_if : Bool → List Passing → Option (List Passing)
 told_if is_whole all = cond is_whole (Some all) None
+
+-- what has passed at a port so far, and how often it has failed
+pub record AtPort : Type 0 where
+  pub passed : Option (List Passing)
+  pub faults : ℕ
+
+abbrev pub at_port : {P : Type 0} → (P → Option (List Passing)) → (P → ℕ) → P → AtPort
+at_port passed faults port = record { passed = passed port; faults = faults port }
+
+-- nothing came there and nothing was handed over
+abbrev pub NothingPassed : AtPort → AtPort → Type 0
+NothingPassed old new = Passes old.passed new.passed []

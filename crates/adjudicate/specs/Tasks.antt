@@ -1,5 +1,5 @@
 -- What a task says of the words that it was read from (this project's own commands).
-use Rattle.std.specs.Prelude.{◌≡◌, ◌⊎◌, ℕ, Bool, true, false, List, [], Option, Some, None, codes, option_map, slice_get}
+use Rattle.std.specs.Prelude.{◌≡◌, ◌⊎◌, ℕ, Bool, false, List, [], Option, Some, None, codes, option_map, slice_get}
 use Rattle.clap.specs.Words.{App, Text}
 use Rattle.adjudicate.specs.Commands.{app_for, fault_in, value_in, word_of}
 use Rattle.adjudicate.specs.Listenings.{IsListening}
@@ -34,31 +34,23 @@ name_of (task.Listen l) = name.Listen
 name_of (task.Game tables manifest delay fen) = name.Game
 name_of (task.Probes tables manifest progress) = name.Probes
 
--- the task is to listen
-abbrev pub listens : Task → Bool
-listens (task.Judge tables manifest fen) = false
-listens (task.Probe tables manifest fen) = false
-listens (task.Moves fen) = false
-listens (task.List folder) = false
-listens (task.Check manifest folder) = false
-listens task.Show = false
-listens (task.Run tables cache delay) = false
-listens (task.Listen l) = true
-listens (task.Game tables manifest delay fen) = false
-listens (task.Probes tables manifest progress) = false
+-- how the lines for a task are written: all at once, each as it is made, or while datagrams are answered
+pub data Way : Type 0 where
+  AtOnce : Way
+  AsMade : Way
+  AtPort : Way
 
--- the lines for the task are written as they are made
-abbrev pub streams : Task → Bool
-streams (task.Judge tables manifest fen) = false
-streams (task.Probe tables manifest fen) = false
-streams (task.Moves fen) = false
-streams (task.List folder) = false
-streams (task.Check manifest folder) = false
-streams task.Show = true
-streams (task.Run tables cache delay) = false
-streams (task.Listen l) = false
-streams (task.Game tables manifest delay fen) = false
-streams (task.Probes tables manifest progress) = true
+abbrev pub way_of : Task → Way
+way_of (task.Judge tables manifest fen) = AtOnce
+way_of (task.Probe tables manifest fen) = AtOnce
+way_of (task.Moves fen) = AtOnce
+way_of (task.List folder) = AtOnce
+way_of (task.Check manifest folder) = AtOnce
+way_of task.Show = AsMade
+way_of (task.Run tables cache delay) = AtOnce
+way_of (task.Listen l) = AtPort
+way_of (task.Game tables manifest delay fen) = AtOnce
+way_of (task.Probes tables manifest progress) = AsMade
 
 -- how far it is, is told on the way
 abbrev pub tells_progress : Task → Bool

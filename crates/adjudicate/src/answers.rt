@@ -14,7 +14,7 @@ ghost use Rattle.adjudicate.specs.declared.commands.Task.TheVariants.{Show};
 ghost use Rattle.adjudicate.specs.Lines.{text_of, words_of};
 ghost use Rattle.adjudicate.specs.Looks.{gathered, look_for, look_line};
 ghost use Rattle.adjudicate.specs.Reply.{Answers, ByTables, IsForText, IsJudged, IsListed, IsMoves, IsReply, IsText, IsTold, TakesMemory, WritesReply, checked, checked_by, numbered, status_if, told};
-ghost use Rattle.adjudicate.specs.Tasks.{listens, streams, tells_progress};
+ghost use Rattle.adjudicate.specs.Tasks.{AtOnce, AtPort, tells_progress, way_of};
 ghost use Rattle.adjudicate.specs.Asked.{IsAsked, reply_of};
 
 use crate::commands::Task;
@@ -260,8 +260,7 @@ fn answer_check(alloc: Global, sources: &Sources) -> Result<Answer, AllocError>
 
 /// The answer to a task other than `show`, `probes` and `listen`.
 fn answer_to(alloc: Global, task: &Task, sources: &Sources) -> Result<Answer, AllocError>
-    requires whole { streams task.now ≡ false }
-    requires listen { listens task.now ≡ false }
+    requires { way_of task.now ≡ AtOnce }
     ensures ok { IfOk result (λ a. IsReply task.now sources.now (reply_of a)) }
     ensures memory { OnErr result (TakesMemory task.now) }
 {
@@ -328,7 +327,7 @@ pub fn answer_task<W: Write, E: Write>(
     out: &mut W,
     errors: &mut E,
 ) -> Result<u8, AnswerFault>
-    requires { listens task.now ≡ false }
+    requires { way_of task.now ≢ AtPort }
     ensures answered { IfOk result (Answers task.now sources.now (W.contents out.old) (W.contents out.new)) }
     ensures quiet { tells_progress task.now ≡ false → errors.new ≡ errors.old }
 {

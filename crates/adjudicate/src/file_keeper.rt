@@ -34,15 +34,20 @@ fn roomy(alloc: Global, bytes: &[u8]) -> Result<Vec<u8>, AllocError>
 }
 
 impl<F: KeptFile + Drop> FileKeeper<F> {
-    ghost use Rattle.adjudicate.specs.StoredBytes.{stored};
+    ghost use Rattle.adjudicate.specs.StoredBytes.{IsInFile, file_of, stored};
 
-    /// A keeper over a file, which is read here and never again: a file that isn't there is nothing kept. `Unreadable` where the
-    /// file can't be read or has more than 8217 bytes.
+    /// A keeper over a file, which is read here and never again: a file that isn't there is nothing kept. Before it is read its
+    /// folder is synced, so that a loss of power can't take back what is read. `Unreadable` where the folder can't be synced, or
+    /// the file can't be read or has more than 8217 bytes.
     pub fn new(alloc: Global, file: F) -> Result<FileKeeper<F>, ReadFault>
-        ensures found { IfOk result (λ k. F.finds file (stored k) (stored k)) }
-        ensures file { IfOk result (λ k. k.file ≡ file) }
+        ensures found { IfOk result (IsInFile F.finds) }
+        ensures file { IfOk result (λ k. file_of k ≡ file) }
         ensures cause { IsErrOf result ReadFault.Unreadable → F.unreadable file }
     {
+        match file.settle() {
+            Ok(()) => {}
+            Err(fault) => return Err(fault),
+        }
         let got = match file.read(alloc) {
             Ok(got) => got,
             Err(fault) => return Err(fault),
@@ -61,7 +66,7 @@ impl<F: KeptFile + Drop> FileKeeper<F> {
 
     /// The file.
     pub fn file(&self) -> &F
-        ensures { result.now ≡ self.now.file }
+        ensures { result.now ≡ file_of self.now }
     {
         &self.file
     }
@@ -113,7 +118,7 @@ impl<F: KeptFile + Drop> FileKeeper<F> {
 }
 
 impl<F: KeptFile + Drop> Keeper for FileKeeper<F> {
-    ghost use Rattle.adjudicate.specs.StoredBytes.{any_outcome, any_put, keeper_faults, never_fails, reads_so, stored};
+    ghost use Rattle.adjudicate.specs.StoredBytes.{PutsInto, any_outcome, keeper_faults, never_fails, reads_so, stored};
 
     ghost kept = { stored };
 
@@ -124,7 +129,8 @@ impl<F: KeptFile + Drop> Keeper for FileKeeper<F> {
 
     ghost get_may_fail = { never_fails };
 
-    ghost leaves = { any_put };
+    // A put that succeeds has brought the bytes into the file.
+    ghost leaves = { PutsInto F.finds };
 
     ghost reads = { reads_so };
 

@@ -2,10 +2,8 @@
 
 use crate::disk::Disk;
 use crate::folders::Folders;
-use crate::host::{BindFault, Host};
 use crate::lines::AnswerFault;
-use crate::memory_file::MemoryFile;
-use crate::memory_port::MemoryPort;
+use crate::memory_host::MemoryHost;
 use crate::program::run;
 use std::alloc::{AllocError, Global};
 use std::io::{self, Write};
@@ -19,34 +17,6 @@ pub(crate) const KNIGHT_FEN: &str = "8/8/8/4k3/8/8/8/KN6 w - - 0 1";
 
 /// Queen b1 against the king on e5.
 pub(crate) const QUEEN_FEN: &str = "8/8/8/4k3/8/8/8/KQ6 w - - 0 1";
-
-/// A host that binds nothing.
-pub(crate) struct NoHost;
-
-impl Host for NoHost {
-    type Port = MemoryPort<'static>;
-
-    type File = MemoryFile;
-
-    ghost binds = { λ _ _ _ _. Unit {0} };
-
-    ghost unbound = { λ _ _. Unit {0} };
-
-    ghost is_at = { λ _ _ _. Unit {0} };
-
-    fn bind(
-        &self,
-        _alloc: Global,
-        _address: &str,
-        _to: &str,
-    ) -> Result<MemoryPort<'static>, BindFault> {
-        Err(BindFault::Unbound)
-    }
-
-    fn file(&self, _alloc: Global, _path: &str) -> Result<MemoryFile, AllocError> {
-        Ok(MemoryFile::new(0))
-    }
-}
 
 /// The words of a text that are parted by spaces; the word FEN stands for a FEN.
 pub(crate) fn words_of<'a>(
@@ -87,9 +57,20 @@ pub(crate) fn expect_run<D: Disk, E: Write>(
     errors: &mut E,
     row: Row,
 ) -> Result<(), Fail> {
+    expect_run_at(alloc, disk, &MemoryHost::unbound(), errors, row)
+}
+
+/// The same at a host.
+pub(crate) fn expect_run_at<D: Disk, E: Write>(
+    alloc: Global,
+    disk: &D,
+    host: &MemoryHost<'_>,
+    errors: &mut E,
+    row: Row,
+) -> Result<(), Fail> {
     let words = words_of(alloc, row.0, row.1)?;
     let mut out = Vec::new(alloc);
-    match run(alloc, &words, disk, &NoHost, &mut out, errors) {
+    match run(alloc, &words, disk, host, &mut out, errors) {
         Ok(status) => compare(row, &out, status),
         Err(_) => Err(Fail::from("an answer")),
     }
@@ -126,7 +107,8 @@ impl Write for Failing {
 /// Whether a write that fails after so many others is told.
 fn is_told<D: Disk>(alloc: Global, disk: &D, words: &[&str], writes: u32) -> Result<bool, Fail> {
     let mut out = Failing::after(writes);
-    let told = run(alloc, words, disk, &NoHost, &mut out, &mut Vec::new(alloc));
+    let host = MemoryHost::unbound();
+    let told = run(alloc, words, disk, &host, &mut out, &mut Vec::new(alloc));
     Ok(matches!(told, Err(AnswerFault::Io)))
 }
 

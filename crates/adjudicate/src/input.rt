@@ -13,7 +13,7 @@ const MOST_BYTES: u64 = 1_073_741_824;
 /// Why something wasn't read.
 #[derive(Clone, Copy, PartialEq, Eq, Debug)]
 pub enum ReadFault {
-    /// It isn't there, can't be read, or has more than 2^30 bytes.
+    /// It isn't there, can't be read, or has more bytes than it may have.
     Unreadable,
     /// Memory was refused.
     OutOfMemory,
@@ -36,8 +36,33 @@ impl From<io::Error> for ReadFault {
     }
 }
 
-/// All that a reader has, at most 2^30 bytes. Room for so many bytes as are expected, and one, is
-/// taken at once.
+/// All that a reader has, at most so many bytes, of which no more than one more is read. Room for so many bytes as are
+/// expected, and one, is taken at once.
+pub fn read_at_most<R: Read + Drop>(
+    alloc: Global,
+    reader: R,
+    expected: u64,
+    most: u64,
+) -> Result<Vec<u8>, ReadFault>
+    requires { most ≤ most_bytes }
+    ensures whole { IfOk result (λ bytes. IfSome (R.remaining reader) (λ all. bytes.items ≡ all)) }
+    ensures short { IfOk result (λ bytes. length bytes.items ≤ most) }
+{
+    if expected > most {
+        return Err(ReadFault::Unreadable);
+    }
+    let mut bytes = Vec::with_capacity(alloc, expected as usize + 1)?;
+    match reader.take(most + 1).read_to_end(&mut bytes) {
+        Ok(_) => {}
+        Err(error) => return Err(ReadFault::from(error)),
+    }
+    if bytes.len() as u64 > most {
+        return Err(ReadFault::Unreadable);
+    }
+    Ok(bytes)
+}
+
+/// All that a reader has, at most 2^30 bytes, the same way.
 pub fn read_all<R: Read + Drop>(
     alloc: Global,
     reader: R,
@@ -46,16 +71,5 @@ pub fn read_all<R: Read + Drop>(
     ensures whole { IfOk result (λ bytes. IfSome (R.remaining reader) (λ all. bytes.items ≡ all)) }
     ensures short { IfOk result (λ bytes. length bytes.items ≤ most_bytes) }
 {
-    if expected > MOST_BYTES {
-        return Err(ReadFault::Unreadable);
-    }
-    let mut bytes = Vec::with_capacity(alloc, expected as usize + 1)?;
-    match reader.take(MOST_BYTES + 1).read_to_end(&mut bytes) {
-        Ok(_) => {}
-        Err(error) => return Err(ReadFault::from(error)),
-    }
-    if bytes.len() as u64 > MOST_BYTES {
-        return Err(ReadFault::Unreadable);
-    }
-    Ok(bytes)
+    read_at_most(alloc, reader, expected, MOST_BYTES)
 }

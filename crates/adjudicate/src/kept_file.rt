@@ -16,12 +16,20 @@ pub trait KeptFile {
     /// A start that comes now finds the one or the other under the name: the bytes of the file, or that there is none.
     ghost finds: { Self → Option (List ℕ) → Option (List ℕ) → Type 0 };
 
-    /// What stands under the name can't be read, or has more than 8217 bytes.
+    /// What is read under the name is what a start finds there, also after a loss of power.
+    ghost settled: { Self → Type 0 };
+
+    /// The folder can't be synced, or what stands under the name can't be read or has more than 8217 bytes.
     ghost unreadable: { Self → Type 0 };
+
+    /// Lets what stands under the name reach the disk, as a run that stopped before may not have done.
+    fn settle(&self) -> Result<(), ReadFault>
+        ensures settled { OnOk result (settled self.now) }
+        ensures cause { IsErrOf result ReadFault.Unreadable → unreadable self.now };
 
     /// The bytes of the file under the name, at most 8217, or that there is none.
     fn read(&self, alloc: Global) -> Result<Option<Vec<u8>>, ReadFault>
-        ensures found { IfOk result (λ got. finds self.now (option_map (λ v. v.items) got) (option_map (λ v. v.items) got)) }
+        ensures found { settled self.now → IfOk result (λ got. finds self.now (option_map (λ v. v.items) got) (option_map (λ v. v.items) got)) }
         ensures short { IfOk result (λ got. IfSome got (λ v. length v.items ≤ 8217)) }
         ensures cause { IsErrOf result ReadFault.Unreadable → unreadable self.now };
 

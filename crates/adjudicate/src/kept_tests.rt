@@ -3,7 +3,7 @@
 use crate::file_keeper::FileKeeper;
 use crate::input::ReadFault;
 use crate::kept_file::KeptFile;
-use crate::memory_file::{Call, MemoryFile};
+use crate::memory_file::{Call, MemoryFile, Stands};
 use crate::system_file::SystemFile;
 use arbiter_core::{KeepFault, Keeper};
 use std::alloc::Global;
@@ -47,7 +47,7 @@ fn expect_calls(calls: &[Option<Call>], count: usize) -> Result<(), Fail> {
 
 /// That a put whose call of this number fails, if there is one, leaves what was stored, and no further call is made.
 fn expect_put(alloc: Global, fails_at: usize) -> Result<(), Fail> {
-    let Ok(mut keeper) = FileKeeper::new(alloc, MemoryFile::new(fails_at)) else {
+    let Ok(mut keeper) = FileKeeper::new(alloc, MemoryFile::new(Stands::Nothing, fails_at)) else {
         return Err(Fail::from("a keeper"));
     };
     let put = keeper.put(b"record");

@@ -6,8 +6,10 @@ ghost use Rattle.fen_text.specs.Fen.{SpellsPosition};
 ghost use Rattle.move_msg.specs.Files.{entries_of};
 ghost use Rattle.move_msg.specs.Manifests.{SpellsManifest};
 ghost use Rattle.arbiter_core.specs.Setups.{setup_view};
-ghost use Rattle.adjudicate.specs.Listens.{BindsAndServes, KeepsAndServes, Listens, OpensAndServes, ServesAt, TellsUnopened, setup_for};
+ghost use Rattle.adjudicate.specs.Listens.{BindsAndServes, KeepsAndServes, Listens, OpensAndServes, ServesAt, TellsUnopened, hosted, setup_for};
 ghost use Rattle.adjudicate.specs.Looks.{gathered};
+ghost use Rattle.adjudicate.specs.Ports.{at_port};
+ghost use Rattle.adjudicate.specs.StoredBytes.{IsInFile};
 
 use crate::file_keeper::FileKeeper;
 use crate::host::{BindFault, Host};
@@ -47,7 +49,8 @@ fn open_and_serve<F: KeptFile + Drop, P: Port, W: Write>(
     port: &mut P,
     out: &mut W,
 ) -> Result<u8, AnswerFault>
-    ensures { IfOk result (OpensAndServes listening.now.datagrams listening.now.fetch (setup_view setup.entry) keeper.old (P.passed port.old) (P.passed port.new) (P.faults port.old) (P.faults port.new) (W.contents out.old) (W.contents out.new)) }
+    requires { IsInFile F.finds keeper.old }
+    ensures { IfOk result (OpensAndServes F.finds listening.now (setup_view setup.entry) keeper.old (at_port P.passed P.faults port.old) (at_port P.passed P.faults port.new) (W.contents out.old) (W.contents out.new)) }
 {
     let fault = match Arbiter::open(alloc, keeper, setup) {
         Ok(mut arbiter) => {
@@ -75,7 +78,7 @@ fn keep_and_serve<F: KeptFile + Drop, P: Port, W: Write>(
     port: &mut P,
     out: &mut W,
 ) -> Result<u8, AnswerFault>
-    ensures { IfOk result (KeepsAndServes F.unreadable F.finds listening.now.datagrams listening.now.fetch (setup_view setup.entry) file (P.passed port.old) (P.passed port.new) (P.faults port.old) (P.faults port.new) (W.contents out.old) (W.contents out.new)) }
+    ensures { IfOk result (KeepsAndServes F.unreadable F.finds listening.now (setup_view setup.entry) file (at_port P.passed P.faults port.old) (at_port P.passed P.faults port.new) (W.contents out.old) (W.contents out.new)) }
 {
     match FileKeeper::new(alloc, file) {
         Ok(mut keeper) => open_and_serve(alloc, listening, setup, &mut keeper, port, out),
@@ -93,7 +96,7 @@ fn serve_at<H: Host, W: Write>(
     port: &mut H::Port,
     out: &mut W,
 ) -> Result<u8, AnswerFault>
-    ensures { IfOk result (ServesAt (H.is_at host.now) H.File.unreadable H.File.finds listening.now (setup_view setup.entry) (H.Port.passed port.old) (H.Port.passed port.new) (H.Port.faults port.old) (H.Port.faults port.new) (W.contents out.old) (W.contents out.new)) }
+    ensures { IfOk result (ServesAt (hosted (H.binds host.now) (H.unbound host.now) (H.is_at host.now) H.Port.passed H.Port.faults H.File.unreadable H.File.finds) listening.now (setup_view setup.entry) (at_port H.Port.passed H.Port.faults port.old) (at_port H.Port.passed H.Port.faults port.new) (W.contents out.old) (W.contents out.new)) }
 {
     match host.file(alloc, listening.kept) {
         Ok(file) => keep_and_serve(alloc, listening, setup, file, port, out),
@@ -109,7 +112,7 @@ fn bind_and_serve<H: Host, W: Write>(
     host: &H,
     out: &mut W,
 ) -> Result<u8, AnswerFault>
-    ensures { IfOk result (BindsAndServes (H.binds host.now) (H.unbound host.now) (H.is_at host.now) H.Port.passed H.Port.faults H.File.unreadable H.File.finds listening.now (setup_view setup.entry) (W.contents out.old) (W.contents out.new)) }
+    ensures { IfOk result (BindsAndServes (hosted (H.binds host.now) (H.unbound host.now) (H.is_at host.now) H.Port.passed H.Port.faults H.File.unreadable H.File.finds) listening.now (setup_view setup.entry) (W.contents out.old) (W.contents out.new)) }
 {
     match host.bind(alloc, listening.bind, listening.to) {
         Ok(mut port) => serve_at(alloc, listening, setup, host, &mut port, out),
@@ -137,7 +140,7 @@ fn listen_with<'a, H: Host, W: Write>(
     out: &mut W,
 ) -> Result<u8, AnswerFault>
     requires { name.now ≡ listening.now.name.now }
-    ensures { IfOk result (BindsAndServes (H.binds host.now) (H.unbound host.now) (H.is_at host.now) H.Port.passed H.Port.faults H.File.unreadable H.File.finds listening.now (setup_for listening.now start set.entry manifest.entry.now) (W.contents out.old) (W.contents out.new)) }
+    ensures { IfOk result (BindsAndServes (hosted (H.binds host.now) (H.unbound host.now) (H.is_at host.now) H.Port.passed H.Port.faults H.File.unreadable H.File.finds) listening.now (setup_for listening.now start set.entry manifest.entry.now) (W.contents out.old) (W.contents out.new)) }
 {
     let setup = Setup {
         name,
@@ -160,7 +163,7 @@ fn listen_by<'a, H: Host, W: Write>(
     host: &H,
     out: &mut W,
 ) -> Result<u8, AnswerFault>
-    ensures { Ok set.entry.tables ≡ gathered sources.now → SpellsPosition listening.now.start.now start → IsPosition start → IfOk result (Listens (H.binds host.now) (H.unbound host.now) (H.is_at host.now) H.Port.passed H.Port.faults H.File.unreadable H.File.finds listening.now sources.now (W.contents out.old) (W.contents out.new)) }
+    ensures { Ok set.entry.tables ≡ gathered sources.now → SpellsPosition listening.now.start.now start → IsPosition start → IfOk result (Listens (hosted (H.binds host.now) (H.unbound host.now) (H.is_at host.now) H.Port.passed H.Port.faults H.File.unreadable H.File.finds) listening.now sources.now (W.contents out.old) (W.contents out.new)) }
 {
     let manifest = match manifest_for(alloc, sources) {
         Ok(manifest) => manifest,
@@ -182,7 +185,7 @@ pub fn listen<'a, H: Host, W: Write>(
     host: &H,
     out: &mut W,
 ) -> Result<u8, AnswerFault>
-    ensures { IfOk result (Listens (H.binds host.now) (H.unbound host.now) (H.is_at host.now) H.Port.passed H.Port.faults H.File.unreadable H.File.finds listening.now sources.now (W.contents out.old) (W.contents out.new)) }
+    ensures { IfOk result (Listens (hosted (H.binds host.now) (H.unbound host.now) (H.is_at host.now) H.Port.passed H.Port.faults H.File.unreadable H.File.finds) listening.now sources.now (W.contents out.old) (W.contents out.new)) }
 {
     let start = match read(listening.start.as_bytes()) {
         Ok(start) => start,

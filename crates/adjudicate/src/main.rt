@@ -136,6 +136,8 @@ mod fixtures;
 #[cfg(test)]
 mod folders;
 #[cfg(test)]
+mod hosted_tests;
+#[cfg(test)]
 mod kept_tests;
 #[cfg(test)]
 mod listen_tests;
@@ -143,6 +145,8 @@ mod listen_tests;
 mod many_tests;
 #[cfg(test)]
 mod memory_file;
+#[cfg(test)]
+mod memory_host;
 #[cfg(test)]
 mod memory_port;
 #[cfg(test)]

@@ -1,6 +1,7 @@
 //! Many positions, and games told by their moves.
 
 use crate::fixtures::*;
+use crate::memory_host::MemoryHost;
 use crate::program::run;
 use crate::schedule_tests::Scheduled;
 use std::alloc::{AllocError, Global};
@@ -145,7 +146,14 @@ fn expect_refusals<E: Write>(
     let disk = Scheduled { text: &text };
     let words = words_of(alloc, words, "")?;
     let mut out = Vec::new(alloc);
-    match run(alloc, &words, &disk, &NoHost, &mut out, errors) {
+    match run(
+        alloc,
+        &words,
+        &disk,
+        &MemoryHost::unbound(),
+        &mut out,
+        errors,
+    ) {
         Ok(1) => Ok(()),
         _ => Err(Fail::from("a refusal")),
     }

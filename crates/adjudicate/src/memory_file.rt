@@ -2,7 +2,7 @@
 
 ghost use Rattle.std.specs.Prelude.{◌≡◌};
 
-use crate::input::ReadFault;
+use crate::input::{ReadFault, read_at_most};
 use crate::kept_file::KeptFile;
 use std::alloc::Global;
 use std::io;
@@ -16,18 +16,33 @@ pub(crate) enum Call {
     SyncFolder,
 }
 
-/// A file that isn't there, and the calls that were made of it.
+/// What stands under the name.
+#[derive(Clone, Copy)]
+pub(crate) enum Stands<'a> {
+    /// Nothing.
+    Nothing,
+    /// A file with these bytes.
+    Bytes(&'a [u8]),
+    /// Something that can't be read.
+    Unreadable,
+    /// A file in a folder that can't be synced.
+    Unsettled,
+}
+
+/// A file, and the calls that were made to change it.
 #[derive(Drop)]
-pub(crate) struct MemoryFile {
+pub(crate) struct MemoryFile<'a> {
+    stands: Stands<'a>,
     calls: [Option<Call>; 8],
     count: usize,
     fails_at: usize,
 }
 
-impl MemoryFile {
+impl<'a> MemoryFile<'a> {
     /// One that fails at the call of this number, the first being 0.
-    pub(crate) fn new(fails_at: usize) -> MemoryFile {
+    pub(crate) fn new(stands: Stands<'a>, fails_at: usize) -> MemoryFile<'a> {
         MemoryFile {
+            stands,
             calls: [None; 8],
             count: 0,
             fails_at,
@@ -53,15 +68,28 @@ impl MemoryFile {
     }
 }
 
-impl KeptFile for MemoryFile {
+impl<'a> KeptFile for MemoryFile<'a> {
     ghost reached = { λ _ _ _. Unit {0} };
 
     ghost finds = { λ _ _ _. Unit {0} };
 
+    ghost settled = { λ _. Unit {0} };
+
     ghost unreadable = { λ _. Unit {0} };
 
-    fn read(&self, _alloc: Global) -> Result<Option<Vec<u8>>, ReadFault> {
-        Ok(None)
+    fn settle(&self) -> Result<(), ReadFault> {
+        match self.stands {
+            Stands::Unsettled => Err(ReadFault::Unreadable),
+            _ => Ok(()),
+        }
+    }
+
+    fn read(&self, alloc: Global) -> Result<Option<Vec<u8>>, ReadFault> {
+        match self.stands {
+            Stands::Bytes(bytes) => Ok(Some(read_at_most(alloc, bytes, 0, 8217)?)),
+            Stands::Nothing => Ok(None),
+            Stands::Unreadable | Stands::Unsettled => Err(ReadFault::Unreadable),
+        }
     }
 
     fn write_beside(&mut self, _bytes: &[u8]) -> io::Result<()> {

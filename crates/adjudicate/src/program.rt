@@ -2,7 +2,7 @@
 
 ghost use Rattle.std.specs.Prelude.{◌≡◌, ◌≢◌, ◌⊎◌, map, true, false, IfOk, OnOk};
 ghost use Rattle.adjudicate.specs.declared.commands.Task.{Task};
-ghost use Rattle.adjudicate.specs.Listens.{Listens};
+ghost use Rattle.adjudicate.specs.Listens.{Listens, hosted};
 ghost use Rattle.adjudicate.specs.Running.{AnswersTask, Runs, HasEnded};
 ghost use Rattle.adjudicate.specs.Tasks.{IsTask, tells_progress};
 
@@ -49,7 +49,7 @@ fn run_task<D: Disk, H: Host, W: Write, E: Write>(
     errors: &mut E,
 ) -> Result<u8, AnswerFault>
     ensures quiet { tells_progress task.now ≡ false → errors.new ≡ errors.old }
-    ensures answered { IfOk result (AnswersTask (D.lists disk.now) (D.holds disk.now) (D.gives disk.now) (D.fails disk.now) (Listens (H.binds host.now) (H.unbound host.now) (H.is_at host.now) H.Port.passed H.Port.faults H.File.unreadable H.File.finds) task.now (W.contents out.old) (W.contents out.new)) }
+    ensures answered { IfOk result (AnswersTask (D.lists disk.now) (D.holds disk.now) (D.gives disk.now) (D.fails disk.now) (Listens (hosted (H.binds host.now) (H.unbound host.now) (H.is_at host.now) H.Port.passed H.Port.faults H.File.unreadable H.File.finds)) task.now (W.contents out.old) (W.contents out.new)) }
 {
     match Sources::read(alloc, disk, task) {
         Ok(sources) => match task {
@@ -77,7 +77,7 @@ pub fn run<D: Disk, H: Host, W: Write, E: Write>(
     errors: &mut E,
 ) -> Result<u8, AnswerFault>
     ensures quiet { IfOk result (λ status. errors.new ≢ errors.old → (status ≡ 2) ⊎ ((t : Task) × IsTask (map (λ w. w.now) words.now) t × (tells_progress t ≡ true))) }
-    ensures answered { IfOk result (Runs (D.lists disk.now) (D.holds disk.now) (D.gives disk.now) (D.fails disk.now) (Listens (H.binds host.now) (H.unbound host.now) (H.is_at host.now) H.Port.passed H.Port.faults H.File.unreadable H.File.finds) (map (λ w. w.now) words.now) (W.contents out.old) (W.contents out.new)) }
+    ensures answered { IfOk result (Runs (D.lists disk.now) (D.holds disk.now) (D.gives disk.now) (D.fails disk.now) (Listens (hosted (H.binds host.now) (H.unbound host.now) (H.is_at host.now) H.Port.passed H.Port.faults H.File.unreadable H.File.finds)) (map (λ w. w.now) words.now) (W.contents out.old) (W.contents out.new)) }
 {
     match parse(alloc, words) {
         Ok(task) => run_task(alloc, &task, disk, host, out, errors),

@@ -4,7 +4,9 @@ use crate::disk::Disk;
 use crate::fixtures::*;
 use crate::folders::Folders;
 use crate::input::{ReadFault, read_all};
-use std::alloc::Global;
+use crate::memory_host::MemoryHost;
+use crate::program::run;
+use std::alloc::{AllocError, Global};
 use std::test::*;
 
 /// The folders of the other tests, and a schedule as input.
@@ -265,6 +267,76 @@ const BY_DELAY: [Row; 8] = [
 #[test]
 fn rules_by_the_delay(rt: HostRuntime) -> Result<(), Fail> {
     expect_schedules(rt.alloc(), &BY_DELAY)
+}
+
+/// What follows an event that went wrong: both are opened again, and each move comes again to both.
+const AGAIN: &str = "restart A good
+restart B good
+deliver A 0 good
+deliver A 1 good
+deliver A 2 good
+deliver A 3 good
+deliver A 4 good
+deliver A 5 good
+deliver A 6 good
+deliver A 7 good
+deliver A 8 good
+deliver B 0 good
+deliver B 1 good
+deliver B 2 good
+deliver B 3 good
+deliver B 4 good
+deliver B 5 good
+deliver B 6 good
+deliver B 7 good
+deliver B 8 good
+";
+
+/// Adds a line, with this keep in place of `good`.
+fn add_line(text: &mut String, line: &str, keep: &str) -> Result<(), AllocError> {
+    let Some(front) = line.strip_suffix("good") else {
+        text.push_str(line)?;
+        return text.push_str("\n");
+    };
+    text.push_str(front)?;
+    text.push_str(keep)?;
+    text.push_str("\n")
+}
+
+/// The ending with this keep at the line of this number, the first being 0, and all of it again.
+fn ending_with(alloc: Global, at: usize, keep: &str) -> Result<String, AllocError> {
+    let mut text = String::new(alloc);
+    for (number, line) in ENDING.lines().enumerate() {
+        add_line(&mut text, line, if number == at { keep } else { "good" })?;
+    }
+    text.push_str(AGAIN)?;
+    Ok(text)
+}
+
+/// What is told first of both arbiters at the end.
+const BOTH_AT_PLY_4: &str = "A running 4 TableWhite\nB running 4 TableWhite\nsent ";
+
+/// That both record the verdict after all, where this keep is at this line.
+fn expect_recovery(alloc: Global, at: usize, keep: &str) -> Result<(), Fail> {
+    let text = ending_with(alloc, at, keep)?;
+    let disk = Scheduled { text: &text };
+    let words = words_of(alloc, "run --tables queen", "")?;
+    let mut out = Vec::new(alloc);
+    let host = MemoryHost::unbound();
+    match run(alloc, &words, &disk, &host, &mut out, &mut Vec::new(alloc)) {
+        Ok(0) if out.starts_with(BOTH_AT_PLY_4.as_bytes()) => Ok(()),
+        _ => Err(Fail::new(format_args!("line {at} {keep}"))),
+    }
+}
+
+/// The lines of the ending from 3 on are its 29 events.
+#[test]
+fn recovers_from_each_failed_put(rt: HostRuntime) -> Result<(), Fail> {
+    for at in 3..32 {
+        expect_recovery(rt.alloc(), at, "old")?;
+        expect_recovery(rt.alloc(), at, "new")?;
+    }
+    Ok(())
 }
 
 /// The fifth line names nobody.

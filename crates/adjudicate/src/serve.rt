@@ -4,8 +4,8 @@ ghost use Rattle.std.specs.Prelude.{◌≡◌, ◌≤◌, ◌∷◌, [], map, co
 ghost use Rattle.std.specs.Result.{result_map_both};
 ghost use Rattle.arbiter_core.specs.Delivers.{IsKept};
 ghost use Rattle.adjudicate.specs.Lines.{words_of, refused_keeper, refused_datagram};
-ghost use Rattle.adjudicate.specs.Ports.{Passes};
-ghost use Rattle.adjudicate.specs.Serving.{Run, IsRun, TellsRun, asked_first, handed, handed_if_any, is_loss};
+ghost use Rattle.adjudicate.specs.Ports.{Passes, at_port};
+ghost use Rattle.adjudicate.specs.Serving.{Run, ServesRun, TellsRun, asked_first, handed, handed_if_any, is_loss, moment, stated};
 ghost use Rattle.adjudicate.specs.Steps.{Hears, IsOneStep, status_by, stops};
 
 use crate::lines::{AnswerFault, Line, put_line_now};
@@ -62,7 +62,7 @@ fn hear<K: Keeper, P: Port>(
     bytes: &[u8],
 ) -> (Line, Next)
     requires { IsKept (K.kept keeper.old) arbiter.old }
-    ensures hears { Hears K.may_be K.kept K.faults K.leaves arbiter.old arbiter.new keeper.old keeper.new (P.passed port.old) (P.passed port.new) (P.faults port.old) (P.faults port.new) bytes.now result.0 result.1 }
+    ensures hears { Hears (stated K.may_be K.kept K.faults K.leaves) (moment arbiter.old keeper.old) (moment arbiter.new keeper.new) (at_port P.passed P.faults port.old) (at_port P.passed P.faults port.new) bytes.now result.0 result.1 }
     ensures keeps { IsKept (K.kept keeper.new) arbiter.new }
 {
     match arbiter.deliver(alloc, keeper, bytes) {
@@ -85,7 +85,7 @@ fn receive<K: Keeper, P: Port>(
     port: &mut P,
 ) -> (Line, Next)
     requires { IsKept (K.kept keeper.old) arbiter.old }
-    ensures run { (run : Run) × IsRun K.may_be K.kept K.faults K.leaves arbiter.old arbiter.new keeper.old keeper.new (P.passed port.old) (P.passed port.new) (P.faults port.old) (P.faults port.new) [] run × IsOneStep run result.0 result.1 }
+    ensures run { (run : Run K) × ServesRun (stated K.may_be K.kept K.faults K.leaves) (moment arbiter.old keeper.old) (moment arbiter.new keeper.new) (at_port P.passed P.faults port.old) (at_port P.passed P.faults port.new) [] run × IsOneStep run result.0 result.1 }
     ensures keeps { IsKept (K.kept keeper.new) arbiter.new }
 {
     let mut buffer = [0u8; 64];
@@ -104,7 +104,7 @@ fn serve_one<K: Keeper, P: Port, W: Write>(
     out: &mut W,
 ) -> Result<Next, AnswerFault>
     requires { IsKept (K.kept keeper.old) arbiter.old }
-    ensures run { (run : Run) × IsRun K.may_be K.kept K.faults K.leaves arbiter.old arbiter.new keeper.old keeper.new (P.passed port.old) (P.passed port.new) (P.faults port.old) (P.faults port.new) [] run × TellsRun 1 run (W.contents out.old) (W.contents out.new) (result_map_both status_by (λ e. e) result) }
+    ensures run { (run : Run K) × ServesRun (stated K.may_be K.kept K.faults K.leaves) (moment arbiter.old keeper.old) (moment arbiter.new keeper.new) (at_port P.passed P.faults port.old) (at_port P.passed P.faults port.new) [] run × TellsRun 1 run (W.contents out.old) (W.contents out.new) (result_map_both status_by (λ e. e) result) }
     ensures keeps { IsKept (K.kept keeper.new) arbiter.new }
 {
     let (line, next) = receive(alloc, arbiter, keeper, port);
@@ -149,7 +149,7 @@ pub fn serve<K: Keeper, P: Port, W: Write>(
 
     // The arbiter has answered the datagrams in turn, all else at the port is what it sends, and the lines and the status
     // are those of this run.
-    ensures run { (run : Run) × IsRun K.may_be K.kept K.faults K.leaves arbiter.old arbiter.new keeper.old keeper.new (P.passed port.old) (P.passed port.new) (P.faults port.old) (P.faults port.new) (asked_first fetch arbiter.old) run × TellsRun n run (W.contents out.old) (W.contents out.new) result }
+    ensures run { (run : Run K) × ServesRun (stated K.may_be K.kept K.faults K.leaves) (moment arbiter.old keeper.old) (moment arbiter.new keeper.new) (at_port P.passed P.faults port.old) (at_port P.passed P.faults port.new) (asked_first fetch arbiter.old) run × TellsRun n run (W.contents out.old) (W.contents out.new) result }
 
     // A running arbiter's record is still the one that the keeper keeps.
     ensures keeps { IsKept (K.kept keeper.new) arbiter.new }

@@ -1,6 +1,6 @@
 //! A file of the system, and the one beside it.
 
-use crate::input::{ReadFault, read_all};
+use crate::input::{ReadFault, read_at_most};
 use crate::kept_file::KeptFile;
 use std::alloc::{AllocError, Global};
 use std::fs::OpenFile;
@@ -9,7 +9,7 @@ use std::rt::Files;
 use std::{fs, io};
 
 /// How many bytes a record has at most: 25 and two for each of 4096 moves (record format).
-const MOST_BYTES: usize = 8217;
+const MOST_BYTES: u64 = 8217;
 
 /// A file of the system by its path. The one beside it has the same path with `.new` at its end. Nothing is claimed of them.
 #[derive(Drop)]
@@ -41,6 +41,11 @@ impl<'a, R: Files + AllocGlobal> SystemFile<'a, R> {
             open: None,
         })
     }
+
+    /// Lets the folder, and with it the names in it, reach the disk.
+    fn sync_name(&self) -> io::Result<()> {
+        fs::open(self.rt, folder_of(self.path.as_str()))?.sync_all()
+    }
 }
 
 impl<'a, R: Files + AllocGlobal> KeptFile for SystemFile<'a, R> {
@@ -48,7 +53,13 @@ impl<'a, R: Files + AllocGlobal> KeptFile for SystemFile<'a, R> {
 
     ghost finds = { λ _ _ _. Unit {0} };
 
+    ghost settled = { λ _. Unit {0} };
+
     ghost unreadable = { λ _. Unit {0} };
+
+    fn settle(&self) -> Result<(), ReadFault> {
+        Ok(self.sync_name()?)
+    }
 
     fn read(&self, alloc: Global) -> Result<Option<Vec<u8>>, ReadFault> {
         let file = match fs::open(self.rt, self.path.as_str()) {
@@ -57,11 +68,7 @@ impl<'a, R: Files + AllocGlobal> KeptFile for SystemFile<'a, R> {
             Err(error) => return Err(ReadFault::from(error)),
         };
         let length = file.metadata()?.len();
-        let bytes = read_all(alloc, file, length)?;
-        if bytes.len() > MOST_BYTES {
-            return Err(ReadFault::Unreadable);
-        }
-        Ok(Some(bytes))
+        Ok(Some(read_at_most(alloc, file, length, MOST_BYTES)?))
     }
 
     fn write_beside(&mut self, bytes: &[u8]) -> io::Result<()> {
@@ -83,6 +90,6 @@ impl<'a, R: Files + AllocGlobal> KeptFile for SystemFile<'a, R> {
     }
 
     fn sync_folder(&mut self) -> io::Result<()> {
-        fs::open(self.rt, folder_of(self.path.as_str()))?.sync_all()
+        self.sync_name()
     }
 }

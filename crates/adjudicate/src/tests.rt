@@ -4,6 +4,7 @@ use crate::commands::{Task, parse};
 use crate::disk::Disk;
 use crate::fixtures::*;
 use crate::input::ReadFault;
+use crate::memory_host::MemoryHost;
 use crate::program::run;
 use crate::usage::Usage;
 use board_core::Position;
@@ -136,7 +137,7 @@ fn expect_beginning(alloc: Global, fen: &str, first: &[u8], wanted: bool) -> Res
         alloc,
         &words,
         &NoDisk,
-        &NoHost,
+        &MemoryHost::unbound(),
         &mut lines,
         &mut Vec::new(alloc),
     ) {

@@ -1,17 +1,14 @@
-use Rattle.std.proofs.Common.{refl}
-use Rattle.std.proofs.lemmas.Result.{IfOk-weaker}
-use Rattle.adjudicate.specs.Reply.{ForPosition, ForNone}
-use Rattle.adjudicate.proofs.LineLaws.{on_err}
+use Rattle.adjudicate.specs.Asked.{reply_of}
+use Rattle.adjudicate.proofs.TextLaws.{for_memory, for_none, for_position}
 use Rattle.adjudicate.proofs.answers.answer_text.Goals as goal
 
 pub returns-in-Err-clause-ok : goal.returns-in-Err-clause-ok
-returns-in-Err-clause-ok c = ForNone c.in-Err.fault (rw c.as_bytes.ensures.value at c.in-Err.ensures.err) refl
+returns-in-Err-clause-ok c = for_none _ _ _ c.in-Err.fault c.as_bytes.ensures.value c.in-Err.ensures.err
 
 pub returns-in-Ok-clause-ok : goal.returns-in-Ok-clause-ok
 returns-in-Ok-clause-ok c =
-    let spells = rw c.as_bytes.ensures.value at c.in-Ok.ensures.ok in
-    IfOk-weaker c.answer_position.result _ _ (λ a h. ForPosition c.in-Ok.position spells c.in-Ok.ensures.position h) c.answer_position.ensures
+    for_position reply_of c.answer_position.result _ _ c.in-Ok.position c.as_bytes.ensures.value c.in-Ok.ensures.ok c.in-Ok.ensures.position _ c.answer_position.ensures
 
 pub returns-in-Ok-clause-memory : goal.returns-in-Ok-clause-memory
 returns-in-Ok-clause-memory c =
-    on_err c.answer_position.result (c.in-Ok.position, rw c.as_bytes.ensures.value at c.in-Ok.ensures.ok, c.in-Ok.ensures.position)
+    for_memory reply_of c.answer_position.result _ _ c.in-Ok.position c.as_bytes.ensures.value c.in-Ok.ensures.ok c.in-Ok.ensures.position

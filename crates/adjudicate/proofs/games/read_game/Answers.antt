@@ -1,4 +1,4 @@
-use Rattle.std.proofs.Common.{rules, ◌≡◌, ◌∙◌, ℕ, Bool, true, false, List, length, sym, subst, ap}
+use Rattle.std.proofs.Common.{rules, ◌≡◌, true, false, length, sym, subst}
 use Rattle.adjudicate.specs.Inputs.{IsBadWordAt, words_in}
 use Rattle.adjudicate.specs.InputSteps.{AddsWord}
 use Rattle.adjudicate.proofs.GameLaws.{read_more, read_all, read_bad}

@@ -1,4 +1,4 @@
-use Rattle.std.proofs.Common.{inl, inr}
+use Rattle.std.proofs.Common.{inr}
 use Rattle.adjudicate.proofs.reading.files_in.Goals as goal
 
 pub returns-clause-cause : goal.returns-clause-cause

@@ -1,4 +1,4 @@
-use Rattle.std.proofs.Common.{refl, ap, sym, ◌∙◌, subst, map, take, true, arith}
+use Rattle.std.proofs.Common.{refl, ap, sym, ◌∙◌, subst, map, arith}
 use Rattle.std.proofs.lemmas.List.{take_all}
 use Rattle.std.specs.List.{Contains}
 use Rattle.move_msg.specs.Manifests.{Entry, entry_of}

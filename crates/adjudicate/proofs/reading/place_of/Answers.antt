@@ -1,9 +1,9 @@
-use Rattle.std.proofs.Common.{ap, sym, ◌∙◌, subst, refl, arith, get_or, length, ◌≡◌, ◌<◌, ℕ, List}
+use Rattle.std.proofs.Common.{sym, ◌∙◌, subst, arith, get_or, length, ◌≡◌, ◌<◌, ℕ, List}
 use Rattle.std.proofs.lemmas.List.Elements.{Contains-get_or}
 use Rattle.std.specs.List.{Contains}
 use Rattle.std.specs.Ordering.{nat_cmp}
 use Rattle.std.specs.Cmp.Lexicographic.{slice_cmp}
-use Rattle.std.specs.declared.cmp.Ordering.TheVariants.{Less, Equal, Greater}
+use Rattle.std.specs.declared.cmp.Ordering.TheVariants.{Equal, Greater}
 use Rattle.adjudicate.specs.Files.{IsNameBefore}
 use Rattle.adjudicate.proofs.NameLaws.{any_default, same_names, later}
 use Rattle.adjudicate.proofs.reading.place_of.Goals as goal

@@ -2,7 +2,7 @@ use Rattle.std.proofs.Common.{◌≡◌, Err, ap, subst, sym, ◌∙◌, string_
 use Rattle.std.specs.List.{Contains}
 use Rattle.move_msg.specs.TableNames.{IsFileName}
 use Rattle.adjudicate.specs.declared.input.ReadFault.TheVariants.{Unreadable}
-use Rattle.adjudicate.specs.Outside.{AreWantedOf, IsWanted}
+use Rattle.adjudicate.specs.Outside.{IsWanted}
 use Rattle.adjudicate.proofs.NameLaws.{texts, one_more, parted, wants_more, wants_no_more, twice}
 use Rattle.adjudicate.proofs.reading.wanted_names.Goals.{in-None, in-Some+in-Ok}
 use Rattle.adjudicate.proofs.reading.wanted_names.Goals as goal

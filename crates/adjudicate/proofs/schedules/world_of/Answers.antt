@@ -1,4 +1,4 @@
-use Rattle.std.proofs.Common.{◌≡◌, Err, map, sym, ap, ◌∙◌}
+use Rattle.std.proofs.Common.{◌≡◌, map, sym, ap, ◌∙◌}
 use Rattle.move_msg.specs.Files.{file_of}
 use Rattle.relay_world.specs.declared.fault.WorldFault.TheVariants.{BadTable, DuplicateTable, OutOfMemory}
 use Rattle.relay_world.specs.Gathering.{file_as, tables_of}

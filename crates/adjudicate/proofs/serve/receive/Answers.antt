@@ -6,10 +6,10 @@ use Rattle.adjudicate.proofs.serve.receive.Goals as goal
 
 pub returns-in-Ok-clause-run : goal.returns-in-Ok-clause-run
 returns-in-Ok-clause-run g c =
-    let h = heard g.row.K.Denot _ _ _ _ _ _ _ _ _ _ _ _ _ _ _ _ _ c.in-Ok.ensures.came c.receive.ensures.count c.hear.ensures.hears in
+    let h = heard _ _ _ _ _ _ _ _ _ c.in-Ok.ensures.came c.receive.ensures.count c.hear.ensures.hears in
     (going_on h.exchanges h.loss, h.run, h.is)
 
 pub returns-in-Err-clause-run : goal.returns-in-Err-clause-run
 returns-in-Err-clause-run g c =
-    let h = missed g.row.K.Denot _ _ _ _ _ _ _ _ _ _ RefusedPort c.in-Err.ensures.missed c.in-Err.ensures.cause c.receive.ensures.count refl in
+    let h = missed _ _ _ _ RefusedPort c.in-Err.ensures.missed c.in-Err.ensures.cause c.receive.ensures.count refl in
     (going_on h.exchanges h.loss, h.run, h.is)

@@ -1,11 +1,11 @@
-use Rattle.std.proofs.Common.{◌≡◌}
 use Rattle.arbiter_core.specs.Delivers.{IsKept}
-use Rattle.adjudicate.specs.Serving.{asked_first}
+use Rattle.adjudicate.specs.Ports.{at_port}
+use Rattle.adjudicate.specs.Serving.{asked_first, moment, stated}
 use Rattle.adjudicate.proofs.ServingLaws.{HasServed}
 use Rattle.adjudicate.proofs.serve.serve.Given as goal
 
 abbrev pub invariant-loop : goal.invariant-loop
 invariant-loop g l = record {
-  served : HasServed g.row.K.Denot g.K.Keeper.may_be g.K.Keeper.kept g.K.Keeper.faults g.K.Keeper.leaves l.fn.arbiter l.arbiter l.fn.keeper l.keeper (g.P.Port.passed l.fn.port) (g.P.Port.passed l.port) (g.P.Port.faults l.fn.port) (g.P.Port.faults l.port) (asked_first l.fn.fetch l.fn.arbiter) (g.W.Write.contents l.fn.out) (g.W.Write.contents l.out) l.counter;
+  served : HasServed (stated g.K.Keeper.may_be g.K.Keeper.kept g.K.Keeper.faults g.K.Keeper.leaves) (moment l.fn.arbiter l.fn.keeper) (moment l.arbiter l.keeper) (at_port g.P.Port.passed g.P.Port.faults l.fn.port) (at_port g.P.Port.passed g.P.Port.faults l.port) (asked_first l.fn.fetch l.fn.arbiter) (g.W.Write.contents l.fn.out) (g.W.Write.contents l.out) l.counter;
   keeps : IsKept (g.K.Keeper.kept l.keeper) l.arbiter;
 }

@@ -1,7 +1,6 @@
 use Rattle.std.proofs.Common.{◌≡◌, Err, ap, sym, ◌∙◌}
 use Rattle.adjudicate.specs.declared.input.ReadFault.TheVariants.{Unreadable}
 use Rattle.adjudicate.specs.Reads.{Manifest, Folder}
-use Rattle.adjudicate.specs.Outside.{IsToldAt}
 use Rattle.adjudicate.proofs.sources.Sources.read.Goals as goal
 
 pub returns-in-Err-clause-cause : goal.returns-in-Err-clause-cause
