@@ -121,10 +121,7 @@ impl BitBuffer {
         if taken > self.held || self.held - taken < FEW_BITS {
             return BitBuffer::at(block, end);
         }
-        BitBuffer {
-            bits: self.bits << taken,
-            held: self.held - taken,
-        }
+        self.without(taken)
     }
 
     /// The first bits, so many.
