@@ -20,7 +20,8 @@ pub(crate) struct BlockKey {
     pub(crate) block: u32,
 }
 
-/// A block that was asked for: its key, when it was asked for last, counted in askings, and how often since it was new.
+/// A block that was asked for: its key, when it was asked for last, counted in askings, and how often in a row since it was new
+/// or decoded.
 #[derive(Clone, Copy, PartialEq, Eq, Debug)]
 pub(crate) struct Asked {
     key: BlockKey,
@@ -28,14 +29,25 @@ pub(crate) struct Asked {
     times: u32,
 }
 
+/// How a block is asked for.
+#[derive(Clone, Copy, PartialEq, Eq, Debug)]
+pub(crate) enum Asking {
+    /// For the first time of late.
+    First,
+    /// Again.
+    Again,
+    /// Again so often that it is worth decoding.
+    Often,
+}
+
 /// How many keys that were asked for are remembered for each block that may be kept.
 const REMEMBERED: usize = 16;
 
-/// A block is asked for again if so many askings for each block that may be kept haven't passed since.
+/// A block is asked for again where no more askings have passed than so many for each block that may be kept.
 const RECENT: usize = 4;
 
-/// A block is decoded when it was asked for again so often: that takes as long as some hundred single values.
-const OFTEN: u32 = 8;
+/// A block that was asked for again so often is decoded, which takes as long as some hundred single values.
+const OFTEN: u32 = 128;
 
 /// Decoded blocks, and the keys that were asked for of late, each at a place that it gives.
 #[derive(Drop)]
@@ -90,27 +102,29 @@ impl Blocks {
         (place + key.block as usize) % self.asked.len()
     }
 
-    /// Notes that a block is asked for, and whether it was asked for again and again of late.
-    pub(crate) fn is_asked_often(&mut self, key: BlockKey) -> bool
+    /// The asking after one that is remembered, or after that of another block.
+    fn next_asking(&self, last: Asked, key: BlockKey, now: u32) -> (Asking, u32) {
+        let recent = (self.asked.len() / REMEMBERED).saturating_mul(RECENT);
+        if last.key != key || now.wrapping_sub(last.when) as usize > recent {
+            return (Asking::First, 0);
+        }
+        if last.times >= OFTEN {
+            return (Asking::Often, 0);
+        }
+        (Asking::Again, last.times.saturating_add(1))
+    }
+
+    /// Notes that a block is asked for, and how.
+    pub(crate) fn ask(&mut self, key: BlockKey) -> Asking
         requires { 1 ≤ length self.old.asked.items }
         ensures kept { self.new.kept ≡ self.old.kept }
         ensures places { length self.new.asked.items ≡ length self.old.asked.items }
     {
         let place = self.place_of(key);
-        let now = self.askings.wrapping_add(1);
-        let last = self.asked[place];
-        let recent = (self.asked.len() / REMEMBERED).saturating_mul(RECENT);
-        let times = if last.key == key && now.wrapping_sub(last.when) as usize <= recent {
-            last.times.saturating_add(1)
-        } else {
-            0
-        };
-        self.asked[place] = Asked {
-            key,
-            when: now,
-            times,
-        };
-        self.askings = now;
-        times >= OFTEN
+        let when = self.askings.wrapping_add(1);
+        let (asking, times) = self.next_asking(self.asked[place], key, when);
+        self.asked[place] = Asked { key, when, times };
+        self.askings = when;
+        asking
     }
 }

@@ -6,7 +6,7 @@ ghost use Rattle.table_file.specs.Tables.{IsFile};
 ghost use Rattle.table_file.specs.Expansion.{expansion, entry_at, real_blocks, IsSpot};
 ghost use Rattle.judge_core.specs.Blocks.{AreRight, IsRight};
 
-use crate::blocks::{BlockKey, Blocks};
+use crate::blocks::{Asking, BlockKey, Blocks};
 use crate::shelf::Shelf;
 use std::alloc::Global;
 use table_file::{Spot, Table};
@@ -42,8 +42,8 @@ impl<'a> Shelf<'a> {
         let _ = blocks.kept.put(key, values);
     }
 
-    /// The value of a block at an offset: out of the block where it is kept, or else decoded and kept; alone where it isn't
-    /// asked for often or memory is refused.
+    /// The value of a block at an offset: out of the block where it is kept, or else decoded and kept where it is asked
+    /// for often; alone otherwise, and where memory is refused.
     fn value_in_block(
         &self,
         blocks: &mut Blocks,
@@ -60,10 +60,13 @@ impl<'a> Shelf<'a> {
         ensures found { (index : ℕ) → IsSpot table.now key.side key.file index (At key.block offset) → result ≡ entry_at (expansion table.now key.side key.file) index }
         ensures right { AreRight self.now blocks.new }
     {
-        if blocks.is_asked_often(key) {
+        let asking = blocks.ask(key);
+        if asking != Asking::First {
             if let Some(value) = self.kept_value(blocks, table, &key, offset) {
                 return value;
             }
+        }
+        if asking == Asking::Often {
             if let Ok(values) = table.unpack(alloc, key.side, key.file, key.block) {
                 let value = table.value_among(key.side, key.file, key.block, offset, &values);
                 self.keep(blocks, key, values);
