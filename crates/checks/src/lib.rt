@@ -8,6 +8,8 @@ mod arbiters;
 #[cfg(test)]
 mod board_tests;
 #[cfg(test)]
+mod cache_tests;
+#[cfg(test)]
 mod comparing;
 #[cfg(test)]
 mod delivery_tests;

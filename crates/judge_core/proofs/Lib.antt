@@ -13,5 +13,6 @@ pub mod Readings
 pub mod Captures
 pub mod Rule
 pub mod Slots
+pub mod KeptBlocks
 pub mod LookUp
 pub mod Entries

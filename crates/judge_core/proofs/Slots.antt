@@ -9,7 +9,7 @@ use Rattle.table_file.specs.declared.kind.Kind.{Kind}
 use Rattle.table_file.specs.declared.kind.Kind.TheVariants.{Wdl, Dtz}
 use Rattle.table_file.specs.Tables.{Contents}
 use Rattle.judge_core.specs.Tables.{Tables, AreFiled, slot}
-use Rattle.judge_core.specs.declared.set.Set.TheInside.{Inside}
+use Rattle.judge_core.specs.declared.shelf.Shelf.TheInside.{Inside}
 use Rattle.judge_core.specs.Kept.{table_in, tables_of, AreKnown, IsKept}
 
 -- what a slot has, by its place
@@ -32,7 +32,7 @@ held tables places k place o t known lt e is at =
 pub empty : (tables : List Contents) (places : List (Option ℕ)) (k : ℕ) (o : Option ℕ) → k < length places → o ≡ get_or places k o → o ≡ None → get_or (tables_of tables places) k None ≡ None
 empty tables places k o lt e is = in_slot tables places k ∙ ap (table_in tables) (read_slot places k o None lt e is)
 
--- ---- a new set
+-- ---- a new shelf
 
 pub none_known : (tables : List Contents) (n : ℕ) → AreKnown tables (replicate n None)
 none_known tables zero k place e = absurd (cc)
@@ -102,7 +102,7 @@ pub slots_kept : (tables : List Contents) (places : List (Option ℕ)) → lengt
 slots_kept tables [] = refl
 slots_kept tables (x ∷ xs) = ap suc (slots_kept tables xs)
 
--- ---- the whole of what a set keeps
+-- ---- the whole of what a shelf keeps
 
 pub new_kept : (a : Inside) (n : ℕ) → n ≡ 290 → a.tables.items ≡ [] → a.places.items ≡ replicate n None → 1 ≤ a.cache → a.cache ≤ 4096 → IsKept a
 new_kept a n full e f some most = record {

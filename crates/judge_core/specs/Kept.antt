@@ -1,7 +1,7 @@
--- How a set keeps its tables: in the order in which they came, with the place of each in its slot.
+-- How a shelf keeps its tables: in the order in which they came, with the place of each in its slot.
 use Rattle.std.specs.Prelude.{◌≡◌, ℕ, ◌<◌, ◌≤◌, List, length, map, slice_get, slice_index_or, Option, Some, None}
 use Rattle.table_file.specs.Tables.{Contents}
-use Rattle.judge_core.specs.declared.set.Set.TheInside.{Inside}
+use Rattle.judge_core.specs.declared.shelf.Shelf.TheInside.{Inside}
 use Rattle.judge_core.specs.Tables.{Tables, Holding, AreFiled}
 
 abbrev pub table_in : List Contents → Option ℕ → Option Contents

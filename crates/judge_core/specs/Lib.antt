@@ -2,6 +2,7 @@ pub mod Values
 pub mod LookUp
 pub mod Tables
 pub mod Kept
+pub mod Blocks
 pub mod Asked
 pub mod Probing
 pub mod Found

@@ -1,45 +1,30 @@
 //! DTZ probes.
 
-ghost use Rattle.std.specs.Prelude.{◌≡◌, ◌<◌, ◌≤◌, ◌+◌, ◌-◌, IfOk, IfSome};
+ghost use Rattle.std.specs.Prelude.{◌≡◌, ◌<◌, ◌≤◌, ◌+◌, ◌-◌, IfOk, IfSome, Some};
 ghost use Rattle.board_core.specs.Position.{IsPosition};
 ghost use Rattle.table_file.specs.declared.kind.Kind.TheVariants.{Dtz};
 ghost use Rattle.table_file.specs.Tables.{IsFile};
-ghost use Rattle.judge_core.specs.Tables.{AreFiled};
+ghost use Rattle.judge_core.specs.Tables.{AreFiled, table_at};
+ghost use Rattle.judge_core.specs.Blocks.{AreRight};
 ghost use Rattle.judge_core.specs.Distances.{plies, pawns_reach, move_counts, by_quiet_moves, distance_in, stored, by_own_table, by_moves, by_weighed, dtz_to, dtz_of};
 ghost use Rattle.judge_core.specs.Ruling.{is_out_of_scope};
 ghost use Rattle.judge_core.specs.Answers.{IsProbe, signed_in};
 
+use crate::blocks::Blocks;
 use crate::counts::{Counts, Steps};
 use crate::distance::{Distance, counted, is_won, towards, zeroing};
 use crate::fault::{ProbeFault, ValueFault};
 use crate::found::Weighed;
 use crate::mobility::is_mate;
 use crate::moving::{after_pawn_step, after_quiet_move, has_pawn};
-use crate::set::{Set, material_of, placed};
+use crate::set::Set;
+use crate::shelf::{Shelf, material_of, placed, slot};
 use crate::verdict::is_out_of_scope;
 use crate::wdl::{Wdl, turned};
 use board_core::Position;
 use place_index::{Material, Placed, index};
 use std::alloc::{AllocError, Global};
 use table_file::{Kind, Outcome, Table};
-
-/// What the table stores for placed men; none where that is damaged.
-fn distance(table: &Table<'_>, placed: &Placed, outcome: Outcome) -> Option<u32>
-    requires kind { table.now.kind ≡ Dtz }
-    requires own { table.now.material ≡ placed.now.material }
-    requires side { placed.now.side < 2 }
-    requires file { IsFile table.now.material placed.now.file }
-    ensures is { result ≡ distance_in table.now placed.now outcome }
-    ensures within { IfSome result (λ n. n ≤ 131070) }
-{
-    let side = placed.side();
-    let file = placed.file();
-    let shape = table.shape(side, file);
-    match table.dtz(file, index(shape, placed), outcome) {
-        Ok(plies) => Some(plies),
-        Err(_) => None,
-    }
-}
 
 /// The distance by what the table stores.
 fn stored(material: Material, outcome: Outcome, number: Option<u32>) -> Result<Distance, ValueFault>
@@ -53,16 +38,52 @@ fn stored(material: Material, outcome: Outcome, number: Option<u32>) -> Result<D
     }
 }
 
-impl<'a> Set<'a> {
+impl<'a> Shelf<'a> {
+    /// What a DTZ table of the shelf stores for placed men; none where that is damaged.
+    fn distance(
+        &self,
+        blocks: &mut Blocks,
+        alloc: Global,
+        table: &Table<'a>,
+        placed: &Placed,
+        outcome: Outcome,
+    ) -> Option<u32>
+        requires right { AreRight self.now blocks.old }
+        requires kind { table.now.kind ≡ Dtz }
+        requires on { table_at self.now.tables Dtz placed.now.material ≡ Some table.now }
+        requires own { table.now.material ≡ placed.now.material }
+        requires known { placed.now.material < 145 }
+        requires side { placed.now.side < 2 }
+        requires file { IsFile table.now.material placed.now.file }
+        ensures is { result ≡ distance_in table.now placed.now outcome }
+        ensures within { IfSome result (λ n. n ≤ 131070) }
+        ensures right { AreRight self.now blocks.new }
+    {
+        let side = placed.side();
+        let file = placed.file();
+        let slot = slot(Kind::Dtz, placed.material());
+        let index = index(table.shape(side, file), placed);
+        let Some(value) = self.read(blocks, alloc, slot, table, 0, file, index) else {
+            return None;
+        };
+        match table.plies_of(file, value, outcome) {
+            Ok(plies) => Some(plies),
+            Err(_) => None,
+        }
+    }
+
     /// Whether some pawn move that takes nothing comes to the value, or the fault of the values after these moves.
     fn pawns_reach(
         &self,
+        blocks: &mut Blocks,
         alloc: Global,
         position: &Position,
         value: Wdl,
     ) -> Result<Result<bool, ValueFault>, AllocError>
-        requires { IsPosition position.now }
-        ensures { IfOk result (λ told. told ≡ pawns_reach self.now.tables position.now value) }
+        requires position { IsPosition position.now }
+        requires right { AreRight self.now blocks.old }
+        ensures right { AreRight self.now blocks.new }
+        ensures is { IfOk result (λ told. told ≡ pawns_reach self.now.tables position.now value) }
     {
         if !has_pawn(position) {
             return Ok(Ok(false));
@@ -71,7 +92,7 @@ impl<'a> Set<'a> {
         let mut steps = Steps::new();
         for m in &moves {
             if let Some(after) = after_pawn_step(position, m) {
-                let reading = self.wdl_of(alloc, &after)?;
+                let reading = self.wdl_of(blocks, alloc, &after)?;
                 steps = steps.note(value, &turned(reading));
             }
         }
@@ -82,6 +103,7 @@ impl<'a> Set<'a> {
     #[cycle(dtz)]
     fn move_counts(
         &self,
+        blocks: &mut Blocks,
         alloc: Global,
         after: &Position,
         outcome: Outcome,
@@ -89,6 +111,8 @@ impl<'a> Set<'a> {
     ) -> Result<Result<Option<u32>, ValueFault>, AllocError>
         requires position { IsPosition after.now }
         requires left { left ≤ 2 }
+        requires right { AreRight self.now blocks.old }
+        ensures right { AreRight self.now blocks.new }
         ensures is { IfOk result (λ count. count ≡ move_counts outcome (dtz_to self.now.tables left) after.now) }
         ensures within { IfOk result (λ count. IfOk count (λ n. IfSome n (λ k. k ≤ 131172 + left))) }
     {
@@ -96,7 +120,7 @@ impl<'a> Set<'a> {
         if won && is_mate(after) {
             return Ok(Ok(Some(1)));
         }
-        let reach = self.dtz_to(alloc, after, left)?;
+        let reach = self.dtz_to(blocks, alloc, after, left)?;
         Ok(counted(won, &reach))
     }
 
@@ -104,6 +128,7 @@ impl<'a> Set<'a> {
     #[cycle(dtz)]
     fn by_quiet_moves(
         &self,
+        blocks: &mut Blocks,
         alloc: Global,
         position: &Position,
         material: Material,
@@ -112,6 +137,8 @@ impl<'a> Set<'a> {
     ) -> Result<Result<Distance, ValueFault>, AllocError>
         requires position { IsPosition position.now }
         requires left { left < 2 }
+        requires right { AreRight self.now blocks.old }
+        ensures right { AreRight self.now blocks.new }
         ensures is { IfOk result (λ reach. reach ≡ by_quiet_moves material outcome (dtz_to self.now.tables left) position.now) }
         ensures within { IfOk result (λ reach. IfOk reach (λ d. plies d ≤ 131172 + left)) }
     {
@@ -119,7 +146,7 @@ impl<'a> Set<'a> {
         let mut counts = Counts::new(outcome);
         for m in &moves {
             if let Some(after) = after_quiet_move(position, m) {
-                let count = self.move_counts(alloc, &after, outcome, left)?;
+                let count = self.move_counts(blocks, alloc, &after, outcome, left)?;
                 counts = counts.note(&count);
             }
         }
@@ -130,6 +157,7 @@ impl<'a> Set<'a> {
     #[cycle(dtz)]
     fn by_own_table(
         &self,
+        blocks: &mut Blocks,
         alloc: Global,
         position: &Position,
         outcome: Outcome,
@@ -137,6 +165,8 @@ impl<'a> Set<'a> {
     ) -> Result<Result<Distance, ValueFault>, AllocError>
         requires position { IsPosition position.now }
         requires left { left < 2 }
+        requires right { AreRight self.now blocks.old }
+        ensures right { AreRight self.now blocks.new }
         ensures is { IfOk result (λ reach. reach ≡ by_own_table self.now.tables (dtz_to self.now.tables left) position.now outcome) }
         ensures within { IfOk result (λ reach. IfOk reach (λ d. plies d ≤ 131172 + left)) }
     {
@@ -148,15 +178,17 @@ impl<'a> Set<'a> {
         };
         let placed = placed(position, &material);
         if table.stores(placed.side(), placed.file()) {
-            return Ok(stored(material, outcome, distance(table, &placed, outcome)));
+            let number = self.distance(blocks, alloc, table, &placed, outcome);
+            return Ok(stored(material, outcome, number));
         }
-        self.by_quiet_moves(alloc, position, material, outcome, left)
+        self.by_quiet_moves(blocks, alloc, position, material, outcome, left)
     }
 
     /// A win by a pawn move, or what the own table tells.
     #[cycle(dtz)]
     fn by_moves(
         &self,
+        blocks: &mut Blocks,
         alloc: Global,
         position: &Position,
         value: Wdl,
@@ -165,11 +197,13 @@ impl<'a> Set<'a> {
     ) -> Result<Result<Distance, ValueFault>, AllocError>
         requires position { IsPosition position.now }
         requires left { left < 2 }
+        requires right { AreRight self.now blocks.old }
+        ensures right { AreRight self.now blocks.new }
         ensures is { IfOk result (λ reach. reach ≡ by_moves self.now.tables (dtz_to self.now.tables left) position.now value outcome) }
         ensures within { IfOk result (λ reach. IfOk reach (λ d. plies d ≤ 131172 + left)) }
     {
         if is_won(outcome) {
-            let reached = self.pawns_reach(alloc, position, value)?;
+            let reached = self.pawns_reach(blocks, alloc, position, value)?;
             match &reached {
                 Ok(reached) => {
                     if *reached {
@@ -179,13 +213,14 @@ impl<'a> Set<'a> {
                 Err(fault) => return Ok(Err(*fault)),
             }
         }
-        self.by_own_table(alloc, position, outcome, left)
+        self.by_own_table(blocks, alloc, position, outcome, left)
     }
 
     /// The distance where captures and the own WDL table say this.
     #[cycle(dtz)]
     pub(crate) fn by_weighed(
         &self,
+        blocks: &mut Blocks,
         alloc: Global,
         position: &Position,
         weighed: &Result<Weighed, ValueFault>,
@@ -193,6 +228,8 @@ impl<'a> Set<'a> {
     ) -> Result<Result<Distance, ValueFault>, AllocError>
         requires position { IsPosition position.now }
         requires left { left < 2 }
+        requires right { AreRight self.now blocks.old }
+        ensures right { AreRight self.now blocks.new }
         ensures is { IfOk result (λ reach. reach ≡ by_weighed self.now.tables (dtz_to self.now.tables left) position.now weighed.now) }
         ensures within { IfOk result (λ reach. IfOk reach (λ d. plies d ≤ 131172 + left)) }
     {
@@ -207,43 +244,51 @@ impl<'a> Set<'a> {
         if weighed.is_by_capture() {
             return Ok(Ok(towards(outcome, zeroing(outcome))));
         }
-        self.by_moves(alloc, position, value, outcome, left)
+        self.by_moves(blocks, alloc, position, value, outcome, left)
     }
 
     /// The distance, where so many positions in a row are looked at.
     #[cycle(dtz)]
     fn dtz_to(
         &self,
+        blocks: &mut Blocks,
         alloc: Global,
         position: &Position,
         left: u32,
     ) -> Result<Result<Distance, ValueFault>, AllocError>
         requires position { IsPosition position.now }
         requires left { left ≤ 2 }
+        requires right { AreRight self.now blocks.old }
+        ensures right { AreRight self.now blocks.new }
         ensures is { IfOk result (λ reach. reach ≡ dtz_to self.now.tables left position.now) }
         ensures within { IfOk result (λ reach. IfOk reach (λ d. plies d ≤ 131171 + left)) }
     {
         if left == 0 || position.men() <= 2 {
             return Ok(Ok(Distance::Draw));
         }
-        let weighed = self.weigh(alloc, position)?;
-        self.by_weighed(alloc, position, &weighed, left - 1)
+        let weighed = self.weigh(blocks, alloc, position)?;
+        self.by_weighed(blocks, alloc, position, &weighed, left - 1)
     }
 
     /// The distance, wherever the tables are there and whole.
     #[tactic(auto, unfolding(crate::specs::Distances::dtz_of))]
     pub(crate) fn dtz_of(
         &self,
+        blocks: &mut Blocks,
         alloc: Global,
         position: &Position,
     ) -> Result<Result<Distance, ValueFault>, AllocError>
-        requires { IsPosition position.now }
+        requires position { IsPosition position.now }
+        requires right { AreRight self.now blocks.old }
+        ensures right { AreRight self.now blocks.new }
         ensures is { IfOk result (λ reach. reach ≡ dtz_of self.now.tables position.now) }
         ensures within { IfOk result (λ reach. IfOk reach (λ d. plies d ≤ 131173)) }
     {
-        self.dtz_to(alloc, position, 2)
+        self.dtz_to(blocks, alloc, position, 2)
     }
+}
 
+impl<'a> Set<'a> {
     /// The distance to the next move that sets the halfmove clock to 0, a capture or a pawn move, or to mate, in plies: above 0
     /// where the side to move wins, below 0 where it loses, 0 at a draw. It is 100 more where the rule of fifty moves takes
     /// the win away, and may be off by one ply (Syzygy DTZ tables).
@@ -263,7 +308,7 @@ impl<'a> Set<'a> {
         if is_out_of_scope(position) {
             return Err(ProbeFault::OutOfScope);
         }
-        let Ok(reach) = self.dtz_of(alloc, position) else {
+        let Ok(reach) = self.shelf.dtz_of(&mut self.blocks, alloc, position) else {
             return Err(ProbeFault::OutOfMemory);
         };
         match &reach {

@@ -41,14 +41,16 @@ impl<'a> Set<'a> {
         if position.men() <= 2 {
             return Ok(Some(Verdict::TableDraw));
         }
-        let weighed = self.weigh(alloc, position)?;
+        let weighed = self.shelf.weigh(&mut self.blocks, alloc, position)?;
         let reading = worth_in(weighed);
         let winner = match &reading {
             Ok(Wdl::Win) => position.side(),
             Ok(Wdl::Loss) => position.side().other(),
             _ => return Ok(verdict::by_value(&reading)),
         };
-        let reach = self.by_weighed(alloc, position, &weighed, 1)?;
+        let reach = self
+            .shelf
+            .by_weighed(&mut self.blocks, alloc, position, &weighed, 1)?;
         Ok(verdict::by_distance(position, winner, &reach))
     }
 }

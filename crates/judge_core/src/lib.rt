@@ -6,6 +6,7 @@
 //! tables store one side alone, and the other side's is told by the positions after its moves (Syzygy DTZ tables).
 #![tactic(auto)]
 
+mod blocks;
 mod counts;
 mod distance;
 mod dtz;
@@ -17,7 +18,9 @@ pub mod laws;
 mod mobility;
 mod moving;
 mod probing;
+mod reading;
 mod set;
+mod shelf;
 mod standing;
 mod verdict;
 mod wdl;

@@ -7,11 +7,14 @@ ghost use Rattle.judge_core.specs.Found.{lands_empty};
 ghost use Rattle.judge_core.specs.Probing.{is_forced, weighed_by, wdl_of};
 ghost use Rattle.judge_core.specs.Ruling.{is_out_of_scope};
 ghost use Rattle.judge_core.specs.Answers.{IsProbe};
+ghost use Rattle.judge_core.specs.Blocks.{AreRight};
 
+use crate::blocks::Blocks;
 use crate::fault::{ProbeFault, ValueFault};
 use crate::found::{Found, Weighed, worth_in};
 use crate::moving::lands_empty;
 use crate::set::Set;
+use crate::shelf::Shelf;
 use crate::verdict::is_out_of_scope;
 use crate::wdl::{Wdl, turned};
 use board_core::{Move, Position};
@@ -41,27 +44,30 @@ fn is_forced(alloc: Global, position: &Position, captures: &[Move]) -> Result<bo
     Ok(moves.len() == passants)
 }
 
-impl<'a> Set<'a> {
+impl<'a> Shelf<'a> {
     /// What the captures and the own table say of the position.
     #[cycle(wdl)]
     pub(crate) fn weigh(
         &self,
+        blocks: &mut Blocks,
         alloc: Global,
         position: &Position,
     ) -> Result<Result<Weighed, ValueFault>, AllocError>
-        requires { IsPosition position.now }
-        ensures { IfOk result (λ weighed. weighed ≡ weighed_by self.now.tables (wdl_of self.now.tables) position.now) }
+        requires position { IsPosition position.now }
+        requires right { AreRight self.now blocks.old }
+        ensures is { IfOk result (λ weighed. weighed ≡ weighed_by self.now.tables (wdl_of self.now.tables) position.now) }
+        ensures right { AreRight self.now blocks.new }
     {
         let captures = position.captures(alloc)?;
         let mut found = Found::new();
         for m in &captures {
             if let Some(after) = position.play(*m) {
-                let reading = self.wdl_of(alloc, &after)?;
+                let reading = self.wdl_of(blocks, alloc, &after)?;
                 found = found.note(&turned(reading), lands_empty(position, m));
             }
         }
         let forced = is_forced(alloc, position, &captures)?;
-        let own = self.table_value(position);
+        let own = self.table_value(blocks, alloc, position);
         Ok(found.close(&own, forced))
     }
 
@@ -69,19 +75,24 @@ impl<'a> Set<'a> {
     #[cycle(wdl)]
     pub(crate) fn wdl_of(
         &self,
+        blocks: &mut Blocks,
         alloc: Global,
         position: &Position,
     ) -> Result<Result<Wdl, ValueFault>, AllocError>
-        requires { IsPosition position.now }
-        ensures { IfOk result (λ reading. reading ≡ wdl_of self.now.tables position.now) }
+        requires position { IsPosition position.now }
+        requires right { AreRight self.now blocks.old }
+        ensures is { IfOk result (λ reading. reading ≡ wdl_of self.now.tables position.now) }
+        ensures right { AreRight self.now blocks.new }
     {
         if position.men() <= 2 {
             return Ok(Ok(Wdl::Draw));
         }
-        let weighed = self.weigh(alloc, position)?;
+        let weighed = self.weigh(blocks, alloc, position)?;
         Ok(worth_in(weighed))
     }
+}
 
+impl<'a> Set<'a> {
     /// What the position is worth to the side to move by the WDL tables, captures and en passant looked at.
     ///
     /// The first of the faults that applies is told, in the order of `ProbeFault`. `OutOfMemory` comes only where memory for a list of
@@ -93,7 +104,7 @@ impl<'a> Set<'a> {
         if is_out_of_scope(position) {
             return Err(ProbeFault::OutOfScope);
         }
-        let Ok(reading) = self.wdl_of(alloc, position) else {
+        let Ok(reading) = self.shelf.wdl_of(&mut self.blocks, alloc, position) else {
             return Err(ProbeFault::OutOfMemory);
         };
         match &reading {

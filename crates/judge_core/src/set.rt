@@ -1,102 +1,37 @@
 //! Sets of tables.
 
-ghost use Rattle.std.specs.Prelude.{◌≡◌, ◌↔◌, ◌<◌, ◌≤◌, IfOk, IfSome, IsSome, OnOk, OnErr, None, Some, Err, option_map, replicate, slice_set};
-ghost use Rattle.place_index.specs.Placed.{IsMaterialOf, men_on};
-ghost use Rattle.table_file.specs.Tables.{IsFile};
+ghost use Rattle.std.specs.Prelude.{◌≡◌, ◌↔◌, ◌≤◌, IfOk, IsSome, OnOk, OnErr, None, Some, Err, replicate, slice_set};
 ghost use Rattle.judge_core.specs.declared.fault.SetFault.TheVariants.{Duplicate};
-ghost use Rattle.judge_core.specs.LookUp.{material_of, placed_of};
-ghost use Rattle.judge_core.specs.Tables.{AreFiled, slot, table_at, entry_in, table_value};
+ghost use Rattle.judge_core.specs.Tables.{AreFiled, slot, table_at};
 
-use crate::fault::{SetFault, ValueFault};
-use crate::wdl::Wdl;
-use board_core::Position;
-use place_index::{Material, Placed, index, place};
+use crate::blocks::Blocks;
+use crate::fault::SetFault;
+use crate::shelf::Shelf;
 use std::alloc::{AllocError, Global};
 use std::marker::Model;
-use table_file::{Kind, Table};
+use table_file::Table;
 
-/// How many materials there are.
-const MATERIALS: usize = 145;
-
-/// Opened tables, each found by its kind and its material without a search. It borrows the bytes of their files.
+/// Opened tables, each found by its kind and its material without a search, and some of their blocks, decoded. It borrows the
+/// bytes of their files.
 ///
 /// Contracts see a list of 290 slots, the WDL tables by the keys of their materials and then the DTZ tables, and the number of
-/// decoded blocks that the set may keep.
+/// decoded blocks that the set may keep. Which blocks it keeps changes no answer: a block is decoded when it is asked for again,
+/// and then kept until it is the one used least recently and another one needs its place.
 #[derive(Drop)]
 pub struct Set<'a> {
-    tables: Vec<Table<'a>>,
-    places: Vec<Option<usize>>,
-    cache: usize,
+    pub(crate) shelf: Shelf<'a>,
+    pub(crate) blocks: Blocks,
 }
 
 impl<'a> Model for Set<'a> {
     ghost use Rattle.judge_core.specs.Tables.{Holding};
+    ghost use Rattle.judge_core.specs.Blocks.{AreRight};
 
     ghost Value = { Holding };
 
-    ghost use Rattle.judge_core.specs.Kept.{holding_of, IsKept};
+    ghost view = { λ s. s.shelf };
 
-    ghost view = { holding_of };
-
-    ghost invariant = { IsKept };
-}
-
-/// The slot of a kind and a material.
-fn slot(kind: Kind, material: Material) -> usize
-    ensures is { result ≡ slot kind material }
-    ensures below { result < 290 }
-    ensures known { material < 145 }
-{
-    let key = material.key() as usize;
-    match kind {
-        Kind::Wdl => key,
-        Kind::Dtz => MATERIALS + key,
-    }
-}
-
-/// The position as its table sees it.
-pub(crate) fn placed(position: &Position, material: &Material) -> Placed
-    requires known { material.now < 145 }
-    requires own { IsMaterialOf material.now (men_on position.now.men) }
-    ensures is { result ≡ placed_of material.now position.now }
-    ensures material { result.material ≡ material.now }
-    ensures side { result.side < 2 }
-    ensures file { IsFile material.now result.file }
-{
-    let placed = place(position, material);
-    let _side = placed.side();
-    let _file = placed.file();
-    placed
-}
-
-/// The material of the position: none for bare kings and for more than five men.
-pub(crate) fn material_of(position: &Position) -> Option<Material>
-    ensures is { result ≡ material_of position.now }
-    ensures own { IfSome result (λ m. (m < 145) × IsMaterialOf m (men_on position.now.men)) }
-{
-    match Material::of(position) {
-        Some(material) => {
-            let _key = material.key();
-            Some(material)
-        }
-        None => None,
-    }
-}
-
-/// What the table has at the index of placed men; none where that is damaged.
-fn entry(table: &Table<'_>, placed: &Placed) -> Option<u16>
-    requires own { table.now.material ≡ placed.now.material }
-    requires side { placed.now.side < 2 }
-    requires file { IsFile table.now.material placed.now.file }
-    ensures { result ≡ entry_in table.now placed.now }
-{
-    let side = placed.side();
-    let file = placed.file();
-    let shape = table.shape(side, file);
-    match table.value(side, file, index(shape, placed)) {
-        Ok(value) => Some(value),
-        Err(_) => None,
-    }
+    ghost invariant = { λ s. AreRight s.shelf s.blocks };
 }
 
 impl<'a> Set<'a> {
@@ -107,15 +42,9 @@ impl<'a> Set<'a> {
         requires most { cache ≤ 4096 }
         ensures { IfOk result (λ set. set ≡ record { tables = replicate 290 None; cache = cache }) }
     {
-        let mut places = Vec::with_capacity(alloc, 2 * MATERIALS)?;
-        for _ in 0..2 * MATERIALS {
-            places.push(None)?;
-        }
-        Ok(Set {
-            tables: Vec::new(alloc),
-            places,
-            cache,
-        })
+        let shelf = Shelf::new(alloc, cache)?;
+        let blocks = Blocks::new(alloc, cache)?;
+        Ok(Set { shelf, blocks })
     }
 
     /// How many decoded blocks the set may keep, 1 to 4096. Its contract also says that each table is in the slot of its kind
@@ -126,7 +55,14 @@ impl<'a> Set<'a> {
         ensures most { result ≤ 4096 }
         ensures filed { AreFiled self.now.tables }
     {
-        self.cache
+        self.shelf.cache()
+    }
+
+    /// How many decoded blocks the set keeps now: never more than it was made for.
+    pub fn kept_blocks(&self) -> usize
+        ensures { result ≤ self.now.cache }
+    {
+        self.blocks.len()
     }
 
     /// Adds a table. One that is refused is dropped, and the set stays as it was.
@@ -138,48 +74,6 @@ impl<'a> Set<'a> {
         ensures refused { OnErr result (self.new ≡ self.old) }
         ensures duplicate { (result ≡ Err Duplicate) ↔ IsSome (table_at self.old.tables table.entry.kind table.entry.material) }
     {
-        let slot = slot(table.kind(), *table.material());
-        if self.places[slot].is_some() {
-            return Err(SetFault::Duplicate);
-        }
-        let place = self.tables.len();
-        match self.tables.push(table) {
-            Ok(()) => {}
-            Err(_) => return Err(SetFault::OutOfMemory),
-        }
-        self.places[slot] = Some(place);
-        Ok(())
-    }
-
-    /// The table of this kind for this material.
-    pub(crate) fn table(&self, kind: Kind, material: Material) -> Option<&Table<'a>>
-        ensures found { option_map (λ t. t.now) result ≡ table_at self.now.tables kind material }
-        ensures kind { IfSome result (λ t. t.now.kind ≡ kind) }
-        ensures own { IfSome result (λ t. t.now.material ≡ material) }
-    {
-        match self.places[slot(kind, material)] {
-            Some(place) => Some(&self.tables[place]),
-            None => None,
-        }
-    }
-
-    /// The table value: what the position's own WDL table says of it; bare kings are a draw.
-    #[tactic(auto, unfolding(crate::specs::Tables::table_value))]
-    pub(crate) fn table_value(&self, position: &Position) -> Result<Wdl, ValueFault>
-        ensures { result ≡ table_value self.now.tables position.now }
-    {
-        let Some(material) = material_of(position) else {
-            return Ok(Wdl::Draw);
-        };
-        let Some(table) = self.table(Kind::Wdl, material) else {
-            return Err(ValueFault::NotCovered(material));
-        };
-        let Some(points) = entry(table, &placed(position, &material)) else {
-            return Err(ValueFault::Damaged(material));
-        };
-        match Wdl::from_points(points) {
-            Some(value) => Ok(value),
-            None => Err(ValueFault::Damaged(material)),
-        }
+        self.shelf.add(table)
     }
 }

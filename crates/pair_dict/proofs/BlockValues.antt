@@ -6,6 +6,7 @@ use Rattle.std.specs.Prelude.{slice_get}
 use Rattle.pair_dict.specs.Symbols.{values_of}
 use Rattle.pair_dict.specs.Codes.{Pairing, code_at}
 use Rattle.pair_dict.specs.Blocks.{then_values, values_from, block_values}
+use Rattle.pair_dict.specs.Runs.{IsLeft}
 
 -- the values from a bit on begin with those of its code
 pub values_from_code : (d : Pairing) (block : List ℕ) (most p s n : ℕ) → code_at d block p ≡ Some (s, n) → values_from d block (suc most) p ≡ values_of d.symbols s ++ values_from d block most (p + n)
@@ -31,12 +32,6 @@ pub skipped_in : (xs ys bs : List ℕ) (left offset : ℕ) → length xs ≤ lef
 skipped_in xs ys bs left offset le e =
     let k : length xs + (left - length xs) ≡ left = omega arith in
     ap (λ (zs : List ℕ). drop (left - length xs) zs) (sym (drop_at xs ys (length xs) refl)) ∙ drop-drop (left - length xs) (length xs) (xs ++ ys) ∙ ap (λ (i : ℕ). drop i (xs ++ ys)) k ∙ e
-
--- what is left from bit p on is what is left of the block's values from an offset on
-pub record IsLeft (d : Pairing) (block : List ℕ) (p left offset : ℕ) : Type 0 where
-  pub most : ℕ
-  pub enough : 8 * length block ≤ p + most
-  pub same : drop left (values_from d block most p) ≡ drop offset (block_values d block)
 
 pub left_first : (d : Pairing) (block : List ℕ) (offset : ℕ) → IsLeft d block 0 offset offset
 unfolding block_values

@@ -1,12 +1,14 @@
 -- The first number of each code length, at the top of 63 bits.
-use Rattle.std.proofs.Common.{◌≡◌, ℕ, ◌+◌, ◌-◌, ◌*◌, ◌/◌, ◌^◌, ◌<◌, ◌≤◌, List, length, get_or, set, sym, ap, ◌∙◌, inl, inr, arith}
+use Rattle.std.proofs.Common.{◌≡◌, ℕ, zero, suc, ◌+◌, ◌-◌, ◌*◌, ◌/◌, ◌^◌, ◌<◌, ◌≤◌, List, length, drop, get_or, set, cond, ltb, add-zero, refl, sym, ap, ◌∙◌, inl, inr, arith}
 use Rattle.std.proofs.lemmas.List.{get_or-set_same, get_or-set_other}
-use Rattle.std.proofs.lemmas.Bool.{cases_lt, cases_eq}
+use Rattle.std.proofs.lemmas.Bool.{cases_lt, cases_eq, lt-ltb, le-ltb}
 use Rattle.std.proofs.lemmas.Nat.{shr-shr, pow-add, pow_pos}
 use Rattle.std.proofs.Math.Nat.{le-div_iff_mul-le, div-lt_iff_lt-mul, add-mul-div_left, mul_comm}
-use Rattle.pair_dict.specs.Codes.{bases, bits}
-use Rattle.pair_dict.specs.Windows.{IsWindow, IsFirst}
-use Rattle.pair_dict.proofs.WordLemmas.{base_last}
+use Rattle.pair_dict.specs.Codes.{bases, bits, code_from}
+use Rattle.pair_dict.specs.Windows.{IsWindow, IsFirst, AreFirsts, AreLong}
+use Rattle.pair_dict.specs.declared.codes.LongCodes.{LongCodes}
+use Rattle.pair_dict.proofs.WordLemmas.{base_last, length-bases}
+use Rattle.pair_dict.proofs.CodeLemmas.{code_next}
 
 first_zero : (n : ℕ) → IsFirst n 0 0
 first_zero n = record { possible = λ lt. omega arith; impossible = λ le. absurd (omega (arith, le, pow_pos n)) }
@@ -86,3 +88,28 @@ pub missed_at : (block : List ℕ) (at word n base first : ℕ) → IsFirst n ba
 missed_at block at word n base first is window small few fits lt =
     let far : n ≤ 63 = omega arith in
     rw (front_bits block at word n window few fits) at (first_missed n base first (word / 2) is far (front_below word small) lt)
+
+-- no code has one of the lengths before a place where the search may begin
+module _ (limit : ℕ) (block : List ℕ) (at least word : ℕ) (lowest firsts : List ℕ) (are : AreFirsts least lowest firsts) (window : IsWindow block at word) (small : word < 2 ^ 64) (most : least + length lowest ≤ 33) where
+  passed_to : (i : ℕ) → i ≤ length firsts → ((j : ℕ) → j < i → word / 2 < get_or firsts j 0)
+      → code_from limit block at (least + i) (drop i (bases lowest)) (drop i lowest) ≡ code_from limit block at least (bases lowest) lowest
+  passed_to zero within missed = rw (add-zero least) refl
+  passed_to (suc i) within missed =
+      let len = length-bases lowest in
+      let lt : i < length lowest = omega (arith, are.lengths) in
+      let e : least + i + 1 ≡ least + suc i = omega arith in
+      let next : i + 1 ≡ suc i = omega arith in
+      rw (← e, ← next) (sym (code_next limit block at (least + i) (bases lowest) lowest i len (omega (arith, len, lt))
+      (λ fits. missed_at block at word (least + i) (get_or (bases lowest) i 0) (get_or firsts i 0) (are.each i lt) window small (omega (arith, lt, most)) fits (missed i (omega arith))))
+      ∙ passed_to i (omega arith) (λ j before. missed j (omega arith)))
+
+  pub started : (long : LongCodes) (start : ℕ) → AreLong firsts long → start ≡ cond (ltb (word / 2) long.first) long.from 0
+      → code_from limit block at (least + start) (drop start (bases lowest)) (drop start lowest) ≡ code_from limit block at least (bases lowest) lowest
+  started long start is e = elim (cases_lt (word / 2) long.first) [
+    | inl below ↦
+        let there : start ≡ long.from = rw (lt-ltb (word / 2) long.first below) at e in
+        rw there (passed_to long.from is.within (λ j lt. omega (arith, is.above j lt, below)))
+    | inr above ↦
+        let there : start ≡ 0 = rw (le-ltb (word / 2) long.first above) at e in
+        rw there (passed_to 0 (omega arith) (λ j lt. absurd (omega arith)))
+  ]

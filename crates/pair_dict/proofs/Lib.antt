@@ -7,6 +7,7 @@ pub mod ValueCounts
 pub mod WordLemmas
 pub mod Longest
 pub mod ShortLemmas
+pub mod RunLemmas
 pub mod FirstLemmas
 pub mod Pending
 pub mod Chain

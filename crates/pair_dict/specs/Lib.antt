@@ -5,6 +5,7 @@ pub mod Reading
 pub mod Counts
 pub mod Windows
 pub mod ShortCodes
+pub mod Runs
 pub mod Kept
 pub mod Layouts
 pub mod Beginnings

@@ -3,6 +3,7 @@ use Rattle.std.specs.Prelude.{◌≡◌, ℕ, ◌+◌, ◌-◌, ◌*◌, ◌/◌
 use Rattle.pair_dict.specs.Symbols.{symbol_count}
 use Rattle.pair_dict.specs.Codes.{Pairing, bases, bits, number_of, code_at}
 use Rattle.pair_dict.specs.declared.window.BitBuffer.{BitBuffer}
+use Rattle.pair_dict.specs.declared.codes.LongCodes.{LongCodes}
 
 -- the highest n bits of the word are the first n bits of the bytes
 abbrev pub IsWord : List ℕ → ℕ → Type 0
@@ -28,6 +29,11 @@ pub record IsFirst (n base first : ℕ) : Type 0 where
 pub record AreFirsts (least : ℕ) (lowest firsts : List ℕ) : Type 0 where
   pub lengths : length firsts ≡ length lowest
   pub each : (i : ℕ) → i < length lowest → IsFirst (least + i) (slice_index (bases lowest) i) (slice_index firsts i)
+
+-- bits below the number `first` are no code of the lengths before the place `from`
+pub record AreLong (firsts : List ℕ) (long : LongCodes) : Type 0 where
+  pub within : long.from ≤ length firsts
+  pub above : (i : ℕ) → i < long.from → long.first ≤ slice_index firsts i
 
 -- a code that was read: a known symbol, a bit at least, and all of it in the block
 pub record IsSound (limit : ℕ) (block : List ℕ) (p : ℕ) (code : ℕ × ℕ) : Type 0 where

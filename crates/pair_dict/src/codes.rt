@@ -1,10 +1,10 @@
 //! Codes of symbols.
 
-ghost use Rattle.std.specs.Prelude.{◌≡◌, ◌+◌, ◌*◌, ◌^◌, ◌<◌, ◌≤◌, length, true, IfOk, IfSome};
+ghost use Rattle.std.specs.Prelude.{◌≡◌, ◌+◌, ◌*◌, ◌^◌, ◌<◌, ◌≤◌, List, ℕ, length, true, nat_lt, IfOk, IfSome, if◌then◌else◌};
 ghost use Rattle.pair_dict.specs.ShortCodes.{AreShortCodes, IsShortCode};
 ghost use Rattle.pair_dict.specs.Codes.{bases, code_from};
 ghost use Rattle.pair_dict.specs.Reading.{falls, words};
-ghost use Rattle.pair_dict.specs.Windows.{AreFirsts, IsFirst, IsSound};
+ghost use Rattle.pair_dict.specs.Windows.{AreFirsts, AreLong, IsFirst, IsSound};
 
 use crate::window::{room_at, window};
 use crate::words::word_of;
@@ -43,6 +43,43 @@ pub(crate) fn firsts_of(alloc: Global, least: u32, lowest: &[u8]) -> Result<Vec<
     Ok(firsts)
 }
 
+/// Where the search for a long code begins: bits below `first` are no code of the lengths before the place `from`.
+#[derive(Clone, Copy, Debug, PartialEq, Eq)]
+pub(crate) struct LongCodes {
+    pub(crate) from: usize,
+    pub(crate) first: u64,
+}
+
+impl LongCodes {
+    /// A search through all lengths.
+    fn all() -> LongCodes
+        ensures { (firsts : List ℕ) → AreLong firsts result }
+    {
+        LongCodes { from: 0, first: 0 }
+    }
+
+    /// The codes that are longer than so many bits.
+    pub(crate) fn above(width: u32, least: u32, firsts: &[u64]) -> LongCodes
+        requires { width ≤ 12 }
+        ensures { AreLong firsts.now result }
+    {
+        let from = ((width + 1).saturating_sub(least) as usize).min(firsts.len());
+        let mut first = u64::MAX;
+        for i in 0..from {
+            first = first.min(firsts[i]);
+        }
+        LongCodes { from, first }
+    }
+
+    /// The place of the least length that bits may have, which stand at the top of 63 bits.
+    #[inline]
+    fn start(self, front: u64) -> usize
+        ensures { result ≡ if nat_lt front self.first then self.from else 0 }
+    {
+        if front < self.first { self.from } else { 0 }
+    }
+}
+
 /// The symbol and the length of the code at a bit of a block, by the first number of each length.
 pub(crate) fn code_in(
     limit: usize,
@@ -51,16 +88,18 @@ pub(crate) fn code_in(
     least: u32,
     firsts: &[u64],
     lowest: &[u8],
+    long: LongCodes,
 ) -> Option<(usize, u32)>
     requires at { at ≤ 8 * length block.now }
     requires least { 1 ≤ least }
     requires greatest { least + length (words lowest.now) ≤ 33 }
     requires firsts { AreFirsts least (words lowest.now) firsts.now }
+    requires long { AreLong firsts.now long }
     ensures is { result ≡ code_from limit block.now at least (bases (words lowest.now)) (words lowest.now) }
     ensures sound { IfSome result (λ code. IsSound limit block.now at code) }
 {
     let front = window(block, at) >> 1;
-    for i in 0..firsts.len() {
+    for i in long.start(front)..firsts.len() {
         if firsts[i] <= front {
             let length = least + i as u32;
             if length as usize > room_at(block, at) {
@@ -128,7 +167,8 @@ fn short_code_of(
     };
     let word = front << (16 - width);
     let block = [(word / 256) as u8, (word % 256) as u8];
-    let Some((symbol, length)) = code_in(limit, &block, 0, least, firsts, lowest) else {
+    let Some((symbol, length)) = code_in(limit, &block, 0, least, firsts, lowest, LongCodes::all())
+    else {
         return none;
     };
     if length > width {

@@ -4,14 +4,16 @@ ghost use Rattle.std.specs.Prelude.{◌≡◌, ℕ, List, ◌+◌, ◌*◌, ◌<
 ghost use Rattle.pair_dict.specs.Symbols.{symbol_count, values_of, AllHaveValues};
 ghost use Rattle.pair_dict.specs.Codes.{code_at};
 ghost use Rattle.pair_dict.specs.Windows.{IsCodeAt, IsSound, Shows};
+ghost use Rattle.pair_dict.specs.Runs.{IsRunAt};
 ghost use Rattle.pair_dict.specs.Reading.{Gives, layout_at, dictionary_at};
 ghost use Rattle.pair_dict.specs.declared.fault.DictFault.TheVariants.{OutOfMemory};
 ghost use Rattle.pair_dict.specs.Blocks.{block_values, BlockIsComputed, BlockBeginsWithValues};
 
-use crate::codes::{ShortCode, code_in, firsts_of, short_codes_of, short_width};
+use crate::codes::{LongCodes, ShortCode, code_in, firsts_of, short_codes_of, short_width};
 use crate::counts::counts_of;
 use crate::fault::{Damaged, DictFault};
 use crate::layout::Layout;
+use crate::runs::{Run, runs_of};
 use crate::symbols::{MOST_VALUES, Symbol, symbol_at};
 use crate::window::BitBuffer;
 use std::alloc::{AllocError, Global};
@@ -20,14 +22,16 @@ use std::marker::Model;
 /// The symbols of a table and their codes.
 ///
 /// It borrows the bytes that it was read from, and keeps beside them a number for each code length, the short codes
-/// by the bits that begin with them, and how many values each symbol stands for.
+/// and the runs of them by the bits that begin with them, and how many values each symbol stands for.
 #[derive(Drop)]
 pub struct Dictionary<'a> {
     least: u32,
     lowest: &'a [u8],
     firsts: Vec<u64>,
+    long_codes: LongCodes,
     short_width: u32,
     short_codes: Vec<ShortCode>,
+    runs: Vec<Run>,
     symbols: &'a [u8],
     counts: Vec<u16>,
 }
@@ -69,12 +73,15 @@ impl<'a> Dictionary<'a> {
             &firsts,
             layout.lowest,
         )?;
+        let runs = runs_of(alloc, &layout, short_width, &short_codes, &counts)?;
         let dictionary = Dictionary {
             least: layout.least,
             lowest: layout.lowest,
+            long_codes: LongCodes::above(short_width, layout.least, &firsts),
             firsts,
             short_width,
             short_codes,
+            runs,
             symbols: layout.symbols,
             counts,
         };
@@ -88,6 +95,15 @@ impl<'a> Dictionary<'a> {
             → IsCodeAt self.now block p result.symbol result.length }
     {
         self.short_codes[buffer.front(self.short_width)]
+    }
+
+    /// The run of codes with which the bits of a buffer begin; 255 bits where there is none.
+    #[inline]
+    fn run(&self, buffer: BitBuffer) -> Run
+        ensures { (block : List ℕ) (p : ℕ) → Shows block p buffer → result.bits ≤ buffer.held
+            → IsRunAt self.now block p result.values result.bits }
+    {
+        self.runs[buffer.front(self.short_width)]
     }
 
     /// The symbol and the length of the code at a bit of a block, of which a buffer shows the bits from there on. Where it
@@ -110,6 +126,7 @@ impl<'a> Dictionary<'a> {
             self.least,
             &self.firsts,
             self.lowest,
+            self.long_codes,
         )
     }
 
@@ -148,7 +165,7 @@ impl<'a> Dictionary<'a> {
     }
 
     /// The value of a block at an offset from its first value, 0 to 4095. It takes no memory, skips the symbols before by their
-    /// counts and goes down into one.
+    /// counts, several short codes in a step, and goes down into one.
     ///
     /// `Damaged` where the block's whole codes give no value at that offset (Syzygy table format, the values of a block).
     pub fn value(&self, block: &[u8], offset: u32) -> Result<u16, Damaged>
@@ -158,7 +175,17 @@ impl<'a> Dictionary<'a> {
         let mut left = offset as usize;
         let mut at: usize = 0;
         let mut buffer = BitBuffer::at(block, 0);
-        'codes: while let Some((symbol, length)) = self.code_at(buffer, block, at) {
+        'codes: loop {
+            let run = self.run(buffer);
+            if run.bits as u32 <= buffer.held() && run.values as usize <= left {
+                left -= run.values as usize;
+                at += run.bits as usize;
+                buffer = buffer.after(run.bits as u32, block, at);
+                continue;
+            }
+            let Some((symbol, length)) = self.code_at(buffer, block, at) else {
+                return Err(Damaged);
+            };
             let skipped = self.values(symbol);
             if left < skipped {
                 return Ok(self.value_in(symbol, left));
@@ -167,7 +194,6 @@ impl<'a> Dictionary<'a> {
             at += length as usize;
             buffer = buffer.after(length, block, at);
         }
-        Err(Damaged)
     }
 
     /// Appends the values of a symbol, as long as there are fewer than `limit`. Right halves wait while left ones are gone
@@ -220,11 +246,13 @@ impl<'a> Dictionary<'a> {
 
     /// The first values of a block, at most `count`, and fewer where the block's whole codes give fewer (Syzygy table
     /// format, the values of a block); where a block's length cuts them, the caller asks for no more. Values are 0 to
-    /// 4095. Room for them is taken once, for no more than 2048 values a byte of the block; the only error is that it
-    /// is refused.
+    /// 4095. Room for them is taken once, for no more than `count` values and no more than 2048 a byte of the block; the
+    /// only error is that it is refused, and a `count` of 0 takes none.
     pub fn decode(&self, alloc: Global, block: &[u8], count: u32) -> Result<Vec<u16>, AllocError>
         ensures values { IfOk result (λ values. values.items ≡ take count (block_values self.now block.now)) }
         ensures room { IfOk result (λ values. vec_capacity values ≤ 2048 * length block.now) }
+        ensures asked { IfOk result (λ values. vec_capacity values ≤ count) }
+        ensures none { count ≡ 0 → IsOk result }
     {
         let limit = self.limit_of(block, count);
         let mut values = Vec::with_capacity(alloc, limit)?;

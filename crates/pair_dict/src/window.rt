@@ -1,6 +1,6 @@
 //! Bits of a block.
 
-ghost use Rattle.std.specs.Prelude.{List, ◌≡◌, ◌+◌, ◌-◌, ◌*◌, ◌/◌, ◌^◌, ◌<◌, ◌≤◌, ℕ, length, drop};
+ghost use Rattle.std.specs.Prelude.{List, ◌≡◌, ◌+◌, ◌-◌, ◌*◌, ◌/◌, ◌%◌, ◌^◌, ◌<◌, ◌≤◌, ℕ, length, drop};
 ghost use Rattle.pair_dict.specs.Codes.{bits, number_of};
 ghost use Rattle.pair_dict.specs.Windows.{IsWord, IsWindow, Shows};
 
@@ -81,6 +81,34 @@ impl BitBuffer {
         }
     }
 
+    /// A few bits, at the top of the word.
+    pub(crate) fn of(bits: u16, width: u32) -> BitBuffer
+        requires some { 1 ≤ width }
+        requires few { width ≤ 12 }
+        requires fits { bits < 2 ^ width }
+        ensures bits { result.bits ≡ bits * 2 ^ (64 - width) }
+        ensures held { result.held ≡ width }
+    {
+        BitBuffer {
+            bits: (bits as u64) << (64 - width),
+            held: width,
+        }
+    }
+
+    /// The bits that follow so many of those that are held.
+    #[inline]
+    pub(crate) fn without(self, taken: u32) -> BitBuffer
+        requires some { taken ≤ self.held }
+        requires few { taken < 64 }
+        ensures bits { result.bits ≡ self.bits * 2 ^ taken % 2 ^ 64 }
+        ensures held { result.held ≡ self.held - taken }
+    {
+        BitBuffer {
+            bits: self.bits << taken,
+            held: self.held - taken,
+        }
+    }
+
     /// The bits that follow so many that are taken, up to a bit of the block: those that are held, or the block's where few
     /// are left.
     #[inline]
@@ -93,10 +121,7 @@ impl BitBuffer {
         if taken > self.held || self.held - taken < FEW_BITS {
             return BitBuffer::at(block, end);
         }
-        BitBuffer {
-            bits: self.bits << taken,
-            held: self.held - taken,
-        }
+        self.without(taken)
     }
 
     /// The first bits, so many.

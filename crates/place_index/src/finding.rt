@@ -1,6 +1,7 @@
 //! The material of a position.
 
 ghost use Rattle.std.specs.Prelude.{◌≡◌, ◌<◌, ◌≤◌, ◌↔◌, ℕ, IfSome, IfNone, IsTrue, length};
+ghost use Rattle.place_index.specs.Material.{tally_of};
 ghost use Rattle.place_index.specs.Men.{codes_of};
 ghost use Rattle.place_index.specs.Placed.{IsMaterialOf, key_by_weight, men_on, weight, weight_of};
 
@@ -41,12 +42,13 @@ fn key_by_weight(weight: usize) -> u8
     KEYS[weight]
 }
 
-/// Whether the men are those of the table, in its colours or with colours exchanged.
-fn is_material_of(material: Material, men: &mut [Man]) -> bool
-    requires { length men.old ≤ 5 }
+/// Whether the men, which have this tally, are those of the table, in its colours or with colours exchanged.
+fn is_material_of(material: Material, men: &mut [Man], of_men: u64) -> bool
+    requires few { length men.old ≤ 5 }
+    requires tally { of_men ≡ tally_of (codes_of men.old) }
     ensures { IsTrue result ↔ IsMaterialOf material men.old }
 {
-    if is_named(material, men, tally(men)) {
+    if is_named(material, men, of_men) {
         return true;
     }
     exchange(men);
@@ -65,7 +67,7 @@ impl Material {
             return None;
         }
         let mut men = [Man::default(); 5];
-        let (count, _) = men_on(position, &mut men);
+        let (count, tally) = men_on(position, &mut men);
         let weight = weight(&men[..count]);
         if weight >= 2233 {
             return None;
@@ -74,7 +76,7 @@ impl Material {
         let Some(material) = Material::with_key(key) else {
             return None;
         };
-        if is_material_of(material, &mut men[..count]) {
+        if is_material_of(material, &mut men[..count], tally) {
             Some(material)
         } else {
             None

@@ -5,6 +5,7 @@ pub mod Expanded
 pub mod NameLemmas
 pub mod Planned
 pub mod Views
+pub mod AtSpots
 pub mod ShapeTests
 pub mod Agreeing
 pub mod LayoutSteps

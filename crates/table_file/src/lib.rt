@@ -4,6 +4,7 @@
 //! `checks`.
 #![tactic(auto)]
 
+mod at_spot;
 mod codes;
 mod fault;
 mod forging;

@@ -154,7 +154,7 @@ fn place_of(
 }
 
 /// The bytes of a block.
-fn block_of<'a>(codes: &Codes<'_>, blocks: &'a [u8], block: usize) -> &'a [u8]
+pub(crate) fn block_of<'a>(codes: &Codes<'_>, blocks: &'a [u8], block: usize) -> &'a [u8]
     requires known { block < codes.now.blocks }
     requires length { length blocks.now ≡ codes.now.blocks * block_size codes.now }
     ensures { result.now ≡ take (block_size codes.now) (drop (block * block_size codes.now) blocks.now) }

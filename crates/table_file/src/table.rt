@@ -298,7 +298,7 @@ impl<'a> Table<'a> {
     }
 
     /// What a stored value of a file stands for: where the file is mapped, the entry at that place of the map.
-    fn mapped(&self, file: u8, outcome: Outcome, value: u16) -> Option<u16>
+    pub(crate) fn mapped(&self, file: u8, outcome: Outcome, value: u16) -> Option<u16>
         requires kind { self.now.kind ≡ Dtz }
         requires file { IsFile self.now.material file }
         ensures { result ≡ mapped_value (file_flags self.now file) (file_maps self.now file) outcome value }

@@ -2,7 +2,7 @@ use Rattle.std.proofs.Common.{◌≡◌, ◌+◌, ◌-◌, ◌<◌, ◌≤◌, �
 use Rattle.pair_dict.specs.Codes.{bases, bits}
 use Rattle.pair_dict.specs.Reading.{words}
 use Rattle.pair_dict.proofs.WordLemmas.{length-bases}
-use Rattle.pair_dict.proofs.FirstLemmas.{reached_at, missed_at}
+use Rattle.pair_dict.proofs.FirstLemmas.{reached_at, missed_at, started}
 use Rattle.pair_dict.proofs.CodeLemmas.{code_too_long, code_found, code_next, code_none, below_yes, below_no}
 use Rattle.pair_dict.proofs.codes.code_in.Goals as goal
 
@@ -70,3 +70,7 @@ returns-clause-is c =
     let len = length-bases ws in
     sym (code_none c.args.limit c.args.block.now c.args.at (c.args.least + c.loop-i.i) (bases ws) ws c.loop-i.i len (omega (arith, len, c.requires.firsts.lengths, c.loop-i-test.false)))
     ∙ c.loop-i.invariant
+
+pub loop-i-init : goal.loop-i-init
+loop-i-init c =
+    started c.args.limit c.args.block.now c.args.at c.args.least c.window-front.result (words c.args.lowest.now) c.args.firsts.now c.requires.firsts c.window-front.ensures (omega arith) c.requires.greatest c.args.long c.start-i.result c.requires.long c.start-i.ensures

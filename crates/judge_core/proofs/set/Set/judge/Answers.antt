@@ -3,7 +3,9 @@ use Rattle.board_core.specs.ComputedMoves.{count_of_men}
 use Rattle.board_core.specs.Side.{other}
 use Rattle.judge_core.specs.declared.wdl.Wdl.TheVariants.{Draw, Win, Loss}
 use Rattle.board_core.specs.declared.verdict.Verdict.TheVariants.{TableDraw}
-use Rattle.judge_core.specs.Distances.{dtz_of}
+use Rattle.judge_core.specs.Tables.{Holding}
+use Rattle.judge_core.specs.Probing.{weighed_by, wdl_of}
+use Rattle.judge_core.specs.Distances.{by_weighed, dtz_to, dtz_of}
 use Rattle.judge_core.proofs.Rule.{bare, weighed}
 use Rattle.judge_core.proofs.Plies.{ruled_by, by_win, by_loss, reached}
 use Rattle.judge_core.proofs.set.Set.judge.Goals.{in-Ok-Win, in-Ok-Loss}
@@ -19,7 +21,7 @@ pub returns-in_default-clause-value : goal.returns-in_default-clause-value
 returns-in_default-clause-value c =
     ruled_by c.args.self.now.tables c.args.position.now c.worth_in-reading.result c.by_value.result
     (sym c.has_no_move.ensures ∙ c.if-has_no_move.false) (sym c.is_out_of_scope.ensures.is ∙ c.if-is_out_of_scope.false)
-    (c.worth_in-reading.ensures ∙ weighed c.args.self.now.tables c.args.position.now c.in_ok-weighed.weighed c.is_out_of_scope.ensures.position (omega (arith, c.men.ensures.computed, c.if-men-le2.false)) c.in_ok-weighed.ensures)
+    (c.worth_in-reading.ensures ∙ weighed c.args.self.now.tables c.args.position.now c.in_ok-weighed.weighed c.is_out_of_scope.ensures.position (omega (arith, c.men.ensures.computed, c.if-men-le2.false)) (c.in_ok-weighed.ensures.is ∙ ap (λ (h : Holding). weighed_by h.tables (wdl_of h.tables) c.args.position.now) c.self.view_is))
     (c.by_value.ensures c.args.position.now (dtz_of c.args.self.now.tables c.args.position.now))
 
 pub returns-clause-value : goal.returns-clause-value
@@ -27,8 +29,8 @@ returns-clause-value c =
     let many : 2 < count_of_men c.args.position.now = omega (arith, c.men.ensures.computed, c.if-men-le2.false) in
     let scope = sym c.is_out_of_scope.ensures.is ∙ c.if-is_out_of_scope.false in
     let moves = sym c.has_no_move.ensures ∙ c.if-has_no_move.false in
-    let value = c.worth_in-reading.ensures ∙ weighed c.args.self.now.tables c.args.position.now c.in_ok-weighed.weighed c.is_out_of_scope.ensures.position many c.in_ok-weighed.ensures in
-    let reach = c.in_ok-reach.ensures.is ∙ reached c.args.self.now.tables c.args.position.now c.in_ok-weighed.weighed many c.in_ok-weighed.ensures in
+    let value = c.worth_in-reading.ensures ∙ weighed c.args.self.now.tables c.args.position.now c.in_ok-weighed.weighed c.is_out_of_scope.ensures.position many (c.in_ok-weighed.ensures.is ∙ ap (λ (h : Holding). weighed_by h.tables (wdl_of h.tables) c.args.position.now) c.self.view_is) in
+    let reach = c.in_ok-reach.ensures.is ∙ ap (λ (h : Holding). by_weighed h.tables (dtz_to h.tables 1) c.args.position.now c.in_ok-weighed.weighed) c.self.view_is ∙ reached c.args.self.now.tables c.args.position.now c.in_ok-weighed.weighed many (c.in_ok-weighed.ensures.is ∙ ap (λ (h : Holding). weighed_by h.tables (wdl_of h.tables) c.args.position.now) c.self.view_is) in
     elim c.match-reading-2.branch [
       | in-Ok-Win w ↦ (
           let won : c.worth_in-reading.result ≡ Ok Win = search rules in

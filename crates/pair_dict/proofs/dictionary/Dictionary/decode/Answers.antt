@@ -36,3 +36,6 @@ returns-clause-values c = elim c.codes-test.branch [
 
 pub returns-clause-room : goal.returns-clause-room
 returns-clause-room c = omega (arith, c.codes.invariant.exact, c.limit_of-limit.ensures.small)
+
+pub returns-clause-asked : goal.returns-clause-asked
+returns-clause-asked c = omega (arith, c.codes.invariant.exact, c.limit_of-limit.ensures.few)

@@ -1,0 +1,116 @@
+//! Probes through decoded blocks: the same answers whatever a set keeps.
+
+use crate::comparing::check_same;
+use crate::files::queen_file;
+use crate::positions::position_of;
+use judge_core::Set;
+use std::alloc::Global;
+use std::process::Abort;
+use table_file::{Table, open};
+
+/// The same squares for a queen and for a rook, so that both tables are asked at the same index.
+const ROWS: [[&str; 2]; 5] = [
+    [
+        "8/8/8/4k3/8/8/8/KQ6 w - - 0 1",
+        "8/8/8/4k3/8/8/8/KR6 w - - 0 1",
+    ],
+    [
+        "8/8/8/4k3/8/8/8/K1Q5 w - - 0 1",
+        "8/8/8/4k3/8/8/8/K1R5 w - - 0 1",
+    ],
+    [
+        "8/8/8/3k4/8/8/8/1K3Q2 w - - 0 1",
+        "8/8/8/3k4/8/8/8/1K3R2 w - - 0 1",
+    ],
+    [
+        "8/8/1k6/8/8/2K5/8/7Q w - - 0 1",
+        "8/8/1k6/8/8/2K5/8/7R w - - 0 1",
+    ],
+    [
+        "8/6k1/8/8/3K4/8/8/7Q w - - 0 1",
+        "8/6k1/8/8/3K4/8/8/7R w - - 0 1",
+    ],
+];
+
+/// The queen's table with blocks, and the same for a rook with the values 3 and 1 in the places of 4 and 0.
+fn files(rt: &impl Abort, alloc: Global) -> [Vec<u8>; 2] {
+    let queen = queen_file(rt, alloc);
+    let mut rook = queen_file(rt, alloc);
+    rook[7] = 0x44;
+    rook[26] = 3;
+    rook[29] = 1;
+    [queen, rook]
+}
+
+fn opened<'a>(rt: &impl Abort, alloc: Global, name: &str, file: &'a [u8]) -> Table<'a> {
+    open(alloc, name.as_bytes(), file).expect(rt, name)
+}
+
+/// A set of both tables that may keep so many blocks.
+fn set_of<'a>(rt: &impl Abort, alloc: Global, files: &'a [Vec<u8>; 2], cache: usize) -> Set<'a> {
+    let mut set = Set::new(alloc, cache).expect(rt, "a set");
+    set.add(opened(rt, alloc, "KQvK.rtbw", &files[0]))
+        .expect(rt, "a queen");
+    set.add(opened(rt, alloc, "KRvK.rtbw", &files[1]))
+        .expect(rt, "a rook");
+    set
+}
+
+fn value(rt: &impl Abort, alloc: Global, set: &mut Set<'_>, row: &str) -> i8 {
+    set.wdl(alloc, &position_of(rt, row))
+        .expect(rt, row)
+        .number()
+}
+
+/// The values of a row's two positions.
+fn values(rt: &impl Abort, alloc: Global, set: &mut Set<'_>, row: &[&str; 2]) -> (i8, i8) {
+    (
+        value(rt, alloc, set, row[0]),
+        value(rt, alloc, set, row[1]),
+    )
+}
+
+/// What a set tells that has kept nothing yet.
+fn first_values(
+    rt: &impl Abort,
+    alloc: Global,
+    files: &[Vec<u8>; 2],
+    row: &[&str; 2],
+) -> (i8, i8) {
+    let mut set = set_of(rt, alloc, files, 1);
+    let told = values(rt, alloc, &mut set, row);
+    check_same(rt, set.kept_blocks(), 0, row[0]);
+    told
+}
+
+/// Both tables in turn, over and over, then how many blocks are kept.
+fn check_rounds(rt: &impl Abort, alloc: Global, files: &[Vec<u8>; 2], cache: usize) -> usize {
+    let mut set = set_of(rt, alloc, files, cache);
+    for _ in 0..100u8 {
+        for row in &ROWS {
+            let told = values(rt, alloc, &mut set, row);
+            check_same(rt, told, first_values(rt, alloc, files, row), row[0]);
+        }
+    }
+    set.kept_blocks()
+}
+
+#[test]
+fn caches_change_no_answer(rt: HostRuntime) {
+    let files = files(&rt, rt.alloc());
+    check_same(&rt, check_rounds(&rt, rt.alloc(), &files, 1), 1, "one");
+    check_same(&rt, check_rounds(&rt, rt.alloc(), &files, 2), 2, "two");
+    check_same(&rt, check_rounds(&rt, rt.alloc(), &files, 64), 10, "all");
+}
+
+/// A queen and a rook at one place of their blocks are told apart.
+#[test]
+fn tables_with_equal_blocks_are_told_apart(rt: HostRuntime) {
+    let files = files(&rt, rt.alloc());
+    let mut set = set_of(&rt, rt.alloc(), &files, 2);
+    for _ in 0..3u8 {
+        let told = values(&rt, rt.alloc(), &mut set, &ROWS[0]);
+        let halved = (told.0 / 2, told.1);
+        check_same(&rt, halved.0, halved.1, ROWS[0][0]);
+    }
+}

@@ -1,0 +1,106 @@
+use Rattle.std.proofs.Common.{◌∙◌, sym, ap, option_map, Ok, arith}
+use Rattle.std.proofs.lemmas.List.{take_all}
+use Rattle.judge_core.specs.Distances.{is_quiet, move_counts, by_own_table, unless_reached, dtz_to}
+use Rattle.judge_core.specs.Counts.{no_counts, with_count}
+use Rattle.judge_core.proofs.Asking.{noted_all, walk-passed, walk-noted}
+use Rattle.judge_core.proofs.Counting.{counts_told-is, within-count}
+use Rattle.judge_core.proofs.Reaching.{if_same, mate_counts, other_counts, bare_own, missing_own, stored_own, quiet_own, reached_by, reached_is, lost_is, none_left, few_men, some_left}
+use Rattle.judge_core.proofs.shelf.Shelf.+dtz.Goals.{by_moves-then-is_won+in_ok-reached+in-Ok+else-reached, by_moves-else-is_won, by_quiet_moves-in-Some+in_ok-count, by_quiet_moves-in_default, dtz_to-then-left-eq0-via-then-left-eq0, dtz_to-then-left-eq0-via-else-left-eq0+then-men-le2, move_counts-else-won-via-then-won+else-is_mate, move_counts-else-won-via-else-won}
+use Rattle.judge_core.proofs.shelf.Shelf.+dtz.Goals as goal
+
+pub move_counts-returns-then-is_mate-clause-is : goal.move_counts-returns-then-is_mate-clause-is
+move_counts-returns-then-is_mate-clause-is t c = mate_counts c.args.outcome (dtz_to c.args.self.now.tables c.args.left) c.args.after.now (sym c.is_won-won.ensures ∙ c.if-won.true) (sym c.is_mate.ensures ∙ c.if-is_mate.true)
+
+pub move_counts-returns-clause-is : goal.move_counts-returns-clause-is
+move_counts-returns-clause-is t c = elim c.else-won.branch [
+  | move_counts-else-won-via-then-won+else-is_mate w ↦
+      other_counts c.args.outcome (dtz_to c.args.self.now.tables c.args.left) c.args.after.now c.is_won-won.result c.in_ok-reach.reach c.counted.result c.is_won-won.ensures (λ won. sym w.is_mate.ensures ∙ w.if-is_mate.false) c.in_ok-reach.ensures.is c.counted.ensures
+  | move_counts-else-won-via-else-won w ↦
+      other_counts c.args.outcome (dtz_to c.args.self.now.tables c.args.left) c.args.after.now c.is_won-won.result c.in_ok-reach.reach c.counted.result c.is_won-won.ensures (λ won. (let e = sym won ∙ w.if-won.false in cc)) c.in_ok-reach.ensures.is c.counted.ensures
+]
+
+pub by_quiet_moves-loop-m-preserved : goal.by_quiet_moves-loop-m-preserved
+by_quiet_moves-loop-m-preserved t c =
+    let p = c.args.position.now in
+    let xs = c.deref-m-items.result.now in
+    let start = no_counts c.args.outcome in
+    let reach = dtz_to c.args.self.now.tables c.args.left in
+    elim c.match-after_quiet_move.branch [
+      | by_quiet_moves-in-Some+in_ok-count w ↦ (
+        walk-noted with_count start (move_counts c.args.outcome reach) (is_quiet p) p xs c.loop-m.m-index c.m-item.result c.loop-m.counts _ c.loop-m-test.true c.m-item.is c.loop-m.invariant.0
+            w.in-Some.after _ (sym c.after_quiet_move.ensures ∙ w.in-Some.is) w.in_ok-count.ensures.is (w.counts-is ∙ w.note-counts.ensures),
+        within-count _ c.loop-m.counts _ w.in_ok-count.count c.loop-m.invariant.1 w.in_ok-count.ensures.within (w.counts-is ∙ w.note-counts.ensures),
+        rw w.blocks-is w.in_ok-count.ensures.right,
+      )
+      | by_quiet_moves-in_default w ↦ (
+        walk-passed with_count start (move_counts c.args.outcome reach) (is_quiet p) p xs c.loop-m.m-index c.m-item.result c.loop-m.counts _ c.loop-m-test.true c.m-item.is c.loop-m.invariant.0
+            (sym c.after_quiet_move.ensures ∙ w.in_default.is) w.counts-is,
+        rw w.counts-is c.loop-m.invariant.1,
+        rw w.blocks-is c.loop-m.invariant.2,
+      )
+    ]
+
+pub by_quiet_moves-returns-clause-is : goal.by_quiet_moves-returns-clause-is
+by_quiet_moves-returns-clause-is t c =
+    let reach = dtz_to c.args.self.now.tables c.args.left in
+    let all = c.loop-m.invariant.0 ∙ ap (noted_all with_count (no_counts c.args.outcome) (move_counts c.args.outcome reach) (is_quiet c.args.position.now) c.args.position.now) (take_all _ _ c.loop-m-test.false) in
+    counts_told-is c.args.material c.args.outcome reach c.args.position.now c.loop-m.counts _ c.told.result (c.deref-m-items.ensures.value ∙ c.in_ok-moves.ensures.computed) all c.told.ensures
+
+pub by_own_table-returns-in_default-clause-is : goal.by_own_table-returns-in_default-clause-is
+by_own_table-returns-in_default-clause-is t c = bare_own c.args.self.now.tables _ c.args.position.now c.args.outcome (sym c.material_of.ensures.is ∙ c.in_default.is)
+
+pub by_own_table-returns-in_default-table-clause-is :
+    goal.by_own_table-returns-in_default-table-clause-is
+by_own_table-returns-in_default-table-clause-is t c =
+    missing_own c.args.self.now.tables _ c.args.position.now c.args.outcome c.in-Some.material (sym c.material_of.ensures.is ∙ c.in-Some.is) (sym c.table.ensures.found ∙ ap (option_map (λ t. t.now)) c.in_default-table.is)
+
+pub by_own_table-returns-then-stores-clause-is : goal.by_own_table-returns-then-stores-clause-is
+by_own_table-returns-then-stores-clause-is t c =
+    stored_own c.args.self.now.tables _ c.args.position.now c.args.outcome c.in-Some.material (sym c.material_of.ensures.is ∙ c.in-Some.is)
+    c.in-Some-table.table.now c.placed-placed.result _ _ c.stores.result (sym c.table.ensures.found ∙ ap (option_map (λ t. t.now)) c.in-Some-table.is) c.placed-placed.ensures.is c.side.ensures.is c.file.ensures.is c.stores.ensures
+    c.distance-number.result c.stored.result c.if-stores.true c.distance-number.ensures.is c.stored.ensures.is
+
+pub by_own_table-returns-clause-is : goal.by_own_table-returns-clause-is
+by_own_table-returns-clause-is t c =
+    let reach = dtz_to c.args.self.now.tables c.args.left in
+    let e = quiet_own c.args.self.now.tables reach c.args.position.now c.args.outcome c.in-Some.material (sym c.material_of.ensures.is ∙ c.in-Some.is)
+    c.in-Some-table.table.now c.placed-placed.result _ _ c.stores.result (sym c.table.ensures.found ∙ ap (option_map (λ t. t.now)) c.in-Some-table.is) c.placed-placed.ensures.is c.side.ensures.is c.file.ensures.is c.stores.ensures c.if-stores.false in
+    if_same c.by_quiet_moves.result _ _ e c.by_quiet_moves.ensures.is
+
+pub by_moves-returns-then-reached-clause-is : goal.by_moves-returns-then-reached-clause-is
+by_moves-returns-then-reached-clause-is t c =
+    let reach = dtz_to c.args.self.now.tables c.args.left in
+    let own = by_own_table c.args.self.now.tables reach c.args.position.now c.args.outcome in
+    reached_by c.args.outcome own c.in-Ok.reached c.zeroing.result c.towards.result c.if-reached.true c.zeroing.ensures.is c.towards.ensures.is
+    ∙ ap (λ told. unless_reached told c.args.outcome own) (sym c.in-Ok.is)
+    ∙ reached_is c.args.self.now.tables reach c.args.position.now c.args.outcome c.args.value c.in_ok-reached.reached (sym c.is_won.ensures ∙ c.if-is_won.true) c.in_ok-reached.ensures.is
+
+pub by_moves-returns-in-Err-clause-is : goal.by_moves-returns-in-Err-clause-is
+by_moves-returns-in-Err-clause-is t c =
+    let reach = dtz_to c.args.self.now.tables c.args.left in
+    let own = by_own_table c.args.self.now.tables reach c.args.position.now c.args.outcome in
+    ap (λ told. unless_reached told c.args.outcome own) (sym c.in-Err.is) ∙ reached_is c.args.self.now.tables reach c.args.position.now c.args.outcome c.args.value c.in_ok-reached.reached (sym c.is_won.ensures ∙ c.if-is_won.true) c.in_ok-reached.ensures.is
+
+pub by_moves-returns-clause-is : goal.by_moves-returns-clause-is
+by_moves-returns-clause-is t c =
+    let reach = dtz_to c.args.self.now.tables c.args.left in
+    let own = by_own_table c.args.self.now.tables reach c.args.position.now c.args.outcome in
+    elim c.if-is_won.branch [
+      | by_moves-then-is_won+in_ok-reached+in-Ok+else-reached w ↦
+          if_same c.by_own_table.result _ _
+          (ap (λ b. unless_reached (Ok b) c.args.outcome own) (sym w.if-reached.false)
+          ∙ ap (λ told. unless_reached told c.args.outcome own) (sym w.in-Ok.is)
+          ∙ reached_is c.args.self.now.tables reach c.args.position.now c.args.outcome c.args.value w.in_ok-reached.reached (sym c.is_won.ensures ∙ w.if-is_won.true) w.in_ok-reached.ensures.is)
+          c.by_own_table.ensures.is
+      | by_moves-else-is_won w ↦ if_same c.by_own_table.result _ _ (lost_is c.args.self.now.tables reach c.args.position.now c.args.outcome c.args.value (sym c.is_won.ensures ∙ w.if-is_won.false)) c.by_own_table.ensures.is
+    ]
+
+pub dtz_to-returns-then-left-eq0-clause-is : goal.dtz_to-returns-then-left-eq0-clause-is
+dtz_to-returns-then-left-eq0-clause-is t c = elim c.then-left-eq0.branch [
+  | dtz_to-then-left-eq0-via-then-left-eq0 w ↦ none_left c.args.self.now.tables c.args.left c.args.position.now w.if-left-eq0.true
+  | dtz_to-then-left-eq0-via-else-left-eq0+then-men-le2 w ↦ few_men c.args.self.now.tables c.args.left c.args.position.now (omega (arith, w.men.ensures.computed, w.if-men-le2.true))
+]
+
+pub dtz_to-returns-clause-is : goal.dtz_to-returns-clause-is
+dtz_to-returns-clause-is t c =
+    if_same c.by_weighed.result _ _ (some_left c.args.self.now.tables c.args.left c.args.position.now c.in_ok-weighed.weighed c.if-left-eq0.false (omega (arith, c.men.ensures.computed, c.if-men-le2.false)) c.in_ok-weighed.ensures.is) c.by_weighed.ensures.is

@@ -1,0 +1,10 @@
+use Rattle.std.proofs.Common.{◌∙◌, ap, ◌++◌, ◌∷◌, [], None, arith}
+use Rattle.std.proofs.lemmas.List.{replicate-append-replicate}
+use Rattle.judge_core.proofs.Slots.{new_kept}
+use Rattle.judge_core.proofs.shelf.Shelf.new.Goals as goal
+
+pub loop-preserved : goal.loop-preserved
+loop-preserved c = c.in_ok-push.ensures.items ∙ ap (λ xs. xs ++ None ∷ []) c.loop.invariant ∙ replicate-append-replicate _ 1 None
+
+pub invariant_of-result : goal.invariant_of-result
+invariant_of-result c = new_kept _ c.loop.counter (omega arith) c.new.ensures.items c.loop.invariant c.requires.some c.requires.most

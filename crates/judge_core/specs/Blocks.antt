@@ -1,0 +1,26 @@
+-- Decoded blocks of tables.
+use Rattle.std.specs.Prelude.{◌≡◌, ℕ, ◌≤◌, List, [], length, Option, None, Some, option_map, slice_index_or, Contains}
+use Rattle.table_file.specs.Expansion.{values_of}
+use Rattle.judge_core.specs.declared.blocks.BlockKey.{BlockKey}
+use Rattle.judge_core.specs.declared.blocks.Blocks.{Blocks}
+use Rattle.judge_core.specs.Tables.{Tables, Holding}
+
+-- the values of the block that the key names
+abbrev pub block_at : Tables → BlockKey → Option (List ℕ)
+block_at tables key = option_map (λ t. values_of t key.side key.file key.block) (slice_index_or tables key.slot None)
+
+-- these are the values of that block
+abbrev pub IsRight : Tables → BlockKey → List ℕ → Type 0
+IsRight tables key values = block_at tables key ≡ Some values
+
+-- Each kept block has the values of the block that its key names, and as many may be kept as the set is for.
+pub record AreRight (h : Holding) (b : Blocks) : Type 0 where
+  pub cap : b.kept.cap ≡ h.cache
+  pub places : 1 ≤ length b.asked.items
+  pub right : (kept : _) → Contains b.kept.entries kept → IsRight h.tables kept.0 kept.1.items
+
+-- none is kept yet
+pub record IsNew (most : ℕ) (b : Blocks) : Type 0 where
+  pub cap : b.kept.cap ≡ most
+  pub places : 1 ≤ length b.asked.items
+  pub none : b.kept.entries ≡ []

@@ -1,0 +1,130 @@
+//! Decoded blocks.
+
+ghost use Rattle.std.specs.Prelude.{◌≡◌, ◌<◌, ◌≤◌, ◌*◌, [], length, IfOk};
+ghost use Rattle.judge_core.specs.Blocks.{IsNew};
+
+use lru::LruCache;
+use std::alloc::{AllocError, Global};
+use std::num::NonZeroUsize;
+
+/// Names a block of a file of a side of a table.
+#[derive(Clone, Copy, PartialEq, Eq, Hash, Debug)]
+pub(crate) struct BlockKey {
+    /// The table's slot.
+    pub(crate) slot: u16,
+    /// The side, 0 where the table doesn't look at the side.
+    pub(crate) side: u8,
+    /// The file of the leading pawn.
+    pub(crate) file: u8,
+    /// The block's number.
+    pub(crate) block: u32,
+}
+
+/// A block that was asked for: its key, when it was asked for last, counted in askings, and how often in a row since it was new
+/// or decoded.
+#[derive(Clone, Copy, PartialEq, Eq, Debug)]
+pub(crate) struct Asked {
+    key: BlockKey,
+    when: u32,
+    times: u32,
+}
+
+/// How a block is asked for.
+#[derive(Clone, Copy, PartialEq, Eq, Debug)]
+pub(crate) enum Asking {
+    /// For the first time of late.
+    First,
+    /// Again.
+    Again,
+    /// Again so often that it is worth decoding.
+    Often,
+}
+
+/// How many keys that were asked for are remembered for each block that may be kept.
+const REMEMBERED: usize = 16;
+
+/// A block is asked for again where no more askings have passed than so many for each block that may be kept.
+const RECENT: usize = 4;
+
+/// A block that was asked for again so often is decoded, which takes as long as some hundred single values.
+const OFTEN: u32 = 128;
+
+/// Decoded blocks, and the keys that were asked for of late, each at a place that it gives.
+#[derive(Drop)]
+pub(crate) struct Blocks {
+    pub(crate) kept: LruCache<BlockKey, Vec<u16>>,
+    pub(crate) asked: Vec<Asked>,
+    pub(crate) askings: u32,
+}
+
+impl Blocks {
+    /// None yet, and at most so many.
+    pub(crate) fn new(alloc: Global, most: usize) -> Result<Blocks, AllocError>
+        requires some { 1 ≤ most }
+        requires few { most ≤ 4096 }
+        ensures { IfOk result (λ blocks. IsNew most blocks) }
+    {
+        let none = Asked {
+            key: BlockKey {
+                slot: u16::MAX,
+                side: 0,
+                file: 0,
+                block: 0,
+            },
+            when: 0,
+            times: 0,
+        };
+        let asked = vec![in alloc; none; REMEMBERED * most]?;
+        let Some(most) = NonZeroUsize::new(most) else {
+            unreachable!()
+        };
+        let kept = LruCache::sparse(alloc, most)?;
+        Ok(Blocks {
+            kept,
+            asked,
+            askings: 0,
+        })
+    }
+
+    /// How many are kept.
+    pub(crate) fn len(&self) -> usize
+        ensures { result ≤ self.now.kept.cap }
+    {
+        self.kept.len()
+    }
+
+    /// Where a key is remembered.
+    fn place_of(&self, key: BlockKey) -> usize
+        requires { 1 ≤ length self.now.asked.items }
+        ensures { result < length self.now.asked.items }
+    {
+        let place = 613 * key.slot as usize + 307 * key.side as usize + 151 * key.file as usize;
+        (place + key.block as usize) % self.asked.len()
+    }
+
+    /// The asking after one that is remembered, or after that of another block.
+    fn next_asking(&self, last: Asked, key: BlockKey, now: u32) -> (Asking, u32) {
+        let recent = (self.asked.len() / REMEMBERED).saturating_mul(RECENT);
+        if last.key != key || now.wrapping_sub(last.when) as usize > recent {
+            return (Asking::First, 0);
+        }
+        if last.times >= OFTEN {
+            return (Asking::Often, 0);
+        }
+        (Asking::Again, last.times.saturating_add(1))
+    }
+
+    /// Notes that a block is asked for, and how.
+    pub(crate) fn ask(&mut self, key: BlockKey) -> Asking
+        requires { 1 ≤ length self.old.asked.items }
+        ensures kept { self.new.kept ≡ self.old.kept }
+        ensures places { length self.new.asked.items ≡ length self.old.asked.items }
+    {
+        let place = self.place_of(key);
+        let when = self.askings.wrapping_add(1);
+        let (asking, times) = self.next_asking(self.asked[place], key, when);
+        self.asked[place] = Asked { key, when, times };
+        self.askings = when;
+        asking
+    }
+}

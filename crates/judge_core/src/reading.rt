@@ -1,0 +1,114 @@
+//! Reading tables through decoded blocks.
+
+ghost use Rattle.std.specs.Prelude.{◌≡◌, ◌<◌, ℕ, Some, None, IfSome, slice_index_or};
+ghost use Rattle.table_file.specs.declared.spots.Spot.TheVariants.{At};
+ghost use Rattle.table_file.specs.Tables.{IsFile};
+ghost use Rattle.table_file.specs.Expansion.{expansion, entry_at, real_blocks, IsSpot};
+ghost use Rattle.judge_core.specs.Blocks.{AreRight, IsRight};
+
+use crate::blocks::{Asking, BlockKey, Blocks};
+use crate::shelf::Shelf;
+use std::alloc::Global;
+use table_file::{Spot, Table};
+
+impl<'a> Shelf<'a> {
+    /// The value of a block at an offset, where the block is kept; none of the inner kind where it is damaged.
+    fn kept_value(
+        &self,
+        blocks: &mut Blocks,
+        table: &Table<'a>,
+        key: &BlockKey,
+        offset: u32,
+    ) -> Option<Option<u16>>
+        requires right { AreRight self.now blocks.old }
+        requires on { slice_index_or self.now.tables key.now.slot None ≡ Some table.now }
+        requires side { key.now.side < 2 }
+        requires file { IsFile table.now.material key.now.file }
+        ensures found { IfSome result (λ value. (index : ℕ) → IsSpot table.now key.now.side key.now.file index (At key.now.block offset) → value ≡ entry_at (expansion table.now key.now.side key.now.file) index) }
+        ensures right { AreRight self.now blocks.new }
+    {
+        let _ = self;
+        let values = blocks.kept.get(key)?;
+        Some(table.value_among(key.side, key.file, key.block, offset, values))
+    }
+
+    /// Keeps the values of a block, where there is memory for it.
+    fn keep(&self, blocks: &mut Blocks, key: BlockKey, values: Vec<u16>)
+        requires right { AreRight self.now blocks.old }
+        requires these { IsRight self.now.tables key values.items }
+        ensures { AreRight self.now blocks.new }
+    {
+        let _ = self;
+        let _ = blocks.kept.put(key, values);
+    }
+
+    /// The value of a block at an offset: out of the block where it is kept, or else decoded and kept where it is asked
+    /// for often; alone otherwise, and where memory is refused.
+    fn value_in_block(
+        &self,
+        blocks: &mut Blocks,
+        alloc: Global,
+        table: &Table<'a>,
+        key: BlockKey,
+        offset: u32,
+    ) -> Option<u16>
+        requires right { AreRight self.now blocks.old }
+        requires on { slice_index_or self.now.tables key.slot None ≡ Some table.now }
+        requires side { key.side < 2 }
+        requires file { IsFile table.now.material key.file }
+        requires real { key.block < real_blocks table.now key.side key.file }
+        ensures found { (index : ℕ) → IsSpot table.now key.side key.file index (At key.block offset) → result ≡ entry_at (expansion table.now key.side key.file) index }
+        ensures right { AreRight self.now blocks.new }
+    {
+        let asking = blocks.ask(key);
+        if asking != Asking::First {
+            if let Some(value) = self.kept_value(blocks, table, &key, offset) {
+                return value;
+            }
+        }
+        if asking == Asking::Often {
+            if let Ok(values) = table.unpack(alloc, key.side, key.file, key.block) {
+                let value = table.value_among(key.side, key.file, key.block, offset, &values);
+                self.keep(blocks, key, values);
+                return value;
+            }
+        }
+        table
+            .value_in_block(key.side, key.file, key.block, offset)
+            .ok()
+    }
+
+    /// What the table of a slot has at an index; none where that is damaged.
+    pub(crate) fn read(
+        &self,
+        blocks: &mut Blocks,
+        alloc: Global,
+        slot: usize,
+        table: &Table<'a>,
+        side: u8,
+        file: u8,
+        index: u64,
+    ) -> Option<u16>
+        requires right { AreRight self.now blocks.old }
+        requires slot { slot < 290 }
+        requires on { slice_index_or self.now.tables slot None ≡ Some table.now }
+        requires side { side < 2 }
+        requires file { IsFile table.now.material file }
+        ensures is { result ≡ entry_at (expansion table.now side file) index }
+        ensures right { AreRight self.now blocks.new }
+    {
+        match table.locate(side, file, index) {
+            Ok(Spot::Single(value)) => Some(value),
+            Ok(Spot::At { block, offset }) => {
+                let key = BlockKey {
+                    slot: slot as u16,
+                    side,
+                    file,
+                    block,
+                };
+                self.value_in_block(blocks, alloc, table, key, offset)
+            }
+            Err(_) => None,
+        }
+    }
+}

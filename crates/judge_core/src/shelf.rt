@@ -1,0 +1,203 @@
+//! Tables in their slots.
+
+ghost use Rattle.std.specs.Prelude.{◌≡◌, ◌↔◌, ◌<◌, ◌≤◌, IfOk, IfSome, IsSome, OnOk, OnErr, None, Some, Err, option_map, replicate, slice_set};
+ghost use Rattle.place_index.specs.Placed.{IsMaterialOf, men_on};
+ghost use Rattle.table_file.specs.Tables.{IsFile};
+ghost use Rattle.table_file.specs.declared.kind.Kind.TheVariants.{Wdl as WdlKind};
+ghost use Rattle.judge_core.specs.Blocks.{AreRight};
+ghost use Rattle.judge_core.specs.declared.fault.SetFault.TheVariants.{Duplicate};
+ghost use Rattle.judge_core.specs.LookUp.{material_of, placed_of};
+ghost use Rattle.judge_core.specs.Tables.{AreFiled, slot, table_at, entry_in, table_value};
+
+use crate::blocks::Blocks;
+use crate::fault::{SetFault, ValueFault};
+use crate::wdl::Wdl;
+use board_core::Position;
+use place_index::{Material, Placed, index, place};
+use std::alloc::{AllocError, Global};
+use std::marker::Model;
+use table_file::{Kind, Table};
+
+/// How many materials there are.
+const MATERIALS: usize = 145;
+
+/// Opened tables, each found by its kind and its material without a search, and how many decoded blocks of them may be kept. It
+/// borrows the bytes of their files.
+///
+/// Contracts see a list of 290 slots, the WDL tables by the keys of their materials and then the DTZ tables, and that number.
+#[derive(Drop)]
+pub(crate) struct Shelf<'a> {
+    tables: Vec<Table<'a>>,
+    places: Vec<Option<usize>>,
+    cache: usize,
+}
+
+impl<'a> Model for Shelf<'a> {
+    ghost use Rattle.judge_core.specs.Tables.{Holding};
+
+    ghost Value = { Holding };
+
+    ghost use Rattle.judge_core.specs.Kept.{holding_of, IsKept};
+
+    ghost view = { holding_of };
+
+    ghost invariant = { IsKept };
+}
+
+/// The slot of a kind and a material.
+pub(crate) fn slot(kind: Kind, material: Material) -> usize
+    ensures is { result ≡ slot kind material }
+    ensures below { result < 290 }
+    ensures known { material < 145 }
+{
+    let key = material.key() as usize;
+    match kind {
+        Kind::Wdl => key,
+        Kind::Dtz => MATERIALS + key,
+    }
+}
+
+/// The position as its table sees it.
+pub(crate) fn placed(position: &Position, material: &Material) -> Placed
+    requires known { material.now < 145 }
+    requires own { IsMaterialOf material.now (men_on position.now.men) }
+    ensures is { result ≡ placed_of material.now position.now }
+    ensures material { result.material ≡ material.now }
+    ensures side { result.side < 2 }
+    ensures file { IsFile material.now result.file }
+{
+    let placed = place(position, material);
+    let _side = placed.side();
+    let _file = placed.file();
+    placed
+}
+
+/// The material of the position: none for bare kings and for more than five men.
+pub(crate) fn material_of(position: &Position) -> Option<Material>
+    ensures is { result ≡ material_of position.now }
+    ensures own { IfSome result (λ m. (m < 145) × IsMaterialOf m (men_on position.now.men)) }
+{
+    match Material::of(position) {
+        Some(material) => {
+            let _key = material.key();
+            Some(material)
+        }
+        None => None,
+    }
+}
+
+impl<'a> Shelf<'a> {
+    /// A shelf without tables, for so many decoded blocks, 1 to 4096. The error comes where memory for its slots is refused.
+    pub(crate) fn new(alloc: Global, cache: usize) -> Result<Shelf<'a>, AllocError>
+        requires some { 1 ≤ cache }
+        requires most { cache ≤ 4096 }
+        ensures { IfOk result (λ shelf. shelf ≡ record { tables = replicate 290 None; cache = cache }) }
+    {
+        let mut places = Vec::with_capacity(alloc, 2 * MATERIALS)?;
+        for _ in 0..2 * MATERIALS {
+            places.push(None)?;
+        }
+        Ok(Shelf {
+            tables: Vec::new(alloc),
+            places,
+            cache,
+        })
+    }
+
+    /// How many decoded blocks may be kept, 1 to 4096. Its contract also says that each table is in the slot of its kind and its
+    /// material.
+    pub(crate) fn cache(&self) -> usize
+        ensures is { result ≡ self.now.cache }
+        ensures some { 1 ≤ result }
+        ensures most { result ≤ 4096 }
+        ensures filed { AreFiled self.now.tables }
+    {
+        self.cache
+    }
+
+    /// Adds a table. One that is refused is dropped, and the shelf stays as it was.
+    ///
+    /// `Duplicate` where there is a table of its kind for its material; otherwise `OutOfMemory` where memory for one table
+    /// more is refused.
+    pub(crate) fn add(&mut self, table: Table<'a>) -> Result<(), SetFault>
+        ensures added { OnOk result (self.new ≡ record self.old { tables = slice_set self.old.tables (slot table.entry.kind table.entry.material) (Some table.entry) }) }
+        ensures refused { OnErr result (self.new ≡ self.old) }
+        ensures duplicate { (result ≡ Err Duplicate) ↔ IsSome (table_at self.old.tables table.entry.kind table.entry.material) }
+    {
+        let slot = slot(table.kind(), *table.material());
+        if self.places[slot].is_some() {
+            return Err(SetFault::Duplicate);
+        }
+        let place = self.tables.len();
+        match self.tables.push(table) {
+            Ok(()) => {}
+            Err(_) => return Err(SetFault::OutOfMemory),
+        }
+        self.places[slot] = Some(place);
+        Ok(())
+    }
+
+    /// The table of this kind for this material.
+    pub(crate) fn table(&self, kind: Kind, material: Material) -> Option<&Table<'a>>
+        ensures found { option_map (λ t. t.now) result ≡ table_at self.now.tables kind material }
+        ensures kind { IfSome result (λ t. t.now.kind ≡ kind) }
+        ensures own { IfSome result (λ t. t.now.material ≡ material) }
+    {
+        match self.places[slot(kind, material)] {
+            Some(place) => Some(&self.tables[place]),
+            None => None,
+        }
+    }
+
+    /// What a WDL table of the shelf has at the index of placed men; none where that is damaged.
+    fn entry(
+        &self,
+        blocks: &mut Blocks,
+        alloc: Global,
+        table: &Table<'a>,
+        placed: &Placed,
+    ) -> Option<u16>
+        requires right { AreRight self.now blocks.old }
+        requires on { table_at self.now.tables WdlKind placed.now.material ≡ Some table.now }
+        requires own { table.now.material ≡ placed.now.material }
+        requires known { placed.now.material < 145 }
+        requires side { placed.now.side < 2 }
+        requires file { IsFile table.now.material placed.now.file }
+        ensures is { result ≡ entry_in table.now placed.now }
+        ensures right { AreRight self.now blocks.new }
+    {
+        let side = placed.side();
+        let file = placed.file();
+        let slot = slot(Kind::Wdl, placed.material());
+        let index = index(table.shape(side, file), placed);
+        self.read(blocks, alloc, slot, table, side, file, index)
+    }
+
+    /// The table value: what the position's own WDL table says of it; bare kings are a draw.
+    #[tactic(auto, unfolding(crate::specs::Tables::table_value))]
+    pub(crate) fn table_value(
+        &self,
+        blocks: &mut Blocks,
+        alloc: Global,
+        position: &Position,
+    ) -> Result<Wdl, ValueFault>
+        requires { AreRight self.now blocks.old }
+        ensures is { result ≡ table_value self.now.tables position.now }
+        ensures right { AreRight self.now blocks.new }
+    {
+        let Some(material) = material_of(position) else {
+            return Ok(Wdl::Draw);
+        };
+        let Some(table) = self.table(Kind::Wdl, material) else {
+            return Err(ValueFault::NotCovered(material));
+        };
+        let placed = placed(position, &material);
+        let Some(points) = self.entry(blocks, alloc, table, &placed) else {
+            return Err(ValueFault::Damaged(material));
+        };
+        match Wdl::from_points(points) {
+            Some(value) => Ok(value),
+            None => Err(ValueFault::Damaged(material)),
+        }
+    }
+}
