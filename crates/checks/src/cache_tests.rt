@@ -1,5 +1,7 @@
 //! Probes through decoded blocks: the same answers whatever a set keeps.
 
+ghost use Rattle.std.specs.Prelude.{◌≤◌};
+
 use crate::comparing::check_same;
 use crate::files::queen_file;
 use crate::positions::position_of;
@@ -32,13 +34,19 @@ const ROWS: [[&str; 2]; 5] = [
     ],
 ];
 
+fn put(bytes: &mut [u8], place: usize, byte: u8) {
+    if let Some(there) = bytes.get_mut(place) {
+        *there = byte;
+    }
+}
+
 /// The queen's table with blocks, and the same for a rook with the values 3 and 1 in the places of 4 and 0.
 fn files(rt: &impl Abort, alloc: Global) -> [Vec<u8>; 2] {
     let queen = queen_file(rt, alloc);
     let mut rook = queen_file(rt, alloc);
-    rook[7] = 0x44;
-    rook[26] = 3;
-    rook[29] = 1;
+    put(&mut rook, 7, 0x44);
+    put(&mut rook, 26, 3);
+    put(&mut rook, 29, 1);
     [queen, rook]
 }
 
@@ -47,7 +55,10 @@ fn opened<'a>(rt: &impl Abort, alloc: Global, name: &str, file: &'a [u8]) -> Tab
 }
 
 /// A set of both tables that may keep so many blocks.
-fn set_of<'a>(rt: &impl Abort, alloc: Global, files: &'a [Vec<u8>; 2], cache: usize) -> Set<'a> {
+fn set_of<'a>(rt: &impl Abort, alloc: Global, files: &'a [Vec<u8>; 2], cache: usize) -> Set<'a>
+    requires some { 1 ≤ cache }
+    requires most { cache ≤ 4096 }
+{
     let mut set = Set::new(alloc, cache).expect(rt, "a set");
     set.add(opened(rt, alloc, "KQvK.rtbw", &files[0]))
         .expect(rt, "a queen");
@@ -76,7 +87,10 @@ fn first_values(rt: &impl Abort, alloc: Global, files: &[Vec<u8>; 2], row: &[&st
 }
 
 /// Both tables in turn, over and over, until each block is decoded and read again; then how many blocks are kept.
-fn check_rounds(rt: &impl Abort, alloc: Global, files: &[Vec<u8>; 2], cache: usize) -> usize {
+fn check_rounds(rt: &impl Abort, alloc: Global, files: &[Vec<u8>; 2], cache: usize) -> usize
+    requires some { 1 ≤ cache }
+    requires most { cache ≤ 4096 }
+{
     let mut set = set_of(rt, alloc, files, cache);
     for row in &ROWS {
         let wanted = first_values(rt, alloc, files, row);
@@ -103,6 +117,6 @@ fn tables_with_equal_blocks_are_told_apart(rt: HostRuntime) {
     let mut set = set_of(&rt, rt.alloc(), &files, 2);
     for _ in 0..300u16 {
         let told = values(&rt, rt.alloc(), &mut set, &ROWS[0]);
-        check_same(&rt, told.0, 2 * told.1, ROWS[0][0]);
+        check_same(&rt, told.0 as i16, 2 * (told.1 as i16), ROWS[0][0]);
     }
 }
