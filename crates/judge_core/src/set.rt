@@ -15,8 +15,8 @@ use table_file::Table;
 /// bytes of their files.
 ///
 /// Contracts see a list of 290 slots, the WDL tables by the keys of their materials and then the DTZ tables, and the number of
-/// decoded blocks that the set may keep. Which blocks it keeps changes no answer: a block is decoded when it is asked for again,
-/// and then kept until it is the one used least recently and another one needs its place.
+/// decoded blocks that the set may keep. Which blocks it keeps changes no answer: a block is decoded when it was asked for
+/// again and again, and then kept until it is the one used least recently and another one needs its place.
 #[derive(Drop)]
 pub struct Set<'a> {
     pub(crate) shelf: Shelf<'a>,
@@ -36,7 +36,7 @@ impl<'a> Model for Set<'a> {
 
 impl<'a> Set<'a> {
     /// A set without tables that may keep so many decoded blocks, 1 to 4096. The error comes where memory for its slots is
-    /// refused.
+    /// refused, or for the notes of what is asked for, 16 for each block that may be kept.
     pub fn new(alloc: Global, cache: usize) -> Result<Set<'a>, AllocError>
         requires some { 1 ≤ cache }
         requires most { cache ≤ 4096 }
