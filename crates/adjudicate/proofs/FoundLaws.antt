@@ -3,15 +3,20 @@ use Rattle.std.proofs.Common.{◌≡◌, ◌∙◌, ℕ, true, false, List, [], 
 use Rattle.std.specs.Prelude.{Err}
 use Rattle.std.specs.List.{AllByRecursion}
 use Rattle.std.proofs.lemmas.Bool.{both_ways}
+use Rattle.std.proofs.Math.Seq.{take-length}
+use Rattle.board_core.specs.declared.moves.Move.{Move as Moves}
+use Rattle.board_core.specs.declared.verdict.Verdict.{Verdict}
+use Rattle.judge_core.specs.Games.{Rules, verdict_after}
 use Rattle.move_msg.specs.declared.message.Message.{Message}
 use Rattle.move_msg.specs.declared.record_bytes.Record.{Record}
 use Rattle.move_msg.specs.Records.{SpellsRecord}
-use Rattle.move_msg.proofs.RecordLaws.{one_record}
+use Rattle.move_msg.proofs.RecordLaws.{is_spelled, one_record}
 use Rattle.arbiter_core.specs.declared.keeper.Keep.{Keep}
 use Rattle.arbiter_core.specs.declared.keeper.Keep.TheVariants.{Good, FailsOld, FailsNew}
 use Rattle.arbiter_core.specs.declared.fault.DeliverFault.TheVariants.{KeeperFailed}
 use Rattle.arbiter_core.specs.Recording.{Recorded, Window, count_of}
 use Rattle.arbiter_core.specs.Answering.{Answer, Puts, Refuses, Sends}
+use Rattle.arbiter_core.specs.Opens.{IsWhole}
 use Rattle.arbiter_core.specs.Setups.{rules_at}
 use Rattle.arbiter_core.specs.Views.{View, spelled_as}
 use Rattle.arbiter_core.specs.Delivers.{IsSpelled, Lands, PutsIfAny, PutsOnce, RefusesOrSends, downed, heard, with_record, with_window}
@@ -19,8 +24,22 @@ use Rattle.adjudicate.specs.declared.file_keeper.FileKeeper.{FileKeeper}
 use Rattle.adjudicate.specs.KeptFiles.{Finds, FindsOldOrNew}
 use Rattle.adjudicate.specs.Serving.{Delivers, Exchange, InTurn, Loss, NoLoss, KeeperLost, PortLost, Moment, answer_at, loses_keeper, moment, with_last}
 use Rattle.adjudicate.specs.StoredBytes.{Failed, Landed, PutsInto, file_of, stored}
-use Rattle.adjudicate.specs.Listens.{FindsAtLoss, FindsEither, FindsRecord, SpellsOwn, over_file}
+use Rattle.adjudicate.specs.Listens.{FindsAtLoss, FindsEither, FindsRecord, IsItsRecord, over_file}
 use Rattle.adjudicate.proofs.Growing.{Grows, IsOwn, put_grows}
+
+-- these bytes spell the arbiter's record
+abbrev pub SpellsOwn : {F : Type 0} → Moment (FileKeeper F) → List ℕ → Type 0
+SpellsOwn at bytes = SpellsRecord bytes (spelled_as at.arbiter.me.stamp at.arbiter.setup.delay at.arbiter.kept)
+
+-- a record of its own moves is whole
+own_whole : (r : Rules) (kept : Recorded) → IsOwn r kept → IsWhole r kept
+own_whole r kept own = record {
+  game = kept.moves;
+  reached = own.reached;
+  is =
+      subst (λ (ms : List Moves). kept ≡ record { moves = ms; verdict = verdict_after r ms }) (sym (take-length kept.moves))
+      (ap (λ (v : Option Verdict). record { moves = kept.moves; verdict = v }) own.ruled);
+}
 
 -- the keeper has stored the arbiter's record, which is in the file and is that of its own moves
 pub record IsSafe {F : Type 0} (finds : Finds F) (at : Moment (FileKeeper F)) : Type 0 where
@@ -31,10 +50,12 @@ pub record IsSafe {F : Type 0} (finds : Finds F) (at : Moment (FileKeeper F)) : 
   pub own : IsOwn (rules_at at.arbiter.setup) at.arbiter.kept
 
 pub safe_finds : {F : Type 0} (finds : Finds F) (at : Moment (FileKeeper F)) → IsSafe finds at → FindsRecord finds at
-safe_finds finds at s = record { bytes = s.bytes; spelled = s.spelled; found = s.found }
+safe_finds finds at s = record { bytes = s.bytes; is = (s.spelled, own_whole _ _ s.own); found = s.found }
 
 safe_either : {F : Type 0} (finds : Finds F) (at : Moment (FileKeeper F)) → IsSafe finds at → FindsEither finds at
-safe_either finds at s = record { bytes = s.bytes; spelled = s.spelled; sent = s.bytes; found = inl s.found }
+safe_either finds at s =
+    let is : IsItsRecord at.arbiter s.bytes at.arbiter.kept = (s.spelled, own_whole _ _ s.own) in
+    record { bytes = s.bytes; is = is; next = at.arbiter.kept; sent = s.bytes; is_next = is; found = inl s.found }
 
 -- what an exchange leaves
 pub record Leaves {F : Type 0} (finds : Finds F) (e : Exchange (FileKeeper F)) : Type 0 where
@@ -74,10 +95,10 @@ module _ {F : Type 0} (finds : Finds F) (old : Moment (FileKeeper F)) (s : IsSaf
           let more = grows.more in
           omega arith
 
-      lost : e.told ≡ Err KeeperFailed → new.arbiter ≡ downed old.arbiter → (sent : List ℕ) → (finds (file_of new.keeper) (Some s.bytes) (Some s.bytes) ⊎ (finds (file_of new.keeper) (Some s.bytes) (Some sent) ⊎ finds (file_of new.keeper) (Some sent) (Some sent))) → Leaves finds e
-      lost told is sent found = record {
+      lost : e.told ≡ Err KeeperFailed → new.arbiter ≡ downed old.arbiter → (sent : List ℕ) → SpellsRecord sent (spelled_as old.arbiter.me.stamp old.arbiter.setup.delay next) → (finds (file_of new.keeper) (Some s.bytes) (Some s.bytes) ⊎ (finds (file_of new.keeper) (Some s.bytes) (Some sent) ⊎ finds (file_of new.keeper) (Some sent) (Some sent))) → Leaves finds e
+      lost told is sent spells found = record {
         safe = λ going. absurd (let lossy : loses_keeper e.told ≡ true = ap loses_keeper told in both_ways _ going lossy);
-        either = subst (λ (v : View). FindsEither finds (moment v new.keeper)) (sym is) (record { bytes = s.bytes; spelled = s.spelled; sent = sent; found = found });
+        either = subst (λ (v : View). FindsEither finds (moment v new.keeper)) (sym is) (record { bytes = s.bytes; is = (s.spelled, own_whole _ _ s.own); next = next; sent = sent; is_next = (spells, own_whole _ _ grows.own); found = found });
       }
 
       in_doubt : ((was : Option (List ℕ)) → finds (file_of old.keeper) was was → FindsOldOrNew (finds (file_of new.keeper)) was p.sent) → finds (file_of new.keeper) (Some s.bytes) (Some s.bytes) ⊎ (finds (file_of new.keeper) (Some s.bytes) (Some p.sent) ⊎ finds (file_of new.keeper) (Some p.sent) (Some p.sent))
@@ -86,10 +107,10 @@ module _ {F : Type 0} (finds : Finds F) (old : Moment (FileKeeper F)) (s : IsSaf
       by_keep : (keep : Keep) → Lands keep old.arbiter next outputs window (stored old.keeper) (stored new.keeper) new.arbiter e.told → PutsInto finds old.keeper p.sent new.keeper → Leaves finds e
       by_keep Good lands (Landed there found) = still_safe finds e (safe_after p.sent lands.1 there found lands.2)
       by_keep Good lands (Failed same left) = absurd (not_grown same lands.2)
-      by_keep FailsOld lands (Landed there found) = lost lands.0 lands.1 p.sent (inr (inr found))
-      by_keep FailsOld lands (Failed same left) = lost lands.0 lands.1 p.sent (in_doubt left)
-      by_keep FailsNew lands (Landed there found) = lost lands.0 lands.1 p.sent (inr (inr found))
-      by_keep FailsNew lands (Failed same left) = lost lands.0 lands.1 p.sent (in_doubt left)
+      by_keep FailsOld lands (Landed there found) = lost lands.0 lands.1 p.sent (is_spelled _ _ p.spells) (inr (inr found))
+      by_keep FailsOld lands (Failed same left) = lost lands.0 lands.1 p.sent (is_spelled _ _ p.spells) (in_doubt left)
+      by_keep FailsNew lands (Landed there found) = lost lands.0 lands.1 p.sent (is_spelled _ _ p.spells) (inr (inr found))
+      by_keep FailsNew lands (Failed same left) = lost lands.0 lands.1 p.sent (is_spelled _ _ p.spells) (in_doubt left)
 
   by_answer : (a : Answer) → a ≡ answer_at old.arbiter e.datagram → RefusesOrSends old.arbiter old.keeper e.after.keeper e.after.arbiter e.told a → PutsIfAny (over_file finds).may_be stored (over_file finds).faults (PutsInto finds) old.arbiter old.keeper e.after.keeper e.after.arbiter e.told a → Leaves finds e
   by_answer (Refuses fault) is h p = still_safe finds e (unmoved old.arbiter h.arbiter h.keeper s.spelled s.own)

@@ -34,7 +34,8 @@ abbrev pub rule_of_value : Value → Rule
 rule_of_value v = rule_of_form v.form v.name.now
 
 -- judge [--tables DIR] [--manifest FILE] FEN; probe --tables DIR [--manifest FILE] FEN; moves FEN; list DIR;
--- check --manifest FILE DIR; show; run [--tables DIR] [--cache N] [--delay N];
+-- check --manifest FILE DIR; show; probes --tables DIR [--manifest FILE] [--progress];
+-- game [--tables DIR] [--manifest FILE] [--delay N] FEN; run [--tables DIR] [--cache N] [--delay N];
 -- listen --name N --start FEN --tables DIR --me M --bind ADDR --to ADDR --kept FILE --datagrams N [--delay N] [--fetch]
 abbrev pub rules_of : Name → List Rule
 rules_of name.Judge =

@@ -153,6 +153,10 @@ outcome_words Going plies = codes "open " ++ decimal plies
 abbrev pub refused_move : ℕ → List ℕ
 refused_move place = codes "refused move " ++ decimal place
 
+-- how many lines are done on the way
+abbrev pub done_words : ℕ → List ℕ
+done_words lines = decimal lines ++ codes " done"
+
 -- the refusal of a schedule by the number of its first line at fault
 abbrev pub refused_line : ℕ → List ℕ
 refused_line number = codes "refused line " ++ decimal number
@@ -201,6 +205,7 @@ words_of (line.RefusedLine number) = refused_line number
 words_of (line.Outcome outcome plies) = outcome_words outcome plies
 words_of (line.Columns wdl dtz verdict) = columns_words wdl dtz verdict
 words_of (line.RefusedMove place) = refused_move place
+words_of (line.Done lines) = done_words lines
 words_of (line.Heard count verdict) = heard_words count verdict
 words_of (line.RefusedDatagram fault) = refused_datagram fault
 words_of line.RefusedPort = refused_port

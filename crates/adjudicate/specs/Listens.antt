@@ -8,14 +8,14 @@ use Rattle.fen_text.specs.Fen.{SpellsPosition, IsFirstFenFault}
 use Rattle.judge_core.specs.Tables.{Holding}
 use Rattle.move_msg.specs.Files.{entries_of}
 use Rattle.move_msg.specs.Manifests.{SpellsManifest}
-use Rattle.move_msg.specs.Records.{SpellsRecord}
 use Rattle.move_msg.specs.Senders.{who_number}
 use Rattle.arbiter_core.specs.declared.fault.OpenFault.{OpenFault}
 use Rattle.arbiter_core.specs.declared.fault.OpenFault.TheVariants.{BadSetup, KeeperFailed, BadRecord, OtherStamp, OutOfMemory}
 use Rattle.arbiter_core.specs.Answering.{Identity}
-use Rattle.arbiter_core.specs.Opens.{Opens, Told}
-use Rattle.arbiter_core.specs.Setups.{SetupView, IsGood, IsIdentity}
-use Rattle.arbiter_core.specs.Views.{spelled_as}
+use Rattle.arbiter_core.specs.Opens.{IsResumed, Opens, Told}
+use Rattle.arbiter_core.specs.Recording.{Recorded}
+use Rattle.arbiter_core.specs.Setups.{SetupView, IsGood, IsIdentity, rules_at}
+use Rattle.arbiter_core.specs.Views.{View}
 use Rattle.adjudicate.specs.declared.file_keeper.FileKeeper.{FileKeeper}
 use Rattle.adjudicate.specs.declared.listening.Listening.{Listening}
 use Rattle.adjudicate.specs.Given.{Given}
@@ -53,21 +53,23 @@ TellsUnopened OutOfMemory old new status = TellsOne refused_memory old new statu
 
 -- ---- the file through a run
 
--- these bytes are the arbiter's record
-abbrev pub SpellsOwn : {F : Type 0} → Moment (FileKeeper F) → List ℕ → Type 0
-SpellsOwn at bytes = SpellsRecord bytes (spelled_as at.arbiter.me.stamp at.arbiter.setup.delay at.arbiter.kept)
+-- these bytes are a record of the arbiter's game, from which it could run again
+abbrev pub IsItsRecord : View → List ℕ → Recorded → Type 0
+IsItsRecord v bytes kept = IsResumed (rules_at v.setup) v.me.stamp bytes kept
 
 -- a start that comes now finds the arbiter's record in the file
 pub record FindsRecord {F : Type 0} (finds : Finds F) (at : Moment (FileKeeper F)) : Type 0 where
   pub bytes : List ℕ
-  pub spelled : SpellsOwn at bytes
+  pub is : IsItsRecord at.arbiter bytes at.arbiter.kept
   pub found : finds (file_of at.keeper) (Some bytes) (Some bytes)
 
--- it finds the arbiter's record, or the bytes of the put that failed
+-- it finds the arbiter's record, or the record that the failed put was to keep
 pub record FindsEither {F : Type 0} (finds : Finds F) (at : Moment (FileKeeper F)) : Type 0 where
   pub bytes : List ℕ
-  pub spelled : SpellsOwn at bytes
+  pub is : IsItsRecord at.arbiter bytes at.arbiter.kept
+  pub next : Recorded
   pub sent : List ℕ
+  pub is_next : IsItsRecord at.arbiter sent next
   pub found : finds (file_of at.keeper) (Some bytes) (Some bytes) ⊎ (finds (file_of at.keeper) (Some bytes) (Some sent) ⊎ finds (file_of at.keeper) (Some sent) (Some sent))
 
 abbrev pub FindsAtLoss : {F : Type 0} → Finds F → Loss (FileKeeper F) → Type 0
@@ -76,7 +78,7 @@ FindsAtLoss finds (KeeperLost last) = FindsEither finds last.after
 FindsAtLoss finds PortLost = Unit {0}
 
 -- at each moment of a run: before the first datagram and after each one a start finds the arbiter's record, and where the keeper
--- failed that or the bytes of the put
+-- failed that or the record that the put was to keep
 pub record FindsThroughout {F : Type 0} (finds : Finds F) (opened : Moment (FileKeeper F)) (run : Run (FileKeeper F)) : Type 0 where
   pub first : FindsRecord finds opened
   pub each : AllByRecursion (λ e. FindsRecord finds e.after) run.exchanges

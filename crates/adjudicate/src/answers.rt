@@ -317,7 +317,8 @@ fn put_answer<W: Write>(out: &mut W, answer: &Answer) -> Result<u8, AnswerFault>
 /// the schedule, then of a file; and where it refuses nothing, there are worlds of the schedule, in each of
 /// which the records of both arbiters are true to the game and their verdicts one, and it tells the last.
 ///
-/// Where memory is refused, the line `refused memory` comes in place of all else, with status 1; a
+/// Where memory is refused, the line `refused memory` comes in place of all else, for `probes` after the whole lines before it,
+/// with status 1; a
 /// text that is no position takes none, and `show` takes none. The error comes only where the writer
 /// failed. With `--progress`, `probes` tells `errors` after every 10,000 lines how many are done; no other task writes there.
 pub fn answer_task<W: Write, E: Write>(

@@ -70,6 +70,8 @@ pub(crate) enum Line {
     Columns(Result<i32, ProbeFault>, Result<i32, ProbeFault>, Option<Verdict>),
     /// The place of a word that is no move, the first being 0.
     RefusedMove(usize),
+    /// How many lines are done on the way.
+    Done(usize),
     /// How many moves an arbiter has recorded after a datagram, and its verdict.
     Heard(u32, Option<Verdict>),
     /// Why it refused a datagram.
@@ -302,6 +304,7 @@ impl fmt::Display for Line {
             Line::Outcome(outcome, plies) => fmt_outcome(f, *outcome, *plies),
             Line::Columns(wdl, dtz, verdict) => fmt_columns(f, wdl, dtz, *verdict),
             Line::RefusedMove(place) => write!(f, "refused move {place}"),
+            Line::Done(lines) => write!(f, "{lines} done"),
             Line::Heard(count, verdict) => fmt_heard(f, *count, *verdict),
             Line::RefusedDatagram(fault) => fmt_refused_datagram(f, *fault),
             Line::RefusedPort => f.write_str("refused port"),

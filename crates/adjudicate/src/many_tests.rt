@@ -28,7 +28,7 @@ fn expect_given(alloc: Global, given: &Given) -> Result<(), Fail> {
 }
 
 /// A position, a text that is none, and one without a table at the end, without a line feed; no line; an empty one.
-const POSITIONS: [Given; 4] = [
+const POSITIONS: [Given; 9] = [
     Given {
         words: "probes --tables worked",
         fen: "",
@@ -57,6 +57,43 @@ const POSITIONS: [Given; 4] = [
         lines: "refused FEN FieldCount\n",
         status: 1,
     },
+    // A damaged table, one without distances, and too many men.
+    Given {
+        words: "probes --tables damaged",
+        fen: "",
+        input: "8/8/8/4k3/8/8/8/KN6 w - - 0 1\n8/8/8/4k3/8/8/8/KQ6 w - - 0 1\nrnbqkbnr/pppppppp/8/8/8/8/PPPPPPPP/RNBQKBNR w KQkq - 0 1\n",
+        lines: "refused Damaged KNvK\trefused Damaged KNvK\tStopped\n2\trefused NotCovered KQvK\topen\nrefused OutOfScope\trefused OutOfScope\topen\n",
+        status: 1,
+    },
+    // The tables are refused before any line.
+    Given {
+        words: "probes --tables at_fault",
+        fen: "",
+        input: "8/8 w\n",
+        lines: "refused KNvK.rtbw BadSize\n",
+        status: 1,
+    },
+    Given {
+        words: "probes --manifest line_x --tables abc",
+        fen: "",
+        input: "8/8 w\n",
+        lines: "refused manifest 1\n",
+        status: 1,
+    },
+    Given {
+        words: "probes --manifest of_knight --tables knight",
+        fen: "",
+        input: "8/8/8/4k3/8/8/8/KN6 w - - 0 1",
+        lines: "0\trefused NotCovered KNvK\tTableDraw\n",
+        status: 1,
+    },
+    Given {
+        words: "probes",
+        fen: "",
+        input: "",
+        lines: "",
+        status: 2,
+    },
 ];
 
 #[test]
@@ -67,7 +104,7 @@ fn probes_many_positions(rt: HostRuntime) -> Result<(), Fail> {
     Ok(())
 }
 
-const GAMES: [Given; 7] = [
+const GAMES: [Given; 10] = [
     Given {
         words: "game --tables worked FEN",
         fen: ROOK_FEN,
@@ -108,6 +145,28 @@ const GAMES: [Given; 7] = [
         fen: "8/8",
         input: "no move",
         lines: "refused FEN FieldCount\n",
+        status: 1,
+    },
+    Given {
+        words: "game FEN",
+        fen: ROOK_FEN,
+        input: "",
+        lines: "open 0\n",
+        status: 0,
+    },
+    // A word that is no move is refused before the tables, and these where all words are moves.
+    Given {
+        words: "game --tables at_fault FEN",
+        fen: ROOK_FEN,
+        input: "no move",
+        lines: "refused move 0\n",
+        status: 1,
+    },
+    Given {
+        words: "game --tables at_fault FEN",
+        fen: ROOK_FEN,
+        input: "h1h8",
+        lines: "refused KNvK.rtbw BadSize\n",
         status: 1,
     },
     Given {
@@ -183,4 +242,13 @@ fn progress_that_fails_changes_nothing(rt: HostRuntime) -> Result<(), Fail> {
         "probes --tables worked --progress",
         &mut failing,
     )
+}
+
+#[test]
+fn tells_each_failed_write_of_many(rt: HostRuntime) -> Result<(), Fail> {
+    let disk = Scheduled {
+        text: POSITIONS[0].input,
+    };
+    expect_told(rt.alloc(), &disk, ("probes --tables worked", "", 3))?;
+    expect_told(rt.alloc(), &disk, ("game FEN", ROOK_FEN, 1))
 }

@@ -1,6 +1,6 @@
 //! What tables tell of many positions, a line each.
 
-ghost use Rattle.std.specs.Prelude.{◌≡◌, ◌<◌, ◌==◌, ◌&&◌, ◌∷◌, true, false, length, position, IfOk, OnErr};
+ghost use Rattle.std.specs.Prelude.{◌≡◌, ◌≢◌, ◌%◌, ◌<◌, ◌==◌, ◌&&◌, ◌∷◌, true, false, length, position, IfOk, OnErr};
 ghost use Rattle.std.specs.Result.{is_ok};
 ghost use Rattle.board_core.specs.Position.{IsPosition};
 ghost use Rattle.fen_text.specs.Fen.{SpellsPosition};
@@ -81,12 +81,13 @@ fn probe_line(alloc: Global, set: &mut Set<'_>, text: &[u8]) -> Result<(Line, bo
 
 /// Tells how many lines are done, where that is wanted and enough are done; a failure changes nothing.
 fn tell_progress<E: Write>(errors: &mut E, progress: bool, lines: usize)
-    ensures { progress ≡ false → errors.new ≡ errors.old }
+    ensures quiet { progress ≡ false → errors.new ≡ errors.old }
+    ensures seldom { lines % 10000 ≢ 0 → errors.new ≡ errors.old }
 {
     if !progress || lines % PROGRESS_STEP != 0 {
         return;
     }
-    match writeln!(errors, "{lines} done") {
+    match put_line(errors, &Line::Done(lines)) {
         Ok(()) => {}
         Err(_) => {}
     }

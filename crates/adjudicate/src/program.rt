@@ -1,6 +1,6 @@
 //! The program's words, its output and its status.
 
-ghost use Rattle.std.specs.Prelude.{◌≡◌, ◌≢◌, ◌⊎◌, map, true, false, IfOk, OnOk};
+ghost use Rattle.std.specs.Prelude.{◌≡◌, ◌≢◌, ◌⊎◌, map, true, false, Ok, IfOk, OnOk};
 ghost use Rattle.adjudicate.specs.declared.commands.Task.{Task};
 ghost use Rattle.adjudicate.specs.Listens.{Listens, hosted};
 ghost use Rattle.adjudicate.specs.Running.{AnswersTask, Runs, HasEnded};
@@ -76,7 +76,7 @@ pub fn run<D: Disk, H: Host, W: Write, E: Write>(
     out: &mut W,
     errors: &mut E,
 ) -> Result<u8, AnswerFault>
-    ensures quiet { IfOk result (λ status. errors.new ≢ errors.old → (status ≡ 2) ⊎ ((t : Task) × IsTask (map (λ w. w.now) words.now) t × (tells_progress t ≡ true))) }
+    ensures quiet { errors.new ≢ errors.old → (result ≡ Ok 2) ⊎ ((t : Task) × IsTask (map (λ w. w.now) words.now) t × (tells_progress t ≡ true)) }
     ensures answered { IfOk result (Runs (D.lists disk.now) (D.holds disk.now) (D.gives disk.now) (D.fails disk.now) (Listens (hosted (H.binds host.now) (H.unbound host.now) (H.is_at host.now) H.Port.passed H.Port.faults H.File.unreadable H.File.finds)) (map (λ w. w.now) words.now) (W.contents out.old) (W.contents out.new)) }
 {
     match parse(alloc, words) {

@@ -33,7 +33,7 @@ module _ {K : Type 0} (may_be : K → Keep → Type 0) (kept : K → Option (Lis
   put_landed {T = T} x o is_new = by_keep o.keep o.stated o.is
     where
       by_keep : (keep : Keep) → may_be before keep → PutIs {T = T} keep (kept before) sent (kept now) (Ok x) → PutsOnce may_be kept faults leaves old next outputs later before now new (Ok outputs)
-      by_keep Good stated is = record { keep = Good; stated = stated; lands = (refl, is_new, there is.1); written = wrote is.1; sent = sent; once = once; cause = λ e. absurd (let f : ◌≡◌ {A = Told} (Ok outputs) (Err KeeperFailed) = e in cc) }
+      by_keep Good stated is = record { keep = Good; stated = stated; lands = (refl, is_new, there is.1); written = wrote is.1; sent = sent; spells = written; once = once; cause = λ e. absurd (let f : ◌≡◌ {A = Told} (Ok outputs) (Err KeeperFailed) = e in cc) }
       by_keep FailsOld stated is = absurd (let f = is.0 in cc)
       by_keep FailsNew stated is = absurd (let f = is.0 in cc)
 
@@ -42,8 +42,8 @@ module _ {K : Type 0} (may_be : K → Keep → Type 0) (kept : K → Option (Lis
     where
       by_keep : (keep : Keep) → may_be before keep → PutIs {T = T} keep (kept before) sent (kept now) (Err f) → PutsOnce may_be kept faults leaves old next outputs later before now new (Err KeeperFailed)
       by_keep Good stated is = absurd (let x = is.0 in cc)
-      by_keep FailsOld stated is = record { keep = FailsOld; stated = stated; lands = (refl, is_new, is.1); written = inl is.1; sent = sent; once = once; cause = λ _. cause is.0 }
-      by_keep FailsNew stated is = record { keep = FailsNew; stated = stated; lands = (refl, is_new, there is.1); written = wrote is.1; sent = sent; once = once; cause = λ _. cause is.0 }
+      by_keep FailsOld stated is = record { keep = FailsOld; stated = stated; lands = (refl, is_new, is.1); written = inl is.1; sent = sent; spells = written; once = once; cause = λ _. cause is.0 }
+      by_keep FailsNew stated is = record { keep = FailsNew; stated = stated; lands = (refl, is_new, there is.1); written = wrote is.1; sent = sent; spells = written; once = once; cause = λ _. cause is.0 }
 
 abbrev later_of : Recorded → Recorded → Window → Window
 later_of next old window = cond (is_some next.verdict) nothing_waits (still_waits window (count_of next - count_of old))

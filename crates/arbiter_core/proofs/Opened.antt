@@ -231,8 +231,8 @@ put_fails {T = T} may_be kept faults leaves setup me before now sent p f o cause
   where
     by_keep : (keep : Keep) → may_be before keep → PutIs {T = T} keep (kept before) sent (kept now) (Err f) → IsPutFirst may_be kept faults leaves setup me before now (Err KeeperFailed)
     by_keep Good stated is = absurd (let x = is.0 in cc)
-    by_keep FailsOld stated is = inr (record { keep = FailsOld; stated = stated; is = (refl, is.1); written = inl is.1; sent = sent; once = once; cause = λ _. cause is.0 })
-    by_keep FailsNew stated is = inr (record { keep = FailsNew; stated = stated; is = (refl, kept_so me.stamp setup.delay p (first_record (rules_at setup)) sent (kept now) first.0.stamp_is first.0.delay_is first.1 spelled is.1); written = inr (wrote_so me.stamp setup.delay p (first_record (rules_at setup)) sent (kept now) first.0.stamp_is first.0.delay_is first.1 written is.1); sent = sent; once = once; cause = λ _. cause is.0 })
+    by_keep FailsOld stated is = inr (record { keep = FailsOld; stated = stated; is = (refl, is.1); written = inl is.1; sent = sent; spells = wrote_so me.stamp setup.delay p (first_record (rules_at setup)) sent (Some sent) first.0.stamp_is first.0.delay_is first.1 written refl; once = once; cause = λ _. cause is.0 })
+    by_keep FailsNew stated is = inr (record { keep = FailsNew; stated = stated; is = (refl, kept_so me.stamp setup.delay p (first_record (rules_at setup)) sent (kept now) first.0.stamp_is first.0.delay_is first.1 spelled is.1); written = inr (wrote_so me.stamp setup.delay p (first_record (rules_at setup)) sent (kept now) first.0.stamp_is first.0.delay_is first.1 written is.1); sent = sent; spells = wrote_so me.stamp setup.delay p (first_record (rules_at setup)) sent (Some sent) first.0.stamp_is first.0.delay_is first.1 written refl; once = once; cause = λ _. cause is.0 })
 
 -- ---- over what is kept
 
@@ -273,7 +273,7 @@ module _ {K : Type 0} (may_be : K → Keep → Type 0) (kept : K → Option (Lis
   over_nothing before mid now result e still same rise got (inl m) = inr (inl (record { answer = ap (told_from setup me) m.0; still = ap kept m.1 ∙ still; cause = inr (sym e, subst (λ (k : K). reads before None k) (sym m.1) got) }))
   over_nothing before mid now result e still same rise got (inr o) =
       inr (inr (subst (λ (k : Option (List ℕ)). OpensOver may_be kept faults leaves reads setup me k before now (told_from setup me result)) e
-      (record { keep = o.keep; stated = (same o.keep).0 o.stated; lands = first_lands o.keep (kept before) (kept mid) (kept now) result still o.is; written = wrote_later (kept before) (kept mid) (kept now) still o.written; mid = mid; got = got; sent = o.sent; once = o.once; cause = λ f. risen_from (faults before) (faults mid) (faults now) rise (o.cause (failed_first result f)) })))
+      (record { keep = o.keep; stated = (same o.keep).0 o.stated; lands = first_lands o.keep (kept before) (kept mid) (kept now) result still o.is; written = wrote_later (kept before) (kept mid) (kept now) still o.written; mid = mid; got = got; sent = o.sent; spells = o.spells; once = o.once; cause = λ f. risen_from (faults before) (faults mid) (faults now) rise (o.cause (failed_first result f)) })))
 
 pub runs_is : (s t : SetupView) (own stamp : Stamp) (who : Who) (kept : Recorded) → s ≡ t → own ≡ stamp → ◌≡◌ {A = View} (record { setup = s; me = record { stamp = own; who = who }; kept = kept; window = nothing_waits; is_down = false }) (running t (record { stamp = stamp; who = who }) kept)
 runs_is s t own stamp who kept e f =

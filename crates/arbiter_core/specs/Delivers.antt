@@ -73,6 +73,7 @@ pub record PutsOnce {K : Type 0} (may_be : K → Keep → Type 0) (kept : K → 
   pub lands : Lands keep old next outputs window (kept before) (kept now) new told
   pub written : (kept now ≡ kept before) ⊎ IsWritten old.me.stamp old.setup.delay next (kept now)
   pub sent : List ℕ
+  pub spells : WritesRecord sent (spelled_as old.me.stamp old.setup.delay next)
   pub once : leaves before sent now
   pub cause : told ≡ Err KeeperFailed → Risen (faults before) (faults now)
 

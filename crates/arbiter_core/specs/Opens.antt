@@ -6,7 +6,7 @@ use Rattle.judge_core.specs.declared.game.GameOutcome.{GameOutcome}
 use Rattle.judge_core.specs.declared.game.GameOutcome.TheVariants.{Ruled, Illegal, Going}
 use Rattle.move_msg.specs.declared.stamp.Stamp.{Stamp}
 use Rattle.move_msg.specs.declared.record_bytes.Record.{Record}
-use Rattle.move_msg.specs.Records.{SpellsRecord, HasRecordLayout}
+use Rattle.move_msg.specs.Records.{SpellsRecord, WritesRecord, HasRecordLayout}
 use Rattle.judge_core.specs.Games.{Rules}
 use Rattle.arbiter_core.specs.declared.keeper.Keep.{Keep}
 use Rattle.arbiter_core.specs.declared.keeper.Keep.TheVariants.{Good, FailsOld, FailsNew}
@@ -78,6 +78,7 @@ pub record PutsFirst {K : Type 0} (may_be : K → Keep → Type 0) (kept : K →
   pub mid : K
   pub got : reads before None mid
   pub sent : List ℕ
+  pub spells : WritesRecord sent (spelled_as me.stamp setup.delay (first_record (rules_at setup)))
   pub once : leaves mid sent now
   pub cause : told ≡ Err KeeperFailed → Risen (faults before) (faults now)
 

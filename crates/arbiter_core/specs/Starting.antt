@@ -13,6 +13,8 @@ use Rattle.arbiter_core.specs.Recording.{Recorded, reaches}
 use Rattle.arbiter_core.specs.Answering.{Identity}
 use Rattle.arbiter_core.specs.Keeping.{Risen}
 use Rattle.arbiter_core.specs.Setups.{SetupView, rules_at}
+use Rattle.move_msg.specs.Records.{WritesRecord}
+use Rattle.arbiter_core.specs.Views.{spelled_as}
 use Rattle.arbiter_core.specs.Delivers.{IsSpelled, IsWritten}
 use Rattle.arbiter_core.specs.Opens.{first_record, Told, running}
 
@@ -41,6 +43,7 @@ pub record IsPutOnce {K : Type 0} (may_be : K → Keep → Type 0) (kept : K →
   pub is : IsPutSo keep setup me (kept before) (kept now) result
   pub written : (kept now ≡ kept before) ⊎ IsWritten me.stamp setup.delay (first_record (rules_at setup)) (kept now)
   pub sent : List ℕ
+  pub spells : WritesRecord sent (spelled_as me.stamp setup.delay (first_record (rules_at setup)))
   pub once : leaves before sent now
   pub cause : result ≡ Err KeeperFailed → Risen (faults before) (faults now)
 

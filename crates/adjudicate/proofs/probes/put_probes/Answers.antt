@@ -19,12 +19,12 @@ returns-in_default g c = record {
 pub loop-rest-preserved-then-done : goal.loop-rest-preserved-then-done
 loop-rest-preserved-then-done g c =
     let told = subst (λ (t : Tables). TellsLine t c.first_line.result.0.now (record { words = words_of c.in-Ok.told; done = c.in-Ok.is_told })) c.loop-rest.invariant.0 c.in-Ok.ensures.told in
-    (c.in-Ok.ensures.unchanged ∙ c.loop-rest.invariant.0, still_all _ _ _ _ _ _ _ c.if-done.true (probed_more _ _ _ _ _ _ _ _ _ _ _ c.loop-rest.invariant.1 c.first_line.ensures.lines told c.in-Ok-put_line.ensures), λ unasked. c.tell_progress.ensures unasked ∙ c.loop-rest.invariant.2 unasked)
+    (c.in-Ok.ensures.unchanged ∙ c.loop-rest.invariant.0, still_all _ _ _ _ _ _ _ c.if-done.true (probed_more _ _ _ _ _ _ _ _ _ _ _ c.loop-rest.invariant.1 c.first_line.ensures.lines told c.in-Ok-put_line.ensures), λ unasked. c.tell_progress.ensures.quiet unasked ∙ c.loop-rest.invariant.2 unasked)
 
 pub loop-rest-preserved : goal.loop-rest-preserved
 loop-rest-preserved g c =
     let told = subst (λ (t : Tables). TellsLine t c.first_line.result.0.now (record { words = words_of c.in-Ok.told; done = c.in-Ok.is_told })) c.loop-rest.invariant.0 c.in-Ok.ensures.told in
-    (c.in-Ok.ensures.unchanged ∙ c.loop-rest.invariant.0, not_all _ _ _ _ _ _ _ c.if-done.false (probed_more _ _ _ _ _ _ _ _ _ _ _ c.loop-rest.invariant.1 c.first_line.ensures.lines told c.in-Ok-put_line.ensures), λ unasked. c.tell_progress.ensures unasked ∙ c.loop-rest.invariant.2 unasked)
+    (c.in-Ok.ensures.unchanged ∙ c.loop-rest.invariant.0, not_all _ _ _ _ _ _ _ c.if-done.false (probed_more _ _ _ _ _ _ _ _ _ _ _ c.loop-rest.invariant.1 c.first_line.ensures.lines told c.in-Ok-put_line.ensures), λ unasked. c.tell_progress.ensures.quiet unasked ∙ c.loop-rest.invariant.2 unasked)
 
 pub returns : goal.returns
 returns g c =

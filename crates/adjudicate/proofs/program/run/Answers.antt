@@ -1,4 +1,4 @@
-use Rattle.std.proofs.Common.{◌≡◌, Bool, true, false, IfOk, Result, Ok, Err, refl, inl, inr}
+use Rattle.std.proofs.Common.{◌≡◌, Bool, true, false, refl, inl, inr}
 use Rattle.std.proofs.lemmas.Result.{IfOk-weaker}
 use Rattle.adjudicate.specs.Running.{ToTask, ToMisuse}
 use Rattle.adjudicate.proofs.program.run.Goals as goal
@@ -7,14 +7,10 @@ not_quiet : {P : Type 0} (b : Bool) → (b ≡ false → P) → (P → ⊥) → 
 not_quiet true quiet differ = refl
 not_quiet false quiet differ = absurd (differ (quiet refl))
 
-on_ok : {T E : Type 0} {P : T → Type 0} (r : Result T E) → ((x : T) → P x) → IfOk r P
-on_ok (Ok x) p = p x
-on_ok (Err e) p = tt
-
 pub returns-in-Ok : goal.returns-in-Ok
 returns-in-Ok g c = record {
   answered = IfOk-weaker c.run_task.result _ _ (λ status h. ToTask c.in-Ok.task c.in-Ok.ensures.ok h) c.run_task.ensures.answered;
-  quiet = on_ok c.run_task.result (λ status differ. inr (c.in-Ok.task, c.in-Ok.ensures.ok, not_quiet _ c.run_task.ensures.quiet differ));
+  quiet = λ differ. inr (c.in-Ok.task, c.in-Ok.ensures.ok, not_quiet _ c.run_task.ensures.quiet differ);
 }
 
 pub returns-in-Err-Misuse : goal.returns-in-Err-Misuse
