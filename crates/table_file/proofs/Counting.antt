@@ -1,14 +1,11 @@
 -- Sums over the symbols of blocks, and cut lengths.
-use Rattle.std.proofs.Common.{◌≡◌, ℕ, zero, suc, ◌-◌, ◌+◌, ◌*◌, ◌/◌, ◌≤◌, ◌<◌, Some, Bool, true, false, cond, List, [], ◌∷◌, ◌++◌, length, get_or, take, drop, map, refl, sym, ap, ◌∙◌, inl, inr, append_assoc, arith}
+use Rattle.std.proofs.Common.{◌≡◌, ℕ, zero, suc, ◌-◌, ◌+◌, ◌/◌, ◌≤◌, ◌<◌, Some, true, false, cond, List, [], ◌∷◌, ◌++◌, length, get_or, take, drop, map, refl, sym, ap, ◌∙◌, inl, inr, append_assoc, arith}
 use Rattle.std.specs.Prelude.{◌⊎◌, nat_le, slice_get}
 use Rattle.std.specs.List.{flat_map, All}
 use Rattle.std.proofs.lemmas.Bool.{cases_Bool, leb-true, leb-false}
-use Rattle.std.proofs.lemmas.List.{length-append, take_more, drop_more, append-nil, take_all}
-use Rattle.std.proofs.lemmas.List.Concat.{flat_map-append}
-use Rattle.std.proofs.lemmas.List.Elements.{All-get_or}
+use Rattle.std.proofs.lemmas.List.{length-append, take_more, drop_more}
 use Rattle.pair_dict.specs.Symbols.{HasValues, leaf, pair, values_of, left, right, symbol_count}
 use Rattle.pair_dict.proofs.Settling.{has_some}
-use Rattle.table_file.specs.declared.plan.PairsPlan.{PairsPlan}
 use Rattle.table_file.specs.declared.forging.codes.Code.{Code}
 use Rattle.table_file.specs.Plan.{codes_size, symbols_values, count_of, IsGoodContent, IsGoodPart, AreGoodMaps, is_wide}
 use Rattle.table_file.specs.declared.plan.PartPlan.{PartPlan}

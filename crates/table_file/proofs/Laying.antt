@@ -1,18 +1,16 @@
 -- Codes, blocks and entries as the forge lays them out.
-use Rattle.std.proofs.Common.{◌≡◌, ◌≢◌, ℕ, zero, suc, ◌-◌, ◌+◌, ◌*◌, ◌/◌, ◌^◌, ◌≤◌, ◌<◌, Bool, true, false, cond, eqb, List, [], ◌∷◌, ◌++◌, length, get_or, take, drop, map, replicate, Some, refl, sym, ap, subst, ◌∙◌, inl, inr, append_assoc, arith}
-use Rattle.std.specs.Prelude.{◌%◌, ◌⊎◌, slice_get, slice_index, nat_le, ◌↔◌}
-use Rattle.std.specs.List.{flat_map, All}
+use Rattle.std.proofs.Common.{◌≡◌, ℕ, zero, suc, ◌-◌, ◌+◌, ◌*◌, ◌/◌, ◌^◌, ◌≤◌, ◌<◌, true, List, [], ◌∷◌, ◌++◌, length, get_or, drop, refl, ap, ◌∙◌, inl, inr, arith}
+use Rattle.std.specs.Prelude.{◌%◌, slice_index, nat_le, ◌↔◌}
 use Rattle.std.proofs.lemmas.Bool.{cases_Bool, leb-true, le-leb}
 use Rattle.std.proofs.lemmas.Nat.{pow-add, pow_pos, shr_high, shr_split, mul-add-lt, div_below, mod_below}
 use Rattle.std.proofs.lemmas.List.{length-append, drop_all}
 use Rattle.pair_dict.specs.Codes.{bases, number_of, IsCode}
 use Rattle.pair_dict.specs.Reading.{falls}
-use Rattle.pair_dict.proofs.Numbers.{number_push, number-append, number_below}
-use Rattle.pair_dict.proofs.WordLemmas.{length-bases}
+use Rattle.pair_dict.proofs.Numbers.{number_push, number_below}
 use Rattle.table_file.specs.declared.plan.PairsPlan.{PairsPlan}
 use Rattle.table_file.specs.declared.forging.codes.Code.{Code}
-use Rattle.table_file.specs.Plan.{pairing_of, code_by, code_of, codes_size, symbol_bytes}
-use Rattle.table_file.specs.PlannedFile.{spot_among, codes_number, cut_lengths, bytes_of}
+use Rattle.table_file.specs.Plan.{pairing_of, code_by, code_of, symbol_bytes}
+use Rattle.table_file.specs.PlannedFile.{spot_among, bytes_of}
 use Rattle.table_file.specs.Writing.{IsReached}
 
 -- ---- codes

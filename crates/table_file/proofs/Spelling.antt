@@ -1,14 +1,14 @@
 -- The bytes of a plan's dictionary are read as what they say.
-use Rattle.std.proofs.Common.{◌≡◌, ◌≢◌, ℕ, zero, suc, ◌-◌, ◌+◌, ◌*◌, ◌/◌, ◌≤◌, ◌<◌, Bool, true, false, cond, List, [], ◌∷◌, ◌++◌, length, get_or, take, drop, replicate, Result, Ok, Err, IsTrue, refl, sym, ap, ◌∙◌, inl, inr, arith}
-use Rattle.std.specs.Prelude.{◌%◌, ◌⊎◌, nat_le, nat_lt}
+use Rattle.std.proofs.Common.{◌≡◌, ℕ, zero, suc, ◌-◌, ◌+◌, ◌*◌, ◌/◌, ◌≤◌, ◌<◌, true, false, List, [], ◌∷◌, ◌++◌, length, get_or, take, drop, replicate, Result, Ok, Err, refl, sym, ap, ◌∙◌, inl, inr, arith}
+use Rattle.std.specs.Prelude.{◌%◌, nat_lt}
 use Rattle.std.specs.Int.{w16, to_le_bytes}
-use Rattle.std.proofs.lemmas.Bool.{cases_Bool, le-leb, le-ltb, false≢true}
+use Rattle.std.proofs.lemmas.Bool.{cases_Bool, le-leb, le-ltb}
 use Rattle.std.proofs.lemmas.List.{length-append, length-replicate}
 use Rattle.pair_dict.specs.Codes.{Pairing}
-use Rattle.pair_dict.specs.Symbols.{AllHaveValues, have_values, symbol_count}
-use Rattle.pair_dict.specs.Reading.{◌>>=◌, words, falls, lengths_at, lowest_at, count_at, symbols_at, layout_at, dictionary_at, Gives}
+use Rattle.pair_dict.specs.Symbols.{AllHaveValues, have_values}
+use Rattle.pair_dict.specs.Reading.{◌>>=◌, words, falls, lengths_at, lowest_at, count_at, symbols_at, layout_at, dictionary_at}
 use Rattle.pair_dict.specs.declared.fault.DictFault.{DictFault}
-use Rattle.pair_dict.specs.declared.fault.DictFault.TheVariants.{OutOfMemory, Truncated, BadCode, BadSymbol}
+use Rattle.pair_dict.specs.declared.fault.DictFault.TheVariants.{BadSymbol}
 use Rattle.pair_dict.proofs.Chain.{with_all_values, without_values}
 use Rattle.pair_dict.proofs.ValueCounts.{all_have, have_all}
 use Rattle.table_file.specs.declared.plan.PairsPlan.{PairsPlan}

@@ -1,8 +1,7 @@
 -- The bytes of the file that a plan describes (Syzygy table format).
-use Rattle.std.specs.Prelude.{◌≡◌, ℕ, zero, suc, ◌+◌, ◌-◌, ◌*◌, ◌/◌, ◌%◌, ◌^◌, Bool, true, false, List, [], ◌∷◌, ◌++◌, length, map, sum, replicate, slice_get, slice_index, slice_index_or, Option, Some, None, nat_le, nat_lt, ◌==◌, if◌then◌else◌}
-use Rattle.std.specs.List.{flat_map, range_with_len}
+use Rattle.std.specs.Prelude.{ℕ, zero, suc, ◌+◌, ◌-◌, ◌*◌, ◌/◌, ◌%◌, ◌^◌, Bool, true, false, List, [], ◌∷◌, ◌++◌, length, map, replicate, Option, Some, None, nat_le, ◌==◌, if◌then◌else◌}
+use Rattle.std.specs.List.{flat_map}
 use Rattle.std.specs.Int.{w16, w32, to_le_bytes, bytes_low_first}
-use Rattle.pair_dict.specs.Codes.{bases}
 use Rattle.place_index.specs.Shape.{has_pawns, size_of}
 use Rattle.table_file.specs.declared.kind.Kind.{Kind}
 use Rattle.table_file.specs.declared.kind.Kind.TheVariants.{Wdl, Dtz}
@@ -14,7 +13,7 @@ use Rattle.table_file.specs.declared.plan.MapsPlan.{MapsPlan}
 use Rattle.table_file.specs.declared.plan.Content.{Content}
 use Rattle.table_file.specs.declared.plan.Content.TheVariants.{Single, Pairs}
 use Rattle.table_file.specs.Reading.{has_bit}
-use Rattle.table_file.specs.Files.{is_symmetric, files_of, sides_of, magic_of}
+use Rattle.table_file.specs.Files.{is_symmetric, sides_of, magic_of}
 use Rattle.table_file.specs.Plan.{symbol_bytes, count_of, last_point, planned_shape, second_nibble, map_bytes, is_wide, code_of, codes_size}
 
 -- zeros up to the next length that m divides

@@ -1,5 +1,4 @@
-use Rattle.std.proofs.Common.{ℕ, ◌≡◌, ◌≢◌, ◌<◌, ◌+◌, ◌++◌, ◌-◌, ◌*◌, ◌/◌, ◌^◌, ◌≤◌, List, [], ◌∷◌, length, take, drop, map, get_or, true, false, cond, Some, None, Ok, Err, refl, arith, sym, ap, subst, inl, inr, ◌∙◌, rules}
-use Rattle.std.specs.Prelude.{◌%◌, slice_get}
+use Rattle.std.proofs.Common.{◌≡◌, ◌+◌, ◌-◌, ◌*◌, ◌^◌, [], ◌∷◌, length, take, drop, get_or, arith, sym, rules}
 use Rattle.std.proofs.lemmas.List.{drop_more, drop_all, take_all}
 use Rattle.pair_dict.specs.Codes.{number_of}
 use Rattle.table_file.specs.Plan.{code_of, codes_size}

@@ -1,8 +1,8 @@
-use Rattle.std.proofs.Common.{ℕ, ◌≡◌, ◌≢◌, ◌<◌, ◌+◌, ◌++◌, ◌-◌, ◌*◌, ◌/◌, ◌^◌, ◌≤◌, List, [], ◌∷◌, length, take, drop, map, get_or, true, false, cond, Some, None, Ok, Err, refl, arith, sym, ap, subst, inl, inr, ◌∙◌, rules}
-use Rattle.std.specs.Prelude.{◌%◌, slice_get}
+use Rattle.std.proofs.Common.{◌≡◌, ◌+◌, ◌-◌, ◌*◌, ◌^◌, ◌≤◌, [], ◌∷◌, length, arith, ◌∙◌}
+use Rattle.std.specs.Prelude.{◌%◌}
 use Rattle.std.proofs.lemmas.List.{length-append}
 use Rattle.pair_dict.specs.Codes.{number_of}
-use Rattle.table_file.proofs.Laying.{whole_bytes, zeros_left, zero_more}
+use Rattle.table_file.proofs.Laying.{zeros_left, zero_more}
 use Rattle.table_file.proofs.forging.blocks.close.Goals as goal
 
 pub loop-bytes-init : goal.loop-bytes-init

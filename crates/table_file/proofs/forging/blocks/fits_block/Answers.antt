@@ -1,10 +1,8 @@
-use Rattle.std.proofs.Common.{ℕ, ◌≡◌, ◌≢◌, ◌<◌, ◌+◌, ◌++◌, ◌-◌, ◌*◌, ◌/◌, ◌^◌, ◌≤◌, List, [], ◌∷◌, length, take, drop, map, get_or, true, false, cond, Some, None, Ok, Err, refl, arith, sym, ap, subst, inl, inr, ◌∙◌, rules}
-use Rattle.std.specs.Prelude.{◌%◌, slice_get}
+use Rattle.std.proofs.Common.{◌≡◌, ◌<◌, ◌+◌, ◌*◌, ◌^◌, get_or, arith, ap, rules}
 use Rattle.std.proofs.lemmas.Bool.{false≢true}
-use Rattle.std.specs.List.{All}
 use Rattle.std.proofs.lemmas.List.Elements.{All-more}
 use Rattle.pair_dict.specs.Symbols.{symbol_count}
-use Rattle.table_file.specs.Plan.{code_of, codes_size, symbol_bytes}
+use Rattle.table_file.specs.Plan.{code_of, symbol_bytes}
 use Rattle.table_file.proofs.Counting.{size_more, size_front}
 use Rattle.table_file.proofs.forging.blocks.fits_block.Goals as goal
 

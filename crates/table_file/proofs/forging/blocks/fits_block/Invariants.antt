@@ -1,4 +1,4 @@
-use Rattle.std.proofs.Common.{◌≡◌, ◌<◌, ◌+◌, ◌*◌, length, take, drop}
+use Rattle.std.proofs.Common.{◌≡◌, ◌<◌, ◌+◌, ◌*◌, take}
 use Rattle.std.specs.List.{All}
 use Rattle.table_file.specs.Plan.{symbol_bytes, code_of, codes_size}
 use Rattle.pair_dict.specs.Symbols.{symbol_count}

@@ -1,5 +1,5 @@
-use Rattle.std.proofs.Common.{ℕ, ◌≡◌, ◌≢◌, ◌<◌, ◌+◌, ◌++◌, ◌-◌, ◌*◌, ◌/◌, ◌^◌, ◌≤◌, List, [], ◌∷◌, length, take, drop, map, get_or, true, false, cond, Some, None, Ok, Err, refl, arith, sym, ap, subst, inl, inr, ◌∙◌, rules}
-use Rattle.std.specs.Prelude.{◌%◌, slice_get}
+use Rattle.std.proofs.Common.{◌≡◌, ◌-◌, ◌*◌, ◌/◌, ◌^◌, [], ◌∷◌, refl, arith, ◌∙◌}
+use Rattle.std.specs.Prelude.{◌%◌}
 use Rattle.std.proofs.lemmas.Nat.{shl_whole, one_shl}
 use Rattle.std.proofs.lemmas.List.{length-append}
 use Rattle.pair_dict.specs.Codes.{number_of}

@@ -1,5 +1,4 @@
-use Rattle.std.proofs.Common.{ℕ, ◌≡◌, ◌≢◌, ◌<◌, ◌+◌, ◌++◌, ◌-◌, ◌*◌, ◌/◌, ◌^◌, ◌≤◌, List, [], ◌∷◌, length, take, drop, map, get_or, true, false, cond, Some, None, Ok, Err, refl, arith, sym, ap, subst, inl, inr, ◌∙◌, rules}
-use Rattle.std.specs.Prelude.{◌%◌, slice_get}
+use Rattle.std.proofs.Common.{ℕ, ◌<◌, List, refl, subst}
 use Rattle.std.specs.List.{All}
 use Rattle.std.proofs.lemmas.List.{take_all}
 use Rattle.std.proofs.lemmas.List.Elements.{All-more}

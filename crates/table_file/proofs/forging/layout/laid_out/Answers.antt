@@ -1,5 +1,4 @@
-use Rattle.std.proofs.Common.{ℕ, ◌≡◌, ◌≢◌, ◌<◌, ◌+◌, ◌++◌, ◌-◌, ◌*◌, ◌/◌, ◌^◌, ◌≤◌, List, [], ◌∷◌, length, take, drop, map, get_or, true, false, cond, Some, None, Ok, Err, refl, arith, sym, ap, subst, inl, inr, ◌∙◌, rules}
-use Rattle.std.specs.Prelude.{◌%◌, slice_get}
+use Rattle.std.proofs.Common.{◌≡◌, ◌*◌, refl, arith}
 use Rattle.table_file.specs.Files.{files_of, sides_of}
 use Rattle.table_file.proofs.Counting.{good_maps}
 use Rattle.table_file.proofs.forging.layout.laid_out.Goals as goal

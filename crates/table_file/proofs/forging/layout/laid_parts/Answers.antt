@@ -1,5 +1,4 @@
-use Rattle.std.proofs.Common.{ℕ, ◌≡◌, ◌≢◌, ◌<◌, ◌+◌, ◌++◌, ◌-◌, ◌*◌, ◌/◌, ◌^◌, ◌≤◌, List, [], ◌∷◌, length, take, drop, map, get_or, true, false, cond, Some, None, Ok, Err, refl, arith, sym, ap, subst, inl, inr, ◌∙◌, rules}
-use Rattle.std.specs.Prelude.{◌%◌, slice_get}
+use Rattle.std.proofs.Common.{ℕ, ◌≡◌, ◌<◌, ◌/◌, length, get_or, arith}
 use Rattle.std.proofs.lemmas.Option.{slice_get_within}
 use Rattle.table_file.specs.Plan.{IsGoodPart}
 use Rattle.table_file.specs.declared.plan.PartPlan.{PartPlan}

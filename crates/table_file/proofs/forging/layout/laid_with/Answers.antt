@@ -1,6 +1,6 @@
-use Rattle.std.proofs.Common.{ℕ, ◌≡◌, ◌≢◌, ◌<◌, ◌+◌, ◌++◌, ◌-◌, ◌*◌, ◌/◌, ◌^◌, ◌≤◌, List, [], ◌∷◌, length, take, drop, map, get_or, true, false, cond, Some, None, Ok, Err, refl, arith, sym, ap, subst, inl, inr, ◌∙◌, rules}
-use Rattle.std.specs.Prelude.{◌%◌, slice_get}
-use Rattle.table_file.specs.PlannedFile.{figures_bytes, planned_lengths, planned_span, word_bytes, blocks_bytes, entries_bytes}
+use Rattle.std.proofs.Common.{◌≡◌, ◌*◌, ◌^◌, refl, arith, ◌∙◌}
+use Rattle.std.specs.Prelude.{◌%◌}
+use Rattle.table_file.specs.PlannedFile.{figures_bytes, planned_span}
 use Rattle.std.proofs.lemmas.Nat.{one_shl}
 use Rattle.table_file.proofs.forging.layout.laid_with.Goals as goal
 

@@ -1,8 +1,7 @@
-use Rattle.std.proofs.Common.{ℕ, ◌≡◌, ◌≢◌, ◌<◌, ◌+◌, ◌++◌, ◌-◌, ◌*◌, ◌/◌, ◌^◌, ◌≤◌, List, [], ◌∷◌, length, take, drop, map, get_or, true, false, cond, Some, None, Ok, Err, refl, arith, sym, ap, subst, inl, inr, ◌∙◌, rules}
-use Rattle.std.specs.Prelude.{◌%◌, slice_get}
+use Rattle.std.proofs.Common.{ℕ, length, arith, sym, ap, subst, ◌∙◌}
 use Rattle.std.proofs.lemmas.List.{length-append}
 use Rattle.pair_dict.specs.Symbols.{HasValues}
-use Rattle.table_file.proofs.Counting.{one_value, halves_of, has_known}
+use Rattle.table_file.proofs.Counting.{one_value, halves_of}
 use Rattle.table_file.proofs.forging.values.+count_in.Goals as goal
 
 pub returns-then-second-eq4095-clause-is : goal.returns-then-second-eq4095-clause-is

@@ -1,6 +1,6 @@
-use Rattle.std.proofs.Common.{ℕ, ◌≡◌, ◌++◌, List, [], ◌∷◌, length, arith, sym, ap, subst, refl, ◌∙◌, append_assoc}
+use Rattle.std.proofs.Common.{ℕ, ◌++◌, List, [], ◌∷◌, length, arith, sym, ap, subst, ◌∙◌, append_assoc}
 use Rattle.std.proofs.lemmas.List.{length-append}
-use Rattle.pair_dict.specs.Symbols.{HasValues, left}
+use Rattle.pair_dict.specs.Symbols.{HasValues}
 use Rattle.table_file.proofs.Counting.{one_value, halves_of}
 use Rattle.table_file.proofs.Planned.{on_ok}
 use Rattle.table_file.proofs.forging.values.+push_symbol.Goals as goal

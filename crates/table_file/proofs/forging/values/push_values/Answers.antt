@@ -1,4 +1,4 @@
-use Rattle.std.proofs.Common.{ℕ, ◌≡◌, ◌++◌, List, ap, ◌∙◌}
+use Rattle.std.proofs.Common.{ℕ, ◌++◌, List, ap, ◌∙◌}
 use Rattle.table_file.proofs.Planned.{on_ok}
 use Rattle.table_file.proofs.forging.values.push_values.Goals as goal
 
