@@ -263,6 +263,72 @@ fn blocks_are_forged(rt: HostRuntime) {
     check_forged(&rt, rt.alloc(), &plan, &queen_file(&rt, rt.alloc()));
 }
 
+/// A leaf of 4 and one of 0, their pair, and seven pairs of the symbol before with itself, so that symbol 9 has 256 values.
+const DOUBLED: [[u8; 3]; 10] = [
+    [4, 0xF0, 0xFF],
+    [0, 0xF0, 0xFF],
+    [0, 0x10, 0],
+    [2, 0x20, 0],
+    [3, 0x30, 0],
+    [4, 0x40, 0],
+    [5, 0x50, 0],
+    [6, 0x60, 0],
+    [7, 0x70, 0],
+    [8, 0x80, 0],
+];
+
+/// Twenty blocks of six symbols 9, and one of three: 1536 values each, and 612 of the last one's 768.
+fn doubled_blocks(alloc: Global) -> Result<Vec<Vec<u16>>, AllocError> {
+    let mut blocks = Vec::new(alloc);
+    for _ in 0..20 {
+        blocks.push(vec![in alloc; 9; 6]?)?;
+    }
+    blocks.push(vec![in alloc; 9; 3]?)?;
+    Ok(blocks)
+}
+
+/// Codes of twenty bits, each of them the number of its symbol.
+fn long_pairs(alloc: Global) -> Result<PairsPlan, AllocError> {
+    Ok(PairsPlan {
+        block_exponent: 4,
+        span_exponent: 8,
+        least: 20,
+        greatest: 20,
+        lowest: [0].to_vec(alloc)?,
+        symbols: DOUBLED.to_vec(alloc)?,
+        blocks: doubled_blocks(alloc)?,
+    })
+}
+
+/// The queen's WDL table with blocks for both sides, the second side's of long codes.
+fn queen_of_both(rt: &impl Abort, alloc: Global) -> Plan {
+    let long = long_pairs(alloc).expect(rt, "memory");
+    let mut plan = queen_of_pairs(rt, alloc, pairs(rt, alloc));
+    plan.parts.truncate(1);
+    let second = queen_part(rt, alloc, 0, Content::Pairs(long), no_maps(rt, alloc));
+    push(rt, &mut plan.parts, second);
+    plan
+}
+
+/// Of the second side: block lengths, whole blocks of six codes, which begin at a multiple of 64, and the last one of three.
+fn check_long_codes(rt: &impl Abort, file: &[u8]) {
+    let six = [0u8, 0, 0x90, 0, 9, 0, 0, 0x90, 0, 9, 0, 0, 0x90, 0, 9, 0];
+    let three = [0u8, 0, 0x90, 0, 9, 0, 0, 0x90, 0, 0, 0, 0, 0, 0, 0, 0];
+    assert_eq!(rt; file.len(), 5200);
+    check_bytes(rt, &file[2186..2188], &[0xFF, 5], "first length");
+    check_bytes(rt, &file[2226..2230], &[0x63, 2, 0xFF, 0xFF], "last lengths");
+    check_bytes(rt, &file[4752..4800], &[0; 48], "fill");
+    check_bytes(rt, &file[4800..4816], &six, "first block");
+    check_bytes(rt, &file[5120..5136], &three, "last block");
+    check_bytes(rt, &file[5136..5200], &[0; 64], "end");
+}
+
+#[test]
+fn blocks_of_two_sides_are_forged(rt: HostRuntime) {
+    let plan = queen_of_both(&rt, rt.alloc());
+    check_long_codes(&rt, &forged_file(&rt, rt.alloc(), &plan));
+}
+
 /// Blocks of two bytes, which are too short for their values.
 fn with_short_blocks(rt: &impl Abort, alloc: Global) -> Plan {
     let mut pairs = pairs(rt, alloc);

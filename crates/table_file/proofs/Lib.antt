@@ -4,6 +4,9 @@ pub mod Sized
 pub mod Expanded
 pub mod NameLemmas
 pub mod Planned
+pub mod Laying
+pub mod Counting
+pub mod Spelling
 pub mod Views
 pub mod AtSpots
 pub mod ShapeTests

@@ -7,7 +7,8 @@ use Rattle.table_file.specs.Names.{file_name}
 use Rattle.table_file.specs.Files.{indices, sides_of}
 use Rattle.table_file.specs.Tables.{Contents, table_at, part_of}
 use Rattle.table_file.specs.Expansion.{expansion}
-use Rattle.table_file.specs.Plan.{planned_shape, planned_expansion, planned_maps, HasEnough}
+use Rattle.table_file.specs.Plan.{planned_shape, planned_expansion, planned_maps, HasEnough, IsGoodPlan}
+use Rattle.table_file.specs.PlannedFile.{file_of}
 
 -- a part of an opened file has the pieces, orders and flags of a planned part, and its values, one for each index
 pub record IsPartOf (material : ℕ) (t : Contents) (side file : ℕ) (p : PartPlan) : Type 0 where
@@ -35,3 +36,7 @@ pub record Shows (plan : Plan) (t : Contents) : Type 0 where
 -- the bytes, under the file name of the plan's kind and material, open and say what the plan says
 abbrev pub OpensAs : Plan → List ℕ → Type 0
 OpensAs plan file = (t : Contents) × (table_at (file_name plan.kind plan.material) file ≡ Ok t) × Shows plan t
+
+-- a good plan whose bytes open as what it says
+abbrev pub CanBeForged : Plan → Type 0
+CanBeForged plan = IsGoodPlan plan.kind plan.material plan.parts.items × OpensAs plan (file_of plan)

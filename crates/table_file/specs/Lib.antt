@@ -17,4 +17,6 @@ pub mod Distances
 pub mod Layouts
 pub mod Opened
 pub mod Plan
+pub mod PlannedFile
+pub mod Writing
 pub mod Forged

@@ -60,6 +60,14 @@ impl<'a> Codes<'a> {
         1u64 << self.span_exponent
     }
 
+    /// How many whole spans so many indices have.
+    pub(crate) fn spans_in(&self, indices: u64) -> usize
+        ensures is { result ≡ indices / span self.now }
+        ensures few { result ≤ indices }
+    {
+        (indices >> self.span_exponent) as usize
+    }
+
     /// How many sparse entries there are for so many indices.
     pub(crate) fn points(&self, size: u64) -> usize
         requires { size ≤ 2 ^ 32 }
@@ -67,7 +75,7 @@ impl<'a> Codes<'a> {
         ensures few { result ≤ size }
     {
         let span = self.span();
-        ((size + (span - 1)) / span) as usize
+        self.spans_in(size + (span - 1))
     }
 
     /// How many block lengths there are, those of padding entries included.

@@ -1,18 +1,18 @@
 //! Writing table files from plans.
 
-ghost use Rattle.std.specs.Prelude.{◌≡◌, ◌≢◌, ◌++◌, IfOk, IfErr, OnOk, IsErrOf, IsTrue, List, ℕ};
+ghost use Rattle.std.specs.Prelude.{◌≡◌, ◌≢◌, ◌++◌, IfOk, IfErr, OnOk, IfSome, IsErrOf, IsTrue};
 ghost use Rattle.std.specs.Io.KnownBytes.{Appends};
-ghost use Rattle.table_file.specs.declared.forging.ForgeFault.TheVariants.{OutOfMemory};
 ghost use Rattle.table_file.specs.Names.{ending, file_name};
 ghost use Rattle.table_file.specs.Plan.{IsGoodPlan};
-ghost use Rattle.table_file.specs.Forged.{OpensAs};
+ghost use Rattle.table_file.specs.PlannedFile.{file_of};
+ghost use Rattle.table_file.specs.Forged.{OpensAs, CanBeForged};
 
 use crate::fault::TableFault;
 use crate::kind::Kind;
 use crate::plan::Plan;
 use crate::table::open;
 use place_index::{Material, tables_are_numbered};
-use std::alloc::{AllocError, AllocFailed, Global};
+use std::alloc::{AllocError, Global};
 use std::io::Write;
 
 mod blocks;
@@ -33,22 +33,6 @@ pub enum ForgeFault {
     Io,
     /// Memory was refused.
     OutOfMemory,
-}
-
-impl From<AllocError> for ForgeFault {
-    ghost from_gives = { λ _ e. e ≡ OutOfMemory };
-
-    fn from(_e: AllocError) -> ForgeFault {
-        ForgeFault::OutOfMemory
-    }
-}
-
-impl<T: Drop> From<AllocFailed<T>> for ForgeFault {
-    ghost from_gives = { λ _ e. e ≡ OutOfMemory };
-
-    fn from(_e: AllocFailed<T>) -> ForgeFault {
-        ForgeFault::OutOfMemory
-    }
 }
 
 /// How the file names of a kind of table end.
@@ -72,33 +56,32 @@ fn file_name(alloc: Global, kind: Kind, material: &Material) -> Result<Vec<u8>, 
     Ok(name)
 }
 
-/// Whether the bytes of a file open and say what a plan says.
-fn is_right(alloc: Global, plan: &Plan, file: &[u8]) -> Result<bool, ForgeFault>
-    ensures is { IfOk result (λ b. IsTrue b → OpensAs plan.now file.now) }
-    ensures fault { IfErr result (λ e. e ≢ ForgeFault.Io) }
+/// Whether the bytes of the file of a good plan open and say what the plan says.
+fn is_right(alloc: Global, plan: &Plan, file: &[u8]) -> Result<bool, AllocError>
+    requires { IsGoodPlan plan.now.kind plan.now.material plan.now.parts.items }
+    ensures { IfOk result (λ b. IsTrue b → OpensAs plan.now file.now) }
 {
     let name = file_name(alloc, plan.kind, &plan.material)?;
     match open(alloc, &name, file) {
         Ok(table) => shows(alloc, plan, &table),
-        Err(TableFault::OutOfMemory) => Err(ForgeFault::OutOfMemory),
+        Err(TableFault::OutOfMemory) => Err(AllocError),
         Err(_) => Ok(false),
     }
 }
 
-/// The bytes of the file that a plan describes.
-fn forged(alloc: Global, plan: &Plan) -> Result<Vec<u8>, ForgeFault>
-    ensures good { OnOk result (IsGoodPlan plan.now.kind plan.now.material plan.now.parts.items) }
-    ensures is { IfOk result (λ file. OpensAs plan.now file.items) }
-    ensures fault { IfErr result (λ e. e ≢ ForgeFault.Io) }
+/// The bytes of the file that a plan describes. There are none where the plan breaks a rule of plans or the file doesn't say
+/// what it says.
+fn forged(alloc: Global, plan: &Plan) -> Result<Option<Vec<u8>>, AllocError>
+    ensures found { IfOk result (λ o. IfSome o (λ file. file.items ≡ file_of plan.now)) }
+    ensures good { IfOk result (λ o. IfSome o (λ _. IsGoodPlan plan.now.kind plan.now.material plan.now.parts.items × OpensAs plan.now (file_of plan.now))) }
 {
-    let file = match laid_out(alloc, plan) {
-        Ok(file) => file,
-        Err(fault) => return Err(fault),
+    let Some(file) = laid_out(alloc, plan)? else {
+        return Ok(None);
     };
-    match is_right(alloc, plan, &file) {
-        Ok(true) => Ok(file),
-        Ok(false) => Err(ForgeFault::BadPlan),
-        Err(fault) => Err(fault),
+    if is_right(alloc, plan, &file)? {
+        Ok(Some(file))
+    } else {
+        Ok(None)
     }
 }
 
@@ -108,14 +91,15 @@ fn forged(alloc: Global, plan: &Plan) -> Result<Vec<u8>, ForgeFault>
 /// the plan breaks a rule of plans or the file doesn't say what it says, and `OutOfMemory` where memory is refused; both leave
 /// the writer as it was. `Io` comes only where the writer failed, and some bytes may be out then.
 pub fn forge<W: Write>(alloc: Global, plan: &Plan, out: &mut W) -> Result<(), ForgeFault>
-    ensures ok { OnOk result ((file : List ℕ) × Appends (W.contents out.old) (W.contents out.new) file × OpensAs plan.now file) }
-    ensures good { OnOk result (IsGoodPlan plan.now.kind plan.now.material plan.now.parts.items) }
-    ensures io { IsErrOf result ForgeFault.Io → (file : List ℕ) × OpensAs plan.now file }
+    ensures ok { OnOk result (Appends (W.contents out.old) (W.contents out.new) (file_of plan.now)) }
+    ensures good { OnOk result (CanBeForged plan.now) }
+    ensures io { IsErrOf result ForgeFault.Io → CanBeForged plan.now }
     ensures untouched { IfErr result (λ e. e ≢ ForgeFault.Io → out.new ≡ out.old) }
 {
     let file = match forged(alloc, plan) {
-        Ok(file) => file,
-        Err(fault) => return Err(fault),
+        Ok(Some(file)) => file,
+        Ok(None) => return Err(ForgeFault::BadPlan),
+        Err(_) => return Err(ForgeFault::OutOfMemory),
     };
     match out.write_all(&file) {
         Ok(()) => Ok(()),

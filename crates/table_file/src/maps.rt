@@ -11,7 +11,7 @@ use crate::fault::TableFault;
 use crate::kind::Kind;
 use crate::outcome::Outcome;
 use crate::parts::Part;
-use crate::reading::{byte, even, has_bit, taken, word};
+use crate::reading::{byte, even, has_bit, taken, word, word_at};
 use std::alloc::Global;
 use std::marker::Model;
 
@@ -110,7 +110,7 @@ fn word_entry(bytes: &[u8], place: usize) -> Option<u16>
     ensures { result ≡ slice_get (words bytes.now) place }
 {
     if place < bytes.len() / 2 {
-        Some(bytes[2 * place] as u16 + 256 * bytes[2 * place + 1] as u16)
+        Some(word_at(bytes, 2 * place))
     } else {
         None
     }

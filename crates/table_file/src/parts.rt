@@ -46,7 +46,8 @@ pub(crate) fn body(file: &[u8]) -> Result<&[u8], TableFault>
     Ok(body)
 }
 
-fn magic_of(kind: Kind) -> u32
+/// The first four bytes of a kind of table file as a number, the low one first.
+pub(crate) fn magic_of(kind: Kind) -> u32
     ensures { result ≡ magic_of kind }
 {
     match kind {

@@ -79,7 +79,7 @@ pub struct MapsPlan {
 
 impl PartPlan {
     ghost use Rattle.std.specs.Prelude.{◌≡◌};
-    ghost use Rattle.table_file.specs.Plan.{is_wide};
+    ghost use Rattle.table_file.specs.Plan.{is_wide, has_maps};
 
     /// Whether there are value maps of two bytes an entry.
     pub(crate) fn is_wide(&self) -> bool
@@ -87,30 +87,25 @@ impl PartPlan {
     {
         has_bit(2, self.flags) && has_bit(16, self.flags)
     }
-}
 
-impl Plan {
-    ghost use Rattle.std.specs.Prelude.{◌≡◌};
-    ghost use Rattle.table_file.specs.Plan.{has_maps};
-
-    /// Whether the file tells value maps of a part.
-    pub(crate) fn has_maps(&self, part: &PartPlan) -> bool
-        ensures { result ≡ has_maps self.now.kind part.now }
+    /// Whether a file of a kind tells value maps of the part.
+    pub(crate) fn has_maps(&self, kind: Kind) -> bool
+        ensures { result ≡ has_maps kind self.now }
     {
-        match self.kind {
+        match kind {
             Kind::Wdl => false,
-            Kind::Dtz => has_bit(2, part.flags),
+            Kind::Dtz => has_bit(2, self.flags),
         }
     }
 }
 
 impl MapsPlan {
-    ghost use Rattle.std.specs.Prelude.{IsTrue};
+    ghost use Rattle.std.specs.Prelude.{IsTrue, ◌↔◌};
     ghost use Rattle.table_file.specs.Plan.{HasNoMaps};
 
     /// Whether there is no entry.
     pub(crate) fn is_empty(&self) -> bool
-        ensures { IsTrue result → HasNoMaps self.now }
+        ensures { IsTrue result ↔ HasNoMaps self.now }
     {
         self.win.is_empty()
             && self.loss.is_empty()

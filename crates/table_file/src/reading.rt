@@ -1,6 +1,6 @@
 //! Fields of a table file, from left to right.
 
-ghost use Rattle.std.specs.Prelude.{◌≡◌, ◌≢◌, ◌≤◌, length, IfOk, IfErr};
+ghost use Rattle.std.specs.Prelude.{◌≡◌, ◌≢◌, ◌≤◌, ◌+◌, ◌*◌, length, slice_index, IfOk, IfErr};
 ghost use Rattle.table_file.specs.declared.fault.TableFault.TheVariants.{OutOfMemory};
 ghost use Rattle.table_file.specs.Reading.{Gives, byte_at, taken_at, word_at, number_at, exponent_at, risen, has_bit};
 
@@ -86,6 +86,22 @@ pub(crate) fn number(bytes: &[u8]) -> Result<(u32, &[u8]), TableFault>
     }
     let (_, rest) = bytes.split_at(4);
     Ok((LittleEndian::read_u32(bytes), rest))
+}
+
+/// The number of two bytes at a place, the low one first.
+pub(crate) fn word_at(bytes: &[u8], at: usize) -> u16
+    requires { at + 2 ≤ length bytes.now }
+    ensures { result ≡ slice_index bytes.now at + 256 * slice_index bytes.now (at + 1) }
+{
+    LittleEndian::read_u16(&bytes[at..])
+}
+
+/// The number of four bytes at a place, the low ones first.
+pub(crate) fn number_at(bytes: &[u8], at: usize) -> u32
+    requires { at + 4 ≤ length bytes.now }
+    ensures { result ≡ slice_index bytes.now at + 256 * slice_index bytes.now (at + 1) + 65536 * slice_index bytes.now (at + 2) + 16777216 * slice_index bytes.now (at + 3) }
+{
+    LittleEndian::read_u32(&bytes[at..])
 }
 
 /// An exponent between two bounds, and what is left.

@@ -6,6 +6,7 @@ ghost use Rattle.table_file.specs.Files.{section_size};
 ghost use Rattle.table_file.specs.declared.parts.Section.TheVariants.{Entries, Lengths};
 ghost use Rattle.table_file.specs.Sparse.{sizes_of, values_before, entry_block, entry_offset, is_entry, are_entries, fits_in};
 
+use crate::reading::{number_at, word_at};
 use crate::size_record::Coding;
 use std::alloc::{AllocError, Global};
 
@@ -19,10 +20,21 @@ fn sums_of(alloc: Global, lengths: &[u8]) -> Result<Vec<u64>, AllocError>
     let mut sum: u64 = 0;
     sums.push(0)?;
     for i in 0..lengths.len() / 2 {
-        sum += lengths[2 * i] as u64 + 256 * lengths[2 * i + 1] as u64 + 1;
+        sum += word_at(lengths, 2 * i) as u64 + 1;
         sums.push(sum)?;
     }
     Ok(sums)
+}
+
+/// The block and the offset of a sparse entry: four bytes, and two.
+pub(crate) fn entry(entries: &[u8], k: usize) -> (usize, usize)
+    requires { k < length entries.now / 6 }
+    ensures block { result.0 ≡ entry_block entries.now k }
+    ensures offset { result.1 ≡ entry_offset entries.now k }
+    ensures short { result.1 < 65536 }
+{
+    let block = number_at(entries, 6 * k) as usize;
+    (block, word_at(entries, 6 * k + 4) as usize)
 }
 
 /// Whether an entry names the value in the middle of its span.
@@ -34,17 +46,12 @@ fn is_entry(entries: &[u8], sums: &[u64], span: u64, k: usize, lengths: &[u8]) -
     requires each { (b : ℕ) → b ≤ length lengths.now / 2 → (slice_index sums.now b ≡ values_before (sizes_of lengths.now) b) × (slice_index sums.now b ≤ 2 ^ 51) }
     ensures { result ≡ is_entry (sizes_of lengths.now) span entries.now k }
 {
-    let at = 6 * k;
-    let block = entries[at] as usize
-        + 256 * entries[at + 1] as usize
-        + 65536 * entries[at + 2] as usize
-        + 16777216 * entries[at + 3] as usize;
-    let offset = entries[at + 4] as u64 + 256 * entries[at + 5] as u64;
+    let (block, offset) = entry(entries, k);
     if sums.len() <= block {
         return false;
     }
     let before = sums[block];
-    before + offset == k as u64 * span + span / 2
+    before + offset as u64 == k as u64 * span + span / 2
 }
 
 /// Whether each of the first n entries names the value in the middle of its span. The time is linear in the entries and

@@ -8,7 +8,9 @@ ghost use Rattle.table_file.specs.Expansion.{entry_at, expanded, values_in, bloc
 ghost use Rattle.table_file.specs.Checked.{IsChecked, AreChecked};
 
 use crate::codes::Codes;
+use crate::reading::word_at;
 use crate::size_record::Coding;
+use crate::sparse::entry;
 use pair_dict::Damaged;
 use std::alloc::{AllocError, Global};
 
@@ -46,7 +48,7 @@ pub(crate) fn size_at(lengths: &[u8], block: usize) -> usize
     ensures some { 1 ≤ result }
     ensures short { result ≤ 65536 }
 {
-    lengths[2 * block] as usize + 256 * lengths[2 * block + 1] as usize + 1
+    word_at(lengths, 2 * block) as usize + 1
 }
 
 /// Steps on from a place over whole blocks, to the block that holds the offset, or past the real blocks.
@@ -88,23 +90,6 @@ fn step_back(lengths: &[u8], place: Place, back: usize) -> Place
     }
 }
 
-/// The block and the offset of a sparse entry.
-fn entry(entries: &[u8], k: usize) -> Place
-    requires { k < length entries.now / 6 }
-    ensures block { result.block ≡ entry_block entries.now k }
-    ensures offset { result.offset ≡ entry_offset entries.now k }
-    ensures short { result.offset < 65536 }
-{
-    let at = 6 * k;
-    Place {
-        block: entries[at] as usize
-            + 256 * entries[at + 1] as usize
-            + 65536 * entries[at + 2] as usize
-            + 16777216 * entries[at + 3] as usize,
-        offset: entries[at + 4] as usize + 256 * entries[at + 5] as usize,
-    }
-}
-
 /// The place that the sparse entry of an index names, and the index of the value there. The last entry serves all indices
 /// past it.
 fn nearest(
@@ -121,8 +106,9 @@ fn nearest(
     ensures fits { result.1 < 2 ^ 62 }
 {
     let span = codes.span() as usize;
-    let k = (index as usize / span).min(codes.points(size) - 1);
-    (entry(entries, k), k * span + span / 2)
+    let k = codes.spans_in(index).min(codes.points(size) - 1);
+    let (block, offset) = entry(entries, k);
+    (Place { block, offset }, k * span + span / 2)
 }
 
 /// The real block and the offset in it where the value of an index stands.

@@ -3,11 +3,12 @@
 ghost use Rattle.std.specs.Prelude.{◌≡◌, ◌≢◌, ◌<◌, IfOk, IfErr, IsTrue, length, map, Some};
 ghost use Rattle.table_file.specs.Checked.{IsChecked};
 ghost use Rattle.table_file.specs.Expansion.{expanded, listed};
-ghost use Rattle.table_file.specs.Plan.{planned_shape, planned_expansion, planned_maps, planned_maps_of, map_bytes, HasEnough};
+ghost use Rattle.table_file.specs.Plan.{planned_shape, planned_expansion, planned_maps, planned_maps_of, map_bytes, is_wide, HasEnough, IsGoodMap, AreGoodMaps, IsGoodPlan};
+ghost use Rattle.std.specs.List.{All};
+ghost use Rattle.table_file.specs.Writing.{HasGoodValues};
 ghost use Rattle.table_file.specs.Tables.{IsFile};
 ghost use Rattle.table_file.specs.Forged.{IsPartOf, ArePartsOf, Shows};
 
-use super::ForgeFault;
 use super::values::{map_bytes, plan_values};
 use crate::codes::Codes;
 use crate::kind::Kind;
@@ -18,7 +19,7 @@ use crate::size_record::Coding;
 use crate::spots::{View, size_at, values_in};
 use crate::table::Table;
 use place_index::{Material, Shape};
-use std::alloc::Global;
+use std::alloc::{AllocError, Global};
 
 /// Whether a shape is that of a planned part.
 fn has_shape(material: &Material, part: &PartPlan, file: u8, shape: &Shape) -> bool
@@ -37,11 +38,10 @@ fn are_values(
     view: View<'_, '_>,
     codes: &Codes<'_>,
     values: &[u16],
-) -> Result<bool, ForgeFault>
+) -> Result<bool, AllocError>
     requires checked { IsChecked view }
     requires coded { view.coding.now ≡ Coding.Pairs codes.now }
     ensures is { IfOk result (λ b. IsTrue b → expanded view.entry.coding.now view.entry.lengths.now view.entry.blocks.now ≡ listed (map (λ v. Some v) values.now)) }
-    ensures fault { IfErr result (λ e. e ≢ ForgeFault.Io) }
 {
     let mut rest = values;
     for block in 0..codes.blocks() {
@@ -63,19 +63,16 @@ fn has_values(
     view: View<'_, '_>,
     size: u64,
     content: &Content,
-) -> Result<bool, ForgeFault>
-    requires { IsChecked view }
+) -> Result<bool, AllocError>
+    requires checked { IsChecked view }
+    requires good { HasGoodValues content.now }
     ensures enough { IfOk result (λ b. IsTrue b → HasEnough content.now size) }
     ensures values { IfOk result (λ b. IsTrue b → expanded view.entry.coding.now view.entry.lengths.now view.entry.blocks.now ≡ planned_expansion content.now size) }
-    ensures fault { IfErr result (λ e. e ≢ ForgeFault.Io) }
 {
     match (view.coding, content) {
         (Coding::Single(value), Content::Single(planned)) => Ok(value == planned),
         (Coding::Pairs(codes), Content::Pairs(pairs)) => {
-            let values = match plan_values(alloc, pairs, size as usize) {
-                Ok(values) => values,
-                Err(fault) => return Err(fault),
-            };
+            let values = plan_values(alloc, pairs, size as usize)?;
             if values.len() as u64 != size {
                 return Ok(false);
             }
@@ -93,11 +90,11 @@ fn is_part(
     table: &Table<'_>,
     side: u8,
     file: u8,
-) -> Result<bool, ForgeFault>
+) -> Result<bool, AllocError>
     requires side { side < 2 }
     requires file { IsFile table.now.material file }
+    requires good { HasGoodValues part.now.content }
     ensures is { IfOk result (λ b. IsTrue b → IsPartOf material.now table.now side file part.now) }
-    ensures fault { IfErr result (λ e. e ≢ ForgeFault.Io) }
 {
     if table.flags(side, file) != part.flags {
         return Ok(false);
@@ -110,9 +107,9 @@ fn is_part(
 }
 
 /// Whether a map has the planned entries.
-fn has_map(alloc: Global, wide: bool, entries: &[u16], bytes: &[u8]) -> Result<bool, ForgeFault>
+fn has_map(alloc: Global, wide: bool, entries: &[u16], bytes: &[u8]) -> Result<bool, AllocError>
+    requires { IsGoodMap wide entries.now }
     ensures is { IfOk result (λ b. IsTrue b → bytes.now ≡ map_bytes wide entries.now) }
-    ensures fault { IfErr result (λ e. e ≢ ForgeFault.Io) }
 {
     match map_bytes(alloc, wide, entries) {
         Ok(wanted) => Ok(bytes == wanted.as_slice()),
@@ -121,9 +118,9 @@ fn has_map(alloc: Global, wide: bool, entries: &[u16], bytes: &[u8]) -> Result<b
 }
 
 /// Whether value maps are as planned.
-fn are_maps(alloc: Global, part: &PartPlan, maps: &Maps<'_>) -> Result<bool, ForgeFault>
+fn are_maps(alloc: Global, part: &PartPlan, maps: &Maps<'_>) -> Result<bool, AllocError>
+    requires { AreGoodMaps (is_wide part.now) part.now.maps }
     ensures is { IfOk result (λ b. IsTrue b → maps.now ≡ planned_maps_of part.now) }
-    ensures fault { IfErr result (λ e. e ≢ ForgeFault.Io) }
 {
     let wide = part.is_wide();
     let win = match has_map(alloc, wide, &part.maps.win, maps.win()) {
@@ -146,9 +143,9 @@ fn are_maps(alloc: Global, part: &PartPlan, maps: &Maps<'_>) -> Result<bool, For
 }
 
 /// Whether all value maps are as planned.
-fn are_all_maps(alloc: Global, plan: &Plan, maps: &[Maps<'_>]) -> Result<bool, ForgeFault>
+fn are_all_maps(alloc: Global, plan: &Plan, maps: &[Maps<'_>]) -> Result<bool, AllocError>
+    requires { All (λ p. AreGoodMaps (is_wide p) p.maps) plan.now.parts.items }
     ensures is { IfOk result (λ b. IsTrue b → maps.now ≡ planned_maps plan.now.kind plan.now.parts.items) }
-    ensures fault { IfErr result (λ e. e ≢ ForgeFault.Io) }
 {
     match plan.kind {
         Kind::Wdl => Ok(maps.is_empty()),
@@ -157,9 +154,9 @@ fn are_all_maps(alloc: Global, plan: &Plan, maps: &[Maps<'_>]) -> Result<bool, F
 }
 
 /// Whether the value maps of each part are as planned.
-fn are_each_maps(alloc: Global, parts: &[PartPlan], maps: &[Maps<'_>]) -> Result<bool, ForgeFault>
+fn are_each_maps(alloc: Global, parts: &[PartPlan], maps: &[Maps<'_>]) -> Result<bool, AllocError>
+    requires { All (λ p. AreGoodMaps (is_wide p) p.maps) parts.now }
     ensures is { IfOk result (λ b. IsTrue b → maps.now ≡ map planned_maps_of parts.now) }
-    ensures fault { IfErr result (λ e. e ≢ ForgeFault.Io) }
 {
     if maps.len() != parts.len() {
         return Ok(false);
@@ -175,10 +172,10 @@ fn are_each_maps(alloc: Global, parts: &[PartPlan], maps: &[Maps<'_>]) -> Result
 }
 
 /// Whether all parts are as planned.
-fn are_parts(alloc: Global, plan: &Plan, table: &Table<'_>) -> Result<bool, ForgeFault>
-    requires { length table.now.parts ≡ length plan.now.parts.items }
+fn are_parts(alloc: Global, plan: &Plan, table: &Table<'_>) -> Result<bool, AllocError>
+    requires good { All (λ p. HasGoodValues p.content) plan.now.parts.items }
+    requires all { length table.now.parts ≡ length plan.now.parts.items }
     ensures is { IfOk result (λ b. IsTrue b → ArePartsOf plan.now.material table.now plan.now.parts.items) }
-    ensures fault { IfErr result (λ e. e ≢ ForgeFault.Io) }
 {
     let _ = table.part_count();
     let sides = sides(table.kind(), table.material());
@@ -195,9 +192,9 @@ fn are_parts(alloc: Global, plan: &Plan, table: &Table<'_>) -> Result<bool, Forg
 }
 
 /// Whether an opened file says what a plan says.
-pub(super) fn shows(alloc: Global, plan: &Plan, table: &Table<'_>) -> Result<bool, ForgeFault>
+pub(super) fn shows(alloc: Global, plan: &Plan, table: &Table<'_>) -> Result<bool, AllocError>
+    requires { IsGoodPlan plan.now.kind plan.now.material plan.now.parts.items }
     ensures is { IfOk result (λ b. IsTrue b → Shows plan.now table.now) }
-    ensures fault { IfErr result (λ e. e ≢ ForgeFault.Io) }
 {
     if table.kind() != plan.kind
         || table.material().key() != plan.material.key()

@@ -1,65 +1,135 @@
 //! The bytes of a planned file.
 
-ghost use Rattle.std.specs.Prelude.{◌≡◌, ◌≢◌, ◌≤◌, ◌+◌, ◌^◌, ◌↔◌, true, length, IsSome, IfOk, OnOk, IfErr};
-ghost use Rattle.place_index.specs.Shape.{size_of, both_have_pawns, HasGoodPieces, HasGoodOrder};
-ghost use Rattle.table_file.specs.Plan.{planned_shape, AreGoodPairs, IsGoodPart, IsGoodPlan};
-ghost use Rattle.table_file.specs.Files.{sides_of};
+ghost use Rattle.std.specs.Prelude.{◌≡◌, ◌≢◌, ◌≤◌, ◌+◌, ◌++◌, ◌*◌, ◌^◌, ◌<◌, ◌∷◌, ◌/◌, ◌↔◌, [], List, ℕ, true, false, length, replicate, IsSome, IsTrue, IfOk, OnOk, IfSome, IfNone, slice_index, slice_get, Some};
+ghost use Rattle.std.specs.List.{flat_map, All};
+ghost use Rattle.std.specs.Int.{w32, to_le_bytes};
+ghost use Rattle.table_file.specs.declared.plan.Content.{Content};
+ghost use Rattle.table_file.specs.declared.plan.PartPlan.{PartPlan};
+ghost use Rattle.pair_dict.specs.Reading.{falls};
+ghost use Rattle.pair_dict.specs.Symbols.{AllHaveValues};
+ghost use Rattle.place_index.specs.Shape.{size_of, greatest_size, both_have_pawns, HasGoodPieces, HasGoodOrder};
+ghost use Rattle.table_file.specs.Plan.{planned_shape, symbol_bytes, map_bytes, is_wide, has_maps, last_point, AreGoodFigures, AreGoodCodes, AreGoodBlocks, FitsBlock, AreGoodPairs, AreGoodMaps, IsGoodMap, IsGoodSingle, IsGoodContent, IsGoodPart, IsGoodPlan, HasNoMaps};
+ghost use Rattle.table_file.specs.Files.{sides_of, files_of};
+ghost use Rattle.table_file.specs.PlannedFile.{Laid, filled_to, head_bytes, halves, piece_halves, second_bytes, setup_bytes, one_sided, two_sided, setups_bytes, word_bytes, dictionary_bytes, figures_bytes, planned_lengths, padding_for, planned_span, laid_content, laid_part, laid_parts, one_map_bytes, four_maps_bytes, with_maps, with_each_maps, with_all_maps, with_blocks, front_bytes, with_sections, ended, file_with, file_of};
 
-use super::ForgeFault;
-use super::blocks::{entries_of, padding_of, push_padding, put_codes, sizes_of};
-use super::codes::{Code, codes_of};
-use super::values::{map_bytes, symbol_bytes};
+use super::blocks::{blocks_bytes, entries_of, fit_blocks, lengths_of, padded, padding_of};
+use super::codes::are_good_codes;
+use super::values::{counts_of, put_map_bytes, symbol_bytes};
 use crate::kind::Kind;
 use crate::material::{both_have_pawns, files, has_pawns, is_symmetric, sides};
-use crate::plan::{Content, PairsPlan, PartPlan, Plan};
+use crate::parts::magic_of;
+use crate::plan::{Content, MapsPlan, PairsPlan, PartPlan, Plan};
 use crate::reading::has_bit;
 use pair_dict::{DictFault, Dictionary};
-use place_index::Shape;
+use place_index::{Material, Shape};
 use std::alloc::{AllocError, Global};
+use std::marker::Model;
 
-/// A planned part as it is written.
+/// What the sections of a file hold of a planned part.
 #[derive(Drop)]
-enum LaidPart<'p> {
-    Single(u8),
-    Pairs(LaidPairs<'p>),
-}
-
-/// Planned blocks as they are written.
-#[derive(Drop)]
-struct LaidPairs<'p> {
-    plan: &'p PairsPlan,
-    dictionary: Vec<u8>,
-    codes: Vec<Code>,
-    /// How many values each block holds, and each padding entry behind them.
-    sizes: Vec<u64>,
-    padding: u8,
+struct LaidPart {
+    size_record: Vec<u8>,
     entries: Vec<u8>,
+    lengths: Vec<u8>,
+    blocks: Vec<u8>,
 }
 
-/// Whether the bytes are a dictionary whose symbols all have values; others make the plan bad.
-fn check_dictionary(alloc: Global, bytes: &[u8]) -> Result<(), ForgeFault>
-    ensures { IfErr result (λ e. e ≢ ForgeFault.Io) }
-{
-    match Dictionary::read(alloc, bytes) {
-        Ok(_) => Ok(()),
-        Err(DictFault::OutOfMemory) => Err(ForgeFault::OutOfMemory),
-        Err(_) => Err(ForgeFault::BadPlan),
+impl Model for LaidPart {
+    ghost use Rattle.table_file.specs.PlannedFile.{Laid};
+
+    ghost Value = { Laid };
+
+    ghost view = { λ a. record { size_record = a.size_record.items; entries = a.entries.items; lengths = a.lengths.items; blocks = a.blocks.items } };
+}
+
+impl LaidPart {
+    fn new(size_record: Vec<u8>, entries: Vec<u8>, lengths: Vec<u8>, blocks: Vec<u8>) -> LaidPart
+        ensures { result ≡ record { size_record = size_record.items; entries = entries.items; lengths = lengths.items; blocks = blocks.items } }
+    {
+        LaidPart {
+            size_record,
+            entries,
+            lengths,
+            blocks,
+        }
+    }
+
+    fn size_record(&self) -> &[u8]
+        ensures { result.now ≡ self.now.size_record }
+    {
+        &self.size_record
+    }
+
+    fn entries(&self) -> &[u8]
+        ensures { result.now ≡ self.now.entries }
+    {
+        &self.entries
+    }
+
+    fn lengths(&self) -> &[u8]
+        ensures { result.now ≡ self.now.lengths }
+    {
+        &self.lengths
+    }
+
+    fn blocks(&self) -> &[u8]
+        ensures { result.now ≡ self.now.blocks }
+    {
+        &self.blocks
     }
 }
 
-/// The greatest code length and the least, the lowest symbols, the count of symbols, the symbols, and a fill byte.
-fn spelled(
-    alloc: Global,
-    plan: &PairsPlan,
-    count: u16,
-    symbols: &[u8],
-) -> Result<Vec<u8>, AllocError> {
+/// Whether none of the numbers is greater than the one before.
+fn is_falling(lowest: &[u16]) -> bool
+    ensures { result ≡ falls lowest.now }
+{
+    match lowest {
+        [] => true,
+        [_] => true,
+        [low, next, ..] => *next <= *low && is_falling(&lowest[1..]),
+    }
+}
+
+/// Whether the figures of a size record are those of a file.
+fn are_good_figures(plan: &PairsPlan) -> bool
+    ensures { IsTrue result ↔ AreGoodFigures plan.now }
+{
+    plan.block_exponent <= 24
+        && 1 <= plan.span_exponent
+        && plan.span_exponent <= 31
+        && 1 <= plan.least
+        && plan.greatest <= 32
+        && plan.least <= plan.greatest
+        && plan.lowest.len() == (plan.greatest - plan.least) as usize + 1
+        && is_falling(&plan.lowest)
+        && 1 <= plan.symbols.len()
+        && plan.symbols.len() <= 4095
+        && plan.blocks.len() < 1 << 32
+}
+
+/// Appends numbers of two bytes, the low one first.
+#[tactic(auto, unfolding(crate::specs::PlannedFile::word_bytes))]
+fn put_words(words: &[u16], bytes: &mut Vec<u8>) -> Result<(), AllocError>
+    ensures { OnOk result (bytes.new.items ≡ bytes.old.items ++ word_bytes words.now) }
+{
+    for word in words {
+        bytes.extend_from_slice(&word.to_le_bytes())?;
+    }
+    Ok(())
+}
+
+/// The bytes of a dictionary (Syzygy table format, a size record from its greatest code length on).
+#[tactic(auto, unfolding(crate::specs::PlannedFile::dictionary_bytes))]
+fn dictionary_bytes(alloc: Global, plan: &PairsPlan, symbols: &[u8]) -> Result<Vec<u8>, AllocError>
+    requires figures { AreGoodFigures plan.now }
+    requires symbols { symbols.now ≡ symbol_bytes plan.now }
+    ensures { IfOk result (λ v. v.items ≡ dictionary_bytes plan.now) }
+{
+    let count = plan.symbols.len() as u16;
     let mut bytes = Vec::new(alloc);
     bytes.push(plan.greatest)?;
     bytes.push(plan.least)?;
-    for low in &plan.lowest {
-        bytes.extend_from_slice(&low.to_le_bytes())?;
-    }
+    put_words(&plan.lowest, &mut bytes)?;
     bytes.extend_from_slice(&count.to_le_bytes())?;
     bytes.extend_from_slice(symbols)?;
     if count % 2 == 1 {
@@ -68,245 +138,491 @@ fn spelled(
     Ok(bytes)
 }
 
-/// The bytes of a dictionary (Syzygy table format, a size record from its greatest code length on). One that can't be read,
-/// or whose symbols don't all have values, makes the plan bad.
-fn dictionary_of(alloc: Global, plan: &PairsPlan, symbols: &[u8]) -> Result<Vec<u8>, ForgeFault>
-    ensures lowest { OnOk result (plan.now.least + length plan.now.lowest.items ≡ plan.now.greatest + 1) }
-    ensures fault { IfErr result (λ e. e ≢ ForgeFault.Io) }
+/// Whether the symbols of a dictionary all have values, at most 256 each.
+fn have_values(
+    alloc: Global,
+    plan: &PairsPlan,
+    lowest: &[u16],
+    bytes: &[u8],
+) -> Result<bool, AllocError>
+    requires figures { AreGoodFigures plan.now }
+    requires lowest { lowest.now ≡ plan.now.lowest.items }
+    requires long { length (symbol_bytes plan.now) ≡ 3 * length plan.now.symbols.items }
+    requires spelled { bytes.now ≡ dictionary_bytes plan.now }
+    ensures { IfOk result (λ b. IsTrue b ↔ AllHaveValues (symbol_bytes plan.now)) }
 {
-    let Ok(count) = u16::try_from(plan.symbols.len()) else {
-        return Err(ForgeFault::BadPlan);
-    };
-    if plan.least as usize + plan.lowest.len() != plan.greatest as usize + 1 {
-        return Err(ForgeFault::BadPlan);
+    match Dictionary::read(alloc, bytes) {
+        Ok(_) => Ok(true),
+        Err(DictFault::OutOfMemory) => Err(AllocError),
+        Err(DictFault::Truncated) => Ok(false),
+        Err(DictFault::BadCode) => Ok(false),
+        Err(DictFault::BadSymbol) => Ok(false),
     }
-    let bytes = spelled(alloc, plan, count, symbols)?;
-    check_dictionary(alloc, &bytes)?;
+}
+
+/// The figures and the dictionary of a size record, for blocks of good figures.
+#[tactic(auto, unfolding(crate::specs::PlannedFile::figures_bytes))]
+fn size_record_of(
+    alloc: Global,
+    flags: u8,
+    plan: &PairsPlan,
+    padding: u8,
+    dictionary: &[u8],
+) -> Result<Vec<u8>, AllocError>
+    requires figures { AreGoodFigures plan.now }
+    ensures { IfOk result (λ v. v.items ≡ flags ∷ plan.now.block_exponent ∷ plan.now.span_exponent ∷ padding ∷ to_le_bytes w32 (length plan.now.blocks.items) ++ dictionary.now) }
+{
+    let blocks = plan.blocks.len() as u32;
+    let mut bytes = Vec::new(alloc);
+    bytes.push(flags)?;
+    bytes.push(plan.block_exponent)?;
+    bytes.push(plan.span_exponent)?;
+    bytes.push(padding)?;
+    bytes.extend_from_slice(&blocks.to_le_bytes())?;
+    bytes.extend_from_slice(dictionary)?;
     Ok(bytes)
 }
 
-/// How many values lie between two sparse entries. An exponent that a file can't have makes the plan bad.
-fn span_of(plan: &PairsPlan) -> Result<u64, ForgeFault>
-    ensures is { IfOk result (λ span. span ≡ 2 ^ plan.now.span_exponent) }
-    ensures some { OnOk result (1 ≤ plan.now.span_exponent) }
-    ensures wide { OnOk result (plan.now.span_exponent ≤ 31) }
-    ensures block { OnOk result (plan.now.block_exponent ≤ 24) }
-    ensures fault { IfErr result (λ e. e ≢ ForgeFault.Io) }
+/// The lengths of blocks and padding entries as bytes.
+fn length_bytes(alloc: Global, lengths: &[u16]) -> Result<Vec<u8>, AllocError>
+    ensures { IfOk result (λ v. v.items ≡ word_bytes lengths.now) }
 {
-    if 24 < plan.block_exponent || plan.span_exponent < 1 || 31 < plan.span_exponent {
-        return Err(ForgeFault::BadPlan);
-    }
-    Ok(1u64 << plan.span_exponent)
+    let mut bytes = Vec::new(alloc);
+    put_words(lengths, &mut bytes)?;
+    Ok(bytes)
 }
 
-/// Planned blocks of so many indices as they are written. What makes the plan bad is told as it is met.
-fn laid_pairs<'p>(
+/// The lengths of blocks and of padding entries, and how many of these there are. There are none where blocks or padding
+/// make the plan bad.
+#[tactic(auto, unfolding(crate::specs::PlannedFile::planned_lengths))]
+fn padded_lengths(
     alloc: Global,
-    plan: &'p PairsPlan,
+    plan: &PairsPlan,
+    symbols: &[u8],
     size: u64,
-) -> Result<LaidPairs<'p>, ForgeFault>
-    requires { size ≤ 2 ^ 32 }
-    ensures good { IfOk result (λ laid. AreGoodPairs plan.now size) }
-    ensures fault { IfErr result (λ e. e ≢ ForgeFault.Io) }
+) -> Result<Option<(Vec<u16>, u8)>, AllocError>
+    requires figures { AreGoodFigures plan.now }
+    requires symbols { symbols.now ≡ symbol_bytes plan.now }
+    requires values { AllHaveValues symbols.now }
+    requires fit { All (λ block. FitsBlock plan.now block.items) plan.now.blocks.items }
+    requires size { size ≤ 2 ^ 32 }
+    ensures found { IfOk result (λ o. IfSome o (λ x. (x.0.items ≡ planned_lengths plan.now size) × (x.1 ≡ padding_for (planned_span plan.now) size))) }
+    ensures good { IfOk result (λ o. IfSome o (λ _. AreGoodBlocks plan.now size × (last_point (2 ^ plan.now.span_exponent) size < size + 65536 * 255))) }
+    ensures bad { IfOk result (λ o. IfNone o (AreGoodBlocks plan.now size → last_point (2 ^ plan.now.span_exponent) size < size + 65536 * 255 → ⊥)) }
 {
-    let symbols = symbol_bytes(alloc, &plan.symbols)?;
-    let dictionary = dictionary_of(alloc, plan, &symbols)?;
-    let codes = codes_of(alloc, plan)?;
-    let mut sizes = sizes_of(alloc, plan, &symbols, size)?;
-    let span = span_of(plan)?;
-    let padding = padding_of(span, size)?;
-    push_padding(padding, &mut sizes)?;
-    let entries = entries_of(alloc, &sizes, span, size)?;
-    Ok(LaidPairs {
-        plan,
-        dictionary,
-        codes,
-        sizes,
-        padding,
-        entries,
-    })
+    let counts = counts_of(alloc, symbols)?;
+    let Some(padding) = padding_of(1u64 << plan.span_exponent, size) else {
+        return Ok(None);
+    };
+    let Some(lengths) = lengths_of(alloc, plan, &counts, size)? else {
+        return Ok(None);
+    };
+    let lengths = padded(lengths, padding)?;
+    Ok(Some((lengths, padding)))
 }
 
-/// How many indices a planned part has, on a file of the leading pawn.
-fn indices_of(plan: &Plan, part: &PartPlan, file: usize) -> Result<u64, ForgeFault>
-    ensures size { IfOk result (λ size. size ≡ size_of (planned_shape plan.now.material part.now file)) }
-    ensures few { IfOk result (λ size. size ≤ 2 ^ 32) }
-    ensures second { OnOk result (IsSome part.now.second ↔ (both_have_pawns plan.now.material ≡ true)) }
-    ensures pieces { OnOk result (HasGoodPieces plan.now.material part.now.pieces.items) }
-    ensures orders { OnOk result (HasGoodOrder (planned_shape plan.now.material part.now file)) }
-    ensures fault { IfErr result (λ e. e ≢ ForgeFault.Io) }
+/// Planned blocks as the sections of a file hold them, with the bytes of their dictionary, their lengths and the number of
+/// padding entries.
+fn laid_with(
+    alloc: Global,
+    flags: u8,
+    plan: &PairsPlan,
+    size: u64,
+    dictionary: &[u8],
+    lengths: &[u16],
+    padding: u8,
+) -> Result<LaidPart, AllocError>
+    requires figures { AreGoodFigures plan.now }
+    requires codes { AreGoodCodes plan.now }
+    requires fit { All (λ block. FitsBlock plan.now block.items) plan.now.blocks.items }
+    requires some { 1 ≤ size }
+    requires size { size ≤ greatest_size }
+    requires dictionary { dictionary.now ≡ dictionary_bytes plan.now }
+    requires lengths { lengths.now ≡ planned_lengths plan.now size }
+    requires padding { padding ≡ padding_for (planned_span plan.now) size }
+    ensures { IfOk result (λ laid. laid ≡ laid_content (Content.Pairs plan.now) flags size) }
 {
-    if 4 <= file || part.second.is_some() != both_have_pawns(&plan.material) {
-        return Err(ForgeFault::BadPlan);
+    let span = 1u64 << plan.span_exponent;
+    let points = (size + (span - 1)) / span;
+    let size_record = size_record_of(alloc, flags, plan, padding, dictionary)?;
+    let entries = entries_of(alloc, lengths, span, points)?;
+    let lengths = length_bytes(alloc, lengths)?;
+    let blocks = blocks_bytes(alloc, plan)?;
+    Ok(LaidPart::new(size_record, entries, lengths, blocks))
+}
+
+/// Planned blocks whose figures and codes are good, as the sections of a file hold them. There is nothing where what else
+/// they say makes the plan bad.
+fn laid_blocks(
+    alloc: Global,
+    flags: u8,
+    plan: &PairsPlan,
+    symbols: &[u8],
+    size: u64,
+) -> Result<Option<LaidPart>, AllocError>
+    requires figures { AreGoodFigures plan.now }
+    requires codes { AreGoodCodes plan.now }
+    requires fit { All (λ block. FitsBlock plan.now block.items) plan.now.blocks.items }
+    requires symbols { symbols.now ≡ symbol_bytes plan.now }
+    requires long { length symbols.now ≡ 3 * length plan.now.symbols.items }
+    requires some { 1 ≤ size }
+    requires size { size ≤ greatest_size }
+    ensures found { IfOk result (λ o. IfSome o (λ laid. laid ≡ laid_content (Content.Pairs plan.now) flags size)) }
+    ensures good { IfOk result (λ o. IfSome o (λ _. AllHaveValues (symbol_bytes plan.now) × AreGoodBlocks plan.now size × (last_point (2 ^ plan.now.span_exponent) size < size + 65536 * 255))) }
+    ensures bad { IfOk result (λ o. IfNone o (AllHaveValues (symbol_bytes plan.now) → AreGoodBlocks plan.now size → last_point (2 ^ plan.now.span_exponent) size < size + 65536 * 255 → ⊥)) }
+{
+    let dictionary = dictionary_bytes(alloc, plan, symbols)?;
+    if !have_values(alloc, plan, &plan.lowest, &dictionary)? {
+        return Ok(None);
+    }
+    let Some((lengths, padding)) = padded_lengths(alloc, plan, symbols, size)? else {
+        return Ok(None);
+    };
+    let laid = laid_with(alloc, flags, plan, size, &dictionary, &lengths, padding)?;
+    Ok(Some(laid))
+}
+
+/// Planned blocks as the sections of a file hold them. There is nothing where they make the plan bad.
+fn laid_pairs(
+    alloc: Global,
+    flags: u8,
+    plan: &PairsPlan,
+    size: u64,
+) -> Result<Option<LaidPart>, AllocError>
+    requires some { 1 ≤ size }
+    requires size { size ≤ greatest_size }
+    ensures found { IfOk result (λ o. IfSome o (λ laid. laid ≡ laid_content (Content.Pairs plan.now) flags size)) }
+    ensures good { IfOk result (λ o. IfSome o (λ _. AreGoodPairs plan.now size)) }
+    ensures bad { IfOk result (λ o. IfNone o (AreGoodPairs plan.now size → ⊥)) }
+{
+    if !are_good_figures(plan) {
+        return Ok(None);
+    }
+    let symbols = symbol_bytes(alloc, &plan.symbols)?;
+    let count = (symbols.len() / 3) as u16;
+    if !are_good_codes(plan, count) || !fit_blocks(plan, count) {
+        return Ok(None);
+    }
+    laid_blocks(alloc, flags, plan, &symbols, size)
+}
+
+/// A single value as the sections of a file hold it. There is nothing where a file can't have it.
+fn laid_single(
+    alloc: Global,
+    kind: Kind,
+    flags: u8,
+    value: u16,
+) -> Result<Option<LaidPart>, AllocError>
+    ensures found { IfOk result (λ o. IfSome o (λ laid. (laid ≡ laid_content (Content.Single value) flags 0) × IsGoodSingle kind value)) }
+    ensures bad { IfOk result (λ o. IfNone o (IsGoodSingle kind value → ⊥)) }
+{
+    let most = match kind {
+        Kind::Wdl => 255,
+        Kind::Dtz => 0,
+    };
+    if most < value {
+        return Ok(None);
+    }
+    let mut size_record = Vec::new(alloc);
+    size_record.push(flags)?;
+    size_record.push(value as u8)?;
+    Ok(Some(LaidPart {
+        size_record,
+        entries: Vec::new(alloc),
+        lengths: Vec::new(alloc),
+        blocks: Vec::new(alloc),
+    }))
+}
+
+/// Planned values as the sections of a file hold them. There is nothing where they make the plan bad, or the flags disagree
+/// with them.
+fn laid_content(
+    alloc: Global,
+    kind: Kind,
+    part: &PartPlan,
+    size: u64,
+) -> Result<Option<LaidPart>, AllocError>
+    requires some { 1 ≤ size }
+    requires size { size ≤ greatest_size }
+    ensures found { IfOk result (λ o. IfSome o (λ laid. laid ≡ laid_content part.now.content part.now.flags size)) }
+    ensures good { IfOk result (λ o. IfSome o (λ _. IsGoodContent kind part.now.content part.now.flags size)) }
+    ensures bad { IfOk result (λ o. IfNone o (IsGoodContent kind part.now.content part.now.flags size → ⊥)) }
+{
+    match &part.content {
+        Content::Single(value) => {
+            if !has_bit(128, part.flags) {
+                return Ok(None);
+            }
+            laid_single(alloc, kind, part.flags, *value)
+        }
+        Content::Pairs(pairs) => {
+            if has_bit(128, part.flags) {
+                return Ok(None);
+            }
+            laid_pairs(alloc, part.flags, pairs, size)
+        }
+    }
+}
+
+/// The number of indices of a planned part, on a file of the leading pawn, if its pieces and orders make a shape.
+fn indices_of(material: &Material, part: &PartPlan, file: u8) -> Option<u64>
+    requires { file < 4 }
+    ensures found { IfSome result (λ size. size ≡ size_of (planned_shape material.now part.now file)) }
+    ensures few { IfSome result (λ size. (1 ≤ size) × (size ≤ greatest_size)) }
+    ensures good { IfSome result (λ _. HasGoodPieces material.now part.now.pieces.items × HasGoodOrder (planned_shape material.now part.now file) × (IsSome part.now.second ↔ (both_have_pawns material.now ≡ true))) }
+    ensures bad { IfNone result (HasGoodPieces material.now part.now.pieces.items → HasGoodOrder (planned_shape material.now part.now file) → (IsSome part.now.second ↔ (both_have_pawns material.now ≡ true)) → ⊥) }
+{
+    if part.second.is_some() != both_have_pawns(material) {
+        return None;
     }
     let second = part.second.unwrap_or(0);
-    match Shape::new(&plan.material, &part.pieces, part.order, second, file as u8) {
-        Ok(shape) => Ok(shape.size()),
-        Err(_) => Err(ForgeFault::BadPlan),
+    match Shape::new(material, &part.pieces, part.order, second, file) {
+        Ok(shape) => Some(shape.size()),
+        Err(_) => None,
     }
 }
 
-/// A planned part as it is written. Flags that disagree with the content, and maps that the flags don't tell of, make the
-/// plan bad.
-fn laid_part<'p>(
-    alloc: Global,
-    plan: &Plan,
-    part: &'p PartPlan,
-    file: usize,
-) -> Result<LaidPart<'p>, ForgeFault>
-    ensures good { OnOk result (IsGoodPart plan.now.kind plan.now.material part.now file) }
-    ensures fault { IfErr result (λ e. e ≢ ForgeFault.Io) }
+/// Whether a map's length and entries are ones that its fields hold.
+fn is_good_map(wide: bool, entries: &[u16]) -> bool
+    ensures { IsTrue result ↔ IsGoodMap wide entries.now }
 {
-    if !part.maps.is_empty() && !plan.has_maps(part) {
-        return Err(ForgeFault::BadPlan);
+    if wide {
+        entries.len() < 65536
+    } else {
+        entries.len() < 256 && are_bytes(entries)
     }
-    let size = indices_of(plan, part, file)?;
-    match &part.content {
-        Content::Single(value) if has_bit(128, part.flags) => match u8::try_from(*value) {
-            Ok(value) => Ok(LaidPart::Single(value)),
-            Err(_) => Err(ForgeFault::BadPlan),
-        },
-        Content::Pairs(pairs) if !has_bit(128, part.flags) => {
-            Ok(LaidPart::Pairs(laid_pairs(alloc, pairs, size)?))
+}
+
+/// Whether a byte holds each entry.
+fn are_bytes(entries: &[u16]) -> bool
+    ensures { IsTrue result ↔ All (λ e. e < 256) entries.now }
+{
+    for entry in entries {
+        if 256 <= *entry {
+            return false;
         }
-        _ => Err(ForgeFault::BadPlan),
     }
+    true
 }
 
-/// All planned parts as they are written. A number of parts that isn't the material's makes the plan bad.
-fn laid_parts<'p>(
-    alloc: Global,
-    plan: &'p Plan,
-    sides: usize,
-) -> Result<Vec<LaidPart<'p>>, ForgeFault>
-    requires some { 1 ≤ sides }
-    requires sides { sides ≡ sides_of plan.now.kind plan.now.material }
-    ensures good { OnOk result (IsGoodPlan plan.now.kind plan.now.material plan.now.parts.items) }
-    ensures fault { IfErr result (λ e. e ≢ ForgeFault.Io) }
+/// Whether the maps of a part are ones that its file can have.
+fn are_good_maps(kind: Kind, part: &PartPlan) -> bool
+    ensures { IsTrue result ↔ ((has_maps kind part.now ≡ false → HasNoMaps part.now.maps) × AreGoodMaps (is_wide part.now) part.now.maps) }
 {
-    if plan.parts.len() % sides != 0 || plan.parts.len() / sides != files(&plan.material) {
-        return Err(ForgeFault::BadPlan);
+    let wide = part.is_wide();
+    (part.has_maps(kind) || part.maps.is_empty())
+        && is_good_map(wide, &part.maps.win)
+        && is_good_map(wide, &part.maps.loss)
+        && is_good_map(wide, &part.maps.cursed_win)
+        && is_good_map(wide, &part.maps.blessed_loss)
+}
+
+/// A planned part as the sections of a file hold it, on a file of the leading pawn. There is nothing where it makes the plan
+/// bad.
+#[tactic(auto, unfolding(crate::specs::PlannedFile::laid_part))]
+fn laid_part(
+    alloc: Global,
+    kind: Kind,
+    material: &Material,
+    part: &PartPlan,
+    file: u8,
+) -> Result<Option<LaidPart>, AllocError>
+    requires { file < 4 }
+    ensures found { IfOk result (λ o. IfSome o (λ laid. laid ≡ laid_part material.now part.now file)) }
+    ensures good { IfOk result (λ o. IfSome o (λ _. IsGoodPart kind material.now part.now file)) }
+    ensures bad { IfOk result (λ o. IfNone o (IsGoodPart kind material.now part.now file → ⊥)) }
+{
+    if !are_good_maps(kind, part) {
+        return Ok(None);
     }
+    let Some(size) = indices_of(material, part, file) else {
+        return Ok(None);
+    };
+    laid_content(alloc, kind, part, size)
+}
+
+/// All planned parts as the sections of a file hold them. There is nothing where one makes the plan bad.
+fn laid_parts(alloc: Global, plan: &Plan, sides: usize) -> Result<Option<Vec<LaidPart>>, AllocError>
+    requires some { 1 ≤ sides }
+    requires few { sides ≤ 2 }
+    requires count { length plan.now.parts.items ≤ 4 * sides }
+    ensures found { IfOk result (λ o. IfSome o (λ laid. laid.items ≡ laid_parts plan.now.material sides 0 plan.now.parts.items)) }
+    ensures good { IfOk result (λ o. IfSome o (λ _. (k : ℕ) (p : PartPlan) → slice_get plan.now.parts.items k ≡ Some p → IsGoodPart plan.now.kind plan.now.material p (k / sides))) }
+    ensures bad { IfOk result (λ o. IfNone o (((k : ℕ) (p : PartPlan) → slice_get plan.now.parts.items k ≡ Some p → IsGoodPart plan.now.kind plan.now.material p (k / sides)) → ⊥)) }
+{
     let mut laid = Vec::new(alloc);
     for k in 0..plan.parts.len() {
-        let part = laid_part(alloc, plan, &plan.parts[k], k / sides)?;
+        let file = (k / sides) as u8;
+        let Some(part) = laid_part(alloc, plan.kind, &plan.material, &plan.parts[k], file)? else {
+            return Ok(None);
+        };
         laid.push(part)?;
     }
-    Ok(laid)
+    Ok(Some(laid))
 }
 
-/// Fills the file with zeros up to a length that so many bytes divide.
+/// Fills the file with zeros up to the next length that so many bytes divide.
+#[tactic(auto, unfolding(crate::specs::PlannedFile::filled_to))]
 fn fill_to(multiple: usize, file: &mut Vec<u8>) -> Result<(), AllocError>
-    requires { 1 ≤ multiple }
+    requires some { 1 ≤ multiple }
+    requires few { multiple ≤ 64 }
+    ensures { OnOk result (file.new.items ≡ filled_to multiple file.old.items) }
 {
-    let over = file.len() % multiple;
-    if over == 0 {
-        return Ok(());
-    }
-    for _ in over..multiple {
+    let fill = (multiple - file.len() % multiple) % multiple;
+    for _ in 0..fill {
         file.push(0)?;
     }
     Ok(())
 }
 
 /// Magic number and flags.
-fn put_head(plan: &Plan, file: &mut Vec<u8>) -> Result<(), AllocError> {
-    let magic: u32 = match plan.kind {
-        Kind::Wdl => 0x5D23_E871,
-        Kind::Dtz => 0xA50C_66D7,
-    };
-    let split = if is_symmetric(&plan.material) { 0u8 } else { 1 };
-    let pawns = if has_pawns(&plan.material) { 2u8 } else { 0 };
-    file.extend_from_slice(&magic.to_le_bytes())?;
+#[tactic(auto, unfolding(crate::specs::PlannedFile::head_bytes))]
+fn put_head(kind: Kind, material: &Material, file: &mut Vec<u8>) -> Result<(), AllocError>
+    ensures { OnOk result (file.new.items ≡ file.old.items ++ head_bytes kind material.now) }
+{
+    let split = if is_symmetric(material) { 0u8 } else { 1 };
+    let pawns = if has_pawns(material) { 2u8 } else { 0 };
+    file.extend_from_slice(&magic_of(kind).to_le_bytes())?;
     file.push(split + pawns)?;
     Ok(())
 }
 
-/// A byte of which side 0 has the low half and side 1, where there is one, the high half.
-fn halves(low: u8, high: Option<u8>) -> u8 {
-    low % 16 + 16 * (high.unwrap_or(0) % 16)
-}
-
-/// Orders and pieces of a file of the leading pawn.
-fn put_setup(
-    first: &PartPlan,
-    second: Option<&PartPlan>,
-    file: &mut Vec<u8>,
-) -> Result<(), AllocError> {
-    let order = second.map(|part| part.order);
-    file.push(halves(first.order, order))?;
-    if let Some(place) = first.second {
-        file.push(halves(place, second.and_then(|part| part.second)))?;
-    }
-    for i in 0..first.pieces.len() {
-        let high = second.and_then(|part| part.pieces.get(i).copied());
-        file.push(halves(first.pieces[i], high))?;
-    }
-    Ok(())
-}
-
-/// Orders and pieces of all files of the leading pawn, of one side or of two.
-fn put_setups(parts: &[PartPlan], sides: usize, file: &mut Vec<u8>) -> Result<(), AllocError>
-    requires { 1 ≤ sides }
+/// A byte of which side 0 has the low half and side 1 the high half.
+fn halves(low: u8, high: u8) -> u8
+    ensures { result ≡ halves low high }
 {
-    for of_file in parts.chunks(sides) {
-        put_setup(&of_file[0], of_file.get(1), file)?;
-    }
-    Ok(())
+    low % 16 + 16 * (high % 16)
 }
 
-/// The figures and the dictionary of a size record.
-fn put_figures(pairs: &LaidPairs<'_>, file: &mut Vec<u8>) -> Result<(), ForgeFault>
-    ensures { IfErr result (λ e. e ≢ ForgeFault.Io) }
+/// The pieces of both sides; a side that isn't there has zeros.
+fn put_pieces(first: &[u8], second: &[u8], file: &mut Vec<u8>) -> Result<(), AllocError>
+    ensures { OnOk result (file.new.items ≡ file.old.items ++ piece_halves first.now second.now) }
 {
-    let Ok(blocks) = u32::try_from(pairs.plan.blocks.len()) else {
-        return Err(ForgeFault::BadPlan);
-    };
-    file.push(pairs.plan.block_exponent)?;
-    file.push(pairs.plan.span_exponent)?;
-    file.push(pairs.padding)?;
-    file.extend_from_slice(&blocks.to_le_bytes())?;
-    file.extend_from_slice(&pairs.dictionary)?;
-    Ok(())
-}
-
-/// A size record.
-fn put_size_record(flags: u8, laid: &LaidPart<'_>, file: &mut Vec<u8>) -> Result<(), ForgeFault>
-    ensures { IfErr result (λ e. e ≢ ForgeFault.Io) }
-{
-    file.push(flags)?;
-    match laid {
-        LaidPart::Single(value) => {
-            file.push(*value)?;
-            Ok(())
+    match (first, second) {
+        ([], _) => Ok(()),
+        ([low, others @ ..], []) => {
+            file.push(halves(*low, 0))?;
+            put_pieces(others, second, file)
         }
-        LaidPart::Pairs(pairs) => put_figures(pairs, file),
+        ([low, others @ ..], [high, rest @ ..]) => {
+            file.push(halves(*low, *high))?;
+            put_pieces(others, rest, file)
+        }
     }
 }
 
-/// A value map: its length, and its entries.
-fn put_map(alloc: Global, wide: bool, entries: &[u16], file: &mut Vec<u8>) -> Result<(), ForgeFault>
-    ensures { IfErr result (λ e. e ≢ ForgeFault.Io) }
+/// Orders and pieces of a file of the leading pawn, with those of side 1.
+#[tactic(auto, unfolding(crate::specs::PlannedFile::setup_bytes))]
+fn put_setup(
+    part: &PartPlan,
+    order: u8,
+    second: u8,
+    pieces: &[u8],
+    file: &mut Vec<u8>,
+) -> Result<(), AllocError>
+    ensures { OnOk result (file.new.items ≡ file.old.items ++ setup_bytes part.now order second pieces.now) }
 {
-    let Ok(count) = u16::try_from(entries.len()) else {
-        return Err(ForgeFault::BadPlan);
-    };
+    file.push(halves(part.order, order))?;
+    if let Some(place) = part.second {
+        file.push(halves(place, second))?;
+    }
+    put_pieces(&part.pieces, pieces, file)
+}
+
+/// Orders and pieces of all files of the leading pawn, of one side.
+#[tactic(auto, unfolding(crate::specs::PlannedFile::one_sided))]
+fn put_one_sided(parts: &[PartPlan], file: &mut Vec<u8>) -> Result<(), AllocError>
+    ensures { OnOk result (file.new.items ≡ file.old.items ++ one_sided parts.now) }
+{
+    match parts {
+        [] => Ok(()),
+        [part, rest @ ..] => {
+            put_setup(part, 0, 0, &[], file)?;
+            put_one_sided(rest, file)
+        }
+    }
+}
+
+/// Orders and pieces of all files of the leading pawn, of two sides.
+#[tactic(auto, unfolding(crate::specs::PlannedFile::two_sided))]
+fn put_two_sided(parts: &[PartPlan], file: &mut Vec<u8>) -> Result<(), AllocError>
+    ensures { OnOk result (file.new.items ≡ file.old.items ++ two_sided parts.now) }
+{
+    match parts {
+        [part, other, rest @ ..] => {
+            let second = other.second.unwrap_or(0);
+            put_setup(part, other.order, second, &other.pieces, file)?;
+            put_two_sided(rest, file)
+        }
+        _ => Ok(()),
+    }
+}
+
+/// Orders and pieces of all files of the leading pawn.
+fn put_setups(parts: &[PartPlan], sides: usize, file: &mut Vec<u8>) -> Result<(), AllocError>
+    ensures { OnOk result (file.new.items ≡ file.old.items ++ setups_bytes sides parts.now) }
+{
+    if sides == 1 {
+        put_one_sided(parts, file)
+    } else {
+        put_two_sided(parts, file)
+    }
+}
+
+/// What stands before the size records: head, shapes and a fill byte.
+#[tactic(auto, unfolding(crate::specs::PlannedFile::front_bytes))]
+fn front(alloc: Global, plan: &Plan, sides: usize) -> Result<Vec<u8>, AllocError>
+    requires { sides ≡ sides_of plan.now.kind plan.now.material }
+    ensures { IfOk result (λ v. v.items ≡ front_bytes plan.now) }
+{
+    let mut file = Vec::new(alloc);
+    put_head(plan.kind, &plan.material, &mut file)?;
+    put_setups(&plan.parts, sides, &mut file)?;
+    fill_to(2, &mut file)?;
+    Ok(file)
+}
+
+/// Appends the size records of all parts.
+fn put_size_records(parts: &[LaidPart], file: &mut Vec<u8>) -> Result<(), AllocError>
+    ensures { OnOk result (file.new.items ≡ file.old.items ++ flat_map (λ l. l.size_record) parts.now) }
+{
+    for part in parts {
+        file.extend_from_slice(part.size_record())?;
+    }
+    Ok(())
+}
+
+/// Appends a value map: its length, and its entries.
+fn put_map(wide: bool, entries: &[u16], file: &mut Vec<u8>) -> Result<(), AllocError>
+    requires { IsGoodMap wide entries.now }
+    ensures { OnOk result (file.new.items ≡ file.old.items ++ one_map_bytes wide entries.now) }
+{
     if wide {
+        let count = entries.len() as u16;
         file.extend_from_slice(&count.to_le_bytes())?;
     } else {
-        match u8::try_from(count) {
-            Ok(count) => file.push(count)?,
-            Err(_) => return Err(ForgeFault::BadPlan),
-        }
+        file.push(entries.len() as u8)?;
     }
-    let bytes = map_bytes(alloc, wide, entries)?;
-    file.extend_from_slice(&bytes)?;
-    Ok(())
+    put_map_bytes(wide, entries, file)
 }
 
-/// The four value maps of a file of the leading pawn, where its flags tell of them.
-fn put_maps(alloc: Global, part: &PartPlan, file: &mut Vec<u8>) -> Result<(), ForgeFault>
-    ensures { IfErr result (λ e. e ≢ ForgeFault.Io) }
+/// Appends four value maps: wins, losses, cursed wins and blessed losses.
+#[tactic(auto, unfolding(crate::specs::PlannedFile::four_maps_bytes))]
+fn put_four_maps(wide: bool, maps: &MapsPlan, file: &mut Vec<u8>) -> Result<(), AllocError>
+    requires { AreGoodMaps wide maps.now }
+    ensures { OnOk result (file.new.items ≡ file.old.items ++ four_maps_bytes wide maps.now) }
+{
+    put_map(wide, &maps.win, file)?;
+    put_map(wide, &maps.loss, file)?;
+    put_map(wide, &maps.cursed_win, file)?;
+    put_map(wide, &maps.blessed_loss, file)
+}
+
+/// Appends the value maps of a file of the leading pawn, where its flags tell of them.
+#[tactic(auto, unfolding(crate::specs::PlannedFile::with_maps))]
+fn put_maps(part: &PartPlan, file: &mut Vec<u8>) -> Result<(), AllocError>
+    requires { AreGoodMaps (is_wide part.now) part.now.maps }
+    ensures { OnOk result (file.new.items ≡ with_maps file.old.items part.now) }
 {
     if !has_bit(2, part.flags) {
         return Ok(());
@@ -315,133 +631,127 @@ fn put_maps(alloc: Global, part: &PartPlan, file: &mut Vec<u8>) -> Result<(), Fo
     if wide {
         fill_to(2, file)?;
     }
-    put_map(alloc, wide, &part.maps.win, file)?;
-    put_map(alloc, wide, &part.maps.loss, file)?;
-    put_map(alloc, wide, &part.maps.cursed_win, file)?;
-    put_map(alloc, wide, &part.maps.blessed_loss, file)
+    put_four_maps(wide, &part.maps, file)
 }
 
-/// All value maps, in a DTZ file.
-fn put_all_maps(alloc: Global, plan: &Plan, file: &mut Vec<u8>) -> Result<(), ForgeFault>
-    ensures { IfErr result (λ e. e ≢ ForgeFault.Io) }
+/// Appends the value maps of all files of the leading pawn.
+#[tactic(auto, unfolding(crate::specs::PlannedFile::with_each_maps))]
+fn put_each_maps(parts: &[PartPlan], file: &mut Vec<u8>) -> Result<(), AllocError>
+    requires { All (λ p. AreGoodMaps (is_wide p) p.maps) parts.now }
+    ensures { OnOk result (file.new.items ≡ with_each_maps file.old.items parts.now) }
 {
-    if plan.kind == Kind::Wdl {
-        return Ok(());
-    }
-    for part in &plan.parts {
-        put_maps(alloc, part, file)?;
-    }
-    fill_to(2, file)?;
-    Ok(())
-}
-
-/// Block lengths, one less than the values that a block holds, and those of padding entries.
-fn put_lengths(sizes: &[u64], file: &mut Vec<u8>) -> Result<(), ForgeFault>
-    ensures { IfErr result (λ e. e ≢ ForgeFault.Io) }
-{
-    for size in sizes {
-        let Ok(length) = u16::try_from(size.saturating_sub(1)) else {
-            return Err(ForgeFault::BadPlan);
-        };
-        file.extend_from_slice(&length.to_le_bytes())?;
-    }
-    Ok(())
-}
-
-/// Blocks, one after the other.
-fn put_blocks(pairs: &LaidPairs<'_>, file: &mut Vec<u8>) -> Result<(), ForgeFault>
-    ensures { IfErr result (λ e. e ≢ ForgeFault.Io) }
-{
-    let size = 1usize
-        .checked_shl(pairs.plan.block_exponent as u32)
-        .unwrap_or(0);
-    for symbols in &pairs.plan.blocks {
-        let at = file.len();
-        file.resize(at.saturating_add(size), 0)?;
-        put_codes(&pairs.codes, symbols, &mut file[at..])?;
-    }
-    Ok(())
-}
-
-/// The sections behind the maps: sparse entries, block lengths, and blocks, each of all parts.
-fn put_sections(parts: &[LaidPart<'_>], file: &mut Vec<u8>) -> Result<(), ForgeFault>
-    ensures { IfErr result (λ e. e ≢ ForgeFault.Io) }
-{
-    for part in parts {
-        if let LaidPart::Pairs(pairs) = part {
-            file.extend_from_slice(&pairs.entries)?;
+    match parts {
+        [] => Ok(()),
+        [part, rest @ ..] => {
+            put_maps(part, file)?;
+            put_each_maps(rest, file)
         }
     }
-    for part in parts {
-        if let LaidPart::Pairs(pairs) = part {
-            put_lengths(&pairs.sizes, file)?;
+}
+
+/// Appends all value maps, in a DTZ file.
+#[tactic(auto, unfolding(crate::specs::PlannedFile::with_all_maps))]
+fn put_all_maps(kind: Kind, parts: &[PartPlan], file: &mut Vec<u8>) -> Result<(), AllocError>
+    requires { All (λ p. AreGoodMaps (is_wide p) p.maps) parts.now }
+    ensures { OnOk result (file.new.items ≡ with_all_maps kind file.old.items parts.now) }
+{
+    match kind {
+        Kind::Wdl => Ok(()),
+        Kind::Dtz => {
+            put_each_maps(parts, file)?;
+            fill_to(2, file)
         }
     }
+}
+
+/// Appends the sparse entries of all parts.
+fn put_entries(parts: &[LaidPart], file: &mut Vec<u8>) -> Result<(), AllocError>
+    ensures { OnOk result (file.new.items ≡ file.old.items ++ flat_map (λ l. l.entries) parts.now) }
+{
     for part in parts {
-        fill_to(64, file)?;
-        if let LaidPart::Pairs(pairs) = part {
-            put_blocks(pairs, file)?;
-        }
+        file.extend_from_slice(part.entries())?;
     }
     Ok(())
 }
 
-/// The size records.
-fn put_size_records(
-    parts: &[PartPlan],
-    laid: &[LaidPart<'_>],
-    file: &mut Vec<u8>,
-) -> Result<(), ForgeFault>
-    ensures { IfErr result (λ e. e ≢ ForgeFault.Io) }
+/// Appends the block lengths of all parts.
+fn put_lengths(parts: &[LaidPart], file: &mut Vec<u8>) -> Result<(), AllocError>
+    ensures { OnOk result (file.new.items ≡ file.old.items ++ flat_map (λ l. l.lengths) parts.now) }
 {
-    for (part, laid) in parts.iter().zip(laid) {
-        put_size_record(part.flags, laid, file)?;
+    for part in parts {
+        file.extend_from_slice(part.lengths())?;
     }
     Ok(())
 }
 
-/// What stands before the size records: head, shapes and a fill byte.
-fn front(alloc: Global, plan: &Plan, sides: usize) -> Result<Vec<u8>, AllocError>
-    requires { 1 ≤ sides }
+/// Appends the blocks of all parts, those of each from a multiple of 64 on.
+#[tactic(auto, unfolding(crate::specs::PlannedFile::with_blocks))]
+fn put_blocks(parts: &[LaidPart], file: &mut Vec<u8>) -> Result<(), AllocError>
+    ensures { OnOk result (file.new.items ≡ with_blocks file.old.items parts.now) }
 {
-    let mut file = Vec::new(alloc);
-    put_head(plan, &mut file)?;
-    put_setups(&plan.parts, sides, &mut file)?;
-    fill_to(2, &mut file)?;
-    Ok(file)
+    match parts {
+        [] => Ok(()),
+        [part, rest @ ..] => {
+            fill_to(64, file)?;
+            file.extend_from_slice(part.blocks())?;
+            put_blocks(rest, file)
+        }
+    }
 }
 
-/// What stands behind the sections: fill and the checksum.
-fn put_end(file: &mut Vec<u8>) -> Result<(), AllocError> {
+/// Appends the sections behind the maps: sparse entries, block lengths, and blocks, each of all parts.
+#[tactic(auto, unfolding(crate::specs::PlannedFile::with_sections))]
+fn put_sections(parts: &[LaidPart], file: &mut Vec<u8>) -> Result<(), AllocError>
+    ensures { OnOk result (file.new.items ≡ with_sections file.old.items parts.now) }
+{
+    put_entries(parts, file)?;
+    put_lengths(parts, file)?;
+    put_blocks(parts, file)
+}
+
+/// Appends what stands behind the sections: fill and the checksum.
+#[tactic(auto, unfolding(crate::specs::PlannedFile::ended))]
+fn put_end(file: &mut Vec<u8>) -> Result<(), AllocError>
+    ensures { OnOk result (file.new.items ≡ ended file.old.items) }
+{
     fill_to(64, file)?;
     file.extend_from_slice(&[0; 16])
 }
 
-/// What stands behind the front.
-fn put_rest(
+/// The file of the parts that are laid out.
+#[tactic(auto, unfolding(crate::specs::PlannedFile::file_with))]
+fn file_with(
     alloc: Global,
     plan: &Plan,
-    laid: &[LaidPart<'_>],
-    file: &mut Vec<u8>,
-) -> Result<(), ForgeFault>
-    ensures { IfErr result (λ e. e ≢ ForgeFault.Io) }
+    sides: usize,
+    laid: &[LaidPart],
+) -> Result<Vec<u8>, AllocError>
+    requires sides { sides ≡ sides_of plan.now.kind plan.now.material }
+    requires maps { All (λ p. AreGoodMaps (is_wide p) p.maps) plan.now.parts.items }
+    ensures { IfOk result (λ v. v.items ≡ file_with plan.now laid.now) }
 {
-    put_size_records(&plan.parts, laid, file)?;
-    put_all_maps(alloc, plan, file)?;
-    put_sections(laid, file)?;
-    put_end(file)?;
-    Ok(())
+    let mut file = front(alloc, plan, sides)?;
+    put_size_records(laid, &mut file)?;
+    put_all_maps(plan.kind, &plan.parts, &mut file)?;
+    put_sections(laid, &mut file)?;
+    put_end(&mut file)?;
+    Ok(file)
 }
 
-/// The bytes of the file that a plan describes. What makes the plan bad is told as it is met; that the file says what the
-/// plan says is for the caller to look at.
-pub(super) fn laid_out(alloc: Global, plan: &Plan) -> Result<Vec<u8>, ForgeFault>
-    ensures good { OnOk result (IsGoodPlan plan.now.kind plan.now.material plan.now.parts.items) }
-    ensures fault { IfErr result (λ e. e ≢ ForgeFault.Io) }
+/// The bytes of the file that a plan describes. There are none where the plan breaks a rule of plans.
+#[tactic(auto, unfolding(crate::specs::PlannedFile::file_of))]
+pub(super) fn laid_out(alloc: Global, plan: &Plan) -> Result<Option<Vec<u8>>, AllocError>
+    ensures found { IfOk result (λ o. IfSome o (λ v. v.items ≡ file_of plan.now)) }
+    ensures good { IfOk result (λ o. IfSome o (λ _. IsGoodPlan plan.now.kind plan.now.material plan.now.parts.items)) }
+    ensures bad { IfOk result (λ o. IfNone o (IsGoodPlan plan.now.kind plan.now.material plan.now.parts.items → ⊥)) }
 {
     let sides = sides(plan.kind, &plan.material);
-    let parts = laid_parts(alloc, plan, sides)?;
-    let mut file = front(alloc, plan, sides)?;
-    put_rest(alloc, plan, &parts, &mut file)?;
-    Ok(file)
+    if plan.parts.len() != files(&plan.material) * sides {
+        return Ok(None);
+    }
+    let Some(laid) = laid_parts(alloc, plan, sides)? else {
+        return Ok(None);
+    };
+    let file = file_with(alloc, plan, sides, &laid)?;
+    Ok(Some(file))
 }

@@ -10,7 +10,7 @@ returns-clause-block c =
     let n-is : n ≡ (c.args.size + (s - 1)) / s = rw c.span-span.ensures.is c.points.ensures.is in
     let fit = rw (← c.span-span.ensures.is, ← n-is) at c.requires.right in
     let some : 1 ≤ n = some_points c.args.size s n (omega (arith, c.span-span.ensures.some)) c.requires.some n-is in
-    let e = entry_here (sizes_of c.args.lengths.now) s n c.args.entries.now (c.args.index / s) c.min-k.result c.entry.result.block c.entry.result.offset fit c.min-k.ensures some c.entry.ensures.block c.entry.ensures.offset in
+    let e = entry_here (sizes_of c.args.lengths.now) s n c.args.entries.now c.spans_in.result c.min-k.result c.entry-block.result.0 c.entry-block.result.1 fit c.min-k.ensures some c.entry-block.ensures.block c.entry-block.ensures.offset in
     omega (arith, e.known, length-sizes c.args.lengths.now)
 
 pub returns-clause-place : goal.returns-clause-place
@@ -20,5 +20,5 @@ returns-clause-place c =
     let n-is : n ≡ (c.args.size + (s - 1)) / s = rw c.span-span.ensures.is c.points.ensures.is in
     let fit = rw (← c.span-span.ensures.is, ← n-is) at c.requires.right in
     let some : 1 ≤ n = some_points c.args.size s n (omega (arith, c.span-span.ensures.some)) c.requires.some n-is in
-    let e = entry_here (sizes_of c.args.lengths.now) s n c.args.entries.now (c.args.index / s) c.min-k.result c.entry.result.block c.entry.result.offset fit c.min-k.ensures some c.entry.ensures.block c.entry.ensures.offset in
+    let e = entry_here (sizes_of c.args.lengths.now) s n c.args.entries.now c.spans_in.result c.min-k.result c.entry-block.result.0 c.entry-block.result.1 fit c.min-k.ensures some c.entry-block.ensures.block c.entry-block.ensures.offset in
     e.place

@@ -16,7 +16,9 @@ loop-block-preserved c =
     (omega (arith, c.loop-block-test.true, c.blocks-block-end.ensures.is)) (omega (arith, long, length-sizes lengths)) held (omega (arith, c.if-len-size_at.false, c.len.ensures, c.size_at.ensures.size))
     (stripped c.loop-block.rest.now c.deref.result.now c.in_ok-held.held.items c.in-Some.after c.in-Some.ensures.cases c.deref.ensures.value) h)
 
-pub returns-clause-is : goal.returns-clause-is
-returns-clause-is c = λ t.
-    coded_expansion c.args.view.coding.now c.args.codes.now c.args.view.lengths.now c.args.view.blocks.now c.args.values.now c.requires.coded
-    (c.loop-block.invariant (blocks_done c.args.codes.now c.args.view.lengths.now c.args.view.blocks.now c.loop-block.rest.now c.loop-block.block (omega (arith, c.loop-block-test.false, c.blocks-block-end.ensures.is)) (nothing_left c.loop-block.rest.now (eqb-true (length c.loop-block.rest.now) 0 (sym c.is_empty.ensures ∙ t)))))
+pub returns : goal.returns
+returns c = record {
+  is = λ t.
+      coded_expansion c.args.view.coding.now c.args.codes.now c.args.view.lengths.now c.args.view.blocks.now c.args.values.now c.requires.coded
+      (c.loop-block.invariant (blocks_done c.args.codes.now c.args.view.lengths.now c.args.view.blocks.now c.loop-block.rest.now c.loop-block.block (omega (arith, c.loop-block-test.false, c.blocks-block-end.ensures.is)) (nothing_left c.loop-block.rest.now (eqb-true (length c.loop-block.rest.now) 0 (sym c.is_empty.ensures ∙ t)))));
+}
