@@ -316,7 +316,12 @@ fn check_long_codes(rt: &impl Abort, file: &[u8]) {
     let three = [0u8, 0, 0x90, 0, 9, 0, 0, 0x90, 0, 0, 0, 0, 0, 0, 0, 0];
     assert_eq!(rt; file.len(), 5200);
     check_bytes(rt, &file[2186..2188], &[0xFF, 5], "first length");
-    check_bytes(rt, &file[2226..2230], &[0x63, 2, 0xFF, 0xFF], "last lengths");
+    check_bytes(
+        rt,
+        &file[2226..2230],
+        &[0x63, 2, 0xFF, 0xFF],
+        "last lengths",
+    );
     check_bytes(rt, &file[4752..4800], &[0; 48], "fill");
     check_bytes(rt, &file[4800..4816], &six, "first block");
     check_bytes(rt, &file[5120..5136], &three, "last block");
