@@ -106,11 +106,11 @@ module _ {F : Type 0} (finds : Finds F) (old : Moment (FileKeeper F)) (s : IsSaf
 
       by_keep : (keep : Keep) → Lands keep old.arbiter next outputs window (stored old.keeper) (stored new.keeper) new.arbiter e.told → PutsInto finds old.keeper p.sent new.keeper → Leaves finds e
       by_keep Good lands (Landed there found) = still_safe finds e (safe_after p.sent lands.1 there found lands.2)
-      by_keep Good lands (Failed same left) = absurd (not_grown same lands.2)
+      by_keep Good lands (Failed same risen left) = absurd (not_grown same lands.2)
       by_keep FailsOld lands (Landed there found) = lost lands.0 lands.1 p.sent (is_spelled _ _ p.spells) (inr (inr found))
-      by_keep FailsOld lands (Failed same left) = lost lands.0 lands.1 p.sent (is_spelled _ _ p.spells) (in_doubt left)
+      by_keep FailsOld lands (Failed same risen left) = lost lands.0 lands.1 p.sent (is_spelled _ _ p.spells) (in_doubt left)
       by_keep FailsNew lands (Landed there found) = lost lands.0 lands.1 p.sent (is_spelled _ _ p.spells) (inr (inr found))
-      by_keep FailsNew lands (Failed same left) = lost lands.0 lands.1 p.sent (is_spelled _ _ p.spells) (in_doubt left)
+      by_keep FailsNew lands (Failed same risen left) = lost lands.0 lands.1 p.sent (is_spelled _ _ p.spells) (in_doubt left)
 
   by_answer : (a : Answer) → a ≡ answer_at old.arbiter e.datagram → RefusesOrSends old.arbiter old.keeper e.after.keeper e.after.arbiter e.told a → PutsIfAny (over_file finds).may_be stored (over_file finds).faults (PutsInto finds) old.arbiter old.keeper e.after.keeper e.after.arbiter e.told a → Leaves finds e
   by_answer (Refuses fault) is h p = still_safe finds e (unmoved old.arbiter h.arbiter h.keeper s.spelled s.own)

@@ -85,7 +85,7 @@ module _ {F : Type 0} (finds : Finds F) (setup : SetupView) (before : FileKeeper
       let e : ◌≡◌ {A = Told} (Ok opened.arbiter) (Ok (running setup me (first_record (rules_at setup)))) = lands.0 in
       let is : opened.arbiter ≡ running setup me (first_record (rules_at setup)) = cc in
       runs_from me (first_record (rules_at setup)) sent is there found (subst (IsSpelled me.stamp setup.delay (first_record (rules_at setup))) there lands.1) (record { ruled = refl; reached = refl })
-  first_safe me Good mid sent none same lands (Failed stays left) =
+  first_safe me Good mid sent none same lands (Failed stays risen left) =
       absurd (subst (IsSpelled me.stamp setup.delay (first_record (rules_at setup))) (stays ∙ ap stored same ∙ none) lands.1)
   first_safe me FailsOld mid sent none same lands once = absurd (not_failed KeeperFailed lands.0)
   first_safe me FailsNew mid sent none same lands once = absurd (not_failed KeeperFailed lands.0)
@@ -114,9 +114,9 @@ pub is_opened : {F : Type 0} (finds : Finds F) (setup : SetupView) (before now :
 is_opened finds setup before now (Ok v) good bad = record { good = good; bad = λ g. absurd (let e = (bad g).1 in cc) }
 is_opened finds setup before now (Err fault) good bad = record { good = good; bad = λ g. (ap Err (bad g).0, (bad g).2) }
 
-pub served_so : {F : Type 0} (finds : Finds F) (l : Listening) (setup : SetupView) (before : FileKeeper F) (opened now : Moment (FileKeeper F)) (port port' : AtPort) (old new : Option (List ℕ)) (r : Result ℕ AnswerFault) → IsInFile finds before → IsOpened finds setup before opened.keeper (Ok opened.arbiter) → (run : Run (FileKeeper F)) × ServesRun (over_file finds) opened now port port' (asked_first l.fetch opened.arbiter) run × TellsRun l.datagrams run old new r → IfOk r (OpensAndServes finds l setup before port port' old new)
+pub served_so : {F : Type 0} (finds : Finds F) (l : Listening) (setup : SetupView) (before : FileKeeper F) (opened now : Moment (FileKeeper F)) (port port' : AtPort) (old new : Option (List ℕ)) (r : Result ℕ AnswerFault) → IsInFile finds before → IsOpened finds setup before opened.keeper (Ok opened.arbiter) → (run : Run (FileKeeper F)) × ServesRun (over_file finds) opened now port port' (asked_first l.fetch opened.arbiter) run × TellsRun l.datagrams run old new r → IfOk r (OpensAndServes finds l setup before now.keeper port port' old new)
 served_so {F = F} finds l setup before opened now port port' old new (Ok status) in_file o run =
     let safe : IsSafe finds opened = opened_safe finds setup before opened in_file o in
     let found = found_through finds opened now run.0.exchanges run.0.loss safe run.1.going run.1.delivered in
-    Served opened now o run.0 run.1 (record { first = safe_finds finds opened safe; each = found.0; at_loss = found.1 }) run.2
+    Served opened now o run.0 run.1 refl (record { first = safe_finds finds opened safe; each = found.0; at_loss = found.1 }) run.2
 served_so finds l setup before opened now port port' old new (Err fault) in_file o run = tt

@@ -63,7 +63,7 @@ pub record FindsRecord {F : Type 0} (finds : Finds F) (at : Moment (FileKeeper F
   pub is : IsItsRecord at.arbiter bytes at.arbiter.kept
   pub found : finds (file_of at.keeper) (Some bytes) (Some bytes)
 
--- it finds the arbiter's record, or the record that the failed put was to keep
+-- it finds the arbiter's record, or another of its game; which one, a failed put says (`PutsInto`, by what it was to keep)
 pub record FindsEither {F : Type 0} (finds : Finds F) (at : Moment (FileKeeper F)) : Type 0 where
   pub bytes : List ℕ
   pub is : IsItsRecord at.arbiter bytes at.arbiter.kept
@@ -77,7 +77,7 @@ FindsAtLoss finds NoLoss = Unit {0}
 FindsAtLoss finds (KeeperLost last) = FindsEither finds last.after
 FindsAtLoss finds PortLost = Unit {0}
 
--- at each moment of a run: before the first datagram and after each one a start finds the arbiter's record, and where the keeper
+-- before the first datagram of a run and after each one a start finds the arbiter's record, and where the keeper
 -- failed that or the record that the put was to keep
 pub record FindsThroughout {F : Type 0} (finds : Finds F) (opened : Moment (FileKeeper F)) (run : Run (FileKeeper F)) : Type 0 where
   pub first : FindsRecord finds opened
@@ -106,18 +106,18 @@ abbrev pub hosted : {P F : Type 0} → (List ℕ → List ℕ → P → Type 0) 
 hosted binds unbound is_at passed faults unreadable finds =
     record { binds = binds; unbound = unbound; passed = passed; faults = faults; is_at = is_at; unreadable = unreadable; finds = finds }
 
--- an arbiter is opened over the keeper and serves the datagrams, and all the while its record is in the file; or it isn't opened,
--- and nothing is served
-pub data OpensAndServes {F : Type 0} (finds : Finds F) (l : Listening) (setup : SetupView) (before : FileKeeper F) (port port' : AtPort) (old new : Option (List ℕ)) (status : ℕ) : Type 0 where
-  Served : (opened now : Moment (FileKeeper F)) → IsOpened finds setup before opened.keeper (Ok opened.arbiter) → (run : Run (FileKeeper F)) → ServesRun (over_file finds) opened now port port' (asked_first l.fetch opened.arbiter) run → FindsThroughout finds opened run → TellsRun l.datagrams run old new (Ok status) → OpensAndServes finds l setup before port port' old new status
-  Unopened : (now : FileKeeper F) (fault : OpenFault) → IsOpened finds setup before now (Err fault) → NothingPassed port port' → TellsUnopened fault old new status → OpensAndServes finds l setup before port port' old new status
+-- an arbiter is opened over the keeper and serves the datagrams, and between any two of them its record is in the file; or it
+-- isn't opened, and nothing is served; the keeper is left so
+pub data OpensAndServes {F : Type 0} (finds : Finds F) (l : Listening) (setup : SetupView) (before after : FileKeeper F) (port port' : AtPort) (old new : Option (List ℕ)) (status : ℕ) : Type 0 where
+  Served : (opened now : Moment (FileKeeper F)) → IsOpened finds setup before opened.keeper (Ok opened.arbiter) → (run : Run (FileKeeper F)) → ServesRun (over_file finds) opened now port port' (asked_first l.fetch opened.arbiter) run → now.keeper ≡ after → FindsThroughout finds opened run → TellsRun l.datagrams run old new (Ok status) → OpensAndServes finds l setup before after port port' old new status
+  Unopened : (fault : OpenFault) → IsOpened finds setup before after (Err fault) → NothingPassed port port' → TellsUnopened fault old new status → OpensAndServes finds l setup before after port port' old new status
 
 -- over the file in which the record is kept: it can't be read; or an arbiter is opened over a keeper of this file, which has
 -- stored what a start finds there
 pub data KeepsAndServes {F : Type 0} (unreadable : F → Type 0) (finds : Finds F) (l : Listening) (setup : SetupView) (file : F) (port port' : AtPort) (old new : Option (List ℕ)) (status : ℕ) : Type 0 where
   Unreadable : unreadable file → NothingPassed port port' → TellsOne refused_keeper old new status → KeepsAndServes unreadable finds l setup file port port' old new status
   NoRoomToKeep : NothingPassed port port' → TellsOne refused_memory old new status → KeepsAndServes unreadable finds l setup file port port' old new status
-  Kept : (keeper : FileKeeper F) → file_of keeper ≡ file → IsInFile finds keeper → OpensAndServes finds l setup keeper port port' old new status → KeepsAndServes unreadable finds l setup file port port' old new status
+  Kept : (keeper after : FileKeeper F) → file_of keeper ≡ file → IsInFile finds keeper → OpensAndServes finds l setup keeper after port port' old new status → KeepsAndServes unreadable finds l setup file port port' old new status
 
 -- at a port, over the file at the path of the words
 pub data ServesAt {P F : Type 0} (host : Hosted P F) (l : Listening) (setup : SetupView) (port port' : AtPort) (old new : Option (List ℕ)) (status : ℕ) : Type 0 where

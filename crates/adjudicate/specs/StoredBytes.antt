@@ -2,6 +2,7 @@
 use Rattle.std.specs.Prelude.{◌≡◌, ℕ, List, Option, Some, None, cond}
 use Rattle.arbiter_core.specs.declared.keeper.Keep.{Keep}
 use Rattle.arbiter_core.specs.declared.keeper.KeepFault.{KeepFault}
+use Rattle.arbiter_core.specs.Keeping.{Risen}
 use Rattle.adjudicate.specs.declared.file_keeper.FileKeeper.{FileKeeper}
 use Rattle.adjudicate.specs.KeptFiles.{Finds, FindsOldOrNew}
 
@@ -17,11 +18,15 @@ file_of k = k.file
 abbrev pub IsInFile : {F : Type 0} → Finds F → FileKeeper F → Type 0
 IsInFile finds k = finds (file_of k) (stored k) (stored k)
 
--- what a put of bytes makes of a keeper: they have come into the file and are stored; or it failed, what was stored stays, and a
--- start finds what stood in the file or these bytes
+-- how often its puts have failed
+abbrev pub keeper_faults : {F : Type 0} → FileKeeper F → ℕ
+keeper_faults k = k.failures
+
+-- what a put of bytes makes of a keeper: they have come into the file and are stored; or it failed, which
+-- is counted, what was stored stays, and a start finds what stood in the file or these bytes
 pub data PutsInto {F : Type 0} (finds : Finds F) (before : FileKeeper F) (bytes : List ℕ) (now : FileKeeper F) : Type 0 where
   Landed : stored now ≡ Some bytes → finds (file_of now) (Some bytes) (Some bytes) → PutsInto finds before bytes now
-  Failed : stored now ≡ stored before → ((old : Option (List ℕ)) → finds (file_of before) old old → FindsOldOrNew (finds (file_of now)) old bytes) → PutsInto finds before bytes now
+  Failed : stored now ≡ stored before → Risen (keeper_faults before) (keeper_faults now) → ((old : Option (List ℕ)) → finds (file_of before) old old → FindsOldOrNew (finds (file_of now)) old bytes) → PutsInto finds before bytes now
 
 -- what the keeper states of itself: any outcome of a put, and no get that fails or changes it
 abbrev pub any_outcome : {F : Type 0} → FileKeeper F → Keep → Type 0
@@ -32,6 +37,3 @@ never_fails k = ⊥
 
 abbrev pub reads_so : {F : Type 0} → FileKeeper F → Option KeepFault → FileKeeper F → Type 0
 reads_so k fault n = n ≡ k
-
-abbrev pub keeper_faults : {F : Type 0} → FileKeeper F → ℕ
-keeper_faults k = k.failures

@@ -50,7 +50,7 @@ fn open_and_serve<F: KeptFile + Drop, P: Port, W: Write>(
     out: &mut W,
 ) -> Result<u8, AnswerFault>
     requires { IsInFile F.finds keeper.old }
-    ensures { IfOk result (OpensAndServes F.finds listening.now (setup_view setup.entry) keeper.old (at_port P.passed P.faults port.old) (at_port P.passed P.faults port.new) (W.contents out.old) (W.contents out.new)) }
+    ensures { IfOk result (OpensAndServes F.finds listening.now (setup_view setup.entry) keeper.old keeper.new (at_port P.passed P.faults port.old) (at_port P.passed P.faults port.new) (W.contents out.old) (W.contents out.new)) }
 {
     let fault = match Arbiter::open(alloc, keeper, setup) {
         Ok(mut arbiter) => {

@@ -5,7 +5,7 @@ use Rattle.adjudicate.proofs.PortLaws.{Passes-nil}
 use Rattle.adjudicate.proofs.listen.keep_and_serve.Goals as goal
 
 pub returns-in-Ok : goal.returns-in-Ok
-returns-in-Ok g c = IfOk-weaker c.open_and_serve.result _ _ (λ status h. Kept _ c.in-Ok.ensures.file c.in-Ok.ensures.found h) c.open_and_serve.ensures
+returns-in-Ok g c = IfOk-weaker c.open_and_serve.result _ _ (λ status h. Kept _ _ c.in-Ok.ensures.file c.in-Ok.ensures.found h) c.open_and_serve.ensures
 
 pub returns-in-Err-Unreadable : goal.returns-in-Err-Unreadable
 returns-in-Err-Unreadable g c =

@@ -9,4 +9,4 @@ pub returns-in-Ok : goal.returns-in-Ok
 returns-in-Ok g c = served_so _ _ _ _ (moment _ _) _ _ _ _ _ c.serve.result c.requires (is_opened _ _ _ _ _ c.in-Ok.ensures.good c.in-Ok.ensures.bad) c.serve.ensures.run
 
 pub returns : goal.returns
-returns g c = IfOk-weaker c.put_unopened.result _ _ (λ status h. Unopened _ _ (is_opened _ _ _ _ _ c.in-Err.ensures.good c.in-Err.ensures.bad) (Passes-nil _) h) c.put_unopened.ensures
+returns g c = IfOk-weaker c.put_unopened.result _ _ (λ status h. Unopened _ (is_opened _ _ _ _ _ c.in-Err.ensures.good c.in-Err.ensures.bad) (Passes-nil _) h) c.put_unopened.ensures
