@@ -143,7 +143,10 @@ const OTHER: &str = "/tmp/adjudicate-test-unkept";
 
 const LONG: &str = "/tmp/adjudicate-test-unkept/long";
 
-/// A folder in the file's place and a file of too many bytes are refused.
+/// Where there is no folder there is nothing to sync, and no file to read.
+const NOWHERE: &str = "/tmp/adjudicate-test-unkept/missing/kept";
+
+/// A folder in the file's place, a file of too many bytes and a file in a folder that isn't there are refused.
 #[test]
 fn keeps_no_file_that_it_cannot_read(rt: HostRuntime) -> Result<(), Fail> {
     let _left = fs::remove_dir_all(&rt, OTHER).is_ok();
@@ -153,5 +156,6 @@ fn keeps_no_file_that_it_cannot_read(rt: HostRuntime) -> Result<(), Fail> {
     bytes.resize(8218, 1)?;
     fs::write(&rt, LONG, bytes.as_slice())?;
     expect_unread(&rt, LONG)?;
+    expect_unread(&rt, NOWHERE)?;
     Ok(fs::remove_dir_all(&rt, OTHER)?)
 }

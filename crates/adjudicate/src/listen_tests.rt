@@ -128,12 +128,14 @@ fn serve_row<P: Port>(
     )
 }
 
-/// Sends the game's moves and a datagram of one byte.
+/// Sends the game's moves, and datagrams of one byte, of none and of more than a message may have.
 fn send_game(client: &UdpSocket, to: SocketAddr) -> Result<(), Fail> {
     for message in &game()? {
         client.send_to(message, to)?;
     }
     client.send_to(b"x", to)?;
+    client.send_to(b"", to)?;
+    client.send_to(&[1u8; 65], to)?;
     Ok(())
 }
 
@@ -158,7 +160,7 @@ fn expect_ack(client: &UdpSocket, count: u32) -> Result<(), Fail> {
     Err(Fail::new(format_args!("Ack {count}")))
 }
 
-/// Three moves and a datagram of one byte over the loopback, after which the socket is served.
+/// Three moves and three datagrams that are no messages over the loopback, after which the socket is served.
 #[test]
 fn answers_the_datagrams_of_a_socket(rt: HostRuntime) -> Result<(), Fail> {
     let socket = UdpSocket::bind(&rt, "127.0.0.1:0")?;
@@ -167,10 +169,10 @@ fn answers_the_datagrams_of_a_socket(rt: HostRuntime) -> Result<(), Fail> {
     let to = format!(in rt.alloc(); "{}", client.local_addr()?)?;
     let mut port = UdpPort::over(rt.alloc(), socket, to.as_str())?;
     let row = Row {
-        datagrams: 4,
+        datagrams: 6,
         fetch: false,
         keep: Keep::Good,
-        lines: "ok 1 none\nok 2 none\nok 3 none\nrefused NotAMessage BadLength\n",
+        lines: "ok 1 none\nok 2 none\nok 3 none\nrefused NotAMessage BadLength\nrefused NotAMessage BadLength\nrefused NotAMessage BadLength\n",
         status: 0,
     };
     expect_served(rt.alloc(), &mut port, row)?;
