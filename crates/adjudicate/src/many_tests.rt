@@ -84,8 +84,8 @@ const POSITIONS: [Given; 9] = [
         words: "probes --manifest of_knight --tables knight",
         fen: "",
         input: "8/8/8/4k3/8/8/8/KN6 w - - 0 1",
-        lines: "0\trefused NotCovered KNvK\tTableDraw\n",
-        status: 1,
+        lines: "0\t0\tTableDraw\n",
+        status: 0,
     },
     Given {
         words: "probes",
