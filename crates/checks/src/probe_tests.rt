@@ -5,8 +5,9 @@ ghost use Rattle.board_core.specs.Delays.{most_delay};
 
 use crate::comparing::{check_same, check_text};
 use crate::files::{
-    CURSED_MOVES, CURSED_QUEEN, DAMAGED_KNIGHT, KNIGHT, PAWN, PAWN_PLIES, PAWNS, QUEEN,
-    QUEEN_AGAINST, QUEEN_MOVES, QUEEN_PLIES, file_of, files_of,
+    BISHOP_AND_PAWN, BISHOP_AND_PAWNS, CURSED_MOVES, CURSED_QUEEN, DAMAGED_KNIGHT, KNIGHT,
+    LOST_QUEEN, PAWN, PAWN_PLIES, PAWNS, QUEEN, QUEEN_AGAINST, QUEEN_AND_OTHER, QUEEN_AND_PAWN,
+    QUEEN_AND_PAWN_UNMAPPED, QUEEN_MOVES, QUEEN_PLIES, QUEEN_UNMAPPED, file_of, files_of,
 };
 use crate::index_tests::material;
 use crate::positions::{KINGS, moves_of, position_of};
@@ -410,9 +411,61 @@ fn check_far_out(rt: &impl Abort, alloc: Global, set: &mut Set<'_>) {
 fn cursed_moves(rt: HostRuntime) {
     let files = files_of(&CURSED_QUEEN, &CURSED_MOVES);
     let mut set = set_of(&rt, rt.alloc(), &QUEEN_TABLES, &files);
+    check_value(&rt, rt.alloc(), &mut set, QUEEN_ROW, Ok(1));
     check_both(&rt, rt.alloc(), &mut set, QUEEN_ROW, 111, None);
+    check_value(&rt, rt.alloc(), &mut set, CHECKING_ROW, Ok(-1));
     check_both(&rt, rt.alloc(), &mut set, CHECKING_ROW, -112, None);
     check_far_out(&rt, rt.alloc(), &mut set);
+}
+
+/// The distance by the queen's tables of these files is refused, though the value is told.
+fn check_contradiction(
+    rt: &impl Abort,
+    alloc: Global,
+    files: &[[u8; 80]],
+    value: i8,
+    verdict: Option<Verdict>,
+) {
+    let mut set = set_of(rt, alloc, &QUEEN_TABLES, files);
+    check_value(rt, alloc, &mut set, QUEEN_ROW, Ok(value));
+    check_distance(rt, alloc, &mut set, QUEEN_ROW, Err(damaged(rt, "KQvK")));
+    check_verdict(rt, alloc, &mut set, QUEEN_ROW, verdict);
+}
+
+/// A table without the number that is wanted; one whose values say that no move keeps the win; one whose values say that a
+/// move escapes from the loss.
+#[test]
+fn damaged_distances(rt: HostRuntime) {
+    let unmapped = files_of(&QUEEN, &QUEEN_UNMAPPED);
+    check_contradiction(&rt, rt.alloc(), &unmapped, 2, Some(Verdict::Stopped));
+    let won = files_of(&QUEEN_AND_OTHER, &QUEEN_AGAINST);
+    check_contradiction(&rt, rt.alloc(), &won, 2, Some(Verdict::Stopped));
+    let lost = files_of(&LOST_QUEEN, &QUEEN_AGAINST);
+    check_contradiction(&rt, rt.alloc(), &lost, -2, Some(Verdict::Stopped));
+}
+
+/// After all moves of the queen but one the distance is damaged, and after that one a table is missing.
+#[test]
+fn missing_tables_go_before_damaged_ones(rt: HostRuntime) {
+    let row = "8/p7/8/1k6/8/8/8/3QK3 w - - 0 1";
+    let values = [file_of(&QUEEN_AND_PAWN)];
+    let distances = file_of(&QUEEN_AND_PAWN_UNMAPPED);
+    let mut set = set_of(&rt, rt.alloc(), &["KQvKP.rtbw"], &values);
+    check_value(&rt, rt.alloc(), &mut set, row, Ok(2));
+    check_distance(&rt, rt.alloc(), &mut set, row, Err(not_covered(&rt, "KQvKP")));
+    add(&rt, rt.alloc(), &mut set, "KQvKP.rtbz", &distances);
+    check_distance(&rt, rt.alloc(), &mut set, row, Err(not_covered(&rt, "KPvK")));
+    check_verdict(&rt, rt.alloc(), &mut set, row, None);
+}
+
+/// En passant is the only legal move: what it comes to counts, and not what the own table says.
+#[test]
+fn forced_en_passant(rt: HostRuntime) {
+    let row = "8/8/8/8/3pP3/1K1B4/8/k7 b - e3 0 1";
+    let files = files_of(&BISHOP_AND_PAWNS, &BISHOP_AND_PAWN);
+    let mut set = set_of(&rt, rt.alloc(), &["KBPvKP.rtbw", "KBvKP.rtbw"], &files);
+    check_value(&rt, rt.alloc(), &mut set, row, Ok(-2));
+    check_both(&rt, rt.alloc(), &mut set, row, -1, Some(Verdict::TableWhite));
 }
 
 /// A delay is at most 8 plies.
