@@ -1,10 +1,10 @@
 -- Fields 2 to 6 of FEN as text (PGN standard, sections 16.1.3.2 to 16.1.3.6).
 use Rattle.std.specs.Prelude.{◌≡◌, ◌<◌, ◌≤◌, ◌+◌, ◌++◌, ℕ, Bool, List, [], ◌∷◌, Option, Some, None, if◌then◌else◌, codes}
-use Rattle.std.specs.Fmt.{decimal}
 use Rattle.board_core.specs.declared.piece.Side.{Side}
 use Rattle.board_core.specs.declared.piece.Side.TheVariants.{White, Black}
 use Rattle.board_core.specs.declared.parts.Rights.{Rights}
 use Rattle.board_core.specs.Square.{file_of, rank_of}
+use Rattle.fen_text.specs.Numbers.{SpellsNumber}
 
 -- w or b
 abbrev pub side_text : Side → List ℕ
@@ -50,7 +50,6 @@ pub record SpellsEnPassant (t : List ℕ) (square : Option ℕ) : Type 0 where
   pub on_board : IsOnBoard square
   pub text : t ≡ en_passant_text square
 
--- a number from 0 to 9999 in decimal digits, with no needless zero
-pub record SpellsCounter (t : List ℕ) (n : ℕ) : Type 0 where
-  pub small : n ≤ 9999
-  pub text : t ≡ decimal n
+-- a number from 0 to 9999
+abbrev pub SpellsCounter : List ℕ → ℕ → Type 0
+SpellsCounter t n = SpellsNumber 9999 t n

@@ -1,4 +1,5 @@
 pub mod Cuts
+pub mod Numbers
 pub mod Placement
 pub mod Fields
 pub mod Fen

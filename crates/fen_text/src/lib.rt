@@ -1,4 +1,4 @@
-//! FEN text of positions (PGN standard, section 16.1) and coordinate text of moves, both ways.
+//! FEN text of positions (PGN standard, section 16.1) and coordinate text of moves, both ways, and numbers in decimal digits.
 //!
 //! Each position has one text and each accepted text is the text of one position. No call takes
 //! memory.
@@ -15,6 +15,7 @@ mod reading;
 mod writing;
 
 pub use coordinates::{read_move, write_move};
+pub use counters::read_number;
 pub use fault::FenFault;
 pub use reading::read;
 pub use writing::write;

@@ -174,7 +174,7 @@ fn push_counter(number: u16, out: &mut ArrayString<96>)
     ensures text { out.new.bytes ≡ out.old.bytes ++ decimal number }
     ensures len { array_string_len out.new ≤ array_string_len out.old + 4 }
 {
-    out.push_str(digits(number).as_str());
+    out.push_str(digits(u32::from(number)).as_str());
 }
 
 /// Writes the FEN text of a position (PGN standard, section 16.1): the one text that `read` reads

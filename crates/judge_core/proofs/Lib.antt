@@ -8,6 +8,7 @@ pub mod WholeGames
 pub mod InWords
 pub mod SameTable
 pub mod TwoSteps
+pub mod FiveRules
 pub mod OneOutcome
 pub mod Readings
 pub mod Captures

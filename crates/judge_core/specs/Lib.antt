@@ -14,3 +14,4 @@ pub mod Games
 pub mod Standings
 pub mod Answers
 pub mod Laws
+pub mod FiveRules

@@ -1,6 +1,9 @@
 //! Laws over the definitions of specs/, for proofs above: each function carries one law and does nothing.
 
+ghost use Rattle.judge_core.specs.FiveRules.{DistanceByFiveRules};
 ghost use Rattle.judge_core.specs.Laws.{WdlMeetsItsRule, DtzMeetsItsRules, GameHasOneOutcome, NoDelayIsTheRuling, FirstVerdictInWords, FirstVerdictLooksBack, IllegalStaysIllegal, OneMoveMore};
+
+use place_index::few_men_have_tables;
 
 /// The value of a position is what its rule makes of the values after its captures.
 pub fn wdl_meets_its_rule()
@@ -12,6 +15,14 @@ pub fn wdl_meets_its_rule()
 pub fn dtz_meets_its_rules()
     ensures { DtzMeetsItsRules }
 {}
+
+/// The distance of a position in scope is the one that the five rules give, and they give no other: the fault of the value or
+/// none for a draw, a capture, a pawn move, the own table, the moves that neither take a man nor move a pawn.
+pub fn distance_by_five_rules()
+    ensures { DistanceByFiveRules }
+{
+    few_men_have_tables();
+}
 
 /// No game comes to two different things.
 pub fn game_has_one_outcome()

@@ -11,7 +11,6 @@ pub mod FileNames
 pub mod Naming
 pub mod Placing
 pub mod Told
-pub mod Places
 pub mod Reading
 pub mod BadLines
 pub mod OneSchedule

@@ -1,7 +1,6 @@
 -- The text of a schedule (schedule format): lines that end with a line feed. The first three tell the name, the start and the
 -- moves of a game, and each further one is an event. The words of a line are parted by single spaces.
 use Rattle.std.specs.Prelude.{◌≡◌, ◌≢◌, ◌≤◌, ◌⊎◌, ◌++◌, ℕ, suc, List, [], ◌∷◌, length, codes, Ok}
-use Rattle.std.specs.Fmt.{decimal}
 use Rattle.hex.specs.Hex.{decode_of}
 use Rattle.board_core.specs.declared.parts.Parts.{Parts}
 use Rattle.board_core.specs.declared.moves.Move.{Move as Moves}
@@ -9,6 +8,7 @@ use Rattle.board_core.specs.Position.{IsPosition}
 use Rattle.fen_text.specs.Coordinates.{SpellsMove}
 use Rattle.fen_text.specs.Cuts.{cut_at}
 use Rattle.fen_text.specs.Fen.{SpellsPosition}
+use Rattle.fen_text.specs.Numbers.{SpellsNumber}
 use Rattle.move_msg.specs.declared.who.Who.{Who}
 use Rattle.move_msg.specs.declared.who.Who.TheVariants.{A, B}
 use Rattle.move_msg.specs.Numbers.{most_moves}
@@ -30,10 +30,9 @@ keep_word Good = codes "good"
 keep_word FailsOld = codes "old"
 keep_word FailsNew = codes "new"
 
--- a place in the log in decimal digits, with no needless zero
-pub record SpellsPlace (word : List ℕ) (place : ℕ) : Type 0 where
-  pub small : place ≤ 999999
-  pub text : word ≡ decimal place
+-- a place in the log, from 0 to 999999
+abbrev pub SpellsPlace : List ℕ → ℕ → Type 0
+SpellsPlace word place = SpellsNumber 999999 word place
 
 -- two hexadecimal digits of either case for each byte, and a hyphen for no bytes
 abbrev pub SpellsBytes : List ℕ → List ℕ → Type 0

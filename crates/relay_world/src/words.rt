@@ -1,15 +1,13 @@
 //! The words of a line.
 
 ghost use Rattle.std.specs.Prelude.{◌≡◌, ◌↔◌, ◌==◌, ◌<◌, ◌+◌, ◌++◌, ◌∷◌, [], ℕ, List, position, IsTrue, IfOk, IfSome, IfNone};
-ghost use Rattle.std.specs.Fmt.{decimal};
-ghost use Rattle.arrayvec.specs.ArrayString.{array_string_len};
 ghost use Rattle.fen_text.specs.Cuts.{cut_at};
 ghost use Rattle.move_msg.specs.declared.who.Who.{Who};
 ghost use Rattle.arbiter_core.specs.declared.keeper.Keep.{Keep};
 ghost use Rattle.relay_world.specs.Texts.{SpellsBytes, SpellsPlace, who_word, keep_word};
 
 use arbiter_core::Keep;
-use arrayvec::ArrayString;
+use fen_text::read_number;
 use hex::FromHexError;
 use move_msg::Who;
 use std::alloc::{AllocError, Global};
@@ -70,46 +68,15 @@ pub(crate) fn read_keep(word: &[u8]) -> Option<Keep>
     }
 }
 
-/// Writes a digit.
-fn push_digit(digit: u8, text: &mut ArrayString<20>)
-    requires digit { digit < 10 }
-    requires room { array_string_len text.old < 20 }
-    ensures { text.new.bytes ≡ text.old.bytes ++ (48 + digit) ∷ [] }
-{
-    text.push((b'0' + digit) as char);
-}
-
-/// The digits of a number.
-fn digits(number: u32) -> ArrayString<20>
-    ensures { result.bytes ≡ decimal number }
-{
-    let mut text = if number < 10 {
-        ArrayString::new()
-    } else {
-        digits(number / 10)
-    };
-    push_digit((number % 10) as u8, &mut text);
-    text
-}
-
 /// The place in the log that a word tells, 0 to 999999 in digits without needless zeros.
 pub(crate) fn read_place(text: &[u8]) -> Option<usize>
     ensures some { IfSome result (SpellsPlace text.now) }
     ensures none { IfNone result ((n : ℕ) → SpellsPlace text.now n → ⊥) }
 {
-    let Ok(word) = str::from_utf8(text) else {
-        return None;
-    };
-    let Ok(number) = word.parse::<u32>() else {
-        return None;
-    };
-    if number > 999_999 {
-        return None;
+    match read_number(text, 999_999) {
+        Some(number) => Some(number as usize),
+        None => None,
     }
-    if digits(number).as_str() != word {
-        return None;
-    }
-    Some(number as usize)
 }
 
 /// The bytes that a word spells: two hexadecimal digits of either case for each, and a hyphen for no bytes.

@@ -6,10 +6,10 @@ use Rattle.fen_text.proofs.counters.+digits.Goals.{then-number-lt10, else-number
 
 pub push_digit-requires-clause-room : goal.push_digit-requires-clause-room
 push_digit-requires-clause-room t c =
-    let short : length c.if-number-lt10.text.bytes ≤ 4 =
+    let short : length c.if-number-lt10.text.bytes ≤ 9 =
     elim c.if-number-lt10.branch [
       | then-number-lt10 w ↦ (let e : c.if-number-lt10.text.bytes ≡ [] = cc in omega (arith, ap length e))
-      | else-number-lt10 w ↦ (let e : c.if-number-lt10.text.bytes ≡ decimal (c.args.number / 10) = cc in let small = length-decimal-le 4 (c.args.number / 10) (lit< tt) (omega arith) (omega arith) in omega (arith, ap length e))
+      | else-number-lt10 w ↦ (let e : c.if-number-lt10.text.bytes ≡ decimal (c.args.number / 10) = cc in let small = length-decimal-le 9 (c.args.number / 10) (lit< tt) (omega arith) (omega arith) in omega (arith, ap length e))
     ] in
     omega (arith, short)
 
