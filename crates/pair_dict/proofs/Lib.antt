@@ -12,3 +12,4 @@ pub mod FirstLemmas
 pub mod Pending
 pub mod Chain
 pub mod Spelled
+pub mod FirstFault

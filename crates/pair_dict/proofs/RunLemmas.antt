@@ -9,7 +9,7 @@ use Rattle.pair_dict.specs.Codes.{Pairing, bits, code_at}
 use Rattle.pair_dict.specs.Windows.{IsCodeAt, Shows}
 use Rattle.pair_dict.specs.ShortCodes.{two_bytes, AreShortCodes}
 use Rattle.pair_dict.specs.declared.codes.ShortCode.{ShortCode}
-use Rattle.pair_dict.specs.Runs.{IsLeft, IsSkip, IsRunAt, IsRun, AreRuns}
+use Rattle.pair_dict.specs.Runs.{IsLeft, IsSkip, IsRun, AreRuns}
 use Rattle.pair_dict.specs.declared.window.BitBuffer.{BitBuffer}
 use Rattle.pair_dict.specs.declared.runs.Run.{Run}
 use Rattle.pair_dict.proofs.Longest.{code_sound}

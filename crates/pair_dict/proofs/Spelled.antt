@@ -22,11 +22,11 @@ done x = Ok x
 then_ok : {A B : Type 0} (r : Result A DictFault) (f : A → Result B DictFault) (x : A) (y : Result B DictFault) → r ≡ done x → f x ≡ y → (r >>= f) ≡ y
 then_ok r f x y e g = ap (λ s. s >>= f) e ∙ g
 
-lengths_read : (g l : ℕ) (rest : List ℕ) → 1 ≤ l → l ≤ g → g ≤ 32 → lengths_at (g ∷ l ∷ rest) ≡ done ((g, l), rest)
+pub lengths_read : (g l : ℕ) (rest : List ℕ) → 1 ≤ l → l ≤ g → g ≤ 32 → lengths_at (g ∷ l ∷ rest) ≡ done ((g, l), rest)
 unfolding lengths_at
 lengths_read g l rest a b c = rw (le-leb 1 l a, le-leb l g b, le-leb g 32 c) refl
 
-lowest_read : (n : ℕ) (lowest rest : List ℕ) → length lowest ≡ 2 * n → falls (words lowest) ≡ true → lowest_at n (lowest ++ rest) ≡ done (words lowest, rest)
+pub lowest_read : (n : ℕ) (lowest rest : List ℕ) → length lowest ≡ 2 * n → falls (words lowest) ≡ true → lowest_at n (lowest ++ rest) ≡ done (words lowest, rest)
 unfolding lowest_at
 lowest_read n lowest rest len falling =
     let long : 2 * n ≤ length (lowest ++ rest) = omega (arith, length-append lowest rest, len) in
@@ -34,11 +34,11 @@ lowest_read n lowest rest len falling =
     let back : drop (2 * n) (lowest ++ rest) ≡ rest = drop_at lowest rest (2 * n) len in
     rw (le-ltb (length (lowest ++ rest)) (2 * n) long, front, back, falling) refl
 
-count_read : (a b n : ℕ) (rest : List ℕ) → a + 256 * b ≡ n → 1 ≤ n → n ≤ 4095 → count_at (a ∷ b ∷ rest) ≡ done (n, rest)
+pub count_read : (a b n : ℕ) (rest : List ℕ) → a + 256 * b ≡ n → 1 ≤ n → n ≤ 4095 → count_at (a ∷ b ∷ rest) ≡ done (n, rest)
 unfolding count_at
 count_read a b n rest e some few = rw (e, le-leb 1 n some, le-leb n 4095 few) refl
 
-symbols_read : (n : ℕ) (symbols fill rest : List ℕ) → length symbols ≡ 3 * n → length fill ≡ n % 2 → symbols_at n (symbols ++ (fill ++ rest)) ≡ done symbols
+pub symbols_read : (n : ℕ) (symbols fill rest : List ℕ) → length symbols ≡ 3 * n → length fill ≡ n % 2 → symbols_at n (symbols ++ (fill ++ rest)) ≡ done symbols
 unfolding symbols_at
 symbols_read n symbols fill rest len filled =
     let long : 3 * n + n % 2 ≤ length (symbols ++ (fill ++ rest)) = omega (arith, length-append symbols (fill ++ rest), length-append fill rest, len, filled) in
@@ -92,13 +92,13 @@ bind_ok : {A B : Type 0} (r : Result A DictFault) (f : A → Result B DictFault)
 bind_ok (Ok x) f y e = (x, refl, e)
 bind_ok (Err d) f y e = absurd cc
 
-record AreLengths (bytes : List ℕ) (x : (ℕ × ℕ) × List ℕ) : Type 0 where
-  front : bytes ≡ x.0.0 ∷ x.0.1 ∷ x.1
-  shortest : 1 ≤ x.0.1
-  in_order : x.0.1 ≤ x.0.0
-  longest : x.0.0 ≤ 32
+pub record AreLengths (bytes : List ℕ) (x : (ℕ × ℕ) × List ℕ) : Type 0 where
+  pub front : bytes ≡ x.0.0 ∷ x.0.1 ∷ x.1
+  pub shortest : 1 ≤ x.0.1
+  pub in_order : x.0.1 ≤ x.0.0
+  pub longest : x.0.0 ≤ 32
 
-lengths_are : (bytes : List ℕ) (x : (ℕ × ℕ) × List ℕ) → lengths_at bytes ≡ Ok x → AreLengths bytes x
+pub lengths_are : (bytes : List ℕ) (x : (ℕ × ℕ) × List ℕ) → lengths_at bytes ≡ Ok x → AreLengths bytes x
 unfolding lengths_at
 lengths_are [] x e = absurd cc
 lengths_are (a ∷ []) x e = absurd cc
@@ -109,13 +109,13 @@ lengths_are (a ∷ b ∷ rest) x e =
     let q = and_parts _ _ p.1 in
     rw (← same) (record { front = refl; shortest = leb-true 1 b p.0; in_order = leb-true b a q.0; longest = leb-true a 32 q.1 })
 
-record AreLowest (n : ℕ) (bytes : List ℕ) (x : List ℕ × List ℕ) : Type 0 where
-  lowest : words (take (2 * n) bytes) ≡ x.0
-  rest : drop (2 * n) bytes ≡ x.1
-  within : 2 * n ≤ length bytes
-  falling : falls x.0 ≡ true
+pub record AreLowest (n : ℕ) (bytes : List ℕ) (x : List ℕ × List ℕ) : Type 0 where
+  pub lowest : words (take (2 * n) bytes) ≡ x.0
+  pub rest : drop (2 * n) bytes ≡ x.1
+  pub within : 2 * n ≤ length bytes
+  pub falling : falls x.0 ≡ true
 
-lowest_are : (n : ℕ) (bytes : List ℕ) (x : List ℕ × List ℕ) → lowest_at n bytes ≡ Ok x → AreLowest n bytes x
+pub lowest_are : (n : ℕ) (bytes : List ℕ) (x : List ℕ × List ℕ) → lowest_at n bytes ≡ Ok x → AreLowest n bytes x
 unfolding lowest_at
 lowest_are n bytes x e =
     let front = words (take (2 * n) bytes) in
@@ -125,15 +125,15 @@ lowest_are n bytes x e =
     let same = is_ok (front, back) x h.1 in
     rw (← same) (record { lowest = refl; rest = refl; within = ltb-false _ _ g.0; falling = h.0 })
 
-record IsCounted (bytes : List ℕ) (x : ℕ × List ℕ) : Type 0 where
-  low : ℕ
-  high : ℕ
-  front : bytes ≡ low ∷ high ∷ x.1
-  is : low + 256 * high ≡ x.0
-  some : 1 ≤ x.0
-  few : x.0 ≤ 4095
+pub record IsCounted (bytes : List ℕ) (x : ℕ × List ℕ) : Type 0 where
+  pub low : ℕ
+  pub high : ℕ
+  pub front : bytes ≡ low ∷ high ∷ x.1
+  pub is : low + 256 * high ≡ x.0
+  pub some : 1 ≤ x.0
+  pub few : x.0 ≤ 4095
 
-count_is : (bytes : List ℕ) (x : ℕ × List ℕ) → count_at bytes ≡ Ok x → IsCounted bytes x
+pub count_is : (bytes : List ℕ) (x : ℕ × List ℕ) → count_at bytes ≡ Ok x → IsCounted bytes x
 unfolding count_at
 count_is [] x e = absurd cc
 count_is (a ∷ []) x e = absurd cc
@@ -143,11 +143,11 @@ count_is (a ∷ b ∷ rest) x e =
     let p = and_parts _ _ h.0 in
     rw (← same) (record { low = a; high = b; front = refl; is = refl; some = leb-true _ _ p.0; few = leb-true _ _ p.1 })
 
-record AreThere (n : ℕ) (bytes symbols : List ℕ) : Type 0 where
-  front : take (3 * n) bytes ≡ symbols
-  within : 3 * n + n % 2 ≤ length bytes
+pub record AreThere (n : ℕ) (bytes symbols : List ℕ) : Type 0 where
+  pub front : take (3 * n) bytes ≡ symbols
+  pub within : 3 * n + n % 2 ≤ length bytes
 
-symbols_are : (n : ℕ) (bytes symbols : List ℕ) → symbols_at n bytes ≡ Ok symbols → AreThere n bytes symbols
+pub symbols_are : (n : ℕ) (bytes symbols : List ℕ) → symbols_at n bytes ≡ Ok symbols → AreThere n bytes symbols
 unfolding symbols_at
 symbols_are n bytes symbols e =
     let g = else_ok (ltb (length bytes) (3 * n + n % 2)) (Ok (take (3 * n) bytes)) Truncated symbols e in

@@ -9,3 +9,4 @@ pub mod Runs
 pub mod Kept
 pub mod Layouts
 pub mod Beginnings
+pub mod FirstFault

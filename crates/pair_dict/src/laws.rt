@@ -1,6 +1,7 @@
 //! Laws that the definitions keep.
 
 ghost use Rattle.pair_dict.specs.Beginnings.{ReadsWhatIsSpelled};
+ghost use Rattle.pair_dict.specs.FirstFault.{FirstFaultIsTold};
 ghost use Rattle.pair_dict.specs.Symbols.{ValuesAreComputed, ValuesAreTested, ValuesAreUnique};
 
 /// The computed test of symbols says whether each has values, at most 256.
@@ -21,4 +22,10 @@ pub fn values_are_unique()
 /// Reading gives a dictionary and a number of bytes exactly where that many bytes are there and spell it.
 pub fn reads_what_is_spelled()
     ensures { ReadsWhatIsSpelled }
+{}
+
+/// Reading tells the first fault from the left, each part looked at behind the good parts before it; and there is such a fault
+/// only where reading tells it.
+pub fn first_fault_is_told()
+    ensures { FirstFaultIsTold }
 {}

@@ -1,4 +1,4 @@
-use Rattle.std.proofs.Common.{◌≤◌, ◌∙◌, ap, sym, arith, Some}
+use Rattle.std.proofs.Common.{◌∙◌, ap, sym, arith, Some}
 use Rattle.pair_dict.proofs.BlockValues.{left_first, left_next, left_found, left_none}
 use Rattle.pair_dict.proofs.dictionary.Dictionary.value.Goals as goal
 
