@@ -1,5 +1,5 @@
 -- The distance of a position is the one that the five rules give.
-use Rattle.std.proofs.Common.{◌≡◌, ◌∙◌, sym, ap, refl, ℕ, ◌+◌, ◌<◌, ◌≤◌, ◌⊎◌, nat_le, nat_lt, Bool, true, false, ◌||◌, List, Option, Some, None, Result, Ok, Err, if◌then◌else◌, arith}
+use Rattle.std.proofs.Common.{◌≡◌, ◌∙◌, sym, ap, subst, refl, ℕ, ◌+◌, ◌<◌, ◌≤◌, ◌⊎◌, nat_le, nat_lt, Bool, true, false, ◌||◌, List, Option, Some, None, Result, Ok, Err, if◌then◌else◌, arith}
 use Rattle.std.specs.Prelude.{IsTrue, IsFalse, ◌↔◌}
 use Rattle.std.specs.List.{list_any}
 use Rattle.std.proofs.lemmas.Bool.{le-leb, lt-leb, leb-true, leb-false, ltb-false, cases_Bool, true≢false}
@@ -175,8 +175,7 @@ has_key tables p position scope many =
 pub by_five_rules : FewMenHaveTables → DistanceByFiveRules
 by_five_rules few tables p r filed position scope =
     let meets = in_scope tables p filed position scope in
-    ((λ given. meets ∙ is_told tables (dtz_of tables) p r given),
-    (λ e. given_as r (sym meets ∙ e)))
-  where
-    given_as : (r : Reach) → dtz_by tables (dtz_of tables) p ≡ r → IsDistance tables (dtz_of tables) p r
-    given_as r refl = is_given tables (dtz_of tables) p (has_key few p position scope)
+    (
+      (λ given. meets ∙ is_told tables (dtz_of tables) p r given),
+      (λ e. subst (IsDistance tables (dtz_of tables) p) (sym meets ∙ e) (is_given tables (dtz_of tables) p (has_key few p position scope))),
+    )
