@@ -243,6 +243,53 @@ fn there_are_up_to_4095_symbols(rt: HostRuntime) {
     check_spelled(&rt, rt.alloc(), &bytes, &[0x00, 0x77, 0xEF], &two_runs());
 }
 
+/// Eight times the pair of the symbol before with itself, above a leaf of value 9: symbol k has the value 2^k times, and symbol 8
+/// has the code of one bit.
+const DOUBLED: [(u16, u16); 9] = [
+    (9, 4095),
+    (0, 0),
+    (1, 1),
+    (2, 2),
+    (3, 3),
+    (4, 4),
+    (5, 5),
+    (6, 6),
+    (7, 7),
+];
+
+fn are_nines(values: &[u16]) -> bool {
+    values.iter().all(|value| *value == 9)
+}
+
+/// The block decoded to so many values is nines, so many of them as it has.
+fn check_nines(
+    rt: &impl Abort,
+    alloc: Global,
+    dictionary: &Dictionary,
+    block: &[u8],
+    asked: u32,
+    wanted: usize,
+) {
+    let values = decoded(rt, alloc, dictionary, block, asked);
+    check_same(rt, values.len(), wanted, "values");
+    check_same(rt, are_nines(values.as_slice()), true, "nines");
+}
+
+/// 256 symbols of 256 values each: as many values as a block may have.
+#[test]
+fn blocks_have_up_to_65536_values(rt: HostRuntime) {
+    let alloc = rt.alloc();
+    let bytes = spell(&rt, alloc, [8, 1], &[8, 7, 6, 5, 4, 3, 2, 0], &DOUBLED);
+    let (dictionary, _) = dictionary(&rt, alloc, &bytes);
+    let block = [0xFF; 32];
+    check_nines(&rt, alloc, &dictionary, &block, 65536, 65536);
+    check_nines(&rt, alloc, &dictionary, &block, 65535, 65535);
+    check_nines(&rt, alloc, &dictionary, &block, 1, 1);
+    check_nines(&rt, alloc, &dictionary, &block, 0, 0);
+    check_same(&rt, value(&dictionary, &block, 65535), Ok(9), "last");
+    check_same(&rt, value(&dictionary, &block, 65536), Err(Damaged), "past");
+}
+
 /// Bytes, each with its first fault.
 const REFUSALS: [(&[u8], DictFault); 9] = [
     (&[2], DictFault::Truncated),
