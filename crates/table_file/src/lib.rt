@@ -19,6 +19,7 @@ mod reading;
 mod size_record;
 mod sparse;
 mod spots;
+mod steps;
 mod table;
 
 pub use fault::TableFault;
@@ -29,4 +30,5 @@ pub use outcome::Outcome;
 pub use pair_dict::Damaged;
 pub use plan::{Content, MapsPlan, PairsPlan, PartPlan, Plan};
 pub use spots::Spot;
+pub use steps::Steps;
 pub use table::{Table, open};
