@@ -25,7 +25,7 @@ mod table;
 pub use fault::TableFault;
 pub use forging::{ForgeFault, forge};
 pub use kind::Kind;
-pub use laws::{a_side_is_stored, reads_what_is_laid_out};
+pub use laws::{a_side_is_stored, reads_what_is_laid_out, tells_first_fault};
 pub use outcome::Outcome;
 pub use pair_dict::Damaged;
 pub use plan::{Content, MapsPlan, PairsPlan, PartPlan, Plan};

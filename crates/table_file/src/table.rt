@@ -12,12 +12,13 @@ ghost use Rattle.table_file.specs.Sections.{AreShaped, AreSized};
 ghost use Rattle.table_file.specs.Checked.{IsChecked, IsViewOf};
 ghost use Rattle.table_file.specs.Tables.{Contents, head_at, sections_at, parts_at, table_at, part_count, place_of, part_of, lengths_of, blocks_of, shape_of, flags_of, span_of, IsFile};
 ghost use Rattle.table_file.specs.Layouts.{IsLayout};
+ghost use Rattle.table_file.specs.FirstFaults.{IsFirstFault};
 ghost use Rattle.table_file.specs.Expansion.{expansion, entry_at, real_blocks, values_of, IsSpot, IsRealSpot, IsPast};
 ghost use Rattle.table_file.specs.Distances.{file_flags, file_maps, mapped_value, stores, distance};
 
 use crate::fault::TableFault;
 use crate::kind::{Kind, title};
-use crate::laws::reads_what_is_laid_out;
+use crate::laws::{reads_what_is_laid_out, tells_first_fault};
 use crate::maps::{Maps, all_maps};
 use crate::material::{files, indices, is_symmetric, sides};
 use crate::outcome::{Outcome, counts_moves, plies};
@@ -161,9 +162,11 @@ pub fn open<'a>(alloc: Global, name: &[u8], file: &'a [u8]) -> Result<Table<'a>,
     ensures is { Gives (λ x. x) result (table_at name.now file.now) }
     ensures found { IfOk result (λ t. IsLayout name.now file.now t) }
     ensures only { IfErr result (λ e. e ≢ OutOfMemory → (t : Contents) → IsLayout name.now file.now t → ⊥) }
+    ensures first { IfErr result (λ e. e ≢ OutOfMemory → IsFirstFault name.now file.now e) }
     ensures memory { IfErr result (λ e. e ≡ OutOfMemory → IsOk (head_at name.now file.now)) }
 {
     reads_what_is_laid_out();
+    tells_first_fault();
     match head(name, file) {
         Ok((title, rest)) => with_parts(alloc, title.0, title.1, rest),
         Err(fault) => Err(fault),
