@@ -3,8 +3,9 @@
 ghost use Rattle.std.specs.Prelude.{◌≤◌};
 
 use crate::comparing::check_same;
-use crate::files::queen_file;
+use crate::files::{queen_file, queens_file};
 use crate::positions::position_of;
+use board_core::Verdict;
 use judge_core::Set;
 use std::alloc::Global;
 use std::process::Abort;
@@ -119,4 +120,44 @@ fn tables_with_equal_blocks_are_told_apart(rt: HostRuntime) {
         let told = values(&rt, rt.alloc(), &mut set, &ROWS[0]);
         check_same(&rt, told.0 as i16, 2 * (told.1 as i16), ROWS[0][0]);
     }
+}
+
+/// Three queens, which are a draw by the table that is forged for them.
+const QUEENS: &str = "7k/8/8/8/8/8/8/KQQQ4 w - - 0 1";
+
+/// A set of the three queens' table that may keep so many blocks.
+fn queens_set<'a>(rt: &impl Abort, alloc: Global, file: &'a [u8], cache: usize) -> Set<'a>
+    requires some { 1 ≤ cache }
+    requires most { cache ≤ 4096 }
+{
+    let mut set = Set::new(alloc, cache).expect(rt, "a set");
+    set.add(opened(rt, alloc, "KQQQvK.rtbw", file))
+        .expect(rt, "three queens");
+    set
+}
+
+fn verdict(rt: &impl Abort, alloc: Global, set: &mut Set<'_>, row: &str) -> Option<Verdict> {
+    set.judge(alloc, &position_of(rt, row)).expect(rt, row)
+}
+
+/// The same draw over and over, until its block is decoded and read again, by a set that may keep so many blocks.
+fn check_queens(rt: &impl Abort, alloc: Global, file: &[u8], cache: usize)
+    requires some { 1 ≤ cache }
+    requires most { cache ≤ 4096 }
+{
+    let mut set = queens_set(rt, alloc, file, cache);
+    for _ in 0..300u16 {
+        check_same(rt, value(rt, alloc, &mut set, QUEENS), 0, QUEENS);
+    }
+    let told = verdict(rt, alloc, &mut set, QUEENS);
+    check_same(rt, told, Some(Verdict::TableDraw), QUEENS);
+    check_same(rt, set.kept_blocks(), 1, QUEENS);
+}
+
+#[test]
+fn blocks_of_65536_values_are_kept(rt: HostRuntime) {
+    let file = queens_file(&rt, rt.alloc());
+    check_queens(&rt, rt.alloc(), &file, 1);
+    check_queens(&rt, rt.alloc(), &file, 2);
+    check_queens(&rt, rt.alloc(), &file, 64);
 }

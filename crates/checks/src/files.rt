@@ -197,3 +197,37 @@ fn queen(alloc: Global) -> Result<Vec<u8>, AllocError> {
 pub(crate) fn queen_file(rt: &impl Abort, alloc: Global) -> Vec<u8> {
     queen(alloc).expect(rt, "memory")
 }
+
+/// The bytes of a table of three queens before its sparse entries. Side 0 has 267 blocks of 32 bytes and spans of 65536
+/// values; its nine symbols are the value 2, and each other one the symbol before it twice, the last by a code of one bit.
+/// Side 1 is the single value 2.
+const QUEENS_BLOCKS: [u8; 70] = [
+    0x71, 0xE8, 0x23, 0x5D, 0x01, 0x00, 0x66, 0xEE, 0x55, 0x55, 0x55, 0x00, 0x00, 0x05, 0x10, 0x00,
+    0x0B, 0x01, 0x00, 0x00, 0x08, 0x01, 0x08, 0x00, 0x07, 0x00, 0x06, 0x00, 0x05, 0x00, 0x04, 0x00,
+    0x03, 0x00, 0x02, 0x00, 0x00, 0x00, 0x09, 0x00, 0x02, 0xF0, 0xFF, 0x00, 0x00, 0x00, 0x01, 0x10,
+    0x00, 0x02, 0x20, 0x00, 0x03, 0x30, 0x00, 0x04, 0x40, 0x00, 0x05, 0x50, 0x00, 0x06, 0x60, 0x00,
+    0x07, 0x70, 0x00, 0x00, 0x80, 0x02,
+];
+
+/// The whole table of three queens, 10832 bytes: each block has 256 times the last symbol, 65536 values, and the last block
+/// is cut to 40264.
+fn queens(alloc: Global) -> Result<Vec<u8>, AllocError> {
+    let mut bytes = QUEENS_BLOCKS.to_vec(alloc)?;
+    for block in 0u16..267 {
+        bytes.extend_from_slice(&block.to_le_bytes())?;
+        bytes.extend_from_slice(&[0, 0, 0, 0x80])?;
+    }
+    for _ in 0..266 {
+        bytes.extend_from_slice(&[0xFF, 0xFF])?;
+    }
+    bytes.extend_from_slice(&40263u16.to_le_bytes())?;
+    bytes.resize(2240, 0)?;
+    bytes.resize(10784, 0xFF)?;
+    bytes.resize(10832, 0)?;
+    Ok(bytes)
+}
+
+/// The whole table of three queens, where there is memory.
+pub(crate) fn queens_file(rt: &impl Abort, alloc: Global) -> Vec<u8> {
+    queens(alloc).expect(rt, "memory")
+}

@@ -1,7 +1,8 @@
 //! The worked files, first faults, values in blocks, and distances by flags and maps.
 
-ghost use Rattle.std.specs.Prelude.{◌<◌};
+ghost use Rattle.std.specs.Prelude.{◌≡◌, ◌<◌, IfOk};
 ghost use Rattle.table_file.specs.Tables.{IsFile};
+ghost use Rattle.table_file.specs.Expansion.{IsRealSpot};
 
 use crate::comparing::{check_bytes, check_same};
 use crate::files::{
@@ -9,8 +10,10 @@ use crate::files::{
 };
 use place_index::Shape;
 use std::alloc::{AllocError, Global};
+use std::marker::Brand;
 use std::process::Abort;
-use table_file::{Damaged, Kind, Outcome, Spot, Table, TableFault, open};
+use std::sync::ledger::{Blank, Ledger};
+use table_file::{Damaged, Kind, Outcome, Spot, Steps, Table, TableFault, open};
 
 /// A file as a table, or its fault. The functions down to `distance` show a table to the tests without its contracts.
 fn opened<'a>(alloc: Global, name: &str, file: &'a [u8]) -> Result<Table<'a>, TableFault> {
@@ -59,15 +62,35 @@ fn value(
     table.value(side, file, index)
 }
 
+/// Where a value stands, by a count of its own.
+fn spot_by<L: Ledger>(
+    table: &Table<'_>,
+    side: u8,
+    file: u8,
+    index: u64,
+    blank: Blank,
+) -> Result<Spot, Damaged>
+    requires side { side < 2 }
+    requires file { IsFile table.now.material file }
+    requires name { blank.name ≡ L.name }
+    requires parts { blank.parts ≡ L.parts }
+    requires some { 0 < blank.parts }
+    ensures { IfOk result (λ s. IsRealSpot table.now side file s) }
+{
+    table.locate(side, file, index, &mut Steps::<L>::new(blank))
+}
+
 fn spot(
     rt: &impl Abort,
     table: &Table<'_>,
     side: u8,
     file: u8,
     index: u64,
-) -> Result<Spot, Damaged> {
+) -> Result<Spot, Damaged>
+    ensures { IfOk result (λ s. IsRealSpot table.now side file s) }
+{
     check_part(rt, table, side, file);
-    table.locate(side, file, index)
+    spot_by::<Brand>(table, side, file, index, Blank::new(1))
 }
 
 /// Whether a DTZ table stores a side.
@@ -310,7 +333,7 @@ fn check_spots(rt: &impl Abort, table: &Table<'_>) {
 
 /// The values of the block in which an index stands.
 fn unpacked(rt: &impl Abort, alloc: Global, table: &Table<'_>, index: u64) -> Vec<u16> {
-    let Ok(Spot::At { block, .. }) = table.locate(0, 0, index) else {
+    let Ok(Spot::At { block, .. }) = spot(rt, table, 0, 0, index) else {
         return Vec::new(alloc);
     };
     table.unpack(alloc, 0, 0, block).expect(rt, "memory")

@@ -1,15 +1,48 @@
 //! Reading tables through decoded blocks.
 
-ghost use Rattle.std.specs.Prelude.{◌≡◌, ◌<◌, ℕ, Some, None, IfSome, slice_index_or};
+ghost use Rattle.std.specs.Prelude.{◌≡◌, ◌<◌, ℕ, Some, None, IfSome, IfOk, OnErr, slice_index_or};
 ghost use Rattle.table_file.specs.declared.spots.Spot.TheVariants.{At};
 ghost use Rattle.table_file.specs.Tables.{IsFile};
-ghost use Rattle.table_file.specs.Expansion.{expansion, entry_at, real_blocks, IsSpot};
+ghost use Rattle.table_file.specs.Expansion.{expansion, entry_at, real_blocks, IsSpot, IsRealSpot, IsPast};
 ghost use Rattle.judge_core.specs.Blocks.{AreRight, IsRight};
 
 use crate::blocks::{Asking, BlockKey, Blocks};
 use crate::shelf::Shelf;
 use std::alloc::Global;
-use table_file::{Spot, Table};
+use std::marker::Brand;
+use std::sync::ledger::{Blank, Ledger};
+use table_file::{Damaged, Spot, Steps, Table};
+
+/// Where the value of an index stands, by a count of its own.
+fn spot_by<L: Ledger>(
+    table: &Table<'_>,
+    side: u8,
+    file: u8,
+    index: u64,
+    blank: Blank,
+) -> Result<Spot, Damaged>
+    requires side { side < 2 }
+    requires file { IsFile table.now.material file }
+    requires name { blank.name ≡ L.name }
+    requires parts { blank.parts ≡ L.parts }
+    requires some { 0 < blank.parts }
+    ensures found { IfOk result (λ s. IsSpot table.now side file index s) }
+    ensures real { IfOk result (λ s. IsRealSpot table.now side file s) }
+    ensures damaged { OnErr result (IsPast (expansion table.now side file) index) }
+{
+    table.locate(side, file, index, &mut Steps::<L>::new(blank))
+}
+
+/// Where the value of an index stands.
+fn spot_of(table: &Table<'_>, side: u8, file: u8, index: u64) -> Result<Spot, Damaged>
+    requires side { side < 2 }
+    requires file { IsFile table.now.material file }
+    ensures found { IfOk result (λ s. IsSpot table.now side file index s) }
+    ensures real { IfOk result (λ s. IsRealSpot table.now side file s) }
+    ensures damaged { OnErr result (IsPast (expansion table.now side file) index) }
+{
+    spot_by::<Brand>(table, side, file, index, Blank::new(1))
+}
 
 impl<'a> Shelf<'a> {
     /// The value of a block at an offset, where the block is kept; none of the inner kind where it is damaged.
@@ -97,7 +130,7 @@ impl<'a> Shelf<'a> {
         ensures is { result ≡ entry_at (expansion table.now side file) index }
         ensures right { AreRight self.now blocks.new }
     {
-        match table.locate(side, file, index) {
+        match spot_of(table, side, file, index) {
             Ok(Spot::Single(value)) => Some(value),
             Ok(Spot::At { block, offset }) => {
                 let key = BlockKey {

@@ -110,12 +110,12 @@ all_maps_agrees body Dtz parts even = record {
 -- ---- sections
 
 -- where a section starts
-start_of : (section : Section) (body : List ℕ) (p q : ℕ) → length body % 64 ≡ 0 → p ≤ length body → IsSectionStart section p q → (q ≤ length body) × (begun section (drop p body) ≡ drop q body)
+pub start_of : (section : Section) (body : List ℕ) (p q : ℕ) → length body % 64 ≡ 0 → p ≤ length body → IsSectionStart section p q → (q ≤ length body) × (begun section (drop p body) ≡ drop q body)
 start_of Entries body p q even le h = (omega (arith, le, h), ap (λ k. drop k body) (sym h))
 start_of Lengths body p q even le h = (omega (arith, le, h), ap (λ k. drop k body) (sym h))
 start_of Blocks body p q even le h = raise_to_64 body p q even le h
 
-has_start : (section : Section) (body : List ℕ) (p : ℕ) → length body % 64 ≡ 0 → p ≤ length body → (q : ℕ) × IsSectionStart section p q
+pub has_start : (section : Section) (body : List ℕ) (p : ℕ) → length body % 64 ≡ 0 → p ≤ length body → (q : ℕ) × IsSectionStart section p q
 has_start Entries body p even le = (p, refl)
 has_start Lengths body p even le = (p, refl)
 has_start Blocks body p even le = (p + length (drop p body) % 64, raised_64 body p even le)

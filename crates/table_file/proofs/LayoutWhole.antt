@@ -46,15 +46,15 @@ title_ok (suc n) name x e =
       ]
     ]
 
-title_tells : (name : List ℕ) (x : Kind × ℕ) → title_of name ≡ Ok x → (x.1 < 145) × (name ≡ file_name x.0 x.1)
+pub title_tells : (name : List ℕ) (x : Kind × ℕ) → title_of name ≡ Ok x → (x.1 < 145) × (name ≡ file_name x.0 x.1)
 unfolding title_of
 title_tells name x e = title_ok 145 name x e
 
-body_reads : (file : List ℕ) → 80 ≤ length file → length file % 64 ≡ 16 → body_of file ≡ Ok (take (length file - 16) file)
+pub body_reads : (file : List ℕ) → 80 ≤ length file → length file % 64 ≡ 16 → body_of file ≡ Ok (take (length file - 16) file)
 unfolding body_of
 body_reads file long sized = rw (le-ltb (length file) 80 long, eq-eqb (length file % 64) 16 sized) refl
 
-body_tells : (file body : List ℕ) → body_of file ≡ Ok body → (80 ≤ length file) × (length file % 64 ≡ 16) × (body ≡ take (length file - 16) file)
+pub body_tells : (file body : List ℕ) → body_of file ≡ Ok body → (80 ≤ length file) × (length file % 64 ≡ 16) × (body ≡ take (length file - 16) file)
 unfolding body_of
 body_tells file body e =
     elim (cases_lt (length file) 80) [
@@ -65,13 +65,13 @@ body_tells file body e =
       ]
     ]
 
-magic_reads : (kind : Kind) (body : List ℕ) → IsNumber 4 body 0 (magic_of kind) 4 → magic_at kind body ≡ Ok (drop 4 body)
+pub magic_reads : (kind : Kind) (body : List ℕ) → IsNumber 4 body 0 (magic_of kind) 4 → magic_at kind body ≡ Ok (drop 4 body)
 unfolding magic_at
 magic_reads kind body h =
     let a = (number_agrees body).reads 0 (magic_of kind) 4 (omega arith) h in
     rw (a.1, eq-eqb (magic_of kind) (magic_of kind) refl) refl
 
-magic_tells : (kind : Kind) (body rest : List ℕ) → magic_at kind body ≡ Ok rest → IsNumber 4 body 0 (magic_of kind) 4 × (rest ≡ drop 4 body)
+pub magic_tells : (kind : Kind) (body rest : List ℕ) → magic_at kind body ≡ Ok rest → IsNumber 4 body 0 (magic_of kind) 4 × (rest ≡ drop 4 body)
 unfolding magic_at
 magic_tells kind body rest e =
     let a = bind_ok _ _ rest e in
@@ -84,13 +84,13 @@ magic_tells kind body rest e =
           (record { within = a1.1.within; is = sym is ∙ a1.1.is; next = refl }, sym same ∙ a1.3 ∙ ap (λ k. drop k body) four)
     ]
 
-flags_reads : (kind : Kind) (m : ℕ) (body : List ℕ) (flags : ℕ) → 4 ≤ length body → IsByte body 4 flags 5 → flags_agree kind m flags ≡ true → flags_at kind m (drop 4 body) ≡ Ok (drop 5 body)
+pub flags_reads : (kind : Kind) (m : ℕ) (body : List ℕ) (flags : ℕ) → 4 ≤ length body → IsByte body 4 flags 5 → flags_agree kind m flags ≡ true → flags_at kind m (drop 4 body) ≡ Ok (drop 5 body)
 unfolding flags_at
 flags_reads kind m body flags le h agree =
     let a = (byte_agrees body).reads 4 flags 5 le h in
     rw (a.1, agree) refl
 
-flags_tells : (kind : Kind) (m : ℕ) (body rest : List ℕ) → 4 ≤ length body → flags_at kind m (drop 4 body) ≡ Ok rest → (flags : ℕ) × IsByte body 4 flags 5 × (flags_agree kind m flags ≡ true) × (rest ≡ drop 5 body)
+pub flags_tells : (kind : Kind) (m : ℕ) (body rest : List ℕ) → 4 ≤ length body → flags_at kind m (drop 4 body) ≡ Ok rest → (flags : ℕ) × IsByte body 4 flags 5 × (flags_agree kind m flags ≡ true) × (rest ≡ drop 5 body)
 unfolding flags_at
 flags_tells kind m body rest le e =
     let a = bind_ok _ _ rest e in
@@ -104,19 +104,19 @@ flags_tells kind m body rest le e =
     ]
 
 -- a body is long enough for magic and flags, and a multiple of 64
-length_body : (file body : List ℕ) → 80 ≤ length file → length file % 64 ≡ 16 → body ≡ take (length file - 16) file → (64 ≤ length body) × (length body % 64 ≡ 0)
+pub length_body : (file body : List ℕ) → 80 ≤ length file → length file % 64 ≡ 16 → body ≡ take (length file - 16) file → (64 ≤ length body) × (length body % 64 ≡ 0)
 length_body file body long sized is =
     let n : length body ≡ length file - 16 = omega (arith, ap length is, length-take (length file - 16) file) in
     (omega (arith, n, long), omega (arith, n, long, sized))
 
-head_reads : TablesAreNumbered → (name file : List ℕ) (kind : Kind) (m : ℕ) (body : List ℕ) → IsHead name file kind m body → head_at name file ≡ Ok ((kind, m), drop 5 body)
+pub head_reads : TablesAreNumbered → (name file : List ℕ) (kind : Kind) (m : ℕ) (body : List ℕ) → IsHead name file kind m body → head_at name file ≡ Ok ((kind, m), drop 5 body)
 unfolding head_at
 head_reads law name file kind m body h =
     let size = length_body file body h.long h.sized h.body_is in
     let is : body_of file ≡ Ok body = body_reads file h.long h.sized ∙ ap (λ (b : List ℕ). done b) (sym h.body_is) in
     rw (title_is law kind m name h.known h.named, is, magic_reads kind body h.magic, flags_reads kind m body h.flags (omega (arith, size.0)) h.flags_are h.flags_agree_with_name) refl
 
-head_tells : (name file : List ℕ) (x : (Kind × ℕ) × List ℕ) → head_at name file ≡ Ok x → (body : List ℕ) × IsHead name file x.0.0 x.0.1 body × (x.1 ≡ drop 5 body)
+pub head_tells : (name file : List ℕ) (x : (Kind × ℕ) × List ℕ) → head_at name file ≡ Ok x → (body : List ℕ) × IsHead name file x.0.0 x.0.1 body × (x.1 ≡ drop 5 body)
 unfolding head_at
 head_tells name file x e =
     let t = bind_ok _ _ x e in
@@ -134,11 +134,11 @@ head_tells name file x e =
 
 -- ---- the parts
 
-abbrev setups_agree : (body : List ℕ) (kind : Kind) (m : ℕ) → m < 145
+abbrev pub setups_agree : (body : List ℕ) (kind : Kind) (m : ℕ) → m < 145
     → Agrees body (each_at (setup_at m (sides_of kind m)) (range_with_len 0 (part_count kind m))) (λ p shapes q. Each (λ k. IsSetup m (sides_of kind m) k body) (range_with_len 0 (part_count kind m)) p shapes q)
 setups_agree body kind m known = each_agrees body (setup_at m (sides_of kind m)) (λ k. IsSetup m (sides_of kind m) k body) (λ k. setup_agrees body m (sides_of kind m) k known) (range_with_len 0 (part_count kind m))
 
-abbrev records_agree : ReadsWhatIsSpelled → (body : List ℕ) (kind : Kind) (shapes : List Layout) → Agrees body (each_at (part_at kind) shapes) (λ p parts q. Each (λ shape. IsPart kind shape body) shapes p parts q)
+abbrev pub records_agree : ReadsWhatIsSpelled → (body : List ℕ) (kind : Kind) (shapes : List Layout) → Agrees body (each_at (part_at kind) shapes) (λ p parts q. Each (λ shape. IsPart kind shape body) shapes p parts q)
 records_agree law body kind shapes = each_agrees body (part_at kind) (λ shape. IsPart kind shape body) (λ shape. part_agrees law body kind shape) shapes
 
 sections_read : (body : List ℕ) (t : Contents) (p a b q : ℕ) → length body % 64 ≡ 0 → p ≤ length body

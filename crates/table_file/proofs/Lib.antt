@@ -14,6 +14,9 @@ pub mod Agreeing
 pub mod LayoutSteps
 pub mod LayoutSections
 pub mod LayoutWhole
+pub mod Missing
+pub mod MissingParts
+pub mod MissingWhole
 pub mod Refusing
 pub mod PartsRead
 pub mod MapEntries

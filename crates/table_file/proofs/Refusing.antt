@@ -17,7 +17,7 @@ after_head : (name file : List ℕ) (kind : Kind) (m : ℕ) (rest : List ℕ) �
 unfolding table_at
 after_head name file kind m rest e = rw e refl
 
-bad_head : (name file : List ℕ) (e : TableFault) → head_at name file ≡ Err e → table_at name file ≡ Err e
+pub bad_head : (name file : List ℕ) (e : TableFault) → head_at name file ≡ Err e → table_at name file ≡ Err e
 unfolding table_at
 bad_head name file e bad = rw bad refl
 

@@ -18,8 +18,8 @@ use Rattle.table_file.specs.declared.spots.View.{View}
 use Rattle.table_file.specs.declared.kind.Kind.{Kind}
 use Rattle.table_file.specs.declared.kind.Kind.TheVariants.{Wdl, Dtz}
 use Rattle.place_index.specs.Material.{white_pawns, black_pawns}
-use Rattle.place_index.specs.Shape.{has_pawns}
-use Rattle.table_file.specs.Tables.{Contents, IsFile, part_count}
+use Rattle.place_index.specs.Shape.{Layout, has_pawns, size_of}
+use Rattle.table_file.specs.Tables.{Contents, IsFile, part_count, coding_span, shape_of, span_of}
 use Rattle.table_file.specs.Checked.{IsViewOf}
 use Rattle.table_file.specs.Expansion.{expanded, expansion, IsSpotOf, IsSpot, IsShort, IsRealSpot, blocks_in, real_blocks, values_in, values_of}
 
@@ -81,6 +81,14 @@ view_real t side file block v h lt = rw h.coding (rw h.found at lt)
 real_view : (t : Contents) (side file block : ℕ) (v : View) → IsViewOf t side file v → block < blocks_in v.coding.now → block < real_blocks t side file
 unfolding real_blocks
 real_view t side file block v h lt = rw h.found (rw h.coding at lt)
+
+-- steps within half a span of a view are so within that of its side and file
+pub view_steps : (t : Contents) (side file index before after : ℕ) (v : View) → IsViewOf t side file v → (index < v.size → after ≤ before + coding_span v.coding.now / 2 + 65536)
+    → (shape : Layout) → shape_of t side file ≡ Some shape → index < size_of shape → after ≤ before + span_of t side file / 2 + 65536
+unfolding indices
+view_steps t side file index before after v h cost shape is lt =
+    let same : h.part.shape ≡ shape = some_is h.part.shape shape (rw h.found at is) in
+    rw h.found (rw h.coding at (cost (rw (h.size, same) lt)))
 
 pub view_values : (t : Contents) (side file block : ℕ) (v : View) → IsViewOf t side file v → values_in v.coding.now v.lengths.now v.blocks.now block ≡ values_of t side file block
 unfolding values_of

@@ -4,7 +4,7 @@ use Rattle.place_index.specs.Shape.{greatest_size}
 use Rattle.table_file.specs.declared.parts.Section.TheVariants.{Entries, Lengths, Blocks}
 use Rattle.table_file.specs.declared.spots.View.{View}
 use Rattle.table_file.specs.Figures.{Figures, span, points}
-use Rattle.table_file.specs.Files.{section_size}
+use Rattle.table_file.specs.Files.{section_size, indices}
 use Rattle.table_file.specs.Sparse.{sizes_of, are_entries, fits_in}
 use Rattle.table_file.specs.Tables.{Contents, part_of, lengths_of, blocks_of}
 use Rattle.table_file.specs.declared.parts.Part.{Part}
@@ -30,6 +30,7 @@ pub record IsChecked (v : View) : Type 0 where
 pub record IsViewOf (t : Contents) (side file : ℕ) (v : View) : Type 0 where
   pub part : Part
   pub found : part_of t side file ≡ Some part
+  pub size : v.size ≡ indices part.shape
   pub coding : v.coding.now ≡ part.size_record.coding
   pub lengths : v.lengths.now ≡ lengths_of t side file
   pub blocks : v.blocks.now ≡ blocks_of t side file

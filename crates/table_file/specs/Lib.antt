@@ -15,6 +15,7 @@ pub mod Checked
 pub mod Expansion
 pub mod Distances
 pub mod Layouts
+pub mod FirstFaults
 pub mod Opened
 pub mod Plan
 pub mod PlannedFile

@@ -6,10 +6,13 @@ use Rattle.place_index.specs.Shape.{Layout}
 use Rattle.table_file.specs.declared.fault.TableFault.{TableFault}
 use Rattle.table_file.specs.declared.fault.TableFault.TheVariants.{BadSparse}
 use Rattle.table_file.specs.declared.kind.Kind.{Kind}
+use Rattle.table_file.specs.declared.size_record.Coding.{Coding}
+use Rattle.table_file.specs.declared.size_record.Coding.TheVariants.{Single, Pairs}
 use Rattle.table_file.specs.declared.parts.Part.{Part}
 use Rattle.table_file.specs.declared.parts.Section.TheVariants.{Entries, Lengths, Blocks}
 use Rattle.table_file.specs.Reading.{◌>>=◌, each_at, risen}
 use Rattle.table_file.specs.Names.{title_of}
+use Rattle.table_file.specs.Figures.{span}
 use Rattle.table_file.specs.Files.{sides_of, files_of, body_of, magic_at, flags_at, setup_at, part_at, section_at}
 use Rattle.table_file.specs.Maps.{ValueMaps, all_maps_at}
 use Rattle.table_file.specs.Sparse.{all_fit}
@@ -96,3 +99,16 @@ flags_in (Some p) = Some p.size_record.flags
 -- the flags of the size record for a side and a file
 abbrev pub flags_of : Contents → ℕ → ℕ → Option ℕ
 flags_of t side file = flags_in (part_of t side file)
+
+-- how many values lie between two sparse entries of a part; one of a single value has no entry
+abbrev pub coding_span : Coding → ℕ
+coding_span (Single v) = 0
+coding_span (Pairs c) = span c
+
+abbrev pub span_in : Option Part → ℕ
+span_in None = 0
+span_in (Some p) = coding_span p.size_record.coding
+
+-- the span for a side and a file
+abbrev pub span_of : Contents → ℕ → ℕ → ℕ
+span_of t side file = span_in (part_of t side file)

@@ -19,14 +19,16 @@ mod reading;
 mod size_record;
 mod sparse;
 mod spots;
+mod steps;
 mod table;
 
 pub use fault::TableFault;
 pub use forging::{ForgeFault, forge};
 pub use kind::Kind;
-pub use laws::{a_side_is_stored, reads_what_is_laid_out};
+pub use laws::{a_side_is_stored, reads_what_is_laid_out, tells_first_fault};
 pub use outcome::Outcome;
 pub use pair_dict::Damaged;
 pub use plan::{Content, MapsPlan, PairsPlan, PartPlan, Plan};
 pub use spots::Spot;
+pub use steps::Steps;
 pub use table::{Table, open};

@@ -1,18 +1,21 @@
 //! Where values stand among the blocks, and reading them.
 
-ghost use Rattle.std.specs.Prelude.{◌≡◌, ◌+◌, ◌-◌, ◌*◌, ◌/◌, ◌^◌, ◌<◌, ◌≤◌, ℕ, length, slice_index, take, drop, IfOk, OnErr, Some, None};
+ghost use Rattle.std.specs.Prelude.{◌≡◌, ◌+◌, ◌-◌, ◌*◌, ◌/◌, ◌^◌, ◌<◌, ◌≤◌, ◌⊎◌, ℕ, length, slice_index, take, drop, IfOk, OnErr, Some, None};
 ghost use Rattle.place_index.specs.Shape.{greatest_size};
 ghost use Rattle.table_file.specs.Figures.{block_size, span, points};
 ghost use Rattle.table_file.specs.Sparse.{are_entries, entry_block, entry_offset, sizes_of, values_before, IsSpotIn};
 ghost use Rattle.table_file.specs.Expansion.{entry_at, expanded, values_in, blocks_in, IsSpotOf, IsShort, IsPast};
 ghost use Rattle.table_file.specs.Checked.{IsChecked, AreChecked};
+ghost use Rattle.table_file.specs.Tables.{coding_span};
 
 use crate::codes::Codes;
-use crate::reading::word_at;
 use crate::size_record::Coding;
 use crate::sparse::entry;
+use crate::steps::{Steps, size_at};
 use pair_dict::Damaged;
 use std::alloc::{AllocError, Global};
+use std::marker::Brand;
+use std::sync::ledger::{Blank, Ledger};
 
 /// Where a value of a table stands.
 #[derive(Clone, Copy, Debug, PartialEq, Eq)]
@@ -41,27 +44,24 @@ pub(crate) struct View<'t, 'a> {
     pub(crate) blocks: &'t [u8],
 }
 
-/// How many values a block holds.
-pub(crate) fn size_at(lengths: &[u8], block: usize) -> usize
-    requires { block < length lengths.now / 2 }
-    ensures size { result ≡ slice_index (sizes_of lengths.now) block }
-    ensures some { 1 ≤ result }
-    ensures short { result ≤ 65536 }
-{
-    word_at(lengths, 2 * block) as usize + 1
-}
-
 /// Steps on from a place over whole blocks, to the block that holds the offset, or past the real blocks.
-fn step_on(lengths: &[u8], real: usize, place: Place) -> Result<Place, Damaged>
+fn step_on<L: Ledger>(
+    lengths: &[u8],
+    real: usize,
+    place: Place,
+    steps: &mut Steps<L>,
+) -> Result<Place, Damaged>
     requires real { real ≤ length lengths.now / 2 }
     ensures found { IfOk result (λ s. IsSpotIn (sizes_of lengths.now) real (values_before (sizes_of lengths.now) place.block + place.offset) s.block s.offset) }
     ensures short { IfOk result (λ s. s.offset < 65536) }
     ensures damaged { OnErr result (values_before (sizes_of lengths.now) real ≤ values_before (sizes_of lengths.now) place.block + place.offset) }
+    ensures cost { steps.new ≤ steps.old + place.offset + 1 }
+    ensures near { place.offset < slice_index (sizes_of lengths.now) place.block → steps.new ≤ steps.old + 1 }
 {
     let mut block = place.block;
     let mut offset = place.offset;
     'steps: while block < real {
-        let size = size_at(lengths, block);
+        let size = steps.length(lengths, block) as usize + 1;
         if offset < size {
             return Ok(Place { block, offset });
         }
@@ -71,18 +71,19 @@ fn step_on(lengths: &[u8], real: usize, place: Place) -> Result<Place, Damaged>
     Err(Damaged)
 }
 
-/// Steps back from a place by a number of values, over whole blocks.
-fn step_back(lengths: &[u8], place: Place, back: usize) -> Place
+/// Steps back from a place by a number of values, over whole blocks. Where it steps at all, the offset is within its block.
+fn step_back<L: Ledger>(lengths: &[u8], place: Place, back: usize, steps: &mut Steps<L>) -> Place
     requires block { place.block ≤ length lengths.now / 2 }
     requires enough { back ≤ values_before (sizes_of lengths.now) place.block + place.offset }
     requires fits { back < 2 ^ 62 }
-    ensures { values_before (sizes_of lengths.now) result.block + result.offset + back ≡ values_before (sizes_of lengths.now) place.block + place.offset }
+    ensures place { values_before (sizes_of lengths.now) result.block + result.offset + back ≡ values_before (sizes_of lengths.now) place.block + place.offset }
+    ensures cost { ((steps.new ≡ steps.old) × (result.offset ≤ place.offset)) ⊎ ((steps.new ≤ steps.old + back) × (result.offset < slice_index (sizes_of lengths.now) result.block)) }
 {
     let mut block = place.block;
     let mut offset = place.offset;
     'steps: while offset < back {
         block -= 1;
-        offset += size_at(lengths, block);
+        offset += steps.length(lengths, block) as usize + 1;
     }
     Place {
         block,
@@ -104,6 +105,8 @@ fn nearest(
     ensures place { values_before (sizes_of lengths.now) result.0.block + result.0.offset ≡ result.1 }
     ensures short { result.0.offset < 65536 }
     ensures fits { result.1 < 2 ^ 62 }
+    ensures on { index < size → result.1 ≤ index → index - result.1 < span codes.now / 2 }
+    ensures back { index < size → index < result.1 → result.1 - index ≤ span codes.now / 2 }
 {
     let span = codes.span() as usize;
     let k = codes.spans_in(index).min(codes.points(size) - 1);
@@ -112,17 +115,19 @@ fn nearest(
 }
 
 /// The real block and the offset in it where the value of an index stands.
-fn place_of(
+fn place_of<L: Ledger>(
     codes: &Codes<'_>,
     size: u64,
     entries: &[u8],
     lengths: &[u8],
     index: u64,
+    steps: &mut Steps<L>,
 ) -> Result<Place, Damaged>
     requires { AreChecked size codes.now entries.now lengths.now }
     ensures found { IfOk result (λ s. IsSpotIn (sizes_of lengths.now) codes.now.blocks index s.block s.offset) }
     ensures fits { IfOk result (λ s. (s.block < 2 ^ 32) × (s.offset < 65536)) }
     ensures damaged { OnErr result (values_before (sizes_of lengths.now) codes.now.blocks ≤ index) }
+    ensures cost { index < size → steps.new ≤ steps.old + span codes.now / 2 + 65536 }
 {
     let real = codes.blocks();
     let (place, middle) = nearest(codes, size, entries, lengths, index);
@@ -132,10 +137,10 @@ fn place_of(
             block: place.block,
             offset: place.offset + (index - middle),
         };
-        step_on(lengths, real, place)
+        step_on(lengths, real, place, steps)
     } else {
-        let place = step_back(lengths, place, middle - index);
-        step_on(lengths, real, place)
+        let place = step_back(lengths, place, middle - index, steps);
+        step_on(lengths, real, place, steps)
     }
 }
 
@@ -153,16 +158,22 @@ pub(crate) fn block_of<'a>(codes: &Codes<'_>, blocks: &'a [u8], block: usize) ->
 }
 
 /// Where the value of an index stands.
-pub(crate) fn spot_in(view: View<'_, '_>, index: u64) -> Result<Spot, Damaged>
+pub(crate) fn spot_in<L: Ledger>(
+    view: View<'_, '_>,
+    index: u64,
+    steps: &mut Steps<L>,
+) -> Result<Spot, Damaged>
     requires { IsChecked view }
     ensures found { IfOk result (λ s. IsSpotOf view.entry.coding.now view.entry.lengths.now index s) }
     ensures fits { IfOk result IsShort }
     ensures damaged { OnErr result (IsPast (expanded view.entry.coding.now view.entry.lengths.now view.entry.blocks.now) index) }
+    ensures cost { index < view.entry.size → steps.new ≤ steps.old + coding_span view.entry.coding.now / 2 + 65536 }
 {
     match view.coding {
         Coding::Single(value) => Ok(Spot::Single(*value)),
         Coding::Pairs(codes) => {
-            let Ok(place) = place_of(codes, view.size, view.entries, view.lengths, index) else {
+            let place = place_of(codes, view.size, view.entries, view.lengths, index, steps);
+            let Ok(place) = place else {
                 return Err(Damaged);
             };
             Ok(Spot::At {
@@ -173,22 +184,43 @@ pub(crate) fn spot_in(view: View<'_, '_>, index: u64) -> Result<Spot, Damaged>
     }
 }
 
-/// The value of an index.
-pub(crate) fn value_in(view: View<'_, '_>, index: u64) -> Result<u16, Damaged>
-    requires { IsChecked view }
+/// The value of an index, by a count of its own.
+fn value_by<L: Ledger>(view: View<'_, '_>, index: u64, blank: Blank) -> Result<u16, Damaged>
+    requires checked { IsChecked view }
+    requires name { blank.name ≡ L.name }
+    requires parts { blank.parts ≡ L.parts }
+    requires some { 0 < blank.parts }
     ensures found { IfOk result (λ v. entry_at (expanded view.entry.coding.now view.entry.lengths.now view.entry.blocks.now) index ≡ Some v) }
     ensures damaged { OnErr result (entry_at (expanded view.entry.coding.now view.entry.lengths.now view.entry.blocks.now) index ≡ None) }
 {
     match view.coding {
         Coding::Single(value) => Ok(*value),
         Coding::Pairs(codes) => {
-            let Ok(place) = place_of(codes, view.size, view.entries, view.lengths, index) else {
+            let mut steps = Steps::<L>::new(blank);
+            let place = place_of(
+                codes,
+                view.size,
+                view.entries,
+                view.lengths,
+                index,
+                &mut steps,
+            );
+            let Ok(place) = place else {
                 return Err(Damaged);
             };
             let block = block_of(codes, view.blocks, place.block);
             codes.dictionary().value(block, place.offset as u32)
         }
     }
+}
+
+/// The value of an index.
+pub(crate) fn value_in(view: View<'_, '_>, index: u64) -> Result<u16, Damaged>
+    requires { IsChecked view }
+    ensures found { IfOk result (λ v. entry_at (expanded view.entry.coding.now view.entry.lengths.now view.entry.blocks.now) index ≡ Some v) }
+    ensures damaged { OnErr result (entry_at (expanded view.entry.coding.now view.entry.lengths.now view.entry.blocks.now) index ≡ None) }
+{
+    value_by::<Brand>(view, index, Blank::new(1))
 }
 
 /// The values of a block, cut by its length.

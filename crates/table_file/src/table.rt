@@ -1,6 +1,7 @@
 //! Opened table files.
 
-ghost use Rattle.std.specs.Prelude.{◌≡◌, ◌≢◌, ◌<◌, ◌≤◌, length, slice_get, Some, None, IsTrue, IsOk, IfOk, IfErr, OnErr, ◌↔◌};
+ghost use Rattle.std.specs.Prelude.{◌≡◌, ◌≢◌, ◌+◌, ◌/◌, ◌<◌, ◌≤◌, length, slice_get, Some, None, IsTrue, IsOk, IfOk, IfErr, OnErr, ◌↔◌};
+ghost use Rattle.place_index.specs.Shape.{Layout, size_of};
 ghost use Rattle.table_file.specs.declared.fault.TableFault.TheVariants.{OutOfMemory};
 ghost use Rattle.table_file.specs.declared.kind.Kind.TheVariants.{Dtz};
 ghost use Rattle.table_file.specs.declared.parts.Section.TheVariants.{Entries, Lengths};
@@ -9,14 +10,15 @@ ghost use Rattle.table_file.specs.Reading.{Gives};
 ghost use Rattle.table_file.specs.Sparse.{all_fit};
 ghost use Rattle.table_file.specs.Sections.{AreShaped, AreSized};
 ghost use Rattle.table_file.specs.Checked.{IsChecked, IsViewOf};
-ghost use Rattle.table_file.specs.Tables.{Contents, head_at, sections_at, parts_at, table_at, part_count, place_of, part_of, lengths_of, blocks_of, shape_of, flags_of, IsFile};
+ghost use Rattle.table_file.specs.Tables.{Contents, head_at, sections_at, parts_at, table_at, part_count, place_of, part_of, lengths_of, blocks_of, shape_of, flags_of, span_of, IsFile};
 ghost use Rattle.table_file.specs.Layouts.{IsLayout};
+ghost use Rattle.table_file.specs.FirstFaults.{IsFirstFault};
 ghost use Rattle.table_file.specs.Expansion.{expansion, entry_at, real_blocks, values_of, IsSpot, IsRealSpot, IsPast};
 ghost use Rattle.table_file.specs.Distances.{file_flags, file_maps, mapped_value, stores, distance};
 
 use crate::fault::TableFault;
 use crate::kind::{Kind, title};
-use crate::laws::reads_what_is_laid_out;
+use crate::laws::{reads_what_is_laid_out, tells_first_fault};
 use crate::maps::{Maps, all_maps};
 use crate::material::{files, indices, is_symmetric, sides};
 use crate::outcome::{Outcome, counts_moves, plies};
@@ -24,10 +26,12 @@ use crate::parts::{Part, Section, body, flags, magic, parts, sections, setups};
 use crate::reading::{Run, even, has_bit};
 use crate::sparse::fits_in;
 use crate::spots::{Spot, View, spot_in, value_in, values_in};
+use crate::steps::Steps;
 use pair_dict::Damaged;
 use place_index::{Material, Shape};
 use std::alloc::{AllocError, Global};
 use std::marker::Model;
+use std::sync::ledger::Ledger;
 
 /// A table file that was opened: its parts are there and in order, and its sparse entries name the values that they are to
 /// name. It borrows the file's bytes.
@@ -158,9 +162,11 @@ pub fn open<'a>(alloc: Global, name: &[u8], file: &'a [u8]) -> Result<Table<'a>,
     ensures is { Gives (λ x. x) result (table_at name.now file.now) }
     ensures found { IfOk result (λ t. IsLayout name.now file.now t) }
     ensures only { IfErr result (λ e. e ≢ OutOfMemory → (t : Contents) → IsLayout name.now file.now t → ⊥) }
+    ensures first { IfErr result (λ e. e ≢ OutOfMemory → IsFirstFault name.now file.now e) }
     ensures memory { IfErr result (λ e. e ≡ OutOfMemory → IsOk (head_at name.now file.now)) }
 {
     reads_what_is_laid_out();
+    tells_first_fault();
     match head(name, file) {
         Ok((title, rest)) => with_parts(alloc, title.0, title.1, rest),
         Err(fault) => Err(fault),
@@ -246,15 +252,25 @@ impl<'a> Table<'a> {
     /// Where the value at an index stands: the single value, or a real block and the offset in it. A table of one side
     /// doesn't look at the side. No memory is taken.
     ///
+    /// It goes from the sparse entry of the index's span, and past the last span from the last entry, back or on over whole
+    /// blocks, and `steps` counts the block lengths that it reads: for an index below the size at most half a span and 65536.
+    ///
     /// `Damaged` exactly where the index is past the expanded table.
-    pub fn locate(&self, side: u8, file: u8, index: u64) -> Result<Spot, Damaged>
+    pub fn locate<L: Ledger>(
+        &self,
+        side: u8,
+        file: u8,
+        index: u64,
+        steps: &mut Steps<L>,
+    ) -> Result<Spot, Damaged>
         requires side { side < 2 }
         requires file { IsFile self.now.material file }
         ensures found { IfOk result (λ s. IsSpot self.now side file index s) }
         ensures real { IfOk result (λ s. IsRealSpot self.now side file s) }
         ensures damaged { OnErr result (IsPast (expansion self.now side file) index) }
+        ensures cost { (shape : Layout) → shape_of self.now side file ≡ Some shape → index < size_of shape → steps.new ≤ steps.old + span_of self.now side file / 2 + 65536 }
     {
-        spot_in(self.view(side, file), index)
+        spot_in(self.view(side, file), index, steps)
     }
 
     /// The values of a real block, as `locate` tells it: those that its codes give, at most as many as its length says and

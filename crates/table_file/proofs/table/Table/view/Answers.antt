@@ -37,6 +37,7 @@ returns-clause-part c =
     rw (← c.self.view_is) (record {
       part = p;
       found = rw (← k-is) (got a.parts.items k p lt c.index-part.ensures);
+      size = c.indices.ensures.is;
       coding = refl;
       lengths = rw (← k-is) (got_or a.lengths.items k c.bytes-2.result.now [] lt-lengths l-is);
       blocks = rw (← k-is) (got_or a.blocks.items k c.bytes-3.result.now [] lt-blocks b-is);
