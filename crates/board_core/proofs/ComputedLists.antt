@@ -1,5 +1,7 @@
-use Rattle.std.proofs.Common.{ℕ, zero, suc, ◌≡◌, ◌<◌, ◌≤◌, ◌+◌, ◌*◌, ◌%◌, ◌⊎◌, List, [], ◌∷◌, Option, Some, None, Bool, true, is_some, ◌||◌, ◌≢◌, length, get_or, Decides, All, AllPairs, Contains, filter, refl, sym, ap, ◌∙◌, arith, inl, inr}
-use Rattle.std.proofs.lemmas.Bool.Decides.{same_from_decides}
+use Rattle.std.proofs.Common.{ℕ, zero, suc, ◌≡◌, ◌<◌, ◌≤◌, ◌+◌, ◌*◌, ◌%◌, ◌⊎◌, List, [], ◌∷◌, Option, Some, None, Bool, true, is_some, ◌||◌, ◌≢◌, length, get_or, Decides, All, AllPairs, Contains, filter, refl, sym, ap, subst, not, ◌∙◌, arith, inl, inr}
+use Rattle.std.specs.List.{list_any}
+use Rattle.std.proofs.lemmas.List.Folds.{Any-from_list_any, list_any_at}
+use Rattle.std.proofs.lemmas.Bool.Decides.{same_from_decides, Decides-not}
 use Rattle.std.proofs.lemmas.Bool.{cases_eq, cases_Bool}
 use Rattle.std.proofs.lemmas.List.Elements.{All-nil, All-cons, All-weaker, All-filter, All-contains, filter_passes}
 use Rattle.std.proofs.lemmas.List.Kept.{AllPairs-filter, AllPairs-cons}
@@ -8,11 +10,11 @@ use Rattle.board_core.specs.Attack.{man_at}
 use Rattle.board_core.specs.declared.parts.Parts.{Parts}
 use Rattle.board_core.specs.declared.moves.Move.{Move}
 use Rattle.board_core.specs.Moves.{IsLegal, HasLegal, IsEnPassant, IsCapture, IsLegalCapture, HasLegalCaptures, place_of, promotion_place}
-use Rattle.board_core.specs.ComputedMoves.{position_after, is_legal, promotion_at, move_at, moves_from, all_moves, legal_moves, has_some, has_legal_move, is_capture, legal_captures, is_en_passant}
+use Rattle.board_core.specs.ComputedMoves.{position_after, is_legal, promotion_at, move_at, moves_from, all_moves, legal_moves, has_some, has_legal_move, is_capture, legal_captures, is_en_passant, has_move_besides_en_passant}
 use Rattle.board_core.proofs.Listing.{promotion_below, same_place}
 use Rattle.board_core.proofs.ComputedMoves.{position_legal, legal_position, Decides-en_passant}
 
-promotion_back : (k : ℕ) → k < 5 → promotion_place (promotion_at k) ≡ k
+pub promotion_back : (k : ℕ) → k < 5 → promotion_place (promotion_at k) ≡ k
 promotion_back zero lt = refl
 promotion_back (suc zero) lt = refl
 promotion_back (suc (suc zero)) lt = refl
@@ -67,7 +69,7 @@ Contains-first_at : {X : Type 0} (x : X) (xs : List X) (y : X) (k : ℕ) → k <
 Contains-first_at x xs y zero lt e = inl e
 Contains-first_at x xs y (suc k) lt e = inr (k, omega arith, e)
 
-Contains-first : {X : Type 0} (x : X) (xs : List X) (y : X) → Contains (x ∷ xs) y → (x ≡ y) ⊎ Contains xs y
+pub Contains-first : {X : Type 0} (x : X) (xs : List X) (y : X) → Contains (x ∷ xs) y → (x ≡ y) ⊎ Contains xs y
 Contains-first x xs y h = Contains-first_at x xs y h.0 h.1 h.2
 
 Contains-filter : {X : Type 0} (test : X → Bool) (xs : List X) (y : X) → Contains xs y → test y ≡ true → Contains (filter test xs) y
@@ -185,3 +187,20 @@ has_some_of p (m ∷ moves) h = (λ _. (m, h.sound 0 m (omega arith)), λ _. ref
 pub some_computed : (p : Parts) (r : Bool) → Decides r ((m : Move) × IsLegal p m) → r ≡ has_legal_move p
 unfolding has_legal_move
 some_computed p r h = same_from_decides r (has_some (legal_moves p)) h (has_some_of p (legal_moves p) (HasLegal-moves p))
+
+-- and so for a move other than en passant
+abbrev besides : Parts → Move → Bool
+besides p m = not (is_en_passant p m)
+
+Decides-besides : (p : Parts) (m : Move) → Decides (besides p m) (IsEnPassant p m → ⊥)
+Decides-besides p m = Decides-not (is_en_passant p m) (Decides-en_passant p m)
+
+besides_of : (p : Parts) (moves : List Move) → HasLegal p moves → Decides (list_any (besides p) moves) ((m : Move) × IsLegal p m × (IsEnPassant p m → ⊥))
+besides_of p moves h = (
+  λ t. let a = Any-from_list_any (besides p) moves t in (a.1, subst (IsLegal p) a.3 (h.sound a.0 a.1 a.2), (Decides-besides p a.1).0 a.4),
+  λ a. let c = h.complete a.0 a.1 in list_any_at (besides p) moves c.0 a.0 c.1 (ap (besides p) c.2 ∙ (Decides-besides p a.0).1 a.2),
+)
+
+pub besides_computed : (p : Parts) (r : Bool) → Decides r ((m : Move) × IsLegal p m × (IsEnPassant p m → ⊥)) → r ≡ has_move_besides_en_passant p
+unfolding has_move_besides_en_passant
+besides_computed p r h = same_from_decides r (list_any (besides p) (legal_moves p)) h (besides_of p (legal_moves p) (HasLegal-moves p))

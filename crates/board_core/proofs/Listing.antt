@@ -3,7 +3,9 @@ use Rattle.std.specs.Prelude.{All, AllPairs}
 use Rattle.std.proofs.lemmas.List.Elements.{All-push, Contains-append_left, Contains-push}
 use Rattle.std.proofs.lemmas.List.{get_or_append_left, get_or_push, length_push}
 use Rattle.std.proofs.lemmas.Bool.{cases_lt}
-use Rattle.board_core.specs.Search.{HasListedBelow, IsListed}
+use Rattle.board_core.specs.Search.{HasListedBelow, IsListed, IsSought}
+use Rattle.board_core.specs.declared.mobility.Sought.{Sought}
+use Rattle.board_core.specs.declared.mobility.Sought.TheVariants.{Any, BesidesEnPassant}
 use Rattle.board_core.specs.declared.generation.Which.{Which}
 use Rattle.board_core.specs.declared.generation.Which.TheVariants.{Every}
 use Rattle.board_core.specs.declared.parts.Parts.{Parts}
@@ -168,9 +170,14 @@ last_promotion P q r b (Rook, h) = absurd (r h)
 last_promotion P q r b (Bishop, h) = absurd (b h)
 last_promotion P q r b (Knight, h) = h
 
--- a legal move that is no promotion is the plain one, and a promotion is a pawn's to its last rank
-pub plain_or_promotion : (p : Parts) (from to : ℕ) (o : Option Promotion) → IsLegal p (make from to o)
-    → IsLegal p (make from to None) ⊎ (((k : Promotion) × IsLegal p (make from to (Some k))) × Stands p.men from p.side Pawn × (rank_of to ≡ last_rank p.side))
-plain_or_promotion p from to None l = inl l
-plain_or_promotion p from to (Some k) l =
+-- a legal move that is no promotion is the plain one, with what is known of it, and a promotion is a pawn's to its last rank
+pub plain_or_promotion : (p : Parts) (from to : ℕ) (W : Option Promotion → Type 0) (o : Option Promotion) → IsLegal p (make from to o) → W o
+    → (IsLegal p (make from to None) × W None) ⊎ (((k : Promotion) × IsLegal p (make from to (Some k))) × Stands p.men from p.side Pawn × (rank_of to ≡ last_rank p.side))
+plain_or_promotion p from to W None l w = inl (l, w)
+plain_or_promotion p from to W (Some k) l w =
     let pawn = promotes_pawn p (make from to (Some k)) l.1.case k l.1.rule refl in inr ((k, l), pawn.0, pawn.1)
+
+-- and a promotion isn't en passant
+pub promotion_sought : (p : Parts) (sought : Sought) (from to : ℕ) (k : Promotion) → IsSought sought p (make from to (Some k))
+promotion_sought p Any from to k = tt
+promotion_sought p BesidesEnPassant from to k = λ passant. let e = passant.whole in cc

@@ -35,7 +35,7 @@ and_left a b t h = let e = bit_at_and a b t in omega (arith, bit_at-lt a t, bit_
 pub and_right : (a b t : ℕ) → bit_at (bit_and a b) t ≡ 1 → bit_at b t ≡ 1
 and_right a b t h = let e = bit_at_and a b t in omega (arith, bit_at-lt a t, bit_at-lt b t)
 
-abbrev kind_on : Option Piece → Kind
+abbrev pub kind_on : Option Piece → Kind
 kind_on None = King
 kind_on (Some man) = man.kind
 

@@ -1,5 +1,6 @@
 -- The legal moves as values, beside the relation of Moves.antt: the position after a move, the list of the legal moves, and that of the captures.
 use Rattle.std.specs.Prelude.{ℕ, zero, suc, ◌+◌, ◌*◌, ◌/◌, ◌%◌, Bool, true, false, not, ◌&&◌, ◌||◌, ◌==◌, nat_lt, nat_le, List, [], ◌∷◌, Option, Some, None, is_some, is_none, if◌then◌else◌, find, filter, count_by, option_and_then}
+use Rattle.std.specs.List.{list_any}
 use Rattle.board_core.specs.declared.piece.Piece.{Piece}
 use Rattle.board_core.specs.declared.piece.Side.{Side}
 use Rattle.board_core.specs.declared.piece.Kind.{Kind}
@@ -17,7 +18,7 @@ use Rattle.board_core.specs.Square.{rank_of}
 use Rattle.board_core.specs.Attack.{man_at, forward}
 use Rattle.board_core.specs.Castling.{has_right, king_home, rook_home, king_end}
 use Rattle.board_core.specs.Position.{is_same_side, is_of, is_king_of}
-use Rattle.board_core.specs.Moves.{first_rank, last_rank, after}
+use Rattle.board_core.specs.Moves.{first_rank, last_rank, after, place_of}
 use Rattle.board_core.specs.Computed.{each_below, is_along, is_clear, is_pawn_attack, attacks, is_attacked, is_in_check}
 
 abbrev pub is_pawn : Kind → Bool
@@ -147,6 +148,19 @@ is_capture p m = is_some (man_at p.men m.to) || is_en_passant p m
 -- those of the legal moves that take a man
 abbrev pub legal_captures : Parts → List Move
 legal_captures p = filter (is_capture p) (legal_moves p)
+
+-- the move comes after this one in the order of moves; each does where there is none
+abbrev pub is_later : Option Move → Move → Bool
+is_later None m = true
+is_later (Some last) m = nat_lt (place_of last) (place_of m)
+
+-- those of the legal captures that come after this move, or all of them
+unfoldable pub captures_after : Parts → Option Move → List Move
+captures_after p last = filter (is_later last) (legal_captures p)
+
+-- whether some move other than en passant is legal
+unfoldable pub has_move_besides_en_passant : Parts → Bool
+has_move_besides_en_passant p = list_any (λ m. not (is_en_passant p m)) (legal_moves p)
 
 -- how many men stand on the board
 abbrev pub count_of_men : Parts → ℕ

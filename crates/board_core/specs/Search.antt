@@ -17,7 +17,11 @@ use Rattle.std.specs.Int.{bit_at}
 use Rattle.board_core.specs.declared.generation.Which.{Which}
 use Rattle.board_core.specs.declared.generation.Which.TheVariants.{Every, Captures}
 use Rattle.board_core.specs.declared.generation.Survey.{Survey}
-use Rattle.board_core.specs.Moves.{Stands, IsFree, IsTaken, IsLegal, IsMove, IsCapture, men_after, place_of}
+use Rattle.board_core.specs.Moves.{Stands, IsFree, IsTaken, Legal, IsLegal, IsMove, IsEnPassant, IsCapture, IsLegalCapture, men_after, place_of}
+use Rattle.board_core.specs.Sides.{sides_of}
+use Rattle.board_core.specs.declared.capturing.Capture.{Capture}
+use Rattle.board_core.specs.declared.mobility.Sought.{Sought}
+use Rattle.board_core.specs.declared.mobility.Sought.TheVariants.{Any, BesidesEnPassant}
 use Rattle.board_core.specs.Square.{file_of}
 use Rattle.board_core.specs.declared.attack.Direction.{Direction}
 use Rattle.board_core.specs.declared.attack.Direction.TheVariants.{North, South, East, West, NorthEast, NorthWest, SouthEast, SouthWest}
@@ -144,9 +148,41 @@ pub record IsRayEnd (men : List (Option Piece)) (side : Side) (direction : Direc
   pub clear : IsClear men direction distance from
   pub free : IsFree men side to
 
--- some legal move goes from one square to the other, and from a square to any
-abbrev pub MayGo : Parts → ℕ → ℕ → Type 0
-MayGo p from to = (promotion : Option Promotion) × IsLegal p (record { from = from; to = to; promotion = promotion })
+-- a move that is sought: any move, or one other than en passant
+abbrev pub IsSought : Sought → Parts → Move → Type 0
+IsSought Any p m = Unit {0}
+IsSought BesidesEnPassant p m = IsEnPassant p m → ⊥
 
-abbrev pub MayLeave : Parts → ℕ → Type 0
-MayLeave p from = (to : ℕ) × MayGo p from to
+-- some legal move that is sought goes from one square to the other, and from a square to any
+abbrev pub MayGo : Parts → Sought → ℕ → ℕ → Type 0
+MayGo p sought from to =
+    (promotion : Option Promotion) × IsLegal p (record { from = from; to = to; promotion = promotion }) × IsSought sought p (record { from = from; to = to; promotion = promotion })
+
+abbrev pub MayLeave : Parts → Sought → ℕ → Type 0
+MayLeave p sought from = (to : ℕ) × MayGo p sought from to
+
+-- the place at which the moves after this one begin
+abbrev pub start_of : Option Move → ℕ
+start_of None = 0
+start_of (Some last) = place_of last + 1
+
+-- a legal capture at this place or later
+abbrev pub IsLaterCapture : Parts → ℕ → Move → Type 0
+IsLaterCapture p start m = IsLegalCapture p m × (start ≤ place_of m)
+
+abbrev pub IsLaterFrom : Parts → ℕ → ℕ → Move → Type 0
+IsLaterFrom p start from m = IsLaterCapture p start m × (m.from ≡ from)
+
+abbrev pub IsLaterBetween : Parts → ℕ → ℕ → ℕ → Move → Type 0
+IsLaterBetween p start from to m = IsLaterFrom p start from m × (m.to ≡ to)
+
+-- the capture is legal, and this is what stands after it
+pub record IsPlayed (p : Parts) (c : Capture) : Type 0 where
+  pub legal : Legal p c.by c.parts
+  pub sides : c.sides ≡ sides_of c.parts.men
+
+-- the capture is the first of these moves
+pub record IsFirst (p : Parts) (Wanted : Move → Type 0) (c : Capture) : Type 0 where
+  pub wanted : Wanted c.by
+  pub first : (m : Move) → Wanted m → place_of c.by ≤ place_of m
+  pub played : IsPlayed p c

@@ -9,6 +9,7 @@
 
 mod attack;
 mod bitboard;
+mod capturing;
 mod castling;
 mod generation;
 mod king;

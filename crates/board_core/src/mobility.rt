@@ -4,10 +4,9 @@
 
 ghost use Rattle.std.specs.Prelude.{◌≡◌, ◌↔◌, ◌<◌, ℕ, IsTrue, Some};
 ghost use Rattle.std.specs.Int.{bit_at};
-ghost use Rattle.board_core.specs.ComputedMoves.{has_legal_move};
 ghost use Rattle.board_core.specs.Moves.{IsLegal};
 ghost use Rattle.board_core.specs.Position.{IsPosition};
-ghost use Rattle.board_core.specs.Search.{MayGo, MayLeave};
+ghost use Rattle.board_core.specs.Search.{IsSought, MayGo, MayLeave};
 ghost use Rattle.board_core.specs.Sides.{sides_of};
 ghost use Rattle.board_core.specs.declared.moves.Move.{Move};
 ghost use Rattle.board_core.specs.declared.piece.Promotion.{Promotion};
@@ -18,9 +17,38 @@ use crate::moves::Move;
 use crate::parts::Parts;
 use crate::piece::Promotion;
 use crate::playing::is_legal;
+use crate::rules::is_en_passant;
 use crate::sides::Sides;
 use crate::square::Square;
 use crate::targets::targets;
+
+/// Which legal move is looked for.
+#[derive(Clone, Copy, PartialEq, Eq, Debug)]
+pub enum Sought {
+    /// Any one.
+    Any,
+    /// One other than en passant.
+    BesidesEnPassant,
+}
+
+/// Whether the move is one of those sought.
+fn is_sought(p: &Parts, sought: Sought, m: &Move) -> bool
+    ensures { IsTrue result ↔ IsSought sought p.now m.now }
+{
+    match sought {
+        Sought::Any => true,
+        Sought::BesidesEnPassant => !is_en_passant(p, m),
+    }
+}
+
+/// Whether the move is legal, and one of those sought.
+fn may_make(p: &Parts, sides: &Sides, sought: Sought, m: &Move) -> bool
+    requires position { IsPosition p.now }
+    requires sides { sides.now ≡ sides_of p.now.men }
+    ensures { IsTrue result ↔ IsLegal p.now m.now × IsSought sought p.now m.now }
+{
+    is_sought(p, sought, m) && is_legal(p, sides, m)
+}
 
 /// Whether it is legal that a pawn goes there and becomes this.
 fn may_become(p: &Parts, sides: &Sides, from: Square, to: Square, promotion: Promotion) -> bool
@@ -54,35 +82,35 @@ fn may_promote_to(p: &Parts, sides: &Sides, from: Square, to: Square) -> bool
     may_become(p, sides, from, to, Promotion::Knight)
 }
 
-/// Whether some move from one square to the other is legal.
-fn may_go(p: &Parts, sides: &Sides, from: Square, to: Square) -> bool
+/// Whether some move sought from one square to the other is legal.
+fn may_go(p: &Parts, sides: &Sides, sought: Sought, from: Square, to: Square) -> bool
     requires position { IsPosition p.now }
     requires sides { sides.now ≡ sides_of p.now.men }
-    ensures { IsTrue result ↔ MayGo p.now from to }
+    ensures { IsTrue result ↔ MayGo p.now sought from to }
 {
     let plain = Move {
         from,
         to,
         promotion: None,
     };
-    if is_legal(p, sides, &plain) {
+    if may_make(p, sides, sought, &plain) {
         return true;
     }
     may_promote(p, from, to) && may_promote_to(p, sides, from, to)
 }
 
-/// Whether some move from a square to one of a set is legal, in which all its targets are.
-fn may_go_within(p: &Parts, sides: &Sides, from: Square, set: Bitboard) -> bool
+/// Whether some move sought from a square to one of a set is legal, in which all its targets are.
+fn may_go_within(p: &Parts, sides: &Sides, sought: Sought, from: Square, set: Bitboard) -> bool
     requires position { IsPosition p.now }
     requires sides { sides.now ≡ sides_of p.now.men }
-    requires whole { (to : ℕ) → MayGo p.now from to → bit_at set to ≡ 1 }
-    ensures { IsTrue result ↔ MayLeave p.now from }
+    requires whole { (to : ℕ) → MayGo p.now sought from to → bit_at set to ≡ 1 }
+    ensures { IsTrue result ↔ MayLeave p.now sought from }
 {
     let mut rest = set;
     let mut next = 0u8;
     'targets: while !rest.is_empty() {
         let to = rest.lowest();
-        if may_go(p, sides, from, to) {
+        if may_go(p, sides, sought, from, to) {
             return true;
         }
         rest = rest.without(to);
@@ -91,32 +119,31 @@ fn may_go_within(p: &Parts, sides: &Sides, from: Square, set: Bitboard) -> bool
     false
 }
 
-/// Whether some move from the square is legal.
-fn may_leave(p: &Parts, sides: &Sides, from: Square) -> bool
+/// Whether some move sought from the square is legal.
+fn may_leave(p: &Parts, sides: &Sides, sought: Sought, from: Square) -> bool
     requires position { IsPosition p.now }
     requires sides { sides.now ≡ sides_of p.now.men }
-    ensures { IsTrue result ↔ MayLeave p.now from }
+    ensures { IsTrue result ↔ MayLeave p.now sought from }
 {
     match p.men[from.number() as usize] {
         Some(man) => {
-            man.side == p.side && may_go_within(p, sides, from, targets(p, man.kind, from))
+            man.side == p.side && may_go_within(p, sides, sought, from, targets(p, man.kind, from))
         }
         None => false,
     }
 }
 
-/// Whether some move is legal.
-pub fn has_legal_move(p: &Parts, sides: &Sides) -> bool
+/// Whether some move sought is legal.
+pub fn has_legal_move(p: &Parts, sides: &Sides, sought: Sought) -> bool
     requires position { IsPosition p.now }
     requires sides { sides.now ≡ sides_of p.now.men }
-    ensures relation { IsTrue result ↔ ((m : Move) × IsLegal p.now m) }
-    ensures computed { result ≡ has_legal_move p.now }
+    ensures { IsTrue result ↔ ((m : Move) × IsLegal p.now m × IsSought sought p.now m) }
 {
     let mut rest = sides.of_side(p.side);
     let mut next = 0u8;
     'movers: while !rest.is_empty() {
         let from = rest.lowest();
-        if may_leave(p, sides, from) {
+        if may_leave(p, sides, sought, from) {
             return true;
         }
         rest = rest.without(from);

@@ -1,5 +1,9 @@
 //! Moves.
 
+ghost use Rattle.std.specs.Prelude.{◌≡◌, ◌<◌};
+ghost use Rattle.board_core.specs.ComputedMoves.{promotion_at};
+ghost use Rattle.board_core.specs.Moves.{place_of, promotion_place};
+
 use crate::piece::{Promotion, Wing};
 use crate::square::Square;
 
@@ -30,4 +34,42 @@ pub enum MoveCase {
     EnPassant,
     /// King and rook castle.
     Castle(Wing),
+}
+
+fn promotion_place(promotion: Option<Promotion>) -> u32
+    ensures is { result ≡ promotion_place promotion }
+    ensures below { result < 5 }
+{
+    match promotion {
+        None => 0,
+        Some(Promotion::Queen) => 1,
+        Some(Promotion::Rook) => 2,
+        Some(Promotion::Bishop) => 3,
+        Some(Promotion::Knight) => 4,
+    }
+}
+
+/// What a pawn becomes by the move at this place of those between two squares: nothing at 0, then a queen, a rook, a bishop
+/// and a knight.
+pub fn promotion_at(place: u8) -> Option<Promotion>
+    ensures { result ≡ promotion_at place }
+{
+    match place {
+        0 => None,
+        1 => Some(Promotion::Queen),
+        2 => Some(Promotion::Rook),
+        3 => Some(Promotion::Bishop),
+        _ => Some(Promotion::Knight),
+    }
+}
+
+impl Move {
+    /// The place of the move in the order of from, to and promotion.
+    pub(crate) fn place(&self) -> u32
+        ensures { result ≡ place_of self.now }
+    {
+        320 * self.from.number() as u32
+            + 5 * self.to.number() as u32
+            + promotion_place(self.promotion)
+    }
 }

@@ -1,21 +1,22 @@
 //! Positions: the seven conditions, and what the layers above call.
 
-ghost use Rattle.std.specs.Prelude.{◌≡◌, ◌<◌, ◌↔◌, IsTrue, IfOk, IfErr, IfSome, count_by, ◌+◌};
+ghost use Rattle.std.specs.Prelude.{◌≡◌, ◌<◌, ◌↔◌, ◌∷◌, [], IsTrue, IfOk, IfErr, IfSome, IfNone, count_by, ◌+◌};
 ghost use Rattle.board_core.specs.Position.{is_of, is_king_of, HasOneKingEach, HasFewMen, HasNoPawnOnEdge, IsRightValid, HasValidRights, IsOpponentSafe, HasValidCounters, HasValidEnPassant, IsPassed, passed_rank, IsFirstFault, IsPosition, fault_name};
-ghost use Rattle.board_core.specs.Moves.{IsLegal, Legal, HasLegal, HasLegalCaptures};
+ghost use Rattle.board_core.specs.Moves.{IsEnPassant, IsLegal, Legal, HasLegal, HasLegalCaptures};
 ghost use Rattle.board_core.specs.Attack.{man_at, IsInCheck};
 ghost use Rattle.board_core.specs.Computed.{is_in_check};
-ghost use Rattle.board_core.specs.ComputedMoves.{position_after, is_legal, has_legal_move, legal_captures, legal_moves, count_of_men};
+ghost use Rattle.board_core.specs.ComputedMoves.{position_after, is_legal, has_legal_move, has_move_besides_en_passant, captures_after, legal_captures, legal_moves, count_of_men};
 ghost use Rattle.board_core.specs.Side.{other};
 ghost use Rattle.board_core.specs.Sides.{IsOccupied};
 
 use crate::bitboard::Bitboard;
+use crate::mobility::Sought;
 use crate::moves::Move;
 use crate::parts::{Parts, Rights};
 use crate::piece::{Kind, Men, Piece, Side, Wing};
 use crate::sides::{Sides, is_of};
 use crate::square::Square;
-use crate::{attack, castling, generation, king, mobility, playing, rules};
+use crate::{attack, capturing, castling, generation, king, mobility, playing, rules};
 use std::alloc::{AllocError, Global};
 use std::marker::Model;
 
@@ -270,7 +271,15 @@ impl Position {
         ensures relation { IsTrue result ↔ ((m : Move) × IsLegal self.now m) }
         ensures computed { result ≡ has_legal_move self.now }
     {
-        mobility::has_legal_move(&self.parts, &self.sides)
+        mobility::has_legal_move(&self.parts, &self.sides, Sought::Any)
+    }
+
+    /// Whether some move other than en passant is legal. It takes no memory and stops at the first one.
+    pub fn has_move_besides_en_passant(&self) -> bool
+        ensures relation { IsTrue result ↔ ((m : Move) × IsLegal self.now m × (IsEnPassant self.now m → ⊥)) }
+        ensures computed { result ≡ has_move_besides_en_passant self.now }
+    {
+        mobility::has_legal_move(&self.parts, &self.sides, Sought::BesidesEnPassant)
     }
 
     /// The position after the move; none where the move isn't legal. A right to castle is lost when
@@ -305,6 +314,24 @@ impl Position {
         ensures computed { IfOk result (λ moves. moves.items ≡ legal_captures self.now) }
     {
         generation::captures(&self.parts, &self.sides, alloc)
+    }
+
+    /// The first of the legal captures, en passant among them, that come after this move in the order of moves, and the
+    /// position after it; the first of all where no move is given, and none where no further one comes. It takes no memory. Where
+    /// few men stand all captures so are found sooner than listed.
+    pub fn capture_after(&self, last: Option<Move>) -> Option<(Move, Position)>
+        ensures next { IfSome result (λ c. captures_after self.now last ≡ c.0 ∷ captures_after self.now (Some c.0)) }
+        ensures after { IfSome result (λ c. position_after self.now c.0 ≡ Some c.1) }
+        ensures none { IfNone result (captures_after self.now last ≡ []) }
+    {
+        let Some(capture) = capturing::capture_after(&self.parts, &self.sides, last) else {
+            return None;
+        };
+        let after = Position {
+            parts: capture.parts,
+            sides: capture.sides,
+        };
+        Some((capture.by, after))
     }
 
     /// The side to move.

@@ -124,7 +124,7 @@ fn is_pawn_capture(p: &Parts, m: &Move) -> bool
         && promotes(p.side, m)
 }
 
-fn is_en_passant(p: &Parts, m: &Move) -> bool
+pub fn is_en_passant(p: &Parts, m: &Move) -> bool
     ensures { IsTrue result ↔ IsEnPassant p.now m.now }
 {
     stands(&p.men, m.from, p.side, Kind::Pawn)

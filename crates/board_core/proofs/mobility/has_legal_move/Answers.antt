@@ -2,7 +2,6 @@ use Rattle.std.proofs.Common.{arith, rules}
 use Rattle.board_core.proofs.Listing.{IsLegal-stands}
 use Rattle.board_core.proofs.SideSets.{set_of_side}
 use Rattle.board_core.proofs.Sweep.{Rests-begin, Rests-without, none_on, none_left}
-use Rattle.board_core.proofs.ComputedLists.{some_computed}
 use Rattle.board_core.proofs.mobility.has_legal_move.Goals as goal
 
 pub movers-init : goal.movers-init
@@ -11,11 +10,8 @@ movers-init c = record {
   none = λ s lt. absurd (omega arith);
 }
 
-pub returns-then-may_leave-clause-relation : goal.returns-then-may_leave-clause-relation
-returns-then-may_leave-clause-relation c = (λ _. let q = c.may_leave.ensures.0 c.if-may_leave.true in (_, q.1.1), λ _. search rules)
-
-pub returns-then-may_leave-clause-computed : goal.returns-then-may_leave-clause-computed
-returns-then-may_leave-clause-computed c = some_computed _ _ (returns-then-may_leave-clause-relation c)
+pub returns-then-may_leave : goal.returns-then-may_leave
+returns-then-may_leave c = (λ _. let q = c.may_leave.ensures.0 c.if-may_leave.true in (_, q.1.1, q.1.2), λ _. search rules)
 
 pub movers-preserved : goal.movers-preserved
 movers-preserved c = record {
@@ -23,8 +19,5 @@ movers-preserved c = record {
   none = rw c.number-next.ensures.value (none_on _ _ _ _ (omega arith) c.movers.invariant.rests c.lowest-from.ensures.first c.movers.invariant.none (λ q. let t = c.may_leave.ensures.1 q in search rules));
 }
 
-pub returns-clause-relation : goal.returns-clause-relation
-returns-clause-relation c = (λ t. search rules, λ a. absurd (none_left _ _ _ c.movers.invariant.rests (c.is_empty.ensures.0 c.movers-test.false) c.movers.invariant.none a.0.from a.1.1.from_board (a.0.to, (a.0.promotion, a.1))))
-
-pub returns-clause-computed : goal.returns-clause-computed
-returns-clause-computed c = some_computed _ _ (returns-clause-relation c)
+pub returns : goal.returns
+returns c = (λ t. search rules, λ a. absurd (none_left _ _ _ c.movers.invariant.rests (c.is_empty.ensures.0 c.movers-test.false) c.movers.invariant.none a.0.from a.1.1.from_board (a.0.to, (a.0.promotion, a.1, a.2))))

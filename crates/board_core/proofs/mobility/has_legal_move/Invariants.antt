@@ -5,8 +5,8 @@ use Rattle.board_core.proofs.mobility.has_legal_move.Given as goal
 
 abbrev pub invariant-movers : goal.invariant-movers
 invariant-movers l = record {
-  rests : Rests (MayLeave l.p) l.next l.rest;
-  none : (s : ℕ) → s < l.next → MayLeave l.p s → ⊥;
+  rests : Rests (MayLeave l.p l.sought) l.next l.rest;
+  none : (s : ℕ) → s < l.next → MayLeave l.p l.sought s → ⊥;
 }
 
 abbrev pub decreases-movers : goal.decreases-movers

@@ -5,8 +5,8 @@ use Rattle.board_core.proofs.mobility.may_go_within.Given as goal
 
 abbrev pub invariant-targets : goal.invariant-targets
 invariant-targets l = record {
-  rests : Rests (MayGo l.p l.from) l.next l.rest;
-  none : (s : ℕ) → s < l.next → MayGo l.p l.from s → ⊥;
+  rests : Rests (MayGo l.p l.sought l.from) l.next l.rest;
+  none : (s : ℕ) → s < l.next → MayGo l.p l.sought l.from s → ⊥;
 }
 
 abbrev pub decreases-targets : goal.decreases-targets
