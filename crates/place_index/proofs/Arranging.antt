@@ -149,5 +149,9 @@ pub arranged_by_counts : (n : ℕ) (xs ys : List ℕ) → list_all (λ y. ltb y 
 arranged_by_counts n xs ys all len same =
     arranged n xs ys (all_below n xs (below_same n xs ys same ∙ below_all n ys all ∙ sym len)) len same
 
+-- equal counts of all codes below n, where neither list has others, make equal lengths
+pub same_length : (n : ℕ) (xs ys : List ℕ) → list_all (λ x. ltb x n) xs ≡ true → list_all (λ y. ltb y n) ys ≡ true → ((c : ℕ) → c < n → count_of xs c ≡ count_of ys c) → length xs ≡ length ys
+same_length n xs ys all other same = sym (below_all n xs all) ∙ below_same n xs ys same ∙ below_all n ys other
+
 pub arranged_length : (xs ys : List ℕ) → IsPermutation xs ys → length xs ≡ length ys
 arranged_length xs ys p = sym (length_permutation xs ys p)

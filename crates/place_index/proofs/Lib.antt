@@ -47,7 +47,7 @@ pub mod Covered
 pub mod Symmetric
 pub mod Colours
 pub mod Tallies
-pub mod Weighing
+pub mod TallyKeys
 pub mod TurnTable
 pub mod Summing
 pub mod Exchanging

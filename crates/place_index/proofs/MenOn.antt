@@ -1,8 +1,9 @@
 -- The men of a position, and that they make a placement, in either colours.
-use Rattle.std.proofs.Common.{◌≡◌, ◌≢◌, ℕ, zero, suc, ◌+◌, ◌-◌, ◌/◌, ◌%◌, ◌<◌, ◌≤◌, ◌⊎◌, Bool, true, false, cond, IsTrue, Option, Some, None, List, [], ◌∷◌, ◌++◌, length, drop, refl, sym, ap, ◌∙◌, subst, inl, inr, arith, length-append}
+use Rattle.std.proofs.Common.{◌≡◌, ◌≢◌, ℕ, zero, suc, ◌+◌, ◌-◌, ◌/◌, ◌%◌, ◌<◌, ◌≤◌, ◌⊎◌, Bool, true, false, cond, ltb, IsTrue, Option, Some, None, List, [], ◌∷◌, ◌++◌, length, drop, refl, sym, ap, ◌∙◌, subst, inl, inr, arith, length-append}
 use Rattle.std.specs.Prelude.{slice_index_or, is_some, ◌||◌, nat_lt}
 use Rattle.std.specs.Int.{bit_at}
-use Rattle.std.proofs.lemmas.Bool.{cases_lt, cases_eq, cases_Bool, eq-eqb, ne_eqb, lt-ltb, false≢true, or_left, or_right}
+use Rattle.std.specs.List.{list_all}
+use Rattle.std.proofs.lemmas.Bool.{and_from, cases_lt, cases_eq, cases_Bool, eq-eqb, ne_eqb, lt-ltb, false≢true, or_left, or_right}
 use Rattle.std.proofs.lemmas.List.{drop_more, drop_all, append_assoc, append-nil}
 use Rattle.std.proofs.lemmas.Nat.Bits.{bit_at-zero}
 use Rattle.board_core.specs.declared.piece.Piece.{Piece}
@@ -16,7 +17,7 @@ use Rattle.board_core.specs.Position.{IsPosition}
 use Rattle.board_core.specs.Side.{other}
 use Rattle.board_core.specs.Sides.{IsOccupied}
 use Rattle.place_index.specs.Square.{file, rank, bottom_top}
-use Rattle.place_index.specs.Men.{man, stands, other_side, exchanged}
+use Rattle.place_index.specs.Men.{man, codes_of, stands, other_side, exchanged}
 use Rattle.place_index.specs.Kings.{apart}
 use Rattle.place_index.specs.Index.{AreAlone, IsPlacement}
 use Rattle.place_index.specs.Placed.{is_black, kind_code, code_of, men_from, men_on, IsNamed}
@@ -140,6 +141,18 @@ code_black Black kind e = (refl, kind_king kind (omega (arith, e)))
 code_is : (piece : Piece) → code_of piece ≡ side_code piece.side piece.kind
 unfolding side_code
 code_is piece = refl
+
+codes_from : (k : ℕ) (board : List (Option Piece)) → list_all (λ c. ltb c 16) (codes_of (men_from k board)) ≡ true
+unfolding men_from
+codes_from k [] = refl
+codes_from k (None ∷ board) = codes_from (suc k) board
+codes_from k (Some piece ∷ board) =
+    and_from (ltb (code_of piece) 16) (list_all (λ c. ltb c 16) (codes_of (men_from (suc k) board))) (lt-ltb (code_of piece) 16 (rw (code_is piece) (code_range piece.side piece.kind)))
+    (codes_from (suc k) board)
+
+-- the codes of men on a board are all small
+pub codes_on : (board : List (Option Piece)) → list_all (λ c. ltb c 16) (codes_of (men_on board)) ≡ true
+codes_on board = codes_from 0 board
 
 made : (piece : Piece) (side : Side) (kind : Kind) → piece.side ≡ side → piece.kind ≡ kind → Some piece ≡ Some (record { side = side; kind = kind })
 made piece side kind e f = ap (λ s. Some (record { side = s; kind = piece.kind })) e ∙ ap (λ k. Some (record { side = side; kind = k })) f
@@ -384,10 +397,16 @@ swept_end board next set items len w e =
     let done : men_from 64 (drop 64 board) ≡ [] = ap (men_from 64) (drop_all 64 board (omega (arith, len))) ∙ men_nil 64 in
     sym (append-nil items) ∙ ap (λ l. items ++ l) (sym (none ∙ done)) ∙ w.is
 
-pub swept_room : (board : List (Option Piece)) (next set square : ℕ) (items : List Man) (piece : Piece) → length board ≡ 64 → IsSwept board next set items → square < 64 → bit_at set square ≡ 1 → ((s : ℕ) → s < square → bit_at set s ≡ 0)
-    → man_at board square ≡ Some piece → length (men_on board) ≤ 5 → length items < 5
-swept_room board next set square items piece len w lt here first e few =
-    omega (arith, few, ap length (swept_item board next set square items piece len w lt here first e), length-append items (man (code_of piece) square ∷ men_from (square + 1) (drop (square + 1) board)))
+-- a square of the set has a man more
+pub swept_more : (board : List (Option Piece)) (next set square : ℕ) (items : List Man) → length board ≡ 64 → IsSwept board next set items → square < 64 → bit_at set square ≡ 1 → ((s : ℕ) → s < square → bit_at set s ≡ 0)
+    → length items < length (men_on board)
+swept_more board next set square items len w lt here first =
+    let at = some_of (man_at board square) (swept_here board next set square items w lt here).1 in
+    omega (
+      arith,
+      ap length (swept_item board next set square items at.0 len w lt here first at.1),
+      length-append items (man (code_of at.0) square ∷ men_from (square + 1) (drop (square + 1) board)),
+    )
 
 pub swept_some : (board : List (Option Piece)) (next set square : ℕ) (items : List Man) → IsSwept board next set items → square < 64 → bit_at set square ≡ 1 → man_at board square ≡ None → ⊥
 swept_some board next set square items w lt here e = false≢true (sym (ap is_some e) ∙ (swept_here board next set square items w lt here).1)
@@ -395,15 +414,3 @@ swept_some board next set square items w lt here e = false≢true (sym (ap is_so
 pub placement_in_colours : (key : ℕ) (board : List (Option Piece)) (b : Bool) → Stood board → IsNamed key (cond b (exchanged (men_on board)) (men_on board)) → IsPlacement key (cond b (exchanged (men_on board)) (men_on board))
 placement_in_colours key board true q named = placement_of_exchanged key board q named
 placement_in_colours key board false q named = placement_of_men key board q named
-
--- lists that agree from one place on agree from the next one on
-drop_next : (i : ℕ) (xs : List Man) → drop (suc i) xs ≡ drop 1 (drop i xs)
-drop_next zero [] = refl
-drop_next zero (x ∷ xs) = refl
-drop_next (suc i) [] = refl
-drop_next (suc i) (x ∷ xs) = drop_next i xs
-
-pub drop_on : (i : ℕ) (xs ys : List Man) → drop i xs ≡ drop i ys → drop (i + 1) xs ≡ drop (i + 1) ys
-drop_on i xs ys e =
-    let up : i + 1 ≡ suc i = omega arith in
-    rw up (drop_next i xs ∙ ap (drop 1) e ∙ sym (drop_next i ys))

@@ -1,13 +1,13 @@
 -- Lists of equal tallies have equal counts.
-use Rattle.std.proofs.Common.{◌≡◌, ℕ, zero, suc, ◌+◌, ◌*◌, ◌<◌, ◌≤◌, Bool, true, false, cond, eqb, leb, List, [], ◌∷◌, ◌++◌, length, drop, get_or, slice_index, refl, sym, ap, ◌∙◌, arith}
+use Rattle.std.proofs.Common.{◌≡◌, ℕ, zero, suc, ◌+◌, ◌*◌, ◌<◌, ◌≤◌, Bool, true, false, cond, eqb, leb, ltb, List, [], ◌∷◌, ◌++◌, length, slice_index, refl, sym, ap, ◌∙◌, arith}
+use Rattle.std.specs.List.{list_all}
 use Rattle.std.specs.List.Sorted.{IsPermutation}
 use Rattle.std.proofs.lemmas.Bool.{agree_below_at, eqb-true, leb-true}
-use Rattle.std.proofs.lemmas.List.{drop_more, drop_all}
 use Rattle.place_index.specs.Material.{pieces_of, count_of, digits, tally_of}
 use Rattle.place_index.specs.Men.{codes_of}
 use Rattle.place_index.specs.declared.man.Man.{Man}
 use Rattle.place_index.specs.declared.tables.TheConstants.{CODE_TALLIES, TALLIES}
-use Rattle.place_index.proofs.Arranging.{count_cons, count_nil, count_arranged, arranged_by_counts, count_miss}
+use Rattle.place_index.proofs.Arranging.{count_cons, count_nil, count_arranged, arranged_by_counts, same_length}
 use Rattle.place_index.proofs.KeyWalk.{each, each_pieces, pieces}
 use Rattle.place_index.proofs.MenTables.{codes_small, men_most}
 
@@ -69,6 +69,16 @@ tallied key codes lt len same =
     from_none : (c : ℕ) → 0 + c ≡ c
     from_none c = omega arith
 
+-- equal tallies of small codes alone
+pub tallied_small : (key : ℕ) (codes : List ℕ) → key < 145 → list_all (λ c. ltb c 16) codes ≡ true → length codes ≤ 5 → tally_of codes ≡ tally_of (pieces_of key) → IsPermutation codes (pieces_of key)
+tallied_small key codes lt small few same = tallied key codes lt (same_length 16 codes (pieces_of key) small (codes_small key lt) counts) same
+  where
+    from_none : (c : ℕ) → 0 + c ≡ c
+    from_none c = omega arith
+
+    counts : (c : ℕ) → c < 16 → count_of codes c ≡ count_of (pieces_of key) c
+    counts c below = rw (from_none c) at (same_counts 16 0 c codes (pieces_of key) few (men_most key lt) same below)
+
 same_digits : (n first : ℕ) (xs ys : List ℕ) → IsPermutation xs ys → digits n first xs ≡ digits n first ys
 same_digits zero first xs ys p = omega (arith, digits_last first xs, digits_last first ys)
 same_digits (suc n) first xs ys p = omega (arith, digits_next n first xs, digits_next n first ys, count_arranged xs ys first p, same_digits n (suc first) xs ys p)
@@ -87,22 +97,13 @@ code_tally_table c lt = eqb-true _ _ (agree_below_at (λ c. eqb (slice_index COD
 pub code_tally_most : (c : ℕ) → c < 16 → slice_index CODE_TALLIES c ≤ 1152921504606846976
 code_tally_most c lt = leb-true _ _ (agree_below_at (λ c. leb (slice_index CODE_TALLIES c) 1152921504606846976) (λ c. true) 16 c refl lt)
 
--- other codes add nothing
-digits_none : (n first c : ℕ) → first + n ≤ c → digits n first (c ∷ []) ≡ 0
-digits_none zero first c le = digits_last first (c ∷ [])
-digits_none (suc n) first c le = omega (arith, digits_next n first (c ∷ []), count_miss c [] first (λ e. omega (arith, e, le)), count_nil first, digits_none n (suc first) c (omega (arith, le)))
+pub tally_nil : tally_of [] ≡ 0
+tally_nil = digits_nil 16 0
 
-pub code_tally_none : (c : ℕ) → 16 ≤ c → tally_of (c ∷ []) ≡ 0
-code_tally_none c le = digits_none 16 0 c (omega (arith, le))
+pub tally_cons : (x : ℕ) (xs : List ℕ) → tally_of (x ∷ xs) ≡ tally_of (x ∷ []) + tally_of xs
+tally_cons x xs = digits_cons 16 0 x xs
 
--- ---- the loop
-
-pub tally_more : (men : List Man) (i : ℕ) (m : Man) → i < length men → m ≡ get_or men i m → tally_of (codes_of (drop i men)) ≡ tally_of (m.code ∷ []) + tally_of (codes_of (drop (i + 1) men))
-tally_more men i m lt is =
-    ap (λ l. tally_of (codes_of l)) (drop_more men i m lt ∙ ap (λ x. x ∷ drop (i + 1) men) (sym is)) ∙ digits_cons 16 0 m.code (codes_of (drop (i + 1) men))
-
-pub tally_end : (men : List Man) (i : ℕ) → length men ≤ i → tally_of (codes_of (drop i men)) ≡ 0
-tally_end men i le = ap (λ l. tally_of (codes_of l)) (drop_all i men le) ∙ digits_nil 16 0
+-- ---- the sweep
 
 digits_append : (n first : ℕ) (xs : List ℕ) (y : ℕ) → digits n first (xs ++ y ∷ []) ≡ digits n first xs + digits n first (y ∷ [])
 digits_append n first [] y = omega (arith, digits_nil n first)

@@ -1,58 +1,43 @@
 //! The material of a position.
 
-ghost use Rattle.std.specs.Prelude.{◌≡◌, ◌<◌, ◌≤◌, ◌↔◌, ℕ, IfSome, IfNone, IsTrue, length};
-ghost use Rattle.place_index.specs.Material.{tally_of};
-ghost use Rattle.place_index.specs.Men.{codes_of};
-ghost use Rattle.place_index.specs.Placed.{IsMaterialOf, key_by_weight, men_on, weight, weight_of};
+ghost use Rattle.std.specs.Prelude.{◌≡◌, ◌<◌, ℕ, IfSome, IfNone};
+ghost use Rattle.place_index.specs.Placed.{HasTally, IsMaterialOf, key_by_tally, men_on, rotated};
 
 use crate::man::Man;
 use crate::material::Material;
-use crate::sweep::{exchange, is_named, men_on, tally};
-use crate::tables::{KEYS, WEIGHTS};
+use crate::sweep::men_on;
+use crate::tables::KEYS;
 use board_core::Position;
 
-fn code_weight(code: u8) -> usize
-    ensures is { result ≡ weight code }
-    ensures most { result ≤ 744 }
+/// The tally of the same men with colours exchanged.
+pub(crate) fn rotated(tally: u64) -> u64
+    ensures { result ≡ rotated tally }
 {
-    if code < 16 {
-        WEIGHTS[code as usize] as usize
-    } else {
-        0
-    }
+    tally.rotate_left(32)
 }
 
-/// The weight of the men, by which their material is found.
-fn weight(men: &[Man]) -> usize
-    requires { length men.now ≤ 5 }
-    ensures { result ≡ weight_of (codes_of men.now) }
+/// The only key that men with this tally can have, in the table's colours or with colours exchanged; 145 for none.
+fn key_by_tally(tally: u64) -> u8
+    ensures { result ≡ key_by_tally tally }
 {
-    let mut sum = 0usize;
-    for man in men {
-        let more = code_weight(man.code);
-        sum += more;
-    }
-    sum
+    let greater = tally.max(rotated(tally));
+    KEYS[(greater % 1181) as usize]
 }
 
-fn key_by_weight(weight: usize) -> u8
-    requires { weight < 2233 }
-    ensures { result ≡ key_by_weight weight }
+/// The material of men with this tally, in the table's colours or with colours exchanged.
+pub(crate) fn material_by_tally(tally: u64) -> Option<Material>
+    ensures found { IfSome result (λ m. (m < 145) × HasTally m tally) }
+    ensures none { IfNone result ((key : ℕ) → key < 145 → HasTally key tally → ⊥) }
 {
-    KEYS[weight]
-}
-
-/// Whether the men, which have this tally, are those of the table, in its colours or with colours exchanged.
-fn is_material_of(material: Material, men: &mut [Man], of_men: u64) -> bool
-    requires few { length men.old ≤ 5 }
-    requires tally { of_men ≡ tally_of (codes_of men.old) }
-    ensures { IsTrue result ↔ IsMaterialOf material men.old }
-{
-    if is_named(material, men, of_men) {
-        return true;
+    let Some(material) = Material::with_key(key_by_tally(tally)) else {
+        return None;
+    };
+    let own = material.tally();
+    if tally == own {
+        return Some(material);
     }
-    exchange(men);
-    is_named(material, men, tally(men))
+    let other = rotated(tally);
+    if other == own { Some(material) } else { None }
 }
 
 impl Material {
@@ -63,23 +48,10 @@ impl Material {
         ensures none { IfNone result ((key : ℕ) → key < 145 → IsMaterialOf key (men_on position.now.men) → ⊥) }
     {
         let _position = position.parts();
-        if position.men() > 5 {
-            return None;
-        }
         let mut men = [Man::default(); 5];
-        let (count, tally) = men_on(position, &mut men);
-        let weight = weight(&men[..count]);
-        if weight >= 2233 {
-            return None;
-        }
-        let key = key_by_weight(weight);
-        let Some(material) = Material::with_key(key) else {
+        let Some((_, tally)) = men_on(position, &mut men) else {
             return None;
         };
-        if is_material_of(material, &mut men[..count], tally) {
-            Some(material)
-        } else {
-            None
-        }
+        material_by_tally(tally)
     }
 }

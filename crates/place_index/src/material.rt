@@ -161,6 +161,7 @@ impl Material {
     /// The material with this key, `None` from 145 on.
     pub(crate) fn with_key(key: u8) -> Option<Material>
         ensures is { IfSome result (λ m. m ≡ key) }
+        ensures known { IfSome result (λ m. m < 145) }
         ensures none { IfNone result (145 ≤ key) }
     {
         if key >= 145 {

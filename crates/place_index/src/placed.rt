@@ -1,5 +1,4 @@
-ghost use Rattle.std.specs.Prelude.{◌≡◌, ◌<◌, ◌≤◌, ◌-◌, true, length, cond};
-ghost use Rattle.board_core.specs.Position.{IsPosition};
+ghost use Rattle.std.specs.Prelude.{◌≡◌, ◌<◌, ◌≤◌, ◌-◌, ℕ, IfNone, IfSome, true, take, cond};
 ghost use Rattle.place_index.specs.Index.{IsPlacement};
 ghost use Rattle.place_index.specs.Material.{tally_of};
 ghost use Rattle.place_index.specs.Men.{codes_of, exchanged};
@@ -7,6 +6,7 @@ ghost use Rattle.place_index.specs.Placed.{IsNamed, IsMaterialOf, IsSymmetric, I
 ghost use Rattle.place_index.specs.Shape.{has_pawns};
 ghost use Rattle.place_index.specs.Turning.{lead_file, lead_pawn, lead_square, left_file};
 
+use crate::finding::material_by_tally;
 use crate::man::Man;
 use crate::material::Material;
 use crate::sweep::{exchange, men_on};
@@ -144,6 +144,55 @@ fn side_after(side: u8, exchange: bool) -> u8
     if exchange { 1 - side } else { side }
 }
 
+/// The position's men, which are the first `count` of these, as their table sees them.
+fn looked_up(
+    material: Material,
+    position: &Position,
+    mut men: [Man; 5],
+    count: usize,
+    exchanges: bool,
+) -> Placed
+    requires known { material < 145 }
+    requires men { take count men ≡ men_on position.now.men }
+    requires few { count ≤ 5 }
+    requires named { IsNamed material (cond exchanges (exchanged (men_on position.now.men)) (men_on position.now.men)) }
+    requires white { IsSymmetric material → cond exchanges (1 - side_number position.now.side) (side_number position.now.side) ≡ 0 }
+    ensures { IsLookedUp material position.now result }
+{
+    let _position = position.parts();
+    in_colours(&mut men, exchanges);
+    let lead = lead_square(material, &men[..count]);
+    Placed {
+        material,
+        men,
+        count: count as u8,
+        side: side_after(side_number(position.side()), exchanges),
+        lead,
+        file: left_file(lead),
+    }
+}
+
+impl Placed {
+    /// The position as its table sees it, found by one look at its men: what `Material::of` finds, and then what `place` gives for
+    /// that material. `None` for bare kings and for more than five men.
+    pub fn of(position: &Position) -> Option<Placed>
+        ensures material { IfSome result (λ placed. IsMaterialOf placed.material (men_on position.now.men)) }
+        ensures placed { IfSome result (λ placed. IsLookedUp placed.material position.now placed) }
+        ensures none { IfNone result ((key : ℕ) → key < 145 → IsMaterialOf key (men_on position.now.men) → ⊥) }
+    {
+        let _position = position.parts();
+        let mut men = [Man::default(); 5];
+        let Some((count, tally)) = men_on(position, &mut men) else {
+            return None;
+        };
+        let Some(material) = material_by_tally(tally) else {
+            return None;
+        };
+        let exchanges = is_exchanged(material, position, tally);
+        Some(looked_up(material, position, men, count, exchanges))
+    }
+}
+
 /// A position as its table sees it (Syzygy tables): colours are exchanged, and squares changed to the opposite rank, where
 /// white's men are the name's second side, and for symmetric material with black to move. That the material is the
 /// position's is the caller's condition.
@@ -154,16 +203,9 @@ pub fn place(position: &Position, material: &Material) -> Placed
     let _position = position.parts();
     let _key = material.key();
     let mut men = [Man::default(); 5];
-    let (count, tally) = men_on(position, &mut men);
+    let Some((count, tally)) = men_on(position, &mut men) else {
+        unreachable!()
+    };
     let exchanges = is_exchanged(*material, position, tally);
-    in_colours(&mut men, exchanges);
-    let lead = lead_square(*material, &men[..count]);
-    Placed {
-        material: *material,
-        men,
-        count: count as u8,
-        side: side_after(side_number(position.side()), exchanges),
-        lead,
-        file: left_file(lead),
-    }
+    looked_up(*material, position, men, count, exchanges)
 }

@@ -1,13 +1,12 @@
 //! The men of a position, and their codes.
 
-ghost use Rattle.std.specs.Prelude.{◌≡◌, ◌<◌, ◌≤◌, ◌↔◌, ◌∷◌, [], IsTrue, drop, length, take};
+ghost use Rattle.std.specs.Prelude.{◌≡◌, ◌<◌, ◌≤◌, ◌∷◌, [], IfNone, IfSome, length, take};
 ghost use Rattle.place_index.specs.Material.{tally_of};
 ghost use Rattle.place_index.specs.Men.{codes_of, exchanged, other_side};
-ghost use Rattle.place_index.specs.Placed.{IsNamed, code_of, men_on};
+ghost use Rattle.place_index.specs.Placed.{code_of, men_on};
 ghost use Rattle.place_index.specs.Square.{bottom_top};
 
 use crate::man::Man;
-use crate::material::{Material, men as material_men};
 use crate::tables::CODE_TALLIES;
 use board_core::{Kind, Piece, Position, Side, Square};
 
@@ -40,34 +39,40 @@ fn known_tally(code: u8) -> u64
     CODE_TALLIES[code as usize]
 }
 
-/// Puts the men of a position into the first places in order of square; how many they are, with how often each code from 0 to
-/// 15 stands among them, four bits for each.
-pub(crate) fn men_on(position: &Position, men: &mut [Man; 5]) -> (usize, u64)
-    requires { length (men_on position.now.men) ≤ 5 }
-    ensures men { take result.0 men.new ≡ men_on position.now.men }
-    ensures later { drop result.0 men.new ≡ drop result.0 men.old }
-    ensures few { result.0 ≤ 5 }
-    ensures tally { result.1 ≡ tally_of (codes_of (men_on position.now.men)) }
+/// Puts the men of a position into the first places in order of square; how many they are, and their tally: how often each
+/// code from 0 to 15 stands among them, four bits for each. `None` for more than five men.
+pub(crate) fn men_on(position: &Position, men: &mut [Man; 5]) -> Option<(usize, u64)>
+    ensures men { IfSome result (λ all. take all.0 men.new ≡ men_on position.now.men) }
+    ensures few { IfSome result (λ all. all.0 ≤ 5) }
+    ensures tally { IfSome result (λ all. all.1 ≡ tally_of (codes_of (men_on position.now.men))) }
+    ensures none { IfNone result (5 < length (men_on position.now.men)) }
 {
     let _position = position.parts();
-    let mut count = 0usize;
     let mut tally = 0u64;
     let mut rest = position.occupied();
     let mut next = 0u8;
-    while !rest.is_empty() {
+    for count in 0..5usize {
+        if rest.is_empty() {
+            return Some((count, tally));
+        }
         let square = rest.lowest();
         let number = square.number();
         let Some(piece) = position.piece_at(square) else {
-            break;
+            unreachable!()
         };
         let code = code_of(piece);
         men[count] = Man { code, square };
-        count += 1;
         tally += known_tally(code);
         rest = rest.without(square);
         next = number + 1;
     }
-    (count, tally)
+    if rest.is_empty() {
+        return Some((5, tally));
+    }
+    // A sixth man stands on this square; the proof alone reads it.
+    let sixth = rest.lowest();
+    let _number = sixth.number();
+    None
 }
 
 /// The same man of the other side, on the rank that lies opposite.
@@ -87,39 +92,4 @@ pub(crate) fn exchange(men: &mut [Man])
     for man in men.iter_mut() {
         *man = exchanged(*man);
     }
-}
-
-/// What a man adds to a tally, nothing for a code from 16 on.
-fn code_tally(code: u8) -> u64
-    ensures is { result ≡ tally_of (code ∷ []) }
-    ensures most { result ≤ 1152921504606846976 }
-{
-    if code < 16 { known_tally(code) } else { 0 }
-}
-
-/// How often each code from 0 to 15 stands among the men, four bits for each.
-pub(crate) fn tally(men: &[Man]) -> u64
-    requires { length men.now ≤ 5 }
-    ensures { result ≡ tally_of (codes_of men.now) }
-{
-    let mut sum = 0u64;
-    for man in men {
-        let more = code_tally(man.code);
-        sum += more;
-    }
-    sum
-}
-
-/// Whether the men, which have this tally, are those of the table in its colours.
-pub(crate) fn is_named(material: Material, men: &[Man], tally: u64) -> bool
-    requires few { length men.now ≤ 5 }
-    requires tally { tally ≡ tally_of (codes_of men.now) }
-    ensures { IsTrue result ↔ IsNamed material men.now }
-{
-    let number = material_men(material);
-    if men.len() != number as usize {
-        return false;
-    }
-    let wanted = material.tally();
-    tally == wanted
 }

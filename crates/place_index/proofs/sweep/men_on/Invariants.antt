@@ -1,18 +1,14 @@
-use Rattle.std.proofs.Common.{◌≡◌, ◌≤◌, ◌-◌, ◌*◌, drop, length, take}
+use Rattle.std.proofs.Common.{◌≡◌, ◌≤◌, ◌*◌, length, take}
 use Rattle.place_index.specs.Material.{tally_of}
 use Rattle.place_index.specs.Men.{codes_of}
 use Rattle.place_index.proofs.MenOn.{IsSwept}
 use Rattle.place_index.proofs.sweep.men_on.Given as goal
 
-abbrev pub invariant-loop-rest : goal.invariant-loop-rest
-invariant-loop-rest l = record {
+abbrev pub invariant-loop-count : goal.invariant-loop-count
+invariant-loop-count l = record {
   swept : IsSwept l.position.men l.next l.rest (take l.count l.men);
-  later : drop l.count l.men ≡ drop l.count l.initial.men;
   few : l.count ≤ 5;
   size : length l.men ≡ 5;
   tally : l.tally ≡ tally_of (codes_of (take l.count l.men));
   most : l.tally ≤ 1152921504606846976 * l.count;
 }
-
-abbrev pub decreases-loop-rest : goal.decreases-loop-rest
-decreases-loop-rest l = 64 - l.next
