@@ -18,7 +18,7 @@ use crate::found::Weighed;
 use crate::mobility::is_mate;
 use crate::moving::{after_pawn_step, after_quiet_move, has_pawn};
 use crate::set::Set;
-use crate::shelf::{Shelf, material_of, placed, slot};
+use crate::shelf::{Shelf, placed, slot};
 use crate::verdict::is_out_of_scope;
 use crate::wdl::{Wdl, turned};
 use board_core::Position;
@@ -170,13 +170,13 @@ impl<'a> Shelf<'a> {
         ensures is { IfOk result (λ reach. reach ≡ by_own_table self.now.tables (dtz_to self.now.tables left) position.now outcome) }
         ensures within { IfOk result (λ reach. IfOk reach (λ d. plies d ≤ 131172 + left)) }
     {
-        let Some(material) = material_of(position) else {
+        let Some(placed) = placed(position) else {
             return Ok(Ok(Distance::Draw));
         };
+        let material = placed.material();
         let Some(table) = self.table(Kind::Dtz, material) else {
             return Ok(Err(ValueFault::NotCovered(material)));
         };
-        let placed = placed(position, &material);
         if table.stores(placed.side(), placed.file()) {
             let number = self.distance(blocks, alloc, table, &placed, outcome);
             return Ok(stored(material, outcome, number));

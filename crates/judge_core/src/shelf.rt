@@ -1,7 +1,6 @@
 //! Tables in their slots.
 
-ghost use Rattle.std.specs.Prelude.{◌≡◌, ◌↔◌, ◌<◌, ◌≤◌, IfOk, IfSome, IsSome, OnOk, OnErr, None, Some, Err, option_map, replicate, slice_set};
-ghost use Rattle.place_index.specs.Placed.{IsMaterialOf, men_on};
+ghost use Rattle.std.specs.Prelude.{◌≡◌, ◌↔◌, ◌<◌, ◌≤◌, IfNone, IfOk, IfSome, IsSome, OnOk, OnErr, None, Some, Err, option_map, replicate, slice_set};
 ghost use Rattle.table_file.specs.Tables.{IsFile};
 ghost use Rattle.table_file.specs.declared.kind.Kind.TheVariants.{Wdl as WdlKind};
 ghost use Rattle.judge_core.specs.Blocks.{AreRight};
@@ -13,7 +12,7 @@ use crate::blocks::Blocks;
 use crate::fault::{SetFault, ValueFault};
 use crate::wdl::Wdl;
 use board_core::Position;
-use place_index::{Material, Placed, index, place};
+use place_index::{Material, Placed, index};
 use std::alloc::{AllocError, Global};
 use std::marker::Model;
 use table_file::{Kind, Table};
@@ -57,30 +56,22 @@ pub(crate) fn slot(kind: Kind, material: Material) -> usize
     }
 }
 
-/// The position as its table sees it.
-pub(crate) fn placed(position: &Position, material: &Material) -> Placed
-    requires known { material.now < 145 }
-    requires own { IsMaterialOf material.now (men_on position.now.men) }
-    ensures is { result ≡ placed_of material.now position.now }
-    ensures material { result.material ≡ material.now }
-    ensures side { result.side < 2 }
-    ensures file { IsFile material.now result.file }
+/// The position as its table sees it, found by one look at its men: none for bare kings and for more than five men.
+pub(crate) fn placed(position: &Position) -> Option<Placed>
+    ensures none { IfNone result (material_of position.now ≡ None) }
+    ensures some { IfSome result (λ placed. material_of position.now ≡ Some placed.material) }
+    ensures is { IfSome result (λ placed. placed ≡ placed_of placed.material position.now) }
+    ensures known { IfSome result (λ placed. placed.material < 145) }
+    ensures side { IfSome result (λ placed. placed.side < 2) }
+    ensures file { IfSome result (λ placed. IsFile placed.material placed.file) }
 {
-    let placed = place(position, material);
-    let _side = placed.side();
-    let _file = placed.file();
-    placed
-}
-
-/// The material of the position: none for bare kings and for more than five men.
-pub(crate) fn material_of(position: &Position) -> Option<Material>
-    ensures is { result ≡ material_of position.now }
-    ensures own { IfSome result (λ m. (m < 145) × IsMaterialOf m (men_on position.now.men)) }
-{
-    match Material::of(position) {
-        Some(material) => {
+    match Placed::of(position) {
+        Some(placed) => {
+            let material = placed.material();
             let _key = material.key();
-            Some(material)
+            let _side = placed.side();
+            let _file = placed.file();
+            Some(placed)
         }
         None => None,
     }
@@ -185,13 +176,13 @@ impl<'a> Shelf<'a> {
         ensures is { result ≡ table_value self.now.tables position.now }
         ensures right { AreRight self.now blocks.new }
     {
-        let Some(material) = material_of(position) else {
+        let Some(placed) = placed(position) else {
             return Ok(Wdl::Draw);
         };
+        let material = placed.material();
         let Some(table) = self.table(Kind::Wdl, material) else {
             return Err(ValueFault::NotCovered(material));
         };
-        let placed = placed(position, &material);
         let Some(points) = self.entry(blocks, alloc, table, &placed) else {
             return Err(ValueFault::Damaged(material));
         };

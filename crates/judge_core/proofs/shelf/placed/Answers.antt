@@ -1,13 +1,16 @@
-use Rattle.std.proofs.Common.{◌∙◌, arith}
-use Rattle.judge_core.proofs.LookUp.{placed_is}
+use Rattle.std.proofs.Common.{◌∙◌, sym, arith}
+use Rattle.judge_core.proofs.LookUp.{material_found, material_none, placed_is}
 use Rattle.judge_core.proofs.Entries.{one_file}
 use Rattle.judge_core.proofs.shelf.placed.Goals as goal
 
-pub returns-clause-is : goal.returns-clause-is
-returns-clause-is c = placed_is _ _ _ c.requires.known c.place-placed.ensures
+pub returns-in-None-clause-none : goal.returns-in-None-clause-none
+returns-in-None-clause-none c = sym (material_none _ c.in-None.ensures.none)
 
-pub returns-clause-material : goal.returns-clause-material
-returns-clause-material c = c.place-placed.ensures.material
+pub returns-in-Some-clause-some : goal.returns-in-Some-clause-some
+returns-in-Some-clause-some c = sym (material_found _ _ c.key-key.ensures.below c.in-Some.ensures.material)
 
-pub returns-clause-file : goal.returns-clause-file
-returns-clause-file c = (omega (arith, c.file-file.ensures.left, c.file-file.ensures.is), λ none. c.place-placed.ensures.file ∙ one_file _ _ none)
+pub returns-in-Some-clause-is : goal.returns-in-Some-clause-is
+returns-in-Some-clause-is c = placed_is _ _ _ c.key-key.ensures.below c.in-Some.ensures.placed
+
+pub returns-in-Some-clause-file : goal.returns-in-Some-clause-file
+returns-in-Some-clause-file c = (omega (arith, c.file-file.ensures.left, c.file-file.ensures.is), λ none. c.in-Some.ensures.placed.file ∙ one_file _ _ none)
