@@ -1,15 +1,14 @@
 -- Captures: which are en passant, and that each takes a man.
-use Rattle.std.proofs.Common.{◌≡◌, ◌∙◌, sym, ap, subst, refl, All, Contains, ℕ, Bool, true, false, ◌||◌, not, is_some, is_none, List, [], ◌∷◌, Option, Some, None, filter, count_by, length, get_or, eqb, ◌<◌, ◌≤◌, ◌+◌, arith, inl, inr}
-use Rattle.std.specs.List.{list_all}
-use Rattle.std.proofs.lemmas.List.Elements.{filter_passes}
-use Rattle.std.proofs.lemmas.List.Sums.{length-filter}
-use Rattle.std.proofs.lemmas.Bool.{cases_Bool, and_parts, eq-eqb, ne_eqb}
+use Rattle.std.proofs.Common.{◌≡◌, ◌∙◌, sym, ap, subst, refl, All, ℕ, Bool, true, false, ◌&&◌, ◌||◌, not, is_some, is_none, List, [], ◌∷◌, Option, Some, None, filter, ◌+◌, arith, inl, inr}
+use Rattle.std.specs.List.{list_all, list_any}
+use Rattle.std.proofs.lemmas.List.Elements.{All-filter, filter_passes}
+use Rattle.std.proofs.lemmas.Bool.{cases_Bool, and_parts}
 use Rattle.board_core.specs.declared.piece.Piece.{Piece}
 use Rattle.board_core.specs.declared.parts.Parts.{Parts}
 use Rattle.board_core.specs.declared.moves.Move.{Move}
 use Rattle.board_core.specs.Attack.{man_at}
 use Rattle.board_core.specs.Position.{IsPosition}
-use Rattle.board_core.specs.ComputedMoves.{has_some, has_legal_move, is_en_passant, is_capture, legal_moves, legal_captures, position_after, count_of_men}
+use Rattle.board_core.specs.ComputedMoves.{has_some, has_legal_move, has_move_besides_en_passant, is_later, captures_after, is_square, is_en_passant, is_capture, legal_moves, legal_captures, position_after, count_of_men}
 use Rattle.board_core.proofs.ComputedMoves.{position_legal}
 use Rattle.board_core.proofs.ComputedMen.{capture_takes}
 use Rattle.judge_core.specs.Ends.{has_no_move}
@@ -26,37 +25,6 @@ module _ {X : Type 0} where
       step : filter f (filter t xs) ≡ filter g (filter t xs) → (b : Bool) → t x ≡ b → filter f (filter t (x ∷ xs)) ≡ filter g (filter t (x ∷ xs))
       step rest true e = rw (e, h x e, rest) refl
       step rest false e = rw e rest
-
-  pub filter_within : (t f : X → Bool) → ((x : X) → f x ≡ true → t x ≡ true) → (xs : List X) → filter f (filter t xs) ≡ filter f xs
-  filter_within t f h [] = refl
-  filter_within t f h (x ∷ xs) = step (filter_within t f h xs) (f x) (t x) refl refl
-    where
-      step : filter f (filter t xs) ≡ filter f xs → (a b : Bool) → f x ≡ a → t x ≡ b → filter f (filter t (x ∷ xs)) ≡ filter f (x ∷ xs)
-      step rest true true ef et = simp (ef, et, rest)
-      step rest true false ef et = absurd (let k = h x ef in cc)
-      step rest false true ef et = simp (ef, et, rest)
-      step rest false false ef et = simp (ef, et, rest)
-
-  filter_fewer : (f : X → Bool) (xs : List X) → length (filter f xs) ≤ length xs
-  filter_fewer f [] = omega arith
-  filter_fewer f (x ∷ xs) = step (filter_fewer f xs) (f x) refl
-    where
-      step : length (filter f xs) ≤ length xs → (b : Bool) → f x ≡ b → length (filter f (x ∷ xs)) ≤ length (x ∷ xs)
-      step rest true e = rw e (omega arith)
-      step rest false e = rw e (omega arith)
-
-  -- a test passes all members where the filter keeps as many
-  pub all-length : (f : X → Bool) (xs : List X) → list_all f xs ≡ true → length (filter f xs) ≡ length xs
-  all-length f [] h = refl
-  all-length f (x ∷ xs) h = let both = and_parts (f x) (list_all f xs) h in let rest = all-length f xs both.1 in rw both.0 (omega arith)
-
-  pub length-all : (f : X → Bool) (xs : List X) → length (filter f xs) ≡ length xs → list_all f xs ≡ true
-  length-all f [] h = refl
-  length-all f (x ∷ xs) h = step (length-all f xs) (f x) refl
-    where
-      step : (length (filter f xs) ≡ length xs → list_all f xs ≡ true) → (b : Bool) → f x ≡ b → list_all f (x ∷ xs) ≡ true
-      step rest true e = let k : length (filter f xs) ≡ length xs = (let h' = rw e at h in omega arith) in rw (e, rest k) refl
-      step rest false e = let k = filter_fewer f xs in let h' = rw e at h in absurd (omega arith)
 
 -- ---- en passant
 
@@ -101,43 +69,57 @@ passants p = filter_same (is_capture p) (lands_empty p) (is_en_passant p) (λ m 
 pub others : (p : Parts) → filter (λ m. not (lands_empty p m)) (legal_captures p) ≡ filter (λ m. not (is_en_passant p m)) (legal_captures p)
 others p = filter_same (is_capture p) (λ m. not (lands_empty p m)) (λ m. not (is_en_passant p m)) (λ m c. ap not (sym (one_test p m c))) (legal_moves p)
 
--- all en passant moves are among the captures
-pub passants_counted : (p : Parts) → length (filter (lands_empty p) (legal_captures p)) ≡ length (filter (is_en_passant p) (legal_moves p))
-passants_counted p = ap length (passants p ∙ filter_within (is_capture p) (is_en_passant p) (passant_is_capture p) (legal_moves p))
+-- ---- en passant alone
 
-pub count_of_passants : (p : Parts) (captures : List Move) (n : ℕ) → captures ≡ legal_captures p → n ≡ count_by (lands_empty p) captures → n ≡ length (filter (is_en_passant p) (legal_moves p))
-count_of_passants p captures n e c = c ∙ ap (count_by (lands_empty p)) e ∙ sym (length-filter (lands_empty p) (legal_captures p)) ∙ passants_counted p
+-- without an en passant square no move is en passant
+none_passes : (p : Parts) (m : Move) → p.en_passant ≡ None → is_en_passant p m ≡ true → ⊥
+unfolding is_en_passant
+none_passes p m none h =
+    let passed : is_square p.en_passant m.to ≡ true = (and_parts _ _ (and_parts _ _ (and_parts _ _ h).0).0).1 in
+    let never = rw none at passed in absurd cc
 
-unforced_in : (p : Parts) (ms : List Move) (n : ℕ) → n ≡ length (filter (is_en_passant p) ms) → n ≡ 0 → false ≡ are_en_passant p ms
-unforced_in p [] n c z = refl
-unforced_in p (x ∷ xs) n c z = elim (cases_Bool (list_all (is_en_passant p) (x ∷ xs))) [
-  | inl all ↦ (let k = all-length (is_en_passant p) (x ∷ xs) all in absurd (omega arith))
-  | inr some ↦ sym some
-]
+pub no_square : (p : Parts) → p.en_passant ≡ None → false ≡ is_forced p
+unfolding is_forced
+no_square p none = step (legal_moves p)
+  where
+    step : (ms : List Move) → false ≡ are_en_passant p ms
+    step [] = refl
+    step (m ∷ ms) = elim (cases_Bool (list_all (is_en_passant p) (m ∷ ms))) [
+      | inl all ↦ absurd (none_passes p m none (and_parts (is_en_passant p m) (list_all (is_en_passant p) ms) all).0)
+      | inr some ↦ sym some
+    ]
 
-forced_in : (p : Parts) (ms : List Move) (n : ℕ) (b : Bool) → n ≡ length (filter (is_en_passant p) ms) → ¬ (n ≡ 0) → b ≡ eqb (length ms) n → b ≡ are_en_passant p ms
-forced_in p [] n b c some e = absurd (some c)
-forced_in p (x ∷ xs) n b c some e = elim (cases_Bool (list_all (is_en_passant p) (x ∷ xs))) [
-  | inl all ↦ e ∙ eq-eqb (length (x ∷ xs)) n (sym (all-length (is_en_passant p) (x ∷ xs) all) ∙ sym c) ∙ sym all
-  | inr other ↦ e ∙ ne_eqb (length (x ∷ xs)) n (λ q. (let k = length-all (is_en_passant p) (x ∷ xs) (sym c ∙ sym q) in cc)) ∙ sym other
-]
+all_not : (f : Move → Bool) (ms : List Move) → list_all f ms ≡ not (list_any (λ m. not (f m)) ms)
+all_not f [] = refl
+all_not f (m ∷ ms) = step (all_not f ms) (f m) refl
+  where
+    step : list_all f ms ≡ not (list_any (λ x. not (f x)) ms) → (b : Bool) → f m ≡ b → list_all f (m ∷ ms) ≡ not (list_any (λ x. not (f x)) (m ∷ ms))
+    step rest true e = rw e rest
+    step rest false e = rw e refl
 
-module _ (p : Parts) (n : ℕ) (counted : n ≡ length (filter (is_en_passant p) (legal_moves p))) where
-  pub unforced : n ≡ 0 → false ≡ is_forced p
-  unfolding is_forced
-  unforced z = unforced_in p (legal_moves p) n counted z
+forced_by : (p : Parts) → (has_legal_move p && not (has_move_besides_en_passant p)) ≡ is_forced p
+unfolding is_forced has_legal_move has_move_besides_en_passant
+forced_by p = step (legal_moves p)
+  where
+    step : (ms : List Move) → (has_some ms && not (list_any (λ m. not (is_en_passant p m)) ms)) ≡ are_en_passant p ms
+    step [] = refl
+    step (m ∷ ms) = sym (all_not (is_en_passant p) (m ∷ ms))
 
-  pub forced : (moves : List Move) (l : ℕ) → moves ≡ legal_moves p → ¬ (n ≡ 0) → l ≡ length moves → eqb l n ≡ is_forced p
-  unfolding is_forced
-  forced moves l is some e = forced_in p (legal_moves p) n (eqb l n) counted some (ap (λ k. eqb k n) (e ∙ ap length is))
+pub forced : (p : Parts) (some other : Bool) → some ≡ has_legal_move p → other ≡ has_move_besides_en_passant p → (some && not other) ≡ is_forced p
+forced p some other s o = rw (s, o) (forced_by p)
+
+pub unforced : (p : Parts) → false ≡ has_legal_move p → false ≡ is_forced p
+unforced p s = forced p false (has_move_besides_en_passant p) s refl
 
 -- ---- walking over captures
 
-pub is_captured : (p : Parts) (xs : List Move) (i : ℕ) (m : Move) → xs ≡ legal_captures p → i < length xs → m ≡ get_or xs i m → is_capture p m ≡ true
-is_captured p xs i m e lt at =
-    let all : All (λ x. is_capture p x ≡ true) xs = (let P : List Move → Type 0 = λ ys. All (λ x. is_capture p x ≡ true) ys in subst P (sym e) (filter_passes (is_capture p) (legal_moves p))) in
-    let P : Move → Type 0 = λ x. is_capture p x ≡ true in
-    subst P (sym at) (all i m lt)
+-- the next capture is one
+pub is_captured : (p : Parts) (last : Option Move) (m : Move) (rest : List Move) → captures_after p last ≡ m ∷ rest → is_capture p m ≡ true
+unfolding captures_after
+is_captured p last m rest e =
+    let all : All (λ x. is_capture p x ≡ true) (captures_after p last) = All-filter (is_later last) (λ x. is_capture p x ≡ true) (legal_captures p) (filter_passes (is_capture p) (legal_moves p)) in
+    let there : All (λ x. is_capture p x ≡ true) (m ∷ rest) = subst (All (λ x. is_capture p x ≡ true)) e all in
+    there 0 m (omega arith)
 
 -- each capture takes a man
 pub falls : (p q : Parts) (m : Move) → IsPosition p → is_capture p m ≡ true → position_after p m ≡ Some q → count_of_men q + 1 ≡ count_of_men p

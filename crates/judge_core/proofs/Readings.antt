@@ -1,12 +1,12 @@
 -- What one capture more gives.
 use Rattle.std.proofs.Common.{◌≡◌, ◌∙◌, sym, ap, refl, ℕ, Bool, true, false, not, List, [], ◌∷◌, ◌++◌, Option, Some, None, option_map, filter, filter_map, fold, Result, Ok, Err, length, take, get_or, ◌<◌, ◌+◌}
 use Rattle.std.specs.Result.{result_ok}
-use Rattle.std.proofs.lemmas.List.{take_more}
+use Rattle.std.proofs.lemmas.List.{append_assoc, append-nil}
 use Rattle.std.proofs.lemmas.List.Elements.{filter_map-append, filter-append}
 use Rattle.std.proofs.lemmas.List.Sums.{fold-append}
 use Rattle.board_core.specs.declared.parts.Parts.{Parts}
 use Rattle.board_core.specs.declared.moves.Move.{Move}
-use Rattle.board_core.specs.ComputedMoves.{position_after, legal_captures, is_en_passant}
+use Rattle.board_core.specs.ComputedMoves.{position_after, legal_captures, is_en_passant, is_later, captures_after}
 use Rattle.judge_core.specs.declared.wdl.Wdl.TheVariants.{Loss}
 use Rattle.judge_core.specs.declared.fault.ValueFault.{ValueFault}
 use Rattle.judge_core.specs.declared.fault.ValueFault.TheVariants.{NotCovered, Damaged}
@@ -71,21 +71,41 @@ pub found-nothing : (value : Parts → Reading) (p : Parts) → nothing_found �
 unfolding found_in
 found-nothing value p = refl
 
--- A step of the walk, for both ways through its body.
-module _ (value : Parts → Reading) (p : Parts) (xs : List Move) (i : ℕ) (m : Move) (found found' : Found) (lt : i < length xs) (is : m ≡ get_or xs i m) (so_far : found ≡ found_in value p (take i xs)) where
-  one_more : take (i + 1) xs ≡ take i xs ++ m ∷ []
-  one_more = take_more xs i m lt ∙ ap (λ x. take i xs ++ x ∷ []) (sym is)
+-- ---- a walk over the captures
 
-  pub walk-unplayed : position_after p m ≡ None → found' ≡ found → found' ≡ found_in value p (take (i + 1) xs)
-  walk-unplayed e g = rw (one_more, found-step value p (take i xs) m, e, ← so_far) g
+-- so much has been found up to the last capture, and what comes after it is still to be noted
+pub record Walked (value : Parts → Reading) (p : Parts) (found : Found) (last : Option Move) : Type 0 where
+  pub done : List Move
+  pub so_far : found ≡ found_in value p done
+  pub whole : done ++ captures_after p last ≡ legal_captures p
 
-  pub walk-played : (q : Parts) (r : Reading) (passant : Bool) → position_after p m ≡ Some q → r ≡ turned (value q) → passant ≡ lands_empty p m → found' ≡ noted found r passant → found' ≡ found_in value p (take (i + 1) xs)
-  walk-played q r passant e er ep g = rw (one_more, found-step value p (take i xs) m, e, ← so_far, ← er, ← ep) g
+all_come : (moves : List Move) → filter (is_later None) moves ≡ moves
+all_come [] = refl
+all_come (m ∷ moves) = ap (λ ms. m ∷ ms) (all_come moves)
 
-pub with_own : (tables : Tables) (value : Parts → Reading) (p : Parts) (xs : List Move) (found : Found) (own : Reading) (b : Bool) (w : Result Weighed ValueFault) → xs ≡ legal_captures p → found ≡ found_in value p xs → own ≡ table_value tables p → b ≡ is_forced p → w ≡ closed found own b → w ≡ weighed_by tables value p
+pub walk-begins : (value : Parts → Reading) (p : Parts) (found : Found) → found ≡ nothing_found → Walked value p found None
+unfolding captures_after
+walk-begins value p found e = record {
+  done = [];
+  so_far = e ∙ found-nothing value p;
+  whole = all_come (legal_captures p);
+}
+
+pub walk-goes_on : (value : Parts → Reading) (p q : Parts) (found found' : Found) (last : Option Move) (m : Move) (r : Reading) (passant : Bool) → Walked value p found last → captures_after p last ≡ m ∷ captures_after p (Some m)
+    → position_after p m ≡ Some q → r ≡ turned (value q) → passant ≡ lands_empty p m → found' ≡ noted found r passant → Walked value p found' (Some m)
+walk-goes_on value p q found found' last m r passant w next e er ep g = record {
+  done = w.done ++ m ∷ [];
+  so_far = rw (found-step value p w.done m, e, ← w.so_far, ← er, ← ep) g;
+  whole = append_assoc w.done (m ∷ []) (captures_after p (Some m)) ∙ ap (λ ms. w.done ++ ms) (sym next) ∙ w.whole;
+}
+
+pub walk-ends : (value : Parts → Reading) (p : Parts) (found : Found) (last : Option Move) → Walked value p found last → captures_after p last ≡ [] → found ≡ found_in value p (legal_captures p)
+walk-ends value p found last w none = w.so_far ∙ ap (found_in value p) (sym (append-nil w.done) ∙ ap (λ ms. w.done ++ ms) (sym none) ∙ w.whole)
+
+pub with_own : (tables : Tables) (value : Parts → Reading) (p : Parts) (found : Found) (own : Reading) (b : Bool) (w : Result Weighed ValueFault) → found ≡ found_in value p (legal_captures p) → own ≡ table_value tables p → b ≡ is_forced p → w ≡ closed found own b → w ≡ weighed_by tables value p
 unfolding found_in weighed_by
-with_own tables value p xs found own b w e f o i c =
-    c ∙ rw (f, o, i, e, passants p, others p) (ap (λ (x : Faults). unless (told x) (Ok (record {
+with_own tables value p found own b w f o i c =
+    c ∙ rw (f, o, i, passants p, others p) (ap (λ (x : Faults). unless (told x) (Ok (record {
       capture = greatest (after value p (filter (λ m. not (is_en_passant p m)) (legal_captures p)));
       passant = greatest (after value p (filter (is_en_passant p) (legal_captures p)));
       own = value_or_loss (table_value tables p);

@@ -92,7 +92,7 @@ impl<'a> Shelf<'a> {
         let mut steps = Steps::new();
         for m in &moves {
             if let Some(after) = after_pawn_step(position, m) {
-                let reading = self.wdl_of(blocks, alloc, &after)?;
+                let reading = self.wdl_of(blocks, alloc, &after);
                 steps = steps.note(value, &turned(reading));
             }
         }
@@ -266,7 +266,7 @@ impl<'a> Shelf<'a> {
         if left == 0 || position.men() <= 2 {
             return Ok(Ok(Distance::Draw));
         }
-        let weighed = self.weigh(blocks, alloc, position)?;
+        let weighed = self.weigh(blocks, alloc, position);
         self.by_weighed(blocks, alloc, position, &weighed, left - 1)
     }
 

@@ -41,7 +41,7 @@ impl<'a> Set<'a> {
         if position.men() <= 2 {
             return Ok(Some(Verdict::TableDraw));
         }
-        let weighed = self.shelf.weigh(&mut self.blocks, alloc, position)?;
+        let weighed = self.shelf.weigh(&mut self.blocks, alloc, position);
         let reading = worth_in(weighed);
         let winner = match &reading {
             Ok(Wdl::Win) => position.side(),

@@ -1,12 +1,11 @@
 //! WDL probes.
 
-ghost use Rattle.std.specs.Prelude.{◌≡◌, IfOk, count_by};
+ghost use Rattle.std.specs.Prelude.{◌≡◌, ◌≢◌, Err};
 ghost use Rattle.board_core.specs.Position.{IsPosition};
-ghost use Rattle.board_core.specs.ComputedMoves.{legal_captures};
-ghost use Rattle.judge_core.specs.Found.{lands_empty};
 ghost use Rattle.judge_core.specs.Probing.{is_forced, weighed_by, wdl_of};
 ghost use Rattle.judge_core.specs.Ruling.{is_out_of_scope};
 ghost use Rattle.judge_core.specs.Answers.{IsProbe};
+ghost use Rattle.judge_core.specs.declared.fault.ProbeFault.TheVariants.{OutOfMemory};
 ghost use Rattle.judge_core.specs.Blocks.{AreRight};
 
 use crate::blocks::Blocks;
@@ -17,31 +16,17 @@ use crate::set::Set;
 use crate::shelf::Shelf;
 use crate::verdict::is_out_of_scope;
 use crate::wdl::{Wdl, turned};
-use board_core::{Move, Position};
-use std::alloc::{AllocError, Global};
+use board_core::Position;
+use std::alloc::Global;
 
-/// How many of the captures are en passant.
-fn count_en_passant(position: &Position, captures: &[Move]) -> usize
-    ensures { result ≡ count_by (lands_empty position.now) captures.now }
+/// Whether each legal move is en passant, and there is one.
+fn is_forced(position: &Position) -> bool
+    ensures { result ≡ is_forced position.now }
 {
-    captures
-        .iter()
-        .filter(|m| lands_empty(position, *m))
-        .count()
-}
-
-/// Whether each legal move is en passant, and there is one. All moves are listed only where some capture is en passant.
-#[tactic(auto, unfolding(crate::specs::Probing::is_forced))]
-fn is_forced(alloc: Global, position: &Position, captures: &[Move]) -> Result<bool, AllocError>
-    requires { captures.now ≡ legal_captures position.now }
-    ensures { IfOk result (λ forced. forced ≡ is_forced position.now) }
-{
-    let passants = count_en_passant(position, captures);
-    if passants == 0 {
-        return Ok(false);
+    match position.en_passant() {
+        Some(_) => position.has_legal_move() && !position.has_move_besides_en_passant(),
+        None => false,
     }
-    let moves = position.legal(alloc)?;
-    Ok(moves.len() == passants)
 }
 
 impl<'a> Shelf<'a> {
@@ -52,23 +37,21 @@ impl<'a> Shelf<'a> {
         blocks: &mut Blocks,
         alloc: Global,
         position: &Position,
-    ) -> Result<Result<Weighed, ValueFault>, AllocError>
+    ) -> Result<Weighed, ValueFault>
         requires position { IsPosition position.now }
         requires right { AreRight self.now blocks.old }
-        ensures is { IfOk result (λ weighed. weighed ≡ weighed_by self.now.tables (wdl_of self.now.tables) position.now) }
+        ensures is { result ≡ weighed_by self.now.tables (wdl_of self.now.tables) position.now }
         ensures right { AreRight self.now blocks.new }
     {
-        let captures = position.captures(alloc)?;
         let mut found = Found::new();
-        for m in &captures {
-            if let Some(after) = position.play(*m) {
-                let reading = self.wdl_of(blocks, alloc, &after)?;
-                found = found.note(&turned(reading), lands_empty(position, m));
-            }
+        let mut last = None;
+        'captures: while let Some((m, after)) = position.capture_after(last) {
+            let reading = self.wdl_of(blocks, alloc, &after);
+            found = found.note(&turned(reading), lands_empty(position, &m));
+            last = Some(m);
         }
-        let forced = is_forced(alloc, position, &captures)?;
         let own = self.table_value(blocks, alloc, position);
-        Ok(found.close(&own, forced))
+        found.close(&own, is_forced(position))
     }
 
     /// What the position is worth to the side to move, wherever its tables are there and whole.
@@ -78,35 +61,34 @@ impl<'a> Shelf<'a> {
         blocks: &mut Blocks,
         alloc: Global,
         position: &Position,
-    ) -> Result<Result<Wdl, ValueFault>, AllocError>
+    ) -> Result<Wdl, ValueFault>
         requires position { IsPosition position.now }
         requires right { AreRight self.now blocks.old }
-        ensures is { IfOk result (λ reading. reading ≡ wdl_of self.now.tables position.now) }
+        ensures is { result ≡ wdl_of self.now.tables position.now }
         ensures right { AreRight self.now blocks.new }
     {
         if position.men() <= 2 {
-            return Ok(Ok(Wdl::Draw));
+            return Ok(Wdl::Draw);
         }
-        let weighed = self.weigh(blocks, alloc, position)?;
-        Ok(worth_in(weighed))
+        let weighed = self.weigh(blocks, alloc, position);
+        worth_in(weighed)
     }
 }
 
 impl<'a> Set<'a> {
     /// What the position is worth to the side to move by the WDL tables, captures and en passant looked at.
     ///
-    /// The first of the faults that applies is told, in the order of `ProbeFault`. `OutOfMemory` comes only where memory for a list of
-    /// moves is refused, at a position in scope. The set stays as it was but for its cache.
+    /// The first of the faults that applies is told, in the order of `ProbeFault`, and never `OutOfMemory`: the probe takes memory only
+    /// for its cache, and does without where that is refused. The set stays as it was but for its cache.
     pub fn wdl(&mut self, alloc: Global, position: &Position) -> Result<Wdl, ProbeFault>
         ensures answer { IsProbe result (is_out_of_scope position.now) (wdl_of self.old.tables position.now) }
+        ensures no_memory { result ≢ Err OutOfMemory }
         ensures unchanged { self.new ≡ self.old }
     {
         if is_out_of_scope(position) {
             return Err(ProbeFault::OutOfScope);
         }
-        let Ok(reading) = self.shelf.wdl_of(&mut self.blocks, alloc, position) else {
-            return Err(ProbeFault::OutOfMemory);
-        };
+        let reading = self.shelf.wdl_of(&mut self.blocks, alloc, position);
         match &reading {
             Ok(value) => Ok(*value),
             Err(ValueFault::NotCovered(material)) => Err(ProbeFault::NotCovered(*material)),

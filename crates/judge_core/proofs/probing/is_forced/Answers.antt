@@ -1,11 +1,12 @@
-use Rattle.std.proofs.Common.{◌≡◌, length, rules}
-use Rattle.judge_core.proofs.Captures.{count_of_passants, unforced, forced}
+use Rattle.std.proofs.Common.{sym, ◌∙◌, true}
+use Rattle.judge_core.proofs.Captures.{no_square, forced, unforced}
 use Rattle.judge_core.proofs.probing.is_forced.Goals as goal
 
-pub returns-then-passants-eq0 : goal.returns-then-passants-eq0
-returns-then-passants-eq0 c = unforced _ _ (count_of_passants _ _ _ c.requires c.count_en_passant-passants.ensures) c.if-passants-eq0.true
+pub returns-in-None : goal.returns-in-None
+returns-in-None c = no_square _ (sym c.en_passant.ensures ∙ c.in-None.is)
 
-pub returns : goal.returns
-returns c =
-    let l : c.len.result ≡ length c.in_ok-moves.moves.items = search rules in
-    forced _ _ (count_of_passants _ _ _ c.requires c.count_en_passant-passants.ensures) c.in_ok-moves.moves.items c.len.result c.in_ok-moves.ensures.computed c.if-passants-eq0.false l
+pub returns-then-has_legal_move : goal.returns-then-has_legal_move
+returns-then-has_legal_move c = forced _ true c.has_move_besides_en_passant.result (sym c.if-has_legal_move.true ∙ c.has_legal_move.ensures.computed) c.has_move_besides_en_passant.ensures.computed
+
+pub returns-else-has_legal_move : goal.returns-else-has_legal_move
+returns-else-has_legal_move c = c.if-has_legal_move.false ∙ unforced _ (sym c.if-has_legal_move.false ∙ c.has_legal_move.ensures.computed)

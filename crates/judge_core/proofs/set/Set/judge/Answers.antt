@@ -21,7 +21,7 @@ pub returns-in_default-clause-value : goal.returns-in_default-clause-value
 returns-in_default-clause-value c =
     ruled_by c.args.self.now.tables c.args.position.now c.worth_in-reading.result c.by_value.result
     (sym c.has_no_move.ensures ∙ c.if-has_no_move.false) (sym c.is_out_of_scope.ensures.is ∙ c.if-is_out_of_scope.false)
-    (c.worth_in-reading.ensures ∙ weighed c.args.self.now.tables c.args.position.now c.in_ok-weighed.weighed c.is_out_of_scope.ensures.position (omega (arith, c.men.ensures.computed, c.if-men-le2.false)) (c.in_ok-weighed.ensures.is ∙ ap (λ (h : Holding). weighed_by h.tables (wdl_of h.tables) c.args.position.now) c.self.view_is))
+    (c.worth_in-reading.ensures ∙ weighed c.args.self.now.tables c.args.position.now c.weigh-weighed.result c.is_out_of_scope.ensures.position (omega (arith, c.men.ensures.computed, c.if-men-le2.false)) (c.weigh-weighed.ensures.is ∙ ap (λ (h : Holding). weighed_by h.tables (wdl_of h.tables) c.args.position.now) c.self.view_is))
     (c.by_value.ensures c.args.position.now (dtz_of c.args.self.now.tables c.args.position.now))
 
 pub returns-clause-value : goal.returns-clause-value
@@ -29,8 +29,8 @@ returns-clause-value c =
     let many : 2 < count_of_men c.args.position.now = omega (arith, c.men.ensures.computed, c.if-men-le2.false) in
     let scope = sym c.is_out_of_scope.ensures.is ∙ c.if-is_out_of_scope.false in
     let moves = sym c.has_no_move.ensures ∙ c.if-has_no_move.false in
-    let value = c.worth_in-reading.ensures ∙ weighed c.args.self.now.tables c.args.position.now c.in_ok-weighed.weighed c.is_out_of_scope.ensures.position many (c.in_ok-weighed.ensures.is ∙ ap (λ (h : Holding). weighed_by h.tables (wdl_of h.tables) c.args.position.now) c.self.view_is) in
-    let reach = c.in_ok-reach.ensures.is ∙ ap (λ (h : Holding). by_weighed h.tables (dtz_to h.tables 1) c.args.position.now c.in_ok-weighed.weighed) c.self.view_is ∙ reached c.args.self.now.tables c.args.position.now c.in_ok-weighed.weighed many (c.in_ok-weighed.ensures.is ∙ ap (λ (h : Holding). weighed_by h.tables (wdl_of h.tables) c.args.position.now) c.self.view_is) in
+    let value = c.worth_in-reading.ensures ∙ weighed c.args.self.now.tables c.args.position.now c.weigh-weighed.result c.is_out_of_scope.ensures.position many (c.weigh-weighed.ensures.is ∙ ap (λ (h : Holding). weighed_by h.tables (wdl_of h.tables) c.args.position.now) c.self.view_is) in
+    let reach = c.in_ok-reach.ensures.is ∙ ap (λ (h : Holding). by_weighed h.tables (dtz_to h.tables 1) c.args.position.now c.weigh-weighed.result) c.self.view_is ∙ reached c.args.self.now.tables c.args.position.now c.weigh-weighed.result many (c.weigh-weighed.ensures.is ∙ ap (λ (h : Holding). weighed_by h.tables (wdl_of h.tables) c.args.position.now) c.self.view_is) in
     elim c.match-reading-2.branch [
       | in-Ok-Win w ↦ (
           let won : c.worth_in-reading.result ≡ Ok Win = search rules in

@@ -111,4 +111,4 @@ dtz_to-returns-then-left-eq0-clause-is t c = elim c.then-left-eq0.branch [
 
 pub dtz_to-returns-clause-is : goal.dtz_to-returns-clause-is
 dtz_to-returns-clause-is t c =
-    if_same c.by_weighed.result _ _ (some_left c.args.self.now.tables c.args.left c.args.position.now c.in_ok-weighed.weighed c.if-left-eq0.false (omega (arith, c.men.ensures.computed, c.if-men-le2.false)) c.in_ok-weighed.ensures.is) c.by_weighed.ensures.is
+    if_same c.by_weighed.result _ _ (some_left c.args.self.now.tables c.args.left c.args.position.now c.weigh-weighed.result c.if-left-eq0.false (omega (arith, c.men.ensures.computed, c.if-men-le2.false)) c.weigh-weighed.ensures.is) c.by_weighed.ensures.is

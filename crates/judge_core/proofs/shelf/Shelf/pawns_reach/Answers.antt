@@ -7,7 +7,7 @@ use Rattle.judge_core.specs.Distances.{is_pawn_step}
 use Rattle.judge_core.specs.Counts.{no_steps, with_reading}
 use Rattle.judge_core.proofs.Asking.{noted_all, walk-passed, walk-noted}
 use Rattle.judge_core.proofs.Counting.{steps_told-is, no_pawns_reach}
-use Rattle.judge_core.proofs.shelf.Shelf.pawns_reach.Goals.{in-Some+in_ok-reading, in_default}
+use Rattle.judge_core.proofs.shelf.Shelf.pawns_reach.Goals.{in-Some, in_default}
 use Rattle.judge_core.proofs.shelf.Shelf.pawns_reach.Goals as goal
 
 pub returns-then-not-has_pawn-clause-is : goal.returns-then-not-has_pawn-clause-is
@@ -17,10 +17,10 @@ pub loop-m-preserved : goal.loop-m-preserved
 loop-m-preserved c =
     let say : Parts → Reading = λ q. turned (wdl_of c.args.self.now.tables q) in
     elim c.match-after_pawn_step.branch [
-      | in-Some+in_ok-reading w ↦ (
+      | in-Some w ↦ (
         walk-noted (with_reading c.args.value) no_steps say (is_pawn_step c.args.position.now) c.args.position.now c.deref-m-items.result.now c.loop-m.m-index c.m-item.result c.loop-m.steps _ c.loop-m-test.true c.m-item.is c.loop-m.invariant.0
-            w.in-Some.after _ (sym c.after_pawn_step.ensures ∙ w.in-Some.is) (w.turned.ensures ∙ ap turned w.in_ok-reading.ensures.is) (w.steps-is ∙ w.note-steps.ensures),
-        rw w.blocks-is w.in_ok-reading.ensures.right,
+            w.in-Some.after _ (sym c.after_pawn_step.ensures ∙ w.in-Some.is) (w.turned.ensures ∙ ap turned w.wdl_of-reading.ensures.is) (w.steps-is ∙ w.note-steps.ensures),
+        rw w.blocks-is w.wdl_of-reading.ensures.right,
       )
       | in_default w ↦ (
         walk-passed (with_reading c.args.value) no_steps say (is_pawn_step c.args.position.now) c.args.position.now c.deref-m-items.result.now c.loop-m.m-index c.m-item.result c.loop-m.steps _ c.loop-m-test.true c.m-item.is c.loop-m.invariant.0
