@@ -1,7 +1,7 @@
 -- Each position of three to five men has the material of a table: its men sorted into kings and the others of each side, and
 -- these by their codes.
-use Rattle.std.proofs.Common.{◌≡◌, ◌≢◌, ◌<◌, ◌≤◌, ◌+◌, ◌⊎◌, ℕ, zero, suc, Bool, true, false, cond, List, [], ◌∷◌, ◌++◌, map, length, replicate, count_by, Option, Some, None, refl, sym, ap, ◌∙◌, subst, arith, inl, inr, length-append}
-use Rattle.std.specs.Prelude.{◌==◌, nat_le, is_some, slice_index}
+use Rattle.std.proofs.Common.{◌≡◌, ◌<◌, ◌≤◌, ◌+◌, ◌⊎◌, ℕ, suc, Bool, true, false, cond, List, [], ◌∷◌, ◌++◌, map, length, replicate, count_by, Option, Some, None, refl, sym, ap, ◌∙◌, subst, arith, inl, inr, length-append}
+use Rattle.std.specs.Prelude.{nat_le, is_some, slice_index}
 use Rattle.std.specs.List.Sorted.{IsPermutation}
 use Rattle.std.proofs.lemmas.Bool.{leb-true, leb-false, cases_lt}
 use Rattle.std.proofs.lemmas.List.{length-map, length-replicate}
@@ -17,7 +17,7 @@ use Rattle.board_core.specs.Position.{IsPosition, is_king_of}
 use Rattle.board_core.specs.ComputedMoves.{count_of_men}
 use Rattle.place_index.specs.Material.{Men, IsInOrder, IsTable, TablesAreNumbered, men_of, pieces_of}
 use Rattle.place_index.specs.Men.{man, codes_of, exchanged, other_side}
-use Rattle.place_index.specs.Placed.{men_from, men_on, code_of, IsNamed, IsMaterialOf}
+use Rattle.place_index.specs.Placed.{men_from, men_on, IsNamed}
 use Rattle.place_index.specs.Covered.{HasMaterial, FewMenHaveTables}
 use Rattle.place_index.specs.declared.man.Man.{Man}
 

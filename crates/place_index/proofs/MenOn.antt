@@ -1,10 +1,11 @@
 -- The men of a position, and that they make a placement, in either colours.
 use Rattle.std.proofs.Common.{◌≡◌, ◌≢◌, ℕ, zero, suc, ◌+◌, ◌-◌, ◌/◌, ◌%◌, ◌<◌, ◌≤◌, ◌⊎◌, Bool, true, false, cond, ltb, IsTrue, Option, Some, None, List, [], ◌∷◌, ◌++◌, length, drop, refl, sym, ap, ◌∙◌, subst, inl, inr, arith, length-append}
-use Rattle.std.specs.Prelude.{slice_index_or, is_some, ◌||◌, nat_lt}
+use Rattle.std.specs.Prelude.{count_by, slice_index_or, is_some, ◌||◌, nat_lt}
 use Rattle.std.specs.Int.{bit_at}
 use Rattle.std.specs.List.{list_all}
 use Rattle.std.proofs.lemmas.Bool.{and_from, cases_lt, cases_eq, cases_Bool, eq-eqb, ne_eqb, lt-ltb, false≢true, or_left, or_right}
 use Rattle.std.proofs.lemmas.List.{drop_more, drop_all, append_assoc, append-nil}
+use Rattle.std.proofs.lemmas.List.Sums.{sum_by-cons}
 use Rattle.std.proofs.lemmas.Nat.Bits.{bit_at-zero}
 use Rattle.board_core.specs.declared.piece.Piece.{Piece}
 use Rattle.board_core.specs.declared.piece.Side.{Side}
@@ -13,7 +14,7 @@ use Rattle.board_core.specs.declared.piece.Kind.{Kind}
 use Rattle.board_core.specs.declared.piece.Kind.TheVariants.{Pawn, Knight, Bishop, Rook, Queen, King}
 use Rattle.board_core.specs.declared.parts.Parts.{Parts}
 use Rattle.board_core.specs.Attack.{man_at, IsInCheck}
-use Rattle.board_core.specs.Position.{IsPosition}
+use Rattle.board_core.specs.Position.{IsPosition, is_of, is_same_side}
 use Rattle.board_core.specs.Side.{other}
 use Rattle.board_core.specs.Sides.{IsOccupied}
 use Rattle.place_index.specs.Square.{file, rank, bottom_top}
@@ -72,6 +73,29 @@ alone_from (Some piece ∷ board) k = ((λ c. later c (cases_Bool (stands (men_f
     later : (c : ℕ) → (stands (men_from (suc k) board) c k ≡ true) ⊎ (stands (men_from (suc k) board) c k ≡ false) → stands (men_from (suc k) board) c k ≡ false
     later c (inl is) = absurd (omega (arith, (man_on board (suc k) c k is).after))
     later c (inr isnt) = isnt
+
+-- ---- how many men there are
+
+one_side : (side : Side) → cond (is_same_side White side) 1 0 + cond (is_same_side Black side) 1 0 ≡ 1
+one_side White = refl
+one_side Black = refl
+
+one_more : (a w b x y : ℕ) → a ≡ w + b → x + y ≡ 1 → suc a ≡ x + w + (y + b)
+one_more a w b x y e f = omega (arith, e, f)
+
+none_more : (a w b : ℕ) → a ≡ w + b → a ≡ 0 + w + (0 + b)
+none_more a w b e = omega (arith, e)
+
+pub men_count : (k : ℕ) (board : List (Option Piece)) → length (men_from k board) ≡ count_by (is_of White) board + count_by (is_of Black) board
+men_count k [] = ap length (men_nil k)
+men_count k (None ∷ board) =
+    ap length (men_none k board) ∙ none_more _ _ _ (men_count (suc k) board)
+    ∙ sym (ap (λ t. t + count_by (is_of Black) (None ∷ board)) (sum_by-cons (λ x. cond (is_of White x) 1 0) None board)
+    ∙ ap (λ t. 0 + count_by (is_of White) board + t) (sum_by-cons (λ x. cond (is_of Black x) 1 0) None board))
+men_count k (Some piece ∷ board) =
+    ap length (men_some k piece board) ∙ one_more _ _ _ _ _ (men_count (suc k) board) (one_side piece.side)
+    ∙ sym (ap (λ t. t + count_by (is_of Black) (Some piece ∷ board)) (sum_by-cons (λ x. cond (is_of White x) 1 0) (Some piece) board)
+    ∙ ap (λ t. cond (is_of White (Some piece)) 1 0 + count_by (is_of White) board + t) (sum_by-cons (λ x. cond (is_of Black x) 1 0) (Some piece) board))
 
 -- ---- on a position
 
@@ -397,16 +421,13 @@ swept_end board next set items len w e =
     let done : men_from 64 (drop 64 board) ≡ [] = ap (men_from 64) (drop_all 64 board (omega (arith, len))) ∙ men_nil 64 in
     sym (append-nil items) ∙ ap (λ l. items ++ l) (sym (none ∙ done)) ∙ w.is
 
--- a square of the set has a man more
-pub swept_more : (board : List (Option Piece)) (next set square : ℕ) (items : List Man) → length board ≡ 64 → IsSwept board next set items → square < 64 → bit_at set square ≡ 1 → ((s : ℕ) → s < square → bit_at set s ≡ 0)
-    → length items < length (men_on board)
-swept_more board next set square items len w lt here first =
-    let at = some_of (man_at board square) (swept_here board next set square items w lt here).1 in
-    omega (
-      arith,
-      ap length (swept_item board next set square items at.0 len w lt here first at.1),
-      length-append items (man (code_of at.0) square ∷ men_from (square + 1) (drop (square + 1) board)),
-    )
+-- five men are all of at most five
+pub swept_all : (board : List (Option Piece)) (next set : ℕ) (items : List Man) → IsSwept board next set items → length (men_on board) ≤ length items → items ≡ men_on board
+swept_all board next set items w most = sym (append-nil items) ∙ ap (λ l. items ++ l) (sym (none (men_from next (drop next board)) (omega (arith, most, ap length w.is, length-append items (men_from next (drop next board)))))) ∙ w.is
+  where
+    none : (later : List Man) → length later ≡ 0 → later ≡ []
+    none [] e = refl
+    none (m ∷ later) e = absurd (omega (arith, e))
 
 pub swept_some : (board : List (Option Piece)) (next set square : ℕ) (items : List Man) → IsSwept board next set items → square < 64 → bit_at set square ≡ 1 → man_at board square ≡ None → ⊥
 swept_some board next set square items w lt here e = false≢true (sym (ap is_some e) ∙ (swept_here board next set square items w lt here).1)

@@ -1,19 +1,21 @@
 -- A material is found by the tally of its men, in either colours.
 use Rattle.std.proofs.Common.{◌≡◌, ◌≢◌, ℕ, ◌+◌, ◌*◌, ◌/◌, ◌%◌, ◌<◌, ◌≤◌, true, eqb, leb, ltb, Option, Some, None, List, [], ◌∷◌, length, map, take, slice_index, refl, sym, ap, ◌∙◌, subst, inl, inr, arith}
-use Rattle.std.specs.Prelude.{◌&&◌, IfNone, bit_or, max}
+use Rattle.std.specs.Prelude.{◌&&◌, IfNone, bit_or, count_by, max}
 use Rattle.std.specs.List.{list_all}
 use Rattle.std.proofs.Math.Nat.{max_comm}
 use Rattle.std.proofs.lemmas.Bool.{agree_below_at, and_from, and_parts, eqb-true, leb-true, ltb-true}
 use Rattle.std.proofs.lemmas.List.{length-map, length-take}
 use Rattle.std.proofs.lemmas.Nat.{or_shifted}
 use Rattle.board_core.specs.declared.piece.Piece.{Piece}
+use Rattle.board_core.specs.declared.piece.Side.TheVariants.{White, Black}
+use Rattle.board_core.specs.Position.{is_of}
 use Rattle.place_index.specs.Material.{count_of, digits, pieces_of, tally_of}
 use Rattle.place_index.specs.Men.{codes_of, other_side, exchanged}
 use Rattle.place_index.specs.Placed.{HasTally, IsMaterialOf, key_by_tally, men_on, rotated}
 use Rattle.place_index.specs.declared.man.Man.{Man}
 use Rattle.place_index.specs.declared.tables.TheConstants.{KEYS}
 use Rattle.place_index.proofs.KeyWalk.{each, each_pieces, pieces}
-use Rattle.place_index.proofs.MenOn.{codes_on}
+use Rattle.place_index.proofs.MenOn.{codes_on, men_count}
 use Rattle.place_index.proofs.Symmetric.{codes_exchanged, material_few}
 use Rattle.place_index.proofs.Tallies.{same_tally, tallied_small, tally_cons, tally_nil}
 
@@ -113,8 +115,8 @@ other_key key found tally own other e o r ne nf (inr is) = nf (r ∙ is ∙ ap (
 
 -- ---- the material of a position
 
-pub few_on : (board : List (Option Piece)) (key : ℕ) → key < 145 → IsMaterialOf key (men_on board) → 5 < length (men_on board) → ⊥
-few_on board key lt is more = omega (arith, more, material_few key (men_on board) lt is)
+pub few_on : (board : List (Option Piece)) (key count : ℕ) → key < 145 → IsMaterialOf key (men_on board) → count ≡ count_by (is_of White) board + count_by (is_of Black) board → 5 < count → ⊥
+few_on board key count lt is sides more = omega (arith, more, sides, men_count 0 board, material_few key (men_on board) lt is)
 
 pub IfNone_then : {X : Type 0} (r : Option X) {P Q : Type 0} → IfNone r P → (P → Q) → IfNone r Q
 IfNone_then None p f = f p

@@ -48,10 +48,11 @@ impl Material {
         ensures none { IfNone result ((key : ℕ) → key < 145 → IsMaterialOf key (men_on position.now.men) → ⊥) }
     {
         let _position = position.parts();
-        let mut men = [Man::default(); 5];
-        let Some((_, tally)) = men_on(position, &mut men) else {
+        if position.men() > 5 {
             return None;
-        };
+        }
+        let mut men = [Man::default(); 5];
+        let (_, tally) = men_on(position, &mut men);
         material_by_tally(tally)
     }
 }

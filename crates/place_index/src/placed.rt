@@ -181,10 +181,11 @@ impl Placed {
         ensures none { IfNone result ((key : ℕ) → key < 145 → IsMaterialOf key (men_on position.now.men) → ⊥) }
     {
         let _position = position.parts();
-        let mut men = [Man::default(); 5];
-        let Some((count, tally)) = men_on(position, &mut men) else {
+        if position.men() > 5 {
             return None;
-        };
+        }
+        let mut men = [Man::default(); 5];
+        let (count, tally) = men_on(position, &mut men);
         let Some(material) = material_by_tally(tally) else {
             return None;
         };
@@ -203,9 +204,7 @@ pub fn place(position: &Position, material: &Material) -> Placed
     let _position = position.parts();
     let _key = material.key();
     let mut men = [Man::default(); 5];
-    let Some((count, tally)) = men_on(position, &mut men) else {
-        unreachable!()
-    };
+    let (count, tally) = men_on(position, &mut men);
     let exchanges = is_exchanged(*material, position, tally);
     looked_up(*material, position, men, count, exchanges)
 }

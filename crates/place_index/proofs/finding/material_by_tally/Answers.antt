@@ -1,5 +1,4 @@
-use Rattle.std.proofs.Common.{◌≡◌, ◌∙◌, sym, inl, inr, arith}
-use Rattle.place_index.specs.Placed.{HasTally}
+use Rattle.std.proofs.Common.{◌∙◌, sym, inl, inr, arith}
 use Rattle.place_index.proofs.TallyKeys.{found_key, other_key}
 use Rattle.place_index.proofs.finding.material_by_tally.Goals as goal
 

@@ -1,6 +1,7 @@
 use Rattle.std.proofs.Common.{arith}
-use Rattle.place_index.proofs.TallyKeys.{few_on}
+use Rattle.place_index.specs.Placed.{men_on}
+use Rattle.place_index.proofs.Symmetric.{material_few}
 use Rattle.place_index.proofs.placed.place.Goals as goal
 
-pub unreachable-requires : goal.unreachable-requires
-unreachable-requires c = few_on c.args.position.now.men c.args.material.now (omega (arith, c.key-key.ensures.is, c.key-key.ensures.below)) c.requires c.in_default.ensures.none
+pub men_on-count-requires : goal.men_on-count-requires
+men_on-count-requires c = material_few c.args.material.now (men_on c.args.position.now.men) (omega (arith, c.key-key.ensures.is, c.key-key.ensures.below)) c.requires

@@ -3,8 +3,7 @@ use Rattle.std.specs.Prelude.{slice_set}
 use Rattle.std.proofs.lemmas.List.{take_more_set, length-take-le, length-set}
 use Rattle.place_index.specs.Material.{tally_of}
 use Rattle.place_index.specs.Men.{codes_of, man}
-use Rattle.place_index.specs.Placed.{men_on}
-use Rattle.place_index.proofs.MenOn.{IsSwept, swept_start, swept_next, swept_end, swept_more, swept_some}
+use Rattle.place_index.proofs.MenOn.{IsSwept, swept_start, swept_next, swept_end, swept_all, swept_some}
 use Rattle.place_index.proofs.Tallies.{tally_last, tally_none}
 use Rattle.place_index.proofs.sweep.men_on.Goals as goal
 
@@ -52,23 +51,16 @@ returns-then-is_empty-clause-men c =
 pub returns-then-is_empty-clause-tally : goal.returns-then-is_empty-clause-tally
 returns-then-is_empty-clause-tally c = c.loop-count.invariant.tally ∙ ap (λ men. tally_of (codes_of men)) (returns-then-is_empty-clause-men c)
 
-pub returns-then-is_empty-2-clause-men : goal.returns-then-is_empty-2-clause-men
-returns-then-is_empty-2-clause-men c =
+pub returns-clause-men : goal.returns-clause-men
+returns-clause-men c =
     let all : 5 ≡ c.loop-count.count = omega (arith, c.loop-count-test.false, c.loop-count.invariant.few) in
+    let size = length-take-le c.loop-count.count c.loop-count.men (omega (arith, c.loop-count.invariant.size, c.loop-count.invariant.few)) in
     ap (λ n. take n c.loop-count.men) all
-    ∙ swept_end c.args.position.now.men c.loop-count.next c.loop-count.rest (take c.loop-count.count c.loop-count.men) c.parts-position.ensures.position.squares c.loop-count.invariant.swept
-    (c.is_empty-2.ensures.0 c.if-is_empty-2.true)
+    ∙ swept_all c.args.position.now.men c.loop-count.next c.loop-count.rest (take c.loop-count.count c.loop-count.men) c.loop-count.invariant.swept (omega (arith, c.requires, all, size))
 
-pub returns-then-is_empty-2-clause-tally : goal.returns-then-is_empty-2-clause-tally
-returns-then-is_empty-2-clause-tally c =
+pub returns-clause-tally : goal.returns-clause-tally
+returns-clause-tally c =
+    let size = length-take-le c.loop-count.count c.loop-count.men (omega (arith, c.loop-count.invariant.size, c.loop-count.invariant.few)) in
     c.loop-count.invariant.tally
     ∙ ap (λ men. tally_of (codes_of men))
-    (swept_end c.args.position.now.men c.loop-count.next c.loop-count.rest (take c.loop-count.count c.loop-count.men) c.parts-position.ensures.position.squares c.loop-count.invariant.swept
-    (c.is_empty-2.ensures.0 c.if-is_empty-2.true))
-
-pub returns-clause-none : goal.returns-clause-none
-returns-clause-none c =
-    let more =
-    swept_more c.args.position.now.men c.loop-count.next c.loop-count.rest c.lowest-sixth.result (take c.loop-count.count c.loop-count.men) c.parts-position.ensures.position.squares c.loop-count.invariant.swept
-    (omega (arith, c.number-number-2.ensures.value, c.number-number-2.ensures.on_board)) c.lowest-sixth.ensures.here c.lowest-sixth.ensures.first in
-    omega (arith, c.loop-count-test.false, more, length-take-le c.loop-count.count c.loop-count.men (omega (arith, c.loop-count.invariant.size, c.loop-count.invariant.few)))
+    (swept_all c.args.position.now.men c.loop-count.next c.loop-count.rest (take c.loop-count.count c.loop-count.men) c.loop-count.invariant.swept (omega (arith, c.requires, c.loop-count-test.false, size)))
