@@ -1,4 +1,4 @@
-//! Tables by the key of a material.
+//! Tables by the key of a material, by squares and by numbers. `tools/index_tables` prints each of them anew from its rule.
 
 /// The letters of the 145 names in order of key, six places each, filled up by 0.
 pub const LETTERS: [u8; 870] = [
