@@ -175,6 +175,9 @@ HasLegalCaptures-moves p = HasLegalCaptures-filter p (legal_moves p) (HasLegal-m
 pub captures_listed : (p : Parts) (xs : List Move) → HasLegalCaptures p xs → xs ≡ legal_captures p
 captures_listed p xs h = one_list_of_captures p xs (legal_captures p) h (HasLegalCaptures-moves p)
 
+pub some_capture : (p : Parts) (m : Move) → IsLegalCapture p m → legal_captures p ≢ []
+some_capture p m l none = let c = (HasLegalCaptures-moves p).complete m l in let lt = rw none at c.1 in absurd (omega arith)
+
 -- what decides that a move is legal is the computed test
 pub legal_computed : (p : Parts) (m : Move) (r : Bool) → Decides r (IsLegal p m) → r ≡ is_legal p m
 legal_computed p m r h = same_from_decides r (is_legal p m) h (Decides-legal p m)

@@ -3,9 +3,7 @@ use Rattle.std.specs.Prelude.{All, AllPairs}
 use Rattle.std.proofs.lemmas.List.Elements.{All-push, Contains-append_left, Contains-push}
 use Rattle.std.proofs.lemmas.List.{get_or_append_left, get_or_push, length_push}
 use Rattle.std.proofs.lemmas.Bool.{cases_lt}
-use Rattle.board_core.specs.Search.{HasListedBelow, IsListed, IsSought}
-use Rattle.board_core.specs.declared.mobility.Sought.{Sought}
-use Rattle.board_core.specs.declared.mobility.Sought.TheVariants.{Any, BesidesEnPassant}
+use Rattle.board_core.specs.Search.{HasListedBelow, IsListed}
 use Rattle.board_core.specs.declared.generation.Which.{Which}
 use Rattle.board_core.specs.declared.generation.Which.TheVariants.{Every}
 use Rattle.board_core.specs.declared.parts.Parts.{Parts}
@@ -36,7 +34,7 @@ mover_stands p m PawnCapture r = (Pawn, r.stands)
 mover_stands p m EnPassant r = (Pawn, r.stands)
 mover_stands p m (Castle wing) r = (King, r.stands)
 
-abbrev make : ℕ → ℕ → Option Promotion → Move
+abbrev pub make : ℕ → ℕ → Option Promotion → Move
 make f t k = record { from = f; to = t; promotion = k }
 
 same_promotion : (a b : Option Promotion) → promotion_place a ≡ promotion_place b → a ≡ b
@@ -162,22 +160,3 @@ IsLegal-promotion p m from to l lt low high =
 abbrev pub side_on : Option Piece → Side
 side_on None = White
 side_on (Some man) = man.side
-
--- where no other promotion has the fact, the last one has it
-pub last_promotion : (P : Promotion → Type 0) → (P Queen → ⊥) → (P Rook → ⊥) → (P Bishop → ⊥) → ((k : Promotion) × P k) → P Knight
-last_promotion P q r b (Queen, h) = absurd (q h)
-last_promotion P q r b (Rook, h) = absurd (r h)
-last_promotion P q r b (Bishop, h) = absurd (b h)
-last_promotion P q r b (Knight, h) = h
-
--- a legal move that is no promotion is the plain one, with what is known of it, and a promotion is a pawn's to its last rank
-pub plain_or_promotion : (p : Parts) (from to : ℕ) (W : Option Promotion → Type 0) (o : Option Promotion) → IsLegal p (make from to o) → W o
-    → (IsLegal p (make from to None) × W None) ⊎ (((k : Promotion) × IsLegal p (make from to (Some k))) × Stands p.men from p.side Pawn × (rank_of to ≡ last_rank p.side))
-plain_or_promotion p from to W None l w = inl (l, w)
-plain_or_promotion p from to W (Some k) l w =
-    let pawn = promotes_pawn p (make from to (Some k)) l.1.case k l.1.rule refl in inr ((k, l), pawn.0, pawn.1)
-
--- and a promotion isn't en passant
-pub promotion_sought : (p : Parts) (sought : Sought) (from to : ℕ) (k : Promotion) → IsSought sought p (make from to (Some k))
-promotion_sought p Any from to k = tt
-promotion_sought p BesidesEnPassant from to k = λ passant. let e = passant.whole in cc

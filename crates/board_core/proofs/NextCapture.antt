@@ -19,7 +19,7 @@ use Rattle.board_core.specs.Attack.{man_at, Reaches}
 use Rattle.board_core.specs.Moves.{Stands, IsTaken, IsMove, IsCapture, IsLegalCapture, HasLegalCaptures, place_of, promotion_place}
 use Rattle.board_core.specs.ComputedMoves.{is_later, promotion_at, legal_captures, captures_after}
 use Rattle.board_core.specs.Search.{IsFirst, IsPlayed, IsLaterCapture, IsLaterBetween, start_of}
-use Rattle.board_core.proofs.Listing.{promotion_below, same_place}
+use Rattle.board_core.proofs.Listing.{make, promotion_below, same_place}
 use Rattle.board_core.proofs.Steps.{kind_on, move_takes}
 use Rattle.board_core.proofs.Preserved.{way}
 use Rattle.board_core.proofs.Sweep.{Rests, Rests-next, Rests-between}
@@ -54,9 +54,6 @@ same_kind a b e = ap (λ m. m.promotion) (same_place (record { from = 0; to = 0;
 
 pub at_place : (o : Option Promotion) (k : ℕ) → promotion_place o ≡ k → o ≡ promotion_at k
 at_place o k e = let lt = promotion_below o in same_kind o (promotion_at k) (e ∙ sym (promotion_back k (omega arith)))
-
-abbrev make : ℕ → ℕ → Option Promotion → Move
-make from to o = record { from = from; to = to; promotion = o }
 
 made : (m : Move) (from to : ℕ) (o : Option Promotion) → m.from ≡ from → m.to ≡ to → m.promotion ≡ o → m ≡ make from to o
 made m from to o f t e = rw (sym f, sym t, sym e) refl

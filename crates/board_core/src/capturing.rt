@@ -5,18 +5,17 @@
 ghost use Rattle.std.specs.Prelude.{◌≡◌, ◌<◌, ◌≤◌, ◌∷◌, [], IsTrue, IfSome, IfNone, Some};
 ghost use Rattle.std.specs.Int.{bit_at};
 ghost use Rattle.board_core.specs.ComputedMoves.{captures_after};
-ghost use Rattle.board_core.specs.Moves.{IsLegal, IsLegalCapture, place_of, promotion_place};
+ghost use Rattle.board_core.specs.Moves.{IsLegalCapture, place_of};
 ghost use Rattle.board_core.specs.Position.{IsPosition};
 ghost use Rattle.board_core.specs.Search.{IsFirst, IsPlayed, start_of, IsLaterCapture, IsLaterFrom, IsLaterBetween};
 ghost use Rattle.board_core.specs.Sides.{sides_of};
 ghost use Rattle.board_core.specs.declared.moves.Move.{Move};
 
 use crate::bitboard::Bitboard;
-use crate::generation::may_promote;
 use crate::moves::{Move, promotion_at};
 use crate::parts::Parts;
 use crate::playing::play;
-use crate::rules::is_capture;
+use crate::rules::{is_capture, places_between};
 use crate::sides::Sides;
 use crate::square::Square;
 use crate::targets::reached_of;
@@ -65,14 +64,6 @@ fn capture_by(p: &Parts, sides: &Sides, start: u32, m: &Move) -> Option<Capture>
         parts,
         sides,
     })
-}
-
-/// How many places of promotions the moves from one square to another can have.
-fn places_between(p: &Parts, from: Square, to: Square) -> u8
-    ensures most { result ≤ 5 }
-    ensures whole { (m : Move) → IsLegal p.now m → m.from ≡ from → m.to ≡ to → promotion_place m.promotion < result }
-{
-    if may_promote(p, from, to) { 5 } else { 1 }
 }
 
 /// The first legal capture from one square to another, at this place or later.

@@ -3,24 +3,23 @@
 //! Each man's targets are a set of squares, swept from the lowest up, so that the moves come in order.
 //! `next` is where such a sweep stands: the proofs speak of it.
 
-ghost use Rattle.std.specs.Prelude.{◌≡◌, ◌≢◌, ◌<◌, ◌↔◌, ◌+◌, ◌*◌, ℕ, [], IsTrue, IfOk, OnOk, Some, None};
+ghost use Rattle.std.specs.Prelude.{◌≡◌, ◌≢◌, ◌<◌, ◌↔◌, ◌+◌, ◌*◌, ℕ, [], IsTrue, IfOk, OnOk, OnErr, Some, None};
 ghost use Rattle.std.specs.Int.{bit_at};
 ghost use Rattle.board_core.specs.Attack.{IsInCheck, Reaches};
-ghost use Rattle.board_core.specs.Moves.{Stands, IsFree, IsTaken, IsMove, Lists, HasLegal, HasLegalCaptures, place_of, men_after, last_rank};
+ghost use Rattle.board_core.specs.Moves.{Stands, IsFree, IsTaken, IsMove, Lists, HasLegal, HasLegalCaptures, place_of, men_after};
 ghost use Rattle.board_core.specs.ComputedMoves.{legal_captures, legal_moves};
 ghost use Rattle.board_core.specs.Search.{HasListedBelow, IsCarry, IsGuard, IsListed, IsUnpinned, IsStep, IsSurvey, IsWanted, IsKnown, IsOnlyKing, HasAttacked, emptied};
 ghost use Rattle.board_core.specs.Side.{other};
 ghost use Rattle.board_core.specs.Sides.{sides_of, squares_where};
 ghost use Rattle.board_core.specs.Position.{IsPosition, is_of};
-ghost use Rattle.board_core.specs.Square.{rank_of};
 
 use crate::bitboard::Bitboard;
 use crate::king::king_of;
-use crate::moves::{Move, MoveCase};
+use crate::moves::{Move, MoveCase, promotion_at};
 use crate::parts::Parts;
-use crate::piece::{Kind, Men, Promotion, Side};
+use crate::piece::{Kind, Men, Side};
 use crate::playing::men_after;
-use crate::rules::{case_of, is_capture, last_rank, stands};
+use crate::rules::{case_of, is_capture, places_between};
 use crate::sides::Sides;
 use crate::square::Square;
 use crate::{attack, targets};
@@ -193,6 +192,24 @@ fn is_wanted(p: &Parts, which: Which, m: &Move) -> bool
     }
 }
 
+/// Whether the move is legal and asked for.
+fn is_listed(p: &Parts, g: &Guard, which: Which, unpinned: bool, m: &Move) -> bool
+    requires position { IsPosition p.now }
+    requires guard { IsGuard p.now g.now }
+    requires unpinned { IsTrue unpinned → IsUnpinned p.now m.now.from }
+    ensures { IsTrue result ↔ IsListed which p.now m.now }
+{
+    prove!(m.from.number() < 64);
+    prove!(m.to.number() < 64);
+    if !is_wanted(p, which, m) {
+        return false;
+    }
+    match case_of(p, m) {
+        Some(case) => is_safe(p, m, case, g, unpinned),
+        None => false,
+    }
+}
+
 /// Adds the move where it is legal and asked for.
 fn add(
     p: &Parts,
@@ -206,30 +223,14 @@ fn add(
     requires guard { IsGuard p.now g.now }
     requires unpinned { IsTrue unpinned → IsUnpinned p.now m.now.from }
     requires below { HasListedBelow p.now which (place_of m.now) moves.old.items }
-    ensures { OnOk result (HasListedBelow p.now which (place_of m.now + 1) moves.new.items) }
+    ensures added { OnOk result (HasListedBelow p.now which (place_of m.now + 1) moves.new.items) }
+    ensures memory { OnErr result ((m : Move) × IsListed which p.now m) }
 {
-    prove!(m.from.number() < 64);
     prove!(m.to.number() < 64);
-    if !is_wanted(p, which, m) {
-        return Ok(());
+    if is_listed(p, g, which, unpinned, m) {
+        moves.push(*m)?;
     }
-    let case = match case_of(p, m) {
-        Some(case) => case,
-        None => return Ok(()),
-    };
-    if !is_safe(p, m, case, g, unpinned) {
-        return Ok(());
-    }
-    moves.push(*m)?;
     Ok(())
-}
-
-/// Whether a pawn of the side that moves would reach its last rank.
-pub fn may_promote(p: &Parts, from: Square, to: Square) -> bool
-    ensures { IsTrue result
-        ↔ (Stands p.now.men from p.now.side Kind.Pawn × (rank_of to ≡ last_rank p.now.side)) }
-{
-    stands(&p.men, from, p.side, Kind::Pawn) && to.rank() == last_rank(p.side)
 }
 
 /// Adds the moves from one square to another that are legal and asked for.
@@ -246,42 +247,18 @@ fn add_between(
     requires guard { IsGuard p.now g.now }
     requires unpinned { IsTrue unpinned → IsUnpinned p.now from }
     requires below { HasListedBelow p.now which (320 * from + 5 * to) moves.old.items }
-    ensures { OnOk result (HasListedBelow p.now which (320 * from + 5 * (to + 1)) moves.new.items) }
+    ensures added { OnOk result (HasListedBelow p.now which (320 * from + 5 * (to + 1)) moves.new.items) }
+    ensures memory { OnErr result ((m : Move) × IsListed which p.now m) }
 {
-    prove!(to.number() < 64);
-    let plain = Move {
-        from,
-        to,
-        promotion: None,
-    };
-    add(p, g, which, unpinned, &plain, moves)?;
-    if !may_promote(p, from, to) {
-        return Ok(());
+    let end = places_between(p, from, to);
+    for place in 0..end {
+        let m = Move {
+            from,
+            to,
+            promotion: promotion_at(place),
+        };
+        add(p, g, which, unpinned, &m, moves)?;
     }
-    let queen = Move {
-        from,
-        to,
-        promotion: Some(Promotion::Queen),
-    };
-    add(p, g, which, unpinned, &queen, moves)?;
-    let rook = Move {
-        from,
-        to,
-        promotion: Some(Promotion::Rook),
-    };
-    add(p, g, which, unpinned, &rook, moves)?;
-    let bishop = Move {
-        from,
-        to,
-        promotion: Some(Promotion::Bishop),
-    };
-    add(p, g, which, unpinned, &bishop, moves)?;
-    let knight = Move {
-        from,
-        to,
-        promotion: Some(Promotion::Knight),
-    };
-    add(p, g, which, unpinned, &knight, moves)?;
     Ok(())
 }
 
@@ -298,7 +275,8 @@ fn add_targets(
     requires guard { IsGuard p.now g.now }
     requires below { HasListedBelow p.now which (320 * from) moves.old.items }
     requires whole { (m : Move) → IsListed which p.now m → m.from ≡ from → bit_at set m.to ≡ 1 }
-    ensures { OnOk result (HasListedBelow p.now which (320 * (from + 1)) moves.new.items) }
+    ensures added { OnOk result (HasListedBelow p.now which (320 * (from + 1)) moves.new.items) }
+    ensures memory { OnErr result ((m : Move) × IsListed which p.now m) }
 {
     let unpinned = is_unpinned(p, g, from);
     let mut rest = set;
@@ -327,7 +305,8 @@ fn add_steps(
     requires below { HasListedBelow p.now which (320 * from) moves.old.items }
     requires steps { (s : ℕ) → bit_at set s ≡ 1 → IsStep p.now which kind from s }
     requires whole { (m : Move) → IsListed which p.now m → m.from ≡ from → bit_at set m.to ≡ 1 }
-    ensures { OnOk result (HasListedBelow p.now which (320 * (from + 1)) moves.new.items) }
+    ensures added { OnOk result (HasListedBelow p.now which (320 * (from + 1)) moves.new.items) }
+    ensures memory { OnErr result ((m : Move) × IsListed which p.now m) }
 {
     prove!(from.number() < 64);
     let mut rest = set;
@@ -410,6 +389,7 @@ fn add_from(
     requires known { IsKnown p.now v.now known.old }
     requires below { HasListedBelow p.now which (320 * from) moves.old.items }
     ensures moves { OnOk result (HasListedBelow p.now which (320 * (from + 1)) moves.new.items) }
+    ensures memory { OnErr result ((m : Move) × IsListed which p.now m) }
     ensures known { IsKnown p.now v.now known.new }
 {
     let man = match p.men[from.number() as usize] {
@@ -447,7 +427,8 @@ fn listed(p: &Parts, sides: &Sides, which: Which, moves: Vec<Move>) -> Result<Ve
     requires position { IsPosition p.now }
     requires sides { sides.now ≡ sides_of p.now.men }
     requires empty { moves.items ≡ [] }
-    ensures { IfOk result (λ moves. Lists (IsListed which p.now) moves.items) }
+    ensures listed { IfOk result (λ moves. Lists (IsListed which p.now) moves.items) }
+    ensures memory { OnErr result ((m : Move) × IsListed which p.now m) }
 {
     let mut moves = moves;
     let v = survey_of(p, sides);
@@ -484,6 +465,7 @@ pub fn captures(p: &Parts, sides: &Sides, alloc: Global) -> Result<Vec<Move>, Al
     requires sides { sides.now ≡ sides_of p.now.men }
     ensures legal { IfOk result (λ moves. HasLegalCaptures p.now moves.items) }
     ensures computed { IfOk result (λ moves. moves.items ≡ legal_captures p.now) }
+    ensures memory { OnErr result (legal_captures p.now ≢ []) }
 {
     let moves = listed(p, sides, Which::Captures, Vec::new(alloc))?;
     Ok(moves)

@@ -2,22 +2,19 @@
 //!
 //! `next` is where a sweep over squares stands: the proofs speak of it.
 
-ghost use Rattle.std.specs.Prelude.{◌≡◌, ◌↔◌, ◌<◌, ℕ, IsTrue, Some};
+ghost use Rattle.std.specs.Prelude.{◌≡◌, ◌↔◌, ◌<◌, ℕ, IsTrue};
 ghost use Rattle.std.specs.Int.{bit_at};
 ghost use Rattle.board_core.specs.Moves.{IsLegal};
 ghost use Rattle.board_core.specs.Position.{IsPosition};
 ghost use Rattle.board_core.specs.Search.{IsSought, MayGo, MayLeave};
 ghost use Rattle.board_core.specs.Sides.{sides_of};
 ghost use Rattle.board_core.specs.declared.moves.Move.{Move};
-ghost use Rattle.board_core.specs.declared.piece.Promotion.{Promotion};
 
 use crate::bitboard::Bitboard;
-use crate::generation::may_promote;
-use crate::moves::Move;
+use crate::moves::{Move, promotion_at};
 use crate::parts::Parts;
-use crate::piece::Promotion;
 use crate::playing::is_legal;
-use crate::rules::is_en_passant;
+use crate::rules::{is_en_passant, places_between};
 use crate::sides::Sides;
 use crate::square::Square;
 use crate::targets::targets;
@@ -50,53 +47,24 @@ fn may_make(p: &Parts, sides: &Sides, sought: Sought, m: &Move) -> bool
     is_sought(p, sought, m) && is_legal(p, sides, m)
 }
 
-/// Whether it is legal that a pawn goes there and becomes this.
-fn may_become(p: &Parts, sides: &Sides, from: Square, to: Square, promotion: Promotion) -> bool
-    requires position { IsPosition p.now }
-    requires sides { sides.now ≡ sides_of p.now.men }
-    ensures { IsTrue result ↔ IsLegal p.now (record { from = from; to = to; promotion = Some promotion }) }
-{
-    let m = Move {
-        from,
-        to,
-        promotion: Some(promotion),
-    };
-    is_legal(p, sides, &m)
-}
-
-/// Whether some promotion is legal there.
-fn may_promote_to(p: &Parts, sides: &Sides, from: Square, to: Square) -> bool
-    requires position { IsPosition p.now }
-    requires sides { sides.now ≡ sides_of p.now.men }
-    ensures { IsTrue result ↔ ((k : Promotion) × IsLegal p.now (record { from = from; to = to; promotion = Some k })) }
-{
-    if may_become(p, sides, from, to, Promotion::Queen) {
-        return true;
-    }
-    if may_become(p, sides, from, to, Promotion::Rook) {
-        return true;
-    }
-    if may_become(p, sides, from, to, Promotion::Bishop) {
-        return true;
-    }
-    may_become(p, sides, from, to, Promotion::Knight)
-}
-
 /// Whether some move sought from one square to the other is legal.
 fn may_go(p: &Parts, sides: &Sides, sought: Sought, from: Square, to: Square) -> bool
     requires position { IsPosition p.now }
     requires sides { sides.now ≡ sides_of p.now.men }
     ensures { IsTrue result ↔ MayGo p.now sought from to }
 {
-    let plain = Move {
-        from,
-        to,
-        promotion: None,
-    };
-    if may_make(p, sides, sought, &plain) {
-        return true;
+    let end = places_between(p, from, to);
+    for place in 0..end {
+        let m = Move {
+            from,
+            to,
+            promotion: promotion_at(place),
+        };
+        if may_make(p, sides, sought, &m) {
+            return true;
+        }
     }
-    may_promote(p, from, to) && may_promote_to(p, sides, from, to)
+    false
 }
 
 /// Whether some move sought from a square to one of a set is legal, in which all its targets are.

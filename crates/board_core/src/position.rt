@@ -1,6 +1,6 @@
 //! Positions: the seven conditions, and what the layers above call.
 
-ghost use Rattle.std.specs.Prelude.{◌≡◌, ◌<◌, ◌↔◌, ◌∷◌, [], IsTrue, IfOk, IfErr, IfSome, IfNone, count_by, ◌+◌};
+ghost use Rattle.std.specs.Prelude.{◌≡◌, ◌≢◌, ◌<◌, ◌↔◌, ◌∷◌, [], IsTrue, IfOk, IfErr, OnErr, IfSome, IfNone, count_by, ◌+◌};
 ghost use Rattle.board_core.specs.Position.{is_of, is_king_of, HasOneKingEach, HasFewMen, HasNoPawnOnEdge, IsRightValid, HasValidRights, IsOpponentSafe, HasValidCounters, HasValidEnPassant, IsPassed, passed_rank, IsFirstFault, IsPosition, fault_name};
 ghost use Rattle.board_core.specs.Moves.{IsEnPassant, IsLegal, Legal, HasLegal, HasLegalCaptures};
 ghost use Rattle.board_core.specs.Attack.{man_at, IsInCheck};
@@ -308,10 +308,11 @@ impl Position {
     }
 
     /// The legal moves that take a man, en passant among them, in the same order. The error comes
-    /// only where memory for the list is refused.
+    /// only where there is one and memory for the list is refused.
     pub fn captures(&self, alloc: Global) -> Result<Vec<Move>, AllocError>
         ensures legal { IfOk result (λ moves. HasLegalCaptures self.now moves.items) }
         ensures computed { IfOk result (λ moves. moves.items ≡ legal_captures self.now) }
+        ensures memory { OnErr result (legal_captures self.now ≢ []) }
     {
         generation::captures(&self.parts, &self.sides, alloc)
     }

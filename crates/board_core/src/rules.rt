@@ -1,9 +1,10 @@
 //! The rule of each case of moves, leaving the safety of the mover's king aside.
 
-ghost use Rattle.std.specs.Prelude.{◌≡◌, ◌<◌, ◌↔◌, ◌+◌, ◌-◌, ℕ, IsTrue, IfSome, Option};
+ghost use Rattle.std.specs.Prelude.{◌≡◌, ◌<◌, ◌≤◌, ◌↔◌, ◌+◌, ◌-◌, ℕ, IsTrue, IfSome, Option};
 ghost use Rattle.board_core.specs.Attack.{Along, IsAttacked, man_at, forward};
-ghost use Rattle.board_core.specs.Moves.{Stands, IsFree, IsTaken, Promotes, IsPlain, IsAdvance, IsDoubleStep, IsPawnCapture, IsEnPassant, IsCastle, IsCapture, IsMove, first_rank, last_rank, IsBetween, IsOnWay};
+ghost use Rattle.board_core.specs.Moves.{Stands, IsFree, IsTaken, Promotes, IsPlain, IsAdvance, IsDoubleStep, IsPawnCapture, IsEnPassant, IsCastle, IsCapture, IsLegal, IsMove, promotion_place, first_rank, last_rank, IsBetween, IsOnWay};
 ghost use Rattle.board_core.specs.Side.{other};
+ghost use Rattle.board_core.specs.Square.{rank_of};
 ghost use Rattle.board_core.specs.Castling.{king_home, rook_home, king_end};
 
 use crate::moves::{Move, MoveCase};
@@ -53,7 +54,7 @@ fn is_ahead(side: Side, n: u8, from: Square, to: Square) -> bool
 }
 
 /// The rank on which pawns of this side are promoted, counted from 0.
-pub fn last_rank(side: Side) -> u8
+fn last_rank(side: Side) -> u8
     ensures { result ≡ last_rank side }
 {
     match side {
@@ -211,4 +212,21 @@ pub fn is_capture(p: &Parts, m: &Move) -> bool
     ensures { IsTrue result ↔ IsCapture p.now m.now }
 {
     !is_empty(&p.men, m.to) || is_en_passant(p, m)
+}
+
+/// Whether a pawn of the side that moves would reach its last rank.
+fn may_promote(p: &Parts, from: Square, to: Square) -> bool
+    ensures { IsTrue result
+        ↔ (Stands p.now.men from p.now.side Kind.Pawn × (rank_of to ≡ last_rank p.now.side)) }
+{
+    stands(&p.men, from, p.side, Kind::Pawn) && to.rank() == last_rank(p.side)
+}
+
+/// How many moves from one square to another there are to try: those of a pawn to its last rank are one for each promotion, and come
+/// after the one without.
+pub fn places_between(p: &Parts, from: Square, to: Square) -> u8
+    ensures most { result ≤ 5 }
+    ensures whole { (m : Move) → IsLegal p.now m → m.from ≡ from → m.to ≡ to → promotion_place m.promotion < result }
+{
+    if may_promote(p, from, to) { 5 } else { 1 }
 }

@@ -1,31 +1,18 @@
-use Rattle.std.proofs.Common.{arith, rules, refl, Some, None}
-use Rattle.board_core.specs.Moves.{IsMove}
+use Rattle.std.proofs.Common.{arith, rules}
+use Rattle.board_core.specs.declared.moves.Move.{Move}
+use Rattle.board_core.specs.Search.{IsListed}
 use Rattle.board_core.proofs.Listing.{HasListedBelow-push, HasListedBelow-skip, same_place}
-use Rattle.board_core.proofs.Safety.{safe_legal, legal_safe, same_case, no_case}
 use Rattle.board_core.proofs.generation.add.Goals as goal
 
-pub returns-then-not-is_wanted : goal.returns-then-not-is_wanted
-returns-then-not-is_wanted c =
+pub returns-in_err-push-clause-memory : goal.returns-in_err-push-clause-memory
+returns-in_err-push-clause-memory c =
+    let l : (m : Move) × IsListed c.args.which c.args.p.now m = (c.args.m.now, c.is_listed.ensures.0 c.if-is_listed.true) in search rules
+
+pub returns-in_ok-push-clause-added : goal.returns-in_ok-push-clause-added
+returns-in_ok-push-clause-added c = rw c.in_ok-push.ensures.items (HasListedBelow-push _ _ _ _ c.requires.below (c.is_listed.ensures.0 c.if-is_listed.true))
+
+pub returns-else-is_listed-clause-added : goal.returns-else-is_listed-clause-added
+returns-else-is_listed-clause-added c =
     HasListedBelow-skip _ _ _ _ _ c.requires.below (omega arith) (λ m l low high.
     let e = same_place m c.args.m.now l.0.1.to_board (omega arith) (omega arith) in
-    let t = c.if-not-is_wanted.ensures.1 (rw e at l.1) in search rules)
-
-pub returns-in-None : goal.returns-in-None
-returns-in-None c =
-    HasListedBelow-skip _ _ _ _ _ c.requires.below (omega arith) (λ m l low high.
-    let e = same_place m c.args.m.now l.0.1.to_board (omega arith) (omega arith) in
-    no_case c.args.p.now c.args.m.now None c.in-None.ensures.only refl (rw e at l.0))
-
-pub returns-then-not-is_safe : goal.returns-then-not-is_safe
-returns-then-not-is_safe c =
-    HasListedBelow-skip _ _ _ _ _ c.requires.below (omega arith) (λ m l low high.
-    let e = same_place m c.args.m.now l.0.1.to_board (omega arith) (omega arith) in
-    let own = rw e at l.0 in
-    let t = c.is_safe.ensures.1 (legal_safe c.args.p.now c.args.m.now c.in-Some.case own (same_case c.args.p.now c.args.m.now (Some c.in-Some.case) c.in-Some.case c.in-Some.ensures.only refl own)) in
-    search rules)
-
-pub returns : goal.returns
-returns c =
-    let rule : IsMove c.args.p.now c.args.m.now c.in-Some.case = search (rules, c.in-Some.ensures) in
-    rw c.in_ok-push.ensures.items (HasListedBelow-push _ _ _ _ c.requires.below
-    (safe_legal _ _ c.in-Some.case (omega arith) (omega arith) rule (c.is_safe.ensures.0 (search rules)), c.if-not-is_wanted.ensures.0 (search rules)))
+    let t = c.is_listed.ensures.1 (rw e at l) in search rules)

@@ -1,9 +1,22 @@
-use Rattle.std.proofs.Common.{arith, rules}
-use Rattle.board_core.proofs.Listing.{HasListedBelow-skip, IsLegal-promotion}
+use Rattle.std.proofs.Common.{arith, rules, ap, ◌∙◌, ◌≡◌}
+use Rattle.board_core.specs.Moves.{promotion_place}
+use Rattle.board_core.proofs.Listing.{HasListedBelow-skip, promotion_below}
+use Rattle.board_core.proofs.ComputedLists.{promotion_back}
 use Rattle.board_core.proofs.generation.add_between.Goals as goal
 
-pub returns-then-not-may_promote : goal.returns-then-not-may_promote
-returns-then-not-may_promote c =
-    HasListedBelow-skip _ _ _ _ _ c.in_ok-add.ensures (omega arith) (λ m l low high.
-    let t = c.if-not-may_promote.ensures.1 (IsLegal-promotion _ m c.args.from c.args.to l.0 (omega arith) low high) in
-    search rules)
+pub add-requires-clause-below : goal.add-requires-clause-below
+add-requires-clause-below c =
+    let place : promotion_place c.promotion_at.result ≡ c.loop-place.place = ap promotion_place c.promotion_at.ensures ∙ promotion_back c.loop-place.place (omega (arith, c.loop-place-test.true, c.places_between-end.ensures.most)) in
+    rw place c.loop-place.invariant
+
+pub loop-place-preserved : goal.loop-place-preserved
+loop-place-preserved c =
+    let place : promotion_place c.promotion_at.result ≡ c.loop-place.place = ap promotion_place c.promotion_at.ensures ∙ promotion_back c.loop-place.place (omega (arith, c.loop-place-test.true, c.places_between-end.ensures.most)) in
+    HasListedBelow-skip _ _ _ _ _ c.in_ok-add.ensures.added (omega (arith, place)) (λ m l low high. absurd (omega (arith, place)))
+
+pub returns-clause-added : goal.returns-clause-added
+returns-clause-added c =
+    HasListedBelow-skip _ _ _ _ _ c.loop-place.invariant (omega (arith, c.loop-place.auto, c.places_between-end.ensures.most)) (λ m l low high.
+    let k = promotion_below m.promotion in
+    let f = c.places_between-end.ensures.whole m l.0 (omega (arith, l.0.1.to_board)) (omega (arith, l.0.1.to_board)) in
+    omega (arith, l.0.1.to_board, c.loop-place-test.false))

@@ -31,6 +31,7 @@ returns-then-is_empty-2 c =
     let none : c.steps-set.result ≡ 0 = c.is_empty-in_default.ensures.0 c.if-is_empty-2.true in record {
       moves = HasListedBelow-skip _ _ _ _ _ c.requires.below (omega arith) (λ m l low high.
           zero_one _ (bit_at-zero m.to) (rw none at (c.steps-set.ensures.whole m l (IsLegal-from _ m _ l.0 low high))));
+      memory = tt;
       known = c.requires.known;
     }
 

@@ -1,6 +1,8 @@
-use Rattle.std.proofs.Common.{arith}
+use Rattle.std.proofs.Common.{arith, rules, ◌≡◌}
 use Rattle.board_core.proofs.Sweep.{Targets-below, Targets-none, Rests-without}
-use Rattle.board_core.proofs.Steps.{step_pushed}
+use Rattle.board_core.specs.declared.moves.Move.{Move}
+use Rattle.board_core.specs.Search.{IsListed}
+use Rattle.board_core.proofs.Steps.{step_listed, step_pushed}
 use Rattle.board_core.proofs.generation.add_steps.Goals as goal
 
 pub loop-from-preserved : goal.loop-from-preserved
@@ -13,5 +15,9 @@ loop-from-preserved c =
       steps = λ s bit. inv.steps s (c.without-rest.ensures.only s bit);
     }
 
-pub returns : goal.returns
-returns c = Targets-none _ _ _ _ _ _ c.loop-from.invariant.rests (omega arith) c.loop-from.invariant.below
+pub returns-in_err-push-clause-memory : goal.returns-in_err-push-clause-memory
+returns-in_err-push-clause-memory c =
+    let l : (m : Move) × IsListed c.args.which c.args.p.now m = (_, step_listed _ _ _ _ _ (omega arith) (omega arith) c.requires.stands c.requires.piece c.requires.unpinned (c.loop-from.invariant.steps _ c.lowest-to.ensures.here)) in search rules
+
+pub returns-clause-added : goal.returns-clause-added
+returns-clause-added c = Targets-none _ _ _ _ _ _ c.loop-from.invariant.rests (omega arith) c.loop-from.invariant.below

@@ -12,5 +12,5 @@ loop-which-preserved c = record {
   rests = rw c.number-next.ensures.value (Rests-without _ _ _ _ _ (omega arith) c.loop-which.invariant.rests c.lowest-to.ensures.first c.lowest-to.ensures.here c.without-rest.ensures.gone c.without-rest.ensures.kept);
 }
 
-pub returns : goal.returns
-returns c = Targets-none _ _ _ _ _ _ c.loop-which.invariant.rests (omega arith) c.loop-which.invariant.below
+pub returns-clause-added : goal.returns-clause-added
+returns-clause-added c = Targets-none _ _ _ _ _ _ c.loop-which.invariant.rests (omega arith) c.loop-which.invariant.below

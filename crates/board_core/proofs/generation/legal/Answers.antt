@@ -4,5 +4,5 @@ use Rattle.board_core.proofs.generation.legal.Goals as goal
 
 pub returns : goal.returns
 returns c =
-    let all = Lists-every _ _ c.in_ok-moves.ensures in
+    let all = Lists-every _ _ c.in_ok-moves.ensures.listed in
     record { legal = all; computed = listed _ _ all }

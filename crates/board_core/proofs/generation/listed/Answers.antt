@@ -13,5 +13,5 @@ loop-which-preserved c = record {
   known = c.add_from.ensures.known;
 }
 
-pub returns : goal.returns
-returns c = Lists-all _ _ _ _ (Movers-none _ _ _ _ _ c.loop-which.invariant.rests (omega arith) c.loop-which.invariant.below) (omega arith)
+pub returns-clause-listed : goal.returns-clause-listed
+returns-clause-listed c = Lists-all _ _ _ _ (Movers-none _ _ _ _ _ c.loop-which.invariant.rests (omega arith) c.loop-which.invariant.below) (omega arith)

@@ -1,0 +1,6 @@
+use Rattle.std.proofs.Common.{◌+◌, ◌*◌}
+use Rattle.board_core.specs.Search.{HasListedBelow}
+use Rattle.board_core.proofs.generation.add_between.Given as goal
+
+abbrev pub invariant-loop-place : goal.invariant-loop-place
+invariant-loop-place l = HasListedBelow l.p l.which (320 * l.from + 5 * l.to + l.place) l.moves.items
