@@ -13,7 +13,7 @@ use Rattle.place_index.specs.Turning.{lead_file}
 use Rattle.place_index.specs.Men.{codes_of, exchanged, other_side}
 use Rattle.place_index.specs.Placed.{Placement, IsNamed, IsMaterialOf, IsSymmetric, IsLookedUp, men_on, is_black, side_number}
 use Rattle.place_index.proofs.Arranging.{count_arranged, arranged_by_counts, arranged_length}
-use Rattle.place_index.proofs.Weighing.{found_key}
+use Rattle.place_index.proofs.TallyKeys.{found_key}
 use Rattle.place_index.proofs.Symmetric.{codes_exchanged}
 use Rattle.std.proofs.lemmas.List.Sorted.{IsPermutation-map}
 use Rattle.table_file.specs.Names.{equal}

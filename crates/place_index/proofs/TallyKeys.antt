@@ -2,21 +2,23 @@
 use Rattle.std.proofs.Common.{◌≡◌, ◌≢◌, ℕ, ◌+◌, ◌*◌, ◌/◌, ◌%◌, ◌<◌, ◌≤◌, true, eqb, leb, ltb, Option, Some, None, List, [], ◌∷◌, length, map, take, slice_index, refl, sym, ap, ◌∙◌, subst, inl, inr, arith}
 use Rattle.std.specs.Prelude.{◌&&◌, IfNone, bit_or, count_by, max}
 use Rattle.std.specs.List.{list_all}
+use Rattle.std.specs.List.Sorted.{IsPermutation}
 use Rattle.std.proofs.Math.Nat.{max_comm}
 use Rattle.std.proofs.lemmas.Bool.{agree_below_at, and_from, and_parts, eqb-true, leb-true, ltb-true}
 use Rattle.std.proofs.lemmas.List.{length-map, length-take}
+use Rattle.std.proofs.lemmas.List.Sorted.{IsPermutation-map}
 use Rattle.std.proofs.lemmas.Nat.{or_shifted}
 use Rattle.board_core.specs.declared.piece.Piece.{Piece}
 use Rattle.board_core.specs.declared.piece.Side.TheVariants.{White, Black}
 use Rattle.board_core.specs.Position.{is_of}
 use Rattle.place_index.specs.Material.{count_of, digits, pieces_of, tally_of}
 use Rattle.place_index.specs.Men.{codes_of, other_side, exchanged}
-use Rattle.place_index.specs.Placed.{HasTally, IsMaterialOf, key_by_tally, men_on, rotated}
+use Rattle.place_index.specs.Placed.{HasTally, IsMaterialOf, IsNamed, key_by_tally, men_on, rotated}
 use Rattle.place_index.specs.declared.man.Man.{Man}
 use Rattle.place_index.specs.declared.tables.TheConstants.{KEYS}
 use Rattle.place_index.proofs.KeyWalk.{each, each_pieces, pieces}
 use Rattle.place_index.proofs.MenOn.{codes_on, men_count}
-use Rattle.place_index.proofs.Symmetric.{codes_exchanged, material_few}
+use Rattle.place_index.proofs.Symmetric.{codes_exchanged, material_few, twice}
 use Rattle.place_index.proofs.Tallies.{same_tally, tallied_small, tally_cons, tally_nil}
 
 -- ---- tallies with colours exchanged
@@ -101,12 +103,26 @@ key_test k lt = each_pieces (λ k ps. eqb (slice_index KEYS (max (tally_of ps) (
 rotated_twice : (t : ℕ) → t < 18446744073709551616 → rotated (rotated t) ≡ t
 rotated_twice t lt = omega (arith, lt)
 
-pub found_key : (key tally : ℕ) → key < 145 → tally < 18446744073709551616 → HasTally key tally → key_by_tally tally ≡ key
-found_key key tally lt below (inl is) = ap key_by_tally is ∙ eqb-true _ _ (key_test key lt)
-found_key key tally lt below (inr is) =
+pub key_of_tally : (key tally : ℕ) → key < 145 → tally < 18446744073709551616 → HasTally key tally → key_by_tally tally ≡ key
+key_of_tally key tally lt below (inl is) = ap key_by_tally is ∙ eqb-true _ _ (key_test key lt)
+key_of_tally key tally lt below (inr is) =
     let back : tally ≡ rotated (tally_of (pieces_of key)) = sym (rotated_twice tally below) ∙ ap rotated is in
     ap (λ t. slice_index KEYS (max t (rotated tally) % 1181)) back ∙ ap (λ t. slice_index KEYS (max (rotated (tally_of (pieces_of key))) t % 1181)) is
     ∙ ap (λ t. slice_index KEYS (t % 1181)) (max_comm (rotated (tally_of (pieces_of key))) (tally_of (pieces_of key))) ∙ eqb-true _ _ (key_test key lt)
+
+exchanged_codes : (key : ℕ) (men : List Man) → IsNamed key (exchanged men) → IsPermutation (codes_of men) (map other_side (pieces_of key))
+exchanged_codes key men named =
+    subst (λ l. IsPermutation l (map other_side (pieces_of key))) (twice (codes_of men))
+    (IsPermutation-map other_side (map other_side (codes_of men)) (pieces_of key) (subst (λ l. IsPermutation l (pieces_of key)) (codes_exchanged men) named))
+
+other_test : (k : ℕ) → k < 145 → eqb (key_by_tally (tally_of (map other_side (pieces_of k)))) k ≡ true
+unfolding each pieces count_of digits
+other_test k lt = each_pieces (λ k ps. eqb (key_by_tally (tally_of (map other_side ps))) k) refl k lt
+
+-- men have one material
+pub found_key : (key : ℕ) (men : List Man) → key < 145 → IsMaterialOf key men → key_by_tally (tally_of (codes_of men)) ≡ key
+found_key key men lt (inl named) = ap key_by_tally (same_tally _ _ named) ∙ eqb-true _ _ (key_test key lt)
+found_key key men lt (inr named) = ap key_by_tally (same_tally _ _ (exchanged_codes key men named)) ∙ eqb-true _ _ (other_test key lt)
 
 -- a tally that is neither way that of the key found has none
 pub other_key : (key found tally own other : ℕ) → found ≡ key → own ≡ tally_of (pieces_of found) → other ≡ rotated tally → tally ≢ own → other ≢ own → HasTally key tally → ⊥
