@@ -1,5 +1,5 @@
 -- Plans, their values, and blocks that hold them.
-use Rattle.std.proofs.Common.{◌≡◌, ◌≢◌, ℕ, zero, suc, ◌-◌, ◌+◌, ◌*◌, ◌/◌, ◌≤◌, ◌<◌, Bool, true, false, cond, eqb, List, [], ◌∷◌, ◌++◌, length, get_or, take, drop, map, Some, Result, Ok, Err, refl, sym, ap, subst, ◌∙◌, inl, inr, append_assoc, arith}
+use Rattle.std.proofs.Common.{◌≡◌, ◌≢◌, ℕ, zero, suc, ◌-◌, ◌+◌, ◌*◌, ◌/◌, ◌≤◌, ◌<◌, Bool, true, false, cond, eqb, List, [], ◌∷◌, ◌++◌, length, get_or, take, drop, map, replicate, Option, None, Some, Result, Ok, Err, refl, sym, ap, subst, ◌∙◌, inl, inr, append_assoc, arith}
 use Rattle.std.specs.Prelude.{◌%◌, ◌⊎◌, not, slice_get, OnOk, IfOk}
 use Rattle.std.specs.List.{flat_map}
 use Rattle.std.proofs.lemmas.List.Concat.{flat_map-append}
@@ -7,7 +7,7 @@ use Rattle.std.specs.Cmp.Lexicographic.{pointwise}
 use Rattle.std.proofs.lemmas.Bool.{ne_eqb, cases_Bool, false≢true}
 use Rattle.std.proofs.lemmas.Bool.Decides.{Decides-eqb}
 use Rattle.std.proofs.lemmas.Slice.Eq.{strip_prefix_is}
-use Rattle.std.proofs.lemmas.List.{length-append, length-take, take_more, append-nil, drop_more, drop_all, drop-drop, get_or-take, map-append}
+use Rattle.std.proofs.lemmas.List.{length-append, length-take, take_more, append-nil, append_cancel_left, drop_more, drop_all, drop-drop, get_or-take, map-append}
 use Rattle.std.proofs.lemmas.Nat.{div_below, div-add-mod'}
 use Rattle.std.proofs.lemmas.Option.{slice_get_within}
 use denote.Ref.{Bor}
@@ -26,7 +26,7 @@ use Rattle.table_file.specs.declared.plan.PartPlan.{PartPlan}
 use Rattle.table_file.specs.declared.kind.Kind.{Kind}
 use Rattle.table_file.specs.declared.spots.View.{View}
 use Rattle.table_file.proofs.Views.{got, view_expansion}
-use Rattle.table_file.specs.Expansion.{filled, joined, listed, expanded, values_in}
+use Rattle.table_file.specs.Expansion.{filled, joined, listed, expanded, expansion, values_in}
 use Rattle.table_file.specs.Files.{section_size}
 use Rattle.table_file.specs.declared.parts.Section.TheVariants.{Lengths}
 use Rattle.table_file.specs.declared.size_record.Coding.{Coding}
@@ -92,6 +92,92 @@ blocks_done c lengths blocks rest b le none =
     let all : drop b (take c.blocks (sizes_of lengths)) ≡ [] = drop_all b (take c.blocks (sizes_of lengths)) (omega (arith, length-take c.blocks (sizes_of lengths), le)) in
     rw (all, none) refl
 
+-- what a list of values alone says of the filled block at its front
+record IsBlockFirst (size : ℕ) (vs xs : List ℕ) (more : List (Option ℕ)) : Type 0 where
+  full : length (take size vs) ≡ size
+  after : List ℕ
+  front : xs ≡ take size vs ++ after
+  behind : map (λ (v : ℕ). Some v) after ≡ more
+
+heads : (a b : Option ℕ) (xs ys : List (Option ℕ)) → a ∷ xs ≡ b ∷ ys → (a ≡ b) × (xs ≡ ys)
+heads a b xs ys e = (cc, cc)
+
+nil_not : (a : Option ℕ) (xs : List (Option ℕ)) → [] ≡ a ∷ xs → ⊥
+nil_not a xs e = cc
+
+no_gap : (size : ℕ) (vs xs : List ℕ) (more : List (Option ℕ)) → map (λ (v : ℕ). Some v) xs ≡ filled size vs ++ more → IsBlockFirst size vs xs more
+no_gap zero vs xs more e =
+    let none : 0 - length vs ≡ zero = omega arith in
+    record { full = refl; after = xs; front = refl; behind = rw none at e }
+no_gap (suc size) [] [] more e = let all : suc size - 0 ≡ suc size = omega arith in absurd (nil_not None (replicate size None ++ more) (rw all at e))
+no_gap (suc size) [] (x ∷ xs) more e = let all : suc size - 0 ≡ suc size = omega arith in absurd (some_none x (heads (Some x) None (map (λ (v : ℕ). Some v) xs) (replicate size None ++ more) (rw all at e)).0)
+  where
+    some_none : (x : ℕ) → Some x ≡ None → ⊥
+    some_none x e = cc
+no_gap (suc size) (v ∷ vs) [] more e = absurd (nil_not (Some v) _ e)
+no_gap (suc size) (v ∷ vs) (x ∷ xs) more e =
+    let less : suc size - suc (length vs) ≡ size - length vs = omega arith in
+    let both = heads (Some x) (Some v) (map (λ (y : ℕ). Some y) xs) (filled size vs ++ more) (rw less at e) in
+    let same = some_is x v both.0 in
+    let rest = no_gap size vs xs more both.1 in
+    record { full = ap suc rest.full; after = rest.after; front = ap (λ (y : ℕ). y ∷ xs) same ∙ ap (λ ys. v ∷ ys) rest.front; behind = rest.behind }
+  where
+    some_is : (a b : ℕ) → Some a ≡ Some b → a ≡ b
+    some_is a b e = cc
+
+-- what a list of values alone says of the block at its front
+pub record HoldsFront (c : Figures) (lengths blocks values rest : List ℕ) (b : ℕ) : Type 0 where
+  pub full : length values ≡ get_or (sizes_of lengths) b 0
+  pub after : List ℕ
+  pub front : rest ≡ values ++ after
+  pub behind : map (λ (v : ℕ). Some v) after ≡ joined c (drop (b + 1) (take c.blocks (sizes_of lengths))) (drop ((b + 1) * block_size c) blocks)
+
+pub block_back : (c : Figures) (lengths blocks values rest : List ℕ) (b : ℕ)
+    → b < c.blocks → c.blocks ≤ length (sizes_of lengths)
+    → values ≡ take (get_or (sizes_of lengths) b 0) (block_values c.dictionary (take (block_size c) (drop (b * block_size c) blocks)))
+    → map (λ (v : ℕ). Some v) rest ≡ joined c (drop b (take c.blocks (sizes_of lengths))) (drop (b * block_size c) blocks)
+    → HoldsFront c lengths blocks values rest b
+unfolding joined
+block_back c lengths blocks values rest b lt few values-is h =
+    let n = block_size c in
+    let sizes = take c.blocks (sizes_of lengths) in
+    let size = get_or (sizes_of lengths) b 0 in
+    let vs = block_values c.dictionary (take n (drop (b * n) blocks)) in
+    let within : b < length sizes = omega (arith, length-take c.blocks (sizes_of lengths), few, lt) in
+    let more : drop b sizes ≡ get_or sizes b 0 ∷ drop (b + 1) sizes = drop_more sizes b 0 within in
+    let same : get_or sizes b 0 ≡ size = get_or-take c.blocks (sizes_of lengths) b 0 lt in
+    let on : drop n (drop (b * n) blocks) ≡ drop ((b + 1) * n) blocks = drop-drop n (b * n) blocks ∙ ap (λ k. drop k blocks) (omega arith) in
+    let whole : joined c (drop b sizes) (drop (b * n) blocks) ≡ filled size vs ++ joined c (drop (b + 1) sizes) (drop ((b + 1) * n) blocks) = rw (more, same, on) refl in
+    let f = no_gap size vs rest (joined c (drop (b + 1) sizes) (drop ((b + 1) * n) blocks)) (h ∙ whole) in
+    record { full = ap length values-is ∙ f.full; after = f.after; front = f.front ∙ ap (λ ys. ys ++ f.after) (sym values-is); behind = f.behind }
+
+-- the same, where the rest was cut by the block's values
+pub back_step : (c : Figures) (lengths blocks values rest after : List ℕ) (b : ℕ) → HoldsFront c lengths blocks values rest b → rest ≡ values ++ after
+    → map (λ (v : ℕ). Some v) after ≡ joined c (drop (b + 1) (take c.blocks (sizes_of lengths))) (drop ((b + 1) * block_size c) blocks)
+back_step c lengths blocks values rest after b f cut =
+    let same : after ≡ f.after = append_cancel_left values after f.after (sym cut ∙ f.front) in
+    ap (λ (ys : List ℕ). map (λ (v : ℕ). Some v) ys) same ∙ f.behind
+
+pub not_stripped : (s p held : List ℕ) → pointwise eqb (take (length p) s) p ≡ false → p ≡ held → (after : List ℕ) → s ≡ held ++ after → ⊥
+not_stripped s p held none is after e = (strip_prefix_is Decides-eqb s p None none) after (e ∙ ap (λ (q : List ℕ). q ++ after) (sym is))
+
+pub done_back : (c : Figures) (lengths blocks rest : List ℕ) (b : ℕ) → c.blocks ≤ b → map (λ (v : ℕ). Some v) rest ≡ joined c (drop b (take c.blocks (sizes_of lengths))) (drop (b * block_size c) blocks) → rest ≡ []
+unfolding joined
+done_back c lengths blocks rest b le e =
+    let all : drop b (take c.blocks (sizes_of lengths)) ≡ [] = drop_all b (take c.blocks (sizes_of lengths)) (omega (arith, length-take c.blocks (sizes_of lengths), le)) in
+    nothing rest (rw all at e)
+  where
+    nothing : (xs : List ℕ) → map (λ (v : ℕ). Some v) xs ≡ [] → xs ≡ []
+    nothing [] e = refl
+    nothing (x ∷ xs) e = absurd cc
+
+pub back_expansion : (v : Coding) (c : Figures) (lengths blocks values : List ℕ) → v ≡ Pairs c → expanded v lengths blocks ≡ listed (map (λ (x : ℕ). Some x) values)
+    → map (λ (x : ℕ). Some x) values ≡ joined c (take c.blocks (sizes_of lengths)) blocks
+back_expansion v c lengths blocks values is h = same (joined c (take c.blocks (sizes_of lengths)) blocks) (map (λ (x : ℕ). Some x) values) (rw is at h)
+  where
+    same : (xs ys : List (Option ℕ)) → listed xs ≡ listed ys → ys ≡ xs
+    same xs ys e = cc
+
 pub stripped : (s p held : List ℕ) (x : Bor (List ℕ)) → (pointwise eqb (take (length p) s) p ≡ true) × (x.now ≡ drop (length p) s) × (length x.now + length p ≡ length s)
     → p ≡ held → s ≡ held ++ x.now
 stripped s p held x h is = let e : s ≡ p ++ x.now = strip_prefix_is Decides-eqb s p (Some x) h in e ∙ ap (λ (q : List ℕ). q ++ x.now) is
@@ -145,6 +231,24 @@ part_is material t side file p v flags size shape h flags-are flags-is shape-fou
   where
     some_is : {A : Type 0} (a b : A) → Some a ≡ Some b → a ≡ b
     some_is a b e = cc
+
+-- what a part that is as planned has to show in the comparison
+pub part_has : (material : ℕ) (t : Contents) (side file : ℕ) (p : PartPlan) (v : View) (size : ℕ) (shape : Layout)
+    → IsViewOf t side file v → shape_of t side file ≡ Some shape → size ≡ indices shape → IsPartOf material t side file p
+    → HasEnough p.content size × (expanded v.coding.now v.lengths.now v.blocks.now ≡ planned_expansion p.content size)
+part_has material t side file p v size shape h shape-found size-is is =
+    let g : is.part.shape ≡ shape = some_is is.part.shape shape (sym (ap shape_in is.found) ∙ shape-found) in
+    let n : indices is.part.shape ≡ size = ap indices g ∙ sym size-is in (
+      subst (λ (k : ℕ). HasEnough p.content k) n is.enough,
+      view_expansion t side file v h ∙ subst (λ (k : ℕ). expansion t side file ≡ planned_expansion p.content k) n is.values,
+    )
+  where
+    some_is : {A : Type 0} (a b : A) → Some a ≡ Some b → a ≡ b
+    some_is a b e = cc
+
+pub if_one : {E : Type 0} {P Q : Bool → Type 0} (r : Result Bool E) → IfOk r P → ((b : Bool) → P b → Q b) → IfOk r Q
+if_one (Ok x) h f = f x h
+if_one (Err e) h f = tt
 
 pub if_both : {E : Type 0} {P R Q : Bool → Type 0} (r : Result Bool E) → IfOk r P → IfOk r R → ((b : Bool) → P b → R b → Q b) → IfOk r Q
 if_both (Ok x) h k f = f x h k

@@ -1,6 +1,6 @@
 //! Writing table files from plans.
 
-ghost use Rattle.std.specs.Prelude.{◌≡◌, ◌≢◌, ◌++◌, IfOk, IfErr, OnOk, IfSome, IsErrOf, IsTrue};
+ghost use Rattle.std.specs.Prelude.{◌≡◌, ◌≢◌, ◌++◌, IfOk, IfErr, OnOk, IfSome, IfNone, IsErrOf, IsTrue};
 ghost use Rattle.std.specs.Io.KnownBytes.{Appends};
 ghost use Rattle.table_file.specs.Names.{ending, file_name};
 ghost use Rattle.table_file.specs.Plan.{IsGoodPlan};
@@ -59,7 +59,8 @@ fn file_name(alloc: Global, kind: Kind, material: &Material) -> Result<Vec<u8>, 
 /// Whether the bytes of the file of a good plan open and say what the plan says.
 fn is_right(alloc: Global, plan: &Plan, file: &[u8]) -> Result<bool, AllocError>
     requires { IsGoodPlan plan.now.kind plan.now.material plan.now.parts.items }
-    ensures { IfOk result (λ b. IsTrue b → OpensAs plan.now file.now) }
+    ensures is { IfOk result (λ b. IsTrue b → OpensAs plan.now file.now) }
+    ensures all { IfOk result (λ b. OpensAs plan.now file.now → IsTrue b) }
 {
     let name = file_name(alloc, plan.kind, &plan.material)?;
     match open(alloc, &name, file) {
@@ -74,6 +75,7 @@ fn is_right(alloc: Global, plan: &Plan, file: &[u8]) -> Result<bool, AllocError>
 fn forged(alloc: Global, plan: &Plan) -> Result<Option<Vec<u8>>, AllocError>
     ensures found { IfOk result (λ o. IfSome o (λ file. file.items ≡ file_of plan.now)) }
     ensures good { IfOk result (λ o. IfSome o (λ _. IsGoodPlan plan.now.kind plan.now.material plan.now.parts.items × OpensAs plan.now (file_of plan.now))) }
+    ensures bad { IfOk result (λ o. IfNone o (CanBeForged plan.now → ⊥)) }
 {
     let Some(file) = laid_out(alloc, plan)? else {
         return Ok(None);
@@ -93,6 +95,7 @@ fn forged(alloc: Global, plan: &Plan) -> Result<Option<Vec<u8>>, AllocError>
 pub fn forge<W: Write>(alloc: Global, plan: &Plan, out: &mut W) -> Result<(), ForgeFault>
     ensures ok { OnOk result (Appends (W.contents out.old) (W.contents out.new) (file_of plan.now)) }
     ensures good { OnOk result (CanBeForged plan.now) }
+    ensures bad { IsErrOf result ForgeFault.BadPlan → CanBeForged plan.now → ⊥ }
     ensures io { IsErrOf result ForgeFault.Io → CanBeForged plan.now }
     ensures untouched { IfErr result (λ e. e ≢ ForgeFault.Io → out.new ≡ out.old) }
 {

@@ -1,6 +1,6 @@
 //! Whether an opened file says what a plan says.
 
-ghost use Rattle.std.specs.Prelude.{◌≡◌, ◌≢◌, ◌<◌, IfOk, IfErr, IsTrue, length, map, Some};
+ghost use Rattle.std.specs.Prelude.{◌≡◌, ◌≢◌, ◌<◌, IfOk, IfErr, IsTrue, length, map, Some, ◌↔◌};
 ghost use Rattle.table_file.specs.Checked.{IsChecked};
 ghost use Rattle.table_file.specs.Expansion.{expanded, listed};
 ghost use Rattle.table_file.specs.Plan.{planned_shape, planned_expansion, planned_maps, planned_maps_of, map_bytes, is_wide, HasEnough, IsGoodMap, AreGoodMaps, IsGoodPlan};
@@ -24,7 +24,7 @@ use std::alloc::{AllocError, Global};
 
 /// Whether a shape is that of a planned part.
 fn has_shape(material: &Material, part: &PartPlan, file: u8, shape: &Shape) -> bool
-    ensures { IsTrue result → shape.now ≡ planned_shape material.now part.now file }
+    ensures { IsTrue result ↔ (shape.now ≡ planned_shape material.now part.now file) }
 {
     shape.material().key() == material.key()
         && shape.pieces() == part.pieces.as_slice()
@@ -43,6 +43,7 @@ fn are_values(
     requires checked { IsChecked view }
     requires coded { view.coding.now ≡ Coding.Pairs codes.now }
     ensures is { IfOk result (λ b. IsTrue b → expanded view.entry.coding.now view.entry.lengths.now view.entry.blocks.now ≡ listed (map (λ v. Some v) values.now)) }
+    ensures all { IfOk result (λ b. expanded view.entry.coding.now view.entry.lengths.now view.entry.blocks.now ≡ listed (map (λ v. Some v) values.now) → IsTrue b) }
 {
     let mut rest = values;
     for block in 0..codes.blocks() {
@@ -69,6 +70,7 @@ fn has_values(
     requires good { HasGoodValues content.now }
     ensures enough { IfOk result (λ b. IsTrue b → HasEnough content.now size) }
     ensures values { IfOk result (λ b. IsTrue b → expanded view.entry.coding.now view.entry.lengths.now view.entry.blocks.now ≡ planned_expansion content.now size) }
+    ensures all { IfOk result (λ b. HasEnough content.now size → expanded view.entry.coding.now view.entry.lengths.now view.entry.blocks.now ≡ planned_expansion content.now size → IsTrue b) }
 {
     match (view.coding, content) {
         (Coding::Single(value), Content::Single(planned)) => Ok(value == planned),
@@ -96,6 +98,7 @@ fn is_part(
     requires file { IsFile table.now.material file }
     requires good { HasGoodValues part.now.content }
     ensures is { IfOk result (λ b. IsTrue b → IsPartOf material.now table.now side file part.now) }
+    ensures all { IfOk result (λ b. IsPartOf material.now table.now side file part.now → IsTrue b) }
 {
     if table.flags(side, file) != part.flags {
         return Ok(false);
@@ -111,6 +114,7 @@ fn is_part(
 fn has_map(alloc: Global, wide: bool, entries: &[u16], bytes: &[u8]) -> Result<bool, AllocError>
     requires { IsGoodMap wide entries.now }
     ensures is { IfOk result (λ b. IsTrue b → bytes.now ≡ map_bytes wide entries.now) }
+    ensures all { IfOk result (λ b. bytes.now ≡ map_bytes wide entries.now → IsTrue b) }
 {
     match map_bytes(alloc, wide, entries) {
         Ok(wanted) => Ok(bytes == wanted.as_slice()),
@@ -122,6 +126,7 @@ fn has_map(alloc: Global, wide: bool, entries: &[u16], bytes: &[u8]) -> Result<b
 fn are_maps(alloc: Global, part: &PartPlan, maps: &Maps<'_>) -> Result<bool, AllocError>
     requires { AreGoodMaps (is_wide part.now) part.now.maps }
     ensures is { IfOk result (λ b. IsTrue b → maps.now ≡ planned_maps_of part.now) }
+    ensures all { IfOk result (λ b. maps.now ≡ planned_maps_of part.now → IsTrue b) }
 {
     let wide = part.is_wide();
     let win = match has_map(alloc, wide, &part.maps.win, maps.win()) {
@@ -147,6 +152,7 @@ fn are_maps(alloc: Global, part: &PartPlan, maps: &Maps<'_>) -> Result<bool, All
 fn are_all_maps(alloc: Global, plan: &Plan, maps: &[Maps<'_>]) -> Result<bool, AllocError>
     requires { All (λ p. AreGoodMaps (is_wide p) p.maps) plan.now.parts.items }
     ensures is { IfOk result (λ b. IsTrue b → maps.now ≡ planned_maps plan.now.kind plan.now.parts.items) }
+    ensures all { IfOk result (λ b. maps.now ≡ planned_maps plan.now.kind plan.now.parts.items → IsTrue b) }
 {
     match plan.kind {
         Kind::Wdl => Ok(maps.is_empty()),
@@ -158,6 +164,7 @@ fn are_all_maps(alloc: Global, plan: &Plan, maps: &[Maps<'_>]) -> Result<bool, A
 fn are_each_maps(alloc: Global, parts: &[PartPlan], maps: &[Maps<'_>]) -> Result<bool, AllocError>
     requires { All (λ p. AreGoodMaps (is_wide p) p.maps) parts.now }
     ensures is { IfOk result (λ b. IsTrue b → maps.now ≡ map planned_maps_of parts.now) }
+    ensures all { IfOk result (λ b. maps.now ≡ map planned_maps_of parts.now → IsTrue b) }
 {
     if maps.len() != parts.len() {
         return Ok(false);
@@ -177,6 +184,7 @@ fn are_parts(alloc: Global, plan: &Plan, table: &Table<'_>) -> Result<bool, Allo
     requires good { All (λ p. HasGoodValues p.content) plan.now.parts.items }
     requires all { length table.now.parts ≡ length plan.now.parts.items }
     ensures is { IfOk result (λ b. IsTrue b → ArePartsOf plan.now.material table.now plan.now.parts.items) }
+    ensures all { IfOk result (λ b. ArePartsOf plan.now.material table.now plan.now.parts.items → IsTrue b) }
 {
     let _ = table.part_count();
     let sides = sides(table.kind(), table.material());
@@ -196,6 +204,7 @@ fn are_parts(alloc: Global, plan: &Plan, table: &Table<'_>) -> Result<bool, Allo
 pub(super) fn shows(alloc: Global, plan: &Plan, table: &Table<'_>) -> Result<bool, AllocError>
     requires { IsGoodPlan plan.now.kind plan.now.material plan.now.parts.items }
     ensures is { IfOk result (λ b. IsTrue b → Shows plan.now table.now) }
+    ensures all { IfOk result (λ b. Shows plan.now table.now → IsTrue b) }
 {
     if table.kind() != plan.kind
         || table.material().key() != plan.material.key()

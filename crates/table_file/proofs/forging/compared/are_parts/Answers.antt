@@ -28,8 +28,6 @@ loop-k-preserved c =
     one_more_part c.args.plan.now.material c.args.table.now c.args.plan.now.parts.items c.loop-k.k (sides_of c.args.table.now.kind c.args.table.now.material) c.index.result.now
     (omega (arith, c.loop-k-test.true, c.len-k-end.ensures)) c.index.ensures here c.loop-k.invariant
 
-pub returns : goal.returns
-returns c = record {
-  is = λ t.
-      all_parts c.args.plan.now.material c.args.table.now c.args.plan.now.parts.items c.loop-k.k (sides_of c.args.table.now.kind c.args.table.now.material) (omega (arith, c.loop-k-test.false, c.len-k-end.ensures)) c.loop-k.invariant;
-}
+pub returns-clause-is : goal.returns-clause-is
+returns-clause-is c = λ t.
+    all_parts c.args.plan.now.material c.args.table.now c.args.plan.now.parts.items c.loop-k.k (sides_of c.args.table.now.kind c.args.table.now.material) (omega (arith, c.loop-k-test.false, c.len-k-end.ensures)) c.loop-k.invariant

@@ -6,5 +6,9 @@ use Rattle.table_file.proofs.forging.compared.are_values.Given as goal
 
 abbrev pub invariant-loop-block : goal.invariant-loop-block
 invariant-loop-block l =
-    map (λ v. Some v) l.rest ≡ joined l.codes (drop l.block (take l.codes.blocks (sizes_of l.view.lengths.now))) (drop (l.block * block_size l.codes) l.view.blocks.now)
-    → map (λ v. Some v) l.values ≡ joined l.codes (take l.codes.blocks (sizes_of l.view.lengths.now)) l.view.blocks.now
+    record {
+      to : map (λ v. Some v) l.rest ≡ joined l.codes (drop l.block (take l.codes.blocks (sizes_of l.view.lengths.now))) (drop (l.block * block_size l.codes) l.view.blocks.now)
+          → map (λ v. Some v) l.values ≡ joined l.codes (take l.codes.blocks (sizes_of l.view.lengths.now)) l.view.blocks.now;
+      from : map (λ v. Some v) l.values ≡ joined l.codes (take l.codes.blocks (sizes_of l.view.lengths.now)) l.view.blocks.now
+          → map (λ v. Some v) l.rest ≡ joined l.codes (drop l.block (take l.codes.blocks (sizes_of l.view.lengths.now))) (drop (l.block * block_size l.codes) l.view.blocks.now);
+    }
