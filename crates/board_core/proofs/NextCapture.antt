@@ -1,8 +1,8 @@
 -- The first capture that comes after another, and what it says of the list.
-use Rattle.std.proofs.Common.{◌∙◌, suc, ℕ, ◌≡◌, ◌≢◌, ◌<◌, ◌≤◌, ◌+◌, ◌*◌, ◌∷◌, [], Bool, true, false, nat_lt, IsTrue, IfSome, IfNone, List, Option, Some, None, All, AllPairs, Contains, filter, refl, sym, ap, subst, arith, inl, inr}
+use Rattle.std.proofs.Common.{◌∙◌, suc, ℕ, ◌≡◌, ◌<◌, ◌≤◌, ◌+◌, ◌*◌, ◌∷◌, [], Bool, true, false, IsTrue, IfSome, IfNone, List, Option, Some, None, All, AllPairs, Contains, filter, refl, sym, ap, subst, arith, inl, inr}
 use Rattle.std.specs.Int.{bit_at}
 use Rattle.std.proofs.lemmas.Bool.{cases_lt, cases_Bool}
-use Rattle.std.proofs.lemmas.Bool.Decides.{nat_tests, Decides-ltb}
+use Rattle.std.proofs.lemmas.Bool.Decides.{Decides-ltb}
 use Rattle.std.proofs.lemmas.List.Elements.{All-contains}
 use Rattle.board_core.specs.declared.piece.Piece.{Piece}
 use Rattle.board_core.specs.declared.piece.Side.{Side}
@@ -16,13 +16,13 @@ use Rattle.board_core.specs.declared.moves.MoveCase.TheVariants.{Plain, Advance,
 use Rattle.board_core.specs.declared.capturing.Capture.{Capture}
 use Rattle.board_core.specs.Side.{other}
 use Rattle.board_core.specs.Attack.{man_at, Reaches}
-use Rattle.board_core.specs.Moves.{Stands, IsTaken, IsMove, IsCapture, IsLegalCapture, HasLegalCaptures, place_of, promotion_place}
+use Rattle.board_core.specs.Moves.{Stands, IsTaken, IsMove, IsCapture, IsLegalCapture, place_of, promotion_place}
 use Rattle.board_core.specs.ComputedMoves.{is_later, promotion_at, legal_captures, captures_after}
 use Rattle.board_core.specs.Search.{IsFirst, IsPlayed, IsLaterCapture, IsLaterBetween, start_of}
 use Rattle.board_core.proofs.Listing.{make, promotion_below, same_place}
 use Rattle.board_core.proofs.Steps.{kind_on, move_takes}
 use Rattle.board_core.proofs.Preserved.{way}
-use Rattle.board_core.proofs.Sweep.{Rests, Rests-next, Rests-between}
+use Rattle.board_core.proofs.Sweep.{Rests, Rests-between}
 use Rattle.board_core.proofs.ComputedLists.{promotion_back, HasLegalCaptures-moves, Contains-first}
 
 -- ---- one capture

@@ -1,6 +1,6 @@
 //! The parts of a position.
 
-ghost use Rattle.std.specs.Prelude.{◌≡◌};
+ghost use Rattle.std.specs.Prelude.{◌≡◌, ◌↔◌, IsTrue};
 ghost use Rattle.board_core.specs.Castling.{has_right};
 
 use crate::piece::{Men, Side, Wing};
@@ -37,6 +37,13 @@ pub struct Parts {
 }
 
 impl Rights {
+    /// Whether some castling has not been lost.
+    pub fn any(self) -> bool
+        ensures { IsTrue result ↔ ((side : Side) × (wing : Wing) × IsTrue (has_right self side wing)) }
+    {
+        self.white_king || self.white_queen || self.black_king || self.black_queen
+    }
+
     /// Whether this side has not lost this castling.
     pub fn has(self, side: Side, wing: Wing) -> bool
         ensures { result ≡ has_right self side wing }

@@ -1,7 +1,8 @@
 //! Positions: the seven conditions, and what the layers above call.
 
-ghost use Rattle.std.specs.Prelude.{◌≡◌, ◌≢◌, ◌<◌, ◌↔◌, ◌∷◌, [], IsTrue, IfOk, IfErr, OnErr, IfSome, IfNone, count_by, ◌+◌};
+ghost use Rattle.std.specs.Prelude.{◌≡◌, ◌≢◌, ◌<◌, ◌↔◌, ◌∷◌, [], IsTrue, Ok, Err, IfOk, IfErr, OnErr, IfSome, IfNone, count_by, ◌+◌};
 ghost use Rattle.board_core.specs.Position.{is_of, is_king_of, HasOneKingEach, HasFewMen, HasNoPawnOnEdge, IsRightValid, HasValidRights, IsOpponentSafe, HasValidCounters, HasValidEnPassant, IsPassed, passed_rank, IsFirstFault, IsPosition, fault_name};
+ghost use Rattle.board_core.specs.declared.position.PositionFault.{PositionFault};
 ghost use Rattle.board_core.specs.Moves.{IsEnPassant, IsLegal, Legal, HasLegal, HasLegalCaptures};
 ghost use Rattle.board_core.specs.Attack.{man_at, IsInCheck};
 ghost use Rattle.board_core.specs.Computed.{is_in_check};
@@ -165,6 +166,35 @@ fn has_valid_counters(p: &Parts) -> bool
     p.halfmove <= 9999 && p.fullmove <= 9999
 }
 
+/// The first condition that fails.
+fn first_fault(p: &Parts) -> Option<PositionFault>
+    ensures found { IfSome result (λ fault. IsFirstFault p.now fault) }
+    ensures none { IfNone result (IsPosition p.now) }
+{
+    if !has_one_king_each(&p.men) {
+        return Some(PositionFault::BadKings);
+    }
+    if !has_few_men(&p.men) {
+        return Some(PositionFault::TooManyMen);
+    }
+    if !has_no_pawn_on_edge(&p.men) {
+        return Some(PositionFault::PawnOnEdge);
+    }
+    if !has_valid_rights(p) {
+        return Some(PositionFault::BadCastling);
+    }
+    if !has_valid_en_passant(p) {
+        return Some(PositionFault::BadEnPassant);
+    }
+    if !is_opponent_safe(p) {
+        return Some(PositionFault::OpponentInCheck);
+    }
+    if !has_valid_counters(p) {
+        return Some(PositionFault::BadCounter);
+    }
+    None
+}
+
 /// A position of chess; contracts see its parts, which meet the seven conditions of `IsPosition`.
 #[derive(Clone, Copy, PartialEq, Eq, Debug)]
 pub struct Position {
@@ -194,27 +224,11 @@ impl Position {
     pub fn new(parts: Parts) -> Result<Position, PositionFault>
         ensures ok { IfOk result (λ p. (p ≡ parts) × IsPosition parts) }
         ensures err { IfErr result (λ fault. IsFirstFault parts fault) }
+        ensures only { IsPosition parts → result ≡ Ok parts }
+        ensures only_fault { (fault : PositionFault) → IsFirstFault parts fault → result ≡ Err fault }
     {
-        if !has_one_king_each(&parts.men) {
-            return Err(PositionFault::BadKings);
-        }
-        if !has_few_men(&parts.men) {
-            return Err(PositionFault::TooManyMen);
-        }
-        if !has_no_pawn_on_edge(&parts.men) {
-            return Err(PositionFault::PawnOnEdge);
-        }
-        if !has_valid_rights(&parts) {
-            return Err(PositionFault::BadCastling);
-        }
-        if !has_valid_en_passant(&parts) {
-            return Err(PositionFault::BadEnPassant);
-        }
-        if !is_opponent_safe(&parts) {
-            return Err(PositionFault::OpponentInCheck);
-        }
-        if !has_valid_counters(&parts) {
-            return Err(PositionFault::BadCounter);
+        if let Some(fault) = first_fault(&parts) {
+            return Err(fault);
         }
         let sides = Sides::of(&parts.men);
         Ok(Position { parts, sides })

@@ -1,5 +1,4 @@
 use Rattle.std.proofs.Common.{arith, refl}
-use Rattle.board_core.specs.Moves.{IsTaken}
 use Rattle.board_core.specs.Search.{IsLaterCapture}
 use Rattle.board_core.proofs.Listing.{IsLegal-stands}
 use Rattle.board_core.proofs.SideSets.{set_of_side}

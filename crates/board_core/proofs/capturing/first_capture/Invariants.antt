@@ -1,4 +1,4 @@
-use Rattle.std.proofs.Common.{ℕ, ◌<◌, ◌-◌, ◌≡◌}
+use Rattle.std.proofs.Common.{ℕ, ◌<◌, ◌-◌}
 use Rattle.board_core.specs.Search.{IsLaterCapture}
 use Rattle.board_core.proofs.Sweep.{Rests}
 use Rattle.board_core.proofs.NextCapture.{On}

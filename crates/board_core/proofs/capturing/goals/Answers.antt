@@ -1,5 +1,4 @@
-use Rattle.std.proofs.Common.{sym, ◌∙◌, ap}
-use Rattle.board_core.specs.Sides.{squares_of}
+use Rattle.std.proofs.Common.{sym, ◌∙◌}
 use Rattle.board_core.proofs.SideSets.{set_of_side}
 use Rattle.board_core.proofs.Steps.{some_same}
 use Rattle.board_core.proofs.NextCapture.{goal_met}

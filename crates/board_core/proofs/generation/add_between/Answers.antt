@@ -1,4 +1,4 @@
-use Rattle.std.proofs.Common.{arith, rules, ap, ◌∙◌, ◌≡◌}
+use Rattle.std.proofs.Common.{arith, ap, ◌∙◌, ◌≡◌}
 use Rattle.board_core.specs.Moves.{promotion_place}
 use Rattle.board_core.proofs.Listing.{HasListedBelow-skip, promotion_below}
 use Rattle.board_core.proofs.ComputedLists.{promotion_back}

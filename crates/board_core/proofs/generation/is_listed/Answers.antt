@@ -1,4 +1,4 @@
-use Rattle.std.proofs.Common.{arith, rules, Some}
+use Rattle.std.proofs.Common.{arith, rules}
 use Rattle.board_core.specs.Moves.{IsMove}
 use Rattle.board_core.proofs.Safety.{safe_legal, legal_safe, same_case}
 use Rattle.board_core.proofs.generation.is_listed.Goals as goal

@@ -1,43 +1,18 @@
-use Rattle.std.proofs.Common.{rules, refl}
+use Rattle.std.proofs.Common.{ap, refl, Err}
+use Rattle.board_core.proofs.Faults.{no_fault, one_fault}
 use Rattle.board_core.proofs.position.Position.new.Goals as goal
 
-pub returns-then-not-has_valid_counters-clause-err : goal.returns-then-not-has_valid_counters-clause-err
-returns-then-not-has_valid_counters-clause-err c = (
-  c.if-not-has_one_king_each.ensures.0 (search rules),
-  c.if-not-has_few_men.ensures.0 (search rules),
-  c.if-not-has_no_pawn_on_edge.ensures.0 (search rules),
-  c.if-not-has_valid_rights.ensures.0 (search rules),
-  c.if-not-has_valid_en_passant.ensures.0 (search rules),
-  c.if-not-is_opponent_safe.ensures.0 (search rules),
-  λ h. let t = c.if-not-has_valid_counters.ensures.1 h in search rules,
-)
+pub returns-in-Some-clause-only : goal.returns-in-Some-clause-only
+returns-in-Some-clause-only c = λ v. absurd (no_fault c.args.parts c.in-Some.fault c.in-Some.ensures.found v)
+
+pub returns-in-Some-clause-only_fault : goal.returns-in-Some-clause-only_fault
+returns-in-Some-clause-only_fault c = λ g h. ap Err (one_fault c.args.parts c.in-Some.fault g c.in-Some.ensures.found h)
 
 pub invariant_of-result : goal.invariant_of-result
-invariant_of-result c = (
-  record {
-    squares = search rules;
-    kings = c.if-not-has_one_king_each.ensures.0 (search rules);
-    few = c.if-not-has_few_men.ensures.0 (search rules);
-    pawns = c.if-not-has_no_pawn_on_edge.ensures.0 (search rules);
-    rights = c.if-not-has_valid_rights.ensures.0 (search rules);
-    en_passant = c.if-not-has_valid_en_passant.ensures.0 (search rules);
-    quiet = c.if-not-is_opponent_safe.ensures.0 (search rules);
-    counters = c.if-not-has_valid_counters.ensures.0 (search rules);
-  },
-  c.of-sides.ensures,
-)
+invariant_of-result c = (c.in_default.ensures.none, c.of-sides.ensures)
 
 pub returns-clause-ok : goal.returns-clause-ok
-returns-clause-ok c = (
-  refl,
-  record {
-    squares = search rules;
-    kings = c.if-not-has_one_king_each.ensures.0 (search rules);
-    few = c.if-not-has_few_men.ensures.0 (search rules);
-    pawns = c.if-not-has_no_pawn_on_edge.ensures.0 (search rules);
-    rights = c.if-not-has_valid_rights.ensures.0 (search rules);
-    en_passant = c.if-not-has_valid_en_passant.ensures.0 (search rules);
-    quiet = c.if-not-is_opponent_safe.ensures.0 (search rules);
-    counters = c.if-not-has_valid_counters.ensures.0 (search rules);
-  },
-)
+returns-clause-ok c = (refl, c.in_default.ensures.none)
+
+pub returns-clause-only_fault : goal.returns-clause-only_fault
+returns-clause-only_fault c = λ g h. absurd (no_fault c.args.parts g h c.in_default.ensures.none)
