@@ -1,7 +1,8 @@
 //! The material of a position.
 
 ghost use Rattle.std.specs.Prelude.{◌≡◌, ◌<◌, ℕ, IfSome, IfNone};
-ghost use Rattle.place_index.specs.Placed.{HasTally, IsMaterialOf, key_by_tally, men_on, rotated};
+ghost use Rattle.place_index.specs.Inside.LookUp.{HasTally, key_by_tally, rotated};
+ghost use Rattle.place_index.specs.Placed.{IsMaterialOf, men_on};
 
 use crate::man::Man;
 use crate::material::Material;

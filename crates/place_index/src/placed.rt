@@ -4,7 +4,8 @@ ghost use Rattle.place_index.specs.Material.{tally_of};
 ghost use Rattle.place_index.specs.Men.{codes_of, exchanged};
 ghost use Rattle.place_index.specs.Placed.{IsNamed, IsMaterialOf, IsSymmetric, IsLookedUp, men_on, side_number};
 ghost use Rattle.place_index.specs.Shape.{has_pawns};
-ghost use Rattle.place_index.specs.Turning.{lead_file, lead_pawn, lead_square, left_file};
+ghost use Rattle.place_index.specs.Turning.{lead_file, lead_pawn};
+ghost use Rattle.place_index.specs.Inside.Turns.{lead_square, left_file};
 
 use crate::finding::material_by_tally;
 use crate::man::Man;
@@ -27,7 +28,8 @@ pub struct Placed {
 }
 
 impl Model for Placed {
-    ghost use Rattle.place_index.specs.Placed.{Placement, placement_of, IsPlaced};
+    ghost use Rattle.place_index.specs.Placed.{Placement};
+    ghost use Rattle.place_index.specs.Inside.LookUp.{placement_of, IsPlaced};
 
     ghost Value = { Placement };
 
