@@ -48,7 +48,6 @@ impl Material {
         ensures found { IfSome result (λ m. IsMaterialOf m (men_on position.now.men)) }
         ensures none { IfNone result ((key : ℕ) → key < 145 → IsMaterialOf key (men_on position.now.men) → ⊥) }
     {
-        let _position = position.parts();
         if position.men() > 5 {
             return None;
         }

@@ -22,6 +22,7 @@ pub(crate) fn lone_squares(men: &[Man]) -> [u8; 16]
 {
     let mut lone_squares = [0u8; 16];
     let mut i = men.len();
+    // The invariant goes by this label.
     'men: while i > 0 {
         i -= 1;
         let man = men[i];

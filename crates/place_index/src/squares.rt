@@ -19,6 +19,7 @@ pub(crate) fn squares_of(men: &[Man], turn: Turn, code: u8) -> UpToThree
 {
     let mut squares = UpToThree::new();
     let mut i = men.len();
+    // The invariant goes by this label.
     'men: while i > 0 {
         i -= 1;
         let man = men[i];
@@ -40,6 +41,7 @@ pub(crate) fn pawn_numbers_of(men: &[Man], turn: Turn, code: u8) -> UpToThree
 {
     let mut numbers = UpToThree::new();
     let mut i = men.len();
+    // The invariant goes by this label.
     'men: while i > 0 {
         i -= 1;
         let man = men[i];

@@ -40,6 +40,7 @@ fn greatest_number(men: &[Man], code: u8) -> u8
 {
     let mut greatest = 0u8;
     let mut i = men.len();
+    // The invariant goes by this label.
     'men: while i > 0 {
         i -= 1;
         greatest = raised(greatest, men[i], code);
@@ -118,6 +119,7 @@ pub(crate) fn turn_of(shape: &Shape, placed: &Placed, lone_squares: &[u8; 16]) -
     ensures shape { IsShape shape.now }
 {
     let material = shape.material();
+    // The proof alone reads that the men are a placement.
     let _men = placed.men();
     if material.has_pawns() {
         let lead = placed.lead_pawn();
