@@ -12,9 +12,9 @@ use Rattle.place_index.specs.Material.{men_of, pieces_of, count_of}
 use Rattle.place_index.specs.Turning.{lead_file}
 use Rattle.place_index.specs.Men.{codes_of, exchanged, other_side}
 use Rattle.place_index.specs.Placed.{Placement, IsNamed, IsMaterialOf, IsSymmetric, IsLookedUp, men_on, is_black, side_number}
-use Rattle.place_index.proofs.Arranging.{count_arranged, arranged_by_counts, arranged_length}
-use Rattle.place_index.proofs.TallyKeys.{found_key}
-use Rattle.place_index.proofs.Symmetric.{codes_exchanged}
+use Rattle.place_index.proofs.Materials.Arranging.{count_arranged, arranged_by_counts, arranged_length}
+use Rattle.place_index.proofs.LookUp.TallyKeys.{found_key}
+use Rattle.place_index.proofs.Materials.Symmetric.{codes_exchanged}
 use Rattle.std.proofs.lemmas.List.Sorted.{IsPermutation-map}
 use Rattle.table_file.specs.Names.{equal}
 use Rattle.table_file.specs.Files.{is_symmetric}

@@ -1,11 +1,11 @@
 -- The index of a placement: group numbers times factors (Syzygy index).
-use Rattle.std.specs.Prelude.{◌≡◌, ℕ, ◌+◌, ◌*◌, ◌<◌, ◌≤◌, List, [], ◌∷◌, take, drop, flat_map, length, true, false, IsTrue, cond, slice_index}
+use Rattle.std.specs.Prelude.{◌≡◌, ℕ, ◌+◌, ◌*◌, ◌<◌, ◌≤◌, List, [], ◌∷◌, take, drop, flat_map, true, false, IsTrue, cond, slice_index}
 use Rattle.std.specs.List.Sorted.{IsPermutation}
-use Rattle.place_index.specs.Square.{file, rank}
+use Rattle.place_index.specs.Square.{rank}
 use Rattle.place_index.specs.Material.{pieces_of}
 use Rattle.place_index.specs.Men.{codes_of, stands, squares_of, square_of}
 use Rattle.place_index.specs.Three.{three_number}
-use Rattle.place_index.specs.Kings.{apart, AreTurnedKings, kings_number}
+use Rattle.place_index.specs.Kings.{apart, kings_number}
 use Rattle.place_index.specs.Pawns.{pawn_square, pawn_numbers_of, pawns_number}
 use Rattle.place_index.specs.Others.{free_set_number}
 use Rattle.place_index.specs.Shape.{Layout, HasGoodPieces, HasGoodOrder, has_pawns, has_unique, lead_code, lead_men, is_pawn, other_groups, factors_of, size_of}
@@ -87,36 +87,3 @@ IndicesAreOne =
     ((men : List Man) → IsPlacement l.material men → lead_file l.material men ≡ l.file → index_of l men < size_of l)
     × ((one other : List Man) → IsPlacement l.material one → IsPlacement l.material other → lead_file l.material one ≡ l.file → lead_file l.material other ≡ l.file
     → index_of l one ≡ index_of l other → (c : ℕ) → squares_of (turned l one) c ≡ squares_of (turned l other) c)
-
--- ---- for the proofs
-
--- men on squares of the board, no two on one
-pub record AreMen (men : List Man) : Type 0 where
-  pub few : length men ≤ 5
-  pub alone : AreAlone men
-  pub board : (c s : ℕ) → stands men c s ≡ true → s < 64
-
--- leading pawns of these numbers stand as their number wants
-pub record ArePawnsAt (f : ℕ) (numbers : List ℕ) : Type 0 where
-  pub some : 1 ≤ length numbers
-  pub few : length numbers ≤ 3
-  pub lead : slice_index numbers 0 < 48
-  pub all : (k : ℕ) → k < length numbers → slice_index numbers k ≤ 64
-  pub file : file (pawn_square (slice_index numbers 0)) ≡ f
-  pub off_last : rank (pawn_square (slice_index numbers 0)) ≤ 6
-
--- the leading group of turned men stands as its number wants
-pub record IsLeadTurned (l : Layout) (men : List Man) : Type 0 where
-  pub range : has_pawns l.material ≡ true → (s : ℕ) → stands men (lead_code l.material) s ≡ true → (8 ≤ s) × (s < 56)
-  pub pawns : has_pawns l.material ≡ true → ArePawnsAt l.file (pawn_numbers_of men (lead_code l.material))
-  pub kings : has_pawns l.material ≡ false → has_unique l.material ≡ false → AreTurnedKings (square_of men (slice_index l.pieces 0)) (square_of men (slice_index l.pieces 1))
-
--- one man alone has this code, and stands on this square
-abbrev pub IsOnly : List Man → ℕ → ℕ → Type 0
-IsOnly men c s = (stands men c s ≡ true) × ((t : ℕ) → t < 64 → stands men c t ≡ true → t ≡ s)
-
--- by each code a square, that of the man if he is the only one with it
-pub record AreLoneSquares (men : List Man) (lone_squares : List ℕ) : Type 0 where
-  pub size : length lone_squares ≡ 16
-  pub is : (c s : ℕ) → c < 16 → IsOnly men c s → slice_index lone_squares c ≡ s
-  pub board : (c : ℕ) → c < 16 → slice_index lone_squares c < 64

@@ -1,5 +1,4 @@
 pub mod Material
-pub mod Place
 pub mod Square
 pub mod Counting
 pub mod Choose
@@ -9,9 +8,8 @@ pub mod Three
 pub mod Kings
 pub mod Others
 pub mod Shape
-pub mod Kept
 pub mod Turning
 pub mod Index
 pub mod Placed
 pub mod Covered
-pub mod Few
+pub mod Inside

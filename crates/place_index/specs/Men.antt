@@ -1,6 +1,6 @@
 -- Men on squares, by the piece codes of the table format: 1 to 6 for the first side's pawn, knight, bishop, rook, queen and
 -- king, 9 to 14 for the second side's.
-use Rattle.std.specs.Prelude.{ℕ, zero, suc, ◌+◌, ◌-◌, List, [], ◌∷◌, map, Bool, cond, nat_lt, ◌/◌, ◌%◌, ◌==◌, ◌&&◌, slice_index}
+use Rattle.std.specs.Prelude.{ℕ, zero, suc, ◌+◌, ◌-◌, List, [], ◌∷◌, map, Bool, cond, ◌/◌, ◌%◌, ◌==◌, ◌&&◌, slice_index}
 use Rattle.std.specs.List.{list_any}
 use Rattle.place_index.specs.Square.{bottom_top}
 use Rattle.place_index.specs.declared.man.Man.{Man}
@@ -39,10 +39,3 @@ other_side c = cond (c / 8 % 2 == 0) (c + 8) (c - 8)
 -- colours exchanged, and each man moved to the rank that lies opposite
 abbrev pub exchanged : List Man → List Man
 exchanged men = map (λ m. man (other_side m.code) (bottom_top m.square)) men
-
--- ---- for the proofs
-
--- one number more in a falling list
-unfoldable pub inserted : ℕ → List ℕ → List ℕ
-inserted s [] = s ∷ []
-inserted s (x ∷ xs) = cond (nat_lt x s) (s ∷ x ∷ xs) (x ∷ inserted s xs)

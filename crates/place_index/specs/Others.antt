@@ -48,9 +48,3 @@ FreeSetsAreNumbered =
     ((xs : List ℕ) → IsFreeSet first last earlier xs → free_set_number first earlier xs < choose (last - first - length earlier) (length xs))
     × ((xs ys : List ℕ) → IsFreeSet first last earlier xs → IsFreeSet first last earlier ys → length xs ≡ length ys → IsLater xs ys → free_set_number first earlier xs < free_set_number first earlier ys)
     × ((xs ys : List ℕ) → IsFreeSet first last earlier xs → IsFreeSet first last earlier ys → length xs ≡ length ys → free_set_number first earlier xs ≡ free_set_number first earlier ys → xs ≡ ys)
-
--- ---- for the code
-
--- as many men as on these squares, with as many on squares lower than any one
-abbrev pub CountLike : List ℕ → List ℕ → Type 0
-CountLike earlier squares = (length earlier ≡ length squares) × ((s : ℕ) → taken earlier s ≡ taken squares s)

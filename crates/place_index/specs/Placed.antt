@@ -1,5 +1,5 @@
 -- How a position is looked up in its table: with colours exchanged where the table names them the other way (Syzygy tables).
-use Rattle.std.specs.Prelude.{◌≡◌, ℕ, suc, ◌+◌, ◌-◌, ◌*◌, ◌/◌, ◌%◌, ◌<◌, ◌≤◌, ◌⊎◌, List, [], ◌∷◌, Bool, true, false, cond, slice_index, max, take, Option, Some, None}
+use Rattle.std.specs.Prelude.{◌≡◌, ℕ, suc, ◌+◌, ◌-◌, ◌⊎◌, List, [], ◌∷◌, Bool, true, false, cond, Option, Some, None}
 use Rattle.std.specs.List.Sorted.{IsPermutation}
 use Rattle.board_core.specs.declared.piece.Piece.{Piece}
 use Rattle.board_core.specs.declared.piece.Side.{Side}
@@ -7,13 +7,10 @@ use Rattle.board_core.specs.declared.piece.Side.TheVariants.{White, Black}
 use Rattle.board_core.specs.declared.piece.Kind.{Kind}
 use Rattle.board_core.specs.declared.piece.Kind.TheVariants.{Pawn, Knight, Bishop, Rook, Queen, King}
 use Rattle.board_core.specs.declared.parts.Parts.{Parts}
-use Rattle.place_index.specs.Material.{men_of, pieces_of, tally_of}
+use Rattle.place_index.specs.Material.{men_of, pieces_of}
 use Rattle.place_index.specs.Men.{man, codes_of, exchanged}
-use Rattle.place_index.specs.Turning.{lead_file, lead_square}
-use Rattle.place_index.specs.Index.{IsPlacement}
+use Rattle.place_index.specs.Turning.{lead_file}
 use Rattle.place_index.specs.declared.man.Man.{Man}
-use Rattle.place_index.specs.declared.tables.TheConstants.{KEYS}
-use Rattle.place_index.specs.declared.placed.Placed.TheInside.{Inside}
 
 -- ---- the men of a position
 
@@ -52,18 +49,6 @@ IsNamed key men = IsPermutation (codes_of men) (pieces_of key)
 abbrev pub IsMaterialOf : ℕ → List Man → Type 0
 IsMaterialOf key men = IsNamed key men ⊎ IsNamed key (exchanged men)
 
--- the tally of the same men with colours exchanged: its halves change places
-abbrev pub rotated : ℕ → ℕ
-rotated t = t % 4294967296 * 4294967296 + t / 4294967296
-
--- men with this tally are those of the table, in its colours or with colours exchanged
-abbrev pub HasTally : ℕ → ℕ → Type 0
-HasTally key t = (t ≡ tally_of (pieces_of key)) ⊎ (rotated t ≡ tally_of (pieces_of key))
-
--- the key that is looked for by a tally
-abbrev pub key_by_tally : ℕ → ℕ
-key_by_tally t = slice_index KEYS (max t (rotated t) % 1181)
-
 -- ---- looking up
 
 abbrev pub IsSymmetric : ℕ → Type 0
@@ -90,15 +75,3 @@ pub record IsLookedUp (key : ℕ) (p : Parts) (placed : Placement) : Type 0 wher
   pub side : placed.side ≡ cond is_exchanged (1 - side_number p.side) (side_number p.side)
   pub white : IsSymmetric key → placed.side ≡ 0
   pub file : placed.file ≡ lead_file key placed.men
-
--- what a value of this type keeps
-abbrev pub placement_of : Inside → Placement
-placement_of a = record { material = a.material; men = take a.count a.men; side = a.side; file = a.file }
-
-pub record IsPlaced (a : Inside) : Type 0 where
-  pub material : a.material < 145
-  pub count : a.count ≤ 5
-  pub men : IsPlacement a.material (take a.count a.men)
-  pub side : a.side < 2
-  pub lead : a.lead ≡ lead_square a.material (take a.count a.men)
-  pub file : a.file ≡ lead_file a.material (take a.count a.men)

@@ -46,10 +46,6 @@ lead_pawns key = cond (black_leads key) (black_pawns key) (white_pawns key)
 unfoldable pub other_pawns : ℕ → ℕ
 other_pawns key = cond (black_leads key) (white_pawns key) (black_pawns key)
 
--- the leading pawns' code, 0 without pawns
-unfoldable pub leading_code : ℕ → ℕ
-leading_code key = cond (has_pawns key) (lead_code key) 0
-
 -- ---- the leading group
 
 abbrev pub is_king : ℕ → Bool

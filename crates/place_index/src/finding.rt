@@ -1,7 +1,8 @@
 //! The material of a position.
 
 ghost use Rattle.std.specs.Prelude.{◌≡◌, ◌<◌, ℕ, IfSome, IfNone};
-ghost use Rattle.place_index.specs.Placed.{HasTally, IsMaterialOf, key_by_tally, men_on, rotated};
+ghost use Rattle.place_index.specs.Inside.LookUp.{HasTally, key_by_tally, rotated};
+ghost use Rattle.place_index.specs.Placed.{IsMaterialOf, men_on};
 
 use crate::man::Man;
 use crate::material::Material;
@@ -47,7 +48,6 @@ impl Material {
         ensures found { IfSome result (λ m. IsMaterialOf m (men_on position.now.men)) }
         ensures none { IfNone result ((key : ℕ) → key < 145 → IsMaterialOf key (men_on position.now.men) → ⊥) }
     {
-        let _position = position.parts();
         if position.men() > 5 {
             return None;
         }

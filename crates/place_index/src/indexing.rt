@@ -1,18 +1,19 @@
 //! The index of a placement.
 
 ghost use Rattle.std.specs.Prelude.{◌≡◌, ◌<◌, ◌≤◌, [], true, false};
-ghost use Rattle.place_index.specs.Index.{AreLoneSquares, IsLeadTurned, IsShape, IsPlacement, lead_codes, lead_number, squares_of_all, numbers_of, sum_of_products, index_of};
-ghost use Rattle.place_index.specs.Others.{CountLike};
+ghost use Rattle.place_index.specs.Inside.Groups.{AreLoneSquares, IsLeadTurned};
+ghost use Rattle.place_index.specs.Index.{IsShape, IsPlacement, lead_codes, lead_number, squares_of_all, numbers_of, sum_of_products, index_of};
+ghost use Rattle.place_index.specs.Inside.Groups.{CountLike};
 ghost use Rattle.place_index.specs.Shape.{has_pawns, lead_men, factors_of, size_of, greatest_size};
-ghost use Rattle.place_index.specs.Turning.{turned_by};
+ghost use Rattle.place_index.specs.Inside.Turns.{turned_by};
 
-use crate::few::Earlier;
 use crate::lone_squares::{lone_square, lone_squares, number_group};
 use crate::man::Man;
 use crate::material::{Material, leading_men, leading_pawn};
 use crate::numbers::{pawns_before, pawns_number, pieces_number};
 use crate::placed::Placed;
 use crate::shape::Shape;
+use crate::short_lists::Earlier;
 use crate::squares::{pawn_numbers_of, pawn_square};
 use crate::turn::Turn;
 use crate::turning::{lead_codes, turn_of};

@@ -3,7 +3,6 @@
 
 mod arrangement;
 mod choose;
-mod few;
 mod finding;
 mod group;
 mod indexing;
@@ -15,6 +14,7 @@ mod numbers;
 mod placed;
 mod places;
 mod shape;
+mod short_lists;
 mod sizes;
 mod squares;
 mod sweep;

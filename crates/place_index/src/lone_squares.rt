@@ -1,15 +1,16 @@
 //! The squares of the groups, those of men that are the only ones of their kind without a search.
 
 ghost use Rattle.std.specs.Prelude.{◌≡◌, ◌<◌, ◌≤◌, ◌+◌, ◌++◌, ◌∷◌, [], ℕ, true, length, slice_index};
-ghost use Rattle.place_index.specs.Index.{AreMen, IsOnly, AreLoneSquares, first_square};
+ghost use Rattle.place_index.specs.Inside.Groups.{AreMen, IsOnly, AreLoneSquares};
+ghost use Rattle.place_index.specs.Index.{first_square};
 ghost use Rattle.place_index.specs.Men.{stands, squares_of, square_of};
 ghost use Rattle.place_index.specs.Others.{free_set_number};
-ghost use Rattle.place_index.specs.Turning.{turn_square, turned_by};
+ghost use Rattle.place_index.specs.Inside.Turns.{turn_square, turned_by};
 
-use crate::few::Earlier;
 use crate::group::Group;
 use crate::man::Man;
 use crate::numbers::{first_square, free_number, free_set_number};
+use crate::short_lists::Earlier;
 use crate::squares::squares_of;
 use crate::turn::Turn;
 use board_core::Square;
@@ -21,6 +22,7 @@ pub(crate) fn lone_squares(men: &[Man]) -> [u8; 16]
 {
     let mut lone_squares = [0u8; 16];
     let mut i = men.len();
+    // The invariant goes by this label.
     'men: while i > 0 {
         i -= 1;
         let man = men[i];

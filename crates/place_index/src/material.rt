@@ -1,7 +1,8 @@
 ghost use Rattle.std.specs.Prelude.{◌≡◌, ◌+◌, ◌<◌, ◌≤◌, ◌↔◌, ℕ, IfSome, IfNone, IsTrue, length, slice_index};
 ghost use Rattle.place_index.specs.Material.{Men, IsTable, TablesAreNumbered, name_at, name_of, men_of, white_pawns, black_pawns, pieces_of, count_of, tally_of};
-ghost use Rattle.place_index.specs.Shape.{lead_men, lead_code, leading_code, other_code, other_pawns, black_leads, both_have_pawns};
-ghost use Rattle.place_index.specs.Place.{place_of, rank_of, pair_of, triple_of};
+ghost use Rattle.place_index.specs.Shape.{lead_men, lead_code, other_code, other_pawns, black_leads, both_have_pawns};
+ghost use Rattle.place_index.specs.Inside.Groups.{leading_code};
+ghost use Rattle.place_index.specs.Inside.NameKeys.{key_by_name, rank_of, pair_of, triple_of};
 
 use crate::man::{BLACK_PAWN, WHITE_PAWN};
 use crate::tables::{
@@ -68,9 +69,9 @@ fn triple(first: u8, second: u8, third: u8) -> u8
 }
 
 /// The only key whose name the text can be.
-#[tactic(auto, unfolding(crate::specs::Place::place_of))]
-fn place(text: &[u8]) -> u8
-    ensures is { result ≡ place_of text.now }
+#[tactic(auto, unfolding(crate::specs::Inside::NameKeys::key_by_name))]
+fn key_by_name(text: &[u8]) -> u8
+    ensures is { result ≡ key_by_name text.now }
     ensures below { result < 145 }
 {
     match text.len() {
@@ -128,7 +129,7 @@ impl Material {
         ensures found { IfSome result (λ m. name_of (men_of m) ≡ name.now) }
         ensures none { IfNone result ((m : Men) → IsTable m → name_of m ≡ name.now → ⊥) }
     {
-        let key = place(name);
+        let key = key_by_name(name);
         if is_name(key as usize, name) {
             Some(Material { key })
         } else {

@@ -2,20 +2,21 @@
 
 ghost use Rattle.std.specs.Prelude.{◌≡◌, ◌<◌, ◌≤◌, ◌+◌, ◌++◌, ◌∷◌, ℕ, length, slice_index, false, cond};
 ghost use Rattle.place_index.specs.Choose.{set_number, IsFallingBelow};
-ghost use Rattle.place_index.specs.Index.{ArePawnsAt, IsLeadTurned, IsPlacement, first_square, lead_codes, lead_pawns_number, lead_number, squares_of_all};
+ghost use Rattle.place_index.specs.Inside.Groups.{ArePawnsAt, IsLeadTurned};
+ghost use Rattle.place_index.specs.Index.{IsPlacement, first_square, lead_codes, lead_pawns_number, lead_number, squares_of_all};
 ghost use Rattle.place_index.specs.Kings.{AreTurnedKings, kings_number};
 ghost use Rattle.place_index.specs.Others.{taken, free_number, free_set_number};
 ghost use Rattle.place_index.specs.Pawns.{pawns_before};
 ghost use Rattle.place_index.specs.Shape.{has_pawns};
 ghost use Rattle.place_index.specs.Square.{before};
 ghost use Rattle.place_index.specs.Three.{three_number, triangle_number, lower_number};
-ghost use Rattle.place_index.specs.Turning.{turned_by};
+ghost use Rattle.place_index.specs.Inside.Turns.{turned_by};
 
 use crate::choose::choices;
-use crate::few::Earlier;
 use crate::man::{BLACK_PAWN, Man, WHITE_PAWN};
 use crate::material::leading_men;
 use crate::shape::Shape;
+use crate::short_lists::Earlier;
 use crate::squares::pawn_square;
 use crate::tables::{KINGS, LOWER, PAWNS_BEFORE, TRIANGLE};
 use crate::turn::Turn;

@@ -4,7 +4,8 @@ ghost use Rattle.place_index.specs.Material.{tally_of};
 ghost use Rattle.place_index.specs.Men.{codes_of, exchanged};
 ghost use Rattle.place_index.specs.Placed.{IsNamed, IsMaterialOf, IsSymmetric, IsLookedUp, men_on, side_number};
 ghost use Rattle.place_index.specs.Shape.{has_pawns};
-ghost use Rattle.place_index.specs.Turning.{lead_file, lead_pawn, lead_square, left_file};
+ghost use Rattle.place_index.specs.Turning.{lead_file, lead_pawn};
+ghost use Rattle.place_index.specs.Inside.Turns.{lead_square, left_file};
 
 use crate::finding::material_by_tally;
 use crate::man::Man;
@@ -27,7 +28,8 @@ pub struct Placed {
 }
 
 impl Model for Placed {
-    ghost use Rattle.place_index.specs.Placed.{Placement, placement_of, IsPlaced};
+    ghost use Rattle.place_index.specs.Placed.{Placement};
+    ghost use Rattle.place_index.specs.Inside.LookUp.{placement_of, IsPlaced};
 
     ghost Value = { Placement };
 
@@ -118,6 +120,7 @@ fn is_exchanged(material: Material, position: &Position, tally: u64) -> bool
     ensures named { IsNamed material (cond result (exchanged (men_on position.now.men)) (men_on position.now.men)) }
     ensures white { IsSymmetric material → cond result (1 - side_number position.now.side) (side_number position.now.side) ≡ 0 }
 {
+    // The proof alone reads that the key is below 145.
     let _key = material.key();
     // In either colours there are as many men as in the material, so equal tallies are equal men.
     if tally != material.tally() {
@@ -159,6 +162,7 @@ fn looked_up(
     requires white { IsSymmetric material → cond exchanges (1 - side_number position.now.side) (side_number position.now.side) ≡ 0 }
     ensures { IsLookedUp material position.now result }
 {
+    // The proof alone reads that it is a position.
     let _position = position.parts();
     in_colours(&mut men, exchanges);
     let lead = lead_square(material, &men[..count]);
@@ -180,7 +184,6 @@ impl Placed {
         ensures placed { IfSome result (λ placed. IsLookedUp placed.material position.now placed) }
         ensures none { IfNone result ((key : ℕ) → key < 145 → IsMaterialOf key (men_on position.now.men) → ⊥) }
     {
-        let _position = position.parts();
         if position.men() > 5 {
             return None;
         }
@@ -201,7 +204,7 @@ pub fn place(position: &Position, material: &Material) -> Placed
     requires { IsMaterialOf material.now (men_on position.now.men) }
     ensures { IsLookedUp material.now position.now result }
 {
-    let _position = position.parts();
+    // The proof alone reads that the key is below 145.
     let _key = material.key();
     let mut men = [Man::default(); 5];
     let (count, tally) = men_on(position, &mut men);

@@ -43,11 +43,11 @@ impl Model for Shape {
 
     ghost Value = { Layout };
 
-    ghost use Rattle.place_index.specs.Kept.{layout_of, IsKept};
+    ghost use Rattle.place_index.specs.Inside.ShapeFields.{layout_of, AreFields};
 
     ghost view = { layout_of };
 
-    ghost invariant = { IsKept };
+    ghost invariant = { AreFields };
 }
 
 /// The place of the pawns that don't lead, where both sides have pawns.

@@ -1,24 +1,25 @@
 //! The squares of one kind of men, and their pawn numbers.
 
 ghost use Rattle.std.specs.Prelude.{◌≡◌, ◌<◌, ◌≤◌, ◌+◌, length, slice_index, ℕ, true};
-ghost use Rattle.place_index.specs.Index.{AreMen};
+ghost use Rattle.place_index.specs.Inside.Groups.{AreMen};
 ghost use Rattle.place_index.specs.Men.{stands, squares_of};
 ghost use Rattle.place_index.specs.Pawns.{pawn_number, pawn_numbers_of, pawn_square};
-ghost use Rattle.place_index.specs.Turning.{turned_by};
+ghost use Rattle.place_index.specs.Inside.Turns.{turned_by};
 
-use crate::few::Few;
 use crate::man::Man;
+use crate::short_lists::UpToThree;
 use crate::tables::{PAWN_NUMBERS, PAWN_SQUARES};
 use crate::turn::Turn;
 
 /// The squares to which the men with this code go, the highest first.
-pub(crate) fn squares_of(men: &[Man], turn: Turn, code: u8) -> Few
+pub(crate) fn squares_of(men: &[Man], turn: Turn, code: u8) -> UpToThree
     requires men { AreMen men.now }
     requires few { length (squares_of (turned_by turn men.now) code) ≤ 3 }
     ensures { result ≡ squares_of (turned_by turn men.now) code }
 {
-    let mut squares = Few::new();
+    let mut squares = UpToThree::new();
     let mut i = men.len();
+    // The invariant goes by this label.
     'men: while i > 0 {
         i -= 1;
         let man = men[i];
@@ -32,14 +33,15 @@ pub(crate) fn squares_of(men: &[Man], turn: Turn, code: u8) -> Few
 }
 
 /// The pawn numbers of the squares to which the men with this code go, the greatest first.
-pub(crate) fn pawn_numbers_of(men: &[Man], turn: Turn, code: u8) -> Few
+pub(crate) fn pawn_numbers_of(men: &[Man], turn: Turn, code: u8) -> UpToThree
     requires men { AreMen men.now }
     requires few { length (pawn_numbers_of (turned_by turn men.now) code) ≤ 3 }
     requires pawns { (s : ℕ) → stands (turned_by turn men.now) code s ≡ true → (8 ≤ s) × (s < 56) }
     ensures { result ≡ pawn_numbers_of (turned_by turn men.now) code }
 {
-    let mut numbers = Few::new();
+    let mut numbers = UpToThree::new();
     let mut i = men.len();
+    // The invariant goes by this label.
     'men: while i > 0 {
         i -= 1;
         let man = men[i];

@@ -49,6 +49,7 @@ pub(crate) fn men_on(position: &Position, men: &mut [Man; 5]) -> (usize, u64)
     ensures few { result.0 ≤ 5 }
     ensures tally { result.1 ≡ tally_of (codes_of (men_on position.now.men)) }
 {
+    // The proof alone reads that it is a position.
     let _position = position.parts();
     let mut tally = 0u64;
     let mut rest = position.occupied();

@@ -1,7 +1,7 @@
 //! All mirrorings of a placement in one.
 
 ghost use Rattle.std.specs.Prelude.{◌≡◌, ◌<◌, ◌≤◌, ◌+◌, ◌*◌, false};
-ghost use Rattle.place_index.specs.Turning.{turn_number, turn_square};
+ghost use Rattle.place_index.specs.Inside.Turns.{turn_number, turn_square};
 
 use crate::tables::TURNED;
 use board_core::Square;
@@ -35,7 +35,7 @@ impl Turn {
 
     /// The turn's number among the eight, by which the table of turned squares is read: 1 for files exchanged, 2 for ranks
     /// exchanged and 4 for file and rank exchanged, added.
-    #[tactic(auto, unfolding(crate::specs::Turning::turn_number))]
+    #[tactic(auto, unfolding(crate::specs::Inside::Turns::turn_number))]
     fn number(self) -> usize
         ensures is { result ≡ turn_number self }
         ensures few { result ≤ 7 }

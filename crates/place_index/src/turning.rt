@@ -1,12 +1,14 @@
 //! The turning of all men, so that the leading group stands as its number wants.
 
 ghost use Rattle.std.specs.Prelude.{◌≡◌, ◌≢◌, ◌<◌, ◌≤◌, ℕ, length, map, not, nat_lt, slice_index, true};
-ghost use Rattle.place_index.specs.Index.{AreMen, AreLoneSquares, IsPlacement, IsShape, lead_codes};
+ghost use Rattle.place_index.specs.Inside.Groups.{AreMen, AreLoneSquares};
+ghost use Rattle.place_index.specs.Index.{IsPlacement, IsShape, lead_codes};
 ghost use Rattle.place_index.specs.Men.{stands};
 ghost use Rattle.place_index.specs.Pawns.{pawn_number, pawn_numbers_of};
 ghost use Rattle.place_index.specs.Shape.{has_pawns};
 ghost use Rattle.place_index.specs.Square.{file, rank};
-ghost use Rattle.place_index.specs.Turning.{lead_pawn, turned, turned_by, turn_square, low, is_first_above};
+ghost use Rattle.place_index.specs.Turning.{lead_pawn, turned};
+ghost use Rattle.place_index.specs.Inside.Turns.{turned_by, turn_square, low, is_first_above};
 
 use crate::lone_squares::lone_square;
 use crate::man::Man;
@@ -38,6 +40,7 @@ fn greatest_number(men: &[Man], code: u8) -> u8
 {
     let mut greatest = 0u8;
     let mut i = men.len();
+    // The invariant goes by this label.
     'men: while i > 0 {
         i -= 1;
         greatest = raised(greatest, men[i], code);
@@ -116,6 +119,7 @@ pub(crate) fn turn_of(shape: &Shape, placed: &Placed, lone_squares: &[u8; 16]) -
     ensures shape { IsShape shape.now }
 {
     let material = shape.material();
+    // The proof alone reads that the men are a placement.
     let _men = placed.men();
     if material.has_pawns() {
         let lead = placed.lead_pawn();

@@ -6,9 +6,9 @@ use Rattle.std.specs.List.Sorted.{IsPermutation}
 use Rattle.std.proofs.lemmas.Bool.{cases_Bool, cases_eq, false≢true, eqb-true, eq-eqb, ne_eqb, ltb-true, lt-ltb, and_parts, and_from, or_cases, or_left, or_right, not_from_false}
 use Rattle.place_index.specs.Material.{pieces_of, count_of}
 use Rattle.place_index.specs.Shape.{Layout, layout, groups_of, has_pawns, both_have_pawns, has_unique, lead_pawns, lead_code, other_pawns, other_code, IsSideBySide, AreAll, BeginsByPawns, BeginsByThree, BeginsByKings, BeginsWell, HasGoodPieces, HasGoodOrder}
-use Rattle.place_index.proofs.Arranging.{arranged_by_counts, count_arranged, arranged_length}
-use Rattle.place_index.proofs.SideBySide.{side_by_side, not_side_by_side, stands, stands_is}
-use Rattle.place_index.proofs.MenTables.{codes_small}
+use Rattle.place_index.proofs.Materials.Arranging.{arranged_by_counts, count_arranged, arranged_length}
+use Rattle.place_index.proofs.Shapes.SideBySide.{side_by_side, not_side_by_side, stands, stands_is}
+use Rattle.place_index.proofs.Materials.MenTables.{codes_small}
 use Rattle.table_file.specs.declared.fault.TableFault.{TableFault}
 use Rattle.table_file.specs.declared.fault.TableFault.TheVariants.{BadPieces, BadOrder}
 use Rattle.table_file.specs.Shapes.{is_arrangement, stands_in, is_side_by_side, are_all, begins_by_pawns, begins_by_three, begins_by_kings, begins_well, are_good_pieces, are_good_orders, shape_at}

@@ -1,8 +1,8 @@
 use Rattle.std.proofs.Common.{◌≡◌, sym, ◌∙◌, arith}
 use Rattle.std.proofs.lemmas.Bool.{false≢true}
 use Rattle.place_index.specs.Shape.{lead_pawns}
-use Rattle.place_index.proofs.MenTables.{pawns_within}
-use Rattle.place_index.proofs.Beginning.{lead_by_pawns}
+use Rattle.place_index.proofs.Materials.MenTables.{pawns_within}
+use Rattle.place_index.proofs.Shapes.Beginning.{lead_by_pawns}
 use Rattle.place_index.proofs.arrangement.begins_by_pawns.Goals as goal
 
 pub are_all-requires : goal.are_all-requires

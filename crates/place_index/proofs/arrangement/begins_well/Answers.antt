@@ -2,8 +2,8 @@ use Rattle.std.proofs.Common.{◌≡◌, ◌+◌, true, false, refl, sym, ◌∙
 use Rattle.std.proofs.lemmas.Bool.{false≢true}
 use Rattle.place_index.specs.Material.{white_pawns, black_pawns}
 use Rattle.place_index.specs.Shape.{has_pawns, has_unique}
-use Rattle.place_index.proofs.MenTables.{men_least}
-use Rattle.place_index.proofs.Beginning.{some_pawns, no_pawns, unique_by_three, none_by_two, well_by_pawns, well_by_three, well_by_kings}
+use Rattle.place_index.proofs.Materials.MenTables.{men_least}
+use Rattle.place_index.proofs.Shapes.Beginning.{some_pawns, no_pawns, unique_by_three, none_by_two, well_by_pawns, well_by_three, well_by_kings}
 use Rattle.place_index.proofs.arrangement.begins_well.Goals as goal
 
 pub begins_by_pawns-requires-clause-pawns : goal.begins_by_pawns-requires-clause-pawns

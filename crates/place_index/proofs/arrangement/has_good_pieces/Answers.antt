@@ -1,5 +1,5 @@
 use Rattle.place_index.specs.Material.{pieces_of}
-use Rattle.place_index.proofs.Arranging.{arranged_length}
+use Rattle.place_index.proofs.Materials.Arranging.{arranged_length}
 use Rattle.place_index.proofs.arrangement.has_good_pieces.Goals as goal
 
 pub begins_well-requires : goal.begins_well-requires

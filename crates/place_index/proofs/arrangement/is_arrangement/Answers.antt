@@ -1,8 +1,8 @@
 use Rattle.std.proofs.Common.{refl, sym, ◌∙◌, inl, inr, arith}
 use Rattle.std.proofs.lemmas.Bool.{cases_eq, false≢true}
 use Rattle.place_index.specs.Material.{pieces_of}
-use Rattle.place_index.proofs.Arranging.{arranged_length, count_arranged, arranged_by_counts}
-use Rattle.place_index.proofs.MenTables.{codes_small}
+use Rattle.place_index.proofs.Materials.Arranging.{arranged_length, count_arranged, arranged_by_counts}
+use Rattle.place_index.proofs.Materials.MenTables.{codes_small}
 use Rattle.place_index.proofs.arrangement.is_arrangement.Goals as goal
 
 pub returns-then-pieces-men : goal.returns-then-pieces-men

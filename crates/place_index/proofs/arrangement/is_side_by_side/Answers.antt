@@ -1,6 +1,6 @@
 use Rattle.std.proofs.Common.{take, slice_index, refl, sym, ◌∙◌, inl, inr, arith}
 use Rattle.std.proofs.lemmas.Bool.{cases_eq, false≢true}
-use Rattle.place_index.proofs.SideBySide.{side_by_side, not_side_by_side, stands_is}
+use Rattle.place_index.proofs.Shapes.SideBySide.{side_by_side, not_side_by_side, stands_is}
 use Rattle.place_index.proofs.arrangement.is_side_by_side.Goals as goal
 use Rattle.place_index.proofs.arrangement.is_side_by_side.Goals.{else-pieces-k-via-then-pieces-k+else-contains, else-pieces-k-via-else-pieces-k}
 

@@ -1,5 +1,5 @@
 use Rattle.std.proofs.Common.{ℕ, ◌<◌, ◌≤◌}
-use Rattle.place_index.proofs.SideBySide.{IsFresh}
+use Rattle.place_index.proofs.Shapes.SideBySide.{IsFresh}
 use Rattle.place_index.proofs.arrangement.is_side_by_side.Given as goal
 
 abbrev pub invariant-loop-k : goal.invariant-loop-k

@@ -1,4 +1,4 @@
-use Rattle.place_index.proofs.ChoiceTable.{choice_table}
+use Rattle.place_index.proofs.Counting.ChoiceTable.{choice_table}
 use Rattle.place_index.proofs.choose.choices.Goals as goal
 
 pub returns : goal.returns

@@ -1,4 +1,4 @@
-use Rattle.place_index.proofs.PartList.{listed_falls, falling_listed, listed_once}
+use Rattle.place_index.proofs.Counting.PartList.{listed_falls, falling_listed, listed_once}
 use Rattle.place_index.proofs.choose.parts_are_listed.Goals as goal
 
 pub returns : goal.returns

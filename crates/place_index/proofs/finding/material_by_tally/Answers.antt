@@ -1,5 +1,5 @@
 use Rattle.std.proofs.Common.{◌∙◌, sym, inl, inr, arith}
-use Rattle.place_index.proofs.TallyKeys.{key_of_tally, other_key}
+use Rattle.place_index.proofs.LookUp.TallyKeys.{key_of_tally, other_key}
 use Rattle.place_index.proofs.finding.material_by_tally.Goals as goal
 
 pub returns-in_default-clause-none : goal.returns-in_default-clause-none

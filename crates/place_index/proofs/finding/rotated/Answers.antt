@@ -1,5 +1,5 @@
 use Rattle.std.proofs.Common.{◌∙◌, arith}
-use Rattle.place_index.proofs.TallyKeys.{rotate_is}
+use Rattle.place_index.proofs.LookUp.TallyKeys.{rotate_is}
 use Rattle.place_index.proofs.finding.rotated.Goals as goal
 
 pub returns : goal.returns

@@ -1,5 +1,5 @@
 use Rattle.std.proofs.Common.{◌+◌, ◌-◌, refl, arith}
-use Rattle.place_index.proofs.Runs.{scanned_none, scanned_on, scanned_end, scanned_all}
+use Rattle.place_index.proofs.Shapes.Runs.{scanned_none, scanned_on, scanned_end, scanned_all}
 use Rattle.place_index.proofs.group.groups.Goals as goal
 use Rattle.place_index.proofs.group.groups.Goals.{else-i-pieces-via-then-i-pieces+else-pieces-i, else-i-pieces-via-else-i-pieces}
 

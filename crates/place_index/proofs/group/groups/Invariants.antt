@@ -1,4 +1,4 @@
-use Rattle.place_index.proofs.Runs.{IsScanned}
+use Rattle.place_index.proofs.Shapes.Runs.{IsScanned}
 use Rattle.place_index.proofs.group.groups.Given as goal
 
 abbrev pub invariant-loop-i : goal.invariant-loop-i

@@ -1,12 +1,14 @@
 use Rattle.std.proofs.Common.{◌≡◌, ◌<◌, ◌∙◌, ℕ, true, ap, sym, subst, arith}
 use Rattle.place_index.specs.Men.{stands}
-use Rattle.place_index.specs.Index.{AreLoneSquares, IsPlacement, IsLeadTurned, numbers_of, sum_of_products}
+use Rattle.place_index.specs.Inside.Groups.{AreLoneSquares, IsLeadTurned}
+use Rattle.place_index.specs.Index.{IsPlacement, numbers_of, sum_of_products}
 use Rattle.place_index.specs.Shape.{factors_of}
-use Rattle.place_index.specs.Turning.{turned, turned_by, lead_file}
-use Rattle.place_index.proofs.Greatest.{size_is_within}
-use Rattle.place_index.proofs.IndexLaw.{index_below, turned_placement, index_products}
-use Rattle.place_index.proofs.TurnedMen.{lead_is_turned}
-use Rattle.place_index.proofs.Turns.{codes_known}
+use Rattle.place_index.specs.Turning.{turned, lead_file}
+use Rattle.place_index.specs.Inside.Turns.{turned_by}
+use Rattle.place_index.proofs.Shapes.Greatest.{size_is_within}
+use Rattle.place_index.proofs.Indices.IndexLaw.{index_below, turned_placement, index_products}
+use Rattle.place_index.proofs.Turns.TurnedMen.{lead_is_turned}
+use Rattle.place_index.proofs.Turns.Mirrorings.{codes_known}
 use Rattle.place_index.proofs.indexing.index.Goals as goal
 
 pub lone_squares-lone_squares-requires : goal.lone_squares-lone_squares-requires

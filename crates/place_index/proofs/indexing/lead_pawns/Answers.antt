@@ -1,14 +1,15 @@
 use Rattle.std.proofs.Common.{◌≡◌, ◌∙◌, ◌∷◌, ◌++◌, [], ap, sym, subst, length, map, get_or, true, arith}
 use Rattle.std.proofs.lemmas.List.{append-nil, take_all}
 use Rattle.place_index.specs.Men.{stands, squares_of}
-use Rattle.place_index.specs.Others.{CountLike}
+use Rattle.place_index.specs.Inside.Groups.{CountLike}
 use Rattle.place_index.specs.Pawns.{pawn_square, pawn_numbers_of}
 use Rattle.place_index.specs.Shape.{lead_code}
-use Rattle.place_index.specs.Turning.{turned_by}
-use Rattle.place_index.specs.Index.{ArePawnsAt, lead_pawns_number, squares_of_all}
-use Rattle.place_index.proofs.IndexLaw.{codes_by_pawns, number_by_pawns}
-use Rattle.place_index.proofs.LeadSquares.{pawns_like, pawn_next, pawn_room}
-use Rattle.place_index.proofs.TurnedMen.{are_men, numbers_fall}
+use Rattle.place_index.specs.Inside.Turns.{turned_by}
+use Rattle.place_index.specs.Inside.Groups.{ArePawnsAt}
+use Rattle.place_index.specs.Index.{lead_pawns_number, squares_of_all}
+use Rattle.place_index.proofs.Indices.IndexLaw.{codes_by_pawns, number_by_pawns}
+use Rattle.place_index.proofs.Turns.LeadSquares.{pawns_like, pawn_next, pawn_room}
+use Rattle.place_index.proofs.Turns.TurnedMen.{are_men, numbers_fall}
 use Rattle.place_index.proofs.indexing.lead_pawns.Goals as goal
 
 pub loop-number-init : goal.loop-number-init

@@ -3,11 +3,11 @@ use Rattle.std.proofs.lemmas.List.{take_all}
 use Rattle.place_index.specs.Men.{squares_of, square_of}
 use Rattle.place_index.specs.Others.{taken}
 use Rattle.place_index.specs.Shape.{lead_men}
-use Rattle.place_index.specs.Turning.{turn_square, turned_by}
+use Rattle.place_index.specs.Inside.Turns.{turn_square, turned_by}
 use Rattle.place_index.specs.Index.{lead_codes, squares_of_all}
-use Rattle.place_index.proofs.Factors.{AreDistinct}
-use Rattle.place_index.proofs.LoneGroups.{IsFound, lone_lead}
-use Rattle.place_index.proofs.Numbering.{follow, distinct_taken, all_more, squares_few}
+use Rattle.place_index.proofs.Indices.Factors.{AreDistinct}
+use Rattle.place_index.proofs.Indices.LoneGroups.{IsFound, lone_lead}
+use Rattle.place_index.proofs.Indices.Numbering.{follow, distinct_taken, all_more, squares_few}
 use Rattle.place_index.proofs.indexing.lead_pieces.Goals as goal
 
 pub loop-code-init : goal.loop-code-init

@@ -3,9 +3,9 @@ use Rattle.place_index.specs.Men.{square_of}
 use Rattle.place_index.specs.Others.{taken}
 use Rattle.place_index.specs.Pawns.{pawns_before}
 use Rattle.place_index.specs.Shape.{lead_code}
-use Rattle.place_index.specs.Turning.{turn_square}
-use Rattle.place_index.proofs.LeadSquares.{lone_pawn_once, lone_pawn_is}
-use Rattle.place_index.proofs.Turns.{once_small, only_once}
+use Rattle.place_index.specs.Inside.Turns.{turn_square}
+use Rattle.place_index.proofs.Turns.LeadSquares.{lone_pawn_once, lone_pawn_is}
+use Rattle.place_index.proofs.Turns.Mirrorings.{once_small, only_once}
 use Rattle.place_index.proofs.indexing.lone_pawn.Goals as goal
 
 pub lone_square-from-requires-clause-code : goal.lone_square-from-requires-clause-code

@@ -1,12 +1,12 @@
 use Rattle.std.proofs.Common.{◌+◌, ap, refl, subst, length, drop, get_or, arith}
 use Rattle.std.proofs.lemmas.List.{drop_more, drop_all}
 use Rattle.place_index.specs.Shape.{group}
-use Rattle.place_index.specs.Turning.{turned_by}
-use Rattle.place_index.proofs.LeadSquares.{group_few}
-use Rattle.place_index.proofs.LoneGroups.{lone_group}
-use Rattle.place_index.proofs.Numbering.{numbered_room}
-use Rattle.place_index.proofs.Summing.{IsSummed, summed_start, summed_next, summed_within, summed_room, first_room, summed_end}
-use Rattle.place_index.proofs.TurnedMen.{are_men}
+use Rattle.place_index.specs.Inside.Turns.{turned_by}
+use Rattle.place_index.proofs.Turns.LeadSquares.{group_few}
+use Rattle.place_index.proofs.Indices.LoneGroups.{lone_group}
+use Rattle.place_index.proofs.Indices.Numbering.{numbered_room}
+use Rattle.place_index.proofs.Indices.Summing.{IsSummed, summed_start, summed_next, summed_within, summed_room, first_room, summed_end}
+use Rattle.place_index.proofs.Turns.TurnedMen.{are_men}
 use Rattle.place_index.proofs.indexing.sum_of_groups.Goals as goal
 
 pub number_group-number-requires-clause-few : goal.number_group-number-requires-clause-few

@@ -1,6 +1,6 @@
 use Rattle.std.proofs.Common.{drop}
-use Rattle.place_index.specs.Turning.{turned_by}
-use Rattle.place_index.proofs.Summing.{IsSummed}
+use Rattle.place_index.specs.Inside.Turns.{turned_by}
+use Rattle.place_index.proofs.Indices.Summing.{IsSummed}
 use Rattle.place_index.proofs.indexing.sum_of_groups.Given as goal
 
 abbrev pub invariant-loop-i : goal.invariant-loop-i

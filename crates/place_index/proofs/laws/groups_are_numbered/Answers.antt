@@ -1,8 +1,8 @@
-use Rattle.place_index.proofs.SetNumbers.{sets_are_numbered}
-use Rattle.place_index.proofs.ThreeOrder.{threes_are_numbered}
-use Rattle.place_index.proofs.KingOrder.{kings_are_numbered}
-use Rattle.place_index.proofs.PawnOrder.{pawns_are_numbered}
-use Rattle.place_index.proofs.FreeSets.{free_sets_are_numbered}
+use Rattle.place_index.proofs.Counting.SetNumbers.{sets_are_numbered}
+use Rattle.place_index.proofs.Indices.ThreeOrder.{threes_are_numbered}
+use Rattle.place_index.proofs.Indices.KingOrder.{kings_are_numbered}
+use Rattle.place_index.proofs.Indices.PawnOrder.{pawns_are_numbered}
+use Rattle.place_index.proofs.Counting.FreeSets.{free_sets_are_numbered}
 use Rattle.place_index.proofs.laws.groups_are_numbered.Goals as goal
 
 pub returns : goal.returns

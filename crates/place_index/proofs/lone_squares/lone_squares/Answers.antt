@@ -1,5 +1,5 @@
 use Rattle.std.proofs.Common.{arith}
-use Rattle.place_index.proofs.Highest.{squares_start, squares_set, code_known}
+use Rattle.place_index.proofs.Indices.LoneSquares.{squares_start, squares_set, code_known}
 use Rattle.place_index.proofs.lone_squares.lone_squares.Goals as goal
 
 pub men-init : goal.men-init

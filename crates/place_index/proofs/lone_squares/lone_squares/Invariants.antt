@@ -1,5 +1,5 @@
 use Rattle.std.proofs.Common.{◌≤◌, length, drop}
-use Rattle.place_index.specs.Index.{AreLoneSquares}
+use Rattle.place_index.specs.Inside.Groups.{AreLoneSquares}
 use Rattle.place_index.proofs.lone_squares.lone_squares.Given as goal
 
 abbrev pub invariant-men : goal.invariant-men

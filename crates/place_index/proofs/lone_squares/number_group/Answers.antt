@@ -2,10 +2,10 @@ use Rattle.std.proofs.Common.{◌≡◌, ◌∷◌, [], ◌∙◌, ap, sym, subs
 use Rattle.place_index.specs.Index.{first_square}
 use Rattle.place_index.specs.Men.{square_of}
 use Rattle.place_index.specs.Others.{free_number, free_set_number}
-use Rattle.place_index.specs.Turning.{turn_square, turned_by}
+use Rattle.place_index.specs.Inside.Turns.{turn_square, turned_by}
 use Rattle.place_index.specs.Choose.{IsFallingBelow}
-use Rattle.place_index.proofs.Settled.{squares_fall}
-use Rattle.place_index.proofs.Turns.{free_alone}
+use Rattle.place_index.proofs.Indices.Settled.{squares_fall}
+use Rattle.place_index.proofs.Turns.Mirrorings.{free_alone}
 use Rattle.place_index.proofs.lone_squares.number_group.Goals as goal
 
 pub free_set_number-requires-clause-falling : goal.free_set_number-requires-clause-falling

@@ -1,4 +1,4 @@
-use Rattle.place_index.proofs.KeyTables.{leading_code_table}
+use Rattle.place_index.proofs.Materials.KeyTables.{leading_code_table}
 use Rattle.place_index.proofs.material.leading_code.Goals as goal
 
 pub returns-clause-is : goal.returns-clause-is

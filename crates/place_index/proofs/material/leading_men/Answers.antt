@@ -1,4 +1,4 @@
-use Rattle.place_index.proofs.MenTables.{leading_table, leading_least, leading_most}
+use Rattle.place_index.proofs.Materials.MenTables.{leading_table, leading_least, leading_most}
 use Rattle.place_index.proofs.material.leading_men.Goals as goal
 
 pub returns-clause-is : goal.returns-clause-is

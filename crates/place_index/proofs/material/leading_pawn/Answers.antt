@@ -1,5 +1,5 @@
 use Rattle.std.proofs.Common.{◌∙◌, sym}
-use Rattle.place_index.proofs.KeyTables.{lead_code_none, lead_code_some}
+use Rattle.place_index.proofs.Materials.KeyTables.{lead_code_none, lead_code_some}
 use Rattle.place_index.proofs.material.leading_pawn.Goals as goal
 
 pub returns-then-code-eq0 : goal.returns-then-code-eq0

@@ -1,5 +1,5 @@
 use Rattle.std.proofs.Common.{◌<◌, ◌+◌, ◌*◌, arith}
-use Rattle.place_index.proofs.KeyTables.{letter_table, letter_most}
+use Rattle.place_index.proofs.Materials.KeyTables.{letter_table, letter_most}
 use Rattle.place_index.proofs.material.letter.Goals as goal
 
 pub returns-clause-is : goal.returns-clause-is

@@ -1,5 +1,5 @@
 use Rattle.std.proofs.Common.{sym, arith}
-use Rattle.place_index.proofs.MenTables.{men_three, men_four, men_five}
+use Rattle.place_index.proofs.Materials.MenTables.{men_three, men_four, men_five}
 use Rattle.place_index.proofs.material.men.Goals as goal
 
 pub returns-in-0-to-4-clause-is : goal.returns-in-0-to-4-clause-is

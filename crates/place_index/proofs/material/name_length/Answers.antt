@@ -1,5 +1,5 @@
 use Rattle.std.proofs.Common.{sym, arith}
-use Rattle.place_index.proofs.KeyTables.{length_four, length_five, length_six}
+use Rattle.place_index.proofs.Materials.KeyTables.{length_four, length_five, length_six}
 use Rattle.place_index.proofs.material.name_length.Goals as goal
 
 pub returns-in-0-to-4-clause-is : goal.returns-in-0-to-4-clause-is

@@ -2,9 +2,9 @@ use Rattle.std.proofs.Common.{◌≡◌, ◌≤◌, ◌-◌, ◌∙◌, ◌++◌
 use Rattle.std.proofs.lemmas.List.{take_more, append_assoc}
 use Rattle.place_index.specs.Choose.{choose}
 use Rattle.place_index.specs.Others.{free_number}
-use Rattle.place_index.proofs.MappedSets.{mapped_drop, mapped_end, falling_at}
-use Rattle.place_index.proofs.Choosing.{choose_few}
-use Rattle.place_index.proofs.Higher.{free_after}
+use Rattle.place_index.proofs.Counting.MappedSets.{mapped_drop, mapped_end, falling_at}
+use Rattle.place_index.proofs.Counting.Choosing.{choose_few}
+use Rattle.place_index.proofs.Indices.HigherMen.{free_after}
 use Rattle.place_index.proofs.numbers.free_set_number.Goals as goal
 
 pub overflow_add-sum : goal.overflow_add-sum

@@ -1,7 +1,7 @@
 use Rattle.std.proofs.Common.{◌+◌, ◌*◌, ◌∙◌, ap, slice_index, arith}
 use Rattle.place_index.specs.declared.tables.TheConstants.{KINGS}
-use Rattle.place_index.proofs.KingOrder.{triangle_ten}
-use Rattle.place_index.proofs.KingTable.{king_table}
+use Rattle.place_index.proofs.Indices.KingOrder.{triangle_ten}
+use Rattle.place_index.proofs.Indices.KingTable.{king_table}
 use Rattle.place_index.proofs.numbers.kings_number.Goals as goal
 
 pub bounds-triangle : goal.bounds-triangle

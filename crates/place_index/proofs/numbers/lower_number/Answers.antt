@@ -1,4 +1,4 @@
-use Rattle.place_index.proofs.IndexTables.{lower_table, lower_most}
+use Rattle.place_index.proofs.Indices.IndexTables.{lower_table, lower_most}
 use Rattle.place_index.proofs.numbers.lower_number.Goals as goal
 
 pub returns-clause-is : goal.returns-clause-is

@@ -1,5 +1,5 @@
 use Rattle.std.proofs.Common.{◌<◌, ◌+◌, ◌*◌, arith}
-use Rattle.place_index.proofs.IndexTables.{before_table, before_most}
+use Rattle.place_index.proofs.Indices.IndexTables.{before_table, before_most}
 use Rattle.place_index.proofs.numbers.pawns_before.Goals as goal
 
 pub returns-clause-is : goal.returns-clause-is

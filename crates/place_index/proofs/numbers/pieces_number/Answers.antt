@@ -3,10 +3,10 @@ use Rattle.place_index.specs.Kings.{AreTurnedKings, kings_number}
 use Rattle.place_index.specs.Three.{three_number}
 use Rattle.place_index.specs.Men.{square_of}
 use Rattle.place_index.specs.Shape.{has_unique, has_pawns, lead_men}
-use Rattle.place_index.specs.Turning.{turned_by}
-use Rattle.place_index.proofs.Beginning.{unique_by_three, none_by_two}
-use Rattle.place_index.proofs.IndexLaw.{number_by_three, number_by_kings}
-use Rattle.place_index.proofs.Turns.{stand_three, stand_two}
+use Rattle.place_index.specs.Inside.Turns.{turned_by}
+use Rattle.place_index.proofs.Shapes.Beginning.{unique_by_three, none_by_two}
+use Rattle.place_index.proofs.Indices.IndexLaw.{number_by_three, number_by_kings}
+use Rattle.place_index.proofs.Turns.Mirrorings.{stand_three, stand_two}
 use Rattle.place_index.proofs.numbers.pieces_number.Goals as goal
 
 pub bounds-squares-0 : goal.bounds-squares-0

@@ -1,6 +1,6 @@
 use Rattle.std.proofs.Common.{◌-◌, length, get_or, arith}
-use Rattle.place_index.proofs.SetNumbers.{number_drop, number_end}
-use Rattle.place_index.proofs.Choosing.{choose_few}
+use Rattle.place_index.proofs.Counting.SetNumbers.{number_drop, number_end}
+use Rattle.place_index.proofs.Counting.Choosing.{choose_few}
 use Rattle.place_index.proofs.numbers.set_number.Goals as goal
 
 pub overflow_add-sum : goal.overflow_add-sum

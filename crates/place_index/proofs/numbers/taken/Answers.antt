@@ -1,5 +1,5 @@
 use Rattle.std.proofs.Common.{arith}
-use Rattle.place_index.proofs.MappedSets.{taken_drop, taken_end}
+use Rattle.place_index.proofs.Counting.MappedSets.{taken_drop, taken_end}
 use Rattle.place_index.proofs.numbers.taken.Goals as goal
 
 pub loop-man-preserved : goal.loop-man-preserved

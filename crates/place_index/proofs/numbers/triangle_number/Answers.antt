@@ -1,4 +1,4 @@
-use Rattle.place_index.proofs.IndexTables.{triangle_table, triangle_most}
+use Rattle.place_index.proofs.Indices.IndexTables.{triangle_table, triangle_most}
 use Rattle.place_index.proofs.numbers.triangle_number.Goals as goal
 
 pub returns-clause-is : goal.returns-clause-is

@@ -1,7 +1,7 @@
 use Rattle.std.proofs.Common.{◌<◌, cond, sym, subst, arith}
 use Rattle.place_index.specs.Men.{exchanged}
 use Rattle.place_index.specs.Placed.{IsNamed, men_on}
-use Rattle.place_index.proofs.Colours.{named_by_tally, exchanged_by_tally, unlike_by_tally, named_if}
+use Rattle.place_index.proofs.LookUp.Colours.{named_by_tally, exchanged_by_tally, unlike_by_tally, named_if}
 use Rattle.place_index.proofs.placed.is_exchanged.Goals as goal
 
 pub returns-then-tally-clause-named : goal.returns-then-tally-clause-named

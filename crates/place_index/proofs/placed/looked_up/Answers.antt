@@ -2,10 +2,10 @@ use Rattle.std.proofs.Common.{◌≡◌, ◌-◌, ◌∙◌, cond, take, ap, ref
 use Rattle.place_index.specs.Men.{exchanged}
 use Rattle.place_index.specs.Index.{IsPlacement}
 use Rattle.place_index.specs.Placed.{IsNamed, men_on, side_number}
-use Rattle.place_index.specs.Turning.{left_file}
-use Rattle.place_index.proofs.Colours.{taken_in_colours}
-use Rattle.place_index.proofs.MenOn.{stood, placement_in_colours}
-use Rattle.place_index.proofs.TurnedPawns.{left_is}
+use Rattle.place_index.specs.Inside.Turns.{left_file}
+use Rattle.place_index.proofs.LookUp.Colours.{taken_in_colours}
+use Rattle.place_index.proofs.LookUp.MenOn.{stood, placement_in_colours}
+use Rattle.place_index.proofs.Turns.TurnedPawns.{left_is}
 use Rattle.place_index.proofs.placed.looked_up.Goals as goal
 
 pub lead_square-lead-requires-clause-placed : goal.lead_square-lead-requires-clause-placed

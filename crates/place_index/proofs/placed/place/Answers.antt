@@ -1,6 +1,6 @@
 use Rattle.std.proofs.Common.{arith}
 use Rattle.place_index.specs.Placed.{men_on}
-use Rattle.place_index.proofs.Symmetric.{material_few}
+use Rattle.place_index.proofs.Materials.Symmetric.{material_few}
 use Rattle.place_index.proofs.placed.place.Goals as goal
 
 pub men_on-count-requires : goal.men_on-count-requires

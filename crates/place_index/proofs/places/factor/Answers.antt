@@ -1,6 +1,6 @@
 use Rattle.std.proofs.Common.{◌≡◌, ℕ, ◌*◌, ◌+◌, ◌≤◌, drop, get_or, sym, ap, ◌∙◌, arith}
 use Rattle.place_index.specs.Shape.{factor_at}
-use Rattle.place_index.proofs.Products.{factor_most, factor_some, factor_next_below, factor_next_above, factor_all, part_most, some_drop}
+use Rattle.place_index.proofs.Shapes.Products.{factor_most, factor_some, factor_next_below, factor_next_above, factor_all, part_most, some_drop}
 use Rattle.place_index.proofs.places.factor.Goals as goal
 use Rattle.place_index.proofs.places.factor.Goals.{then-places-i, else-places-i}
 

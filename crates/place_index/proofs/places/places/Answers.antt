@@ -1,6 +1,6 @@
 use Rattle.std.proofs.Common.{sym, ◌∙◌, arith}
 use Rattle.std.proofs.lemmas.Bool.{not-true, not-false}
-use Rattle.place_index.proofs.Placing.{placed_none, placed_free, placed_taken, placed_all, placed_size, placed_room}
+use Rattle.place_index.proofs.Shapes.GroupPlaces.{placed_none, placed_free, placed_taken, placed_all, placed_size, placed_room}
 use Rattle.place_index.proofs.places.places.Goals as goal
 
 pub loop-place-init : goal.loop-place-init

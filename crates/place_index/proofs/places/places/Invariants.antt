@@ -1,4 +1,4 @@
-use Rattle.place_index.proofs.Placing.{IsPlaced}
+use Rattle.place_index.proofs.Shapes.GroupPlaces.{IsPlaced}
 use Rattle.place_index.proofs.places.places.Given as goal
 
 abbrev pub invariant-loop-place : goal.invariant-loop-place

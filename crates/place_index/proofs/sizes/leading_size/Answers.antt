@@ -2,8 +2,8 @@ use Rattle.std.proofs.Common.{◌≡◌, ◌+◌, false, refl, sym, ◌∙◌}
 use Rattle.std.proofs.lemmas.Bool.{false≢true}
 use Rattle.place_index.specs.Material.{white_pawns, black_pawns}
 use Rattle.place_index.specs.Shape.{has_pawns}
-use Rattle.place_index.proofs.Beginning.{some_pawns, no_pawns, unique_by_three, none_by_two}
-use Rattle.place_index.proofs.Greatest.{pawns_lead, three_lead, kings_lead}
+use Rattle.place_index.proofs.Shapes.Beginning.{some_pawns, no_pawns, unique_by_three, none_by_two}
+use Rattle.place_index.proofs.Shapes.Greatest.{pawns_lead, three_lead, kings_lead}
 use Rattle.place_index.proofs.sizes.leading_size.Goals as goal
 
 pub returns-then-has_pawns : goal.returns-then-has_pawns

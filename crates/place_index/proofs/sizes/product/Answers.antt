@@ -1,6 +1,6 @@
 use Rattle.std.proofs.Common.{◌≡◌, ℕ, ◌*◌, ◌+◌, ◌≤◌, drop, get_or, sym, ap, ◌∙◌, arith}
 use Rattle.place_index.specs.Shape.{product}
-use Rattle.place_index.proofs.Products.{product_drop, part_most, some_drop, product_all}
+use Rattle.place_index.proofs.Shapes.Products.{product_drop, part_most, some_drop, product_all}
 use Rattle.place_index.proofs.sizes.product.Goals as goal
 
 again : (a b x : ℕ) → a * b * x ≡ a * (b * x)

@@ -1,6 +1,6 @@
 use Rattle.std.proofs.Common.{get_or, refl, arith}
 use Rattle.place_index.specs.declared.group.Group.{Group}
-use Rattle.place_index.proofs.Sizing.{sized_none, sized_more, sized_all, sized_left, squares_most}
+use Rattle.place_index.proofs.Shapes.Sizing.{sized_none, sized_more, sized_all, sized_left, squares_most}
 use Rattle.place_index.proofs.sizes.sizes.Goals as goal
 
 abbrev none : Group

@@ -1,4 +1,4 @@
-use Rattle.place_index.proofs.Sizing.{IsSized}
+use Rattle.place_index.proofs.Shapes.Sizing.{IsSized}
 use Rattle.place_index.proofs.sizes.sizes.Given as goal
 
 abbrev pub invariant-loop-group : goal.invariant-loop-group

@@ -1,4 +1,4 @@
-use Rattle.place_index.proofs.IndexTables.{number_table}
+use Rattle.place_index.proofs.Indices.IndexTables.{number_table}
 use Rattle.place_index.proofs.squares.pawn_number.Goals as goal
 
 pub returns : goal.returns

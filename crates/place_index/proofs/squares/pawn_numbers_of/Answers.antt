@@ -1,9 +1,10 @@
 use Rattle.std.proofs.Common.{◌∙◌, sym, ap, length, drop, arith}
-use Rattle.place_index.specs.Men.{man, inserted}
+use Rattle.place_index.specs.Men.{man}
+use Rattle.place_index.specs.Inside.ShortLists.{inserted}
 use Rattle.place_index.specs.Pawns.{pawn_number, pawn_numbers_of}
-use Rattle.place_index.specs.Turning.{turn_square, turned_by}
-use Rattle.place_index.proofs.Collecting.{numbers_end, numbers_pass, numbers_take, numbers_room}
-use Rattle.place_index.proofs.Turns.{turned_men, turned_at, turned_within, turned_length}
+use Rattle.place_index.specs.Inside.Turns.{turn_square, turned_by}
+use Rattle.place_index.proofs.Indices.Collecting.{numbers_end, numbers_pass, numbers_take, numbers_room}
+use Rattle.place_index.proofs.Turns.Mirrorings.{turned_men, turned_at, turned_within, turned_length}
 use Rattle.place_index.proofs.squares.pawn_numbers_of.Goals as goal
 
 pub men-init : goal.men-init

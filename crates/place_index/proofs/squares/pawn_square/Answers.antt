@@ -1,6 +1,6 @@
 use Rattle.std.proofs.Common.{arith}
-use Rattle.place_index.proofs.IndexTables.{square_table}
-use Rattle.place_index.proofs.TurnedPawns.{square_range}
+use Rattle.place_index.proofs.Indices.IndexTables.{square_table}
+use Rattle.place_index.proofs.Turns.TurnedPawns.{square_range}
 use Rattle.place_index.proofs.squares.pawn_square.Goals as goal
 
 pub returns-clause-is : goal.returns-clause-is

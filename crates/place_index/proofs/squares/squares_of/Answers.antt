@@ -1,8 +1,9 @@
 use Rattle.std.proofs.Common.{◌∙◌, sym, ap, length, drop, arith}
-use Rattle.place_index.specs.Men.{man, inserted, squares_of}
-use Rattle.place_index.specs.Turning.{turn_square, turned_by}
-use Rattle.place_index.proofs.Collecting.{squares_end, squares_pass, squares_take, squares_room}
-use Rattle.place_index.proofs.Turns.{turned_men, turned_at, turned_within, turned_length}
+use Rattle.place_index.specs.Men.{man, squares_of}
+use Rattle.place_index.specs.Inside.ShortLists.{inserted}
+use Rattle.place_index.specs.Inside.Turns.{turn_square, turned_by}
+use Rattle.place_index.proofs.Indices.Collecting.{squares_end, squares_pass, squares_take, squares_room}
+use Rattle.place_index.proofs.Turns.Mirrorings.{turned_men, turned_at, turned_within, turned_length}
 use Rattle.place_index.proofs.squares.squares_of.Goals as goal
 
 pub men-init : goal.men-init

@@ -1,6 +1,6 @@
 use Rattle.std.proofs.Common.{◌≡◌, ◌≤◌, length, drop}
 use Rattle.place_index.specs.Men.{squares_of}
-use Rattle.place_index.specs.Turning.{turned_by}
+use Rattle.place_index.specs.Inside.Turns.{turned_by}
 use Rattle.place_index.proofs.squares.squares_of.Given as goal
 
 abbrev pub invariant-men : goal.invariant-men

@@ -1,4 +1,4 @@
-use Rattle.place_index.proofs.Exchanging.{exchanged_next}
+use Rattle.place_index.proofs.LookUp.Exchanging.{exchanged_next}
 use Rattle.place_index.proofs.sweep.exchange.Goals as goal
 
 pub loop-man-preserved : goal.loop-man-preserved

@@ -1,5 +1,5 @@
 use Rattle.std.proofs.Common.{arith}
-use Rattle.place_index.proofs.Exchanging.{other_by_bit}
+use Rattle.place_index.proofs.LookUp.Exchanging.{other_by_bit}
 use Rattle.place_index.proofs.sweep.exchanged.Goals as goal
 
 pub returns-clause-code : goal.returns-clause-code

@@ -1,4 +1,4 @@
-use Rattle.place_index.proofs.Tallies.{code_tally_table, code_tally_most}
+use Rattle.place_index.proofs.Materials.Tallies.{code_tally_table, code_tally_most}
 use Rattle.place_index.proofs.sweep.known_tally.Goals as goal
 
 pub returns-clause-is : goal.returns-clause-is

@@ -3,8 +3,8 @@ use Rattle.std.specs.Prelude.{slice_set}
 use Rattle.std.proofs.lemmas.List.{take_more_set, length-take-le, length-set}
 use Rattle.place_index.specs.Material.{tally_of}
 use Rattle.place_index.specs.Men.{codes_of, man}
-use Rattle.place_index.proofs.MenOn.{IsSwept, swept_start, swept_next, swept_end, swept_all, swept_some}
-use Rattle.place_index.proofs.Tallies.{tally_last, tally_none}
+use Rattle.place_index.proofs.LookUp.MenOn.{IsSwept, swept_start, swept_next, swept_end, swept_all, swept_some}
+use Rattle.place_index.proofs.Materials.Tallies.{tally_last, tally_none}
 use Rattle.place_index.proofs.sweep.men_on.Goals as goal
 
 pub loop-count-init : goal.loop-count-init

@@ -1,7 +1,7 @@
 use Rattle.std.proofs.Common.{◌≡◌, ◌≤◌, ◌*◌, length, take}
 use Rattle.place_index.specs.Material.{tally_of}
 use Rattle.place_index.specs.Men.{codes_of}
-use Rattle.place_index.proofs.MenOn.{IsSwept}
+use Rattle.place_index.proofs.LookUp.MenOn.{IsSwept}
 use Rattle.place_index.proofs.sweep.men_on.Given as goal
 
 abbrev pub invariant-loop-count : goal.invariant-loop-count

@@ -1,7 +1,7 @@
 use Rattle.std.proofs.Common.{◌∙◌, sym, ap, slice_index, refl, inl, inr, arith}
 use Rattle.std.proofs.lemmas.Bool.{cases_eq, cases_lt}
 use Rattle.place_index.specs.Pawns.{pawn_number}
-use Rattle.place_index.proofs.Collecting.{numbers_end, numbers_pass, greatest_more, greatest_same}
+use Rattle.place_index.proofs.Indices.Collecting.{numbers_end, numbers_pass, greatest_more, greatest_same}
 use Rattle.place_index.proofs.turning.greatest_number.Goals as goal
 
 pub men-init : goal.men-init

@@ -1,6 +1,6 @@
 use Rattle.std.proofs.Common.{◌≡◌, ◌∙◌, ap, sym, slice_index}
-use Rattle.place_index.specs.Turning.{turn_square}
-use Rattle.place_index.proofs.Turns.{above_off, above_on, above_end}
+use Rattle.place_index.specs.Inside.Turns.{turn_square}
+use Rattle.place_index.proofs.Turns.Mirrorings.{above_off, above_on, above_end}
 use Rattle.place_index.proofs.turning.is_above.Goals as goal
 
 pub returns-then-file-rank : goal.returns-then-file-rank

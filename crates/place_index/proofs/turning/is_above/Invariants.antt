@@ -1,5 +1,5 @@
 use Rattle.std.proofs.Common.{◌≡◌, drop, map, slice_index}
-use Rattle.place_index.specs.Turning.{turn_square, is_first_above}
+use Rattle.place_index.specs.Inside.Turns.{turn_square, is_first_above}
 use Rattle.place_index.proofs.turning.is_above.Given as goal
 
 abbrev pub invariant-loop-code : goal.invariant-loop-code

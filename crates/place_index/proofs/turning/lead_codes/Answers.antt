@@ -1,7 +1,7 @@
 use Rattle.std.proofs.Common.{◌≡◌, ◌∙◌, true, ap, subst, length, take, arith}
 use Rattle.place_index.specs.Shape.{has_pawns}
-use Rattle.place_index.proofs.Numbering.{codes_pawned}
-use Rattle.place_index.proofs.TurnedMen.{pawned_of}
+use Rattle.place_index.proofs.Indices.Numbering.{codes_pawned}
+use Rattle.place_index.proofs.Turns.TurnedMen.{pawned_of}
 use Rattle.place_index.proofs.turning.lead_codes.Goals as goal
 
 pub returns-then-has_pawns : goal.returns-then-has_pawns

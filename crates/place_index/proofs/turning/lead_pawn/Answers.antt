@@ -1,7 +1,7 @@
 use Rattle.std.proofs.Common.{◌≡◌, ◌∙◌, ap, slice_index, subst, true, arith}
 use Rattle.place_index.specs.Men.{stands}
 use Rattle.place_index.specs.Pawns.{pawn_square, pawn_numbers_of}
-use Rattle.place_index.proofs.TurnedMen.{are_men, lead_range, lead_number_few, lead_pawn_is}
+use Rattle.place_index.proofs.Turns.TurnedMen.{are_men, lead_range, lead_number_few, lead_pawn_is}
 use Rattle.place_index.proofs.turning.lead_pawn.Goals as goal
 
 pub greatest_number-greatest-requires-clause-men : goal.greatest_number-greatest-requires-clause-men

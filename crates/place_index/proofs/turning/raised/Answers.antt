@@ -1,7 +1,7 @@
 use Rattle.std.proofs.Common.{◌≡◌, ◌∙◌, ap, slice_index, arith}
 use Rattle.place_index.specs.Pawns.{pawn_number}
 use Rattle.place_index.specs.declared.tables.TheConstants.{PAWN_NUMBERS}
-use Rattle.place_index.proofs.IndexTables.{number_table}
+use Rattle.place_index.proofs.Indices.IndexTables.{number_table}
 use Rattle.place_index.proofs.turning.raised.Goals as goal
 
 pub returns-then-number-greatest-clause-more : goal.returns-then-number-greatest-clause-more

@@ -3,10 +3,11 @@ use Rattle.std.specs.Prelude.{not, nat_lt}
 use Rattle.std.proofs.lemmas.Bool.{false≢true}
 use Rattle.place_index.specs.Shape.{has_pawns}
 use Rattle.place_index.specs.Square.{file, rank}
-use Rattle.place_index.specs.Turning.{lead_pawn, low, turn_square, is_first_above}
+use Rattle.place_index.specs.Turning.{lead_pawn}
+use Rattle.place_index.specs.Inside.Turns.{low, turn_square, is_first_above}
 use Rattle.place_index.specs.Index.{IsPlacement, lead_codes}
-use Rattle.place_index.proofs.TurnedMen.{pawned_of, plain_of}
-use Rattle.place_index.proofs.Turns.{pawns_turned, pieces_turned, lead_once, lead_some, all_small, at_least_four}
+use Rattle.place_index.proofs.Turns.TurnedMen.{pawned_of, plain_of}
+use Rattle.place_index.proofs.Turns.Mirrorings.{pawns_turned, pieces_turned, lead_once, lead_some, all_small, at_least_four}
 use Rattle.place_index.proofs.turning.turn_of.Goals as goal
 
 pub returns-then-has_pawns-clause-is : goal.returns-then-has_pawns-clause-is

@@ -1,5 +1,5 @@
 use Rattle.std.proofs.Common.{◌<◌, ◌+◌, ◌*◌, arith}
-use Rattle.place_index.proofs.KeyTables.{count_table, count_most}
+use Rattle.place_index.proofs.Materials.KeyTables.{count_table, count_most}
 use Rattle.place_index.proofs.material.Material.count.Goals as goal
 
 pub returns-clause-is : goal.returns-clause-is

@@ -2,7 +2,7 @@ use Rattle.std.proofs.Common.{◌≡◌, ◌+◌, ◌∙◌, ap, sym, eqb, leb}
 use Rattle.std.specs.Prelude.{not}
 use Rattle.std.proofs.lemmas.Bool.{leb-true, le-leb}
 use Rattle.place_index.specs.Material.{white_pawns, black_pawns}
-use Rattle.place_index.proofs.KeyTables.{pawned_table}
+use Rattle.place_index.proofs.Materials.KeyTables.{pawned_table}
 use Rattle.place_index.proofs.material.Material.has_pawns.Goals as goal
 
 pub returns : goal.returns

@@ -1,7 +1,7 @@
 use Rattle.std.proofs.Common.{arith}
 use Rattle.std.proofs.lemmas.Option.{IfSome_then}
-use Rattle.place_index.proofs.MenOn.{men_count}
-use Rattle.place_index.proofs.TallyKeys.{few_on, found_on, none_on, IfNone_then}
+use Rattle.place_index.proofs.LookUp.MenOn.{men_count}
+use Rattle.place_index.proofs.LookUp.TallyKeys.{few_on, found_on, none_on, IfNone_then}
 use Rattle.place_index.proofs.material.Material.of.Goals as goal
 
 pub returns-then-men-gt5-clause-none : goal.returns-then-men-gt5-clause-none

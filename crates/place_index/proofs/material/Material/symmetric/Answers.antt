@@ -1,4 +1,4 @@
-use Rattle.place_index.proofs.KeyTables.{symmetric_table}
+use Rattle.place_index.proofs.Materials.KeyTables.{symmetric_table}
 use Rattle.place_index.proofs.material.Material.symmetric.Goals as goal
 
 pub returns : goal.returns

@@ -1,4 +1,4 @@
-use Rattle.place_index.proofs.Tallies.{tally_table}
+use Rattle.place_index.proofs.Materials.Tallies.{tally_table}
 use Rattle.place_index.proofs.material.Material.tally.Goals as goal
 
 pub returns : goal.returns

@@ -1,5 +1,5 @@
 use Rattle.std.proofs.Common.{take, arith}
-use Rattle.place_index.proofs.TurnedPawns.{file_below}
+use Rattle.place_index.proofs.Turns.TurnedPawns.{file_below}
 use Rattle.place_index.proofs.placed.Placed.file.Goals as goal
 
 pub returns-clause-left : goal.returns-clause-left

@@ -1,7 +1,7 @@
 use Rattle.std.proofs.Common.{arith, sym, subst}
 use Rattle.place_index.specs.Placed.{IsMaterialOf, men_on}
-use Rattle.place_index.proofs.MenOn.{men_count}
-use Rattle.place_index.proofs.TallyKeys.{few_on, found_on, none_on}
+use Rattle.place_index.proofs.LookUp.MenOn.{men_count}
+use Rattle.place_index.proofs.LookUp.TallyKeys.{few_on, found_on, none_on}
 use Rattle.place_index.proofs.placed.Placed.of.Goals as goal
 
 pub returns-then-men-gt5-clause-none : goal.returns-then-men-gt5-clause-none

@@ -1,8 +1,8 @@
 use Rattle.std.proofs.Common.{ap, ◌∙◌, arith}
 use Rattle.place_index.specs.Shape.{product}
-use Rattle.place_index.proofs.Greatest.{good_length, size_is_some, size_is_within}
-use Rattle.place_index.proofs.Making.{made_groups, made_sizes, made_men}
-use Rattle.place_index.proofs.MenTables.{men_least, men_most}
+use Rattle.place_index.proofs.Shapes.Greatest.{good_length, size_is_some, size_is_within}
+use Rattle.place_index.proofs.Shapes.ShapeParts.{made_groups, made_sizes, made_men}
+use Rattle.place_index.proofs.Materials.MenTables.{men_least, men_most}
 use Rattle.place_index.proofs.shape.Shape.new.Goals as goal
 
 pub groups-groups-requires-clause-lead : goal.groups-groups-requires-clause-lead

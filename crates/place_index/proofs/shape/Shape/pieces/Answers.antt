@@ -1,6 +1,6 @@
 use Rattle.std.proofs.Common.{ap, length, arith}
-use Rattle.place_index.proofs.Greatest.{good_length}
-use Rattle.place_index.proofs.MenTables.{men_least}
+use Rattle.place_index.proofs.Shapes.Greatest.{good_length}
+use Rattle.place_index.proofs.Materials.MenTables.{men_least}
 use Rattle.place_index.proofs.shape.Shape.pieces.Goals as goal
 
 pub returns-clause-least : goal.returns-clause-least

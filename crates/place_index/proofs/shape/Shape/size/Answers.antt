@@ -1,5 +1,5 @@
 use Rattle.std.proofs.Common.{arith}
-use Rattle.place_index.proofs.Greatest.{size_is_some, size_is_within}
+use Rattle.place_index.proofs.Shapes.Greatest.{size_is_some, size_is_within}
 use Rattle.place_index.proofs.shape.Shape.size.Goals as goal
 
 pub returns-clause-some : goal.returns-clause-some

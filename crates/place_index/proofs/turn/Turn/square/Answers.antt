@@ -1,6 +1,6 @@
 use Rattle.std.proofs.Common.{◌∙◌, ◌+◌, ◌*◌, ap, slice_index, arith}
 use Rattle.place_index.specs.declared.tables.TheConstants.{TURNED}
-use Rattle.place_index.proofs.TurnTable.{turned_table, turned_small}
+use Rattle.place_index.proofs.Turns.TurnTable.{turned_table, turned_small}
 use Rattle.place_index.proofs.turn.Turn.square.Goals as goal
 
 pub returns-clause-is : goal.returns-clause-is

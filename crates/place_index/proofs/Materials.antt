@@ -1,0 +1,8 @@
+-- The 145 materials, by their keys and by their men.
+pub mod Arranging
+pub mod KeyTables
+pub mod KeyWalk
+pub mod MenTables
+pub mod Symmetric
+pub mod TableLaw
+pub mod Tallies

@@ -1,0 +1,7 @@
+-- What values keep and what functions find on the way; cited by private clauses alone.
+pub mod Groups
+pub mod LookUp
+pub mod NameKeys
+pub mod ShapeFields
+pub mod ShortLists
+pub mod Turns
