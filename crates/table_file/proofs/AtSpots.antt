@@ -1,5 +1,5 @@
 -- The entry of an index, by the values of its block.
-use Rattle.std.proofs.Common.{◌≡◌, ℕ, zero, suc, ◌+◌, ◌*◌, ◌/◌, ◌<◌, ◌≤◌, List, [], ◌∷◌, length, get_or, take, drop, Some, refl, sym, ap, ◌∙◌, arith}
+use Rattle.std.proofs.Common.{◌≡◌, ℕ, zero, suc, ◌+◌, ◌*◌, ◌<◌, ◌≤◌, List, [], ◌∷◌, length, get_or, take, drop, Some, refl, sym, ap, ◌∙◌, arith}
 use Rattle.std.specs.Prelude.{slice_get, Result, Ok, Err, OnErr, IfOk, None}
 use Rattle.std.proofs.lemmas.Option.{slice_get_past}
 use Rattle.pair_dict.specs.Blocks.{block_values}
@@ -15,7 +15,7 @@ use Rattle.table_file.specs.Sparse.{sizes_of}
 use Rattle.table_file.specs.Tables.{Contents}
 use Rattle.table_file.specs.Checked.{IsChecked, IsViewOf}
 use Rattle.table_file.specs.Expansion.{expanded, expansion, entry_at, values_in, values_of, IsSpotOf, IsSpot}
-use Rattle.table_file.proofs.Expanded.{spot_value, spot_none}
+use Rattle.table_file.proofs.Expanded.{spot_value}
 use Rattle.table_file.proofs.Views.{view_expansion, view_values}
 
 spot_view : (t : Contents) (side file index : ℕ) (spot : Spot) (v : View) → IsViewOf t side file v → IsSpot t side file index spot → IsSpotOf v.coding.now v.lengths.now index spot

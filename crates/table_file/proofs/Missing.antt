@@ -1,5 +1,5 @@
 -- A step of reading fails with exactly the fault that a relation tells.
-use Rattle.std.proofs.Common.{◌≡◌, ℕ, zero, ◌+◌, ◌<◌, ◌≤◌, Bool, true, false, cond, ltb, List, [], ◌∷◌, length, take, drop, slice_index, Result, Ok, Err, refl, sym, ap, ◌∙◌, inl, inr, arith}
+use Rattle.std.proofs.Common.{◌≡◌, ℕ, ◌+◌, ◌<◌, ◌≤◌, Bool, true, false, cond, ltb, List, [], ◌∷◌, length, take, drop, slice_index, Result, Ok, Err, refl, sym, ap, ◌∙◌, inl, inr, arith}
 use Rattle.std.specs.Prelude.{◌⊎◌, ◌%◌}
 use Rattle.std.proofs.lemmas.Bool.{cases_lt, false≢true, lt-ltb, le-ltb}
 use Rattle.std.proofs.lemmas.List.{length-drop, drop_more, drop_all}
@@ -7,9 +7,9 @@ use Rattle.byteorder.specs.Endian.{little_number}
 use Rattle.table_file.specs.declared.fault.TableFault.{TableFault}
 use Rattle.table_file.specs.declared.fault.TableFault.TheVariants.{Truncated}
 use Rattle.table_file.specs.Reading.{◌>>=◌, each_at, byte_at, taken_at, word_at, number_at, risen}
-use Rattle.table_file.specs.Layouts.{IsByte, IsRaised, Each}
+use Rattle.table_file.specs.Layouts.{IsRaised}
 use Rattle.table_file.specs.FirstFaults.{InTurn, here, behind, InEach, PassEnd, IsNot}
-use Rattle.table_file.proofs.Agreeing.{Agrees, each_agrees, raise_to_2, raised_2}
+use Rattle.table_file.proofs.Agreeing.{Agrees, raise_to_2, raised_2}
 
 -- Where reading fails, the relation holds of its fault, and where the relation holds of a fault, reading fails with it.
 pub record Misses {B : Type 0} (read : Result B TableFault) (F : TableFault → Type 0) : Type 0 where

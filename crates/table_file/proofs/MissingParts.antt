@@ -1,9 +1,8 @@
 -- Each part of a file is missed with exactly the first fault that its relation tells.
-use Rattle.std.proofs.Common.{◌≡◌, ℕ, ◌+◌, ◌*◌, ◌<◌, ◌≤◌, Bool, true, false, cond, leb, eqb, List, length, map, take, drop, Result, Ok, Err, refl, sym, ap, subst, ◌∙◌, inl, inr, arith}
+use Rattle.std.proofs.Common.{◌≡◌, ℕ, ◌*◌, ◌<◌, ◌≤◌, Bool, true, false, cond, leb, List, length, map, drop, Result, Ok, Err, refl, sym, ap, subst, ◌∙◌, inl, inr}
 use Rattle.std.specs.Prelude.{◌⊎◌, ◌%◌, ◌/◌, ◌&&◌}
 use Rattle.std.proofs.lemmas.Bool.{cases_Bool, cases_lt, false≢true, leb-true, le-leb, lt-leb, and_parts, and_from}
 use Rattle.pair_dict.specs.Codes.{Pairing}
-use Rattle.pair_dict.specs.Beginnings.{ReadsWhatIsSpelled}
 use Rattle.pair_dict.specs.Reading.{dictionary_at}
 use Rattle.pair_dict.specs.declared.fault.DictFault.{DictFault}
 use Rattle.place_index.specs.Material.{pieces_of}
@@ -18,9 +17,9 @@ use Rattle.table_file.specs.Reading.{each_at, byte_at, taken_at, word_at, number
 use Rattle.table_file.specs.Dictionaries.{fault_of, after, pairing_at}
 use Rattle.table_file.specs.SizeRecords.{single_value, codes_at, single_at, coding_at, size_record_at}
 use Rattle.table_file.specs.Shapes.{are_good_pieces, are_good_orders, shape_at}
-use Rattle.table_file.specs.Files.{nibble, second_at, setup_at, part_at, indices, section_size, begun, section_at}
+use Rattle.table_file.specs.Files.{nibble, second_at, setup_at, part_at, indices, section_size, section_at}
 use Rattle.table_file.specs.Maps.{no_maps, map_at, four_at, maps_at, all_maps_at}
-use Rattle.table_file.specs.Layouts.{IsByte, AreBytes, IsNumber, IsSecond, IsExponent, IsPart, IsMap, IsMapStart, AreMaps, IsSection}
+use Rattle.table_file.specs.Layouts.{IsByte, AreBytes, IsNumber, IsSecond, IsExponent, IsMap, IsMapStart, AreMaps, IsSection}
 use Rattle.table_file.specs.FirstFaults.{PassEnd, IsNot, IsSecondFault, IsShapeFault, IsSetupFault, IsExponentFault, IsDictionaryFault, IsCodesFault, IsCodingFault, IsSizeRecordFault, IsMapFault, IsFourFault, IsMapsFault, IsAllMapsFault, IsSectionFault, InEach}
 use Rattle.table_file.proofs.ShapeTests.{good_pieces, pieces_good, good_orders, orders_good}
 use Rattle.table_file.proofs.Agreeing.{byte_agrees, number_agrees, word_agrees, taken_agrees}

@@ -1,8 +1,8 @@
 -- A whole file is missed with exactly its first fault.
-use Rattle.std.proofs.Common.{◌≡◌, ◌≢◌, ℕ, zero, suc, ◌+◌, ◌-◌, ◌<◌, ◌≤◌, Bool, true, false, cond, List, length, slice_index, take, drop, Result, Ok, Err, refl, sym, ap, subst, ◌∙◌, inl, inr, arith}
-use Rattle.std.specs.Prelude.{◌%◌, ◌⊎◌, IfErr}
+use Rattle.std.proofs.Common.{◌≡◌, ◌≢◌, ℕ, zero, suc, ◌+◌, ◌-◌, ◌<◌, ◌≤◌, true, List, length, slice_index, take, drop, Result, Ok, Err, refl, sym, ap, subst, ◌∙◌, inl, inr, arith}
+use Rattle.std.specs.Prelude.{◌%◌, IfErr}
 use Rattle.std.specs.List.{range_with_len}
-use Rattle.std.proofs.lemmas.Bool.{cases_Bool, cases_eq, cases_lt, false≢true, lt-ltb, le-ltb, eq-eqb, ne_eqb}
+use Rattle.std.proofs.lemmas.Bool.{cases_Bool, cases_eq, cases_lt, lt-ltb, le-ltb, eq-eqb, ne_eqb}
 use Rattle.pair_dict.specs.Beginnings.{ReadsWhatIsSpelled}
 use Rattle.place_index.specs.Material.{TablesAreNumbered}
 use Rattle.place_index.specs.Shape.{Layout}
@@ -18,8 +18,8 @@ use Rattle.table_file.specs.Files.{sides_of, body_of, magic_of, magic_at, flags_
 use Rattle.table_file.specs.Sparse.{all_fit}
 use Rattle.table_file.specs.Maps.{ValueMaps, all_maps_at}
 use Rattle.table_file.specs.Tables.{Contents, head_at, sections_at, parts_at, table_at, part_count}
-use Rattle.table_file.specs.Layouts.{IsByte, IsNumber, Each, IsSetup, IsPart, IsSection, AreAllMaps, AllSparseEntries, IsHead}
-use Rattle.table_file.specs.FirstFaults.{IsNot, InEach, IsSetupFault, IsSizeRecordFault, IsAllMapsFault, IsSectionFault, IsSectionsFault, IsRecordsFault, IsPartsFault, IsNamed, IsSized, IsFirstFault, bad_name, bad_size, bad_magic, bad_flags, in_parts, TellsFirstFault}
+use Rattle.table_file.specs.Layouts.{IsByte, IsNumber, Each, IsSetup, IsPart, IsSection, AreAllMaps, AllSparseEntries}
+use Rattle.table_file.specs.FirstFaults.{IsNot, IsSetupFault, IsSizeRecordFault, IsAllMapsFault, IsSectionsFault, IsRecordsFault, IsPartsFault, IsNamed, IsSized, IsFirstFault, bad_name, bad_size, bad_magic, bad_flags, in_parts, TellsFirstFault}
 use Rattle.table_file.proofs.NameLemmas.{title_is}
 use Rattle.table_file.proofs.Loops.{fault_is}
 use Rattle.table_file.proofs.Agreeing.{done}
@@ -27,7 +27,7 @@ use Rattle.table_file.proofs.LayoutSteps.{setup_agrees, part_agrees}
 use Rattle.table_file.proofs.Refusing.{bad_head}
 use Rattle.table_file.proofs.LayoutSections.{all_maps_agrees, sections_agree, all_sparse_fit, all_fit_sparse}
 use Rattle.table_file.proofs.LayoutWhole.{title_tells, body_reads, body_tells, magic_reads, magic_tells, flags_reads, flags_tells, length_body, head_reads, head_tells, setups_agree, records_agree}
-use Rattle.table_file.proofs.Missing.{Misses, not_both, bind_err, like_misses, end_misses, then_misses, guard_misses, only_misses, number_misses, byte_misses, raised_misses, each_misses}
+use Rattle.table_file.proofs.Missing.{Misses, not_both, bind_err, then_misses, guard_misses, only_misses, number_misses, byte_misses, raised_misses, each_misses}
 use Rattle.table_file.proofs.MissingParts.{part_misses, setup_misses, all_maps_misses, sections_miss}
 
 -- ---- the parts

@@ -1,4 +1,4 @@
-use Rattle.std.proofs.Common.{arith, rules}
+use Rattle.std.proofs.Common.{arith}
 use Rattle.table_file.proofs.Views.{view_real}
 use Rattle.table_file.proofs.AtSpots.{found_in, damaged_in}
 use Rattle.table_file.proofs.table.Table.value_in_block.Goals as goal
