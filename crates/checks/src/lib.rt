@@ -34,4 +34,8 @@ mod probe_tests;
 #[cfg(test)]
 mod seeded_tests;
 #[cfg(test)]
+mod seeded_world_tests;
+#[cfg(test)]
 mod table_tests;
+#[cfg(test)]
+mod world_tests;

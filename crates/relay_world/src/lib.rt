@@ -21,8 +21,3 @@ pub use fault::{GameFault, WorldFault};
 pub use game::Game;
 pub use running::run;
 pub use world::{State, World};
-
-#[cfg(test)]
-mod seeded;
-#[cfg(test)]
-mod tests;

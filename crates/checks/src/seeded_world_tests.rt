@@ -2,13 +2,12 @@
 
 ghost use Rattle.std.specs.Prelude.{◌<◌};
 
-use crate::tests::{game_of, schedule_of, world_of};
-use crate::{Event, State, World};
+use crate::world_tests::{game_of, schedule_of, world_of};
 use arbiter_core::Keep;
 use move_msg::{Message, Who};
+use relay_world::{Event, State, World};
 use std::alloc::{AllocError, Global};
 use std::test::Fail;
-use std::vec::Vec;
 
 /// What is said: the kind of a message, its sender, its number, and its verdict or how many moves it wants.
 type Said = (u8, u8, u32, u8);

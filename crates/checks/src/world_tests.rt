@@ -1,24 +1,12 @@
 //! Schedules and what is told of them.
 
-use crate::schedule::{Schedule, ScheduleFault, read};
-use crate::{Game, GameFault, State, World, WorldFault, run};
+use crate::files::{QUEEN, QUEEN_PLIES, file_of};
 use move_msg::Who;
+use relay_world::schedule::{Schedule, ScheduleFault, read};
+use relay_world::{Game, GameFault, State, World, WorldFault, run};
 use std::alloc::Global;
-use std::string::String;
 use std::test::Fail;
-use std::vec::Vec;
 use table_file::TableFault;
-
-/// KQvK.rtbw: a queen wins, and loses for the other side.
-const QUEEN: [u8; 14] = [
-    0x71, 0xE8, 0x23, 0x5D, 0x01, 0x00, 0x66, 0x55, 0xEE, 0x00, 0x80, 0x04, 0x80, 0x00,
-];
-
-/// KQvK.rtbz: a queen's distances for white to move, 9 plies.
-const QUEEN_PLIES: [u8; 17] = [
-    0xD7, 0x66, 0x0C, 0xA5, 0x01, 0x00, 0x06, 0x05, 0x0E, 0x00, 0x86, 0x00, 0x01, 0x09, 0x00, 0x00,
-    0x00,
-];
 
 /// The three moves of an opening.
 const OPENING: &str =
@@ -38,15 +26,6 @@ const ONE_MOVE: &str =
 
 /// Two bare kings and a move.
 const BARE_KINGS: &str = "name Test 3\nstart 8/8/8/4k3/8/8/8/K7 w - - 0 1\nmoves a1a2\n";
-
-/// A file of 80 bytes with this front, all others zero.
-fn file_of(front: &[u8]) -> [u8; 80] {
-    let mut file = [0u8; 80];
-    for (byte, value) in file.iter_mut().zip(front.iter()) {
-        *byte = *value;
-    }
-    file
-}
 
 /// The schedule of a text.
 pub(crate) fn schedule_of(alloc: Global, text: &str) -> Result<Schedule, ScheduleFault> {
