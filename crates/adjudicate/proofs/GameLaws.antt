@@ -5,7 +5,7 @@ use Rattle.board_core.specs.declared.moves.Move.{Move as Moves}
 use Rattle.fen_text.specs.Coordinates.{SpellsMove}
 use Rattle.relay_world.specs.Texts.{AreMoves}
 use Rattle.adjudicate.specs.Inputs.{IsBadWordAt, TellsMoves, has_bytes, is_gap, words_in}
-use Rattle.adjudicate.specs.InputSteps.{AddsWord}
+use Rattle.adjudicate.specs.Inside.InputSteps.{AddsWord}
 
 more_moves : (ws vs : List (List ℕ)) (ms ns : List Moves) → AreMoves ws ms → AreMoves vs ns → AreMoves (ws ++ vs) (ms ++ ns)
 more_moves [] vs [] ns a b = b

@@ -24,7 +24,7 @@ use Rattle.std.proofs.lemmas.Slice.Eq.{bytes_eq-Decides}
 use Rattle.std.proofs.Common.{Option}
 use Rattle.adjudicate.specs.Given.{Told}
 use Rattle.adjudicate.specs.Outside.{AreWantedOf, IsWanted, ListsTwice}
-use Rattle.adjudicate.specs.Placing.{IsPlace, Adds}
+use Rattle.adjudicate.specs.Inside.Placing.{IsPlace, Adds}
 use Rattle.move_msg.specs.TableNames.{IsTableName, IsFileName}
 
 both : (a b : Bool) → (a && b) ≡ true → (a ≡ true) × (b ≡ true)

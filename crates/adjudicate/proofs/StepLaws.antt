@@ -11,7 +11,7 @@ use Rattle.adjudicate.specs.declared.serve.Next.TheVariants.{GoesOn, Stops}
 use Rattle.adjudicate.specs.Lines.{ended, refused_port, text_of, words_of}
 use Rattle.adjudicate.specs.Ports.{Came, Missed, Passes, AtPort}
 use Rattle.adjudicate.specs.Serving.{Stated, Moment, Exchange, InTurn, Loss, NoLoss, KeeperLost, PortLost, Run, ServesRun, TellsRun, handed, lines_of, outputs_of}
-use Rattle.adjudicate.specs.Steps.{Hears, IsOneStep, status_by}
+use Rattle.adjudicate.specs.Inside.Steps.{Hears, IsOneStep, status_by}
 use Rattle.adjudicate.proofs.PortLaws.{Passes-trans}
 use Rattle.adjudicate.proofs.ServingLaws.{going_on}
 

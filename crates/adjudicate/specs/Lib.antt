@@ -6,18 +6,12 @@ pub mod Files
 pub mod Given
 pub mod ToldBy
 pub mod Outside
-pub mod Placing
 pub mod Lines
 pub mod Reads
 pub mod Looks
-pub mod Refusals
 pub mod Schedules
 pub mod Inputs
-pub mod InputSteps
 pub mod Reply
-pub mod ProbeSteps
-pub mod Asked
-pub mod Fronts
 pub mod Telling
 pub mod Running
 pub mod Listenings
@@ -25,5 +19,5 @@ pub mod Ports
 pub mod KeptFiles
 pub mod StoredBytes
 pub mod Serving
-pub mod Steps
 pub mod Listens
+pub mod Inside

@@ -15,7 +15,7 @@ ghost use Rattle.adjudicate.specs.Lines.{text_of, words_of};
 ghost use Rattle.adjudicate.specs.Looks.{gathered, look_for, look_line};
 ghost use Rattle.adjudicate.specs.Reply.{Answers, ByTables, IsForText, IsJudged, IsListed, IsMoves, IsReply, IsText, IsTold, TakesMemory, WritesReply, checked, checked_by, numbered, status_if, told};
 ghost use Rattle.adjudicate.specs.Tasks.{AtOnce, AtPort, tells_progress, way_of};
-ghost use Rattle.adjudicate.specs.Asked.{IsAsked, reply_of};
+ghost use Rattle.adjudicate.specs.Inside.Asked.{IsAsked, reply_of};
 
 use crate::commands::Task;
 use crate::games::answer_game;

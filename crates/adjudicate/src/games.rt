@@ -4,11 +4,11 @@ ghost use Rattle.std.specs.Prelude.{◌≡◌, ◌∷◌, ◌++◌, [], ℕ, pos
 ghost use Rattle.std.specs.List.{slice_split};
 ghost use Rattle.board_core.specs.declared.moves.Move.{Move};
 ghost use Rattle.fen_text.specs.Coordinates.{SpellsMove};
-ghost use Rattle.adjudicate.specs.Asked.{reply_of};
+ghost use Rattle.adjudicate.specs.Inside.Asked.{reply_of};
 ghost use Rattle.adjudicate.specs.Looks.{gathered};
 ghost use Rattle.adjudicate.specs.Reply.{IsForText, IsPlayed, IsText, outcome_status, status_if};
 ghost use Rattle.adjudicate.specs.Inputs.{IsBadWordAt, TellsMoves, is_gap, words_in};
-ghost use Rattle.adjudicate.specs.InputSteps.{AddsWord};
+ghost use Rattle.adjudicate.specs.Inside.InputSteps.{AddsWord};
 
 use crate::answers::Answer;
 use crate::lines::Line;

@@ -6,7 +6,7 @@ ghost use Rattle.board_core.specs.Position.{IsPosition};
 ghost use Rattle.fen_text.specs.Fen.{SpellsPosition};
 ghost use Rattle.adjudicate.specs.Inputs.{has_bytes, lines_in};
 ghost use Rattle.adjudicate.specs.Lines.{words_of};
-ghost use Rattle.adjudicate.specs.ProbeSteps.{PutsLines, PutsProbes};
+ghost use Rattle.adjudicate.specs.Inside.ProbeSteps.{PutsLines, PutsProbes};
 ghost use Rattle.adjudicate.specs.Reply.{IsText, TellsLine};
 
 use crate::answers::{ask_dtz, ask_wdl, number_in, status_if};

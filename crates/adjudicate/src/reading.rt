@@ -8,7 +8,7 @@ ghost use Rattle.move_msg.specs.Files.{file_of};
 ghost use Rattle.adjudicate.specs.Files.{AreRisingNames, names_of};
 ghost use Rattle.adjudicate.specs.ToldBy.{told_by};
 ghost use Rattle.adjudicate.specs.Outside.{AtFile, AreFilesIn, AreWantedOf, FolderFails, IsAtItsPath, IsWanted, ListsTwice, most_bytes, path_in};
-ghost use Rattle.adjudicate.specs.Placing.{IsPlace, Adds};
+ghost use Rattle.adjudicate.specs.Inside.Placing.{IsPlace, Adds};
 
 use crate::disk::Disk;
 use crate::files::FileName;

@@ -10,7 +10,7 @@ ghost use Rattle.relay_world.specs.Runs.{Runs, Tells, TellsSide, told_of};
 ghost use Rattle.relay_world.specs.Seats.{KeptIs};
 ghost use Rattle.relay_world.specs.Texts.{SpellsSchedule, IsFirstBadLine};
 ghost use Rattle.relay_world.specs.Worlds.{Game as Judged, Side, World as Worlds};
-ghost use Rattle.adjudicate.specs.Asked.{reply_of};
+ghost use Rattle.adjudicate.specs.Inside.Asked.{reply_of};
 ghost use Rattle.adjudicate.specs.Lines.{refused_line, words_of};
 ghost use Rattle.adjudicate.specs.Reply.{IsRun};
 ghost use Rattle.adjudicate.specs.Schedules.{RefusesTable, counted, game_of, side_words, world_words};

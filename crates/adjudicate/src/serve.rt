@@ -6,7 +6,7 @@ ghost use Rattle.arbiter_core.specs.Delivers.{IsKept};
 ghost use Rattle.adjudicate.specs.Lines.{words_of, refused_keeper, refused_datagram};
 ghost use Rattle.adjudicate.specs.Ports.{Passes, at_port};
 ghost use Rattle.adjudicate.specs.Serving.{Run, ServesRun, TellsRun, asked_first, handed, handed_if_any, is_loss, moment, stated};
-ghost use Rattle.adjudicate.specs.Steps.{Hears, IsOneStep, status_by, stops};
+ghost use Rattle.adjudicate.specs.Inside.Steps.{Hears, IsOneStep, status_by, stops};
 
 use crate::lines::{AnswerFault, Line, put_line_now};
 use crate::port::Port;

@@ -3,7 +3,7 @@
 ghost use Rattle.std.specs.Prelude.{◌≡◌, IfOk};
 ghost use Rattle.move_msg.specs.Streams.{nothing_fed};
 ghost use Rattle.adjudicate.specs.Reply.{IsShown, Reply, WritesReply};
-ghost use Rattle.adjudicate.specs.Fronts.{IsFront};
+ghost use Rattle.adjudicate.specs.Inside.Fronts.{IsFront};
 
 use crate::lines::{AnswerFault, Line, put_line, put_refusal};
 use move_msg::{Feeder, Message, MessageFault};

@@ -6,7 +6,7 @@ ghost use Rattle.move_msg.specs.Manifests.{entry_of};
 ghost use Rattle.adjudicate.specs.Files.{file_named};
 ghost use Rattle.adjudicate.specs.Lines.{file_fault_name};
 ghost use Rattle.adjudicate.specs.Looks.{found_in, gathered, gathered_by, held, look_at, look_for, tables_from, with_found};
-ghost use Rattle.adjudicate.specs.Refusals.{filled, tables_in};
+ghost use Rattle.adjudicate.specs.Inside.Refusals.{filled, tables_in};
 
 use crate::lines::Line;
 use crate::manifest::Manifest;

@@ -4,7 +4,7 @@ use Rattle.std.specs.Prelude.{replicate, slice_set}
 use Rattle.std.proofs.lemmas.List.{length-append, length-replicate, replicate-append-replicate}
 use Rattle.std.proofs.Math.Seq.{set-append_seam}
 use Rattle.board_core.specs.declared.piece.Piece.{Piece}
-use Rattle.fen_text.specs.Scan.{IsFilled}
+use Rattle.fen_text.specs.Inside.Scan.{IsFilled}
 
 length-empty : (n : ℕ) → length (replicate {A = Option Piece} n None) ≡ n
 length-empty n = length-replicate n None

@@ -14,7 +14,7 @@ use Rattle.fen_text.specs.declared.fault.FenFault.TheVariants.{FieldCount, BadPl
 use Rattle.fen_text.specs.Cuts.{cut_at}
 use Rattle.fen_text.specs.Placement.{SpellsPlacement}
 use Rattle.fen_text.specs.Fields.{side_text, castling_text, en_passant_text, SpellsSide, SpellsCastling, SpellsEnPassant, SpellsCounter}
-use Rattle.fen_text.specs.Scan.{begins, after}
+use Rattle.fen_text.specs.Inside.Scan.{begins, after}
 use Rattle.fen_text.specs.Fen.{SixFields, HasPlacement, HasSide, HasCastling, HasSquare, HasNumbers, SpellsPosition, IsFirstFenFault}
 use Rattle.fen_text.proofs.RanksLaws.{placement_only}
 

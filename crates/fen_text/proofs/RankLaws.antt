@@ -14,7 +14,7 @@ use Rattle.board_core.specs.declared.piece.Side.TheVariants.{White, Black}
 use Rattle.board_core.specs.declared.piece.Kind.{Kind}
 use Rattle.board_core.specs.declared.piece.Kind.TheVariants.{Pawn, Knight, Bishop, Rook, Queen, King}
 use Rattle.fen_text.specs.Placement.{letter, letter_of, man_of, is_run, is_rank_byte, cells_of, runs_apart, SpellsRank}
-use Rattle.fen_text.specs.Scan.{fills}
+use Rattle.fen_text.specs.Inside.Scan.{fills}
 
 -- the squares of a digit
 pub run_cells : (c : ℕ) → 49 ≤ c → c ≤ 56 → cells_of c ≡ replicate (c - 48) None

@@ -11,7 +11,7 @@ use Rattle.std.proofs.lemmas.List.Sums.{AllPass-from_list_all}
 use Rattle.board_core.specs.declared.piece.Piece.{Piece}
 use Rattle.fen_text.specs.Cuts.{cut_at}
 use Rattle.fen_text.specs.Placement.{cells_of, rank_men, ranks_down, SpellsRank, SpellsPlacement}
-use Rattle.fen_text.specs.Scan.{fills, IsFilled}
+use Rattle.fen_text.specs.Inside.Scan.{fills, IsFilled}
 use Rattle.fen_text.proofs.RankLaws.{rank_found, rank_only, rank_no_slash}
 
 -- the men of the ranks that were read

@@ -2,7 +2,7 @@
 use Rattle.std.proofs.Common.{◌≡◌, ℕ, suc, ◌+◌, ◌<◌, ◌≤◌, Bool, false, List, length, get_or, drop, Option, Some, None, sym, ap, ◌∙◌, add-one, drop-cons, eqb}
 use Rattle.std.specs.Option.{option_map_or}
 use Rattle.std.proofs.Math.ListN.{drop_of_length-le}
-use Rattle.fen_text.specs.Scan.{step, fills}
+use Rattle.fen_text.specs.Inside.Scan.{step, fills}
 
 pub fills_next : (text : List ℕ) (i : ℕ) (after : Bool) (left : ℕ) (s : Bool × ℕ) → i < length text → step (get_or text i 0) after left ≡ Some s → fills after left (drop i text) ≡ fills s.0 s.1 (drop (i + 1) text)
 unfolding fills

@@ -6,4 +6,4 @@ pub mod Fen
 pub mod Written
 pub mod Coordinates
 pub mod Laws
-pub mod Scan
+pub mod Inside

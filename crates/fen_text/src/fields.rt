@@ -5,7 +5,7 @@ ghost use Rattle.std.specs.Prelude.{◌≡◌, ◌<◌, ◌∷◌, [], ℕ, Opti
 ghost use Rattle.board_core.specs.declared.piece.Side.{Side};
 ghost use Rattle.board_core.specs.declared.parts.Rights.{Rights};
 ghost use Rattle.fen_text.specs.Fields.{SpellsSide, SpellsCastling, SpellsEnPassant, square_text};
-ghost use Rattle.fen_text.specs.Scan.{begins, after};
+ghost use Rattle.fen_text.specs.Inside.Scan.{begins, after};
 
 use board_core::{Rights, Side, Square};
 

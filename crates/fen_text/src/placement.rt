@@ -4,7 +4,7 @@ ghost use Rattle.std.specs.Prelude.{◌≡◌, List, ◌≤◌, ◌<◌, ◌+◌
 ghost use Rattle.std.specs.Bool.{OnTrue, OnFalse};
 ghost use Rattle.std.specs.List.{flat_map};
 ghost use Rattle.fen_text.specs.Placement.{man_of, cells_of, SpellsPlacement};
-ghost use Rattle.fen_text.specs.Scan.{step, fills, IsFilled};
+ghost use Rattle.fen_text.specs.Inside.Scan.{step, fills, IsFilled};
 
 use crate::cuts::cut_first;
 use board_core::{Kind, Men, Piece, Side};

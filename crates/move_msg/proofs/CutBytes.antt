@@ -7,7 +7,7 @@ use Rattle.std.proofs.lemmas.List.{drop_more, length-drop}
 use Rattle.std.proofs.Math.Seq.{take-length}
 use Rattle.std.proofs.lemmas.List.Sums.{fails_before_first}
 use Rattle.std.proofs.lemmas.List.Quantifiers.{position-Some}
-use Rattle.move_msg.specs.Cut.{Lacks}
+use Rattle.move_msg.specs.Inside.Cut.{Lacks}
 
 other_byte : (a b : ℕ) → (a == b) ≡ false → a ≢ b
 other_byte a b e same = let f = sym (eq-eqb a b same) ∙ e in cc

@@ -4,7 +4,7 @@ use Rattle.std.specs.Prelude.{◌==◌}
 use Rattle.std.proofs.lemmas.Bool.{agree_below_at, eq-eqb}
 use Rattle.hex.specs.Hex.{decode_sized, encode_lower, encode_with, lower_digits}
 use Rattle.hex.proofs.HexLemmas.{decode_of-encode_lower, decode_sized-twice, length-encode_with}
-use Rattle.move_msg.specs.Cut.{Lacks}
+use Rattle.move_msg.specs.Inside.Cut.{Lacks}
 
 -- sixty-four lower-case digits are read as the bytes that they are written for
 pub decoded : (text d : List ℕ) → length d ≡ 32 → ((i : ℕ) → slice_index d i < 256) → text ≡ encode_lower d → decode_sized text 32 ≡ Ok d

@@ -5,7 +5,7 @@ use Rattle.std.proofs.Common.{subst}
 use Rattle.hex.specs.Hex.{encode_lower, decode_of}
 use Rattle.hex.specs.declared.error.FromHexError.{FromHexError}
 use Rattle.hex.proofs.HexLemmas.{decode_of-encode_lower}
-use Rattle.move_msg.specs.Cut.{Lacks}
+use Rattle.move_msg.specs.Inside.Cut.{Lacks}
 use Rattle.move_msg.specs.TableNames.{IsFileName}
 use Rattle.move_msg.specs.Manifests.{Entry, IsEntry, IsAfter, IsBefore, AreOfFiles, AreRising, AreEntries, SpellsManifest, IsFirstBadLine, HasFirstLine, entry_text, line_text, lines_text}
 use Rattle.move_msg.proofs.CutBytes.{cut_one_way, lacks_append, is_there, tail_same}

@@ -1,7 +1,7 @@
 -- The names of table files.
 use Rattle.std.proofs.Common.{◌≡◌, ◌≢◌, ◌<◌, ◌≤◌, ◌+◌, ◌++◌, ◌⊎◌, ℕ, Bool, true, false, cond, List, [], ◌∷◌, length, drop, get_or, refl, sym, ap, ◌∙◌, arith, inl, inr}
 use Rattle.std.specs.Prelude.{◌==◌, ◌&&◌, nat_le, nat_lt, codes}
-use Rattle.move_msg.specs.Cut.{Lacks}
+use Rattle.move_msg.specs.Inside.Cut.{Lacks}
 use Rattle.move_msg.specs.TableNames.{man_place, are_men_from, IsTableName, IsFileName}
 use Rattle.std.proofs.lemmas.Bool.{lt-leb, le-leb, lt-ltb}
 use Rattle.std.proofs.lemmas.List.{drop_more, drop_all}

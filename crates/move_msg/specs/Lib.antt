@@ -8,7 +8,7 @@ pub mod Layouts
 pub mod Streams
 pub mod Records
 pub mod Laws
-pub mod Cut
 pub mod TableNames
 pub mod Manifests
 pub mod Files
+pub mod Inside

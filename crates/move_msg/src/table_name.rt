@@ -2,7 +2,7 @@
 
 ghost use Rattle.std.specs.Prelude.{◌≡◌, ◌⊎◌, ◌++◌, ◌∷◌, ◌↔◌, codes, ◌==◌, ℕ, List, position, IsTrue, IfSome, IfNone};
 ghost use Rattle.move_msg.specs.TableNames.{man_place, are_men_from, are_paired, IsTableName, IsFileName};
-ghost use Rattle.move_msg.specs.Cut.{Lacks};
+ghost use Rattle.move_msg.specs.Inside.Cut.{Lacks};
 
 /// The place of a man's letter in the order of names, 0 to 4; 5 where it is none.
 fn man_place(letter: u8) -> u8

@@ -7,6 +7,6 @@ pub mod Windows
 pub mod ShortCodes
 pub mod Runs
 pub mod Kept
-pub mod Layouts
 pub mod Beginnings
 pub mod FirstFault
+pub mod Inside

@@ -102,7 +102,7 @@ pub(crate) struct Layout<'a> {
 }
 
 impl<'a> Layout<'a> {
-    ghost use Rattle.pair_dict.specs.Layouts.{pairing_in, IsLayout};
+    ghost use Rattle.pair_dict.specs.Inside.Layouts.{pairing_in, IsLayout};
 
     /// The layout at the front of the bytes.
     #[tactic(auto, unfolding(crate::specs::Reading::layout_at))]

@@ -4,7 +4,7 @@ ghost use Rattle.std.specs.Prelude.{◌≡◌, ◌+◌, ◌*◌, ◌^◌, ◌<�
 ghost use Rattle.pair_dict.specs.Symbols.{symbol_count};
 ghost use Rattle.pair_dict.specs.Counts.{AreCounts};
 ghost use Rattle.pair_dict.specs.Reading.{words};
-ghost use Rattle.pair_dict.specs.Layouts.{pairing_in};
+ghost use Rattle.pair_dict.specs.Inside.Layouts.{pairing_in};
 ghost use Rattle.pair_dict.specs.ShortCodes.{AreShortCodes};
 ghost use Rattle.pair_dict.specs.Runs.{IsRun, AreRuns};
 

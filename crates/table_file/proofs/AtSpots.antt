@@ -13,7 +13,7 @@ use Rattle.table_file.specs.Figures.{Figures, block_size}
 use Rattle.table_file.specs.Files.{section_size}
 use Rattle.table_file.specs.Sparse.{sizes_of}
 use Rattle.table_file.specs.Tables.{Contents}
-use Rattle.table_file.specs.Checked.{IsChecked, IsViewOf}
+use Rattle.table_file.specs.Inside.Checked.{IsChecked, IsViewOf}
 use Rattle.table_file.specs.Expansion.{expanded, expansion, entry_at, values_in, values_of, IsSpotOf, IsSpot}
 use Rattle.table_file.proofs.Expanded.{spot_value}
 use Rattle.table_file.proofs.Views.{view_expansion, view_values}

@@ -12,7 +12,7 @@ use Rattle.table_file.specs.declared.plan.PartPlan.{PartPlan}
 use Rattle.table_file.specs.declared.kind.Kind.{Kind}
 use Rattle.table_file.proofs.Views.{got}
 use Rattle.table_file.specs.PlannedFile.{Laid, laid_part, laid_parts, cut_lengths}
-use Rattle.table_file.specs.Writing.{AreCountsOf, sum_of, HasGoodValues}
+use Rattle.table_file.specs.Inside.Writing.{AreCountsOf, sum_of, HasGoodValues}
 use Rattle.table_file.specs.declared.plan.Content.{Content}
 use Rattle.table_file.specs.declared.plan.Content.TheVariants.{Single, Pairs}
 

@@ -11,7 +11,7 @@ use Rattle.table_file.specs.declared.plan.PairsPlan.{PairsPlan}
 use Rattle.table_file.specs.declared.forging.codes.Code.{Code}
 use Rattle.table_file.specs.Plan.{pairing_of, code_by, code_of, symbol_bytes}
 use Rattle.table_file.specs.PlannedFile.{spot_among, bytes_of}
-use Rattle.table_file.specs.Writing.{IsReached}
+use Rattle.table_file.specs.Inside.Writing.{IsReached}
 
 -- ---- codes
 

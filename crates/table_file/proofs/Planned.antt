@@ -21,7 +21,7 @@ use Rattle.table_file.specs.Files.{files_of, sides_of, indices}
 use Rattle.table_file.specs.Tables.{Contents, IsFile, part_of, shape_in, shape_of, flags_in, flags_of, part_count}
 use Rattle.table_file.specs.Plan.{planned_shape, planned_expansion, HasEnough}
 use Rattle.table_file.specs.Forged.{IsPartOf}
-use Rattle.table_file.specs.Checked.{IsViewOf}
+use Rattle.table_file.specs.Inside.Checked.{IsViewOf}
 use Rattle.table_file.specs.declared.plan.PartPlan.{PartPlan}
 use Rattle.table_file.specs.declared.kind.Kind.{Kind}
 use Rattle.table_file.specs.declared.spots.View.{View}

@@ -20,7 +20,7 @@ use Rattle.table_file.specs.declared.kind.Kind.TheVariants.{Wdl, Dtz}
 use Rattle.place_index.specs.Material.{white_pawns, black_pawns}
 use Rattle.place_index.specs.Shape.{Layout, has_pawns, size_of}
 use Rattle.table_file.specs.Tables.{Contents, IsFile, part_count, coding_span, shape_of, span_of}
-use Rattle.table_file.specs.Checked.{IsViewOf}
+use Rattle.table_file.specs.Inside.Checked.{IsViewOf}
 use Rattle.table_file.specs.Expansion.{expanded, expansion, IsSpotOf, IsSpot, IsShort, IsRealSpot, blocks_in, real_blocks, values_in, values_of}
 
 -- an element that was read by its index

@@ -11,7 +11,6 @@ pub mod Maps
 pub mod Sparse
 pub mod Sections
 pub mod Tables
-pub mod Checked
 pub mod Expansion
 pub mod Distances
 pub mod Layouts
@@ -19,5 +18,5 @@ pub mod FirstFaults
 pub mod Opened
 pub mod Plan
 pub mod PlannedFile
-pub mod Writing
 pub mod Forged
+pub mod Inside

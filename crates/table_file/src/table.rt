@@ -9,7 +9,7 @@ ghost use Rattle.table_file.specs.Files.{indices};
 ghost use Rattle.table_file.specs.Reading.{Gives};
 ghost use Rattle.table_file.specs.Sparse.{all_fit};
 ghost use Rattle.table_file.specs.Sections.{AreShaped, AreSized};
-ghost use Rattle.table_file.specs.Checked.{IsChecked, IsViewOf};
+ghost use Rattle.table_file.specs.Inside.Checked.{IsChecked, IsViewOf};
 ghost use Rattle.table_file.specs.Tables.{Contents, head_at, sections_at, parts_at, table_at, part_count, place_of, part_of, lengths_of, blocks_of, shape_of, flags_of, span_of, IsFile};
 ghost use Rattle.table_file.specs.Layouts.{IsLayout};
 ghost use Rattle.table_file.specs.FirstFaults.{IsFirstFault};

@@ -3,7 +3,7 @@
 ghost use Rattle.std.specs.Prelude.{ℕ, List, ◌≡◌, ◌≢◌, ◌++◌, ◌≤◌, ◌<◌, ◌*◌, length, true, false, IfOk, IfErr, OnOk};
 ghost use Rattle.std.specs.List.{flat_map, All};
 ghost use Rattle.pair_dict.specs.Symbols.{symbol_count, values_of, left, right, HasValues, AllHaveValues};
-ghost use Rattle.table_file.specs.Writing.{AreCountsOf};
+ghost use Rattle.table_file.specs.Inside.Writing.{AreCountsOf};
 ghost use Rattle.table_file.specs.Plan.{symbol_bytes, symbols_values, plan_values, map_bytes, IsGoodMap, FitsBlock};
 
 use crate::plan::PairsPlan;

@@ -1,4 +1,4 @@
-use Rattle.adjudicate.specs.Asked.{reply_of}
+use Rattle.adjudicate.specs.Inside.Asked.{reply_of}
 use Rattle.adjudicate.proofs.TextLaws.{for_memory, for_none, for_position}
 use Rattle.adjudicate.proofs.answers.answer_text.Goals as goal
 

@@ -1,6 +1,6 @@
 use Rattle.std.proofs.Common.{rules, ◌≡◌, true, false, length, sym, subst}
 use Rattle.adjudicate.specs.Inputs.{IsBadWordAt, words_in}
-use Rattle.adjudicate.specs.InputSteps.{AddsWord}
+use Rattle.adjudicate.specs.Inside.InputSteps.{AddsWord}
 use Rattle.adjudicate.proofs.GameLaws.{read_more, read_all, read_bad}
 use Rattle.adjudicate.proofs.games.read_game.Goals as goal
 

@@ -1,7 +1,7 @@
 use Rattle.std.proofs.Common.{sym, subst, refl}
 use Rattle.std.proofs.lemmas.Result.{IfOk-weaker}
 use Rattle.adjudicate.specs.Lines.{words_of}
-use Rattle.adjudicate.specs.ProbeSteps.{PutsLines, PutsLinesOf, PutsRefusal}
+use Rattle.adjudicate.specs.Inside.ProbeSteps.{PutsLines, PutsLinesOf, PutsRefusal}
 use Rattle.adjudicate.proofs.probes.probes.Goals as goal
 
 pub returns-in-Ok-Ok : goal.returns-in-Ok-Ok

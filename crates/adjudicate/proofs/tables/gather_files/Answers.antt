@@ -2,7 +2,7 @@ use Rattle.std.proofs.Common.{◌≡◌, ◌∙◌, sym, ap, map}
 use Rattle.judge_core.specs.Tables.{Holding}
 use Rattle.move_msg.specs.Files.{file_of}
 use Rattle.adjudicate.specs.Looks.{look_at, no_tables, tables_from}
-use Rattle.adjudicate.specs.Refusals.{filled}
+use Rattle.adjudicate.specs.Inside.Refusals.{filled}
 use Rattle.adjudicate.proofs.tables.gather_files.Goals as goal
 
 pub returns-in-Ok : goal.returns-in-Ok

@@ -3,7 +3,7 @@ use Rattle.judge_core.specs.Tables.{Holding}
 use Rattle.move_msg.specs.Files.{file_of}
 use Rattle.move_msg.specs.Manifests.{entry_of}
 use Rattle.adjudicate.specs.Looks.{look_for, no_tables, tables_from}
-use Rattle.adjudicate.specs.Refusals.{filled}
+use Rattle.adjudicate.specs.Inside.Refusals.{filled}
 use Rattle.adjudicate.proofs.tables.gather_lines.Goals as goal
 
 pub returns-in-Ok : goal.returns-in-Ok

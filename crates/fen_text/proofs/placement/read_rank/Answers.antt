@@ -4,7 +4,7 @@ use Rattle.std.proofs.lemmas.Grind.{common_steps}
 use Rattle.std.specs.List.{flat_map}
 use Rattle.board_core.specs.declared.piece.Piece.{Piece}
 use Rattle.fen_text.specs.Placement.{cells_of}
-use Rattle.fen_text.specs.Scan.{IsFilled}
+use Rattle.fen_text.specs.Inside.Scan.{IsFilled}
 use Rattle.fen_text.proofs.ScanLaws.{fills_next, fills_stuck, fills_end}
 use Rattle.fen_text.proofs.placement.read_rank.Goals as goal
 

@@ -2,7 +2,7 @@ use Rattle.std.proofs.Common.{◌≡◌, ◌+◌, ◌*◌, ◌++◌, List, Optio
 use Rattle.std.specs.List.{flat_map}
 use Rattle.board_core.specs.declared.piece.Piece.{Piece}
 use Rattle.fen_text.specs.Placement.{cells_of}
-use Rattle.fen_text.specs.Scan.{fills, IsFilled}
+use Rattle.fen_text.specs.Inside.Scan.{fills, IsFilled}
 use Rattle.fen_text.proofs.placement.read_rank.Given as goal
 
 abbrev pub invariant-loop-byte : goal.invariant-loop-byte

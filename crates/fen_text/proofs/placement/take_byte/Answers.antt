@@ -1,7 +1,7 @@
 use Rattle.std.proofs.Common.{inl, inr, List, ◌+◌, ◌-◌, ◌++◌, Option, Some, subst, sym, arith, ◌∙◌}
 use Rattle.std.specs.Prelude.{slice_set}
 use Rattle.board_core.specs.declared.piece.Piece.{Piece}
-use Rattle.fen_text.specs.Scan.{IsFilled}
+use Rattle.fen_text.specs.Inside.Scan.{IsFilled}
 use Rattle.fen_text.proofs.BoardLaws.{fill_run, fill_man}
 use Rattle.fen_text.proofs.RankLaws.{run_cells, man_cells}
 use Rattle.fen_text.proofs.placement.take_byte.Goals as goal

@@ -1,4 +1,4 @@
-use Rattle.pair_dict.specs.Layouts.{pairing_in}
+use Rattle.pair_dict.specs.Inside.Layouts.{pairing_in}
 use Rattle.pair_dict.proofs.RunLemmas.{IsSoFar}
 use Rattle.pair_dict.proofs.runs.run_of.Given as goal
 

@@ -1,5 +1,5 @@
 use Rattle.std.proofs.Common.{arith}
-use Rattle.pair_dict.specs.Layouts.{pairing_in}
+use Rattle.pair_dict.specs.Inside.Layouts.{pairing_in}
 use Rattle.pair_dict.proofs.RunLemmas.{runs_more}
 use Rattle.pair_dict.proofs.runs.runs_of.Goals as goal
 

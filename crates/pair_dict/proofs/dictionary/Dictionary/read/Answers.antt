@@ -1,6 +1,6 @@
 use Rattle.std.proofs.Common.{inl, inr}
 use Rattle.std.proofs.lemmas.Result.{err_from_is_err_and}
-use Rattle.pair_dict.specs.Layouts.{pairing_in}
+use Rattle.pair_dict.specs.Inside.Layouts.{pairing_in}
 use Rattle.pair_dict.proofs.Chain.{layout_wants_none, layout_fails, without_values, with_all_values}
 use Rattle.pair_dict.proofs.ValueCounts.{all_have}
 use Rattle.pair_dict.proofs.dictionary.Dictionary.read.Goals as goal

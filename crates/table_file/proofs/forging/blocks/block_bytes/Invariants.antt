@@ -2,7 +2,7 @@ use Rattle.std.proofs.Common.{◌≡◌, ◌+◌, ◌*◌, ◌^◌, length, take
 use Rattle.pair_dict.specs.Codes.{number_of}
 use Rattle.table_file.specs.Plan.{code_of, codes_size}
 use Rattle.table_file.specs.PlannedFile.{codes_number}
-use Rattle.table_file.specs.Writing.{IsHeld}
+use Rattle.table_file.specs.Inside.Writing.{IsHeld}
 use Rattle.table_file.proofs.forging.blocks.block_bytes.Given as goal
 
 abbrev pub invariant-loop-symbol : goal.invariant-loop-symbol

@@ -1,5 +1,5 @@
 use Rattle.std.proofs.Common.{◌-◌, ◌≤◌, length}
-use Rattle.table_file.specs.Writing.{IsReached}
+use Rattle.table_file.specs.Inside.Writing.{IsReached}
 use Rattle.table_file.proofs.forging.blocks.block_with.Given as goal
 
 abbrev pub invariant-loop-place : goal.invariant-loop-place

@@ -1,5 +1,5 @@
 use Rattle.std.proofs.Common.{◌≡◌, ◌≤◌, take}
-use Rattle.table_file.specs.Writing.{sum_of}
+use Rattle.table_file.specs.Inside.Writing.{sum_of}
 use Rattle.table_file.proofs.forging.blocks.count_of.Given as goal
 
 abbrev pub invariant-loop-symbol : goal.invariant-loop-symbol

@@ -1,5 +1,5 @@
 use Rattle.std.proofs.Common.{◌≡◌, ◌+◌, ◌*◌, ◌/◌, ◌≤◌}
-use Rattle.table_file.specs.Writing.{IsReached}
+use Rattle.table_file.specs.Inside.Writing.{IsReached}
 use Rattle.table_file.specs.PlannedFile.{entries_bytes}
 use Rattle.table_file.proofs.forging.blocks.entries_of.Given as goal
 

@@ -1,0 +1,8 @@
+-- What values keep and what functions find on the way; cited by private clauses alone.
+pub mod Asked
+pub mod Fronts
+pub mod InputSteps
+pub mod Placing
+pub mod ProbeSteps
+pub mod Refusals
+pub mod Steps
