@@ -7,7 +7,7 @@ ghost use Rattle.arbiter_core.specs.Recording.{Recorded};
 ghost use Rattle.relay_world.specs.declared.fault.WorldFault.TheVariants.{BadTable};
 ghost use Rattle.relay_world.specs.Gathering.{file_as, tables_of};
 ghost use Rattle.relay_world.specs.Runs.{Runs, Tells, TellsSide, told_of};
-ghost use Rattle.relay_world.specs.Seats.{KeptIs};
+ghost use Rattle.relay_world.specs.Inside.Seats.{KeptIs};
 ghost use Rattle.relay_world.specs.Texts.{SpellsSchedule, IsFirstBadLine};
 ghost use Rattle.relay_world.specs.Worlds.{Game as Judged, Side, World as Worlds};
 ghost use Rattle.adjudicate.specs.Inside.Asked.{reply_of};

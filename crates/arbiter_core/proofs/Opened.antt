@@ -36,7 +36,7 @@ use Rattle.arbiter_core.specs.Answering.{Identity, nothing_waits}
 use Rattle.arbiter_core.specs.Setups.{SetupView, rules_at}
 use Rattle.move_msg.specs.declared.who.Who.{Who}
 use Rattle.arbiter_core.specs.Views.{View, spelled_as, IsSettled}
-use Rattle.arbiter_core.specs.Starting.{IsPlayed, IsPutSo, IsPutFirst, recorded_in, told_from}
+use Rattle.arbiter_core.specs.Inside.Starting.{IsPlayed, IsPutSo, IsPutFirst, recorded_in, told_from}
 use Rattle.arbiter_core.specs.Opens.{IsWhole, IsResumed, IsBadKept, at_end, first_record, running, Told, FirstLands, OpensOver, Opens}
 use Rattle.arbiter_core.proofs.Settling.{near_nothing}
 use Rattle.arbiter_core.proofs.Reach.{step_to, step_of, reach_below, unruled_below}

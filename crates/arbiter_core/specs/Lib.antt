@@ -8,5 +8,4 @@ pub mod Views
 pub mod Inside
 pub mod Delivers
 pub mod Opens
-pub mod Starting
 pub mod Laws

@@ -51,7 +51,7 @@ pub struct Arbiter<'a> {
 
 impl<'a> Model for Arbiter<'a> {
     ghost use Rattle.arbiter_core.specs.Views.{View};
-    ghost use Rattle.arbiter_core.specs.Inside.{view_of, IsInOrder};
+    ghost use Rattle.arbiter_core.specs.Inside.Fields.{view_of, IsInOrder};
 
     ghost Value = { View };
 

@@ -7,7 +7,7 @@ ghost use Rattle.move_msg.specs.declared.who.Who.{Who};
 ghost use Rattle.arbiter_core.specs.Answering.{Identity};
 ghost use Rattle.arbiter_core.specs.Opens.{Opens, IsResumed, IsBadKept, at_end, first_record};
 ghost use Rattle.arbiter_core.specs.Delivers.{IsKept};
-ghost use Rattle.arbiter_core.specs.Starting.{IsPlayed, IsPutFirst, told_from};
+ghost use Rattle.arbiter_core.specs.Inside.Starting.{IsPlayed, IsPutFirst, told_from};
 
 use crate::arbiter::{Arbiter, Played};
 use crate::fault::OpenFault;

@@ -14,7 +14,7 @@ use Rattle.board_core.specs.declared.parts.Parts.{Parts}
 use Rattle.board_core.specs.Side.{other}
 use Rattle.board_core.specs.Attack.{man_at, Ray, Reaches, IsAttacked, IsInCheck}
 use Rattle.board_core.specs.Moves.{Stands, IsFree, IsTaken, IsPlain, men_after}
-use Rattle.board_core.specs.Search.{HasAttacked, IsOnlyKing, emptied}
+use Rattle.board_core.specs.Inside.Search.{HasAttacked, IsOnlyKing, emptied}
 use Rattle.board_core.proofs.Outward.{along_distance}
 use Rattle.board_core.proofs.Sweep.{zero_one, Rests, Rests-between}
 use Rattle.board_core.proofs.Safety.{some_man, none_man, other_side, only_after, only_safe}

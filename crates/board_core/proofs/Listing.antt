@@ -3,7 +3,7 @@ use Rattle.std.specs.Prelude.{All, AllPairs}
 use Rattle.std.proofs.lemmas.List.Elements.{All-push, Contains-append_left, Contains-push}
 use Rattle.std.proofs.lemmas.List.{get_or_append_left, get_or_push, length_push}
 use Rattle.std.proofs.lemmas.Bool.{cases_lt}
-use Rattle.board_core.specs.Search.{HasListedBelow, IsListed}
+use Rattle.board_core.specs.Inside.Search.{HasListedBelow, IsListed}
 use Rattle.board_core.specs.declared.generation.Which.{Which}
 use Rattle.board_core.specs.declared.generation.Which.TheVariants.{Every}
 use Rattle.board_core.specs.declared.parts.Parts.{Parts}

@@ -18,7 +18,7 @@ use Rattle.board_core.specs.Side.{other}
 use Rattle.board_core.specs.Attack.{man_at, Reaches}
 use Rattle.board_core.specs.Moves.{Stands, IsTaken, IsMove, IsCapture, IsLegalCapture, place_of, promotion_place}
 use Rattle.board_core.specs.ComputedMoves.{is_later, promotion_at, legal_captures, captures_after}
-use Rattle.board_core.specs.Search.{IsFirst, IsPlayed, IsLaterCapture, IsLaterBetween, start_of}
+use Rattle.board_core.specs.Inside.Search.{IsFirst, IsPlayed, IsLaterCapture, IsLaterBetween, start_of}
 use Rattle.board_core.proofs.Listing.{make, promotion_below, same_place}
 use Rattle.board_core.proofs.Steps.{kind_on, move_takes}
 use Rattle.board_core.proofs.Preserved.{way}

@@ -1,5 +1,5 @@
 use Rattle.std.proofs.Common.{ℕ, ◌<◌, arith}
-use Rattle.board_core.specs.Search.{IsInside}
+use Rattle.board_core.specs.Inside.Search.{IsInside}
 use Rattle.board_core.specs.declared.piece.Side.{Side}
 use Rattle.board_core.specs.declared.piece.Side.TheVariants.{White, Black}
 use Rattle.board_core.specs.Side.{other}

@@ -11,7 +11,7 @@ use Rattle.board_core.specs.declared.moves.MoveCase.{MoveCase}
 use Rattle.board_core.specs.Attack.{man_at}
 use Rattle.board_core.specs.Moves.{Stands, IsMove, men_after}
 use Rattle.board_core.specs.Position.{IsPosition, HasOneKingEach, is_king_of}
-use Rattle.board_core.specs.Search.{IsOnlyKing}
+use Rattle.board_core.specs.Inside.Search.{IsOnlyKing}
 use Rattle.board_core.proofs.Computed.{Decides-king_of}
 use Rattle.board_core.proofs.Preserved.{Keeps-move}
 use Rattle.board_core.proofs.Safety.{only_after}

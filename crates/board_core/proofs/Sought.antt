@@ -6,7 +6,7 @@ use Rattle.board_core.specs.declared.parts.Parts.{Parts}
 use Rattle.board_core.specs.declared.mobility.Sought.{Sought}
 use Rattle.board_core.specs.Moves.{IsLegal, promotion_place}
 use Rattle.board_core.specs.ComputedMoves.{promotion_at}
-use Rattle.board_core.specs.Search.{IsSought}
+use Rattle.board_core.specs.Inside.Search.{IsSought}
 use Rattle.board_core.proofs.Listing.{make}
 use Rattle.board_core.proofs.NextCapture.{at_place}
 

@@ -15,7 +15,7 @@ use Rattle.board_core.specs.Attack.{Reaches}
 use Rattle.board_core.specs.declared.generation.Survey.{Survey}
 use Rattle.board_core.specs.Side.{other}
 use Rattle.board_core.specs.Moves.{Stands, IsFree, IsTaken, IsMove, IsPlain, IsCapture, place_of, promotion_place}
-use Rattle.board_core.specs.Search.{IsListed, IsStep, IsUnpinned, IsSurvey, HasListedBelow}
+use Rattle.board_core.specs.Inside.Search.{IsListed, IsStep, IsUnpinned, IsSurvey, HasListedBelow}
 use Rattle.board_core.proofs.Safety.{safe_legal, other_side}
 use Rattle.board_core.proofs.Preserved.{way, side_cases}
 use Rattle.board_core.proofs.SideSets.{taken}

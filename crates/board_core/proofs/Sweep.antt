@@ -2,7 +2,7 @@ use Rattle.std.proofs.Common.{◌∙◌, ℕ, ◌≡◌, ◌≢◌, ◌<◌, ◌
 use Rattle.std.specs.Int.{bit_at}
 use Rattle.std.proofs.lemmas.Bool.{cases_lt}
 use Rattle.std.proofs.lemmas.Nat.Bits.{bit_at-zero}
-use Rattle.board_core.specs.Search.{HasListedBelow, IsListed}
+use Rattle.board_core.specs.Inside.Search.{HasListedBelow, IsListed}
 use Rattle.board_core.specs.declared.generation.Which.{Which}
 use Rattle.board_core.specs.declared.parts.Parts.{Parts}
 use Rattle.board_core.specs.declared.moves.Move.{Move}

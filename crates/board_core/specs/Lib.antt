@@ -4,10 +4,10 @@ pub mod Attack
 pub mod Castling
 pub mod Moves
 pub mod Position
-pub mod Search
 pub mod Sides
 pub mod Computed
 pub mod ComputedMoves
 pub mod Laws
 pub mod Verdicts
 pub mod Delays
+pub mod Inside

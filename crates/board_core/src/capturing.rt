@@ -7,7 +7,7 @@ ghost use Rattle.std.specs.Int.{bit_at};
 ghost use Rattle.board_core.specs.ComputedMoves.{captures_after};
 ghost use Rattle.board_core.specs.Moves.{IsLegalCapture, place_of};
 ghost use Rattle.board_core.specs.Position.{IsPosition};
-ghost use Rattle.board_core.specs.Search.{IsFirst, IsPlayed, start_of, IsLaterCapture, IsLaterFrom, IsLaterBetween};
+ghost use Rattle.board_core.specs.Inside.Search.{IsFirst, IsPlayed, start_of, IsLaterCapture, IsLaterFrom, IsLaterBetween};
 ghost use Rattle.board_core.specs.Sides.{sides_of};
 ghost use Rattle.board_core.specs.declared.moves.Move.{Move};
 

@@ -5,7 +5,7 @@ ghost use Rattle.board_core.specs.Attack.{IsInCheck};
 ghost use Rattle.board_core.specs.Computed.{is_in_check};
 ghost use Rattle.board_core.specs.Moves.{Stands};
 ghost use Rattle.board_core.specs.Position.{is_of, is_king_of};
-ghost use Rattle.board_core.specs.Search.{IsOnlyKing};
+ghost use Rattle.board_core.specs.Inside.Search.{IsOnlyKing};
 ghost use Rattle.board_core.specs.Sides.{sides_of, squares_where};
 ghost use Rattle.board_core.specs.declared.piece.Kind.{Kind};
 

@@ -6,7 +6,7 @@ ghost use Rattle.std.specs.Prelude.{◌≡◌, ◌↔◌, ◌<◌, ℕ, IsTrue};
 ghost use Rattle.std.specs.Int.{bit_at};
 ghost use Rattle.board_core.specs.Moves.{IsLegal};
 ghost use Rattle.board_core.specs.Position.{IsPosition};
-ghost use Rattle.board_core.specs.Search.{IsSought, MayGo, MayLeave};
+ghost use Rattle.board_core.specs.Inside.Search.{IsSought, MayGo, MayLeave};
 ghost use Rattle.board_core.specs.Sides.{sides_of};
 ghost use Rattle.board_core.specs.declared.moves.Move.{Move};
 

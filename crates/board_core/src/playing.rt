@@ -1,7 +1,7 @@
 //! The position after a move.
 
 ghost use Rattle.std.specs.Prelude.{◌≡◌, ◌<◌, ◌↔◌, ◌+◌, ◌-◌, IsTrue, IfSome, Option, Some};
-ghost use Rattle.board_core.specs.Search.{IsInside};
+ghost use Rattle.board_core.specs.Inside.Search.{IsInside};
 ghost use Rattle.board_core.specs.Attack.{forward};
 ghost use Rattle.board_core.specs.Moves.{IsMove, Legal, IsLegal, after, rights_after, keeps_right, en_passant_after, halfmove_after, behind, one_more, kind_of, carried, landed, men_after, fullmove_after};
 ghost use Rattle.board_core.specs.Side.{other};

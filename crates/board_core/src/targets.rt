@@ -2,7 +2,7 @@
 
 ghost use Rattle.std.specs.Prelude.{◌≡◌, ◌≢◌, ◌<◌, ◌↔◌, ◌+◌, ◌-◌, ◌⊎◌, ℕ, IsTrue, Some, None};
 ghost use Rattle.std.specs.Int.{bit_at};
-ghost use Rattle.board_core.specs.Search.{IsKnightStepBy, IsRayEnd};
+ghost use Rattle.board_core.specs.Inside.Search.{IsKnightStepBy, IsRayEnd};
 ghost use Rattle.board_core.specs.Attack.{Along, IsClear, IsStraight, IsDiagonal, IsKingStep, IsKnightStep, IsPawnAttack, Reaches, forward, man_at};
 ghost use Rattle.board_core.specs.Moves.{Stands, IsFree, IsTaken, IsLegal};
 ghost use Rattle.board_core.specs.Castling.{has_right, king_end};

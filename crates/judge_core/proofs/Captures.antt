@@ -13,7 +13,7 @@ use Rattle.board_core.proofs.ComputedMoves.{position_legal}
 use Rattle.board_core.proofs.ComputedMen.{capture_takes}
 use Rattle.judge_core.specs.Ends.{has_no_move}
 use Rattle.judge_core.specs.Probing.{is_forced, are_en_passant}
-use Rattle.judge_core.specs.Found.{lands_empty}
+use Rattle.judge_core.specs.Inside.Found.{lands_empty}
 
 -- ---- filters
 

@@ -16,7 +16,7 @@ use Rattle.judge_core.specs.Tables.{Tables}
 use Rattle.judge_core.specs.Asked.{asked, fault_in, told, unless, with_answer}
 use Rattle.judge_core.specs.Probing.{wdl_of}
 use Rattle.judge_core.specs.Distances.{Reach, is_value, is_pawn_step, pawns_reach, is_quiet, move_counts, count_in, lesser, is_odd, by_quiet_moves, by_counts}
-use Rattle.judge_core.specs.Counts.{no_steps, with_reading, steps_told, no_counts, with_count, counts_told, AreWithin}
+use Rattle.judge_core.specs.Inside.Counts.{no_steps, with_reading, steps_told, no_counts, with_count, counts_told, AreWithin}
 use Rattle.judge_core.proofs.Asking.{faults_more, faults_in-is, noted_all}
 use Rattle.judge_core.proofs.Quiet.{no_steps_listed}
 

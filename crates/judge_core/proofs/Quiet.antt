@@ -19,7 +19,7 @@ use Rattle.board_core.specs.Sides.{IsOccupied}
 use Rattle.board_core.specs.ComputedMoves.{position_after, is_en_passant, is_capture, is_pawn_of, is_legal, all_moves, legal_moves}
 use Rattle.board_core.proofs.ComputedLists.{Decides-legal}
 use Rattle.board_core.proofs.ComputedMoves.{position_legal, Decides-en_passant, Decides-pawn_of}
-use Rattle.judge_core.specs.Found.{lands_empty}
+use Rattle.judge_core.specs.Inside.Found.{lands_empty}
 use Rattle.judge_core.specs.Distances.{moves_pawn, is_pawn_step, is_quiet}
 use Rattle.judge_core.proofs.Asking.{passing}
 

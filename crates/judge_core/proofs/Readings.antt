@@ -18,7 +18,7 @@ use Rattle.judge_core.specs.Asked.{faults_in, told, unless}
 use Rattle.judge_core.specs.Probing.{after, greatest, value_or_loss, is_forced, weighed_by}
 use Rattle.judge_core.specs.declared.fault.Faults.{Faults}
 use Rattle.judge_core.proofs.Asking.{asked-append, faults-append, faults_more}
-use Rattle.judge_core.specs.Found.{lands_empty, found_in, nothing_found, noted, closed}
+use Rattle.judge_core.specs.Inside.Found.{lands_empty, found_in, nothing_found, noted, closed}
 use Rattle.judge_core.proofs.Captures.{passants, others}
 
 greatest-append : (xs ys : List Reading) → greatest (xs ++ ys) ≡ fold greater (greatest xs) (filter_map result_ok ys)

@@ -10,7 +10,7 @@ use Rattle.table_file.specs.declared.kind.Kind.TheVariants.{Wdl, Dtz}
 use Rattle.table_file.specs.Tables.{Contents}
 use Rattle.judge_core.specs.Tables.{Tables, AreFiled, slot}
 use Rattle.judge_core.specs.declared.shelf.Shelf.TheInside.{Inside}
-use Rattle.judge_core.specs.Kept.{table_in, tables_of, AreKnown, IsKept}
+use Rattle.judge_core.specs.Inside.Kept.{table_in, tables_of, AreKnown, IsKept}
 
 -- what a slot has, by its place
 pub in_slot : (tables : List Contents) (places : List (Option ℕ)) (k : ℕ) → get_or (tables_of tables places) k None ≡ table_in tables (get_or places k None)

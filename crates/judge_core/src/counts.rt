@@ -2,7 +2,7 @@
 
 ghost use Rattle.std.specs.Prelude.{◌≡◌, ◌≤◌, IfOk, IfSome, max};
 ghost use Rattle.judge_core.specs.Distances.{plies, lesser};
-ghost use Rattle.judge_core.specs.Counts.{no_steps, with_reading, steps_told, no_counts, with_count, counts_told, AreWithin};
+ghost use Rattle.judge_core.specs.Inside.Counts.{no_steps, with_reading, steps_told, no_counts, with_count, counts_told, AreWithin};
 
 use crate::distance::{self, Distance};
 use crate::fault::{Faults, ValueFault};

@@ -3,7 +3,7 @@
 ghost use Rattle.std.specs.Prelude.{◌≡◌};
 ghost use Rattle.judge_core.specs.Probing.{worth, worth_in};
 ghost use Rattle.judge_core.specs.Distances.{is_by_capture};
-ghost use Rattle.judge_core.specs.Found.{nothing_found, noted, closed};
+ghost use Rattle.judge_core.specs.Inside.Found.{nothing_found, noted, closed};
 
 use crate::fault::{Faults, ValueFault};
 use crate::wdl::Wdl;

@@ -4,7 +4,7 @@ ghost use Rattle.std.specs.Prelude.{◌≡◌, ◌↔◌, ◌<◌, ℕ, false, N
 ghost use Rattle.board_core.specs.Square.{file_of};
 ghost use Rattle.board_core.specs.Attack.{man_at};
 ghost use Rattle.board_core.specs.ComputedMoves.{position_after, is_pawn_of};
-ghost use Rattle.judge_core.specs.Found.{lands_empty};
+ghost use Rattle.judge_core.specs.Inside.Found.{lands_empty};
 ghost use Rattle.judge_core.specs.Distances.{moves_pawn, is_pawn_step, is_quiet};
 
 use board_core::{Kind, Move, Piece, Position, Side};
@@ -38,7 +38,7 @@ pub(crate) fn has_pawn(position: &Position) -> bool
 }
 
 /// Whether the move goes to an empty square: among captures, whether it is en passant.
-#[tactic(auto, unfolding(crate::specs::Found::lands_empty))]
+#[tactic(auto, unfolding(crate::specs::Inside::Found::lands_empty))]
 pub(crate) fn lands_empty(position: &Position, m: &Move) -> bool
     ensures { result ≡ lands_empty position.now m.now }
 {

@@ -36,7 +36,7 @@ impl<'a> Model for Shelf<'a> {
 
     ghost Value = { Holding };
 
-    ghost use Rattle.judge_core.specs.Kept.{holding_of, IsKept};
+    ghost use Rattle.judge_core.specs.Inside.Kept.{holding_of, IsKept};
 
     ghost view = { holding_of };
 

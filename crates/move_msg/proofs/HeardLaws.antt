@@ -25,7 +25,7 @@ use Rattle.move_msg.specs.Numbers.{most_moves, most_wanted}
 use Rattle.move_msg.specs.Senders.{who_number, sender_number}
 use Rattle.move_msg.specs.Words.{SpellsWord, promotion_number, word_of}
 use Rattle.move_msg.specs.Messages.{SpellsMessage, IsInRange, IsFirstMessageFault, HasHead, HasKind, version_of, kind_of, stamp_in, sender_of, number_of, word_in}
-use Rattle.move_msg.specs.Layouts.{HasFields, fields_at, kind_number, version_number}
+use Rattle.move_msg.specs.Inside.Layouts.{HasFields, fields_at, kind_number, version_number}
 use Rattle.move_msg.specs.Heard.{arbiters, numbered, promotions, verdicts, who_with, verdict_with, promotion_with, move_with, given, move_heard, relayed_heard, ack_heard, verdict_heard, fetch_heard, reader_of, heard_by, heard_in}
 use Rattle.move_msg.proofs.MessageLaws.{IsBytes, IsBytes-drop, IsBytes-take, IsKind, laid_out, found, no_fault, one_fault, one_of_five}
 

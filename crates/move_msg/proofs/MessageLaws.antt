@@ -20,7 +20,7 @@ use Rattle.move_msg.specs.declared.coding.Fields.{Fields}
 use Rattle.move_msg.specs.Senders.{who_number, sender_number}
 use Rattle.board_core.specs.Verdicts.{code_of}
 use Rattle.move_msg.specs.Messages.{SpellsMessage, IsInRange, IsFirstMessageFault, HasHead, HasKind, frame, version_by, version_of, kind_of, stamp_in, sender_of, number_of, word_in}
-use Rattle.move_msg.specs.Layouts.{HasFields, fields_at, kind_number, version_number}
+use Rattle.move_msg.specs.Inside.Layouts.{HasFields, fields_at, kind_number, version_number}
 use Rattle.board_core.specs.declared.moves.Move.{Move as Moves}
 use Rattle.move_msg.specs.Numbers.{most_moves, most_wanted}
 use Rattle.move_msg.specs.Words.{SpellsWord}

@@ -12,7 +12,7 @@ use Rattle.move_msg.specs.declared.record_bytes.RecordFault.{RecordFault}
 use Rattle.move_msg.specs.declared.record_bytes.RecordFault.TheVariants.{BadLength, BadHead, BadField, OutOfMemory}
 use Rattle.move_msg.specs.declared.record_bytes.Header.{Header}
 use Rattle.move_msg.specs.Heard.{verdict_with}
-use Rattle.move_msg.specs.Layouts.{header_at}
+use Rattle.move_msg.specs.Inside.Layouts.{header_at}
 use Rattle.move_msg.specs.Numbers.{most_moves}
 use Rattle.move_msg.specs.Records.{SpellsRecord, SpellsBody, SpellsMoves, WritesRecord, IsRecord, HasFront, HasRecordHead, HasRecordLayout, IsFirstRecordFault, body_in, body_text, code_or_none, count_at, delay_in, old_frame, record_frame, verdict_at, words_at}
 use Rattle.move_msg.proofs.MessageLaws.{IsBytes, IsBytes-drop, IsBytes-take, code_below, code_above}

@@ -4,7 +4,6 @@ pub mod Senders
 pub mod Stamps
 pub mod Messages
 pub mod Heard
-pub mod Layouts
 pub mod Streams
 pub mod Records
 pub mod Laws

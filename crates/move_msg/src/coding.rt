@@ -3,7 +3,7 @@
 ghost use Rattle.std.specs.Prelude.{◌≡◌, ◌<◌, ◌^◌, length, slice_index, IfSome, IfOk, IfErr, Ok, Err, Some};
 ghost use Rattle.move_msg.specs.Messages.{SpellsMessage, IsFirstMessageFault, HasHead, frame, version_by};
 ghost use Rattle.move_msg.specs.Heard.{heard_in};
-ghost use Rattle.move_msg.specs.Layouts.{HasFields, fields_at, kind_number, version_number};
+ghost use Rattle.move_msg.specs.Inside.Layouts.{HasFields, fields_at, kind_number, version_number};
 ghost use Rattle.move_msg.specs.declared.message.Message.{Message};
 ghost use Rattle.move_msg.specs.declared.message.MessageFault.{MessageFault};
 
@@ -37,7 +37,7 @@ struct Fields {
 }
 
 /// The fields of 27 bytes by their places.
-#[tactic(auto, unfolding(crate::specs::Layouts::fields_at))]
+#[tactic(auto, unfolding(crate::specs::Inside::Layouts::fields_at))]
 fn fields_in(bytes: &[u8]) -> Fields
     requires { length bytes.now ≡ 27 }
     ensures { result ≡ fields_at bytes.now }

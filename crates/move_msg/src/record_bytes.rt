@@ -11,7 +11,7 @@ ghost use Rattle.board_core.specs.Delays.{most_delay};
 ghost use Rattle.move_msg.specs.Numbers.{most_moves};
 ghost use Rattle.move_msg.specs.Records.{AppendsMoves, SpellsRecord, WritesRecord, SpellsMoves, HasCounts, HasFront, HasRecordHead, HasRecordLayout, IsFirstRecordFault, body_in, body_text, code_or_none, delay_in, record_frame, record_fault_name, words_at};
 ghost use Rattle.move_msg.specs.Words.{SpellsWord};
-ghost use Rattle.move_msg.specs.Layouts.{header_at};
+ghost use Rattle.move_msg.specs.Inside.Layouts.{header_at};
 
 use crate::count::MOST_MOVES;
 use crate::move_list::MoveList;
@@ -210,7 +210,7 @@ fn body_of(bytes: &[u8]) -> (u8, &[u8])
 
 /// What stands before the words and the words, of bytes that are a record unless their words are
 /// none.
-#[tactic(auto, unfolding(crate::specs::Layouts::header_at))]
+#[tactic(auto, unfolding(crate::specs::Inside::Layouts::header_at))]
 fn read_front(bytes: &[u8]) -> Result<(Header, &[u8]), RecordFault>
     ensures ok { IfOk result (λ front. HasRecordLayout bytes.now × (front.0 ≡ header_at bytes.now) × (front.1.now ≡ words_at (body_in bytes.now))) }
     ensures err { IfErr result (IsFirstRecordFault bytes.now) }

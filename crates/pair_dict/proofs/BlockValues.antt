@@ -6,7 +6,7 @@ use Rattle.std.specs.Prelude.{slice_get}
 use Rattle.pair_dict.specs.Symbols.{values_of}
 use Rattle.pair_dict.specs.Codes.{Pairing, code_at}
 use Rattle.pair_dict.specs.Blocks.{then_values, values_from, block_values}
-use Rattle.pair_dict.specs.Runs.{IsLeft}
+use Rattle.pair_dict.specs.Inside.Runs.{IsLeft}
 
 -- the values from a bit on begin with those of its code
 pub values_from_code : (d : Pairing) (block : List ℕ) (most p s n : ℕ) → code_at d block p ≡ Some (s, n) → values_from d block (suc most) p ≡ values_of d.symbols s ++ values_from d block most (p + n)

@@ -5,7 +5,7 @@ use Rattle.std.proofs.lemmas.Bool.{cases_lt, cases_eq, lt-ltb, le-ltb}
 use Rattle.std.proofs.lemmas.Nat.{shr-shr, pow-add, pow_pos}
 use Rattle.std.proofs.Math.Nat.{le-div_iff_mul-le, div-lt_iff_lt-mul, add-mul-div_left, mul_comm}
 use Rattle.pair_dict.specs.Codes.{bases, bits, code_from}
-use Rattle.pair_dict.specs.Windows.{IsWindow, IsFirst, AreFirsts, AreLong}
+use Rattle.pair_dict.specs.Inside.Windows.{IsWindow, IsFirst, AreFirsts, AreLong}
 use Rattle.pair_dict.specs.declared.codes.LongCodes.{LongCodes}
 use Rattle.pair_dict.proofs.WordLemmas.{base_last, length-bases}
 use Rattle.pair_dict.proofs.CodeLemmas.{code_next}

@@ -5,7 +5,7 @@ use Rattle.std.proofs.lemmas.List.{length-append, take_all}
 use Rattle.std.proofs.Math.Nat.{mul-le-mul_right, mul-le-mul_left, add-mul, div-lt_iff_lt-mul, le-div_iff_mul-le}
 use Rattle.std.proofs.lemmas.Nat.{shr-shr, field_of, mod_below, pow_pos}
 use Rattle.pair_dict.specs.Symbols.{symbol_count, values_of}
-use Rattle.pair_dict.specs.Counts.{AreCounts}
+use Rattle.pair_dict.specs.Inside.Counts.{AreCounts}
 use Rattle.pair_dict.specs.Codes.{Pairing, bases, number_of, bits, below, IsCode, code_from, code_at}
 use Rattle.pair_dict.specs.Blocks.{Begins, HaveValues, IsBlock, BlockIsComputed, BlockBeginsWithValues, then_values, values_from, block_values}
 use Rattle.pair_dict.proofs.CodeLemmas.{code_too_long, code_found, code_longer, code_none, below_yes, below_no}

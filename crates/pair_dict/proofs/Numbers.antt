@@ -6,7 +6,7 @@ use Rattle.std.proofs.lemmas.Nat.{shl_whole, pow-add, shr-shr, shl-shr, shr_high
 use Rattle.std.proofs.Math.Nat.{pow-suc, pow-le-pow_right, mul-add-mod_self_right, mul_assoc}
 use Rattle.byteorder.specs.Endian.{big_from}
 use Rattle.pair_dict.specs.Codes.{number_of, bits}
-use Rattle.pair_dict.specs.Windows.{IsWord, IsWindow}
+use Rattle.pair_dict.specs.Inside.Windows.{IsWord, IsWindow}
 
 abbrev pub IsBytes : List ℕ → Type 0
 IsBytes bytes = (i : ℕ) → get_or bytes i 0 < 256

@@ -3,7 +3,7 @@ use Rattle.std.proofs.Common.{◌≡◌, ℕ, suc, ◌+◌, ◌-◌, ◌<◌, �
 use Rattle.std.proofs.lemmas.List.{append-nil, length-append, take-append-le, take_all, take_more, take_more_set, length-take-le, get_or-take, get_or-set_same, get_or-set_other}
 use Rattle.std.proofs.lemmas.Bool.{cases_eq}
 use Rattle.pair_dict.specs.Symbols.{symbol_count, values_of}
-use Rattle.pair_dict.specs.Counts.{AreCounts}
+use Rattle.pair_dict.specs.Inside.Counts.{AreCounts}
 use Rattle.pair_dict.proofs.SymbolValues.{IsJoined, length-values_of}
 
 -- the values of symbols that wait, the last first

@@ -4,12 +4,12 @@ use Rattle.std.proofs.lemmas.Bool.{cases_lt}
 use Rattle.std.proofs.lemmas.List.{length-append, get_or_append_left, get_or-append_right}
 use Rattle.std.proofs.lemmas.Nat.{shr-shr, shl-shr}
 use Rattle.pair_dict.specs.Symbols.{symbol_count, values_of}
-use Rattle.pair_dict.specs.Counts.{AreCounts}
+use Rattle.pair_dict.specs.Inside.Counts.{AreCounts}
 use Rattle.pair_dict.specs.Codes.{Pairing, bits, code_at}
-use Rattle.pair_dict.specs.Windows.{IsCodeAt, Shows}
-use Rattle.pair_dict.specs.ShortCodes.{two_bytes, AreShortCodes}
+use Rattle.pair_dict.specs.Inside.Windows.{IsCodeAt, Shows}
+use Rattle.pair_dict.specs.Inside.ShortCodes.{two_bytes, AreShortCodes}
 use Rattle.pair_dict.specs.declared.codes.ShortCode.{ShortCode}
-use Rattle.pair_dict.specs.Runs.{IsLeft, IsSkip, IsRun, AreRuns}
+use Rattle.pair_dict.specs.Inside.Runs.{IsLeft, IsSkip, IsRun, AreRuns}
 use Rattle.pair_dict.specs.declared.window.BitBuffer.{BitBuffer}
 use Rattle.pair_dict.specs.declared.runs.Run.{Run}
 use Rattle.pair_dict.proofs.Longest.{code_sound}

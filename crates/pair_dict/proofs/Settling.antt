@@ -4,7 +4,7 @@ use Rattle.std.specs.Prelude.{◌⊎◌}
 use Rattle.std.proofs.lemmas.List.{length-append, length-set, get_or-set_same, get_or-set_other, set-get_or}
 use Rattle.std.proofs.lemmas.Bool.{cases_eq}
 use Rattle.pair_dict.specs.Symbols.{symbol_count, left, right, HasValues, leaf, pair}
-use Rattle.pair_dict.specs.Counts.{AreCounts, AreSettled, KeepsKnown}
+use Rattle.pair_dict.specs.Inside.Counts.{AreCounts, AreSettled, KeepsKnown}
 
 -- a symbol with values is one of the symbols
 pub has_known : {symbols : List ℕ} {s : ℕ} {vs : List ℕ} → HasValues symbols s vs → s < symbol_count symbols

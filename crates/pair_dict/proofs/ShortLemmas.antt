@@ -6,9 +6,9 @@ use Rattle.std.proofs.lemmas.Nat.{shr-shr, shl-shr, field_of, pow-add}
 use Rattle.std.proofs.Math.Nat.{mod-eq_of_lt}
 use Rattle.std.proofs.Math.Pow.{mod-mod-pow}
 use Rattle.pair_dict.specs.Codes.{Pairing, number_of, bits, code_at}
-use Rattle.pair_dict.specs.Windows.{IsCodeAt, Shows}
+use Rattle.pair_dict.specs.Inside.Windows.{IsCodeAt, Shows}
 use Rattle.pair_dict.specs.declared.window.BitBuffer.{BitBuffer}
-use Rattle.pair_dict.specs.ShortCodes.{two_bytes, IsShortCode, AreShortCodes}
+use Rattle.pair_dict.specs.Inside.ShortCodes.{two_bytes, IsShortCode, AreShortCodes}
 use Rattle.pair_dict.specs.declared.codes.ShortCode.{ShortCode}
 use Rattle.pair_dict.proofs.Longest.{bits_below, code_sound, code_complete}
 

@@ -4,7 +4,7 @@ use Rattle.std.proofs.lemmas.List.{length-append, get_or_append_left, get_or-app
 use Rattle.std.proofs.lemmas.Bool.{eq-eqb, ne_eqb}
 use Rattle.pair_dict.specs.Symbols.{symbol_count, left, right, HasValues, leaf, pair, AllHaveValues, values_to, values_of, ValuesAreUnique, ValuesAreComputed}
 use Rattle.pair_dict.proofs.Settling.{has_some}
-use Rattle.pair_dict.specs.Counts.{IsPairCount, AreCounts}
+use Rattle.pair_dict.specs.Inside.Counts.{IsPairCount, AreCounts}
 
 level : (symbols : List ℕ) (k s : ℕ) → values_to symbols (suc k) s ≡ cond (eqb (right symbols s) 4095) (left symbols s ∷ []) (values_to symbols k (left symbols s) ++ values_to symbols k (right symbols s))
 unfolding values_to

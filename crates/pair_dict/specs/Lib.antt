@@ -2,11 +2,6 @@ pub mod Symbols
 pub mod Codes
 pub mod Blocks
 pub mod Reading
-pub mod Counts
-pub mod Windows
-pub mod ShortCodes
-pub mod Runs
-pub mod Kept
 pub mod Beginnings
 pub mod FirstFault
 pub mod Inside

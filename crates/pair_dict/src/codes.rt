@@ -1,10 +1,10 @@
 //! Codes of symbols.
 
 ghost use Rattle.std.specs.Prelude.{◌≡◌, ◌+◌, ◌*◌, ◌^◌, ◌<◌, ◌≤◌, List, ℕ, length, true, nat_lt, IfOk, IfSome, if◌then◌else◌};
-ghost use Rattle.pair_dict.specs.ShortCodes.{AreShortCodes, IsShortCode};
+ghost use Rattle.pair_dict.specs.Inside.ShortCodes.{AreShortCodes, IsShortCode};
 ghost use Rattle.pair_dict.specs.Codes.{bases, code_from};
 ghost use Rattle.pair_dict.specs.Reading.{falls, words};
-ghost use Rattle.pair_dict.specs.Windows.{AreFirsts, AreLong, IsFirst, IsSound};
+ghost use Rattle.pair_dict.specs.Inside.Windows.{AreFirsts, AreLong, IsFirst, IsSound};
 
 use crate::window::{room_at, window};
 use crate::words::word_of;

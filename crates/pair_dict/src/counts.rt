@@ -2,7 +2,7 @@
 
 ghost use Rattle.std.specs.Prelude.{◌≡◌, ◌≢◌, ◌<◌, ◌≤◌, ◌⊎◌, List, ℕ, length, slice_index, true, false, IfOk, IfErr, OnOk, OnErr};
 ghost use Rattle.pair_dict.specs.Symbols.{symbol_count, HasValues, have_values};
-ghost use Rattle.pair_dict.specs.Counts.{AreCounts, AreSettled, KeepsKnown};
+ghost use Rattle.pair_dict.specs.Inside.Counts.{AreCounts, AreSettled, KeepsKnown};
 ghost use Rattle.pair_dict.specs.declared.fault.DictFault.TheVariants.{BadSymbol, OutOfMemory};
 
 use crate::fault::DictFault;

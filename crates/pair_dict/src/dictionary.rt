@@ -3,8 +3,8 @@
 ghost use Rattle.std.specs.Prelude.{◌≡◌, ℕ, List, ◌+◌, ◌*◌, ◌<◌, ◌≤◌, ◌++◌, length, slice_index, slice_get, take, vec_len, vec_capacity, Some, IsOk, IfOk, IfErr, OnErr, IfSome};
 ghost use Rattle.pair_dict.specs.Symbols.{symbol_count, values_of, AllHaveValues};
 ghost use Rattle.pair_dict.specs.Codes.{code_at};
-ghost use Rattle.pair_dict.specs.Windows.{IsCodeAt, IsSound, Shows};
-ghost use Rattle.pair_dict.specs.Runs.{IsRunAt};
+ghost use Rattle.pair_dict.specs.Inside.Windows.{IsCodeAt, IsSound, Shows};
+ghost use Rattle.pair_dict.specs.Inside.Runs.{IsRunAt};
 ghost use Rattle.pair_dict.specs.Reading.{Gives, layout_at, dictionary_at};
 ghost use Rattle.pair_dict.specs.declared.fault.DictFault.TheVariants.{OutOfMemory};
 ghost use Rattle.pair_dict.specs.Blocks.{block_values, BlockIsComputed, BlockBeginsWithValues};
@@ -41,7 +41,7 @@ impl<'a> Model for Dictionary<'a> {
 
     ghost Value = { Pairing };
 
-    ghost use Rattle.pair_dict.specs.Kept.{pairing_of, IsKept};
+    ghost use Rattle.pair_dict.specs.Inside.Kept.{pairing_of, IsKept};
 
     ghost view = { pairing_of };
 

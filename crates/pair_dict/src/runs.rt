@@ -2,11 +2,11 @@
 
 ghost use Rattle.std.specs.Prelude.{◌≡◌, ◌+◌, ◌*◌, ◌^◌, ◌<◌, ◌≤◌, length, IfOk};
 ghost use Rattle.pair_dict.specs.Symbols.{symbol_count};
-ghost use Rattle.pair_dict.specs.Counts.{AreCounts};
+ghost use Rattle.pair_dict.specs.Inside.Counts.{AreCounts};
 ghost use Rattle.pair_dict.specs.Reading.{words};
 ghost use Rattle.pair_dict.specs.Inside.Layouts.{pairing_in};
-ghost use Rattle.pair_dict.specs.ShortCodes.{AreShortCodes};
-ghost use Rattle.pair_dict.specs.Runs.{IsRun, AreRuns};
+ghost use Rattle.pair_dict.specs.Inside.ShortCodes.{AreShortCodes};
+ghost use Rattle.pair_dict.specs.Inside.Runs.{IsRun, AreRuns};
 
 use crate::codes::ShortCode;
 use crate::layout::Layout;

@@ -2,7 +2,7 @@
 
 ghost use Rattle.std.specs.Prelude.{◌<◌};
 ghost use Rattle.pair_dict.specs.Symbols.{symbol_count};
-ghost use Rattle.pair_dict.specs.Counts.{IsSymbol};
+ghost use Rattle.pair_dict.specs.Inside.Counts.{IsSymbol};
 
 use crate::words::word_at;
 

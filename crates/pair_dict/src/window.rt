@@ -2,7 +2,7 @@
 
 ghost use Rattle.std.specs.Prelude.{List, ◌≡◌, ◌+◌, ◌-◌, ◌*◌, ◌/◌, ◌%◌, ◌^◌, ◌<◌, ◌≤◌, ℕ, length, drop};
 ghost use Rattle.pair_dict.specs.Codes.{bits, number_of};
-ghost use Rattle.pair_dict.specs.Windows.{IsWord, IsWindow, Shows};
+ghost use Rattle.pair_dict.specs.Inside.Windows.{IsWord, IsWindow, Shows};
 
 use byteorder::{BigEndian, ByteOrder};
 

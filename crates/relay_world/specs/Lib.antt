@@ -2,8 +2,7 @@ pub mod Worlds
 pub mod Headline
 pub mod InOrder
 pub mod Gathering
-pub mod Seats
 pub mod Runs
 pub mod Texts
-pub mod Pairs
 pub mod FileNames
+pub mod Inside

@@ -17,7 +17,7 @@ use Rattle.relay_world.specs.declared.world.State.TheVariants as state
 use Rattle.move_msg.specs.Files.{File}
 use Rattle.relay_world.specs.Gathering.{tables_of, IsManifestOf}
 use Rattle.relay_world.specs.Headline.{IsFaithful}
-use Rattle.relay_world.specs.Seats.{KeptIs}
+use Rattle.relay_world.specs.Inside.Seats.{KeptIs}
 use Rattle.relay_world.specs.Worlds.{Game, Side, World, Life, Closed, Down, Running, first_world, happens}
 
 -- ---- a game

@@ -13,7 +13,7 @@ ghost use Rattle.relay_world.specs.declared.event.Event.{Event};
 ghost use Rattle.relay_world.specs.Worlds.{Game, World, after, worlds, first_world, side_of};
 ghost use Rattle.relay_world.specs.Headline.{IsFaithful, kept_count};
 ghost use Rattle.relay_world.specs.InOrder.{RunsThrough, brought};
-ghost use Rattle.relay_world.specs.Pairs.{AreStamped};
+ghost use Rattle.relay_world.specs.Inside.Pairs.{AreStamped};
 ghost use Rattle.relay_world.specs.Runs.{AreWorlds};
 ghost use Rattle.relay_world.specs.declared.schedule.Schedule.{Schedule};
 ghost use Rattle.relay_world.specs.Texts.{IsFirstBadLine, IsSameSchedule, SpellsSchedule};

@@ -10,9 +10,9 @@ ghost use Rattle.arbiter_core.specs.Setups.{SetupView};
 ghost use Rattle.judge_core.specs.Tables.{Tables};
 ghost use Rattle.relay_world.specs.declared.fault.WorldFault.TheVariants.{OutOfMemory};
 ghost use Rattle.relay_world.specs.Gathering.{tables_of};
-ghost use Rattle.relay_world.specs.Pairs.{IsBegunFor, PairIs};
+ghost use Rattle.relay_world.specs.Inside.Pairs.{IsBegunFor, PairIs};
 ghost use Rattle.relay_world.specs.Runs.{Runs, Tells, judged_by, state_of};
-ghost use Rattle.relay_world.specs.Seats.{Stands};
+ghost use Rattle.relay_world.specs.Inside.Seats.{Stands};
 ghost use Rattle.relay_world.specs.Worlds.{Game as Judged, Side, World as Worlds};
 
 use crate::event::Event;

@@ -7,7 +7,7 @@ ghost use Rattle.arbiter_core.specs.Opens.{IsWhole};
 ghost use Rattle.arbiter_core.specs.Setups.{SetupView, IsGood, IsIdentity, setup_view, rules_at};
 ghost use Rattle.arbiter_core.specs.Memory.{Memory};
 ghost use Rattle.relay_world.specs.Worlds.{Side, handed, restarted, wants, listed};
-ghost use Rattle.relay_world.specs.Seats.{Stands, Steps, IsKept, setup_in};
+ghost use Rattle.relay_world.specs.Inside.Seats.{Stands, Steps, IsKept, setup_in};
 
 use arbiter_core::{Arbiter, DeliverFault, Keep, MemoryKeeper, OpenFault, Outputs, Setup};
 use move_msg::Message;

@@ -1,3 +1,5 @@
 -- What values keep and what functions find on the way; cited by private clauses alone.
 pub mod Checked
 pub mod Writing
+pub mod Kept
+pub mod Opened

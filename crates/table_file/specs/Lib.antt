@@ -3,7 +3,6 @@ pub mod Faults
 pub mod Names
 pub mod Dictionaries
 pub mod Figures
-pub mod Kept
 pub mod SizeRecords
 pub mod Shapes
 pub mod Files
@@ -15,7 +14,6 @@ pub mod Expansion
 pub mod Distances
 pub mod Layouts
 pub mod FirstFaults
-pub mod Opened
 pub mod Plan
 pub mod PlannedFile
 pub mod Forged

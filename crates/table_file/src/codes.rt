@@ -21,7 +21,7 @@ impl<'a> Model for Codes<'a> {
 
     ghost Value = { Figures };
 
-    ghost use Rattle.table_file.specs.Kept.{figures_of, AreKept};
+    ghost use Rattle.table_file.specs.Inside.Kept.{figures_of, AreKept};
 
     ghost view = { figures_of };
 

@@ -54,7 +54,7 @@ impl<'a> Model for Table<'a> {
 
     ghost Value = { Contents };
 
-    ghost use Rattle.table_file.specs.Opened.{contents_of, IsOpened};
+    ghost use Rattle.table_file.specs.Inside.Opened.{contents_of, IsOpened};
 
     ghost view = { contents_of };
 

@@ -1,5 +1,5 @@
 use Rattle.std.proofs.Common.{rules}
-use Rattle.board_core.specs.Search.{IsAttackedByKnight, IsAttackedAlong}
+use Rattle.board_core.specs.Inside.Search.{IsAttackedByKnight, IsAttackedAlong}
 use Rattle.board_core.proofs.Outward.{unseen, each_direction, each_knight_step}
 use Rattle.board_core.proofs.attack.is_attacked.Goals as goal
 

@@ -1,5 +1,5 @@
 use Rattle.std.proofs.Common.{ℕ, ◌<◌, ◌-◌}
-use Rattle.board_core.specs.Search.{AttacksTo}
+use Rattle.board_core.specs.Inside.Search.{AttacksTo}
 use Rattle.board_core.proofs.Sweep.{Rests}
 use Rattle.board_core.proofs.attack.some_attacks_to.Given as goal
 

@@ -1,5 +1,5 @@
 use Rattle.std.proofs.Common.{arith, sym, ◌∙◌, refl}
-use Rattle.board_core.specs.Search.{IsLaterFrom}
+use Rattle.board_core.specs.Inside.Search.{IsLaterFrom}
 use Rattle.board_core.proofs.Sweep.{Rests-without, none_on, none_left}
 use Rattle.board_core.proofs.NextCapture.{first_of_all, rises_to}
 use Rattle.board_core.proofs.capturing.capture_from.Goals as goal

@@ -1,5 +1,5 @@
 use Rattle.std.proofs.Common.{ℕ, ◌<◌, ◌-◌}
-use Rattle.board_core.specs.Search.{IsLaterFrom}
+use Rattle.board_core.specs.Inside.Search.{IsLaterFrom}
 use Rattle.board_core.proofs.Sweep.{Rests}
 use Rattle.board_core.proofs.NextCapture.{On}
 use Rattle.board_core.proofs.capturing.capture_from.Given as goal

@@ -1,5 +1,5 @@
 use Rattle.std.proofs.Common.{arith, refl}
-use Rattle.board_core.specs.Search.{IsLaterCapture}
+use Rattle.board_core.specs.Inside.Search.{IsLaterCapture}
 use Rattle.board_core.proofs.Listing.{IsLegal-stands}
 use Rattle.board_core.proofs.SideSets.{set_of_side}
 use Rattle.board_core.proofs.Sweep.{Rests-begin, Rests-without, none_on, none_left}

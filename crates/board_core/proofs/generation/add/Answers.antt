@@ -1,6 +1,6 @@
 use Rattle.std.proofs.Common.{arith, rules}
 use Rattle.board_core.specs.declared.moves.Move.{Move}
-use Rattle.board_core.specs.Search.{IsListed}
+use Rattle.board_core.specs.Inside.Search.{IsListed}
 use Rattle.board_core.proofs.Listing.{HasListedBelow-push, HasListedBelow-skip, same_place}
 use Rattle.board_core.proofs.generation.add.Goals as goal
 

@@ -1,5 +1,5 @@
 use Rattle.std.proofs.Common.{◌+◌, ◌*◌}
-use Rattle.board_core.specs.Search.{HasListedBelow}
+use Rattle.board_core.specs.Inside.Search.{HasListedBelow}
 use Rattle.board_core.proofs.generation.add_between.Given as goal
 
 abbrev pub invariant-loop-place : goal.invariant-loop-place

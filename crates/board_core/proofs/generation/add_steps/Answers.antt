@@ -1,7 +1,7 @@
 use Rattle.std.proofs.Common.{arith, rules}
 use Rattle.board_core.proofs.Sweep.{Targets-below, Targets-none, Rests-without}
 use Rattle.board_core.specs.declared.moves.Move.{Move}
-use Rattle.board_core.specs.Search.{IsListed}
+use Rattle.board_core.specs.Inside.Search.{IsListed}
 use Rattle.board_core.proofs.Steps.{step_listed, step_pushed}
 use Rattle.board_core.proofs.generation.add_steps.Goals as goal
 

@@ -1,6 +1,6 @@
 use Rattle.std.proofs.Common.{◌≡◌, ℕ, ◌+◌, ◌*◌, ◌-◌}
 use Rattle.std.specs.Int.{bit_at}
-use Rattle.board_core.specs.Search.{HasListedBelow, IsStep}
+use Rattle.board_core.specs.Inside.Search.{HasListedBelow, IsStep}
 use Rattle.board_core.proofs.Sweep.{Rests, Goes}
 use Rattle.board_core.proofs.generation.add_steps.Given as goal
 

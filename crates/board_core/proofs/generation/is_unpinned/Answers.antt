@@ -1,7 +1,7 @@
 use Rattle.std.proofs.Common.{arith, rules, ◌≢◌, subst, sym}
 use Rattle.board_core.specs.declared.piece.Kind.TheVariants.{Queen}
 use Rattle.board_core.specs.Attack.{Ray}
-use Rattle.board_core.specs.Search.{IsAttackedAlong}
+use Rattle.board_core.specs.Inside.Search.{IsAttackedAlong}
 use Rattle.board_core.specs.Side.{other}
 use Rattle.board_core.proofs.Safety.{free_to_go}
 use Rattle.board_core.proofs.generation.is_unpinned.Goals as goal

@@ -1,6 +1,6 @@
 use Rattle.std.proofs.Common.{◌*◌, ◌-◌}
 use Rattle.board_core.specs.Moves.{IsTaken}
-use Rattle.board_core.specs.Search.{HasListedBelow, IsKnown}
+use Rattle.board_core.specs.Inside.Search.{HasListedBelow, IsKnown}
 use Rattle.board_core.proofs.Sweep.{Rests}
 use Rattle.board_core.proofs.generation.listed.Given as goal
 

@@ -1,5 +1,5 @@
 use Rattle.std.proofs.Common.{ℕ, ◌<◌, ◌-◌}
-use Rattle.board_core.specs.Search.{MayLeave}
+use Rattle.board_core.specs.Inside.Search.{MayLeave}
 use Rattle.board_core.proofs.Sweep.{Rests}
 use Rattle.board_core.proofs.mobility.has_legal_move.Given as goal
 

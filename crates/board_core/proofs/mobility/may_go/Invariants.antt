@@ -1,7 +1,7 @@
 use Rattle.std.proofs.Common.{Option, ◌<◌}
 use Rattle.board_core.specs.declared.piece.Promotion.{Promotion}
 use Rattle.board_core.specs.Moves.{IsLegal, promotion_place}
-use Rattle.board_core.specs.Search.{IsSought}
+use Rattle.board_core.specs.Inside.Search.{IsSought}
 use Rattle.board_core.proofs.Listing.{make}
 use Rattle.board_core.proofs.mobility.may_go.Given as goal
 

@@ -1,5 +1,5 @@
 use Rattle.std.proofs.Common.{ℕ, ◌<◌, ◌-◌}
-use Rattle.board_core.specs.Search.{MayGo}
+use Rattle.board_core.specs.Inside.Search.{MayGo}
 use Rattle.board_core.proofs.Sweep.{Rests}
 use Rattle.board_core.proofs.mobility.may_go_within.Given as goal
 

@@ -1,7 +1,7 @@
 use Rattle.std.proofs.Common.{◌≡◌, ℕ, ◌<◌, ◌⊎◌}
 use Rattle.std.specs.Int.{bit_at}
 use Rattle.board_core.specs.Attack.{Along, IsClear}
-use Rattle.board_core.specs.Search.{IsRayEnd}
+use Rattle.board_core.specs.Inside.Search.{IsRayEnd}
 use Rattle.board_core.proofs.targets.with_ray.Given as goal
 
 abbrev pub invariant-loop-k : goal.invariant-loop-k

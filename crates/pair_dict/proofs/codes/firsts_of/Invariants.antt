@@ -1,7 +1,7 @@
 use Rattle.std.proofs.Common.{◌≡◌, ◌≤◌, ◌<◌, ◌-◌, ◌+◌, ℕ, get_or, length}
 use Rattle.pair_dict.specs.Codes.{bases}
 use Rattle.pair_dict.specs.Reading.{words}
-use Rattle.pair_dict.specs.Windows.{IsFirst}
+use Rattle.pair_dict.specs.Inside.Windows.{IsFirst}
 use Rattle.pair_dict.proofs.codes.firsts_of.Given as goal
 
 abbrev pub invariant-down : goal.invariant-down

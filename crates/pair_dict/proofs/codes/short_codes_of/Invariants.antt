@@ -1,6 +1,6 @@
 use Rattle.std.proofs.Common.{◌≡◌, ◌≤◌, length, vec_capacity}
 use Rattle.pair_dict.specs.Reading.{words}
-use Rattle.pair_dict.specs.ShortCodes.{AreShortCodes}
+use Rattle.pair_dict.specs.Inside.ShortCodes.{AreShortCodes}
 use Rattle.pair_dict.proofs.codes.short_codes_of.Given as goal
 
 abbrev pub invariant-loop-front : goal.invariant-loop-front

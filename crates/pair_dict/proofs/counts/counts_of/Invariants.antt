@@ -1,5 +1,5 @@
 use Rattle.std.proofs.Common.{◌≢◌, ◌<◌, ℕ, get_or}
-use Rattle.pair_dict.specs.Counts.{AreSettled}
+use Rattle.pair_dict.specs.Inside.Counts.{AreSettled}
 use Rattle.pair_dict.proofs.counts.counts_of.Given as goal
 
 abbrev pub invariant-loop-symbol : goal.invariant-loop-symbol

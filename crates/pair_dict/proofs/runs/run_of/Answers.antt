@@ -1,6 +1,6 @@
 use Rattle.std.proofs.Common.{◌≤◌, ◌∙◌, arith, ap, sym, refl, get_or, ℕ}
 use Rattle.pair_dict.specs.Codes.{code_at}
-use Rattle.pair_dict.specs.ShortCodes.{two_bytes}
+use Rattle.pair_dict.specs.Inside.ShortCodes.{two_bytes}
 use Rattle.pair_dict.specs.Inside.Layouts.{pairing_in}
 use Rattle.pair_dict.specs.declared.codes.ShortCode.{ShortCode}
 use Rattle.pair_dict.proofs.RunLemmas.{so_far_first, so_far_next, short_is, short_known, short_some}

@@ -1,6 +1,6 @@
 use Rattle.std.proofs.Common.{◌≡◌, ◌≤◌, length, vec_capacity}
 use Rattle.pair_dict.specs.Inside.Layouts.{pairing_in}
-use Rattle.pair_dict.specs.Runs.{AreRuns}
+use Rattle.pair_dict.specs.Inside.Runs.{AreRuns}
 use Rattle.pair_dict.proofs.runs.runs_of.Given as goal
 
 abbrev pub invariant-loop-front : goal.invariant-loop-front

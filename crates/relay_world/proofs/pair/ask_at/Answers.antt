@@ -2,8 +2,8 @@ use Rattle.std.proofs.Common.{List, sym, subst}
 use Rattle.move_msg.specs.declared.message.Message.{Message}
 use Rattle.move_msg.specs.declared.who.Who.{Who}
 use Rattle.move_msg.specs.declared.who.Who.TheVariants.{A, B}
-use Rattle.relay_world.specs.Seats.{Steps}
-use Rattle.relay_world.specs.Pairs.{IsWorld}
+use Rattle.relay_world.specs.Inside.Seats.{Steps}
+use Rattle.relay_world.specs.Inside.Pairs.{IsWorld}
 use Rattle.relay_world.specs.Worlds.{Side, identity, side_of, turned, wants, listed}
 use Rattle.relay_world.proofs.Pairing.{turned_a, turned_b}
 use Rattle.relay_world.proofs.pair.ask_at.Goals as goal

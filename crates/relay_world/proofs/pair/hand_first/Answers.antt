@@ -4,7 +4,7 @@ use Rattle.judge_core.specs.Games.{Rules}
 use Rattle.arbiter_core.specs.Answering.{answer_heard}
 use Rattle.arbiter_core.specs.Delivers.{heard}
 use Rattle.arbiter_core.specs.Setups.{rules_at}
-use Rattle.relay_world.specs.Seats.{Steps}
+use Rattle.relay_world.specs.Inside.Seats.{Steps}
 use Rattle.relay_world.specs.Worlds.{identity, handed}
 use Rattle.relay_world.proofs.Pairing.{turned_a}
 use Rattle.relay_world.proofs.pair.hand_first.Goals as goal

@@ -3,7 +3,7 @@ use Rattle.std.specs.Prelude.{IfOk}
 use Rattle.move_msg.specs.declared.who.Who.{Who}
 use Rattle.arbiter_core.specs.Answering.{answer_heard}
 use Rattle.arbiter_core.specs.Delivers.{heard}
-use Rattle.relay_world.specs.Pairs.{PairIs}
+use Rattle.relay_world.specs.Inside.Pairs.{PairIs}
 use Rattle.relay_world.specs.Worlds.{identity, side_of, turned, handed}
 use Rattle.relay_world.proofs.pair.hand_to.Goals as goal
 

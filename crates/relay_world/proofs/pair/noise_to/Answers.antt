@@ -6,7 +6,7 @@ use Rattle.move_msg.specs.declared.stamp.Stamp.{Stamp}
 use Rattle.arbiter_core.specs.declared.fault.DeliverFault.{DeliverFault}
 use Rattle.arbiter_core.specs.Answering.{answer_heard}
 use Rattle.arbiter_core.specs.Delivers.{heard}
-use Rattle.relay_world.specs.Pairs.{PairIs}
+use Rattle.relay_world.specs.Inside.Pairs.{PairIs}
 use Rattle.relay_world.specs.Worlds.{World, identity, side_of, turned, handed}
 use Rattle.relay_world.proofs.pair.noise_to.Goals as goal
 

@@ -1,7 +1,7 @@
 use Rattle.std.proofs.Common.{[], sym, subst}
 use Rattle.std.specs.Prelude.{IfOk}
 use Rattle.move_msg.specs.declared.who.Who.{Who}
-use Rattle.relay_world.specs.Pairs.{PairIs}
+use Rattle.relay_world.specs.Inside.Pairs.{PairIs}
 use Rattle.relay_world.specs.Worlds.{side_of, turned, restarted}
 use Rattle.relay_world.proofs.pair.restart_at.Goals as goal
 

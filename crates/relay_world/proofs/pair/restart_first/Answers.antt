@@ -6,7 +6,7 @@ use Rattle.move_msg.specs.declared.who.Who.TheVariants.{A}
 use Rattle.judge_core.specs.Games.{Rules}
 use Rattle.arbiter_core.specs.Opens.{IsWhole}
 use Rattle.arbiter_core.specs.Setups.{rules_at}
-use Rattle.relay_world.specs.Seats.{Stands, Steps}
+use Rattle.relay_world.specs.Inside.Seats.{Stands, Steps}
 use Rattle.relay_world.specs.Worlds.{Side, identity, restarted}
 use Rattle.relay_world.proofs.Pairing.{turned_a, whole_of}
 use Rattle.relay_world.proofs.pair.restart_first.Goals as goal

@@ -1,7 +1,7 @@
 use Rattle.std.proofs.Common.{◌≡◌, ℕ, ◌+◌, ◌<◌, List, [], ◌∷◌, ◌++◌, length, take, get_or, refl, sym, ap, ◌∙◌, subst, arith}
 use Rattle.std.proofs.lemmas.List.{take_more, take_all}
 use Rattle.relay_world.specs.declared.event.Event.{Event}
-use Rattle.relay_world.specs.Pairs.{PairIs}
+use Rattle.relay_world.specs.Inside.Pairs.{PairIs}
 use Rattle.relay_world.specs.Worlds.{Game, World, after, first_world, happens}
 use Rattle.relay_world.proofs.Schedules.{holds_after}
 use Rattle.relay_world.proofs.Steps.{right_of}

@@ -4,7 +4,7 @@ use Rattle.move_msg.specs.declared.who.Who.{Who}
 use Rattle.arbiter_core.specs.declared.keeper.Keep.{Keep}
 use Rattle.relay_world.specs.declared.event.Event.TheVariants.{Deliver, Noise, Restart, Ask}
 use Rattle.arbiter_core.specs.Delivers.{heard}
-use Rattle.relay_world.specs.Pairs.{PairIs}
+use Rattle.relay_world.specs.Inside.Pairs.{PairIs}
 use Rattle.relay_world.specs.Worlds.{Game, World, identity, side_of, turned, restarted, wants, delivered, noised, happens}
 use Rattle.relay_world.proofs.pair.step.Goals as goal
 

@@ -5,7 +5,7 @@ use Rattle.arbiter_core.specs.declared.fault.DeliverFault.TheVariants.{OutOfMemo
 use Rattle.arbiter_core.specs.Answering.{Identity}
 use Rattle.arbiter_core.specs.Delivers.{heard, Told, answer_of, RefusesOrSends, PutsIfAny}
 use Rattle.arbiter_core.specs.Memory.{Memory}
-use Rattle.relay_world.specs.Seats.{Stands}
+use Rattle.relay_world.specs.Inside.Seats.{Stands}
 use Rattle.relay_world.specs.declared.seat.Place.{Place}
 use Rattle.relay_world.specs.declared.seat.Place.TheVariants.{Open}
 use Rattle.relay_world.proofs.Handing.{may_be, leaves, delivered_steps}

@@ -12,7 +12,7 @@ use Rattle.arbiter_core.specs.Recording.{Recorded, Window, reaches, advance, cou
 use Rattle.arbiter_core.specs.Answering.{still_waits, nothing_waits, told_now, told_of}
 use Rattle.arbiter_core.specs.Setups.{rules_at, setup_view}
 use Rattle.arbiter_core.specs.Views.{View, IsNear, IsSettled, spelled_as}
-use Rattle.arbiter_core.specs.Inside.{view_of}
+use Rattle.arbiter_core.specs.Inside.Fields.{view_of}
 use Rattle.arbiter_core.proofs.RunLaws.{next_position}
 use Rattle.arbiter_core.proofs.Settling.{reach_next, settled_next, near_still, near_nothing}
 use Rattle.arbiter_core.proofs.Going.{new_is, down_is, goes_ok, goes_err}

@@ -3,7 +3,7 @@ use Rattle.arbiter_core.specs.declared.setup.Setup.{Setup}
 use Rattle.arbiter_core.specs.Answering.{Identity, nothing_waits}
 use Rattle.arbiter_core.specs.Setups.{setup_view}
 use Rattle.arbiter_core.specs.Views.{View, IsSettled}
-use Rattle.arbiter_core.specs.Starting.{recorded_in}
+use Rattle.arbiter_core.specs.Inside.Starting.{recorded_in}
 use Rattle.arbiter_core.proofs.Opened.{settled_first, runs_is, opens_as, opened_keeps}
 use Rattle.arbiter_core.proofs.arbiter.Arbiter.open.Goals as goal
 

@@ -2,7 +2,7 @@ use Rattle.std.proofs.Common.{◌∙◌, sym, ap, ℕ, option_map, Some, Ok, ari
 use Rattle.std.proofs.lemmas.List.{take_all}
 use Rattle.judge_core.specs.LookUp.{placed_of}
 use Rattle.judge_core.specs.Distances.{is_quiet, move_counts, by_own_table, unless_reached, dtz_to}
-use Rattle.judge_core.specs.Counts.{no_counts, with_count}
+use Rattle.judge_core.specs.Inside.Counts.{no_counts, with_count}
 use Rattle.judge_core.proofs.Asking.{noted_all, walk-passed, walk-noted}
 use Rattle.judge_core.proofs.Counting.{counts_told-is, within-count}
 use Rattle.judge_core.proofs.Reaching.{if_same, mate_counts, other_counts, bare_own, missing_own, stored_own, quiet_own, reached_by, reached_is, lost_is, none_left, few_men, some_left}

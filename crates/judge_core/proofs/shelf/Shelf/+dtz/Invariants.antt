@@ -1,7 +1,7 @@
 use Rattle.std.proofs.Common.{◌≡◌, ◌+◌, ◌*◌, take}
 use Rattle.judge_core.specs.Distances.{is_quiet, move_counts, dtz_to}
 use Rattle.judge_core.specs.Blocks.{AreRight}
-use Rattle.judge_core.specs.Counts.{no_counts, with_count, AreWithin}
+use Rattle.judge_core.specs.Inside.Counts.{no_counts, with_count, AreWithin}
 use Rattle.judge_core.proofs.Asking.{noted_all}
 use Rattle.judge_core.proofs.shelf.Shelf.+dtz.Given as goal
 

@@ -1,6 +1,6 @@
 use Rattle.std.proofs.Common.{◌≡◌, ◌∙◌, sym, ap, subst, refl, arith, rules, Some, None, IsSome, length, get_or, set}
 use Rattle.judge_core.specs.Tables.{Holding, slot, table_at, Tables}
-use Rattle.judge_core.specs.Kept.{tables_of}
+use Rattle.judge_core.specs.Inside.Kept.{tables_of}
 use Rattle.judge_core.proofs.Slots.{same_kept, more_kept, tables_added, filled, at_slot, below_of}
 use Rattle.judge_core.proofs.shelf.Shelf.add.Goals as goal
 

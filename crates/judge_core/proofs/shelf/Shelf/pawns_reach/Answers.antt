@@ -4,7 +4,7 @@ use Rattle.board_core.specs.declared.parts.Parts.{Parts}
 use Rattle.judge_core.specs.Values.{Reading, turned}
 use Rattle.judge_core.specs.Probing.{wdl_of}
 use Rattle.judge_core.specs.Distances.{is_pawn_step}
-use Rattle.judge_core.specs.Counts.{no_steps, with_reading}
+use Rattle.judge_core.specs.Inside.Counts.{no_steps, with_reading}
 use Rattle.judge_core.proofs.Asking.{noted_all, walk-passed, walk-noted}
 use Rattle.judge_core.proofs.Counting.{steps_told-is, no_pawns_reach}
 use Rattle.judge_core.proofs.shelf.Shelf.pawns_reach.Goals.{in-Some, in_default}

@@ -2,7 +2,7 @@ use Rattle.std.proofs.Common.{◌≡◌, take}
 use Rattle.judge_core.specs.Values.{turned}
 use Rattle.judge_core.specs.Probing.{wdl_of}
 use Rattle.judge_core.specs.Distances.{is_pawn_step}
-use Rattle.judge_core.specs.Counts.{no_steps, with_reading}
+use Rattle.judge_core.specs.Inside.Counts.{no_steps, with_reading}
 use Rattle.judge_core.specs.Blocks.{AreRight}
 use Rattle.judge_core.proofs.Asking.{noted_all}
 use Rattle.judge_core.proofs.shelf.Shelf.pawns_reach.Given as goal

@@ -1,6 +1,6 @@
 use Rattle.std.proofs.Common.{◌∙◌, sym, ap, arith, rules, None, get_or}
 use Rattle.judge_core.specs.Tables.{Holding, slot}
-use Rattle.judge_core.specs.Kept.{tables_of}
+use Rattle.judge_core.specs.Inside.Kept.{tables_of}
 use Rattle.judge_core.proofs.Slots.{known_place, held}
 use Rattle.judge_core.proofs.shelf.Shelf.table.Goals as goal
 

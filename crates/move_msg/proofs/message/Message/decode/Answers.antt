@@ -2,7 +2,7 @@ use Rattle.std.proofs.Common.{sym, subst, arith}
 use Rattle.move_msg.specs.declared.coding.Fields.{Fields}
 use Rattle.move_msg.specs.declared.message.Message.{Message}
 use Rattle.move_msg.specs.declared.message.MessageFault.TheVariants.{BadField}
-use Rattle.move_msg.specs.Layouts.{HasFields}
+use Rattle.move_msg.specs.Inside.Layouts.{HasFields}
 use Rattle.move_msg.specs.Messages.{SpellsMessage, IsFirstMessageFault}
 use Rattle.move_msg.proofs.HeardLaws.{heard, heard_fault}
 use Rattle.move_msg.proofs.MessageLaws.{found, one_of_five, has_fields, no_fault}

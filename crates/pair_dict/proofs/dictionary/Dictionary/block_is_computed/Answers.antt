@@ -1,4 +1,4 @@
-use Rattle.pair_dict.specs.Kept.{pairing_of}
+use Rattle.pair_dict.specs.Inside.Kept.{pairing_of}
 use Rattle.pair_dict.proofs.Longest.{block_computed, block_begins}
 use Rattle.pair_dict.proofs.dictionary.Dictionary.block_is_computed.Goals as goal
 

@@ -1,5 +1,5 @@
 use Rattle.std.proofs.Common.{◌≡◌, ◌≤◌, ◌-◌, ◌*◌, length, vec_len, vec_capacity}
-use Rattle.pair_dict.specs.Windows.{Shows}
+use Rattle.pair_dict.specs.Inside.Windows.{Shows}
 use Rattle.pair_dict.proofs.BlockValues.{IsCut}
 use Rattle.pair_dict.proofs.dictionary.Dictionary.decode.Given as goal
 

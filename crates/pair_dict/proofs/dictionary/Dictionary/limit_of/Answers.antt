@@ -1,5 +1,5 @@
 use Rattle.std.proofs.Common.{arith}
-use Rattle.pair_dict.specs.Kept.{pairing_of}
+use Rattle.pair_dict.specs.Inside.Kept.{pairing_of}
 use Rattle.pair_dict.proofs.Longest.{limit_of_block}
 use Rattle.pair_dict.proofs.dictionary.Dictionary.limit_of.Goals as goal
 

@@ -1,6 +1,6 @@
 use Rattle.std.proofs.Common.{◌≤◌, ◌+◌, ◌-◌, ◌*◌, length}
-use Rattle.pair_dict.specs.Windows.{Shows}
-use Rattle.pair_dict.specs.Runs.{IsLeft}
+use Rattle.pair_dict.specs.Inside.Windows.{Shows}
+use Rattle.pair_dict.specs.Inside.Runs.{IsLeft}
 use Rattle.pair_dict.proofs.dictionary.Dictionary.value.Given as goal
 
 abbrev pub invariant-codes : goal.invariant-codes

@@ -1,7 +1,7 @@
 use Rattle.std.proofs.Common.{◌≡◌, ◌<◌, ◌∙◌, [], length, get_or, refl, sym, ap, arith}
 use Rattle.table_file.specs.declared.parts.Section.TheVariants.{Entries, Lengths, Blocks}
 use Rattle.table_file.specs.Tables.{Contents, place_of}
-use Rattle.table_file.specs.Opened.{contents_of}
+use Rattle.table_file.specs.Inside.Opened.{contents_of}
 use Rattle.table_file.proofs.Views.{got, got_or, sized_at, right_at}
 use Rattle.table_file.proofs.table.Table.view.Goals as goal
 

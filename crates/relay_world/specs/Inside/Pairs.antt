@@ -9,7 +9,7 @@ use Rattle.arbiter_core.specs.Memory.{Memory}
 use Rattle.arbiter_core.specs.Setups.{SetupView, rules_at, IsGood, IsIdentity}
 use Rattle.relay_world.specs.declared.pair.Pair.{Pair}
 use Rattle.relay_world.specs.declared.seat.Place.{Place}
-use Rattle.relay_world.specs.Seats.{Stands}
+use Rattle.relay_world.specs.Inside.Seats.{Stands}
 use Rattle.relay_world.specs.Worlds.{World, Game, identity, first_world}
 
 -- the setups of A and B are good and of this game

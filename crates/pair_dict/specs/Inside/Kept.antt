@@ -2,10 +2,10 @@
 use Rattle.std.specs.Prelude.{◌≡◌, ◌+◌, ◌^◌, ◌≤◌, length}
 use Rattle.pair_dict.specs.Codes.{Pairing}
 use Rattle.pair_dict.specs.Reading.{words}
-use Rattle.pair_dict.specs.Counts.{AreCounts}
-use Rattle.pair_dict.specs.Windows.{AreFirsts, AreLong}
-use Rattle.pair_dict.specs.ShortCodes.{AreShortCodes}
-use Rattle.pair_dict.specs.Runs.{AreRuns}
+use Rattle.pair_dict.specs.Inside.Counts.{AreCounts}
+use Rattle.pair_dict.specs.Inside.Windows.{AreFirsts, AreLong}
+use Rattle.pair_dict.specs.Inside.ShortCodes.{AreShortCodes}
+use Rattle.pair_dict.specs.Inside.Runs.{AreRuns}
 use Rattle.pair_dict.specs.Symbols.{symbol_count}
 use Rattle.pair_dict.specs.declared.dictionary.Dictionary.TheInside.{Inside}
 

@@ -3,7 +3,7 @@ use Rattle.std.specs.Prelude.{◌≡◌, ℕ, ◌+◌, ◌-◌, ◌*◌, ◌/◌
 use Rattle.std.proofs.Common.{get_or}
 use Rattle.pair_dict.specs.Codes.{Pairing}
 use Rattle.pair_dict.specs.Blocks.{values_from, block_values}
-use Rattle.pair_dict.specs.Windows.{Shows}
+use Rattle.pair_dict.specs.Inside.Windows.{Shows}
 use Rattle.pair_dict.specs.declared.window.BitBuffer.{BitBuffer}
 use Rattle.pair_dict.specs.declared.runs.Run.{Run}
 

@@ -1,0 +1,4 @@
+-- What values keep and what functions find on the way; cited by private clauses alone.
+pub mod Found
+pub mod Counts
+pub mod Kept

@@ -1,0 +1,3 @@
+-- What values keep and what functions find on the way; cited by private clauses alone.
+pub mod Seats
+pub mod Pairs
