@@ -4,6 +4,7 @@ ghost use Rattle.std.specs.Prelude.{◌≡◌};
 ghost use Rattle.fen_text.specs.Fen.{fault_name};
 
 use board_core::PositionFault;
+use std::fmt;
 
 /// Why a text is not the FEN text of a position, in the order in which faults are told.
 #[derive(Clone, Copy, PartialEq, Eq, Debug)]
@@ -38,5 +39,27 @@ impl FenFault {
             FenFault::BadNumber => "BadNumber",
             FenFault::BadPosition(_) => "BadPosition",
         }
+    }
+}
+
+impl From<PositionFault> for FenFault {
+    ghost use Rattle.std.specs.Prelude.{◌≡◌};
+    ghost use Rattle.fen_text.specs.declared.fault.FenFault.TheVariants.{BadPosition};
+
+    ghost from_gives = { λ fault told. told ≡ BadPosition fault };
+
+    fn from(fault: PositionFault) -> FenFault {
+        FenFault::BadPosition(fault)
+    }
+}
+
+impl fmt::Display for FenFault {
+    ghost use Rattle.std.specs.Prelude.{Some};
+    ghost use Rattle.fen_text.specs.Fen.{fault_name};
+
+    ghost output = { λ fault. Some (fault_name fault) };
+
+    fn fmt<W: fmt::Write>(&self, f: &mut fmt::Formatter<W>) -> fmt::Result {
+        f.write_str(self.name())
     }
 }

@@ -78,6 +78,6 @@ pub fn read(text: &[u8]) -> Result<Position, FenFault>
     };
     match Position::new(parts) {
         Ok(position) => Ok(position),
-        Err(fault) => Err(FenFault::BadPosition(fault)),
+        Err(fault) => Err(FenFault::from(fault)),
     }
 }

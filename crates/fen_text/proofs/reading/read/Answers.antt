@@ -51,4 +51,4 @@ returns-in-Ok-new-clause-only_fault c = λ fault h.
 
 pub returns-in-Err-new-clause-only_fault : goal.returns-in-Err-new-clause-only_fault
 returns-in-Err-new-clause-only_fault c = λ fault h.
-    ap (λ (f : FenFault). Err f) (fault_one c.args.text.now (BadPosition c.in-Err-new.fault) fault (c.in-Ok.parts, c.in-Ok.ensures.ok, c.in-Err-new.ensures.err) h)
+    ap (λ (f : FenFault). Err f) (c.from.ensures ∙ fault_one c.args.text.now (BadPosition c.in-Err-new.fault) fault (c.in-Ok.parts, c.in-Ok.ensures.ok, c.in-Err-new.ensures.err) h)
