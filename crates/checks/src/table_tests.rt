@@ -80,13 +80,7 @@ fn spot_by<L: Ledger>(
     table.locate(side, file, index, &mut Steps::<L>::new(blank))
 }
 
-fn spot(
-    rt: &impl Abort,
-    table: &Table<'_>,
-    side: u8,
-    file: u8,
-    index: u64,
-) -> Result<Spot, Damaged>
+fn spot(rt: &impl Abort, table: &Table<'_>, side: u8, file: u8, index: u64) -> Result<Spot, Damaged>
     ensures { IfOk result (λ s. IsRealSpot table.now side file s) }
 {
     check_part(rt, table, side, file);
