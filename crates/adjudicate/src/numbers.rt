@@ -36,10 +36,13 @@ impl CacheSize {
         let Some(text) = text else {
             return Some(CacheSize { blocks: 64 });
         };
-        match text.parse::<u16>() {
-            Ok(blocks) if 1 <= blocks && blocks <= 4096 => Some(CacheSize { blocks }),
-            _ => None,
+        let Ok(blocks) = text.parse::<u16>() else {
+            return None;
+        };
+        if blocks == 0 || blocks > 4096 {
+            return None;
         }
+        Some(CacheSize { blocks })
     }
 
     /// The number of blocks.

@@ -32,9 +32,16 @@ impl From<clap::Error> for Usage {
     ghost from_gives = { λ e u. u ≡ usage_of (kind_of e) };
 
     fn from(e: clap::Error) -> Usage {
-        match e.kind() {
-            ErrorKind::OutOfMemory => Usage::OutOfMemory,
-            _ => Usage::Misuse,
-        }
+        usage_of(e.kind())
+    }
+}
+
+/// Why words are no task, by the kind of their fault.
+fn usage_of(kind: ErrorKind) -> Usage
+    ensures { result ≡ usage_of kind }
+{
+    match kind {
+        ErrorKind::OutOfMemory => Usage::OutOfMemory,
+        _ => Usage::Misuse,
     }
 }
