@@ -131,6 +131,42 @@ fn check_counts(rt: &impl Abort, alloc: Global, counts: &Counts) {
     check_same(rt, captures, counts.captures, counts.text);
 }
 
+/// The capture that comes after this one in the list, or the first.
+fn next_capture(position: &Position, last: Option<Move>) -> Option<Move> {
+    match position.capture_after(last) {
+        Some((m, _)) => Some(m),
+        None => None,
+    }
+}
+
+/// The captures one after the other are those of the list.
+fn check_captures(rt: &impl Abort, alloc: Global, text: &str) {
+    let position = position_of(rt, text);
+    let mut last = None;
+    for m in &captures(rt, alloc, text) {
+        let next = next_capture(&position, last);
+        check_same(rt, next, Some(*m), text);
+        last = next;
+    }
+    check_same(rt, next_capture(&position, last), None, text);
+}
+
+fn goes_on_without_en_passant(rt: &impl Abort, text: &str) -> bool {
+    position_of(rt, text).has_move_besides_en_passant()
+}
+
+/// En passant is the second position's only move.
+#[test]
+fn captures_come_one_after_the_other(rt: HostRuntime) {
+    for counts in &COUNTS {
+        check_captures(&rt, rt.alloc(), counts.text);
+    }
+    let forced = "8/8/8/8/3pP3/1K1B4/8/k7 b - e3 0 1";
+    check_captures(&rt, rt.alloc(), forced);
+    check_same(&rt, goes_on_without_en_passant(&rt, START), true, START);
+    check_same(&rt, goes_on_without_en_passant(&rt, forced), false, forced);
+}
+
 #[test]
 fn moves_are_counted(rt: HostRuntime) {
     for counts in &COUNTS {
