@@ -452,9 +452,21 @@ fn missing_tables_go_before_damaged_ones(rt: HostRuntime) {
     let distances = file_of(&QUEEN_AND_PAWN_UNMAPPED);
     let mut set = set_of(&rt, rt.alloc(), &["KQvKP.rtbw"], &values);
     check_value(&rt, rt.alloc(), &mut set, row, Ok(2));
-    check_distance(&rt, rt.alloc(), &mut set, row, Err(not_covered(&rt, "KQvKP")));
+    check_distance(
+        &rt,
+        rt.alloc(),
+        &mut set,
+        row,
+        Err(not_covered(&rt, "KQvKP")),
+    );
     add(&rt, rt.alloc(), &mut set, "KQvKP.rtbz", &distances);
-    check_distance(&rt, rt.alloc(), &mut set, row, Err(not_covered(&rt, "KPvK")));
+    check_distance(
+        &rt,
+        rt.alloc(),
+        &mut set,
+        row,
+        Err(not_covered(&rt, "KPvK")),
+    );
     check_verdict(&rt, rt.alloc(), &mut set, row, None);
 }
 
@@ -465,7 +477,14 @@ fn forced_en_passant(rt: HostRuntime) {
     let files = files_of(&BISHOP_AND_PAWNS, &BISHOP_AND_PAWN);
     let mut set = set_of(&rt, rt.alloc(), &["KBPvKP.rtbw", "KBvKP.rtbw"], &files);
     check_value(&rt, rt.alloc(), &mut set, row, Ok(-2));
-    check_both(&rt, rt.alloc(), &mut set, row, -1, Some(Verdict::TableWhite));
+    check_both(
+        &rt,
+        rt.alloc(),
+        &mut set,
+        row,
+        -1,
+        Some(Verdict::TableWhite),
+    );
 }
 
 /// A delay is at most 8 plies.

@@ -174,8 +174,7 @@ has_key tables p position scope many =
 
 pub by_five_rules : FewMenHaveTables → DistanceByFiveRules
 by_five_rules few tables p r filed position scope =
-    let meets = in_scope tables p filed position scope in
-    (
+    let meets = in_scope tables p filed position scope in (
       (λ given. meets ∙ is_told tables (dtz_of tables) p r given),
       (λ e. subst (IsDistance tables (dtz_of tables) p) (sym meets ∙ e) (is_given tables (dtz_of tables) p (has_key few p position scope))),
     )

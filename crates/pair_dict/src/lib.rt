@@ -17,4 +17,7 @@ mod words;
 
 pub use dictionary::Dictionary;
 pub use fault::{Damaged, DictFault};
-pub use laws::{first_fault_is_told, reads_what_is_spelled, values_are_computed, values_are_tested, values_are_unique};
+pub use laws::{
+    first_fault_is_told, reads_what_is_spelled, values_are_computed, values_are_tested,
+    values_are_unique,
+};
