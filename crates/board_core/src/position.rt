@@ -332,8 +332,8 @@ impl Position {
     }
 
     /// The first of the legal captures, en passant among them, that come after this move in the order of moves, and the
-    /// position after it; the first of all where no move is given, and none where no further one comes. It takes no memory. Where
-    /// few men stand all captures so are found sooner than listed.
+    /// position after it; the first of all where no move is given, and none where no further one comes. The move that is given
+    /// need not be a capture, nor legal: its place in the order of from, to and promotion alone counts. It takes no memory.
     pub fn capture_after(&self, last: Option<Move>) -> Option<(Move, Position)>
         ensures next { IfSome result (λ c. captures_after self.now last ≡ c.0 ∷ captures_after self.now (Some c.0)) }
         ensures after { IfSome result (λ c. position_after self.now c.0 ≡ Some c.1) }

@@ -5,7 +5,7 @@ use crate::positions::{START, move_of, position_of, square};
 use board_core::{
     Bitboard, Kind, Move, Parts, Piece, Position, Rights, Side, Square, Verdict, Wing,
 };
-use fen_text::write_move;
+use fen_text::{read_move, write_move};
 use std::alloc::{AllocError, Global};
 use std::process::Abort;
 
@@ -139,30 +139,25 @@ fn next_capture(position: &Position, last: Option<Move>) -> Option<Move> {
     }
 }
 
-/// The captures one after the other are those of the list.
-fn check_captures(rt: &impl Abort, alloc: Global, text: &str) {
-    let position = position_of(rt, text);
-    let mut last = None;
-    for m in &captures(rt, alloc, text) {
-        let next = next_capture(&position, last);
-        check_same(rt, next, Some(*m), text);
-        last = next;
-    }
-    check_same(rt, next_capture(&position, last), None, text);
+fn check_next(rt: &impl Abort, text: &str, last: Option<Move>, wanted: Option<Move>) {
+    check_same(rt, next_capture(&position_of(rt, text), last), wanted, text);
 }
 
 fn goes_on_without_en_passant(rt: &impl Abort, text: &str) -> bool {
     position_of(rt, text).has_move_besides_en_passant()
 }
 
-/// En passant is the second position's only move.
+/// En passant is the only move of the one position; in the other each rook may take a rook.
 #[test]
 fn captures_come_one_after_the_other(rt: HostRuntime) {
-    for counts in &COUNTS {
-        check_captures(&rt, rt.alloc(), counts.text);
-    }
     let forced = "8/8/8/8/3pP3/1K1B4/8/k7 b - e3 0 1";
-    check_captures(&rt, rt.alloc(), forced);
+    check_next(&rt, forced, None, read_move(b"d4e3"));
+    check_next(&rt, forced, read_move(b"d4e3"), None);
+    let rooks = "r3k2r/8/8/8/8/8/8/R3K2R w KQkq - 0 1";
+    check_next(&rt, rooks, None, read_move(b"a1a8"));
+    check_next(&rt, rooks, read_move(b"a1a8"), read_move(b"h1h8"));
+    check_next(&rt, rooks, read_move(b"h1h8"), None);
+    check_next(&rt, START, None, None);
     check_same(&rt, goes_on_without_en_passant(&rt, START), true, START);
     check_same(&rt, goes_on_without_en_passant(&rt, forced), false, forced);
 }

@@ -86,7 +86,7 @@ pub enum ProbeFault {
     /// A table has no value where one is needed, or contradicts itself: the first one in the same order. Among values that are
     /// needed together a table that is missing goes first.
     Damaged(Material),
-    /// Memory for a list of moves was refused. A WDL probe takes none.
+    /// Memory for a list of moves was refused. A WDL probe never tells it.
     OutOfMemory,
 }
 

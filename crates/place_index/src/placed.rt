@@ -178,7 +178,8 @@ fn looked_up(
 
 impl Placed {
     /// The position as its table sees it, found by one look at its men: what `Material::of` finds, and then what `place` gives for
-    /// that material. `None` for bare kings and for more than five men.
+    /// that material (Syzygy tables); the side is 0 or 1, the file of the leading pawn 0 to 3, and 0 without pawns. `None` for
+    /// bare kings and for more than five men. It takes no memory.
     pub fn of(position: &Position) -> Option<Placed>
         ensures material { IfSome result (λ placed. IsMaterialOf placed.material (men_on position.now.men)) }
         ensures placed { IfSome result (λ placed. IsLookedUp placed.material position.now placed) }
