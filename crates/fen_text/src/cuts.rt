@@ -10,8 +10,9 @@ fn place_of(text: &[u8], separator: u8) -> Option<usize>
     text.iter().position(|b| *b == separator)
 }
 
-/// The first piece, and the text after the byte that ends it; nothing where the byte is not there.
-pub(crate) fn cut_first(text: &[u8], separator: u8) -> Option<(&[u8], &[u8])>
+/// The first piece of a text that is cut at each place of a byte, and the text after the byte that ends it; none where the byte
+/// isn't there. It takes no memory.
+pub fn cut_first(text: &[u8], separator: u8) -> Option<(&[u8], &[u8])>
     ensures some { IfSome result
         (λ x. cut_at separator text.now ≡ x.0.now ∷ cut_at separator x.1.now) }
     ensures none { IfNone result (cut_at separator text.now ≡ text.now ∷ []) }

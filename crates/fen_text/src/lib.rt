@@ -16,6 +16,7 @@ mod writing;
 
 pub use coordinates::{read_move, write_move};
 pub use counters::read_number;
+pub use cuts::cut_first;
 pub use fault::FenFault;
 pub use reading::read;
 pub use writing::write;

@@ -17,7 +17,8 @@ use Rattle.arbiter_core.specs.Delivers.{Told, answer_of, RefusesOrSends, PutsIfA
 use Rattle.relay_world.specs.declared.seat.Place.{Place}
 use Rattle.relay_world.specs.declared.seat.Place.TheVariants.{Open}
 use Rattle.relay_world.specs.Worlds.{Side, Life, Closed, Down, Running, answered, handed, handed_at}
-use Rattle.relay_world.specs.Inside.Seats.{PlaceIs, KeptIs, Stands, Steps}
+use Rattle.relay_world.specs.Inside.Seats.{PlaceIs, Stands, Steps}
+use Rattle.relay_world.specs.Runs.{KeptIs}
 
 abbrev pub may_be : Memory → Keep → Type 0
 may_be m keep = m.keep ≡ keep

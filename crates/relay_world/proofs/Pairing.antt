@@ -16,7 +16,8 @@ use Rattle.relay_world.specs.declared.seat.Place.{Place}
 use Rattle.relay_world.specs.declared.seat.Place.TheVariants.{Shut, Open}
 use Rattle.relay_world.specs.Headline.{IsRecordOf}
 use Rattle.relay_world.specs.Worlds.{Side, World, Down, Running, Game, identity, turned}
-use Rattle.relay_world.specs.Inside.Seats.{Stands, Steps, KeptIs, IsKept}
+use Rattle.relay_world.specs.Inside.Seats.{Stands, Steps, IsKept}
+use Rattle.relay_world.specs.Runs.{KeptIs}
 use Rattle.relay_world.specs.Inside.Pairs.{IsWorld}
 use Rattle.arbiter_core.proofs.Reach.{reach_front, reach_within}
 use Rattle.std.proofs.lemmas.List.{length-take-le, take_all}

@@ -25,7 +25,8 @@ use Rattle.arbiter_core.proofs.Opened.{from_whole}
 use Rattle.relay_world.specs.declared.seat.Place.{Place}
 use Rattle.relay_world.specs.declared.seat.Place.TheVariants.{Shut, Open}
 use Rattle.relay_world.specs.Worlds.{Side, opened, restarted}
-use Rattle.relay_world.specs.Inside.Seats.{PlaceIs, IsOpen, KeptIs, Stands, setup_in}
+use Rattle.relay_world.specs.Inside.Seats.{PlaceIs, IsOpen, Stands, setup_in}
+use Rattle.relay_world.specs.Runs.{KeptIs}
 use Rattle.relay_world.proofs.Handing.{may_be, leaves, reads}
 
 abbrev stamp_from : List ℕ → Stamp

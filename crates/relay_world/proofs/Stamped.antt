@@ -26,7 +26,7 @@ use Rattle.relay_world.specs.declared.event.Event.{Event}
 use Rattle.relay_world.specs.declared.event.Event.TheVariants.{Deliver, Noise, Restart, Ask}
 use Rattle.relay_world.specs.Worlds.{Life, Closed, Down, Running, Side, World, Game, identity, side_of, turned, answered, handed_at, delivered, listed, wants, happens, first_world, after}
 use Rattle.arbiter_core.specs.Delivers.{heard}
-use Rattle.relay_world.specs.Inside.Pairs.{AreStamped}
+use Rattle.relay_world.specs.Worlds.{AreStamped}
 use Rattle.relay_world.proofs.Steps.{all_append}
 
 abbrev pub AreOf : Stamp → List Message → Type 0

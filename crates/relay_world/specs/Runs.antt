@@ -1,5 +1,5 @@
 -- What a run of a schedule comes to (this project's own, docs/RULES.md).
-use Rattle.std.specs.Prelude.{◌≡◌, ◌≤◌, ℕ, ◌+◌, List, length, Option, Some, Ok, slice_get}
+use Rattle.std.specs.Prelude.{◌≡◌, ◌≤◌, ℕ, ◌+◌, List, length, Option, Some, None, Ok, slice_get}
 use Rattle.board_core.specs.declared.parts.Parts.{Parts}
 use Rattle.board_core.specs.declared.moves.Move.{Move as Moves}
 use Rattle.fen_text.specs.Written.{fen_of}
@@ -11,13 +11,14 @@ use Rattle.move_msg.specs.declared.who.Who.{Who}
 use Rattle.move_msg.specs.declared.who.Who.TheVariants.{A, B}
 use Rattle.move_msg.specs.Numbers.{most_moves}
 use Rattle.move_msg.specs.Stamps.{IsGameName, stamp_of}
+use Rattle.arbiter_core.specs.Recording.{Recorded}
+use Rattle.arbiter_core.specs.Delivers.{IsSpelled}
 use Rattle.relay_world.specs.declared.event.Event.{Event}
 use Rattle.relay_world.specs.declared.world.State.{State}
 use Rattle.relay_world.specs.declared.world.State.TheVariants as state
 use Rattle.move_msg.specs.Files.{File}
 use Rattle.relay_world.specs.Gathering.{tables_of, IsManifestOf}
 use Rattle.relay_world.specs.Headline.{IsFaithful}
-use Rattle.relay_world.specs.Inside.Seats.{KeptIs}
 use Rattle.relay_world.specs.Worlds.{Game, Side, World, Life, Closed, Down, Running, first_world, happens}
 
 -- ---- a game
@@ -63,6 +64,11 @@ pub record WorldView : Type 0 where
 abbrev pub told_of : WorldView → Who → SideView
 told_of told A = told.a
 told_of told B = told.b
+
+-- the bytes that are kept spell the record that is kept
+abbrev pub KeptIs : Stamp → ℕ → Option (List ℕ) → Option Recorded → Type 0
+KeptIs stamp delay bytes None = bytes ≡ None
+KeptIs stamp delay bytes (Some kept) = IsSpelled stamp delay kept bytes
 
 -- the bytes that are told spell the record that is kept
 pub record TellsSide (stamp : Stamp) (delay : ℕ) (told : SideView) (side : Side) : Type 0 where

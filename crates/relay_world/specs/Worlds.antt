@@ -1,5 +1,6 @@
 -- Two arbiters and all that was ever sent, step by step (this project's own, docs/RULES.md).
-use Rattle.std.specs.Prelude.{cond, List, [], ◌∷◌, ◌++◌, slice_get, Option, Some, None, Result, is_ok}
+use Rattle.std.specs.Prelude.{◌≡◌, cond, List, [], ◌∷◌, ◌++◌, slice_get, Option, Some, None, Result, is_ok}
+use Rattle.std.specs.List.{AllByRecursion}
 use Rattle.board_core.specs.declared.moves.Move.{Move as Moves}
 use Rattle.judge_core.specs.Games.{Rules}
 use Rattle.move_msg.specs.declared.stamp.Stamp.{Stamp}
@@ -7,6 +8,7 @@ use Rattle.move_msg.specs.declared.who.Who.{Who}
 use Rattle.move_msg.specs.declared.who.Who.TheVariants.{A, B}
 use Rattle.move_msg.specs.declared.who.Sender.TheVariants.{Source}
 use Rattle.move_msg.specs.declared.message.Message.{Message}
+use Rattle.move_msg.specs.Messages.{stamp_in}
 use Rattle.arbiter_core.specs.declared.fault.DeliverFault.{DeliverFault}
 use Rattle.arbiter_core.specs.declared.keeper.Keep.{Keep}
 use Rattle.arbiter_core.specs.declared.keeper.Keep.TheVariants.{Good, FailsOld, FailsNew}
@@ -125,3 +127,7 @@ after game world (event ∷ events) = after game (happens game world event) even
 abbrev pub worlds : Game → World → List Event → List World
 worlds game world [] = world ∷ []
 worlds game world (event ∷ events) = world ∷ worlds game (happens game world event) events
+
+-- every message in the log is of the game
+abbrev pub AreStamped : Game → World → Type 0
+AreStamped game world = AllByRecursion (λ m. stamp_in m ≡ game.stamp) world.log

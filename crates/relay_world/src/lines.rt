@@ -11,10 +11,10 @@ ghost use Rattle.relay_world.specs.declared.event.Event.{Event};
 ghost use Rattle.relay_world.specs.Texts.{AreMoves, IsEvent, IsEventLine, IsMovesLine, IsNameLine, IsStartLine, who_word, keep_word};
 
 use crate::event::Event;
-use crate::words::{cut_first, is_word, read_bytes, read_keep, read_place, read_who};
+use crate::words::{is_word, read_bytes, read_keep, read_place, read_who};
 use arbiter_core::Keep;
 use board_core::{Move, Position};
-use fen_text::{read, read_move};
+use fen_text::{cut_first, read, read_move};
 use move_msg::{Who, is_game_name};
 use std::alloc::{AllocError, Global};
 use std::vec::Vec;

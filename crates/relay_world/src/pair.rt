@@ -7,8 +7,8 @@ ghost use Rattle.arbiter_core.specs.Answering.{answer_heard};
 ghost use Rattle.arbiter_core.specs.Delivers.{heard};
 ghost use Rattle.arbiter_core.specs.Setups.{SetupView};
 ghost use Rattle.relay_world.specs.Headline.{IsRight};
-ghost use Rattle.relay_world.specs.Inside.Pairs.{AreSetups, AreStamped, PairIs, IsOne, IsBegun};
-ghost use Rattle.relay_world.specs.Worlds.{Game, World, after, first_world, identity, side_of, turned, handed, restarted, wants, listed, delivered, noised, happens};
+ghost use Rattle.relay_world.specs.Inside.Pairs.{AreSetups, PairIs, IsOne, IsBegun};
+ghost use Rattle.relay_world.specs.Worlds.{Game, World, after, first_world, identity, side_of, turned, handed, restarted, wants, listed, delivered, noised, happens, AreStamped};
 
 use crate::event::Event;
 use crate::seat::{Place, ask, hand, restart};

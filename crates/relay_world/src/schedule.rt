@@ -8,8 +8,8 @@ ghost use Rattle.relay_world.specs.Texts.{AreEvents, IsBadEvent, IsFirstBadLine,
 
 use crate::event::Event;
 use crate::lines::{read_event, read_moves, read_name, read_start};
-use crate::words::cut_first;
 use board_core::{Move, Position};
+use fen_text::cut_first;
 use std::alloc::{AllocError, Global};
 use std::vec::Vec;
 

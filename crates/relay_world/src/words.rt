@@ -1,7 +1,6 @@
 //! The words of a line.
 
-ghost use Rattle.std.specs.Prelude.{◌≡◌, ◌↔◌, ◌==◌, ◌<◌, ◌+◌, ◌++◌, ◌∷◌, [], ℕ, List, position, IsTrue, IfOk, IfSome, IfNone};
-ghost use Rattle.fen_text.specs.Cuts.{cut_at};
+ghost use Rattle.std.specs.Prelude.{◌≡◌, ◌↔◌, ◌==◌, ◌<◌, ℕ, List, IsTrue, IfOk, IfSome, IfNone};
 ghost use Rattle.move_msg.specs.declared.who.Who.{Who};
 ghost use Rattle.arbiter_core.specs.declared.keeper.Keep.{Keep};
 ghost use Rattle.relay_world.specs.Texts.{SpellsBytes, SpellsPlace, who_word, keep_word};
@@ -12,24 +11,6 @@ use hex::FromHexError;
 use move_msg::Who;
 use std::alloc::{AllocError, Global};
 use std::vec::Vec;
-
-/// The first place of a byte.
-fn place_of(text: &[u8], separator: u8) -> Option<usize>
-    ensures { result ≡ position (λ b. b == separator) text.now }
-{
-    text.iter().position(|b| *b == separator)
-}
-
-/// The first piece, and the text after the byte that ends it; none where the byte isn't there.
-pub(crate) fn cut_first(text: &[u8], separator: u8) -> Option<(&[u8], &[u8])>
-    ensures some { IfSome result (λ x. cut_at separator text.now ≡ x.0.now ∷ cut_at separator x.1.now) }
-    ensures none { IfNone result (cut_at separator text.now ≡ text.now ∷ []) }
-{
-    match place_of(text, separator) {
-        None => None,
-        Some(i) => Some((&text[..i], &text[i + 1..])),
-    }
-}
 
 /// Whether a word is this one.
 pub(crate) fn is_word(word: &[u8], other: &[u8]) -> bool

@@ -1,10 +1,8 @@
 -- Two seats and a log stand for a world.
 use Rattle.std.specs.Prelude.{◌≡◌, List}
-use Rattle.std.specs.List.{AllByRecursion}
 use Rattle.move_msg.specs.declared.stamp.Stamp.{Stamp}
 use Rattle.move_msg.specs.declared.message.Message.{Message}
 use Rattle.move_msg.specs.declared.who.Who.TheVariants.{A, B}
-use Rattle.move_msg.specs.Messages.{stamp_in}
 use Rattle.arbiter_core.specs.Memory.{Memory}
 use Rattle.arbiter_core.specs.Setups.{SetupView, rules_at, IsGood, IsIdentity}
 use Rattle.relay_world.specs.declared.pair.Pair.{Pair}
@@ -20,10 +18,6 @@ pub record AreSetups (game : Game) (a b : SetupView) : Type 0 where
   pub good_b : IsGood b
   pub who_a : IsIdentity a (identity game A)
   pub who_b : IsIdentity b (identity game B)
-
--- every message in the log is of the game
-abbrev pub AreStamped : Game → World → Type 0
-AreStamped game world = AllByRecursion (λ m. stamp_in m ≡ game.stamp) world.log
 
 pub record IsWorld (game : Game) (a b : SetupView) (stamp : Stamp) (place_a : Place) (keeper_a : Memory) (place_b : Place) (keeper_b : Memory) (log : List Message) (world : World) : Type 0 where
   pub stamp_is : stamp ≡ game.stamp

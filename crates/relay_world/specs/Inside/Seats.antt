@@ -1,16 +1,15 @@
 -- A seat stands for a side of a world.
-use Rattle.std.specs.Prelude.{◌≡◌, ℕ, false, MatchBool, List, Option, Some, None}
-use Rattle.move_msg.specs.declared.stamp.Stamp.{Stamp}
+use Rattle.std.specs.Prelude.{◌≡◌, false, MatchBool, List, Some}
 use Rattle.move_msg.specs.declared.message.Message.{Message}
-use Rattle.arbiter_core.specs.Recording.{Recorded}
 use Rattle.arbiter_core.specs.Answering.{Identity}
 use Rattle.arbiter_core.specs.Setups.{SetupView, setup_view}
 use Rattle.arbiter_core.specs.Views.{View}
-use Rattle.arbiter_core.specs.Delivers.{IsSpelled, Keeps}
+use Rattle.arbiter_core.specs.Delivers.{Keeps}
 use Rattle.arbiter_core.specs.Memory.{Memory}
 use Rattle.relay_world.specs.declared.seat.Place.{Place}
 use Rattle.relay_world.specs.declared.seat.Place.TheVariants.{Shut, Open}
 use Rattle.relay_world.specs.Worlds.{Side, Closed, Down, Running}
+use Rattle.relay_world.specs.Runs.{KeptIs}
 
 abbrev pub setup_in : Place → SetupView
 setup_in (Shut s) = setup_view s
@@ -23,11 +22,6 @@ IsOpen v side = MatchBool v.is_down (side.life ≡ Down) ((side.life ≡ Running
 abbrev pub PlaceIs : Identity → SetupView → Place → Side → Type 0
 PlaceIs me setup (Shut s) side = (setup_view s ≡ setup) × (side.life ≡ Closed)
 PlaceIs me setup (Open v) side = (v.setup ≡ setup) × (v.me ≡ me) × IsOpen v side
-
--- the bytes that are kept spell the record that is kept
-abbrev pub KeptIs : Stamp → ℕ → Option (List ℕ) → Option Recorded → Type 0
-KeptIs stamp delay bytes None = bytes ≡ None
-KeptIs stamp delay bytes (Some kept) = IsSpelled stamp delay kept bytes
 
 pub record Stands (me : Identity) (setup : SetupView) (place : Place) (keeper : Memory) (side : Side) : Type 0 where
   pub place_is : PlaceIs me setup place side

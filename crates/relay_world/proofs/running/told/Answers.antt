@@ -1,6 +1,6 @@
 use Rattle.std.proofs.Common.{ℕ, subst}
 use Rattle.move_msg.specs.declared.who.Who.TheVariants.{A, B}
-use Rattle.relay_world.specs.Inside.Seats.{KeptIs}
+use Rattle.relay_world.specs.Runs.{KeptIs}
 use Rattle.relay_world.specs.Worlds.{identity}
 use Rattle.relay_world.proofs.running.told.Goals as goal
 
