@@ -6,7 +6,6 @@ ghost use Rattle.std.specs.Io.KnownBytes.{Appends};
 ghost use Rattle.judge_core.specs.declared.fault.ProbeFault.TheVariants.{OutOfMemory};
 ghost use Rattle.judge_core.specs.Answers.{IsProbe, signed_in};
 ghost use Rattle.judge_core.specs.Distances.{dtz_of};
-ghost use Rattle.judge_core.specs.Probing.{wdl_of};
 ghost use Rattle.judge_core.specs.Ruling.{is_out_of_scope};
 ghost use Rattle.move_msg.specs.Files.{file_of};
 ghost use Rattle.move_msg.specs.Manifests.{entry_of};
@@ -86,23 +85,6 @@ fn answer_verdict(
     Ok(Answer::One(Line::Ruling(verdict), true))
 }
 
-/// A WDL probe, whose error comes only where memory is refused.
-pub(crate) fn ask_wdl(
-    alloc: Global,
-    set: &mut Set<'_>,
-    position: &Position,
-) -> Result<Result<Wdl, ProbeFault>, AllocError>
-    ensures answered { IfOk result (λ wdl. wdl ≢ Err OutOfMemory) }
-    ensures answer { IfOk result (λ wdl. IsProbe wdl (is_out_of_scope position.now) (wdl_of set.old.tables position.now)) }
-    ensures unchanged { set.new ≡ set.old }
-{
-    match set.wdl(alloc, position) {
-        Ok(value) => Ok(Ok(value)),
-        Err(ProbeFault::OutOfMemory) => Err(AllocError),
-        Err(fault) => Ok(Err(fault)),
-    }
-}
-
 /// The number that a WDL probe tells.
 pub(crate) fn number_in(wdl: &Result<Wdl, ProbeFault>) -> Result<i32, ProbeFault>
     ensures { result ≡ numbered wdl.now }
@@ -149,7 +131,7 @@ fn tell(
 fn answer_probe(alloc: Global, set: &mut Set<'_>, position: &Position) -> Result<Answer, AllocError>
     ensures { IfOk result (λ a. IsTold set.old.tables position.now (reply_of a)) }
 {
-    let wdl = ask_wdl(alloc, set, position)?;
+    let wdl = set.wdl(alloc, position);
     let dtz = ask_dtz(alloc, set, position)?;
     tell(alloc, number_in(&wdl), dtz)
 }

@@ -12,7 +12,7 @@ use clap::{Arg, ArgAction, ArgMatches, Command};
 use std::alloc::{AllocError, Global};
 
 /// What a command line asks for.
-#[derive(Debug, Drop)]
+#[derive(Drop)]
 pub enum Task<'a> {
     /// The verdict of a position.
     Judge {
@@ -85,7 +85,7 @@ pub enum Task<'a> {
 }
 
 /// The commands.
-#[derive(Clone, Copy, PartialEq, Eq, Debug)]
+#[derive(Clone, Copy)]
 pub enum Name {
     /// Judges a position.
     Judge,
@@ -110,7 +110,7 @@ pub enum Name {
 }
 
 /// How a command is given a value.
-#[derive(Clone, Copy, PartialEq, Eq, Debug)]
+#[derive(Clone, Copy)]
 pub enum Form {
     /// As a word that has to be there.
     Word,
@@ -123,7 +123,7 @@ pub enum Form {
 }
 
 /// A value that a command is given.
-#[derive(Clone, Copy, Debug)]
+#[derive(Clone, Copy)]
 pub struct Value {
     name: &'static str,
     form: Form,

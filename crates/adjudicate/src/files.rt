@@ -11,7 +11,7 @@ use std::cmp::Ordering;
 use std::marker::Model;
 
 /// The name of a table's file, without its folder, as `KQvK.rtbw`; contracts see its bytes.
-#[derive(Debug, Drop)]
+#[derive(Drop)]
 pub struct FileName {
     text: ArrayString<16>,
 }

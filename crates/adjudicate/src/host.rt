@@ -12,7 +12,7 @@ use std::net::Net;
 use std::rt::Files;
 
 /// Why a port wasn't bound.
-#[derive(Clone, Copy, PartialEq, Eq, Debug)]
+#[derive(Clone, Copy)]
 pub enum BindFault {
     /// The address can't be bound.
     Unbound,

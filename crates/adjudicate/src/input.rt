@@ -11,7 +11,7 @@ use std::io::{self, Read};
 const MOST_BYTES: u64 = 1_073_741_824;
 
 /// Why something wasn't read.
-#[derive(Clone, Copy, PartialEq, Eq, Debug)]
+#[derive(Clone, Copy)]
 pub enum ReadFault {
     /// It isn't there, can't be read, or has more bytes than it may have.
     Unreadable,

@@ -8,7 +8,7 @@ use clap::ArgMatches;
 use move_msg::{Who, is_game_name};
 
 /// What an arbiter that answers datagrams is opened from.
-#[derive(Clone, Copy, Debug)]
+#[derive(Clone, Copy)]
 pub struct Listening<'a> {
     /// The name of the game.
     pub name: &'a str,

@@ -8,7 +8,7 @@ use move_msg::{Line, ManifestFault, manifest_read};
 use std::alloc::{AllocError, Global};
 
 /// What a manifest tells, if one is named.
-#[derive(Debug, Drop)]
+#[derive(Drop)]
 pub enum Manifest {
     /// None is named.
     Unnamed,

@@ -10,7 +10,7 @@ use std::marker::Model;
 
 /// How many decoded blocks the cache of an arbiter's tables may have, 1 to 4096; contracts see the
 /// number.
-#[derive(Clone, Copy, PartialEq, Eq, Debug)]
+#[derive(Clone, Copy)]
 pub struct CacheSize {
     blocks: u16,
 }
@@ -56,7 +56,7 @@ impl CacheSize {
 }
 
 /// For how many further plies a verdict by tables must hold, 0 to 8; contracts see the number.
-#[derive(Clone, Copy, PartialEq, Eq, Debug)]
+#[derive(Clone, Copy)]
 pub struct Delay {
     plies: u8,
 }

@@ -5,7 +5,7 @@ ghost use Rattle.arbiter_core.specs.Keeping.{Risen};
 ghost use Rattle.adjudicate.specs.Ports.{Passing, Came, Missed, Handed, Passes};
 
 /// Why a port does nothing.
-#[derive(Clone, Copy, PartialEq, Eq, Debug)]
+#[derive(Clone, Copy)]
 pub enum PortFault {
     /// It failed.
     Failed,

@@ -9,7 +9,7 @@ ghost use Rattle.adjudicate.specs.Lines.{words_of};
 ghost use Rattle.adjudicate.specs.Inside.ProbeSteps.{PutsLines, PutsProbes};
 ghost use Rattle.adjudicate.specs.Reply.{IsText, TellsLine};
 
-use crate::answers::{ask_dtz, ask_wdl, number_in, status_if};
+use crate::answers::{ask_dtz, number_in, status_if};
 use crate::lines::{AnswerFault, Line, put_line, put_refusal};
 use crate::sources::Sources;
 use crate::tables::gather;
@@ -60,7 +60,7 @@ fn columns(
     ensures told { IfOk result (λ told. TellsLine set.old.tables text.now (record { words = words_of told.0; done = told.1 })) }
     ensures unchanged { set.new.tables ≡ set.old.tables }
 {
-    let wdl = ask_wdl(alloc, set, position)?;
+    let wdl = set.wdl(alloc, position);
     let dtz = ask_dtz(alloc, set, position)?;
     let verdict = set.judge(alloc, position)?;
     let done = are_told(&wdl, &dtz);

@@ -21,7 +21,7 @@ use table_file::{Table, TableFault, open};
 const CACHE: usize = 64;
 
 /// Why a file that is looked at isn't the table that it should be.
-#[derive(Clone, Copy, PartialEq, Eq, Debug)]
+#[derive(Clone, Copy)]
 pub enum FileFault {
     /// No file has the name that the manifest tells.
     Missing,

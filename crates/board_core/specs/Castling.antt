@@ -1,5 +1,5 @@
 -- The squares of castling (FIDE articles 2.3 and 3.8.2), and the rights to it.
-use Rattle.std.specs.Prelude.{ℕ, Bool}
+use Rattle.std.specs.Prelude.{ℕ, Bool, ◌||◌}
 use Rattle.board_core.specs.declared.piece.Side.{Side}
 use Rattle.board_core.specs.declared.piece.Side.TheVariants.{White, Black}
 use Rattle.board_core.specs.declared.piece.Wing.{Wing}
@@ -12,6 +12,10 @@ has_right r White KingSide = r.white_king
 has_right r White QueenSide = r.white_queen
 has_right r Black KingSide = r.black_king
 has_right r Black QueenSide = r.black_queen
+
+-- whether some castling has not been lost
+abbrev pub has_rights : Rights → Bool
+has_rights r = r.white_king || r.white_queen || r.black_king || r.black_queen
 
 -- where the kings begin: e1 and e8
 abbrev pub king_home : Side → ℕ

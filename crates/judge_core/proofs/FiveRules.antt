@@ -21,7 +21,8 @@ use Rattle.judge_core.specs.LookUp.{material_of, placed_of}
 use Rattle.judge_core.specs.Tables.{Tables, AreFiled, table_at}
 use Rattle.judge_core.specs.Asked.{fault_in, unless}
 use Rattle.judge_core.specs.Probing.{weighed_by, wdl_of, worth}
-use Rattle.judge_core.specs.Ruling.{has_rights, is_out_of_scope}
+use Rattle.board_core.specs.Castling.{has_rights}
+use Rattle.judge_core.specs.Ruling.{is_out_of_scope}
 use Rattle.judge_core.specs.Distances.{Reach, is_won, zeroing, towards, is_by_capture, pawns_reach, unless_reached, least, greatest, is_odd, won_in, by_counts, by_quiet_moves, distance_in, by_table, by_material, stored, by_own_table, by_moves, by_outcome, by_weighed, dtz_by, dtz_of}
 use Rattle.judge_core.specs.FiveRules.{IsWeighed, IsDecided, IsLeft, IsOwnTable, IsLeftToMoves, IsDistance, counts_after, DistanceByFiveRules}
 use Rattle.judge_core.specs.FiveRules.IsDistance.{unknown, bare, drawn, capture, pawn_unknown, pawn, no_table, no_number, stored as by_number, move_unknown, no_winner, won, no_loser, lost}

@@ -19,7 +19,7 @@ use Rattle.board_core.specs.declared.moves.MoveCase.{MoveCase}
 use Rattle.board_core.specs.declared.moves.MoveCase.TheVariants.{Plain, Advance, DoubleStep, PawnCapture, EnPassant, Castle}
 use Rattle.board_core.specs.Side.{other}
 use Rattle.board_core.specs.Attack.{man_at}
-use Rattle.board_core.specs.Castling.{has_right}
+use Rattle.board_core.specs.Castling.{has_right, has_rights}
 use Rattle.board_core.specs.Position.{IsPosition}
 use Rattle.board_core.specs.Moves.{IsMove, carried, after}
 use Rattle.board_core.specs.ComputedMoves.{position_after, is_capture, is_en_passant, is_pawn, is_pawn_of}
@@ -35,7 +35,6 @@ use Rattle.place_index.specs.Turning.{lead_pawn, lead_file}
 use Rattle.place_index.specs.Placed.{is_black, kind_code, code_of, men_from, men_on, side_number}
 use Rattle.table_file.specs.Files.{is_symmetric}
 use Rattle.judge_core.specs.LookUp.{is_named, is_material, material_of, placement, placed_of}
-use Rattle.judge_core.specs.Ruling.{has_rights}
 use Rattle.judge_core.specs.Distances.{moves_pawn, is_quiet}
 
 -- ---- tests that no man but a pawn passes

@@ -25,7 +25,8 @@ use Rattle.judge_core.specs.LookUp.{is_material, material_of, is_exchanged, plac
 use Rattle.judge_core.specs.Tables.{Tables, AreFiled, table_at}
 use Rattle.judge_core.specs.Asked.{asked, fault_in, unless}
 use Rattle.judge_core.specs.Probing.{weighed_by, wdl_of, worth}
-use Rattle.judge_core.specs.Ruling.{has_rights, is_out_of_scope}
+use Rattle.board_core.specs.Castling.{has_rights}
+use Rattle.judge_core.specs.Ruling.{is_out_of_scope}
 use Rattle.judge_core.specs.Distances.{Reach, zeroing, towards, is_by_capture, is_quiet, move_counts, by_counts, by_quiet_moves, by_table, by_material, by_own_table, by_moves, by_outcome, by_weighed, dtz_by, dtz_to, dtz_of}
 use Rattle.judge_core.proofs.SameTable.{quiet_after, material_kept, other_side_asked}
 

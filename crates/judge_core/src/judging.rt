@@ -1,8 +1,12 @@
 //! The verdict on a position.
 
-ghost use Rattle.std.specs.Prelude.{◌≡◌, IfOk};
+ghost use Rattle.std.specs.Prelude.{◌≡◌, false, IfOk, OnErr};
 ghost use Rattle.judge_core.specs.Tables.{AreFiled};
-ghost use Rattle.judge_core.specs.Ruling.{ruling};
+ghost use Rattle.judge_core.specs.Answers.{IsNoDraw};
+ghost use Rattle.judge_core.specs.Ends.{has_no_move};
+ghost use Rattle.judge_core.specs.Probing.{wdl_of};
+ghost use Rattle.judge_core.specs.Ruling.{is_out_of_scope, ruling};
+ghost use Rattle.board_core.specs.ComputedMoves.{legal_moves};
 
 use crate::found::worth_in;
 use crate::mobility::has_no_move;
@@ -18,8 +22,8 @@ impl<'a> Set<'a> {
     /// Checkmate and stalemate come first. Then there is none where the position has rights to castle or more than five men;
     /// a table that is needed and damaged stops the game; there is none where one that is needed isn't in the set. By the
     /// tables a draw is one; a win or a loss is one where the halfmove clock and the distance in plies, as `dtz` tells it, are
-    /// 99 at most together. All else has no verdict. The error comes only where memory for a list of moves is refused. The set
-    /// stays as it was but for its cache.
+    /// 99 at most together. All else has no verdict. The error comes only where memory for a list of moves is refused, at a
+    /// position in scope with a legal move, whose WDL value is there and no draw. The set stays as it was but for its cache.
     #[tactic(auto, unfolding(crate::specs::Ruling::ruling))]
     pub fn judge(
         &mut self,
@@ -27,6 +31,7 @@ impl<'a> Set<'a> {
         position: &Position,
     ) -> Result<Option<Verdict>, AllocError>
         ensures value { IfOk result (λ verdict. verdict ≡ ruling self.old.tables position.now) }
+        ensures memory { OnErr result ((has_no_move (legal_moves position.now) ≡ false) × (is_out_of_scope position.now ≡ false) × IsNoDraw (wdl_of self.old.tables position.now)) }
         ensures filed { AreFiled self.old.tables }
         ensures unchanged { self.new ≡ self.old }
     {

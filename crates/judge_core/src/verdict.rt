@@ -5,12 +5,12 @@ ghost use Rattle.board_core.specs.declared.parts.Parts.{Parts};
 ghost use Rattle.board_core.specs.Position.{IsPosition};
 ghost use Rattle.judge_core.specs.declared.wdl.Wdl.TheVariants.{Win, Loss};
 ghost use Rattle.judge_core.specs.Distances.{Reach, plies};
-ghost use Rattle.judge_core.specs.Ruling.{mate_of, end_of, has_rights, is_out_of_scope, won_by, ruling_at, ruling_by};
+ghost use Rattle.judge_core.specs.Ruling.{mate_of, end_of, is_out_of_scope, won_by, ruling_at, ruling_by};
 
 use crate::distance::Distance;
 use crate::fault::ValueFault;
 use crate::wdl::Wdl;
-use board_core::{Position, Rights, Side, Verdict};
+use board_core::{Position, Side, Verdict};
 
 /// The verdict where this side is checkmated.
 fn mate_of(side: Side) -> Verdict
@@ -33,21 +33,13 @@ pub(crate) fn end_of(position: &Position) -> Verdict
     }
 }
 
-/// Whether there is a right to castle.
-fn has_rights(rights: &Rights) -> bool
-    ensures { result ≡ has_rights rights.now }
-{
-    rights.white_king || rights.white_queen || rights.black_king || rights.black_queen
-}
-
 /// Whether the tables don't speak of the position: they know no castling, and five men at most.
 #[tactic(auto, unfolding(crate::specs::Ruling::is_out_of_scope))]
 pub(crate) fn is_out_of_scope(position: &Position) -> bool
     ensures is { result ≡ is_out_of_scope position.now }
     ensures position { IsPosition position.now }
 {
-    let parts = position.parts();
-    has_rights(&parts.rights) || position.men() > 5
+    position.rights().any() || position.men() > 5
 }
 
 /// The verdict where this side wins by the tables.

@@ -57,6 +57,8 @@ fn step_on<L: Ledger>(
     ensures damaged { OnErr result (values_before (sizes_of lengths.now) real ≤ values_before (sizes_of lengths.now) place.block + place.offset) }
     ensures cost { steps.new ≤ steps.old + place.offset + 1 }
     ensures near { place.offset < slice_index (sizes_of lengths.now) place.block → steps.new ≤ steps.old + 1 }
+    ensures each { IfOk result (λ s. steps.new + place.block ≡ steps.old + s.block + 1) }
+    ensures all { OnErr result (place.block ≤ real → steps.new + place.block ≡ steps.old + real) }
 {
     let mut block = place.block;
     let mut offset = place.offset;
@@ -78,6 +80,7 @@ fn step_back<L: Ledger>(lengths: &[u8], place: Place, back: usize, steps: &mut S
     requires fits { back < 2 ^ 62 }
     ensures place { values_before (sizes_of lengths.now) result.block + result.offset + back ≡ values_before (sizes_of lengths.now) place.block + place.offset }
     ensures cost { ((steps.new ≡ steps.old) × (result.offset ≤ place.offset)) ⊎ ((steps.new ≤ steps.old + back) × (result.offset < slice_index (sizes_of lengths.now) result.block)) }
+    ensures each { steps.new + result.block ≡ steps.old + place.block }
 {
     let mut block = place.block;
     let mut offset = place.offset;

@@ -13,6 +13,7 @@ steps-preserved g c =
     let prev = before_prev sizes c.steps.block some (omega (arith, length-sizes c.args.lengths.now, c.steps.invariant.place, c.requires.block)) in
     record {
       same = omega (arith, prev, c.steps.invariant.same, c.length.ensures.is);
+      each = omega (arith, c.steps.invariant.each, c.length.ensures.count, some);
       place = omega (arith, c.steps.invariant.place);
       cost = inr (elim c.steps.invariant.cost [
         | inl first ↦ (omega (arith, first.0, c.length.ensures.count), omega (arith, c.length.ensures.is))

@@ -6,6 +6,8 @@ abbrev pub invariant-steps : goal.invariant-steps
 invariant-steps g l =
     record {
       same : values_before (sizes_of l.lengths) l.block + l.offset ≡ values_before (sizes_of l.lengths) l.fn.place.block + l.fn.place.offset;
+      each : l.steps + l.fn.place.block ≡ l.fn.steps + l.block;
+      most : l.fn.place.block ≤ l.real → l.block ≤ l.real;
       cost : l.steps + l.offset ≤ l.fn.steps + l.fn.place.offset;
       near : l.fn.place.offset < get_or (sizes_of l.lengths) l.fn.place.block 0 → (l.block ≡ l.fn.place.block) × (l.offset ≡ l.fn.place.offset) × (l.steps ≡ l.fn.steps);
     }
