@@ -1,6 +1,7 @@
 -- The value of a position meets its rule: the bound on captures in a row cuts nothing off, since each takes a man.
 use Rattle.std.proofs.Common.{◌≡◌, ◌∙◌, sym, ap, refl, ℕ, zero, suc, ◌<◌, ◌≤◌, nat_le, Bool, true, false, cond, not, List, [], ◌∷◌, Option, Some, None, option_map, filter, arith, Result, Ok}
 use Rattle.std.proofs.lemmas.Bool.{le-leb, lt-leb}
+use Rattle.std.specs.Prelude.{OnErr, Err}
 use Rattle.board_core.specs.declared.parts.Parts.{Parts}
 use Rattle.board_core.specs.declared.moves.Move.{Move}
 use Rattle.board_core.specs.Position.{IsPosition}
@@ -80,3 +81,8 @@ bare tables p position few = sym (meets_rule tables p position ∙ ap (λ b. con
 
 pub weighed : (tables : Tables) (p : Parts) (w : Result Weighed ValueFault) → IsPosition p → 2 < count_of_men p → w ≡ weighed_by tables (wdl_of tables) p → worth_in w ≡ wdl_of tables p
 weighed tables p w position many e = sym (meets_rule tables p position ∙ ap (λ b. cond b (Ok Draw) (worth_in (weighed_by tables (wdl_of tables) p))) (lt-leb (count_of_men p) 2 many) ∙ ap worth_in (sym e))
+
+-- what holds at all holds where there is an error
+pub always_err : {A E : Type 0} {X : Type 0} (r : Result A E) → X → OnErr r X
+always_err (Ok a) x = tt
+always_err (Err fault) x = x

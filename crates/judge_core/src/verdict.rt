@@ -39,7 +39,8 @@ pub(crate) fn is_out_of_scope(position: &Position) -> bool
     ensures is { result ≡ is_out_of_scope position.now }
     ensures position { IsPosition position.now }
 {
-    position.rights().any() || position.men() > 5
+    let parts = position.parts();
+    parts.rights.any() || position.men() > 5
 }
 
 /// The verdict where this side wins by the tables.

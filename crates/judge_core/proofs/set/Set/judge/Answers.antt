@@ -6,7 +6,7 @@ use Rattle.board_core.specs.declared.verdict.Verdict.TheVariants.{TableDraw}
 use Rattle.judge_core.specs.Tables.{Holding}
 use Rattle.judge_core.specs.Probing.{weighed_by, wdl_of}
 use Rattle.judge_core.specs.Distances.{by_weighed, dtz_to, dtz_of}
-use Rattle.judge_core.proofs.Rule.{bare, weighed}
+use Rattle.judge_core.proofs.Rule.{bare, weighed, always_err}
 use Rattle.judge_core.proofs.Plies.{ruled_by, by_win, by_loss, reached}
 use Rattle.judge_core.proofs.set.Set.judge.Goals.{in-Ok-Win, in-Ok-Loss}
 use Rattle.judge_core.proofs.set.Set.judge.Goals as goal
@@ -39,3 +39,10 @@ returns-clause-value c =
           let lost : c.worth_in-reading.result ≡ Ok Loss = search rules in
           by_loss c.args.self.now.tables c.args.position.now c.worth_in-reading.result c.match-reading-2.winner c.in_ok-reach.reach c.by_distance.result moves scope value lost (w.winner-is ∙ w.other-winner.ensures ∙ ap other w.side.ensures) reach c.by_distance.ensures)
     ]
+
+pub returns-in_err-reach-clause-memory : goal.returns-in_err-reach-clause-memory
+returns-in_err-reach-clause-memory c =
+    let many : 2 < count_of_men c.args.position.now = omega (arith, c.men.ensures.computed, c.if-men-le2.false) in
+    let value = weighed c.args.self.now.tables c.args.position.now c.weigh-weighed.result c.is_out_of_scope.ensures.position many (c.weigh-weighed.ensures.is ∙ ap (λ (h : Holding). weighed_by h.tables (wdl_of h.tables) c.args.position.now) c.self.view_is) in
+    always_err c.from_residual.result
+    (sym c.has_no_move.ensures ∙ c.if-has_no_move.false, sym c.is_out_of_scope.ensures.is ∙ c.if-is_out_of_scope.false, rw (sym value) c.in_err-reach.ensures.memory)
