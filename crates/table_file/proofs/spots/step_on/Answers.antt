@@ -17,7 +17,7 @@ steps-preserved g c =
       most = λ le. omega (arith, c.steps-test.true);
       cost = omega (arith, c.steps.invariant.cost, c.length.ensures.count, c.if-offset-size.false);
       near = λ lt.
-        (let stood = c.steps.invariant.near lt in
-        let here : c.args.place.offset < get_or sizes c.steps.block 0 = rw stood.0 lt in
-        absurd (omega (arith, here, stood.1, c.length.ensures.is, c.if-offset-size.false)));
+          (let stood = c.steps.invariant.near lt in
+          let here : c.args.place.offset < get_or sizes c.steps.block 0 = rw stood.0 lt in
+          absurd (omega (arith, here, stood.1, c.length.ensures.is, c.if-offset-size.false)));
     }
