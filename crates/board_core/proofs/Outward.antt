@@ -49,7 +49,7 @@ clear_back men d n from to h clear = λ k s away within b.
     clear (n - k) s (omega arith) (omega arith) (along_split d n k from to s within h b)
 
 -- a king's step is one step in some direction
-step_of : (from to : ℕ) → IsKingStep from to → (d : Direction) × Along d 1 to from
+pub step_of : (from to : ℕ) → IsKingStep from to → (d : Direction) × Along d 1 to from
 step_of from to h = elim (cases_lt (file_of to) (file_of from)) [
   | inl e ↦ elim (cases_lt (rank_of to) (rank_of from)) [
     | inl n ↦ (NorthEast, omega arith)
@@ -77,7 +77,7 @@ step_of from to h = elim (cases_lt (file_of to) (file_of from)) [
 ]
 
 -- a knight's step is one of the eight
-knight_step_of : (from to : ℕ) → IsKnightStep from to → (h : KnightStep) × IsKnightStepBy h to from
+pub knight_step_of : (from to : ℕ) → IsKnightStep from to → (h : KnightStep) × IsKnightStepBy h to from
 knight_step_of from to (inl h) = elim (cases_lt (file_of to) (file_of from)) [
   | inl e ↦ elim (cases_lt (rank_of to) (rank_of from)) [ inl n ↦ (EastNorthNorth, omega arith) | inr n ↦ (EastSouthSouth, omega arith) ]
   | inr e ↦ elim (cases_lt (rank_of to) (rank_of from)) [ inl n ↦ (WestNorthNorth, omega arith) | inr n ↦ (WestSouthSouth, omega arith) ]

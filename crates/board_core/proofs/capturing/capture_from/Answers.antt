@@ -17,3 +17,21 @@ targets-preserved c = record {
 
 pub returns-clause-none : goal.returns-clause-none
 returns-clause-none c = λ m w. none_left _ _ _ c.targets.invariant.rests (c.is_empty.ensures.0 c.targets-test.false) c.targets.invariant.none m.to w.0.0.0.1.to_board (m, w, refl)
+
+pub returns-then-is_left_behind-clause-found : goal.returns-then-is_left_behind-clause-found
+returns-then-is_left_behind-clause-found c = tt
+
+pub capture_between-requires-clause-position : goal.capture_between-requires-clause-position
+capture_between-requires-clause-position c = c.requires.position
+
+pub capture_between-requires-clause-sides : goal.capture_between-requires-clause-sides
+capture_between-requires-clause-sides c = c.requires.sides
+
+pub returns-in-Some-clause-none : goal.returns-in-Some-clause-none
+returns-in-Some-clause-none c = tt
+
+pub returns-clause-found : goal.returns-clause-found
+returns-clause-found c = tt
+
+pub goals_from-rest-requires : goal.goals_from-rest-requires
+goals_from-rest-requires c = c.requires.goals

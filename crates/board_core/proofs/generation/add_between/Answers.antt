@@ -2,6 +2,7 @@ use Rattle.std.proofs.Common.{arith, ap, ◌∙◌, ◌≡◌}
 use Rattle.board_core.specs.Moves.{promotion_place}
 use Rattle.board_core.proofs.Listing.{HasListedBelow-skip, promotion_below}
 use Rattle.board_core.proofs.ComputedLists.{promotion_back}
+use Rattle.board_core.proofs.Refused.{on_err, not_ok}
 use Rattle.board_core.proofs.generation.add_between.Goals as goal
 
 pub add-requires-clause-below : goal.add-requires-clause-below
@@ -20,3 +21,21 @@ returns-clause-added c =
     let k = promotion_below m.promotion in
     let f = c.places_between-end.ensures.whole m l.0 (omega (arith, l.0.1.to_board)) (omega (arith, l.0.1.to_board)) in
     omega (arith, l.0.1.to_board, c.loop-place-test.false))
+
+pub add-requires-clause-position : goal.add-requires-clause-position
+add-requires-clause-position c = c.requires.position
+
+pub add-requires-clause-guard : goal.add-requires-clause-guard
+add-requires-clause-guard c = c.requires.guard
+
+pub add-requires-clause-unpinned : goal.add-requires-clause-unpinned
+add-requires-clause-unpinned c = c.requires.unpinned
+
+pub returns-in_err-add-clause-added : goal.returns-in_err-add-clause-added
+returns-in_err-add-clause-added c = not_ok _ c.from_residual.result c.from_residual.ensures.0
+
+pub returns-in_err-add-clause-memory : goal.returns-in_err-add-clause-memory
+returns-in_err-add-clause-memory c = on_err c.from_residual.result c.in_err-add.ensures.memory
+
+pub returns-clause-memory : goal.returns-clause-memory
+returns-clause-memory c = tt

@@ -1,25 +1,69 @@
-use Rattle.std.proofs.Common.{rules}
+use Rattle.std.proofs.Common.{refl, arith}
+use Rattle.std.proofs.lemmas.Bool.{false≢true}
 use Rattle.board_core.proofs.position.first_fault.Goals as goal
+
+pub returns-then-not-has_one_king_each-clause-found : goal.returns-then-not-has_one_king_each-clause-found
+returns-then-not-has_one_king_each-clause-found c = λ h. false≢true (c.if-not-has_one_king_each.ensures.1 h)
+
+pub returns-then-not-has_few_men-clause-found : goal.returns-then-not-has_few_men-clause-found
+returns-then-not-has_few_men-clause-found c = (
+  c.if-not-has_one_king_each.ensures.0 refl,
+  λ h. false≢true (c.if-not-has_few_men.ensures.1 h),
+)
+
+pub returns-then-not-has_no_pawn_on_edge-clause-found : goal.returns-then-not-has_no_pawn_on_edge-clause-found
+returns-then-not-has_no_pawn_on_edge-clause-found c = (
+  c.if-not-has_one_king_each.ensures.0 refl,
+  c.if-not-has_few_men.ensures.0 refl,
+  λ h. false≢true (c.if-not-has_no_pawn_on_edge.ensures.1 h),
+)
+
+pub returns-then-not-has_valid_rights-clause-found : goal.returns-then-not-has_valid_rights-clause-found
+returns-then-not-has_valid_rights-clause-found c = (
+  c.if-not-has_one_king_each.ensures.0 refl,
+  c.if-not-has_few_men.ensures.0 refl,
+  c.if-not-has_no_pawn_on_edge.ensures.0 refl,
+  λ h. false≢true (c.if-not-has_valid_rights.ensures.1 h),
+)
+
+pub returns-then-not-has_valid_en_passant-clause-found : goal.returns-then-not-has_valid_en_passant-clause-found
+returns-then-not-has_valid_en_passant-clause-found c = (
+  c.if-not-has_one_king_each.ensures.0 refl,
+  c.if-not-has_few_men.ensures.0 refl,
+  c.if-not-has_no_pawn_on_edge.ensures.0 refl,
+  c.if-not-has_valid_rights.ensures.0 refl,
+  λ h. false≢true (c.if-not-has_valid_en_passant.ensures.1 h),
+)
+
+pub returns-then-not-is_opponent_safe-clause-found : goal.returns-then-not-is_opponent_safe-clause-found
+returns-then-not-is_opponent_safe-clause-found c = (
+  c.if-not-has_one_king_each.ensures.0 refl,
+  c.if-not-has_few_men.ensures.0 refl,
+  c.if-not-has_no_pawn_on_edge.ensures.0 refl,
+  c.if-not-has_valid_rights.ensures.0 refl,
+  c.if-not-has_valid_en_passant.ensures.0 refl,
+  λ h. false≢true (c.if-not-is_opponent_safe.ensures.1 h),
+)
 
 pub returns-then-not-has_valid_counters-clause-found : goal.returns-then-not-has_valid_counters-clause-found
 returns-then-not-has_valid_counters-clause-found c = (
-  c.if-not-has_one_king_each.ensures.0 (search rules),
-  c.if-not-has_few_men.ensures.0 (search rules),
-  c.if-not-has_no_pawn_on_edge.ensures.0 (search rules),
-  c.if-not-has_valid_rights.ensures.0 (search rules),
-  c.if-not-has_valid_en_passant.ensures.0 (search rules),
-  c.if-not-is_opponent_safe.ensures.0 (search rules),
-  λ h. let t = c.if-not-has_valid_counters.ensures.1 h in search rules,
+  c.if-not-has_one_king_each.ensures.0 refl,
+  c.if-not-has_few_men.ensures.0 refl,
+  c.if-not-has_no_pawn_on_edge.ensures.0 refl,
+  c.if-not-has_valid_rights.ensures.0 refl,
+  c.if-not-has_valid_en_passant.ensures.0 refl,
+  c.if-not-is_opponent_safe.ensures.0 refl,
+  λ h. false≢true (c.if-not-has_valid_counters.ensures.1 h),
 )
 
 pub returns-clause-none : goal.returns-clause-none
 returns-clause-none c = record {
-  squares = search rules;
-  kings = c.if-not-has_one_king_each.ensures.0 (search rules);
-  few = c.if-not-has_few_men.ensures.0 (search rules);
-  pawns = c.if-not-has_no_pawn_on_edge.ensures.0 (search rules);
-  rights = c.if-not-has_valid_rights.ensures.0 (search rules);
-  en_passant = c.if-not-has_valid_en_passant.ensures.0 (search rules);
-  quiet = c.if-not-is_opponent_safe.ensures.0 (search rules);
-  counters = c.if-not-has_valid_counters.ensures.0 (search rules);
+  squares = omega arith;
+  kings = c.if-not-has_one_king_each.ensures.0 refl;
+  few = c.if-not-has_few_men.ensures.0 refl;
+  pawns = c.if-not-has_no_pawn_on_edge.ensures.0 refl;
+  rights = c.if-not-has_valid_rights.ensures.0 refl;
+  en_passant = c.if-not-has_valid_en_passant.ensures.0 refl;
+  quiet = c.if-not-is_opponent_safe.ensures.0 refl;
+  counters = c.if-not-has_valid_counters.ensures.0 refl;
 }

@@ -1,0 +1,40 @@
+-- What tests of a man's side say of the square that he stands on.
+use Rattle.std.proofs.Common.{ℕ, ◌≡◌, ◌<◌, List, length, set, Option, Some, None, Bool, true, false, not, sym, ap, ◌∙◌, inl, inr, get_or-set_same, get_or-set_other}
+use Rattle.std.proofs.lemmas.Bool.{cases_eq}
+use denote.Enum.Bare.{sameb, same_true, true_same, differs_true, differs_false}
+use Rattle.std.specs.Prelude.{IsTrue}
+use Rattle.board_core.specs.declared.piece.Piece.{Piece}
+use Rattle.board_core.specs.declared.piece.Side.{Side}
+use Rattle.board_core.specs.contracts.piece.Side.{the_type}
+use Rattle.board_core.specs.Attack.{man_at}
+use Rattle.board_core.specs.Moves.{Stands, IsFree, IsTaken}
+
+some_man : (man : Piece) (side : Side) → man.side ≡ side → Some man ≡ Some (record { side = side; kind = man.kind })
+some_man man side e = ap (λ x. Some (record { side = x; kind = man.kind })) e
+
+abbrev side_on : Option Piece → Side → Side
+side_on None side = side
+side_on (Some man) side = man.side
+
+pub taken_if : (men : List (Option Piece)) (side : Side) (s n : ℕ) (man : Piece) (r : Bool) → n ≡ s → man_at men n ≡ Some man → r ≡ sameb the_type man.side side → IsTrue r → IsTaken men side s
+taken_if men side s n man r here there e t = (man.kind, rw here at there ∙ some_man man side (same_true the_type tt man.side side (sym e ∙ t)))
+
+pub free_else : (men : List (Option Piece)) (side : Side) (s n : ℕ) (man : Piece) (r : Bool) → n ≡ s → man_at men n ≡ Some man → r ≡ sameb the_type man.side side → (IsTrue r → ⊥) → IsFree men side s
+free_else men side s n man r here there e f = λ kind st. f (e ∙ true_same the_type man.side side (ap (λ o. side_on o side) (sym (rw here at there) ∙ st)))
+
+pub free_where_none : (men : List (Option Piece)) (side : Side) (s n : ℕ) → n ≡ s → man_at men n ≡ None → IsFree men side s
+free_where_none men side s n here none = λ kind st. let e = sym (rw here at none) ∙ st in cc
+
+-- the same of the test that the side differs
+pub stands_unless : (men : List (Option Piece)) (side : Side) (s n : ℕ) (man : Piece) → n ≡ s → man_at men n ≡ Some man → false ≡ not (sameb the_type man.side side) → Stands men s side man.kind
+stands_unless men side s n man here there e = rw here at there ∙ some_man man side (differs_false the_type tt man.side side (sym e))
+
+pub of_other : (men : List (Option Piece)) (side : Side) (s n : ℕ) (man : Piece) → n ≡ s → man_at men n ≡ Some man → true ≡ not (sameb the_type man.side side) → IsTaken men side s → ⊥
+of_other men side s n man here there e t = differs_true the_type man.side side (sym e) (ap (λ o. side_on o side) (sym (rw here at there) ∙ t.1))
+
+-- who stands on the board with a square bare stands there without
+pub taken_bare : (men : List (Option Piece)) (side : Side) (s t : ℕ) → t < length men → IsTaken (set men t None) side s → IsTaken men side s
+taken_bare men side s t lt own = elim (cases_eq s t) [
+  | inl e ↦ absurd (let f = sym (get_or-set_same men t None None lt) ∙ rw e at own.1 in cc)
+  | inr ne ↦ (own.0, sym (get_or-set_other men t s None None ne) ∙ own.1)
+]
