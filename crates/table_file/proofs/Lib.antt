@@ -6,6 +6,7 @@ pub mod NameLemmas
 pub mod Planned
 pub mod Laying
 pub mod Counting
+pub mod Appending
 pub mod Spelling
 pub mod Views
 pub mod AtSpots
