@@ -19,7 +19,7 @@ use std::io::Write;
 use thiserror::Error;
 
 /// Why an answer was not written to its end.
-#[derive(Clone, Copy, Debug, Error)]
+#[derive(Clone, Copy, PartialEq, Eq, Debug, Error)]
 pub enum AnswerFault {
     /// The writer failed.
     #[error("the output can't be written")]
