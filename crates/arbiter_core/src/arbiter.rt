@@ -1,6 +1,6 @@
 //! A running arbiter.
 
-ghost use Rattle.std.specs.Prelude.{◌≡◌, ◌≢◌, ℕ, ◌+◌, ◌-◌, ◌<◌, ◌≤◌, List, [], ◌∷◌, ◌++◌, length, IfOk, IsErr, cond, Option, Some, None, Result, Ok, Err, true, false};
+ghost use Rattle.std.specs.Prelude.{◌≡◌, ◌+◌, ◌-◌, ◌<◌, ◌≤◌, [], ◌∷◌, ◌++◌, length, IfOk, IsErr, cond, Option, Some, None, Result, Ok, Err, true, false};
 ghost use Rattle.std.specs.Result.{result_map_both};
 ghost use Rattle.std.specs.Str.{bytes_eq};
 ghost use Rattle.board_core.specs.ComputedMoves.{position_after};
@@ -10,7 +10,7 @@ ghost use Rattle.move_msg.specs.Numbers.{most_moves};
 ghost use Rattle.move_msg.specs.declared.who.Sender.{Sender};
 ghost use Rattle.arbiter_core.specs.declared.fault.DeliverFault.{DeliverFault};
 ghost use Rattle.arbiter_core.specs.Recording.{advance, count_of};
-ghost use Rattle.arbiter_core.specs.Answering.{Identity, asked, fetched, sent_by, told_of, puts, nothing_waits, answer_to, answer_to_move};
+ghost use Rattle.arbiter_core.specs.Answering.{asked, fetched, sent_by, told_of, puts, nothing_waits, answer_to, answer_to_move};
 ghost use Rattle.arbiter_core.specs.Setups.{rules_at, setup_view};
 ghost use Rattle.arbiter_core.specs.Views.{IsSettled};
 ghost use Rattle.arbiter_core.specs.Delivers.{heard, Keeps, IsKept, RefusesOrSends, PutsIfAny, answer_of};

@@ -1,6 +1,6 @@
 //! How an arbiter is opened.
 
-ghost use Rattle.std.specs.Prelude.{◌≡◌, ℕ, ◌≤◌, List, [], length, IfOk, IfErr, IsErr, IsTrue, ◌↔◌, IfSome, IfNone, Option, Some, None, Result, Ok, Err};
+ghost use Rattle.std.specs.Prelude.{◌≡◌, ◌≤◌, IfOk, IfErr, IsErr, IsTrue, ◌↔◌, IfSome, IfNone, Option, Some, None, Result, Ok, Err};
 ghost use Rattle.arbiter_core.specs.Setups.{setup_view, rules_at, IsGood, IsIdentity};
 ghost use Rattle.std.specs.Result.{result_map_both};
 ghost use Rattle.move_msg.specs.declared.who.Who.{Who};

@@ -1,6 +1,6 @@
 //! A legal move and the moves that wait behind it.
 
-ghost use Rattle.std.specs.Prelude.{◌≡◌, ℕ, ◌+◌, ◌<◌, ◌≤◌, List, [], ◌∷◌, ◌++◌, length, IfOk, Some, true};
+ghost use Rattle.std.specs.Prelude.{◌≡◌, ◌+◌, ◌<◌, ◌≤◌, [], ◌∷◌, ◌++◌, length, IfOk, Some, true};
 ghost use Rattle.board_core.specs.declared.moves.Move.{Move};
 ghost use Rattle.board_core.specs.ComputedMoves.{position_after};
 ghost use Rattle.move_msg.specs.Numbers.{most_moves};

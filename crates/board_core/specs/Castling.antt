@@ -14,8 +14,8 @@ has_right r Black KingSide = r.black_king
 has_right r Black QueenSide = r.black_queen
 
 -- whether some castling has not been lost
-abbrev pub has_rights : Rights → Bool
-has_rights r = r.white_king || r.white_queen || r.black_king || r.black_queen
+abbrev pub has_any_right : Rights → Bool
+has_any_right r = r.white_king || r.white_queen || r.black_king || r.black_queen
 
 -- where the kings begin: e1 and e8
 abbrev pub king_home : Side → ℕ

@@ -2,7 +2,7 @@
 //!
 //! `next` is where a sweep over squares stands: the proofs speak of it.
 
-ghost use Rattle.std.specs.Prelude.{◌≡◌, ◌<◌, ◌≤◌, ◌∷◌, [], IsTrue, IfSome, IfNone, Some};
+ghost use Rattle.std.specs.Prelude.{◌≡◌, ◌<◌, ◌∷◌, [], IsTrue, IfSome, IfNone, Some};
 ghost use Rattle.std.specs.Int.{bit_at};
 ghost use Rattle.board_core.specs.ComputedMoves.{captures_after};
 ghost use Rattle.board_core.specs.Moves.{IsLegalCapture, place_of};

@@ -8,10 +8,10 @@ ghost use Rattle.std.specs.Int.{bit_at};
 ghost use Rattle.board_core.specs.Attack.{IsInCheck, Reaches};
 ghost use Rattle.board_core.specs.Moves.{Stands, IsFree, IsTaken, IsMove, Lists, HasLegal, HasLegalCaptures, place_of, men_after};
 ghost use Rattle.board_core.specs.ComputedMoves.{legal_captures, legal_moves};
-ghost use Rattle.board_core.specs.Inside.Search.{HasListedBelow, IsCarry, IsGuard, IsListed, IsUnpinned, IsStep, IsSurvey, IsWanted, IsKnown, IsOnlyKing, HasAttacked, emptied};
+ghost use Rattle.board_core.specs.Inside.Search.{HasListedBelow, IsCarry, IsGuard, IsListed, IsUnpinned, IsStep, IsSurvey, IsWanted, IsKnown, HasAttacked, emptied};
 ghost use Rattle.board_core.specs.Side.{other};
-ghost use Rattle.board_core.specs.Sides.{sides_of, squares_where};
-ghost use Rattle.board_core.specs.Position.{IsPosition, is_of};
+ghost use Rattle.board_core.specs.Sides.{sides_of};
+ghost use Rattle.board_core.specs.Position.{IsPosition};
 
 use crate::bitboard::Bitboard;
 use crate::king::king_of;

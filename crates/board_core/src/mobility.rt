@@ -2,7 +2,7 @@
 //!
 //! `next` is where a sweep over squares stands: the proofs speak of it.
 
-ghost use Rattle.std.specs.Prelude.{◌≡◌, ◌↔◌, ◌<◌, ℕ, IsTrue};
+ghost use Rattle.std.specs.Prelude.{◌≡◌, ◌↔◌, ℕ, IsTrue};
 ghost use Rattle.std.specs.Int.{bit_at};
 ghost use Rattle.board_core.specs.Moves.{IsLegal};
 ghost use Rattle.board_core.specs.Position.{IsPosition};

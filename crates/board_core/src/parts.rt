@@ -1,7 +1,7 @@
 //! The parts of a position.
 
 ghost use Rattle.std.specs.Prelude.{◌≡◌, ◌↔◌, IsTrue};
-ghost use Rattle.board_core.specs.Castling.{has_right, has_rights};
+ghost use Rattle.board_core.specs.Castling.{has_right, has_any_right};
 
 use crate::piece::{Men, Side, Wing};
 use crate::square::Square;
@@ -39,7 +39,7 @@ pub struct Parts {
 impl Rights {
     /// Whether some castling has not been lost.
     pub fn any(self) -> bool
-        ensures computed { result ≡ has_rights self }
+        ensures computed { result ≡ has_any_right self }
         ensures rights { IsTrue result ↔ ((side : Side) × (wing : Wing) × IsTrue (has_right self side wing)) }
     {
         self.white_king || self.white_queen || self.black_king || self.black_queen

@@ -1,6 +1,6 @@
 //! Sets of the squares that a man may go to, a bit for each square.
 
-ghost use Rattle.std.specs.Prelude.{◌≡◌, ◌≢◌, ◌<◌, ◌↔◌, ◌+◌, ◌-◌, ◌⊎◌, ℕ, IsTrue, Some, None};
+ghost use Rattle.std.specs.Prelude.{◌≡◌, ◌≢◌, ◌<◌, ◌+◌, ◌-◌, ◌⊎◌, ℕ, IsTrue, Some, None};
 ghost use Rattle.std.specs.Int.{bit_at};
 ghost use Rattle.board_core.specs.Inside.Search.{IsKnightStepBy, IsRayEnd};
 ghost use Rattle.board_core.specs.Attack.{Along, IsClear, IsStraight, IsDiagonal, IsKingStep, IsKnightStep, IsPawnAttack, Reaches, forward, man_at};

@@ -1,5 +1,5 @@
 -- Fields 2 to 6 of FEN as text (PGN standard, sections 16.1.3.2 to 16.1.3.6).
-use Rattle.std.specs.Prelude.{◌≡◌, ◌<◌, ◌≤◌, ◌+◌, ◌++◌, ℕ, Bool, List, [], ◌∷◌, Option, Some, None, if◌then◌else◌, codes}
+use Rattle.std.specs.Prelude.{◌≡◌, ◌<◌, ◌+◌, ◌++◌, ℕ, Bool, List, [], ◌∷◌, Option, Some, None, if◌then◌else◌, codes}
 use Rattle.board_core.specs.declared.piece.Side.{Side}
 use Rattle.board_core.specs.declared.piece.Side.TheVariants.{White, Black}
 use Rattle.board_core.specs.declared.parts.Rights.{Rights}

@@ -1,13 +1,12 @@
 -- The distance of a position is the one that the five rules give.
-use Rattle.std.proofs.Common.{◌≡◌, ◌∙◌, sym, ap, subst, refl, ℕ, ◌+◌, ◌<◌, ◌≤◌, ◌⊎◌, nat_le, nat_lt, Bool, true, false, ◌||◌, List, Option, Some, None, Result, Ok, Err, if◌then◌else◌, arith}
-use Rattle.std.specs.Prelude.{IsTrue, IsFalse, ◌↔◌}
+use Rattle.std.proofs.Common.{◌≡◌, ◌∙◌, sym, subst, refl, ℕ, ◌<◌, ◌≤◌, nat_le, nat_lt, Bool, true, false, ◌||◌, Option, Some, None, Result, Ok, Err, if◌then◌else◌, arith}
+use Rattle.std.specs.Prelude.{IsTrue, IsFalse}
 use Rattle.std.specs.List.{list_any}
-use Rattle.std.proofs.lemmas.Bool.{le-leb, lt-leb, leb-true, leb-false, ltb-false, cases_Bool, true≢false}
+use Rattle.std.proofs.lemmas.Bool.{le-leb, lt-leb, leb-true, leb-false, ltb-false, true≢false}
 use Rattle.board_core.specs.declared.parts.Parts.{Parts}
 use Rattle.board_core.specs.Position.{IsPosition}
 use Rattle.board_core.specs.ComputedMoves.{count_of_men}
-use Rattle.place_index.specs.Placed.{men_on, IsMaterialOf}
-use Rattle.place_index.specs.Covered.{HasMaterial, FewMenHaveTables}
+use Rattle.place_index.specs.Covered.{FewMenHaveTables}
 use Rattle.table_file.specs.declared.kind.Kind.TheVariants.{Dtz}
 use Rattle.table_file.specs.declared.outcome.Outcome.{Outcome}
 use Rattle.table_file.specs.Tables.{Contents}
@@ -18,10 +17,10 @@ use Rattle.judge_core.specs.declared.fault.ValueFault.TheVariants.{Damaged}
 use Rattle.judge_core.specs.declared.found.Weighed.{Weighed}
 use Rattle.judge_core.specs.Values.{outcome_of}
 use Rattle.judge_core.specs.LookUp.{material_of, placed_of}
-use Rattle.judge_core.specs.Tables.{Tables, AreFiled, table_at}
+use Rattle.judge_core.specs.Tables.{Tables, table_at}
 use Rattle.judge_core.specs.Asked.{fault_in, unless}
 use Rattle.judge_core.specs.Probing.{weighed_by, wdl_of, worth}
-use Rattle.board_core.specs.Castling.{has_rights}
+use Rattle.board_core.specs.Castling.{has_any_right}
 use Rattle.judge_core.specs.Ruling.{is_out_of_scope}
 use Rattle.judge_core.specs.Distances.{Reach, is_won, zeroing, towards, is_by_capture, pawns_reach, unless_reached, least, greatest, is_odd, won_in, by_counts, by_quiet_moves, distance_in, by_table, by_material, stored, by_own_table, by_moves, by_outcome, by_weighed, dtz_by, dtz_of}
 use Rattle.judge_core.specs.FiveRules.{IsWeighed, IsDecided, IsLeft, IsOwnTable, IsLeftToMoves, IsDistance, counts_after, DistanceByFiveRules}
@@ -161,7 +160,7 @@ module _ (tables : Tables) (reach : Parts → Reach) (p : Parts) where
 
 few_enough : (p : Parts) → is_out_of_scope p ≡ false → count_of_men p ≤ 5
 unfolding is_out_of_scope
-few_enough p e = by_right (has_rights p.rights) e
+few_enough p e = by_right (has_any_right p.rights) e
   where
     by_right : (a : Bool) → (a || nat_lt 5 (count_of_men p)) ≡ false → count_of_men p ≤ 5
     by_right true h = absurd (true≢false h)

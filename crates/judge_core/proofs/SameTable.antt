@@ -19,7 +19,7 @@ use Rattle.board_core.specs.declared.moves.MoveCase.{MoveCase}
 use Rattle.board_core.specs.declared.moves.MoveCase.TheVariants.{Plain, Advance, DoubleStep, PawnCapture, EnPassant, Castle}
 use Rattle.board_core.specs.Side.{other}
 use Rattle.board_core.specs.Attack.{man_at}
-use Rattle.board_core.specs.Castling.{has_right, has_rights}
+use Rattle.board_core.specs.Castling.{has_right, has_any_right}
 use Rattle.board_core.specs.Position.{IsPosition}
 use Rattle.board_core.specs.Moves.{IsMove, carried, after}
 use Rattle.board_core.specs.ComputedMoves.{position_after, is_capture, is_en_passant, is_pawn, is_pawn_of}
@@ -224,7 +224,7 @@ quiet_from p m k q e f = rw e (own p.side k (rw e at f))
 pawn_moves : (p : Parts) (m : Move) → man_at p.men m.from ≡ Some (record { side = p.side; kind = Pawn }) → moves_pawn p m ≡ false → ⊥
 pawn_moves p m e f = let t = (Decides-pawn_of p.side (man_at p.men m.from)).1 e in let g = sym t ∙ f in cc
 
-no_right : (r : Rights) (side : Side) (wing : Wing) → has_rights r ≡ false → has_right r side wing ≡ false
+no_right : (r : Rights) (side : Side) (wing : Wing) → has_any_right r ≡ false → has_right r side wing ≡ false
 no_right r side wing none = by_wing side wing (none_of r.white_king r.white_queen r.black_king r.black_queen none)
   where
     none_of : (a b c d : Bool) → (a || b || c || d) ≡ false → (a ≡ false) × (b ≡ false) × (c ≡ false) × (d ≡ false)
@@ -257,7 +257,7 @@ after_plain : (p : Parts) (m : Move) → ((after p m Plain).men ≡ carried p.me
 unfolding after
 after_plain p m = (refl, refl)
 
-by_rule : (p q : Parts) (m : Move) (c : MoveCase) → IsMove p m c → q ≡ after p m c → m.from < 64 → m.to < 64 → has_rights p.rights ≡ false → moves_pawn p m ≡ false → is_capture p m ≡ false → IsQuietAfter p q m
+by_rule : (p q : Parts) (m : Move) (c : MoveCase) → IsMove p m c → q ≡ after p m c → m.from < 64 → m.to < 64 → has_any_right p.rights ≡ false → moves_pawn p m ≡ false → is_capture p m ≡ false → IsQuietAfter p q m
 by_rule p q m Plain r e lf lt rights a b = record {
   men = ap (λ (x : Parts). x.men) e ∙ (after_plain p m).0;
   side = ap (λ (x : Parts). x.side) e ∙ (after_plain p m).1;
@@ -273,7 +273,7 @@ by_rule p q m PawnCapture r e lf lt rights a b = absurd (pawn_moves p m r.stands
 by_rule p q m EnPassant r e lf lt rights a b = absurd (pawn_moves p m r.stands a)
 by_rule p q m (Castle wing) r e lf lt rights a b = absurd (false≢true (sym (no_right p.rights p.side wing rights) ∙ r.right))
 
-pub quiet_after : (p q : Parts) (m : Move) → has_rights p.rights ≡ false → is_quiet p m ≡ true → position_after p m ≡ Some q → IsQuietAfter p q m
+pub quiet_after : (p q : Parts) (m : Move) → has_any_right p.rights ≡ false → is_quiet p m ≡ true → position_after p m ≡ Some q → IsQuietAfter p q m
 unfolding is_quiet
 quiet_after p q m rights quiet e =
     let both = and_parts (not (moves_pawn p m)) (not (is_capture p m)) quiet in

@@ -1,10 +1,9 @@
 -- Where a game stands, carried on by one move.
-use Rattle.std.proofs.Common.{◌≡◌, ◌∙◌, sym, ap, subst, refl, ℕ, zero, suc, ◌+◌, ◌-◌, ◌<◌, ◌≤◌, Bool, true, false, cond, ◌&&◌, ◌||◌, ◌==◌, List, [], ◌∷◌, ◌++◌, length, length-append, take, Option, Some, None, inl, inr, arith, ⊎_elim}
+use Rattle.std.proofs.Common.{◌≡◌, ◌∙◌, sym, ap, subst, refl, ℕ, zero, suc, ◌+◌, ◌-◌, ◌<◌, ◌≤◌, Bool, true, false, cond, ◌&&◌, ◌||◌, List, [], ◌∷◌, ◌++◌, length, length-append, take, Option, Some, None, arith, ⊎_elim}
 use Rattle.std.specs.Prelude.{nat_le, nat_lt}
 use Rattle.std.specs.Option.{option_and_then}
-use Rattle.std.proofs.lemmas.Bool.{cases_Bool, cases_lt, le-leb, lt-leb, lt-ltb, le-ltb, leb-true, eqb-true, cond-true, cond-false}
+use Rattle.std.proofs.lemmas.Bool.{cases_lt, le-leb, lt-leb, lt-ltb, le-ltb, eqb-true, cond-true, cond-false}
 use Rattle.std.proofs.lemmas.List.{take-append-le, take_all}
-use Rattle.std.proofs.lemmas.List.Sums.{fold-append}
 use Rattle.board_core.specs.declared.parts.Parts.{Parts}
 use Rattle.board_core.specs.declared.moves.Move.{Move}
 use Rattle.board_core.specs.ComputedMoves.{position_after}
@@ -13,7 +12,7 @@ use Rattle.board_core.specs.declared.verdict.Verdict.TheVariants.{WhiteMates, Bl
 use Rattle.board_core.specs.Verdicts.{code_of}
 use Rattle.judge_core.specs.Ruling.{ruling}
 use Rattle.board_core.specs.Delays.{most_delay}
-use Rattle.judge_core.specs.Games.{position_after_all, judged_after, Rules, is_end, is_judged, has_stood, verdict_by, verdict_after}
+use Rattle.judge_core.specs.Games.{judged_after, Rules, is_end, is_judged, has_stood, verdict_by, verdict_after}
 use Rattle.judge_core.proofs.Plies.{starts, goes_on}
 use Rattle.judge_core.specs.Standings.{Reached, IsAt, HasStood, plies_by, verdict_of}
 

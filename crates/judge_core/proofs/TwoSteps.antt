@@ -25,7 +25,7 @@ use Rattle.judge_core.specs.LookUp.{is_material, material_of, is_exchanged, plac
 use Rattle.judge_core.specs.Tables.{Tables, AreFiled, table_at}
 use Rattle.judge_core.specs.Asked.{asked, fault_in, unless}
 use Rattle.judge_core.specs.Probing.{weighed_by, wdl_of, worth}
-use Rattle.board_core.specs.Castling.{has_rights}
+use Rattle.board_core.specs.Castling.{has_any_right}
 use Rattle.judge_core.specs.Ruling.{is_out_of_scope}
 use Rattle.judge_core.specs.Distances.{Reach, zeroing, towards, is_by_capture, is_quiet, move_counts, by_counts, by_quiet_moves, by_table, by_material, by_own_table, by_moves, by_outcome, by_weighed, dtz_by, dtz_to, dtz_of}
 use Rattle.judge_core.proofs.SameTable.{quiet_after, material_kept, other_side_asked}
@@ -136,7 +136,7 @@ known_key p key e = found_below (is_material (men_on p.men)) 0 145 key e
 
 -- ---- the law
 
-module _ (tables : Tables) (filed : AreFiled tables) (p : Parts) (position : IsPosition p) (rights : has_rights p.rights ≡ false) where
+module _ (tables : Tables) (filed : AreFiled tables) (p : Parts) (position : IsPosition p) (rights : has_any_right p.rights ≡ false) where
   module _ (key : ℕ) (t : Contents) (m : material_of p ≡ Some key) (at : table_at tables Dtz key ≡ Some t) (unstored : stores t (placed_of key p).side (placed_of key p).file ≡ false) (move : Move) (q : Parts) (quiet : is_quiet p move ≡ true) (e : position_after p move ≡ Some q) where
     unsymmetric : is_symmetric key ≡ false
     unsymmetric = ap is_symmetric (sym (filed Dtz key t (known_key p key m) at).1) ∙ (other_stored t (placed_of key p).side (placed_of key p).file (two_sides key p) unstored).1
@@ -163,9 +163,9 @@ module _ (tables : Tables) (filed : AreFiled tables) (p : Parts) (position : IsP
   unfolding dtz_of dtz_to
   meets_rules = same_rules tables (dtz_to tables 1) (dtz_of tables) p (λ key t m at unstored move q quiet e. one_is_enough key t m at unstored move q quiet e)
 
-no_rights : (p : Parts) → is_out_of_scope p ≡ false → has_rights p.rights ≡ false
+no_rights : (p : Parts) → is_out_of_scope p ≡ false → has_any_right p.rights ≡ false
 unfolding is_out_of_scope
-no_rights p e = by_right (has_rights p.rights) (nat_lt 5 (count_of_men p)) e
+no_rights p e = by_right (has_any_right p.rights) (nat_lt 5 (count_of_men p)) e
   where
     by_right : (a b : Bool) → (a || b) ≡ false → a ≡ false
     by_right true b h = h

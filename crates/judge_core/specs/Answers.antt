@@ -1,12 +1,17 @@
 -- What the calls of a set answer.
-use Rattle.std.specs.Prelude.{◌≡◌, ◌≢◌, ℕ, ℤ, Bool, true, false, List, Result, Ok, Err, codes}
+use Rattle.std.specs.Prelude.{◌≡◌, ◌≢◌, ◌⊎◌, ◌<◌, ℕ, ℤ, Bool, true, false, List, Result, Ok, Err, codes}
+use Rattle.board_core.specs.declared.parts.Parts.{Parts}
+use Rattle.board_core.specs.ComputedMoves.{count_of_men}
 use Rattle.judge_core.specs.declared.fault.ValueFault.{ValueFault}
+use Rattle.judge_core.specs.declared.found.Weighed.{Weighed}
 use Rattle.judge_core.specs.declared.fault.ValueFault.TheVariants.{NotCovered as Missing, Damaged as Broken}
 use Rattle.judge_core.specs.declared.fault.ProbeFault.{ProbeFault}
 use Rattle.judge_core.specs.declared.fault.ProbeFault.TheVariants.{OutOfScope, NotCovered, Damaged, OutOfMemory}
-use Rattle.judge_core.specs.declared.wdl.Wdl.TheVariants.{Draw}
+use Rattle.judge_core.specs.declared.wdl.Wdl.TheVariants.{Loss, Draw, Win}
 use Rattle.judge_core.specs.Values.{Reading}
-use Rattle.judge_core.specs.Distances.{Reach, signed}
+use Rattle.judge_core.specs.Tables.{Tables}
+use Rattle.judge_core.specs.Probing.{wdl_of, weighed_by, worth}
+use Rattle.judge_core.specs.Distances.{Reach, is_by_capture, signed}
 
 -- The probe answers what the tables tell, unless the position is out of their scope or memory was refused.
 abbrev pub IsProbe : {X : Type 0} → Result X ProbeFault → Bool → Result X ValueFault → Type 0
@@ -16,10 +21,18 @@ IsProbe (Err (NotCovered key)) outside reading = (outside ≡ false) × (reading
 IsProbe (Err (Damaged key)) outside reading = (outside ≡ false) × (reading ≡ Err (Broken key))
 IsProbe (Err OutOfMemory) outside reading = outside ≡ false
 
--- the value is there and no draw: only then is a distance looked for
-abbrev pub IsNoDraw : Reading → Type 0
-IsNoDraw (Ok v) = v ≢ Draw
-IsNoDraw (Err fault) = ⊥
+-- what is weighed is there, no draw, and not by a capture
+abbrev pub IsLeftOpen : Result Weighed ValueFault → Type 0
+IsLeftOpen (Ok w) = (worth w ≢ Draw) × (is_by_capture w ≡ false)
+IsLeftOpen (Err fault) = ⊥
+
+-- more than two men whose value is there, no draw, and not by a capture: only then moves are listed
+abbrev pub ListsMoves : Tables → Parts → Type 0
+ListsMoves tables p = (2 < count_of_men p) × IsLeftOpen (weighed_by tables (wdl_of tables) p)
+
+-- the value is there and a win or a loss: only then a verdict asks for a distance
+abbrev pub IsDecisive : Reading → Type 0
+IsDecisive reading = (reading ≡ Ok Win) ⊎ (reading ≡ Ok Loss)
 
 -- a distance as a number
 abbrev pub signed_in : Reach → Result ℤ ValueFault

@@ -1,10 +1,10 @@
 -- The verdict on a position (FIDE articles 5.1.1 and 5.2.1; by tables this project's own).
-use Rattle.std.specs.Prelude.{ℕ, ◌+◌, nat_lt, nat_le, Bool, ◌||◌, Option, Some, None, Ok, Err, if◌then◌else◌}
+use Rattle.std.specs.Prelude.{◌+◌, nat_lt, nat_le, Bool, ◌||◌, Option, Some, None, Ok, Err, if◌then◌else◌}
 use Rattle.board_core.specs.declared.parts.Parts.{Parts}
 use Rattle.board_core.specs.declared.piece.Side.{Side}
 use Rattle.board_core.specs.declared.piece.Side.TheVariants.{White, Black}
 use Rattle.board_core.specs.Side.{other}
-use Rattle.board_core.specs.Castling.{has_rights}
+use Rattle.board_core.specs.Castling.{has_any_right}
 use Rattle.board_core.specs.Computed.{is_in_check}
 use Rattle.board_core.specs.ComputedMoves.{legal_moves, count_of_men}
 use Rattle.judge_core.specs.declared.wdl.Wdl.TheVariants.{Loss, BlessedLoss, Draw, CursedWin, Win}
@@ -32,7 +32,7 @@ end_of p = if is_in_check p.men p.side then mate_of p.side else Stalemate
 
 -- the tables know no castling and no more than five men
 unfoldable pub is_out_of_scope : Parts → Bool
-is_out_of_scope p = has_rights p.rights || nat_lt 5 (count_of_men p)
+is_out_of_scope p = has_any_right p.rights || nat_lt 5 (count_of_men p)
 
 abbrev pub won_by : Side → Verdict
 won_by White = TableWhite

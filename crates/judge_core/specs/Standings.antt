@@ -1,5 +1,5 @@
 -- Where a game stands after its moves, as it is carried from ply to ply.
-use Rattle.std.specs.Prelude.{◌≡◌, ℕ, ◌+◌, ◌≤◌, nat_le, nat_lt, Bool, cond, ◌&&◌, ◌||◌, List, length, Option, Some, None}
+use Rattle.std.specs.Prelude.{◌≡◌, ℕ, ◌+◌, ◌≤◌, nat_le, nat_lt, cond, ◌&&◌, ◌||◌, List, length, Option, Some, None}
 use Rattle.board_core.specs.declared.parts.Parts.{Parts}
 use Rattle.board_core.specs.declared.moves.Move.{Move}
 use Rattle.board_core.specs.declared.verdict.Verdict.{Verdict}

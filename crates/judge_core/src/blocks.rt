@@ -1,6 +1,6 @@
 //! Decoded blocks.
 
-ghost use Rattle.std.specs.Prelude.{◌≡◌, ◌<◌, ◌≤◌, ◌*◌, [], length, IfOk};
+ghost use Rattle.std.specs.Prelude.{◌≡◌, ◌<◌, ◌≤◌, ◌*◌, length, IfOk};
 ghost use Rattle.judge_core.specs.Blocks.{IsNew};
 
 use lru::LruCache;

@@ -1,6 +1,6 @@
 //! What is counted on the way through the moves of a position.
 
-ghost use Rattle.std.specs.Prelude.{◌≡◌, ◌≤◌, IfOk, IfSome, max};
+ghost use Rattle.std.specs.Prelude.{◌≡◌, max};
 ghost use Rattle.judge_core.specs.Distances.{plies, lesser};
 ghost use Rattle.judge_core.specs.Inside.Counts.{no_steps, with_reading, steps_told, no_counts, with_count, counts_told, AreWithin};
 

@@ -8,8 +8,7 @@ ghost use Rattle.judge_core.specs.Tables.{AreFiled, table_at};
 ghost use Rattle.judge_core.specs.Blocks.{AreRight};
 ghost use Rattle.judge_core.specs.Distances.{plies, pawns_reach, move_counts, by_quiet_moves, distance_in, stored, by_own_table, by_moves, by_weighed, dtz_to, dtz_of};
 ghost use Rattle.judge_core.specs.Ruling.{is_out_of_scope};
-ghost use Rattle.judge_core.specs.Probing.{wdl_of, worth_in};
-ghost use Rattle.judge_core.specs.Answers.{IsNoDraw, IsProbe, signed_in};
+ghost use Rattle.judge_core.specs.Answers.{IsLeftOpen, IsProbe, ListsMoves, signed_in};
 ghost use Rattle.judge_core.specs.declared.fault.ProbeFault.TheVariants.{OutOfMemory};
 
 use crate::blocks::Blocks;
@@ -233,7 +232,7 @@ impl<'a> Shelf<'a> {
         requires right { AreRight self.now blocks.old }
         ensures right { AreRight self.now blocks.new }
         ensures is { IfOk result (λ reach. reach ≡ by_weighed self.now.tables (dtz_to self.now.tables left) position.now weighed.now) }
-        ensures memory { OnErr result (IsNoDraw (worth_in weighed.now)) }
+        ensures memory { OnErr result (IsLeftOpen weighed.now) }
         ensures within { IfOk result (λ reach. IfOk reach (λ d. plies d ≤ 131172 + left)) }
     {
         let weighed = match weighed {
@@ -264,7 +263,7 @@ impl<'a> Shelf<'a> {
         requires right { AreRight self.now blocks.old }
         ensures right { AreRight self.now blocks.new }
         ensures is { IfOk result (λ reach. reach ≡ dtz_to self.now.tables left position.now) }
-        ensures memory { OnErr result (IsNoDraw (wdl_of self.now.tables position.now)) }
+        ensures memory { OnErr result (ListsMoves self.now.tables position.now) }
         ensures within { IfOk result (λ reach. IfOk reach (λ d. plies d ≤ 131171 + left)) }
     {
         if left == 0 || position.men() <= 2 {
@@ -286,7 +285,7 @@ impl<'a> Shelf<'a> {
         requires right { AreRight self.now blocks.old }
         ensures right { AreRight self.now blocks.new }
         ensures is { IfOk result (λ reach. reach ≡ dtz_of self.now.tables position.now) }
-        ensures memory { OnErr result (IsNoDraw (wdl_of self.now.tables position.now)) }
+        ensures memory { OnErr result (ListsMoves self.now.tables position.now) }
         ensures within { IfOk result (λ reach. IfOk reach (λ d. plies d ≤ 131173)) }
     {
         self.dtz_to(blocks, alloc, position, 2)
@@ -302,11 +301,11 @@ impl<'a> Set<'a> {
     /// of the WDL probe; for a win those after all pawn moves that take nothing; the own DTZ table; and where that stores
     /// the other side alone, the distances after all moves that neither take a man nor move a pawn, but not after a mating
     /// move where the side to move wins. A table that contradicts itself there is damaged. `OutOfMemory` comes only where memory
-    /// for a list of moves is refused, at a position in scope whose WDL value is there and no draw. The set stays as it was but
-    /// for its cache.
+    /// for a list of moves is refused, at a position in scope whose WDL value is there, no draw, and not by a capture. The set
+    /// stays as it was but for its cache.
     pub fn dtz(&mut self, alloc: Global, position: &Position) -> Result<i32, ProbeFault>
         ensures answer { IsProbe result (is_out_of_scope position.now) (signed_in (dtz_of self.old.tables position.now)) }
-        ensures memory { result ≡ Err OutOfMemory → IsNoDraw (wdl_of self.old.tables position.now) }
+        ensures memory { result ≡ Err OutOfMemory → ListsMoves self.old.tables position.now }
         ensures filed { AreFiled self.old.tables }
         ensures unchanged { self.new ≡ self.old }
     {

@@ -1,9 +1,9 @@
 //! The first verdict of a game.
 
-ghost use Rattle.std.specs.Prelude.{◌≡◌, ◌≤◌, ℕ, take, IfOk};
+ghost use Rattle.std.specs.Prelude.{◌≡◌, ◌≤◌, take, IfOk};
 ghost use Rattle.judge_core.specs.Tables.{AreFiled};
 ghost use Rattle.board_core.specs.Delays.{most_delay};
-ghost use Rattle.judge_core.specs.Games.{Rules, IsOutcome, plies_to};
+ghost use Rattle.judge_core.specs.Games.{IsOutcome, plies_to};
 ghost use Rattle.judge_core.specs.Standings.{IsAt};
 
 use crate::set::Set;

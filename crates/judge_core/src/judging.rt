@@ -2,7 +2,7 @@
 
 ghost use Rattle.std.specs.Prelude.{◌≡◌, false, IfOk, OnErr};
 ghost use Rattle.judge_core.specs.Tables.{AreFiled};
-ghost use Rattle.judge_core.specs.Answers.{IsNoDraw};
+ghost use Rattle.judge_core.specs.Answers.{IsDecisive, ListsMoves};
 ghost use Rattle.judge_core.specs.Ends.{has_no_move};
 ghost use Rattle.judge_core.specs.Probing.{wdl_of};
 ghost use Rattle.judge_core.specs.Ruling.{is_out_of_scope, ruling};
@@ -23,7 +23,7 @@ impl<'a> Set<'a> {
     /// a table that is needed and damaged stops the game; there is none where one that is needed isn't in the set. By the
     /// tables a draw is one; a win or a loss is one where the halfmove clock and the distance in plies, as `dtz` tells it, are
     /// 99 at most together. All else has no verdict. The error comes only where memory for a list of moves is refused, at a
-    /// position in scope with a legal move, whose WDL value is there and no draw. The set stays as it was but for its cache.
+    /// position in scope with a legal move, whose WDL value is there, a win or a loss, and not by a capture. The set stays as it was but for its cache.
     #[tactic(auto, unfolding(crate::specs::Ruling::ruling))]
     pub fn judge(
         &mut self,
@@ -31,7 +31,7 @@ impl<'a> Set<'a> {
         position: &Position,
     ) -> Result<Option<Verdict>, AllocError>
         ensures value { IfOk result (λ verdict. verdict ≡ ruling self.old.tables position.now) }
-        ensures memory { OnErr result ((has_no_move (legal_moves position.now) ≡ false) × (is_out_of_scope position.now ≡ false) × IsNoDraw (wdl_of self.old.tables position.now)) }
+        ensures memory { OnErr result ((has_no_move (legal_moves position.now) ≡ false) × (is_out_of_scope position.now ≡ false) × IsDecisive (wdl_of self.old.tables position.now) × ListsMoves self.old.tables position.now) }
         ensures filed { AreFiled self.old.tables }
         ensures unchanged { self.new ≡ self.old }
     {

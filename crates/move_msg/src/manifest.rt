@@ -1,10 +1,10 @@
 //! Manifests of tables.
 
-ghost use Rattle.std.specs.Prelude.{◌≡◌, ◌≢◌, ◌<◌, ◌++◌, ◌∷◌, ◌⊎◌, ◌↔◌, [], ℕ, List, map, length, slice_index, IsTrue, IfSome, IfNone, IfOk, IfErr, OnOk, IsErrOf};
+ghost use Rattle.std.specs.Prelude.{◌≡◌, ◌<◌, ◌++◌, ◌⊎◌, ◌↔◌, ℕ, List, map, length, slice_index, IsTrue, IfSome, IfNone, IfOk, IfErr, OnOk, IsErrOf};
 ghost use Rattle.hex.specs.Hex.{encode_lower};
 ghost use Rattle.move_msg.specs.declared.manifest.ManifestFault.{ManifestFault};
 ghost use Rattle.move_msg.specs.declared.manifest.ManifestFault.TheVariants.{BadLine, OutOfMemory};
-ghost use Rattle.move_msg.specs.Manifests.{Entry, AreEntries, IsEntry, IsAfter, IsBefore, IsFirstBadLine, HasFirstLine, SpellsManifest, entry_of, entry_text, line_text, lines_text};
+ghost use Rattle.move_msg.specs.Manifests.{Entry, AreEntries, IsEntry, IsAfter, IsBefore, IsFirstBadLine, HasFirstLine, SpellsManifest, entry_of, entry_text, line_text};
 ghost use Rattle.move_msg.specs.Files.{AreFiles, entries_of, entry_for, file_of};
 ghost use Rattle.move_msg.specs.TableNames.{IsFileName};
 

@@ -9,7 +9,7 @@ ghost use Rattle.move_msg.specs.declared.record_bytes.RecordFault.{RecordFault};
 ghost use Rattle.move_msg.specs.declared.record_bytes.RecordFault.TheVariants.{OutOfMemory};
 ghost use Rattle.board_core.specs.Delays.{most_delay};
 ghost use Rattle.move_msg.specs.Numbers.{most_moves};
-ghost use Rattle.move_msg.specs.Records.{AppendsMoves, SpellsRecord, WritesRecord, SpellsMoves, HasCounts, HasFront, HasRecordHead, HasRecordLayout, IsFirstRecordFault, body_in, body_text, code_or_none, delay_in, record_frame, record_fault_name, words_at};
+ghost use Rattle.move_msg.specs.Records.{AppendsMoves, SpellsRecord, WritesRecord, SpellsMoves, HasCounts, HasRecordHead, HasRecordLayout, IsFirstRecordFault, body_in, body_text, code_or_none, delay_in, record_frame, record_fault_name, words_at};
 ghost use Rattle.move_msg.specs.Words.{SpellsWord};
 ghost use Rattle.move_msg.specs.Inside.Layouts.{header_at};
 

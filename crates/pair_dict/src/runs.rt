@@ -1,6 +1,6 @@
 //! Codes that stand one after the other in a few bits.
 
-ghost use Rattle.std.specs.Prelude.{◌≡◌, ◌+◌, ◌*◌, ◌^◌, ◌<◌, ◌≤◌, length, IfOk};
+ghost use Rattle.std.specs.Prelude.{◌≡◌, ◌+◌, ◌^◌, ◌<◌, ◌≤◌, length, IfOk};
 ghost use Rattle.pair_dict.specs.Symbols.{symbol_count};
 ghost use Rattle.pair_dict.specs.Inside.Counts.{AreCounts};
 ghost use Rattle.pair_dict.specs.Reading.{words};

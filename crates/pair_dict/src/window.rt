@@ -1,6 +1,6 @@
 //! Bits of a block.
 
-ghost use Rattle.std.specs.Prelude.{List, ◌≡◌, ◌+◌, ◌-◌, ◌*◌, ◌/◌, ◌%◌, ◌^◌, ◌<◌, ◌≤◌, ℕ, length, drop};
+ghost use Rattle.std.specs.Prelude.{◌≡◌, ◌+◌, ◌-◌, ◌*◌, ◌/◌, ◌%◌, ◌^◌, ◌<◌, ◌≤◌, ℕ, length, drop};
 ghost use Rattle.pair_dict.specs.Codes.{bits, number_of};
 ghost use Rattle.pair_dict.specs.Inside.Windows.{IsWord, IsWindow, Shows};
 

@@ -1,6 +1,6 @@
 //! The numbers of the groups.
 
-ghost use Rattle.std.specs.Prelude.{◌≡◌, ◌<◌, ◌≤◌, ◌+◌, ◌++◌, ◌∷◌, ℕ, length, slice_index, false, cond};
+ghost use Rattle.std.specs.Prelude.{◌≡◌, ◌<◌, ◌≤◌, ◌+◌, ◌++◌, ℕ, length, slice_index, false};
 ghost use Rattle.place_index.specs.Choose.{set_number, IsFallingBelow};
 ghost use Rattle.place_index.specs.Inside.Groups.{ArePawnsAt, IsLeadTurned};
 ghost use Rattle.place_index.specs.Index.{IsPlacement, first_square, lead_codes, lead_pawns_number, lead_number, squares_of_all};

@@ -1,6 +1,6 @@
 //! The squares of one kind of men, and their pawn numbers.
 
-ghost use Rattle.std.specs.Prelude.{◌≡◌, ◌<◌, ◌≤◌, ◌+◌, length, slice_index, ℕ, true};
+ghost use Rattle.std.specs.Prelude.{◌≡◌, ◌<◌, ◌≤◌, length, ℕ, true};
 ghost use Rattle.place_index.specs.Inside.Groups.{AreMen};
 ghost use Rattle.place_index.specs.Men.{stands, squares_of};
 ghost use Rattle.place_index.specs.Pawns.{pawn_number, pawn_numbers_of, pawn_square};

@@ -1,6 +1,6 @@
 //! The tables of files, and their manifest.
 
-ghost use Rattle.std.specs.Prelude.{◌≡◌, ◌≤◌, ◌⊎◌, List, map, IfOk, IfErr, Ok, Err};
+ghost use Rattle.std.specs.Prelude.{◌≡◌, ◌≤◌, ◌⊎◌, map, IfOk, IfErr, Ok, Err};
 ghost use Rattle.relay_world.specs.declared.fault.WorldFault.TheVariants.{OutOfMemory};
 ghost use Rattle.relay_world.specs.Gathering.{filled, found_in, tables_of, tables_from, with_table};
 

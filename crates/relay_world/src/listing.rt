@@ -1,8 +1,7 @@
 //! The manifest of files, in whatever order they are given.
 
-ghost use Rattle.std.specs.Prelude.{◌≡◌, ◌↔◌, ℕ, List, map, take, drop, ◌++◌, ◌∷◌, length, IfOk, OnOk, IsOk, IsTrue};
-ghost use Rattle.move_msg.specs.Files.{entry_for};
-ghost use Rattle.move_msg.specs.Manifests.{AreEntries, Entry, IsAfter, IsBefore, IsEntry, entry_of};
+ghost use Rattle.std.specs.Prelude.{◌≡◌, ◌↔◌, map, IfOk, IsTrue};
+ghost use Rattle.move_msg.specs.Manifests.{IsBefore, entry_of};
 ghost use Rattle.move_msg.specs.TableNames.{IsFileName};
 ghost use Rattle.relay_world.specs.Gathering.{AreTables, IsNew, IsManifestOf, Inserts};
 

@@ -1,6 +1,6 @@
 -- The expanded table at a spot.
 use Rattle.std.proofs.Common.{◌≡◌, ℕ, zero, suc, ◌-◌, ◌+◌, ◌*◌, ◌/◌, ◌≤◌, ◌<◌, List, [], ◌∷◌, ◌++◌, length, get_or, take, drop, sum, map, replicate, Option, Some, None, refl, ap, ◌∙◌, arith}
-use Rattle.std.specs.Prelude.{slice_get, OnErr, Result, Ok, Err}
+use Rattle.std.specs.Prelude.{slice_get}
 use Rattle.std.proofs.lemmas.List.{length-append, length-take, length-map, length-replicate, drop-drop, take-take, get_or-take}
 use Rattle.table_file.specs.Sparse.{sizes_of, values_before, IsSpotIn}
 use Rattle.table_file.proofs.Before.{length-sizes}
@@ -83,14 +83,6 @@ spot_none c lengths blocks index b off few spot le = spot_value c lengths blocks
 
 pub past_none : (c : Figures) (lengths blocks : List ℕ) (index : ℕ) → values_before (sizes_of lengths) c.blocks ≤ index → known (slice_get (joined c (take c.blocks (sizes_of lengths)) blocks) index) ≡ None
 past_none c lengths blocks index le = expanded_past c (take c.blocks (sizes_of lengths)) blocks index le
-
-pub on_err : {A E P Q : Type 0} (r : Result A E) → OnErr r P → (P → Q) → OnErr r Q
-on_err (Ok x) h f = tt
-on_err (Err e) h f = f h
-
-pub always_err : {A E Q : Type 0} (r : Result A E) → Q → OnErr r Q
-always_err (Ok x) q = tt
-always_err (Err e) q = q
 
 pub is_past : (c : Figures) (lengths blocks : List ℕ) (index : ℕ) → values_before (sizes_of lengths) c.blocks ≤ index → length (joined c (take c.blocks (sizes_of lengths)) blocks) ≤ index
 is_past c lengths blocks index le = omega (arith, length-joined c (take c.blocks (sizes_of lengths)) blocks, le)

@@ -1,6 +1,6 @@
 //! What a material says of its table files.
 
-ghost use Rattle.std.specs.Prelude.{◌≡◌, ◌≤◌, ◌<◌, length};
+ghost use Rattle.std.specs.Prelude.{◌≡◌, ◌≤◌, length};
 ghost use Rattle.place_index.specs.Material.{pieces_of};
 ghost use Rattle.place_index.specs.Shape.{has_pawns, both_have_pawns, greatest_size};
 ghost use Rattle.table_file.specs.Files.{is_symmetric, sides_of, files_of, indices};

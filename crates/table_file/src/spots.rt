@@ -1,9 +1,8 @@
 //! Where values stand among the blocks, and reading them.
 
-ghost use Rattle.std.specs.Prelude.{◌≡◌, ◌+◌, ◌-◌, ◌*◌, ◌/◌, ◌^◌, ◌<◌, ◌≤◌, ◌⊎◌, ℕ, length, slice_index, take, drop, IfOk, OnErr, Some, None};
-ghost use Rattle.place_index.specs.Shape.{greatest_size};
+ghost use Rattle.std.specs.Prelude.{◌≡◌, ◌+◌, ◌-◌, ◌*◌, ◌/◌, ◌^◌, ◌<◌, ◌≤◌, ◌⊎◌, length, slice_index, take, drop, IfOk, OnErr, Some, None};
 ghost use Rattle.table_file.specs.Figures.{block_size, span, points};
-ghost use Rattle.table_file.specs.Sparse.{are_entries, entry_block, entry_offset, sizes_of, values_before, IsSpotIn};
+ghost use Rattle.table_file.specs.Sparse.{sizes_of, values_before, IsSpotIn};
 ghost use Rattle.table_file.specs.Expansion.{entry_at, expanded, values_in, blocks_in, IsSpotOf, IsShort, IsPast};
 ghost use Rattle.table_file.specs.Inside.Checked.{IsChecked, AreChecked};
 ghost use Rattle.table_file.specs.Tables.{coding_span};

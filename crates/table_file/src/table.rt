@@ -1,6 +1,6 @@
 //! Opened table files.
 
-ghost use Rattle.std.specs.Prelude.{◌≡◌, ◌≢◌, ◌+◌, ◌/◌, ◌<◌, ◌≤◌, length, slice_get, Some, None, IsTrue, IsOk, IfOk, IfErr, OnErr, ◌↔◌};
+ghost use Rattle.std.specs.Prelude.{◌≡◌, ◌≢◌, ◌+◌, ◌/◌, ◌<◌, ◌≤◌, length, Some, None, IsTrue, IsOk, IfOk, IfErr, OnErr, ◌↔◌};
 ghost use Rattle.place_index.specs.Shape.{Layout, size_of};
 ghost use Rattle.table_file.specs.declared.fault.TableFault.TheVariants.{OutOfMemory};
 ghost use Rattle.table_file.specs.declared.kind.Kind.TheVariants.{Dtz};
@@ -10,7 +10,7 @@ ghost use Rattle.table_file.specs.Reading.{Gives};
 ghost use Rattle.table_file.specs.Sparse.{all_fit};
 ghost use Rattle.table_file.specs.Sections.{AreShaped, AreSized};
 ghost use Rattle.table_file.specs.Inside.Checked.{IsChecked, IsViewOf};
-ghost use Rattle.table_file.specs.Tables.{Contents, head_at, sections_at, parts_at, table_at, part_count, place_of, part_of, lengths_of, blocks_of, shape_of, flags_of, span_of, IsFile};
+ghost use Rattle.table_file.specs.Tables.{Contents, head_at, sections_at, parts_at, table_at, part_count, place_of, shape_of, flags_of, span_of, IsFile};
 ghost use Rattle.table_file.specs.Layouts.{IsLayout};
 ghost use Rattle.table_file.specs.FirstFaults.{IsFirstFault};
 ghost use Rattle.table_file.specs.Expansion.{expansion, entry_at, real_blocks, values_of, IsSpot, IsRealSpot, IsPast};

@@ -1,12 +1,12 @@
 //! Blocks, their lengths, and sparse entries.
 
-ghost use Rattle.std.specs.Prelude.{◌≡◌, ◌≤◌, ◌<◌, ◌+◌, ◌++◌, ◌-◌, ◌*◌, ◌/◌, ◌^◌, ◌↔◌, ℕ, length, map, take, drop, IfOk, OnOk, IfSome, IfNone, IsTrue, replicate};
-ghost use Rattle.std.specs.List.{All, flat_map};
-ghost use Rattle.pair_dict.specs.Symbols.{values_of, symbol_count};
+ghost use Rattle.std.specs.Prelude.{◌≡◌, ◌≤◌, ◌<◌, ◌+◌, ◌++◌, ◌-◌, ◌*◌, ◌/◌, ◌^◌, ◌↔◌, length, map, IfOk, OnOk, IfSome, IfNone, IsTrue, replicate};
+ghost use Rattle.std.specs.List.{All};
+ghost use Rattle.pair_dict.specs.Symbols.{symbol_count};
 ghost use Rattle.pair_dict.specs.Codes.{number_of};
-ghost use Rattle.table_file.specs.Plan.{symbol_bytes, count_of, code_of, codes_size, last_point, FitsBlock, AreGoodFigures, AreGoodCodes, AreGoodBlocks};
+ghost use Rattle.table_file.specs.Plan.{symbol_bytes, count_of, code_of, last_point, FitsBlock, AreGoodFigures, AreGoodCodes, AreGoodBlocks};
 ghost use Rattle.table_file.specs.Inside.Writing.{AreCountsOf, sum_of, IsReached, IsHeld};
-ghost use Rattle.table_file.specs.PlannedFile.{padding_for, cut_lengths, spot_among, entry_bytes, entries_bytes, codes_number, bytes_of, block_bytes, blocks_bytes};
+ghost use Rattle.table_file.specs.PlannedFile.{padding_for, cut_lengths, spot_among, entry_bytes, entries_bytes, bytes_of, block_bytes, blocks_bytes};
 
 use super::codes::{Code, code_of};
 use crate::plan::PairsPlan;

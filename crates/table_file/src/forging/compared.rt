@@ -1,6 +1,6 @@
 //! Whether an opened file says what a plan says.
 
-ghost use Rattle.std.specs.Prelude.{◌≡◌, ◌≢◌, ◌<◌, IfOk, IfErr, IsTrue, length, map, Some, ◌↔◌};
+ghost use Rattle.std.specs.Prelude.{◌≡◌, ◌<◌, IfOk, IsTrue, length, map, Some, ◌↔◌};
 ghost use Rattle.table_file.specs.Inside.Checked.{IsChecked};
 ghost use Rattle.table_file.specs.Expansion.{expanded, listed};
 ghost use Rattle.table_file.specs.Plan.{planned_shape, planned_expansion, planned_maps, planned_maps_of, map_bytes, is_wide, HasEnough, IsGoodMap, AreGoodMaps, IsGoodPlan};

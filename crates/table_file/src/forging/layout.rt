@@ -1,6 +1,6 @@
 //! The bytes of a planned file.
 
-ghost use Rattle.std.specs.Prelude.{◌≡◌, ◌≢◌, ◌≤◌, ◌+◌, ◌++◌, ◌*◌, ◌^◌, ◌<◌, ◌∷◌, ◌/◌, ◌↔◌, [], List, ℕ, true, false, length, replicate, IsSome, IsTrue, IfOk, OnOk, IfSome, IfNone, slice_index, slice_get, Some};
+ghost use Rattle.std.specs.Prelude.{◌≡◌, ◌≤◌, ◌+◌, ◌++◌, ◌*◌, ◌^◌, ◌<◌, ◌∷◌, ◌/◌, ◌↔◌, [], ℕ, true, false, length, IsSome, IsTrue, IfOk, OnOk, IfSome, IfNone, slice_get, Some};
 ghost use Rattle.std.specs.List.{flat_map, All};
 ghost use Rattle.std.specs.Int.{w32, to_le_bytes};
 ghost use Rattle.table_file.specs.declared.plan.Content.{Content};
@@ -8,9 +8,9 @@ ghost use Rattle.table_file.specs.declared.plan.PartPlan.{PartPlan};
 ghost use Rattle.pair_dict.specs.Reading.{falls};
 ghost use Rattle.pair_dict.specs.Symbols.{AllHaveValues};
 ghost use Rattle.place_index.specs.Shape.{size_of, greatest_size, both_have_pawns, HasGoodPieces, HasGoodOrder};
-ghost use Rattle.table_file.specs.Plan.{planned_shape, symbol_bytes, map_bytes, is_wide, has_maps, last_point, AreGoodFigures, AreGoodCodes, AreGoodBlocks, FitsBlock, AreGoodPairs, AreGoodMaps, IsGoodMap, IsGoodSingle, IsGoodContent, IsGoodPart, IsGoodPlan, HasNoMaps};
-ghost use Rattle.table_file.specs.Files.{sides_of, files_of};
-ghost use Rattle.table_file.specs.PlannedFile.{Laid, filled_to, head_bytes, halves, piece_halves, second_bytes, setup_bytes, one_sided, two_sided, setups_bytes, word_bytes, dictionary_bytes, figures_bytes, planned_lengths, padding_for, planned_span, laid_content, laid_part, laid_parts, one_map_bytes, four_maps_bytes, with_maps, with_each_maps, with_all_maps, with_blocks, front_bytes, with_sections, ended, file_with, file_of};
+ghost use Rattle.table_file.specs.Plan.{planned_shape, symbol_bytes, is_wide, has_maps, last_point, AreGoodFigures, AreGoodCodes, AreGoodBlocks, FitsBlock, AreGoodPairs, AreGoodMaps, IsGoodMap, IsGoodSingle, IsGoodContent, IsGoodPart, IsGoodPlan, HasNoMaps};
+ghost use Rattle.table_file.specs.Files.{sides_of};
+ghost use Rattle.table_file.specs.PlannedFile.{Laid, filled_to, head_bytes, halves, piece_halves, setup_bytes, one_sided, two_sided, setups_bytes, word_bytes, dictionary_bytes, figures_bytes, planned_lengths, padding_for, planned_span, laid_content, laid_part, laid_parts, one_map_bytes, four_maps_bytes, with_maps, with_each_maps, with_all_maps, with_blocks, front_bytes, with_sections, ended, file_with, file_of};
 
 use super::blocks::{blocks_bytes, entries_of, fit_blocks, lengths_of, padded, padding_of};
 use super::codes::are_good_codes;

@@ -1,6 +1,6 @@
 //! The values that a plan lists.
 
-ghost use Rattle.std.specs.Prelude.{ℕ, List, ◌≡◌, ◌≢◌, ◌++◌, ◌≤◌, ◌<◌, ◌*◌, length, true, false, IfOk, IfErr, OnOk};
+ghost use Rattle.std.specs.Prelude.{ℕ, List, ◌≡◌, ◌++◌, ◌≤◌, ◌<◌, ◌*◌, length, true, false, IfOk, OnOk};
 ghost use Rattle.std.specs.List.{flat_map, All};
 ghost use Rattle.pair_dict.specs.Symbols.{symbol_count, values_of, left, right, HasValues, AllHaveValues};
 ghost use Rattle.table_file.specs.Inside.Writing.{AreCountsOf};

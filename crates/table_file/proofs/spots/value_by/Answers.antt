@@ -1,5 +1,6 @@
 use Rattle.std.proofs.Common.{arith}
-use Rattle.table_file.proofs.Expanded.{spot_value, spot_none, past_none, on_err}
+use Rattle.std.proofs.lemmas.Result.{on_err_weaker}
+use Rattle.table_file.proofs.Expanded.{spot_value, spot_none, past_none}
 use Rattle.table_file.proofs.spots.value_by.Goals as goal
 
 pub returns-in_default-clause-damaged : goal.returns-in_default-clause-damaged
@@ -16,4 +17,4 @@ pub returns-in-Ok-clause-damaged : goal.returns-in-Ok-clause-damaged
 returns-in-Ok-clause-damaged g c =
     let len = rw c.in-Pairs.is at c.requires.checked.lengths_fit in
     let f = rw (c.dictionary.ensures, c.block_of-block.ensures) at c.value.ensures.damaged in
-    rw c.in-Pairs.is (on_err c.value.result f (λ le. spot_none c.in-Pairs.codes c.args.view.lengths.now c.args.view.blocks.now c.args.index c.in-Ok.place.block c.in-Ok.place.offset (omega (arith, len)) c.in-Ok.ensures.found le))
+    rw c.in-Pairs.is (on_err_weaker c.value.result (λ le. spot_none c.in-Pairs.codes c.args.view.lengths.now c.args.view.blocks.now c.args.index c.in-Ok.place.block c.in-Ok.place.offset (omega (arith, len)) c.in-Ok.ensures.found le) f)

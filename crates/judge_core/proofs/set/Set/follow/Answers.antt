@@ -1,8 +1,7 @@
-use Rattle.std.proofs.Common.{◌≡◌, ◌∙◌, sym, ap, refl, arith, subst, length, take, List, [], ◌∷◌, ◌++◌, ℕ, ◌+◌}
+use Rattle.std.proofs.Common.{◌≡◌, ◌∙◌, sym, ap, refl, arith, subst, length, take, List, ℕ}
 use Rattle.board_core.specs.declared.parts.Parts.{Parts}
 use Rattle.board_core.specs.declared.moves.Move.{Move}
 use Rattle.board_core.specs.ComputedMoves.{position_after}
-use Rattle.judge_core.specs.declared.game.GameOutcome.{GameOutcome}
 use Rattle.judge_core.specs.Tables.{Holding}
 use Rattle.judge_core.specs.Games.{Rules, IsFirst, IsOutcome}
 use Rattle.judge_core.specs.Standings.{IsAt}

@@ -1,9 +1,10 @@
-use Rattle.std.proofs.Common.{rules, ◌≡◌, ◌<◌, ◌∙◌, sym, refl, ap, arith, Ok, Some}
+use Rattle.std.proofs.Common.{rules, ◌≡◌, ◌<◌, ◌∙◌, sym, subst, refl, ap, arith, Ok, Some, inl, inr}
 use Rattle.board_core.specs.ComputedMoves.{count_of_men}
 use Rattle.board_core.specs.Side.{other}
 use Rattle.judge_core.specs.declared.wdl.Wdl.TheVariants.{Draw, Win, Loss}
 use Rattle.board_core.specs.declared.verdict.Verdict.TheVariants.{TableDraw}
 use Rattle.judge_core.specs.Tables.{Holding}
+use Rattle.judge_core.specs.Answers.{IsDecisive, IsLeftOpen}
 use Rattle.judge_core.specs.Probing.{weighed_by, wdl_of}
 use Rattle.judge_core.specs.Distances.{by_weighed, dtz_to, dtz_of}
 use Rattle.judge_core.proofs.Rule.{bare, weighed, always_err}
@@ -43,6 +44,11 @@ returns-clause-value c =
 pub returns-in_err-reach-clause-memory : goal.returns-in_err-reach-clause-memory
 returns-in_err-reach-clause-memory c =
     let many : 2 < count_of_men c.args.position.now = omega (arith, c.men.ensures.computed, c.if-men-le2.false) in
-    let value = weighed c.args.self.now.tables c.args.position.now c.weigh-weighed.result c.is_out_of_scope.ensures.position many (c.weigh-weighed.ensures.is ∙ ap (λ (h : Holding). weighed_by h.tables (wdl_of h.tables) c.args.position.now) c.self.view_is) in
+    let is = c.weigh-weighed.ensures.is ∙ ap (λ (h : Holding). weighed_by h.tables (wdl_of h.tables) c.args.position.now) c.self.view_is in
+    let value = c.worth_in-reading.ensures ∙ weighed c.args.self.now.tables c.args.position.now c.weigh-weighed.result c.is_out_of_scope.ensures.position many is in
+    let decisive : IsDecisive (wdl_of c.args.self.now.tables c.args.position.now) = elim c.match-reading-2.branch [
+      | in-Ok-Win w ↦ (let won : c.worth_in-reading.result ≡ Ok Win = search rules in inl (sym value ∙ won))
+      | in-Ok-Loss w ↦ (let lost : c.worth_in-reading.result ≡ Ok Loss = search rules in inr (sym value ∙ lost))
+    ] in
     always_err c.from_residual.result
-    (sym c.has_no_move.ensures ∙ c.if-has_no_move.false, sym c.is_out_of_scope.ensures.is ∙ c.if-is_out_of_scope.false, rw (sym value) c.in_err-reach.ensures.memory)
+    (sym c.has_no_move.ensures ∙ c.if-has_no_move.false, sym c.is_out_of_scope.ensures.is ∙ c.if-is_out_of_scope.false, decisive, (many, subst IsLeftOpen is c.in_err-reach.ensures.memory))

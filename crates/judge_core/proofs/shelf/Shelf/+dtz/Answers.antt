@@ -1,11 +1,12 @@
-use Rattle.std.proofs.Common.{◌∙◌, ◌<◌, sym, ap, ℕ, option_map, Some, Ok, arith}
+use Rattle.std.proofs.Common.{◌∙◌, ◌<◌, sym, ap, subst, ℕ, option_map, Some, Ok, arith}
 use Rattle.std.proofs.lemmas.List.{take_all}
+use Rattle.std.proofs.lemmas.Result.{on_err_weaker}
+use Rattle.judge_core.specs.Answers.{IsLeftOpen}
 use Rattle.judge_core.specs.LookUp.{placed_of}
 use Rattle.judge_core.specs.Distances.{is_quiet, move_counts, by_own_table, unless_reached, dtz_to}
 use Rattle.judge_core.specs.Inside.Counts.{no_counts, with_count}
 use Rattle.judge_core.proofs.Asking.{noted_all, walk-passed, walk-noted}
 use Rattle.board_core.specs.ComputedMoves.{count_of_men}
-use Rattle.judge_core.proofs.Rule.{weighed}
 use Rattle.judge_core.proofs.Counting.{counts_told-is, within-count}
 use Rattle.judge_core.proofs.Reaching.{if_same, mate_counts, other_counts, bare_own, missing_own, stored_own, quiet_own, reached_by, reached_is, lost_is, none_left, few_men, some_left}
 use Rattle.judge_core.proofs.shelf.Shelf.+dtz.Goals.{by_moves-then-is_won+in_ok-reached+in-Ok+else-reached, by_moves-else-is_won, by_quiet_moves-in-Some+in_ok-count, by_quiet_moves-in_default, dtz_to-then-left-eq0-via-then-left-eq0, dtz_to-then-left-eq0-via-else-left-eq0+then-men-le2, move_counts-else-won-via-then-won+else-is_mate, move_counts-else-won-via-else-won}
@@ -118,4 +119,4 @@ dtz_to-returns-clause-is t c =
 pub dtz_to-returns-clause-memory : goal.dtz_to-returns-clause-memory
 dtz_to-returns-clause-memory t c =
     let many : 2 < count_of_men c.args.position.now = omega (arith, c.men.ensures.computed, c.if-men-le2.false) in
-    rw (sym (weighed c.args.self.now.tables c.args.position.now c.weigh-weighed.result c.requires.position many c.weigh-weighed.ensures.is)) c.by_weighed.ensures.memory
+    on_err_weaker c.by_weighed.result (λ left. (many, subst IsLeftOpen c.weigh-weighed.ensures.is left)) c.by_weighed.ensures.memory

@@ -1,4 +1,4 @@
-use Rattle.std.proofs.Common.{◌≡◌, ◌+◌, ◌*◌, length}
+use Rattle.std.proofs.Common.{◌+◌, ◌*◌, length}
 use Rattle.board_core.specs.ComputedMoves.{captures_after, count_of_men}
 use Rattle.judge_core.specs.Probing.{wdl_of}
 use Rattle.judge_core.specs.Blocks.{AreRight}
