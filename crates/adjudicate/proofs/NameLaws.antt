@@ -185,9 +185,17 @@ wants_no_more told names more old name is none h = record {
 }
 
 -- a wanted name that is there already was listed before
-pub twice : (told : Option Told) (before names after old : List (List ℕ)) (name : List ℕ) → names ≡ before ++ (name ∷ after) → AreWantedOf told before old → Contains old name → ListsTwice names
+pub twice : (told : Option Told) (before names after old : List (List ℕ)) (name : List ℕ) → names ≡ before ++ (name ∷ after) → AreWantedOf told before old → Contains old name → ListsTwice told names
 twice told before names after old name is h there =
-    record { before = before; name = name; after = after; listed = is; again = (h.only name there).0 }
+    record {
+      before = before;
+      name = name;
+      after = after;
+      file = (h.only name there).1;
+      wanted = (h.only name there).2;
+      listed = is;
+      again = (h.only name there).0;
+    }
 
 -- ---- files that were read
 

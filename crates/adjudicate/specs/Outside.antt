@@ -32,11 +32,13 @@ pub record AreWantedOf (told : Option Told) (names wanted : List (List ℕ)) : T
   pub only : (name : List ℕ) → Contains wanted name → Contains names name × IsFileName name × IsWanted told name
   pub rising : AreRisingNames wanted
 
--- a name is listed twice
-pub record ListsTwice (names : List (List ℕ)) : Type 0 where
+-- the name of a wanted file is listed twice
+pub record ListsTwice (told : Option Told) (names : List (List ℕ)) : Type 0 where
   pub before : List (List ℕ)
   pub name : List ℕ
   pub after : List (List ℕ)
+  pub file : IsFileName name
+  pub wanted : IsWanted told name
   pub listed : names ≡ before ++ name ∷ after
   pub again : Contains before name
 
@@ -59,10 +61,10 @@ pub record FailsAt (fails : Source → Type 0) (folder : List ℕ) (told : Optio
   pub wanted : IsWanted told name
   pub unread : fails (AtFile (path_in folder name))
 
--- the folder can't be read, lists a name twice, or has a wanted file that can't be read
+-- the folder can't be read, lists a wanted file twice, or has one that can't be read
 abbrev pub FolderFails : (List ℕ → List (List ℕ) → Type 0) → (Source → Type 0) → List ℕ → Option Told → Type 0
 FolderFails lists fails folder told =
-    fails (AtFolder folder) ⊎ ((names : List (List ℕ)) × lists folder names × (ListsTwice names ⊎ FailsAt fails folder told names))
+    fails (AtFolder folder) ⊎ ((names : List (List ℕ)) × lists folder names × (ListsTwice told names ⊎ FailsAt fails folder told names))
 
 -- what the file of the manifest tells, where one is named
 abbrev pub IsToldAt : (List ℕ → List ℕ → Type 0) → Option (List ℕ) → Option Told → Type 0

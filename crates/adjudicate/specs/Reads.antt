@@ -58,7 +58,7 @@ pub record IsGiven (lists : List ℕ → List (List ℕ) → Type 0) (holds : Li
   pub input : IsInputAt gives (reads_input t) given.input
 
 -- something that is read for the task can't be read: its manifest, its folder or a wanted file of that, or its input; or
--- its folder lists a name twice
+-- its folder lists a wanted file twice
 pub data CannotRead (lists : List ℕ → List (List ℕ) → Type 0) (holds : List ℕ → List ℕ → Type 0) (fails : Source → Type 0) (t : Task) : Type 0 where
   Manifest : (path : List ℕ) → manifest_of t ≡ Some path → fails (AtFile path) → CannotRead lists holds fails t
   Folder : (folder : List ℕ) (told : Option Told) → folder_of t ≡ Some folder → IsToldAt holds (manifest_of t) told → FolderFails lists fails folder told → CannotRead lists holds fails t

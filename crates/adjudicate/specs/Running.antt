@@ -26,7 +26,7 @@ pub data Runs (lists : List ℕ → List (List ℕ) → Type 0) (holds : List �
   ToMisuse : IsMisuse words → new ≡ old → status ≡ 2 → Runs lists holds gives fails listens words old new status
   ToNone : (NamesNone words → ⊥) → TellsOne refused_memory old new status → Runs lists holds gives fails listens words old new status
 
--- the status of an answer that has gone out, or 1
-abbrev pub HasEnded : {F : Type 0} → Type 0 → Result ℕ F → ℕ → Type 0
-HasEnded gone (Ok answered) status = ((status ≡ answered) × gone) ⊎ (status ≡ 1)
-HasEnded gone (Err fault) status = status ≡ 1
+-- the status of an answer that has gone out, or 1 where it is stuck or was not written
+abbrev pub HasEnded : {F : Type 0} → Type 0 → Type 0 → Result ℕ F → ℕ → Type 0
+HasEnded gone stuck (Ok answered) status = ((status ≡ answered) × gone) ⊎ ((status ≡ 1) × stuck)
+HasEnded gone stuck (Err fault) status = status ≡ 1

@@ -1,7 +1,7 @@
 //! Command lines, as tasks.
 
-ghost use Rattle.std.specs.Prelude.{◌≡◌, ◌∷◌, List, [], map, true, false, IfOk, IfErr, IfSome, IfNone, Err, Option};
-ghost use Rattle.clap.specs.Words.{Text, app_of, is_simple_and_free, found_of, first_value, rule_of, with_rule};
+ghost use Rattle.std.specs.Prelude.{◌≡◌, List, [], map, true, false, IfOk, IfErr, IfSome, IfNone, Err, Option};
+ghost use Rattle.clap.specs.Words.{app_of, is_simple_and_free, found_of, first_value, rule_of, with_rule};
 ghost use Rattle.adjudicate.specs.Commands.{app_for, rule_of_value, rules_of, value_in, word_of};
 ghost use Rattle.adjudicate.specs.Tasks.{HasValues, IsTask, IsMisuse, IsTaken, Lacks, Names, NamesNone, name_of};
 
@@ -396,92 +396,47 @@ fn task_of<'a>(name: Name, matches: &ArgMatches<'a>) -> Option<Task<'a>>
     ensures lacks { IfNone result (Lacks (first_value (found_of matches.now)) name) }
 {
     match name {
-        Name::Judge => {
-            let Some(fen) = matches.get_str("FEN") else {
-                return None;
-            };
-            Some(Task::Judge {
-                tables: matches.get_str("tables"),
-                manifest: matches.get_str("manifest"),
-                fen,
-            })
-        }
-        Name::Probe => {
-            let Some(tables) = matches.get_str("tables") else {
-                return None;
-            };
-            let Some(fen) = matches.get_str("FEN") else {
-                return None;
-            };
-            Some(Task::Probe {
-                tables,
-                manifest: matches.get_str("manifest"),
-                fen,
-            })
-        }
-        Name::Moves => {
-            let Some(fen) = matches.get_str("FEN") else {
-                return None;
-            };
-            Some(Task::Moves { fen })
-        }
-        Name::List => {
-            let Some(folder) = matches.get_str("DIR") else {
-                return None;
-            };
-            Some(Task::List { folder })
-        }
-        Name::Check => {
-            let Some(manifest) = matches.get_str("manifest") else {
-                return None;
-            };
-            let Some(folder) = matches.get_str("DIR") else {
-                return None;
-            };
-            Some(Task::Check { manifest, folder })
-        }
+        Name::Judge => Some(Task::Judge {
+            tables: matches.get_str("tables"),
+            manifest: matches.get_str("manifest"),
+            fen: matches.get_str("FEN")?,
+        }),
+        Name::Probe => Some(Task::Probe {
+            tables: matches.get_str("tables")?,
+            manifest: matches.get_str("manifest"),
+            fen: matches.get_str("FEN")?,
+        }),
+        Name::Moves => Some(Task::Moves {
+            fen: matches.get_str("FEN")?,
+        }),
+        Name::List => Some(Task::List {
+            folder: matches.get_str("DIR")?,
+        }),
+        Name::Check => Some(Task::Check {
+            manifest: matches.get_str("manifest")?,
+            folder: matches.get_str("DIR")?,
+        }),
         Name::Show => Some(Task::Show),
-        Name::Run => {
-            let Some(cache) = CacheSize::of(matches.get_str("cache")) else {
-                return None;
-            };
-            let Some(delay) = Delay::of(matches.get_str("delay")) else {
-                return None;
-            };
-            Some(Task::Run {
-                tables: matches.get_str("tables"),
-                cache,
-                delay,
-            })
-        }
+        Name::Run => Some(Task::Run {
+            tables: matches.get_str("tables"),
+            cache: CacheSize::of(matches.get_str("cache"))?,
+            delay: Delay::of(matches.get_str("delay"))?,
+        }),
         Name::Listen => match Listening::of(matches) {
             Some(listening) => Some(Task::Listen(listening)),
             None => None,
         },
-        Name::Probes => {
-            let Some(tables) = matches.get_str("tables") else {
-                return None;
-            };
-            Some(Task::Probes {
-                tables,
-                manifest: matches.get_str("manifest"),
-                progress: is_set(matches.get_str("progress")),
-            })
-        }
-        Name::Game => {
-            let Some(fen) = matches.get_str("FEN") else {
-                return None;
-            };
-            let Some(delay) = Delay::of(matches.get_str("delay")) else {
-                return None;
-            };
-            Some(Task::Game {
-                tables: matches.get_str("tables"),
-                manifest: matches.get_str("manifest"),
-                delay,
-                fen,
-            })
-        }
+        Name::Probes => Some(Task::Probes {
+            tables: matches.get_str("tables")?,
+            manifest: matches.get_str("manifest"),
+            progress: is_set(matches.get_str("progress")),
+        }),
+        Name::Game => Some(Task::Game {
+            tables: matches.get_str("tables"),
+            manifest: matches.get_str("manifest"),
+            delay: Delay::of(matches.get_str("delay"))?,
+            fen: matches.get_str("FEN")?,
+        }),
     }
 }
 

@@ -1,6 +1,6 @@
 //! Folders, files and the input, as the program reads them.
 
-ghost use Rattle.std.specs.Prelude.{◌≡◌, ◌≤◌, List, ℕ, length, map, string_bytes, IfOk, IsErrOf};
+ghost use Rattle.std.specs.Prelude.{◌≤◌, List, ℕ, length, map, string_bytes, IfOk, IsErrOf};
 ghost use Rattle.adjudicate.specs.Outside.{Source, AtFolder, AtFile, AtInput, most_bytes};
 
 use crate::input::{ReadFault, read_all};

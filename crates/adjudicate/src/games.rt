@@ -1,9 +1,8 @@
 //! A game that is told by its moves, and what it comes to.
 
-ghost use Rattle.std.specs.Prelude.{◌≡◌, ◌∷◌, ◌++◌, [], ℕ, position, length, IfOk, IfErr, IfSome, IfNone, OnErr};
+ghost use Rattle.std.specs.Prelude.{◌≡◌, ◌∷◌, [], position, IfOk, IfErr, IfSome, IfNone, OnErr};
 ghost use Rattle.std.specs.List.{slice_split};
 ghost use Rattle.board_core.specs.declared.moves.Move.{Move};
-ghost use Rattle.fen_text.specs.Coordinates.{SpellsMove};
 ghost use Rattle.adjudicate.specs.Inside.Asked.{reply_of};
 ghost use Rattle.adjudicate.specs.Looks.{gathered};
 ghost use Rattle.adjudicate.specs.Reply.{IsForText, IsPlayed, IsText, outcome_status, status_if};

@@ -1,6 +1,6 @@
 //! The file in which an arbiter's record is kept, and how another takes its place.
 
-ghost use Rattle.std.specs.Prelude.{◌≡◌, ◌≤◌, ℕ, List, Option, Some, length, option_map, IfOk, IfSome, OnOk, OnErr, IsErrOf};
+ghost use Rattle.std.specs.Prelude.{◌≤◌, ℕ, List, Option, Some, length, option_map, IfOk, IfSome, OnOk, OnErr, IsErrOf};
 ghost use Rattle.adjudicate.specs.KeptFiles.{Stage, Written, Synced, Renamed, FindsOldOrNew};
 
 use crate::input::ReadFault;

@@ -1,9 +1,9 @@
 //! The lines that the program writes.
 
-ghost use Rattle.std.specs.Prelude.{◌≡◌, Some, IfOk, OnOk};
-ghost use Rattle.std.specs.Fmt.{DisplaysOnOk};
+ghost use Rattle.std.specs.Prelude.{◌≡◌, ◌++◌, Some, IfOk, OnOk, codes};
+ghost use Rattle.std.specs.Fmt.{DisplaysOnOk, decimal};
 ghost use Rattle.std.specs.Io.KnownBytes.{Appends};
-ghost use Rattle.adjudicate.specs.Lines.{arbiter_words, column_words, columns_words, ended, heard_words, message_words, outcome_words, refused_datagram, refused_fen, state_word, told_words, verdict_or_none, verdict_words, words_of};
+ghost use Rattle.adjudicate.specs.Lines.{arbiter_words, column_words, columns_words, ended, heard_words, message_words, outcome_words, refused_datagram, refused_fen, refused_file, refused_message, state_word, told_words, verdict_or_none, verdict_words, words_of};
 ghost use Rattle.relay_world.specs.Texts.{who_word};
 
 use crate::tables::FileFault;
@@ -274,6 +274,42 @@ fn fmt_refused_datagram<W: fmt::Write>(
     }
 }
 
+/// Tells a number after these words.
+fn fmt_number<W: fmt::Write>(f: &mut fmt::Formatter<W>, words: &str, number: usize) -> fmt::Result
+    ensures { DisplaysOnOk W.Write.write_str_gives f.old result (Some (words.now ++ decimal number)) f.new }
+{
+    write!(f, "{words}{number}")
+}
+
+/// Tells a name, and a word on it.
+fn fmt_named<W: fmt::Write>(f: &mut fmt::Formatter<W>, name: &str, word: &str) -> fmt::Result
+    ensures { DisplaysOnOk W.Write.write_str_gives f.old result (Some (name.now ++ codes " " ++ word.now)) f.new }
+{
+    write!(f, "{name} {word}")
+}
+
+/// Tells that a file is refused.
+fn fmt_refused_file<W: fmt::Write>(
+    f: &mut fmt::Formatter<W>,
+    name: &str,
+    word: &str,
+) -> fmt::Result
+    ensures { DisplaysOnOk W.Write.write_str_gives f.old result (Some (refused_file name.now word.now)) f.new }
+{
+    write!(f, "refused {name} {word}")
+}
+
+/// Tells that a message is refused.
+fn fmt_refused_message<W: fmt::Write>(
+    f: &mut fmt::Formatter<W>,
+    number: usize,
+    word: &str,
+) -> fmt::Result
+    ensures { DisplaysOnOk W.Write.write_str_gives f.old result (Some (refused_message number word.now)) f.new }
+{
+    write!(f, "refused message {number} {word}")
+}
+
 impl fmt::Display for Line {
     ghost use Rattle.std.specs.Prelude.{Some};
     ghost use Rattle.adjudicate.specs.Lines.{words_of};
@@ -285,25 +321,23 @@ impl fmt::Display for Line {
             Line::Ruling(verdict) => f.write_str(verdict_or_open(*verdict)),
             Line::RefusedFen(fault) => fmt_fen(f, *fault),
             Line::Move(m) => f.write_str(write_move(m).as_str()),
-            Line::RefusedManifest(number) => write!(f, "refused manifest {number}"),
-            Line::RefusedFile(name, fault) => {
-                write!(f, "refused {} {}", name.as_str(), fault.name())
-            }
-            Line::Look(name, None) => write!(f, "{} ok", name.as_str()),
-            Line::Look(name, Some(fault)) => write!(f, "{} {}", name.as_str(), fault.name()),
+            Line::RefusedManifest(number) => fmt_number(f, "refused manifest ", *number),
+            Line::RefusedFile(name, fault) => fmt_refused_file(f, name.as_str(), fault.name()),
+            Line::Look(name, None) => fmt_named(f, name.as_str(), "ok"),
+            Line::Look(name, Some(fault)) => fmt_named(f, name.as_str(), fault.name()),
             Line::Wdl(told) => fmt_told(f, "wdl", told),
             Line::Dtz(told) => fmt_told(f, "dtz", told),
             Line::Message(message) => fmt_message(f, message),
-            Line::RefusedMessage(number, None) => write!(f, "refused message {number} Cut"),
+            Line::RefusedMessage(number, None) => fmt_refused_message(f, *number, "Cut"),
             Line::RefusedMessage(number, Some(fault)) => {
-                write!(f, "refused message {number} {}", fault.name())
+                fmt_refused_message(f, *number, fault.name())
             }
             Line::Arbiter(who, state, kept) => fmt_arbiter(f, *who, *state, *kept),
-            Line::Sent(number) => write!(f, "sent {number}"),
-            Line::RefusedLine(number) => write!(f, "refused line {number}"),
+            Line::Sent(number) => fmt_number(f, "sent ", *number),
+            Line::RefusedLine(number) => fmt_number(f, "refused line ", *number),
             Line::Outcome(outcome, plies) => fmt_outcome(f, *outcome, *plies),
             Line::Columns(wdl, dtz, verdict) => fmt_columns(f, wdl, dtz, *verdict),
-            Line::RefusedMove(place) => write!(f, "refused move {place}"),
+            Line::RefusedMove(place) => fmt_number(f, "refused move ", *place),
             Line::Done(lines) => write!(f, "{lines} done"),
             Line::Heard(count, verdict) => fmt_heard(f, *count, *verdict),
             Line::RefusedDatagram(fault) => fmt_refused_datagram(f, *fault),

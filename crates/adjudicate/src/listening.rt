@@ -44,46 +44,20 @@ impl<'a> Listening<'a> {
         ensures some { IfSome result (IsListening (first_value (found_of matches.now))) }
         ensures none { IfNone result ((l : Listening) → IsListening (first_value (found_of matches.now)) l → ⊥) }
     {
-        let Some(name) = matches.get_str("name") else {
-            return None;
-        };
+        let name = matches.get_str("name")?;
         if !is_game_name(name.as_bytes()) {
             return None;
         }
-        let Some(start) = matches.get_str("start") else {
-            return None;
-        };
-        let Some(tables) = matches.get_str("tables") else {
-            return None;
-        };
-        let Some(me) = me_of(matches.get_str("me")) else {
-            return None;
-        };
-        let Some(bind) = matches.get_str("bind") else {
-            return None;
-        };
-        let Some(to) = matches.get_str("to") else {
-            return None;
-        };
-        let Some(kept) = matches.get_str("kept") else {
-            return None;
-        };
-        let Some(datagrams) = datagrams_of(matches.get_str("datagrams")) else {
-            return None;
-        };
-        let Some(delay) = Delay::of(matches.get_str("delay")) else {
-            return None;
-        };
         Some(Listening {
             name,
-            start,
-            tables,
-            me,
-            bind,
-            to,
-            kept,
-            datagrams,
-            delay,
+            start: matches.get_str("start")?,
+            tables: matches.get_str("tables")?,
+            me: me_of(matches.get_str("me"))?,
+            bind: matches.get_str("bind")?,
+            to: matches.get_str("to")?,
+            kept: matches.get_str("kept")?,
+            datagrams: datagrams_of(matches.get_str("datagrams"))?,
+            delay: Delay::of(matches.get_str("delay"))?,
             fetch: is_set(matches.get_str("fetch")),
         })
     }

@@ -106,6 +106,8 @@ fn run_into<W: Write>(rt: &HostRuntime, out: &mut W) -> Result<u8, AnswerFault> 
 impl<W: Write + Drop> Output for BufWriter<W> {
     ghost gone = { λ _. Unit {0} };
 
+    ghost stuck = { λ _. Unit {0} };
+
     fn finish(&mut self) -> Result<(), AnswerFault> {
         match self.flush() {
             Ok(()) => Ok(()),

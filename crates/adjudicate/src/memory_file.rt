@@ -1,6 +1,5 @@
 //! A kept file in memory, which fails when it is told to.
 
-ghost use Rattle.std.specs.Prelude.{◌≡◌};
 
 use crate::input::{ReadFault, read_at_most};
 use crate::kept_file::KeptFile;

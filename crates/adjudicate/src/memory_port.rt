@@ -1,6 +1,6 @@
 //! A port in memory, which fails when it is told to.
 
-ghost use Rattle.std.specs.Prelude.{◌≡◌, ◌≤◌, ◌∷◌, [], map, take, IsTrue, IfNone};
+ghost use Rattle.std.specs.Prelude.{◌≡◌, ◌≤◌, ◌∷◌, [], map, IsTrue, IfNone};
 ghost use Rattle.arbiter_core.specs.Keeping.{Risen};
 ghost use Rattle.adjudicate.specs.Ports.{Passes, passing, told_if};
 

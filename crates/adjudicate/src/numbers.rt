@@ -103,10 +103,7 @@ pub fn datagrams_of(text: Option<&str>) -> Option<u32>
     ensures some { IfSome result (IsDatagrams (option_map (λ s. s.now) text.entry)) }
     ensures none { IfNone result ((n : ℕ) → IsDatagrams (option_map (λ s. s.now) text.entry) n → ⊥) }
 {
-    let Some(text) = text else {
-        return None;
-    };
-    match text.parse::<u32>() {
+    match text?.parse::<u32>() {
         Ok(datagrams) => Some(datagrams),
         Err(_) => None,
     }
@@ -117,10 +114,7 @@ pub fn me_of(text: Option<&str>) -> Option<Who>
     ensures some { IfSome result (IsMe (option_map (λ s. s.now) text.entry)) }
     ensures none { IfNone result ((who : Who) → IsMe (option_map (λ s. s.now) text.entry) who → ⊥) }
 {
-    let Some(text) = text else {
-        return None;
-    };
-    match text.parse::<u8>() {
+    match text?.parse::<u8>() {
         Ok(number) => Who::of_number(number),
         Err(_) => None,
     }

@@ -1,6 +1,6 @@
 //! The program's words, its output and its status.
 
-ghost use Rattle.std.specs.Prelude.{◌≡◌, ◌≢◌, ◌⊎◌, map, true, false, Ok, IfOk, OnOk};
+ghost use Rattle.std.specs.Prelude.{◌≡◌, ◌≢◌, ◌⊎◌, map, true, false, Ok, IfOk, OnErr, OnOk};
 ghost use Rattle.adjudicate.specs.declared.commands.Task.{Task};
 ghost use Rattle.adjudicate.specs.Listens.{Listens, hosted};
 ghost use Rattle.adjudicate.specs.Running.{AnswersTask, Runs, HasEnded};
@@ -94,15 +94,19 @@ pub trait Output: Write {
     /// All that was written has gone out.
     ghost gone: { Self → Type 0 };
 
+    /// Some of what was written can't go out.
+    ghost stuck: { Self → Type 0 };
+
     /// Lets all that was written go out.
     fn finish(&mut self) -> Result<(), AnswerFault>
-        ensures { OnOk result (gone self.new) };
+        ensures gone { OnOk result (gone self.new) }
+        ensures stuck { OnErr result (stuck self.new) };
 }
 
 /// Ends the output, and tells the program's status: that of its answer where all of it has gone
-/// out, and 1 where it was not written or not gone out.
+/// out, and 1 where it was not written or can't go out.
 pub fn end<O: Output>(out: &mut O, answered: Result<u8, AnswerFault>) -> u8
-    ensures { HasEnded (O.gone out.new) answered result }
+    ensures { HasEnded (O.gone out.new) (O.stuck out.new) answered result }
 {
     match (answered, out.finish()) {
         (Ok(status), Ok(())) => status,

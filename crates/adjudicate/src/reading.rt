@@ -91,7 +91,7 @@ fn wanted_names(
     manifest: &Manifest,
 ) -> Result<Vec<FileName>, ReadFault>
     ensures ok { IfOk result (λ wanted. AreWantedOf (told_by manifest.now) (map string_bytes names.now) wanted.items) }
-    ensures cause { IsErrOf result ReadFault.Unreadable → ListsTwice (map string_bytes names.now) }
+    ensures cause { IsErrOf result ReadFault.Unreadable → ListsTwice (told_by manifest.now) (map string_bytes names.now) }
 {
     let mut wanted = Vec::new(alloc);
     for name in names {

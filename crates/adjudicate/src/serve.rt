@@ -1,11 +1,11 @@
 //! An arbiter that answers the datagrams of a port.
 
-ghost use Rattle.std.specs.Prelude.{◌≡◌, ◌≤◌, ◌∷◌, [], map, cond, length, Option, IfOk, Ok, Err};
+ghost use Rattle.std.specs.Prelude.{◌≡◌, ◌≤◌, ◌∷◌, [], map, cond, length, Ok, Err};
 ghost use Rattle.std.specs.Result.{result_map_both};
 ghost use Rattle.arbiter_core.specs.Delivers.{IsKept};
 ghost use Rattle.adjudicate.specs.Lines.{words_of, refused_keeper, refused_datagram};
 ghost use Rattle.adjudicate.specs.Ports.{Passes, at_port};
-ghost use Rattle.adjudicate.specs.Serving.{Run, ServesRun, TellsRun, asked_first, handed, handed_if_any, is_loss, moment, stated};
+ghost use Rattle.adjudicate.specs.Serving.{Run, ServesRun, TellsRun, asked_first, handed, is_loss, moment, stated};
 ghost use Rattle.adjudicate.specs.Inside.Steps.{Hears, IsOneStep, status_by, stops};
 
 use crate::lines::{AnswerFault, Line, put_line_now};

@@ -1,6 +1,6 @@
 //! What a task is answered from: the files of its folder, its manifest and the input.
 
-ghost use Rattle.std.specs.Prelude.{◌≡◌, ◌≤◌, List, ℕ, length, map, option_map, is_some, true, Some, IfOk, OnErr, IsErrOf};
+ghost use Rattle.std.specs.Prelude.{◌≡◌, List, ℕ, map, option_map, is_some, true, Some, IfOk, OnErr, IsErrOf};
 ghost use Rattle.move_msg.specs.Files.{AreFiles, file_of};
 ghost use Rattle.adjudicate.specs.ToldBy.{told_by};
 ghost use Rattle.adjudicate.specs.Outside.{AtFile, AtInput, AreFilesAt, FolderFails, IsToldAt};
@@ -138,8 +138,8 @@ impl Sources {
     /// `game` the input.
     ///
     /// Files whose names are not those of tables are passed over, and with a manifest those that it doesn't name.
-    /// `Unreadable` where the folder, one of these files, the manifest or the input can't be read, or the folder lists a
-    /// name twice.
+    /// `Unreadable` where the folder, one of these files, the manifest or the input can't be read, or the folder lists one of these
+    /// files twice.
     pub fn read<D: Disk>(alloc: Global, disk: &D, task: &Task) -> Result<Sources, ReadFault>
         ensures given { IfOk result (IsGiven (D.lists disk.now) (D.holds disk.now) (D.gives disk.now) task.now) }
         ensures cause { IsErrOf result ReadFault.Unreadable → CannotRead (D.lists disk.now) (D.holds disk.now) (D.fails disk.now) task.now }
