@@ -3,7 +3,7 @@
 ghost use Rattle.std.specs.Prelude.{◌≡◌, List, [], map, true, false, IfOk, IfErr, IfSome, IfNone, Err, Option};
 ghost use Rattle.clap.specs.Words.{app_of, is_simple_and_free, found_of, first_value, rule_of, with_rule};
 ghost use Rattle.adjudicate.specs.Commands.{app_for, rule_of_value, rules_of, value_in, word_of};
-ghost use Rattle.adjudicate.specs.Tasks.{HasValues, IsTask, IsMisuse, IsTaken, Lacks, Names, NamesNone, name_of};
+ghost use Rattle.adjudicate.specs.Tasks.{IsReadAs, IsTask, IsMisuse, IsTaken, Names, NamesNone};
 
 use crate::listening::Listening;
 use crate::numbers::{CacheSize, Delay, is_set};
@@ -388,55 +388,116 @@ fn matches_at<'a>(command: Command<'a>, words: &'a [&'a str]) -> Result<ArgMatch
     }
 }
 
+/// The task of `judge` with these values; none where it lacks one that it needs.
+fn judge_of<'a>(matches: &ArgMatches<'a>) -> Option<Task<'a>>
+    ensures { IsReadAs Name.Judge (first_value (found_of matches.now)) result }
+{
+    Some(Task::Judge {
+        tables: matches.get_str("tables"),
+        manifest: matches.get_str("manifest"),
+        fen: matches.get_str("FEN")?,
+    })
+}
+
+/// The task of `probe`.
+fn probe_of<'a>(matches: &ArgMatches<'a>) -> Option<Task<'a>>
+    ensures { IsReadAs Name.Probe (first_value (found_of matches.now)) result }
+{
+    Some(Task::Probe {
+        tables: matches.get_str("tables")?,
+        manifest: matches.get_str("manifest"),
+        fen: matches.get_str("FEN")?,
+    })
+}
+
+/// The task of `moves`.
+fn moves_of<'a>(matches: &ArgMatches<'a>) -> Option<Task<'a>>
+    ensures { IsReadAs Name.Moves (first_value (found_of matches.now)) result }
+{
+    Some(Task::Moves {
+        fen: matches.get_str("FEN")?,
+    })
+}
+
+/// The task of `list`.
+fn list_of<'a>(matches: &ArgMatches<'a>) -> Option<Task<'a>>
+    ensures { IsReadAs Name.List (first_value (found_of matches.now)) result }
+{
+    Some(Task::List {
+        folder: matches.get_str("DIR")?,
+    })
+}
+
+/// The task of `check`.
+fn check_of<'a>(matches: &ArgMatches<'a>) -> Option<Task<'a>>
+    ensures { IsReadAs Name.Check (first_value (found_of matches.now)) result }
+{
+    Some(Task::Check {
+        manifest: matches.get_str("manifest")?,
+        folder: matches.get_str("DIR")?,
+    })
+}
+
+/// The task of `run`; none where a number isn't one that it takes.
+fn run_of<'a>(matches: &ArgMatches<'a>) -> Option<Task<'a>>
+    ensures { IsReadAs Name.Run (first_value (found_of matches.now)) result }
+{
+    Some(Task::Run {
+        tables: matches.get_str("tables"),
+        cache: CacheSize::of(matches.get_str("cache"))?,
+        delay: Delay::of(matches.get_str("delay"))?,
+    })
+}
+
+/// The task of `probes`.
+fn probes_of<'a>(matches: &ArgMatches<'a>) -> Option<Task<'a>>
+    ensures { IsReadAs Name.Probes (first_value (found_of matches.now)) result }
+{
+    Some(Task::Probes {
+        tables: matches.get_str("tables")?,
+        manifest: matches.get_str("manifest"),
+        progress: is_set(matches.get_str("progress")),
+    })
+}
+
+/// The task of `game`.
+fn game_of<'a>(matches: &ArgMatches<'a>) -> Option<Task<'a>>
+    ensures { IsReadAs Name.Game (first_value (found_of matches.now)) result }
+{
+    Some(Task::Game {
+        tables: matches.get_str("tables"),
+        manifest: matches.get_str("manifest"),
+        delay: Delay::of(matches.get_str("delay"))?,
+        fen: matches.get_str("FEN")?,
+    })
+}
+
+/// The task of `listen`.
+fn listen_of<'a>(matches: &ArgMatches<'a>) -> Option<Task<'a>>
+    ensures { IsReadAs Name.Listen (first_value (found_of matches.now)) result }
+{
+    match Listening::of(matches) {
+        Some(listening) => Some(Task::Listen(listening)),
+        None => None,
+    }
+}
+
 /// The task of a command with these values; none where it lacks one that it needs, or a number isn't one
 /// that the command takes.
 fn task_of<'a>(name: Name, matches: &ArgMatches<'a>) -> Option<Task<'a>>
-    ensures named { IfSome result (λ t. name_of t ≡ name) }
-    ensures values { IfSome result (HasValues (first_value (found_of matches.now))) }
-    ensures lacks { IfNone result (Lacks (first_value (found_of matches.now)) name) }
+    ensures { IsReadAs name (first_value (found_of matches.now)) result }
 {
     match name {
-        Name::Judge => Some(Task::Judge {
-            tables: matches.get_str("tables"),
-            manifest: matches.get_str("manifest"),
-            fen: matches.get_str("FEN")?,
-        }),
-        Name::Probe => Some(Task::Probe {
-            tables: matches.get_str("tables")?,
-            manifest: matches.get_str("manifest"),
-            fen: matches.get_str("FEN")?,
-        }),
-        Name::Moves => Some(Task::Moves {
-            fen: matches.get_str("FEN")?,
-        }),
-        Name::List => Some(Task::List {
-            folder: matches.get_str("DIR")?,
-        }),
-        Name::Check => Some(Task::Check {
-            manifest: matches.get_str("manifest")?,
-            folder: matches.get_str("DIR")?,
-        }),
+        Name::Judge => judge_of(matches),
+        Name::Probe => probe_of(matches),
+        Name::Moves => moves_of(matches),
+        Name::List => list_of(matches),
+        Name::Check => check_of(matches),
         Name::Show => Some(Task::Show),
-        Name::Run => Some(Task::Run {
-            tables: matches.get_str("tables"),
-            cache: CacheSize::of(matches.get_str("cache"))?,
-            delay: Delay::of(matches.get_str("delay"))?,
-        }),
-        Name::Listen => match Listening::of(matches) {
-            Some(listening) => Some(Task::Listen(listening)),
-            None => None,
-        },
-        Name::Probes => Some(Task::Probes {
-            tables: matches.get_str("tables")?,
-            manifest: matches.get_str("manifest"),
-            progress: is_set(matches.get_str("progress")),
-        }),
-        Name::Game => Some(Task::Game {
-            tables: matches.get_str("tables"),
-            manifest: matches.get_str("manifest"),
-            delay: Delay::of(matches.get_str("delay"))?,
-            fen: matches.get_str("FEN")?,
-        }),
+        Name::Run => run_of(matches),
+        Name::Listen => listen_of(matches),
+        Name::Probes => probes_of(matches),
+        Name::Game => game_of(matches),
     }
 }
 

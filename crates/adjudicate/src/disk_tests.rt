@@ -3,9 +3,10 @@
 use crate::disk::SystemDisk;
 use crate::fixtures::*;
 use crate::folders::*;
+use std::alloc::Global;
 use std::fs;
-use std::io::Write;
-use std::test::*;
+use std::process::Abort;
+use std::rt::Files;
 
 /// The folder that is made.
 const FOLDER: &str = "/tmp/adjudicate-test-tables";
@@ -24,23 +25,30 @@ const FILES: [File; 6] = [
     ("notes.txt", b"notes", 5),
 ];
 
-/// Makes a file of the folder.
-fn make_file(rt: &HostRuntime, file: File) -> Result<(), Fail> {
-    let name = file.0;
-    let path = format!(in rt.alloc(); "{FOLDER}/{name}")?;
-    let bytes = bytes_of(rt.alloc(), file)?;
-    let mut out = fs::create(rt, path.as_str())?;
-    out.write_all(&bytes)?;
-    Ok(())
+/// The path of a file of the folder.
+fn path_of(rt: &impl Abort, alloc: Global, name: &str) -> String {
+    format!(in alloc; "{FOLDER}/{name}").expect(rt, "memory")
 }
 
-/// Makes the folder and its files.
-fn make_folder(rt: &HostRuntime) -> Result<(), Fail> {
-    fs::create_dir(rt, FOLDER)?;
+/// Writes a file to a path.
+fn write_file<R: Files + AllocGlobal + Abort>(rt: &R, path: &str, file: File) {
+    let bytes = bytes_of(rt.alloc(), file).expect(rt, "memory");
+    fs::write(rt, path, bytes.as_slice()).expect(rt, "a file");
+}
+
+/// Makes a file of the folder.
+fn make_file<R: Files + AllocGlobal + Abort>(rt: &R, file: File) {
+    let path = path_of(rt, rt.alloc(), file.0);
+    write_file(rt, path.as_str(), file);
+}
+
+/// Makes the folder, in place of what an earlier run may have left, and its files.
+fn make_folder<R: Files + AllocGlobal + Abort>(rt: &R) {
+    let _left = fs::remove_dir_all(rt, FOLDER).is_ok();
+    fs::create_dir(rt, FOLDER).expect(rt, "a folder");
     for file in &FILES {
-        make_file(rt, *file)?;
+        make_file(rt, *file);
     }
-    Ok(())
 }
 
 /// What is told over the folder, and what can't be read.
@@ -89,20 +97,9 @@ const TOLD: [Row; 7] = [
     ),
 ];
 
-/// That the program tells so over the folder.
-fn expect_told_of_folder(rt: &HostRuntime) -> Result<(), Fail> {
-    let disk = SystemDisk::new(rt);
-    for row in &TOLD {
-        expect_run(rt.alloc(), &disk, &mut Vec::new(rt.alloc()), *row)?;
-    }
-    Ok(())
-}
-
 #[test]
-fn reads_a_folder_of_the_system(rt: HostRuntime) -> Result<(), Fail> {
-    // What an earlier run may have left.
-    let _left = fs::remove_dir_all(&rt, FOLDER).is_ok();
-    make_folder(&rt)?;
-    expect_told_of_folder(&rt)?;
-    Ok(fs::remove_dir_all(&rt, FOLDER)?)
+fn reads_a_folder_of_the_system(rt: HostRuntime) {
+    make_folder(&rt);
+    expect_rows(&rt, rt.alloc(), &SystemDisk::new(&rt), &TOLD);
+    fs::remove_dir_all(&rt, FOLDER).expect(&rt, "a folder");
 }

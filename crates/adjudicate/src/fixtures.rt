@@ -5,9 +5,14 @@ use crate::folders::Folders;
 use crate::lines::AnswerFault;
 use crate::memory_host::MemoryHost;
 use crate::program::run;
+use arbiter_core::Setup;
+use board_core::Position;
+use fen_text::{read, read_move};
+use judge_core::Set;
+use move_msg::{Message, Sender, Stamp};
 use std::alloc::{AllocError, Global};
 use std::io::{self, Write};
-use std::test::*;
+use std::process::Abort;
 
 /// The usual start of a game.
 pub(crate) const START: &str = "rnbqkbnr/pppppppp/8/8/8/8/PPPPPPPP/RNBQKBNR w KQkq - 0 1";
@@ -18,62 +23,139 @@ pub(crate) const KNIGHT_FEN: &str = "8/8/8/4k3/8/8/8/KN6 w - - 0 1";
 /// Queen b1 against the king on e5.
 pub(crate) const QUEEN_FEN: &str = "8/8/8/4k3/8/8/8/KQ6 w - - 0 1";
 
+/// That this holds, told with a text where it doesn't.
+pub(crate) fn check(rt: &impl Abort, holds: bool, text: &str) {
+    assert!(rt; holds, "{text}");
+}
+
+/// Words and their FEN, which the word FEN stands for.
+pub(crate) type Words = (&'static str, &'static str);
+
+/// Adds a word, or the FEN where the word FEN stands.
+fn push_word<'a>(words: &mut Vec<&'a str>, word: &'a str, fen: &'a str) -> Result<(), AllocError> {
+    words.push(if word == "FEN" { fen } else { word })?;
+    Ok(())
+}
+
 /// The words of a text that are parted by spaces; the word FEN stands for a FEN.
-pub(crate) fn words_of<'a>(
-    alloc: Global,
-    text: &'a str,
-    fen: &'a str,
-) -> Result<Vec<&'a str>, AllocError> {
+fn parted<'a>(alloc: Global, text: &'a str, fen: &'a str) -> Result<Vec<&'a str>, AllocError> {
     let mut words = Vec::new(alloc);
     for word in text.split_ascii_whitespace() {
-        words.push(if word == "FEN" { fen } else { word })?;
+        push_word(&mut words, word, fen)?;
     }
     Ok(words)
+}
+
+/// The same where memory is at hand.
+pub(crate) fn words_of(rt: &impl Abort, alloc: Global, words: Words) -> Vec<&'static str> {
+    parted(alloc, words.0, words.1).expect(rt, "memory")
+}
+
+/// How the program ends on words, without its contract.
+fn ended<D: Disk, W: Write, E: Write>(
+    alloc: Global,
+    words: &[&str],
+    disk: &D,
+    host: &MemoryHost<'_>,
+    out: &mut W,
+    errors: &mut E,
+) -> Result<u8, AnswerFault> {
+    run(alloc, words, disk, host, out, errors)
+}
+
+/// How the program ends on the words of a text.
+pub(crate) fn ended_on<D: Disk, W: Write, E: Write>(
+    rt: &impl Abort,
+    alloc: Global,
+    words: Words,
+    disk: &D,
+    host: &MemoryHost<'_>,
+    out: &mut W,
+    errors: &mut E,
+) -> Result<u8, AnswerFault> {
+    let words = words_of(rt, alloc, words);
+    ended(alloc, words.as_slice(), disk, host, out, errors)
+}
+
+/// The same where nobody looks at what a misuse is told.
+pub(crate) fn ended_at<D: Disk, W: Write>(
+    rt: &impl Abort,
+    alloc: Global,
+    words: Words,
+    disk: &D,
+    host: &MemoryHost<'_>,
+    out: &mut W,
+) -> Result<u8, AnswerFault> {
+    ended_on(rt, alloc, words, disk, host, out, &mut Vec::new(alloc))
 }
 
 /// Words, their FEN, and what is told for them: the lines and the status.
 pub(crate) type Row = (&'static str, &'static str, &'static str, u8);
 
-/// That the lines and the status are those of a row.
-fn compare(row: Row, lines: &[u8], status: u8) -> Result<(), Fail> {
-    if lines == row.2.as_bytes() && status == row.3 {
-        return Ok(());
-    }
-    Err(Fail::new(format_args!("{} {}", row.0, row.1)))
+/// That this holds, told with the words of a row and their FEN where it doesn't.
+fn check_row(rt: &impl Abort, holds: bool, row: Row) {
+    assert!(rt; holds, "{} {}", row.0, row.1);
+}
+
+/// That the lines and the end are those of a row.
+fn compare(rt: &impl Abort, row: Row, lines: &[u8], ended: Result<u8, AnswerFault>) {
+    check_row(rt, lines == row.2.as_bytes(), row);
+    check_row(rt, ended == Ok(row.3), row);
 }
 
 /// That the words of each row are answered so.
-pub(crate) fn expect_answers(alloc: Global, rows: &[Row]) -> Result<(), Fail> {
+pub(crate) fn expect_answers(rt: &impl Abort, alloc: Global, rows: &[Row]) {
+    expect_rows(rt, alloc, &Folders, rows);
+}
+
+/// The same over other folders, files or another input.
+pub(crate) fn expect_rows<D: Disk>(rt: &impl Abort, alloc: Global, disk: &D, rows: &[Row]) {
     for row in rows {
-        expect_run(alloc, &Folders, &mut Vec::new(alloc), *row)?;
+        expect_row(rt, alloc, disk, *row);
     }
-    Ok(())
+}
+
+/// That the words of a row are answered so, where nobody looks at what a misuse is told.
+pub(crate) fn expect_row<D: Disk>(rt: &impl Abort, alloc: Global, disk: &D, row: Row) {
+    expect_run(rt, alloc, disk, &mut Vec::new(alloc), row);
 }
 
 /// That the program writes the lines of a row to its words, and ends with its status.
 pub(crate) fn expect_run<D: Disk, E: Write>(
+    rt: &impl Abort,
     alloc: Global,
     disk: &D,
     errors: &mut E,
     row: Row,
-) -> Result<(), Fail> {
-    expect_run_at(alloc, disk, &MemoryHost::unbound(), errors, row)
+) {
+    expect_run_at(rt, alloc, disk, &MemoryHost::unbound(), errors, row);
 }
 
 /// The same at a host.
 pub(crate) fn expect_run_at<D: Disk, E: Write>(
+    rt: &impl Abort,
     alloc: Global,
     disk: &D,
     host: &MemoryHost<'_>,
     errors: &mut E,
     row: Row,
-) -> Result<(), Fail> {
-    let words = words_of(alloc, row.0, row.1)?;
+) {
     let mut out = Vec::new(alloc);
-    match run(alloc, &words, disk, host, &mut out, errors) {
-        Ok(status) => compare(row, &out, status),
-        Err(_) => Err(Fail::from("an answer")),
-    }
+    let ended = ended_on(rt, alloc, (row.0, row.1), disk, host, &mut out, errors);
+    compare(rt, row, out.as_slice(), ended);
+}
+
+/// That the words are done, and the lines begin so.
+pub(crate) fn begins_with<D: Disk>(
+    rt: &impl Abort,
+    alloc: Global,
+    disk: &D,
+    words: Words,
+    first: &str,
+) -> bool {
+    let mut out = Vec::new(alloc);
+    let ended = ended_at(rt, alloc, words, disk, &MemoryHost::unbound(), &mut out);
+    ended == Ok(0) && out.starts_with(first.as_bytes())
 }
 
 /// A writer that fails at one call.
@@ -104,32 +186,77 @@ impl Write for Failing {
     }
 }
 
-/// Whether a write that fails after so many others is told.
-fn is_told<D: Disk>(alloc: Global, disk: &D, words: &[&str], writes: u32) -> Result<bool, Fail> {
-    let mut out = Failing::after(writes);
-    let host = MemoryHost::unbound();
-    let told = run(alloc, words, disk, &host, &mut out, &mut Vec::new(alloc));
-    Ok(matches!(told, Err(AnswerFault::Io)))
+/// Whether a write that fails after so many others is told, at a host.
+pub(crate) fn is_told<D: Disk>(
+    rt: &impl Abort,
+    alloc: Global,
+    disk: &D,
+    host: &MemoryHost<'_>,
+    words: Words,
+    others: u32,
+) -> bool {
+    let mut out = Failing::after(others);
+    ended_at(rt, alloc, words, disk, host, &mut out) == Err(AnswerFault::Io)
 }
 
 /// Words, their FEN, and how many writes an answer to them takes at least.
 pub(crate) type Writes = (&'static str, &'static str, u32);
 
-/// That each of so many writes that fails is told, and nothing else.
-pub(crate) fn expect_told<D: Disk>(alloc: Global, disk: &D, row: Writes) -> Result<(), Fail> {
-    let words = words_of(alloc, row.0, row.1)?;
+/// That each of so many writes that fails is told, and nothing else, at a host.
+pub(crate) fn expect_told_at<D: Disk>(
+    rt: &impl Abort,
+    alloc: Global,
+    disk: &D,
+    host: &MemoryHost<'_>,
+    row: Writes,
+) {
     for others in 0..row.2 {
-        if !is_told(alloc, disk, &words, others)? {
-            return Err(Fail::new(format_args!("write {others}")));
-        }
+        let told = is_told(rt, alloc, disk, host, (row.0, row.1), others);
+        assert!(rt; told, "write {others}");
     }
-    Ok(())
+}
+
+/// The same at a host without a port.
+pub(crate) fn expect_told<D: Disk>(rt: &impl Abort, alloc: Global, disk: &D, row: Writes) {
+    expect_told_at(rt, alloc, disk, &MemoryHost::unbound(), row);
 }
 
 /// That each write of each of these answers that fails is told.
-pub(crate) fn expect_all_failures(alloc: Global, rows: &[Writes]) -> Result<(), Fail> {
+pub(crate) fn expect_all_failures(rt: &impl Abort, alloc: Global, rows: &[Writes]) {
     for row in rows {
-        expect_told(alloc, &Folders, *row)?;
+        expect_told(rt, alloc, &Folders, *row);
     }
-    Ok(())
+}
+
+/// The usual start.
+fn start(rt: &impl Abort) -> Position {
+    read(START.as_bytes()).expect(rt, "a start")
+}
+
+/// The stamp of a game of this name from the usual start, without tables.
+pub(crate) fn stamp_of(rt: &impl Abort, name: &[u8]) -> Stamp {
+    Stamp::of(name, &start(rt), b"", 0).expect(rt, "a stamp")
+}
+
+/// The source's message of a move.
+pub(crate) fn move_message(rt: &impl Abort, stamp: Stamp, number: u32, text: &str) -> [u8; 27] {
+    let message = Message::Move {
+        stamp,
+        sender: Sender::Source,
+        number,
+        m: read_move(text.as_bytes()).expect(rt, text),
+    };
+    message.encode()
+}
+
+/// What the first arbiter of such a game is opened from.
+pub(crate) fn setup_of(rt: &impl Abort, alloc: Global, name: &'static [u8]) -> Setup<'static> {
+    Setup {
+        name,
+        start: start(rt),
+        manifest: b"",
+        me: 1,
+        delay: 0,
+        set: Set::new(alloc, 1).expect(rt, "memory"),
+    }
 }

@@ -1,8 +1,12 @@
-//! Folders of tables in memory and manifests, by names that the words of tests have.
+//! Folders of tables in memory and manifests, by names that the words of tests have, and inputs.
+
+ghost use Rattle.std.specs.Prelude.{◌≤◌, length, IfOk};
+ghost use Rattle.adjudicate.specs.Outside.{most_bytes};
 
 use crate::disk::Disk;
 use crate::input::{ReadFault, read_all};
 use std::alloc::{AllocError, Global};
+use std::io::{self, Read};
 
 /// A file by its name or path: how it begins, and its length. The other bytes are zero.
 pub(crate) type File = (&'static str, &'static [u8], usize);
@@ -91,63 +95,94 @@ const QUEEN_ALONE: [File; 2] = [
     ("KQvK.rtbz", &QUEEN_DISTANCE, 80),
 ];
 
-/// The files of the folder of this name.
-fn files_in(folder: &str) -> Option<&'static [File]> {
-    match folder {
-        "abc" => Some(&ABC),
-        "knight" => Some(&KNIGHT_ALONE),
-        "queen" => Some(&QUEEN_ALONE),
-        "worked" => Some(&WORKED),
-        "damaged" => Some(&DAMAGED),
-        "at_fault" => Some(&AT_FAULT),
-        "nothing" => Some(&[]),
-        _ => None,
+/// The folders by their names.
+const ALL_FOLDERS: [(&str, &[File]); 7] = [
+    ("abc", &ABC),
+    ("knight", &KNIGHT_ALONE),
+    ("queen", &QUEEN_ALONE),
+    ("worked", &WORKED),
+    ("damaged", &DAMAGED),
+    ("at_fault", &AT_FAULT),
+    ("nothing", &[]),
+];
+
+/// The files beside this name.
+fn files_by(folders: &[(&str, &'static [File])], name: &str) -> Option<&'static [File]> {
+    for row in folders {
+        if row.0 == name {
+            return Some(row.1);
+        }
     }
+    None
 }
 
+/// The files of the folder of this name.
+fn files_in(folder: &str) -> Option<&'static [File]> {
+    files_by(&ALL_FOLDERS, folder)
+}
+
+/// The manifests by their names.
+const ALL_MANIFESTS: [(&str, &str); 5] = [
+    ("of_abc", ABC_LIST),
+    ("of_knight", KNIGHT_LIST),
+    ("empty", ""),
+    ("x", "x"),
+    ("line_x", "x\n"),
+];
+
 /// The manifest of this name, if there is one.
-fn manifest_of(name: &str) -> Option<&'static [u8]> {
-    match name {
-        "of_abc" => Some(ABC_LIST.as_bytes()),
-        "of_knight" => Some(KNIGHT_LIST.as_bytes()),
-        "empty" => Some(b""),
-        "x" => Some(b"x"),
-        "line_x" => Some(b"x\n"),
-        _ => None,
+fn manifest_of(name: &str) -> Option<&'static str> {
+    for row in &ALL_MANIFESTS {
+        if row.0 == name {
+            return Some(row.1);
+        }
     }
+    None
+}
+
+/// Adds a name.
+pub(crate) fn push_name(
+    alloc: Global,
+    names: &mut Vec<String>,
+    name: &str,
+) -> Result<(), AllocError> {
+    names.push(String::from_str(alloc, name)?)?;
+    Ok(())
 }
 
 /// The names of files.
 fn names_of(alloc: Global, files: &[File]) -> Result<Vec<String>, AllocError> {
     let mut names = Vec::new(alloc);
     for file in files {
-        names.push(String::from_str(alloc, file.0)?)?;
+        push_name(alloc, &mut names, file.0)?;
     }
     Ok(names)
 }
 
-/// The file of this name.
-fn file_at(alloc: Global, files: &[File], name: &str) -> Result<Vec<u8>, ReadFault> {
+/// The file of this name or path.
+pub(crate) fn file_at(files: &'static [File], name: &str) -> Option<File> {
     for file in files {
         if file.0 == name {
-            return Ok(bytes_of(alloc, *file)?);
+            return Some(*file);
         }
     }
-    Err(ReadFault::Unreadable)
+    None
 }
 
-/// The file at a path: a manifest, or a file of a folder.
-fn read_at(alloc: Global, path: &str) -> Result<Vec<u8>, ReadFault> {
-    if let Some(manifest) = manifest_of(path) {
-        return Ok(Vec::from_slice(alloc, manifest)?);
-    }
-    let Some((folder, name)) = path.split_once('/') else {
-        return Err(ReadFault::Unreadable);
+/// Reads a file, where so many bytes are expected.
+pub(crate) fn read_file(alloc: Global, file: File, expected: u64) -> Result<Vec<u8>, ReadFault>
+    ensures { IfOk result (λ bytes. length bytes.items ≤ most_bytes) }
+{
+    let Ok(bytes) = bytes_of(alloc, file) else {
+        return Err(ReadFault::OutOfMemory);
     };
-    match files_in(folder) {
-        Some(files) => file_at(alloc, files, name),
-        None => Err(ReadFault::Unreadable),
-    }
+    read_all(alloc, bytes.as_slice(), expected)
+}
+
+/// The file of a folder at a path.
+fn file_in(path: &str) -> Option<File> {
+    let (folder, name) = path.split_once('/')?;
+    file_at(files_in(folder)?, name)
 }
 
 /// These folders and manifests, and no input.
@@ -170,11 +205,89 @@ impl Disk for Folders {
     }
 
     fn read(&self, alloc: Global, path: &str) -> Result<Vec<u8>, ReadFault> {
-        let bytes = read_at(alloc, path)?;
-        read_all(alloc, bytes.as_slice(), 0)
+        if let Some(manifest) = manifest_of(path) {
+            return read_all(alloc, manifest.as_bytes(), 0);
+        }
+        match file_in(path) {
+            Some(file) => read_file(alloc, file, 0),
+            None => Err(ReadFault::Unreadable),
+        }
     }
 
     fn input(&self, _alloc: Global) -> Result<Vec<u8>, ReadFault> {
         Err(ReadFault::Unreadable)
+    }
+}
+
+/// A reader that gives a byte a call, and fails at one call.
+#[derive(Drop)]
+struct Breaking {
+    calls: u32,
+    fails_at: u32,
+}
+
+impl Read for Breaking {
+    fn read(&mut self, buf: &mut [u8]) -> io::Result<usize> {
+        if self.calls == self.fails_at {
+            return Err(io::Error::from(io::ErrorKind::BrokenPipe));
+        }
+        self.calls = self.calls.wrapping_add(1);
+        match buf {
+            [first, ..] => {
+                *first = 0x53;
+                Ok(1)
+            }
+            [] => Ok(0),
+        }
+    }
+}
+
+/// The folders and an input, which fails at one of its calls, if at any.
+#[derive(Drop)]
+pub(crate) struct Input<'a> {
+    bytes: &'a [u8],
+    fails_at: Option<u32>,
+}
+
+impl<'a> Input<'a> {
+    /// One of these bytes.
+    pub(crate) fn of(bytes: &'a [u8]) -> Input<'a> {
+        Input {
+            bytes,
+            fails_at: None,
+        }
+    }
+
+    /// One that fails after so many calls.
+    pub(crate) fn failing(calls: u32) -> Input<'a> {
+        Input {
+            bytes: &[],
+            fails_at: Some(calls),
+        }
+    }
+}
+
+impl<'a> Disk for Input<'a> {
+    ghost lists = { λ _ _ _. Unit {0} };
+
+    ghost holds = { λ _ _ _. Unit {0} };
+
+    ghost gives = { λ _ _. Unit {0} };
+
+    ghost fails = { λ _ _. Unit {0} };
+
+    fn names(&self, alloc: Global, folder: &str) -> Result<Vec<String>, ReadFault> {
+        Folders.names(alloc, folder)
+    }
+
+    fn read(&self, alloc: Global, path: &str) -> Result<Vec<u8>, ReadFault> {
+        Folders.read(alloc, path)
+    }
+
+    fn input(&self, alloc: Global) -> Result<Vec<u8>, ReadFault> {
+        match self.fails_at {
+            None => read_all(alloc, self.bytes, 0),
+            Some(fails_at) => read_all(alloc, Breaking { calls: 0, fails_at }, 0),
+        }
     }
 }

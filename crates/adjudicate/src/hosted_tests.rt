@@ -3,46 +3,22 @@
 use crate::file_keeper::FileKeeper;
 use crate::fixtures::*;
 use crate::folders::Folders;
-use crate::lines::AnswerFault;
 use crate::memory_file::{MemoryFile, Stands};
 use crate::memory_host::MemoryHost;
-use crate::program::run;
-use arbiter_core::{Arbiter, OpenFault, Setup};
-use board_core::Position;
-use fen_text::{read, read_move};
-use judge_core::Set;
-use move_msg::{Message, Sender, Stamp};
+use arbiter_core::{Arbiter, OpenFault, Refused};
 use std::alloc::Global;
-use std::test::*;
+use std::process::Abort;
 
-/// The usual start.
-fn start() -> Result<Position, Fail> {
-    match read(START.as_bytes()) {
-        Ok(start) => Ok(start),
-        Err(_) => Err(Fail::from("a start")),
-    }
-}
+/// The name of the game.
+const NAME: &[u8] = b"Test";
 
-/// The stamp of the game without tables.
-fn stamp() -> Result<Stamp, Fail> {
-    match Stamp::of(b"Test", &start()?, b"", 0) {
-        Some(stamp) => Ok(stamp),
-        None => Err(Fail::from("a stamp")),
-    }
-}
-
-/// The source's message of a move.
-fn move_message(number: u32, text: &str) -> Result<[u8; 27], Fail> {
-    let Some(m) = read_move(text.as_bytes()) else {
-        return Err(Fail::from("a move"));
-    };
-    let message = Message::Move {
-        stamp: stamp()?,
-        sender: Sender::Source,
-        number,
-        m,
-    };
-    Ok(message.encode())
+/// The source's messages of the first two moves.
+fn first_moves(rt: &impl Abort) -> [[u8; 27]; 2] {
+    let stamp = stamp_of(rt, NAME);
+    [
+        move_message(rt, stamp, 0, "e2e4"),
+        move_message(rt, stamp, 1, "e7e5"),
+    ]
 }
 
 /// How the record of e2e4, e7e5 and g1f3 begins and ends; the stamp is between (record format, version 2).
@@ -50,12 +26,19 @@ const RECORD_FRONT: [u8; 3] = *b"SR\x02";
 
 const RECORD_END: [u8; 12] = [0, 0, 0, 0, 0, 3, 0x07, 0x0C, 0x09, 0x34, 0x05, 0x46];
 
+/// Adds bytes to a record.
+fn add(rt: &impl Abort, record: &mut Vec<u8>, bytes: &[u8]) {
+    record.extend_from_slice(bytes).expect(rt, "memory");
+}
+
 /// The bytes of that record.
-fn record(alloc: Global) -> Result<Vec<u8>, Fail> {
-    let mut bytes = Vec::from_slice(alloc, &RECORD_FRONT)?;
-    bytes.extend_from_slice(&stamp()?.0)?;
-    bytes.extend_from_slice(&RECORD_END)?;
-    Ok(bytes)
+fn record(rt: &impl Abort, alloc: Global) -> Vec<u8> {
+    let stamp = stamp_of(rt, NAME);
+    let mut bytes = Vec::new(alloc);
+    add(rt, &mut bytes, &RECORD_FRONT);
+    add(rt, &mut bytes, &stamp.0);
+    add(rt, &mut bytes, &RECORD_END);
+    bytes
 }
 
 /// A record of no moves with the stamp of another game.
@@ -72,156 +55,162 @@ const WITH_ABC: &str =
 const WITH_NOWHERE: &str =
     "listen --name Test --start FEN --tables nowhere --me 1 --bind b --to t --kept k --datagrams 2";
 
-/// Whether the address can be bound, what stands under the kept name, and what is told.
-#[derive(Clone, Copy)]
-struct Case {
-    is_bound: bool,
-    stands: Stands<'static>,
-    row: Row,
-}
-
-/// All that is refused, the first one first: files, the start, tables, the port, the kept file or what it holds; then a game from
-/// nothing.
-const CASES: [Case; 10] = [
-    Case {
-        is_bound: false,
-        stands: Stands::Unreadable,
-        row: (WITH_NOWHERE, "x", "refused files\n", 1),
-    },
-    Case {
-        is_bound: false,
-        stands: Stands::Unreadable,
-        row: (WITH_ABC, "x", "refused FEN FieldCount\n", 1),
-    },
-    Case {
-        is_bound: false,
-        stands: Stands::Unreadable,
-        row: (WITH_ABC, START, "refused KNvK.rtbw BadSize\n", 1),
-    },
-    Case {
-        is_bound: false,
-        stands: Stands::Unreadable,
-        row: (LISTEN, START, "refused port\n", 1),
-    },
-    Case {
-        is_bound: true,
-        stands: Stands::Unreadable,
-        row: (LISTEN, START, "refused keeper\n", 1),
-    },
-    Case {
-        is_bound: true,
-        stands: Stands::Unsettled,
-        row: (LISTEN, START, "refused keeper\n", 1),
-    },
-    Case {
-        is_bound: true,
-        stands: Stands::Bytes(b"no record"),
-        row: (LISTEN, START, "refused keeper\n", 1),
-    },
-    Case {
-        is_bound: true,
-        stands: Stands::Bytes(&OTHER_GAME),
-        row: (LISTEN, START, "refused keeper\n", 1),
-    },
-    Case {
-        is_bound: true,
-        stands: Stands::Bytes(b""),
-        row: (LISTEN, START, "refused keeper\n", 1),
-    },
-    Case {
-        is_bound: true,
-        stands: Stands::Nothing,
-        row: (LISTEN, START, "ok 1 none\nok 2 none\n", 0),
-    },
+/// What is refused where the address can't be bound and the kept file can't be read, the first one first: files, the start,
+/// tables, the port.
+const UNBOUND: [Row; 4] = [
+    (WITH_NOWHERE, "x", "refused files\n", 1),
+    (WITH_ABC, "x", "refused FEN FieldCount\n", 1),
+    (WITH_ABC, START, "refused KNvK.rtbw BadSize\n", 1),
+    (LISTEN, START, "refused port\n", 1),
 ];
 
+/// What is refused where the address can be bound: the kept file, or what it holds.
+const NO_RECORDS: [Stands<'static>; 5] = [
+    Stands::Unreadable,
+    Stands::Unsettled,
+    Stands::Bytes(b"no record"),
+    Stands::Bytes(&OTHER_GAME),
+    Stands::Bytes(b""),
+];
+
+/// That the program tells so at a host.
+fn expect_hosted(rt: &impl Abort, alloc: Global, host: &MemoryHost<'_>, row: Row) {
+    expect_run_at(rt, alloc, &Folders, host, &mut Vec::new(alloc), row);
+}
+
 /// That the program tells so, where the first two moves come.
-fn expect_case(alloc: Global, is_bound: bool, stands: Stands<'_>, row: Row) -> Result<(), Fail> {
-    let first = move_message(0, "e2e4")?;
-    let second = move_message(1, "e7e5")?;
+fn expect_case(rt: &impl Abort, alloc: Global, is_bound: bool, stands: Stands<'_>, row: Row) {
+    let moves = first_moves(rt);
     let host = MemoryHost {
         is_bound,
-        waiting: &[&first, &second],
+        waiting: &[&moves[0], &moves[1]],
         stands,
     };
-    expect_run_at(alloc, &Folders, &host, &mut Vec::new(alloc), row)
+    expect_hosted(rt, alloc, &host, row);
 }
 
-#[test]
-fn refuses_in_order_and_listens(rt: HostRuntime) -> Result<(), Fail> {
-    for case in &CASES {
-        expect_case(rt.alloc(), case.is_bound, case.stands, case.row)?;
+/// That all is refused so before the port is bound.
+fn expect_unbound(rt: &impl Abort, alloc: Global) {
+    for row in &UNBOUND {
+        expect_case(rt, alloc, false, Stands::Unreadable, *row);
     }
-    Ok(())
 }
 
-/// Why no arbiter is opened over a file with these bytes, and whether the file is left alone.
-fn refusal_over(alloc: Global, bytes: &[u8]) -> Result<(Option<OpenFault>, bool), Fail> {
+/// That what holds no record of the game is refused.
+fn expect_no_keeper(rt: &impl Abort, alloc: Global) {
+    for stands in &NO_RECORDS {
+        let row = (LISTEN, START, "refused keeper\n", 1);
+        expect_case(rt, alloc, true, *stands, row);
+    }
+}
+
+/// All that is refused, the first one first; then a game from nothing.
+#[test]
+fn refuses_in_order_and_listens(rt: HostRuntime) {
+    expect_unbound(&rt, rt.alloc());
+    expect_no_keeper(&rt, rt.alloc());
+    let row = (LISTEN, START, "ok 1 none\nok 2 none\n", 0);
+    expect_case(&rt, rt.alloc(), true, Stands::Nothing, row);
+}
+
+/// A keeper over a file with these bytes.
+fn keeper_over<'a>(rt: &impl Abort, alloc: Global, bytes: &'a [u8]) -> FileKeeper<MemoryFile<'a>> {
     let file = MemoryFile::new(Stands::Bytes(bytes), usize::MAX);
-    let Ok(mut keeper) = FileKeeper::new(alloc, file) else {
-        return Err(Fail::from("a keeper"));
-    };
-    let setup = Setup {
-        name: b"Test",
-        start: start()?,
-        manifest: b"",
-        me: 1,
-        delay: 0,
-        set: Set::new(alloc, 1)?,
-    };
-    let fault = match Arbiter::open(alloc, &mut keeper, setup) {
-        Ok(_) => None,
-        Err(refused) => Some(refused.fault),
-    };
-    Ok((fault, keeper.file().calls()[0].is_none()))
+    FileKeeper::new(alloc, file).ok().expect(rt, "a keeper")
+}
+
+/// The refusal of an arbiter over a keeper, if it is refused.
+fn refusal_over(
+    rt: &impl Abort,
+    alloc: Global,
+    keeper: &mut FileKeeper<MemoryFile<'_>>,
+) -> Option<Refused<'static>> {
+    Arbiter::open(alloc, keeper, setup_of(rt, alloc, NAME)).err()
+}
+
+/// The fault of a refusal.
+fn fault_of(refused: &Option<Refused<'_>>) -> Option<OpenFault> {
+    match refused {
+        Some(refused) => Some(refused.fault),
+        None => None,
+    }
+}
+
+/// Why no arbiter is opened over a keeper.
+fn fault_over(
+    rt: &impl Abort,
+    alloc: Global,
+    keeper: &mut FileKeeper<MemoryFile<'_>>,
+) -> Option<OpenFault> {
+    let refused = refusal_over(rt, alloc, keeper);
+    fault_of(&refused)
+}
+
+/// Whether the file of a keeper was left alone.
+fn is_left_alone(keeper: &FileKeeper<MemoryFile<'_>>) -> bool {
+    keeper.file().calls()[0].is_none()
+}
+
+/// That this holds of a record of so many bytes.
+fn check_record(rt: &impl Abort, holds: bool, length: usize) {
+    assert!(rt; holds, "{length} bytes");
+}
+
+/// That an arbiter is refused so over a file with these bytes, if it is, and the file is left alone.
+fn expect_fault(rt: &impl Abort, alloc: Global, bytes: &[u8], wanted: Option<OpenFault>) {
+    let mut keeper = keeper_over(rt, alloc, bytes);
+    let fault = fault_over(rt, alloc, &mut keeper);
+    check_record(rt, fault == wanted, bytes.len());
+    check_record(rt, is_left_alone(&keeper), bytes.len());
+}
+
+/// That the program tells so over a record.
+fn expect_over(rt: &impl Abort, alloc: Global, bytes: &[u8], lines: &'static str, status: u8) {
+    let row = (LISTEN, START, lines, status);
+    expect_case(rt, alloc, true, Stands::Bytes(bytes), row);
 }
 
 /// That a record that is cut is refused, and stays as it is.
-fn expect_cut(alloc: Global, bytes: &[u8]) -> Result<(), Fail> {
-    if refusal_over(alloc, bytes)? != (Some(OpenFault::BadRecord), true) {
-        return Err(Fail::new(format_args!("{} bytes", bytes.len())));
+fn expect_cut(rt: &impl Abort, alloc: Global, bytes: &[u8]) {
+    expect_fault(rt, alloc, bytes, Some(OpenFault::BadRecord));
+    expect_over(rt, alloc, bytes, "refused keeper\n", 1);
+}
+
+/// That a record that is cut at any place is refused.
+fn expect_all_cuts(rt: &impl Abort, alloc: Global, whole: &[u8]) {
+    for length in 0..whole.len() {
+        expect_cut(rt, alloc, &whole[..length]);
     }
-    let row = (LISTEN, START, "refused keeper\n", 1);
-    expect_case(alloc, true, Stands::Bytes(bytes), row)
 }
 
 /// A record that is cut at any place is refused; the whole one is gone on from, and nothing is written for moves that it has.
 #[test]
-fn refuses_a_record_that_is_cut(rt: HostRuntime) -> Result<(), Fail> {
-    let whole = record(rt.alloc())?;
-    for length in 0..whole.len() {
-        expect_cut(rt.alloc(), &whole[..length])?;
-    }
-    if refusal_over(rt.alloc(), &whole)? != (None, true) {
-        return Err(Fail::from("a whole record"));
-    }
-    let row = (LISTEN, START, "ok 3 none\nok 3 none\n", 0);
-    expect_case(rt.alloc(), true, Stands::Bytes(&whole), row)
+fn refuses_a_record_that_is_cut(rt: HostRuntime) {
+    let whole = record(&rt, rt.alloc());
+    expect_all_cuts(&rt, rt.alloc(), whole.as_slice());
+    expect_fault(&rt, rt.alloc(), whole.as_slice(), None);
+    expect_over(
+        &rt,
+        rt.alloc(),
+        whole.as_slice(),
+        "ok 3 none\nok 3 none\n",
+        0,
+    );
 }
 
-/// Whether the write after so many others that fails is told, where the first two moves come.
-fn is_told_after(alloc: Global, stands: Stands<'_>, others: u32) -> Result<bool, Fail> {
-    let first = move_message(0, "e2e4")?;
-    let second = move_message(1, "e7e5")?;
+/// That each of so many writes that fails is told, where the first two moves come.
+fn expect_told_over(rt: &impl Abort, alloc: Global, stands: Stands<'_>, row: Writes) {
+    let moves = first_moves(rt);
     let host = MemoryHost {
         is_bound: true,
-        waiting: &[&first, &second],
+        waiting: &[&moves[0], &moves[1]],
         stands,
     };
-    let words = words_of(alloc, LISTEN, START)?;
-    let mut out = Failing::after(others);
-    let errors = &mut Vec::new(alloc);
-    let told = run(alloc, &words, &Folders, &host, &mut out, errors);
-    Ok(matches!(told, Err(AnswerFault::Io)))
+    expect_told_at(rt, alloc, &Folders, &host, row);
 }
 
 /// Each write of the lines of a run that fails is told; there are at least eight.
 #[test]
-fn tells_each_failed_write_of_a_run(rt: HostRuntime) -> Result<(), Fail> {
-    for others in 0..8 {
-        if !is_told_after(rt.alloc(), Stands::Nothing, others)? {
-            return Err(Fail::new(format_args!("write {others}")));
-        }
-    }
-    Ok(())
+fn tells_each_failed_write_of_a_run(rt: HostRuntime) {
+    expect_told_over(&rt, rt.alloc(), Stands::Nothing, (LISTEN, START, 8));
 }

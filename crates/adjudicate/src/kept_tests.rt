@@ -1,6 +1,9 @@
 //! The keeper over a file, in memory and of the system.
 
+ghost use Rattle.std.specs.Prelude.{◌≤◌, length};
+
 use crate::file_keeper::FileKeeper;
+use crate::fixtures::check;
 use crate::input::ReadFault;
 use crate::kept_file::KeptFile;
 use crate::memory_file::{Call, MemoryFile, Stands};
@@ -8,71 +11,118 @@ use crate::system_file::SystemFile;
 use arbiter_core::{KeepFault, Keeper};
 use std::alloc::Global;
 use std::fs;
-use std::test::*;
+use std::process::Abort;
+use std::rt::Files;
+
+/// What a keeper keeps.
+fn got<F: KeptFile + Drop>(
+    rt: &impl Abort,
+    alloc: Global,
+    keeper: &mut FileKeeper<F>,
+) -> Option<Vec<u8>> {
+    keeper.get(alloc).expect(rt, "memory")
+}
+
+/// Whether these bytes, or none, are kept.
+fn are_kept(kept: &Option<Vec<u8>>, bytes: Option<&[u8]>) -> bool {
+    match (kept, bytes) {
+        (Some(kept), Some(bytes)) => kept.as_slice() == bytes,
+        (None, None) => true,
+        _ => false,
+    }
+}
 
 /// That a keeper keeps these bytes, or none.
 fn expect_kept<F: KeptFile + Drop>(
+    rt: &impl Abort,
     alloc: Global,
     keeper: &mut FileKeeper<F>,
     bytes: Option<&[u8]>,
-) -> Result<(), Fail> {
-    let same = match (keeper.get(alloc), bytes) {
-        (Ok(Some(kept)), Some(bytes)) => kept.as_slice() == bytes,
-        (Ok(None), None) => true,
-        _ => false,
-    };
-    if same {
-        return Ok(());
-    }
-    Err(Fail::from("other bytes are kept"))
+) {
+    let kept = got(rt, alloc, keeper);
+    check(rt, are_kept(&kept, bytes), "what is kept");
 }
+
+/// Puts bytes.
+fn put_into<F: KeptFile + Drop>(keeper: &mut FileKeeper<F>, bytes: &[u8]) -> Result<(), KeepFault>
+    requires { length bytes.now ≤ 8217 }
+{
+    keeper.put(bytes)
+}
+
+/// What a put tells, the failures so far, and what is stored then.
+struct Put {
+    put: Result<(), KeepFault>,
+    failures: u64,
+    kept: Option<&'static [u8]>,
+}
+
+/// A put of which a call fails.
+const FAILED: Put = Put {
+    put: Err(KeepFault::Failed),
+    failures: 1,
+    kept: None,
+};
+
+/// A put of which no call fails.
+const DONE: Put = Put {
+    put: Ok(()),
+    failures: 0,
+    kept: Some(b"record"),
+};
 
 /// The calls that a put makes, in order.
 const CALLS: [Call; 4] = [Call::Write, Call::Sync, Call::Rename, Call::SyncFolder];
 
-/// That so many calls were made, in order, and no more.
-fn expect_calls(calls: &[Option<Call>], count: usize) -> Result<(), Fail> {
-    for i in 0..calls.len() {
-        let wanted = if i < count {
-            CALLS.get(i).copied()
-        } else {
-            None
-        };
-        if calls[i] != wanted {
-            return Err(Fail::new(format_args!("call {i}")));
-        }
+/// The call of this number where so many were made.
+fn call_at(i: usize, count: usize) -> Option<Call> {
+    if i < count {
+        CALLS.get(i).copied()
+    } else {
+        None
     }
-    Ok(())
 }
 
-/// That a put whose call of this number fails, if there is one, leaves what was stored, and no further call is made.
-fn expect_put(alloc: Global, fails_at: usize) -> Result<(), Fail> {
-    let Ok(mut keeper) = FileKeeper::new(alloc, MemoryFile::new(Stands::Nothing, fails_at)) else {
-        return Err(Fail::from("a keeper"));
-    };
-    let put = keeper.put(b"record");
-    if fails_at < 4 {
-        if put != Err(KeepFault::Failed) || keeper.failures() != 1 {
-            return Err(Fail::from("a put that fails"));
-        }
-        expect_kept(alloc, &mut keeper, None)?;
-        return expect_calls(&keeper.file().calls(), fails_at + 1);
+/// That so many calls were made, in order, and no more.
+fn expect_calls(rt: &impl Abort, calls: &[Option<Call>], count: usize) {
+    for i in 0..calls.len() {
+        check(rt, calls[i] == call_at(i, count), "a call");
     }
-    if put != Ok(()) || keeper.failures() != 0 {
-        return Err(Fail::from("a put"));
-    }
-    expect_kept(alloc, &mut keeper, Some(b"record"))?;
-    expect_calls(&keeper.file().calls(), 4)
+}
+
+/// A keeper over nothing in memory.
+fn new_keeper(rt: &impl Abort, alloc: Global, fails_at: usize) -> FileKeeper<MemoryFile<'static>> {
+    let file = MemoryFile::new(Stands::Nothing, fails_at);
+    FileKeeper::new(alloc, file).ok().expect(rt, "a keeper")
+}
+
+/// That a put tells so.
+fn expect_told(rt: &impl Abort, keeper: &mut FileKeeper<MemoryFile<'_>>, wanted: &Put) {
+    check(rt, put_into(keeper, b"record") == wanted.put, "a put");
+    check(rt, keeper.failures() == wanted.failures, "its failures");
+}
+
+/// That so many calls were made to a keeper's file.
+fn expect_made(rt: &impl Abort, keeper: &FileKeeper<MemoryFile<'_>>, count: usize) {
+    expect_calls(rt, keeper.file().calls().as_slice(), count);
+}
+
+/// That a put whose call of this number fails, if there is one, tells and leaves so, and no further call is made.
+fn expect_put(rt: &impl Abort, alloc: Global, fails_at: usize, wanted: &Put, calls: usize) {
+    let mut keeper = new_keeper(rt, alloc, fails_at);
+    expect_told(rt, &mut keeper, wanted);
+    expect_kept(rt, alloc, &mut keeper, wanted.kept);
+    expect_made(rt, &keeper, calls);
 }
 
 /// Bytes are written beside, synced and renamed, the folder is synced, and only then they are stored; each of the calls fails
 /// in turn.
 #[test]
-fn stores_what_has_come_to_the_name(rt: HostRuntime) -> Result<(), Fail> {
-    for fails_at in 0..5 {
-        expect_put(rt.alloc(), fails_at)?;
+fn stores_what_has_come_to_the_name(rt: HostRuntime) {
+    for fails_at in 0..4usize {
+        expect_put(&rt, rt.alloc(), fails_at, &FAILED, fails_at + 1);
     }
-    Ok(())
+    expect_put(&rt, rt.alloc(), 4, &DONE, 4);
 }
 
 /// The folder of the test, its kept file and the one beside it.
@@ -82,60 +132,84 @@ const KEPT: &str = "/tmp/adjudicate-test-kept/kept";
 
 const BESIDE: &str = "/tmp/adjudicate-test-kept/kept.new";
 
-/// A keeper over the kept file, or why there is none.
-fn keeper_at<'a>(
-    rt: &'a HostRuntime,
+/// A file of the system.
+fn file_at<'a, R: Files + AllocGlobal + Abort>(rt: &'a R, path: &str) -> SystemFile<'a, R> {
+    SystemFile::at(rt, rt.alloc(), path).expect(rt, "memory")
+}
+
+/// A keeper over it, or why there is none.
+fn keeper_at<'a, R: Files + AllocGlobal + Abort>(
+    rt: &'a R,
     path: &str,
-) -> Result<Result<FileKeeper<SystemFile<'a, HostRuntime>>, ReadFault>, Fail> {
-    let file = SystemFile::at(rt, rt.alloc(), path)?;
-    Ok(FileKeeper::new(rt.alloc(), file))
+) -> Result<FileKeeper<SystemFile<'a, R>>, ReadFault> {
+    FileKeeper::new(rt.alloc(), file_at(rt, path))
+}
+
+/// A keeper over the kept file.
+fn kept_at<'a, R: Files + AllocGlobal + Abort>(rt: &'a R) -> FileKeeper<SystemFile<'a, R>> {
+    keeper_at(rt, KEPT).ok().expect(rt, "a file that is read")
 }
 
 /// That the kept file is read as these bytes.
-fn expect_read(rt: &HostRuntime, bytes: Option<&[u8]>) -> Result<(), Fail> {
-    match keeper_at(rt, KEPT)? {
-        Ok(mut keeper) => expect_kept(rt.alloc(), &mut keeper, bytes),
-        Err(_) => Err(Fail::from("a file that is read")),
-    }
+fn expect_read<R: Files + AllocGlobal + Abort>(rt: &R, bytes: Option<&[u8]>) {
+    expect_kept(rt, rt.alloc(), &mut kept_at(rt), bytes);
+}
+
+/// Whether there is no keeper since a file can't be read.
+fn is_unreadable<F: KeptFile + Drop>(keeper: &Result<FileKeeper<F>, ReadFault>) -> bool {
+    matches!(keeper, Err(ReadFault::Unreadable))
 }
 
 /// That what stands at a path is refused.
-fn expect_unread(rt: &HostRuntime, path: &str) -> Result<(), Fail> {
-    match keeper_at(rt, path)? {
-        Err(ReadFault::Unreadable) => Ok(()),
-        _ => Err(Fail::from("a file that isn't read")),
-    }
+fn expect_unread<R: Files + AllocGlobal + Abort>(rt: &R, path: &str) {
+    let keeper = keeper_at(rt, path);
+    check(rt, is_unreadable(&keeper), path);
 }
 
-/// That bytes are put into the kept file.
-fn expect_put_at(rt: &HostRuntime, bytes: &[u8]) -> Result<(), Fail> {
-    if bytes.len() > 8217 {
-        return Err(Fail::from("too many bytes"));
-    }
-    match keeper_at(rt, KEPT)? {
-        Ok(mut keeper) => match keeper.put(bytes) {
-            Ok(()) => expect_read(rt, Some(bytes)),
-            Err(_) => Err(Fail::from("a put")),
-        },
-        Err(_) => Err(Fail::from("a file that is read")),
-    }
+/// Puts bytes into the kept file.
+fn put_at<R: Files + AllocGlobal + Abort>(rt: &R, bytes: &[u8]) -> Result<(), KeepFault>
+    requires { length bytes.now ≤ 8217 }
+{
+    put_into(&mut kept_at(rt), bytes)
+}
+
+/// That bytes are put into the kept file, and read again.
+fn expect_put_at<R: Files + AllocGlobal + Abort>(rt: &R, bytes: &[u8])
+    requires { length bytes.now ≤ 8217 }
+{
+    check(rt, put_at(rt, bytes) == Ok(()), "a put");
+    expect_read(rt, Some(bytes));
+}
+
+/// Makes a folder, in place of what an earlier run may have left.
+fn make_folder<R: Files + AllocGlobal + Abort>(rt: &R, path: &str) {
+    let _left = fs::remove_dir_all(rt, path).is_ok();
+    fs::create_dir(rt, path).expect(rt, "a folder");
+}
+
+/// Takes a folder away.
+fn remove_folder<R: Files + AllocGlobal + Abort>(rt: &R, path: &str) {
+    fs::remove_dir_all(rt, path).expect(rt, "a folder");
+}
+
+/// Leaves a file beside, as an earlier run may.
+fn leave_beside<R: Files + AllocGlobal + Abort>(rt: &R) {
+    fs::write(rt, BESIDE, "left over").expect(rt, "a file");
 }
 
 /// A file that isn't there is nothing kept; what is put is read again; what an earlier run left beside it changes nothing.
 #[test]
-fn keeps_a_file_of_the_system(rt: HostRuntime) -> Result<(), Fail> {
-    // What an earlier run may have left.
-    let _left = fs::remove_dir_all(&rt, FOLDER).is_ok();
-    fs::create_dir(&rt, FOLDER)?;
-    expect_read(&rt, None)?;
-    fs::write(&rt, BESIDE, "left over")?;
-    expect_read(&rt, None)?;
-    expect_put_at(&rt, b"first")?;
-    expect_put_at(&rt, b"second, and longer")?;
-    fs::write(&rt, BESIDE, "left over")?;
-    expect_read(&rt, Some(b"second, and longer"))?;
-    expect_put_at(&rt, b"3")?;
-    Ok(fs::remove_dir_all(&rt, FOLDER)?)
+fn keeps_a_file_of_the_system(rt: HostRuntime) {
+    make_folder(&rt, FOLDER);
+    expect_read(&rt, None);
+    leave_beside(&rt);
+    expect_read(&rt, None);
+    expect_put_at(&rt, b"first");
+    expect_put_at(&rt, b"second, and longer");
+    leave_beside(&rt);
+    expect_read(&rt, Some(b"second, and longer"));
+    expect_put_at(&rt, b"3");
+    remove_folder(&rt, FOLDER);
 }
 
 /// The folder of the other test.
@@ -146,16 +220,26 @@ const LONG: &str = "/tmp/adjudicate-test-unkept/long";
 /// Where there is no folder there is nothing to sync, and no file to read.
 const NOWHERE: &str = "/tmp/adjudicate-test-unkept/missing/kept";
 
+/// More bytes than a kept file may have.
+fn many_bytes(rt: &impl Abort, alloc: Global) -> Vec<u8> {
+    let mut bytes = Vec::new(alloc);
+    bytes.resize(8218, 1).expect(rt, "memory");
+    bytes
+}
+
+/// Writes a file of so many bytes.
+fn write_long<R: Files + AllocGlobal + Abort>(rt: &R) {
+    let bytes = many_bytes(rt, rt.alloc());
+    fs::write(rt, LONG, bytes.as_slice()).expect(rt, "a file");
+}
+
 /// A folder in the file's place, a file of too many bytes and a file in a folder that isn't there are refused.
 #[test]
-fn keeps_no_file_that_it_cannot_read(rt: HostRuntime) -> Result<(), Fail> {
-    let _left = fs::remove_dir_all(&rt, OTHER).is_ok();
-    fs::create_dir(&rt, OTHER)?;
-    expect_unread(&rt, OTHER)?;
-    let mut bytes = Vec::new(rt.alloc());
-    bytes.resize(8218, 1)?;
-    fs::write(&rt, LONG, bytes.as_slice())?;
-    expect_unread(&rt, LONG)?;
-    expect_unread(&rt, NOWHERE)?;
-    Ok(fs::remove_dir_all(&rt, OTHER)?)
+fn keeps_no_file_that_it_cannot_read(rt: HostRuntime) {
+    make_folder(&rt, OTHER);
+    expect_unread(&rt, OTHER);
+    write_long(&rt);
+    expect_unread(&rt, LONG);
+    expect_unread(&rt, NOWHERE);
+    remove_folder(&rt, OTHER);
 }

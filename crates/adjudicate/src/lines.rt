@@ -289,11 +289,7 @@ fn fmt_named<W: fmt::Write>(f: &mut fmt::Formatter<W>, name: &str, word: &str) -
 }
 
 /// Tells that a file is refused.
-fn fmt_refused_file<W: fmt::Write>(
-    f: &mut fmt::Formatter<W>,
-    name: &str,
-    word: &str,
-) -> fmt::Result
+fn fmt_refused_file<W: fmt::Write>(f: &mut fmt::Formatter<W>, name: &str, word: &str) -> fmt::Result
     ensures { DisplaysOnOk W.Write.write_str_gives f.old result (Some (refused_file name.now word.now)) f.new }
 {
     write!(f, "refused {name} {word}")

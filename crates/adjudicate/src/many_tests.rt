@@ -1,12 +1,11 @@
 //! Many positions, and games told by their moves.
 
 use crate::fixtures::*;
+use crate::folders::Input;
 use crate::memory_host::MemoryHost;
-use crate::program::run;
-use crate::schedule_tests::Scheduled;
-use std::alloc::{AllocError, Global};
+use std::alloc::Global;
 use std::io::Write;
-use std::test::*;
+use std::process::Abort;
 
 /// Rook h1 against queen b1; the rook is taken at ply 4.
 const ROOK_FEN: &str = "8/8/8/4k3/8/8/K7/1Q5r b - - 0 1";
@@ -21,18 +20,27 @@ struct Given {
 }
 
 /// That the program tells so of the input.
-fn expect_given(alloc: Global, given: &Given) -> Result<(), Fail> {
-    let disk = Scheduled { text: given.input };
+fn expect_given(rt: &impl Abort, alloc: Global, given: &Given) {
     let row = (given.words, given.fen, given.lines, given.status);
-    expect_run(alloc, &disk, &mut Vec::new(alloc), row)
+    expect_row(rt, alloc, &Input::of(given.input.as_bytes()), row);
 }
+
+/// That it tells so of the input of each row.
+fn expect_all_given(rt: &impl Abort, alloc: Global, rows: &[Given]) {
+    for given in rows {
+        expect_given(rt, alloc, given);
+    }
+}
+
+/// A position, a text that is none, and a position without a table.
+const THREE_LINES: &str = "8/8/8/4k3/8/8/8/KN6 w - - 0 1\n8/8 w\n8/8/8/4k3/8/8/8/KR6 w - - 0 1";
 
 /// A position, a text that is none, and one without a table at the end, without a line feed; no line; an empty one.
 const POSITIONS: [Given; 9] = [
     Given {
         words: "probes --tables worked",
         fen: "",
-        input: "8/8/8/4k3/8/8/8/KN6 w - - 0 1\n8/8 w\n8/8/8/4k3/8/8/8/KR6 w - - 0 1",
+        input: THREE_LINES,
         lines: "0\t0\tTableDraw\nrefused FEN FieldCount\nrefused NotCovered KRvK\trefused NotCovered KRvK\topen\n",
         status: 1,
     },
@@ -97,11 +105,8 @@ const POSITIONS: [Given; 9] = [
 ];
 
 #[test]
-fn probes_many_positions(rt: HostRuntime) -> Result<(), Fail> {
-    for given in &POSITIONS {
-        expect_given(rt.alloc(), given)?;
-    }
-    Ok(())
+fn probes_many_positions(rt: HostRuntime) {
+    expect_all_given(&rt, rt.alloc(), &POSITIONS);
 }
 
 const GAMES: [Given; 10] = [
@@ -179,76 +184,64 @@ const GAMES: [Given; 10] = [
 ];
 
 #[test]
-fn judges_games(rt: HostRuntime) -> Result<(), Fail> {
-    for given in &GAMES {
-        expect_given(rt.alloc(), given)?;
-    }
-    Ok(())
+fn judges_games(rt: HostRuntime) {
+    expect_all_given(&rt, rt.alloc(), &GAMES);
 }
 
 /// Lines that are no positions, so many that it is told twice how many are done.
-fn many_lines(alloc: Global) -> Result<String, AllocError> {
-    let mut text = String::new(alloc);
-    for _ in 0..20_001 {
-        text.push_str("\n")?;
-    }
-    Ok(text)
+fn many_lines(rt: &impl Abort, alloc: Global) -> Vec<u8> {
+    let mut lines = Vec::new(alloc);
+    lines.resize(20_001, b'\n').expect(rt, "memory");
+    lines
+}
+
+/// Whether the words are answered by a refusal over an input, with this writer for what is told on the way.
+fn is_refused<E: Write>(
+    rt: &impl Abort,
+    alloc: Global,
+    words: &'static str,
+    input: &Input<'_>,
+    errors: &mut E,
+) -> bool {
+    let mut out = Vec::new(alloc);
+    let host = MemoryHost::unbound();
+    ended_on(rt, alloc, (words, ""), input, &host, &mut out, errors) == Ok(1)
 }
 
 /// That the words are answered over many lines, with this writer for what is told on the way.
-fn expect_refusals<E: Write>(
-    alloc: Global,
-    words: &'static str,
-    errors: &mut E,
-) -> Result<(), Fail> {
-    let text = many_lines(alloc)?;
-    let disk = Scheduled { text: &text };
-    let words = words_of(alloc, words, "")?;
-    let mut out = Vec::new(alloc);
-    match run(
-        alloc,
-        &words,
-        &disk,
-        &MemoryHost::unbound(),
-        &mut out,
-        errors,
-    ) {
-        Ok(1) => Ok(()),
-        _ => Err(Fail::from("a refusal")),
-    }
+fn expect_refusals<E: Write>(rt: &impl Abort, alloc: Global, words: &'static str, errors: &mut E) {
+    let lines = many_lines(rt, alloc);
+    let refused = is_refused(rt, alloc, words, &Input::of(lines.as_slice()), errors);
+    check(rt, refused, "a refusal");
+}
+
+/// That the words are answered over many lines, and this is told on the way.
+fn expect_on_the_way(rt: &impl Abort, alloc: Global, words: &'static str, wanted: &str) {
+    let mut told = Vec::new(alloc);
+    expect_refusals(rt, alloc, words, &mut told);
+    check(rt, told.as_slice() == wanted.as_bytes(), words);
 }
 
 #[test]
-fn tells_how_many_are_done(rt: HostRuntime) -> Result<(), Fail> {
-    let mut told = Vec::new(rt.alloc());
-    expect_refusals(rt.alloc(), "probes --tables worked --progress", &mut told)?;
-    assert!(rt; told.as_slice() == b"10000 done\n20000 done\n".as_slice());
-    Ok(())
+fn tells_how_many_are_done(rt: HostRuntime) {
+    let words = "probes --tables worked --progress";
+    expect_on_the_way(&rt, rt.alloc(), words, "10000 done\n20000 done\n");
 }
 
 #[test]
-fn tells_nothing_on_the_way_unasked(rt: HostRuntime) -> Result<(), Fail> {
-    let mut told = Vec::new(rt.alloc());
-    expect_refusals(rt.alloc(), "probes --tables worked", &mut told)?;
-    assert!(rt; told.is_empty());
-    Ok(())
+fn tells_nothing_on_the_way_unasked(rt: HostRuntime) {
+    expect_on_the_way(&rt, rt.alloc(), "probes --tables worked", "");
 }
 
 #[test]
-fn progress_that_fails_changes_nothing(rt: HostRuntime) -> Result<(), Fail> {
-    let mut failing = Failing::after(0);
-    expect_refusals(
-        rt.alloc(),
-        "probes --tables worked --progress",
-        &mut failing,
-    )
+fn progress_that_fails_changes_nothing(rt: HostRuntime) {
+    let words = "probes --tables worked --progress";
+    expect_refusals(&rt, rt.alloc(), words, &mut Failing::after(0));
 }
 
 #[test]
-fn tells_each_failed_write_of_many(rt: HostRuntime) -> Result<(), Fail> {
-    let disk = Scheduled {
-        text: POSITIONS[0].input,
-    };
-    expect_told(rt.alloc(), &disk, ("probes --tables worked", "", 3))?;
-    expect_told(rt.alloc(), &disk, ("game FEN", ROOK_FEN, 1))
+fn tells_each_failed_write_of_many(rt: HostRuntime) {
+    let disk = Input::of(THREE_LINES.as_bytes());
+    expect_told(&rt, rt.alloc(), &disk, ("probes --tables worked", "", 3));
+    expect_told(&rt, rt.alloc(), &disk, ("game FEN", ROOK_FEN, 1));
 }

@@ -1,5 +1,6 @@
 //! A kept file in memory, which fails when it is told to.
 
+ghost use Rattle.std.specs.Prelude.{◌≤◌, length, IfOk, IfSome};
 
 use crate::input::{ReadFault, read_at_most};
 use crate::kept_file::KeptFile;
@@ -7,7 +8,7 @@ use std::alloc::Global;
 use std::io;
 
 /// A call that changes a file.
-#[derive(Clone, Copy, PartialEq, Eq, Debug)]
+#[derive(Clone, Copy, PartialEq, Eq)]
 pub(crate) enum Call {
     Write,
     Sync,
@@ -26,6 +27,16 @@ pub(crate) enum Stands<'a> {
     Unreadable,
     /// A file in a folder that can't be synced.
     Unsettled,
+}
+
+/// What is read of a file with these bytes.
+fn read_bytes(alloc: Global, bytes: &[u8]) -> Result<Option<Vec<u8>>, ReadFault>
+    ensures { IfOk result (λ got. IfSome got (λ v. length v.items ≤ 8217)) }
+{
+    match read_at_most(alloc, bytes, 0, 8217) {
+        Ok(bytes) => Ok(Some(bytes)),
+        Err(fault) => Err(fault),
+    }
 }
 
 /// A file, and the calls that were made to change it.
@@ -85,7 +96,7 @@ impl<'a> KeptFile for MemoryFile<'a> {
 
     fn read(&self, alloc: Global) -> Result<Option<Vec<u8>>, ReadFault> {
         match self.stands {
-            Stands::Bytes(bytes) => Ok(Some(read_at_most(alloc, bytes, 0, 8217)?)),
+            Stands::Bytes(bytes) => read_bytes(alloc, bytes),
             Stands::Nothing => Ok(None),
             Stands::Unreadable | Stands::Unsettled => Err(ReadFault::Unreadable),
         }

@@ -1,6 +1,6 @@
 //! A port in memory, which fails when it is told to.
 
-ghost use Rattle.std.specs.Prelude.{◌≡◌, ◌≤◌, ◌∷◌, [], map, IsTrue, IfNone};
+ghost use Rattle.std.specs.Prelude.{◌≡◌, ◌≤◌, ◌∷◌, [], map, IsTrue, IfNone, IfSome};
 ghost use Rattle.arbiter_core.specs.Keeping.{Risen};
 ghost use Rattle.adjudicate.specs.Ports.{Passes, passing, told_if};
 
@@ -13,6 +13,29 @@ pub(crate) struct Event {
     pub(crate) is_missed: bool,
     pub(crate) is_handed: bool,
     pub(crate) bytes: Vec<u8>,
+}
+
+/// What passes; none where memory is refused.
+fn event_of(alloc: Global, is_missed: bool, is_handed: bool, bytes: &[u8]) -> Option<Event>
+    ensures { IfSome result (λ e. passing e.is_missed e.is_handed e.bytes.items ≡ passing is_missed is_handed bytes.now) }
+{
+    match Vec::from_slice(alloc, bytes) {
+        Ok(bytes) => Some(Event {
+            is_missed,
+            is_handed,
+            bytes,
+        }),
+        Err(_) => None,
+    }
+}
+
+/// Puts the first 64 bytes of a datagram at the front of a buffer, and tells how many they are.
+fn fill(buffer: &mut [u8; 64], datagram: &[u8]) -> usize
+    ensures { result ≤ 64 }
+{
+    let length = datagram.len().min(64);
+    buffer[..length].copy_from_slice(&datagram[..length]);
+    length
 }
 
 /// Gives the datagrams of a list, and keeps all that passes.
@@ -57,14 +80,9 @@ impl<'a> MemoryPort<'a> {
         ensures passes { Passes (told_if self.old.is_whole (map (λ e. passing e.is_missed e.is_handed e.bytes.items) self.old.events.items)) (told_if self.new.is_whole (map (λ e. passing e.is_missed e.is_handed e.bytes.items) self.new.events.items)) (passing is_missed is_handed bytes.now ∷ []) }
         ensures same { self.new.failures ≡ self.old.failures }
     {
-        let Ok(bytes) = Vec::from_slice(self.alloc, bytes) else {
+        let Some(event) = event_of(self.alloc, is_missed, is_handed, bytes) else {
             self.is_whole = false;
             return;
-        };
-        let event = Event {
-            is_missed,
-            is_handed,
-            bytes,
         };
         let Ok(()) = self.events.push(event) else {
             self.is_whole = false;
@@ -115,8 +133,7 @@ impl<'a> Port for MemoryPort<'a> {
     fn receive(&mut self, buffer: &mut [u8; 64]) -> Result<usize, PortFault> {
         match self.next() {
             Some(datagram) => {
-                let length = datagram.len().min(64);
-                buffer[..length].copy_from_slice(&datagram[..length]);
+                let length = fill(buffer, datagram);
                 self.note(false, false, &buffer[..length]);
                 Ok(length)
             }

@@ -3,9 +3,8 @@
 use crate::disk::Disk;
 use crate::fixtures::*;
 use crate::folders::*;
-use crate::input::{ReadFault, read_all};
+use crate::input::ReadFault;
 use std::alloc::{AllocError, Global};
-use std::test::*;
 
 /// One folder, `tables`, with these names, parted by spaces, and files by their paths. A name without a file can't be
 /// read.
@@ -18,7 +17,7 @@ struct Memory {
 fn names_of(alloc: Global, text: &str) -> Result<Vec<String>, AllocError> {
     let mut names = Vec::new(alloc);
     for name in text.split_ascii_whitespace() {
-        names.push(String::from_str(alloc, name)?)?;
+        push_name(alloc, &mut names, name)?;
     }
     Ok(names)
 }
@@ -40,26 +39,15 @@ impl Disk for Memory {
     }
 
     fn read(&self, alloc: Global, path: &str) -> Result<Vec<u8>, ReadFault> {
-        for file in self.files {
-            if file.0 == path {
-                let bytes = bytes_of(alloc, *file)?;
-                return read_all(alloc, bytes.as_slice(), 80);
-            }
+        match file_at(self.files, path) {
+            Some(file) => read_file(alloc, file, 80),
+            None => Err(ReadFault::Unreadable),
         }
-        Err(ReadFault::Unreadable)
     }
 
     fn input(&self, _alloc: Global) -> Result<Vec<u8>, ReadFault> {
         Err(ReadFault::Unreadable)
     }
-}
-
-/// That the program tells so for the words of each row.
-fn expect_runs(alloc: Global, disk: &Memory, rows: &[Row]) -> Result<(), Fail> {
-    for row in rows {
-        expect_run(alloc, disk, &mut Vec::new(alloc), *row)?;
-    }
-    Ok(())
 }
 
 const KNIGHT_FILE: File = ("tables/KNvK.rtbw", &KNIGHT, 80);
@@ -90,8 +78,8 @@ const TOLD_OF_THE_KNIGHT: [Row; 3] = [
 ];
 
 #[test]
-fn passes_over_other_names(rt: HostRuntime) -> Result<(), Fail> {
-    expect_runs(rt.alloc(), &KNIGHT_ALONE, &TOLD_OF_THE_KNIGHT)
+fn passes_over_other_names(rt: HostRuntime) {
+    expect_rows(&rt, rt.alloc(), &KNIGHT_ALONE, &TOLD_OF_THE_KNIGHT);
 }
 
 /// A folder and files that can't be read, and words that are left out.
@@ -117,8 +105,8 @@ const REFUSALS: [Row; 8] = [
 ];
 
 #[test]
-fn refuses_what_it_cannot_read(rt: HostRuntime) -> Result<(), Fail> {
-    expect_runs(rt.alloc(), &KNIGHT_ALONE, &REFUSALS)
+fn refuses_what_it_cannot_read(rt: HostRuntime) {
+    expect_rows(&rt, rt.alloc(), &KNIGHT_ALONE, &REFUSALS);
 }
 
 /// Two more tables can't be read.
@@ -152,8 +140,8 @@ const TOLD_BY_A_MANIFEST: [Row; 5] = [
 ];
 
 #[test]
-fn reads_what_a_manifest_names(rt: HostRuntime) -> Result<(), Fail> {
-    expect_runs(rt.alloc(), &UNREADABLE, &TOLD_BY_A_MANIFEST)
+fn reads_what_a_manifest_names(rt: HostRuntime) {
+    expect_rows(&rt, rt.alloc(), &UNREADABLE, &TOLD_BY_A_MANIFEST);
 }
 
 /// An empty folder.
@@ -174,8 +162,8 @@ const TOLD_OF_NO_TABLE: [Row; 3] = [
 ];
 
 #[test]
-fn misses_what_a_manifest_names(rt: HostRuntime) -> Result<(), Fail> {
-    expect_runs(rt.alloc(), &NO_TABLE, &TOLD_OF_NO_TABLE)
+fn misses_what_a_manifest_names(rt: HostRuntime) {
+    expect_rows(&rt, rt.alloc(), &NO_TABLE, &TOLD_OF_NO_TABLE);
 }
 
 /// A folder that lists the later name first.
@@ -202,8 +190,8 @@ const TOLD_OF_BOTH: [Row; 3] = [
 ];
 
 #[test]
-fn reads_all_tables_of_a_folder(rt: HostRuntime) -> Result<(), Fail> {
-    expect_runs(rt.alloc(), &TWO_TABLES, &TOLD_OF_BOTH)
+fn reads_all_tables_of_a_folder(rt: HostRuntime) {
+    expect_rows(&rt, rt.alloc(), &TWO_TABLES, &TOLD_OF_BOTH);
 }
 
 /// The knight's file is another than that of the manifest.
@@ -238,8 +226,8 @@ const TOLD_OF_A_CHANGE: [Row; 2] = [
 ];
 
 #[test]
-fn tells_a_changed_table_of_a_folder(rt: HostRuntime) -> Result<(), Fail> {
-    expect_runs(rt.alloc(), &CHANGED, &TOLD_OF_A_CHANGE)
+fn tells_a_changed_table_of_a_folder(rt: HostRuntime) {
+    expect_rows(&rt, rt.alloc(), &CHANGED, &TOLD_OF_A_CHANGE);
 }
 
 /// Three tables and distances, the names in no order.
@@ -266,8 +254,8 @@ const TOLD_OF_FOUR: [Row; 3] = [
 ];
 
 #[test]
-fn reads_distances_and_three_tables(rt: HostRuntime) -> Result<(), Fail> {
-    expect_runs(rt.alloc(), &FOUR_FILES, &TOLD_OF_FOUR)
+fn reads_distances_and_three_tables(rt: HostRuntime) {
+    expect_rows(&rt, rt.alloc(), &FOUR_FILES, &TOLD_OF_FOUR);
 }
 
 /// A folder that lists a name twice isn't read.
@@ -277,7 +265,7 @@ const TWICE: Memory = Memory {
 };
 
 #[test]
-fn reads_no_folder_that_lists_a_name_twice(rt: HostRuntime) -> Result<(), Fail> {
-    let rows = [("list tables", "", "refused files\n", 1)];
-    expect_runs(rt.alloc(), &TWICE, &rows)
+fn reads_no_folder_that_lists_a_name_twice(rt: HostRuntime) {
+    let row = ("list tables", "", "refused files\n", 1);
+    expect_row(&rt, rt.alloc(), &TWICE, row);
 }

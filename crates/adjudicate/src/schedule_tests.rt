@@ -1,49 +1,20 @@
 //! Schedules that are run, and those that are refused.
 
-use crate::disk::Disk;
 use crate::fixtures::*;
-use crate::folders::Folders;
-use crate::input::{ReadFault, read_all};
-use crate::memory_host::MemoryHost;
-use crate::program::run;
+use crate::folders::{Folders, Input};
 use std::alloc::{AllocError, Global};
-use std::test::*;
+use std::process::Abort;
 
-/// The folders of the other tests, and a schedule as input.
-#[derive(Drop)]
-pub(crate) struct Scheduled<'a> {
-    pub(crate) text: &'a str,
+/// That the program tells so of the schedule of a row, its second text.
+fn expect_schedule(rt: &impl Abort, alloc: Global, row: Row) {
+    expect_row(rt, alloc, &Input::of(row.1.as_bytes()), row);
 }
 
-impl<'a> Disk for Scheduled<'a> {
-    ghost lists = { λ _ _ _. Unit {0} };
-
-    ghost holds = { λ _ _ _. Unit {0} };
-
-    ghost gives = { λ _ _. Unit {0} };
-
-    ghost fails = { λ _ _. Unit {0} };
-
-    fn names(&self, alloc: Global, folder: &str) -> Result<Vec<String>, ReadFault> {
-        Folders.names(alloc, folder)
-    }
-
-    fn read(&self, alloc: Global, path: &str) -> Result<Vec<u8>, ReadFault> {
-        Folders.read(alloc, path)
-    }
-
-    fn input(&self, alloc: Global) -> Result<Vec<u8>, ReadFault> {
-        read_all(alloc, self.text.as_bytes(), 0)
-    }
-}
-
-/// That the program tells so of the schedule of each row, its second text.
-fn expect_schedules(alloc: Global, rows: &[Row]) -> Result<(), Fail> {
+/// That it tells so of the schedule of each row.
+fn expect_schedules(rt: &impl Abort, alloc: Global, rows: &[Row]) {
     for row in rows {
-        let disk = Scheduled { text: row.1 };
-        expect_run(alloc, &disk, &mut Vec::new(alloc), *row)?;
+        expect_schedule(rt, alloc, *row);
     }
-    Ok(())
 }
 
 /// One put that keeps the new record and fails; the move that waited is played once A is opened again.
@@ -110,8 +81,8 @@ const OPENINGS: [Row; 3] = [
 ];
 
 #[test]
-fn runs_an_opening(rt: HostRuntime) -> Result<(), Fail> {
-    expect_schedules(rt.alloc(), &OPENINGS)
+fn runs_an_opening(rt: HostRuntime) {
+    expect_schedules(&rt, rt.alloc(), &OPENINGS);
 }
 
 /// The first put keeps the new record and fails.
@@ -167,8 +138,8 @@ const FIRST_PUTS: [Row; 4] = [
 ];
 
 #[test]
-fn tells_first_puts(rt: HostRuntime) -> Result<(), Fail> {
-    expect_schedules(rt.alloc(), &FIRST_PUTS)
+fn tells_first_puts(rt: HostRuntime) {
+    expect_schedules(&rt, rt.alloc(), &FIRST_PUTS);
 }
 
 /// Two bare kings and a move.
@@ -265,8 +236,8 @@ const BY_DELAY: [Row; 8] = [
 ];
 
 #[test]
-fn rules_by_the_delay(rt: HostRuntime) -> Result<(), Fail> {
-    expect_schedules(rt.alloc(), &BY_DELAY)
+fn rules_by_the_delay(rt: HostRuntime) {
+    expect_schedules(&rt, rt.alloc(), &BY_DELAY);
 }
 
 /// What follows an event that went wrong: both are opened again, and each move comes again to both.
@@ -294,49 +265,55 @@ deliver B 8 good
 
 /// Adds a line, with this keep in place of `good`.
 fn add_line(text: &mut String, line: &str, keep: &str) -> Result<(), AllocError> {
-    let Some(front) = line.strip_suffix("good") else {
-        text.push_str(line)?;
-        return text.push_str("\n");
-    };
-    text.push_str(front)?;
-    text.push_str(keep)?;
+    match line.strip_suffix("good") {
+        Some(front) => {
+            text.push_str(front)?;
+            text.push_str(keep)?;
+        }
+        None => text.push_str(line)?,
+    }
     text.push_str("\n")
 }
 
-/// The ending with this keep at the line of this number, the first being 0, and all of it again.
-fn ending_with(alloc: Global, at: usize, keep: &str) -> Result<String, AllocError> {
-    let mut text = String::new(alloc);
+/// Adds the ending with this keep at the line of this number, the first being 0.
+fn add_ending(text: &mut String, at: usize, keep: &str) -> Result<(), AllocError> {
     for (number, line) in ENDING.lines().enumerate() {
-        add_line(&mut text, line, if number == at { keep } else { "good" })?;
+        add_line(text, line, if number == at { keep } else { "good" })?;
     }
-    text.push_str(AGAIN)?;
-    Ok(text)
+    Ok(())
+}
+
+/// That ending and all of it again.
+fn ending_with(rt: &impl Abort, alloc: Global, at: usize, keep: &str) -> String {
+    let mut text = String::new(alloc);
+    add_ending(&mut text, at, keep).expect(rt, "memory");
+    text.push_str(AGAIN).expect(rt, "memory");
+    text
 }
 
 /// What is told first of both arbiters at the end.
 const BOTH_AT_PLY_4: &str = "A running 4 TableWhite\nB running 4 TableWhite\nsent ";
 
+/// Whether both record the verdict at the end of a schedule.
+fn recovers(rt: &impl Abort, alloc: Global, text: &str) -> bool {
+    let words = ("run --tables queen", "");
+    begins_with(rt, alloc, &Input::of(text.as_bytes()), words, BOTH_AT_PLY_4)
+}
+
 /// That both record the verdict after all, where this keep is at this line.
-fn expect_recovery(alloc: Global, at: usize, keep: &str) -> Result<(), Fail> {
-    let text = ending_with(alloc, at, keep)?;
-    let disk = Scheduled { text: &text };
-    let words = words_of(alloc, "run --tables queen", "")?;
-    let mut out = Vec::new(alloc);
-    let host = MemoryHost::unbound();
-    match run(alloc, &words, &disk, &host, &mut out, &mut Vec::new(alloc)) {
-        Ok(0) if out.starts_with(BOTH_AT_PLY_4.as_bytes()) => Ok(()),
-        _ => Err(Fail::new(format_args!("line {at} {keep}"))),
-    }
+fn expect_recovery(rt: &impl Abort, alloc: Global, at: usize, keep: &str) {
+    let text = ending_with(rt, alloc, at, keep);
+    let recovered = recovers(rt, alloc, text.as_str());
+    assert!(rt; recovered, "line {at} {keep}");
 }
 
 /// The lines of the ending from 3 on are its 29 events.
 #[test]
-fn recovers_from_each_failed_put(rt: HostRuntime) -> Result<(), Fail> {
+fn recovers_from_each_failed_put(rt: HostRuntime) {
     for at in 3..32 {
-        expect_recovery(rt.alloc(), at, "old")?;
-        expect_recovery(rt.alloc(), at, "new")?;
+        expect_recovery(&rt, rt.alloc(), at, "old");
+        expect_recovery(&rt, rt.alloc(), at, "new");
     }
-    Ok(())
 }
 
 /// The fifth line names nobody.
@@ -368,8 +345,8 @@ const REFUSALS: [Row; 6] = [
 ];
 
 #[test]
-fn refuses_lines_before_tables(rt: HostRuntime) -> Result<(), Fail> {
-    expect_schedules(rt.alloc(), &REFUSALS)
+fn refuses_lines_before_tables(rt: HostRuntime) {
+    expect_schedules(&rt, rt.alloc(), &REFUSALS);
 }
 
 /// Numbers that `run` doesn't take, and words that it hasn't.
@@ -384,17 +361,17 @@ const MISUSES: [Row; 7] = [
 ];
 
 #[test]
-fn takes_numbers_in_their_ranges(rt: HostRuntime) -> Result<(), Fail> {
-    expect_schedules(rt.alloc(), &MISUSES)
+fn takes_numbers_in_their_ranges(rt: HostRuntime) {
+    expect_schedules(&rt, rt.alloc(), &MISUSES);
 }
 
 #[test]
-fn needs_the_input(rt: HostRuntime) -> Result<(), Fail> {
-    expect_answers(rt.alloc(), &[("run", "", "refused files\n", 1)])
+fn needs_the_input(rt: HostRuntime) {
+    expect_row(&rt, rt.alloc(), &Folders, ("run", "", "refused files\n", 1));
 }
 
 #[test]
-fn tells_each_failed_write_of_a_world(rt: HostRuntime) -> Result<(), Fail> {
-    let disk = Scheduled { text: FIRST_NEW };
-    expect_told(rt.alloc(), &disk, ("run", "", 12))
+fn tells_each_failed_write_of_a_world(rt: HostRuntime) {
+    let disk = Input::of(FIRST_NEW.as_bytes());
+    expect_told(&rt, rt.alloc(), &disk, ("run", "", 12));
 }

@@ -2,7 +2,6 @@
 
 use crate::fixtures::*;
 use crate::folders::*;
-use std::test::*;
 
 const ROOK_FEN: &str = "8/8/8/4k3/8/8/8/KR6 w - - 0 1";
 
@@ -46,8 +45,8 @@ const VERDICTS: [Row; 10] = [
 ];
 
 #[test]
-fn judges_by_tables(rt: HostRuntime) -> Result<(), Fail> {
-    expect_answers(rt.alloc(), &VERDICTS)
+fn judges_by_tables(rt: HostRuntime) {
+    expect_answers(&rt, rt.alloc(), &VERDICTS);
 }
 
 /// What the worked tables tell of the same positions.
@@ -80,8 +79,8 @@ const PROBES: [Row; 10] = [
 ];
 
 #[test]
-fn probes_by_tables(rt: HostRuntime) -> Result<(), Fail> {
-    expect_answers(rt.alloc(), &PROBES)
+fn probes_by_tables(rt: HostRuntime) {
+    expect_answers(&rt, rt.alloc(), &PROBES);
 }
 
 const NO_KNIGHT: &str = "wdl refused Damaged KNvK\ndtz refused Damaged KNvK\n";
@@ -97,8 +96,8 @@ const FAULTS: [Row; 4] = [
 ];
 
 #[test]
-fn needs_each_table(rt: HostRuntime) -> Result<(), Fail> {
-    expect_answers(rt.alloc(), &FAULTS)
+fn needs_each_table(rt: HostRuntime) {
+    expect_answers(&rt, rt.alloc(), &FAULTS);
 }
 
 const BAD_SIZE: &str = "refused KNvK.rtbw BadSize\n";
@@ -131,8 +130,8 @@ const LISTS_AND_CHECKS: [Row; 7] = [
 ];
 
 #[test]
-fn lists_and_checks_files(rt: HostRuntime) -> Result<(), Fail> {
-    expect_answers(rt.alloc(), &LISTS_AND_CHECKS)
+fn lists_and_checks_files(rt: HostRuntime) {
+    expect_answers(&rt, rt.alloc(), &LISTS_AND_CHECKS);
 }
 
 /// The text is refused first, then the manifest, then the first file at fault. A file that the
@@ -187,8 +186,8 @@ const REFUSALS: [Row; 11] = [
 ];
 
 #[test]
-fn tells_the_first_refusal(rt: HostRuntime) -> Result<(), Fail> {
-    expect_answers(rt.alloc(), &REFUSALS)
+fn tells_the_first_refusal(rt: HostRuntime) {
+    expect_answers(&rt, rt.alloc(), &REFUSALS);
 }
 
 /// The writes of answers by the table of a knight, and with a manifest that is not its own.
@@ -201,6 +200,6 @@ const WRITES: [Writes; 5] = [
 ];
 
 #[test]
-fn tells_each_failed_write_of_tables(rt: HostRuntime) -> Result<(), Fail> {
-    expect_all_failures(rt.alloc(), &WRITES)
+fn tells_each_failed_write_of_tables(rt: HostRuntime) {
+    expect_all_failures(&rt, rt.alloc(), &WRITES);
 }

@@ -1,14 +1,11 @@
 //! The worked rows, refusals of words, and writers that fail.
 
 use crate::commands::{Task, parse};
-use crate::disk::Disk;
 use crate::fixtures::*;
-use crate::input::ReadFault;
-use crate::memory_host::MemoryHost;
-use crate::program::run;
+use crate::folders::Folders;
 use crate::usage::Usage;
 use std::alloc::Global;
-use std::test::*;
+use std::process::Abort;
 
 /// Verdicts without tables, and texts that are refused.
 const VERDICTS: [Row; 14] = [
@@ -89,8 +86,8 @@ const VERDICTS: [Row; 14] = [
 ];
 
 #[test]
-fn judges_the_worked_rows(rt: HostRuntime) -> Result<(), Fail> {
-    expect_answers(rt.alloc(), &VERDICTS)
+fn judges_the_worked_rows(rt: HostRuntime) {
+    expect_answers(&rt, rt.alloc(), &VERDICTS);
 }
 
 /// All legal moves of positions, and a text that is refused.
@@ -123,40 +120,38 @@ const MOVES: [Row; 5] = [
 ];
 
 #[test]
-fn lists_the_worked_moves(rt: HostRuntime) -> Result<(), Fail> {
-    expect_answers(rt.alloc(), &MOVES)
-}
-
-/// That the list of the moves of a position begins so.
-fn expect_beginning(alloc: Global, fen: &str, first: &[u8]) -> Result<(), Fail> {
-    let mut lines = Vec::new(alloc);
-    let words = ["moves", fen];
-    match run(
-        alloc,
-        &words,
-        &NoDisk,
-        &MemoryHost::unbound(),
-        &mut lines,
-        &mut Vec::new(alloc),
-    ) {
-        Ok(0) if lines.starts_with(first) => Ok(()),
-        _ => Err(Fail::new(fen)),
-    }
+fn lists_the_worked_moves(rt: HostRuntime) {
+    expect_answers(&rt, rt.alloc(), &MOVES);
 }
 
 #[test]
-fn lists_the_moves_of_the_start_in_order(rt: HostRuntime) -> Result<(), Fail> {
-    expect_beginning(rt.alloc(), START, b"b1a3\nb1c3\ng1f3\n")
+fn lists_the_moves_of_the_start_in_order(rt: HostRuntime) {
+    let words = ("moves FEN", START);
+    let begins = begins_with(&rt, rt.alloc(), &Folders, words, "b1a3\nb1c3\ng1f3\n");
+    check(&rt, begins, START);
+}
+
+/// What words are read as, without its contract.
+fn parsed<'a>(alloc: Global, words: &'a [&'a str]) -> Result<Task<'a>, Usage> {
+    parse(alloc, words)
+}
+
+/// The name of a task.
+fn name_of(task: &Task<'_>, wanted: &str) -> &'static str {
+    match task {
+        Task::Show => "show",
+        Task::Moves { fen } if *fen == wanted => "moves",
+        Task::Judge { fen, .. } if *fen == wanted => "judge",
+        _ => "another",
+    }
 }
 
 /// The name of the task that words are read as.
 fn task_of(alloc: Global, words: &[&str], wanted: &str) -> &'static str {
-    match parse(alloc, words) {
+    match parsed(alloc, words) {
+        Ok(task) => name_of(&task, wanted),
         Err(Usage::Misuse) => "misuse",
-        Ok(Task::Show) => "show",
-        Ok(Task::Moves { fen }) if fen == wanted => "moves",
-        Ok(Task::Judge { fen, .. }) if fen == wanted => "judge",
-        _ => "another",
+        Err(Usage::OutOfMemory) => "another",
     }
 }
 
@@ -177,43 +172,19 @@ const TASKS: [(&str, &str, &str); 12] = [
 ];
 
 /// That words are read as a task.
-fn expect_task(alloc: Global, words: &str, fen: &str, task: &str) -> Result<(), Fail> {
-    if task_of(alloc, &words_of(alloc, words, fen)?, fen) == task {
-        return Ok(());
-    }
-    Err(Fail::new(words))
+fn expect_task(rt: &impl Abort, alloc: Global, words: Words, task: &str) {
+    let read = words_of(rt, alloc, words);
+    check(
+        rt,
+        task_of(alloc, read.as_slice(), words.1) == task,
+        words.0,
+    );
 }
 
 #[test]
-fn reads_words_as_tasks(rt: HostRuntime) -> Result<(), Fail> {
+fn reads_words_as_tasks(rt: HostRuntime) {
     for row in &TASKS {
-        expect_task(rt.alloc(), row.0, row.1, row.2)?;
-    }
-    Ok(())
-}
-
-/// No folder and no file.
-struct NoDisk;
-
-impl Disk for NoDisk {
-    ghost lists = { λ _ _ _. Unit {0} };
-
-    ghost holds = { λ _ _ _. Unit {0} };
-
-    ghost gives = { λ _ _. Unit {0} };
-
-    ghost fails = { λ _ _. Unit {0} };
-
-    fn names(&self, _alloc: Global, _folder: &str) -> Result<Vec<String>, ReadFault> {
-        Err(ReadFault::Unreadable)
-    }
-
-    fn read(&self, _alloc: Global, _path: &str) -> Result<Vec<u8>, ReadFault> {
-        Err(ReadFault::Unreadable)
-    }
-
-    fn input(&self, _alloc: Global) -> Result<Vec<u8>, ReadFault> {
-        Err(ReadFault::Unreadable)
+        expect_task(&rt, rt.alloc(), (row.0, row.1), row.2);
     }
 }
 
@@ -231,29 +202,28 @@ const STATUSES: [Row; 4] = [
 ];
 
 /// That the program tells so, and its use where it ends with status 2.
-fn expect_status(alloc: Global, row: Row) -> Result<(), Fail> {
+fn expect_status(rt: &impl Abort, alloc: Global, row: Row) {
     let mut errors = Vec::new(alloc);
-    expect_run(alloc, &NoDisk, &mut errors, row)?;
-    if errors.starts_with(b"usage: ") == (row.3 == 2) {
-        return Ok(());
-    }
-    Err(Fail::from("its use"))
+    expect_run(rt, alloc, &Folders, &mut errors, row);
+    check(
+        rt,
+        errors.starts_with(b"usage: ") == (row.3 == 2),
+        "its use",
+    );
 }
 
 #[test]
-fn tells_each_status(rt: HostRuntime) -> Result<(), Fail> {
+fn tells_each_status(rt: HostRuntime) {
     for row in &STATUSES {
-        expect_status(rt.alloc(), *row)?;
+        expect_status(&rt, rt.alloc(), *row);
     }
-    Ok(())
 }
 
 #[test]
-fn tells_each_status_where_its_use_cannot_be_written(rt: HostRuntime) -> Result<(), Fail> {
+fn tells_each_status_where_its_use_cannot_be_written(rt: HostRuntime) {
     for row in &STATUSES {
-        expect_run(rt.alloc(), &NoDisk, &mut Failing::after(0), *row)?;
+        expect_run(&rt, rt.alloc(), &Folders, &mut Failing::after(0), *row);
     }
-    Ok(())
 }
 
 /// The writes of the moves of the start, of a verdict, and of a refusal.
@@ -264,6 +234,6 @@ const WRITES: [Writes; 3] = [
 ];
 
 #[test]
-fn tells_each_failed_write(rt: HostRuntime) -> Result<(), Fail> {
-    expect_all_failures(rt.alloc(), &WRITES)
+fn tells_each_failed_write(rt: HostRuntime) {
+    expect_all_failures(&rt, rt.alloc(), &WRITES);
 }

@@ -92,8 +92,11 @@ struct Counts {
     captures: usize,
 }
 
-/// The usual start, two castlings for each side, and a position whose counts are published.
-const COUNTS: [Counts; 4] = [
+/// A position whose counts are published.
+const MIDDLE_GAME: &str = "r3k2r/p1ppqpb1/bn2pnp1/3PN3/1p2P3/2N2Q1p/PPPBBPPP/R3K2R w KQkq - 0 1";
+
+/// The usual start, two castlings for each side, the published position, and en passant.
+const COUNTS: [Counts; 5] = [
     Counts {
         text: START,
         moves: 20,
@@ -110,9 +113,14 @@ const COUNTS: [Counts; 4] = [
         captures: 2,
     },
     Counts {
-        text: "r3k2r/p1ppqpb1/bn2pnp1/3PN3/1p2P3/2N2Q1p/PPPBBPPP/R3K2R w KQkq - 0 1",
+        text: MIDDLE_GAME,
         moves: 48,
         captures: 8,
+    },
+    Counts {
+        text: "8/8/8/8/k2pP3/8/8/K7 b - e3 0 1",
+        moves: 7,
+        captures: 1,
     },
 ];
 
@@ -167,6 +175,94 @@ fn moves_are_counted(rt: HostRuntime) {
     for counts in &COUNTS {
         check_counts(&rt, rt.alloc(), counts);
     }
+}
+
+/// A position, and the number of ways to play so many moves from there, as it is published.
+struct Ways {
+    text: &'static str,
+    moves: u32,
+    ways: u32,
+}
+
+// Further positions whose counts are published.
+const ROOK_ENDING: &str = "8/2p5/3p4/KP5r/1R3p1k/8/4P1P1/8 w - - 0 1";
+
+const PROMOTIONS: &str = "r3k2r/Pppp1ppp/1b3nbN/nP6/BBP1P3/q4N2/Pp1P2PP/R2Q1RK1 w kq - 0 1";
+
+const SEVENTH_RANK: &str = "rnbq1k1r/pp1Pbppp/2p5/8/2B5/8/PPP1NnPP/RNBQK2R w KQ - 1 8";
+
+const WAYS: [Ways; 7] = [
+    Ways {
+        text: START,
+        moves: 2,
+        ways: 400,
+    },
+    Ways {
+        text: START,
+        moves: 3,
+        ways: 8902,
+    },
+    Ways {
+        text: MIDDLE_GAME,
+        moves: 2,
+        ways: 2039,
+    },
+    Ways {
+        text: ROOK_ENDING,
+        moves: 2,
+        ways: 191,
+    },
+    Ways {
+        text: ROOK_ENDING,
+        moves: 3,
+        ways: 2812,
+    },
+    Ways {
+        text: PROMOTIONS,
+        moves: 2,
+        ways: 264,
+    },
+    Ways {
+        text: SEVENTH_RANK,
+        moves: 2,
+        ways: 1486,
+    },
+];
+
+/// The number of ways to play so many moves from a position.
+fn count_ways(alloc: Global, position: &Position, moves: u32) -> Result<u32, AllocError> {
+    if moves == 0 {
+        return Ok(1);
+    }
+    let mut ways = 0u32;
+    for m in &position.legal(alloc)? {
+        if let Some(next) = position.play(*m) {
+            ways = ways.wrapping_add(count_ways(alloc, &next, moves - 1)?);
+        }
+    }
+    Ok(ways)
+}
+
+fn check_ways(rt: &impl Abort, alloc: Global, row: &Ways) {
+    let ways = count_ways(alloc, &position_of(rt, row.text), row.moves).expect(rt, "memory");
+    check_same(rt, ways, row.ways, row.text);
+}
+
+#[test]
+fn ways_to_play_are_counted(rt: HostRuntime) {
+    for row in &WAYS {
+        check_ways(&rt, rt.alloc(), row);
+    }
+}
+
+/// White is in check by a pawn other than the one that made the double step, so that taking that
+/// one en passant doesn't end the check.
+#[test]
+fn en_passant_must_end_the_check(rt: HostRuntime) {
+    let text = "1R4rr/RN2ppp1/8/pPp3pp/2p1R2K/p1p4P/3ppQNB/2kB2Rr w - c6 3 24";
+    let position = position_of(&rt, text);
+    check_same(&rt, position.in_check(), true, text);
+    check_same(&rt, is_legal(&rt, &position, "b5c6"), false, text);
 }
 
 fn played(position: &Position, m: Move) -> Option<Position> {

@@ -55,16 +55,18 @@ fn opened<'a>(rt: &impl Abort, alloc: Global, name: &str, file: &'a [u8]) -> Tab
     open(alloc, name.as_bytes(), file).expect(rt, name)
 }
 
+fn add<'a>(rt: &impl Abort, alloc: Global, set: &mut Set<'a>, name: &str, file: &'a [u8]) {
+    set.add(opened(rt, alloc, name, file)).expect(rt, name);
+}
+
 /// A set of both tables that may keep so many blocks.
 fn set_of<'a>(rt: &impl Abort, alloc: Global, files: &'a [Vec<u8>; 2], cache: usize) -> Set<'a>
     requires some { 1 ≤ cache }
     requires most { cache ≤ 4096 }
 {
     let mut set = Set::new(alloc, cache).expect(rt, "a set");
-    set.add(opened(rt, alloc, "KQvK.rtbw", &files[0]))
-        .expect(rt, "a queen");
-    set.add(opened(rt, alloc, "KRvK.rtbw", &files[1]))
-        .expect(rt, "a rook");
+    add(rt, alloc, &mut set, "KQvK.rtbw", &files[0]);
+    add(rt, alloc, &mut set, "KRvK.rtbw", &files[1]);
     set
 }
 
@@ -87,18 +89,34 @@ fn first_values(rt: &impl Abort, alloc: Global, files: &[Vec<u8>; 2], row: &[&st
     told
 }
 
-/// Both tables in turn, over and over, until each block is decoded and read again; then how many blocks are kept.
+/// Both tables in turn, over and over, until each block is decoded and read again.
+fn check_round(
+    rt: &impl Abort,
+    alloc: Global,
+    set: &mut Set<'_>,
+    row: &[&str; 2],
+    wanted: (i8, i8),
+) {
+    for _ in 0..300u16 {
+        check_same(rt, values(rt, alloc, set, row), wanted, row[0]);
+    }
+}
+
+/// The same for each row, against a set that has kept nothing yet.
+fn check_rows(rt: &impl Abort, alloc: Global, set: &mut Set<'_>, files: &[Vec<u8>; 2]) {
+    for row in &ROWS {
+        let wanted = first_values(rt, alloc, files, row);
+        check_round(rt, alloc, set, row, wanted);
+    }
+}
+
+/// The rounds of a set that may keep so many blocks; then how many it keeps.
 fn check_rounds(rt: &impl Abort, alloc: Global, files: &[Vec<u8>; 2], cache: usize) -> usize
     requires some { 1 ≤ cache }
     requires most { cache ≤ 4096 }
 {
     let mut set = set_of(rt, alloc, files, cache);
-    for row in &ROWS {
-        let wanted = first_values(rt, alloc, files, row);
-        for _ in 0..300u16 {
-            check_same(rt, values(rt, alloc, &mut set, row), wanted, row[0]);
-        }
-    }
+    check_rows(rt, alloc, &mut set, files);
     set.kept_blocks()
 }
 
@@ -111,15 +129,19 @@ fn caches_change_no_answer(rt: HostRuntime) {
     check_same(&rt, kept.max(3), kept, "many");
 }
 
+fn check_told_apart(rt: &impl Abort, alloc: Global, set: &mut Set<'_>) {
+    for _ in 0..300u16 {
+        let told = values(rt, alloc, set, &ROWS[0]);
+        check_same(rt, told.0 as i16, 2 * (told.1 as i16), ROWS[0][0]);
+    }
+}
+
 /// The queen's values are 4 and 0, the rook's in their places 3 and 1: a win is one under the rule of fifty moves or not.
 #[test]
 fn tables_with_equal_blocks_are_told_apart(rt: HostRuntime) {
     let files = files(&rt, rt.alloc());
     let mut set = set_of(&rt, rt.alloc(), &files, 2);
-    for _ in 0..300u16 {
-        let told = values(&rt, rt.alloc(), &mut set, &ROWS[0]);
-        check_same(&rt, told.0 as i16, 2 * (told.1 as i16), ROWS[0][0]);
-    }
+    check_told_apart(&rt, rt.alloc(), &mut set);
 }
 
 /// Three queens, which are a draw by the table that is forged for them.
@@ -131,8 +153,7 @@ fn queens_set<'a>(rt: &impl Abort, alloc: Global, file: &'a [u8], cache: usize) 
     requires most { cache ≤ 4096 }
 {
     let mut set = Set::new(alloc, cache).expect(rt, "a set");
-    set.add(opened(rt, alloc, "KQQQvK.rtbw", file))
-        .expect(rt, "three queens");
+    add(rt, alloc, &mut set, "KQQQvK.rtbw", file);
     set
 }
 
@@ -140,18 +161,27 @@ fn verdict(rt: &impl Abort, alloc: Global, set: &mut Set<'_>, row: &str) -> Opti
     set.judge(alloc, &position_of(rt, row)).expect(rt, row)
 }
 
-/// The same draw over and over, until its block is decoded and read again, by a set that may keep so many blocks.
+/// The same draw over and over, until its block is decoded and read again.
+fn check_draws(rt: &impl Abort, alloc: Global, set: &mut Set<'_>) {
+    for _ in 0..300u16 {
+        check_same(rt, value(rt, alloc, set, QUEENS), 0, QUEENS);
+    }
+}
+
+fn check_draw(rt: &impl Abort, alloc: Global, set: &mut Set<'_>) {
+    let told = verdict(rt, alloc, set, QUEENS);
+    check_same(rt, told, Some(Verdict::TableDraw), QUEENS);
+    check_same(rt, set.kept_blocks(), 1, QUEENS);
+}
+
+/// The draw by a set that may keep so many blocks.
 fn check_queens(rt: &impl Abort, alloc: Global, file: &[u8], cache: usize)
     requires some { 1 ≤ cache }
     requires most { cache ≤ 4096 }
 {
     let mut set = queens_set(rt, alloc, file, cache);
-    for _ in 0..300u16 {
-        check_same(rt, value(rt, alloc, &mut set, QUEENS), 0, QUEENS);
-    }
-    let told = verdict(rt, alloc, &mut set, QUEENS);
-    check_same(rt, told, Some(Verdict::TableDraw), QUEENS);
-    check_same(rt, set.kept_blocks(), 1, QUEENS);
+    check_draws(rt, alloc, &mut set);
+    check_draw(rt, alloc, &mut set);
 }
 
 #[test]

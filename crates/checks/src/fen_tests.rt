@@ -62,7 +62,7 @@ fn check_written(rt: &impl Abort, text: &str) {
 
 #[test]
 fn positions_are_written_as_they_are_read(rt: HostRuntime) {
-    for text in TEXTS {
+    for text in &TEXTS {
         check_written(&rt, text);
     }
 }
@@ -120,7 +120,7 @@ fn is_move(text: &str) -> bool {
 
 #[test]
 fn other_texts_are_no_moves(rt: HostRuntime) {
-    for text in NO_MOVES {
+    for text in &NO_MOVES {
         check_same(&rt, is_move(text), false, text);
     }
 }

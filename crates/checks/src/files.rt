@@ -1,7 +1,7 @@
 //! Forged table files of 80 bytes, by the bytes that aren't zero at their end: single values for both sides, and for all files
 //! where there are pawns.
 
-use std::alloc::{AllocError, Global};
+use std::alloc::Global;
 use std::process::Abort;
 
 /// A knight draws.
@@ -150,52 +150,72 @@ pub(crate) fn files_of(first: &[u8], second: &[u8]) -> [[u8; 80]; 2] {
     [file_of(first), file_of(second)]
 }
 
-/// The sparse entries: of each 256 values the block of the middle one, and its offset there.
-fn push_entries(bytes: &mut Vec<u8>) -> Result<(), AllocError> {
-    for k in 0u16..123 {
-        let middle = 256 * k + 128;
-        let block = if middle < 31332 { middle / 100 } else { 314 };
-        let offset = if middle < 31332 {
-            middle % 100
-        } else {
-            middle - 31332
-        };
-        bytes.extend_from_slice(&(block as u32).to_le_bytes())?;
-        bytes.extend_from_slice(&offset.to_le_bytes())?;
+/// Appends bytes.
+pub(crate) fn push_bytes(rt: &impl Abort, bytes: &mut Vec<u8>, more: &[u8]) {
+    assert!(rt; bytes.extend_from_slice(more).is_ok());
+}
+
+/// Fills up to a length.
+pub(crate) fn fill(rt: &impl Abort, bytes: &mut Vec<u8>, length: usize, byte: u8) {
+    assert!(rt; bytes.resize(length, byte).is_ok());
+}
+
+/// The same bytes so many times.
+fn repeat(rt: &impl Abort, bytes: &mut Vec<u8>, count: u16, more: &[u8]) {
+    for _ in 0..count {
+        push_bytes(rt, bytes, more);
     }
-    Ok(())
+}
+
+/// The block of a value, and its offset there.
+fn spot(middle: u16) -> (u16, u16) {
+    if middle < 31332 {
+        (middle / 100, middle % 100)
+    } else {
+        (314, middle.saturating_sub(31332))
+    }
+}
+
+fn push_entry(rt: &impl Abort, bytes: &mut Vec<u8>, block: u16, offset: u16) {
+    push_bytes(rt, bytes, &(block as u32).to_le_bytes());
+    push_bytes(rt, bytes, &offset.to_le_bytes());
+}
+
+/// The sparse entries: of each 256 values the block of the middle one, and its offset there.
+fn push_entries(rt: &impl Abort, bytes: &mut Vec<u8>) {
+    for k in 0u16..123 {
+        let (block, offset) = spot(256 * k + 128);
+        push_entry(rt, bytes, block, offset);
+    }
 }
 
 /// The block lengths less one, the last one of the padding entry.
-fn push_lengths(bytes: &mut Vec<u8>) -> Result<(), AllocError> {
-    for _ in 0..313 {
-        bytes.extend_from_slice(&[99, 0])?;
-    }
-    bytes.extend_from_slice(&[31, 0, 0xFF, 0xFF])
+fn push_lengths(rt: &impl Abort, bytes: &mut Vec<u8>) {
+    repeat(rt, bytes, 313, &[99, 0]);
+    push_bytes(rt, bytes, &[31, 0, 0xFF, 0xFF]);
 }
 
 /// 313 blocks of fifty pairs 4 0, and one of sixteen.
-fn push_blocks(bytes: &mut Vec<u8>) -> Result<(), AllocError> {
-    for _ in 0..313 {
-        bytes.extend_from_slice(&[0xFF, 0xFF, 0xFF, 0xFF, 0xFF, 0xFF, 0xC0, 0])?;
-    }
-    bytes.extend_from_slice(&[0xFF, 0xFF, 0, 0, 0, 0, 0, 0])
+fn push_blocks(rt: &impl Abort, bytes: &mut Vec<u8>) {
+    repeat(
+        rt,
+        bytes,
+        313,
+        &[0xFF, 0xFF, 0xFF, 0xFF, 0xFF, 0xFF, 0xC0, 0],
+    );
+    push_bytes(rt, bytes, &[0xFF, 0xFF, 0, 0, 0, 0, 0, 0]);
 }
 
 /// The whole queen's table with blocks, 3984 bytes.
-fn queen(alloc: Global) -> Result<Vec<u8>, AllocError> {
-    let mut bytes = QUEEN_BLOCKS.to_vec(alloc)?;
-    push_entries(&mut bytes)?;
-    push_lengths(&mut bytes)?;
-    bytes.resize(1408, 0)?;
-    push_blocks(&mut bytes)?;
-    bytes.resize(3984, 0)?;
-    Ok(bytes)
-}
-
-/// The whole queen's table with blocks, where there is memory.
 pub(crate) fn queen_file(rt: &impl Abort, alloc: Global) -> Vec<u8> {
-    queen(alloc).expect(rt, "memory")
+    let mut bytes = Vec::new(alloc);
+    push_bytes(rt, &mut bytes, &QUEEN_BLOCKS);
+    push_entries(rt, &mut bytes);
+    push_lengths(rt, &mut bytes);
+    fill(rt, &mut bytes, 1408, 0);
+    push_blocks(rt, &mut bytes);
+    fill(rt, &mut bytes, 3984, 0);
+    bytes
 }
 
 /// The bytes of a table of three queens before its sparse entries. Side 0 has 267 blocks of 32 bytes and spans of 65536
@@ -209,25 +229,24 @@ const QUEENS_BLOCKS: [u8; 70] = [
     0x07, 0x70, 0x00, 0x00, 0x80, 0x02,
 ];
 
-/// The whole table of three queens, 10832 bytes: each block has 256 times the last symbol, 65536 values, and the last block
-/// is cut to 40264.
-fn queens(alloc: Global) -> Result<Vec<u8>, AllocError> {
-    let mut bytes = QUEENS_BLOCKS.to_vec(alloc)?;
+/// The sparse entry of each block, in its middle.
+fn push_middles(rt: &impl Abort, bytes: &mut Vec<u8>) {
     for block in 0u16..267 {
-        bytes.extend_from_slice(&block.to_le_bytes())?;
-        bytes.extend_from_slice(&[0, 0, 0, 0x80])?;
+        push_bytes(rt, bytes, &block.to_le_bytes());
+        push_bytes(rt, bytes, &[0, 0, 0, 0x80]);
     }
-    for _ in 0..266 {
-        bytes.extend_from_slice(&[0xFF, 0xFF])?;
-    }
-    bytes.extend_from_slice(&40263u16.to_le_bytes())?;
-    bytes.resize(2240, 0)?;
-    bytes.resize(10784, 0xFF)?;
-    bytes.resize(10832, 0)?;
-    Ok(bytes)
 }
 
-/// The whole table of three queens, where there is memory.
+/// The whole table of three queens, 10832 bytes: each block has 256 times the last symbol, 65536 values, and the last block
+/// is cut to 40264.
 pub(crate) fn queens_file(rt: &impl Abort, alloc: Global) -> Vec<u8> {
-    queens(alloc).expect(rt, "memory")
+    let mut bytes = Vec::new(alloc);
+    push_bytes(rt, &mut bytes, &QUEENS_BLOCKS);
+    push_middles(rt, &mut bytes);
+    repeat(rt, &mut bytes, 266, &[0xFF, 0xFF]);
+    push_bytes(rt, &mut bytes, &40263u16.to_le_bytes());
+    fill(rt, &mut bytes, 2240, 0);
+    fill(rt, &mut bytes, 10784, 0xFF);
+    fill(rt, &mut bytes, 10832, 0);
+    bytes
 }

@@ -4,25 +4,25 @@ use crate::comparing::{check_bytes, check_same};
 use crate::files::{BISHOP, KNIGHT, PAWN, PAWNS, QUEEN, QUEEN_PLIES, file_of, queen_file};
 use crate::index_tests::material;
 use crate::table_tests::{distance, table_of};
-use std::alloc::{AllocError, Global};
+use std::alloc::Global;
 use std::io::{self, Write};
 use std::process::Abort;
 use table_file::{
     Content, ForgeFault, Kind, MapsPlan, Outcome, PairsPlan, PartPlan, Plan, Table, forge,
 };
 
-/// Maps of wins and of cursed wins alone.
-fn maps_of(alloc: Global, win: &[u16], cursed_win: &[u16]) -> Result<MapsPlan, AllocError> {
-    Ok(MapsPlan {
-        win: win.to_vec(alloc)?,
-        loss: Vec::new(alloc),
-        cursed_win: cursed_win.to_vec(alloc)?,
-        blessed_loss: Vec::new(alloc),
-    })
+fn words_of(rt: &impl Abort, alloc: Global, words: &[u16]) -> Vec<u16> {
+    words.to_vec(alloc).expect(rt, "memory")
 }
 
+/// Maps of wins and of cursed wins alone.
 fn maps(rt: &impl Abort, alloc: Global, win: &[u16], cursed_win: &[u16]) -> MapsPlan {
-    maps_of(alloc, win, cursed_win).expect(rt, "memory")
+    MapsPlan {
+        win: words_of(rt, alloc, win),
+        loss: Vec::new(alloc),
+        cursed_win: words_of(rt, alloc, cursed_win),
+        blessed_loss: Vec::new(alloc),
+    }
 }
 
 fn no_maps(rt: &impl Abort, alloc: Global) -> MapsPlan {
@@ -160,8 +160,8 @@ fn forged_file(rt: &impl Abort, alloc: Global, plan: &Plan) -> Vec<u8> {
 }
 
 /// A plan is refused, and nothing is written.
-fn check_refused(rt: &impl Abort, alloc: Global, plan: &Plan, row: &str) {
-    let (told, file) = forged(alloc, plan);
+fn check_refused(rt: &impl Abort, alloc: Global, plan: Plan, row: &str) {
+    let (told, file) = forged(alloc, &plan);
     check_same(rt, told, Err(ForgeFault::BadPlan), row);
     check_same(rt, file.len(), 0, row);
 }
@@ -202,45 +202,94 @@ fn worked_distances_give_their_bytes(rt: HostRuntime) {
     check_forged(&rt, rt.alloc(), &plan, &file_of(&QUEEN_PLIES));
 }
 
-fn check_wide_bytes(rt: &impl Abort, file: &[u8]) {
-    let maps = [1u8, 0, 9, 0, 0, 0, 1, 0, 2, 1, 0, 0];
-    assert_eq!(rt; file.len(), 80);
-    check_bytes(rt, &file[10..12], &[0x96, 0], "flags");
-    check_bytes(rt, &file[12..24], &maps, "maps");
+/// Bytes from a place on in a file.
+struct Stretch {
+    from: usize,
+    bytes: &'static [u8],
 }
+
+/// So many bytes from a place on.
+fn part<'a>(rt: &impl Abort, file: &'a [u8], from: usize, length: usize) -> &'a [u8] {
+    let rest = file.get(from..).expect(rt, "bytes");
+    rest.get(..length).expect(rt, "bytes")
+}
+
+fn check_stretch(rt: &impl Abort, file: &[u8], row: &Stretch) {
+    let told = part(rt, file, row.from, row.bytes.len());
+    check_bytes(rt, told, row.bytes, "a stretch");
+}
+
+/// A file of so many bytes has these stretches.
+fn check_stretches(rt: &impl Abort, file: &[u8], length: usize, rows: &[Stretch]) {
+    check_same(rt, file.len(), length, "length");
+    for row in rows {
+        check_stretch(rt, file, row);
+    }
+}
+
+/// Flags, and maps of 9 for a win and of two bytes for a cursed win.
+const WIDE_MAPS: [Stretch; 2] = [
+    Stretch {
+        from: 10,
+        bytes: &[0x96, 0],
+    },
+    Stretch {
+        from: 12,
+        bytes: &[1, 0, 9, 0, 0, 0, 1, 0, 2, 1, 0, 0],
+    },
+];
 
 /// Two wide maps make the offset even first: 9 for a win, and two bytes for a cursed win.
 #[test]
 fn wide_maps_are_forged(rt: HostRuntime) {
     let part = mapped(&rt, rt.alloc(), 0x96, &[9], &[0x0102]);
     let plan = queen_dtz(&rt, rt.alloc(), part);
-    check_wide_bytes(&rt, &forged_file(&rt, rt.alloc(), &plan));
+    let file = forged_file(&rt, rt.alloc(), &plan);
+    check_stretches(&rt, &file, 80, &WIDE_MAPS);
+}
+
+/// So many times this symbol.
+fn block_of(rt: &impl Abort, alloc: Global, symbol: u16, count: usize) -> Vec<u16> {
+    let mut block = Vec::new(alloc);
+    assert!(rt; block.resize(count, symbol).is_ok());
+    block
+}
+
+fn push_block(rt: &impl Abort, blocks: &mut Vec<Vec<u16>>, block: Vec<u16>) {
+    assert!(rt; blocks.push(block).is_ok());
+}
+
+/// So many blocks of a symbol, each of the first length, and one of the other.
+fn blocks_of(
+    rt: &impl Abort,
+    alloc: Global,
+    symbol: u16,
+    count: u16,
+    lengths: (usize, usize),
+) -> Vec<Vec<u16>> {
+    let mut blocks = Vec::new(alloc);
+    for _ in 0..count {
+        push_block(rt, &mut blocks, block_of(rt, alloc, symbol, lengths.0));
+    }
+    push_block(rt, &mut blocks, block_of(rt, alloc, symbol, lengths.1));
+    blocks
+}
+
+fn symbols_of(rt: &impl Abort, alloc: Global, symbols: &[[u8; 3]]) -> Vec<[u8; 3]> {
+    symbols.to_vec(alloc).expect(rt, "memory")
 }
 
 /// 313 blocks of fifty pairs 4 0, and one of sixteen.
-fn queen_blocks(alloc: Global) -> Result<Vec<Vec<u16>>, AllocError> {
-    let mut blocks = Vec::new(alloc);
-    for _ in 0..313 {
-        blocks.push(vec![in alloc; 2; 50]?)?;
-    }
-    blocks.push(vec![in alloc; 2; 16]?)?;
-    Ok(blocks)
-}
-
-fn queen_pairs(alloc: Global) -> Result<PairsPlan, AllocError> {
-    Ok(PairsPlan {
+fn pairs(rt: &impl Abort, alloc: Global) -> PairsPlan {
+    PairsPlan {
         block_exponent: 3,
         span_exponent: 8,
         least: 1,
         greatest: 2,
-        lowest: [2, 0].to_vec(alloc)?,
-        symbols: [[4, 0xF0, 0xFF], [0, 0xF0, 0xFF], [0, 0x10, 0]].to_vec(alloc)?,
-        blocks: queen_blocks(alloc)?,
-    })
-}
-
-fn pairs(rt: &impl Abort, alloc: Global) -> PairsPlan {
-    queen_pairs(alloc).expect(rt, "memory")
+        lowest: words_of(rt, alloc, &[2, 0]),
+        symbols: symbols_of(rt, alloc, &[[4, 0xF0, 0xFF], [0, 0xF0, 0xFF], [0, 0x10, 0]]),
+        blocks: blocks_of(rt, alloc, 2, 313, (50, 16)),
+    }
 }
 
 /// The queen's WDL table with these blocks for one side and the single value 0 for the other.
@@ -277,61 +326,66 @@ const DOUBLED: [[u8; 3]; 10] = [
     [8, 0x80, 0],
 ];
 
-/// Twenty blocks of six symbols 9, and one of three: 1536 values each, and 612 of the last one's 768.
-fn doubled_blocks(alloc: Global) -> Result<Vec<Vec<u16>>, AllocError> {
-    let mut blocks = Vec::new(alloc);
-    for _ in 0..20 {
-        blocks.push(vec![in alloc; 9; 6]?)?;
-    }
-    blocks.push(vec![in alloc; 9; 3]?)?;
-    Ok(blocks)
-}
-
-/// Codes of twenty bits, each of them the number of its symbol.
-fn long_pairs(alloc: Global) -> Result<PairsPlan, AllocError> {
-    Ok(PairsPlan {
+/// Codes of twenty bits, each of them the number of its symbol. Twenty blocks of six symbols 9, and one of three: 1536 values
+/// each, and 612 of the last one's 768.
+fn long_pairs(rt: &impl Abort, alloc: Global) -> PairsPlan {
+    PairsPlan {
         block_exponent: 4,
         span_exponent: 8,
         least: 20,
         greatest: 20,
-        lowest: [0].to_vec(alloc)?,
-        symbols: DOUBLED.to_vec(alloc)?,
-        blocks: doubled_blocks(alloc)?,
-    })
+        lowest: words_of(rt, alloc, &[0]),
+        symbols: symbols_of(rt, alloc, &DOUBLED),
+        blocks: blocks_of(rt, alloc, 9, 20, (6, 3)),
+    }
+}
+
+fn long_part(rt: &impl Abort, alloc: Global) -> PartPlan {
+    let content = Content::Pairs(long_pairs(rt, alloc));
+    queen_part(rt, alloc, 0, content, no_maps(rt, alloc))
 }
 
 /// The queen's WDL table with blocks for both sides, the second side's of long codes.
 fn queen_of_both(rt: &impl Abort, alloc: Global) -> Plan {
-    let long = long_pairs(alloc).expect(rt, "memory");
     let mut plan = queen_of_pairs(rt, alloc, pairs(rt, alloc));
     plan.parts.truncate(1);
-    let second = queen_part(rt, alloc, 0, Content::Pairs(long), no_maps(rt, alloc));
-    push(rt, &mut plan.parts, second);
+    push(rt, &mut plan.parts, long_part(rt, alloc));
     plan
 }
 
 /// Of the second side: block lengths, whole blocks of six codes, which begin at a multiple of 64, and the last one of three.
-fn check_long_codes(rt: &impl Abort, file: &[u8]) {
-    let six = [0u8, 0, 0x90, 0, 9, 0, 0, 0x90, 0, 9, 0, 0, 0x90, 0, 9, 0];
-    let three = [0u8, 0, 0x90, 0, 9, 0, 0, 0x90, 0, 0, 0, 0, 0, 0, 0, 0];
-    assert_eq!(rt; file.len(), 5200);
-    check_bytes(rt, &file[2186..2188], &[0xFF, 5], "first length");
-    check_bytes(
-        rt,
-        &file[2226..2230],
-        &[0x63, 2, 0xFF, 0xFF],
-        "last lengths",
-    );
-    check_bytes(rt, &file[4752..4800], &[0; 48], "fill");
-    check_bytes(rt, &file[4800..4816], &six, "first block");
-    check_bytes(rt, &file[5120..5136], &three, "last block");
-    check_bytes(rt, &file[5136..5200], &[0; 64], "end");
-}
+const LONG_CODES: [Stretch; 6] = [
+    Stretch {
+        from: 2186,
+        bytes: &[0xFF, 5],
+    },
+    Stretch {
+        from: 2226,
+        bytes: &[0x63, 2, 0xFF, 0xFF],
+    },
+    Stretch {
+        from: 4752,
+        bytes: &[0; 48],
+    },
+    Stretch {
+        from: 4800,
+        bytes: &[0, 0, 0x90, 0, 9, 0, 0, 0x90, 0, 9, 0, 0, 0x90, 0, 9, 0],
+    },
+    Stretch {
+        from: 5120,
+        bytes: &[0, 0, 0x90, 0, 9, 0, 0, 0x90, 0, 0, 0, 0, 0, 0, 0, 0],
+    },
+    Stretch {
+        from: 5136,
+        bytes: &[0; 64],
+    },
+];
 
 #[test]
 fn blocks_of_two_sides_are_forged(rt: HostRuntime) {
     let plan = queen_of_both(&rt, rt.alloc());
-    check_long_codes(&rt, &forged_file(&rt, rt.alloc(), &plan));
+    let file = forged_file(&rt, rt.alloc(), &plan);
+    check_stretches(&rt, &file, 5200, &LONG_CODES);
 }
 
 /// Blocks of two bytes, which are too short for their values.
@@ -363,10 +417,10 @@ fn with_maps_untold(rt: &impl Abort, alloc: Global) -> Plan {
 #[test]
 fn plans_that_no_file_says_are_refused(rt: HostRuntime) {
     let alloc = rt.alloc();
-    check_refused(&rt, alloc, &with_short_blocks(&rt, alloc), "short blocks");
-    check_refused(&rt, alloc, &with_a_block_fewer(&rt, alloc), "a block");
-    check_refused(&rt, alloc, &with_a_side_fewer(&rt, alloc), "a side");
-    check_refused(&rt, alloc, &with_maps_untold(&rt, alloc), "maps");
+    check_refused(&rt, alloc, with_short_blocks(&rt, alloc), "short blocks");
+    check_refused(&rt, alloc, with_a_block_fewer(&rt, alloc), "a block");
+    check_refused(&rt, alloc, with_a_side_fewer(&rt, alloc), "a side");
+    check_refused(&rt, alloc, with_maps_untold(&rt, alloc), "maps");
 }
 
 /// A writer that takes at most 16 bytes at once and fails at one call.
@@ -462,12 +516,15 @@ fn plies(rt: &impl Abort, table: &Table<'_>, index: u64) -> Option<u32> {
     distance(rt, table, 0, index, Outcome::Win).ok()
 }
 
+fn check_plies(rt: &impl Abort, table: &Table<'_>, row: &Places) {
+    check_same(rt, plies(rt, table, 0), row.even, "first");
+    check_same(rt, plies(rt, table, 31331), row.odd, "last");
+    check_same(rt, plies(rt, table, 31332), None, "past");
+}
+
 fn check_places(rt: &impl Abort, alloc: Global, row: &Places) {
     let file = queen_distances(rt, alloc, row.flags, row.win);
-    let table = table_of(rt, alloc, "KQvK.rtbz", &file);
-    check_same(rt, plies(rt, &table, 0), row.even, "first");
-    check_same(rt, plies(rt, &table, 31331), row.odd, "last");
-    check_same(rt, plies(rt, &table, 31332), None, "past");
+    check_plies(rt, &table_of(rt, alloc, "KQvK.rtbz", &file), row);
 }
 
 /// A stored value is a place in the map where there is one, and no value is past its end.

@@ -15,7 +15,9 @@ fn key(rt: &impl Abort, name: &str) -> u8 {
     material(rt, name).key()
 }
 
-fn check_written(rt: &impl Abort, name: &str) {
+/// A name has this key, and is written as it is read.
+fn check_key(rt: &impl Abort, name: &str, number: u8) {
+    check_same(rt, key(rt, name), number, name);
     check_text(rt, material(rt, name).name().as_str(), name);
 }
 
@@ -34,9 +36,8 @@ const NAMES: [(&str, u8); 9] = [
 
 #[test]
 fn names_have_keys(rt: HostRuntime) {
-    for (name, number) in NAMES {
-        check_same(&rt, key(&rt, name), number, name);
-        check_written(&rt, name);
+    for (name, number) in &NAMES {
+        check_key(&rt, name, *number);
     }
 }
 
@@ -51,7 +52,7 @@ const NEAR_MISSES: [&str; 9] = [
 
 #[test]
 fn near_misses_are_no_names(rt: HostRuntime) {
-    for text in NEAR_MISSES {
+    for text in &NEAR_MISSES {
         check_same(&rt, is_name(text), false, text);
     }
 }
@@ -165,6 +166,9 @@ fn check_groups(rt: &impl Abort, shape: &Shape) {
 fn check_places(rt: &impl Abort, shape: &Shape) {
     let places = (shape.order(), shape.second(), shape.file());
     check_same(rt, places, (2, 0, 3), "places");
+}
+
+fn check_factors(rt: &impl Abort, shape: &Shape) {
     let factors = [1081 * 61, 1, 1081, 6 * 1081 * 61];
     assert_eq!(rt; shape.factors(), factors.as_slice());
 }
@@ -181,6 +185,7 @@ fn a_shape_shows_its_groups(rt: HostRuntime) {
     let shape = pawns(&rt);
     check_groups(&rt, &shape);
     check_places(&rt, &shape);
+    check_factors(&rt, &shape);
 }
 
 /// A position, the pieces of its table in their order, the places of the leading group and of the other side's pawns, and

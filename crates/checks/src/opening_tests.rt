@@ -1,34 +1,48 @@
 //! How an arbiter is opened, over what is kept and over keepers that fail.
 
-use crate::arbiters::{keeper_of, record_of, setup_of, stamp_of};
+use crate::arbiters::{NAME, empty_keeper, keeper_of, record_of, setup_of, stamp_of};
 use crate::comparing::{check_bytes, check_same};
-use crate::positions::{KINGS, START};
+use crate::positions::{KINGS, START, position_of};
 use arbiter_core::{Arbiter, Keep, KeepFault, Keeper, MemoryKeeper, OpenFault, Refused, Setup};
-use board_core::Verdict;
-use std::alloc::Global;
+use board_core::{Position, Verdict};
+use std::alloc::{AllocError, Global};
 use std::process::Abort;
-use std::test::Fail;
 
-/// Why an arbiter isn't opened over these bytes.
-fn fault_over(
+fn fault_in(told: &Result<Arbiter<'_>, Refused<'_>>) -> Option<OpenFault> {
+    match told {
+        Ok(_) => None,
+        Err(refused) => Some(refused.fault),
+    }
+}
+
+/// Why an arbiter isn't opened over a keeper.
+fn open_fault(alloc: Global, keeper: &mut MemoryKeeper, setup: Setup<'_>) -> Option<OpenFault> {
+    fault_in(&Arbiter::open(alloc, keeper, setup))
+}
+
+/// A keeper keeps these bytes.
+fn check_keeps(rt: &impl Abort, keeper: &MemoryKeeper, bytes: &[u8]) {
+    let kept = keeper.kept().expect(rt, "what is kept");
+    check_bytes(rt, kept, bytes, "what is kept");
+}
+
+/// Why an arbiter isn't opened over these bytes, or that it is; they stay kept.
+fn check_over(
     rt: &impl Abort,
     alloc: Global,
     start: &str,
     delay: u8,
     bytes: &[u8],
-) -> Result<Option<OpenFault>, Fail> {
-    let mut keeper = keeper_of(rt, alloc, bytes)?;
-    let fault = match Arbiter::open(alloc, &mut keeper, setup_of(rt, alloc, start, delay)?) {
-        Ok(_) => None,
-        Err(refused) => Some(refused.fault),
-    };
-    let kept = keeper.kept().ok_or("nothing is kept")?;
-    check_bytes(rt, kept, bytes, "what is kept");
-    Ok(fault)
+    wanted: Option<OpenFault>,
+) {
+    let mut keeper = keeper_of(rt, alloc, bytes);
+    let fault = open_fault(alloc, &mut keeper, setup_of(rt, alloc, start, delay));
+    check_same(rt, fault, wanted, start);
+    check_keeps(rt, &keeper, bytes);
 }
 
 /// The record as version 1 has it, without the delay.
-fn without_delay(alloc: Global, bytes: &[u8]) -> Result<Vec<u8>, Fail> {
+fn cut(alloc: Global, bytes: &[u8]) -> Result<Vec<u8>, AllocError> {
     let mut old = Vec::new(alloc);
     for (place, byte) in bytes.iter().enumerate() {
         if place == 2 {
@@ -40,8 +54,11 @@ fn without_delay(alloc: Global, bytes: &[u8]) -> Result<Vec<u8>, Fail> {
     Ok(old)
 }
 
+fn without_delay(rt: &impl Abort, alloc: Global, bytes: &[u8]) -> Vec<u8> {
+    cut(alloc, bytes).expect(rt, "memory")
+}
+
 /// A kept record by its moves and its verdict, and why it isn't resumed.
-#[derive(Clone, Copy)]
 struct Kept {
     start: &'static str,
     delay: u8,
@@ -109,44 +126,63 @@ const KEPT: [Kept; 8] = [
     },
 ];
 
-fn check_kept(rt: &impl Abort, alloc: Global, kept: &Kept) -> Result<(), Fail> {
+/// The bytes of a kept record.
+fn kept_bytes(rt: &impl Abort, alloc: Global, kept: &Kept) -> Vec<u8> {
     let stamp = stamp_of(rt, kept.start, kept.delay);
-    let bytes = record_of(rt, alloc, stamp, kept.delay, kept.moves, kept.verdict)?;
-    let fault = fault_over(rt, alloc, kept.start, kept.delay, bytes.as_slice())?;
-    check_same(rt, fault, kept.fault, kept.moves);
+    record_of(rt, alloc, stamp, kept.delay, kept.moves, kept.verdict)
+}
+
+/// Without delay, the record of version 1 is taken for the same.
+fn check_kept_before(rt: &impl Abort, alloc: Global, kept: &Kept, bytes: &[u8]) {
+    let old = without_delay(rt, alloc, bytes);
+    check_over(rt, alloc, kept.start, 0, &old, kept.fault);
+}
+
+fn check_kept(rt: &impl Abort, alloc: Global, kept: &Kept) {
+    let bytes = kept_bytes(rt, alloc, kept);
+    check_over(rt, alloc, kept.start, kept.delay, &bytes, kept.fault);
     if kept.delay == 0 {
-        let old = without_delay(alloc, bytes.as_slice())?;
-        let fault = fault_over(rt, alloc, kept.start, 0, old.as_slice())?;
-        check_same(rt, fault, kept.fault, kept.moves);
+        check_kept_before(rt, alloc, kept, &bytes);
     }
-    Ok(())
 }
 
 #[test]
-fn resumes_what_is_kept(rt: HostRuntime) -> Result<(), Fail> {
+fn resumes_what_is_kept(rt: HostRuntime) {
     for kept in &KEPT {
-        check_kept(&rt, rt.alloc(), kept)?;
+        check_kept(&rt, rt.alloc(), kept);
     }
-    Ok(())
 }
 
-/// A record of another game, or of this one with another delay, whose moves wouldn't do either.
+/// The bytes of a record of a move that isn't legal, without delay, under the stamp of a game with this delay.
+fn illegal(rt: &impl Abort, alloc: Global, delay: u8) -> Vec<u8> {
+    record_of(rt, alloc, stamp_of(rt, START, delay), 0, "e2e5", None)
+}
+
+/// Bytes that aren't kept for the game with this delay.
+fn check_refuses(rt: &impl Abort, alloc: Global, delay: u8, bytes: &[u8], fault: OpenFault) {
+    check_over(rt, alloc, START, delay, bytes, Some(fault));
+}
+
+/// A record of another game, whose moves wouldn't do either.
 #[test]
-fn refuses_other_games(rt: HostRuntime) -> Result<(), Fail> {
-    let other = record_of(&rt, rt.alloc(), stamp_of(&rt, START, 1), 0, "e2e5", None)?;
-    let fault = fault_over(&rt, rt.alloc(), START, 0, other.as_slice())?;
-    check_same(&rt, fault, Some(OpenFault::OtherStamp), "another stamp");
-    let undelayed = record_of(&rt, rt.alloc(), stamp_of(&rt, START, 2), 0, "e2e5", None)?;
-    let fault = fault_over(&rt, rt.alloc(), START, 2, undelayed.as_slice())?;
-    check_same(&rt, fault, Some(OpenFault::OtherStamp), "another delay");
-    let old = without_delay(rt.alloc(), undelayed.as_slice())?;
-    let fault = fault_over(&rt, rt.alloc(), START, 2, old.as_slice())?;
-    check_same(&rt, fault, Some(OpenFault::OtherStamp), "no delay");
-    let fault = fault_over(&rt, rt.alloc(), START, 0, b"SR")?;
-    check_same(&rt, fault, Some(OpenFault::BadRecord), "two bytes");
-    let fault = fault_over(&rt, rt.alloc(), START, 0, b"")?;
-    check_same(&rt, fault, Some(OpenFault::BadRecord), "no byte");
-    Ok(())
+fn refuses_other_games(rt: HostRuntime) {
+    let other = illegal(&rt, rt.alloc(), 1);
+    check_refuses(&rt, rt.alloc(), 0, &other, OpenFault::OtherStamp);
+}
+
+/// The same of this game with another delay, and without one.
+#[test]
+fn refuses_other_delays(rt: HostRuntime) {
+    let other = illegal(&rt, rt.alloc(), 2);
+    check_refuses(&rt, rt.alloc(), 2, &other, OpenFault::OtherStamp);
+    let old = without_delay(&rt, rt.alloc(), &other);
+    check_refuses(&rt, rt.alloc(), 2, &old, OpenFault::OtherStamp);
+}
+
+#[test]
+fn refuses_what_is_cut(rt: HostRuntime) {
+    check_refuses(&rt, rt.alloc(), 0, b"SR", OpenFault::BadRecord);
+    check_refuses(&rt, rt.alloc(), 0, b"", OpenFault::BadRecord);
 }
 
 /// A keeper whose gets and puts fail.
@@ -186,76 +222,113 @@ impl Keeper for Broken {
     }
 }
 
-/// Why an arbiter isn't opened over a keeper whose get fails, with its setup, and how often the keeper failed.
-fn refused<'a>(alloc: Global, setup: Setup<'a>) -> (Option<Refused<'a>>, u64) {
-    let mut keeper = Broken { failures: 0 };
-    let told = Arbiter::open(alloc, &mut keeper, setup).err();
-    (told, keeper.failures())
+/// What an arbiter is opened from, why it isn't over a keeper whose get fails, and how often that one then failed.
+struct Refusal {
+    name: &'static [u8],
+    me: u8,
+    delay: u8,
+    fault: OpenFault,
+    failures: u64,
 }
 
-fn check_refused(rt: &impl Abort, alloc: Global, setup: Setup<'_>, fault: OpenFault) {
-    let (name, me, delay) = (setup.name, setup.me, setup.delay);
-    let (start, manifest) = (setup.start, setup.manifest);
-    let (told, failures) = refused(alloc, setup);
-    let refused = told.expect(rt, "a refusal");
-    check_same(rt, refused.fault, fault, fault.name());
-    let wanted = if fault == OpenFault::KeeperFailed {
-        1
-    } else {
-        0
-    };
-    check_same(rt, failures, wanted, "failures");
-    check_bytes(rt, refused.setup.name, name, "the name");
-    check_same(rt, refused.setup.me, me, "the arbiter");
-    check_same(rt, refused.setup.delay, delay, "the delay");
-    check_same(rt, refused.setup.start == start, true, "the start");
-    check_bytes(rt, refused.setup.manifest, manifest, "the manifest");
+const REFUSALS: [Refusal; 4] = [
+    Refusal {
+        name: NAME,
+        me: 1,
+        delay: 0,
+        fault: OpenFault::KeeperFailed,
+        failures: 1,
+    },
+    Refusal {
+        name: NAME,
+        me: 1,
+        delay: 9,
+        fault: OpenFault::BadSetup,
+        failures: 0,
+    },
+    Refusal {
+        name: NAME,
+        me: 3,
+        delay: 0,
+        fault: OpenFault::BadSetup,
+        failures: 0,
+    },
+    Refusal {
+        name: b"",
+        me: 1,
+        delay: 0,
+        fault: OpenFault::BadSetup,
+        failures: 0,
+    },
+];
+
+fn setup_by(rt: &impl Abort, alloc: Global, row: &Refusal) -> Setup<'static> {
+    let mut setup = setup_of(rt, alloc, START, row.delay);
+    setup.name = row.name;
+    setup.me = row.me;
+    setup
+}
+
+/// The refusal of a setup over a keeper whose get fails, and how often the keeper failed.
+fn refused<'a>(rt: &impl Abort, alloc: Global, setup: Setup<'a>) -> (Refused<'a>, u64) {
+    let mut keeper = Broken { failures: 0 };
+    let told = Arbiter::open(alloc, &mut keeper, setup).err();
+    (told.expect(rt, "a refusal"), keeper.failures())
+}
+
+/// A setup is that of a row.
+fn check_setup(rt: &impl Abort, setup: &Setup<'_>, row: &Refusal) {
+    check_bytes(rt, setup.name, row.name, "the name");
+    check_same(rt, (setup.me, setup.delay), (row.me, row.delay), "numbers");
+    check_start(rt, &setup.start);
+    check_bytes(rt, setup.manifest, b"", "the manifest");
+}
+
+fn check_start(rt: &impl Abort, start: &Position) {
+    check_same(rt, *start == position_of(rt, START), true, "the start");
+}
+
+fn check_refusal(rt: &impl Abort, refused: &Refused<'_>, row: &Refusal) {
+    check_same(rt, refused.fault, row.fault, "a fault");
+    check_setup(rt, &refused.setup, row);
+}
+
+fn check_refused(rt: &impl Abort, alloc: Global, row: &Refusal) {
+    let (refused, failures) = refused(rt, alloc, setup_by(rt, alloc, row));
+    check_same(rt, failures, row.failures, "failures");
+    check_refusal(rt, &refused, row);
 }
 
 /// A bad setup is told before a keeper that fails; both hand the setup back.
 #[test]
-fn hands_setups_back(rt: HostRuntime) -> Result<(), Fail> {
-    check_refused(
-        &rt,
-        rt.alloc(),
-        setup_of(&rt, rt.alloc(), START, 0)?,
-        OpenFault::KeeperFailed,
-    );
-    check_refused(
-        &rt,
-        rt.alloc(),
-        setup_of(&rt, rt.alloc(), START, 9)?,
-        OpenFault::BadSetup,
-    );
-    let mut other = setup_of(&rt, rt.alloc(), START, 0)?;
-    other.me = 3;
-    check_refused(&rt, rt.alloc(), other, OpenFault::BadSetup);
-    let mut nameless = setup_of(&rt, rt.alloc(), START, 0)?;
-    nameless.name = b"";
-    check_refused(&rt, rt.alloc(), nameless, OpenFault::BadSetup);
-    Ok(())
+fn hands_setups_back(rt: HostRuntime) {
+    for row in &REFUSALS {
+        check_refused(&rt, rt.alloc(), row);
+    }
+}
+
+/// A keeper whose next put has this outcome.
+fn keeper_with(rt: &impl Abort, alloc: Global, keep: Keep) -> MemoryKeeper {
+    let mut keeper = empty_keeper(rt, alloc);
+    keeper.set(keep);
+    keeper
+}
+
+fn check_failed_once(rt: &impl Abort, keeper: &MemoryKeeper, is_kept: bool) {
+    check_same(rt, keeper.kept().is_some(), is_kept, "what is kept");
+    check_same(rt, keeper.failures(), 1, "failures");
+}
+
+fn check_first_put(rt: &impl Abort, alloc: Global, keep: Keep, is_kept: bool) {
+    let mut keeper = keeper_with(rt, alloc, keep);
+    let fault = open_fault(alloc, &mut keeper, setup_of(rt, alloc, KINGS, 0));
+    check_same(rt, fault, Some(OpenFault::KeeperFailed), "a failed put");
+    check_failed_once(rt, &keeper, is_kept);
 }
 
 /// A put of the first record that fails leaves nothing or that record.
 #[test]
-fn first_put_may_fail(rt: HostRuntime) -> Result<(), Fail> {
-    for (keep, is_kept) in [(Keep::FailsOld, false), (Keep::FailsNew, true)] {
-        let mut keeper = MemoryKeeper::new(rt.alloc())?;
-        keeper.set(keep);
-        let refused = Arbiter::open(
-            rt.alloc(),
-            &mut keeper,
-            setup_of(&rt, rt.alloc(), KINGS, 0)?,
-        )
-        .err();
-        check_same(
-            &rt,
-            refused.ok_or("opened")?.fault,
-            OpenFault::KeeperFailed,
-            "a failed put",
-        );
-        check_same(&rt, keeper.kept().is_some(), is_kept, "what is kept");
-        check_same(&rt, keeper.failures(), 1, "failures");
-    }
-    Ok(())
+fn first_put_may_fail(rt: HostRuntime) {
+    check_first_put(&rt, rt.alloc(), Keep::FailsOld, false);
+    check_first_put(&rt, rt.alloc(), Keep::FailsNew, true);
 }

@@ -69,6 +69,18 @@ fn add<'a>(rt: &impl Abort, alloc: Global, set: &mut Set<'a>, name: &str, file: 
     check_same(rt, added(rt, alloc, set, name, file), Ok(()), name);
 }
 
+fn add_all<'a>(
+    rt: &impl Abort,
+    alloc: Global,
+    set: &mut Set<'a>,
+    names: &[&str],
+    files: &'a [[u8; 80]],
+) {
+    for (name, file) in names.iter().zip(files.iter()) {
+        add(rt, alloc, set, *name, file);
+    }
+}
+
 /// The set of the tables of these names and files.
 pub(crate) fn set_of<'a>(
     rt: &impl Abort,
@@ -77,9 +89,7 @@ pub(crate) fn set_of<'a>(
     files: &'a [[u8; 80]],
 ) -> Set<'a> {
     let mut set = empty_set(rt, alloc);
-    for (name, file) in names.iter().zip(files.iter()) {
-        add(rt, alloc, &mut set, *name, file);
-    }
+    add_all(rt, alloc, &mut set, names, files);
     set
 }
 
@@ -209,14 +219,18 @@ fn worked_files() -> [[u8; 80]; 4] {
     ]
 }
 
+fn check_worked_rows(rt: &impl Abort, alloc: Global, set: &mut Set<'_>) {
+    for worked in &WORKED {
+        check_worked(rt, alloc, set, worked);
+    }
+    check_same(rt, set.cache(), 64, "blocks");
+}
+
 #[test]
 fn worked_rows(rt: HostRuntime) {
     let files = worked_files();
     let mut set = set_of(&rt, rt.alloc(), &WORKED_TABLES, &files);
-    for worked in &WORKED {
-        check_worked(&rt, rt.alloc(), &mut set, worked);
-    }
-    check_same(&rt, set.cache(), 64, "blocks");
+    check_worked_rows(&rt, rt.alloc(), &mut set);
 }
 
 fn check_missing(rt: &impl Abort, alloc: Global, set: &mut Set<'_>) {
@@ -237,16 +251,25 @@ fn check_missing_first(rt: &impl Abort, alloc: Global, set: &mut Set<'_>) {
     check_value(rt, alloc, set, own, Err(not_covered(rt, "KNvKP")));
 }
 
+/// A table that is there can't be added.
+fn check_again<'a>(rt: &impl Abort, alloc: Global, set: &mut Set<'a>, file: &'a [u8; 80]) {
+    let again = added(rt, alloc, set, "KNvK.rtbw", file);
+    check_same(rt, again, Err(SetFault::Duplicate), "again");
+}
+
+fn check_knight<'a>(rt: &impl Abort, alloc: Global, set: &mut Set<'a>, file: &'a [u8; 80]) {
+    check_missing(rt, alloc, set);
+    add(rt, alloc, set, "KNvK.rtbw", file);
+    check_damaged(rt, alloc, set);
+    check_missing_first(rt, alloc, set);
+    check_again(rt, alloc, set, file);
+}
+
 #[test]
 fn damaged_and_missing_tables(rt: HostRuntime) {
     let file = file_of(&DAMAGED_KNIGHT);
     let mut set = empty_set(&rt, rt.alloc());
-    check_missing(&rt, rt.alloc(), &mut set);
-    add(&rt, rt.alloc(), &mut set, "KNvK.rtbw", &file);
-    check_damaged(&rt, rt.alloc(), &mut set);
-    check_missing_first(&rt, rt.alloc(), &mut set);
-    let again = added(&rt, rt.alloc(), &mut set, "KNvK.rtbw", &file);
-    check_same(&rt, again, Err(SetFault::Duplicate), "again");
+    check_knight(&rt, rt.alloc(), &mut set, &file);
 }
 
 /// Castling rights, six men, mates and stalemate.
@@ -258,24 +281,32 @@ const ROWS_WITHOUT_TABLES: [(&str, Option<Verdict>); 5] = [
     ("7k/5Q2/6K1/8/8/8/8/8 b - - 0 1", Some(Verdict::Stalemate)),
 ];
 
+fn check_without_tables(rt: &impl Abort, alloc: Global, set: &mut Set<'_>) {
+    for row in &ROWS_WITHOUT_TABLES {
+        check_verdict(rt, alloc, set, row.0, row.1);
+    }
+}
+
 #[test]
 fn verdicts_without_tables(rt: HostRuntime) {
     let mut set = empty_set(&rt, rt.alloc());
-    for (row, verdict) in ROWS_WITHOUT_TABLES {
-        check_verdict(&rt, rt.alloc(), &mut set, row, verdict);
-    }
+    check_without_tables(&rt, rt.alloc(), &mut set);
 }
 
 fn check_out_of_scope(rt: &impl Abort, alloc: Global, set: &mut Set<'_>, row: &str) {
     check_value(rt, alloc, set, row, Err(ProbeFault::OutOfScope));
 }
 
+fn check_scope(rt: &impl Abort, alloc: Global, set: &mut Set<'_>) {
+    check_out_of_scope(rt, alloc, set, CASTLING_ROW);
+    check_out_of_scope(rt, alloc, set, SIX_ROW);
+    check_text(rt, ProbeFault::OutOfScope.name(), "OutOfScope");
+}
+
 #[test]
 fn values_are_told_within_scope(rt: HostRuntime) {
     let mut set = empty_set(&rt, rt.alloc());
-    check_out_of_scope(&rt, rt.alloc(), &mut set, CASTLING_ROW);
-    check_out_of_scope(&rt, rt.alloc(), &mut set, SIX_ROW);
-    check_text(&rt, ProbeFault::OutOfScope.name(), "OutOfScope");
+    check_scope(&rt, rt.alloc(), &mut set);
 }
 
 fn check_both(
@@ -344,14 +375,26 @@ fn check_queen_without_distances(rt: &impl Abort, alloc: Global, set: &mut Set<'
     check_distance(rt, alloc, set, HANGING_ROW, Ok(0));
 }
 
+/// The queen's values, and then the distances too.
+fn check_queen<'a>(
+    rt: &impl Abort,
+    alloc: Global,
+    set: &mut Set<'a>,
+    values: &'a [u8; 80],
+    distances: &'a [u8; 80],
+) {
+    add(rt, alloc, set, "KQvK.rtbw", values);
+    check_queen_without_distances(rt, alloc, set);
+    add(rt, alloc, set, "KQvK.rtbz", distances);
+    check_queen_rows(rt, alloc, set);
+}
+
 #[test]
 fn worked_distances(rt: HostRuntime) {
-    let values = [file_of(&QUEEN)];
+    let values = file_of(&QUEEN);
     let distances = file_of(&QUEEN_PLIES);
-    let mut set = set_of(&rt, rt.alloc(), &["KQvK.rtbw"], &values);
-    check_queen_without_distances(&rt, rt.alloc(), &mut set);
-    add(&rt, rt.alloc(), &mut set, "KQvK.rtbz", &distances);
-    check_queen_rows(&rt, rt.alloc(), &mut set);
+    let mut set = empty_set(&rt, rt.alloc());
+    check_queen(&rt, rt.alloc(), &mut set, &values, &distances);
 }
 
 /// A distance with the queen's tables of these files.
@@ -392,44 +435,64 @@ fn check_promotion(rt: &impl Abort, alloc: Global, set: &mut Set<'_>) {
     check_verdict(rt, alloc, set, row, None);
 }
 
+fn check_pawns<'a>(rt: &impl Abort, alloc: Global, set: &mut Set<'a>, distances: &'a [u8; 80]) {
+    check_pawns_without_distances(rt, alloc, set);
+    add(rt, alloc, set, "KPvK.rtbz", distances);
+    check_stopped_pawn(rt, alloc, set);
+    check_promotion(rt, alloc, set);
+}
+
+const PAWN_TABLES: [&str; 2] = ["KPvK.rtbw", "KPvKP.rtbw"];
+
 #[test]
 fn captures_and_pawn_moves(rt: HostRuntime) {
     let values = files_of(&PAWN, &PAWNS);
     let distances = file_of(&PAWN_PLIES);
-    let mut set = set_of(&rt, rt.alloc(), &["KPvK.rtbw", "KPvKP.rtbw"], &values);
-    check_pawns_without_distances(&rt, rt.alloc(), &mut set);
-    add(&rt, rt.alloc(), &mut set, "KPvK.rtbz", &distances);
-    check_stopped_pawn(&rt, rt.alloc(), &mut set);
-    check_promotion(&rt, rt.alloc(), &mut set);
+    let mut set = set_of(&rt, rt.alloc(), &PAWN_TABLES, &values);
+    check_pawns(&rt, rt.alloc(), &mut set, &distances);
 }
 
 fn check_far_out(rt: &impl Abort, alloc: Global, set: &mut Set<'_>) {
     check_distance(rt, alloc, set, SIX_ROW, Err(ProbeFault::OutOfScope));
 }
 
+/// A position with its value and its distance, and no verdict.
+fn check_unruled(
+    rt: &impl Abort,
+    alloc: Global,
+    set: &mut Set<'_>,
+    row: &str,
+    value: i8,
+    distance: i32,
+) {
+    check_value(rt, alloc, set, row, Ok(value));
+    check_both(rt, alloc, set, row, distance, None);
+}
+
+fn check_cursed(rt: &impl Abort, alloc: Global, set: &mut Set<'_>) {
+    check_unruled(rt, alloc, set, QUEEN_ROW, 1, 111);
+    check_unruled(rt, alloc, set, CHECKING_ROW, -1, -112);
+    check_far_out(rt, alloc, set);
+}
+
 #[test]
 fn cursed_moves(rt: HostRuntime) {
     let files = files_of(&CURSED_QUEEN, &CURSED_MOVES);
     let mut set = set_of(&rt, rt.alloc(), &QUEEN_TABLES, &files);
-    check_value(&rt, rt.alloc(), &mut set, QUEEN_ROW, Ok(1));
-    check_both(&rt, rt.alloc(), &mut set, QUEEN_ROW, 111, None);
-    check_value(&rt, rt.alloc(), &mut set, CHECKING_ROW, Ok(-1));
-    check_both(&rt, rt.alloc(), &mut set, CHECKING_ROW, -112, None);
-    check_far_out(&rt, rt.alloc(), &mut set);
+    check_cursed(&rt, rt.alloc(), &mut set);
 }
 
-/// The distance by the queen's tables of these files is refused, though the value is told.
-fn check_contradiction(
-    rt: &impl Abort,
-    alloc: Global,
-    files: &[[u8; 80]],
-    value: i8,
-    verdict: Option<Verdict>,
-) {
+/// The distance of the queen is refused, though the value is told.
+fn check_damaged_distance(rt: &impl Abort, alloc: Global, set: &mut Set<'_>, value: i8) {
+    check_value(rt, alloc, set, QUEEN_ROW, Ok(value));
+    check_distance(rt, alloc, set, QUEEN_ROW, Err(damaged(rt, "KQvK")));
+    check_verdict(rt, alloc, set, QUEEN_ROW, Some(Verdict::Stopped));
+}
+
+/// The same by the queen's tables of these files.
+fn check_contradiction(rt: &impl Abort, alloc: Global, files: &[[u8; 80]], value: i8) {
     let mut set = set_of(rt, alloc, &QUEEN_TABLES, files);
-    check_value(rt, alloc, &mut set, QUEEN_ROW, Ok(value));
-    check_distance(rt, alloc, &mut set, QUEEN_ROW, Err(damaged(rt, "KQvK")));
-    check_verdict(rt, alloc, &mut set, QUEEN_ROW, verdict);
+    check_damaged_distance(rt, alloc, &mut set, value);
 }
 
 /// A table without the number that is wanted; one whose values say that no move keeps the win; one whose values say that a
@@ -437,54 +500,53 @@ fn check_contradiction(
 #[test]
 fn damaged_distances(rt: HostRuntime) {
     let unmapped = files_of(&QUEEN, &QUEEN_UNMAPPED);
-    check_contradiction(&rt, rt.alloc(), &unmapped, 2, Some(Verdict::Stopped));
+    check_contradiction(&rt, rt.alloc(), &unmapped, 2);
     let won = files_of(&QUEEN_AND_OTHER, &QUEEN_AGAINST);
-    check_contradiction(&rt, rt.alloc(), &won, 2, Some(Verdict::Stopped));
+    check_contradiction(&rt, rt.alloc(), &won, 2);
     let lost = files_of(&LOST_QUEEN, &QUEEN_AGAINST);
-    check_contradiction(&rt, rt.alloc(), &lost, -2, Some(Verdict::Stopped));
+    check_contradiction(&rt, rt.alloc(), &lost, -2);
+}
+
+/// The queen against a pawn.
+const PURSUED_ROW: &str = "8/p7/8/1k6/8/8/8/3QK3 w - - 0 1";
+
+/// The distance wants this table, which is missing.
+fn check_uncovered(rt: &impl Abort, alloc: Global, set: &mut Set<'_>, name: &str) {
+    let fault = not_covered(rt, name);
+    check_distance(rt, alloc, set, PURSUED_ROW, Err(fault));
+}
+
+fn check_pursued<'a>(rt: &impl Abort, alloc: Global, set: &mut Set<'a>, distances: &'a [u8; 80]) {
+    check_value(rt, alloc, set, PURSUED_ROW, Ok(2));
+    check_uncovered(rt, alloc, set, "KQvKP");
+    add(rt, alloc, set, "KQvKP.rtbz", distances);
+    check_uncovered(rt, alloc, set, "KPvK");
+    check_verdict(rt, alloc, set, PURSUED_ROW, None);
 }
 
 /// After all moves of the queen but one the distance is damaged, and after that one a table is missing.
 #[test]
 fn missing_tables_go_before_damaged_ones(rt: HostRuntime) {
-    let row = "8/p7/8/1k6/8/8/8/3QK3 w - - 0 1";
     let values = [file_of(&QUEEN_AND_PAWN)];
     let distances = file_of(&QUEEN_AND_PAWN_UNMAPPED);
     let mut set = set_of(&rt, rt.alloc(), &["KQvKP.rtbw"], &values);
-    check_value(&rt, rt.alloc(), &mut set, row, Ok(2));
-    check_distance(
-        &rt,
-        rt.alloc(),
-        &mut set,
-        row,
-        Err(not_covered(&rt, "KQvKP")),
-    );
-    add(&rt, rt.alloc(), &mut set, "KQvKP.rtbz", &distances);
-    check_distance(
-        &rt,
-        rt.alloc(),
-        &mut set,
-        row,
-        Err(not_covered(&rt, "KPvK")),
-    );
-    check_verdict(&rt, rt.alloc(), &mut set, row, None);
+    check_pursued(&rt, rt.alloc(), &mut set, &distances);
+}
+
+const BISHOP_TABLES: [&str; 2] = ["KBPvKP.rtbw", "KBvKP.rtbw"];
+
+fn check_forced(rt: &impl Abort, alloc: Global, set: &mut Set<'_>) {
+    let row = "8/8/8/8/3pP3/1K1B4/8/k7 b - e3 0 1";
+    check_value(rt, alloc, set, row, Ok(-2));
+    check_both(rt, alloc, set, row, -1, Some(Verdict::TableWhite));
 }
 
 /// En passant is the only legal move: what it comes to counts, and not what the own table says.
 #[test]
 fn forced_en_passant(rt: HostRuntime) {
-    let row = "8/8/8/8/3pP3/1K1B4/8/k7 b - e3 0 1";
     let files = files_of(&BISHOP_AND_PAWNS, &BISHOP_AND_PAWN);
-    let mut set = set_of(&rt, rt.alloc(), &["KBPvKP.rtbw", "KBvKP.rtbw"], &files);
-    check_value(&rt, rt.alloc(), &mut set, row, Ok(-2));
-    check_both(
-        &rt,
-        rt.alloc(),
-        &mut set,
-        row,
-        -1,
-        Some(Verdict::TableWhite),
-    );
+    let mut set = set_of(&rt, rt.alloc(), &BISHOP_TABLES, &files);
+    check_forced(&rt, rt.alloc(), &mut set);
 }
 
 /// A delay is at most 8 plies.
@@ -638,13 +700,17 @@ fn check_game(rt: &impl Abort, alloc: Global, set: &mut Set<'_>, game: &Game) {
     check_same(rt, told, Some(game.outcome), game.moves);
 }
 
+fn check_games(rt: &impl Abort, alloc: Global, set: &mut Set<'_>) {
+    for game in &GAMES {
+        check_game(rt, alloc, set, game);
+    }
+}
+
 #[test]
 fn first_verdicts_of_games(rt: HostRuntime) {
     let files = files_of(&QUEEN, &QUEEN_PLIES);
     let mut set = set_of(&rt, rt.alloc(), &QUEEN_TABLES, &files);
-    for game in &GAMES {
-        check_game(&rt, rt.alloc(), &mut set, game);
-    }
+    check_games(&rt, rt.alloc(), &mut set);
 }
 
 fn check_verdict_or_refusal(rt: &impl Abort, alloc: Global, set: &mut Set<'_>) {
@@ -668,6 +734,17 @@ fn check_game_or_refusal(rt: &impl Abort, alloc: Global, set: &mut Set<'_>) {
 }
 
 /// Whether the table is added; where it isn't, memory was refused.
+fn is_taken<'a>(rt: &impl Abort, set: &mut Set<'a>, table: Table<'a>) -> bool {
+    match set.add(table) {
+        Ok(()) => true,
+        Err(fault) => {
+            check_same(rt, fault, SetFault::OutOfMemory, "a table");
+            false
+        }
+    }
+}
+
+/// Whether the table of this file is added.
 fn is_added<'a>(
     rt: &impl Abort,
     alloc: Global,
@@ -675,12 +752,21 @@ fn is_added<'a>(
     name: &str,
     file: &'a [u8; 80],
 ) -> Result<bool, Fail> {
-    let table = open(alloc, name.as_bytes(), file)?;
-    let told = set.add(table);
-    if told.is_err() {
-        check_same(rt, told, Err(SetFault::OutOfMemory), name);
+    Ok(is_taken(rt, set, open(alloc, name.as_bytes(), file)?))
+}
+
+/// The value is told before and after the verdict.
+fn check_hanging(rt: &impl Abort, alloc: Global, set: &mut Set<'_>) {
+    check_value(rt, alloc, set, HANGING_ROW, Ok(0));
+    check_verdict_or_refusal(rt, alloc, set);
+    check_value(rt, alloc, set, HANGING_ROW, Ok(0));
+}
+
+fn check_distances_if_values(rt: &impl Abort, alloc: Global, set: &mut Set<'_>) {
+    if value(rt, alloc, set, QUEEN_ROW).is_ok() {
+        check_distance_or_refusal(rt, alloc, set);
+        check_game_or_refusal(rt, alloc, set);
     }
-    Ok(told.is_ok())
 }
 
 fn check_values_added<'a>(
@@ -690,9 +776,7 @@ fn check_values_added<'a>(
     file: &'a [u8; 80],
 ) -> Result<(), Fail> {
     if is_added(rt, alloc, set, "KQvK.rtbw", file)? {
-        check_value(rt, alloc, set, HANGING_ROW, Ok(0));
-        check_verdict_or_refusal(rt, alloc, set);
-        check_value(rt, alloc, set, HANGING_ROW, Ok(0));
+        check_hanging(rt, alloc, set);
     }
     Ok(())
 }
@@ -703,18 +787,25 @@ fn check_distances_added<'a>(
     set: &mut Set<'a>,
     file: &'a [u8; 80],
 ) -> Result<(), Fail> {
-    if is_added(rt, alloc, set, "KQvK.rtbz", file)? && value(rt, alloc, set, QUEEN_ROW).is_ok() {
-        check_distance_or_refusal(rt, alloc, set);
-        check_game_or_refusal(rt, alloc, set);
+    if is_added(rt, alloc, set, "KQvK.rtbz", file)? {
+        check_distances_if_values(rt, alloc, set);
     }
     Ok(())
 }
 
+fn check_both_added<'a>(
+    rt: &impl Abort,
+    alloc: Global,
+    set: &mut Set<'a>,
+    files: &'a [[u8; 80]; 2],
+) -> Result<(), Fail> {
+    check_values_added(rt, alloc, set, &files[0])?;
+    check_distances_added(rt, alloc, set, &files[1])
+}
+
 #[test]
 fn refused_memory_changes_no_answer(rt: HostRuntime) -> Result<(), Fail> {
-    let values = file_of(&QUEEN);
-    let distances = file_of(&QUEEN_PLIES);
+    let files = files_of(&QUEEN, &QUEEN_PLIES);
     let mut set = Set::new(rt.alloc(), 64)?;
-    check_values_added(&rt, rt.alloc(), &mut set, &values)?;
-    check_distances_added(&rt, rt.alloc(), &mut set, &distances)
+    check_both_added(&rt, rt.alloc(), &mut set, &files)
 }

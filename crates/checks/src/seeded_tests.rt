@@ -1,9 +1,11 @@
 //! Seeded positions of all materials, whose indices are found by counting placements one by one.
 
+use crate::comparing::check_same;
 use arrayvec::ArrayVec;
 use board_core::{Kind, Men, Parts, Piece, Position, Rights, Side};
 use place_index::{Material, Shape, index, place};
-use std::alloc::{AllocError, Global};
+use std::alloc::Global;
+use std::process::Abort;
 
 /// Numbers, squares or piece codes of up to five men.
 type Few = ArrayVec<u8, 5>;
@@ -89,12 +91,10 @@ fn put(counted: &mut Counted, at: usize) {
     counted.size = counted.size.wrapping_add(1);
 }
 
-fn empty(alloc: Global, length: usize) -> Result<Counted, AllocError> {
+fn empty(rt: &impl Abort, alloc: Global, length: usize) -> Counted {
     let mut numbers = Vec::new(alloc);
-    for _ in 0..length {
-        numbers.push(u32::MAX)?;
-    }
-    Ok(Counted { numbers, size: 0 })
+    assert!(rt; numbers.resize(length, u32::MAX).is_ok());
+    Counted { numbers, size: 0 }
 }
 
 fn file(square: u8) -> u8 {
@@ -131,43 +131,63 @@ fn place_of(a: u8, b: u8, c: u8) -> usize {
     a as usize % 64 * 4096 + b as usize % 64 * 64 + c as usize % 64
 }
 
-/// All placements of three leading men in their order.
-fn count_threes(alloc: Global) -> Result<Counted, AllocError> {
-    let mut counted = empty(alloc, 262144)?;
-    for off in 0..4u8 {
-        for a in TRIANGLE {
-            for b in 0..64u8 {
-                for c in 0..64u8 {
-                    let is_apart = a != b && a != c && b != c;
-                    if is_apart && first_off(a, b, c) == (off, true) {
-                        put(&mut counted, place_of(a, b, c));
-                    }
-                }
-            }
+/// One placement of three leading men, if it is one with this man the first off the diagonal.
+fn count_three(counted: &mut Counted, off: u8, a: u8, b: u8, c: u8) {
+    let is_apart = a != b && a != c && b != c;
+    if is_apart && first_off(a, b, c) == (off, true) {
+        put(counted, place_of(a, b, c));
+    }
+}
+
+/// The placements with the first man on this square.
+fn count_threes_from(counted: &mut Counted, off: u8, a: u8) {
+    for b in 0..64u8 {
+        for c in 0..64u8 {
+            count_three(counted, off, a, b, c);
         }
     }
-    Ok(counted)
+}
+
+/// All placements of three leading men in their order.
+fn count_threes(rt: &impl Abort, alloc: Global) -> Counted {
+    let mut counted = empty(rt, alloc, 262144);
+    for off in 0..4u8 {
+        for a in &TRIANGLE {
+            count_threes_from(&mut counted, off, *a);
+        }
+    }
+    counted
 }
 
 fn are_touching(a: u8, b: u8) -> bool {
     file(a).abs_diff(file(b)) <= 1 && rank(a).abs_diff(rank(b)) <= 1
 }
 
+/// One placement of two kings, if it is one with both on the diagonal, or with one of them off it.
+fn count_two(counted: &mut Counted, are_wanted: bool, a: u8, b: u8) {
+    let are_both = is_on_diagonal(a) && is_on_diagonal(b);
+    let is_turned = !is_on_diagonal(a) || is_on_diagonal(b) || is_below(b);
+    if are_both == are_wanted && is_turned && !are_touching(a, b) {
+        put(counted, place_of(0, a, b));
+    }
+}
+
+/// The placements with the first king on this square.
+fn count_kings_from(counted: &mut Counted, are_wanted: bool, a: u8) {
+    for b in 0..64u8 {
+        count_two(counted, are_wanted, a, b);
+    }
+}
+
 /// All placements of two kings in their order.
-fn count_kings(alloc: Global) -> Result<Counted, AllocError> {
-    let mut counted = empty(alloc, 4096)?;
+fn count_kings(rt: &impl Abort, alloc: Global) -> Counted {
+    let mut counted = empty(rt, alloc, 4096);
     for both in 0..2u8 {
-        for a in TRIANGLE {
-            for b in 0..64u8 {
-                let are_both = is_on_diagonal(a) && is_on_diagonal(b);
-                let is_turned = !is_on_diagonal(a) || is_on_diagonal(b) || is_below(b);
-                if are_both == (both == 1) && is_turned && !are_touching(a, b) {
-                    put(&mut counted, place_of(0, a, b));
-                }
-            }
+        for a in &TRIANGLE {
+            count_kings_from(&mut counted, both == 1, *a);
         }
     }
-    Ok(counted)
+    counted
 }
 
 /// The sets of as many of these rising numbers that come before a falling set: at the first difference they have the lower
@@ -295,24 +315,30 @@ fn leading_pawn(codes: &[u8]) -> Option<u8> {
     }
 }
 
+/// Adds the pieces with this code.
+fn add_those(pieces: &mut Few, codes: &[u8], wanted: u8) {
+    for code in codes {
+        if *code == wanted {
+            add(pieces, *code);
+        }
+    }
+}
+
+/// Adds the pieces that are no pawns.
+fn add_men(pieces: &mut Few, codes: &[u8]) {
+    for code in codes {
+        if !is_pawn(*code) {
+            add(pieces, *code);
+        }
+    }
+}
+
 /// The pieces of a table with pawns: those of the leading pawns, of the other pawns, and of the others.
 fn arrangement_of_pawns(codes: &[u8], lead: u8) -> Few {
     let mut pieces = Few::new();
-    for code in codes {
-        if *code == lead {
-            add(&mut pieces, *code);
-        }
-    }
-    for code in codes {
-        if *code == lead ^ 8 {
-            add(&mut pieces, *code);
-        }
-    }
-    for code in codes {
-        if !is_pawn(*code) {
-            add(&mut pieces, *code);
-        }
-    }
+    add_those(&mut pieces, codes, lead);
+    add_those(&mut pieces, codes, lead ^ 8);
+    add_men(&mut pieces, codes);
     pieces
 }
 
@@ -356,22 +382,36 @@ fn arrangement(codes: &[u8], seed: u64) -> (Few, usize) {
     (pieces, lead)
 }
 
+/// Adds the square for each man with this code that stands there.
+fn add_square(found: &mut Few, codes: &[u8], squares: &[u8], code: u8, square: u8) {
+    for (other, at) in codes.iter().zip(squares.iter()) {
+        if *other == code && *at == square {
+            add(found, square);
+        }
+    }
+}
+
 /// The squares of the men with this code, the highest first.
 fn squares_of(codes: &[u8], squares: &[u8], code: u8) -> Few {
     let mut found = Few::new();
     for s in 0..64u8 {
-        let square = 63u8.wrapping_sub(s);
-        for (other, at) in codes.iter().zip(squares.iter()) {
-            if *other == code && *at == square {
-                add(&mut found, square);
-            }
-        }
+        add_square(&mut found, codes, squares, code, 63u8.wrapping_sub(s));
     }
     found
 }
 
+/// The number at a place, 0 for none.
+fn number_at(few: &Few, place: usize) -> u8 {
+    few.as_slice().get(place).copied().unwrap_or(0)
+}
+
 fn first_of(few: &Few) -> u8 {
-    few.as_slice().first().copied().unwrap_or(0)
+    number_at(few, 0)
+}
+
+/// The highest square of the men with this code.
+fn highest(codes: &[u8], squares: &Few, code: u8) -> u8 {
+    first_of(&squares_of(codes, squares.as_slice(), code))
 }
 
 /// All squares changed by these bits: 7 mirrors left and right, 56 bottom and top.
@@ -391,71 +431,120 @@ fn across(squares: &Few) -> Few {
     turned
 }
 
+/// Adds the pawn number for each man with this code that has it.
+fn add_number(numbers: &mut Few, codes: &[u8], squares: &[u8], code: u8, number: u8) {
+    for (other, at) in codes.iter().zip(squares.iter()) {
+        if *other == code && pawn_number(*at) == number {
+            add(numbers, number);
+        }
+    }
+}
+
 /// The pawn numbers of the men with this code, the greatest first.
 fn pawn_numbers(codes: &[u8], squares: &[u8], code: u8) -> Few {
     let mut numbers = Few::new();
     for n in 0..48u8 {
-        let number = 47u8.wrapping_sub(n);
-        for (other, at) in codes.iter().zip(squares.iter()) {
-            if *other == code && pawn_number(*at) == number {
-                add(&mut numbers, number);
-            }
-        }
+        add_number(&mut numbers, codes, squares, code, 47u8.wrapping_sub(n));
     }
     numbers
+}
+
+/// The squares with the leading pawn of this code on the left.
+fn turned_to_left(codes: &[u8], squares: &Few, code: u8) -> Few {
+    let numbers = pawn_numbers(codes, squares.as_slice(), code);
+    let is_left = first_of(&numbers) % 2 == 1;
+    mirrored(squares, if is_left { 0 } else { 7 })
+}
+
+/// What changes a square into one of the lower left quarter.
+fn bits_to_corner(square: u8) -> u8 {
+    let across = if file(square) < 4 { 0u8 } else { 7 };
+    let up = if rank(square) < 4 { 0u8 } else { 56 };
+    across ^ up
+}
+
+/// The squares with the first leading man in the lower left quarter.
+fn turned_to_corner(codes: &[u8], squares: &Few, pieces: &[u8]) -> Few {
+    let leader = pieces.first().copied().unwrap_or(0);
+    mirrored(squares, bits_to_corner(highest(codes, squares, leader)))
+}
+
+/// Whether the first leading man off the diagonal is above it.
+fn is_above(codes: &[u8], squares: &Few, pieces: &[u8], lead: usize) -> bool {
+    for code in pieces.iter().take(lead) {
+        let square = highest(codes, squares, *code);
+        if !is_on_diagonal(square) {
+            return !is_below(square);
+        }
+    }
+    false
 }
 
 /// The squares after the turning.
 fn turned(codes: &[u8], squares: &Few, pieces: &[u8], lead: usize) -> Few {
     if let Some(code) = leading_pawn(codes) {
-        let numbers = pawn_numbers(codes, squares.as_slice(), code);
-        let is_left = first_of(&numbers) % 2 == 1;
-        return mirrored(squares, if is_left { 0 } else { 7 });
+        return turned_to_left(codes, squares, code);
     }
-    let leader = pieces.first().copied().unwrap_or(0);
-    let first = first_of(&squares_of(codes, squares.as_slice(), leader));
-    let left = mirrored(squares, if file(first) < 4 { 0 } else { 7 });
-    let low = mirrored(&left, if rank(first) < 4 { 0 } else { 56 });
-    for code in pieces.iter().take(lead) {
-        let square = first_of(&squares_of(codes, low.as_slice(), *code));
-        if !is_on_diagonal(square) {
-            return if is_below(square) { low } else { across(&low) };
-        }
+    let low = turned_to_corner(codes, squares, pieces);
+    if is_above(codes, &low, pieces, lead) {
+        across(&low)
+    } else {
+        low
     }
-    low
 }
 
-/// The number and the size of a leading group of pawns.
-fn count_pawns(numbers: &Few, file: u8) -> (u64, u64) {
-    let others = numbers.len().wrapping_sub(1);
-    let leader = first_of(numbers);
+/// The number of the groups with a leader before this one on this file, and the size of the group.
+fn count_leaders(leader: u8, others: usize, file: u8) -> (u64, u64) {
     let mut number = 0u64;
     let mut size = 0u64;
     for rank in 1..7u8 {
         let next = pawn_number(rank * 8 + file % 8);
+        let sets = count_sets(next as u64, others);
         if next > leader {
-            number = number.wrapping_add(count_sets(next as u64, others));
+            number = number.wrapping_add(sets);
         }
-        size = size.wrapping_add(count_sets(next as u64, others));
+        size = size.wrapping_add(sets);
     }
+    (number, size)
+}
+
+/// The pawn numbers below that of the leader.
+fn lower_numbers(leader: u8) -> ArrayVec<u8, 64> {
     let mut lower = ArrayVec::<u8, 64>::new();
     for n in 0..48u8 {
         if n < leader && lower.len() < 64 {
             lower.push(n);
         }
     }
-    if others > 0 && others <= 4 && numbers.len() > 1 {
-        number = number.wrapping_add(count_earlier(lower.as_slice(), &numbers.as_slice()[1..]));
+    lower
+}
+
+/// The number of the other pawns behind the leader, if there are others.
+fn count_others(numbers: &Few) -> u64 {
+    if numbers.len() < 2 {
+        return 0;
     }
-    (number, size)
+    let lower = lower_numbers(first_of(numbers));
+    count_earlier(lower.as_slice(), &numbers.as_slice()[1..])
+}
+
+/// The number and the size of a leading group of pawns.
+fn count_pawns(numbers: &Few, file: u8) -> (u64, u64) {
+    let others = numbers.len().wrapping_sub(1);
+    let (number, size) = count_leaders(first_of(numbers), others, file);
+    (number.wrapping_add(count_others(numbers)), size)
+}
+
+fn is_allowed(code: u8, square: u8) -> bool {
+    !is_pawn(code) || rank(square) >= 1 && rank(square) <= 6
 }
 
 /// The squares from which a later group chooses, rising: pawns stand on the middle ranks.
 fn free_squares(code: u8, earlier: &Few) -> ArrayVec<u8, 64> {
     let mut free = ArrayVec::<u8, 64>::new();
     for square in 0..64u8 {
-        let is_allowed = !is_pawn(code) || rank(square) >= 1 && rank(square) <= 6;
-        if is_allowed && !earlier.as_slice().contains(&square) && free.len() < 64 {
+        let is_free = is_allowed(code, square) && !earlier.as_slice().contains(&square);
+        if is_free && free.len() < 64 {
             free.push(square);
         }
     }
@@ -469,6 +558,37 @@ struct Lists {
     kings: Counted,
 }
 
+/// The number and the size of leading pawns of this code.
+fn count_lead_of_pawns(codes: &[u8], squares: &Few, code: u8) -> (u64, u64) {
+    let numbers = pawn_numbers(codes, squares.as_slice(), code);
+    count_pawns(&numbers, file(square_of_number(first_of(&numbers))))
+}
+
+/// The squares of the men that lead.
+fn leading_squares(codes: &[u8], squares: &Few, pieces: &[u8], lead: usize) -> Few {
+    let mut leaders = Few::new();
+    for code in pieces.iter().take(lead) {
+        add(&mut leaders, highest(codes, squares, *code));
+    }
+    leaders
+}
+
+/// The number at a place of a list, and how many placements there are.
+fn counted_at(list: &Counted, place: usize) -> (u64, u64) {
+    let number = list.numbers.get(place).copied().unwrap_or(u32::MAX);
+    (number as u64, list.size as u64)
+}
+
+/// The number and the size of three leading men, or of two kings.
+fn count_placement(lists: &Lists, leaders: &Few, lead: usize) -> (u64, u64) {
+    let (a, b) = (first_of(leaders), number_at(leaders, 1));
+    if lead == 3 {
+        counted_at(&lists.threes, place_of(a, b, number_at(leaders, 2)))
+    } else {
+        counted_at(&lists.kings, place_of(0, a, b))
+    }
+}
+
 /// The number and the size of the leading group, of turned men.
 fn count_lead(
     lists: &Lists,
@@ -477,27 +597,10 @@ fn count_lead(
     pieces: &[u8],
     lead: usize,
 ) -> (u64, u64) {
-    if let Some(code) = leading_pawn(codes) {
-        let numbers = pawn_numbers(codes, squares.as_slice(), code);
-        return count_pawns(&numbers, file(square_of_number(first_of(&numbers))));
+    match leading_pawn(codes) {
+        Some(code) => count_lead_of_pawns(codes, squares, code),
+        None => count_placement(lists, &leading_squares(codes, squares, pieces, lead), lead),
     }
-    let mut leaders = Few::new();
-    for code in pieces.iter().take(lead) {
-        add(
-            &mut leaders,
-            first_of(&squares_of(codes, squares.as_slice(), *code)),
-        );
-    }
-    let a = first_of(&leaders);
-    let b = leaders.as_slice().get(1).copied().unwrap_or(0);
-    let c = leaders.as_slice().get(2).copied().unwrap_or(0);
-    let (list, at) = if lead == 3 {
-        (&lists.threes, place_of(a, b, c))
-    } else {
-        (&lists.kings, place_of(0, a, b))
-    };
-    let number = list.numbers.get(at).copied().unwrap_or(u32::MAX);
-    (number as u64, list.size as u64)
 }
 
 /// The square with a pawn number.
@@ -593,18 +696,22 @@ fn next(seed: &mut u64) -> u64 {
     *seed >> 33
 }
 
+/// A square for a man that none of the others has, if one is found.
+fn add_placed(squares: &mut Few, code: u8, seed: &mut u64) {
+    for _ in 0..100 {
+        let square = (next(seed) % 64) as u8;
+        if is_allowed(code, square) && !squares.as_slice().contains(&square) {
+            add(squares, square);
+            break;
+        }
+    }
+}
+
 /// Squares for the men, each on one of its own, pawns on the middle ranks.
 fn placed(codes: &[u8], seed: &mut u64) -> Few {
     let mut squares = Few::new();
     for code in codes {
-        for _ in 0..100 {
-            let square = (next(seed) % 64) as u8;
-            let is_allowed = !is_pawn(*code) || rank(square) >= 1 && rank(square) <= 6;
-            if is_allowed && !squares.as_slice().contains(&square) {
-                add(&mut squares, square);
-                break;
-            }
-        }
+        add_placed(&mut squares, *code, seed);
     }
     squares
 }
@@ -668,46 +775,88 @@ fn side_of(codes: &[u8], is_exchanged: bool, seed: u64) -> Side {
     if is_black { Side::Black } else { Side::White }
 }
 
-/// The index of one position of a material, as it is and as it should be; none for a position that can't be.
-fn indices(lists: &Lists, name: &str, seed: &mut u64) -> Option<(u64, u64)> {
-    let codes = codes_of(name.as_bytes());
+/// The groups of men before the turning.
+fn count_turned(
+    lists: &Lists,
+    codes: &[u8],
+    squares: &Few,
+    pieces: &[u8],
+    lead: usize,
+) -> ArrayVec<(u64, u64), 5> {
+    let after = turned(codes, squares, pieces, lead);
+    count_groups(lists, codes, &after, pieces, lead)
+}
+
+/// The index of one position of these men, as it is and as it should be; none for a position that can't be.
+fn indices_of(lists: &Lists, codes: &Few, seed: &mut u64) -> Option<(u64, u64)> {
     let squares = placed(codes.as_slice(), seed);
     let (pieces, lead) = arrangement(codes.as_slice(), next(seed));
     let is_exchanged = next(seed) % 2 == 1;
     let side = side_of(codes.as_slice(), is_exchanged, next(seed));
-    let men = men_of(&codes, &squares, is_exchanged);
-    let after = turned(codes.as_slice(), &squares, pieces.as_slice(), lead);
-    let groups = count_groups(lists, codes.as_slice(), &after, pieces.as_slice(), lead);
+    let men = men_of(codes, &squares, is_exchanged);
+    let groups = count_turned(lists, codes.as_slice(), &squares, pieces.as_slice(), lead);
     let order = (next(seed) % groups.len().max(1) as u64) as u8;
     let second = second_place(codes.as_slice(), order);
     let found = index_of(&men, side, pieces.as_slice(), order, second.unwrap_or(0))?;
     Some((found, sum(groups.as_slice(), order, second)))
 }
 
+fn indices(lists: &Lists, name: &str, seed: &mut u64) -> Option<(u64, u64)> {
+    indices_of(lists, &codes_of(name.as_bytes()), seed)
+}
+
 /// How many positions of each material are compared.
 const POSITIONS: u32 = 100;
 
-#[test]
-fn indices_are_those_that_are_counted(rt: HostRuntime) {
-    let mut seed = 20261122u64;
-    let (Ok(threes), Ok(kings)) = (count_threes(rt.alloc()), count_kings(rt.alloc())) else {
-        return;
-    };
-    assert_eq!(rt; threes.size, 31332u32);
-    assert_eq!(rt; kings.size, 462u32);
-    let lists = Lists { threes, kings };
-    for row in NAMES {
-        for name in row.split(' ') {
-            let mut compared = 0u32;
-            for _ in 0..1000 {
-                if compared < POSITIONS {
-                    if let Some((found, counted)) = indices(&lists, name, &mut seed) {
-                        assert_eq!(rt; found, counted, "{name}");
-                        compared = compared.wrapping_add(1);
-                    }
-                }
-            }
-            assert_eq!(rt; compared, POSITIONS, "{name}");
+/// One position is compared, unless there can be none.
+fn is_compared(rt: &impl Abort, lists: &Lists, name: &str, seed: &mut u64) -> bool {
+    match indices(lists, name, seed) {
+        Some((found, counted)) => {
+            check_same(rt, found, counted, name);
+            true
+        }
+        None => false,
+    }
+}
+
+fn check_material(rt: &impl Abort, lists: &Lists, name: &str, seed: &mut u64) {
+    let mut compared = 0u32;
+    for _ in 0..1000 {
+        if compared < POSITIONS && is_compared(rt, lists, name, seed) {
+            compared = compared.wrapping_add(1);
         }
     }
+    check_same(rt, compared, POSITIONS, name);
+}
+
+fn check_materials(rt: &impl Abort, lists: &Lists, names: &str, seed: &mut u64) {
+    for name in names.split(' ') {
+        check_material(rt, lists, name, seed);
+    }
+}
+
+fn make_lists(rt: &impl Abort, alloc: Global) -> Lists {
+    Lists {
+        threes: count_threes(rt, alloc),
+        kings: count_kings(rt, alloc),
+    }
+}
+
+fn check_sizes(rt: &impl Abort, lists: &Lists) {
+    check_same(rt, lists.threes.size, 31332, "three men");
+    check_same(rt, lists.kings.size, 462, "two kings");
+}
+
+fn check_all(rt: &impl Abort, lists: &Lists) {
+    let mut seed = 20261122u64;
+    for names in &NAMES {
+        check_materials(rt, lists, names, &mut seed);
+    }
+}
+
+#[test]
+fn indices_are_those_that_are_counted(rt: HostRuntime) {
+    let lists = make_lists(&rt, rt.alloc());
+    check_sizes(&rt, &lists);
+    check_all(&rt, &lists);
 }

@@ -2,12 +2,14 @@
 
 ghost use Rattle.std.specs.Prelude.{◌<◌};
 
+use crate::comparing::check_same;
 use crate::world_tests::{game_of, schedule_of, world_of};
 use arbiter_core::Keep;
 use move_msg::{Message, Who};
+use relay_world::schedule::Schedule;
 use relay_world::{Event, State, World};
-use std::alloc::{AllocError, Global};
-use std::test::Fail;
+use std::alloc::Global;
+use std::process::Abort;
 
 /// What is said: the kind of a message, its sender, its number, and its verdict or how many moves it wants.
 type Said = (u8, u8, u32, u8);
@@ -72,23 +74,33 @@ fn next(seed: &mut u64) -> u64 {
     *seed >> 33
 }
 
+/// What is said is the last of the log.
+fn say(rt: &impl Abort, log: &mut Vec<Said>, said: Said) {
+    assert!(rt; log.push(said).is_ok());
+}
+
+/// What the source says.
+fn begin_log(rt: &impl Abort, alloc: Global, moves: u32) -> Vec<Said> {
+    let mut log = Vec::new(alloc);
+    for number in 0..moves {
+        say(rt, &mut log, (1, 0, number, 0));
+    }
+    log
+}
+
 /// The model before the first event.
-fn begin(alloc: Global, row: Row) -> Result<Model, AllocError> {
+fn begin(rt: &impl Abort, alloc: Global, row: Row) -> Model {
     let side = Side {
         state: State::Closed,
         kept: None,
         waiting: [false; 16],
     };
-    let mut log = Vec::new(alloc);
-    for number in 0..row.4 {
-        log.push((1, 0, number, 0))?;
-    }
-    Ok(Model {
+    Model {
         sides: [side; 2],
-        log,
+        log: begin_log(rt, alloc, row.4),
         last: row.2,
         code: row.3,
-    })
+    }
 }
 
 /// The code of the verdict with so many moves kept, 0 for none.
@@ -97,16 +109,15 @@ fn code_at(model: &Model, count: u32) -> u8 {
 }
 
 /// An arbiter tells its count, and its verdict if there is one.
-fn tell(model: &mut Model, me: usize, count: u32) -> Result<(), AllocError>
+fn tell(rt: &impl Abort, model: &mut Model, me: usize, count: u32)
     requires { me < 2 }
 {
     let sender = me as u8 + 1;
-    model.log.push((2, sender, count, 0))?;
     let code = code_at(model, count);
+    say(rt, &mut model.log, (2, sender, count, 0));
     if code > 0 {
-        model.log.push((3, sender, count, code))?;
+        say(rt, &mut model.log, (3, sender, count, code));
     }
-    Ok(())
 }
 
 /// How many moves are kept after the next one and those that wait behind it.
@@ -121,79 +132,87 @@ fn run_on(model: &Model, side: &Side, count: u32) -> u32 {
 }
 
 /// A put of a record with so many moves.
-fn put(model: &mut Model, me: usize, count: u32, keep: Keep) -> Result<(), AllocError>
+fn put(rt: &impl Abort, model: &mut Model, me: usize, count: u32, keep: Keep)
     requires { me < 2 }
 {
-    match keep {
-        Keep::Good => {
-            model.sides[me].kept = Some(count);
-            tell(model, me, count)
-        }
-        Keep::FailsOld => {
-            model.sides[me].state = State::Down;
-            Ok(())
-        }
-        Keep::FailsNew => {
-            model.sides[me].kept = Some(count);
-            model.sides[me].state = State::Down;
-            Ok(())
-        }
+    if keep != Keep::FailsOld {
+        model.sides[me].kept = Some(count);
+    }
+    if keep == Keep::Good {
+        tell(rt, model, me, count);
+    } else {
+        model.sides[me].state = State::Down;
+    }
+}
+
+/// The move with this number waits.
+fn wait(model: &mut Model, me: usize, number: u32)
+    requires { me < 2 }
+{
+    model.sides[me].waiting[(number % 16) as usize] = true;
+}
+
+/// The next move is recorded with those that wait behind it.
+fn record(rt: &impl Abort, model: &mut Model, me: usize, count: u32, keep: Keep)
+    requires { me < 2 }
+{
+    if count < model.last {
+        let side = model.sides[me];
+        let reached = run_on(model, &side, count);
+        put(rt, model, me, reached, keep);
     }
 }
 
 /// A running arbiter with so many moves kept is handed the move with this number.
-fn take_move(
-    model: &mut Model,
-    me: usize,
-    count: u32,
-    number: u32,
-    keep: Keep,
-) -> Result<(), AllocError>
+fn take_move(rt: &impl Abort, model: &mut Model, me: usize, count: u32, number: u32, keep: Keep)
     requires { me < 2 }
 {
     if code_at(model, count) > 0 || number < count {
-        return tell(model, me, count);
+        tell(rt, model, me, count);
+    } else if number > count {
+        wait(model, me, number);
+        tell(rt, model, me, count);
+    } else {
+        record(rt, model, me, count, keep);
     }
-    if number > count {
-        model.sides[me].waiting[(number % 16) as usize] = true;
-        return tell(model, me, count);
-    }
-    if count >= model.last {
-        return Ok(());
-    }
-    let side = model.sides[me];
-    let reached = run_on(model, &side, count);
-    put(model, me, reached, keep)
 }
 
 /// A running arbiter with so many moves kept is asked for moves.
-fn pass_on(model: &mut Model, me: usize, count: u32, number: u32) -> Result<(), AllocError>
+fn pass_on(rt: &impl Abort, model: &mut Model, me: usize, count: u32, number: u32)
     requires { me < 2 }
 {
+    let sender = me as u8 + 1;
     for i in 0..8u32 {
         let told = number.wrapping_add(i);
         if told < count {
-            model.log.push((1, me as u8 + 1, told, 0))?;
+            say(rt, &mut model.log, (1, sender, told, 0));
         }
     }
-    Ok(())
 }
 
-/// An arbiter is handed what was said.
-fn hand(model: &mut Model, me: usize, said: Said, keep: Keep) -> Result<(), AllocError>
+/// How many moves an arbiter keeps that is running.
+fn running(model: &Model, me: usize) -> Option<u32>
     requires { me < 2 }
 {
     let side = model.sides[me];
-    let Some(count) = side.kept else {
-        return Ok(());
-    };
-    if side.state != State::Running {
-        return Ok(());
+    if side.state == State::Running {
+        side.kept
+    } else {
+        None
     }
+}
+
+/// An arbiter is handed what was said.
+fn hand(rt: &impl Abort, model: &mut Model, me: usize, said: Said, keep: Keep)
+    requires { me < 2 }
+{
+    let Some(count) = running(model, me) else {
+        return;
+    };
     match said.0 {
-        1 => take_move(model, me, count, said.2, keep),
-        4 => pass_on(model, me, count, said.2),
-        _ => Ok(()),
+        1 => take_move(rt, model, me, count, said.2, keep),
+        4 => pass_on(rt, model, me, count, said.2),
+        _ => {}
     }
 }
 
@@ -218,17 +237,14 @@ fn restart(model: &mut Model, me: usize, keep: Keep)
 }
 
 /// An arbiter asks the other for moves.
-fn ask(model: &mut Model, me: usize) -> Result<(), AllocError>
+fn ask(rt: &impl Abort, model: &mut Model, me: usize)
     requires { me < 2 }
 {
-    let side = model.sides[me];
-    let Some(count) = side.kept else {
-        return Ok(());
-    };
-    if side.state == State::Running && code_at(model, count) == 0 {
-        model.log.push((4, me as u8 + 1, count, 8))?;
+    if let Some(count) = running(model, me) {
+        if code_at(model, count) == 0 {
+            say(rt, &mut model.log, (4, me as u8 + 1, count, 8));
+        }
     }
-    Ok(())
 }
 
 /// A keep, mostly a good one.
@@ -245,69 +261,96 @@ fn who_of(me: usize) -> Who {
     if me == 0 { Who::A } else { Who::B }
 }
 
+/// What was said at this place, if anything was.
+fn said_at(model: &Model, index: usize) -> Option<Said> {
+    model.log.get(index).copied()
+}
+
 /// A message of the log is handed over.
-fn deliver(model: &mut Model, me: usize, keep: Keep, seed: &mut u64) -> Result<Event, AllocError>
+fn deliver(rt: &impl Abort, model: &mut Model, me: usize, keep: Keep, seed: &mut u64) -> Event
     requires { me < 2 }
 {
     let index = (next(seed) as usize) % (model.log.len().wrapping_add(2)).max(1);
-    if let Some(said) = model.log.get(index) {
-        let said = *said;
-        hand(model, me, said, keep)?;
+    if let Some(said) = said_at(model, index) {
+        hand(rt, model, me, said, keep);
     }
-    Ok(Event::Deliver {
+    Event::Deliver {
         who: who_of(me),
         index,
         keep,
-    })
-}
-
-/// The bytes of the game's move with this number, as the source of a game with this delay sends them.
-fn spoken(alloc: Global, text: &str, delay: u8, number: usize) -> Result<Vec<u8>, Fail> {
-    let Ok(schedule) = schedule_of(alloc, text) else {
-        return Err(Fail::new(format_args!("no schedule")));
-    };
-    let Ok(game) = game_of(alloc, &schedule, delay) else {
-        return Err(Fail::new(format_args!("no game")));
-    };
-    let Ok(world) = world_of(alloc, &game, &schedule) else {
-        return Err(Fail::new(format_args!("no world")));
-    };
-    match world.log().get(number) {
-        Some(message) => Ok(Vec::from_slice(alloc, &message.encode())?),
-        None => Err(Fail::new(format_args!("no move {number}"))),
     }
 }
 
-/// Noise: bytes that are no message, a move of another game, whose delay alone is another, or a move of this one.
-fn noise(alloc: Global, row: Row, seed: &mut u64) -> Result<Vec<u8>, Fail> {
+/// An arbiter is opened, with what it does in the model.
+fn reopen(model: &mut Model, me: usize, keep: Keep) -> Event
+    requires { me < 2 }
+{
+    restart(model, me, keep);
+    Event::Restart {
+        who: who_of(me),
+        keep,
+    }
+}
+
+/// An arbiter asks, with what it does in the model.
+fn ask_other(rt: &impl Abort, model: &mut Model, me: usize) -> Event
+    requires { me < 2 }
+{
+    ask(rt, model, me);
+    Event::Ask { who: who_of(me) }
+}
+
+fn copied(rt: &impl Abort, alloc: Global, bytes: &[u8]) -> Vec<u8> {
+    Vec::from_slice(alloc, bytes).expect(rt, "memory")
+}
+
+/// The world before the first event.
+fn world_at_first(rt: &impl Abort, alloc: Global, text: &str, delay: u8) -> World {
+    let schedule = schedule_of(rt, alloc, text);
+    let game = game_of(rt, alloc, &schedule, delay);
+    world_of(rt, alloc, &game, &schedule)
+}
+
+fn message_at(rt: &impl Abort, world: &World, number: usize) -> [u8; 27] {
+    world.log().get(number).expect(rt, "a move").encode()
+}
+
+/// The bytes of the game's move with this number, as the source of a game with this delay sends them.
+fn spoken(rt: &impl Abort, alloc: Global, text: &str, delay: u8, number: usize) -> Vec<u8> {
+    let world = world_at_first(rt, alloc, text, delay);
+    copied(rt, alloc, &message_at(rt, &world, number))
+}
+
+/// Bytes that are no message, a move of another game, whose delay alone is another, or a move of this one.
+fn noise(rt: &impl Abort, alloc: Global, row: Row, seed: &mut u64) -> Vec<u8> {
     let number = (next(seed) % 5) as usize;
     match next(seed) % 3 {
-        0 => Ok(Vec::from_slice(alloc, &[0x53, 0x41])?),
-        1 => spoken(alloc, row.0, row.1 ^ 1, number),
-        _ => spoken(alloc, row.0, row.1, number),
+        0 => copied(rt, alloc, &[0x53, 0x41]),
+        1 => spoken(rt, alloc, row.0, row.1 ^ 1, number),
+        _ => spoken(rt, alloc, row.0, row.1, number),
+    }
+}
+
+/// Noise comes to an arbiter.
+fn disturb(rt: &impl Abort, alloc: Global, row: Row, me: usize, keep: Keep, seed: &mut u64) -> Event
+    requires { me < 2 }
+{
+    Event::Noise {
+        who: who_of(me),
+        bytes: noise(rt, alloc, row, seed),
+        keep,
     }
 }
 
 /// A random event, with what it does in the model.
-fn event(alloc: Global, row: Row, model: &mut Model, seed: &mut u64) -> Result<Event, Fail> {
+fn event(rt: &impl Abort, alloc: Global, row: Row, model: &mut Model, seed: &mut u64) -> Event {
     let me = (next(seed) % 2) as usize;
     let keep = keep_of(seed);
-    let who = who_of(me);
     match next(seed) % 12 {
-        0 | 1 => {
-            restart(model, me, keep);
-            Ok(Event::Restart { who, keep })
-        }
-        2 => {
-            ask(model, me)?;
-            Ok(Event::Ask { who })
-        }
-        3 => Ok(Event::Noise {
-            who,
-            bytes: noise(alloc, row, seed)?,
-            keep,
-        }),
-        _ => Ok(deliver(model, me, keep, seed)?),
+        0 | 1 => reopen(model, me, keep),
+        2 => ask_other(rt, model, me),
+        3 => disturb(rt, alloc, row, me, keep, seed),
+        _ => deliver(rt, model, me, keep, seed),
     }
 }
 
@@ -361,35 +404,53 @@ fn is_world(model: &Model, world: &World) -> bool {
     is_side(model, world, 0) && is_side(model, world, 1) && is_log(model, world)
 }
 
+/// Another random event, in the schedule and in the model.
+fn add_event(
+    rt: &impl Abort,
+    alloc: Global,
+    row: Row,
+    schedule: &mut Schedule,
+    model: &mut Model,
+    seed: &mut u64,
+) {
+    let event = event(rt, alloc, row, model, seed);
+    assert!(rt; schedule.events.push(event).is_ok());
+}
+
+/// What comes of a schedule is what the model says.
+fn check_world(
+    rt: &impl Abort,
+    alloc: Global,
+    row: Row,
+    schedule: &Schedule,
+    model: &Model,
+    seed: u64,
+) {
+    let game = game_of(rt, alloc, schedule, row.1);
+    let world = world_of(rt, alloc, &game, schedule);
+    check_same(rt, (seed, is_world(model, &world)), (seed, true), row.0);
+}
+
 /// One random schedule of a game.
-fn expect_model(alloc: Global, row: Row, mut seed: u64, events: u32) -> Result<(), Fail> {
-    let Ok(mut schedule) = schedule_of(alloc, row.0) else {
-        return Err(Fail::new(format_args!("no schedule")));
-    };
-    let mut model = begin(alloc, row)?;
+fn check_schedule(rt: &impl Abort, alloc: Global, row: Row, seed: u64, events: u32) {
+    let mut schedule = schedule_of(rt, alloc, row.0);
+    let mut model = begin(rt, alloc, row);
+    let mut state = seed;
     for _ in 0..events {
-        let more = event(alloc, row, &mut model, &mut seed)?;
-        schedule.events.push(more)?;
+        add_event(rt, alloc, row, &mut schedule, &mut model, &mut state);
     }
-    let Ok(game) = game_of(alloc, &schedule, row.1) else {
-        return Err(Fail::new(format_args!("no game")));
-    };
-    let Ok(world) = world_of(alloc, &game, &schedule) else {
-        return Err(Fail::new(format_args!("no world")));
-    };
-    if is_world(&model, &world) {
-        return Ok(());
+    check_world(rt, alloc, row, &schedule, &model, seed);
+}
+
+fn check_schedules(rt: &impl Abort, alloc: Global, row: Row) {
+    for seed in 0..75u64 {
+        check_schedule(rt, alloc, row, seed, 60);
     }
-    Err(Fail::new(format_args!("seed {seed}")))
 }
 
 #[test]
-fn random_schedules(rt: HostRuntime) -> Result<(), Fail> {
-    let alloc = rt.alloc();
-    for seed in 0..75u64 {
-        for row in GAMES {
-            expect_model(alloc, row, seed, 60)?;
-        }
+fn random_schedules(rt: HostRuntime) {
+    for row in GAMES {
+        check_schedules(&rt, rt.alloc(), row);
     }
-    Ok(())
 }

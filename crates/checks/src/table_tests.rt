@@ -6,7 +6,8 @@ ghost use Rattle.table_file.specs.Expansion.{IsRealSpot};
 
 use crate::comparing::{check_bytes, check_same};
 use crate::files::{
-    BISHOP, KNIGHT, PAWN, PAWN_FILES, PAWNS, QUEEN, QUEEN_PLIES, file_of, queen_file,
+    BISHOP, KNIGHT, PAWN, PAWN_FILES, PAWNS, QUEEN, QUEEN_PLIES, file_of, fill, push_bytes,
+    queen_file,
 };
 use place_index::Shape;
 use std::alloc::{AllocError, Global};
@@ -192,12 +193,15 @@ fn check_singles(rt: &impl Abort, table: &Table<'_>, file: u8, values: [u16; 2])
     check_same(rt, spot(rt, table, 1, file, 31332), wanted, "spot");
 }
 
+fn check_table(rt: &impl Abort, table: &Table<'_>, row: &Worked) {
+    check_title(rt, table, row.name, row.is_dtz);
+    check_shape(rt, table, row.file, row.pieces);
+    check_singles(rt, table, row.file, row.values);
+}
+
 fn check_worked(rt: &impl Abort, alloc: Global, row: &Worked) {
     let file = file_of(row.front);
-    let table = table_of(rt, alloc, row.name, &file);
-    check_title(rt, &table, row.name, row.is_dtz);
-    check_shape(rt, &table, row.file, row.pieces);
-    check_singles(rt, &table, row.file, row.values);
+    check_table(rt, &table_of(rt, alloc, row.name, &file), row);
 }
 
 #[test]
@@ -348,13 +352,17 @@ fn check_blocks(rt: &impl Abort, alloc: Global, table: &Table<'_>) {
     }
 }
 
+fn check_queen(rt: &impl Abort, alloc: Global, table: &Table<'_>) {
+    check_all_values(rt, table);
+    check_spots(rt, table);
+    check_blocks(rt, alloc, table);
+}
+
 #[test]
 fn values_stand_in_blocks(rt: HostRuntime) {
     let file = queen_file(&rt, rt.alloc());
     let table = table_of(&rt, rt.alloc(), "KQvK.rtbw", &file);
-    check_all_values(&rt, &table);
-    check_spots(&rt, &table);
-    check_blocks(&rt, rt.alloc(), &table);
+    check_queen(&rt, rt.alloc(), &table);
 }
 
 /// The queen's table whose first sparse entry names an earlier block, with an offset past its end.
@@ -418,12 +426,13 @@ const DISTANCES: [Distances; 6] = [
     },
 ];
 
-fn distances_file(alloc: Global, row: &Distances) -> Result<Vec<u8>, AllocError> {
-    let mut bytes = QUEEN_PLIES[..10].to_vec(alloc)?;
-    bytes.extend_from_slice(&[row.flags, 0])?;
-    bytes.extend_from_slice(&row.maps)?;
-    bytes.resize(80, 0)?;
-    Ok(bytes)
+fn distances_file(rt: &impl Abort, alloc: Global, row: &Distances) -> Vec<u8> {
+    let mut bytes = Vec::new(alloc);
+    push_bytes(rt, &mut bytes, &QUEEN_PLIES[..10]);
+    push_bytes(rt, &mut bytes, &[row.flags, 0]);
+    push_bytes(rt, &mut bytes, &row.maps);
+    fill(rt, &mut bytes, 80, 0);
+    bytes
 }
 
 fn plies(rt: &impl Abort, table: &Table<'_>, outcome: Outcome) -> Option<u32> {
@@ -444,11 +453,14 @@ fn check_stored(rt: &impl Abort, table: &Table<'_>, file: u8, wanted: [bool; 2])
     check_same(rt, told, wanted, "sides");
 }
 
+fn check_plies(rt: &impl Abort, table: &Table<'_>, row: &Distances) {
+    check_same(rt, all_plies(rt, table), row.plies, "plies");
+    check_stored(rt, table, 0, [true, false]);
+}
+
 fn check_distances(rt: &impl Abort, alloc: Global, row: &Distances) {
-    let file = distances_file(alloc, row).expect(rt, "memory");
-    let table = table_of(rt, alloc, "KQvK.rtbz", &file);
-    check_same(rt, all_plies(rt, &table), row.plies, "plies");
-    check_stored(rt, &table, 0, [true, false]);
+    let file = distances_file(rt, alloc, row);
+    check_plies(rt, &table_of(rt, alloc, "KQvK.rtbz", &file), row);
 }
 
 #[test]

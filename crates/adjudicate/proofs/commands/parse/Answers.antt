@@ -74,4 +74,4 @@ returns-clause-misuse c = λ is name named.
     let words = map (λ w. w.now) c.args.words.now in
     let same : c.in-Some.name ≡ name = one_named words c.in-Some.name name c.in-Some.ensures.some named in
     let values = λ (id : Text). c.in-Ok-matches_at.ensures.values id ∙ ap (λ app. value_in app words id) c.in-Ok.ensures in
-    subst (λ name. IsMisused name words) same (inr (lacks_same _ _ c.in-Some.name values c.in-None.ensures.lacks))
+    subst (λ name. IsMisused name words) same (inr (lacks_same _ _ c.in-Some.name values c.in-None.ensures))
