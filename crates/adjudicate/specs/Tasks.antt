@@ -108,7 +108,7 @@ Lacks value name.Listen = (l : Listening) → IsListening value l → ⊥
 Lacks value name.Probes = value (codes "tables") ≡ None
 Lacks value name.Game = (value (codes "FEN") ≡ None) ⊎ ((plies : ℕ) → IsDelay (value (codes "delay")) plies → ⊥)
 
--- the values are read as this task of the command, or as none where they lack one that it needs
+-- the values are read as this task of the command, or as none where they lack one that it needs, or a number that it takes
 abbrev pub IsReadAs : Name → (Text → Option Text) → Option Task → Type 0
 IsReadAs name value (Some t) = (name_of t ≡ name) × HasValues value t
 IsReadAs name value None = Lacks value name

@@ -399,7 +399,7 @@ fn judge_of<'a>(matches: &ArgMatches<'a>) -> Option<Task<'a>>
     })
 }
 
-/// The task of `probe`.
+/// The task of `probe`; none where it lacks one that it needs.
 fn probe_of<'a>(matches: &ArgMatches<'a>) -> Option<Task<'a>>
     ensures { IsReadAs Name.Probe (first_value (found_of matches.now)) result }
 {
@@ -410,7 +410,7 @@ fn probe_of<'a>(matches: &ArgMatches<'a>) -> Option<Task<'a>>
     })
 }
 
-/// The task of `moves`.
+/// The task of `moves`; none where it lacks one that it needs.
 fn moves_of<'a>(matches: &ArgMatches<'a>) -> Option<Task<'a>>
     ensures { IsReadAs Name.Moves (first_value (found_of matches.now)) result }
 {
@@ -419,7 +419,7 @@ fn moves_of<'a>(matches: &ArgMatches<'a>) -> Option<Task<'a>>
     })
 }
 
-/// The task of `list`.
+/// The task of `list`; none where it lacks one that it needs.
 fn list_of<'a>(matches: &ArgMatches<'a>) -> Option<Task<'a>>
     ensures { IsReadAs Name.List (first_value (found_of matches.now)) result }
 {
@@ -428,7 +428,7 @@ fn list_of<'a>(matches: &ArgMatches<'a>) -> Option<Task<'a>>
     })
 }
 
-/// The task of `check`.
+/// The task of `check`; none where it lacks one that it needs.
 fn check_of<'a>(matches: &ArgMatches<'a>) -> Option<Task<'a>>
     ensures { IsReadAs Name.Check (first_value (found_of matches.now)) result }
 {
@@ -449,7 +449,7 @@ fn run_of<'a>(matches: &ArgMatches<'a>) -> Option<Task<'a>>
     })
 }
 
-/// The task of `probes`.
+/// The task of `probes`; none where it lacks one that it needs.
 fn probes_of<'a>(matches: &ArgMatches<'a>) -> Option<Task<'a>>
     ensures { IsReadAs Name.Probes (first_value (found_of matches.now)) result }
 {
@@ -460,7 +460,7 @@ fn probes_of<'a>(matches: &ArgMatches<'a>) -> Option<Task<'a>>
     })
 }
 
-/// The task of `game`.
+/// The task of `game`; none where it lacks one, or the delay isn't one that it takes.
 fn game_of<'a>(matches: &ArgMatches<'a>) -> Option<Task<'a>>
     ensures { IsReadAs Name.Game (first_value (found_of matches.now)) result }
 {
@@ -472,7 +472,7 @@ fn game_of<'a>(matches: &ArgMatches<'a>) -> Option<Task<'a>>
     })
 }
 
-/// The task of `listen`.
+/// The task of `listen`; none where it lacks one, or has one that it doesn't take.
 fn listen_of<'a>(matches: &ArgMatches<'a>) -> Option<Task<'a>>
     ensures { IsReadAs Name.Listen (first_value (found_of matches.now)) result }
 {

@@ -258,7 +258,7 @@ fn reads_distances_and_three_tables(rt: HostRuntime) {
     expect_rows(&rt, rt.alloc(), &FOUR_FILES, &TOLD_OF_FOUR);
 }
 
-/// A folder that lists a name twice isn't read.
+/// A folder that lists the name of a wanted file twice isn't read.
 const TWICE: Memory = Memory {
     names: "KNvK.rtbw notes.txt KNvK.rtbw",
     files: &[KNIGHT_FILE],

@@ -1,4 +1,4 @@
-//! An arbiter over a keeper in memory, with messages and answers as texts.
+//! An arbiter over a keeper in memory, with what is sent as rows and what it answers as texts.
 
 ghost use Rattle.arbiter_core.specs.Delivers.{IsKept};
 

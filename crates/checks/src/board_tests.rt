@@ -73,6 +73,12 @@ fn listed(rt: &impl Abort, alloc: Global, moves: &[Move]) -> String {
     text_of(alloc, moves).expect(rt, "memory")
 }
 
+/// Whether a move is among all legal moves of a position.
+fn is_listed(rt: &impl Abort, alloc: Global, text: &str, wanted: &str) -> bool {
+    let moves = legal(rt, alloc, text);
+    listed(rt, alloc, &moves).contains(wanted)
+}
+
 fn check_listing(rt: &impl Abort, alloc: Global, listing: &Listing) {
     let moves = legal(rt, alloc, listing.text);
     check_text(rt, listed(rt, alloc, &moves).as_str(), listing.moves);
@@ -191,7 +197,7 @@ const PROMOTIONS: &str = "r3k2r/Pppp1ppp/1b3nbN/nP6/BBP1P3/q4N2/Pp1P2PP/R2Q1RK1 
 
 const SEVENTH_RANK: &str = "rnbq1k1r/pp1Pbppp/2p5/8/2B5/8/PPP1NnPP/RNBQK2R w KQ - 1 8";
 
-const WAYS: [Ways; 7] = [
+const WAYS: [Ways; 10] = [
     Ways {
         text: START,
         moves: 2,
@@ -209,6 +215,11 @@ const WAYS: [Ways; 7] = [
     },
     Ways {
         text: ROOK_ENDING,
+        moves: 1,
+        ways: 14,
+    },
+    Ways {
+        text: ROOK_ENDING,
         moves: 2,
         ways: 191,
     },
@@ -219,8 +230,18 @@ const WAYS: [Ways; 7] = [
     },
     Ways {
         text: PROMOTIONS,
+        moves: 1,
+        ways: 6,
+    },
+    Ways {
+        text: PROMOTIONS,
         moves: 2,
         ways: 264,
+    },
+    Ways {
+        text: SEVENTH_RANK,
+        moves: 1,
+        ways: 44,
     },
     Ways {
         text: SEVENTH_RANK,
@@ -263,6 +284,7 @@ fn en_passant_must_end_the_check(rt: HostRuntime) {
     let position = position_of(&rt, text);
     check_same(&rt, position.in_check(), true, text);
     check_same(&rt, is_legal(&rt, &position, "b5c6"), false, text);
+    check_same(&rt, is_listed(&rt, rt.alloc(), text, "b5c6"), false, text);
 }
 
 fn played(position: &Position, m: Move) -> Option<Position> {

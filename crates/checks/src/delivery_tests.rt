@@ -663,7 +663,7 @@ const LAST: [Step; 2] = [
     },
 ];
 
-/// One move is asked for before the last one, and then there is no room for more.
+/// Moves are asked for from 4095 on, and none once the record is full.
 #[test]
 fn records_4096_moves(rt: HostRuntime) {
     let mut keeper = long_keeper(&rt, rt.alloc());

@@ -301,8 +301,8 @@ impl<'a> Set<'a> {
     /// of the WDL probe; for a win those after all pawn moves that take nothing; the own DTZ table; and where that stores
     /// the other side alone, the distances after all moves that neither take a man nor move a pawn, but not after a mating
     /// move where the side to move wins. A table that contradicts itself there is damaged. `OutOfMemory` comes only where memory
-    /// for a list of moves is refused, at a position in scope whose WDL value is there, no draw, and not by a capture. The set
-    /// stays as it was but for its cache.
+    /// for a list of moves is refused, at a position in scope with more than two men, whose WDL value is there, no draw, and not
+    /// by a capture. The set stays as it was but for its cache.
     pub fn dtz(&mut self, alloc: Global, position: &Position) -> Result<i32, ProbeFault>
         ensures answer { IsProbe result (is_out_of_scope position.now) (signed_in (dtz_of self.old.tables position.now)) }
         ensures memory { result ≡ Err OutOfMemory → ListsMoves self.old.tables position.now }

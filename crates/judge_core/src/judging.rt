@@ -23,7 +23,8 @@ impl<'a> Set<'a> {
     /// a table that is needed and damaged stops the game; there is none where one that is needed isn't in the set. By the
     /// tables a draw is one; a win or a loss is one where the halfmove clock and the distance in plies, as `dtz` tells it, are
     /// 99 at most together. All else has no verdict. The error comes only where memory for a list of moves is refused, at a
-    /// position in scope with a legal move, whose WDL value is there, a win or a loss, and not by a capture. The set stays as it was but for its cache.
+    /// position in scope with a legal move and more than two men, whose WDL value is there, a win or a loss, and not by a
+    /// capture. The set stays as it was but for its cache.
     #[tactic(auto, unfolding(crate::specs::Ruling::ruling))]
     pub fn judge(
         &mut self,
