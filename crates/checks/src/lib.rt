@@ -16,13 +16,19 @@ mod delivery_tests;
 #[cfg(test)]
 mod dictionary_tests;
 #[cfg(test)]
+mod distance_tests;
+#[cfg(test)]
 mod fen_tests;
 #[cfg(test)]
 mod files;
 #[cfg(test)]
 mod forge_tests;
 #[cfg(test)]
+mod game_tests;
+#[cfg(test)]
 mod index_tests;
+#[cfg(test)]
+mod manifest_tests;
 #[cfg(test)]
 mod message_tests;
 #[cfg(test)]
@@ -31,6 +37,16 @@ mod opening_tests;
 mod positions;
 #[cfg(test)]
 mod probe_tests;
+#[cfg(test)]
+mod record_tests;
+#[cfg(test)]
+mod refusal_tests;
+#[cfg(test)]
+mod seeded_counts;
+#[cfg(test)]
+mod seeded_men;
+#[cfg(test)]
+mod seeded_places;
 #[cfg(test)]
 mod seeded_tests;
 #[cfg(test)]
