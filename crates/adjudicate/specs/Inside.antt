@@ -2,7 +2,5 @@
 pub mod Asked
 pub mod Fronts
 pub mod InputSteps
-pub mod Placing
 pub mod ProbeSteps
 pub mod Refusals
-pub mod Steps

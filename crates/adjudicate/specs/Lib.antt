@@ -2,10 +2,7 @@ pub mod Numbers
 pub mod Commands
 pub mod Tasks
 pub mod Usage
-pub mod Files
 pub mod Given
-pub mod ToldBy
-pub mod Outside
 pub mod Lines
 pub mod Reads
 pub mod Looks
@@ -15,9 +12,5 @@ pub mod Reply
 pub mod Telling
 pub mod Running
 pub mod Listenings
-pub mod Ports
-pub mod KeptFiles
-pub mod StoredBytes
-pub mod Serving
 pub mod Listens
 pub mod Inside

@@ -1,7 +1,6 @@
 -- The lines that the program writes (this project's own).
 use Rattle.std.specs.Prelude.{ℕ, ℤ, List, [], ◌∷◌, ◌++◌, Option, Some, None, Result, Ok, Err, codes}
 use Rattle.std.specs.Fmt.{decimal, signed_decimal}
-use Rattle.std.specs.List.{flat_map}
 use Rattle.board_core.specs.declared.verdict.Verdict.{Verdict}
 use Rattle.board_core.specs.Position.{fault_name as position_fault_name}
 use Rattle.board_core.specs.Verdicts.{verdict_name}
@@ -24,21 +23,14 @@ use Rattle.move_msg.specs.declared.who.Who.{Who}
 use Rattle.relay_world.specs.declared.world.State.{State}
 use Rattle.relay_world.specs.declared.world.State.TheVariants as state
 use Rattle.relay_world.specs.Texts.{who_word}
-use Rattle.arbiter_core.specs.declared.fault.DeliverFault.{DeliverFault}
-use Rattle.arbiter_core.specs.declared.fault.DeliverFault.TheVariants as deliver
-use Rattle.arbiter_core.specs.Faults.{deliver_fault_name}
+use Rattle.arbiter_core.specs.ServedLines.{refused_keeper, refused_port, verdict_or_none}
 use Rattle.adjudicate.specs.declared.tables.FileFault.{FileFault}
 use Rattle.adjudicate.specs.declared.tables.FileFault.TheVariants.{Missing, Changed, Bad}
 use Rattle.adjudicate.specs.declared.lines.Kept.{Kept}
 use Rattle.adjudicate.specs.declared.lines.Line.{Line}
 use Rattle.adjudicate.specs.declared.lines.Line.TheVariants as line
-
--- a line ends with a line feed
-abbrev pub ended : List ℕ → List ℕ
-ended words = words ++ 10 ∷ []
-
-abbrev pub text_of : List (List ℕ) → List ℕ
-text_of = flat_map ended
+use Rattle.adjudicate.specs.declared.refusals.Refusal.{Refusal}
+use Rattle.adjudicate.specs.declared.refusals.Refusal.TheVariants as refusal
 
 -- ---- names
 
@@ -127,11 +119,6 @@ state_word state.Running = codes "running"
 state_word state.Down = codes "down"
 state_word state.Closed = codes "closed"
 
--- the verdict's name, or that there is none
-abbrev pub verdict_or_none : Option Verdict → List ℕ
-verdict_or_none None = codes "none"
-verdict_or_none (Some v) = verdict_name v
-
 -- an arbiter: its letter, how it is, how many moves it keeps and its verdict
 unfoldable pub arbiter_words : Who → State → Option Kept → List ℕ
 arbiter_words who state None = who_word who ++ codes " " ++ state_word state ++ codes " - none"
@@ -161,54 +148,35 @@ done_words lines = decimal lines ++ codes " done"
 abbrev pub refused_line : ℕ → List ℕ
 refused_line number = codes "refused line " ++ decimal number
 
--- how many moves an arbiter has recorded, and its verdict
-abbrev pub heard_words : ℕ → Option Verdict → List ℕ
-heard_words count verdict = codes "ok " ++ decimal count ++ codes " " ++ verdict_or_none verdict
-
--- why an arbiter refuses a datagram; where it is no message, with what is wrong with it
-abbrev pub refused_datagram : DeliverFault → List ℕ
-refused_datagram (deliver.NotAMessage fault) = codes "refused NotAMessage " ++ message_fault_name fault
-refused_datagram deliver.Stranger = codes "refused " ++ deliver_fault_name deliver.Stranger
-refused_datagram deliver.IllegalMove = codes "refused " ++ deliver_fault_name deliver.IllegalMove
-refused_datagram deliver.TooFarAhead = codes "refused " ++ deliver_fault_name deliver.TooFarAhead
-refused_datagram deliver.TooLong = codes "refused " ++ deliver_fault_name deliver.TooLong
-refused_datagram deliver.KeeperFailed = codes "refused " ++ deliver_fault_name deliver.KeeperFailed
-refused_datagram deliver.Down = codes "refused " ++ deliver_fault_name deliver.Down
-refused_datagram deliver.OutOfMemory = codes "refused " ++ deliver_fault_name deliver.OutOfMemory
-
-abbrev pub refused_port : List ℕ
-refused_port = codes "refused port"
-
-abbrev pub refused_keeper : List ℕ
-refused_keeper = codes "refused keeper"
-
 abbrev pub refused_files : List ℕ
 refused_files = codes "refused files"
 
 abbrev pub refused_memory : List ℕ
 refused_memory = codes "refused memory"
 
+-- why something is refused
+abbrev pub refusal_words : Refusal → List ℕ
+refusal_words (refusal.Fen fault) = refused_fen fault
+refusal_words (refusal.Manifest number) = refused_manifest number
+refusal_words (refusal.File name fault) = refused_file name.bytes (file_fault_name fault)
+refusal_words (refusal.Message number fault) = refused_message number (message_fault fault)
+refusal_words (refusal.Line number) = refused_line number
+refusal_words (refusal.Move place) = refused_move place
+refusal_words refusal.Port = refused_port
+refusal_words refusal.Keeper = refused_keeper
+refusal_words refusal.Files = refused_files
+refusal_words refusal.Memory = refused_memory
+
 abbrev pub words_of : Line → List ℕ
 words_of (line.Ruling verdict) = verdict_words verdict
-words_of (line.RefusedFen fault) = refused_fen fault
+words_of (line.Refused why) = refusal_words why
 words_of (line.Move m) = move_text m
-words_of (line.RefusedManifest number) = refused_manifest number
-words_of (line.RefusedFile name fault) = refused_file name.bytes (file_fault_name fault)
 words_of (line.Look name fault) = look_words name.bytes fault
 words_of (line.Wdl told) = told_words (codes "wdl") told
 words_of (line.Dtz told) = told_words (codes "dtz") told
 words_of (line.Message m) = message_words m
-words_of (line.RefusedMessage number fault) = refused_message number (message_fault fault)
 words_of (line.Arbiter who state kept) = arbiter_words who state kept
 words_of (line.Sent number) = sent_words number
-words_of (line.RefusedLine number) = refused_line number
 words_of (line.Outcome outcome plies) = outcome_words outcome plies
 words_of (line.Columns wdl dtz verdict) = columns_words wdl dtz verdict
-words_of (line.RefusedMove place) = refused_move place
 words_of (line.Done lines) = done_words lines
-words_of (line.Heard count verdict) = heard_words count verdict
-words_of (line.RefusedDatagram fault) = refused_datagram fault
-words_of line.RefusedPort = refused_port
-words_of line.RefusedKeeper = refused_keeper
-words_of line.RefusedFiles = refused_files
-words_of line.RefusedMemory = refused_memory

@@ -1,6 +1,5 @@
 -- What `listen` makes of its words and of what it reads (this project's own).
-use Rattle.std.specs.Prelude.{◌≡◌, ◌⊎◌, ℕ, List, Option, Some, Ok, Err}
-use Rattle.std.specs.List.{AllByRecursion}
+use Rattle.std.specs.Prelude.{◌≡◌, ℕ, List, Option, Ok, Err}
 use Rattle.board_core.specs.declared.parts.Parts.{Parts}
 use Rattle.board_core.specs.Position.{IsPosition}
 use Rattle.fen_text.specs.declared.fault.FenFault.{FenFault}
@@ -11,37 +10,23 @@ use Rattle.move_msg.specs.Manifests.{SpellsManifest}
 use Rattle.move_msg.specs.Senders.{who_number}
 use Rattle.arbiter_core.specs.declared.fault.OpenFault.{OpenFault}
 use Rattle.arbiter_core.specs.declared.fault.OpenFault.TheVariants.{BadSetup, KeeperFailed, BadRecord, OtherStamp, OutOfMemory}
-use Rattle.arbiter_core.specs.Answering.{Identity}
-use Rattle.arbiter_core.specs.Opens.{IsResumed, Opens, Told}
-use Rattle.arbiter_core.specs.Recording.{Recorded}
-use Rattle.arbiter_core.specs.Setups.{SetupView, IsGood, IsIdentity, rules_at}
-use Rattle.arbiter_core.specs.Views.{View}
-use Rattle.adjudicate.specs.declared.file_keeper.FileKeeper.{FileKeeper}
+use Rattle.arbiter_core.specs.OverFiles.{IsOpened, ServesOpened}
+use Rattle.arbiter_core.specs.Setups.{SetupView}
+use Rattle.arbiter_core.specs.declared.file_keeper.FileKeeper.{FileKeeper}
 use Rattle.adjudicate.specs.declared.listening.Listening.{Listening}
 use Rattle.adjudicate.specs.Given.{Given}
-use Rattle.adjudicate.specs.KeptFiles.{Finds}
-use Rattle.adjudicate.specs.Lines.{refused_fen, refused_keeper, refused_memory, refused_port}
+use Rattle.arbiter_core.specs.KeptFiles.{Finds}
+use Rattle.arbiter_core.specs.ServedLines.{refused_keeper, refused_port}
+use Rattle.adjudicate.specs.Lines.{refused_fen, refused_memory}
 use Rattle.adjudicate.specs.Looks.{gathered}
-use Rattle.adjudicate.specs.Ports.{Passing, AtPort, NothingPassed, at_port}
+use Rattle.arbiter_core.specs.Ports.{Passing, AtPort, NothingPassed, at_port}
 use Rattle.adjudicate.specs.Reply.{IsText}
-use Rattle.adjudicate.specs.Serving.{Stated, Moment, Loss, NoLoss, KeeperLost, PortLost, Run, ServesRun, TellsRun, asked_first, stated}
-use Rattle.adjudicate.specs.StoredBytes.{IsInFile, PutsInto, any_outcome, file_of, keeper_faults, never_fails, reads_so, stored}
+use Rattle.arbiter_core.specs.StoredBytes.{IsInFile, file_of}
 use Rattle.adjudicate.specs.Telling.{TellsOne}
 
 -- the setup of the arbiter
 abbrev pub setup_for : Listening → Parts → Holding → List ℕ → SetupView
 setup_for l start set manifest = record { name = l.name.now; start = start; manifest = manifest; me = who_number l.me; delay = l.delay; set = set }
-
--- ---- over a keeper
-
--- what keepers over files tell of themselves
-abbrev pub over_file : {F : Type 0} → Finds F → Stated (FileKeeper F)
-over_file finds = stated any_outcome stored keeper_faults (PutsInto finds)
-
--- over this keeper an arbiter of a good setup is opened so, or refused; a bad one is refused, and nothing is put
-pub record IsOpened {F : Type 0} (finds : Finds F) (setup : SetupView) (before now : FileKeeper F) (told : Told) : Type 0 where
-  pub good : IsGood setup → (me : Identity) × IsIdentity setup me × Opens any_outcome stored keeper_faults never_fails (PutsInto finds) reads_so setup me before now told
-  pub bad : (IsGood setup → ⊥) → (told ≡ Err BadSetup) × (now ≡ before)
 
 -- what is told where no arbiter is opened
 abbrev pub TellsUnopened : OpenFault → Option (List ℕ) → Option (List ℕ) → ℕ → Type 0
@@ -50,39 +35,6 @@ TellsUnopened KeeperFailed old new status = TellsOne refused_keeper old new stat
 TellsUnopened BadRecord old new status = TellsOne refused_keeper old new status
 TellsUnopened OtherStamp old new status = TellsOne refused_keeper old new status
 TellsUnopened OutOfMemory old new status = TellsOne refused_memory old new status
-
--- ---- the file through a run
-
--- these bytes are a record of the arbiter's game, from which it could run again
-abbrev pub IsItsRecord : View → List ℕ → Recorded → Type 0
-IsItsRecord v bytes kept = IsResumed (rules_at v.setup) v.me.stamp bytes kept
-
--- a start that comes now finds the arbiter's record in the file
-pub record FindsRecord {F : Type 0} (finds : Finds F) (at : Moment (FileKeeper F)) : Type 0 where
-  pub bytes : List ℕ
-  pub is : IsItsRecord at.arbiter bytes at.arbiter.kept
-  pub found : finds (file_of at.keeper) (Some bytes) (Some bytes)
-
--- it finds the arbiter's record, or another of its game; which one, a failed put says (`PutsInto`, by what it was to keep)
-pub record FindsEither {F : Type 0} (finds : Finds F) (at : Moment (FileKeeper F)) : Type 0 where
-  pub bytes : List ℕ
-  pub is : IsItsRecord at.arbiter bytes at.arbiter.kept
-  pub next : Recorded
-  pub sent : List ℕ
-  pub is_next : IsItsRecord at.arbiter sent next
-  pub found : finds (file_of at.keeper) (Some bytes) (Some bytes) ⊎ (finds (file_of at.keeper) (Some bytes) (Some sent) ⊎ finds (file_of at.keeper) (Some sent) (Some sent))
-
-abbrev pub FindsAtLoss : {F : Type 0} → Finds F → Loss (FileKeeper F) → Type 0
-FindsAtLoss finds NoLoss = Unit {0}
-FindsAtLoss finds (KeeperLost last) = FindsEither finds last.after
-FindsAtLoss finds PortLost = Unit {0}
-
--- before the first datagram of a run and after each one a start finds the arbiter's record, and where the keeper
--- failed that or the record that the put was to keep
-pub record FindsThroughout {F : Type 0} (finds : Finds F) (opened : Moment (FileKeeper F)) (run : Run (FileKeeper F)) : Type 0 where
-  pub first : FindsRecord finds opened
-  pub each : AllByRecursion (λ e. FindsRecord finds e.after) run.exchanges
-  pub at_loss : FindsAtLoss finds run.loss
 
 -- ---- all of it
 
@@ -109,7 +61,7 @@ hosted binds unbound is_at passed faults unreadable finds =
 -- an arbiter is opened over the keeper and serves the datagrams, and between any two of them its record is in the file; or it
 -- isn't opened, and nothing is served; the keeper is left so
 pub data OpensAndServes {F : Type 0} (finds : Finds F) (l : Listening) (setup : SetupView) (before after : FileKeeper F) (port port' : AtPort) (old new : Option (List ℕ)) (status : ℕ) : Type 0 where
-  Served : (opened now : Moment (FileKeeper F)) → IsOpened finds setup before opened.keeper (Ok opened.arbiter) → (run : Run (FileKeeper F)) → ServesRun (over_file finds) opened now port port' (asked_first l.fetch opened.arbiter) run → now.keeper ≡ after → FindsThroughout finds opened run → TellsRun l.datagrams run old new (Ok status) → OpensAndServes finds l setup before after port port' old new status
+  Served : ServesOpened finds setup l.datagrams l.fetch before after port port' old new status → OpensAndServes finds l setup before after port port' old new status
   Unopened : (fault : OpenFault) → IsOpened finds setup before after (Err fault) → NothingPassed port port' → TellsUnopened fault old new status → OpensAndServes finds l setup before after port port' old new status
 
 -- over the file in which the record is kept: it can't be read; or an arbiter is opened over a keeper of this file, which has

@@ -11,8 +11,9 @@ use Rattle.table_file.specs.Tables.{Contents, table_at as contents_at}
 use Rattle.judge_core.specs.Tables.{Tables, slot, table_at}
 use Rattle.adjudicate.specs.declared.tables.FileFault.{FileFault}
 use Rattle.adjudicate.specs.declared.tables.FileFault.TheVariants.{Missing, Changed, Bad}
-use Rattle.adjudicate.specs.Files.{file_named}
-use Rattle.adjudicate.specs.Given.{Given, Told}
+use Rattle.move_msg.specs.FileNames.{file_named}
+use Rattle.move_msg.specs.ToldManifests.{Told}
+use Rattle.adjudicate.specs.Given.{Given}
 use Rattle.adjudicate.specs.Lines.{file_fault_name, look_words, refused_file, refused_manifest}
 
 -- ---- one file

@@ -2,8 +2,9 @@
 use Rattle.std.specs.Prelude.{◌≡◌, ◌≤◌, ◌||◌, ℕ, Bool, true, false, List, [], length, Option, Some, None, is_some, option_map}
 use Rattle.adjudicate.specs.declared.commands.Task.{Task}
 use Rattle.adjudicate.specs.declared.commands.Task.TheVariants as task
-use Rattle.adjudicate.specs.Given.{Given, Told}
-use Rattle.adjudicate.specs.Outside.{Source, AtFile, AtInput, AreFilesAt, FolderFails, IsToldAt, most_bytes}
+use Rattle.move_msg.specs.ToldManifests.{Told}
+use Rattle.adjudicate.specs.Given.{Given}
+use Rattle.move_msg.specs.Outside.{Source, AtFile, AtInput, AreFilesAt, FolderFails, IsToldAt, most_bytes}
 
 -- the folder and the manifest that a task names, if it does
 abbrev pub folder_of : Task → Option (List ℕ)

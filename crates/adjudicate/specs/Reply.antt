@@ -33,8 +33,10 @@ use Rattle.relay_world.specs.Texts.{SpellsSchedule, IsFirstBadLine}
 use Rattle.relay_world.specs.Worlds.{World}
 use Rattle.adjudicate.specs.declared.commands.Task.{Task}
 use Rattle.adjudicate.specs.declared.commands.Task.TheVariants as task
-use Rattle.adjudicate.specs.Given.{Given, Told}
-use Rattle.adjudicate.specs.Lines.{ended, text_of, verdict_words, told_words, refused_fen, refused_manifest, message_words, refused_message, refused_line, refused_memory, outcome_words, refused_move, columns_words}
+use Rattle.move_msg.specs.ToldManifests.{Told}
+use Rattle.adjudicate.specs.Given.{Given}
+use Rattle.arbiter_core.specs.ServedLines.{ended, text_of}
+use Rattle.adjudicate.specs.Lines.{verdict_words, told_words, refused_fen, refused_manifest, message_words, refused_message, refused_line, refused_memory, outcome_words, refused_move, columns_words}
 use Rattle.adjudicate.specs.Inputs.{IsBadWordAt, TellsMoves, lines_in, words_in}
 use Rattle.adjudicate.specs.Schedules.{RefusesTable, game_of, world_words}
 use Rattle.adjudicate.specs.Looks.{Look, gathered, look_for, look_line, are_tables}

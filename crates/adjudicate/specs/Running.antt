@@ -5,7 +5,7 @@ use Rattle.adjudicate.specs.declared.commands.Task.TheVariants.{Listen}
 use Rattle.adjudicate.specs.declared.listening.Listening.{Listening}
 use Rattle.adjudicate.specs.Given.{Given}
 use Rattle.adjudicate.specs.Lines.{refused_files, refused_memory}
-use Rattle.adjudicate.specs.Outside.{Source}
+use Rattle.move_msg.specs.Outside.{Source}
 use Rattle.adjudicate.specs.Reads.{CannotRead, IsGiven, reads_some}
 use Rattle.adjudicate.specs.Reply.{Answers}
 use Rattle.adjudicate.specs.Telling.{TellsOne}

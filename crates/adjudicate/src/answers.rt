@@ -10,7 +10,8 @@ ghost use Rattle.judge_core.specs.Ruling.{is_out_of_scope};
 ghost use Rattle.move_msg.specs.Files.{file_of};
 ghost use Rattle.move_msg.specs.Manifests.{entry_of};
 ghost use Rattle.adjudicate.specs.declared.commands.Task.TheVariants.{Show};
-ghost use Rattle.adjudicate.specs.Lines.{text_of, words_of};
+ghost use Rattle.arbiter_core.specs.ServedLines.{text_of};
+ghost use Rattle.adjudicate.specs.Lines.{words_of};
 ghost use Rattle.adjudicate.specs.Looks.{gathered, look_for, look_line};
 ghost use Rattle.adjudicate.specs.Reply.{Answers, ByTables, IsForText, IsJudged, IsListed, IsMoves, IsReply, IsText, IsTold, TakesMemory, WritesReply, checked, checked_by, numbered, status_if, told};
 ghost use Rattle.adjudicate.specs.Tasks.{AtOnce, AtPort, tells_progress, way_of};
@@ -19,8 +20,8 @@ ghost use Rattle.adjudicate.specs.Inside.Asked.{IsAsked, reply_of};
 use crate::commands::Task;
 use crate::games::answer_game;
 use crate::lines::{AnswerFault, Line, put_line, put_refusal};
-use crate::manifest::Manifest;
 use crate::probes::probes;
+use crate::refusals::Refusal;
 use crate::schedules::answer_run;
 use crate::show::show;
 use crate::sources::Sources;
@@ -28,7 +29,7 @@ use crate::tables::{gather, open_line};
 use board_core::Position;
 use fen_text::read;
 use judge_core::{ProbeFault, Set, Wdl};
-use move_msg::{Line as Entry, NamedFile, manifest_of};
+use move_msg::{Line as Entry, Manifest, NamedFile, manifest_of};
 use std::alloc::{AllocError, Global};
 use std::io::Write;
 
@@ -44,6 +45,8 @@ pub(crate) enum Question {
 /// An answer before it is written.
 #[derive(Drop)]
 pub(crate) enum Answer {
+    /// Why it is refused.
+    Refused(Refusal),
     /// One line, and whether all is done.
     One(Line, bool),
     /// Lines, and whether all is done.
@@ -162,7 +165,7 @@ fn answer_position(
 {
     match gather(alloc, sources) {
         Ok(Ok(mut set)) => answer_question(alloc, question, &mut set, position),
-        Ok(Err(line)) => Ok(Answer::One(line, false)),
+        Ok(Err(refusal)) => Ok(Answer::Refused(refusal)),
         Err(_) => Err(AllocError),
     }
 }
@@ -179,7 +182,7 @@ fn answer_text(
     ensures memory { OnErr result (IsText fen.now) }
 {
     match read(fen.as_bytes()) {
-        Err(fault) => Ok(Answer::One(Line::RefusedFen(fault), false)),
+        Err(fault) => Ok(Answer::Refused(Refusal::Fen(fault))),
         Ok(position) => answer_position(alloc, question, sources, &position),
     }
 }
@@ -190,7 +193,7 @@ fn answer_fen(alloc: Global, fen: &str) -> Result<Answer, AllocError>
     ensures memory { OnErr result (IsText fen.now) }
 {
     match read(fen.as_bytes()) {
-        Err(fault) => Ok(Answer::One(Line::RefusedFen(fault), false)),
+        Err(fault) => Ok(Answer::Refused(Refusal::Fen(fault))),
         Ok(position) => answer_moves(alloc, &position),
     }
 }
@@ -236,7 +239,7 @@ fn answer_check(alloc: Global, sources: &Sources) -> Result<Answer, AllocError>
     match sources.manifest() {
         Manifest::Unnamed => Ok(Answer::Lines(Vec::new(alloc), true)),
         Manifest::Lines(lines) => check_lines(alloc, sources.files(), lines),
-        Manifest::BadLine(number) => Ok(Answer::One(Line::RefusedManifest(*number), false)),
+        Manifest::BadLine(number) => Ok(Answer::Refused(Refusal::Manifest(*number))),
     }
 }
 
@@ -276,6 +279,7 @@ fn put_answer<W: Write>(out: &mut W, answer: &Answer) -> Result<u8, AnswerFault>
     ensures { IfOk result (WritesReply (W.contents out.old) (W.contents out.new) (reply_of answer.now)) }
 {
     match answer {
+        Answer::Refused(refusal) => put_refusal(out, *refusal),
         Answer::One(line, done) => match put_line(out, line) {
             Ok(()) => Ok(status_if(*done)),
             Err(fault) => Err(fault),
@@ -319,7 +323,7 @@ pub fn answer_task<W: Write, E: Write>(
         Task::Probes { progress, .. } => probes(alloc, sources, out, errors, *progress),
         _ => match answer_to(alloc, task, sources) {
             Ok(answer) => put_answer(out, &answer),
-            Err(_) => put_refusal(out, &Line::RefusedMemory),
+            Err(_) => put_refusal(out, Refusal::Memory),
         },
     }
 }

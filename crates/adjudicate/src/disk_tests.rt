@@ -1,8 +1,8 @@
 //! The folders and files of the system, by a folder that the test makes.
 
-use crate::disk::SystemDisk;
 use crate::fixtures::*;
 use crate::folders::*;
+use crate::system_disk::SystemDisk;
 use std::alloc::Global;
 use std::fs;
 use std::process::Abort;

@@ -1,6 +1,5 @@
 //! What the tests share: words and what is told for them as rows, and a writer that fails.
 
-use crate::disk::Disk;
 use crate::folders::Folders;
 use crate::lines::AnswerFault;
 use crate::memory_host::MemoryHost;
@@ -9,7 +8,7 @@ use arbiter_core::Setup;
 use board_core::Position;
 use fen_text::{read, read_move};
 use judge_core::Set;
-use move_msg::{Message, Sender, Stamp};
+use move_msg::{Disk, Message, Sender, Stamp};
 use std::alloc::{AllocError, Global};
 use std::io::{self, Write};
 use std::process::Abort;

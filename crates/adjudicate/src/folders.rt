@@ -1,10 +1,9 @@
 //! Folders of tables in memory and manifests, by names that the words of tests have, and inputs.
 
 ghost use Rattle.std.specs.Prelude.{◌≤◌, length, IfOk};
-ghost use Rattle.adjudicate.specs.Outside.{most_bytes};
+ghost use Rattle.move_msg.specs.Outside.{most_bytes};
 
-use crate::disk::Disk;
-use crate::input::{ReadFault, read_all};
+use move_msg::{Disk, ReadFault, read_all};
 use std::alloc::{AllocError, Global};
 use std::io::{self, Read};
 

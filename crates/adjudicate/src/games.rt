@@ -12,6 +12,7 @@ ghost use Rattle.adjudicate.specs.Inside.InputSteps.{AddsWord};
 use crate::answers::Answer;
 use crate::lines::Line;
 use crate::numbers::Delay;
+use crate::refusals::Refusal;
 use crate::sources::Sources;
 use crate::tables::gather;
 use board_core::{Move, Position};
@@ -88,7 +89,7 @@ fn answer_moves(
 {
     let mut set = match gather(alloc, sources)? {
         Ok(set) => set,
-        Err(line) => return Ok(Answer::One(line, false)),
+        Err(refusal) => return Ok(Answer::Refused(refusal)),
     };
     let outcome = set.judge_game(alloc, start, moves, delay.plies())?;
     Ok(Answer::One(Line::Outcome(outcome, moves.len()), is_legal(outcome)))
@@ -116,7 +117,7 @@ fn answer_from(
 {
     match read_game(alloc, sources.input())? {
         Ok(moves) => answer_moves(alloc, sources, delay, start, &moves),
-        Err(place) => Ok(Answer::One(Line::RefusedMove(place), false)),
+        Err(place) => Ok(Answer::Refused(Refusal::Move(place))),
     }
 }
 
@@ -132,7 +133,7 @@ pub(crate) fn answer_game(
     ensures memory { OnErr result (IsText fen.now) }
 {
     match read(fen.as_bytes()) {
-        Err(fault) => Ok(Answer::One(Line::RefusedFen(fault), false)),
+        Err(fault) => Ok(Answer::Refused(Refusal::Fen(fault))),
         Ok(position) => answer_from(alloc, sources, delay, &position),
     }
 }

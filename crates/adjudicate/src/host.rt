@@ -2,10 +2,9 @@
 
 ghost use Rattle.std.specs.Prelude.{List, ℕ, IfOk, IsErrOf};
 
-use crate::kept_file::KeptFile;
-use crate::port::Port;
 use crate::system_file::SystemFile;
 use crate::udp::UdpPort;
+use arbiter_core::{KeptFile, Port};
 use std::alloc::{AllocError, Global};
 use std::io;
 use std::net::Net;

@@ -1,11 +1,8 @@
 //! An arbiter that listens at a host in memory.
 
-use crate::file_keeper::FileKeeper;
 use crate::fixtures::*;
 use crate::folders::Folders;
-use crate::memory_file::{MemoryFile, Stands};
-use crate::memory_host::MemoryHost;
-use arbiter_core::{Arbiter, OpenFault, Refused};
+use crate::memory_host::{MemoryHost, Stands};
 use std::alloc::Global;
 use std::process::Abort;
 
@@ -113,73 +110,16 @@ fn refuses_in_order_and_listens(rt: HostRuntime) {
     expect_case(&rt, rt.alloc(), true, Stands::Nothing, row);
 }
 
-/// A keeper over a file with these bytes.
-fn keeper_over<'a>(rt: &impl Abort, alloc: Global, bytes: &'a [u8]) -> FileKeeper<MemoryFile<'a>> {
-    let file = MemoryFile::new(Stands::Bytes(bytes), usize::MAX);
-    FileKeeper::new(alloc, file).ok().expect(rt, "a keeper")
-}
-
-/// The refusal of an arbiter over a keeper, if it is refused.
-fn refusal_over(
-    rt: &impl Abort,
-    alloc: Global,
-    keeper: &mut FileKeeper<MemoryFile<'_>>,
-) -> Option<Refused<'static>> {
-    Arbiter::open(alloc, keeper, setup_of(rt, alloc, NAME)).err()
-}
-
-/// The fault of a refusal.
-fn fault_of(refused: &Option<Refused<'_>>) -> Option<OpenFault> {
-    match refused {
-        Some(refused) => Some(refused.fault),
-        None => None,
-    }
-}
-
-/// Why no arbiter is opened over a keeper.
-fn fault_over(
-    rt: &impl Abort,
-    alloc: Global,
-    keeper: &mut FileKeeper<MemoryFile<'_>>,
-) -> Option<OpenFault> {
-    let refused = refusal_over(rt, alloc, keeper);
-    fault_of(&refused)
-}
-
-/// Whether the file of a keeper was left alone.
-fn is_left_alone(keeper: &FileKeeper<MemoryFile<'_>>) -> bool {
-    keeper.file().calls()[0].is_none()
-}
-
-/// That this holds of a record of so many bytes.
-fn check_record(rt: &impl Abort, holds: bool, length: usize) {
-    assert!(rt; holds, "{length} bytes");
-}
-
-/// That an arbiter is refused so over a file with these bytes, if it is, and the file is left alone.
-fn expect_fault(rt: &impl Abort, alloc: Global, bytes: &[u8], wanted: Option<OpenFault>) {
-    let mut keeper = keeper_over(rt, alloc, bytes);
-    let fault = fault_over(rt, alloc, &mut keeper);
-    check_record(rt, fault == wanted, bytes.len());
-    check_record(rt, is_left_alone(&keeper), bytes.len());
-}
-
 /// That the program tells so over a record.
 fn expect_over(rt: &impl Abort, alloc: Global, bytes: &[u8], lines: &'static str, status: u8) {
     let row = (LISTEN, START, lines, status);
     expect_case(rt, alloc, true, Stands::Bytes(bytes), row);
 }
 
-/// That a record that is cut is refused, and stays as it is.
-fn expect_cut(rt: &impl Abort, alloc: Global, bytes: &[u8]) {
-    expect_fault(rt, alloc, bytes, Some(OpenFault::BadRecord));
-    expect_over(rt, alloc, bytes, "refused keeper\n", 1);
-}
-
 /// That a record that is cut at any place is refused.
 fn expect_all_cuts(rt: &impl Abort, alloc: Global, whole: &[u8]) {
     for length in 0..whole.len() {
-        expect_cut(rt, alloc, &whole[..length]);
+        expect_over(rt, alloc, &whole[..length], "refused keeper\n", 1);
     }
 }
 
@@ -188,7 +128,6 @@ fn expect_all_cuts(rt: &impl Abort, alloc: Global, whole: &[u8]) {
 fn refuses_a_record_that_is_cut(rt: HostRuntime) {
     let whole = record(&rt, rt.alloc());
     expect_all_cuts(&rt, rt.alloc(), whole.as_slice());
-    expect_fault(&rt, rt.alloc(), whole.as_slice(), None);
     expect_over(
         &rt,
         rt.alloc(),

@@ -1,14 +1,11 @@
-//! The keeper over a file, in memory and of the system.
+//! The keeper over a file of the system.
 
 ghost use Rattle.std.specs.Prelude.{◌≤◌, length};
 
-use crate::file_keeper::FileKeeper;
 use crate::fixtures::check;
-use crate::input::ReadFault;
-use crate::kept_file::KeptFile;
-use crate::memory_file::{Call, MemoryFile, Stands};
 use crate::system_file::SystemFile;
-use arbiter_core::{KeepFault, Keeper};
+use arbiter_core::{FileKeeper, KeepFault, Keeper, KeptFile};
+use move_msg::ReadFault;
 use std::alloc::Global;
 use std::fs;
 use std::process::Abort;
@@ -48,81 +45,6 @@ fn put_into<F: KeptFile + Drop>(keeper: &mut FileKeeper<F>, bytes: &[u8]) -> Res
     requires { length bytes.now ≤ 8217 }
 {
     keeper.put(bytes)
-}
-
-/// What a put tells, the failures so far, and what is stored then.
-struct Put {
-    put: Result<(), KeepFault>,
-    failures: u64,
-    kept: Option<&'static [u8]>,
-}
-
-/// A put of which a call fails.
-const FAILED: Put = Put {
-    put: Err(KeepFault::Failed),
-    failures: 1,
-    kept: None,
-};
-
-/// A put of which no call fails.
-const DONE: Put = Put {
-    put: Ok(()),
-    failures: 0,
-    kept: Some(b"record"),
-};
-
-/// The calls that a put makes, in order.
-const CALLS: [Call; 4] = [Call::Write, Call::Sync, Call::Rename, Call::SyncFolder];
-
-/// The call of this number where so many were made.
-fn call_at(i: usize, count: usize) -> Option<Call> {
-    if i < count {
-        CALLS.get(i).copied()
-    } else {
-        None
-    }
-}
-
-/// That so many calls were made, in order, and no more.
-fn expect_calls(rt: &impl Abort, calls: &[Option<Call>], count: usize) {
-    for i in 0..calls.len() {
-        check(rt, calls[i] == call_at(i, count), "a call");
-    }
-}
-
-/// A keeper over nothing in memory.
-fn new_keeper(rt: &impl Abort, alloc: Global, fails_at: usize) -> FileKeeper<MemoryFile<'static>> {
-    let file = MemoryFile::new(Stands::Nothing, fails_at);
-    FileKeeper::new(alloc, file).ok().expect(rt, "a keeper")
-}
-
-/// That a put tells so.
-fn expect_told(rt: &impl Abort, keeper: &mut FileKeeper<MemoryFile<'_>>, wanted: &Put) {
-    check(rt, put_into(keeper, b"record") == wanted.put, "a put");
-    check(rt, keeper.failures() == wanted.failures, "its failures");
-}
-
-/// That so many calls were made to a keeper's file.
-fn expect_made(rt: &impl Abort, keeper: &FileKeeper<MemoryFile<'_>>, count: usize) {
-    expect_calls(rt, keeper.file().calls().as_slice(), count);
-}
-
-/// That a put whose call of this number fails, if there is one, tells and leaves so, and no further call is made.
-fn expect_put(rt: &impl Abort, alloc: Global, fails_at: usize, wanted: &Put, calls: usize) {
-    let mut keeper = new_keeper(rt, alloc, fails_at);
-    expect_told(rt, &mut keeper, wanted);
-    expect_kept(rt, alloc, &mut keeper, wanted.kept);
-    expect_made(rt, &keeper, calls);
-}
-
-/// Bytes are written beside, synced and renamed, the folder is synced, and only then they are stored; each of the calls fails
-/// in turn.
-#[test]
-fn stores_what_has_come_to_the_name(rt: HostRuntime) {
-    for fails_at in 0..4usize {
-        expect_put(&rt, rt.alloc(), fails_at, &FAILED, fails_at + 1);
-    }
-    expect_put(&rt, rt.alloc(), 4, &DONE, 4);
 }
 
 /// The folder of the test, its kept file and the one beside it.

@@ -1,18 +1,20 @@
 //! The lines that the program writes.
 
 ghost use Rattle.std.specs.Prelude.{◌≡◌, ◌++◌, Some, IfOk, OnOk, codes};
-ghost use Rattle.std.specs.Fmt.{DisplaysOnOk, decimal};
+ghost use Rattle.std.specs.Fmt.{DisplaysOnOk};
 ghost use Rattle.std.specs.Io.KnownBytes.{Appends};
-ghost use Rattle.adjudicate.specs.Lines.{arbiter_words, column_words, columns_words, ended, heard_words, message_words, outcome_words, refused_datagram, refused_fen, refused_file, refused_message, state_word, told_words, verdict_or_none, verdict_words, words_of};
+ghost use Rattle.arbiter_core.specs.ServedLines.{ended, heard_words, verdict_or_none};
+ghost use Rattle.adjudicate.specs.Lines.{arbiter_words, column_words, columns_words, message_words, outcome_words, refusal_words, state_word, told_words, verdict_words, words_of};
 ghost use Rattle.relay_world.specs.Texts.{who_word};
 
+use crate::refusals::Refusal;
 use crate::tables::FileFault;
-use arbiter_core::DeliverFault;
+use arbiter_core::verdict_or_none;
 use arrayvec::ArrayString;
 use board_core::{Move, Verdict};
-use fen_text::{FenFault, write_move};
+use fen_text::write_move;
 use judge_core::{GameOutcome, ProbeFault};
-use move_msg::{Message, MessageFault, Who};
+use move_msg::{Message, Who};
 use relay_world::State;
 use std::fmt;
 use std::io::Write;
@@ -40,14 +42,10 @@ pub(crate) struct Kept {
 pub(crate) enum Line {
     /// The verdict on a position; none where the game goes on.
     Ruling(Option<Verdict>),
-    /// Why a text is no position.
-    RefusedFen(FenFault),
+    /// Why something is refused.
+    Refused(Refusal),
     /// A move in coordinates.
     Move(Move),
-    /// The number of the first line of a manifest that is at fault, the first being 1.
-    RefusedManifest(usize),
-    /// The first file that isn't the table that it should be.
-    RefusedFile(ArrayString<16>, FileFault),
     /// Whether the file of this name is the table that it should be.
     Look(ArrayString<16>, Option<FileFault>),
     /// The value that the tables tell, or why they tell none.
@@ -56,44 +54,16 @@ pub(crate) enum Line {
     Dtz(Result<i32, ProbeFault>),
     /// A message.
     Message(Message),
-    /// The number of a message, the first being 1, and what is wrong with it; nothing where it is cut.
-    RefusedMessage(usize, Option<MessageFault>),
     /// How an arbiter is, and what it keeps, if anything.
     Arbiter(Who, State, Option<Kept>),
     /// How many messages were sent.
     Sent(usize),
-    /// The number of the first line of a schedule that is at fault, the first being 1.
-    RefusedLine(usize),
     /// What a game of so many moves comes to.
     Outcome(GameOutcome, usize),
     /// What both probes tell of a position, and the verdict on it.
     Columns(Result<i32, ProbeFault>, Result<i32, ProbeFault>, Option<Verdict>),
-    /// The place of a word that is no move, the first being 0.
-    RefusedMove(usize),
     /// How many lines are done on the way.
     Done(usize),
-    /// How many moves an arbiter has recorded after a datagram, and its verdict.
-    Heard(u32, Option<Verdict>),
-    /// Why it refused a datagram.
-    RefusedDatagram(DeliverFault),
-    /// The port can't be bound, or no datagram can be received.
-    RefusedPort,
-    /// What is kept can't be read or isn't that of the game, or the keeper failed.
-    RefusedKeeper,
-    /// Something can't be read.
-    RefusedFiles,
-    /// Memory was refused.
-    RefusedMemory,
-}
-
-/// Tells why a text is no position.
-fn fmt_fen<W: fmt::Write>(f: &mut fmt::Formatter<W>, fault: FenFault) -> fmt::Result
-    ensures { DisplaysOnOk W.Write.write_str_gives f.old result (Some (refused_fen fault)) f.new }
-{
-    match fault {
-        FenFault::BadPosition(fault) => write!(f, "refused FEN BadPosition {}", fault.name()),
-        _ => write!(f, "refused FEN {}", fault.name()),
-    }
 }
 
 /// A number that the tables tell, or why they tell none.
@@ -202,16 +172,6 @@ fn state_word(state: State) -> &'static str
     }
 }
 
-/// The name of a verdict, or that there is none.
-fn verdict_or_none(verdict: Option<Verdict>) -> &'static str
-    ensures { result.now ≡ verdict_or_none verdict }
-{
-    match verdict {
-        None => "none",
-        Some(verdict) => verdict.name(),
-    }
-}
-
 /// Tells how an arbiter is, and what it keeps.
 #[tactic(auto, unfolding(crate::specs::Lines::arbiter_words))]
 fn fmt_arbiter<W: fmt::Write>(
@@ -249,61 +209,11 @@ fn fmt_outcome<W: fmt::Write>(
     }
 }
 
-/// Tells what an arbiter has recorded.
-fn fmt_heard<W: fmt::Write>(
-    f: &mut fmt::Formatter<W>,
-    count: u32,
-    verdict: Option<Verdict>,
-) -> fmt::Result
-    ensures { DisplaysOnOk W.Write.write_str_gives f.old result (Some (heard_words count verdict)) f.new }
-{
-    let verdict = verdict_or_none(verdict);
-    write!(f, "ok {count} {verdict}")
-}
-
-/// Tells why an arbiter refused a datagram.
-fn fmt_refused_datagram<W: fmt::Write>(
-    f: &mut fmt::Formatter<W>,
-    fault: DeliverFault,
-) -> fmt::Result
-    ensures { DisplaysOnOk W.Write.write_str_gives f.old result (Some (refused_datagram fault)) f.new }
-{
-    match fault {
-        DeliverFault::NotAMessage(fault) => write!(f, "refused NotAMessage {}", fault.name()),
-        _ => write!(f, "refused {}", fault.name()),
-    }
-}
-
-/// Tells a number after these words.
-fn fmt_number<W: fmt::Write>(f: &mut fmt::Formatter<W>, words: &str, number: usize) -> fmt::Result
-    ensures { DisplaysOnOk W.Write.write_str_gives f.old result (Some (words.now ++ decimal number)) f.new }
-{
-    write!(f, "{words}{number}")
-}
-
 /// Tells a name, and a word on it.
 fn fmt_named<W: fmt::Write>(f: &mut fmt::Formatter<W>, name: &str, word: &str) -> fmt::Result
     ensures { DisplaysOnOk W.Write.write_str_gives f.old result (Some (name.now ++ codes " " ++ word.now)) f.new }
 {
     write!(f, "{name} {word}")
-}
-
-/// Tells that a file is refused.
-fn fmt_refused_file<W: fmt::Write>(f: &mut fmt::Formatter<W>, name: &str, word: &str) -> fmt::Result
-    ensures { DisplaysOnOk W.Write.write_str_gives f.old result (Some (refused_file name.now word.now)) f.new }
-{
-    write!(f, "refused {name} {word}")
-}
-
-/// Tells that a message is refused.
-fn fmt_refused_message<W: fmt::Write>(
-    f: &mut fmt::Formatter<W>,
-    number: usize,
-    word: &str,
-) -> fmt::Result
-    ensures { DisplaysOnOk W.Write.write_str_gives f.old result (Some (refused_message number word.now)) f.new }
-{
-    write!(f, "refused message {number} {word}")
 }
 
 impl fmt::Display for Line {
@@ -315,32 +225,18 @@ impl fmt::Display for Line {
     fn fmt<W: fmt::Write>(&self, f: &mut fmt::Formatter<W>) -> fmt::Result {
         match self {
             Line::Ruling(verdict) => f.write_str(verdict_or_open(*verdict)),
-            Line::RefusedFen(fault) => fmt_fen(f, *fault),
+            Line::Refused(refusal) => write!(f, "{refusal}"),
             Line::Move(m) => f.write_str(write_move(m).as_str()),
-            Line::RefusedManifest(number) => fmt_number(f, "refused manifest ", *number),
-            Line::RefusedFile(name, fault) => fmt_refused_file(f, name.as_str(), fault.name()),
             Line::Look(name, None) => fmt_named(f, name.as_str(), "ok"),
             Line::Look(name, Some(fault)) => fmt_named(f, name.as_str(), fault.name()),
             Line::Wdl(told) => fmt_told(f, "wdl", told),
             Line::Dtz(told) => fmt_told(f, "dtz", told),
             Line::Message(message) => fmt_message(f, message),
-            Line::RefusedMessage(number, None) => fmt_refused_message(f, *number, "Cut"),
-            Line::RefusedMessage(number, Some(fault)) => {
-                fmt_refused_message(f, *number, fault.name())
-            }
             Line::Arbiter(who, state, kept) => fmt_arbiter(f, *who, *state, *kept),
-            Line::Sent(number) => fmt_number(f, "sent ", *number),
-            Line::RefusedLine(number) => fmt_number(f, "refused line ", *number),
+            Line::Sent(number) => write!(f, "sent {number}"),
             Line::Outcome(outcome, plies) => fmt_outcome(f, *outcome, *plies),
             Line::Columns(wdl, dtz, verdict) => fmt_columns(f, wdl, dtz, *verdict),
-            Line::RefusedMove(place) => fmt_number(f, "refused move ", *place),
             Line::Done(lines) => write!(f, "{lines} done"),
-            Line::Heard(count, verdict) => fmt_heard(f, *count, *verdict),
-            Line::RefusedDatagram(fault) => fmt_refused_datagram(f, *fault),
-            Line::RefusedPort => f.write_str("refused port"),
-            Line::RefusedKeeper => f.write_str("refused keeper"),
-            Line::RefusedFiles => f.write_str("refused files"),
-            Line::RefusedMemory => f.write_str("refused memory"),
         }
     }
 }
@@ -355,25 +251,11 @@ pub(crate) fn put_line<W: Write>(out: &mut W, line: &Line) -> Result<(), AnswerF
     }
 }
 
-/// Writes a line, and lets it go out at once.
-pub(crate) fn put_line_now<W: Write>(out: &mut W, line: &Line) -> Result<(), AnswerFault>
-    ensures { OnOk result (Appends (W.contents out.old) (W.contents out.new) (ended (words_of line.now))) }
+/// Writes why all else is refused, and tells the status 1.
+pub(crate) fn put_refusal<W: Write>(out: &mut W, refusal: Refusal) -> Result<u8, AnswerFault>
+    ensures { IfOk result (λ status. Appends (W.contents out.old) (W.contents out.new) (ended (refusal_words refusal)) × (status ≡ 1)) }
 {
-    match put_line(out, line) {
-        Ok(()) => {}
-        Err(fault) => return Err(fault),
-    }
-    match out.flush() {
-        Ok(()) => Ok(()),
-        Err(_) => Err(AnswerFault::Io),
-    }
-}
-
-/// Writes a line that refuses all else, and tells the status 1.
-pub(crate) fn put_refusal<W: Write>(out: &mut W, line: &Line) -> Result<u8, AnswerFault>
-    ensures { IfOk result (λ status. Appends (W.contents out.old) (W.contents out.new) (ended (words_of line.now)) × (status ≡ 1)) }
-{
-    match put_line(out, line) {
+    match put_line(out, &Line::Refused(refusal)) {
         Ok(()) => Ok(1),
         Err(fault) => Err(fault),
     }

@@ -8,24 +8,20 @@ ghost use Rattle.move_msg.specs.Manifests.{SpellsManifest};
 ghost use Rattle.arbiter_core.specs.Setups.{setup_view};
 ghost use Rattle.adjudicate.specs.Listens.{BindsAndServes, KeepsAndServes, Listens, OpensAndServes, ServesAt, TellsUnopened, hosted, setup_for};
 ghost use Rattle.adjudicate.specs.Looks.{gathered};
-ghost use Rattle.adjudicate.specs.Ports.{at_port};
-ghost use Rattle.adjudicate.specs.StoredBytes.{IsInFile};
+ghost use Rattle.arbiter_core.specs.Ports.{at_port};
+ghost use Rattle.arbiter_core.specs.StoredBytes.{IsInFile};
 
-use crate::file_keeper::FileKeeper;
 use crate::host::{BindFault, Host};
-use crate::input::ReadFault;
-use crate::kept_file::KeptFile;
-use crate::lines::{AnswerFault, Line, put_refusal};
+use crate::lines::{AnswerFault, put_refusal};
 use crate::listening::Listening;
-use crate::port::Port;
-use crate::serve::serve;
+use crate::refusals::Refusal;
 use crate::sources::Sources;
 use crate::tables::gather;
-use arbiter_core::{Arbiter, OpenFault, Setup};
+use arbiter_core::{FileKeeper, KeptFile, OpenFault, Port, Setup};
 use board_core::Position;
 use fen_text::read;
 use judge_core::Set;
-use move_msg::manifest_of;
+use move_msg::{ReadFault, manifest_of};
 use std::alloc::{AllocError, Global};
 use std::io::Write;
 
@@ -34,8 +30,8 @@ fn put_unopened<W: Write>(fault: OpenFault, out: &mut W) -> Result<u8, AnswerFau
     ensures { IfOk result (TellsUnopened fault (W.contents out.old) (W.contents out.new)) }
 {
     match fault {
-        OpenFault::OutOfMemory => put_refusal(out, &Line::RefusedMemory),
-        _ => put_refusal(out, &Line::RefusedKeeper),
+        OpenFault::OutOfMemory => put_refusal(out, Refusal::Memory),
+        _ => put_refusal(out, Refusal::Keeper),
     }
 }
 
@@ -52,21 +48,19 @@ fn open_and_serve<F: KeptFile + Drop, P: Port, W: Write>(
     requires { IsInFile F.finds keeper.old }
     ensures { IfOk result (OpensAndServes F.finds listening.now (setup_view setup.entry) keeper.old keeper.new (at_port P.passed P.faults port.old) (at_port P.passed P.faults port.new) (W.contents out.old) (W.contents out.new)) }
 {
-    let fault = match Arbiter::open(alloc, keeper, setup) {
-        Ok(mut arbiter) => {
-            return serve(
-                alloc,
-                &mut arbiter,
-                keeper,
-                port,
-                listening.datagrams,
-                listening.fetch,
-                out,
-            );
-        }
-        Err(refused) => refused.fault,
-    };
-    put_unopened(fault, out)
+    match arbiter_core::open_and_serve(
+        alloc,
+        setup,
+        keeper,
+        port,
+        listening.datagrams,
+        listening.fetch,
+        out,
+    ) {
+        Ok(Ok(status)) => Ok(status),
+        Ok(Err(fault)) => put_unopened(fault, out),
+        Err(_) => Err(AnswerFault::Io),
+    }
 }
 
 /// The same over a file in which the record is kept. A file that can't be read is told as `refused keeper`.
@@ -82,8 +76,8 @@ fn keep_and_serve<F: KeptFile + Drop, P: Port, W: Write>(
 {
     match FileKeeper::new(alloc, file) {
         Ok(mut keeper) => open_and_serve(alloc, listening, setup, &mut keeper, port, out),
-        Err(ReadFault::Unreadable) => put_refusal(out, &Line::RefusedKeeper),
-        Err(ReadFault::OutOfMemory) => put_refusal(out, &Line::RefusedMemory),
+        Err(ReadFault::Unreadable) => put_refusal(out, Refusal::Keeper),
+        Err(ReadFault::OutOfMemory) => put_refusal(out, Refusal::Memory),
     }
 }
 
@@ -100,7 +94,7 @@ fn serve_at<H: Host, W: Write>(
 {
     match host.file(alloc, listening.kept) {
         Ok(file) => keep_and_serve(alloc, listening, setup, file, port, out),
-        Err(_) => put_refusal(out, &Line::RefusedMemory),
+        Err(_) => put_refusal(out, Refusal::Memory),
     }
 }
 
@@ -116,8 +110,8 @@ fn bind_and_serve<H: Host, W: Write>(
 {
     match host.bind(alloc, listening.bind, listening.to) {
         Ok(mut port) => serve_at(alloc, listening, setup, host, &mut port, out),
-        Err(BindFault::Unbound) => put_refusal(out, &Line::RefusedPort),
-        Err(BindFault::OutOfMemory) => put_refusal(out, &Line::RefusedMemory),
+        Err(BindFault::Unbound) => put_refusal(out, Refusal::Port),
+        Err(BindFault::OutOfMemory) => put_refusal(out, Refusal::Memory),
     }
 }
 
@@ -167,7 +161,7 @@ fn listen_by<'a, H: Host, W: Write>(
 {
     let manifest = match manifest_for(alloc, sources) {
         Ok(manifest) => manifest,
-        Err(_) => return put_refusal(out, &Line::RefusedMemory),
+        Err(_) => return put_refusal(out, Refusal::Memory),
     };
     let name = listening.name.as_bytes();
     listen_with(alloc, listening, name, start, &manifest, set, host, out)
@@ -189,11 +183,11 @@ pub fn listen<'a, H: Host, W: Write>(
 {
     let start = match read(listening.start.as_bytes()) {
         Ok(start) => start,
-        Err(fault) => return put_refusal(out, &Line::RefusedFen(fault)),
+        Err(fault) => return put_refusal(out, Refusal::Fen(fault)),
     };
     match gather(alloc, sources) {
         Ok(Ok(set)) => listen_by(alloc, listening, sources, start, set, host, out),
-        Ok(Err(line)) => put_refusal(out, &line),
-        Err(_) => put_refusal(out, &Line::RefusedMemory),
+        Ok(Err(refusal)) => put_refusal(out, refusal),
+        Err(_) => put_refusal(out, Refusal::Memory),
     }
 }

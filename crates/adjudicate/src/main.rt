@@ -12,38 +12,32 @@
 
 mod answers;
 mod commands;
-mod disk;
-mod file_keeper;
-mod files;
 mod games;
 mod host;
-mod input;
-mod kept_file;
 mod lines;
 mod listen;
 mod listening;
-mod manifest;
 mod numbers;
-mod port;
 mod probes;
 mod program;
-mod reading;
+mod refusals;
 mod schedules;
-mod serve;
 mod show;
 mod sources;
+mod system_disk;
 mod system_file;
 mod tables;
 mod udp;
 mod usage;
 
-use disk::SystemDisk;
 use host::SystemHost;
-use lines::{AnswerFault, Line, put_refusal};
+use lines::{AnswerFault, put_refusal};
 use program::{Output, end, run};
+use refusals::Refusal;
 use std::alloc::{AllocError, Global};
 use std::io::{self, BufWriter, Write};
 use std::process::ExitCode;
+use system_disk::SystemDisk;
 use usage::Usage;
 
 /// The words that the program was called with, its own name first. Words that are no text are a
@@ -74,7 +68,7 @@ fn tail_of<'a>(alloc: Global, words: &'a [String]) -> Result<Vec<&'a str>, Alloc
 fn run_into<W: Write>(rt: &HostRuntime, out: &mut W) -> Result<u8, AnswerFault> {
     let words = match words_of(rt) {
         Ok(words) => words,
-        Err(Usage::OutOfMemory) => return put_refusal(out, &Line::RefusedMemory),
+        Err(Usage::OutOfMemory) => return put_refusal(out, Refusal::Memory),
         Err(Usage::Misuse) => {
             let disk = SystemDisk::new(rt);
             return run(
@@ -99,7 +93,7 @@ fn run_into<W: Write>(rt: &HostRuntime, out: &mut W) -> Result<u8, AnswerFault> 
                 &mut rt.stderr(),
             )
         }
-        Err(_) => put_refusal(out, &Line::RefusedMemory),
+        Err(_) => put_refusal(out, Refusal::Memory),
     }
 }
 
@@ -121,7 +115,7 @@ impl<W: Write + Drop> Output for BufWriter<W> {
 fn status_of(rt: &HostRuntime) -> u8 {
     let mut out = match BufWriter::new(rt.alloc(), io::writer(rt)) {
         Ok(out) => out,
-        Err(_) => return put_refusal(&mut io::writer(rt), &Line::RefusedMemory).unwrap_or(1),
+        Err(_) => return put_refusal(&mut io::writer(rt), Refusal::Memory).unwrap_or(1),
     };
     let answered = run_into(rt, &mut out);
     end(&mut out, answered)
@@ -142,15 +136,9 @@ mod hosted_tests;
 #[cfg(test)]
 mod kept_tests;
 #[cfg(test)]
-mod listen_tests;
-#[cfg(test)]
 mod many_tests;
 #[cfg(test)]
-mod memory_file;
-#[cfg(test)]
 mod memory_host;
-#[cfg(test)]
-mod memory_port;
 #[cfg(test)]
 mod message_tests;
 #[cfg(test)]
@@ -161,3 +149,5 @@ mod schedule_tests;
 mod table_tests;
 #[cfg(test)]
 mod tests;
+#[cfg(test)]
+mod udp_tests;

@@ -11,6 +11,7 @@ ghost use Rattle.adjudicate.specs.Reply.{IsText, TellsLine};
 
 use crate::answers::{ask_dtz, number_in, status_if};
 use crate::lines::{AnswerFault, Line, put_line, put_refusal};
+use crate::refusals::Refusal;
 use crate::sources::Sources;
 use crate::tables::gather;
 use board_core::Position;
@@ -75,7 +76,7 @@ fn probe_line(alloc: Global, set: &mut Set<'_>, text: &[u8]) -> Result<(Line, bo
 {
     match read(text) {
         Ok(position) => columns(alloc, set, text, &position),
-        Err(fault) => Ok((Line::RefusedFen(fault), false)),
+        Err(fault) => Ok((Line::Refused(Refusal::Fen(fault)), false)),
     }
 }
 
@@ -112,7 +113,7 @@ fn put_probes<W: Write, E: Write>(
     while !rest.is_empty() {
         let (line, tail) = first_line(rest);
         let Ok((told, is_told)) = probe_line(alloc, set, line) else {
-            return put_refusal(out, &Line::RefusedMemory);
+            return put_refusal(out, Refusal::Memory);
         };
         match put_line(out, &told) {
             Ok(()) => {}
@@ -144,7 +145,7 @@ pub(crate) fn probes<W: Write, E: Write>(
 {
     match gather(alloc, sources) {
         Ok(Ok(mut set)) => put_probes(alloc, &mut set, sources.input(), out, errors, progress),
-        Ok(Err(line)) => put_refusal(out, &line),
-        Err(_) => put_refusal(out, &Line::RefusedMemory),
+        Ok(Err(refusal)) => put_refusal(out, refusal),
+        Err(_) => put_refusal(out, Refusal::Memory),
     }
 }

@@ -8,13 +8,13 @@ ghost use Rattle.adjudicate.specs.Tasks.{IsTask, tells_progress};
 
 use crate::answers::answer_task;
 use crate::commands::{Task, parse};
-use crate::disk::Disk;
 use crate::host::Host;
-use crate::input::ReadFault;
-use crate::lines::{AnswerFault, Line, put_refusal};
+use crate::lines::{AnswerFault, put_refusal};
 use crate::listen::listen;
+use crate::refusals::Refusal;
 use crate::sources::Sources;
 use crate::usage::Usage;
+use move_msg::{Disk, ReadFault};
 use std::alloc::Global;
 use std::io::Write;
 
@@ -56,8 +56,8 @@ fn run_task<D: Disk, H: Host, W: Write, E: Write>(
             Task::Listen(listening) => listen(alloc, listening, &sources, host, out),
             _ => answer_task(alloc, task, &sources, out, errors),
         },
-        Err(ReadFault::Unreadable) => put_refusal(out, &Line::RefusedFiles),
-        Err(ReadFault::OutOfMemory) => put_refusal(out, &Line::RefusedMemory),
+        Err(ReadFault::Unreadable) => put_refusal(out, Refusal::Files),
+        Err(ReadFault::OutOfMemory) => put_refusal(out, Refusal::Memory),
     }
 }
 
@@ -81,7 +81,7 @@ pub fn run<D: Disk, H: Host, W: Write, E: Write>(
 {
     match parse(alloc, words) {
         Ok(task) => run_task(alloc, &task, disk, host, out, errors),
-        Err(Usage::OutOfMemory) => put_refusal(out, &Line::RefusedMemory),
+        Err(Usage::OutOfMemory) => put_refusal(out, Refusal::Memory),
         Err(Usage::Misuse) => {
             put_usage(errors);
             Ok(2)

@@ -1,9 +1,8 @@
 //! The program over folders and files in memory: what it reads for a task, and what it refuses.
 
-use crate::disk::Disk;
 use crate::fixtures::*;
 use crate::folders::*;
-use crate::input::ReadFault;
+use move_msg::{Disk, ReadFault};
 use std::alloc::{AllocError, Global};
 
 /// One folder, `tables`, with these names, parted by spaces, and files by their paths. A name without a file can't be

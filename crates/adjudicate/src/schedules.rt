@@ -10,13 +10,14 @@ ghost use Rattle.relay_world.specs.Runs.{Runs, Tells, TellsSide, told_of, KeptIs
 ghost use Rattle.relay_world.specs.Texts.{SpellsSchedule, IsFirstBadLine};
 ghost use Rattle.relay_world.specs.Worlds.{Game as Judged, Side, World as Worlds};
 ghost use Rattle.adjudicate.specs.Inside.Asked.{reply_of};
-ghost use Rattle.adjudicate.specs.Lines.{refused_line, words_of};
+ghost use Rattle.adjudicate.specs.Lines.{refused_line, refusal_words, words_of};
 ghost use Rattle.adjudicate.specs.Reply.{IsRun};
 ghost use Rattle.adjudicate.specs.Schedules.{RefusesTable, counted, game_of, side_words, world_words};
 
 use crate::answers::Answer;
 use crate::lines::{Kept, Line};
 use crate::numbers::{CacheSize, Delay};
+use crate::refusals::Refusal;
 use crate::sources::Sources;
 use crate::tables::FileFault;
 use board_core::Verdict;
@@ -26,14 +27,14 @@ use relay_world::{Event, Game, World, WorldFault, run};
 use std::alloc::{AllocError, Global};
 use table_file::{TableFault, reads_what_is_laid_out};
 
-/// The schedule of a text, or the line that refuses it.
-fn schedule_of(alloc: Global, text: &[u8]) -> Result<Result<Schedule, Line>, AllocError>
+/// The schedule of a text, or why it is refused.
+fn schedule_of(alloc: Global, text: &[u8]) -> Result<Result<Schedule, Refusal>, AllocError>
     ensures ok { IfOk result (λ found. IfOk found (SpellsSchedule text.now)) }
-    ensures err { IfOk result (λ found. IfErr found (λ line. (k : ℕ) × IsFirstBadLine text.now k × (words_of line ≡ refused_line k))) }
+    ensures err { IfOk result (λ found. IfErr found (λ refusal. (k : ℕ) × IsFirstBadLine text.now k × (refusal_words refusal ≡ refused_line k))) }
 {
     match read(alloc, text) {
         Ok(schedule) => Ok(Ok(schedule)),
-        Err(ScheduleFault::BadLine(number)) => Ok(Err(Line::RefusedLine(number))),
+        Err(ScheduleFault::BadLine(number)) => Ok(Err(Refusal::Line(number))),
         Err(ScheduleFault::OutOfMemory) => Err(AllocError),
     }
 }
@@ -68,26 +69,26 @@ fn named_bytes<'f>(
     Ok(named)
 }
 
-/// The line that refuses the first file that is no table.
-fn refused_table(files: &[NamedFile], place: usize, fault: TableFault) -> Line
+/// Why the first file that is no table is refused.
+fn refused_table(files: &[NamedFile], place: usize, fault: TableFault) -> Refusal
     requires within { place < length files.now }
     requires refused { tables_of (map file_of files.now) ≡ Err (BadTable place fault) }
-    ensures { RefusesTable (map file_of files.now) (words_of result) }
+    ensures { RefusesTable (map file_of files.now) (refusal_words result) }
 {
-    Line::RefusedFile(files[place].name, FileFault::Bad(fault))
+    Refusal::File(files[place].name, FileFault::Bad(fault))
 }
 
-/// The world after the events of a game, or the line that refuses a file.
+/// The world after the events of a game, or why a file is refused.
 fn world_of(
     alloc: Global,
     game: &Game,
     files: &[NamedFile],
     cache: CacheSize,
     events: &[Event],
-) -> Result<Result<World, Line>, AllocError>
+) -> Result<Result<World, Refusal>, AllocError>
     requires { AreFiles (map file_of files.now) }
     ensures ok { IfOk result (λ ran. IfOk ran (Runs game.now (map file_of files.now) events.now)) }
-    ensures err { IfOk result (λ ran. IfErr ran (λ line. RefusesTable (map file_of files.now) (words_of line))) }
+    ensures err { IfOk result (λ ran. IfErr ran (λ refusal. RefusesTable (map file_of files.now) (refusal_words refusal))) }
 {
     let named = named_bytes(alloc, files)?;
     reads_what_is_laid_out();
@@ -143,7 +144,7 @@ pub(crate) fn answer_run(
 {
     let schedule = match schedule_of(alloc, sources.input())? {
         Ok(schedule) => schedule,
-        Err(line) => return Ok(Answer::One(line, false)),
+        Err(refusal) => return Ok(Answer::Refused(refusal)),
     };
     let game = game_of(alloc, &schedule, delay)?;
     match world_of(alloc, &game, sources.files(), cache, &schedule.events)? {
@@ -151,6 +152,6 @@ pub(crate) fn answer_run(
             let lines = lines_of(alloc, &world)?;
             Ok(Answer::Lines(lines, true))
         }
-        Err(line) => Ok(Answer::One(line, false)),
+        Err(refusal) => Ok(Answer::Refused(refusal)),
     }
 }

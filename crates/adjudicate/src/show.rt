@@ -6,6 +6,7 @@ ghost use Rattle.adjudicate.specs.Reply.{IsShown, Reply, WritesReply};
 ghost use Rattle.adjudicate.specs.Inside.Fronts.{IsFront};
 
 use crate::lines::{AnswerFault, Line, put_line, put_refusal};
+use crate::refusals::Refusal;
 use move_msg::{Feeder, Message, MessageFault};
 use std::io::Write;
 
@@ -54,9 +55,9 @@ pub(crate) fn show<W: Write>(stream: &[u8], out: &mut W) -> Result<u8, AnswerFau
                 number += 1;
             }
             Front::Fault(fault) => {
-                return put_refusal(out, &Line::RefusedMessage(number, Some(fault)));
+                return put_refusal(out, Refusal::Message(number, Some(fault)));
             }
-            Front::Cut => return put_refusal(out, &Line::RefusedMessage(number, None)),
+            Front::Cut => return put_refusal(out, Refusal::Message(number, None)),
             Front::End => return Ok(0),
         }
     }

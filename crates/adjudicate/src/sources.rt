@@ -2,17 +2,13 @@
 
 ghost use Rattle.std.specs.Prelude.{◌≡◌, List, ℕ, map, option_map, is_some, true, Some, IfOk, OnErr, IsErrOf};
 ghost use Rattle.move_msg.specs.Files.{AreFiles, file_of};
-ghost use Rattle.adjudicate.specs.ToldBy.{told_by};
-ghost use Rattle.adjudicate.specs.Outside.{AtFile, AtInput, AreFilesAt, FolderFails, IsToldAt};
+ghost use Rattle.move_msg.specs.ToldBy.{told_by};
+ghost use Rattle.move_msg.specs.Outside.{AtFile, AtInput, AreFilesAt, FolderFails, IsToldAt};
 ghost use Rattle.adjudicate.specs.Reads.{CannotRead, IsGiven, IsInputAt, folder_of, manifest_of, reads_input, reads_some};
 
 use crate::commands::Task;
-use crate::disk::Disk;
-use crate::input::ReadFault;
 use crate::listening::Listening;
-use crate::manifest::Manifest;
-use crate::reading::files_in;
-use move_msg::NamedFile;
+use move_msg::{Disk, Manifest, NamedFile, ReadFault, files_in};
 use std::alloc::Global;
 use std::marker::Model;
 
@@ -28,7 +24,7 @@ impl Model for Sources {
     ghost use Rattle.std.specs.Prelude.{map};
     ghost use Rattle.move_msg.specs.Files.{AreFiles, file_of};
     ghost use Rattle.adjudicate.specs.Given.{Given};
-    ghost use Rattle.adjudicate.specs.ToldBy.{told_by};
+    ghost use Rattle.move_msg.specs.ToldBy.{told_by};
 
     ghost Value = { Given };
 

@@ -1,7 +1,7 @@
 //! A file of the system, and the one beside it.
 
-use crate::input::{ReadFault, read_at_most};
-use crate::kept_file::KeptFile;
+use arbiter_core::KeptFile;
+use move_msg::{ReadFault, read_at_most};
 use std::alloc::{AllocError, Global};
 use std::fs::OpenFile;
 use std::io::Write;

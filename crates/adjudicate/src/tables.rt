@@ -3,17 +3,16 @@
 ghost use Rattle.std.specs.Prelude.{◌≡◌, map, option_map, IfOk, Some, None, Ok};
 ghost use Rattle.move_msg.specs.Files.{file_of};
 ghost use Rattle.move_msg.specs.Manifests.{entry_of};
-ghost use Rattle.adjudicate.specs.Files.{file_named};
+ghost use Rattle.move_msg.specs.FileNames.{file_named};
 ghost use Rattle.adjudicate.specs.Lines.{file_fault_name};
 ghost use Rattle.adjudicate.specs.Looks.{found_in, gathered, gathered_by, held, look_at, look_for, tables_from, with_found};
 ghost use Rattle.adjudicate.specs.Inside.Refusals.{filled, tables_in};
 
-use crate::lines::Line;
-use crate::manifest::Manifest;
+use crate::refusals::Refusal;
 use crate::sources::Sources;
 use arrayvec::ArrayString;
 use judge_core::{Set, SetFault};
-use move_msg::{Line as Entry, NamedFile, file_digest};
+use move_msg::{Line as Entry, Manifest, NamedFile, file_digest};
 use std::alloc::{AllocError, Global};
 use table_file::{Table, TableFault, open};
 
@@ -92,11 +91,11 @@ fn add_found<'f>(
     set: &mut Set<'f>,
     name: &ArrayString<16>,
     found: Result<Table<'f>, FileFault>,
-) -> Result<Result<(), Line>, AllocError>
+) -> Result<Result<(), Refusal>, AllocError>
     ensures { IfOk result (λ added. filled added set.new.tables ≡ with_found set.old.tables name.now.bytes found.entry) }
 {
     match found {
-        Err(fault) => Ok(Err(Line::RefusedFile(*name, fault))),
+        Err(fault) => Ok(Err(Refusal::File(*name, fault))),
         Ok(table) => match set.add(table) {
             Ok(()) | Err(SetFault::Duplicate) => Ok(Ok(())),
             Err(SetFault::OutOfMemory) => Err(AllocError),
@@ -109,14 +108,14 @@ fn add_files<'f>(
     alloc: Global,
     set: &mut Set<'f>,
     files: &'f [NamedFile],
-) -> Result<Result<(), Line>, AllocError>
+) -> Result<Result<(), Refusal>, AllocError>
     ensures { IfOk result (λ added. filled added set.new.tables ≡ tables_from set.old.tables (map look_at (map file_of files.now))) }
 {
     for file in files {
         let found = open_file(alloc, file)?;
         match add_found(set, &file.name, found)? {
             Ok(()) => {}
-            Err(line) => return Ok(Err(line)),
+            Err(refusal) => return Ok(Err(refusal)),
         }
     }
     Ok(Ok(()))
@@ -128,14 +127,14 @@ fn add_lines<'f>(
     set: &mut Set<'f>,
     files: &'f [NamedFile],
     lines: &[Entry],
-) -> Result<Result<(), Line>, AllocError>
+) -> Result<Result<(), Refusal>, AllocError>
     ensures { IfOk result (λ added. filled added set.new.tables ≡ tables_from set.old.tables (map (look_for (map file_of files.now)) (map entry_of lines.now))) }
 {
     for line in lines {
         let found = open_line(alloc, files, line)?;
         match add_found(set, &line.name, found)? {
             Ok(()) => {}
-            Err(line) => return Ok(Err(line)),
+            Err(refusal) => return Ok(Err(refusal)),
         }
     }
     Ok(Ok(()))
@@ -145,13 +144,13 @@ fn add_lines<'f>(
 fn gather_files<'f>(
     alloc: Global,
     files: &'f [NamedFile],
-) -> Result<Result<Set<'f>, Line>, AllocError>
+) -> Result<Result<Set<'f>, Refusal>, AllocError>
     ensures { IfOk result (λ set. tables_in set ≡ gathered_by (map file_of files.now) None) }
 {
     let mut set = Set::new(alloc, CACHE)?;
     match add_files(alloc, &mut set, files)? {
         Ok(()) => Ok(Ok(set)),
-        Err(line) => Ok(Err(line)),
+        Err(refusal) => Ok(Err(refusal)),
     }
 }
 
@@ -160,13 +159,13 @@ fn gather_lines<'f>(
     alloc: Global,
     files: &'f [NamedFile],
     lines: &[Entry],
-) -> Result<Result<Set<'f>, Line>, AllocError>
+) -> Result<Result<Set<'f>, Refusal>, AllocError>
     ensures { IfOk result (λ set. tables_in set ≡ gathered_by (map file_of files.now) (Some (Ok (map entry_of lines.now)))) }
 {
     let mut set = Set::new(alloc, CACHE)?;
     match add_lines(alloc, &mut set, files, lines)? {
         Ok(()) => Ok(Ok(set)),
-        Err(line) => Ok(Err(line)),
+        Err(refusal) => Ok(Err(refusal)),
     }
 }
 
@@ -177,12 +176,12 @@ fn gather_lines<'f>(
 pub(crate) fn gather<'f>(
     alloc: Global,
     sources: &'f Sources,
-) -> Result<Result<Set<'f>, Line>, AllocError>
+) -> Result<Result<Set<'f>, Refusal>, AllocError>
     ensures { IfOk result (λ set. tables_in set ≡ gathered sources.now) }
 {
     match sources.manifest() {
         Manifest::Unnamed => gather_files(alloc, sources.files()),
         Manifest::Lines(lines) => gather_lines(alloc, sources.files(), lines),
-        Manifest::BadLine(number) => Ok(Err(Line::RefusedManifest(*number))),
+        Manifest::BadLine(number) => Ok(Err(Refusal::Manifest(*number))),
     }
 }

@@ -9,3 +9,9 @@ pub mod Going
 pub mod StillKept
 pub mod InWords
 pub mod WorkedRows
+pub mod PortLaws
+pub mod ServingLaws
+pub mod StepLaws
+pub mod Growing
+pub mod FoundLaws
+pub mod OpenedLaws

@@ -1,3 +1,4 @@
 -- What values keep and what functions find on the way; cited by private clauses alone.
 pub mod Fields
 pub mod Starting
+pub mod Steps

@@ -9,15 +9,27 @@
 
 mod arbiter;
 mod fault;
+mod file_keeper;
+mod heard;
 mod keeper;
+mod kept_file;
 pub mod laws;
 mod opening;
+mod over_file;
 mod planning;
+mod port;
+mod serving;
 mod setup;
 mod window;
 
 pub use arbiter::{Arbiter, Outputs};
 pub use fault::{DeliverFault, OpenFault};
+pub use file_keeper::FileKeeper;
+pub use heard::verdict_or_none;
 pub use keeper::{Keep, KeepFault, Keeper, MemoryKeeper};
+pub use kept_file::{KeptFile, replace};
 pub use opening::Refused;
+pub use over_file::open_and_serve;
+pub use port::{Port, PortFault};
+pub use serving::{ServeFault, serve};
 pub use setup::Setup;

@@ -9,4 +9,7 @@ pub mod TableNameLaws
 pub mod HexDigits
 pub mod ManifestLaws
 pub mod FileLaws
+pub mod InputLaws
+pub mod NameLaws
+pub mod ManifestFaults
 mod WorkedRows

@@ -10,4 +10,8 @@ pub mod Laws
 pub mod TableNames
 pub mod Manifests
 pub mod Files
+pub mod FileNames
+pub mod ToldManifests
+pub mod ToldBy
+pub mod Outside
 pub mod Inside

@@ -7,27 +7,36 @@
 
 mod coding;
 mod count;
+mod disk;
 mod feeder;
+mod file_name;
 mod files;
+mod input;
 pub mod laws;
 mod manifest;
 mod message;
 mod move_list;
+mod reading;
 mod record_bytes;
 mod stamp;
 mod table_name;
+mod told;
 mod who;
 mod words;
 
 pub use board_core::Verdict;
 pub use count::{Count, MOST_MOVES, Wanted};
+pub use disk::Disk;
 pub use feeder::Feeder;
 pub use files::{NamedFile, file_digest};
+pub use input::{ReadFault, read_all, read_at_most};
 pub use manifest::{Line, ManifestFault, manifest_of, manifest_read, manifest_write};
 pub use message::{Message, MessageFault};
 pub use move_list::MoveList;
+pub use reading::files_in;
 pub use record_bytes::{Record, RecordFault};
 pub use stamp::{Stamp, is_game_name};
 pub use table_name::is_file_name;
+pub use told::Manifest;
 pub use who::{Sender, Who};
 pub use words::{of_word, word};

@@ -5,9 +5,10 @@ use Rattle.judge_core.specs.Tables.{Tables}
 use Rattle.adjudicate.specs.declared.answers.Question.{Question}
 use Rattle.adjudicate.specs.declared.answers.Question.TheVariants.{Verdict, Probe}
 use Rattle.adjudicate.specs.declared.answers.Answer.{Answer}
-use Rattle.adjudicate.specs.declared.answers.Answer.TheVariants.{One, Lines, Text}
-use Rattle.adjudicate.specs.Lines.{ended, text_of, words_of}
-use Rattle.adjudicate.specs.Reply.{Reply, IsJudged, IsTold, status_if}
+use Rattle.adjudicate.specs.declared.answers.Answer.TheVariants.{Refused, One, Lines, Text}
+use Rattle.arbiter_core.specs.ServedLines.{ended, text_of}
+use Rattle.adjudicate.specs.Lines.{refusal_words, words_of}
+use Rattle.adjudicate.specs.Reply.{Reply, IsJudged, IsTold, refused, status_if}
 
 abbrev pub IsAsked : Question → Tables → Parts → Reply → Type 0
 IsAsked Verdict = IsJudged
@@ -15,6 +16,7 @@ IsAsked Probe = IsTold
 
 -- the reply that an answer is
 abbrev pub reply_of : Answer → Reply
+reply_of (Refused refusal) = refused (refusal_words refusal)
 reply_of (One line done) = record { text = ended (words_of line); status = status_if done }
 reply_of (Lines lines done) = record { text = text_of (map words_of lines.items); status = status_if done }
 reply_of (Text bytes) = record { text = bytes.items; status = 0 }

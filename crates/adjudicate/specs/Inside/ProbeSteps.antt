@@ -4,7 +4,8 @@ use Rattle.std.specs.Io.KnownBytes.{Appends}
 use Rattle.judge_core.specs.Tables.{Tables}
 use Rattle.adjudicate.specs.Given.{Given}
 use Rattle.adjudicate.specs.Inputs.{lines_in}
-use Rattle.adjudicate.specs.Lines.{ended, refused_memory, text_of}
+use Rattle.arbiter_core.specs.ServedLines.{ended, text_of}
+use Rattle.adjudicate.specs.Lines.{refused_memory}
 use Rattle.adjudicate.specs.Looks.{gathered}
 use Rattle.adjudicate.specs.Reply.{IsText, LineTold, TellsLines, all_told, status_if, words_told}
 

@@ -3,7 +3,7 @@ use Rattle.std.proofs.lemmas.Result.{IfOk-weaker}
 use Rattle.adjudicate.specs.declared.commands.Task.{Task}
 use Rattle.adjudicate.specs.declared.commands.Task.TheVariants.{Show, Probes}
 use Rattle.adjudicate.specs.Given.{Given}
-use Rattle.adjudicate.specs.Lines.{text_of}
+use Rattle.arbiter_core.specs.ServedLines.{text_of}
 use Rattle.adjudicate.specs.Looks.{gathered}
 use Rattle.adjudicate.specs.Inside.ProbeSteps.{PutsProbes, PutsRefusal, PutsLinesOf, PutsNoLine, PutsAll, PutsSome}
 use Rattle.adjudicate.specs.Reply.{Answers, CutShort, IsFront, IsFrontOf, IsProbes, IsReply, IsShown, NoTables, Probed, Refused, Replied, Reply, TakesMemory, WritesReply, all_told, refused, status_if, words_told}

@@ -1,6 +1,7 @@
 use Rattle.std.proofs.Common.{map, take}
 use Rattle.std.specs.Io.KnownBytes.{Appends}
-use Rattle.adjudicate.specs.Lines.{text_of, words_of}
+use Rattle.arbiter_core.specs.ServedLines.{text_of}
+use Rattle.adjudicate.specs.Lines.{words_of}
 use Rattle.adjudicate.proofs.answers.put_lines.Given as goal
 
 abbrev pub invariant-loop-line : goal.invariant-loop-line

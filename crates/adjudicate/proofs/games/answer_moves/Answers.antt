@@ -1,10 +1,11 @@
 use Rattle.std.proofs.Common.{length, refl, sym, ap}
-use Rattle.adjudicate.specs.Lines.{ended, outcome_words, words_of}
+use Rattle.arbiter_core.specs.ServedLines.{ended}
+use Rattle.adjudicate.specs.Lines.{outcome_words, refusal_words}
 use Rattle.adjudicate.specs.Reply.{BadTables, Played}
 use Rattle.adjudicate.proofs.games.answer_moves.Goals as goal
 
 pub returns-in-Err : goal.returns-in-Err
-returns-in-Err c = BadTables c.args.moves.now c.requires (words_of c.in-Err.line) (sym (rw c.in-Err.is at c.in_ok-set.ensures)) refl
+returns-in-Err c = BadTables c.args.moves.now c.requires (refusal_words c.in-Err.refusal) (sym (rw c.in-Err.is at c.in_ok-set.ensures)) refl
 
 pub returns : goal.returns
 returns c =

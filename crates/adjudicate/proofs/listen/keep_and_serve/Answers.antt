@@ -1,7 +1,7 @@
 use Rattle.std.proofs.Common.{Err, ap}
 use Rattle.std.proofs.lemmas.Result.{IfOk-weaker}
 use Rattle.adjudicate.specs.Listens.{Kept, NoRoomToKeep, Unreadable}
-use Rattle.adjudicate.proofs.PortLaws.{Passes-nil}
+use Rattle.arbiter_core.proofs.PortLaws.{Passes-nil}
 use Rattle.adjudicate.proofs.listen.keep_and_serve.Goals as goal
 
 pub returns-in-Ok : goal.returns-in-Ok

@@ -1,12 +1,12 @@
 use Rattle.std.proofs.lemmas.Result.{IfOk-weaker}
-use Rattle.adjudicate.specs.Listens.{Unopened}
-use Rattle.adjudicate.specs.Serving.{moment}
-use Rattle.adjudicate.proofs.ListenLaws.{is_opened, served_so}
-use Rattle.adjudicate.proofs.PortLaws.{Passes-nil}
+use Rattle.adjudicate.specs.Listens.{Served, Unopened}
 use Rattle.adjudicate.proofs.listen.open_and_serve.Goals as goal
 
-pub returns-in-Ok : goal.returns-in-Ok
-returns-in-Ok g c = served_so _ _ _ _ (moment _ _) _ _ _ _ _ c.serve.result c.requires (is_opened _ _ _ _ _ c.in-Ok.ensures.good c.in-Ok.ensures.bad) c.serve.ensures.run
+pub returns-in-Ok-Ok : goal.returns-in-Ok-Ok
+returns-in-Ok-Ok g c = Served (rw c.in-Ok-Ok.field-0-is at c.in-Ok-Ok.ensures.served)
 
-pub returns : goal.returns
-returns g c = IfOk-weaker c.put_unopened.result _ _ (λ status h. Unopened _ (is_opened _ _ _ _ _ c.in-Err.ensures.good c.in-Err.ensures.bad) (Passes-nil _) h) c.put_unopened.ensures
+pub returns-in-Ok-Err : goal.returns-in-Ok-Err
+returns-in-Ok-Err g c =
+    let is = c.in-Ok-Err.field-0-is in
+    let same = rw is at c.in-Ok-Err.ensures.unwritten in
+    IfOk-weaker c.put_unopened.result _ _ (λ status h. Unopened _ (rw is at c.in-Ok-Err.ensures.unopened) (rw is at c.in-Ok-Err.ensures.nothing) h) (rw same at c.put_unopened.ensures)

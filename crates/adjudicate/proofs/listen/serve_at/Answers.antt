@@ -1,6 +1,6 @@
 use Rattle.std.proofs.lemmas.Result.{IfOk-weaker}
 use Rattle.adjudicate.specs.Listens.{AtFile, NoRoomForFile}
-use Rattle.adjudicate.proofs.PortLaws.{Passes-nil}
+use Rattle.arbiter_core.proofs.PortLaws.{Passes-nil}
 use Rattle.adjudicate.proofs.listen.serve_at.Goals as goal
 
 pub returns-in-Ok : goal.returns-in-Ok

@@ -1,6 +1,6 @@
 use Rattle.std.proofs.Common.{sym, subst, refl}
 use Rattle.std.proofs.lemmas.Result.{IfOk-weaker}
-use Rattle.adjudicate.specs.Lines.{words_of}
+use Rattle.adjudicate.specs.Lines.{refusal_words}
 use Rattle.adjudicate.specs.Inside.ProbeSteps.{PutsLines, PutsLinesOf, PutsRefusal}
 use Rattle.adjudicate.proofs.probes.probes.Goals as goal
 
@@ -12,4 +12,4 @@ returns-in-Ok-Ok g c =
 pub returns-in-Ok-Err : goal.returns-in-Ok-Err
 returns-in-Ok-Err g c =
     let is = sym (rw c.in-Ok-Err.field-0-is at c.in-Ok-Err.ensures) in
-    record { written = IfOk-weaker c.put_refusal.result _ _ (λ status h. PutsRefusal (words_of c.in-Ok-Err.line) is h.0 h.1) c.put_refusal.ensures; quiet = λ unasked. refl }
+    record { written = IfOk-weaker c.put_refusal.result _ _ (λ status h. PutsRefusal (refusal_words c.in-Ok-Err.refusal) is h.0 h.1) c.put_refusal.ensures; quiet = λ unasked. refl }

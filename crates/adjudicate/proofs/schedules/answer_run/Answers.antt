@@ -5,7 +5,8 @@ use Rattle.relay_world.specs.declared.schedule.Schedule.{Schedule}
 use Rattle.relay_world.specs.Runs.{GameView, Runs, Tells, WorldView}
 use Rattle.relay_world.specs.Texts.{SpellsSchedule, IsFirstBadLine}
 use Rattle.relay_world.specs.Worlds.{Game, World}
-use Rattle.adjudicate.specs.Lines.{text_of, refused_line}
+use Rattle.arbiter_core.specs.ServedLines.{text_of}
+use Rattle.adjudicate.specs.Lines.{refused_line}
 use Rattle.adjudicate.specs.Reply.{BadLine, BadTable, IsRun, Ran, Reply, refused}
 use Rattle.adjudicate.specs.Schedules.{game_of, world_words}
 use Rattle.adjudicate.proofs.ScheduleLaws.{last_of}

@@ -1,6 +1,6 @@
 use Rattle.std.proofs.Common.{◌≡◌, map, drop}
 use Rattle.move_msg.specs.Files.{file_of}
-use Rattle.adjudicate.specs.Files.{file_named}
+use Rattle.move_msg.specs.FileNames.{file_named}
 use Rattle.adjudicate.proofs.tables.file_named.Given as goal
 
 abbrev pub invariant-loop-file : goal.invariant-loop-file

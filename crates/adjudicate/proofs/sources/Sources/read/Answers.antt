@@ -1,5 +1,5 @@
 use Rattle.std.proofs.Common.{◌≡◌, Err, ap, sym, ◌∙◌}
-use Rattle.adjudicate.specs.declared.input.ReadFault.TheVariants.{Unreadable}
+use Rattle.move_msg.specs.declared.input.ReadFault.TheVariants.{Unreadable}
 use Rattle.adjudicate.specs.Reads.{Manifest, Folder}
 use Rattle.adjudicate.proofs.sources.Sources.read.Goals as goal
 

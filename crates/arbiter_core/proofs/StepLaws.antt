@@ -1,0 +1,87 @@
+-- One datagram, or none.
+use Rattle.std.proofs.Common.{◌≡◌, ℕ, ◌≤◌, List, [], ◌∷◌, ◌++◌, length, map, Option, refl, sym, ap, subst, append-nil, arith}
+use Rattle.std.specs.Prelude.{Ok, Err}
+use Rattle.std.specs.Io.KnownBytes.{Appends}
+use Rattle.arbiter_core.specs.Keeping.{Risen}
+use Rattle.arbiter_core.specs.Delivers.{Told}
+use Rattle.arbiter_core.specs.declared.serving.ServeFault.{ServeFault}
+use Rattle.arbiter_core.specs.declared.heard.Heard.{Heard}
+use Rattle.arbiter_core.specs.declared.serving.Next.{Next}
+use Rattle.arbiter_core.specs.declared.serving.Next.TheVariants.{GoesOn, Stops}
+use Rattle.arbiter_core.specs.ServedLines.{ended, heard_line, refused_port, text_of}
+use Rattle.arbiter_core.specs.Ports.{Came, Missed, Passes, AtPort}
+use Rattle.arbiter_core.specs.Serving.{Stated, Moment, Exchange, InTurn, Loss, NoLoss, KeeperLost, PortLost, Run, ServesRun, TellsRun, handed, lines_of, outputs_of}
+use Rattle.arbiter_core.specs.Inside.Steps.{Hears, IsOneStep, status_by}
+use Rattle.arbiter_core.proofs.PortLaws.{Passes-trans}
+use Rattle.arbiter_core.proofs.ServingLaws.{going_on}
+
+-- a run of one datagram at most, with this line
+pub record Steps {K : Type 0} (s : Stated K) (old new : Moment K) (port port' : AtPort) (line : Heard) (next : Next) : Type 0 where
+  pub exchanges : List (Exchange K)
+  pub loss : Loss K
+  pub run : ServesRun s old new port port' [] (going_on exchanges loss)
+  pub is : IsOneStep (going_on exchanges loss) line next
+
+came_and_sent : (d : List ℕ) (told : Told) → ((Came d ∷ []) ++ map handed (outputs_of told)) ≡ [] ++ (((Came d ∷ map handed (outputs_of told)) ++ []) ++ [])
+came_and_sent d told = simp append-nil
+
+pub heard : {K : Type 0} (s : Stated K) (old new : Moment K) (port came_at port' : AtPort) (d : List ℕ) (line : Heard) (next : Next) → Passes port.passed came_at.passed (Came d ∷ []) → port.faults ≤ came_at.faults → Hears s old new came_at port' d line next → Steps s old new port port' line next
+unfolding InTurn
+heard {K = K} s old new port came_at port' d line GoesOn came le h =
+    let e : Exchange K = record { datagram = d; told = h.told; after = new } in
+    let counted = h.count in
+    record {
+      exchanges = e ∷ [];
+      loss = NoLoss;
+      run = record {
+        going = (sym h.stop, tt);
+        loss = tt;
+        delivered = (h.delivered, refl);
+        passes = subst (Passes port.passed port'.passed) (came_and_sent d h.told) (Passes-trans port.passed came_at.passed port'.passed _ _ came h.passes);
+        cause = λ is. absurd (cc);
+        count = omega arith;
+      };
+      is = (ap (λ (l : List ℕ). l ∷ []) (sym h.words), (refl, refl));
+    }
+heard {K = K} s old new port came_at port' d line Stops came le h =
+    let e : Exchange K = record { datagram = d; told = h.told; after = new } in
+    let counted = h.count in
+    record {
+      exchanges = [];
+      loss = KeeperLost e;
+      run = record {
+        going = tt;
+        loss = sym h.stop;
+        delivered = (h.delivered, refl);
+        passes = subst (Passes port.passed port'.passed) (came_and_sent d h.told) (Passes-trans port.passed came_at.passed port'.passed _ _ came h.passes);
+        cause = λ is. absurd (cc);
+        count = omega arith;
+      };
+      is = (ap (λ (l : List ℕ). l ∷ []) (sym h.words), (omega arith, refl));
+    }
+
+pub missed : {K : Type 0} (s : Stated K) (at : Moment K) (port port' : AtPort) (line : Heard) → Passes port.passed port'.passed (Missed ∷ []) → Risen port.faults port'.faults → port.faults ≤ port'.faults → heard_line line ≡ refused_port → Steps s at at port port' line Stops
+unfolding InTurn
+missed s at port port' line passes risen le words =
+    record {
+      exchanges = [];
+      loss = PortLost;
+      run = record {
+        going = tt;
+        loss = tt;
+        delivered = refl;
+        passes = passes;
+        cause = λ is. risen;
+        count = le;
+      };
+      is = (ap (λ (l : List ℕ). l ∷ []) (sym words), (omega arith, refl));
+    }
+
+-- its line was written
+pub told_one : {K : Type 0} (run : Run K) (line : Heard) (next : Next) (out out1 : Option (List ℕ)) → IsOneStep run line next → Appends out out1 (ended (heard_line line)) → TellsRun 1 run out out1 (Ok (status_by next))
+told_one run line next out out1 is p =
+    (is.1, subst (λ (ls : List (List ℕ)). Appends out out1 (text_of ls)) (sym is.0) (subst (Appends out out1) (sym (append-nil (ended (heard_line line)))) p))
+
+-- or not
+pub untold_one : {K : Type 0} (run : Run K) (line : Heard) (next : Next) (out out1 : Option (List ℕ)) (fault : ServeFault) → IsOneStep run line next → TellsRun 1 run out out1 (Err fault)
+untold_one run line next out out1 fault is = let one : length (lines_of run) ≡ 1 = ap length is.0 in (omega arith, omega arith)

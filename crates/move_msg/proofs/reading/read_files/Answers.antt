@@ -1,0 +1,13 @@
+use Rattle.std.proofs.Common.{◌∙◌, sym, subst, ◌≤◌, length}
+use Rattle.move_msg.specs.Outside.{IsAtItsPath, path_in, most_bytes}
+use Rattle.move_msg.proofs.NameLaws.{one_file_more}
+use Rattle.move_msg.proofs.reading.read_files.Goals as goal
+
+pub loop-name-preserved : goal.loop-name-preserved
+loop-name-preserved g c =
+    let bytes = c.in-Ok.bytes.items in
+    let holds = g.D.Disk.holds c.args.disk.now in
+    let folder = c.args.folder.now in
+    let here = subst (λ name. holds (path_in folder name) bytes × (length bytes ≤ most_bytes)) (c.as_str.ensures.text ∙ sym c.text-name.ensures.text) c.in-Ok.ensures.bytes in
+    let both = one_file_more (IsAtItsPath holds folder) c.loop-name.files.items _ _ c.args.names.now c.loop-name.name-index c.name-item.result c.in-Ok-push.ensures.items c.loop-name-test.true c.name-item.is c.text-name.ensures.text here c.loop-name.invariant.names c.loop-name.invariant.bytes in
+    record { names = both.0; bytes = both.1 }

@@ -1,0 +1,11 @@
+-- What a manifest that was read tells.
+use Rattle.std.specs.Prelude.{map, Option, Some, None, Ok, Err}
+use Rattle.move_msg.specs.Manifests.{entry_of}
+use Rattle.move_msg.specs.ToldManifests.{Told}
+use Rattle.move_msg.specs.declared.told.Manifest.{Manifest}
+use Rattle.move_msg.specs.declared.told.Manifest.TheVariants.{Unnamed, Lines, BadLine}
+
+abbrev pub told_by : Manifest → Option Told
+told_by Unnamed = None
+told_by (Lines lines) = Some (Ok (map entry_of lines.items))
+told_by (BadLine number) = Some (Err number)

@@ -1,0 +1,11 @@
+-- What a manifest tells (this project's own).
+use Rattle.std.specs.Prelude.{ℕ, List, Result, Ok, Err}
+use Rattle.move_msg.specs.Manifests.{Entry, SpellsManifest, IsFirstBadLine}
+
+-- what the text of a manifest tells: its entries, or the number of its first line at fault
+abbrev pub Told : Type 0
+Told = Result (List Entry) ℕ
+
+abbrev pub Tells : List ℕ → Told → Type 0
+Tells text (Ok es) = SpellsManifest text es
+Tells text (Err k) = IsFirstBadLine text k
