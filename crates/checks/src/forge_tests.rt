@@ -425,9 +425,16 @@ fn plans_that_no_file_says_are_refused(rt: HostRuntime) {
 
 /// A writer that takes at most 16 bytes at once and fails at one call.
 #[derive(Drop)]
-struct Failing {
+pub(crate) struct Failing {
     calls: u32,
     fails_at: u32,
+}
+
+impl Failing {
+    /// One that fails at the call of this number, the first being 0.
+    pub(crate) fn at(fails_at: u32) -> Failing {
+        Failing { calls: 0, fails_at }
+    }
 }
 
 impl Write for Failing {
@@ -446,8 +453,7 @@ impl Write for Failing {
 
 /// What is told where the writer fails at one call.
 fn told_at(alloc: Global, plan: &Plan, fails_at: u32) -> Result<(), ForgeFault> {
-    let mut out = Failing { calls: 0, fails_at };
-    forge(alloc, plan, &mut out)
+    forge(alloc, plan, &mut Failing::at(fails_at))
 }
 
 #[test]

@@ -20,6 +20,8 @@ mod distance_tests;
 #[cfg(test)]
 mod fen_tests;
 #[cfg(test)]
+mod file_keeper_tests;
+#[cfg(test)]
 mod files;
 #[cfg(test)]
 mod forge_tests;
@@ -29,6 +31,10 @@ mod game_tests;
 mod index_tests;
 #[cfg(test)]
 mod manifest_tests;
+#[cfg(test)]
+mod memory_file;
+#[cfg(test)]
+mod memory_port;
 #[cfg(test)]
 mod message_tests;
 #[cfg(test)]
@@ -51,6 +57,8 @@ mod seeded_places;
 mod seeded_tests;
 #[cfg(test)]
 mod seeded_world_tests;
+#[cfg(test)]
+mod serving_tests;
 #[cfg(test)]
 mod table_tests;
 #[cfg(test)]

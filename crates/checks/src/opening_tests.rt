@@ -16,7 +16,11 @@ fn fault_in(told: &Result<Arbiter<'_>, Refused<'_>>) -> Option<OpenFault> {
 }
 
 /// Why an arbiter isn't opened over a keeper.
-fn open_fault(alloc: Global, keeper: &mut MemoryKeeper, setup: Setup<'_>) -> Option<OpenFault> {
+pub(crate) fn open_fault<K: Keeper>(
+    alloc: Global,
+    keeper: &mut K,
+    setup: Setup<'_>,
+) -> Option<OpenFault> {
     fault_in(&Arbiter::open(alloc, keeper, setup))
 }
 

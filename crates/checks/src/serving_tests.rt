@@ -1,0 +1,316 @@
+//! An arbiter that answers the datagrams of a port in memory.
+
+ghost use Rattle.arbiter_core.specs.Delivers.{IsKept};
+
+use crate::arbiters::{Sent, empty_keeper, message_of, open_first, stamp_of};
+use crate::comparing::{check_bytes, check_same};
+use crate::files::push_bytes;
+use crate::forge_tests::Failing;
+use crate::memory_port::{Event, MemoryPort};
+use crate::positions::START;
+use arbiter_core::{Arbiter, Keep, MemoryKeeper, ServeFault, serve};
+use move_msg::Stamp;
+use std::alloc::Global;
+use std::io::Write;
+use std::process::Abort;
+
+/// The source's message of a move.
+fn sent(rt: &impl Abort, stamp: Stamp, number: u32, text: &str) -> [u8; 27] {
+    message_of(rt, stamp, Sent::Move, number, text).encode()
+}
+
+/// The messages of the game's moves.
+fn game(rt: &impl Abort) -> [[u8; 27]; 3] {
+    let stamp = stamp_of(rt, START, 0);
+    [
+        sent(rt, stamp, 0, "e2e4"),
+        sent(rt, stamp, 1, "e7e5"),
+        sent(rt, stamp, 2, "g1f3"),
+    ]
+}
+
+/// How a port is served at which the game's moves wait: the call of it that fails, how many datagrams are to come, whether the
+/// other arbiter is asked first, the outcome of each put, the lines and the status, and what passes, a letter for each: `c` for
+/// a datagram that came, `m` for one that was missed, `h` for one that was handed over.
+struct Row {
+    fails_at: usize,
+    datagrams: u32,
+    fetch: bool,
+    keep: Keep,
+    lines: &'static str,
+    status: u8,
+    letters: &'static str,
+}
+
+/// How a run over a keeper ends, and how many moves the arbiter has recorded then.
+fn serve_row<W: Write>(
+    alloc: Global,
+    arbiter: &mut Arbiter<'_>,
+    keeper: &mut MemoryKeeper,
+    port: &mut MemoryPort<'_>,
+    row: &Row,
+    out: &mut W,
+) -> (Result<u8, ServeFault>, u32)
+    requires { IsKept keeper.old.kept arbiter.old }
+{
+    keeper.set(row.keep);
+    let ended = serve(alloc, arbiter, keeper, port, row.datagrams, row.fetch, out);
+    (ended, arbiter.count())
+}
+
+/// The same of a new arbiter of the game over a keeper.
+fn served_over<W: Write>(
+    rt: &impl Abort,
+    alloc: Global,
+    keeper: &mut MemoryKeeper,
+    port: &mut MemoryPort<'_>,
+    row: &Row,
+    out: &mut W,
+) -> (Result<u8, ServeFault>, u32) {
+    let mut arbiter = open_first(rt, alloc, keeper, START, 0);
+    serve_row(alloc, &mut arbiter, keeper, port, row, out)
+}
+
+/// The same over a keeper that keeps nothing so far.
+fn served<W: Write>(
+    rt: &impl Abort,
+    alloc: Global,
+    port: &mut MemoryPort<'_>,
+    row: &Row,
+    out: &mut W,
+) -> (Result<u8, ServeFault>, u32) {
+    let mut keeper = empty_keeper(rt, alloc);
+    served_over(rt, alloc, &mut keeper, port, row, out)
+}
+
+/// The lines and the end of a run.
+fn check_lines(rt: &impl Abort, alloc: Global, port: &mut MemoryPort<'_>, row: &Row) {
+    let mut lines = Vec::new(alloc);
+    let told = served(rt, alloc, port, row, &mut lines);
+    check_bytes(rt, &lines, row.lines.as_bytes(), row.lines);
+    check_same(rt, told.0, Ok(row.status), row.lines);
+}
+
+/// The letter of what passed.
+fn letter_of(event: &Event) -> u8 {
+    if event.is_missed {
+        b'm'
+    } else if event.is_handed {
+        b'h'
+    } else {
+        b'c'
+    }
+}
+
+/// The letters of what passed.
+fn letters_of(rt: &impl Abort, alloc: Global, events: &[Event]) -> Vec<u8> {
+    let mut letters = Vec::new(alloc);
+    for event in events {
+        push_bytes(rt, &mut letters, &[letter_of(event)]);
+    }
+    letters
+}
+
+/// All that passed at a port has these letters.
+fn check_passed(rt: &impl Abort, alloc: Global, port: &MemoryPort<'_>, letters: &str) {
+    let events = port.events().expect(rt, "memory");
+    let told = letters_of(rt, alloc, events);
+    check_bytes(rt, &told, letters.as_bytes(), letters);
+}
+
+/// A port at which these datagrams wait is served so.
+fn check_row(rt: &impl Abort, alloc: Global, waiting: &[&[u8]], row: &Row) {
+    let mut port = MemoryPort::new(alloc, waiting, row.fails_at);
+    check_lines(rt, alloc, &mut port, row);
+    check_passed(rt, alloc, &port, row.letters);
+}
+
+fn check_rows(rt: &impl Abort, alloc: Global, rows: &[Row]) {
+    let game = game(rt);
+    let waiting: [&[u8]; 3] = [&game[0], &game[1], &game[2]];
+    for row in rows {
+        check_row(rt, alloc, &waiting, row);
+    }
+}
+
+const ALL: &str = "ok 1 none\nok 2 none\nok 3 none\n";
+
+/// No call of this number is made.
+const NEVER: usize = 9;
+
+/// Each receive fails in turn: the calls are three receives with a send after each.
+const FAILED_RECEIVES: [Row; 3] = [
+    Row {
+        fails_at: 0,
+        datagrams: 3,
+        fetch: false,
+        keep: Keep::Good,
+        lines: "refused port\n",
+        status: 1,
+        letters: "m",
+    },
+    Row {
+        fails_at: 2,
+        datagrams: 3,
+        fetch: false,
+        keep: Keep::Good,
+        lines: "ok 1 none\nrefused port\n",
+        status: 1,
+        letters: "chm",
+    },
+    Row {
+        fails_at: 4,
+        datagrams: 3,
+        fetch: false,
+        keep: Keep::Good,
+        lines: "ok 1 none\nok 2 none\nrefused port\n",
+        status: 1,
+        letters: "chchm",
+    },
+];
+
+/// Each send fails in turn, and then no call.
+const FAILED_SENDS: [Row; 4] = [
+    Row {
+        fails_at: 1,
+        datagrams: 3,
+        fetch: false,
+        keep: Keep::Good,
+        lines: ALL,
+        status: 0,
+        letters: "chchch",
+    },
+    Row {
+        fails_at: 3,
+        datagrams: 3,
+        fetch: false,
+        keep: Keep::Good,
+        lines: ALL,
+        status: 0,
+        letters: "chchch",
+    },
+    Row {
+        fails_at: 5,
+        datagrams: 3,
+        fetch: false,
+        keep: Keep::Good,
+        lines: ALL,
+        status: 0,
+        letters: "chchch",
+    },
+    Row {
+        fails_at: 6,
+        datagrams: 3,
+        fetch: false,
+        keep: Keep::Good,
+        lines: ALL,
+        status: 0,
+        letters: "chchch",
+    },
+];
+
+#[test]
+fn a_failed_send_is_a_loss_and_a_failed_receive_the_end(rt: HostRuntime) {
+    check_rows(&rt, rt.alloc(), &FAILED_RECEIVES);
+    check_rows(&rt, rt.alloc(), &FAILED_SENDS);
+}
+
+/// No more datagrams are received than were asked for.
+const NO_MORE: [Row; 2] = [
+    Row {
+        fails_at: NEVER,
+        datagrams: 2,
+        fetch: false,
+        keep: Keep::Good,
+        lines: "ok 1 none\nok 2 none\n",
+        status: 0,
+        letters: "chch",
+    },
+    Row {
+        fails_at: NEVER,
+        datagrams: 0,
+        fetch: false,
+        keep: Keep::Good,
+        lines: "",
+        status: 0,
+        letters: "",
+    },
+];
+
+#[test]
+fn receives_no_more_than_it_should(rt: HostRuntime) {
+    check_rows(&rt, rt.alloc(), &NO_MORE);
+}
+
+/// The other arbiter is asked once, before any datagram, also where none is awaited.
+const ASKED: [Row; 2] = [
+    Row {
+        fails_at: NEVER,
+        datagrams: 0,
+        fetch: true,
+        keep: Keep::Good,
+        lines: "",
+        status: 0,
+        letters: "h",
+    },
+    Row {
+        fails_at: NEVER,
+        datagrams: 3,
+        fetch: true,
+        keep: Keep::Good,
+        lines: ALL,
+        status: 0,
+        letters: "hchchch",
+    },
+];
+
+#[test]
+fn asks_once(rt: HostRuntime) {
+    check_rows(&rt, rt.alloc(), &ASKED);
+}
+
+/// A keeper that fails ends the run.
+const FAILED_PUTS: [Row; 2] = [
+    Row {
+        fails_at: NEVER,
+        datagrams: 3,
+        fetch: false,
+        keep: Keep::FailsOld,
+        lines: "refused keeper\n",
+        status: 1,
+        letters: "c",
+    },
+    Row {
+        fails_at: NEVER,
+        datagrams: 3,
+        fetch: false,
+        keep: Keep::FailsNew,
+        lines: "refused keeper\n",
+        status: 1,
+        letters: "c",
+    },
+];
+
+#[test]
+fn a_failed_put_is_the_end(rt: HostRuntime) {
+    check_rows(&rt, rt.alloc(), &FAILED_PUTS);
+}
+
+/// How a run of three datagrams ends whose output fails, and how many moves it has recorded.
+fn served_in_vain(
+    rt: &impl Abort,
+    alloc: Global,
+    waiting: &[&[u8]],
+) -> (Result<u8, ServeFault>, u32) {
+    let mut port = MemoryPort::new(alloc, waiting, NEVER);
+    served(rt, alloc, &mut port, &FAILED_SENDS[3], &mut Failing::at(0))
+}
+
+/// A line that can't be written ends the run.
+#[test]
+fn tells_that_a_line_is_not_written(rt: HostRuntime) {
+    let game = game(&rt);
+    let waiting: [&[u8]; 3] = [&game[0], &game[1], &game[2]];
+    let told = served_in_vain(&rt, rt.alloc(), &waiting);
+    check_same(&rt, told, (Err(ServeFault::Io), 1), "an output that fails");
+}
