@@ -1,6 +1,6 @@
 //! Two seats and what was sent.
 
-ghost use Rattle.std.specs.Prelude.{◌≡◌, ◌++◌, [], slice_get, IfOk, OnOk, is_ok};
+ghost use Rattle.std.specs.Prelude.{◌≡◌, ◌++◌, [], slice_get, IfOk, OnOk, IsOk, is_ok};
 ghost use Rattle.std.specs.Str.{bytes_eq};
 ghost use Rattle.move_msg.specs.declared.who.Who.TheVariants.{A, B};
 ghost use Rattle.arbiter_core.specs.Answering.{answer_heard};
@@ -59,81 +59,49 @@ fn note(log: &mut Vec<Message>, asked: Option<Message>) -> Result<(), AllocError
 }
 
 /// Hands bytes to A.
-fn hand_first<'a>(
+fn hand_first(
     alloc: Global,
-    pair: Pair<'a>,
+    pair: &mut Pair<'_>,
     keep: Keep,
     bytes: &[u8],
-) -> Result<Pair<'a>, AllocError>
-    requires { IsOne pair }
-    ensures { (game : Game) (a b : SetupView) (world : World) → AreSetups game a b → PairIs game a b pair.entry world → IfOk result (λ late. PairIs game a b late (turned world A (handed keep world.a (λ old window. answer_heard game.rules (identity game A) old window (heard game.stamp bytes.now))))) }
+) -> Result<(), AllocError>
+    requires { IsOne pair.old }
+    ensures { (game : Game) (a b : SetupView) (world : World) → AreSetups game a b → PairIs game a b pair.old world → OnOk result (PairIs game a b pair.new (turned world A (handed keep world.a (λ old window. answer_heard game.rules (identity game A) old window (heard game.stamp bytes.now))))) }
 {
-    let Pair {
-        stamp,
-        first,
-        first_keeper,
-        second,
-        second_keeper,
-        log,
-    } = pair;
-    let mut first = first;
-    let mut first_keeper = first_keeper;
-    let mut log = log;
-    let outputs = hand(alloc, &mut first, &mut first_keeper, keep, bytes)?;
-    append(&mut log, &outputs)?;
-    Ok(Pair {
-        stamp,
-        first,
-        first_keeper,
-        second,
-        second_keeper,
-        log,
-    })
+    let outputs = hand(alloc, &mut pair.first, &mut pair.first_keeper, keep, bytes)?;
+    append(&mut pair.log, &outputs)
 }
 
 /// Hands bytes to B.
-fn hand_second<'a>(
+fn hand_second(
     alloc: Global,
-    pair: Pair<'a>,
+    pair: &mut Pair<'_>,
     keep: Keep,
     bytes: &[u8],
-) -> Result<Pair<'a>, AllocError>
-    requires { IsOne pair }
-    ensures { (game : Game) (a b : SetupView) (world : World) → AreSetups game a b → PairIs game a b pair.entry world → IfOk result (λ late. PairIs game a b late (turned world B (handed keep world.b (λ old window. answer_heard game.rules (identity game B) old window (heard game.stamp bytes.now))))) }
+) -> Result<(), AllocError>
+    requires { IsOne pair.old }
+    ensures { (game : Game) (a b : SetupView) (world : World) → AreSetups game a b → PairIs game a b pair.old world → OnOk result (PairIs game a b pair.new (turned world B (handed keep world.b (λ old window. answer_heard game.rules (identity game B) old window (heard game.stamp bytes.now))))) }
 {
-    let Pair {
-        stamp,
-        first,
-        first_keeper,
-        second,
-        second_keeper,
-        log,
-    } = pair;
-    let mut second = second;
-    let mut second_keeper = second_keeper;
-    let mut log = log;
-    let outputs = hand(alloc, &mut second, &mut second_keeper, keep, bytes)?;
-    append(&mut log, &outputs)?;
-    Ok(Pair {
-        stamp,
-        first,
-        first_keeper,
-        second,
-        second_keeper,
-        log,
-    })
+    let outputs = hand(
+        alloc,
+        &mut pair.second,
+        &mut pair.second_keeper,
+        keep,
+        bytes,
+    )?;
+    append(&mut pair.log, &outputs)
 }
 
 /// Hands bytes to one of the two.
-fn hand_to<'a>(
+fn hand_to(
     alloc: Global,
-    pair: Pair<'a>,
+    pair: &mut Pair<'_>,
     who: Who,
     keep: Keep,
     bytes: &[u8],
-) -> Result<Pair<'a>, AllocError>
-    requires { IsOne pair }
-    ensures { (game : Game) (a b : SetupView) (world : World) → AreSetups game a b → PairIs game a b pair.entry world → IfOk result (λ late. PairIs game a b late (turned world who (handed keep (side_of world who) (λ old window. answer_heard game.rules (identity game who) old window (heard game.stamp bytes.now))))) }
+) -> Result<(), AllocError>
+    requires { IsOne pair.old }
+    ensures { (game : Game) (a b : SetupView) (world : World) → AreSetups game a b → PairIs game a b pair.old world → OnOk result (PairIs game a b pair.new (turned world who (handed keep (side_of world who) (λ old window. answer_heard game.rules (identity game who) old window (heard game.stamp bytes.now))))) }
 {
     match who {
         Who::A => hand_first(alloc, pair, keep, bytes),
@@ -204,23 +172,22 @@ fn restart_at<'a>(
     }
 }
 
-/// One of the two asks for moves.
-fn ask_at<'a>(pair: Pair<'a>, who: Who) -> Result<Pair<'a>, AllocError>
-    ensures { (game : Game) (a b : SetupView) (world : World) → PairIs game a b pair.entry world → IfOk result (λ late. PairIs game a b late (turned world who (side_of world who, wants (identity game who) (side_of world who).kept (side_of world who).life))) }
+/// What one of the two asks for.
+fn asked_by(pair: &Pair<'_>, who: Who) -> Option<Message>
+    ensures { (game : Game) (a b : SetupView) (world : World) → PairIs game a b pair.now world → listed result ≡ wants (identity game who) (side_of world who).kept (side_of world who).life }
 {
-    let mut pair = pair;
     match who {
-        Who::A => {
-            let asked = ask(&pair.first);
-            note(&mut pair.log, asked)?;
-            Ok(pair)
-        }
-        Who::B => {
-            let asked = ask(&pair.second);
-            note(&mut pair.log, asked)?;
-            Ok(pair)
-        }
+        Who::A => ask(&pair.first),
+        Who::B => ask(&pair.second),
     }
+}
+
+/// One of the two asks for moves.
+fn ask_at(pair: &mut Pair<'_>, who: Who) -> Result<(), AllocError>
+    ensures { (game : Game) (a b : SetupView) (world : World) → PairIs game a b pair.old world → OnOk result (PairIs game a b pair.new (turned world who (side_of world who, wants (identity game who) (side_of world who).kept (side_of world who).life))) }
+{
+    let asked = asked_by(pair, who);
+    note(&mut pair.log, asked)
 }
 
 /// Whether two stamps are of one game.
@@ -241,38 +208,49 @@ fn is_ours(stamp: Stamp, bytes: &[u8]) -> bool
 }
 
 /// Hands one of the two a message that was sent before.
-fn deliver_to<'a>(
+fn deliver_to(
     alloc: Global,
-    pair: Pair<'a>,
+    pair: &mut Pair<'_>,
     who: Who,
     index: usize,
     keep: Keep,
-) -> Result<Pair<'a>, AllocError>
-    requires { IsOne pair }
-    ensures { (game : Game) (a b : SetupView) (world : World) → AreSetups game a b → AreStamped game world → PairIs game a b pair.entry world → IfOk result (λ late. PairIs game a b late (delivered game world who keep (slice_get world.log index))) }
+) -> Result<(), AllocError>
+    requires { IsOne pair.old }
+    ensures { (game : Game) (a b : SetupView) (world : World) → AreSetups game a b → AreStamped game world → PairIs game a b pair.old world → OnOk result (PairIs game a b pair.new (delivered game world who keep (slice_get world.log index))) }
 {
     if index >= pair.log.len() {
-        return Ok(pair);
+        return Ok(());
     }
     let message = pair.log[index];
     hand_to(alloc, pair, who, keep, &message.encode())
 }
 
 /// Hands one of the two bytes that nobody of the game sent.
-fn noise_to<'a>(
+fn noise_to(
     alloc: Global,
-    pair: Pair<'a>,
+    pair: &mut Pair<'_>,
     who: Who,
     bytes: &[u8],
     keep: Keep,
-) -> Result<Pair<'a>, AllocError>
-    requires { IsOne pair }
-    ensures { (game : Game) (a b : SetupView) (world : World) → AreSetups game a b → PairIs game a b pair.entry world → IfOk result (λ late. PairIs game a b late (noised game world who keep (heard game.stamp bytes.now))) }
+) -> Result<(), AllocError>
+    requires { IsOne pair.old }
+    ensures { (game : Game) (a b : SetupView) (world : World) → AreSetups game a b → PairIs game a b pair.old world → OnOk result (PairIs game a b pair.new (noised game world who keep (heard game.stamp bytes.now))) }
 {
     if is_ours(pair.stamp, bytes) {
-        return Ok(pair);
+        return Ok(());
     }
     hand_to(alloc, pair, who, keep, bytes)
+}
+
+/// A pair after what was done to it; none where that wanted memory.
+fn if_done<'a>(pair: Pair<'a>, done: Result<(), AllocError>) -> Result<Pair<'a>, AllocError>
+    ensures pair { IfOk result (λ late. late ≡ pair.entry) }
+    ensures done { OnOk result (IsOk done) }
+{
+    match done {
+        Ok(()) => Ok(pair),
+        Err(_) => Err(AllocError),
+    }
 }
 
 /// One event.
@@ -281,10 +259,22 @@ fn step<'a>(alloc: Global, pair: Pair<'a>, event: &Event) -> Result<Pair<'a>, Al
     ensures { (game : Game) (a b : SetupView) (world : World) → AreSetups game a b → IsRight game world → AreStamped game world → PairIs game a b pair.entry world → IfOk result (λ late. PairIs game a b late (happens game world event.now)) }
 {
     match event {
-        Event::Deliver { who, index, keep } => deliver_to(alloc, pair, *who, *index, *keep),
-        Event::Noise { who, bytes, keep } => noise_to(alloc, pair, *who, bytes, *keep),
+        Event::Deliver { who, index, keep } => {
+            let mut pair = pair;
+            let done = deliver_to(alloc, &mut pair, *who, *index, *keep);
+            if_done(pair, done)
+        }
+        Event::Noise { who, bytes, keep } => {
+            let mut pair = pair;
+            let done = noise_to(alloc, &mut pair, *who, bytes, *keep);
+            if_done(pair, done)
+        }
         Event::Restart { who, keep } => restart_at(alloc, pair, *who, *keep),
-        Event::Ask { who } => ask_at(pair, *who),
+        Event::Ask { who } => {
+            let mut pair = pair;
+            let done = ask_at(&mut pair, *who);
+            if_done(pair, done)
+        }
     }
 }
 

@@ -1,23 +1,19 @@
-use Rattle.std.proofs.Common.{List, sym, subst}
+use Rattle.std.proofs.Common.{◌≡◌, ◌++◌, List}
+use Rattle.std.proofs.lemmas.Result.{on_ok_weaker}
+use Rattle.arbiter_core.specs.Setups.{SetupView}
 use Rattle.move_msg.specs.declared.message.Message.{Message}
 use Rattle.move_msg.specs.declared.who.Who.{Who}
 use Rattle.move_msg.specs.declared.who.Who.TheVariants.{A, B}
-use Rattle.relay_world.specs.Inside.Seats.{Steps}
-use Rattle.relay_world.specs.Inside.Pairs.{IsWorld}
-use Rattle.relay_world.specs.Worlds.{Side, identity, side_of, turned, wants, listed}
+use Rattle.relay_world.specs.declared.pair.Pair.{Pair}
+use Rattle.relay_world.specs.Inside.Pairs.{IsWorld, PairIs}
+use Rattle.relay_world.specs.Worlds.{Game, World, identity, side_of, turned, wants}
 use Rattle.relay_world.proofs.Pairing.{turned_a, turned_b}
 use Rattle.relay_world.proofs.pair.ask_at.Goals as goal
 
-pub returns-in_ok-note-in-A : goal.returns-in_ok-note-in-A
-returns-in_ok-note-in-A c game a b world is =
-    let late : Side × List Message = (world.a, wants (identity game A) world.a.kept world.a.life) in
-    let step : Steps (identity game A) a c.args.pair.first c.args.pair.first_keeper (listed c.ask-asked.result) late = record { stands = is.a_stands; sent = c.ask-asked.ensures (identity game A) a c.args.pair.first_keeper world.a is.a_stands } in
-    subst (λ (w : Who). IsWorld game a b c.args.pair.stamp c.args.pair.first c.args.pair.first_keeper c.args.pair.second c.args.pair.second_keeper c.note.new.log.items (turned world w (side_of world w, wants (identity game w) (side_of world w).kept (side_of world w).life))) (sym c.in-A.is)
-    (turned_a game a b _ _ _ _ _ _ _ _ _ (listed c.ask-asked.result) world late is step c.in_ok-note-in-A.ensures)
+-- what one of the two asks for goes to the log, and its seat stays
+asked : (game : Game) (a b : SetupView) (p : Pair) (who : Who) (world : World) (log outputs : List Message) → PairIs game a b p world → outputs ≡ wants (identity game who) (side_of world who).kept (side_of world who).life → log ≡ p.log.items ++ outputs → IsWorld game a b p.stamp p.first p.first_keeper p.second p.second_keeper log (turned world who (side_of world who, wants (identity game who) (side_of world who).kept (side_of world who).life))
+asked game a b p A world log outputs is sent more = turned_a game a b _ _ _ _ _ _ _ _ _ outputs world (world.a, wants (identity game A) world.a.kept world.a.life) is (record { stands = is.a_stands; sent = sent }) more
+asked game a b p B world log outputs is sent more = turned_b game a b _ _ _ _ _ _ _ _ _ outputs world (world.b, wants (identity game B) world.b.kept world.b.life) is (record { stands = is.b_stands; sent = sent }) more
 
-pub returns-in_ok-note-in-B : goal.returns-in_ok-note-in-B
-returns-in_ok-note-in-B c game a b world is =
-    let late : Side × List Message = (world.b, wants (identity game B) world.b.kept world.b.life) in
-    let step : Steps (identity game B) b c.args.pair.second c.args.pair.second_keeper (listed c.ask-asked-in-B.result) late = record { stands = is.b_stands; sent = c.ask-asked-in-B.ensures (identity game B) b c.args.pair.second_keeper world.b is.b_stands } in
-    subst (λ (w : Who). IsWorld game a b c.args.pair.stamp c.args.pair.first c.args.pair.first_keeper c.args.pair.second c.args.pair.second_keeper c.note-in-B.new.log.items (turned world w (side_of world w, wants (identity game w) (side_of world w).kept (side_of world w).life))) (sym c.in-B.is)
-    (turned_b game a b _ _ _ _ _ _ _ _ _ (listed c.ask-asked-in-B.result) world late is step c.in_ok-note-in-B.ensures)
+pub returns : goal.returns
+returns c game a b world is = on_ok_weaker c.note.result (asked game a b c.args.pair.now c.args.who world _ _ is (c.asked_by-asked.ensures game a b world is)) c.note.ensures

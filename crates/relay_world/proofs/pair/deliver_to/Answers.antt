@@ -1,5 +1,5 @@
 use Rattle.std.proofs.Common.{◌≡◌, ◌∙◌, ℕ, ◌<◌, zero, suc, List, [], ◌∷◌, length, get_or, Option, Some, Result, Ok, Err, sym, ap, subst, arith}
-use Rattle.std.specs.Prelude.{IfOk, slice_get}
+use Rattle.std.specs.Prelude.{OnOk, slice_get}
 use Rattle.move_msg.specs.declared.message.Message.{Message}
 use Rattle.move_msg.specs.Messages.{stamp_in}
 use Rattle.arbiter_core.specs.Delivers.{heard, in_game}
@@ -28,10 +28,10 @@ ours_said stamp m e = cond-true (bytes_eq (stamp_in m).0 stamp.0) (Ok m) (Err St
 pub returns : goal.returns
 returns c game a b world setups stamped is =
     let m : Message = c.index.result.now in
-    let within : c.args.index < length c.args.pair.log.items = omega arith in
-    let got : slice_get world.log c.args.index ≡ Some m = ap (λ (log : List Message). slice_get log c.args.index) (sym is.log_is) ∙ get_in c.args.pair.log.items c.args.index _ m within c.index.ensures in
+    let within : c.args.index < length c.args.pair.now.log.items = omega arith in
+    let got : slice_get world.log c.args.index ≡ Some m = ap (λ (log : List Message). slice_get log c.args.index) (sym is.log_is) ∙ get_in c.args.pair.now.log.items c.args.index _ m within c.index.ensures in
     let ours : stamp_in m ≡ game.stamp = all_at _ world.log c.args.index m stamped got in
     let said : heard game.stamp c.encode.result ≡ Ok m = ap (in_game game.stamp) (heard_in_full c.encode.result m c.encode.ensures) ∙ ours_said game.stamp m ours in
-    subst (λ (o : Option Message). IfOk c.hand_to.result (λ late. PairIs game a b late (delivered game world c.args.who c.args.keep o))) (sym got)
-    (subst (λ (s : Result Message DeliverFault). IfOk c.hand_to.result (λ late. PairIs game a b late (turned world c.args.who (handed c.args.keep (side_of world c.args.who) (λ old window. answer_heard game.rules (identity game c.args.who) old window s))))) said
+    subst (λ (o : Option Message). OnOk c.hand_to.result (PairIs game a b c.hand_to.new.pair (delivered game world c.args.who c.args.keep o))) (sym got)
+    (subst (λ (s : Result Message DeliverFault). OnOk c.hand_to.result (PairIs game a b c.hand_to.new.pair (turned world c.args.who (handed c.args.keep (side_of world c.args.who) (λ old window. answer_heard game.rules (identity game c.args.who) old window s))))) said
     (c.hand_to.ensures game a b world setups is))

@@ -1,5 +1,5 @@
 use Rattle.std.proofs.Common.{◌≡◌, ◌∙◌, false, Result, sym, ap, subst}
-use Rattle.std.specs.Prelude.{IfOk, is_ok}
+use Rattle.std.specs.Prelude.{OnOk, is_ok}
 use Rattle.std.proofs.lemmas.Bool.{cond-false}
 use Rattle.move_msg.specs.declared.message.Message.{Message}
 use Rattle.move_msg.specs.declared.stamp.Stamp.{Stamp}
@@ -15,5 +15,5 @@ returns c game a b world setups is =
     let said : Result Message DeliverFault = heard game.stamp c.args.bytes.now in
     let bad : is_ok said ≡ false = ap (λ (s : Stamp). is_ok (heard s c.args.bytes.now)) (sym is.stamp_is) ∙ sym c.is_ours.ensures ∙ c.if-is_ours.false in
     let late : World = turned world c.args.who (handed c.args.keep (side_of world c.args.who) (λ old window. answer_heard game.rules (identity game c.args.who) old window said)) in
-    subst (λ (w : World). IfOk c.hand_to.result (λ pair. PairIs game a b pair w)) (sym (cond-false (is_ok said) world late bad))
+    subst (λ (w : World). OnOk c.hand_to.result (PairIs game a b c.hand_to.new.pair w)) (sym (cond-false (is_ok said) world late bad))
     (c.hand_to.ensures game a b world setups is)
