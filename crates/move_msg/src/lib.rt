@@ -3,6 +3,8 @@
 //! Each message has one spelling of 27 bytes; a record is spelled by the moves of a game, the
 //! delay of its verdicts by tables and the verdict on it, if any. All numbers have their highest
 //! byte first.
+//!
+//! Also which files of a folder a manifest wants, and how they are read: `Disk` is where folders, files and an input come in.
 #![tactic(auto)]
 
 mod coding;
