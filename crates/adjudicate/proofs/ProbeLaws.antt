@@ -7,7 +7,8 @@ use Rattle.std.proofs.lemmas.List.{append-nil, map-append}
 use Rattle.judge_core.specs.Tables.{Tables}
 use Rattle.fen_text.specs.Cuts.{cut_at}
 use Rattle.fen_text.proofs.CutLaws.{cut_none, cut_some, is_cut}
-use Rattle.adjudicate.specs.Inputs.{has_bytes, lines_in, whole_lines}
+use Rattle.move_msg.specs.GameTexts.{has_bytes}
+use Rattle.adjudicate.specs.Inputs.{lines_in, whole_lines}
 use Rattle.arbiter_core.specs.ServedLines.{ended, text_of}
 use Rattle.adjudicate.specs.Lines.{refused_memory}
 use Rattle.adjudicate.specs.Reply.{IsText, LineTold, TellsLine, TellsLines, all_told, status_if, words_told}

@@ -8,7 +8,8 @@ use Rattle.move_msg.specs.declared.message.MessageFault.{MessageFault}
 use Rattle.move_msg.specs.Messages.{SpellsMessage, fault_name}
 use Rattle.move_msg.specs.Streams.{BeginsBy, EndsSo, AfterMessage, Cut, AtFault}
 use Rattle.arbiter_core.specs.ServedLines.{ended, text_of}
-use Rattle.adjudicate.specs.Lines.{message_words, refused_message}
+use Rattle.move_msg.specs.MessageWords.{message_words}
+use Rattle.adjudicate.specs.Lines.{refused_message}
 use Rattle.adjudicate.specs.Reply.{IsShown, Reply, WritesReply, shown}
 use Rattle.adjudicate.proofs.LineLaws.{more_lines}
 

@@ -2,7 +2,6 @@ pub mod Numbers
 pub mod Commands
 pub mod Tasks
 pub mod Usage
-pub mod Given
 pub mod Lines
 pub mod Reads
 pub mod Looks

@@ -1,24 +1,16 @@
 -- The lines that the program writes (this project's own).
-use Rattle.std.specs.Prelude.{ℕ, ℤ, List, [], ◌∷◌, ◌++◌, Option, Some, None, Result, Ok, Err, codes}
-use Rattle.std.specs.Fmt.{decimal, signed_decimal}
-use Rattle.board_core.specs.declared.verdict.Verdict.{Verdict}
+use Rattle.std.specs.Prelude.{ℕ, List, ◌++◌, Option, Some, None, codes}
+use Rattle.std.specs.Fmt.{decimal}
 use Rattle.board_core.specs.Position.{fault_name as position_fault_name}
-use Rattle.board_core.specs.Verdicts.{verdict_name}
 use Rattle.fen_text.specs.declared.fault.FenFault.{FenFault}
 use Rattle.fen_text.specs.declared.fault.FenFault.TheVariants as fen
 use Rattle.fen_text.specs.Fen.{fault_name as fen_fault_name}
 use Rattle.fen_text.specs.Coordinates.{move_text}
-use Rattle.place_index.specs.Material.{name_of, men_of}
 use Rattle.table_file.specs.Faults.{table_fault_name}
-use Rattle.judge_core.specs.declared.game.GameOutcome.{GameOutcome}
-use Rattle.judge_core.specs.declared.game.GameOutcome.TheVariants.{Ruled, Illegal, Going}
-use Rattle.judge_core.specs.declared.fault.ProbeFault.{ProbeFault}
-use Rattle.judge_core.specs.declared.fault.ProbeFault.TheVariants as probe
-use Rattle.move_msg.specs.declared.message.Message.{Message}
-use Rattle.move_msg.specs.declared.message.Message.TheVariants as message
+use Rattle.judge_core.specs.ToldWords.{columns_words, outcome_words, told_words, verdict_words}
 use Rattle.move_msg.specs.declared.message.MessageFault.{MessageFault}
 use Rattle.move_msg.specs.Messages.{fault_name as message_fault_name}
-use Rattle.move_msg.specs.Senders.{who_number, sender_number}
+use Rattle.move_msg.specs.MessageWords.{message_words}
 use Rattle.move_msg.specs.declared.who.Who.{Who}
 use Rattle.relay_world.specs.declared.world.State.{State}
 use Rattle.relay_world.specs.declared.world.State.TheVariants as state
@@ -49,35 +41,10 @@ fault_text fen.BadCastlingText = fen_fault_name fen.BadCastlingText
 fault_text fen.BadSquare = fen_fault_name fen.BadSquare
 fault_text fen.BadNumber = fen_fault_name fen.BadNumber
 
--- a fault's name, and that of the table that is missing or damaged
-abbrev pub fault_words : ProbeFault → List ℕ
-fault_words probe.OutOfScope = codes "OutOfScope"
-fault_words (probe.NotCovered key) = codes "NotCovered" ++ codes " " ++ name_of (men_of key)
-fault_words (probe.Damaged key) = codes "Damaged" ++ codes " " ++ name_of (men_of key)
-fault_words probe.OutOfMemory = codes "OutOfMemory"
-
 -- ---- lines
-
--- the verdict's name, or that the game goes on
-abbrev pub verdict_words : Option Verdict → List ℕ
-verdict_words None = codes "open"
-verdict_words (Some v) = verdict_name v
 
 abbrev pub refused_fen : FenFault → List ℕ
 refused_fen fault = codes "refused FEN " ++ fault_text fault
-
--- a number, or why there is none
-unfoldable pub column_words : Result ℤ ProbeFault → List ℕ
-column_words (Ok number) = signed_decimal number
-column_words (Err fault) = codes "refused " ++ fault_words fault
-
--- what a probe tells, or why it tells nothing
-abbrev pub told_words : List ℕ → Result ℤ ProbeFault → List ℕ
-told_words question told = question ++ codes " " ++ column_words told
-
--- what both probes tell and the verdict, with a tab between
-abbrev pub columns_words : Result ℤ ProbeFault → Result ℤ ProbeFault → Option Verdict → List ℕ
-columns_words wdl dtz verdict = column_words wdl ++ 9 ∷ column_words dtz ++ 9 ∷ verdict_words verdict
 
 -- the refusal of a manifest by the number of its first line at fault, and of a file
 abbrev pub refused_manifest : ℕ → List ℕ
@@ -93,16 +60,6 @@ look_word (Some fault) = file_fault_name fault
 
 abbrev pub look_words : List ℕ → Option FileFault → List ℕ
 look_words name fault = name ++ codes " " ++ look_word fault
-
--- a message: what it is, its sender's number, its number, and the move, the verdict or how many moves are wanted
-unfoldable pub message_words : Message → List ℕ
-message_words (message.Move stamp sender number m) =
-    codes "Move " ++ decimal (sender_number sender) ++ codes " " ++ decimal number ++ codes " " ++ move_text m
-message_words (message.Ack stamp who count) = codes "Ack " ++ decimal (who_number who) ++ codes " " ++ decimal count
-message_words (message.Verdict stamp who ply verdict) =
-    codes "Verdict " ++ decimal (who_number who) ++ codes " " ++ decimal ply ++ codes " " ++ verdict_name verdict
-message_words (message.Fetch stamp who number wanted) =
-    codes "Fetch " ++ decimal (who_number who) ++ codes " " ++ decimal number ++ codes " " ++ decimal wanted
 
 -- what is wrong with a message; nothing where the stream ends inside it
 abbrev pub message_fault : Option MessageFault → List ℕ
@@ -128,13 +85,6 @@ arbiter_words who state (Some kept) =
 -- how many messages were sent
 abbrev pub sent_words : ℕ → List ℕ
 sent_words number = codes "sent " ++ decimal number
-
--- what a game comes to, of so many moves: the ply of its first verdict and that, the place of its first illegal move, or that
--- it goes on after its last ply
-unfoldable pub outcome_words : GameOutcome → ℕ → List ℕ
-outcome_words (Ruled ply verdict) plies = codes "ruled " ++ decimal ply ++ codes " " ++ verdict_name verdict
-outcome_words (Illegal place) plies = codes "illegal " ++ decimal place
-outcome_words Going plies = codes "open " ++ decimal plies
 
 -- the refusal of a word that is no move by its place, the first being 0
 abbrev pub refused_move : ℕ → List ℕ
@@ -172,11 +122,11 @@ words_of (line.Ruling verdict) = verdict_words verdict
 words_of (line.Refused why) = refusal_words why
 words_of (line.Move m) = move_text m
 words_of (line.Look name fault) = look_words name.bytes fault
-words_of (line.Wdl told) = told_words (codes "wdl") told
-words_of (line.Dtz told) = told_words (codes "dtz") told
+words_of (line.Wdl told) = told_words (codes "wdl") told.0
+words_of (line.Dtz told) = told_words (codes "dtz") told.0
 words_of (line.Message m) = message_words m
 words_of (line.Arbiter who state kept) = arbiter_words who state kept
 words_of (line.Sent number) = sent_words number
-words_of (line.Outcome outcome plies) = outcome_words outcome plies
-words_of (line.Columns wdl dtz verdict) = columns_words wdl dtz verdict
+words_of (line.Outcome o) = outcome_words o.outcome o.plies
+words_of (line.Columns c) = columns_words c.probed.wdl c.probed.dtz c.verdict
 words_of (line.Done lines) = done_words lines

@@ -14,7 +14,7 @@ use Rattle.arbiter_core.specs.OverFiles.{IsOpened, ServesOpened}
 use Rattle.arbiter_core.specs.Setups.{SetupView}
 use Rattle.arbiter_core.specs.declared.file_keeper.FileKeeper.{FileKeeper}
 use Rattle.adjudicate.specs.declared.listening.Listening.{Listening}
-use Rattle.adjudicate.specs.Given.{Given}
+use Rattle.move_msg.specs.Given.{Given}
 use Rattle.arbiter_core.specs.KeptFiles.{Finds}
 use Rattle.arbiter_core.specs.ServedLines.{refused_keeper, refused_port}
 use Rattle.adjudicate.specs.Lines.{refused_fen, refused_memory}

@@ -13,7 +13,7 @@ use Rattle.adjudicate.specs.declared.tables.FileFault.{FileFault}
 use Rattle.adjudicate.specs.declared.tables.FileFault.TheVariants.{Missing, Changed, Bad}
 use Rattle.move_msg.specs.FileNames.{file_named}
 use Rattle.move_msg.specs.ToldManifests.{Told}
-use Rattle.adjudicate.specs.Given.{Given}
+use Rattle.move_msg.specs.Given.{Given}
 use Rattle.adjudicate.specs.Lines.{file_fault_name, look_words, refused_file, refused_manifest}
 
 -- ---- one file

@@ -1,10 +1,8 @@
 -- What is read for a task (this project's own).
-use Rattle.std.specs.Prelude.{◌≡◌, ◌≤◌, ◌||◌, ℕ, Bool, true, false, List, [], length, Option, Some, None, is_some, option_map}
+use Rattle.std.specs.Prelude.{ℕ, Bool, true, false, List, Option, Some, None, option_map}
+use Rattle.move_msg.specs.Reads.{Named}
 use Rattle.adjudicate.specs.declared.commands.Task.{Task}
 use Rattle.adjudicate.specs.declared.commands.Task.TheVariants as task
-use Rattle.move_msg.specs.ToldManifests.{Told}
-use Rattle.adjudicate.specs.Given.{Given}
-use Rattle.move_msg.specs.Outside.{Source, AtFile, AtInput, AreFilesAt, FolderFails, IsToldAt, most_bytes}
 
 -- the folder and the manifest that a task names, if it does
 abbrev pub folder_of : Task → Option (List ℕ)
@@ -44,23 +42,6 @@ reads_input (task.Listen l) = false
 reads_input (task.Probes tables manifest progress) = true
 reads_input (task.Game tables manifest delay fen) = true
 
--- some folder, file or input is read for the task
-abbrev pub reads_some : Task → Bool
-reads_some t = is_some (folder_of t) || (is_some (manifest_of t) || reads_input t)
-
-abbrev pub IsInputAt : (List ℕ → Type 0) → Bool → List ℕ → Type 0
-IsInputAt gives false input = input ≡ []
-IsInputAt gives true input = gives input × (length input ≤ most_bytes)
-
--- this is what is read for the task: what its manifest tells, the wanted files of its folder, its input
-pub record IsGiven (lists : List ℕ → List (List ℕ) → Type 0) (holds : List ℕ → List ℕ → Type 0) (gives : List ℕ → Type 0) (t : Task) (given : Given) : Type 0 where
-  pub told : IsToldAt holds (manifest_of t) given.told
-  pub files : AreFilesAt lists holds (folder_of t) given.told given.files
-  pub input : IsInputAt gives (reads_input t) given.input
-
--- something that is read for the task can't be read: its manifest, its folder or a wanted file of that, or its input; or
--- its folder lists a wanted file twice
-pub data CannotRead (lists : List ℕ → List (List ℕ) → Type 0) (holds : List ℕ → List ℕ → Type 0) (fails : Source → Type 0) (t : Task) : Type 0 where
-  Manifest : (path : List ℕ) → manifest_of t ≡ Some path → fails (AtFile path) → CannotRead lists holds fails t
-  Folder : (folder : List ℕ) (told : Option Told) → folder_of t ≡ Some folder → IsToldAt holds (manifest_of t) told → FolderFails lists fails folder told → CannotRead lists holds fails t
-  Input : reads_input t ≡ true → fails AtInput → CannotRead lists holds fails t
+-- what is read for a task
+abbrev pub named_in : Task → Named
+named_in t = record { folder = folder_of t; manifest = manifest_of t; input = reads_input t }

@@ -1,7 +1,6 @@
 -- What the program answers: a text and a status (this project's own).
-use Rattle.std.specs.Prelude.{◌≡◌, ◌≢◌, ◌+◌, ◌++◌, ◌&&◌, ℕ, ℤ, pos, ◌-ℤ◌, Bool, false, List, [], ◌∷◌, length, map, Option, Some, None, Result, Ok, Err, if◌then◌else◌, codes, slice_get}
+use Rattle.std.specs.Prelude.{◌≡◌, ◌+◌, ◌++◌, ℕ, Bool, List, [], ◌∷◌, length, map, Option, Some, None, Result, Ok, Err, if◌then◌else◌, codes, slice_get}
 use Rattle.std.specs.List.{list_all}
-use Rattle.std.specs.Result.{is_ok}
 use Rattle.std.specs.Io.KnownBytes.{Appends}
 use Rattle.board_core.specs.declared.parts.Parts.{Parts}
 use Rattle.board_core.specs.declared.moves.Move.{Move as Moves}
@@ -11,6 +10,8 @@ use Rattle.fen_text.specs.declared.fault.FenFault.{FenFault}
 use Rattle.fen_text.specs.Fen.{SpellsPosition, IsFirstFenFault}
 use Rattle.fen_text.specs.Coordinates.{move_text}
 use Rattle.move_msg.specs.Files.{File, entries_of}
+use Rattle.move_msg.specs.GameTexts.{IsBadWordAt, TellsMoves, words_in}
+use Rattle.move_msg.specs.MessageWords.{message_words}
 use Rattle.move_msg.specs.Manifests.{SpellsManifest}
 use Rattle.move_msg.specs.declared.message.Message.{Message}
 use Rattle.move_msg.specs.Messages.{fault_name as message_fault_name}
@@ -18,15 +19,11 @@ use Rattle.move_msg.specs.Streams.{End, AfterMessage, Cut, AtFault, SpellsStream
 use Rattle.judge_core.specs.declared.game.GameOutcome.{GameOutcome}
 use Rattle.judge_core.specs.declared.game.GameOutcome.TheVariants.{Ruled, Illegal, Going}
 use Rattle.judge_core.specs.Games.{IsOutcome}
-use Rattle.judge_core.specs.declared.wdl.Wdl.{Wdl}
-use Rattle.judge_core.specs.declared.fault.ProbeFault.{ProbeFault}
-use Rattle.judge_core.specs.declared.fault.ProbeFault.TheVariants.{OutOfMemory}
-use Rattle.judge_core.specs.Answers.{IsProbe, signed_in}
-use Rattle.judge_core.specs.Distances.{dtz_of}
-use Rattle.judge_core.specs.Probing.{wdl_of}
-use Rattle.judge_core.specs.Ruling.{ruling, is_out_of_scope}
+use Rattle.judge_core.specs.declared.told.Probed.{Probed}
+use Rattle.judge_core.specs.Ruling.{ruling}
+use Rattle.judge_core.specs.Told.{IsProbed, is_told}
+use Rattle.judge_core.specs.ToldWords.{columns_words, outcome_words, told_words, verdict_words}
 use Rattle.judge_core.specs.Tables.{Tables}
-use Rattle.judge_core.specs.Values.{points}
 use Rattle.relay_world.specs.declared.schedule.Schedule.{Schedule}
 use Rattle.relay_world.specs.Runs.{Runs, WorldView}
 use Rattle.relay_world.specs.Texts.{SpellsSchedule, IsFirstBadLine}
@@ -34,10 +31,10 @@ use Rattle.relay_world.specs.Worlds.{World}
 use Rattle.adjudicate.specs.declared.commands.Task.{Task}
 use Rattle.adjudicate.specs.declared.commands.Task.TheVariants as task
 use Rattle.move_msg.specs.ToldManifests.{Told}
-use Rattle.adjudicate.specs.Given.{Given}
+use Rattle.move_msg.specs.Given.{Given}
 use Rattle.arbiter_core.specs.ServedLines.{ended, text_of}
-use Rattle.adjudicate.specs.Lines.{verdict_words, told_words, refused_fen, refused_manifest, message_words, refused_message, refused_line, refused_memory, outcome_words, refused_move, columns_words}
-use Rattle.adjudicate.specs.Inputs.{IsBadWordAt, TellsMoves, lines_in, words_in}
+use Rattle.adjudicate.specs.Lines.{refused_fen, refused_manifest, refused_message, refused_line, refused_memory, refused_move}
+use Rattle.adjudicate.specs.Inputs.{lines_in}
 use Rattle.adjudicate.specs.Schedules.{RefusesTable, game_of, world_words}
 use Rattle.adjudicate.specs.Looks.{Look, gathered, look_for, look_line, are_tables}
 
@@ -59,35 +56,16 @@ refused words = record { text = ended words; status = 1 }
 unfoldable pub judged : Tables → Parts → Reply
 judged tables p = record { text = ended (verdict_words (ruling tables p)); status = 0 }
 
--- from -2 for a loss to 2 for a win
-abbrev pub number_of : Wdl → ℤ
-number_of v = pos (points v) -ℤ pos 2
-
--- a number, or why there is none
-abbrev pub numbered : Result Wdl ProbeFault → Result ℤ ProbeFault
-numbered (Ok v) = Ok (number_of v)
-numbered (Err fault) = Err fault
-
 -- probe: what the tables tell, a line a question, the value and then the distance
-abbrev pub told : Result ℤ ProbeFault → Result ℤ ProbeFault → Reply
-told wdl dtz = record {
-  text = text_of (told_words (codes "wdl") wdl ∷ told_words (codes "dtz") dtz ∷ []);
-  status = status_if (is_ok wdl && is_ok dtz);
+abbrev pub told : Probed → Reply
+told probed = record {
+  text = text_of (told_words (codes "wdl") probed.wdl ∷ told_words (codes "dtz") probed.dtz ∷ []);
+  status = status_if (is_told probed);
 }
 
--- what both probes answer where memory is not refused
-pub record AreProbed (tables : Tables) (p : Parts) (wdl : Result Wdl ProbeFault) (dtz : Result ℤ ProbeFault) : Type 0 where
-  pub wdl_answered : wdl ≢ Err OutOfMemory
-  pub wdl_is : IsProbe wdl (is_out_of_scope p) (wdl_of tables p)
-  pub dtz_answered : dtz ≢ Err OutOfMemory
-  pub dtz_is : IsProbe dtz (is_out_of_scope p) (signed_in (dtz_of tables p))
-
--- probe: what they answer, told
-pub record IsTold (tables : Tables) (p : Parts) (r : Reply) : Type 0 where
-  pub wdl : Result Wdl ProbeFault
-  pub dtz : Result ℤ ProbeFault
-  pub are : AreProbed tables p wdl dtz
-  pub reply : r ≡ told (numbered wdl) dtz
+-- probe: what both probes answer, told
+abbrev pub IsTold : Tables → Parts → Reply → Type 0
+IsTold tables p r = (probed : Probed) × IsProbed tables p probed × (r ≡ told probed)
 
 -- moves: the legal moves in coordinates, one a line
 unfoldable pub moves_at : Parts → Reply
@@ -173,7 +151,7 @@ pub record LineTold : Type 0 where
 
 -- a line: what `probe` and `judge` tell of its position, in columns, or the refusal of the text
 pub data TellsLine (tables : Tables) (text : List ℕ) (told : LineTold) : Type 0 where
-  OfPosition : (p : Parts) → SpellsPosition text p → IsPosition p → (wdl : Result Wdl ProbeFault) (dtz : Result ℤ ProbeFault) → AreProbed tables p wdl dtz → told ≡ record { words = columns_words (numbered wdl) dtz (ruling tables p); done = is_ok wdl && is_ok dtz } → TellsLine tables text told
+  OfPosition : (p : Parts) → SpellsPosition text p → IsPosition p → (probed : Probed) → IsProbed tables p probed → told ≡ record { words = columns_words probed.wdl probed.dtz (ruling tables p); done = is_told probed } → TellsLine tables text told
   OfNone : (fault : FenFault) → IsFirstFenFault text fault → told ≡ record { words = refused_fen fault; done = false } → TellsLine tables text told
 
 -- each line in turn

@@ -1,35 +1,30 @@
 //! What is answered to a task, as a value and as it is written.
 
-ghost use Rattle.std.specs.Prelude.{◌≡◌, ◌≢◌, false, map, Err, IfOk, OnOk, OnErr};
+ghost use Rattle.std.specs.Prelude.{◌≡◌, ◌≢◌, false, map, IfOk, OnOk, OnErr};
 ghost use Rattle.std.specs.Result.{is_ok};
 ghost use Rattle.std.specs.Io.KnownBytes.{Appends};
-ghost use Rattle.judge_core.specs.declared.fault.ProbeFault.TheVariants.{OutOfMemory};
-ghost use Rattle.judge_core.specs.Answers.{IsProbe, signed_in};
-ghost use Rattle.judge_core.specs.Distances.{dtz_of};
-ghost use Rattle.judge_core.specs.Ruling.{is_out_of_scope};
 ghost use Rattle.move_msg.specs.Files.{file_of};
 ghost use Rattle.move_msg.specs.Manifests.{entry_of};
 ghost use Rattle.adjudicate.specs.declared.commands.Task.TheVariants.{Show};
 ghost use Rattle.arbiter_core.specs.ServedLines.{text_of};
 ghost use Rattle.adjudicate.specs.Lines.{words_of};
 ghost use Rattle.adjudicate.specs.Looks.{gathered, look_for, look_line};
-ghost use Rattle.adjudicate.specs.Reply.{Answers, ByTables, IsForText, IsJudged, IsListed, IsMoves, IsReply, IsText, IsTold, TakesMemory, WritesReply, checked, checked_by, numbered, status_if, told};
+ghost use Rattle.adjudicate.specs.Reply.{Answers, ByTables, IsForText, IsJudged, IsListed, IsMoves, IsReply, IsText, IsTold, TakesMemory, WritesReply, checked, checked_by, status_if, told};
 ghost use Rattle.adjudicate.specs.Tasks.{AtOnce, AtPort, tells_progress, way_of};
 ghost use Rattle.adjudicate.specs.Inside.Asked.{IsAsked, reply_of};
 
 use crate::commands::Task;
 use crate::games::answer_game;
-use crate::lines::{AnswerFault, Line, put_line, put_refusal};
+use crate::lines::{Line, put_line, put_refusal};
 use crate::probes::probes;
 use crate::refusals::Refusal;
 use crate::schedules::answer_run;
 use crate::show::show;
-use crate::sources::Sources;
 use crate::tables::{gather, open_line};
 use board_core::Position;
 use fen_text::read;
-use judge_core::{ProbeFault, Set, Wdl};
-use move_msg::{Line as Entry, Manifest, NamedFile, manifest_of};
+use judge_core::{Probed, Set, Told};
+use move_msg::{Line as Entry, Manifest, NamedFile, Sources, WriteFault, manifest_of};
 use std::alloc::{AllocError, Global};
 use std::io::Write;
 
@@ -88,55 +83,23 @@ fn answer_verdict(
     Ok(Answer::One(Line::Ruling(verdict), true))
 }
 
-/// The number that a WDL probe tells.
-pub(crate) fn number_in(wdl: &Result<Wdl, ProbeFault>) -> Result<i32, ProbeFault>
-    ensures { result ≡ numbered wdl.now }
-{
-    match wdl {
-        Ok(value) => Ok(i32::from(value.number())),
-        Err(fault) => Err(*fault),
-    }
-}
-
-/// A DTZ probe, whose error comes only where memory is refused.
-pub(crate) fn ask_dtz(
-    alloc: Global,
-    set: &mut Set<'_>,
-    position: &Position,
-) -> Result<Result<i32, ProbeFault>, AllocError>
-    ensures answered { IfOk result (λ dtz. dtz ≢ Err OutOfMemory) }
-    ensures answer { IfOk result (λ dtz. IsProbe dtz (is_out_of_scope position.now) (signed_in (dtz_of set.old.tables position.now))) }
-    ensures unchanged { set.new ≡ set.old }
-{
-    match set.dtz(alloc, position) {
-        Ok(distance) => Ok(Ok(distance)),
-        Err(ProbeFault::OutOfMemory) => Err(AllocError),
-        Err(fault) => Ok(Err(fault)),
-    }
-}
-
 /// What both probes tell, a line each.
-fn tell(
-    alloc: Global,
-    wdl: Result<i32, ProbeFault>,
-    dtz: Result<i32, ProbeFault>,
-) -> Result<Answer, AllocError>
-    ensures { IfOk result (λ a. reply_of a ≡ told wdl dtz) }
+fn tell(alloc: Global, probed: Probed) -> Result<Answer, AllocError>
+    ensures { IfOk result (λ a. reply_of a ≡ told probed) }
 {
-    let done = wdl.is_ok() && dtz.is_ok();
-    let mut lines = Vec::new(alloc);
-    lines.push(Line::Wdl(wdl))?;
-    lines.push(Line::Dtz(dtz))?;
-    Ok(Answer::Lines(lines, done))
+    let lines = [Line::Wdl(Told(probed.wdl)), Line::Dtz(Told(probed.dtz))];
+    let lines = Vec::from_slice(alloc, &lines)?;
+    Ok(Answer::Lines(lines, probed.is_told()))
 }
 
 /// What the tables tell of a position, a line a question.
 fn answer_probe(alloc: Global, set: &mut Set<'_>, position: &Position) -> Result<Answer, AllocError>
     ensures { IfOk result (λ a. IsTold set.old.tables position.now (reply_of a)) }
 {
-    let wdl = set.wdl(alloc, position);
-    let dtz = ask_dtz(alloc, set, position)?;
-    tell(alloc, number_in(&wdl), dtz)
+    match set.probe(alloc, position) {
+        Ok(probed) => tell(alloc, probed),
+        Err(_) => Err(AllocError),
+    }
 }
 
 /// The answer to a question about a position by a set of tables.
@@ -262,7 +225,7 @@ fn answer_to(alloc: Global, task: &Task, sources: &Sources) -> Result<Answer, Al
 }
 
 /// Writes lines.
-fn put_lines<W: Write>(out: &mut W, lines: &[Line]) -> Result<(), AnswerFault>
+fn put_lines<W: Write>(out: &mut W, lines: &[Line]) -> Result<(), WriteFault>
     ensures { OnOk result (Appends (W.contents out.old) (W.contents out.new) (text_of (map words_of lines.now))) }
 {
     for line in lines {
@@ -275,7 +238,7 @@ fn put_lines<W: Write>(out: &mut W, lines: &[Line]) -> Result<(), AnswerFault>
 }
 
 /// Writes an answer, and tells its status.
-fn put_answer<W: Write>(out: &mut W, answer: &Answer) -> Result<u8, AnswerFault>
+fn put_answer<W: Write>(out: &mut W, answer: &Answer) -> Result<u8, WriteFault>
     ensures { IfOk result (WritesReply (W.contents out.old) (W.contents out.new) (reply_of answer.now)) }
 {
     match answer {
@@ -290,7 +253,7 @@ fn put_answer<W: Write>(out: &mut W, answer: &Answer) -> Result<u8, AnswerFault>
         },
         Answer::Text(text) => match out.write_all(text) {
             Ok(()) => Ok(0),
-            Err(_) => Err(AnswerFault::Io),
+            Err(_) => Err(WriteFault::Io),
         },
     }
 }
@@ -313,7 +276,7 @@ pub fn answer_task<W: Write, E: Write>(
     sources: &Sources,
     out: &mut W,
     errors: &mut E,
-) -> Result<u8, AnswerFault>
+) -> Result<u8, WriteFault>
     requires { way_of task.now ≢ AtPort }
     ensures answered { IfOk result (Answers task.now sources.now (W.contents out.old) (W.contents out.new)) }
     ensures quiet { tells_progress task.now ≡ false → errors.new ≡ errors.old }

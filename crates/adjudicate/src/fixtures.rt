@@ -1,14 +1,14 @@
 //! What the tests share: words and what is told for them as rows, and a writer that fails.
 
 use crate::folders::Folders;
-use crate::lines::AnswerFault;
+use crate::lines::WriteFault;
 use crate::memory_host::MemoryHost;
 use crate::program::run;
 use arbiter_core::Setup;
 use board_core::Position;
 use fen_text::{read, read_move};
 use judge_core::Set;
-use move_msg::{Disk, Message, Sender, Stamp};
+use move_msg::{Disk, Message, Sender, Stamp, WriteFault};
 use std::alloc::{AllocError, Global};
 use std::io::{self, Write};
 use std::process::Abort;
@@ -58,7 +58,7 @@ fn ended<D: Disk, W: Write, E: Write>(
     host: &MemoryHost<'_>,
     out: &mut W,
     errors: &mut E,
-) -> Result<u8, AnswerFault> {
+) -> Result<u8, WriteFault> {
     run(alloc, words, disk, host, out, errors)
 }
 
@@ -71,7 +71,7 @@ pub(crate) fn ended_on<D: Disk, W: Write, E: Write>(
     host: &MemoryHost<'_>,
     out: &mut W,
     errors: &mut E,
-) -> Result<u8, AnswerFault> {
+) -> Result<u8, WriteFault> {
     let words = words_of(rt, alloc, words);
     ended(alloc, words.as_slice(), disk, host, out, errors)
 }
@@ -84,7 +84,7 @@ pub(crate) fn ended_at<D: Disk, W: Write>(
     disk: &D,
     host: &MemoryHost<'_>,
     out: &mut W,
-) -> Result<u8, AnswerFault> {
+) -> Result<u8, WriteFault> {
     ended_on(rt, alloc, words, disk, host, out, &mut Vec::new(alloc))
 }
 
@@ -97,7 +97,7 @@ fn check_row(rt: &impl Abort, holds: bool, row: Row) {
 }
 
 /// That the lines and the end are those of a row.
-fn compare(rt: &impl Abort, row: Row, lines: &[u8], ended: Result<u8, AnswerFault>) {
+fn compare(rt: &impl Abort, row: Row, lines: &[u8], ended: Result<u8, WriteFault>) {
     check_row(rt, lines == row.2.as_bytes(), row);
     check_row(rt, ended == Ok(row.3), row);
 }
@@ -195,7 +195,7 @@ pub(crate) fn is_told<D: Disk>(
     others: u32,
 ) -> bool {
     let mut out = Failing::after(others);
-    ended_at(rt, alloc, words, disk, host, &mut out) == Err(AnswerFault::Io)
+    ended_at(rt, alloc, words, disk, host, &mut out) == Err(WriteFault::Io)
 }
 
 /// Words, their FEN, and how many writes an answer to them takes at least.

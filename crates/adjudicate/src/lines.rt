@@ -4,7 +4,8 @@ ghost use Rattle.std.specs.Prelude.{◌≡◌, ◌++◌, Some, IfOk, OnOk, codes
 ghost use Rattle.std.specs.Fmt.{DisplaysOnOk};
 ghost use Rattle.std.specs.Io.KnownBytes.{Appends};
 ghost use Rattle.arbiter_core.specs.ServedLines.{ended, heard_words, verdict_or_none};
-ghost use Rattle.adjudicate.specs.Lines.{arbiter_words, column_words, columns_words, message_words, outcome_words, refusal_words, state_word, told_words, verdict_words, words_of};
+ghost use Rattle.judge_core.specs.ToldWords.{told_words};
+ghost use Rattle.adjudicate.specs.Lines.{arbiter_words, refusal_words, state_word, words_of};
 ghost use Rattle.relay_world.specs.Texts.{who_word};
 
 use crate::refusals::Refusal;
@@ -13,20 +14,11 @@ use arbiter_core::verdict_or_none;
 use arrayvec::ArrayString;
 use board_core::{Move, Verdict};
 use fen_text::write_move;
-use judge_core::{GameOutcome, ProbeFault};
-use move_msg::{Message, Who};
+use judge_core::{Columns, Outcome, Told, verdict_or_open};
+use move_msg::{Message, Who, WriteFault};
 use relay_world::State;
 use std::fmt;
 use std::io::Write;
-use thiserror::Error;
-
-/// Why an answer was not written to its end.
-#[derive(Clone, Copy, PartialEq, Eq, Debug, Error)]
-pub enum AnswerFault {
-    /// The writer failed.
-    #[error("the output can't be written")]
-    Io,
-}
 
 /// What an arbiter keeps.
 #[derive(Clone, Copy)]
@@ -49,106 +41,28 @@ pub(crate) enum Line {
     /// Whether the file of this name is the table that it should be.
     Look(ArrayString<16>, Option<FileFault>),
     /// The value that the tables tell, or why they tell none.
-    Wdl(Result<i32, ProbeFault>),
+    Wdl(Told),
     /// The distance that the tables tell, or why they tell none.
-    Dtz(Result<i32, ProbeFault>),
+    Dtz(Told),
     /// A message.
     Message(Message),
     /// How an arbiter is, and what it keeps, if anything.
     Arbiter(Who, State, Option<Kept>),
     /// How many messages were sent.
     Sent(usize),
-    /// What a game of so many moves comes to.
-    Outcome(GameOutcome, usize),
+    /// What a game comes to.
+    Outcome(Outcome),
     /// What both probes tell of a position, and the verdict on it.
-    Columns(Result<i32, ProbeFault>, Result<i32, ProbeFault>, Option<Verdict>),
+    Columns(Columns),
     /// How many lines are done on the way.
     Done(usize),
 }
 
-/// A number that the tables tell, or why they tell none.
-#[derive(Clone, Copy)]
-struct Column(Result<i32, ProbeFault>);
-
-impl fmt::Display for Column {
-    ghost use Rattle.std.specs.Prelude.{Some};
-    ghost use Rattle.adjudicate.specs.Lines.{column_words};
-
-    ghost output = { λ c. Some (column_words c.0) };
-
-    #[tactic(auto, unfolding(crate::specs::Lines::column_words))]
-    fn fmt<W: fmt::Write>(&self, f: &mut fmt::Formatter<W>) -> fmt::Result {
-        match &self.0 {
-            Ok(number) => write!(f, "{number}"),
-            Err(fault) => match fault {
-                ProbeFault::NotCovered(material) | ProbeFault::Damaged(material) => {
-                    let name = material.name();
-                    write!(f, "refused {} {}", fault.name(), name.as_str())
-                }
-                ProbeFault::OutOfScope | ProbeFault::OutOfMemory => {
-                    write!(f, "refused {}", fault.name())
-                }
-            },
-        }
-    }
-}
-
 /// Tells what the tables tell, or why they tell nothing.
-fn fmt_told<W: fmt::Write>(
-    f: &mut fmt::Formatter<W>,
-    question: &str,
-    told: &Result<i32, ProbeFault>,
-) -> fmt::Result
-    ensures { DisplaysOnOk W.Write.write_str_gives f.old result (Some (told_words question.now told.now)) f.new }
+fn fmt_told<W: fmt::Write>(f: &mut fmt::Formatter<W>, question: &str, told: Told) -> fmt::Result
+    ensures { DisplaysOnOk W.Write.write_str_gives f.old result (Some (told_words question.now told.0)) f.new }
 {
-    let column = Column(*told);
-    write!(f, "{question} {column}")
-}
-
-/// The name of a verdict, or that the game goes on.
-fn verdict_or_open(verdict: Option<Verdict>) -> &'static str
-    ensures { result.now ≡ verdict_words verdict }
-{
-    match verdict {
-        None => "open",
-        Some(verdict) => verdict.name(),
-    }
-}
-
-/// Tells what both probes tell and the verdict, with a tab between.
-fn fmt_columns<W: fmt::Write>(
-    f: &mut fmt::Formatter<W>,
-    wdl: &Result<i32, ProbeFault>,
-    dtz: &Result<i32, ProbeFault>,
-    verdict: Option<Verdict>,
-) -> fmt::Result
-    ensures { DisplaysOnOk W.Write.write_str_gives f.old result (Some (columns_words wdl.now dtz.now verdict)) f.new }
-{
-    let wdl = Column(*wdl);
-    let dtz = Column(*dtz);
-    let verdict = verdict_or_open(verdict);
-    write!(f, "{wdl}\t{dtz}\t{verdict}")
-}
-
-/// Tells a message.
-#[tactic(auto, unfolding(crate::specs::Lines::message_words))]
-fn fmt_message<W: fmt::Write>(f: &mut fmt::Formatter<W>, message: &Message) -> fmt::Result
-    ensures { DisplaysOnOk W.Write.write_str_gives f.old result (Some (message_words message.now)) f.new }
-{
-    let sender = message.sender().number();
-    match *message {
-        Message::Move { number, m, .. } => {
-            let text = write_move(&m);
-            write!(f, "Move {sender} {number} {}", text.as_str())
-        }
-        Message::Ack { count, .. } => write!(f, "Ack {sender} {}", count.number()),
-        Message::Verdict { ply, verdict, .. } => {
-            write!(f, "Verdict {sender} {} {}", ply.number(), verdict.name())
-        }
-        Message::Fetch { number, wanted, .. } => {
-            write!(f, "Fetch {sender} {} {}", number.number(), wanted.number())
-        }
-    }
+    write!(f, "{question} {told}")
 }
 
 /// The letter of an arbiter.
@@ -193,22 +107,6 @@ fn fmt_arbiter<W: fmt::Write>(
     }
 }
 
-/// Tells what a game of so many moves comes to.
-#[tactic(auto, unfolding(crate::specs::Lines::outcome_words))]
-fn fmt_outcome<W: fmt::Write>(
-    f: &mut fmt::Formatter<W>,
-    outcome: GameOutcome,
-    plies: usize,
-) -> fmt::Result
-    ensures { DisplaysOnOk W.Write.write_str_gives f.old result (Some (outcome_words outcome plies)) f.new }
-{
-    match outcome {
-        GameOutcome::Ruled { ply, verdict } => write!(f, "ruled {ply} {}", verdict.name()),
-        GameOutcome::Illegal { place } => write!(f, "illegal {place}"),
-        GameOutcome::Going => write!(f, "open {plies}"),
-    }
-}
-
 /// Tells a name, and a word on it.
 fn fmt_named<W: fmt::Write>(f: &mut fmt::Formatter<W>, name: &str, word: &str) -> fmt::Result
     ensures { DisplaysOnOk W.Write.write_str_gives f.old result (Some (name.now ++ codes " " ++ word.now)) f.new }
@@ -229,30 +127,30 @@ impl fmt::Display for Line {
             Line::Move(m) => f.write_str(write_move(m).as_str()),
             Line::Look(name, None) => fmt_named(f, name.as_str(), "ok"),
             Line::Look(name, Some(fault)) => fmt_named(f, name.as_str(), fault.name()),
-            Line::Wdl(told) => fmt_told(f, "wdl", told),
-            Line::Dtz(told) => fmt_told(f, "dtz", told),
-            Line::Message(message) => fmt_message(f, message),
+            Line::Wdl(told) => fmt_told(f, "wdl", *told),
+            Line::Dtz(told) => fmt_told(f, "dtz", *told),
+            Line::Message(message) => write!(f, "{message}"),
             Line::Arbiter(who, state, kept) => fmt_arbiter(f, *who, *state, *kept),
             Line::Sent(number) => write!(f, "sent {number}"),
-            Line::Outcome(outcome, plies) => fmt_outcome(f, *outcome, *plies),
-            Line::Columns(wdl, dtz, verdict) => fmt_columns(f, wdl, dtz, *verdict),
+            Line::Outcome(outcome) => write!(f, "{outcome}"),
+            Line::Columns(columns) => write!(f, "{columns}"),
             Line::Done(lines) => write!(f, "{lines} done"),
         }
     }
 }
 
 /// Writes a line.
-pub(crate) fn put_line<W: Write>(out: &mut W, line: &Line) -> Result<(), AnswerFault>
+pub(crate) fn put_line<W: Write>(out: &mut W, line: &Line) -> Result<(), WriteFault>
     ensures { OnOk result (Appends (W.contents out.old) (W.contents out.new) (ended (words_of line.now))) }
 {
     match writeln!(out, "{line}") {
         Ok(()) => Ok(()),
-        Err(_) => Err(AnswerFault::Io),
+        Err(_) => Err(WriteFault::Io),
     }
 }
 
 /// Writes why all else is refused, and tells the status 1.
-pub(crate) fn put_refusal<W: Write>(out: &mut W, refusal: Refusal) -> Result<u8, AnswerFault>
+pub(crate) fn put_refusal<W: Write>(out: &mut W, refusal: Refusal) -> Result<u8, WriteFault>
     ensures { IfOk result (λ status. Appends (W.contents out.old) (W.contents out.new) (ended (refusal_words refusal)) × (status ≡ 1)) }
 {
     match put_line(out, &Line::Refused(refusal)) {

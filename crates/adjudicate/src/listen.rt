@@ -12,21 +12,20 @@ ghost use Rattle.arbiter_core.specs.Ports.{at_port};
 ghost use Rattle.arbiter_core.specs.StoredBytes.{IsInFile};
 
 use crate::host::{BindFault, Host};
-use crate::lines::{AnswerFault, put_refusal};
+use crate::lines::put_refusal;
 use crate::listening::Listening;
 use crate::refusals::Refusal;
-use crate::sources::Sources;
 use crate::tables::gather;
 use arbiter_core::{FileKeeper, KeptFile, OpenFault, Port, Setup};
 use board_core::Position;
 use fen_text::read;
 use judge_core::Set;
-use move_msg::{ReadFault, manifest_of};
+use move_msg::{ReadFault, Sources, WriteFault, manifest_of};
 use std::alloc::{AllocError, Global};
 use std::io::Write;
 
 /// Tells that no arbiter is opened: `refused keeper`, or `refused memory` where memory was refused.
-fn put_unopened<W: Write>(fault: OpenFault, out: &mut W) -> Result<u8, AnswerFault>
+fn put_unopened<W: Write>(fault: OpenFault, out: &mut W) -> Result<u8, WriteFault>
     ensures { IfOk result (TellsUnopened fault (W.contents out.old) (W.contents out.new)) }
 {
     match fault {
@@ -44,7 +43,7 @@ fn open_and_serve<F: KeptFile + Drop, P: Port, W: Write>(
     keeper: &mut FileKeeper<F>,
     port: &mut P,
     out: &mut W,
-) -> Result<u8, AnswerFault>
+) -> Result<u8, WriteFault>
     requires { IsInFile F.finds keeper.old }
     ensures { IfOk result (OpensAndServes F.finds listening.now (setup_view setup.entry) keeper.old keeper.new (at_port P.passed P.faults port.old) (at_port P.passed P.faults port.new) (W.contents out.old) (W.contents out.new)) }
 {
@@ -59,7 +58,7 @@ fn open_and_serve<F: KeptFile + Drop, P: Port, W: Write>(
     ) {
         Ok(Ok(status)) => Ok(status),
         Ok(Err(fault)) => put_unopened(fault, out),
-        Err(_) => Err(AnswerFault::Io),
+        Err(_) => Err(WriteFault::Io),
     }
 }
 
@@ -71,7 +70,7 @@ fn keep_and_serve<F: KeptFile + Drop, P: Port, W: Write>(
     file: F,
     port: &mut P,
     out: &mut W,
-) -> Result<u8, AnswerFault>
+) -> Result<u8, WriteFault>
     ensures { IfOk result (KeepsAndServes F.unreadable F.finds listening.now (setup_view setup.entry) file (at_port P.passed P.faults port.old) (at_port P.passed P.faults port.new) (W.contents out.old) (W.contents out.new)) }
 {
     match FileKeeper::new(alloc, file) {
@@ -89,7 +88,7 @@ fn serve_at<H: Host, W: Write>(
     host: &H,
     port: &mut H::Port,
     out: &mut W,
-) -> Result<u8, AnswerFault>
+) -> Result<u8, WriteFault>
     ensures { IfOk result (ServesAt (hosted (H.binds host.now) (H.unbound host.now) (H.is_at host.now) H.Port.passed H.Port.faults H.File.unreadable H.File.finds) listening.now (setup_view setup.entry) (at_port H.Port.passed H.Port.faults port.old) (at_port H.Port.passed H.Port.faults port.new) (W.contents out.old) (W.contents out.new)) }
 {
     match host.file(alloc, listening.kept) {
@@ -105,7 +104,7 @@ fn bind_and_serve<H: Host, W: Write>(
     setup: Setup<'_>,
     host: &H,
     out: &mut W,
-) -> Result<u8, AnswerFault>
+) -> Result<u8, WriteFault>
     ensures { IfOk result (BindsAndServes (hosted (H.binds host.now) (H.unbound host.now) (H.is_at host.now) H.Port.passed H.Port.faults H.File.unreadable H.File.finds) listening.now (setup_view setup.entry) (W.contents out.old) (W.contents out.new)) }
 {
     match host.bind(alloc, listening.bind, listening.to) {
@@ -132,7 +131,7 @@ fn listen_with<'a, H: Host, W: Write>(
     set: Set<'a>,
     host: &H,
     out: &mut W,
-) -> Result<u8, AnswerFault>
+) -> Result<u8, WriteFault>
     requires { name.now ≡ listening.now.name.now }
     ensures { IfOk result (BindsAndServes (hosted (H.binds host.now) (H.unbound host.now) (H.is_at host.now) H.Port.passed H.Port.faults H.File.unreadable H.File.finds) listening.now (setup_for listening.now start set.entry manifest.entry.now) (W.contents out.old) (W.contents out.new)) }
 {
@@ -156,7 +155,7 @@ fn listen_by<'a, H: Host, W: Write>(
     set: Set<'a>,
     host: &H,
     out: &mut W,
-) -> Result<u8, AnswerFault>
+) -> Result<u8, WriteFault>
     ensures { Ok set.entry.tables ≡ gathered sources.now → SpellsPosition listening.now.start.now start → IsPosition start → IfOk result (Listens (hosted (H.binds host.now) (H.unbound host.now) (H.is_at host.now) H.Port.passed H.Port.faults H.File.unreadable H.File.finds) listening.now sources.now (W.contents out.old) (W.contents out.new)) }
 {
     let manifest = match manifest_for(alloc, sources) {
@@ -178,7 +177,7 @@ pub fn listen<'a, H: Host, W: Write>(
     sources: &'a Sources,
     host: &H,
     out: &mut W,
-) -> Result<u8, AnswerFault>
+) -> Result<u8, WriteFault>
     ensures { IfOk result (Listens (hosted (H.binds host.now) (H.unbound host.now) (H.is_at host.now) H.Port.passed H.Port.faults H.File.unreadable H.File.finds) listening.now sources.now (W.contents out.old) (W.contents out.new)) }
 {
     let start = match read(listening.start.as_bytes()) {

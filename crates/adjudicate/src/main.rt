@@ -18,12 +18,12 @@ mod lines;
 mod listen;
 mod listening;
 mod numbers;
+mod places;
 mod probes;
 mod program;
 mod refusals;
 mod schedules;
 mod show;
-mod sources;
 mod system_disk;
 mod system_file;
 mod tables;
@@ -31,8 +31,9 @@ mod udp;
 mod usage;
 
 use host::SystemHost;
-use lines::{AnswerFault, put_refusal};
-use program::{Output, end, run};
+use lines::put_refusal;
+use move_msg::{WriteFault, end};
+use program::run;
 use refusals::Refusal;
 use std::alloc::{AllocError, Global};
 use std::io::{self, BufWriter, Write};
@@ -64,49 +65,27 @@ fn tail_of<'a>(alloc: Global, words: &'a [String]) -> Result<Vec<&'a str>, Alloc
     Ok(tail)
 }
 
-/// Runs the program into a writer, and tells its status.
-fn run_into<W: Write>(rt: &HostRuntime, out: &mut W) -> Result<u8, AnswerFault> {
-    let words = match words_of(rt) {
-        Ok(words) => words,
-        Err(Usage::OutOfMemory) => return put_refusal(out, Refusal::Memory),
-        Err(Usage::Misuse) => {
-            let disk = SystemDisk::new(rt);
-            return run(
-                rt.alloc(),
-                &[],
-                &disk,
-                &SystemHost::new(rt),
-                out,
-                &mut rt.stderr(),
-            );
-        }
-    };
-    match tail_of(rt.alloc(), &words) {
-        Ok(tail) => {
-            let disk = SystemDisk::new(rt);
-            run(
-                rt.alloc(),
-                &tail,
-                &disk,
-                &SystemHost::new(rt),
-                out,
-                &mut rt.stderr(),
-            )
-        }
+/// Runs the program by its words into a writer.
+fn run_words<W: Write>(rt: &HostRuntime, words: &[&str], out: &mut W) -> Result<u8, WriteFault> {
+    let disk = SystemDisk::new(rt);
+    let host = SystemHost::new(rt);
+    run(rt.alloc(), words, &disk, &host, out, &mut rt.stderr())
+}
+
+/// The same by all words that it was called with.
+fn run_all<W: Write>(rt: &HostRuntime, words: &[String], out: &mut W) -> Result<u8, WriteFault> {
+    match tail_of(rt.alloc(), words) {
+        Ok(tail) => run_words(rt, &tail, out),
         Err(_) => put_refusal(out, Refusal::Memory),
     }
 }
 
-impl<W: Write + Drop> Output for BufWriter<W> {
-    ghost gone = { λ _. Unit {0} };
-
-    ghost stuck = { λ _. Unit {0} };
-
-    fn finish(&mut self) -> Result<(), AnswerFault> {
-        match self.flush() {
-            Ok(()) => Ok(()),
-            Err(_) => Err(AnswerFault::Io),
-        }
+/// Runs the program into a writer, and tells its status.
+fn run_into<W: Write>(rt: &HostRuntime, out: &mut W) -> Result<u8, WriteFault> {
+    match words_of(rt) {
+        Ok(words) => run_all(rt, &words, out),
+        Err(Usage::OutOfMemory) => put_refusal(out, Refusal::Memory),
+        Err(Usage::Misuse) => run_words(rt, &[], out),
     }
 }
 

@@ -1,22 +1,22 @@
 //! What tables tell of many positions, a line each.
 
-ghost use Rattle.std.specs.Prelude.{◌≡◌, ◌≢◌, ◌%◌, ◌<◌, ◌==◌, ◌&&◌, ◌∷◌, true, false, length, position, IfOk, OnErr};
-ghost use Rattle.std.specs.Result.{is_ok};
+ghost use Rattle.std.specs.Prelude.{◌≡◌, ◌≢◌, ◌%◌, ◌<◌, ◌==◌, ◌∷◌, true, false, length, position, IfOk, OnErr};
 ghost use Rattle.board_core.specs.Position.{IsPosition};
 ghost use Rattle.fen_text.specs.Fen.{SpellsPosition};
-ghost use Rattle.adjudicate.specs.Inputs.{has_bytes, lines_in};
+ghost use Rattle.move_msg.specs.GameTexts.{has_bytes};
+ghost use Rattle.adjudicate.specs.Inputs.{lines_in};
 ghost use Rattle.adjudicate.specs.Lines.{words_of};
 ghost use Rattle.adjudicate.specs.Inside.ProbeSteps.{PutsLines, PutsProbes};
 ghost use Rattle.adjudicate.specs.Reply.{IsText, TellsLine};
 
-use crate::answers::{ask_dtz, number_in, status_if};
-use crate::lines::{AnswerFault, Line, put_line, put_refusal};
+use crate::answers::status_if;
+use crate::lines::{Line, put_line, put_refusal};
 use crate::refusals::Refusal;
-use crate::sources::Sources;
 use crate::tables::gather;
 use board_core::Position;
 use fen_text::read;
-use judge_core::{ProbeFault, Set, Wdl};
+use judge_core::{Columns, Set};
+use move_msg::{Sources, WriteFault};
 use std::alloc::{AllocError, Global};
 use std::io::Write;
 
@@ -42,13 +42,6 @@ fn first_line(text: &[u8]) -> (&[u8], &[u8])
     }
 }
 
-/// Whether both probes tell a number.
-fn are_told(wdl: &Result<Wdl, ProbeFault>, dtz: &Result<i32, ProbeFault>) -> bool
-    ensures { result ≡ (is_ok wdl.now && is_ok dtz.now) }
-{
-    wdl.is_ok() && dtz.is_ok()
-}
-
 /// What the tables tell of a position, in columns, and whether all of it is told.
 fn columns(
     alloc: Global,
@@ -61,11 +54,10 @@ fn columns(
     ensures told { IfOk result (λ told. TellsLine set.old.tables text.now (record { words = words_of told.0; done = told.1 })) }
     ensures unchanged { set.new.tables ≡ set.old.tables }
 {
-    let wdl = set.wdl(alloc, position);
-    let dtz = ask_dtz(alloc, set, position)?;
+    let probed = set.probe(alloc, position)?;
     let verdict = set.judge(alloc, position)?;
-    let done = are_told(&wdl, &dtz);
-    Ok((Line::Columns(number_in(&wdl), dtz, verdict), done))
+    let line = Line::Columns(Columns { probed, verdict });
+    Ok((line, probed.is_told()))
 }
 
 /// What is told of a line, and whether all of it is told.
@@ -103,7 +95,7 @@ fn put_probes<W: Write, E: Write>(
     out: &mut W,
     errors: &mut E,
     progress: bool,
-) -> Result<u8, AnswerFault>
+) -> Result<u8, WriteFault>
     ensures written { IfOk result (PutsLines set.old.tables text.now (W.contents out.old) (W.contents out.new)) }
     ensures quiet { progress ≡ false → errors.new ≡ errors.old }
 {
@@ -139,7 +131,7 @@ pub(crate) fn probes<W: Write, E: Write>(
     out: &mut W,
     errors: &mut E,
     progress: bool,
-) -> Result<u8, AnswerFault>
+) -> Result<u8, WriteFault>
     ensures written { IfOk result (PutsProbes sources.now (W.contents out.old) (W.contents out.new)) }
     ensures quiet { progress ≡ false → errors.new ≡ errors.old }
 {

@@ -3,18 +3,18 @@
 ghost use Rattle.std.specs.Prelude.{◌≡◌, ◌≢◌, ◌⊎◌, map, true, false, Ok, IfOk, OnErr, OnOk};
 ghost use Rattle.adjudicate.specs.declared.commands.Task.{Task};
 ghost use Rattle.adjudicate.specs.Listens.{Listens, hosted};
-ghost use Rattle.adjudicate.specs.Running.{AnswersTask, Runs, HasEnded};
+ghost use Rattle.adjudicate.specs.Running.{AnswersFrom, AnswersTask, Runs};
 ghost use Rattle.adjudicate.specs.Tasks.{IsTask, tells_progress};
 
 use crate::answers::answer_task;
 use crate::commands::{Task, parse};
 use crate::host::Host;
-use crate::lines::{AnswerFault, put_refusal};
+use crate::lines::put_refusal;
 use crate::listen::listen;
+use crate::places::places_of;
 use crate::refusals::Refusal;
-use crate::sources::Sources;
 use crate::usage::Usage;
-use move_msg::{Disk, ReadFault};
+use move_msg::{Disk, ReadFault, Sources, WriteFault};
 use std::alloc::Global;
 use std::io::Write;
 
@@ -39,6 +39,24 @@ fn put_usage<E: Write>(errors: &mut E) {
     }
 }
 
+/// Answers a task from what was read for it.
+fn answer_from<H: Host, W: Write, E: Write>(
+    alloc: Global,
+    task: &Task,
+    sources: &Sources,
+    host: &H,
+    out: &mut W,
+    errors: &mut E,
+) -> Result<u8, WriteFault>
+    ensures quiet { tells_progress task.now ≡ false → errors.new ≡ errors.old }
+    ensures answered { IfOk result (AnswersFrom (Listens (hosted (H.binds host.now) (H.unbound host.now) (H.is_at host.now) H.Port.passed H.Port.faults H.File.unreadable H.File.finds)) task.now sources.now (W.contents out.old) (W.contents out.new)) }
+{
+    match task {
+        Task::Listen(listening) => listen(alloc, listening, sources, host, out),
+        _ => answer_task(alloc, task, sources, out, errors),
+    }
+}
+
 /// Answers a task from what it reads.
 fn run_task<D: Disk, H: Host, W: Write, E: Write>(
     alloc: Global,
@@ -47,15 +65,13 @@ fn run_task<D: Disk, H: Host, W: Write, E: Write>(
     host: &H,
     out: &mut W,
     errors: &mut E,
-) -> Result<u8, AnswerFault>
+) -> Result<u8, WriteFault>
     ensures quiet { tells_progress task.now ≡ false → errors.new ≡ errors.old }
     ensures answered { IfOk result (AnswersTask (D.lists disk.now) (D.holds disk.now) (D.gives disk.now) (D.fails disk.now) (Listens (hosted (H.binds host.now) (H.unbound host.now) (H.is_at host.now) H.Port.passed H.Port.faults H.File.unreadable H.File.finds)) task.now (W.contents out.old) (W.contents out.new)) }
 {
-    match Sources::read(alloc, disk, task) {
-        Ok(sources) => match task {
-            Task::Listen(listening) => listen(alloc, listening, &sources, host, out),
-            _ => answer_task(alloc, task, &sources, out, errors),
-        },
+    let places = places_of(task);
+    match Sources::read(alloc, disk, &places) {
+        Ok(sources) => answer_from(alloc, task, &sources, host, out, errors),
         Err(ReadFault::Unreadable) => put_refusal(out, Refusal::Files),
         Err(ReadFault::OutOfMemory) => put_refusal(out, Refusal::Memory),
     }
@@ -75,7 +91,7 @@ pub fn run<D: Disk, H: Host, W: Write, E: Write>(
     host: &H,
     out: &mut W,
     errors: &mut E,
-) -> Result<u8, AnswerFault>
+) -> Result<u8, WriteFault>
     ensures quiet { errors.new ≢ errors.old → (result ≡ Ok 2) ⊎ ((t : Task) × IsTask (map (λ w. w.now) words.now) t × (tells_progress t ≡ true)) }
     ensures answered { IfOk result (Runs (D.lists disk.now) (D.holds disk.now) (D.gives disk.now) (D.fails disk.now) (Listens (hosted (H.binds host.now) (H.unbound host.now) (H.is_at host.now) H.Port.passed H.Port.faults H.File.unreadable H.File.finds)) (map (λ w. w.now) words.now) (W.contents out.old) (W.contents out.new)) }
 {
@@ -86,30 +102,5 @@ pub fn run<D: Disk, H: Host, W: Write, E: Write>(
             put_usage(errors);
             Ok(2)
         }
-    }
-}
-
-/// Where the program's output goes.
-pub trait Output: Write {
-    /// All that was written has gone out.
-    ghost gone: { Self → Type 0 };
-
-    /// Some of what was written can't go out.
-    ghost stuck: { Self → Type 0 };
-
-    /// Lets all that was written go out.
-    fn finish(&mut self) -> Result<(), AnswerFault>
-        ensures gone { OnOk result (gone self.new) }
-        ensures stuck { OnErr result (stuck self.new) };
-}
-
-/// Ends the output, and tells the program's status: that of its answer where all of it has gone
-/// out, and 1 where it was not written or can't go out.
-pub fn end<O: Output>(out: &mut O, answered: Result<u8, AnswerFault>) -> u8
-    ensures { HasEnded (O.gone out.new) (O.stuck out.new) answered result }
-{
-    match (answered, out.finish()) {
-        (Ok(status), Ok(())) => status,
-        _ => 1,
     }
 }

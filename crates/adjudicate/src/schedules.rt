@@ -9,6 +9,7 @@ ghost use Rattle.relay_world.specs.Gathering.{file_as, tables_of};
 ghost use Rattle.relay_world.specs.Runs.{Runs, Tells, TellsSide, told_of, KeptIs};
 ghost use Rattle.relay_world.specs.Texts.{SpellsSchedule, IsFirstBadLine};
 ghost use Rattle.relay_world.specs.Worlds.{Game as Judged, Side, World as Worlds};
+ghost use Rattle.arbiter_core.specs.ServedLines.{text_of};
 ghost use Rattle.adjudicate.specs.Inside.Asked.{reply_of};
 ghost use Rattle.adjudicate.specs.Lines.{refused_line, refusal_words, words_of};
 ghost use Rattle.adjudicate.specs.Reply.{IsRun};
@@ -18,10 +19,9 @@ use crate::answers::Answer;
 use crate::lines::{Kept, Line};
 use crate::numbers::{CacheSize, Delay};
 use crate::refusals::Refusal;
-use crate::sources::Sources;
 use crate::tables::FileFault;
 use board_core::Verdict;
-use move_msg::{NamedFile, Who};
+use move_msg::{NamedFile, Sources, Who};
 use relay_world::schedule::{Schedule, ScheduleFault, read};
 use relay_world::{Event, Game, World, WorldFault, run};
 use std::alloc::{AllocError, Global};
@@ -132,6 +132,49 @@ fn lines_of(alloc: Global, world: &World) -> Result<Vec<Line>, AllocError>
     Vec::from_slice(alloc, &lines)
 }
 
+/// What is told of a world, as an answer.
+fn answer_world(alloc: Global, world: &World) -> Result<Answer, AllocError>
+    ensures { IfOk result (λ a. (game : Judged) (last : Worlds) → Tells game world.now last → reply_of a ≡ record { text = text_of (world_words last); status = 0 }) }
+{
+    let lines = lines_of(alloc, world)?;
+    Ok(Answer::Lines(lines, true))
+}
+
+/// What becomes of two arbiters under the events of a schedule, or the refusal of the first file that is no table.
+fn answer_events(
+    alloc: Global,
+    sources: &Sources,
+    cache: CacheSize,
+    schedule: &Schedule,
+    game: &Game,
+) -> Result<Answer, AllocError>
+    requires { SpellsSchedule sources.now.input schedule.now }
+    ensures { IfOk result (λ a. (delay : ℕ) → game.now ≡ game_of schedule.now delay → IsRun sources.now.input sources.now.files delay (reply_of a)) }
+{
+    match world_of(alloc, game, sources.files(), cache, &schedule.events) {
+        Ok(Ok(world)) => answer_world(alloc, &world),
+        Ok(Err(refusal)) => Ok(Answer::Refused(refusal)),
+        Err(_) => Err(AllocError),
+    }
+}
+
+/// What becomes of two arbiters under a schedule, or the refusal of the first file that is no table.
+fn answer_schedule(
+    alloc: Global,
+    sources: &Sources,
+    cache: CacheSize,
+    delay: Delay,
+    schedule: &Schedule,
+) -> Result<Answer, AllocError>
+    requires { SpellsSchedule sources.now.input schedule.now }
+    ensures { IfOk result (λ a. IsRun sources.now.input sources.now.files delay (reply_of a)) }
+{
+    match game_of(alloc, schedule, delay) {
+        Ok(game) => answer_events(alloc, sources, cache, schedule, &game),
+        Err(_) => Err(AllocError),
+    }
+}
+
 /// What becomes of two arbiters under the schedule of the input: the first line at fault is refused,
 /// then the first file that is no table.
 pub(crate) fn answer_run(
@@ -142,16 +185,9 @@ pub(crate) fn answer_run(
 ) -> Result<Answer, AllocError>
     ensures { IfOk result (λ a. IsRun sources.now.input sources.now.files delay (reply_of a)) }
 {
-    let schedule = match schedule_of(alloc, sources.input())? {
-        Ok(schedule) => schedule,
-        Err(refusal) => return Ok(Answer::Refused(refusal)),
-    };
-    let game = game_of(alloc, &schedule, delay)?;
-    match world_of(alloc, &game, sources.files(), cache, &schedule.events)? {
-        Ok(world) => {
-            let lines = lines_of(alloc, &world)?;
-            Ok(Answer::Lines(lines, true))
-        }
-        Err(refusal) => Ok(Answer::Refused(refusal)),
+    match schedule_of(alloc, sources.input()) {
+        Ok(Ok(schedule)) => answer_schedule(alloc, sources, cache, delay, &schedule),
+        Ok(Err(refused)) => Ok(Answer::Refused(refused)),
+        Err(_) => Err(AllocError),
     }
 }

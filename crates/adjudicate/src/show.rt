@@ -5,9 +5,9 @@ ghost use Rattle.move_msg.specs.Streams.{nothing_fed};
 ghost use Rattle.adjudicate.specs.Reply.{IsShown, Reply, WritesReply};
 ghost use Rattle.adjudicate.specs.Inside.Fronts.{IsFront};
 
-use crate::lines::{AnswerFault, Line, put_line, put_refusal};
+use crate::lines::{Line, put_line, put_refusal};
 use crate::refusals::Refusal;
-use move_msg::{Feeder, Message, MessageFault};
+use move_msg::{Feeder, Message, MessageFault, WriteFault};
 use std::io::Write;
 
 /// What stands at the front of a stream.
@@ -38,7 +38,7 @@ fn read_front<'a>(feeder: &mut Feeder, stream: &'a [u8]) -> Front<'a>
 
 /// Writes a line for each message of a stream, and a refusal where it doesn't end after one; tells
 /// the status, 0 done or 1 refused.
-pub(crate) fn show<W: Write>(stream: &[u8], out: &mut W) -> Result<u8, AnswerFault>
+pub(crate) fn show<W: Write>(stream: &[u8], out: &mut W) -> Result<u8, WriteFault>
     ensures { IfOk result (λ status. (r : Reply) × IsShown stream.now r × WritesReply (W.contents out.old) (W.contents out.new) r status) }
 {
     let mut feeder = Feeder::new();

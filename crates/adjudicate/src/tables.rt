@@ -9,10 +9,9 @@ ghost use Rattle.adjudicate.specs.Looks.{found_in, gathered, gathered_by, held, 
 ghost use Rattle.adjudicate.specs.Inside.Refusals.{filled, tables_in};
 
 use crate::refusals::Refusal;
-use crate::sources::Sources;
 use arrayvec::ArrayString;
 use judge_core::{Set, SetFault};
-use move_msg::{Line as Entry, Manifest, NamedFile, file_digest};
+use move_msg::{Line as Entry, Manifest, NamedFile, Sources, file_digest};
 use std::alloc::{AllocError, Global};
 use table_file::{Table, TableFault, open};
 

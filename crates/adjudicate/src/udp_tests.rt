@@ -4,8 +4,8 @@ ghost use Rattle.arbiter_core.specs.Delivers.{IsKept};
 
 use crate::fixtures::{check, move_message, setup_of, stamp_of};
 use crate::udp::UdpPort;
-use arbiter_core::{Arbiter, MemoryKeeper, ServeFault, serve};
-use move_msg::Message;
+use arbiter_core::{Arbiter, MemoryKeeper, serve};
+use move_msg::{Message, WriteFault};
 use std::alloc::Global;
 use std::io::Write;
 use std::net::{Net, SocketAddr, UdpSocket};
@@ -46,7 +46,7 @@ fn serve_six<W: Write>(
     keeper: &mut MemoryKeeper,
     port: &mut UdpPort,
     out: &mut W,
-) -> Result<u8, ServeFault> {
+) -> Result<u8, WriteFault> {
     let mut arbiter = open_over(rt, alloc, keeper);
     serve(alloc, &mut arbiter, keeper, port, 6, false, out)
 }
@@ -57,7 +57,7 @@ fn served<W: Write>(
     alloc: Global,
     port: &mut UdpPort,
     out: &mut W,
-) -> Result<u8, ServeFault> {
+) -> Result<u8, WriteFault> {
     serve_six(rt, alloc, &mut new_keeper(rt, alloc), port, out)
 }
 

@@ -4,7 +4,7 @@ use Rattle.std.specs.Prelude.{Ok, Err}
 use Rattle.std.specs.Io.KnownBytes.{Appends}
 use Rattle.arbiter_core.specs.Keeping.{Risen}
 use Rattle.arbiter_core.specs.Delivers.{Told}
-use Rattle.arbiter_core.specs.declared.serving.ServeFault.{ServeFault}
+use Rattle.move_msg.specs.declared.output.WriteFault.{WriteFault}
 use Rattle.arbiter_core.specs.declared.heard.Heard.{Heard}
 use Rattle.arbiter_core.specs.declared.serving.Next.{Next}
 use Rattle.arbiter_core.specs.declared.serving.Next.TheVariants.{GoesOn, Stops}
@@ -83,5 +83,5 @@ told_one run line next out out1 is p =
     (is.1, subst (λ (ls : List (List ℕ)). Appends out out1 (text_of ls)) (sym is.0) (subst (Appends out out1) (sym (append-nil (ended (heard_line line)))) p))
 
 -- or not
-pub untold_one : {K : Type 0} (run : Run K) (line : Heard) (next : Next) (out out1 : Option (List ℕ)) (fault : ServeFault) → IsOneStep run line next → TellsRun 1 run out out1 (Err fault)
+pub untold_one : {K : Type 0} (run : Run K) (line : Heard) (next : Next) (out out1 : Option (List ℕ)) (fault : WriteFault) → IsOneStep run line next → TellsRun 1 run out out1 (Err fault)
 untold_one run line next out out1 fault is = let one : length (lines_of run) ≡ 1 = ap length is.0 in (omega arith, omega arith)

@@ -12,7 +12,7 @@ use Rattle.arbiter_core.specs.Answering.{Answer, asked}
 use Rattle.arbiter_core.specs.Keeping.{Risen}
 use Rattle.arbiter_core.specs.Views.{View}
 use Rattle.arbiter_core.specs.Delivers.{Told, RefusesOrSends, PutsIfAny, answer_of, heard}
-use Rattle.arbiter_core.specs.declared.serving.ServeFault.{ServeFault}
+use Rattle.move_msg.specs.declared.output.WriteFault.{WriteFault}
 use Rattle.arbiter_core.specs.ServedLines.{heard_words, refused_datagram, refused_keeper, refused_port, text_of}
 use Rattle.arbiter_core.specs.Ports.{Passing, Came, Missed, Handed, Passes, AtPort}
 
@@ -158,7 +158,7 @@ IsStatus (KeeperLost last) n came status = (came ≤ n) × (status ≡ 1)
 IsStatus PortLost n came status = (came < n) × (status ≡ 1)
 
 -- the lines and the status are those of the run; or its last line could not be written, which is at most the n-th
-abbrev pub TellsRun : {K : Type 0} → ℕ → Run K → Option (List ℕ) → Option (List ℕ) → Result ℕ ServeFault → Type 0
+abbrev pub TellsRun : {K : Type 0} → ℕ → Run K → Option (List ℕ) → Option (List ℕ) → Result ℕ WriteFault → Type 0
 TellsRun n run old new (Ok status) = IsStatus run.loss n (length (exchanges_of run)) status × Appends old new (text_of (lines_of run))
 TellsRun n run old new (Err fault) = (0 < length (lines_of run)) × (length (lines_of run) ≤ n)
 

@@ -4,6 +4,8 @@
 //! keeper before it is told, and an arbiter whose keeper failed is closed and opened again over what is kept. Nothing here
 //! knows of squares, of tables' files or of how long a verdict by tables must hold: `judge_core` tells where a game stands.
 //!
+//! In service it answers the datagrams of a `Port` (`serve`), over a record in a `KeptFile` (`FileKeeper`, `open_and_serve`).
+//!
 //! Its tests stand in `checks`.
 #![tactic(auto)]
 
@@ -31,5 +33,5 @@ pub use kept_file::{KeptFile, replace};
 pub use opening::Refused;
 pub use over_file::open_and_serve;
 pub use port::{Port, PortFault};
-pub use serving::{ServeFault, serve};
+pub use serving::serve;
 pub use setup::Setup;

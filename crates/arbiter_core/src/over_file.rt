@@ -11,8 +11,9 @@ use crate::fault::OpenFault;
 use crate::file_keeper::FileKeeper;
 use crate::kept_file::KeptFile;
 use crate::port::Port;
-use crate::serving::{ServeFault, serve};
+use crate::serving::serve;
 use crate::setup::Setup;
+use move_msg::WriteFault;
 use std::alloc::Global;
 use std::io::Write;
 
@@ -28,7 +29,7 @@ pub fn open_and_serve<F: KeptFile + Drop, P: Port, W: Write>(
     n: u32,
     fetch: bool,
     out: &mut W,
-) -> Result<Result<u8, OpenFault>, ServeFault>
+) -> Result<Result<u8, OpenFault>, WriteFault>
     requires { IsInFile F.finds keeper.old }
     ensures served { IfOk result (λ ended. IfOk ended (ServesOpened F.finds (setup_view setup.entry) n fetch keeper.old keeper.new (at_port P.passed P.faults port.old) (at_port P.passed P.faults port.new) (W.contents out.old) (W.contents out.new))) }
     ensures unopened { IfOk result (λ ended. IfErr ended (λ fault. IsOpened F.finds (setup_view setup.entry) keeper.old keeper.new (Err fault))) }

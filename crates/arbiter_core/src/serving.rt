@@ -14,16 +14,9 @@ use crate::fault::DeliverFault;
 use crate::heard::Heard;
 use crate::keeper::Keeper;
 use crate::port::Port;
-use move_msg::Message;
+use move_msg::{Message, WriteFault};
 use std::alloc::Global;
 use std::io::Write;
-
-/// Why serving ended before its time.
-#[derive(Clone, Copy, PartialEq, Eq, Debug)]
-pub enum ServeFault {
-    /// A line could not be written.
-    Io,
-}
 
 /// Whether a run goes on.
 #[derive(Clone, Copy)]
@@ -106,15 +99,15 @@ fn receive<K: Keeper, P: Port>(
 }
 
 /// Writes a line, and lets it go out at once.
-fn put_now<W: Write>(out: &mut W, line: &Heard) -> Result<(), ServeFault>
+fn put_now<W: Write>(out: &mut W, line: &Heard) -> Result<(), WriteFault>
     ensures { OnOk result (Appends (W.contents out.old) (W.contents out.new) (ended (heard_line line.now))) }
 {
     let Ok(()) = writeln!(out, "{line}") else {
-        return Err(ServeFault::Io);
+        return Err(WriteFault::Io);
     };
     match out.flush() {
         Ok(()) => Ok(()),
-        Err(_) => Err(ServeFault::Io),
+        Err(_) => Err(WriteFault::Io),
     }
 }
 
@@ -125,7 +118,7 @@ fn serve_one<K: Keeper, P: Port, W: Write>(
     keeper: &mut K,
     port: &mut P,
     out: &mut W,
-) -> Result<Next, ServeFault>
+) -> Result<Next, WriteFault>
     requires { IsKept (K.kept keeper.old) arbiter.old }
     ensures run { (run : Run K) × ServesRun (stated K.may_be K.kept K.faults K.leaves) (moment arbiter.old keeper.old) (moment arbiter.new keeper.new) (at_port P.passed P.faults port.old) (at_port P.passed P.faults port.new) [] run × TellsRun 1 run (W.contents out.old) (W.contents out.new) (result_map_both status_by (λ e. e) result) }
     ensures keeps { IsKept (K.kept keeper.new) arbiter.new }
@@ -167,7 +160,7 @@ pub fn serve<K: Keeper, P: Port, W: Write>(
     n: u32,
     fetch: bool,
     out: &mut W,
-) -> Result<u8, ServeFault>
+) -> Result<u8, WriteFault>
     requires { IsKept (K.kept keeper.old) arbiter.old }
 
     // The arbiter has answered the datagrams in turn, all else at the port is what it sends, and the lines and the status

@@ -8,8 +8,8 @@ use crate::files::push_bytes;
 use crate::forge_tests::Failing;
 use crate::memory_port::{Event, MemoryPort};
 use crate::positions::START;
-use arbiter_core::{Arbiter, Keep, MemoryKeeper, ServeFault, serve};
-use move_msg::Stamp;
+use arbiter_core::{Arbiter, Keep, MemoryKeeper, serve};
+use move_msg::{Stamp, WriteFault};
 use std::alloc::Global;
 use std::io::Write;
 use std::process::Abort;
@@ -50,7 +50,7 @@ fn serve_row<W: Write>(
     port: &mut MemoryPort<'_>,
     row: &Row,
     out: &mut W,
-) -> (Result<u8, ServeFault>, u32)
+) -> (Result<u8, WriteFault>, u32)
     requires { IsKept keeper.old.kept arbiter.old }
 {
     keeper.set(row.keep);
@@ -66,7 +66,7 @@ fn served_over<W: Write>(
     port: &mut MemoryPort<'_>,
     row: &Row,
     out: &mut W,
-) -> (Result<u8, ServeFault>, u32) {
+) -> (Result<u8, WriteFault>, u32) {
     let mut arbiter = open_first(rt, alloc, keeper, START, 0);
     serve_row(alloc, &mut arbiter, keeper, port, row, out)
 }
@@ -78,7 +78,7 @@ fn served<W: Write>(
     port: &mut MemoryPort<'_>,
     row: &Row,
     out: &mut W,
-) -> (Result<u8, ServeFault>, u32) {
+) -> (Result<u8, WriteFault>, u32) {
     let mut keeper = empty_keeper(rt, alloc);
     served_over(rt, alloc, &mut keeper, port, row, out)
 }
@@ -301,7 +301,7 @@ fn served_in_vain(
     rt: &impl Abort,
     alloc: Global,
     waiting: &[&[u8]],
-) -> (Result<u8, ServeFault>, u32) {
+) -> (Result<u8, WriteFault>, u32) {
     let mut port = MemoryPort::new(alloc, waiting, NEVER);
     served(rt, alloc, &mut port, &FAILED_SENDS[3], &mut Failing::at(0))
 }
@@ -312,5 +312,5 @@ fn tells_that_a_line_is_not_written(rt: HostRuntime) {
     let game = game(&rt);
     let waiting: [&[u8]; 3] = [&game[0], &game[1], &game[2]];
     let told = served_in_vain(&rt, rt.alloc(), &waiting);
-    check_same(&rt, told, (Err(ServeFault::Io), 1), "an output that fails");
+    check_same(&rt, told, (Err(WriteFault::Io), 1), "an output that fails");
 }

@@ -2,7 +2,7 @@
 use Rattle.std.specs.Prelude.{◌≡◌, ◌++◌, ℕ, List, [], ◌∷◌, Option, Ok, Err}
 use Rattle.std.specs.Io.KnownBytes.{Appends}
 use Rattle.judge_core.specs.Tables.{Tables}
-use Rattle.adjudicate.specs.Given.{Given}
+use Rattle.move_msg.specs.Given.{Given}
 use Rattle.adjudicate.specs.Inputs.{lines_in}
 use Rattle.arbiter_core.specs.ServedLines.{ended, text_of}
 use Rattle.adjudicate.specs.Lines.{refused_memory}

@@ -2,7 +2,7 @@ use Rattle.std.proofs.Common.{refl, ◌≡◌, ◌∙◌, ap, ℕ, List, Option,
 use Rattle.std.proofs.lemmas.Result.{IfOk-weaker}
 use Rattle.adjudicate.specs.declared.commands.Task.{Task}
 use Rattle.adjudicate.specs.declared.commands.Task.TheVariants.{Show, Probes}
-use Rattle.adjudicate.specs.Given.{Given}
+use Rattle.move_msg.specs.Given.{Given}
 use Rattle.arbiter_core.specs.ServedLines.{text_of}
 use Rattle.adjudicate.specs.Looks.{gathered}
 use Rattle.adjudicate.specs.Inside.ProbeSteps.{PutsProbes, PutsRefusal, PutsLinesOf, PutsNoLine, PutsAll, PutsSome}

@@ -1,5 +1,5 @@
 use Rattle.std.proofs.Common.{refl, subst}
-use Rattle.adjudicate.specs.Inputs.{IsBadWordAt, words_in}
+use Rattle.move_msg.specs.GameTexts.{IsBadWordAt, words_in}
 use Rattle.adjudicate.specs.Reply.{BadWord}
 use Rattle.adjudicate.proofs.games.answer_from.Goals as goal
 

@@ -1,6 +1,7 @@
 use Rattle.std.proofs.Common.{length, refl, sym, ap}
 use Rattle.arbiter_core.specs.ServedLines.{ended}
-use Rattle.adjudicate.specs.Lines.{outcome_words, refusal_words}
+use Rattle.judge_core.specs.ToldWords.{outcome_words}
+use Rattle.adjudicate.specs.Lines.{refusal_words}
 use Rattle.adjudicate.specs.Reply.{BadTables, Played}
 use Rattle.adjudicate.proofs.games.answer_moves.Goals as goal
 

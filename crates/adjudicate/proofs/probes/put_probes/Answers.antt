@@ -1,7 +1,7 @@
 use Rattle.std.proofs.Common.{rules, ◌≡◌, ◌∙◌, false, refl, subst}
 use Rattle.std.proofs.lemmas.Result.{IfOk-weaker}
 use Rattle.judge_core.specs.Tables.{Tables}
-use Rattle.adjudicate.specs.Inputs.{has_bytes}
+use Rattle.move_msg.specs.GameTexts.{has_bytes}
 use Rattle.adjudicate.specs.Lines.{words_of}
 use Rattle.adjudicate.specs.Reply.{TellsLine}
 use Rattle.adjudicate.proofs.ProbeLaws.{probed_none, probed_more, probed_short, probed_all, still_all, not_all}
