@@ -1,5 +1,5 @@
 -- A move as text: coordinate notation, as in the UCI protocol.
-use Rattle.std.specs.Prelude.{◌≡◌, ◌<◌, ◌++◌, ℕ, List, [], Option, Some, None, codes}
+use Rattle.std.specs.Prelude.{◌≡◌, ◌<◌, ◌++◌, ℕ, List, [], ◌∷◌, Option, Some, None, codes}
 use Rattle.board_core.specs.declared.piece.Promotion.{Promotion}
 use Rattle.board_core.specs.declared.piece.Promotion.TheVariants.{Queen, Rook, Bishop, Knight}
 use Rattle.board_core.specs.declared.moves.Move.{Move}
@@ -22,3 +22,10 @@ pub record SpellsMove (t : List ℕ) (m : Move) : Type 0 where
   pub from_board : m.from < 64
   pub to_board : m.to < 64
   pub text : t ≡ move_text m
+
+-- a word for each move
+abbrev pub AreMoves : List (List ℕ) → List Move → Type 0
+AreMoves [] [] = Unit {0}
+AreMoves [] (m ∷ moves) = ⊥
+AreMoves (word ∷ words) [] = ⊥
+AreMoves (word ∷ words) (m ∷ moves) = SpellsMove word m × AreMoves words moves

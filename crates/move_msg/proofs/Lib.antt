@@ -10,6 +10,7 @@ pub mod HexDigits
 pub mod ManifestLaws
 pub mod FileLaws
 pub mod InputLaws
+pub mod GameTextLaws
 pub mod NameLaws
 pub mod ManifestFaults
 mod WorkedRows

@@ -3,6 +3,7 @@ pub mod Numbers
 pub mod Senders
 pub mod Stamps
 pub mod Messages
+pub mod MessageWords
 pub mod Heard
 pub mod Streams
 pub mod Records
@@ -14,4 +15,8 @@ pub mod FileNames
 pub mod ToldManifests
 pub mod ToldBy
 pub mod Outside
+pub mod Given
+pub mod Reads
+pub mod GameTexts
+pub mod Outputs
 pub mod Inside

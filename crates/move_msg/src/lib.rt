@@ -4,7 +4,8 @@
 //! delay of its verdicts by tables and the verdict on it, if any. All numbers have their highest
 //! byte first.
 //!
-//! Also which files of a folder a manifest wants, and how they are read: `Disk` is where folders, files and an input come in.
+//! Also which files of a folder a manifest wants, and how they are read: `Disk` is where folders, files and an input come in,
+//! `Sources` what a task is answered from, `read_moves` the moves that an input tells, and `Output` where answers go out.
 #![tactic(auto)]
 
 mod coding;
@@ -13,13 +14,17 @@ mod disk;
 mod feeder;
 mod file_name;
 mod files;
+mod game_text;
 mod input;
 pub mod laws;
 mod manifest;
 mod message;
+mod message_text;
 mod move_list;
+mod output;
 mod reading;
 mod record_bytes;
+mod sources;
 mod stamp;
 mod table_name;
 mod told;
@@ -31,12 +36,15 @@ pub use count::{Count, MOST_MOVES, Wanted};
 pub use disk::Disk;
 pub use feeder::Feeder;
 pub use files::{NamedFile, file_digest};
+pub use game_text::read_moves;
 pub use input::{ReadFault, read_all, read_at_most};
 pub use manifest::{Line, ManifestFault, manifest_of, manifest_read, manifest_write};
 pub use message::{Message, MessageFault};
 pub use move_list::MoveList;
+pub use output::{Output, WriteFault, end};
 pub use reading::files_in;
 pub use record_bytes::{Record, RecordFault};
+pub use sources::{Places, Sources};
 pub use stamp::{Stamp, is_game_name};
 pub use table_name::is_file_name;
 pub use told::Manifest;

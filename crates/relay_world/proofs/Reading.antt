@@ -4,7 +4,7 @@ use Rattle.std.specs.Prelude.{◌==◌, codes, MatchOption, IfSome, IfNone}
 use Rattle.std.proofs.lemmas.List.{append-nil}
 use Rattle.board_core.specs.declared.parts.Parts.{Parts}
 use Rattle.board_core.specs.declared.moves.Move.{Move as Moves}
-use Rattle.fen_text.specs.Coordinates.{SpellsMove}
+use Rattle.fen_text.specs.Coordinates.{AreMoves, SpellsMove}
 use Rattle.fen_text.specs.Cuts.{cut_at}
 use Rattle.fen_text.proofs.CutLaws.{is_cut}
 use Rattle.move_msg.specs.declared.who.Who.{Who}
@@ -12,7 +12,7 @@ use Rattle.move_msg.specs.Numbers.{most_moves}
 use Rattle.arbiter_core.specs.declared.keeper.Keep.{Keep}
 use Rattle.relay_world.specs.declared.event.Event.{Event}
 use Rattle.relay_world.specs.declared.event.Event.TheVariants.{Deliver, Noise, Restart, Ask}
-use Rattle.relay_world.specs.Texts.{AreEvents, AreMoves, IsBadEvent, IsEvent, IsEventLine, IsFirstBadLine, IsMovesLine, IsNameLine, IsStartLine, NeedsLine, SpellsBytes, SpellsPlace, keep_word, who_word}
+use Rattle.relay_world.specs.Texts.{AreEvents, IsBadEvent, IsEvent, IsEventLine, IsFirstBadLine, IsMovesLine, IsNameLine, IsStartLine, NeedsLine, SpellsBytes, SpellsPlace, keep_word, who_word}
 
 pub some_of : {A : Type 0} (P : Type 0) (Q : A → Type 0) (r : Option A) → MatchOption r P Q → IfSome r Q
 some_of P Q None m = tt

@@ -5,7 +5,7 @@ use Rattle.hex.specs.Hex.{decode_of}
 use Rattle.board_core.specs.declared.parts.Parts.{Parts}
 use Rattle.board_core.specs.declared.moves.Move.{Move as Moves}
 use Rattle.board_core.specs.Position.{IsPosition}
-use Rattle.fen_text.specs.Coordinates.{SpellsMove}
+use Rattle.fen_text.specs.Coordinates.{AreMoves}
 use Rattle.fen_text.specs.Cuts.{cut_at}
 use Rattle.fen_text.specs.Fen.{SpellsPosition}
 use Rattle.fen_text.specs.Numbers.{SpellsNumber}
@@ -46,13 +46,6 @@ IsNameLine line name = (line ≡ codes "name " ++ name) × IsGameName name
 
 abbrev pub IsStartLine : List ℕ → Parts → Type 0
 IsStartLine line start = (fen : List ℕ) × (line ≡ codes "start " ++ fen) × IsPosition start × SpellsPosition fen start
-
--- a word for each move
-abbrev pub AreMoves : List (List ℕ) → List Moves → Type 0
-AreMoves [] [] = Unit {0}
-AreMoves [] (m ∷ moves) = ⊥
-AreMoves (word ∷ words) [] = ⊥
-AreMoves (word ∷ words) (m ∷ moves) = SpellsMove word m × AreMoves words moves
 
 abbrev pub IsMovesLine : List ℕ → List Moves → Type 0
 IsMovesLine line moves = (words : List (List ℕ)) × (cut_at 32 line ≡ codes "moves" ∷ words) × AreMoves words moves × (length moves ≤ most_moves)

@@ -1,0 +1,69 @@
+//! The moves that a text tells.
+
+ghost use Rattle.std.specs.Prelude.{◌≡◌, ◌∷◌, [], position, IfOk, IfErr, IfSome, IfNone};
+ghost use Rattle.std.specs.List.{slice_split};
+ghost use Rattle.move_msg.specs.GameTexts.{IsBadWordAt, TellsMoves, is_gap, words_in};
+ghost use Rattle.move_msg.specs.Inside.GameSteps.{AddsWord};
+
+use board_core::Move;
+use fen_text::read_move;
+use std::alloc::{AllocError, Global};
+
+/// The first place of a space or a line end.
+fn gap_in(text: &[u8]) -> Option<usize>
+    ensures { result ≡ position is_gap text.now }
+{
+    text.iter()
+        .position(|b| *b == b' ' || *b == b'\n' || *b == b'\r')
+}
+
+/// What stands before the first gap, and the text after it; none where there is no gap.
+fn cut_first(text: &[u8]) -> Option<(&[u8], &[u8])>
+    ensures some { IfSome result (λ x. slice_split is_gap text.now ≡ x.0.now ∷ slice_split is_gap x.1.now) }
+    ensures none { IfNone result (slice_split is_gap text.now ≡ text.now ∷ []) }
+{
+    match gap_in(text) {
+        None => None,
+        Some(i) => Some((&text[..i], &text[i + 1..])),
+    }
+}
+
+/// Adds the move of a word, and tells whether it is one; nothing between two gaps adds none.
+fn add_word(moves: &mut Vec<Move>, word: &[u8]) -> Result<bool, AllocError>
+    ensures { IfOk result (λ is. AddsWord word.now moves.old.items moves.new.items is) }
+{
+    if word.is_empty() {
+        return Ok(true);
+    }
+    match read_move(word) {
+        Some(m) => {
+            moves.push(m)?;
+            Ok(true)
+        }
+        None => Ok(false),
+    }
+}
+
+/// The moves that a text tells, or the place of the first word that is none, counted from 0.
+///
+/// Words are in coordinates, as `e2e4` or `e7e8q`, and spaces, line feeds and carriage returns stand between them, so many as
+/// there are; a text without words tells no move. The outer error comes only where memory is refused.
+pub fn read_moves(alloc: Global, text: &[u8]) -> Result<Result<Vec<Move>, usize>, AllocError>
+    ensures ok { IfOk result (λ read. IfOk read (λ moves. TellsMoves text.now moves.items)) }
+    ensures err { IfOk result (λ read. IfErr read (λ place. IsBadWordAt (words_in text.now) place)) }
+{
+    let mut moves = Vec::new(alloc);
+    let mut rest = text;
+    while let Some((word, tail)) = cut_first(rest) {
+        let is_move = add_word(&mut moves, word)?;
+        if !is_move {
+            return Ok(Err(moves.len()));
+        }
+        rest = tail;
+    }
+    let is_move = add_word(&mut moves, rest)?;
+    if !is_move {
+        return Ok(Err(moves.len()));
+    }
+    Ok(Ok(moves))
+}
