@@ -4,7 +4,7 @@ ghost use Rattle.std.specs.Prelude.{◌≡◌, ◌++◌, Some, Err, codes};
 ghost use Rattle.std.specs.Fmt.{DisplaysOnOk, decimal};
 ghost use Rattle.board_core.specs.Verdicts.{verdict_name};
 ghost use Rattle.place_index.specs.Material.{name_of, men_of};
-ghost use Rattle.judge_core.specs.ToldWords.{column_words, columns_words, outcome_words, verdict_words};
+ghost use Rattle.judge_core.specs.ToldWords.{column_words, verdict_words};
 
 use crate::fault::ProbeFault;
 use crate::game::GameOutcome;
