@@ -1,5 +1,5 @@
 -- A game, ply by ply.
-use Rattle.std.proofs.Common.{◌≡◌, ◌∙◌, refl, false, ◌+◌, ◌<◌, List, [], ◌∷◌, ◌++◌, Option, Some, Result, Ok, arith}
+use Rattle.std.proofs.Common.{◌≡◌, ◌∙◌, refl, false, ◌<◌, List, [], ◌∷◌, ◌++◌, Option, Some, Result, Ok, arith}
 use Rattle.std.specs.Option.{option_and_then}
 use Rattle.std.proofs.lemmas.List.Sums.{fold-append}
 use Rattle.board_core.specs.declared.parts.Parts.{Parts}
