@@ -1,7 +1,6 @@
 //! What the tests share: words and what is told for them as rows, and a writer that fails.
 
 use crate::folders::Folders;
-use crate::lines::WriteFault;
 use crate::memory_host::MemoryHost;
 use crate::program::run;
 use arbiter_core::Setup;
