@@ -1,57 +1,68 @@
 //! A message as text.
 
-ghost use Rattle.std.specs.Prelude.{Some, codes};
+ghost use Rattle.std.specs.Prelude.{Some};
 ghost use Rattle.std.specs.Fmt.{DisplaysOnOk};
 ghost use Rattle.move_msg.specs.MessageWords.{ack_words, fetch_words, move_words, verdict_words};
+ghost use Rattle.move_msg.specs.Senders.{sender_number, who_number};
 
+use crate::count::{Count, Wanted};
 use crate::message::Message;
+use crate::who::{Sender, Who};
 use board_core::{Move, Verdict};
 use fen_text::write_move;
 use std::fmt;
 
-/// Tells the move of this number.
+/// Tells a move of the game and its number.
 fn fmt_move<W: fmt::Write>(
     f: &mut fmt::Formatter<W>,
-    sender: u8,
+    sender: Sender,
     number: u32,
     m: &Move,
 ) -> fmt::Result
-    ensures { DisplaysOnOk W.Write.write_str_gives f.old result (Some (move_words sender number m.now)) f.new }
+    ensures { DisplaysOnOk W.Write.write_str_gives f.old result (Some (move_words (sender_number sender) number m.now)) f.new }
 {
+    let sender = sender.number();
     let text = write_move(m);
     let text = text.as_str();
     write!(f, "Move {sender} {number} {text}")
 }
 
 /// Tells how many moves an arbiter keeps.
-fn fmt_ack<W: fmt::Write>(f: &mut fmt::Formatter<W>, sender: u8, count: u32) -> fmt::Result
-    ensures { DisplaysOnOk W.Write.write_str_gives f.old result (Some (ack_words sender count)) f.new }
+fn fmt_ack<W: fmt::Write>(f: &mut fmt::Formatter<W>, who: Who, count: Count) -> fmt::Result
+    ensures { DisplaysOnOk W.Write.write_str_gives f.old result (Some (ack_words (who_number who) count)) f.new }
 {
+    let sender = who.number();
+    let count = count.number();
     write!(f, "Ack {sender} {count}")
 }
 
-/// Tells a verdict and its ply.
+/// Tells an arbiter's verdict and its ply.
 fn fmt_verdict<W: fmt::Write>(
     f: &mut fmt::Formatter<W>,
-    sender: u8,
-    ply: u32,
+    who: Who,
+    ply: Count,
     verdict: Verdict,
 ) -> fmt::Result
-    ensures { DisplaysOnOk W.Write.write_str_gives f.old result (Some (verdict_words sender ply verdict)) f.new }
+    ensures { DisplaysOnOk W.Write.write_str_gives f.old result (Some (verdict_words (who_number who) ply verdict)) f.new }
 {
+    let sender = who.number();
+    let ply = ply.number();
     let name = verdict.name();
     write!(f, "Verdict {sender} {ply} {name}")
 }
 
-/// Tells which moves are wanted.
+/// Tells which moves an arbiter wants.
 fn fmt_fetch<W: fmt::Write>(
     f: &mut fmt::Formatter<W>,
-    sender: u8,
-    number: u32,
-    wanted: u8,
+    who: Who,
+    number: Count,
+    wanted: Wanted,
 ) -> fmt::Result
-    ensures { DisplaysOnOk W.Write.write_str_gives f.old result (Some (fetch_words sender number wanted)) f.new }
+    ensures { DisplaysOnOk W.Write.write_str_gives f.old result (Some (fetch_words (who_number who) number wanted)) f.new }
 {
+    let sender = who.number();
+    let number = number.number();
+    let wanted = wanted.number();
     write!(f, "Fetch {sender} {number} {wanted}")
 }
 
@@ -65,26 +76,26 @@ impl fmt::Display for Message {
 
     #[tactic(auto, unfolding(crate::specs::MessageWords::message_words))]
     fn fmt<W: fmt::Write>(&self, f: &mut fmt::Formatter<W>) -> fmt::Result {
-        match self {
+        match *self {
             Message::Move {
                 sender,
                 number,
-                m,
+                ref m,
                 ..
-            } => fmt_move(f, sender.number(), *number, m),
-            Message::Ack { who, count, .. } => fmt_ack(f, who.number(), count.number()),
+            } => fmt_move(f, sender, number, m),
+            Message::Ack { who, count, .. } => fmt_ack(f, who, count),
             Message::Verdict {
                 who,
                 ply,
                 verdict,
                 ..
-            } => fmt_verdict(f, who.number(), ply.number(), *verdict),
+            } => fmt_verdict(f, who, ply, verdict),
             Message::Fetch {
                 who,
                 number,
                 wanted,
                 ..
-            } => fmt_fetch(f, who.number(), number.number(), wanted.number()),
+            } => fmt_fetch(f, who, number, wanted),
         }
     }
 }

@@ -1,6 +1,5 @@
 use Rattle.std.proofs.Common.{inr, subst, sym}
 use Rattle.std.proofs.lemmas.Result.{IfOk-weaker}
-use Rattle.move_msg.specs.Files.{file_of}
 use Rattle.move_msg.specs.Outside.{AreWantedOf}
 use Rattle.move_msg.specs.ToldBy.{told_by}
 use Rattle.move_msg.proofs.NameLaws.{are_files}
