@@ -1,5 +1,5 @@
 -- What the program answers: a text and a status (this project's own).
-use Rattle.std.specs.Prelude.{◌≡◌, ◌+◌, ◌++◌, ℕ, Bool, List, [], ◌∷◌, length, map, Option, Some, None, Result, Ok, Err, if◌then◌else◌, codes, slice_get}
+use Rattle.std.specs.Prelude.{◌≡◌, ◌+◌, ◌++◌, ℕ, Bool, false, List, [], ◌∷◌, length, map, Option, Some, None, Result, Ok, Err, if◌then◌else◌, codes, slice_get}
 use Rattle.std.specs.List.{list_all}
 use Rattle.std.specs.Io.KnownBytes.{Appends}
 use Rattle.board_core.specs.declared.parts.Parts.{Parts}
@@ -170,7 +170,7 @@ all_told = list_all (λ t. t.done)
 -- probes: the refusal of the tables, or else a line for each line of the input
 pub data IsProbes (text : List ℕ) (gathered : Result Tables (List ℕ)) (r : Reply) : Type 0 where
   NoTables : (words : List ℕ) → gathered ≡ Err words → r ≡ refused words → IsProbes text gathered r
-  Probed : (tables : Tables) → gathered ≡ Ok tables → (told : List LineTold) → TellsLines tables (lines_in text) told → r ≡ record { text = text_of (words_told told); status = status_if (all_told told) } → IsProbes text gathered r
+  LineByLine : (tables : Tables) → gathered ≡ Ok tables → (told : List LineTold) → TellsLines tables (lines_in text) told → r ≡ record { text = text_of (words_told told); status = status_if (all_told told) } → IsProbes text gathered r
 
 -- the first lines of such a reply, up to a position for which there was no memory
 pub record IsFront (text : List ℕ) (gathered : Result Tables (List ℕ)) (lines : List (List ℕ)) : Type 0 where

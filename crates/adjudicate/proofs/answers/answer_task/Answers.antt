@@ -6,7 +6,7 @@ use Rattle.move_msg.specs.Given.{Given}
 use Rattle.arbiter_core.specs.ServedLines.{text_of}
 use Rattle.adjudicate.specs.Looks.{gathered}
 use Rattle.adjudicate.specs.Inside.ProbeSteps.{PutsProbes, PutsRefusal, PutsLinesOf, PutsNoLine, PutsAll, PutsSome}
-use Rattle.adjudicate.specs.Reply.{Answers, CutShort, IsFront, IsFrontOf, IsProbes, IsReply, IsShown, NoTables, Probed, Refused, Replied, Reply, TakesMemory, WritesReply, all_told, refused, status_if, words_told}
+use Rattle.adjudicate.specs.Reply.{Answers, CutShort, IsFront, IsFrontOf, IsProbes, IsReply, IsShown, NoTables, LineByLine, Refused, Replied, Reply, TakesMemory, WritesReply, all_told, refused, status_if, words_told}
 use Rattle.adjudicate.specs.Tasks.{tells_progress}
 use Rattle.adjudicate.proofs.answers.answer_task.Goals as goal
 
@@ -17,7 +17,7 @@ shown_to t given old new status is h = subst (λ (u : Task). Answers u given old
 probes_to : (t : Task) (given : Given) (old new : Option (List ℕ)) (status : ℕ) → ((r : Reply) → IsProbes given.input (gathered given) r → IsReply t given r) → ((lines : List (List ℕ)) → IsFront given.input (gathered given) lines → IsFrontOf t given lines) → TakesMemory t → PutsProbes given old new status → Answers t given old new status
 probes_to t given old new status reply front memory (PutsRefusal words e wrote is) = Replied (refused words) (reply (refused words) (NoTables words e refl)) (wrote, is)
 probes_to t given old new status reply front memory (PutsLinesOf tables e (PutsAll told are wrote is)) =
-    Replied (record { text = text_of (words_told told); status = status_if (all_told told) }) (reply _ (Probed tables e told are refl)) (wrote, is)
+    Replied (record { text = text_of (words_told told); status = status_if (all_told told) }) (reply _ (LineByLine tables e told are refl)) (wrote, is)
 probes_to t given old new status reply front memory (PutsLinesOf tables e (PutsSome first line rest parts is_text told are wrote is)) =
     CutShort (words_told told) (front _ (record { tables = tables; gathered_is = e; front = first; line = line; rest = rest; parts = parts; is_text = is_text; told = told; are = are; lines_are = refl })) wrote is
 probes_to t given old new status reply front memory (PutsNoLine wrote is) = Refused memory wrote is
