@@ -20,5 +20,6 @@ pub mod MissingParts
 pub mod MissingWhole
 pub mod Refusing
 pub mod PartsRead
+pub mod Opening
 pub mod MapEntries
 pub mod StoredSides

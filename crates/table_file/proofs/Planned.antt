@@ -7,7 +7,7 @@ use Rattle.std.specs.Cmp.Lexicographic.{pointwise}
 use Rattle.std.proofs.lemmas.Bool.{ne_eqb, cases_Bool, false≢true}
 use Rattle.std.proofs.lemmas.Bool.Decides.{Decides-eqb}
 use Rattle.std.proofs.lemmas.Slice.Eq.{strip_prefix_is}
-use Rattle.std.proofs.lemmas.List.{length-append, length-take, take_more, append-nil, append_cancel_left, drop_more, drop_all, drop-drop, get_or-take, map-append}
+use Rattle.std.proofs.lemmas.List.{length-append, length-take, take_all, take_more, append-nil, append_cancel_left, drop_more, drop_all, drop-drop, get_or-take, map-append}
 use Rattle.std.proofs.lemmas.Nat.{div_below, div-add-mod'}
 use Rattle.std.proofs.lemmas.Option.{slice_get_within}
 use denote.Ref.{Bor}
@@ -325,3 +325,23 @@ whole_files n sides files none is =
     let e : n / sides * sides + n % sides ≡ n = div-add-mod' n sides in
     let f : n / sides * sides ≡ files * sides = ap (λ (x : ℕ). x * sides) is in
     omega (arith, e, f, none)
+
+-- ---- what is mapped one after the other
+
+pub one_more_mapped : {X Y : Type 0} (f : X → Y) (xs : List X) (ys : List Y) (i : ℕ) (x : X) (y : Y) → i < length xs → i < length ys → x ≡ get_or xs i x → y ≡ get_or ys i y → y ≡ f x
+    → take i ys ≡ map f (take i xs) → take (i + 1) ys ≡ map f (take (i + 1) xs)
+one_more_mapped f xs ys i x y lx ly ix iy same before =
+    let a : take (i + 1) ys ≡ take i ys ++ y ∷ [] = take_more ys i y ly ∙ ap (λ z. take i ys ++ z ∷ []) (sym iy) in
+    let b : take (i + 1) xs ≡ take i xs ++ x ∷ [] = take_more xs i x lx ∙ ap (λ z. take i xs ++ z ∷ []) (sym ix) in
+    a ∙ ap (λ l. l ++ y ∷ []) before ∙ ap (λ z. map f (take i xs) ++ z ∷ []) same ∙ sym (ap (map f) b ∙ map-append f (take i xs) (x ∷ []))
+
+pub all_mapped : {X Y : Type 0} (f : X → Y) (xs : List X) (ys : List Y) (i : ℕ) → length xs ≤ i → length ys ≤ i → take i ys ≡ map f (take i xs) → ys ≡ map f xs
+all_mapped f xs ys i lx ly h = sym (take_all i ys ly) ∙ h ∙ ap (map f) (take_all i xs lx)
+
+nth_mapped : {X Y : Type 0} (f : X → Y) (xs : List X) (i : ℕ) (x : X) (y : Y) → i < length xs → x ≡ get_or xs i x → y ≡ get_or (map f xs) i y → y ≡ f x
+nth_mapped f [] i x y lt ix iy = absurd (omega (arith, lt))
+nth_mapped f (z ∷ xs) zero x y lt ix iy = iy ∙ ap f (sym ix)
+nth_mapped f (z ∷ xs) (suc i) x y lt ix iy = nth_mapped f xs i x y (omega (arith, lt)) ix iy
+
+pub each_mapped : {X Y : Type 0} (f : X → Y) (xs : List X) (ys : List Y) (i : ℕ) (x : X) (y : Y) → ys ≡ map f xs → i < length xs → x ≡ get_or xs i x → y ≡ get_or ys i y → y ≡ f x
+each_mapped f xs ys i x y h lt ix iy = nth_mapped f xs i x y lt ix (iy ∙ ap (λ l. get_or l i y) h)

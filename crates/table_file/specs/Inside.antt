@@ -3,3 +3,4 @@ pub mod Checked
 pub mod Writing
 pub mod Kept
 pub mod Opened
+pub mod Opening

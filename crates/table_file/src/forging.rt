@@ -56,6 +56,20 @@ fn file_name(alloc: Global, kind: Kind, material: &Material) -> Result<Vec<u8>, 
     Ok(name)
 }
 
+/// Whether the bytes of the file of a good plan open under its name and say what the plan says.
+fn opens_as(alloc: Global, plan: &Plan, name: &[u8], file: &[u8]) -> Result<bool, AllocError>
+    requires good { IsGoodPlan plan.now.kind plan.now.material plan.now.parts.items }
+    requires name { name.now ≡ file_name plan.now.kind plan.now.material }
+    ensures is { IfOk result (λ b. IsTrue b → OpensAs plan.now file.now) }
+    ensures all { IfOk result (λ b. OpensAs plan.now file.now → IsTrue b) }
+{
+    match open(alloc, name, file) {
+        Ok(table) => shows(alloc, plan, &table),
+        Err(TableFault::OutOfMemory) => Err(AllocError),
+        Err(_) => Ok(false),
+    }
+}
+
 /// Whether the bytes of the file of a good plan open and say what the plan says.
 fn is_right(alloc: Global, plan: &Plan, file: &[u8]) -> Result<bool, AllocError>
     requires { IsGoodPlan plan.now.kind plan.now.material plan.now.parts.items }
@@ -63,11 +77,7 @@ fn is_right(alloc: Global, plan: &Plan, file: &[u8]) -> Result<bool, AllocError>
     ensures all { IfOk result (λ b. OpensAs plan.now file.now → IsTrue b) }
 {
     let name = file_name(alloc, plan.kind, &plan.material)?;
-    match open(alloc, &name, file) {
-        Ok(table) => shows(alloc, plan, &table),
-        Err(TableFault::OutOfMemory) => Err(AllocError),
-        Err(_) => Ok(false),
-    }
+    opens_as(alloc, plan, &name, file)
 }
 
 /// The bytes of the file that a plan describes. There are none where the plan breaks a rule of plans or the file doesn't say

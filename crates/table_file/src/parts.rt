@@ -156,6 +156,30 @@ fn shape(
     }
 }
 
+/// The shape that the halves of some bytes make which belong to a side.
+fn side_shape(
+    material: &Material,
+    side: usize,
+    men: &[u8],
+    order: u8,
+    second: u8,
+    file: u8,
+) -> Result<Shape, TableFault>
+    requires men { length men.now ≤ 5 }
+    requires file { file < 4 }
+    ensures is { Gives (λ x. x) result (shape_at material.now (map (nibble side) men.now) (nibble side order) (nibble side second) file) }
+    ensures no_memory { IfErr result (λ e. e ≢ OutOfMemory) }
+{
+    let pieces = nibbles(side, men);
+    shape(
+        material,
+        pieces.as_slice(),
+        nibble(side, order),
+        nibble(side, second),
+        file,
+    )
+}
+
 /// The shape of part k, and what is left.
 #[tactic(auto, unfolding(crate::specs::Files::setup_at))]
 fn setup<'a>(
@@ -173,14 +197,7 @@ fn setup<'a>(
     let (order, rest) = byte(bytes)?;
     let (second, rest) = second(material, rest)?;
     let (men, rest) = taken(men(material), rest)?;
-    let pieces = nibbles(side, men);
-    let shape = shape(
-        material,
-        pieces.as_slice(),
-        nibble(side, order),
-        nibble(side, second),
-        (k / sides) as u8,
-    )?;
+    let shape = side_shape(material, side, men, order, second, (k / sides) as u8)?;
     Ok((shape, if side + 1 == sides { rest } else { bytes }))
 }
 

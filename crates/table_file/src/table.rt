@@ -1,16 +1,17 @@
 //! Opened table files.
 
-ghost use Rattle.std.specs.Prelude.{◌≡◌, ◌≢◌, ◌+◌, ◌/◌, ◌<◌, ◌≤◌, length, Some, None, IsTrue, IsOk, IfOk, IfErr, OnErr, ◌↔◌};
+ghost use Rattle.std.specs.Prelude.{◌≡◌, ◌≢◌, ◌+◌, ◌/◌, ◌<◌, ◌≤◌, length, Some, None, IsTrue, IsOk, true, IfOk, IfErr, OnErr, ◌↔◌};
 ghost use Rattle.place_index.specs.Shape.{Layout, size_of};
 ghost use Rattle.table_file.specs.declared.fault.TableFault.TheVariants.{OutOfMemory};
 ghost use Rattle.table_file.specs.declared.kind.Kind.TheVariants.{Dtz};
-ghost use Rattle.table_file.specs.declared.parts.Section.TheVariants.{Entries, Lengths};
-ghost use Rattle.table_file.specs.Files.{indices};
+ghost use Rattle.table_file.specs.declared.parts.Section.TheVariants.{Entries, Lengths, Blocks};
+ghost use Rattle.table_file.specs.Files.{indices, section_size};
 ghost use Rattle.table_file.specs.Reading.{Gives};
-ghost use Rattle.table_file.specs.Sparse.{all_fit};
+ghost use Rattle.table_file.specs.Sparse.{all_fit, fits_in};
 ghost use Rattle.table_file.specs.Sections.{AreShaped, AreSized};
 ghost use Rattle.table_file.specs.Inside.Checked.{IsChecked, IsViewOf};
 ghost use Rattle.table_file.specs.Tables.{Contents, head_at, sections_at, parts_at, table_at, part_count, place_of, shape_of, flags_of, span_of, IsFile};
+ghost use Rattle.table_file.specs.Inside.Opening.{checked_at, runs_at, all_parts_at};
 ghost use Rattle.table_file.specs.Layouts.{IsLayout};
 ghost use Rattle.table_file.specs.FirstFaults.{IsFirstFault};
 ghost use Rattle.table_file.specs.Expansion.{expansion, entry_at, real_blocks, values_of, IsSpot, IsRealSpot, IsPast};
@@ -61,6 +62,26 @@ impl<'a> Model for Table<'a> {
     ghost invariant = { IsOpened };
 }
 
+/// Whether the sparse entries of a part name the values in the middle of their spans.
+fn part_fits(
+    alloc: Global,
+    part: &Part<'_>,
+    entries: &Run<'_>,
+    lengths: &Run<'_>,
+) -> Result<bool, AllocError>
+    requires entries { length entries.now ≡ section_size Entries (indices part.now.shape) part.now.size_record.coding }
+    requires lengths { length lengths.now ≡ section_size Lengths (indices part.now.shape) part.now.size_record.coding }
+    ensures { IfOk result (λ b. b ≡ fits_in (indices part.now.shape) part.now.size_record.coding entries.now lengths.now) }
+{
+    fits_in(
+        alloc,
+        indices(&part.shape),
+        &part.size_record.coding,
+        entries.bytes(),
+        lengths.bytes(),
+    )
+}
+
 /// Whether the sparse entries of all parts name the values in the middle of their spans.
 fn all_fit(
     alloc: Global,
@@ -73,17 +94,10 @@ fn all_fit(
     ensures { IfOk result (λ b. b ≡ all_fit parts.now entries.now lengths.now) }
 {
     for i in 0..parts.len() {
-        let part = &parts[i];
-        let run = entries[i].bytes();
-        let sizes = lengths[i].bytes();
-        if !fits_in(
-            alloc,
-            indices(&part.shape),
-            &part.size_record.coding,
-            run,
-            sizes,
-        )? {
-            return Ok(false);
+        match part_fits(alloc, &parts[i], &entries[i], &lengths[i]) {
+            Ok(true) => {}
+            Ok(false) => return Ok(false),
+            Err(fault) => return Err(fault),
         }
     }
     Ok(true)
@@ -102,8 +116,58 @@ fn head<'a>(name: &[u8], file: &'a [u8]) -> Result<((Kind, Material), &'a [u8]),
     Ok(((kind, material), rest))
 }
 
+/// The sections behind the maps: of each part its sparse entries, its block lengths and its blocks.
+#[derive(Drop)]
+struct Sections<'a> {
+    entries: Vec<Run<'a>>,
+    lengths: Vec<Run<'a>>,
+    blocks: Vec<Run<'a>>,
+}
+
+/// The sections behind the maps.
+#[tactic(auto, unfolding(crate::specs::Inside::Opening::runs_at))]
+fn all_sections<'a>(
+    alloc: Global,
+    parts: &[Part<'_>],
+    bytes: &'a [u8],
+) -> Result<Sections<'a>, TableFault>
+    ensures is { Gives (λ x. record { entries = x.entries.items; lengths = x.lengths.items; blocks = x.blocks.items }) result (runs_at parts.now bytes.now) }
+    ensures entries { IfOk result (λ x. AreSized Entries parts.now x.entries.items) }
+    ensures lengths { IfOk result (λ x. AreSized Lengths parts.now x.lengths.items) }
+    ensures blocks { IfOk result (λ x. AreSized Blocks parts.now x.blocks.items) }
+{
+    let (entries, rest) = sections(alloc, Section::Entries, parts, bytes)?;
+    let (lengths, rest) = sections(alloc, Section::Lengths, parts, rest)?;
+    let (blocks, _) = sections(alloc, Section::Blocks, parts, rest)?;
+    Ok(Sections {
+        entries,
+        lengths,
+        blocks,
+    })
+}
+
 /// The sections behind the maps, and the check of the sparse entries.
-#[tactic(auto, unfolding(crate::specs::Tables::sections_at))]
+#[tactic(auto, unfolding(crate::specs::Inside::Opening::checked_at))]
+fn checked_sections<'a>(
+    alloc: Global,
+    parts: &[Part<'_>],
+    bytes: &'a [u8],
+) -> Result<Sections<'a>, TableFault>
+    ensures is { Gives (λ x. record { entries = x.entries.items; lengths = x.lengths.items; blocks = x.blocks.items }) result (checked_at parts.now bytes.now) }
+    ensures entries { IfOk result (λ x. AreSized Entries parts.now x.entries.items) }
+    ensures lengths { IfOk result (λ x. AreSized Lengths parts.now x.lengths.items) }
+    ensures blocks { IfOk result (λ x. AreSized Blocks parts.now x.blocks.items) }
+    ensures fit { IfOk result (λ x. all_fit parts.now x.entries.items x.lengths.items ≡ true) }
+{
+    let sections = all_sections(alloc, parts, bytes)?;
+    match all_fit(alloc, parts, &sections.entries, &sections.lengths) {
+        Ok(true) => Ok(sections),
+        Ok(false) => Err(TableFault::BadSparse),
+        Err(_) => Err(TableFault::OutOfMemory),
+    }
+}
+
+/// The table of parts, maps and the sections behind them.
 fn with_sections<'a>(
     alloc: Global,
     kind: Kind,
@@ -117,25 +181,40 @@ fn with_sections<'a>(
     requires maps { kind ≡ Dtz → length maps.items ≡ length parts.items }
     ensures { Gives (λ x. x) result (sections_at kind material parts.entry.items maps.entry.items bytes.now) }
 {
-    let (entries, rest) = sections(alloc, Section::Entries, &parts, bytes)?;
-    let (lengths, rest) = sections(alloc, Section::Lengths, &parts, rest)?;
-    let (blocks, _) = sections(alloc, Section::Blocks, &parts, rest)?;
-    if !all_fit(alloc, &parts, &entries, &lengths)? {
-        return Err(TableFault::BadSparse);
-    }
+    let sections = match checked_sections(alloc, &parts, bytes) {
+        Ok(sections) => sections,
+        Err(fault) => return Err(fault),
+    };
     Ok(Table {
         kind,
         material,
         parts,
         maps,
-        entries,
-        lengths,
-        blocks,
+        entries: sections.entries,
+        lengths: sections.lengths,
+        blocks: sections.blocks,
     })
 }
 
+/// Shapes and size records, and what is left.
+#[tactic(auto, unfolding(crate::specs::Inside::Opening::all_parts_at))]
+fn all_parts<'a>(
+    alloc: Global,
+    kind: Kind,
+    material: &Material,
+    bytes: &'a [u8],
+) -> Result<(Vec<Part<'a>>, &'a [u8]), TableFault>
+    ensures is { Gives (λ x. (x.0.items, x.1.now)) result (all_parts_at kind material.now bytes.now) }
+    ensures all { IfOk result (λ x. length x.0.items ≡ part_count kind material.now) }
+    ensures shaped { IfOk result (λ x. AreShaped kind material.now x.0.items) }
+{
+    let sides = sides(kind, material);
+    let n = files(material) * sides;
+    let (shapes, rest) = setups(alloc, material, sides, n, bytes)?;
+    parts(alloc, kind, shapes, even(rest))
+}
+
 /// Shapes, size records and value maps, and then the sections.
-#[tactic(auto, unfolding(crate::specs::Tables::parts_at))]
 fn with_parts<'a>(
     alloc: Global,
     kind: Kind,
@@ -144,11 +223,14 @@ fn with_parts<'a>(
 ) -> Result<Table<'a>, TableFault>
     ensures { Gives (λ x. x) result (parts_at kind material bytes.now) }
 {
-    let sides = sides(kind, &material);
-    let n = files(&material) * sides;
-    let (shapes, rest) = setups(alloc, &material, sides, n, bytes)?;
-    let (parts, rest) = parts(alloc, kind, shapes, even(rest))?;
-    let (maps, rest) = all_maps(alloc, kind, &parts, rest)?;
+    let (parts, rest) = match all_parts(alloc, kind, &material, bytes) {
+        Ok(read) => read,
+        Err(fault) => return Err(fault),
+    };
+    let (maps, rest) = match all_maps(alloc, kind, &parts, rest) {
+        Ok(read) => read,
+        Err(fault) => return Err(fault),
+    };
     with_sections(alloc, kind, material, parts, maps, rest)
 }
 

@@ -122,30 +122,48 @@ fn has_map(alloc: Global, wide: bool, entries: &[u16], bytes: &[u8]) -> Result<b
     }
 }
 
+/// Whether the maps of wins are as planned.
+fn are_win_maps(alloc: Global, part: &PartPlan, maps: &Maps<'_>) -> Result<bool, AllocError>
+    requires { AreGoodMaps (is_wide part.now) part.now.maps }
+    ensures is { IfOk result (λ b. IsTrue b → (maps.now.win ≡ map_bytes (is_wide part.now) part.now.maps.win.items) × (maps.now.cursed_win ≡ map_bytes (is_wide part.now) part.now.maps.cursed_win.items)) }
+    ensures all { IfOk result (λ b. maps.now.win ≡ map_bytes (is_wide part.now) part.now.maps.win.items → maps.now.cursed_win ≡ map_bytes (is_wide part.now) part.now.maps.cursed_win.items → IsTrue b) }
+{
+    let wide = part.is_wide();
+    match has_map(alloc, wide, &part.maps.win, maps.win()) {
+        Ok(true) => has_map(alloc, wide, &part.maps.cursed_win, maps.cursed_win()),
+        Ok(false) => Ok(false),
+        Err(fault) => Err(fault),
+    }
+}
+
+/// Whether the maps of losses are as planned.
+fn are_loss_maps(alloc: Global, part: &PartPlan, maps: &Maps<'_>) -> Result<bool, AllocError>
+    requires { AreGoodMaps (is_wide part.now) part.now.maps }
+    ensures is { IfOk result (λ b. IsTrue b → (maps.now.loss ≡ map_bytes (is_wide part.now) part.now.maps.loss.items) × (maps.now.blessed_loss ≡ map_bytes (is_wide part.now) part.now.maps.blessed_loss.items)) }
+    ensures all { IfOk result (λ b. maps.now.loss ≡ map_bytes (is_wide part.now) part.now.maps.loss.items → maps.now.blessed_loss ≡ map_bytes (is_wide part.now) part.now.maps.blessed_loss.items → IsTrue b) }
+{
+    let wide = part.is_wide();
+    match has_map(alloc, wide, &part.maps.loss, maps.loss()) {
+        Ok(true) => has_map(alloc, wide, &part.maps.blessed_loss, maps.blessed_loss()),
+        Ok(false) => Ok(false),
+        Err(fault) => Err(fault),
+    }
+}
+
 /// Whether value maps are as planned.
 fn are_maps(alloc: Global, part: &PartPlan, maps: &Maps<'_>) -> Result<bool, AllocError>
     requires { AreGoodMaps (is_wide part.now) part.now.maps }
     ensures is { IfOk result (λ b. IsTrue b → maps.now ≡ planned_maps_of part.now) }
     ensures all { IfOk result (λ b. maps.now ≡ planned_maps_of part.now → IsTrue b) }
 {
-    let wide = part.is_wide();
-    let win = match has_map(alloc, wide, &part.maps.win, maps.win()) {
-        Ok(win) => win,
-        Err(fault) => return Err(fault),
-    };
-    let loss = match has_map(alloc, wide, &part.maps.loss, maps.loss()) {
-        Ok(loss) => loss,
-        Err(fault) => return Err(fault),
-    };
-    let cursed = match has_map(alloc, wide, &part.maps.cursed_win, maps.cursed_win()) {
-        Ok(cursed) => cursed,
-        Err(fault) => return Err(fault),
-    };
-    let blessed = match has_map(alloc, wide, &part.maps.blessed_loss, maps.blessed_loss()) {
-        Ok(blessed) => blessed,
-        Err(fault) => return Err(fault),
-    };
-    Ok(maps.is_wide() == wide && win && loss && cursed && blessed)
+    if maps.is_wide() != part.is_wide() {
+        return Ok(false);
+    }
+    match are_win_maps(alloc, part, maps) {
+        Ok(true) => are_loss_maps(alloc, part, maps),
+        Ok(false) => Ok(false),
+        Err(fault) => Err(fault),
+    }
 }
 
 /// Whether all value maps are as planned.

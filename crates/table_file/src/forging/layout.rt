@@ -453,10 +453,11 @@ fn laid_parts(alloc: Global, plan: &Plan, sides: usize) -> Result<Option<Vec<Lai
     let mut laid = Vec::new(alloc);
     for k in 0..plan.parts.len() {
         let file = (k / sides) as u8;
-        let Some(part) = laid_part(alloc, plan.kind, &plan.material, &plan.parts[k], file)? else {
-            return Ok(None);
-        };
-        laid.push(part)?;
+        match laid_part(alloc, plan.kind, &plan.material, &plan.parts[k], file) {
+            Ok(Some(part)) => laid.push(part)?,
+            Ok(None) => return Ok(None),
+            Err(fault) => return Err(fault),
+        }
     }
     Ok(Some(laid))
 }
