@@ -6,6 +6,7 @@ use Rattle.hex.specs.Hex.{decode_of}
 use Rattle.hex.proofs.HexLemmas.{decode_of-same}
 use Rattle.board_core.specs.declared.parts.Parts.{Parts}
 use Rattle.board_core.specs.declared.moves.Move.{Move as Moves}
+use Rattle.fen_text.specs.Coordinates.{AreMoves}
 use Rattle.fen_text.specs.Cuts.{cut_at}
 use Rattle.fen_text.specs.Fen.{SpellsPosition}
 use Rattle.fen_text.specs.Laws.{HasOneMove, HasOnePosition}

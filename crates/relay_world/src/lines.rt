@@ -3,6 +3,7 @@
 ghost use Rattle.std.specs.Prelude.{◌≡◌, ◌≤◌, ◌<◌, ◌++◌, ◌∷◌, [], ℕ, List, length, codes, IfOk, IfSome, IfNone};
 ghost use Rattle.board_core.specs.declared.moves.Move.{Move as Moves};
 ghost use Rattle.board_core.specs.declared.parts.Parts.{Parts};
+ghost use Rattle.fen_text.specs.Coordinates.{AreMoves};
 ghost use Rattle.fen_text.specs.Cuts.{cut_at};
 ghost use Rattle.move_msg.specs.declared.who.Who.{Who};
 ghost use Rattle.move_msg.specs.Numbers.{most_moves};
