@@ -18,7 +18,6 @@ use Rattle.arbiter_core.specs.declared.keeper.Keep.TheVariants.{Good, FailsOld, 
 use Rattle.relay_world.specs.declared.event.Event.{Event}
 use Rattle.relay_world.specs.declared.event.Event.TheVariants.{Deliver, Noise, Restart, Ask}
 use Rattle.relay_world.specs.declared.schedule.Schedule.{Schedule}
-use Rattle.fen_text.specs.Coordinates.{AreMoves}
 use Rattle.relay_world.specs.Texts.{AreEvents, AreSameEvents, IsEvent, IsMovesLine, IsNameLine, IsSameEvent, IsSameSchedule, IsStartLine, SpellsBytes, SpellsPlace, SpellsSchedule, keep_word, who_word}
 use Rattle.relay_world.specs.Worlds.{Game, World, happens, noised, worlds}
 use Rattle.relay_world.proofs.Reading.{first_byte, first_word, later_words}

@@ -9,7 +9,6 @@ ghost use Rattle.move_msg.specs.declared.who.Who.{Who};
 ghost use Rattle.move_msg.specs.Numbers.{most_moves};
 ghost use Rattle.arbiter_core.specs.declared.keeper.Keep.{Keep};
 ghost use Rattle.relay_world.specs.declared.event.Event.{Event};
-ghost use Rattle.fen_text.specs.Coordinates.{AreMoves};
 ghost use Rattle.relay_world.specs.Texts.{IsEvent, IsEventLine, IsMovesLine, IsNameLine, IsStartLine, who_word, keep_word};
 
 use crate::event::Event;
