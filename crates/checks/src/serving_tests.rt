@@ -20,7 +20,7 @@ fn sent(rt: &impl Abort, stamp: Stamp, number: u32, text: &str) -> [u8; 27] {
 }
 
 /// The messages of the game's moves.
-fn game(rt: &impl Abort) -> [[u8; 27]; 3] {
+pub(crate) fn game(rt: &impl Abort) -> [[u8; 27]; 3] {
     let stamp = stamp_of(rt, START, 0);
     [
         sent(rt, stamp, 0, "e2e4"),
