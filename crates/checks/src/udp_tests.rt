@@ -1,9 +1,8 @@
 //! An arbiter that answers the datagrams of a socket.
 
-use crate::arbiters::{empty_keeper, open_first, text_of};
+use crate::arbiters::{empty_keeper, game, open_first, text_of};
 use crate::comparing::{check_bytes, check_same, check_text};
 use crate::positions::START;
-use crate::serving_tests::game;
 use arbiter_core::{MemoryKeeper, UdpPort, serve};
 use move_msg::{Message, WriteFault};
 use std::alloc::Global;
