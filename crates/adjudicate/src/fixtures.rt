@@ -3,10 +3,8 @@
 use crate::folders::Folders;
 use crate::memory_host::MemoryHost;
 use crate::program::run;
-use arbiter_core::Setup;
 use board_core::Position;
 use fen_text::{read, read_move};
-use judge_core::Set;
 use move_msg::{Disk, Message, Sender, Stamp, WriteFault};
 use std::alloc::{AllocError, Global};
 use std::io::{self, Write};
@@ -245,16 +243,4 @@ pub(crate) fn move_message(rt: &impl Abort, stamp: Stamp, number: u32, text: &st
         m: read_move(text.as_bytes()).expect(rt, text),
     };
     message.encode()
-}
-
-/// What the first arbiter of such a game is opened from.
-pub(crate) fn setup_of(rt: &impl Abort, alloc: Global, name: &'static [u8]) -> Setup<'static> {
-    Setup {
-        name,
-        start: start(rt),
-        manifest: b"",
-        me: 1,
-        delay: 0,
-        set: Set::new(alloc, 1).expect(rt, "memory"),
-    }
 }

@@ -58,7 +58,7 @@ pub(crate) const KNIGHT_LIST: &str =
     "87cdf77207282e1dea3ecceff56cc1cc1126b2cabc55a34e1dc17bd812a1a686  KNvK.rtbw\n";
 
 /// The bytes of a file.
-pub(crate) fn bytes_of(alloc: Global, file: File) -> Result<Vec<u8>, AllocError> {
+fn bytes_of(alloc: Global, file: File) -> Result<Vec<u8>, AllocError> {
     let mut bytes = Vec::from_slice(alloc, file.1)?;
     bytes.resize(file.2, 0)?;
     Ok(bytes)

@@ -2,9 +2,7 @@
 
 ghost use Rattle.std.specs.Prelude.{List, ℕ, IfOk, IsErrOf};
 
-use crate::system_file::SystemFile;
-use crate::udp::UdpPort;
-use arbiter_core::{KeptFile, Port};
+use arbiter_core::{KeptFile, Port, SystemFile, UdpPort};
 use std::alloc::{AllocError, Global};
 use std::io;
 use std::net::Net;

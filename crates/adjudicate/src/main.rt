@@ -24,21 +24,17 @@ mod program;
 mod refusals;
 mod schedules;
 mod show;
-mod system_disk;
-mod system_file;
 mod tables;
-mod udp;
 mod usage;
 
 use host::SystemHost;
 use lines::put_refusal;
-use move_msg::{WriteFault, end};
+use move_msg::{SystemDisk, WriteFault, end};
 use program::run;
 use refusals::Refusal;
 use std::alloc::{AllocError, Global};
 use std::io::{self, BufWriter, Write};
 use std::process::ExitCode;
-use system_disk::SystemDisk;
 use usage::Usage;
 
 /// The words that the program was called with, its own name first. Words that are no text are a
@@ -105,15 +101,11 @@ fn main(rt: HostRuntime) -> ExitCode {
 }
 
 #[cfg(test)]
-mod disk_tests;
-#[cfg(test)]
 mod fixtures;
 #[cfg(test)]
 mod folders;
 #[cfg(test)]
 mod hosted_tests;
-#[cfg(test)]
-mod kept_tests;
 #[cfg(test)]
 mod many_tests;
 #[cfg(test)]
@@ -128,5 +120,3 @@ mod schedule_tests;
 mod table_tests;
 #[cfg(test)]
 mod tests;
-#[cfg(test)]
-mod udp_tests;

@@ -4,13 +4,10 @@ ghost use Rattle.std.specs.Prelude.{◌≡◌, ◌≤◌, ℕ, List, Option, Som
 ghost use Rattle.arbiter_core.specs.Keeping.{Risen};
 ghost use Rattle.arbiter_core.specs.KeptFiles.{FindsOldOrNew};
 
-use crate::keeper::{KeepFault, Keeper};
+use crate::keeper::{KeepFault, Keeper, MOST_BYTES};
 use crate::kept_file::{KeptFile, replace};
 use move_msg::ReadFault;
 use std::alloc::{AllocError, Global};
-
-/// How many bytes a record has at most: 25 and two for each of 4096 moves (record format).
-const MOST_BYTES: usize = 8217;
 
 /// Keeps bytes in a file, and stores them in room for 8217 that `new` makes. No other call takes memory but `get`, and a get
 /// never fails.

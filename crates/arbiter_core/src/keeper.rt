@@ -11,7 +11,7 @@ use std::alloc::{AllocError, Global};
 use std::marker::Model;
 
 /// How many bytes a record has at most: 25 and two for each of 4096 moves (record format).
-const MOST_BYTES: usize = 8217;
+pub(crate) const MOST_BYTES: usize = 8217;
 
 /// The outcome of a put.
 #[derive(Clone, Copy, PartialEq, Eq, Debug)]

@@ -5,6 +5,7 @@
 //! knows of squares, of tables' files or of how long a verdict by tables must hold: `judge_core` tells where a game stands.
 //!
 //! In service it answers the datagrams of a `Port` (`serve`), over a record in a `KeptFile` (`FileKeeper`, `open_and_serve`).
+//! `UdpPort` and `SystemFile` are the system's.
 //!
 //! Its tests stand in `checks`.
 #![tactic(auto)]
@@ -22,6 +23,8 @@ mod planning;
 mod port;
 mod serving;
 mod setup;
+mod system_file;
+mod udp;
 mod window;
 
 pub use arbiter::{Arbiter, Outputs};
@@ -35,3 +38,5 @@ pub use over_file::open_and_serve;
 pub use port::{Port, PortFault};
 pub use serving::serve;
 pub use setup::Setup;
+pub use system_file::SystemFile;
+pub use udp::UdpPort;

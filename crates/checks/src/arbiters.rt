@@ -3,7 +3,7 @@
 ghost use Rattle.arbiter_core.specs.Delivers.{IsKept};
 
 use crate::comparing::{check_same, check_text};
-use crate::positions::{move_of, moves_of, position_of};
+use crate::positions::{START, move_of, moves_of, position_of};
 use arbiter_core::{Arbiter, DeliverFault, Keep, Keeper, MemoryKeeper, Outputs, Setup};
 use board_core::{Move, Verdict};
 use fen_text::write_move;
@@ -82,6 +82,21 @@ pub(crate) fn message_of(
         Sent::Relayed => moved(rt, stamp, Sender::Arbiter(Who::B), number, what),
         Sent::Fetch => fetch(rt, stamp, number, what),
     }
+}
+
+/// The source's message of a move.
+fn sent(rt: &impl Abort, stamp: Stamp, number: u32, text: &str) -> [u8; 27] {
+    message_of(rt, stamp, Sent::Move, number, text).encode()
+}
+
+/// The source's messages of the first three moves of a game.
+pub(crate) fn game(rt: &impl Abort) -> [[u8; 27]; 3] {
+    let stamp = stamp_of(rt, START, 0);
+    [
+        sent(rt, stamp, 0, "e2e4"),
+        sent(rt, stamp, 1, "e7e5"),
+        sent(rt, stamp, 2, "g1f3"),
+    ]
 }
 
 fn ack_text(rt: &impl Abort, alloc: Global, count: Count) -> String {

@@ -16,6 +16,8 @@ mod delivery_tests;
 #[cfg(test)]
 mod dictionary_tests;
 #[cfg(test)]
+mod disk_tests;
+#[cfg(test)]
 mod distance_tests;
 #[cfg(test)]
 mod fen_tests;
@@ -29,6 +31,8 @@ mod forge_tests;
 mod game_tests;
 #[cfg(test)]
 mod index_tests;
+#[cfg(test)]
+mod kept_tests;
 #[cfg(test)]
 mod manifest_tests;
 #[cfg(test)]
@@ -61,5 +65,7 @@ mod seeded_world_tests;
 mod serving_tests;
 #[cfg(test)]
 mod table_tests;
+#[cfg(test)]
+mod udp_tests;
 #[cfg(test)]
 mod world_tests;

@@ -2,32 +2,17 @@
 
 ghost use Rattle.arbiter_core.specs.Delivers.{IsKept};
 
-use crate::arbiters::{Sent, empty_keeper, message_of, open_first, stamp_of};
+use crate::arbiters::{empty_keeper, game, open_first};
 use crate::comparing::{check_bytes, check_same};
 use crate::files::push_bytes;
 use crate::forge_tests::Failing;
 use crate::memory_port::{Event, MemoryPort};
 use crate::positions::START;
 use arbiter_core::{Arbiter, Keep, MemoryKeeper, serve};
-use move_msg::{Stamp, WriteFault};
+use move_msg::WriteFault;
 use std::alloc::Global;
 use std::io::Write;
 use std::process::Abort;
-
-/// The source's message of a move.
-fn sent(rt: &impl Abort, stamp: Stamp, number: u32, text: &str) -> [u8; 27] {
-    message_of(rt, stamp, Sent::Move, number, text).encode()
-}
-
-/// The messages of the game's moves.
-fn game(rt: &impl Abort) -> [[u8; 27]; 3] {
-    let stamp = stamp_of(rt, START, 0);
-    [
-        sent(rt, stamp, 0, "e2e4"),
-        sent(rt, stamp, 1, "e7e5"),
-        sent(rt, stamp, 2, "g1f3"),
-    ]
-}
 
 /// How a port is served at which the game's moves wait: the call of it that fails, how many datagrams are to come, whether the
 /// other arbiter is asked first, the outcome of each put, the lines and the status, and what passes, a letter for each: `c` for

@@ -5,7 +5,8 @@
 //! byte first.
 //!
 //! Also which files of a folder a manifest wants, and how they are read: `Disk` is where folders, files and an input come in,
-//! `Sources` what a task is answered from, `read_moves` the moves that an input tells, and `Output` where answers go out.
+//! `SystemDisk` the system's; `Sources` what a task is answered from, `read_moves` the moves that an input tells, and `Output`
+//! where answers go out.
 #![tactic(auto)]
 
 mod coding;
@@ -26,6 +27,7 @@ mod reading;
 mod record_bytes;
 mod sources;
 mod stamp;
+mod system_disk;
 mod table_name;
 mod told;
 mod who;
@@ -46,6 +48,7 @@ pub use reading::files_in;
 pub use record_bytes::{Record, RecordFault};
 pub use sources::{Places, Sources};
 pub use stamp::{Stamp, is_game_name};
+pub use system_disk::SystemDisk;
 pub use table_name::is_file_name;
 pub use told::Manifest;
 pub use who::{Sender, Who};

@@ -1,43 +1,14 @@
 //! An arbiter that answers the datagrams of a socket.
 
-ghost use Rattle.arbiter_core.specs.Delivers.{IsKept};
-
-use crate::fixtures::{check, move_message, setup_of, stamp_of};
-use crate::udp::UdpPort;
-use arbiter_core::{Arbiter, MemoryKeeper, serve};
+use crate::arbiters::{empty_keeper, game, open_first, text_of};
+use crate::comparing::{check_bytes, check_same, check_text};
+use crate::positions::START;
+use arbiter_core::{MemoryKeeper, UdpPort, serve};
 use move_msg::{Message, WriteFault};
 use std::alloc::Global;
 use std::io::Write;
 use std::net::{Net, SocketAddr, UdpSocket};
 use std::process::Abort;
-
-/// The name of the game.
-const NAME: &[u8] = b"Test 1";
-
-/// The messages of the game's moves.
-fn game(rt: &impl Abort) -> [[u8; 27]; 3] {
-    let stamp = stamp_of(rt, NAME);
-    [
-        move_message(rt, stamp, 0, "e2e4"),
-        move_message(rt, stamp, 1, "e7e5"),
-        move_message(rt, stamp, 2, "g1f3"),
-    ]
-}
-
-/// A keeper that keeps nothing so far.
-fn new_keeper(rt: &impl Abort, alloc: Global) -> MemoryKeeper {
-    MemoryKeeper::new(alloc).expect(rt, "memory")
-}
-
-/// The first arbiter of the game, over what this keeper keeps.
-fn open_over(rt: &impl Abort, alloc: Global, keeper: &mut MemoryKeeper) -> Arbiter<'static>
-    ensures { IsKept keeper.new.kept result }
-{
-    match Arbiter::open(alloc, keeper, setup_of(rt, alloc, NAME)) {
-        Ok(arbiter) => arbiter,
-        Err(_) => panic!(rt; "an arbiter"),
-    }
-}
 
 /// How a port is served for six datagrams by the first arbiter of the game over a keeper.
 fn serve_six<W: Write>(
@@ -47,7 +18,7 @@ fn serve_six<W: Write>(
     port: &mut UdpPort,
     out: &mut W,
 ) -> Result<u8, WriteFault> {
-    let mut arbiter = open_over(rt, alloc, keeper);
+    let mut arbiter = open_first(rt, alloc, keeper, START, 0);
     serve(alloc, &mut arbiter, keeper, port, 6, false, out)
 }
 
@@ -58,7 +29,7 @@ fn served<W: Write>(
     port: &mut UdpPort,
     out: &mut W,
 ) -> Result<u8, WriteFault> {
-    serve_six(rt, alloc, &mut new_keeper(rt, alloc), port, out)
+    serve_six(rt, alloc, &mut empty_keeper(rt, alloc), port, out)
 }
 
 /// A socket of the loopback.
@@ -73,7 +44,7 @@ fn address_of(rt: &impl Abort, socket: &UdpSocket) -> SocketAddr {
 
 /// Sends a datagram.
 fn send(rt: &impl Abort, client: &UdpSocket, to: SocketAddr, bytes: &[u8]) {
-    check(rt, client.send_to(bytes, to).is_ok(), "a datagram");
+    check_same(rt, client.send_to(bytes, to).is_ok(), true, "a datagram");
 }
 
 /// Datagrams of one byte, of none and of more than a message may have.
@@ -118,18 +89,10 @@ fn next_message(rt: &impl Abort, client: &UdpSocket) -> Message {
     Message::decode(&buffer[..length]).expect(rt, "a message")
 }
 
-/// The count that a message acknowledges, if it is an acknowledgement.
-fn acknowledged(message: &Message) -> Option<u32> {
-    match *message {
-        Message::Ack { count, .. } => Some(count.number()),
-        _ => None,
-    }
-}
-
-/// That the next datagram is the first arbiter's word that so many moves are recorded.
-fn expect_ack(rt: &impl Abort, client: &UdpSocket, count: u32) {
+/// That the next datagram is this message of the first arbiter.
+fn expect_message(rt: &impl Abort, alloc: Global, client: &UdpSocket, wanted: &str) {
     let message = next_message(rt, client);
-    assert!(rt; acknowledged(&message) == Some(count), "Ack {count}");
+    check_text(rt, text_of(rt, alloc, &message).as_str(), wanted);
 }
 
 /// The lines for the game's moves and for what is no message.
@@ -141,8 +104,8 @@ fn expect_served_at_socket<R: Net + Abort>(rt: &R, alloc: Global, client: &UdpSo
     let mut port = port_with_game(rt, alloc, client);
     let mut lines = Vec::new(alloc);
     let ended = served(rt, alloc, &mut port, &mut lines);
-    check(rt, ended == Ok(0), "the end");
-    check(rt, lines.as_slice() == LINES.as_bytes(), LINES);
+    check_same(rt, ended, Ok(0), "the end");
+    check_bytes(rt, &lines, LINES.as_bytes(), LINES);
 }
 
 /// Three moves and three datagrams that are no messages over the loopback, after which the socket is served.
@@ -150,7 +113,7 @@ fn expect_served_at_socket<R: Net + Abort>(rt: &R, alloc: Global, client: &UdpSo
 fn answers_the_datagrams_of_a_socket(rt: HostRuntime) {
     let client = bound(&rt);
     expect_served_at_socket(&rt, rt.alloc(), &client);
-    for count in 1..4 {
-        expect_ack(&rt, &client, count);
+    for wanted in ["Ack 1", "Ack 2", "Ack 3"] {
+        expect_message(&rt, rt.alloc(), &client, wanted);
     }
 }

@@ -1,15 +1,13 @@
 //! A file of the system, and the one beside it.
 
-use arbiter_core::KeptFile;
+use crate::keeper::MOST_BYTES;
+use crate::kept_file::KeptFile;
 use move_msg::{ReadFault, read_at_most};
 use std::alloc::{AllocError, Global};
 use std::fs::OpenFile;
 use std::io::Write;
 use std::rt::Files;
 use std::{fs, io};
-
-/// How many bytes a record has at most: 25 and two for each of 4096 moves (record format).
-const MOST_BYTES: u64 = 8217;
 
 /// A file of the system by its path. The one beside it has the same path with `.new` at its end. Nothing is claimed of them.
 #[derive(Drop)]
@@ -68,7 +66,7 @@ impl<'a, R: Files + AllocGlobal> KeptFile for SystemFile<'a, R> {
             Err(error) => return Err(ReadFault::from(error)),
         };
         let length = file.metadata()?.len();
-        Ok(Some(read_at_most(alloc, file, length, MOST_BYTES)?))
+        Ok(Some(read_at_most(alloc, file, length, MOST_BYTES as u64)?))
     }
 
     fn write_beside(&mut self, bytes: &[u8]) -> io::Result<()> {

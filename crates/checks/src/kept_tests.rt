@@ -2,9 +2,8 @@
 
 ghost use Rattle.std.specs.Prelude.{◌≤◌, length};
 
-use crate::fixtures::check;
-use crate::system_file::SystemFile;
-use arbiter_core::{FileKeeper, KeepFault, Keeper, KeptFile};
+use crate::comparing::check_same;
+use arbiter_core::{FileKeeper, KeepFault, Keeper, KeptFile, SystemFile};
 use move_msg::ReadFault;
 use std::alloc::Global;
 use std::fs;
@@ -20,15 +19,6 @@ fn got<F: KeptFile + Drop>(
     keeper.get(alloc).expect(rt, "memory")
 }
 
-/// Whether these bytes, or none, are kept.
-fn are_kept(kept: &Option<Vec<u8>>, bytes: Option<&[u8]>) -> bool {
-    match (kept, bytes) {
-        (Some(kept), Some(bytes)) => kept.as_slice() == bytes,
-        (None, None) => true,
-        _ => false,
-    }
-}
-
 /// That a keeper keeps these bytes, or none.
 fn expect_kept<F: KeptFile + Drop>(
     rt: &impl Abort,
@@ -37,7 +27,7 @@ fn expect_kept<F: KeptFile + Drop>(
     bytes: Option<&[u8]>,
 ) {
     let kept = got(rt, alloc, keeper);
-    check(rt, are_kept(&kept, bytes), "what is kept");
+    check_same(rt, kept.as_deref(), bytes, "what is kept");
 }
 
 /// Puts bytes.
@@ -48,11 +38,11 @@ fn put_into<F: KeptFile + Drop>(keeper: &mut FileKeeper<F>, bytes: &[u8]) -> Res
 }
 
 /// The folder of the test, its kept file and the one beside it.
-const FOLDER: &str = "/tmp/adjudicate-test-kept";
+const FOLDER: &str = "/tmp/checks-test-kept";
 
-const KEPT: &str = "/tmp/adjudicate-test-kept/kept";
+const KEPT: &str = "/tmp/checks-test-kept/kept";
 
-const BESIDE: &str = "/tmp/adjudicate-test-kept/kept.new";
+const BESIDE: &str = "/tmp/checks-test-kept/kept.new";
 
 /// A file of the system.
 fn file_at<'a, R: Files + AllocGlobal + Abort>(rt: &'a R, path: &str) -> SystemFile<'a, R> {
@@ -85,7 +75,7 @@ fn is_unreadable<F: KeptFile + Drop>(keeper: &Result<FileKeeper<F>, ReadFault>) 
 /// That what stands at a path is refused.
 fn expect_unread<R: Files + AllocGlobal + Abort>(rt: &R, path: &str) {
     let keeper = keeper_at(rt, path);
-    check(rt, is_unreadable(&keeper), path);
+    check_same(rt, is_unreadable(&keeper), true, path);
 }
 
 /// Puts bytes into the kept file.
@@ -99,7 +89,7 @@ fn put_at<R: Files + AllocGlobal + Abort>(rt: &R, bytes: &[u8]) -> Result<(), Ke
 fn expect_put_at<R: Files + AllocGlobal + Abort>(rt: &R, bytes: &[u8])
     requires { length bytes.now ≤ 8217 }
 {
-    check(rt, put_at(rt, bytes) == Ok(()), "a put");
+    check_same(rt, put_at(rt, bytes), Ok(()), "a put");
     expect_read(rt, Some(bytes));
 }
 
@@ -135,12 +125,12 @@ fn keeps_a_file_of_the_system(rt: HostRuntime) {
 }
 
 /// The folder of the other test.
-const OTHER: &str = "/tmp/adjudicate-test-unkept";
+const OTHER: &str = "/tmp/checks-test-unkept";
 
-const LONG: &str = "/tmp/adjudicate-test-unkept/long";
+const LONG: &str = "/tmp/checks-test-unkept/long";
 
 /// Where there is no folder there is nothing to sync, and no file to read.
-const NOWHERE: &str = "/tmp/adjudicate-test-unkept/missing/kept";
+const NOWHERE: &str = "/tmp/checks-test-unkept/missing/kept";
 
 /// More bytes than a kept file may have.
 fn many_bytes(rt: &impl Abort, alloc: Global) -> Vec<u8> {

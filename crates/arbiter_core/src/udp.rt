@@ -3,7 +3,7 @@
 ghost use Rattle.std.specs.Prelude.{◌≤◌, None};
 ghost use Rattle.arbiter_core.specs.Keeping.{Risen};
 
-use arbiter_core::{Port, PortFault};
+use crate::port::{Port, PortFault};
 use std::alloc::Global;
 use std::io;
 use std::net::{Net, UdpSocket};

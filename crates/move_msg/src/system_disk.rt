@@ -1,6 +1,7 @@
 //! Folders, files and the input of the system.
 
-use move_msg::{Disk, ReadFault, read_all};
+use crate::disk::Disk;
+use crate::input::{ReadFault, read_all};
 use std::alloc::Global;
 use std::fs::{DirEntry, OpenFile};
 use std::io::Input;
