@@ -1,6 +1,7 @@
 //! Where values stand among the blocks, and reading them.
 
-ghost use Rattle.std.specs.Prelude.{◌≡◌, ◌+◌, ◌-◌, ◌*◌, ◌/◌, ◌^◌, ◌<◌, ◌≤◌, ◌⊎◌, length, slice_index, take, drop, IfOk, OnErr, Some, None};
+ghost use Rattle.std.specs.Prelude.{◌≡◌, ◌+◌, ◌-◌, ◌*◌, ◌/◌, ◌^◌, ◌<◌, ◌≤◌, ◌⊎◌, length, slice_get, slice_index, take, drop, IfOk, OnErr, Some, None};
+ghost use Rattle.pair_dict.specs.Blocks.{block_values};
 ghost use Rattle.table_file.specs.Figures.{block_size, span, points};
 ghost use Rattle.table_file.specs.Sparse.{sizes_of, values_before, IsSpotIn};
 ghost use Rattle.table_file.specs.Expansion.{entry_at, expanded, values_in, blocks_in, IsSpotOf, IsShort, IsPast};
@@ -186,6 +187,18 @@ pub(crate) fn spot_in<L: Ledger>(
     }
 }
 
+/// The value at a place of a real block.
+fn value_of(codes: &Codes<'_>, blocks: &[u8], place: Place) -> Result<u16, Damaged>
+    requires known { place.block < codes.now.blocks }
+    requires short { place.offset < 65536 }
+    requires length { length blocks.now ≡ codes.now.blocks * block_size codes.now }
+    ensures found { IfOk result (λ v. slice_get (block_values codes.now.dictionary (take (block_size codes.now) (drop (place.block * block_size codes.now) blocks.now))) place.offset ≡ Some v) }
+    ensures damaged { OnErr result (length (block_values codes.now.dictionary (take (block_size codes.now) (drop (place.block * block_size codes.now) blocks.now))) ≤ place.offset) }
+{
+    let block = block_of(codes, blocks, place.block);
+    codes.dictionary().value(block, place.offset as u32)
+}
+
 /// The value of an index, by a count of its own.
 fn value_by<L: Ledger>(view: View<'_, '_>, index: u64, blank: Blank) -> Result<u16, Damaged>
     requires checked { IsChecked view }
@@ -210,8 +223,7 @@ fn value_by<L: Ledger>(view: View<'_, '_>, index: u64, blank: Blank) -> Result<u
             let Ok(place) = place else {
                 return Err(Damaged);
             };
-            let block = block_of(codes, view.blocks, place.block);
-            codes.dictionary().value(block, place.offset as u32)
+            value_of(codes, view.blocks, place)
         }
     }
 }
