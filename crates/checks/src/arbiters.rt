@@ -85,7 +85,7 @@ pub(crate) fn message_of(
 }
 
 /// The source's message of a move.
-fn sent(rt: &impl Abort, stamp: Stamp, number: u32, text: &str) -> [u8; 27] {
+fn source_move(rt: &impl Abort, stamp: Stamp, number: u32, text: &str) -> [u8; 27] {
     message_of(rt, stamp, Sent::Move, number, text).encode()
 }
 
@@ -93,9 +93,9 @@ fn sent(rt: &impl Abort, stamp: Stamp, number: u32, text: &str) -> [u8; 27] {
 pub(crate) fn game(rt: &impl Abort) -> [[u8; 27]; 3] {
     let stamp = stamp_of(rt, START, 0);
     [
-        sent(rt, stamp, 0, "e2e4"),
-        sent(rt, stamp, 1, "e7e5"),
-        sent(rt, stamp, 2, "g1f3"),
+        source_move(rt, stamp, 0, "e2e4"),
+        source_move(rt, stamp, 1, "e7e5"),
+        source_move(rt, stamp, 2, "g1f3"),
     ]
 }
 
