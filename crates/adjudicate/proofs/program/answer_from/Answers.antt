@@ -6,5 +6,5 @@ use Rattle.adjudicate.proofs.program.answer_from.Goals as goal
 pub returns-in-Listen : goal.returns-in-Listen
 returns-in-Listen g c = record { answered = IfOk-weaker c.listen.result _ _ (λ status h. Listened _ c.in-Listen.is h) c.listen.ensures; quiet = λ unasked. refl }
 
-pub returns : goal.returns
-returns g c = record { answered = IfOk-weaker c.answer_task.result _ _ (λ status h. Answered h) c.answer_task.ensures.answered; quiet = c.answer_task.ensures.quiet }
+pub returns-in_default : goal.returns-in_default
+returns-in_default g c = record { answered = IfOk-weaker c.answer_task.result _ _ (λ status h. Answered h) c.answer_task.ensures.answered; quiet = c.answer_task.ensures.quiet }
