@@ -1,18 +1,22 @@
 -- The steps of opening a file make the whole.
-use Rattle.std.proofs.Common.{◌≡◌, ℕ, Bool, true, false, cond, List, Result, Ok, Err, refl, sym, ap, ◌∙◌}
-use Rattle.std.specs.Prelude.{IfOk}
+use Rattle.std.proofs.Common.{◌≡◌, ◌≢◌, ℕ, ◌+◌, ◌/◌, Bool, true, false, cond, eqb, List, length, map, Result, Ok, Err, refl, sym, ap, ◌∙◌}
+use Rattle.std.specs.Prelude.{IfOk, ◌%◌}
+use Rattle.std.proofs.lemmas.Bool.{eq-eqb, ne_eqb}
 use Rattle.std.specs.List.{range_with_len}
+use Rattle.place_index.specs.Material.{pieces_of}
+use Rattle.place_index.specs.Shape.{Layout}
 use Rattle.table_file.specs.declared.fault.TableFault.{TableFault}
 use Rattle.table_file.specs.declared.fault.TableFault.TheVariants.{BadSparse}
 use Rattle.table_file.specs.declared.kind.Kind.{Kind}
 use Rattle.table_file.specs.declared.parts.Part.{Part}
 use Rattle.table_file.specs.declared.parts.Section.TheVariants.{Entries, Lengths, Blocks}
-use Rattle.table_file.specs.Reading.{◌>>=◌, each_at, risen, Fails, Gives}
-use Rattle.table_file.specs.Files.{sides_of, setup_at, part_at, section_at}
+use Rattle.table_file.specs.Reading.{◌>>=◌, each_at, byte_at, taken_at, risen, Fails, Gives}
+use Rattle.table_file.specs.Files.{sides_of, second_at, nibble, setup_at, part_at, section_at}
+use Rattle.table_file.specs.Shapes.{shape_at}
 use Rattle.table_file.specs.Maps.{ValueMaps, all_maps_at}
 use Rattle.table_file.specs.Sparse.{all_fit}
 use Rattle.table_file.specs.Tables.{Contents, part_count, sections_at, parts_at}
-use Rattle.table_file.specs.Inside.Opening.{Runs, runs_at, checked_at, all_parts_at}
+use Rattle.table_file.specs.Inside.Opening.{Runs, runs_at, checked_at, both_setups_at, all_parts_at}
 use Rattle.table_file.proofs.Loops.{fails_on}
 
 -- a step after two is the third
@@ -34,25 +38,25 @@ fit false x f = refl
 
 third : (b : Result (List (List ℕ) × List ℕ) TableFault) (parts : List Part) (e l : List (List ℕ)) (f : Runs → Contents)
     → (b >>= λ b. cond (all_fit parts e l) (Ok (f (record { entries = e; lengths = l; blocks = b.0 }))) (Err BadSparse))
-      ≡ (((b >>= λ b. Ok (record { entries = e; lengths = l; blocks = b.0 })) >>= fitting parts) >>= λ r. Ok (f r))
+    ≡ (((b >>= λ b. Ok (record { entries = e; lengths = l; blocks = b.0 })) >>= fitting parts) >>= λ r. Ok (f r))
 third (Ok b) parts e l f = fit (all_fit parts e l) (record { entries = e; lengths = l; blocks = b.0 }) f
 third (Err d) parts e l f = refl
 
 second : (l : Result (List (List ℕ) × List ℕ) TableFault) (blocks : List ℕ → Result (List (List ℕ) × List ℕ) TableFault) (parts : List Part) (e : List (List ℕ)) (f : Runs → Contents)
     → (l >>= λ l. blocks l.1 >>= λ b. cond (all_fit parts e l.0) (Ok (f (record { entries = e; lengths = l.0; blocks = b.0 }))) (Err BadSparse))
-      ≡ (((l >>= λ l. blocks l.1 >>= λ b. Ok (record { entries = e; lengths = l.0; blocks = b.0 })) >>= fitting parts) >>= λ r. Ok (f r))
+    ≡ (((l >>= λ l. blocks l.1 >>= λ b. Ok (record { entries = e; lengths = l.0; blocks = b.0 })) >>= fitting parts) >>= λ r. Ok (f r))
 second (Ok l) blocks parts e f = third (blocks l.1) parts e l.0 f
 second (Err d) blocks parts e f = refl
 
 first : (e : Result (List (List ℕ) × List ℕ) TableFault) (lengths blocks : List ℕ → Result (List (List ℕ) × List ℕ) TableFault) (parts : List Part) (f : Runs → Contents)
     → (e >>= λ e. lengths e.1 >>= λ l. blocks l.1 >>= λ b. cond (all_fit parts e.0 l.0) (Ok (f (record { entries = e.0; lengths = l.0; blocks = b.0 }))) (Err BadSparse))
-      ≡ (((e >>= λ e. lengths e.1 >>= λ l. blocks l.1 >>= λ b. Ok (record { entries = e.0; lengths = l.0; blocks = b.0 })) >>= fitting parts) >>= λ r. Ok (f r))
+    ≡ (((e >>= λ e. lengths e.1 >>= λ l. blocks l.1 >>= λ b. Ok (record { entries = e.0; lengths = l.0; blocks = b.0 })) >>= fitting parts) >>= λ r. Ok (f r))
 first (Ok e) lengths blocks parts f = second (lengths e.1) blocks parts e.0 f
 first (Err d) lengths blocks parts f = refl
 
 checked_first : (kind : Kind) (material : ℕ) (parts : List Part) (maps : List ValueMaps) (bytes : List ℕ)
     → sections_at kind material parts maps bytes
-      ≡ (checked_at parts bytes >>= λ r. Ok (record { kind = kind; material = material; parts = parts; maps = maps; entries = r.entries; lengths = r.lengths; blocks = r.blocks }))
+    ≡ (checked_at parts bytes >>= λ r. Ok (record { kind = kind; material = material; parts = parts; maps = maps; entries = r.entries; lengths = r.lengths; blocks = r.blocks }))
 unfolding sections_at checked_at runs_at
 checked_first kind material parts maps bytes =
     first (each_at (section_at Entries) parts bytes) (each_at (section_at Lengths) parts) (each_at (section_at Blocks) parts) parts (table kind material parts maps)
@@ -100,3 +104,53 @@ with_mapped kind material bytes p maps is mapped =
 pub if_given : {X Y : Type 0} (view : X → Y) (r : Result X TableFault) (read : Result Y TableFault) (P : X → Type 0) → Gives view r read → ((x : X) → read ≡ Ok (view x) → P x) → IfOk r P
 if_given view (Ok x) read P g f = f x g
 if_given view (Err e) read P g f = tt
+
+-- ---- shapes
+
+abbrev shaped : ℕ → ℕ → ℕ → List ℕ → (ℕ × ℕ × List ℕ) × List ℕ → Result (Layout × List ℕ) TableFault
+shaped m sides k bytes s =
+    shape_at m (map (nibble (k % sides)) s.0.2) (nibble (k % sides) s.0.0) (nibble (k % sides) s.0.1) (k / sides) >>= λ shape. Ok (shape, cond (eqb (k % sides + 1) sides) s.1 bytes)
+
+men_first : (men : Result (List ℕ × List ℕ) TableFault) (m sides k : ℕ) (bytes : List ℕ) (order second : ℕ)
+    → (men >>= λ n. shaped m sides k bytes ((order, second, n.0), n.1)) ≡ ((men >>= λ n. Ok ((order, second, n.0), n.1)) >>= shaped m sides k bytes)
+men_first (Ok n) m sides k bytes order second = refl
+men_first (Err e) m sides k bytes order second = refl
+
+second_first : (second : Result (ℕ × List ℕ) TableFault) (men : List ℕ → Result (List ℕ × List ℕ) TableFault) (m sides k : ℕ) (bytes : List ℕ) (order : ℕ)
+    → (second >>= λ s. men s.1 >>= λ n. shaped m sides k bytes ((order, s.0, n.0), n.1)) ≡ ((second >>= λ s. men s.1 >>= λ n. Ok ((order, s.0, n.0), n.1)) >>= shaped m sides k bytes)
+second_first (Ok s) men m sides k bytes order = men_first (men s.1) m sides k bytes order s.0
+second_first (Err e) men m sides k bytes order = refl
+
+order_first : (order : Result (ℕ × List ℕ) TableFault) (second : List ℕ → Result (ℕ × List ℕ) TableFault) (men : List ℕ → Result (List ℕ × List ℕ) TableFault) (m sides k : ℕ) (bytes : List ℕ)
+    → (order >>= λ o. second o.1 >>= λ s. men s.1 >>= λ n. shaped m sides k bytes ((o.0, s.0, n.0), n.1)) ≡ ((order >>= λ o. second o.1 >>= λ s. men s.1 >>= λ n. Ok ((o.0, s.0, n.0), n.1)) >>= shaped m sides k bytes)
+order_first (Ok o) second men m sides k bytes = second_first (second o.1) men m sides k bytes o.0
+order_first (Err e) second men m sides k bytes = refl
+
+setup_first : (m sides k : ℕ) (bytes : List ℕ) → setup_at m sides k bytes ≡ (both_setups_at m bytes >>= shaped m sides k bytes)
+unfolding setup_at both_setups_at
+setup_first m sides k bytes = order_first (byte_at bytes) (second_at m) (taken_at (length (pieces_of m))) m sides k bytes
+
+pub no_setup : (m sides k : ℕ) (bytes : List ℕ) (e : TableFault) → Fails e (both_setups_at m bytes) → Fails e (setup_at m sides k bytes)
+no_setup m sides k bytes e h =
+    fails_on e (both_setups_at m bytes) (setup_at m sides k bytes) h (λ is. setup_first m sides k bytes ∙ ap (λ (x : Result ((ℕ × ℕ × List ℕ) × List ℕ) TableFault). x >>= shaped m sides k bytes) is)
+
+with_setups : (m sides k : ℕ) (bytes : List ℕ) (s : (ℕ × ℕ × List ℕ) × List ℕ) → both_setups_at m bytes ≡ Ok s → setup_at m sides k bytes ≡ shaped m sides k bytes s
+with_setups m sides k bytes s is = setup_first m sides k bytes ∙ ap (λ (x : Result ((ℕ × ℕ × List ℕ) × List ℕ) TableFault). x >>= shaped m sides k bytes) is
+
+pub no_shape : (m sides k : ℕ) (bytes : List ℕ) (s : (ℕ × ℕ × List ℕ) × List ℕ) (e : TableFault) → both_setups_at m bytes ≡ Ok s
+    → Fails e (shape_at m (map (nibble (k % sides)) s.0.2) (nibble (k % sides) s.0.0) (nibble (k % sides) s.0.1) (k / sides)) → Fails e (setup_at m sides k bytes)
+no_shape m sides k bytes s e is h =
+    fails_on e (shape_at m (map (nibble (k % sides)) s.0.2) (nibble (k % sides) s.0.0) (nibble (k % sides) s.0.1) (k / sides)) (setup_at m sides k bytes) h
+    (λ fault. with_setups m sides k bytes s is ∙ ap (λ (x : Result Layout TableFault). x >>= λ shape. Ok (shape, cond (eqb (k % sides + 1) sides) s.1 bytes)) fault)
+
+pub with_shape : (m sides k : ℕ) (bytes : List ℕ) (s : (ℕ × ℕ × List ℕ) × List ℕ) (l : Layout) → both_setups_at m bytes ≡ Ok s
+    → shape_at m (map (nibble (k % sides)) s.0.2) (nibble (k % sides) s.0.0) (nibble (k % sides) s.0.1) (k / sides) ≡ Ok l
+    → setup_at m sides k bytes ≡ Ok (l, cond (eqb (k % sides + 1) sides) s.1 bytes)
+with_shape m sides k bytes s l is shape =
+    with_setups m sides k bytes s is ∙ ap (λ (x : Result Layout TableFault). x >>= λ shape. Ok (shape, cond (eqb (k % sides + 1) sides) s.1 bytes)) shape
+
+pub last_side : (n sides : ℕ) (rest bytes : List ℕ) → n ≡ sides → cond (eqb n sides) rest bytes ≡ rest
+last_side n sides rest bytes is = rw (eq-eqb n sides is) refl
+
+pub other_side : (n sides : ℕ) (rest bytes : List ℕ) → n ≢ sides → cond (eqb n sides) rest bytes ≡ bytes
+other_side n sides rest bytes not = rw (ne_eqb n sides not) refl

@@ -6,6 +6,7 @@ ghost use Rattle.place_index.specs.Shape.{greatest_size};
 ghost use Rattle.table_file.specs.declared.fault.TableFault.TheVariants.{OutOfMemory};
 ghost use Rattle.table_file.specs.Reading.{Gives, each_at};
 ghost use Rattle.table_file.specs.Sections.{AreSized};
+ghost use Rattle.table_file.specs.Inside.Opening.{both_setups_at};
 ghost use Rattle.table_file.specs.Shapes.{shape_at};
 ghost use Rattle.table_file.specs.Files.{indices, body_of, magic_of, magic_at, same, flags_agree, flags_at, nibble, second_at, setup_at, part_at, section_size, section_at};
 
@@ -180,8 +181,23 @@ fn side_shape(
     )
 }
 
+/// The order bytes and the pieces of a file of the leading pawn, of both sides, and what is left.
+#[tactic(auto, unfolding(crate::specs::Inside::Opening::both_setups_at))]
+fn both_setups<'a>(
+    material: &Material,
+    bytes: &'a [u8],
+) -> Result<((u8, u8, &'a [u8]), &'a [u8]), TableFault>
+    ensures is { Gives (λ x. ((x.0.0, x.0.1, x.0.2.now), x.1.now)) result (both_setups_at material.now bytes.now) }
+    ensures few { IfOk result (λ x. length x.0.2.now ≤ 5) }
+    ensures no_memory { IfErr result (λ e. e ≢ OutOfMemory) }
+{
+    let (order, rest) = byte(bytes)?;
+    let (second, rest) = second(material, rest)?;
+    let (men, rest) = taken(men(material), rest)?;
+    Ok(((order, second, men), rest))
+}
+
 /// The shape of part k, and what is left.
-#[tactic(auto, unfolding(crate::specs::Files::setup_at))]
 fn setup<'a>(
     material: &Material,
     sides: usize,
@@ -194,11 +210,14 @@ fn setup<'a>(
     ensures no_memory { IfErr result (λ e. e ≢ OutOfMemory) }
 {
     let side = k % sides;
-    let (order, rest) = byte(bytes)?;
-    let (second, rest) = second(material, rest)?;
-    let (men, rest) = taken(men(material), rest)?;
-    let shape = side_shape(material, side, men, order, second, (k / sides) as u8)?;
-    Ok((shape, if side + 1 == sides { rest } else { bytes }))
+    let ((order, second, men), rest) = match both_setups(material, bytes) {
+        Ok(read) => read,
+        Err(fault) => return Err(fault),
+    };
+    match side_shape(material, side, men, order, second, (k / sides) as u8) {
+        Ok(shape) => Ok((shape, if side + 1 == sides { rest } else { bytes })),
+        Err(fault) => Err(fault),
+    }
 }
 
 /// All n shapes, so many sides of each file, and what is left.

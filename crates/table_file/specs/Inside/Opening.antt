@@ -1,13 +1,14 @@
 -- Steps of opening a file, as its functions take them.
-use Rattle.std.specs.Prelude.{ℕ, List, Result, Ok, Err, if◌then◌else◌}
+use Rattle.std.specs.Prelude.{ℕ, List, length, Result, Ok, Err, if◌then◌else◌}
 use Rattle.std.specs.List.{range_with_len}
+use Rattle.place_index.specs.Material.{pieces_of}
 use Rattle.table_file.specs.declared.fault.TableFault.{TableFault}
 use Rattle.table_file.specs.declared.fault.TableFault.TheVariants.{BadSparse}
 use Rattle.table_file.specs.declared.kind.Kind.{Kind}
 use Rattle.table_file.specs.declared.parts.Part.{Part}
 use Rattle.table_file.specs.declared.parts.Section.TheVariants.{Entries, Lengths, Blocks}
-use Rattle.table_file.specs.Reading.{◌>>=◌, each_at, risen}
-use Rattle.table_file.specs.Files.{sides_of, setup_at, part_at, section_at}
+use Rattle.table_file.specs.Reading.{◌>>=◌, each_at, byte_at, taken_at, risen}
+use Rattle.table_file.specs.Files.{sides_of, second_at, setup_at, part_at, section_at}
 use Rattle.table_file.specs.Sparse.{all_fit}
 use Rattle.table_file.specs.Tables.{part_count}
 
@@ -29,6 +30,14 @@ unfoldable pub checked_at : List Part → List ℕ → Result Runs TableFault
 checked_at parts bytes = do
   runs ← runs_at parts bytes
   if all_fit parts runs.entries runs.lengths then Ok runs else Err BadSparse
+
+-- the order bytes and the pieces of a file of the leading pawn, and what is left
+unfoldable pub both_setups_at : ℕ → List ℕ → Result ((ℕ × ℕ × List ℕ) × List ℕ) TableFault
+both_setups_at m bytes = do
+  order ← byte_at bytes
+  second ← second_at m order.1
+  men ← taken_at (length (pieces_of m)) second.1
+  Ok ((order.0, second.0, men.0), men.1)
 
 -- shapes and size records, and what is left
 unfoldable pub all_parts_at : Kind → ℕ → List ℕ → Result (List Part × List ℕ) TableFault
