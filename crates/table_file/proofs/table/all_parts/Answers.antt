@@ -6,5 +6,5 @@ use Rattle.table_file.proofs.table.all_parts.Goals as goal
 pub returns-clause-shaped : goal.returns-clause-shaped
 returns-clause-shaped c =
     if_given (λ x. (x.0.items, x.1.now)) c.parts.result _ (λ x. AreShaped c.args.kind c.args.material.now x.0.items) c.parts.ensures.is
-    (λ x read. are_shaped c.args.kind c.args.material.now c.sides-sides.result _ c.args.bytes.now c.even.result.now (c.in_ok-shapes.shapes.items, c.in_ok-shapes.rest.now) (x.0.items, x.1.now)
+    (λ x read. are_shaped c.args.kind c.args.material.now c.sides-sides.result _ c.args.bytes.now _ (c.in_ok-shapes.shapes.items, c.in_ok-shapes.rest.now) (x.0.items, x.1.now)
     c.sides-sides.ensures.is c.in_ok-shapes.ensures.is read)
