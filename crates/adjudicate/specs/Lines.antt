@@ -1,5 +1,5 @@
 -- The lines that the program writes (this project's own).
-use Rattle.std.specs.Prelude.{ℕ, List, ◌++◌, Option, Some, None, codes}
+use Rattle.std.specs.Prelude.{ℕ, ℤ, List, ◌++◌, Option, Some, None, Result, codes}
 use Rattle.std.specs.Fmt.{decimal}
 use Rattle.board_core.specs.Position.{fault_name as position_fault_name}
 use Rattle.fen_text.specs.declared.fault.FenFault.{FenFault}
@@ -7,7 +7,8 @@ use Rattle.fen_text.specs.declared.fault.FenFault.TheVariants as fen
 use Rattle.fen_text.specs.Fen.{fault_name as fen_fault_name}
 use Rattle.fen_text.specs.Coordinates.{move_text}
 use Rattle.table_file.specs.Faults.{table_fault_name}
-use Rattle.judge_core.specs.ToldWords.{columns_words, outcome_words, told_words, verdict_words}
+use Rattle.judge_core.specs.declared.fault.ProbeFault.{ProbeFault}
+use Rattle.judge_core.specs.ToldWords.{column_words, columns_words, outcome_words, verdict_words}
 use Rattle.move_msg.specs.declared.message.MessageFault.{MessageFault}
 use Rattle.move_msg.specs.Messages.{fault_name as message_fault_name}
 use Rattle.move_msg.specs.MessageWords.{message_words}
@@ -45,6 +46,10 @@ fault_text fen.BadNumber = fen_fault_name fen.BadNumber
 
 abbrev pub refused_fen : FenFault → List ℕ
 refused_fen fault = codes "refused FEN " ++ fault_text fault
+
+-- what a probe tells, or why it tells nothing
+abbrev pub told_words : List ℕ → Result ℤ ProbeFault → List ℕ
+told_words question told = question ++ codes " " ++ column_words told
 
 -- the refusal of a manifest by the number of its first line at fault, and of a file
 abbrev pub refused_manifest : ℕ → List ℕ

@@ -61,7 +61,7 @@ hosted binds unbound is_at passed faults unreadable finds =
 -- an arbiter is opened over the keeper and serves the datagrams, and between any two of them its record is in the file; or it
 -- isn't opened, and nothing is served; the keeper is left so
 pub data OpensAndServes {F : Type 0} (finds : Finds F) (l : Listening) (setup : SetupView) (before after : FileKeeper F) (port port' : AtPort) (old new : Option (List ℕ)) (status : ℕ) : Type 0 where
-  Served : ServesOpened finds setup l.datagrams l.fetch before after port port' old new status → OpensAndServes finds l setup before after port port' old new status
+  Served : ServesOpened finds setup l.datagrams l.fetch before after port port' old new (Ok status) → OpensAndServes finds l setup before after port port' old new status
   Unopened : (fault : OpenFault) → IsOpened finds setup before after (Err fault) → NothingPassed port port' → TellsUnopened fault old new status → OpensAndServes finds l setup before after port port' old new status
 
 -- over the file in which the record is kept: it can't be read; or an arbiter is opened over a keeper of this file, which has

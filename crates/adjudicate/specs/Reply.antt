@@ -22,7 +22,7 @@ use Rattle.judge_core.specs.Games.{IsOutcome}
 use Rattle.judge_core.specs.declared.told.Probed.{Probed}
 use Rattle.judge_core.specs.Ruling.{ruling}
 use Rattle.judge_core.specs.Told.{IsProbed, is_told}
-use Rattle.judge_core.specs.ToldWords.{columns_words, outcome_words, told_words, verdict_words}
+use Rattle.judge_core.specs.ToldWords.{columns_words, outcome_words, verdict_words}
 use Rattle.judge_core.specs.Tables.{Tables}
 use Rattle.relay_world.specs.declared.schedule.Schedule.{Schedule}
 use Rattle.relay_world.specs.Runs.{Runs, WorldView}
@@ -33,7 +33,7 @@ use Rattle.adjudicate.specs.declared.commands.Task.TheVariants as task
 use Rattle.move_msg.specs.ToldManifests.{Told}
 use Rattle.move_msg.specs.Given.{Given}
 use Rattle.arbiter_core.specs.ServedLines.{ended, text_of}
-use Rattle.adjudicate.specs.Lines.{refused_fen, refused_manifest, refused_message, refused_line, refused_memory, refused_move}
+use Rattle.adjudicate.specs.Lines.{told_words, refused_fen, refused_manifest, refused_message, refused_line, refused_memory, refused_move}
 use Rattle.adjudicate.specs.Inputs.{lines_in}
 use Rattle.adjudicate.specs.Schedules.{RefusesTable, game_of, world_words}
 use Rattle.adjudicate.specs.Looks.{Look, gathered, look_for, look_line, are_tables}

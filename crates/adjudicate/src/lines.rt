@@ -3,9 +3,8 @@
 ghost use Rattle.std.specs.Prelude.{◌≡◌, ◌++◌, Some, IfOk, OnOk, codes};
 ghost use Rattle.std.specs.Fmt.{DisplaysOnOk};
 ghost use Rattle.std.specs.Io.KnownBytes.{Appends};
-ghost use Rattle.arbiter_core.specs.ServedLines.{ended, heard_words, verdict_or_none};
-ghost use Rattle.judge_core.specs.ToldWords.{told_words};
-ghost use Rattle.adjudicate.specs.Lines.{arbiter_words, refusal_words, state_word, words_of};
+ghost use Rattle.arbiter_core.specs.ServedLines.{ended, verdict_or_none};
+ghost use Rattle.adjudicate.specs.Lines.{arbiter_words, refusal_words, state_word, told_words, words_of};
 ghost use Rattle.relay_world.specs.Texts.{who_word};
 
 use crate::refusals::Refusal;

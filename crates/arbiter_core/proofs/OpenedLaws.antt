@@ -1,10 +1,11 @@
 -- What serving an opened arbiter leaves.
 use Rattle.std.proofs.Common.{◌≡◌, ◌∙◌, ℕ, ◌≤◌, ◌<◌, Bool, true, false, List, length, take, Option, Some, None, inl, inr, ◌⊎◌, refl, sym, ap, subst, arith, ⊎_elim}
-use Rattle.std.specs.Prelude.{Result, Ok, Err, IfOk, IfErr, IsErr}
+use Rattle.std.specs.Prelude.{Result, Ok, Err, IfErr, IsErr}
 use Rattle.std.specs.List.{list_all}
 use Rattle.std.proofs.lemmas.Bool.{both_ways, cases_Bool, cases_lt}
 use Rattle.std.proofs.lemmas.List.{take_all}
 use Rattle.board_core.specs.declared.moves.Move.{Move as Moves}
+use Rattle.move_msg.specs.declared.output.WriteFault.{WriteFault}
 use Rattle.move_msg.specs.Stamps.{is_printable}
 use Rattle.arbiter_core.specs.declared.keeper.Keep.{Keep}
 use Rattle.arbiter_core.specs.declared.keeper.Keep.TheVariants.{Good, FailsOld, FailsNew}
@@ -113,8 +114,8 @@ is_opened finds setup before now (Ok v) good bad = record { good = good; bad = �
 is_opened finds setup before now (Err fault) good bad = record { good = good; bad = λ g. (ap Err (bad g).0, (bad g).2) }
 
 -- what serving ensures of an arbiter that is opened so
-pub served_so : {F : Type 0} (finds : Finds F) (setup : SetupView) (n : ℕ) (fetch : Bool) (before : FileKeeper F) (opened now : Moment (FileKeeper F)) (port port' : AtPort) (old new : Option (List ℕ)) (status : ℕ) → IsInFile finds before → IsOpened finds setup before opened.keeper (Ok opened.arbiter) → (run : Run (FileKeeper F)) × ServesRun (over_file finds) opened now port port' (asked_first fetch opened.arbiter) run × TellsRun n run old new (Ok status) → ServesOpened finds setup n fetch before now.keeper port port' old new status
-served_so finds setup n fetch before opened now port port' old new status in_file o run =
+pub served_so : {F : Type 0} (finds : Finds F) (setup : SetupView) (n : ℕ) (fetch : Bool) (before : FileKeeper F) (opened now : Moment (FileKeeper F)) (port port' : AtPort) (old new : Option (List ℕ)) (ended : Result ℕ WriteFault) → IsInFile finds before → IsOpened finds setup before opened.keeper (Ok opened.arbiter) → (run : Run (FileKeeper F)) × ServesRun (over_file finds) opened now port port' (asked_first fetch opened.arbiter) run × TellsRun n run old new ended → ServesOpened finds setup n fetch before now.keeper port port' old new ended
+served_so finds setup n fetch before opened now port port' old new ended in_file o run =
     let safe : IsSafe finds opened = opened_safe finds setup before opened in_file o in
     let found = found_through finds opened now run.0.exchanges run.0.loss safe run.1.going run.1.delivered in
     record {

@@ -1,6 +1,7 @@
 -- An arbiter over a file in which its record is kept (this project's own).
-use Rattle.std.specs.Prelude.{◌≡◌, ◌⊎◌, ℕ, Bool, List, Option, Some, Ok, Err}
+use Rattle.std.specs.Prelude.{◌≡◌, ◌⊎◌, ℕ, Bool, List, Option, Some, Result, Ok, Err}
 use Rattle.std.specs.List.{AllByRecursion}
+use Rattle.move_msg.specs.declared.output.WriteFault.{WriteFault}
 use Rattle.arbiter_core.specs.declared.fault.OpenFault.TheVariants.{BadSetup}
 use Rattle.arbiter_core.specs.declared.file_keeper.FileKeeper.{FileKeeper}
 use Rattle.arbiter_core.specs.Answering.{Identity}
@@ -60,8 +61,8 @@ pub record FindsThroughout {F : Type 0} (finds : Finds F) (opened : Moment (File
 -- ---- opened and served
 
 -- an arbiter is opened over the keeper and serves so many datagrams, and between any two of them its record is in the file; the
--- keeper is left so
-pub record ServesOpened {F : Type 0} (finds : Finds F) (setup : SetupView) (n : ℕ) (fetch : Bool) (before after : FileKeeper F) (port port' : AtPort) (old new : Option (List ℕ)) (status : ℕ) : Type 0 where
+-- keeper is left so; the run ends with its status, or where a line could not be written
+pub record ServesOpened {F : Type 0} (finds : Finds F) (setup : SetupView) (n : ℕ) (fetch : Bool) (before after : FileKeeper F) (port port' : AtPort) (old new : Option (List ℕ)) (ended : Result ℕ WriteFault) : Type 0 where
   pub opened : Moment (FileKeeper F)
   pub now : Moment (FileKeeper F)
   pub is_opened : IsOpened finds setup before opened.keeper (Ok opened.arbiter)
@@ -69,4 +70,4 @@ pub record ServesOpened {F : Type 0} (finds : Finds F) (setup : SetupView) (n : 
   pub served : ServesRun (over_file finds) opened now port port' (asked_first fetch opened.arbiter) run
   pub left : now.keeper ≡ after
   pub found : FindsThroughout finds opened run
-  pub told : TellsRun n run old new (Ok status)
+  pub told : TellsRun n run old new ended

@@ -44,6 +44,8 @@ mod message_tests;
 #[cfg(test)]
 mod opening_tests;
 #[cfg(test)]
+mod output_tests;
+#[cfg(test)]
 mod positions;
 #[cfg(test)]
 mod probe_tests;

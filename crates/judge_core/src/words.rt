@@ -73,10 +73,10 @@ fn fmt_fault<W: fmt::Write>(f: &mut fmt::Formatter<W>, fault: ProbeFault) -> fmt
     ensures { DisplaysOnOk W.Write.write_str_gives f.old result (Some (column_words (Err fault))) f.new }
 {
     match fault {
-        ProbeFault::NotCovered(material) => fmt_of_table(f, "NotCovered", material),
-        ProbeFault::Damaged(material) => fmt_of_table(f, "Damaged", material),
-        ProbeFault::OutOfScope => fmt_named(f, "OutOfScope"),
-        ProbeFault::OutOfMemory => fmt_named(f, "OutOfMemory"),
+        ProbeFault::NotCovered(material) | ProbeFault::Damaged(material) => {
+            fmt_of_table(f, fault.name(), material)
+        }
+        ProbeFault::OutOfScope | ProbeFault::OutOfMemory => fmt_named(f, fault.name()),
     }
 }
 

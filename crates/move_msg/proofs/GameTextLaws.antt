@@ -1,9 +1,10 @@
 -- Words and moves of a text.
 use Rattle.std.proofs.Common.{◌≡◌, ℕ, true, false, List, [], ◌∷◌, ◌++◌, length, filter, refl, sym, ap, ◌∙◌, subst, append_assoc}
+use Rattle.std.specs.Prelude.{Result, Ok, Err, OnErr}
 use Rattle.std.specs.List.{slice_split}
 use Rattle.board_core.specs.declared.moves.Move.{Move as Moves}
 use Rattle.fen_text.specs.Coordinates.{AreMoves, SpellsMove}
-use Rattle.move_msg.specs.GameTexts.{IsBadWordAt, TellsMoves, has_bytes, is_gap, words_in}
+use Rattle.move_msg.specs.GameTexts.{HasMove, IsBadWordAt, TellsMoves, has_bytes, is_gap, words_in}
 use Rattle.move_msg.specs.Inside.GameSteps.{AddsWord}
 
 more_moves : (ws vs : List (List ℕ)) (ms ns : List Moves) → AreMoves ws ms → AreMoves vs ns → AreMoves (ws ++ vs) (ms ++ ns)
@@ -59,3 +60,15 @@ read_bad text rest word ws old new r cut adds =
     let left : words_in rest ≡ word ∷ filter has_bytes ws = ap (filter has_bytes) cut ∙ word_stays word ws adds.0 in
     subst (λ vs. IsBadWordAt vs (length new)) (sym (r.is ∙ ap (λ vs. r.front ++ vs) left))
     (subst (λ (ms : List Moves). IsBadWordAt (r.front ++ word ∷ filter has_bytes ws) (length ms)) (sym adds.2) (bad_at r.front (filter has_bytes ws) word old r.are adds.1))
+
+-- a word that follows what is read is one of the text's
+pub has_move : (text rest word : List ℕ) (ws : List (List ℕ)) (old : List Moves) → AreRead text rest old → slice_split is_gap rest ≡ word ∷ ws → (has_bytes word ≡ true) × ((m : Moves) × SpellsMove word m) → HasMove text
+unfolding words_in
+has_move text rest word ws old r cut h =
+    let left : words_in rest ≡ word ∷ filter has_bytes ws = ap (filter has_bytes) cut ∙ word_stays word ws h.0 in
+    (r.front, word, filter has_bytes ws, r.is ∙ ap (λ vs. r.front ++ vs) left, h.1)
+
+-- what holds anyhow holds where there is an error
+pub anyhow : {A E X : Type 0} (r : Result A E) → X → OnErr r X
+anyhow (Ok a) x = tt
+anyhow (Err e) x = x

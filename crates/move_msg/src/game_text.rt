@@ -1,8 +1,10 @@
 //! The moves that a text tells.
 
-ghost use Rattle.std.specs.Prelude.{◌≡◌, ◌∷◌, [], position, IfOk, IfErr, IfSome, IfNone};
+ghost use Rattle.std.specs.Prelude.{◌≡◌, ◌∷◌, [], true, position, IfOk, IfErr, IfSome, IfNone, OnErr};
 ghost use Rattle.std.specs.List.{slice_split};
-ghost use Rattle.move_msg.specs.GameTexts.{IsBadWordAt, TellsMoves, is_gap, words_in};
+ghost use Rattle.board_core.specs.declared.moves.Move.{Move as Moves};
+ghost use Rattle.fen_text.specs.Coordinates.{SpellsMove};
+ghost use Rattle.move_msg.specs.GameTexts.{HasMove, IsBadWordAt, TellsMoves, has_bytes, is_gap, words_in};
 ghost use Rattle.move_msg.specs.Inside.GameSteps.{AddsWord};
 
 use board_core::Move;
@@ -30,7 +32,8 @@ fn cut_first(text: &[u8]) -> Option<(&[u8], &[u8])>
 
 /// Adds the move of a word, and tells whether it is one; nothing between two gaps adds none.
 fn add_word(moves: &mut Vec<Move>, word: &[u8]) -> Result<bool, AllocError>
-    ensures { IfOk result (λ is. AddsWord word.now moves.old.items moves.new.items is) }
+    ensures added { IfOk result (λ is. AddsWord word.now moves.old.items moves.new.items is) }
+    ensures memory { OnErr result ((has_bytes word.now ≡ true) × ((m : Moves) × SpellsMove word.now m)) }
 {
     if word.is_empty() {
         return Ok(true);
@@ -47,10 +50,12 @@ fn add_word(moves: &mut Vec<Move>, word: &[u8]) -> Result<bool, AllocError>
 /// The moves that a text tells, or the place of the first word that is none, counted from 0.
 ///
 /// Words are in coordinates, as `e2e4` or `e7e8q`, and spaces, line feeds and carriage returns stand between them, so many as
-/// there are; a text without words tells no move. The outer error comes only where memory is refused.
+/// there are; a text without words tells no move. The outer error comes only where memory for a move
+/// is refused.
 pub fn read_moves(alloc: Global, text: &[u8]) -> Result<Result<Vec<Move>, usize>, AllocError>
     ensures ok { IfOk result (λ read. IfOk read (λ moves. TellsMoves text.now moves.items)) }
     ensures err { IfOk result (λ read. IfErr read (λ place. IsBadWordAt (words_in text.now) place)) }
+    ensures memory { OnErr result (HasMove text.now) }
 {
     let mut moves = Vec::new(alloc);
     let mut rest = text;

@@ -1,6 +1,6 @@
 use Rattle.std.proofs.Common.{Err, ap, refl}
 use Rattle.std.proofs.lemmas.Result.{IfOk-weaker}
-use Rattle.adjudicate.specs.Running.{FromGiven, NoMemory, Unread}
+use Rattle.adjudicate.specs.Running.{FromGiven, Unread}
 use Rattle.adjudicate.proofs.program.run_task.Goals as goal
 
 pub returns-in-Ok : goal.returns-in-Ok

@@ -1,5 +1,4 @@
 use Rattle.std.proofs.Common.{◌≡◌, ℕ, List, length, refl, subst}
-use Rattle.std.specs.Prelude.{IfOk, Result}
 use Rattle.std.proofs.lemmas.Result.{IfOk-weaker}
 use Rattle.move_msg.specs.Files.{File}
 use Rattle.relay_world.specs.declared.event.Event.{Event}
