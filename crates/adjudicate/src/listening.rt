@@ -60,7 +60,7 @@ struct Terms {
 }
 
 /// The name of a game.
-fn name_in<'a>(matches: &ArgMatches<'a>) -> Option<&'a str>
+fn game_name_in<'a>(matches: &ArgMatches<'a>) -> Option<&'a str>
     ensures some { IfSome result (λ name. IsName (first_value (found_of matches.now)) name.now) }
     ensures none { IfNone result ((name : List ℕ) → IsName (first_value (found_of matches.now)) name → ⊥) }
 {
@@ -76,7 +76,7 @@ fn game_words_of<'a>(matches: &ArgMatches<'a>) -> Option<GameWords<'a>>
     ensures none { IfNone result ((name start tables : List ℕ) → AreGameWords (first_value (found_of matches.now)) name start tables → ⊥) }
 {
     Some(GameWords {
-        name: name_in(matches)?,
+        name: game_name_in(matches)?,
         start: matches.get_str("start")?,
         tables: matches.get_str("tables")?,
     })

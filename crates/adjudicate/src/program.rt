@@ -1,6 +1,6 @@
 //! The program's words, its output and its status.
 
-ghost use Rattle.std.specs.Prelude.{◌≡◌, ◌≢◌, ◌⊎◌, map, true, false, Ok, IfOk, OnErr, OnOk};
+ghost use Rattle.std.specs.Prelude.{◌≡◌, ◌≢◌, ◌⊎◌, map, true, false, Ok, IfOk};
 ghost use Rattle.adjudicate.specs.declared.commands.Task.{Task};
 ghost use Rattle.adjudicate.specs.Listens.{Listens, hosted};
 ghost use Rattle.adjudicate.specs.Running.{AnswersFrom, AnswersTask, Runs};
@@ -40,7 +40,7 @@ fn put_usage<E: Write>(errors: &mut E) {
 }
 
 /// Answers a task from what was read for it.
-fn answer_from<H: Host, W: Write, E: Write>(
+fn answer_given<H: Host, W: Write, E: Write>(
     alloc: Global,
     task: &Task,
     sources: &Sources,
@@ -71,7 +71,7 @@ fn run_task<D: Disk, H: Host, W: Write, E: Write>(
 {
     let places = places_of(task);
     match Sources::read(alloc, disk, &places) {
-        Ok(sources) => answer_from(alloc, task, &sources, host, out, errors),
+        Ok(sources) => answer_given(alloc, task, &sources, host, out, errors),
         Err(ReadFault::Unreadable) => put_refusal(out, Refusal::Files),
         Err(ReadFault::OutOfMemory) => put_refusal(out, Refusal::Memory),
     }

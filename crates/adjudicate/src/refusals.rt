@@ -2,7 +2,6 @@
 
 ghost use Rattle.std.specs.Prelude.{◌++◌, Some};
 ghost use Rattle.std.specs.Fmt.{DisplaysOnOk, decimal};
-ghost use Rattle.arbiter_core.specs.ServedLines.{refused_datagram};
 ghost use Rattle.adjudicate.specs.Lines.{refused_fen, refused_file, refused_message};
 
 use crate::tables::FileFault;

@@ -1,6 +1,6 @@
 //! What is told of each datagram.
 
-ghost use Rattle.std.specs.Prelude.{◌≡◌, ◌++◌, Some, codes};
+ghost use Rattle.std.specs.Prelude.{◌≡◌, Some};
 ghost use Rattle.std.specs.Fmt.{DisplaysOnOk};
 ghost use Rattle.arbiter_core.specs.ServedLines.{heard_words, refused_datagram, verdict_or_none};
 

@@ -6,7 +6,7 @@ use Rattle.adjudicate.proofs.program.run_task.Goals as goal
 pub returns-in-Ok : goal.returns-in-Ok
 returns-in-Ok g c =
     let given = rw c.places_of-places.ensures at c.in-Ok.ensures.given in
-    record { answered = IfOk-weaker c.answer_from.result _ _ (λ status h. FromGiven _ given h) c.answer_from.ensures.answered; quiet = c.answer_from.ensures.quiet }
+    record { answered = IfOk-weaker c.answer_given.result _ _ (λ status h. FromGiven _ given h) c.answer_given.ensures.answered; quiet = c.answer_given.ensures.quiet }
 
 pub returns-in-Err-Unreadable : goal.returns-in-Err-Unreadable
 returns-in-Err-Unreadable g c =

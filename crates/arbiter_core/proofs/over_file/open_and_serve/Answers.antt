@@ -13,6 +13,6 @@ returns-clause-unopened g c = is_opened _ _ _ _ _ c.in-Err.ensures.good c.in-Err
 pub returns-clause-nothing : goal.returns-clause-nothing
 returns-clause-nothing g c = Passes-nil _
 
-pub returns-in-Ok-Err-clause-cut : goal.returns-in-Ok-Err-clause-cut
-returns-in-Ok-Err-clause-cut g c =
-    served_so _ _ _ _ _ (moment _ _) (moment _ _) _ _ _ _ _ c.requires (is_opened _ _ _ _ _ c.in-Ok.ensures.good c.in-Ok.ensures.bad) c.in-Ok-Err.ensures.run
+pub returns-in-Ok-clause-cut : goal.returns-in-Ok-clause-cut
+returns-in-Ok-clause-cut g c =
+    served_so _ _ _ _ _ (moment _ _) (moment _ _) _ _ _ _ _ c.requires (is_opened _ _ _ _ _ c.in-Ok.ensures.good c.in-Ok.ensures.bad) c.in-Err-serve.ensures.run

@@ -1,7 +1,7 @@
 use Rattle.std.proofs.Common.{refl}
 use Rattle.std.proofs.lemmas.Result.{IfOk-weaker}
 use Rattle.adjudicate.specs.Running.{Answered, Listened}
-use Rattle.adjudicate.proofs.program.answer_from.Goals as goal
+use Rattle.adjudicate.proofs.program.answer_given.Goals as goal
 
 pub returns-in-Listen : goal.returns-in-Listen
 returns-in-Listen g c = record { answered = IfOk-weaker c.listen.result _ _ (λ status h. Listened _ c.in-Listen.is h) c.listen.ensures; quiet = λ unasked. refl }
