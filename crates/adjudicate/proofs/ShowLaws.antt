@@ -7,11 +7,11 @@ use Rattle.move_msg.specs.declared.message.Message.{Message}
 use Rattle.move_msg.specs.declared.message.MessageFault.{MessageFault}
 use Rattle.move_msg.specs.Messages.{SpellsMessage, fault_name}
 use Rattle.move_msg.specs.Streams.{BeginsBy, EndsSo, AfterMessage, Cut, AtFault}
-use Rattle.arbiter_core.specs.ServedLines.{ended, text_of}
+use Rattle.move_msg.specs.TextLines.{ended, text_of}
 use Rattle.move_msg.specs.MessageWords.{message_words}
 use Rattle.adjudicate.specs.Lines.{refused_message}
 use Rattle.adjudicate.specs.Reply.{IsShown, Reply, WritesReply, shown}
-use Rattle.adjudicate.proofs.LineLaws.{more_lines}
+use Rattle.move_msg.proofs.LineLaws.{more_lines}
 
 -- the lines of some messages were written, and the rest of the stream is left
 pub record HasShown (stream rest : List ℕ) (old new : Option (List ℕ)) (number : ℕ) : Type 0 where

@@ -6,7 +6,6 @@ pub mod Lines
 pub mod Reads
 pub mod Looks
 pub mod Schedules
-pub mod Inputs
 pub mod Reply
 pub mod Telling
 pub mod Running

@@ -12,6 +12,7 @@ use Rattle.judge_core.specs.ToldWords.{column_words, columns_words, outcome_word
 use Rattle.move_msg.specs.declared.message.MessageFault.{MessageFault}
 use Rattle.move_msg.specs.Messages.{fault_name as message_fault_name}
 use Rattle.move_msg.specs.MessageWords.{message_words}
+use Rattle.move_msg.specs.ToldLines.{refused_memory}
 use Rattle.move_msg.specs.declared.who.Who.{Who}
 use Rattle.relay_world.specs.declared.world.State.{State}
 use Rattle.relay_world.specs.declared.world.State.TheVariants as state
@@ -95,19 +96,12 @@ sent_words number = codes "sent " ++ decimal number
 abbrev pub refused_move : ℕ → List ℕ
 refused_move place = codes "refused move " ++ decimal place
 
--- how many lines are done on the way
-abbrev pub done_words : ℕ → List ℕ
-done_words lines = decimal lines ++ codes " done"
-
 -- the refusal of a schedule by the number of its first line at fault
 abbrev pub refused_line : ℕ → List ℕ
 refused_line number = codes "refused line " ++ decimal number
 
 abbrev pub refused_files : List ℕ
 refused_files = codes "refused files"
-
-abbrev pub refused_memory : List ℕ
-refused_memory = codes "refused memory"
 
 -- why something is refused
 abbrev pub refusal_words : Refusal → List ℕ
@@ -134,4 +128,3 @@ words_of (line.Arbiter who state kept) = arbiter_words who state kept
 words_of (line.Sent number) = sent_words number
 words_of (line.Outcome o) = outcome_words o.outcome o.plies
 words_of (line.Columns c) = columns_words c.probed.wdl c.probed.dtz c.verdict
-words_of (line.Done lines) = done_words lines

@@ -17,7 +17,8 @@ use Rattle.adjudicate.specs.declared.listening.Listening.{Listening}
 use Rattle.move_msg.specs.Given.{Given}
 use Rattle.arbiter_core.specs.KeptFiles.{Finds}
 use Rattle.arbiter_core.specs.ServedLines.{refused_keeper, refused_port}
-use Rattle.adjudicate.specs.Lines.{refused_fen, refused_memory}
+use Rattle.move_msg.specs.ToldLines.{refused_memory}
+use Rattle.adjudicate.specs.Lines.{refused_fen}
 use Rattle.adjudicate.specs.Looks.{gathered}
 use Rattle.arbiter_core.specs.Ports.{Passing, AtPort, NothingPassed, at_port}
 use Rattle.adjudicate.specs.Reply.{IsText}

@@ -1,6 +1,5 @@
 -- What the program answers: a text and a status (this project's own).
 use Rattle.std.specs.Prelude.{◌≡◌, ◌+◌, ◌++◌, ℕ, Bool, false, List, [], ◌∷◌, length, map, Option, Some, None, Result, Ok, Err, if◌then◌else◌, codes, slice_get}
-use Rattle.std.specs.List.{list_all}
 use Rattle.std.specs.Io.KnownBytes.{Appends}
 use Rattle.board_core.specs.declared.parts.Parts.{Parts}
 use Rattle.board_core.specs.declared.moves.Move.{Move as Moves}
@@ -32,9 +31,10 @@ use Rattle.adjudicate.specs.declared.commands.Task.{Task}
 use Rattle.adjudicate.specs.declared.commands.Task.TheVariants as task
 use Rattle.move_msg.specs.ToldManifests.{Told}
 use Rattle.move_msg.specs.Given.{Given}
-use Rattle.arbiter_core.specs.ServedLines.{ended, text_of}
-use Rattle.adjudicate.specs.Lines.{told_words, refused_fen, refused_manifest, refused_message, refused_line, refused_memory, refused_move}
-use Rattle.adjudicate.specs.Inputs.{lines_in}
+use Rattle.move_msg.specs.TextLines.{ended, text_of}
+use Rattle.move_msg.specs.ToldLines.{refused_memory}
+use Rattle.adjudicate.specs.Lines.{told_words, refused_fen, refused_manifest, refused_message, refused_line, refused_move}
+use Rattle.move_msg.specs.TextLines.{lines_in}
 use Rattle.adjudicate.specs.Schedules.{RefusesTable, game_of, world_words}
 use Rattle.adjudicate.specs.Looks.{Look, gathered, look_for, look_line, are_tables}
 
@@ -144,33 +144,15 @@ pub data IsPlayed (text : List ℕ) (gathered : Result Tables (List ℕ)) (delay
 
 -- ---- replies to many positions
 
--- what is told of a line, and whether all of it is told
-pub record LineTold : Type 0 where
-  pub words : List ℕ
-  pub done : Bool
-
 -- a line: what `probe` and `judge` tell of its position, in columns, or the refusal of the text
 pub data TellsLine (tables : Tables) (text : List ℕ) (told : LineTold) : Type 0 where
   OfPosition : (p : Parts) → SpellsPosition text p → IsPosition p → (probed : Probed) → IsProbed tables p probed → told ≡ record { words = columns_words probed.wdl probed.dtz (ruling tables p); done = is_told probed } → TellsLine tables text told
   OfNone : (fault : FenFault) → IsFirstFenFault text fault → told ≡ record { words = refused_fen fault; done = false } → TellsLine tables text told
 
--- each line in turn
-abbrev pub TellsLines : Tables → List (List ℕ) → List LineTold → Type 0
-TellsLines tables [] [] = Unit {0}
-TellsLines tables [] (told ∷ others) = ⊥
-TellsLines tables (line ∷ lines) [] = ⊥
-TellsLines tables (line ∷ lines) (told ∷ others) = TellsLine tables line told × TellsLines tables lines others
-
-abbrev pub words_told : List LineTold → List (List ℕ)
-words_told = map (λ t. t.words)
-
-abbrev pub all_told : List LineTold → Bool
-all_told = list_all (λ t. t.done)
-
 -- probes: the refusal of the tables, or else a line for each line of the input
 pub data IsProbes (text : List ℕ) (gathered : Result Tables (List ℕ)) (r : Reply) : Type 0 where
   NoTables : (words : List ℕ) → gathered ≡ Err words → r ≡ refused words → IsProbes text gathered r
-  LineByLine : (tables : Tables) → gathered ≡ Ok tables → (told : List LineTold) → TellsLines tables (lines_in text) told → r ≡ record { text = text_of (words_told told); status = status_if (all_told told) } → IsProbes text gathered r
+  LineByLine : (tables : Tables) → gathered ≡ Ok tables → (told : List LineTold) → TellsLines (TellsLine tables) (lines_in text) told → r ≡ record { text = text_of (words_told told); status = status_if (all_told told) } → IsProbes text gathered r
 
 -- the first lines of such a reply, up to a position for which there was no memory
 pub record IsFront (text : List ℕ) (gathered : Result Tables (List ℕ)) (lines : List (List ℕ)) : Type 0 where
@@ -182,7 +164,7 @@ pub record IsFront (text : List ℕ) (gathered : Result Tables (List ℕ)) (line
   pub parts : lines_in text ≡ front ++ line ∷ rest
   pub is_text : IsText line
   pub told : List LineTold
-  pub are : TellsLines tables front told
+  pub are : TellsLines (TellsLine tables) front told
   pub lines_are : lines ≡ words_told told
 
 -- ---- the reply to a task

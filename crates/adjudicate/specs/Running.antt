@@ -4,7 +4,8 @@ use Rattle.adjudicate.specs.declared.commands.Task.{Task}
 use Rattle.adjudicate.specs.declared.commands.Task.TheVariants.{Listen}
 use Rattle.adjudicate.specs.declared.listening.Listening.{Listening}
 use Rattle.move_msg.specs.Given.{Given}
-use Rattle.adjudicate.specs.Lines.{refused_files, refused_memory}
+use Rattle.move_msg.specs.ToldLines.{refused_memory}
+use Rattle.adjudicate.specs.Lines.{refused_files}
 use Rattle.move_msg.specs.Outside.{Source}
 use Rattle.move_msg.specs.Reads.{CannotRead, IsGiven, reads_some}
 use Rattle.adjudicate.specs.Reads.{named_in}

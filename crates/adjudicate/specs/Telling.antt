@@ -1,7 +1,7 @@
 -- A refusal of all else.
 use Rattle.std.specs.Prelude.{◌≡◌, ℕ, List, Option}
 use Rattle.std.specs.Io.KnownBytes.{Appends}
-use Rattle.arbiter_core.specs.ServedLines.{ended}
+use Rattle.move_msg.specs.TextLines.{ended}
 
 -- a line alone with status 1
 abbrev pub TellsOne : List ℕ → Option (List ℕ) → Option (List ℕ) → ℕ → Type 0

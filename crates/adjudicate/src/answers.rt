@@ -6,7 +6,7 @@ ghost use Rattle.std.specs.Io.KnownBytes.{Appends};
 ghost use Rattle.move_msg.specs.Files.{file_of};
 ghost use Rattle.move_msg.specs.Manifests.{entry_of};
 ghost use Rattle.adjudicate.specs.declared.commands.Task.TheVariants.{Show};
-ghost use Rattle.arbiter_core.specs.ServedLines.{text_of};
+ghost use Rattle.move_msg.specs.TextLines.{text_of};
 ghost use Rattle.adjudicate.specs.Lines.{words_of};
 ghost use Rattle.adjudicate.specs.Looks.{gathered, look_for, look_line};
 ghost use Rattle.adjudicate.specs.Reply.{Answers, ByTables, IsForText, IsJudged, IsListed, IsMoves, IsReply, IsText, IsTold, TakesMemory, WritesReply, checked, checked_by, status_if, told};

@@ -3,7 +3,8 @@
 ghost use Rattle.std.specs.Prelude.{◌≡◌, ◌++◌, Some, IfOk, OnOk, codes};
 ghost use Rattle.std.specs.Fmt.{DisplaysOnOk};
 ghost use Rattle.std.specs.Io.KnownBytes.{Appends};
-ghost use Rattle.arbiter_core.specs.ServedLines.{ended, verdict_or_none};
+ghost use Rattle.move_msg.specs.TextLines.{ended};
+ghost use Rattle.arbiter_core.specs.ServedLines.{verdict_or_none};
 ghost use Rattle.adjudicate.specs.Lines.{arbiter_words, refusal_words, state_word, told_words, words_of};
 ghost use Rattle.relay_world.specs.Texts.{who_word};
 
@@ -53,8 +54,6 @@ pub(crate) enum Line {
     Outcome(Outcome),
     /// What both probes tell of a position, and the verdict on it.
     Columns(Columns),
-    /// How many lines are done on the way.
-    Done(usize),
 }
 
 /// Tells what the tables tell, or why they tell nothing.
@@ -133,7 +132,6 @@ impl fmt::Display for Line {
             Line::Sent(number) => write!(f, "sent {number}"),
             Line::Outcome(outcome) => write!(f, "{outcome}"),
             Line::Columns(columns) => write!(f, "{columns}"),
-            Line::Done(lines) => write!(f, "{lines} done"),
         }
     }
 }

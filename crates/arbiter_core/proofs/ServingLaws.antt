@@ -6,7 +6,7 @@ use Rattle.std.specs.Io.KnownBytes.{Appends}
 use Rattle.std.proofs.KnownBytes.{Appends-trans, Appends-nil}
 use Rattle.std.proofs.lemmas.List.{length-map, map-append}
 use Rattle.std.proofs.lemmas.List.Concat.{flat_map-append}
-use Rattle.arbiter_core.specs.ServedLines.{ended, text_of}
+use Rattle.move_msg.specs.TextLines.{ended, text_of}
 use Rattle.arbiter_core.specs.Ports.{Passing, Passes, AtPort}
 use Rattle.arbiter_core.specs.Serving.{Stated, Moment, Exchange, InTurn, Loss, NoLoss, KeeperLost, PortLost, Run, ServesRun, TellsRun, line_by, line_of, lines_of, loses_keeper, missed_by, passing_of, with_last}
 use Rattle.arbiter_core.proofs.PortLaws.{Passes-trans, Risen-later}

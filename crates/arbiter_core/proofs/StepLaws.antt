@@ -8,7 +8,8 @@ use Rattle.move_msg.specs.declared.output.WriteFault.{WriteFault}
 use Rattle.arbiter_core.specs.declared.heard.Heard.{Heard}
 use Rattle.arbiter_core.specs.declared.serving.Next.{Next}
 use Rattle.arbiter_core.specs.declared.serving.Next.TheVariants.{GoesOn, Stops}
-use Rattle.arbiter_core.specs.ServedLines.{ended, heard_line, refused_port, text_of}
+use Rattle.move_msg.specs.TextLines.{ended, text_of}
+use Rattle.arbiter_core.specs.ServedLines.{heard_line, refused_port}
 use Rattle.arbiter_core.specs.Ports.{Came, Missed, Passes, AtPort}
 use Rattle.arbiter_core.specs.Serving.{Stated, Moment, Exchange, InTurn, Loss, NoLoss, KeeperLost, PortLost, Run, ServesRun, TellsRun, handed, lines_of, outputs_of}
 use Rattle.arbiter_core.specs.Inside.Steps.{Hears, IsOneStep, status_by}

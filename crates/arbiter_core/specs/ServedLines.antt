@@ -1,7 +1,6 @@
 -- The lines that serving writes (this project's own).
-use Rattle.std.specs.Prelude.{ℕ, List, [], ◌∷◌, ◌++◌, Option, Some, None, codes}
+use Rattle.std.specs.Prelude.{ℕ, List, ◌++◌, Option, Some, None, codes}
 use Rattle.std.specs.Fmt.{decimal}
-use Rattle.std.specs.List.{flat_map}
 use Rattle.board_core.specs.declared.verdict.Verdict.{Verdict}
 use Rattle.board_core.specs.Verdicts.{verdict_name}
 use Rattle.move_msg.specs.Messages.{fault_name as message_fault_name}
@@ -10,13 +9,6 @@ use Rattle.arbiter_core.specs.declared.fault.DeliverFault.TheVariants as deliver
 use Rattle.arbiter_core.specs.declared.heard.Heard.{Heard}
 use Rattle.arbiter_core.specs.declared.heard.Heard.TheVariants as line
 use Rattle.arbiter_core.specs.Faults.{deliver_fault_name}
-
--- a line ends with a line feed
-abbrev pub ended : List ℕ → List ℕ
-ended words = words ++ 10 ∷ []
-
-abbrev pub text_of : List (List ℕ) → List ℕ
-text_of = flat_map ended
 
 -- the verdict's name, or that there is none
 abbrev pub verdict_or_none : Option Verdict → List ℕ

@@ -13,7 +13,8 @@ use Rattle.arbiter_core.specs.Keeping.{Risen}
 use Rattle.arbiter_core.specs.Views.{View}
 use Rattle.arbiter_core.specs.Delivers.{Told, RefusesOrSends, PutsIfAny, answer_of, heard}
 use Rattle.move_msg.specs.declared.output.WriteFault.{WriteFault}
-use Rattle.arbiter_core.specs.ServedLines.{heard_words, refused_datagram, refused_keeper, refused_port, text_of}
+use Rattle.move_msg.specs.TextLines.{text_of}
+use Rattle.arbiter_core.specs.ServedLines.{heard_words, refused_datagram, refused_keeper, refused_port}
 use Rattle.arbiter_core.specs.Ports.{Passing, Came, Missed, Handed, Passes, AtPort}
 
 -- ---- one datagram

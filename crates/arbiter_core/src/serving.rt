@@ -4,7 +4,8 @@ ghost use Rattle.std.specs.Prelude.{◌≡◌, ◌≤◌, ◌∷◌, [], map, co
 ghost use Rattle.std.specs.Result.{result_map_both};
 ghost use Rattle.std.specs.Io.KnownBytes.{Appends};
 ghost use Rattle.arbiter_core.specs.Delivers.{IsKept};
-ghost use Rattle.arbiter_core.specs.ServedLines.{ended, heard_line, refused_datagram, refused_keeper};
+ghost use Rattle.move_msg.specs.TextLines.{ended};
+ghost use Rattle.arbiter_core.specs.ServedLines.{heard_line, refused_datagram, refused_keeper};
 ghost use Rattle.arbiter_core.specs.Ports.{Passes, at_port};
 ghost use Rattle.arbiter_core.specs.Serving.{Run, ServesRun, TellsRun, asked_first, handed, is_loss, moment, stated};
 ghost use Rattle.arbiter_core.specs.Inside.Steps.{Hears, IsOneStep, status_by, stops};

@@ -13,4 +13,6 @@ pub mod InputLaws
 pub mod GameTextLaws
 pub mod NameLaws
 pub mod ManifestFaults
+pub mod LineLaws
+mod TellLaws
 mod WorkedRows

@@ -19,4 +19,6 @@ pub mod Given
 pub mod Reads
 pub mod GameTexts
 pub mod Outputs
+pub mod TextLines
+pub mod ToldLines
 pub mod Inside

@@ -30,6 +30,7 @@ mod stamp;
 mod system_disk;
 mod table_name;
 mod told;
+mod told_lines;
 mod who;
 mod words;
 
@@ -51,5 +52,6 @@ pub use stamp::{Stamp, is_game_name};
 pub use system_disk::SystemDisk;
 pub use table_name::is_file_name;
 pub use told::Manifest;
+pub use told_lines::{TellFault, Teller, tell_lines};
 pub use who::{Sender, Who};
 pub use words::{of_word, word};

@@ -6,7 +6,7 @@ use Rattle.adjudicate.specs.declared.answers.Question.{Question}
 use Rattle.adjudicate.specs.declared.answers.Question.TheVariants.{Verdict, Probe}
 use Rattle.adjudicate.specs.declared.answers.Answer.{Answer}
 use Rattle.adjudicate.specs.declared.answers.Answer.TheVariants.{Refused, One, Lines, Text}
-use Rattle.arbiter_core.specs.ServedLines.{ended, text_of}
+use Rattle.move_msg.specs.TextLines.{ended, text_of}
 use Rattle.adjudicate.specs.Lines.{refusal_words, words_of}
 use Rattle.adjudicate.specs.Reply.{Reply, IsJudged, IsTold, refused, status_if}
 

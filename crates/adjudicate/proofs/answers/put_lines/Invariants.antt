@@ -1,6 +1,6 @@
 use Rattle.std.proofs.Common.{map, take}
 use Rattle.std.specs.Io.KnownBytes.{Appends}
-use Rattle.arbiter_core.specs.ServedLines.{text_of}
+use Rattle.move_msg.specs.TextLines.{text_of}
 use Rattle.adjudicate.specs.Lines.{words_of}
 use Rattle.adjudicate.proofs.answers.put_lines.Given as goal
 

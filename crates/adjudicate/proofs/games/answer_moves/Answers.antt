@@ -1,5 +1,5 @@
 use Rattle.std.proofs.Common.{length, refl, sym, ap}
-use Rattle.arbiter_core.specs.ServedLines.{ended}
+use Rattle.move_msg.specs.TextLines.{ended}
 use Rattle.judge_core.specs.ToldWords.{outcome_words}
 use Rattle.adjudicate.specs.Lines.{refusal_words}
 use Rattle.adjudicate.specs.Reply.{BadTables, Played}

@@ -6,7 +6,7 @@ use Rattle.relay_world.specs.declared.schedule.Schedule.{Schedule}
 use Rattle.relay_world.specs.Runs.{GameView, Runs, Tells, WorldView}
 use Rattle.relay_world.specs.Texts.{SpellsSchedule}
 use Rattle.relay_world.specs.Worlds.{Game, World}
-use Rattle.arbiter_core.specs.ServedLines.{text_of}
+use Rattle.move_msg.specs.TextLines.{text_of}
 use Rattle.adjudicate.specs.Reply.{BadTable, IsRun, Ran, Reply}
 use Rattle.adjudicate.specs.Schedules.{game_of, world_words}
 use Rattle.adjudicate.proofs.ScheduleLaws.{last_of}

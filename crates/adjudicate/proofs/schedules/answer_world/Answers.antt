@@ -1,5 +1,5 @@
 use Rattle.std.proofs.Common.{ℕ, List, ap}
-use Rattle.arbiter_core.specs.ServedLines.{text_of}
+use Rattle.move_msg.specs.TextLines.{text_of}
 use Rattle.adjudicate.specs.Reply.{Reply}
 use Rattle.adjudicate.proofs.schedules.answer_world.Goals as goal
 

@@ -1,8 +1,8 @@
 use Rattle.std.proofs.Common.{◌+◌, ◌∙◌, ap, sym, ℕ, List, ◌∷◌, take}
 use Rattle.fen_text.proofs.CutLaws.{rest_is}
-use Rattle.adjudicate.specs.Inputs.{lines_in}
-use Rattle.adjudicate.proofs.ProbeLaws.{last_line, line_before}
-use Rattle.adjudicate.proofs.probes.first_line.Goals as goal
+use Rattle.move_msg.specs.TextLines.{lines_in}
+use Rattle.move_msg.proofs.TellLaws.{last_line, line_before}
+use Rattle.move_msg.proofs.told_lines.first_line.Goals as goal
 
 pub returns-in-None-clause-lines : goal.returns-in-None-clause-lines
 returns-in-None-clause-lines c = last_line c.args.text.now c.requires (sym c.in-None.ensures)

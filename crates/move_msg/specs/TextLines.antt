@@ -1,7 +1,15 @@
--- Lines of an input (this project's own).
-use Rattle.std.specs.Prelude.{ℕ, List, [], ◌∷◌, filter}
+-- Lines of a text (this project's own).
+use Rattle.std.specs.Prelude.{ℕ, List, [], ◌∷◌, ◌++◌, filter}
+use Rattle.std.specs.List.{flat_map}
 use Rattle.fen_text.specs.Cuts.{cut_at}
 use Rattle.move_msg.specs.GameTexts.{has_bytes}
+
+-- a line ends with a line feed
+abbrev pub ended : List ℕ → List ℕ
+ended words = words ++ 10 ∷ []
+
+abbrev pub text_of : List (List ℕ) → List ℕ
+text_of = flat_map ended
 
 -- a text that a line feed ends has no line after it
 abbrev pub whole_lines : List (List ℕ) → List (List ℕ)

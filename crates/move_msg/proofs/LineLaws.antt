@@ -3,7 +3,7 @@ use Rattle.std.proofs.Common.{List, [], ◌∷◌, ◌++◌, ℕ, Option, ap, sy
 use Rattle.std.specs.Io.KnownBytes.{Appends}
 use Rattle.std.proofs.KnownBytes.{Appends-trans}
 use Rattle.std.proofs.lemmas.List.Concat.{flat_map-append}
-use Rattle.arbiter_core.specs.ServedLines.{ended, text_of}
+use Rattle.move_msg.specs.TextLines.{ended, text_of}
 
 -- one more line after others
 pub more_lines : (old mid new : Option (List ℕ)) (first : List (List ℕ)) (last : List ℕ) → Appends old mid (text_of first) → Appends mid new (ended last) → Appends old new (text_of (first ++ last ∷ []))

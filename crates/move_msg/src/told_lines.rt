@@ -1,0 +1,115 @@
+//! What is told of the lines of a text, a line each.
+
+ghost use Rattle.std.specs.Prelude.{◌≡◌, ◌≢◌, ◌%◌, ◌<◌, ◌==◌, ◌∷◌, List, ℕ, true, false, length, position, IfOk, IsErrOf, codes};
+ghost use Rattle.std.specs.Io.KnownBytes.{Appends};
+ghost use Rattle.move_msg.specs.GameTexts.{has_bytes};
+ghost use Rattle.move_msg.specs.TextLines.{ended, lines_in};
+ghost use Rattle.move_msg.specs.ToldLines.{LineTold, TellsNoMore, WritesAllTold, WritesTold, refused_memory};
+
+use crate::output::WriteFault;
+use std::io::Write;
+
+/// After how many lines it is told how many are done.
+const PROGRESS_STEP: usize = 10_000;
+
+/// Why a line was not told.
+#[derive(Clone, Copy, PartialEq, Eq, Debug)]
+pub enum TellFault {
+    /// Memory was refused; nothing was written.
+    OutOfMemory,
+    /// The writer failed.
+    Io,
+}
+
+/// What tells something of each line of a text.
+pub trait Teller {
+    /// This is told of the line.
+    ghost tells: { Self → List ℕ → LineTold → Type 0 };
+
+    /// What is told of this line takes memory.
+    ghost takes_memory: { List ℕ → Type 0 };
+
+    /// Writes what is told of a line, with a line feed after it, and answers whether all of it is told. What is told of
+    /// a line doesn't depend on those before it.
+    fn tell<W: Write>(&mut self, line: &[u8], out: &mut W) -> Result<bool, TellFault>
+        ensures told { IfOk result (WritesTold (tells self.old line.now) (W.contents out.old) (W.contents out.new)) }
+        ensures memory { IsErrOf result TellFault.OutOfMemory → takes_memory line.now × (W.contents out.new ≡ W.contents out.old) }
+        ensures same { TellsNoMore (tells self.old) (tells self.new) };
+}
+
+/// The first place of a line feed.
+fn line_feed_in(text: &[u8]) -> Option<usize>
+    ensures { result ≡ position (λ b. b == 10) text.now }
+{
+    text.iter().position(|b| *b == b'\n')
+}
+
+/// The first line of a text that isn't empty, and the text after it.
+fn first_line(text: &[u8]) -> (&[u8], &[u8])
+    requires { has_bytes text.now ≡ true }
+    ensures lines { lines_in text.now ≡ result.0.now ∷ lines_in result.1.now }
+    ensures shorter { length result.1.now < length text.now }
+{
+    match line_feed_in(text) {
+        None => (text, &[]),
+        Some(i) => (&text[..i], &text[i + 1..]),
+    }
+}
+
+/// Tells how many lines are done, where that is wanted and enough are done; a failure changes nothing.
+fn tell_progress<E: Write>(errors: &mut E, progress: bool, lines: usize)
+    ensures quiet { progress ≡ false → errors.new ≡ errors.old }
+    ensures seldom { lines % 10000 ≢ 0 → errors.new ≡ errors.old }
+{
+    if !progress || lines % PROGRESS_STEP != 0 {
+        return;
+    }
+    match writeln!(errors, "{lines} done") {
+        Ok(()) => {}
+        Err(_) => {}
+    }
+}
+
+/// Writes that memory was refused, and tells that not all is told.
+fn put_refused_memory<W: Write>(out: &mut W) -> Result<bool, WriteFault>
+    ensures { IfOk result (λ done. Appends (W.contents out.old) (W.contents out.new) (ended refused_memory) × (done ≡ false)) }
+{
+    match out.write_all(b"refused memory\n") {
+        Ok(()) => Ok(false),
+        Err(_) => Err(WriteFault::Io),
+    }
+}
+
+/// Writes what is told of each line of a text as it is made, and tells whether all of it is told. The last line may lack its line
+/// feed.
+///
+/// Memory doesn't grow with the number of lines; where it is refused, the line `refused memory` follows the whole lines before
+/// it, and nothing after. With `progress` it tells `errors` after every 10,000 lines how many are done, as `20000 done`; without,
+/// nothing is written there, and a failure there changes nothing. The error comes only where the writer of the lines fails.
+pub fn tell_lines<T: Teller, W: Write, E: Write>(
+    teller: &mut T,
+    text: &[u8],
+    out: &mut W,
+    errors: &mut E,
+    progress: bool,
+) -> Result<bool, WriteFault>
+    ensures written { IfOk result (WritesAllTold (T.tells teller.old) T.takes_memory text.now (W.contents out.old) (W.contents out.new)) }
+    ensures quiet { progress ≡ false → errors.new ≡ errors.old }
+{
+    let mut rest = text;
+    let mut done = true;
+    let mut lines = 0usize;
+    while !rest.is_empty() {
+        let (line, tail) = first_line(rest);
+        let is_told = match teller.tell(line, out) {
+            Ok(is_told) => is_told,
+            Err(TellFault::OutOfMemory) => return put_refused_memory(out),
+            Err(TellFault::Io) => return Err(WriteFault::Io),
+        };
+        lines = lines.saturating_add(1);
+        tell_progress(errors, progress, lines);
+        done = done && is_told;
+        rest = tail;
+    }
+    Ok(done)
+}
