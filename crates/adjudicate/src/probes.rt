@@ -4,7 +4,7 @@ ghost use Rattle.std.specs.Prelude.{◌≡◌, false, IfOk, OnErr};
 ghost use Rattle.board_core.specs.Position.{IsPosition};
 ghost use Rattle.fen_text.specs.Fen.{SpellsPosition};
 ghost use Rattle.adjudicate.specs.Lines.{words_of};
-ghost use Rattle.adjudicate.specs.Inside.ProbeSteps.{PutsProbes};
+ghost use Rattle.adjudicate.specs.Inside.ProbeSteps.{PutsLines, PutsProbes};
 ghost use Rattle.adjudicate.specs.Reply.{IsText, TellsLine};
 
 use crate::answers::status_if;
@@ -75,6 +75,26 @@ impl<'a> Teller for Prober<'a> {
     }
 }
 
+/// Writes what a set tells of each line of a text as it is made, and tells the status; on the way it tells how far it is, where
+/// that is wanted.
+fn put_probes<W: Write, E: Write>(
+    alloc: Global,
+    set: Set<'_>,
+    text: &[u8],
+    out: &mut W,
+    errors: &mut E,
+    progress: bool,
+) -> Result<u8, WriteFault>
+    ensures written { IfOk result (PutsLines set.entry.tables text.now (W.contents out.old) (W.contents out.new)) }
+    ensures quiet { progress ≡ false → errors.new ≡ errors.old }
+{
+    let mut prober = Prober { alloc, set };
+    match tell_lines(&mut prober, text, out, errors, progress) {
+        Ok(done) => Ok(status_if(done)),
+        Err(fault) => Err(fault),
+    }
+}
+
 /// Writes what the tables of files tell of each line of the input, or the refusal of the tables;
 /// tells the status, 0 where all is told, else 1.
 ///
@@ -91,14 +111,9 @@ pub(crate) fn probes<W: Write, E: Write>(
     ensures written { IfOk result (PutsProbes sources.now (W.contents out.old) (W.contents out.new)) }
     ensures quiet { progress ≡ false → errors.new ≡ errors.old }
 {
-    let set = match gather(alloc, sources) {
-        Ok(Ok(set)) => set,
-        Ok(Err(refusal)) => return put_refusal(out, refusal),
-        Err(_) => return put_refusal(out, Refusal::Memory),
-    };
-    let mut prober = Prober { alloc, set };
-    match tell_lines(&mut prober, sources.input(), out, errors, progress) {
-        Ok(done) => Ok(status_if(done)),
-        Err(fault) => Err(fault),
+    match gather(alloc, sources) {
+        Ok(Ok(set)) => put_probes(alloc, set, sources.input(), out, errors, progress),
+        Ok(Err(refusal)) => put_refusal(out, refusal),
+        Err(_) => put_refusal(out, Refusal::Memory),
     }
 }

@@ -17,9 +17,9 @@ shown_to t given old new status is h = subst (λ (u : Task). Answers u given old
 -- the reply to `probes`, whole or cut short
 probes_to : (t : Task) (given : Given) (old new : Option (List ℕ)) (status : ℕ) → ((r : Reply) → IsProbes given.input (gathered given) r → IsReply t given r) → ((lines : List (List ℕ)) → IsFront given.input (gathered given) lines → IsFrontOf t given lines) → TakesMemory t → PutsProbes given old new status → Answers t given old new status
 probes_to t given old new status reply front memory (PutsRefusal words e wrote is) = Replied (refused words) (reply (refused words) (NoTables words e refl)) (wrote, is)
-probes_to t given old new status reply front memory (PutsLinesOf tables e done (AllTold told are wrote all) is) =
+probes_to t given old new status reply front memory (PutsLinesOf tables e (done, AllTold told are wrote all, is)) =
     Replied (record { text = text_of (words_told told); status = status_if (all_told told) }) (reply _ (LineByLine tables e told are refl)) (wrote, is ∙ ap status_if all)
-probes_to t given old new status reply front memory (PutsLinesOf tables e done (CutOff first line rest parts is_text told are wrote none) is) =
+probes_to t given old new status reply front memory (PutsLinesOf tables e (done, CutOff first line rest parts is_text told are wrote none, is)) =
     CutShort (words_told told) (front _ (record { tables = tables; gathered_is = e; front = first; line = line; rest = rest; parts = parts; is_text = is_text; told = told; are = are; lines_are = refl })) wrote (is ∙ ap status_if none)
 probes_to t given old new status reply front memory (PutsNoLine wrote is) = Refused memory wrote is
 
