@@ -8,7 +8,7 @@ ghost use Rattle.board_core.specs.Attack.{Along, IsClear, Goes, Ray, IsKingStep,
 ghost use Rattle.board_core.specs.Computed.{is_in_check};
 
 use crate::bitboard::Bitboard;
-use crate::piece::{Kind, Men, Piece, Side};
+use crate::piece::{Kind, Men, Side};
 use crate::square::Square;
 
 /// The eight ways in which a queen goes.

@@ -139,9 +139,8 @@ const QUEEN_BLOCKS: [u8; 38] = [
 /// The whole file of such a front.
 pub(crate) fn file_of(front: &[u8]) -> [u8; 80] {
     let mut file = [0u8; 80];
-    for (byte, value) in file.iter_mut().zip(front.iter()) {
-        *byte = *value;
-    }
+    let length = front.len().min(80);
+    file[..length].copy_from_slice(&front[..length]);
     file
 }
 

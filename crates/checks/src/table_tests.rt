@@ -10,7 +10,7 @@ use crate::files::{
     queen_file,
 };
 use place_index::Shape;
-use std::alloc::{AllocError, Global};
+use std::alloc::Global;
 use std::marker::Brand;
 use std::process::Abort;
 use std::sync::ledger::{Blank, Ledger};

@@ -1,6 +1,6 @@
 //! What is told of the lines of a text, a line each.
 
-ghost use Rattle.std.specs.Prelude.{◌≡◌, ◌≢◌, ◌%◌, ◌<◌, ◌==◌, ◌∷◌, List, ℕ, true, false, length, position, IfOk, IsErrOf, codes};
+ghost use Rattle.std.specs.Prelude.{◌≡◌, ◌≢◌, ◌%◌, ◌<◌, ◌==◌, ◌∷◌, List, ℕ, true, false, length, position, IfOk, IsErrOf};
 ghost use Rattle.std.specs.Io.KnownBytes.{Appends};
 ghost use Rattle.move_msg.specs.GameTexts.{has_bytes};
 ghost use Rattle.move_msg.specs.TextLines.{ended, lines_in};

@@ -9,7 +9,7 @@ ghost use Rattle.place_index.specs.Inside.Turns.{turned_by};
 
 use crate::lone_squares::{lone_square, lone_squares, number_group};
 use crate::man::Man;
-use crate::material::{Material, leading_men, leading_pawn};
+use crate::material::{leading_men, leading_pawn};
 use crate::numbers::{pawns_before, pawns_number, pieces_number};
 use crate::placed::Placed;
 use crate::shape::Shape;

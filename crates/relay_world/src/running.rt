@@ -23,7 +23,7 @@ use crate::listing::manifest_of;
 use crate::pair::{Pair, run_from};
 use crate::seat::Place;
 use crate::world::{State, World};
-use arbiter_core::{MemoryKeeper, Setup};
+use arbiter_core::MemoryKeeper;
 use board_core::Move;
 use judge_core::Set;
 use move_msg::{Message, Sender, Stamp};
