@@ -24,8 +24,9 @@ use Rattle.fen_text.proofs.RankLaws.{byte_from, both, join, negated, affirmed}
 use Rattle.fen_text.proofs.WritingLaws.{rank_text_spells}
 use Rattle.fen_text.proofs.FenLaws.{six}
 
-pub six_joined : (a b c d e f : List ℕ) → (((((((((a ++ 32 ∷ []) ++ b) ++ 32 ∷ []) ++ c) ++ 32 ∷ []) ++ d) ++ 32 ∷ []) ++ e) ++ 32 ∷ []) ++ f ≡ join_with_byte 32 (a ∷ b ∷ c ∷ d ∷ e ∷ f ∷ [])
-six_joined a b c d e f = simp append_assoc
+-- three fields and three others, with a space between
+pub halves_joined : (a b c d e f : List ℕ) → (join_with_byte 32 (a ∷ b ∷ c ∷ []) ++ 32 ∷ []) ++ join_with_byte 32 (d ∷ e ∷ f ∷ []) ≡ join_with_byte 32 (a ∷ b ∷ c ∷ d ∷ e ∷ f ∷ [])
+halves_joined a b c d e f = simp append_assoc
 
 -- a text that has grown by another
 pub grown : (new old more a b : List ℕ) → new ≡ old ++ more → old ≡ a → more ≡ b → new ≡ a ++ b

@@ -4,13 +4,14 @@ ghost use Rattle.std.specs.Prelude.{◌≡◌, ◌≤◌, ◌<◌, ◌+◌, ◌+
 ghost use Rattle.arrayvec.specs.ArrayString.{array_string_len};
 ghost use Rattle.fen_text.specs.Placement.{letter_of, rank_men};
 ghost use Rattle.std.specs.Fmt.{decimal};
+ghost use Rattle.std.specs.List.{join_with_byte};
 ghost use Rattle.fen_text.specs.Fields.{side_text, castling_text, square_text, en_passant_text};
 ghost use Rattle.fen_text.specs.Fen.{SpellsPosition};
 ghost use Rattle.fen_text.specs.Written.{run_text, rank_text, placement_text, fen_of};
 
 use crate::counters::digits;
 use arrayvec::ArrayString;
-use board_core::{Kind, Men, Piece, Position, Rights, Side, Square};
+use board_core::{Kind, Men, Parts, Piece, Position, Rights, Side, Square};
 
 /// The letter of a man.
 fn letter(man: Piece) -> &'static str
@@ -177,6 +178,35 @@ fn push_counter(number: u16, out: &mut ArrayString<96>)
     out.push_str(digits(u32::from(number)).as_str());
 }
 
+/// Writes the men, the side to move and the rights, with a space between.
+fn push_board(parts: &Parts, out: &mut ArrayString<96>)
+    requires { array_string_len out.old ≡ 0 }
+    ensures text { out.new.bytes ≡ out.old.bytes ++ join_with_byte 32
+        (placement_text parts.now.men ∷ side_text parts.now.side ∷ castling_text parts.now.rights ∷ []) }
+    ensures len { array_string_len out.new ≤ 78 }
+{
+    push_placement(&parts.men, out);
+    out.push_str(" ");
+    out.push_str(side_letter(parts.side));
+    out.push_str(" ");
+    out.push_str(castling_letters(parts.rights));
+}
+
+/// Writes the en passant square and the two counters, with a space between.
+fn push_counters(parts: &Parts, out: &mut ArrayString<96>)
+    requires room { array_string_len out.old + 12 ≤ 96 }
+    requires halfmove { parts.now.halfmove ≤ 9999 }
+    requires fullmove { parts.now.fullmove ≤ 9999 }
+    ensures text { out.new.bytes ≡ out.old.bytes ++ join_with_byte 32
+        (en_passant_text parts.now.en_passant ∷ decimal parts.now.halfmove ∷ decimal parts.now.fullmove ∷ []) }
+{
+    push_en_passant(parts.en_passant, out);
+    out.push_str(" ");
+    push_counter(parts.halfmove, out);
+    out.push_str(" ");
+    push_counter(parts.fullmove, out);
+}
+
 /// Writes the FEN text of a position (PGN standard, section 16.1): the one text that `read` reads
 /// as this position. It has at most 91 bytes.
 pub fn write(position: &Position) -> ArrayString<96>
@@ -185,16 +215,8 @@ pub fn write(position: &Position) -> ArrayString<96>
 {
     let parts = position.parts();
     let mut out = ArrayString::new();
-    push_placement(&parts.men, &mut out);
+    push_board(parts, &mut out);
     out.push_str(" ");
-    out.push_str(side_letter(parts.side));
-    out.push_str(" ");
-    out.push_str(castling_letters(parts.rights));
-    out.push_str(" ");
-    push_en_passant(parts.en_passant, &mut out);
-    out.push_str(" ");
-    push_counter(parts.halfmove, &mut out);
-    out.push_str(" ");
-    push_counter(parts.fullmove, &mut out);
+    push_counters(parts, &mut out);
     out
 }
