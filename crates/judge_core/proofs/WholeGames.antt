@@ -36,3 +36,16 @@ module _ (r : Rules) (moves : List Move) (k : ℕ) (s : Reached) (at : IsAt r (t
     legal = subst (λ (ms : List Move). IsSome (position_after_all r.start ms)) (ap (λ (n : ℕ). take n moves) le ∙ take_all (length moves) moves (omega arith)) there;
     unruled = subst (λ (n : ℕ). IsUnruled r moves (n + 1)) le (still_none none);
   }
+
+module _ (r : Rules) (moves : List Move) (s : Reached) (at : IsAt r moves s) (before : IsUnruled r moves (length moves)) where
+  all : take (length moves) moves ≡ moves
+  all = take_all (length moves) moves (omega arith)
+
+  at_end : IsAt r (take (length moves) moves) s
+  at_end = subst (λ (ms : List Move). IsAt r ms s) (sym all) at
+
+  pub is_first_at_end : (v : Verdict) → verdict_after r moves ≡ Some v → IsFirst r moves (length moves) v
+  is_first_at_end v is = is_first r moves (length moves) s at_end before v (omega arith) (ap (verdict_after r) all ∙ is)
+
+  pub is_going_at_end : verdict_after r moves ≡ None → IsGoing r moves
+  is_going_at_end is = is_going r moves (length moves) s at_end before refl (ap (verdict_after r) all ∙ is)

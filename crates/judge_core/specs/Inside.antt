@@ -2,3 +2,4 @@
 pub mod Found
 pub mod Counts
 pub mod Kept
+pub mod Following

@@ -1,9 +1,10 @@
 //! The first verdict of a game.
 
-ghost use Rattle.std.specs.Prelude.{◌≡◌, ◌≤◌, take, IfOk};
+ghost use Rattle.std.specs.Prelude.{◌≡◌, ◌<◌, ◌≤◌, length, take, IfOk};
 ghost use Rattle.judge_core.specs.Tables.{AreFiled};
 ghost use Rattle.board_core.specs.Delays.{most_delay};
-ghost use Rattle.judge_core.specs.Games.{IsOutcome, plies_to};
+ghost use Rattle.judge_core.specs.Games.{Rules, IsUnruled, IsOutcome, plies_to};
+ghost use Rattle.judge_core.specs.Inside.Following.{IsFollowed};
 ghost use Rattle.judge_core.specs.Standings.{IsAt};
 
 use crate::set::Set;
@@ -39,7 +40,48 @@ pub struct Followed {
     pub standing: Standing,
 }
 
+/// What a game without an earlier verdict comes to where it stands so after all of its moves.
+fn end_of(standing: &Standing, moves: &[Move], delay: u8) -> GameOutcome
+    requires { delay ≤ most_delay }
+    ensures value { (rules : Rules) → rules.delay ≡ delay → IsAt rules moves.now standing.now → IsUnruled rules moves.now (length moves.now) → IsOutcome rules moves.now result }
+    ensures plies { plies_to moves.now result ≡ length moves.now }
+{
+    match standing.verdict(delay) {
+        Some(verdict) => GameOutcome::Ruled {
+            ply: moves.len(),
+            verdict,
+        },
+        None => GameOutcome::Going,
+    }
+}
+
 impl<'a> Set<'a> {
+    /// What a game comes to at a ply before its last one, where that has a verdict or the move from it isn't legal; otherwise
+    /// none, and the game stands after that move.
+    fn follow_ply(
+        &mut self,
+        alloc: Global,
+        standing: &mut Standing,
+        moves: &[Move],
+        ply: usize,
+        delay: u8,
+    ) -> Result<Option<GameOutcome>, AllocError>
+        requires delay { delay ≤ most_delay }
+        requires within { ply < length moves.now }
+        ensures value { (rules : Rules) → rules.tables ≡ self.old.tables → rules.delay ≡ delay → IsAt rules (take ply moves.now) standing.old
+            → IsUnruled rules moves.now ply → IfOk result (λ ended. IsFollowed rules moves.now ply ended standing.new) }
+        ensures unchanged { self.new ≡ self.old }
+    {
+        if let Some(verdict) = standing.verdict(delay) {
+            return Ok(Some(GameOutcome::Ruled { ply, verdict }));
+        }
+        let Some(position) = standing.position().play(moves[ply]) else {
+            return Ok(Some(GameOutcome::Illegal { place: ply }));
+        };
+        *standing = self.move_on(alloc, standing, position)?;
+        Ok(None)
+    }
+
     /// The first verdict of the game of these moves from this start, and where the game stands at that ply, before an illegal
     /// move or at the end. Each ply is judged as by `judge`, ply 0 among them, before the move from it is played; checkmate and
     /// stalemate end the game at once, and a verdict by tables must hold for `delay` further plies.
@@ -61,27 +103,11 @@ impl<'a> Set<'a> {
     {
         let mut standing = self.begin(alloc, start)?;
         for ply in 0..moves.len() {
-            if let Some(verdict) = standing.verdict(delay) {
-                return Ok(Followed {
-                    outcome: GameOutcome::Ruled { ply, verdict },
-                    standing,
-                });
+            if let Some(outcome) = self.follow_ply(alloc, &mut standing, moves, ply, delay)? {
+                return Ok(Followed { outcome, standing });
             }
-            let Some(position) = standing.position().play(moves[ply]) else {
-                return Ok(Followed {
-                    outcome: GameOutcome::Illegal { place: ply },
-                    standing,
-                });
-            };
-            standing = self.move_on(alloc, &standing, position)?;
         }
-        let outcome = match standing.verdict(delay) {
-            Some(verdict) => GameOutcome::Ruled {
-                ply: moves.len(),
-                verdict,
-            },
-            None => GameOutcome::Going,
-        };
+        let outcome = end_of(&standing, moves, delay);
         Ok(Followed { outcome, standing })
     }
 

@@ -106,6 +106,20 @@ impl<'a> Shelf<'a> {
         self.cache
     }
 
+    /// Puts a table into its slot. One whose memory is refused is dropped, and the shelf stays as it was.
+    fn put(&mut self, own: usize, table: Table<'a>) -> Result<(), AllocError>
+        requires own { own ≡ slot table.kind table.material }
+        requires below { own < 290 }
+        requires known { table.material < 145 }
+        ensures added { OnOk result (self.new ≡ record self.old { tables = slice_set self.old.tables own (Some table.entry) }) }
+        ensures refused { OnErr result (self.new ≡ self.old) }
+    {
+        let place = self.tables.len();
+        self.tables.push(table)?;
+        self.places[own] = Some(place);
+        Ok(())
+    }
+
     /// Adds a table. One that is refused is dropped, and the shelf stays as it was.
     ///
     /// `Duplicate` where there is a table of its kind for its material; otherwise `OutOfMemory` where memory for one table
@@ -119,13 +133,10 @@ impl<'a> Shelf<'a> {
         if self.places[slot].is_some() {
             return Err(SetFault::Duplicate);
         }
-        let place = self.tables.len();
-        match self.tables.push(table) {
-            Ok(()) => {}
-            Err(_) => return Err(SetFault::OutOfMemory),
+        match self.put(slot, table) {
+            Ok(()) => Ok(()),
+            Err(_) => Err(SetFault::OutOfMemory),
         }
-        self.places[slot] = Some(place);
-        Ok(())
     }
 
     /// The table of this kind for this material.

@@ -1,0 +1,31 @@
+use Rattle.std.proofs.Common.{◌∙◌, sym, ap, subst, arith, take, List}
+use Rattle.board_core.specs.declared.parts.Parts.{Parts}
+use Rattle.board_core.specs.declared.moves.Move.{Move}
+use Rattle.board_core.specs.ComputedMoves.{position_after}
+use Rattle.judge_core.specs.Standings.{IsAt}
+use Rattle.judge_core.proofs.WholeGames.{is_first, still_none, one_on, is_illegal}
+use Rattle.judge_core.proofs.set.Set.follow_ply.Goals as goal
+
+pub returns-in-Some-clause-value : goal.returns-in-Some-clause-value
+returns-in-Some-clause-value c = λ rules tables delay at before. (
+  is_first rules c.args.moves.now c.args.ply c.args.standing.now at before c.in-Some.verdict (omega (arith, c.requires.within)) (sym (c.verdict.ensures rules (take c.args.ply c.args.moves.now) delay at) ∙ c.in-Some.is),
+  at,
+)
+
+pub returns-in_default-play-clause-value : goal.returns-in_default-play-clause-value
+returns-in_default-play-clause-value c = λ rules tables delay at before. (
+  is_illegal rules c.args.moves.now c.args.ply c.args.standing.now at before c.index-moves-ply.result c.requires.within
+      (sym (c.verdict.ensures rules (take c.args.ply c.args.moves.now) delay at) ∙ c.in_default.is) c.index-moves-ply.is
+      (ap (λ (p : Parts). position_after p c.index-moves-ply.result) (sym c.position.ensures) ∙ sym c.play.ensures.computed ∙ c.in_default-play.is),
+  at,
+)
+
+pub returns-clause-value : goal.returns-clause-value
+returns-clause-value c = λ rules tables delay at before.
+    let m : Move = c.index-moves-ply.result in
+    let none = sym (c.verdict.ensures rules (take c.args.ply c.args.moves.now) delay at) ∙ c.in_default.is in
+    let legal = ap (λ (p : Parts). position_after p m) (sym c.position.ensures) ∙ sym c.play.ensures.computed ∙ c.in-Some-play.is in (
+      subst (λ (ms : List Move). IsAt rules ms c.in_ok-standing.field-0) (one_on rules c.args.moves.now c.args.ply c.args.standing.now at before m c.requires.within c.index-moves-ply.is)
+          (c.in_ok-standing.ensures.at rules (take c.args.ply c.args.moves.now) m tables at legal),
+      still_none rules c.args.moves.now c.args.ply c.args.standing.now at before none,
+    )
