@@ -31,10 +31,9 @@ use Rattle.adjudicate.specs.declared.commands.Task.{Task}
 use Rattle.adjudicate.specs.declared.commands.Task.TheVariants as task
 use Rattle.move_msg.specs.ToldManifests.{Told}
 use Rattle.move_msg.specs.Given.{Given}
-use Rattle.move_msg.specs.TextLines.{ended, text_of}
+use Rattle.move_msg.specs.TextLines.{ended, lines_in, text_of}
 use Rattle.move_msg.specs.ToldLines.{LineTold, TellsLines, all_told, refused_memory, words_told}
 use Rattle.adjudicate.specs.Lines.{told_words, refused_fen, refused_manifest, refused_message, refused_line, refused_move}
-use Rattle.move_msg.specs.TextLines.{lines_in}
 use Rattle.adjudicate.specs.Schedules.{RefusesTable, game_of, world_words}
 use Rattle.adjudicate.specs.Looks.{Look, gathered, look_for, look_line, are_tables}
 

@@ -68,6 +68,8 @@ mod serving_tests;
 #[cfg(test)]
 mod table_tests;
 #[cfg(test)]
+mod telling_tests;
+#[cfg(test)]
 mod udp_tests;
 #[cfg(test)]
 mod world_tests;

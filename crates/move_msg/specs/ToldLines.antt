@@ -1,5 +1,6 @@
 -- What is told of the lines of a text, a line each (this project's own).
 use Rattle.std.specs.Prelude.{◌≡◌, ◌++◌, ℕ, Bool, false, List, [], ◌∷◌, map, Option, codes}
+use Rattle.std.specs.Fmt.{decimal}
 use Rattle.std.specs.List.{list_all}
 use Rattle.std.specs.Io.KnownBytes.{Appends}
 use Rattle.move_msg.specs.TextLines.{ended, lines_in, text_of}
@@ -29,6 +30,10 @@ TellsNoMore Before After = (line : List ℕ) (told : LineTold) → After line to
 -- what is told of one line was written
 abbrev pub WritesTold : (LineTold → Type 0) → Option (List ℕ) → Option (List ℕ) → Bool → Type 0
 WritesTold IsTold old new done = (words : List ℕ) × IsTold (record { words = words; done = done }) × Appends old new (ended words)
+
+-- how many lines are done on the way
+abbrev pub done_words : ℕ → List ℕ
+done_words lines = decimal lines ++ codes " done"
 
 abbrev pub refused_memory : List ℕ
 refused_memory = codes "refused memory"

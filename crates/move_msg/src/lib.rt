@@ -5,8 +5,8 @@
 //! byte first.
 //!
 //! Also which files of a folder a manifest wants, and how they are read: `Disk` is where folders, files and an input come in,
-//! `SystemDisk` the system's; `Sources` what a task is answered from, `read_moves` the moves that an input tells, and `Output`
-//! where answers go out.
+//! `SystemDisk` the system's; `Sources` what a task is answered from, `read_moves` the moves that an input tells, `Output` where
+//! answers go out, and `tell_lines` has a `Teller` tell something of each line of a text.
 #![tactic(auto)]
 
 mod coding;

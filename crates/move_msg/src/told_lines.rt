@@ -1,10 +1,10 @@
 //! What is told of the lines of a text, a line each.
 
-ghost use Rattle.std.specs.Prelude.{◌≡◌, ◌≢◌, ◌%◌, ◌<◌, ◌==◌, ◌∷◌, List, ℕ, true, false, length, position, IfOk, IsErrOf};
+ghost use Rattle.std.specs.Prelude.{◌≡◌, ◌≢◌, ◌%◌, ◌<◌, ◌==◌, ◌∷◌, List, ℕ, true, false, length, position, IfOk, OnOk, IsErrOf};
 ghost use Rattle.std.specs.Io.KnownBytes.{Appends};
 ghost use Rattle.move_msg.specs.GameTexts.{has_bytes};
 ghost use Rattle.move_msg.specs.TextLines.{ended, lines_in};
-ghost use Rattle.move_msg.specs.ToldLines.{LineTold, TellsNoMore, WritesAllTold, WritesTold, refused_memory};
+ghost use Rattle.move_msg.specs.ToldLines.{LineTold, TellsNoMore, WritesAllTold, WritesTold, done_words, refused_memory};
 
 use crate::output::WriteFault;
 use std::io::Write;
@@ -29,8 +29,11 @@ pub trait Teller {
     /// What is told of this line takes memory.
     ghost takes_memory: { List ℕ → Type 0 };
 
-    /// Writes what is told of a line, with a line feed after it, and answers whether all of it is told. What is told of
-    /// a line doesn't depend on those before it.
+    /// Writes what is told of a line, with a line feed after it, and answers whether all of it is told. What is told of a line
+    /// later could have been told before.
+    ///
+    /// `OutOfMemory` comes only for a line that takes memory, and nothing of it is written then. After `Io` perhaps a part of the
+    /// line is.
     fn tell<W: Write>(&mut self, line: &[u8], out: &mut W) -> Result<bool, TellFault>
         ensures told { IfOk result (WritesTold (tells self.old line.now) (W.contents out.old) (W.contents out.new)) }
         ensures memory { IsErrOf result TellFault.OutOfMemory → takes_memory line.now × (W.contents out.new ≡ W.contents out.old) }
@@ -56,6 +59,16 @@ fn first_line(text: &[u8]) -> (&[u8], &[u8])
     }
 }
 
+/// Writes how many lines are done.
+fn put_done<E: Write>(errors: &mut E, lines: usize) -> Result<(), WriteFault>
+    ensures { OnOk result (Appends (E.contents errors.old) (E.contents errors.new) (ended (done_words lines))) }
+{
+    match writeln!(errors, "{lines} done") {
+        Ok(()) => Ok(()),
+        Err(_) => Err(WriteFault::Io),
+    }
+}
+
 /// Tells how many lines are done, where that is wanted and enough are done; a failure changes nothing.
 fn tell_progress<E: Write>(errors: &mut E, progress: bool, lines: usize)
     ensures quiet { progress ≡ false → errors.new ≡ errors.old }
@@ -64,7 +77,7 @@ fn tell_progress<E: Write>(errors: &mut E, progress: bool, lines: usize)
     if !progress || lines % PROGRESS_STEP != 0 {
         return;
     }
-    match writeln!(errors, "{lines} done") {
+    match put_done(errors, lines) {
         Ok(()) => {}
         Err(_) => {}
     }
@@ -83,9 +96,10 @@ fn put_refused_memory<W: Write>(out: &mut W) -> Result<bool, WriteFault>
 /// Writes what is told of each line of a text as it is made, and tells whether all of it is told. The last line may lack its line
 /// feed.
 ///
-/// Memory doesn't grow with the number of lines; where it is refused, the line `refused memory` follows the whole lines before
-/// it, and nothing after. With `progress` it tells `errors` after every 10,000 lines how many are done, as `20000 done`; without,
-/// nothing is written there, and a failure there changes nothing. The error comes only where the writer of the lines fails.
+/// Memory doesn't grow with the number of lines. Where it is refused for one, the line `refused memory` follows the whole lines
+/// before it, and nothing after, and not all is told. With `progress` it tells `errors` after every 10,000 lines how many are
+/// done, as `20000 done`; without, nothing is written there, and a failure there changes nothing. The error comes where the
+/// writer of the lines fails, or the teller tells that it did; what it has then isn't told.
 pub fn tell_lines<T: Teller, W: Write, E: Write>(
     teller: &mut T,
     text: &[u8],
@@ -95,6 +109,7 @@ pub fn tell_lines<T: Teller, W: Write, E: Write>(
 ) -> Result<bool, WriteFault>
     ensures written { IfOk result (WritesAllTold (T.tells teller.old) T.takes_memory text.now (W.contents out.old) (W.contents out.new)) }
     ensures quiet { progress ≡ false → errors.new ≡ errors.old }
+    ensures same { TellsNoMore (T.tells teller.old) (T.tells teller.new) }
 {
     let mut rest = text;
     let mut done = true;
