@@ -1,7 +1,7 @@
 -- Counts that are found one after the other.
-use Rattle.std.proofs.Common.{◌≡◌, ◌≢◌, ℕ, ◌+◌, ◌<◌, ◌≤◌, List, length, get_or, set, refl, sym, ap, ◌∙◌, inl, inr, arith}
+use Rattle.std.proofs.Common.{◌≡◌, ◌≢◌, ℕ, ◌+◌, ◌<◌, ◌≤◌, List, ◌++◌, length, get_or, set, take, refl, sym, ap, ◌∙◌, inl, inr, arith}
 use Rattle.std.specs.Prelude.{◌⊎◌}
-use Rattle.std.proofs.lemmas.List.{length-append, length-set, get_or-set_same, get_or-set_other, set-get_or}
+use Rattle.std.proofs.lemmas.List.{length-append, length-set, get_or-set_same, get_or-set_other, set-get_or, take-append-le, take_all}
 use Rattle.std.proofs.lemmas.Bool.{cases_eq}
 use Rattle.pair_dict.specs.Symbols.{symbol_count, left, right, HasValues, leaf, pair}
 use Rattle.pair_dict.specs.Inside.Counts.{AreCounts, AreSettled, KeepsKnown}
@@ -180,3 +180,23 @@ all_counted symbols counts h known =
 -- nothing is counted yet
 pub settled_first : (symbols counts : List ℕ) → length counts ≡ symbol_count symbols → ((s : ℕ) → get_or counts s 0 ≡ 0) → AreSettled symbols counts
 settled_first symbols counts len none = record { lengths = len; each = λ s lt ne. absurd (ne (none s)); few = λ s. omega (arith, none s) }
+
+-- the counts of the symbols before one are known
+pub record IsAll (symbols counts : List ℕ) (s : ℕ) : Type 0 where
+  pub settled : AreSettled symbols counts
+  pub known : (t : ℕ) → t < s → get_or counts t 0 ≢ 0
+
+-- the counts after one turn more, written back over all of those that were held
+pub settled_more : (symbols old held new after : List ℕ) (m s : ℕ) → m ≡ length new → held ≡ old → AreSettled symbols new → KeepsKnown held new → get_or new s 0 ≢ 0 → ((t : ℕ) → t < s → get_or old t 0 ≢ 0) → IsAll symbols (take m (new ++ after)) (s + 1)
+settled_more symbols old held new after m s whole held-is settled kept counted known =
+    let same : take m (new ++ after) ≡ new = take-append-le m new after (omega (arith, whole)) ∙ take_all m new (omega (arith, whole)) in
+    let still : (t : ℕ) → t < s → get_or new t 0 ≢ 0 = λ t lt z.
+    let is = ap (λ (xs : List ℕ). get_or xs t 0) held-is in
+    known t lt (sym is ∙ sym (kept t (λ e. known t lt (sym is ∙ e))) ∙ z) in
+    rw same (record {
+      settled = settled;
+      known = λ t lt. elim (cases_eq t s) [
+        | inl e ↦ rw e counted
+        | inr ne ↦ still t (omega (arith, lt, ne))
+      ];
+    })

@@ -1,7 +1,7 @@
-use Rattle.std.proofs.Common.{◌≡◌, ◌/◌, ◌∙◌, ℕ, List, length, replicate, ap, arith, rules, inr, get_or}
+use Rattle.std.proofs.Common.{◌≡◌, ◌/◌, ◌∙◌, ℕ, List, length, replicate, sym, ap, arith, rules, inr, get_or}
 use Rattle.std.proofs.lemmas.List.{length-replicate}
 use Rattle.std.proofs.lemmas.Result.{err_from_is_err_and}
-use Rattle.pair_dict.proofs.Settling.{all_counted, settled_first}
+use Rattle.pair_dict.proofs.Settling.{all_counted, settled_first, settled_more}
 use Rattle.pair_dict.proofs.SymbolValues.{all_have}
 use Rattle.pair_dict.proofs.ValueCounts.{have_all, one_without}
 use Rattle.pair_dict.proofs.WordLemmas.{zeros}
@@ -26,3 +26,11 @@ returns-clause-good c =
     let symbols = c.args.symbols.now in
     let h = c.loop-symbol.invariant in
     have_all symbols (all_have symbols c.loop-symbol.counts.items (all_counted symbols c.loop-symbol.counts.items h.settled (λ s lt. h.known s (omega (arith, lt, c.loop-symbol-test.false)))))
+
+pub loop-symbol-preserved : goal.loop-symbol-preserved
+loop-symbol-preserved c =
+    let old = c.loop-symbol.invariant in
+    let new = c.in_ok-settle.ensures in
+    let h = settled_more c.args.symbols.now c.loop-symbol.counts.items c.deref_mut.result.now c.settle.new.counts _ c.loop-symbol.counts.len c.loop-symbol.symbol
+    (c.loop-symbol.counts.ok.0 ∙ old.settled.lengths ∙ sym new.settled.lengths) c.deref_mut.ensures.value new.settled new.kept new.counted old.known in
+    record { settled = h.settled; known = h.known }
