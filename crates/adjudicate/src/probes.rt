@@ -51,7 +51,7 @@ fn probe_line(alloc: Global, set: &mut Set<'_>, text: &[u8]) -> Result<(Line, bo
 /// Tells of a line what tables tell of its position.
 #[derive(Drop)]
 struct Prober<'a> {
-    /// What the set may grow by.
+    /// Where its memory comes from.
     alloc: Global,
     /// The tables.
     set: Set<'a>,
