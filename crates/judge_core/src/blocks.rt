@@ -8,7 +8,7 @@ use std::alloc::{AllocError, Global};
 use std::num::NonZeroUsize;
 
 /// Names a block of a file of a side of a table.
-#[derive(Clone, Copy, PartialEq, Eq, Hash, Debug)]
+#[derive(Clone, Copy, PartialEq, Eq, Hash)]
 pub(crate) struct BlockKey {
     /// The table's slot.
     pub(crate) slot: u16,
@@ -22,7 +22,7 @@ pub(crate) struct BlockKey {
 
 /// A block that was asked for: its key, when it was asked for last, counted in askings, and how often in a row since it was new
 /// or decoded.
-#[derive(Clone, Copy, PartialEq, Eq, Debug)]
+#[derive(Clone, Copy)]
 pub(crate) struct Asked {
     key: BlockKey,
     when: u32,
@@ -30,7 +30,7 @@ pub(crate) struct Asked {
 }
 
 /// How a block is asked for.
-#[derive(Clone, Copy, PartialEq, Eq, Debug)]
+#[derive(Clone, Copy)]
 pub(crate) enum Asking {
     /// For the first time of late.
     First,

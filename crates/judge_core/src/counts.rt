@@ -11,7 +11,7 @@ use place_index::Material;
 use table_file::Outcome;
 
 /// What the pawn moves so far have told.
-#[derive(Clone, Copy, PartialEq, Eq, Debug)]
+#[derive(Clone, Copy)]
 pub(crate) struct Steps {
     /// The first faults of the values after them.
     pub faults: Faults,
@@ -54,7 +54,7 @@ impl Steps {
 }
 
 /// What the quiet moves so far have told.
-#[derive(Clone, Copy, PartialEq, Eq, Debug)]
+#[derive(Clone, Copy)]
 pub(crate) struct Counts {
     /// The first faults of the distances after them.
     pub faults: Faults,

@@ -7,7 +7,7 @@ use crate::fault::ValueFault;
 use table_file::Outcome;
 
 /// How many plies the winner is from the next capture or pawn move, or from mate (Syzygy DTZ tables).
-#[derive(Clone, Copy, PartialEq, Eq, Debug)]
+#[derive(Clone, Copy)]
 pub(crate) enum Distance {
     /// Neither side wins.
     Draw,

@@ -8,7 +8,7 @@ ghost use Rattle.judge_core.specs.Answers.{probe_fault_name};
 use place_index::Material;
 
 /// Why the tables don't tell what a position is worth.
-#[derive(Clone, Copy, PartialEq, Eq, Debug)]
+#[derive(Clone, Copy)]
 pub(crate) enum ValueFault {
     /// The set has no table for these men.
     NotCovered(Material),
@@ -17,7 +17,7 @@ pub(crate) enum ValueFault {
 }
 
 /// The first table that is missing and the first that is damaged, of those asked so far.
-#[derive(Clone, Copy, PartialEq, Eq, Debug)]
+#[derive(Clone, Copy)]
 pub(crate) struct Faults {
     /// The first that is missing.
     pub missing: Option<Material>,

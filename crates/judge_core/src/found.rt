@@ -9,7 +9,7 @@ use crate::fault::{Faults, ValueFault};
 use crate::wdl::Wdl;
 
 /// What captures and the own table say of a position.
-#[derive(Clone, Copy, PartialEq, Eq, Debug)]
+#[derive(Clone, Copy)]
 pub(crate) struct Weighed {
     /// The best capture other than en passant, a loss without one.
     pub capture: Wdl,
@@ -57,7 +57,7 @@ pub(crate) fn worth_in(weighed: Result<Weighed, ValueFault>) -> Result<Wdl, Valu
 }
 
 /// What the captures so far have told.
-#[derive(Clone, Copy, PartialEq, Eq, Debug)]
+#[derive(Clone, Copy)]
 pub(crate) struct Found {
     /// The first faults of their values.
     pub faults: Faults,

@@ -17,7 +17,7 @@ use board_core::Verdict;
 use byteorder::{BigEndian, ByteOrder};
 
 /// The kinds of messages.
-#[derive(Clone, Copy, PartialEq, Eq, Debug)]
+#[derive(Clone, Copy)]
 enum Kind {
     Move,
     Ack,

@@ -44,7 +44,7 @@ pub(crate) fn firsts_of(alloc: Global, least: u32, lowest: &[u8]) -> Result<Vec<
 }
 
 /// Where the search for a long code begins: bits below `first` are no code of the lengths before the place `from`.
-#[derive(Clone, Copy, Debug, PartialEq, Eq)]
+#[derive(Clone, Copy)]
 pub(crate) struct LongCodes {
     pub(crate) from: usize,
     pub(crate) first: u64,
@@ -121,7 +121,7 @@ pub(crate) fn code_in(
 const NO_LENGTH: u8 = 255;
 
 /// A short code: its symbol, and its length in bits, or `NO_LENGTH`.
-#[derive(Clone, Copy, Debug, PartialEq, Eq)]
+#[derive(Clone, Copy)]
 pub(crate) struct ShortCode {
     pub(crate) symbol: u16,
     pub(crate) length: u8,

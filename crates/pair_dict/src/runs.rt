@@ -18,7 +18,7 @@ const NO_BITS: u8 = 255;
 
 /// The whole short codes with which a few bits begin: how many values they stand for, and how many bits they take, or
 /// `NO_BITS` where there is none.
-#[derive(Clone, Copy, Debug, PartialEq, Eq)]
+#[derive(Clone, Copy)]
 pub(crate) struct Run {
     pub(crate) values: u16,
     pub(crate) bits: u8,

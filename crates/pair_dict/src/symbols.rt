@@ -13,7 +13,7 @@ pub(crate) const MOST_VALUES: usize = 256;
 const LEAF: u16 = 4095;
 
 /// What a symbol stands for: one value, or the values of two symbols, one after the other.
-#[derive(Clone, Copy, Debug, PartialEq, Eq)]
+#[derive(Clone, Copy)]
 pub(crate) enum Symbol {
     Leaf(u16),
     Pair(u16, u16),

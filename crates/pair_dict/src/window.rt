@@ -59,7 +59,7 @@ pub(crate) fn room_at(block: &[u8], at: usize) -> usize
 const FEW_BITS: u32 = 12;
 
 /// The bits of a block from some bit on, at the top of a word, and how many of them it holds.
-#[derive(Clone, Copy, Debug, PartialEq, Eq)]
+#[derive(Clone, Copy)]
 pub(crate) struct BitBuffer {
     bits: u64,
     held: u32,

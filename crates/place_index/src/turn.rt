@@ -7,7 +7,7 @@ use crate::tables::TURNED;
 use board_core::Square;
 
 /// Which mirrorings all men go through, in this sequence.
-#[derive(Clone, Copy, PartialEq, Eq, Default, Debug)]
+#[derive(Clone, Copy, Default)]
 pub(crate) struct Turn {
     /// Whether files a and h are exchanged, and so on.
     pub(crate) left_right: bool,

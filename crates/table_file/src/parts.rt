@@ -27,7 +27,7 @@ pub(crate) struct Part<'a> {
 }
 
 /// What stands behind the value maps, each for all parts.
-#[derive(Clone, Copy, Debug, PartialEq, Eq)]
+#[derive(Clone, Copy)]
 pub(crate) enum Section {
     Entries,
     Lengths,

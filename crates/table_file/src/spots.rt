@@ -27,7 +27,7 @@ pub enum Spot {
 }
 
 /// A block, and an offset from its first value, which may pass its last one.
-#[derive(Clone, Copy, Debug, PartialEq, Eq)]
+#[derive(Clone, Copy)]
 struct Place {
     block: usize,
     offset: usize,

@@ -146,7 +146,7 @@ pub(super) fn padding_of(span: u64, size: u64) -> Option<u8>
 }
 
 /// A block, and how many values stand before it.
-#[derive(Clone, Copy, Debug, PartialEq, Eq)]
+#[derive(Clone, Copy)]
 struct Place {
     block: usize,
     before: u64,
@@ -210,7 +210,7 @@ pub(super) fn entries_of(
 }
 
 /// The bits behind the last whole byte, fewer than eight: low bits of a number.
-#[derive(Clone, Copy, Debug, PartialEq, Eq)]
+#[derive(Clone, Copy)]
 struct Held {
     bits: u64,
     count: u32,
