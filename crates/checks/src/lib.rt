@@ -54,12 +54,6 @@ mod record_tests;
 #[cfg(test)]
 mod refusal_tests;
 #[cfg(test)]
-mod seeded_counts;
-#[cfg(test)]
-mod seeded_men;
-#[cfg(test)]
-mod seeded_places;
-#[cfg(test)]
 mod seeded_tests;
 #[cfg(test)]
 mod seeded_world_tests;

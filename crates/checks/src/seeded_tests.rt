@@ -1,77 +1,87 @@
-//! Seeded positions of all materials, whose indices are found by counting placements one by one.
+//! Seeded positions of all materials, whose indices are those that are found by counting placements one by one.
 
 use crate::comparing::check_same;
-use crate::seeded_counts::{count_kings, count_threes};
-use crate::seeded_men::{Few, add, arrangement, codes_of, count, turned};
-use crate::seeded_places::{Lists, count_groups, is_allowed, sum};
 use arrayvec::ArrayVec;
 use board_core::{Kind, Men, Parts, Piece, Position, Rights, Side};
 use place_index::{Material, Shape, index, place};
-use std::alloc::Global;
 use std::process::Abort;
 
-/// The tables of three to five men, in the order of their keys.
-const NAMES: [&str; 15] = [
-    "KQvK KRvK KBvK KNvK KPvK KQQvK KQRvK KQBvK KQNvK KQPvK",
-    "KRRvK KRBvK KRNvK KRPvK KBBvK KBNvK KBPvK KNNvK KNPvK KPPvK",
-    "KQvKQ KQvKR KQvKB KQvKN KQvKP KRvKR KRvKB KRvKN KRvKP KBvKB",
-    "KBvKN KBvKP KNvKN KNvKP KPvKP KQQQvK KQQRvK KQQBvK KQQNvK KQQPvK",
-    "KQRRvK KQRBvK KQRNvK KQRPvK KQBBvK KQBNvK KQBPvK KQNNvK KQNPvK KQPPvK",
-    "KRRRvK KRRBvK KRRNvK KRRPvK KRBBvK KRBNvK KRBPvK KRNNvK KRNPvK KRPPvK",
-    "KBBBvK KBBNvK KBBPvK KBNNvK KBNPvK KBPPvK KNNNvK KNNPvK KNPPvK KPPPvK",
-    "KQQvKQ KQQvKR KQQvKB KQQvKN KQQvKP KQRvKQ KQRvKR KQRvKB KQRvKN KQRvKP",
-    "KQBvKQ KQBvKR KQBvKB KQBvKN KQBvKP KQNvKQ KQNvKR KQNvKB KQNvKN KQNvKP",
-    "KQPvKQ KQPvKR KQPvKB KQPvKN KQPvKP KRRvKQ KRRvKR KRRvKB KRRvKN KRRvKP",
-    "KRBvKQ KRBvKR KRBvKB KRBvKN KRBvKP KRNvKQ KRNvKR KRNvKB KRNvKN KRNvKP",
-    "KRPvKQ KRPvKR KRPvKB KRPvKN KRPvKP KBBvKQ KBBvKR KBBvKB KBBvKN KBBvKP",
-    "KBNvKQ KBNvKR KBNvKB KBNvKN KBNvKP KBPvKQ KBPvKR KBPvKB KBPvKN KBPvKP",
-    "KNNvKQ KNNvKR KNNvKB KNNvKN KNNvKP KNPvKQ KNPvKR KNPvKB KNPvKN KNPvKP",
-    "KPPvKQ KPPvKR KPPvKB KPPvKN KPPvKP",
+/// The 145 materials in the order of their keys, ten a row, and what the indices of a hundred positions of each are folded to.
+/// A word is a table's pieces in their order, white's in capitals, and the two nibbles of its order. `tools/count_placements`
+/// prints these rows: it draws the same positions and counts the placements before each.
+const ROWS: [(&str, u64); 15] = [
+    (
+        "KQk00 RkK00 kKB00 KNk00 PKk10 kKQQ10 RkKQ00 kKQB10 KQNk00 PKQk10",
+        16234385557406813889,
+    ),
+    (
+        "KkRR00 kKRB10 KRNk00 PKRk10 KkBB00 kKBN10 PKBk00 kKNN10 PKNk20 PPKk10",
+        13484421708334782833,
+    ),
+    (
+        "KQkq00 QkrK10 kbKQ00 nKQk10 pKQk00 RkrK10 kbKR00 nKRk10 pKRk00 BkbK10",
+        5321882762684078386,
+    ),
+    (
+        "knKB00 pKBk30 KNkn00 pKNk10 PpKk20 kKQQQ10 KRkQQ00 BkKQQ10 kKNQQ00 PKQQk30",
+        17296583180737232563,
+    ),
+    (
+        "QkKRR00 QRBKk20 RNkKQ00 PKQRk30 kKQBB00 KQBNk00 PKQBk10 kKQNN10 PKQNk30 PPKQk10",
+        14843971423772020041,
+    ),
+    (
+        "KkRRR00 KBkRR10 NkKRR00 PKRRk10 KRkBB00 KRBNk10 PKRBk10 KRkNN10 PKRNk30 PPKRk30",
+        7698121787790213284,
+    ),
+    (
+        "KkBBB00 NkKBB10 PKBBk20 KBkNN10 PKBNk40 PPKBk10 KkNNN00 PKNNk30 PPKNk00 PPPKk00",
+        1284675970586545443,
+    ),
+    (
+        "kqKQQ00 rKkQQ10 KkbQQ00 knKQQ10 pKQQk20 KQRkq00 QRkKr10 RkbKQ20 knKQR00 pKQRk40",
+        2769280486147224248,
+    ),
+    (
+        "KQBkq20 QBkKr00 BkbKQ10 knKQB20 pKQBk40 KQNkq10 QNkKr20 NkbKQ00 knKQN10 pKQNk40",
+        2300297678726167394,
+    ),
+    (
+        "PKQkq00 PKQkr10 PKQkb20 PKQkn30 PpKQk40 qKkRR10 KkrRR00 kbKRR10 nKkRR00 pKRRk30",
+        15500233878645522050,
+    ),
+    (
+        "KRBkq10 RBkKr20 BkbKR00 knKRB10 pKRBk40 KRNkq00 RNkKr10 NkbKR20 knKRN00 pKRNk40",
+        14743399980891418088,
+    ),
+    (
+        "PKRkq00 PKRkr10 PKRkb20 PKRkn30 PpKRk40 kqKBB10 rKkBB00 KkbBB10 knKBB00 pKBBk30",
+        10068853178576478009,
+    ),
+    (
+        "KBNkq00 BNkKr10 NkbKB20 knKBN00 pKBNk40 PKBkq00 PKBkr10 PKBkb20 PKBkn30 PpKBk40",
+        14042087612430596940,
+    ),
+    (
+        "kqKNN00 rKkNN10 KkbNN00 knKNN10 pKNNk20 PKNkq00 PKNkr10 PKNkb20 PKNkn30 PpKNk40",
+        2081533670536840069,
+    ),
+    (
+        "PPKkq00 PPKkr10 PPKkb20 PPKkn30 pPPKk01",
+        13593422839295290295,
+    ),
 ];
 
-/// The men on their squares; those past the board are left out.
-fn board_of(men: &[(u8, Piece)]) -> Men {
-    let mut squares: Men = [None; 64];
-    for (square, piece) in men {
-        if *square < 64 {
-            squares[*square as usize] = Some(*piece);
-        }
+/// How many positions of each material are compared.
+const POSITIONS: u32 = 100;
+
+/// Squares or piece codes of up to five men.
+type Few = ArrayVec<u8, 5>;
+
+fn add(few: &mut Few, number: u8) {
+    if few.len() < 5 {
+        few.push(number);
     }
-    squares
-}
-
-/// The position of these men, if there can be one.
-fn position_of(men: Men, side: Side) -> Option<Position> {
-    let parts = Parts {
-        men,
-        side,
-        rights: Rights {
-            white_king: false,
-            white_queen: false,
-            black_king: false,
-            black_queen: false,
-        },
-        en_passant: None,
-        halfmove: 0,
-        fullmove: 1,
-    };
-    Position::new(parts).ok()
-}
-
-/// The index of a position of this material.
-fn index_in(position: &Position, pieces: &[u8], order: u8, second: u8) -> Option<u64> {
-    let material = Material::of(position)?;
-    let placed = place(position, &material);
-    let Ok(shape) = Shape::new(&material, pieces, order, second, placed.file()) else {
-        return None;
-    };
-    Some(index(&shape, &placed))
-}
-
-/// The index of the position with these men, in a table which gives its pieces in this order.
-fn index_of(men: &[(u8, Piece)], side: Side, pieces: &[u8], order: u8, second: u8) -> Option<u64> {
-    let position = position_of(board_of(men), side)?;
-    index_in(&position, pieces, order, second)
 }
 
 /// The next number of a sequence that a seed fixes (a linear congruential generator).
@@ -80,6 +90,42 @@ fn next(seed: &mut u64) -> u64 {
         .wrapping_mul(6364136223846793005)
         .wrapping_add(1442695040888963407);
     *seed >> 33
+}
+
+/// The code of a piece's letter, 0 for a digit.
+fn code_of(letter: u8) -> u8 {
+    let kind = match letter.to_ascii_uppercase() {
+        b'P' => 1u8,
+        b'N' => 2,
+        b'B' => 3,
+        b'R' => 4,
+        b'Q' => 5,
+        b'K' => 6,
+        _ => 0,
+    };
+    kind | (letter & 32) >> 2
+}
+
+/// The piece codes of a word.
+fn codes_of(word: &[u8]) -> Few {
+    let mut codes = Few::new();
+    for letter in word {
+        if letter.is_ascii_alphabetic() {
+            add(&mut codes, code_of(*letter));
+        }
+    }
+    codes
+}
+
+/// The digit that stands so far before the end of a word.
+fn digit(word: &[u8], from_end: usize) -> u8 {
+    let at = word.len().wrapping_sub(from_end);
+    word.get(at).copied().unwrap_or(b'0').wrapping_sub(b'0')
+}
+
+/// Whether a man may stand on a square: pawns stand on the middle ranks.
+fn is_allowed(code: u8, square: u8) -> bool {
+    code % 8 != 1 || square >= 8 && square < 56
 }
 
 /// A square for a man that none of the others has, if one is found.
@@ -93,7 +139,7 @@ fn add_placed(squares: &mut Few, code: u8, seed: &mut u64) {
     }
 }
 
-/// Squares for the men, each on one of its own, pawns on the middle ranks.
+/// Squares for the men, each on one of its own.
 fn placed(codes: &[u8], seed: &mut u64) -> Few {
     let mut squares = Few::new();
     for code in codes {
@@ -119,6 +165,54 @@ fn piece(code: u8, is_exchanged: bool) -> Piece {
     Piece { side, kind }
 }
 
+/// The board of these men, or with colours exchanged and ranks mirrored.
+fn board_of(codes: &[u8], squares: &Few, is_exchanged: bool) -> Men {
+    let mut men: Men = [None; 64];
+    let bits = if is_exchanged { 56u8 } else { 0 };
+    for (code, square) in codes.iter().zip(squares.as_slice().iter()) {
+        men[((*square ^ bits) % 64) as usize] = Some(piece(*code, is_exchanged));
+    }
+    men
+}
+
+/// The position of these men, if there can be one.
+fn position_of(men: Men, side: Side) -> Option<Position> {
+    let parts = Parts {
+        men,
+        side,
+        rights: Rights {
+            white_king: false,
+            white_queen: false,
+            black_king: false,
+            black_queen: false,
+        },
+        en_passant: None,
+        halfmove: 0,
+        fullmove: 1,
+    };
+    Position::new(parts).ok()
+}
+
+/// The index of a position in the table of its material that gives its pieces in this order.
+fn index_in(position: &Position, pieces: &[u8], order: u8, second: u8) -> Option<u64> {
+    let material = Material::of(position)?;
+    let placed = place(position, &material);
+    let Ok(shape) = Shape::new(&material, pieces, order, second, placed.file()) else {
+        return None;
+    };
+    Some(index(&shape, &placed))
+}
+
+fn count(codes: &[u8], code: u8) -> usize {
+    let mut count = 0usize;
+    for other in codes {
+        if *other == code {
+            count = count.wrapping_add(1);
+        }
+    }
+    count
+}
+
 fn is_symmetric(codes: &[u8]) -> bool {
     for code in codes {
         if count(codes, *code) != count(codes, *code ^ 8) {
@@ -128,121 +222,68 @@ fn is_symmetric(codes: &[u8]) -> bool {
     true
 }
 
-/// The men on their own squares and in their own colours.
-fn men_of(codes: &Few, squares: &Few, is_exchanged: bool) -> [(u8, Piece); 5] {
-    let mut men = [(64u8, piece(6, false)); 5];
-    let bits = if is_exchanged { 56u8 } else { 0 };
-    for k in 0..5usize {
-        if let (Some(code), Some(square)) = (codes.as_slice().get(k), squares.as_slice().get(k)) {
-            men[k] = (*square ^ bits, piece(*code, is_exchanged));
-        }
-    }
-    men
-}
-
-/// The place of the other side's pawns, where both sides have pawns.
-fn second_place(codes: &[u8], order: u8) -> Option<u8> {
-    if count(codes, 1) == 0 || count(codes, 9) == 0 {
-        None
-    } else if order == 0 {
-        Some(1)
-    } else {
-        Some(0)
-    }
-}
-
 /// Who moves: with the same men on both sides colours are exchanged where black does.
-fn side_of(codes: &[u8], is_exchanged: bool, seed: u64) -> Side {
-    let is_black = if is_symmetric(codes) {
-        is_exchanged
+fn side_of(codes: &[u8], drawn: u64) -> Side {
+    let bit = if is_symmetric(codes) { 1 } else { 2 };
+    if drawn & bit == 0 {
+        Side::White
     } else {
-        seed % 2 == 1
-    };
-    if is_black { Side::Black } else { Side::White }
-}
-
-/// The groups of men before the turning.
-fn count_turned(
-    lists: &Lists,
-    codes: &[u8],
-    squares: &Few,
-    pieces: &[u8],
-    lead: usize,
-) -> ArrayVec<(u64, u64), 5> {
-    let after = turned(codes, squares, pieces, lead);
-    count_groups(lists, codes, &after, pieces, lead)
-}
-
-/// The index of one position of these men, as it is and as it should be; none for a position that can't be.
-fn indices_of(lists: &Lists, codes: &Few, seed: &mut u64) -> Option<(u64, u64)> {
-    let squares = placed(codes.as_slice(), seed);
-    let (pieces, lead) = arrangement(codes.as_slice(), next(seed));
-    let is_exchanged = next(seed) % 2 == 1;
-    let side = side_of(codes.as_slice(), is_exchanged, next(seed));
-    let men = men_of(codes, &squares, is_exchanged);
-    let groups = count_turned(lists, codes.as_slice(), &squares, pieces.as_slice(), lead);
-    let order = (next(seed) % groups.len().max(1) as u64) as u8;
-    let second = second_place(codes.as_slice(), order);
-    let found = index_of(&men, side, pieces.as_slice(), order, second.unwrap_or(0))?;
-    Some((found, sum(groups.as_slice(), order, second)))
-}
-
-fn indices(lists: &Lists, name: &str, seed: &mut u64) -> Option<(u64, u64)> {
-    indices_of(lists, &codes_of(name.as_bytes()), seed)
-}
-
-/// How many positions of each material are compared.
-const POSITIONS: u32 = 100;
-
-/// One position is compared, unless there can be none.
-fn is_compared(rt: &impl Abort, lists: &Lists, name: &str, seed: &mut u64) -> bool {
-    match indices(lists, name, seed) {
-        Some((found, counted)) => {
-            check_same(rt, found, counted, name);
-            true
-        }
-        None => false,
+        Side::Black
     }
 }
 
-fn check_material(rt: &impl Abort, lists: &Lists, name: &str, seed: &mut u64) {
+/// The position that is drawn next, if there can be one.
+fn drawn_position(codes: &[u8], seed: &mut u64) -> Option<Position> {
+    let squares = placed(codes, seed);
+    let drawn = next(seed);
+    let men = board_of(codes, &squares, drawn & 1 == 1);
+    position_of(men, side_of(codes, drawn))
+}
+
+/// The index of the position that is drawn next, if there can be one.
+fn drawn_index(codes: &[u8], word: &[u8], seed: &mut u64) -> Option<u64> {
+    let position = drawn_position(codes, seed)?;
+    index_in(&position, codes, digit(word, 2), digit(word, 1))
+}
+
+fn folded(sum: u64, number: u64) -> u64 {
+    sum.wrapping_mul(31).wrapping_add(number)
+}
+
+/// What the indices of the positions drawn from this seed are folded to, each with 1 added.
+fn sum_of(rt: &impl Abort, word: &str, first: u64) -> u64 {
+    let codes = codes_of(word.as_bytes());
+    let mut seed = first;
+    let mut sum = 0u64;
     let mut compared = 0u32;
     for _ in 0..1000 {
-        if compared < POSITIONS && is_compared(rt, lists, name, seed) {
+        if compared < POSITIONS
+            && let Some(number) = drawn_index(codes.as_slice(), word.as_bytes(), &mut seed)
+        {
+            sum = folded(sum, number.wrapping_add(1));
             compared = compared.wrapping_add(1);
         }
     }
-    check_same(rt, compared, POSITIONS, name);
+    check_same(rt, compared, POSITIONS, word);
+    sum
 }
 
-fn check_materials(rt: &impl Abort, lists: &Lists, names: &str, seed: &mut u64) {
-    for name in names.split(' ') {
-        check_material(rt, lists, name, seed);
+/// What the sums of the materials of a row are folded to; a material's seed is its key.
+fn sum_of_row(rt: &impl Abort, words: &str, first: u64) -> u64 {
+    let mut key = first;
+    let mut sum = 0u64;
+    for word in words.split(' ') {
+        sum = folded(sum, sum_of(rt, word, key));
+        key = key.wrapping_add(1);
     }
-}
-
-fn make_lists(rt: &impl Abort, alloc: Global) -> Lists {
-    Lists {
-        threes: count_threes(rt, alloc),
-        kings: count_kings(rt, alloc),
-    }
-}
-
-fn check_sizes(rt: &impl Abort, lists: &Lists) {
-    check_same(rt, lists.threes.size, 31332, "three men");
-    check_same(rt, lists.kings.size, 462, "two kings");
-}
-
-fn check_all(rt: &impl Abort, lists: &Lists) {
-    let mut seed = 20261122u64;
-    for names in &NAMES {
-        check_materials(rt, lists, names, &mut seed);
-    }
+    sum
 }
 
 #[test]
 fn indices_are_those_that_are_counted(rt: HostRuntime) {
-    let lists = make_lists(&rt, rt.alloc());
-    check_sizes(&rt, &lists);
-    check_all(&rt, &lists);
+    let mut first = 0u64;
+    for (words, sum) in &ROWS {
+        check_same(&rt, sum_of_row(&rt, words, first), *sum, words);
+        first = first.wrapping_add(10);
+    }
 }
