@@ -1,8 +1,13 @@
 -- Tables that are gathered one after the other.
-use Rattle.std.proofs.Common.{◌≡◌, ◌<◌, ◌+◌, ℕ, List, [], ◌∷◌, map, drop, length, get_or, Result, Ok, Err, refl, sym, ap, ◌∙◌}
-use Rattle.std.proofs.lemmas.List.{at_drop_more}
+use Rattle.std.proofs.Common.{◌≡◌, ◌<◌, ◌+◌, ℕ, Bool, ◌&&◌, List, [], ◌∷◌, ◌++◌, map, drop, take, length, get_or, Result, Ok, Err, refl, sym, ap, ◌∙◌}
+use Rattle.std.specs.List.{list_all}
+use Rattle.std.specs.Result.{is_ok}
+use Rattle.std.proofs.lemmas.List.{at_drop_more, map-append, take_more}
+use Rattle.std.proofs.lemmas.List.Folds.{list_all-map, list_all_more}
 use Rattle.judge_core.specs.Tables.{Tables}
-use Rattle.adjudicate.specs.Looks.{Found, Look, ◌>>=◌, tables_from, with_found}
+use Rattle.move_msg.specs.TextLines.{text_of}
+use Rattle.adjudicate.specs.Looks.{Found, Look, ◌>>=◌, are_tables, look_line, tables_from, with_found}
+use Rattle.adjudicate.specs.Reply.{Reply, checked, status_if}
 
 -- one look more
 one_more : (tables more : Tables) (look : Look) (looks : List Look) → with_found tables look.name look.found ≡ Ok more → tables_from tables (look ∷ looks) ≡ tables_from more looks
@@ -18,7 +23,7 @@ unfolding tables_from
 none_left tables = refl
 
 -- what comes of the rest, by its first
-abbrev rest_of : {X Y : Type 0} → (X → Y) → (Y → Look) → List X → List Look
+abbrev pub rest_of : {X Y : Type 0} → (X → Y) → (Y → Look) → List X → List Look
 rest_of view look xs = map look (map view xs)
 
 by_first : {X Y : Type 0} (view : X → Y) (look : Y → Look) (xs : List X) (i : ℕ) (x : X) → i < length xs → x ≡ get_or xs i x → (tables : Tables) → tables_from tables (rest_of view look (drop i xs)) ≡ tables_from tables (look (view x) ∷ rest_of view look (drop (i + 1) xs))
@@ -35,3 +40,30 @@ pub is_refused : {X Y : Type 0} (view : X → Y) (look : Y → Look) (xs : List 
 is_refused view look xs i x within is tables line found total same step all =
     sym (one_refused tables line (look (view x)) (rest_of view look (drop (i + 1) xs)) (sym (step ∙ ap (with_found tables (look (view x)).name) same)))
     ∙ sym (by_first view look xs i x within is tables) ∙ all
+
+-- ---- what was found so far
+
+-- the looks with one more
+pub looks_more : {X Y : Type 0} (view : X → Y) (look : Y → Look) (xs : List X) (i : ℕ) (x : X) → i < length xs → x ≡ get_or xs i x → rest_of view look (take (i + 1) xs) ≡ rest_of view look (take i xs) ++ look (view x) ∷ []
+looks_more view look xs i x within is =
+    ap (rest_of view look) (take_more xs i x within ∙ ap (λ y. take i xs ++ y ∷ []) (sym is))
+    ∙ ap (map look) (map-append view (take i xs) (x ∷ []))
+    ∙ map-append look (map view (take i xs)) (view x ∷ [])
+
+all_of : {X Y : Type 0} (view : X → Y) (look : Y → Look) (xs : List X) → are_tables (rest_of view look xs) ≡ list_all (λ x. is_ok (look (view x)).found) xs
+all_of view look xs = list_all-map (λ l. is_ok l.found) look (map view xs) ∙ list_all-map (λ y. is_ok (look y).found) view xs
+
+-- and whether all of them are tables
+pub all_more : {X Y : Type 0} (view : X → Y) (look : Y → Look) (xs : List X) (i : ℕ) (x : X) → i < length xs → x ≡ get_or xs i x → are_tables (rest_of view look (take (i + 1) xs)) ≡ (are_tables (rest_of view look (take i xs)) && is_ok (look (view x)).found)
+all_more view look xs i x within is =
+    all_of view look (take (i + 1) xs)
+    ∙ list_all_more (λ y. is_ok (look (view y)).found) xs i x within
+    ∙ ap (λ y. list_all (λ z. is_ok (look (view z)).found) (take i xs) && is_ok (look (view y)).found) (sym is)
+    ∙ ap (λ b. b && is_ok (look (view x)).found) (sym (all_of view look (take i xs)))
+
+-- the reply to all of them
+pub checked_all : (lines : List (List ℕ)) (done : Bool) (looks all : List Look) → looks ≡ all → lines ≡ map look_line looks → done ≡ are_tables looks → record { text = text_of lines; status = status_if done } ≡ checked all
+checked_all lines done looks all same ls d =
+    ap (λ (x : List (List ℕ)). record { text = text_of x; status = status_if done }) ls
+    ∙ ap (λ (b : Bool). record { text = text_of (map look_line looks); status = status_if b }) d
+    ∙ ap checked same

@@ -190,7 +190,7 @@ fn check_lines(alloc: Global, files: &[NamedFile], entries: &[Entry]) -> Result<
     for entry in entries {
         let (line, is_table) = look_for(alloc, files, entry)?;
         lines.push(line)?;
-        done = done && is_table;
+        done &= is_table;
     }
     Ok(Answer::Lines(lines, done))
 }

@@ -121,17 +121,17 @@ impl fmt::Display for Line {
     fn fmt<W: fmt::Write>(&self, f: &mut fmt::Formatter<W>) -> fmt::Result {
         match self {
             Line::Ruling(verdict) => f.write_str(verdict_or_open(*verdict)),
-            Line::Refused(refusal) => write!(f, "{refusal}"),
+            Line::Refused(refusal) => fmt::Display::fmt(refusal, f),
             Line::Move(m) => f.write_str(write_move(m).as_str()),
             Line::Look(name, None) => fmt_named(f, name.as_str(), "ok"),
             Line::Look(name, Some(fault)) => fmt_named(f, name.as_str(), fault.name()),
             Line::Wdl(told) => fmt_told(f, "wdl", *told),
             Line::Dtz(told) => fmt_told(f, "dtz", *told),
-            Line::Message(message) => write!(f, "{message}"),
+            Line::Message(message) => fmt::Display::fmt(message, f),
             Line::Arbiter(who, state, kept) => fmt_arbiter(f, *who, *state, *kept),
             Line::Sent(number) => write!(f, "sent {number}"),
-            Line::Outcome(outcome) => write!(f, "{outcome}"),
-            Line::Columns(columns) => write!(f, "{columns}"),
+            Line::Outcome(outcome) => fmt::Display::fmt(outcome, f),
+            Line::Columns(columns) => fmt::Display::fmt(columns, f),
         }
     }
 }

@@ -3,6 +3,7 @@ use Rattle.std.proofs.lemmas.List.{map-append, take_more}
 use Rattle.board_core.specs.declared.moves.Move.{Move}
 use Rattle.fen_text.specs.Coordinates.{move_text}
 use Rattle.adjudicate.specs.Lines.{words_of}
+use Rattle.adjudicate.proofs.TextLaws.{moves_listed}
 use Rattle.adjudicate.proofs.answers.answer_moves.Goals as goal
 
 pub loop-m-preserved : goal.loop-m-preserved
@@ -16,3 +17,6 @@ loop-m-preserved c =
     ∙ map-append words_of c.loop-m.lines.items _
     ∙ ap (λ (lines : List (List ℕ)). lines ++ move_text m ∷ []) c.loop-m.invariant
     ∙ sym more
+
+pub returns : goal.returns
+returns c = moves_listed c.args.position.now c.deref-m-items.result.now c.loop-m.m-index (map words_of c.loop-m.lines.items) c.loop-m-test.false (c.deref-m-items.ensures.value ∙ c.in_ok-moves.ensures.computed) c.loop-m.invariant
