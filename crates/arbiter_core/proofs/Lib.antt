@@ -4,6 +4,7 @@ pub mod RunLaws
 pub mod Cases
 pub mod Settling
 pub mod Hearing
+pub mod Taking
 pub mod Opened
 pub mod Going
 pub mod StillKept
