@@ -15,15 +15,15 @@ loop-entry-preserved c =
     let looks : List Look = rest_of entry_of look (take i c.args.entries.now) in
     record {
       lines =
-        ap (map words_of) c.in_ok-push.ensures.items
-        ∙ map-append words_of c.loop-entry.lines.items (c.in_ok-line.line ∷ [])
-        ∙ ap (λ (ls : List (List ℕ)). ls ++ words_of c.in_ok-line.line ∷ []) c.loop-entry.invariant.lines
-        ∙ ap (λ (l : List ℕ). map look_line looks ++ l ∷ []) c.in_ok-line.ensures.line
-        ∙ sym (ap (map look_line) (looks_more entry_of look c.args.entries.now i e c.loop-entry-test.true c.entry-item.is) ∙ map-append look_line looks (look (entry_of e) ∷ []));
+          ap (map words_of) c.in_ok-push.ensures.items
+          ∙ map-append words_of c.loop-entry.lines.items (c.in_ok-line.line ∷ [])
+          ∙ ap (λ (ls : List (List ℕ)). ls ++ words_of c.in_ok-line.line ∷ []) c.loop-entry.invariant.lines
+          ∙ ap (λ (l : List ℕ). map look_line looks ++ l ∷ []) c.in_ok-line.ensures.line
+          ∙ sym (ap (map look_line) (looks_more entry_of look c.args.entries.now i e c.loop-entry-test.true c.entry-item.is) ∙ map-append look_line looks (look (entry_of e) ∷ []));
       done =
-        ap (λ (b : Bool). b && c.in_ok-line.is_table) c.loop-entry.invariant.done
-        ∙ ap (λ (b : Bool). are_tables looks && b) c.in_ok-line.ensures.is
-        ∙ sym (all_more entry_of look c.args.entries.now i e c.loop-entry-test.true c.entry-item.is);
+          ap (λ (b : Bool). b && c.in_ok-line.is_table) c.loop-entry.invariant.done
+          ∙ ap (λ (b : Bool). are_tables looks && b) c.in_ok-line.ensures.is
+          ∙ sym (all_more entry_of look c.args.entries.now i e c.loop-entry-test.true c.entry-item.is);
     }
 
 pub returns : goal.returns
