@@ -6,74 +6,74 @@ use board_core::{Kind, Men, Parts, Piece, Position, Rights, Side};
 use place_index::{Material, Shape, index, place};
 use std::process::Abort;
 
-/// The 145 materials in the order of their keys, ten a row, and what the indices of a hundred positions of each are folded to.
-/// A word is a table's pieces in their order, white's in capitals, and the two nibbles of its order. `tools/count_placements`
-/// prints these rows: it draws the same positions and counts the placements before each.
+/// The 145 materials in the order of their keys, ten a row and five in the last, each by four words, and what the indices of the
+/// positions of a row are folded to. A word is a table's pieces in their order, white's in capitals, and the two nibbles of its
+/// order. `tools/count_placements` prints these rows: it draws the same positions and counts the placements before each.
 const ROWS: [(&str, u64); 15] = [
     (
-        "KQk00 RkK00 kKB00 KNk00 PKk10 kKQQ10 RkKQ00 kKQB10 KQNk00 PKQk10",
-        16234385557406813889,
+        "KQk00 QkK00 kKQ00 KQk00 kKR00 kKR00 KRk00 KRk00 BkK00 KBk00 kKB00 KBk00 KNk00 KNk00 NkK00 KNk00 PKk10 PKk20 PKk00 PKk20 KkQQ10 KkQQ10 KkQQ10 kKQQ00 KQRk00 RkKQ10 QRkK10 kKQR00 kKQB00 BkKQ10 kKQB10 QBkK00 KQNk00 NkKQ00 NkKQ00 KQNk00 PKQk00 PKQk20 PKQk00 PKQk30",
+        11995076587996811448,
     ),
     (
-        "KkRR00 kKRB10 KRNk00 PKRk10 KkBB00 kKBN10 PKBk00 kKNN10 PKNk20 PPKk10",
-        13484421708334782833,
+        "KkRR00 KkRR10 KkRR10 KkRR00 RBkK10 kKRB00 BkKR00 BkKR10 NkKR10 KRNk00 RNkK00 RNkK10 PKRk20 PKRk30 PKRk00 PKRk10 KkBB10 KkBB00 KkBB10 KkBB10 kKBN10 kKBN10 KBNk00 BNkK00 PKBk20 PKBk10 PKBk30 PKBk30 kKNN00 kKNN00 kKNN00 kKNN00 PKNk30 PKNk20 PKNk20 PKNk10 PPKk20 PPKk00 PPKk20 PPKk00",
+        5392764100243739050,
     ),
     (
-        "KQkq00 QkrK10 kbKQ00 nKQk10 pKQk00 RkrK10 kbKR00 nKRk10 pKRk00 BkbK10",
-        5321882762684078386,
+        "qKQk10 QkqK10 qKQk10 qKQk00 QkrK00 QkrK00 rKQk10 krKQ00 bKQk00 kbKQ00 kbKQ00 QkbK10 KQkn00 nKQk10 nKQk00 QknK10 pKQk10 pKQk30 pKQk00 pKQk10 rKRk10 RkrK10 RkrK10 rKRk10 KRkb00 kbKR00 RkbK10 RkbK10 nKRk00 RknK10 knKR10 nKRk00 pKRk10 pKRk20 pKRk20 pKRk20 bKBk00 kbKB00 kbKB00 KBkb10",
+        2930640818129958753,
     ),
     (
-        "knKB00 pKBk30 KNkn00 pKNk10 PpKk20 kKQQQ10 KRkQQ00 BkKQQ10 kKNQQ00 PKQQk30",
-        17296583180737232563,
+        "nKBk10 knKB00 KBkn10 BknK00 pKBk10 pKBk30 pKBk30 pKBk30 nKNk00 knKN00 KNkn10 NknK10 pKNk20 pKNk10 pKNk20 pKNk30 PpKk31 PpKk03 PpKk30 PpKk30 KkQQQ00 kKQQQ00 kKQQQ10 kKQQQ00 kKRQQ10 kKRQQ10 kKRQQ00 KRkQQ10 BkKQQ10 BkKQQ10 kKBQQ00 KBkQQ00 NkKQQ00 kKNQQ00 KNkQQ10 kKNQQ10 PKQQk10 PKQQk30 PKQQk30 PKQQk00",
+        16152776694595423314,
     ),
     (
-        "QkKRR00 QRBKk20 RNkKQ00 PKQRk30 kKQBB00 KQBNk00 PKQBk10 kKQNN10 PKQNk30 PPKQk10",
-        14843971423772020041,
+        "KQkRR10 KQkRR00 KQkRR00 KQkRR00 KQRBk20 RBkKQ20 BkKQR00 KQRBk00 KQRNk10 NkKQR20 KQRNk00 kKQRN20 PKQRk10 PKQRk00 PKQRk20 PKQRk00 KQkBB00 kKQBB00 kKQBB10 kKQBB10 BNkKQ10 QBNKk20 QBNKk00 KQBNk20 PKQBk00 PKQBk40 PKQBk40 PKQBk10 QkKNN00 KQkNN00 QkKNN00 kKQNN10 PKQNk10 PKQNk00 PKQNk00 PKQNk30 PPKQk00 PPKQk10 PPKQk00 PPKQk20",
+        12632422927818589517,
     ),
     (
-        "KkRRR00 KBkRR10 NkKRR00 PKRRk10 KRkBB00 KRBNk10 PKRBk10 KRkNN10 PKRNk30 PPKRk30",
-        7698121787790213284,
+        "KkRRR10 kKRRR10 kKRRR10 KkRRR00 BkKRR00 kKBRR10 BkKRR00 KBkRR00 kKNRR00 kKNRR00 NkKRR00 KNkRR00 PKRRk00 PKRRk00 PKRRk30 PKRRk20 kKRBB10 kKRBB00 KRkBB00 KRkBB10 KRBNk00 RBNKk00 NkKRB10 NkKRB20 PKRBk40 PKRBk10 PKRBk30 PKRBk40 KRkNN10 KRkNN00 KRkNN00 KRkNN10 PKRNk20 PKRNk20 PKRNk30 PKRNk30 PPKRk10 PPKRk00 PPKRk10 PPKRk00",
+        1219051127033980496,
     ),
     (
-        "KkBBB00 NkKBB10 PKBBk20 KBkNN10 PKBNk40 PPKBk10 KkNNN00 PKNNk30 PPKNk00 PPPKk00",
-        1284675970586545443,
+        "KkBBB00 kKBBB10 kKBBB00 KkBBB00 KNkBB10 kKNBB10 kKNBB00 NkKBB00 PKBBk10 PKBBk30 PKBBk30 PKBBk20 KBkNN10 kKBNN10 KBkNN00 BkKNN10 PKBNk20 PKBNk10 PKBNk30 PKBNk20 PPKBk10 PPKBk30 PPKBk30 PPKBk10 kKNNN10 kKNNN10 KkNNN00 KkNNN10 PKNNk30 PKNNk00 PKNNk30 PKNNk20 PPKNk30 PPKNk10 PPKNk10 PPKNk00 PPPKk20 PPPKk10 PPPKk00 PPPKk20",
+        11953299514737177532,
     ),
     (
-        "kqKQQ00 rKkQQ10 KkbQQ00 knKQQ10 pKQQk20 KQRkq00 QRkKr10 RkbKQ20 knKQR00 pKQRk40",
-        2769280486147224248,
+        "qKkQQ10 qKkQQ10 kqKQQ00 KkqQQ00 KkrQQ00 rKkQQ10 KkrQQ00 krKQQ10 KkbQQ10 bKkQQ00 bKkQQ10 KkbQQ10 nKkQQ00 knKQQ00 knKQQ10 knKQQ00 pKQQk10 pKQQk10 pKQQk30 pKQQk30 qKQRk10 RkqKQ20 KQRkq10 RkqKQ00 RkrKQ00 rKQRk20 RkrKQ00 KQRkr10 kbKQR20 bKQRk10 bKQRk00 RkbKQ10 nKQRk20 knKQR10 KQRkn10 QRkKn00 pKQRk10 pKQRk10 pKQRk30 pKQRk30",
+        250833985739785618,
     ),
     (
-        "KQBkq20 QBkKr00 BkbKQ10 knKQB20 pKQBk40 KQNkq10 QNkKr20 NkbKQ00 knKQN10 pKQNk40",
-        2300297678726167394,
+        "KQBkq10 kqKQB20 kqKQB10 KQBkq00 KQBkr20 krKQB10 krKQB00 BkrKQ10 kbKQB00 kbKQB00 bKQBk20 BkbKQ20 knKQB00 QBkKn20 nKQBk20 knKQB10 pKQBk10 pKQBk10 pKQBk30 pKQBk10 kqKQN20 kqKQN10 NkqKQ00 kqKQN20 rKQNk00 krKQN20 NkrKQ10 KQNkr10 KQNkb00 KQNkb20 KQNkb20 NkbKQ00 QNkKn20 KQNkn00 knKQN00 QNkKn00 pKQNk40 pKQNk40 pKQNk30 pKQNk40",
+        4726905916426449365,
     ),
     (
-        "PKQkq00 PKQkr10 PKQkb20 PKQkn30 PpKQk40 qKkRR10 KkrRR00 kbKRR10 nKkRR00 pKRRk30",
-        15500233878645522050,
+        "PKQkq10 PKQkq10 PKQkq30 PKQkq00 PKQkr20 PKQkr00 PKQkr20 PKQkr40 PKQkb10 PKQkb00 PKQkb30 PKQkb30 PKQkn30 PKQkn30 PKQkn10 PKQkn20 PpKQk30 PpKQk43 PpKQk10 PpKQk32 kqKRR00 KkqRR10 KkqRR10 kqKRR00 krKRR10 KkrRR00 krKRR00 KkrRR00 kbKRR10 bKkRR00 bKkRR00 kbKRR00 knKRR10 nKkRR00 nKkRR00 nKkRR10 pKRRk10 pKRRk30 pKRRk10 pKRRk20",
+        14173524796169021407,
     ),
     (
-        "KRBkq10 RBkKr20 BkbKR00 knKRB10 pKRBk40 KRNkq00 RNkKr10 NkbKR20 knKRN00 pKRNk40",
-        14743399980891418088,
+        "KRBkq20 BkqKR20 RBkKq10 BkqKR10 BkrKR10 rKRBk20 KRBkr20 KRBkr20 kbKRB20 KRBkb10 RBkKb00 kbKRB00 KRBkn00 BknKR00 nKRBk00 BknKR10 pKRBk40 pKRBk10 pKRBk10 pKRBk40 NkqKR00 KRNkq20 NkqKR10 KRNkq20 rKRNk00 krKRN00 KRNkr20 NkrKR00 RNkKb10 KRNkb20 RNkKb20 bKRNk00 RNkKn10 RNkKn20 NknKR10 nKRNk10 pKRNk30 pKRNk10 pKRNk10 pKRNk20",
+        10957240589803829312,
     ),
     (
-        "PKRkq00 PKRkr10 PKRkb20 PKRkn30 PpKRk40 kqKBB10 rKkBB00 KkbBB10 knKBB00 pKBBk30",
-        10068853178576478009,
+        "PKRkq10 PKRkq00 PKRkq20 PKRkq40 PKRkr20 PKRkr10 PKRkr00 PKRkr40 PKRkb20 PKRkb00 PKRkb30 PKRkb00 PKRkn10 PKRkn30 PKRkn30 PKRkn20 PpKRk10 PpKRk40 PpKRk41 PpKRk43 qKkBB00 qKkBB10 kqKBB00 kqKBB10 rKkBB00 rKkBB10 krKBB00 KkrBB00 bKkBB10 bKkBB10 kbKBB00 KkbBB00 KknBB10 KknBB10 knKBB00 knKBB10 pKBBk00 pKBBk10 pKBBk30 pKBBk10",
+        5131599769606374058,
     ),
     (
-        "KBNkq00 BNkKr10 NkbKB20 knKBN00 pKBNk40 PKBkq00 PKBkr10 PKBkb20 PKBkn30 PpKBk40",
-        14042087612430596940,
+        "BNkKq10 NkqKB00 NkqKB10 kqKBN10 NkrKB00 BNkKr20 BNkKr10 NkrKB10 kbKBN00 NkbKB10 NkbKB20 NkbKB00 knKBN00 knKBN20 nKBNk10 nKBNk00 pKBNk40 pKBNk00 pKBNk10 pKBNk30 PKBkq20 PKBkq40 PKBkq40 PKBkq10 PKBkr10 PKBkr30 PKBkr10 PKBkr00 PKBkb40 PKBkb30 PKBkb40 PKBkb30 PKBkn20 PKBkn20 PKBkn20 PKBkn00 PpKBk30 PpKBk13 PpKBk21 PpKBk43",
+        2145163685319505493,
     ),
     (
-        "kqKNN00 rKkNN10 KkbNN00 knKNN10 pKNNk20 PKNkq00 PKNkr10 PKNkb20 PKNkn30 PpKNk40",
-        2081533670536840069,
+        "qKkNN10 kqKNN00 qKkNN10 qKkNN10 krKNN00 KkrNN00 KkrNN00 krKNN00 KkbNN00 bKkNN00 kbKNN10 kbKNN10 knKNN10 KknNN10 nKkNN10 nKkNN10 pKNNk30 pKNNk00 pKNNk10 pKNNk10 PKNkq40 PKNkq00 PKNkq40 PKNkq20 PKNkr20 PKNkr30 PKNkr10 PKNkr20 PKNkb40 PKNkb00 PKNkb00 PKNkb10 PKNkn00 PKNkn10 PKNkn10 PKNkn30 PpKNk04 PpKNk10 PpKNk10 PpKNk31",
+        17053060491211953286,
     ),
     (
-        "PPKkq00 PPKkr10 PPKkb20 PPKkn30 pPPKk01",
-        13593422839295290295,
+        "PPKkq20 PPKkq20 PPKkq00 PPKkq30 PPKkr30 PPKkr10 PPKkr20 PPKkr10 PPKkb00 PPKkb30 PPKkb20 PPKkb20 PPKkn30 PPKkn30 PPKkn00 PPKkn10 pPPKk21 pPPKk20 pPPKk03 pPPKk02",
+        17996748335874063523,
     ),
 ];
 
-/// How many positions of each material are compared.
-const POSITIONS: u32 = 100;
+/// How many positions of each word are folded.
+const POSITIONS: u32 = 25;
 
 /// Squares or piece codes of up to five men.
 type Few = ArrayVec<u8, 5>;
@@ -250,40 +250,38 @@ fn folded(sum: u64, number: u64) -> u64 {
     sum.wrapping_mul(31).wrapping_add(number)
 }
 
-/// What the indices of the positions drawn from this seed are folded to, each with 1 added.
-fn sum_of(rt: &impl Abort, word: &str, first: u64) -> u64 {
+/// What the indices of the positions of a word are folded to, each with 1 added; its place among the words is the seed.
+fn sum_of(rt: &impl Abort, word: &str, place: u64) -> u64 {
     let codes = codes_of(word.as_bytes());
-    let mut seed = first;
+    let mut seed = place;
     let mut sum = 0u64;
-    let mut compared = 0u32;
+    let mut count = 0u32;
     for _ in 0..1000 {
-        if compared < POSITIONS
+        if count < POSITIONS
             && let Some(number) = drawn_index(codes.as_slice(), word.as_bytes(), &mut seed)
         {
             sum = folded(sum, number.wrapping_add(1));
-            compared = compared.wrapping_add(1);
+            count = count.wrapping_add(1);
         }
     }
-    check_same(rt, compared, POSITIONS, word);
+    check_same(rt, count, POSITIONS, word);
     sum
 }
 
-/// What the sums of the materials of a row are folded to; a material's seed is its key.
-fn sum_of_row(rt: &impl Abort, words: &str, first: u64) -> u64 {
-    let mut key = first;
+/// What the sums of the words of a row are folded to, the first at this place among all words.
+fn sum_of_row(rt: &impl Abort, words: &str, place: &mut u64) -> u64 {
     let mut sum = 0u64;
     for word in words.split(' ') {
-        sum = folded(sum, sum_of(rt, word, key));
-        key = key.wrapping_add(1);
+        sum = folded(sum, sum_of(rt, word, *place));
+        *place = place.wrapping_add(1);
     }
     sum
 }
 
 #[test]
 fn indices_are_those_that_are_counted(rt: HostRuntime) {
-    let mut first = 0u64;
+    let mut place = 0u64;
     for (words, sum) in &ROWS {
-        check_same(&rt, sum_of_row(&rt, words, first), *sum, words);
-        first = first.wrapping_add(10);
+        check_same(&rt, sum_of_row(&rt, words, &mut place), *sum, words);
     }
 }

@@ -30,7 +30,7 @@ pub(crate) struct Asked {
 }
 
 /// How a block is asked for.
-#[derive(Clone, Copy)]
+#[derive(Clone, Copy, PartialEq, Eq)]
 pub(crate) enum Asking {
     /// For the first time of late.
     First,

@@ -4,7 +4,7 @@ use Rattle.move_msg.specs.Files.{file_of}
 use Rattle.move_msg.specs.Manifests.{entry_of}
 use Rattle.adjudicate.specs.Lines.{words_of}
 use Rattle.adjudicate.specs.Looks.{Look, are_tables, look_for, look_line}
-use Rattle.adjudicate.proofs.TableLaws.{all_more, checked_all, looks_more, rest_of}
+use Rattle.adjudicate.proofs.TableLaws.{all_more, checked_all, looks_more, looks_of}
 use Rattle.adjudicate.proofs.answers.check_lines.Goals as goal
 
 pub loop-entry-preserved : goal.loop-entry-preserved
@@ -12,7 +12,7 @@ loop-entry-preserved c =
     let look = look_for (map file_of c.args.files.now) in
     let i = c.loop-entry.entry-index in
     let e = c.entry-item.result in
-    let looks : List Look = rest_of entry_of look (take i c.args.entries.now) in
+    let looks : List Look = looks_of entry_of look (take i c.args.entries.now) in
     record {
       lines =
           ap (map words_of) c.in_ok-push.ensures.items
@@ -28,4 +28,4 @@ loop-entry-preserved c =
 
 pub returns : goal.returns
 returns c =
-    checked_all _ _ _ _ (ap (rest_of entry_of (look_for (map file_of c.args.files.now))) (take_all c.loop-entry.entry-index c.args.entries.now c.loop-entry-test.false)) c.loop-entry.invariant.lines c.loop-entry.invariant.done
+    checked_all _ _ _ _ (ap (looks_of entry_of (look_for (map file_of c.args.files.now))) (take_all c.loop-entry.entry-index c.args.entries.now c.loop-entry-test.false)) c.loop-entry.invariant.lines c.loop-entry.invariant.done
