@@ -1,4 +1,4 @@
-//! Seeded positions of all materials, whose indices are those that are found by counting placements one by one.
+//! Seeded positions of all materials, whose indices are folded to what a script finds by counting placements one by one.
 
 use crate::comparing::check_same;
 use arrayvec::ArrayVec;
@@ -92,7 +92,7 @@ fn next(seed: &mut u64) -> u64 {
     *seed >> 33
 }
 
-/// The code of a piece's letter, 0 for a digit.
+/// The code of a piece's letter: 1 to 6, and 8 more for black.
 fn code_of(letter: u8) -> u8 {
     let kind = match letter.to_ascii_uppercase() {
         b'P' => 1u8,
