@@ -13,7 +13,7 @@ use crate::refusals::Refusal;
 use crate::tables::gather;
 use board_core::Position;
 use fen_text::read;
-use judge_core::{Columns, Set};
+use judge_core::Set;
 use move_msg::{Sources, TellFault, Teller, WriteFault, tell_lines};
 use std::alloc::{AllocError, Global};
 use std::io::Write;
@@ -30,10 +30,8 @@ fn columns(
     ensures told { IfOk result (λ told. TellsLine set.old.tables text.now (record { words = words_of told.0; done = told.1 })) }
     ensures unchanged { set.new.tables ≡ set.old.tables }
 {
-    let probed = set.probe(alloc, position)?;
-    let verdict = set.judge(alloc, position)?;
-    let line = Line::Columns(Columns { probed, verdict });
-    Ok((line, probed.is_told()))
+    let columns = set.answers(alloc, position)?;
+    Ok((Line::Columns(columns), columns.probed.is_told()))
 }
 
 /// What is told of a line, and whether all of it is told.

@@ -1,4 +1,4 @@
-use Rattle.std.proofs.Common.{ℕ, ◌≡◌, ◌≢◌, ◌<◌, ◌-◌, ◌⊎◌, List, Option, Some, None, length, set, refl, sym, ap, ◌∙◌, arith, inl, inr, get_or-set_other, get_or-set_same}
+use Rattle.std.proofs.Common.{ℕ, ◌≡◌, ◌≢◌, ◌<◌, ◌-◌, ◌⊎◌, List, Option, Some, None, IfSome, length, set, refl, sym, ap, ◌∙◌, arith, inl, inr, get_or-set_other, get_or-set_same}
 use Rattle.std.proofs.lemmas.Bool.{cases_eq}
 use Rattle.std.proofs.Math.ListN.{length-set}
 use Rattle.board_core.specs.Inside.Search.{IsCarry, IsOnlyKing, IsAttackedAlong}
@@ -16,12 +16,10 @@ use Rattle.board_core.specs.declared.moves.Move.{Move}
 use Rattle.board_core.specs.declared.moves.MoveCase.{MoveCase}
 use Rattle.board_core.specs.declared.moves.MoveCase.TheVariants.{Plain, Advance, DoubleStep, PawnCapture, EnPassant, Castle}
 use Rattle.board_core.specs.declared.parts.Parts.{Parts}
-use Rattle.board_core.specs.declared.sides.Sides.{Sides}
 use Rattle.board_core.specs.Side.{other}
-use Rattle.board_core.specs.Sides.{sides_of}
 use Rattle.board_core.specs.Attack.{man_at, Along, IsClear, Ray, Reaches, IsAttacked, IsInCheck}
 use Rattle.board_core.specs.Castling.{rook_home, king_end, rook_end}
-use Rattle.board_core.specs.Moves.{IsMove, Legal, IsLegal, carried, landed, behind, men_after, after, kind_of}
+use Rattle.board_core.specs.Moves.{IsMove, IsTaken, Legal, IsLegal, carried, landed, behind, men_after, after, kind_of}
 use Rattle.board_core.proofs.Outward.{opposite, along_back, along_split, along_rest, along_distance, clear_back}
 
 abbrev pub some_man : Side → Kind → Option Piece
@@ -127,6 +125,37 @@ not_other Black e = cc
 
 pub other_side : (side : Side) (sort sort' : Kind) → some_man side sort ≡ some_man (other side) sort' → ⊥
 other_side side sort sort' e = not_other side (ap side_on e)
+
+-- ---- the enemies stay where they are
+
+enemy_carried : (men : List (Option Piece)) (side : Side) (f t s : ℕ) (x : Option Piece) → length men ≡ 64 → f < 64 → t < 64 → ((sort : Kind) → x ≡ some_man (other side) sort → ⊥) → IsTaken (carried men f t x) (other side) s → IsTaken men (other side) s
+enemy_carried men side f t s x len lf lt own h = elim (spot men f t x s len lf lt) [
+  | inl a ↦ absurd (own h.0 (sym a.1 ∙ h.1))
+  | inr r ↦ elim r [
+    | inl a ↦ absurd (none_man (other side) h.0 _ a.1 h.1)
+    | inr a ↦ (h.0, sym a.1 ∙ h.1)
+  ]
+]
+
+landed_friend : (side : Side) (o : Option Piece) (k : Option Promotion) (sort sort' : Kind) → o ≡ some_man side sort → landed side o k ≡ some_man (other side) sort' → ⊥
+landed_friend side o None sort sort' st e = other_side side sort sort' (sym st ∙ e)
+landed_friend side o (Some k) sort sort' st e = other_side side (kind_of k) sort' e
+
+pub enemy_stays : (p : Parts) (m : Move) (c : MoveCase) (s : ℕ) → s < 64 → length p.men ≡ 64 → m.from < 64 → m.to < 64 → IsMove p m c → IsTaken (men_after p m c) (other p.side) s → IsTaken p.men (other p.side) s
+enemy_stays p m Plain s b len lf lt r h = enemy_carried p.men p.side m.from m.to s _ len lf lt (λ k e. other_side p.side r.kind k (sym r.stands ∙ e)) h
+enemy_stays p m Advance s b len lf lt r h = enemy_carried p.men p.side m.from m.to s _ len lf lt (λ k e. landed_friend p.side _ m.promotion Pawn k r.stands e) h
+enemy_stays p m DoubleStep s b len lf lt r h = enemy_carried p.men p.side m.from m.to s _ len lf lt (λ k e. other_side p.side Pawn k (sym r.stands ∙ e)) h
+enemy_stays p m PawnCapture s b len lf lt r h = enemy_carried p.men p.side m.from m.to s _ len lf lt (λ k e. landed_friend p.side _ m.promotion Pawn k r.stands e) h
+enemy_stays p m EnPassant s b len lf lt r h = elim (cases_eq s (behind p.side m.to)) [
+  | inl e ↦
+      let within : s < length (carried p.men m.from m.to (man_at p.men m.from)) = omega (arith, length-set {A = Option Piece}) in
+      absurd (none_man (other p.side) h.0 _ (rw e (get_or-set_same _ (behind p.side m.to) None None (rw e at within))) h.1)
+  | inr ne ↦ enemy_carried p.men p.side m.from m.to s _ len lf lt (λ k e. other_side p.side Pawn k (sym r.stands ∙ e)) (h.0, sym (get_or-set_other (carried p.men m.from m.to (man_at p.men m.from)) (behind p.side m.to) s None None ne) ∙ h.1)
+]
+enemy_stays p m (Castle wing) s b len lf lt r h =
+    let w = corners p.side wing in
+    enemy_carried p.men p.side m.from m.to s _ len lf lt (λ k e. other_side p.side King k (sym r.stands ∙ e))
+    (enemy_carried _ p.side (rook_home p.side wing) (rook_end p.side wing) s (some_man p.side Rook) (simp length-set len) w.0 w.1 (λ k e. other_side p.side Rook k e) h)
 
 -- a line that is clear after a man of ours was carried was clear before, or he uncovered it: then he stood between the
 -- king and a man that attacked him
@@ -254,9 +283,13 @@ no_case p m o only e l =
 pub men_of : (p q : Parts) (m : Move) (c : MoveCase) → q ≡ after p m c → q.men ≡ men_after p m c
 men_of p q m c e = ap (λ (x : Parts). x.men) e ∙ men_of_after p m c
 
--- the position after a move is the only one
-pub only_played : (p q r : Parts) (m : Move) (c : MoveCase) (sides : Sides) → ((d : MoveCase) → IsMove p m d → Some c ≡ Some d) → r ≡ after p m c → sides ≡ sides_of r.men → Legal p m q → ◌≡◌ {A = Option (Parts × Sides)} (Some (r, sides)) (Some (q, sides_of q.men))
-only_played p q r m c sides only is sides-is l =
-    let same : l.case ≡ c = same_case p m (Some c) c only refl (q, l) in
-    let e : q ≡ r = l.becomes ∙ ap (after p m) same ∙ sym is in
-    rw (e, sides-is) refl
+-- what is told of a move whose case is known, as what is told of a legal one
+pub legal_of_case : (p : Parts) (m : Move) (c : MoveCase) (o : Option Parts) → m.from < 64 → m.to < 64 → IsMove p m c → IfSome o (λ q. (q ≡ after p m c) × (IsInCheck q.men p.side → ⊥)) → IfSome o (Legal p m)
+legal_of_case p m c None lf lt r h = tt
+legal_of_case p m c (Some q) lf lt r h = record { case = c; from_board = lf; to_board = lt; rule = r; becomes = h.0; safe = h.1 }
+
+pub only_of_case : (p q : Parts) (m : Move) (c : MoveCase) (case : Option MoveCase) (r : Option Parts) → ((d : MoveCase) → IsMove p m d → case ≡ Some d) → case ≡ Some c → ((IsInCheck (men_after p m c) p.side → ⊥) → r ≡ Some (after p m c)) → Legal p m q → r ≡ Some q
+only_of_case p q m c case r only is there l =
+    let same : l.case ≡ c = same_case p m case c only is (q, l) in
+    let e : q ≡ after p m c = l.becomes ∙ ap (after p m) same in
+    there (legal_safe p m c (q, l) same) ∙ ap Some (sym e)

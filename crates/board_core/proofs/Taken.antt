@@ -1,10 +1,12 @@
 -- What tests of a man's side say of the square that he stands on.
 use Rattle.std.proofs.Common.{ℕ, ◌≡◌, ◌<◌, List, length, set, Option, Some, None, Bool, true, false, not, sym, ap, ◌∙◌, inl, inr, get_or-set_same, get_or-set_other}
-use Rattle.std.proofs.lemmas.Bool.{cases_eq}
+use Rattle.std.proofs.lemmas.Bool.{cases_eq, cases_lt}
+use Rattle.std.proofs.lemmas.List.{get_or_past}
 use denote.Enum.Bare.{sameb, same_true, true_same, differs_true, differs_false}
 use Rattle.std.specs.Prelude.{IsTrue}
 use Rattle.board_core.specs.declared.piece.Piece.{Piece}
 use Rattle.board_core.specs.declared.piece.Side.{Side}
+use Rattle.board_core.specs.declared.piece.Kind.{Kind}
 use Rattle.board_core.specs.contracts.piece.Side.{the_type}
 use Rattle.board_core.specs.Attack.{man_at}
 use Rattle.board_core.specs.Moves.{Stands, IsFree, IsTaken}
@@ -31,6 +33,13 @@ stands_unless men side s n man here there e = rw here at there ∙ some_man man 
 
 pub of_other : (men : List (Option Piece)) (side : Side) (s n : ℕ) (man : Piece) → n ≡ s → man_at men n ≡ Some man → true ≡ not (sameb the_type man.side side) → IsTaken men side s → ⊥
 of_other men side s n man here there e t = differs_true the_type man.side side (sym e) (ap (λ o. side_on o side) (sym (rw here at there) ∙ t.1))
+
+-- where a man stands there is a square
+pub stands_within : (men : List (Option Piece)) (s : ℕ) (side : Side) (what : Kind) → Stands men s side what → s < length men
+stands_within men s side what st = elim (cases_lt s (length men)) [
+  | inl lt ↦ lt
+  | inr ge ↦ absurd (let f = sym (get_or_past men s None ge) ∙ st in cc)
+]
 
 -- who stands on the board with a square bare stands there without
 pub taken_bare : (men : List (Option Piece)) (side : Side) (s t : ℕ) → t < length men → IsTaken (set men t None) side s → IsTaken men side s

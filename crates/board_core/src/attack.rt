@@ -2,13 +2,15 @@
 
 ghost use Rattle.std.specs.Int.{bit_at};
 ghost use Rattle.std.specs.Prelude.{◌≡◌, ◌<◌, ◌≤◌, ◌↔◌, ◌+◌, ◌-◌, ℕ, IsTrue, IfSome, IfNone};
-ghost use Rattle.board_core.specs.Inside.Search.{IsKnightStepBy, IsAttackedByKnight, IsInside, IsAttackedAlong, AttacksTo};
+ghost use Rattle.board_core.specs.Inside.Search.{IsKnightStepBy, IsAttackedByKnight, IsInside, IsAttackedAlong, AttacksTo, stride, rises};
 ghost use Rattle.board_core.specs.Moves.{IsTaken};
 ghost use Rattle.board_core.specs.Attack.{Along, IsClear, Goes, Ray, IsKingStep, IsKnightStep, IsPawnAttack, Reaches, IsAttacked, IsInCheck, forward};
 ghost use Rattle.board_core.specs.Computed.{is_in_check};
 
 use crate::bitboard::Bitboard;
-use crate::piece::{Kind, Men, Side};
+use crate::empty_board;
+use crate::men::Men;
+use crate::piece::{Kind, Side};
 use crate::square::Square;
 
 /// The eight ways in which a queen goes.
@@ -37,21 +39,38 @@ pub enum KnightStep {
     WestSouthSouth,
 }
 
+/// By how much the number of a square and that of the next in this direction differ.
+fn stride(direction: Direction) -> u8
+    ensures { result ≡ stride direction }
+{
+    match direction {
+        Direction::North | Direction::South => 8,
+        Direction::East | Direction::West => 1,
+        Direction::NorthEast | Direction::SouthWest => 9,
+        Direction::NorthWest | Direction::SouthEast => 7,
+    }
+}
+
+/// Whether the numbers of squares rise in this direction.
+fn rises(direction: Direction) -> bool
+    ensures { result ≡ rises direction }
+{
+    match direction {
+        Direction::North | Direction::East | Direction::NorthEast | Direction::NorthWest => true,
+        _ => false,
+    }
+}
+
 /// The square that lies k squares on.
 pub fn along(direction: Direction, from: Square, k: u8) -> Square
     requires { IsInside direction k from }
     ensures { Along direction k from result }
 {
-    let place = from.number();
-    match direction {
-        Direction::North => Square::at(place + 8 * k),
-        Direction::South => Square::at(place - 8 * k),
-        Direction::East => Square::at(place + k),
-        Direction::West => Square::at(place - k),
-        Direction::NorthEast => Square::at(place + 9 * k),
-        Direction::NorthWest => Square::at(place + 7 * k),
-        Direction::SouthEast => Square::at(place - 7 * k),
-        Direction::SouthWest => Square::at(place - 9 * k),
+    let far = stride(direction) * k;
+    if rises(direction) {
+        Square::at(from.number() + far)
+    } else {
+        Square::at(from.number() - far)
     }
 }
 
@@ -104,7 +123,7 @@ pub fn is_clear(men: &Men, direction: Direction, n: u8, from: Square) -> bool
 {
     for k in 1..n {
         let square = along(direction, from, k);
-        if men[square.number() as usize].is_some() {
+        if men.at(square).is_some() {
             return false;
         }
     }
@@ -213,7 +232,7 @@ fn is_attacked_along(men: &Men, by: Side, direction: Direction, to: Square) -> b
     let end = room(direction, to) + 1;
     for k in 1..end {
         let from = along(direction, to, k);
-        if let Some(man) = men[from.number() as usize] {
+        if let Some(man) = men.at(from) {
             return man.side == by && reaches(men, by, man.kind, from, to);
         }
     }
@@ -289,7 +308,7 @@ fn is_attacked_by_knight(men: &Men, by: Side, knight_step: KnightStep, to: Squar
     ensures { IsTrue result ↔ IsAttackedByKnight men.now by knight_step to }
 {
     match knight_step_to(knight_step, to) {
-        Some(from) => match men[from.number() as usize] {
+        Some(from) => match men.at(from) {
             Some(man) => man.side == by && man.kind == Kind::Knight,
             None => false,
         },
@@ -356,8 +375,12 @@ pub fn is_attacked(men: &Men, by: Side, to: Square) -> bool
 fn attacks_to(men: &Men, by: Side, from: Square, to: Square) -> bool
     ensures { IsTrue result ↔ AttacksTo men.now by to from }
 {
-    match men[from.number() as usize] {
-        Some(man) => man.side == by && reaches(men, by, man.kind, from, to),
+    match men.at(from) {
+        Some(man) => {
+            man.side == by
+                && empty_board::reached(by, man.kind, from).has(to)
+                && reaches(men, by, man.kind, from, to)
+        }
         None => false,
     }
 }
@@ -382,7 +405,7 @@ fn some_attacks_to(men: &Men, by: Side, squares: Bitboard, to: Square) -> bool
 
 /// Up to so many men it is quicker to ask of each of them whether a line or a step joins it to a square than to look out
 /// from the square.
-pub const FEW: u32 = 4;
+pub const FEW: u32 = 8;
 
 /// Whether some man of this side attacks the square; all its men stand on these squares.
 pub fn is_attacked_from(men: &Men, by: Side, squares: Bitboard, to: Square) -> bool
@@ -394,22 +417,4 @@ pub fn is_attacked_from(men: &Men, by: Side, squares: Bitboard, to: Square) -> b
     } else {
         is_attacked(men, by, to)
     }
-}
-
-/// Whether a king of this side is attacked.
-pub fn is_in_check(men: &Men, side: Side) -> bool
-    ensures relation { IsTrue result ↔ IsInCheck men.now side }
-    ensures computed { result ≡ is_in_check men.now side }
-{
-    for n in 0..64 {
-        if let Some(man) = men[n as usize] {
-            if man.side == side
-                && man.kind == Kind::King
-                && is_attacked(men, side.other(), Square::at(n))
-            {
-                return true;
-            }
-        }
-    }
-    false
 }

@@ -32,6 +32,13 @@ impl Bitboard {
         Bitboard { bits: 0 }
     }
 
+    /// The squares whose bits are set.
+    pub(crate) fn from_bits(bits: u64) -> Bitboard
+        ensures { result ≡ bits }
+    {
+        Bitboard { bits }
+    }
+
     /// Whether the set has no square.
     pub fn is_empty(self) -> bool
         ensures { IsTrue result ↔ (self ≡ 0) }

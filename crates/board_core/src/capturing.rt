@@ -1,32 +1,23 @@
-//! Legal captures one after the other, without a list of them.
+//! Moves that may be legal captures, one after the other, without a list of them.
 //!
 //! `next` is where a sweep over squares stands: the proofs speak of it.
 
-ghost use Rattle.std.specs.Prelude.{◌≡◌, ◌<◌, ◌∷◌, [], IsTrue, IfSome, IfNone, Some};
+ghost use Rattle.std.specs.Prelude.{◌≡◌, ◌<◌, IsTrue, IsFalse, IfSome, IfNone};
 ghost use Rattle.std.specs.Int.{bit_at};
-ghost use Rattle.board_core.specs.ComputedMoves.{captures_after};
-ghost use Rattle.board_core.specs.Moves.{IsLegalCapture, place_of};
+ghost use Rattle.board_core.specs.Moves.{IsLegalCapture, Stands, place_of};
 ghost use Rattle.board_core.specs.Position.{IsPosition};
-ghost use Rattle.board_core.specs.Inside.Search.{IsFirst, IsPlayed, start_of, IsLaterCapture, IsLaterFrom, IsLaterBetween};
+ghost use Rattle.board_core.specs.Inside.Search.{IsFirst, IsCandidate, start_of, IsLaterCapture, IsLaterFrom, IsLaterBetween};
 ghost use Rattle.board_core.specs.Sides.{sides_of};
 ghost use Rattle.board_core.specs.declared.moves.Move.{Move};
 
 use crate::bitboard::Bitboard;
 use crate::moves::{Move, promotion_at};
 use crate::parts::Parts;
-use crate::playing::play;
+use crate::piece::Kind;
 use crate::rules::{is_capture, places_between};
 use crate::sides::Sides;
 use crate::square::Square;
-use crate::targets::reached_of;
-
-/// A legal capture, and the position after it.
-#[derive(Clone, Copy, PartialEq, Eq, Debug)]
-pub struct Capture {
-    pub by: Move,
-    pub parts: Parts,
-    pub sides: Sides,
-}
+use crate::{attack, empty_board};
 
 /// Where the moves begin that come after this one, and all moves where there is none.
 fn start_of(last: Option<Move>) -> u32
@@ -45,40 +36,82 @@ fn is_left_behind(start: u32, from: Square) -> bool
     320 * (from.number() as u32 + 1) <= start
 }
 
-/// The capture by this move, where it is one at this place or later in the order of moves.
-fn capture_by(p: &Parts, sides: &Sides, start: u32, m: &Move) -> Option<Capture>
-    requires position { IsPosition p.now }
-    requires sides { sides.now ≡ sides_of p.now.men }
-    ensures by { IfSome result (λ c. c.by ≡ m.now) }
-    ensures found { IfSome result (λ c. IsLaterCapture p.now start m.now × IsPlayed p.now c) }
-    ensures none { IfNone result (IsLaterCapture p.now start m.now → ⊥) }
+/// A set in which the squares are on which men of this kind take: those of the other side's men, and for a pawn the square that one
+/// passed.
+fn goals(p: &Parts, sides: &Sides, kind: Kind) -> Bitboard
+    requires { sides.now ≡ sides_of p.now.men }
+    ensures { (m : Move) → IsLegalCapture p.now m → Stands p.now.men m.from p.now.side kind → bit_at result m.to ≡ 1 }
 {
-    if m.place() < start || !is_capture(p, m) {
-        return None;
+    let enemy = sides.of_side(p.side.other());
+    if kind != Kind::Pawn {
+        return enemy;
     }
-    let Some((parts, sides)) = play(p, sides, m) else {
-        return None;
-    };
-    Some(Capture {
-        by: *m,
-        parts,
-        sides,
-    })
+    match p.en_passant {
+        Some(square) => enemy.with(square),
+        None => enemy,
+    }
 }
 
-/// The first legal capture from one square to another, at this place or later.
-fn capture_between(
-    p: &Parts,
-    sides: &Sides,
-    start: u32,
-    from: Square,
-    to: Square,
-) -> Option<Capture>
+/// A set in which the squares are on which the man there takes, were no man in his way.
+fn goals_from(p: &Parts, sides: &Sides, from: Square) -> Bitboard
+    requires { sides.now ≡ sides_of p.now.men }
+    ensures { (m : Move) → IsLegalCapture p.now m → m.from ≡ from → bit_at result m.to ≡ 1 }
+{
+    match p.men.at(from) {
+        Some(man) => { empty_board::reached(p.side, man.kind, from) & goals(p, sides, man.kind) }
+        None => Bitboard::empty(),
+    }
+}
+
+/// Whether there may be a legal capture: some man of the side to move takes somewhere, were no man in his way.
+pub fn may_capture(p: &Parts, sides: &Sides) -> bool
     requires position { IsPosition p.now }
     requires sides { sides.now ≡ sides_of p.now.men }
-    ensures found { IfSome result (λ c. IsFirst p.now (IsLaterBetween p.now start from to) c) }
+    ensures { IsFalse result → (m : Move) → IsLegalCapture p.now m → ⊥ }
+{
+    let mut left = sides.of_side(p.side);
+    let mut next = 0u8;
+    'movers: while !left.is_empty() {
+        let from = left.lowest();
+        if !goals_from(p, sides, from).is_empty() {
+            return true;
+        }
+        left = left.without(from);
+        next = from.number() + 1;
+    }
+    false
+}
+
+/// Whether the man on a square, as a man of the side to move, attacks another square.
+fn attacks(p: &Parts, from: Square, to: Square) -> bool
+    ensures { IsFalse result → (m : Move) → IsLegalCapture p.now m → m.from ≡ from → m.to ≡ to → ⊥ }
+{
+    match p.men.at(from) {
+        Some(man) => attack::reaches(&p.men, p.side, man.kind, from, to),
+        None => false,
+    }
+}
+
+/// Whether the move is at this place or later, and a capture if it is legal.
+fn is_candidate(p: &Parts, start: u32, m: &Move) -> bool
+    ensures yes { IsTrue result → IsCandidate p.now start m.now }
+    ensures no { IsFalse result → IsLaterCapture p.now start m.now → ⊥ }
+{
+    prove!(m.from.number() < 64);
+    prove!(m.to.number() < 64);
+    m.place() >= start && is_capture(p, m)
+}
+
+/// The first move from one square to another, at this place or later, that may be a legal capture.
+fn capture_between(p: &Parts, start: u32, from: Square, to: Square) -> Option<Move>
+    ensures found { IfSome result (λ m. IsFirst p.now start (IsLaterBetween p.now start from to) m) }
+    ensures from { IfSome result (λ m. m.from ≡ from) }
+    ensures to { IfSome result (λ m. m.to ≡ to) }
     ensures none { IfNone result ((m : Move) → IsLaterBetween p.now start from to m → ⊥) }
 {
+    if !attacks(p, from, to) {
+        return None;
+    }
     let end = places_between(p, from, to);
     for place in 0..end {
         let m = Move {
@@ -86,59 +119,29 @@ fn capture_between(
             to,
             promotion: promotion_at(place),
         };
-        if let Some(capture) = capture_by(p, sides, start, &m) {
-            return Some(capture);
+        if is_candidate(p, start, &m) {
+            return Some(m);
         }
     }
     None
 }
 
-/// A set in which the squares are on which men of the other side are taken.
-fn goals(p: &Parts, sides: &Sides) -> Bitboard
+/// The first move from a square, at this place or later, that may be a legal capture.
+fn capture_from(p: &Parts, sides: &Sides, start: u32, from: Square) -> Option<Move>
     requires { sides.now ≡ sides_of p.now.men }
-    ensures { (m : Move) → IsLegalCapture p.now m → bit_at result m.to ≡ 1 }
-{
-    let enemy = sides.of_side(p.side.other());
-    match p.en_passant {
-        Some(square) => enemy.with(square),
-        None => enemy,
-    }
-}
-
-/// Those of the goals on which the man there takes; some on which he doesn't may be among them.
-fn goals_from(p: &Parts, goals: Bitboard, from: Square) -> Bitboard
-    requires { (m : Move) → IsLegalCapture p.now m → bit_at goals m.to ≡ 1 }
-    ensures { (m : Move) → IsLegalCapture p.now m → m.from ≡ from → bit_at result m.to ≡ 1 }
-{
-    match p.men[from.number() as usize] {
-        Some(man) => reached_of(&p.men, p.side, man.kind, from, goals),
-        None => Bitboard::empty(),
-    }
-}
-
-/// The first legal capture from a square, at this place or later.
-fn capture_from(
-    p: &Parts,
-    sides: &Sides,
-    start: u32,
-    goals: Bitboard,
-    from: Square,
-) -> Option<Capture>
-    requires position { IsPosition p.now }
-    requires sides { sides.now ≡ sides_of p.now.men }
-    requires goals { (m : Move) → IsLegalCapture p.now m → bit_at goals m.to ≡ 1 }
-    ensures found { IfSome result (λ c. IsFirst p.now (IsLaterFrom p.now start from) c) }
+    ensures found { IfSome result (λ m. IsFirst p.now start (IsLaterFrom p.now start from) m) }
+    ensures from { IfSome result (λ m. m.from ≡ from) }
     ensures none { IfNone result ((m : Move) → IsLaterFrom p.now start from m → ⊥) }
 {
     if is_left_behind(start, from) {
         return None;
     }
-    let mut rest = goals_from(p, goals, from);
+    let mut rest = goals_from(p, sides, from);
     let mut next = 0u8;
     'targets: while !rest.is_empty() {
         let to = rest.lowest();
-        if let Some(capture) = capture_between(p, sides, start, from, to) {
-            return Some(capture);
+        if let Some(m) = capture_between(p, start, from, to) {
+            return Some(m);
         }
         rest = rest.without(to);
         next = to.number() + 1;
@@ -146,20 +149,19 @@ fn capture_from(
     None
 }
 
-/// The first legal capture at this place or later.
-fn first_capture(p: &Parts, sides: &Sides, start: u32) -> Option<Capture>
+/// The first move at this place or later that may be a legal capture.
+fn first_capture(p: &Parts, sides: &Sides, start: u32) -> Option<Move>
     requires position { IsPosition p.now }
     requires sides { sides.now ≡ sides_of p.now.men }
-    ensures found { IfSome result (λ c. IsFirst p.now (IsLaterCapture p.now start) c) }
+    ensures found { IfSome result (λ m. IsFirst p.now start (IsLaterCapture p.now start) m) }
     ensures none { IfNone result ((m : Move) → IsLaterCapture p.now start m → ⊥) }
 {
-    let goals = goals(p, sides);
     let mut rest = sides.of_side(p.side);
     let mut next = 0u8;
     'movers: while !rest.is_empty() {
         let from = rest.lowest();
-        if let Some(capture) = capture_from(p, sides, start, goals, from) {
-            return Some(capture);
+        if let Some(m) = capture_from(p, sides, start, from) {
+            return Some(m);
         }
         rest = rest.without(from);
         next = from.number() + 1;
@@ -167,13 +169,12 @@ fn first_capture(p: &Parts, sides: &Sides, start: u32) -> Option<Capture>
     None
 }
 
-/// The first legal capture that comes after this move, or the first of all.
-pub fn capture_after(p: &Parts, sides: &Sides, last: Option<Move>) -> Option<Capture>
+/// The next move after this one that may be a legal capture, or the first of all.
+pub fn next_capture(p: &Parts, sides: &Sides, last: Option<Move>) -> Option<Move>
     requires position { IsPosition p.now }
     requires sides { sides.now ≡ sides_of p.now.men }
-    ensures played { IfSome result (λ c. IsPlayed p.now c) }
-    ensures next { IfSome result (λ c. captures_after p.now last ≡ c.by ∷ captures_after p.now (Some c.by)) }
-    ensures none { IfNone result (captures_after p.now last ≡ []) }
+    ensures next { IfSome result (λ m. IsFirst p.now (start_of last) (IsLaterCapture p.now (start_of last)) m) }
+    ensures none { IfNone result ((m : Move) → IsLaterCapture p.now (start_of last) m → ⊥) }
 {
     first_capture(p, sides, start_of(last))
 }

@@ -15,10 +15,11 @@ ghost use Rattle.board_core.specs.Position.{IsPosition};
 
 use crate::bitboard::Bitboard;
 use crate::king::king_of;
+use crate::men::Men;
 use crate::moves::{Move, MoveCase, promotion_at};
 use crate::parts::Parts;
-use crate::piece::{Kind, Men, Side};
-use crate::playing::men_after;
+use crate::piece::{Kind, Side};
+use crate::playing::move_men;
 use crate::rules::{case_of, is_capture, places_between};
 use crate::sides::Sides;
 use crate::square::Square;
@@ -42,10 +43,11 @@ pub struct Survey {
     pub king: Square,
 }
 
-/// What keeps the king of the side that moves safe: its square, whether it isn't attacked, and the
-/// squares that it must not go to.
+/// What keeps the king of the side that moves safe: its square, whether it isn't attacked, the squares of the other side's men, and those
+/// that it must not go to.
 #[derive(Clone, Copy, PartialEq, Eq, Debug)]
 pub struct Guard {
+    pub enemy: Bitboard,
     pub king: Square,
     pub out_of_check: bool,
     pub attacked: Bitboard,
@@ -71,7 +73,7 @@ fn attacks_from(men: &Men, side: Side, from: Square) -> Bitboard
     ensures { (kind : Kind) (t : ℕ) → Stands men.now from (other side) kind → t < 64
         → IsFree men.now side t → Reaches men.now (other side) kind from t → bit_at result t ≡ 1 }
 {
-    match men[from.number() as usize] {
+    match men.at(from) {
         Some(man) => match man.kind {
             Kind::Pawn => targets::pawn_attacks(men, side, from),
             kind => targets::plain_targets(men, side, kind, from),
@@ -103,7 +105,7 @@ fn attacked_without_king(p: &Parts, v: &Survey) -> Bitboard
     ensures { HasAttacked (emptied p.now.men v.now.king) p.now.side result }
 {
     let mut men = p.men;
-    men[v.king.number() as usize] = None;
+    men.put(v.king, None);
     attacked_squares(&men, p.side, v.enemy)
 }
 
@@ -115,6 +117,7 @@ fn guard_of(p: &Parts, v: &Survey, attacked: Bitboard) -> Guard
 {
     prove!(v.king.number() < 64);
     Guard {
+        enemy: v.enemy,
         king: v.king,
         out_of_check: !attacked.has(v.king),
         attacked,
@@ -137,6 +140,7 @@ fn is_unpinned(p: &Parts, g: &Guard, from: Square) -> bool
     ensures { IsTrue result → IsUnpinned p.now from }
 {
     prove!(from.number() < 64);
+    prove!(p.men.squares() == 64);
     if !g.out_of_check {
         return false;
     }
@@ -162,6 +166,21 @@ fn king_after(m: &Move, g: &Guard) -> Square
     if m.from == g.king { m.to } else { g.king }
 }
 
+/// Whether the king of the side that moves isn't attacked after the move, asked of the men as they stand then.
+#[inline(never)]
+fn is_king_safe(p: &Parts, m: &Move, case: MoveCase, g: &Guard) -> bool
+    requires position { IsPosition p.now }
+    requires rule { IsMove p.now m.now case }
+    requires guard { IsGuard p.now g.now }
+    ensures { IsTrue result ↔ (IsInCheck (men_after p.now m.now case) p.now.side → ⊥) }
+{
+    prove!(m.from.number() < 64);
+    prove!(m.to.number() < 64);
+    let mut men = p.men;
+    move_men(p, &mut men, m, case);
+    !attack::is_attacked_from(&men, p.side.other(), g.enemy, king_after(m, g))
+}
+
 /// Whether the king of the side that moves isn't attacked after the move.
 fn is_safe(p: &Parts, m: &Move, case: MoveCase, g: &Guard, unpinned: bool) -> bool
     requires position { IsPosition p.now }
@@ -178,8 +197,7 @@ fn is_safe(p: &Parts, m: &Move, case: MoveCase, g: &Guard, unpinned: bool) -> bo
     if is_king_away(m, case, g) {
         return true;
     }
-    let men = men_after(p, m, case);
-    !attack::is_attacked(&men, p.side.other(), king_after(m, g))
+    is_king_safe(p, m, case, g)
 }
 
 /// Whether the move is one of those asked for.
@@ -392,7 +410,7 @@ fn add_from(
     ensures memory { OnErr result ((m : Move) × IsListed which p.now m) }
     ensures known { IsKnown p.now v.now known.new }
 {
-    let man = match p.men[from.number() as usize] {
+    let man = match p.men.at(from) {
         Some(man) => man,
         None => return Ok(()),
     };

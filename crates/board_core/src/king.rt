@@ -11,7 +11,8 @@ ghost use Rattle.board_core.specs.declared.piece.Kind.{Kind};
 
 use crate::attack;
 use crate::bitboard::Bitboard;
-use crate::piece::{Kind, Men, Side};
+use crate::men::Men;
+use crate::piece::{Kind, Side};
 use crate::rules::stands;
 use crate::sides::Sides;
 use crate::square::Square;
@@ -23,6 +24,7 @@ pub fn king_of(men: &Men, side: Side, own: Bitboard) -> Square
     ensures stands { Stands men.now result side Kind.King }
     ensures only { IsOnlyKing men.now side result }
 {
+    prove!(men.squares() == 64);
     let mut rest = own;
     let mut next = 0u8;
     let mut square = rest.lowest();

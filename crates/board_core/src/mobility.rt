@@ -93,7 +93,7 @@ fn may_leave(p: &Parts, sides: &Sides, sought: Sought, from: Square) -> bool
     requires sides { sides.now ≡ sides_of p.now.men }
     ensures { IsTrue result ↔ MayLeave p.now sought from }
 {
-    match p.men[from.number() as usize] {
+    match p.men.at(from) {
         Some(man) => {
             man.side == p.side && may_go_within(p, sides, sought, from, targets(p, man.kind, from))
         }

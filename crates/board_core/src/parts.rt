@@ -3,7 +3,8 @@
 ghost use Rattle.std.specs.Prelude.{◌≡◌, ◌↔◌, IsTrue};
 ghost use Rattle.board_core.specs.Castling.{has_right, has_any_right};
 
-use crate::piece::{Men, Side, Wing};
+use crate::men::Men;
+use crate::piece::{Side, Wing};
 use crate::square::Square;
 
 /// Which castlings have not been lost (FIDE article 3.8.2.1).

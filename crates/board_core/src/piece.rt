@@ -44,9 +44,6 @@ pub struct Piece {
     pub kind: Kind,
 }
 
-/// The man on each of the 64 squares, by the number of the square.
-pub type Men = [Option<Piece>; 64];
-
 /// The two ways to castle (FIDE article 3.8.2): with the rook of file h or of file a.
 #[derive(Clone, Copy, PartialEq, Eq, Debug)]
 pub enum Wing {

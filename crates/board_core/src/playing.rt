@@ -2,8 +2,8 @@
 
 ghost use Rattle.std.specs.Prelude.{◌≡◌, ◌<◌, ◌↔◌, ◌+◌, ◌-◌, IsTrue, IfSome, Option, Some};
 ghost use Rattle.board_core.specs.Inside.Search.{IsInside};
-ghost use Rattle.board_core.specs.Attack.{forward};
-ghost use Rattle.board_core.specs.Moves.{IsMove, Legal, IsLegal, after, rights_after, keeps_right, en_passant_after, halfmove_after, behind, one_more, kind_of, carried, landed, men_after, fullmove_after};
+ghost use Rattle.board_core.specs.Attack.{IsInCheck, forward};
+ghost use Rattle.board_core.specs.Moves.{IsMove, IsLegal, after, rights_after, keeps_right, en_passant_after, halfmove_after, behind, one_more, kind_of, carried, landed, men_after, fullmove_after};
 ghost use Rattle.board_core.specs.Side.{other};
 ghost use Rattle.board_core.specs.Castling.{king_home, rook_home};
 ghost use Rattle.board_core.specs.ComputedMoves.{is_legal};
@@ -12,9 +12,10 @@ ghost use Rattle.board_core.specs.Sides.{sides_of};
 
 use crate::castling;
 use crate::king::is_in_check;
+use crate::men::Men;
 use crate::moves::{Move, MoveCase};
 use crate::parts::{Parts, Rights};
-use crate::piece::{Kind, Men, Piece, Promotion, Side, Wing};
+use crate::piece::{Kind, Piece, Promotion, Side, Wing};
 use crate::rules::{case_of, is_empty};
 use crate::sides::Sides;
 use crate::square::Square;
@@ -23,8 +24,8 @@ use crate::square::Square;
 fn carry(men: &mut Men, from: Square, to: Square, man: Option<Piece>)
     ensures { men.new ≡ carried men.old from to man }
 {
-    men[from.number() as usize] = None;
-    men[to.number() as usize] = man;
+    men.put(from, None);
+    men.put(to, man);
 }
 
 fn promoted(promotion: Promotion) -> Kind
@@ -62,6 +63,9 @@ fn keeps_right(p: &Parts, m: &Move, side: Side, wing: Wing) -> bool
 fn rights_after(p: &Parts, m: &Move) -> Rights
     ensures { result ≡ rights_after p.now m.now }
 {
+    if !p.rights.any() {
+        return p.rights;
+    }
     Rights {
         white_king: keeps_right(p, m, Side::White, Wing::KingSide),
         white_queen: keeps_right(p, m, Side::White, Wing::QueenSide),
@@ -112,38 +116,37 @@ pub fn behind(side: Side, square: Square) -> Square
     }
 }
 
-/// Where the men stand after the move.
-pub fn men_after(p: &Parts, m: &Move, case: MoveCase) -> Men
-    requires { IsMove p.now m.now case }
-    ensures { result ≡ men_after p.now m.now case }
+/// Moves the men, who stand as in the position, as the move does.
+pub fn move_men(p: &Parts, men: &mut Men, m: &Move, case: MoveCase)
+    requires rule { IsMove p.now m.now case }
+    requires men { men.old ≡ p.now.men }
+    ensures { men.new ≡ men_after p.now m.now case }
 {
-    let man = p.men[m.from.number() as usize];
-    let mut men = p.men;
+    let man = p.men.at(m.from);
     match case {
-        MoveCase::Plain | MoveCase::DoubleStep => carry(&mut men, m.from, m.to, man),
+        MoveCase::Plain | MoveCase::DoubleStep => carry(men, m.from, m.to, man),
         MoveCase::Advance | MoveCase::PawnCapture => {
-            carry(&mut men, m.from, m.to, landed(p.side, man, m.promotion));
+            carry(men, m.from, m.to, landed(p.side, man, m.promotion));
         }
         MoveCase::EnPassant => {
-            carry(&mut men, m.from, m.to, man);
+            carry(men, m.from, m.to, man);
             let passed = behind(p.side, m.to);
-            men[passed.number() as usize] = None;
+            men.put(passed, None);
         }
         MoveCase::Castle(wing) => {
-            carry(&mut men, m.from, m.to, man);
+            carry(men, m.from, m.to, man);
             let rook = Some(Piece {
                 side: p.side,
                 kind: Kind::Rook,
             });
             carry(
-                &mut men,
+                men,
                 castling::rook_home(p.side, wing),
                 castling::rook_end(p.side, wing),
                 rook,
             );
         }
     }
-    men
 }
 
 fn en_passant_after(p: &Parts, m: &Move, case: MoveCase) -> Option<Square>
@@ -156,20 +159,19 @@ fn en_passant_after(p: &Parts, m: &Move, case: MoveCase) -> Option<Square>
     }
 }
 
-/// The position after the move.
+/// Makes the move on a copy of the position.
 #[tactic(auto, unfolding(crate::specs::Moves::after))]
-fn after(p: &Parts, m: &Move, case: MoveCase) -> Parts
-    requires { IsMove p.now m.now case }
-    ensures { result ≡ after p.now m.now case }
+fn make(p: &Parts, copy: &mut Parts, m: &Move, case: MoveCase)
+    requires rule { IsMove p.now m.now case }
+    requires copy { copy.old ≡ p.now }
+    ensures { copy.new ≡ after p.now m.now case }
 {
-    Parts {
-        men: men_after(p, m, case),
-        side: p.side.other(),
-        rights: rights_after(p, m),
-        en_passant: en_passant_after(p, m, case),
-        halfmove: halfmove_after(p, m, case),
-        fullmove: fullmove_after(p.side, p.fullmove),
-    }
+    move_men(p, &mut copy.men, m, case);
+    copy.side = p.side.other();
+    copy.rights = rights_after(p, m);
+    copy.en_passant = en_passant_after(p, m, case);
+    copy.halfmove = halfmove_after(p, m, case);
+    copy.fullmove = fullmove_after(p.side, p.fullmove);
 }
 
 /// Where the men of each side stand after the move.
@@ -178,7 +180,7 @@ fn sides_after(p: &Parts, sides: &Sides, m: &Move, case: MoveCase) -> Sides
     requires sides { sides.now ≡ sides_of p.now.men }
     ensures { result ≡ sides_of (men_after p.now m.now case) }
 {
-    let man = p.men[m.from.number() as usize];
+    let man = p.men.at(m.from);
     match case {
         MoveCase::Plain | MoveCase::DoubleStep => sides.carry(m.from, m.to, man),
         MoveCase::Advance | MoveCase::PawnCapture => {
@@ -201,35 +203,50 @@ fn sides_after(p: &Parts, sides: &Sides, m: &Move, case: MoveCase) -> Sides
     }
 }
 
-/// The position after the move and where the men of each side then stand, where the move is legal.
-pub fn play(p: &Parts, sides: &Sides, m: &Move) -> Option<(Parts, Sides)>
+/// Whether the move, which goes by this case, leaves the king of its side unattacked.
+#[inline(never)]
+fn is_safe(p: &Parts, sides: &Sides, m: &Move, case: MoveCase) -> bool
     requires position { IsPosition p.now }
     requires sides { sides.now ≡ sides_of p.now.men }
-    ensures legal { IfSome result (λ q. Legal p.now m.now q.0) }
-    ensures sides { IfSome result (λ q. q.1 ≡ sides_of q.0.men) }
-    ensures only { (q : Parts) → Legal p.now m.now q → result ≡ Some (q, sides_of q.men) }
+    requires rule { IsMove p.now m.now case }
+    ensures { IsTrue result ↔ (IsInCheck (men_after p.now m.now case) p.now.side → ⊥) }
 {
     prove!(m.from.number() < 64);
     prove!(m.to.number() < 64);
-    let Some(case) = case_of(p, m) else {
-        return None;
-    };
-    let q = after(p, m, case);
-    let sides = sides_after(p, sides, m, case);
-    if is_in_check(&q.men, &sides, p.side) {
-        return None;
-    }
-    Some((q, sides))
+    let mut men = p.men;
+    move_men(p, &mut men, m, case);
+    !is_in_check(&men, &sides_after(p, sides, m, case), p.side)
 }
 
+/// Makes the move, which goes by this case, on a copy of the position and of the sets of its sides, and tells whether the king of its
+/// side is then unattacked.
+pub fn play(p: &Parts, copy: &mut Parts, sides: &mut Sides, m: &Move, case: MoveCase) -> bool
+    requires position { IsPosition p.now }
+    requires copy { copy.old ≡ p.now }
+    requires sides { sides.old ≡ sides_of p.now.men }
+    requires rule { IsMove p.now m.now case }
+    ensures made { copy.new ≡ after p.now m.now case }
+    ensures sides { sides.new ≡ sides_of copy.new.men }
+    ensures safe { IsTrue result ↔ (IsInCheck copy.new.men p.now.side → ⊥) }
+{
+    prove!(m.from.number() < 64);
+    prove!(m.to.number() < 64);
+    make(p, copy, m, case);
+    *sides = sides_after(p, sides, m, case);
+    !is_in_check(&copy.men, sides, p.side)
+}
+
+/// Whether the move is legal.
 pub fn is_legal(p: &Parts, sides: &Sides, m: &Move) -> bool
     requires position { IsPosition p.now }
     requires sides { sides.now ≡ sides_of p.now.men }
     ensures relation { IsTrue result ↔ IsLegal p.now m.now }
     ensures computed { result ≡ is_legal p.now m.now }
 {
-    match play(p, sides, m) {
-        Some(_) => true,
+    prove!(m.from.number() < 64);
+    prove!(m.to.number() < 64);
+    match case_of(p, m) {
+        Some(case) => is_safe(p, sides, m, case),
         None => false,
     }
 }

@@ -1,23 +1,25 @@
 //! Positions: the seven conditions, and what the layers above call.
 
-ghost use Rattle.std.specs.Prelude.{◌≡◌, ◌≢◌, ◌<◌, ◌↔◌, ◌∷◌, [], IsTrue, Ok, Err, IfOk, IfErr, OnErr, IfSome, IfNone, count_by, ◌+◌};
+ghost use Rattle.std.specs.Prelude.{◌≡◌, ◌≢◌, ◌<◌, ◌↔◌, ◌∷◌, [], IsTrue, IsFalse, List, Option, Some, if◌then◌else◌, Ok, Err, IfOk, IfErr, OnErr, IfSome, IfNone, count_by, ◌+◌};
 ghost use Rattle.board_core.specs.Position.{is_of, is_king_of, HasOneKingEach, HasFewMen, HasNoPawnOnEdge, IsRightValid, HasValidRights, IsOpponentSafe, HasValidCounters, HasValidEnPassant, IsPassed, passed_rank, IsFirstFault, IsPosition, fault_name};
 ghost use Rattle.board_core.specs.declared.position.PositionFault.{PositionFault};
-ghost use Rattle.board_core.specs.Moves.{IsEnPassant, IsLegal, Legal, HasLegal, HasLegalCaptures};
+ghost use Rattle.board_core.specs.Moves.{IsEnPassant, IsLegal, Legal, IsMove, HasLegal, HasLegalCaptures, place_of, after, men_after};
 ghost use Rattle.board_core.specs.Attack.{man_at, IsInCheck};
 ghost use Rattle.board_core.specs.Computed.{is_in_check};
 ghost use Rattle.board_core.specs.ComputedMoves.{position_after, is_legal, has_legal_move, has_move_besides_en_passant, captures_after, legal_captures, legal_moves, count_of_men};
 ghost use Rattle.board_core.specs.Side.{other};
-ghost use Rattle.board_core.specs.Sides.{IsOccupied};
+ghost use Rattle.board_core.specs.Sides.{IsOccupied, sides_of};
+ghost use Rattle.board_core.specs.declared.piece.Piece.{Piece};
 
 use crate::bitboard::Bitboard;
+use crate::men::Men;
 use crate::mobility::Sought;
-use crate::moves::Move;
+use crate::moves::{Move, MoveCase};
 use crate::parts::{Parts, Rights};
-use crate::piece::{Kind, Men, Piece, Side, Wing};
+use crate::piece::{Kind, Piece, Side, Wing};
 use crate::sides::{Sides, is_of};
 use crate::square::Square;
-use crate::{attack, capturing, castling, generation, king, mobility, playing, rules};
+use crate::{capturing, castling, generation, king, mobility, playing, rules};
 use std::alloc::{AllocError, Global};
 use std::marker::Model;
 
@@ -70,13 +72,13 @@ fn is_king_of(side: Side, man: Option<Piece>) -> bool
 fn count_kings(men: &Men, side: Side) -> usize
     ensures { result ≡ count_by (is_king_of side) men.now }
 {
-    men.iter().filter(|man| is_king_of(side, **man)).count()
-}
-
-fn count_men(men: &Men, side: Side) -> usize
-    ensures { result ≡ count_by (is_of side) men.now }
-{
-    men.iter().filter(|man| is_of(side, **man)).count()
+    let mut count = 0;
+    for n in 0..men.squares() {
+        if is_king_of(side, men.at(Square::at(n))) {
+            count += 1;
+        }
+    }
+    count
 }
 
 fn has_one_king_each(men: &Men) -> bool
@@ -85,17 +87,18 @@ fn has_one_king_each(men: &Men) -> bool
     count_kings(men, Side::White) == 1 && count_kings(men, Side::Black) == 1
 }
 
-fn has_few_men(men: &Men) -> bool
-    ensures { IsTrue result ↔ HasFewMen men.now }
+/// Whether each side has 16 men at most, where they stand on these squares.
+fn has_few_men(sides: &Sides) -> bool
+    ensures { (men : List (Option Piece)) → sides.now ≡ sides_of men → (IsTrue result ↔ HasFewMen men) }
 {
-    count_men(men, Side::White) <= 16 && count_men(men, Side::Black) <= 16
+    sides.white.len() <= 16 && sides.black.len() <= 16
 }
 
 fn has_no_pawn_on_edge(men: &Men) -> bool
     ensures { IsTrue result ↔ HasNoPawnOnEdge men.now }
 {
     for n in 0u8..64 {
-        if let Some(man) = men[n as usize] {
+        if let Some(man) = men.at(Square::at(n)) {
             if man.kind == Kind::Pawn && (n < 8 || n >= 56) {
                 return false;
             }
@@ -154,10 +157,12 @@ fn has_valid_en_passant(p: &Parts) -> bool
     }
 }
 
-fn is_opponent_safe(p: &Parts) -> bool
+fn is_opponent_safe(p: &Parts, sides: &Sides) -> bool
+    requires kings { HasOneKingEach p.now.men }
+    requires sides { sides.now ≡ sides_of p.now.men }
     ensures { IsTrue result ↔ IsOpponentSafe p.now }
 {
-    !attack::is_in_check(&p.men, p.side.other())
+    !king::is_in_check(&p.men, sides, p.side.other())
 }
 
 fn has_valid_counters(p: &Parts) -> bool
@@ -166,15 +171,17 @@ fn has_valid_counters(p: &Parts) -> bool
     p.halfmove <= 9999 && p.fullmove <= 9999
 }
 
-/// The first condition that fails.
-fn first_fault(p: &Parts) -> Option<PositionFault>
+/// The first condition that fails; the men of each side stand on these squares.
+fn first_fault(p: &Parts, sides: &Sides) -> Option<PositionFault>
+    requires { sides.now ≡ sides_of p.now.men }
     ensures found { IfSome result (λ fault. IsFirstFault p.now fault) }
     ensures none { IfNone result (IsPosition p.now) }
 {
+    prove!(p.men.squares() == 64);
     if !has_one_king_each(&p.men) {
         return Some(PositionFault::BadKings);
     }
-    if !has_few_men(&p.men) {
+    if !has_few_men(sides) {
         return Some(PositionFault::TooManyMen);
     }
     if !has_no_pawn_on_edge(&p.men) {
@@ -186,7 +193,7 @@ fn first_fault(p: &Parts) -> Option<PositionFault>
     if !has_valid_en_passant(p) {
         return Some(PositionFault::BadEnPassant);
     }
-    if !is_opponent_safe(p) {
+    if !is_opponent_safe(p, sides) {
         return Some(PositionFault::OpponentInCheck);
     }
     if !has_valid_counters(p) {
@@ -227,10 +234,10 @@ impl Position {
         ensures only { IsPosition parts → result ≡ Ok parts }
         ensures only_fault { (fault : PositionFault) → IsFirstFault parts fault → result ≡ Err fault }
     {
-        if let Some(fault) = first_fault(&parts) {
+        let sides = Sides::of(&parts.men);
+        if let Some(fault) = first_fault(&parts, &sides) {
             return Err(fault);
         }
-        let sides = Sides::of(&parts.men);
         Ok(Position { parts, sides })
     }
 
@@ -246,7 +253,7 @@ impl Position {
     pub fn piece_at(&self, square: Square) -> Option<Piece>
         ensures { result ≡ man_at self.now.men square }
     {
-        self.parts.men[square.number() as usize]
+        self.parts.men.at(square)
     }
 
     /// Whether the king of the side to move is attacked (FIDE article 3.9.1).
@@ -306,10 +313,37 @@ impl Position {
         ensures only { (q : Parts) → Legal self.now m q → result ≡ Some q }
         ensures computed { result ≡ position_after self.now m }
     {
-        let Some((parts, sides)) = playing::play(&self.parts, &self.sides, &m) else {
+        self.after(&m)
+    }
+
+    /// The position after the move; none where the move isn't legal.
+    fn after(&self, m: &Move) -> Option<Position>
+        ensures legal { IfSome result (λ q. Legal self.now m.now q) }
+        ensures only { (q : Parts) → Legal self.now m.now q → result ≡ Some q }
+        ensures computed { result ≡ position_after self.now m.now }
+    {
+        prove!(m.from.number() < 64);
+        prove!(m.to.number() < 64);
+        match rules::case_of(&self.parts, m) {
+            Some(case) => self.played(m, case),
+            None => None,
+        }
+    }
+
+    /// The position after the move, which goes by this case; none where it leaves the king of its side attacked.
+    #[inline(never)]
+    fn played(&self, m: &Move, case: MoveCase) -> Option<Position>
+        requires { IsMove self.now m.now case }
+        ensures safe { IfSome result (λ q. (q ≡ after self.now m.now case) × (IsInCheck q.men self.now.side → ⊥)) }
+        ensures only { (IsInCheck (men_after self.now m.now case) self.now.side → ⊥) → result ≡ Some (after self.now m.now case) }
+    {
+        prove!(m.from.number() < 64);
+        prove!(m.to.number() < 64);
+        let mut after = *self;
+        if !playing::play(&self.parts, &mut after.parts, &mut after.sides, m, case) {
             return None;
-        };
-        Some(Position { parts, sides })
+        }
+        Some(after)
     }
 
     /// The legal moves, each once, in order of from, to and promotion (queen, rook, bishop,
@@ -339,14 +373,34 @@ impl Position {
         ensures after { IfSome result (λ c. position_after self.now c.0 ≡ Some c.1) }
         ensures none { IfNone result (captures_after self.now last ≡ []) }
     {
-        let Some(capture) = capturing::capture_after(&self.parts, &self.sides, last) else {
-            return None;
-        };
-        let after = Position {
-            parts: capture.parts,
-            sides: capture.sides,
-        };
-        Some((capture.by, after))
+        let mut last = last;
+        'captures: while let Some(m) = self.next_capture(last) {
+            if let Some(after) = self.after(&m) {
+                return Some((m, after));
+            }
+            last = Some(m);
+        }
+        None
+    }
+
+    /// Whether there may be a legal capture, en passant among them; where it says no there is none. It takes no memory.
+    pub fn may_capture(&self) -> bool
+        ensures { IsFalse result → captures_after self.now None ≡ [] }
+    {
+        capturing::may_capture(&self.parts, &self.sides)
+    }
+
+    /// The next move after this one, in the order of from, to and promotion, that may be a legal capture, or the first of all where no
+    /// move is given; none where no legal capture comes any more. No legal capture comes between the two. Whether the move itself is
+    /// legal `play` tells. It takes no memory.
+    pub fn next_capture(&self, last: Option<Move>) -> Option<Move>
+        ensures next { IfSome result (λ m. captures_after self.now last
+            ≡ if is_legal self.now m then m ∷ captures_after self.now (Some m) else captures_after self.now (Some m)) }
+        ensures later { IfSome result (λ m. (l : Move) → last ≡ Some l → place_of l < place_of m) }
+        ensures below { IfSome result (λ m. place_of m < 20480) }
+        ensures none { IfNone result (captures_after self.now last ≡ []) }
+    {
+        capturing::next_capture(&self.parts, &self.sides, last)
     }
 
     /// The side to move.

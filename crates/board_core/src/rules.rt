@@ -7,9 +7,10 @@ ghost use Rattle.board_core.specs.Side.{other};
 ghost use Rattle.board_core.specs.Square.{rank_of};
 ghost use Rattle.board_core.specs.Castling.{king_home, rook_home, king_end};
 
+use crate::men::Men;
 use crate::moves::{Move, MoveCase};
 use crate::parts::Parts;
-use crate::piece::{Kind, Men, Side, Wing};
+use crate::piece::{Kind, Side, Wing};
 use crate::square::Square;
 use crate::{attack, castling};
 
@@ -17,7 +18,7 @@ use crate::{attack, castling};
 pub fn stands(men: &Men, square: Square, side: Side, kind: Kind) -> bool
     ensures { IsTrue result ↔ Stands men.now square side kind }
 {
-    match men[square.number() as usize] {
+    match men.at(square) {
         Some(man) => man.side == side && man.kind == kind,
         None => false,
     }
@@ -27,7 +28,7 @@ pub fn stands(men: &Men, square: Square, side: Side, kind: Kind) -> bool
 pub fn is_empty(men: &Men, square: Square) -> bool
     ensures { IsTrue result ↔ (man_at men.now square ≡ None) }
 {
-    men[square.number() as usize].is_none()
+    men.at(square).is_none()
 }
 
 /// Whether a man of this side stands on the square.
@@ -35,7 +36,7 @@ pub fn is_taken(men: &Men, side: Side, square: Square) -> bool
     ensures taken { IsTrue result → IsTaken men.now side square }
     ensures free { (IsTrue result → ⊥) → IsFree men.now side square }
 {
-    match men[square.number() as usize] {
+    match men.at(square) {
         Some(man) => man.side == side,
         None => false,
     }
@@ -84,7 +85,7 @@ fn promotes(side: Side, m: &Move) -> bool
 fn is_plain(p: &Parts, m: &Move) -> bool
     ensures { IsTrue result ↔ IsPlain p.now m.now }
 {
-    match p.men[m.from.number() as usize] {
+    match p.men.at(m.from) {
         Some(man) => {
             man.side == p.side
                 && man.kind != Kind::Pawn
@@ -142,7 +143,7 @@ fn is_way_empty(men: &Men, a: Square, b: Square) -> bool
     let low = a.number().min(b.number());
     let high = a.number().max(b.number());
     for s in low + 1..high {
-        if men[s as usize].is_some() {
+        if men.at(Square::at(s)).is_some() {
             return false;
         }
     }

@@ -8,7 +8,8 @@ ghost use Rattle.board_core.specs.Position.{is_of};
 ghost use Rattle.board_core.specs.Sides.{sides_of, squares_of};
 
 use crate::bitboard::Bitboard;
-use crate::piece::{Men, Piece, Side};
+use crate::men::Men;
+use crate::piece::{Piece, Side};
 use crate::square::Square;
 
 /// Whether a man of this side stands there.
@@ -51,8 +52,8 @@ impl Sides {
     {
         let mut white = Bitboard::empty();
         let mut black = Bitboard::empty();
-        for n in 0u8..64 {
-            if let Some(man) = men[n as usize] {
+        for n in 0..men.squares() {
+            if let Some(man) = men.at(Square::at(n)) {
                 match man.side {
                     Side::White => white = white.with(Square::at(n)),
                     Side::Black => black = black.with(Square::at(n)),

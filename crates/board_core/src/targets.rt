@@ -12,10 +12,11 @@ ghost use Rattle.board_core.specs.declared.attack.Direction.{Direction};
 
 use crate::attack::{self, Direction, KnightStep};
 use crate::bitboard::Bitboard;
+use crate::men::Men;
 use crate::parts::Parts;
-use crate::piece::{Kind, Men, Side, Wing};
+use crate::piece::{Kind, Side, Wing};
 use crate::square::Square;
-use crate::{castling, rules};
+use crate::{castling, empty_board, rules};
 
 /// The mask with the squares in this direction up to the first man, and his where he can be taken.
 fn with_ray(men: &Men, side: Side, direction: Direction, from: Square, mask: Bitboard) -> Bitboard
@@ -29,7 +30,7 @@ fn with_ray(men: &Men, side: Side, direction: Direction, from: Square, mask: Bit
     let mut all = mask;
     for k in 1..end {
         let to = attack::along(direction, from, k);
-        if let Some(man) = men[to.number() as usize] {
+        if let Some(man) = men.at(to) {
             if man.side == side {
                 return all;
             }
@@ -197,7 +198,7 @@ pub fn reached_of(men: &Men, side: Side, kind: Kind, from: Square, set: Bitboard
         → (bit_at set s ≡ 1) × Reaches men.now side kind from s }
 {
     let mut reached = Bitboard::empty();
-    let mut rest = set;
+    let mut rest = set & empty_board::reached(side, kind, from);
     let mut next = 0u8;
     'squares: while !rest.is_empty() {
         let to = rest.lowest();

@@ -146,7 +146,7 @@ fn check_counts(rt: &impl Abort, alloc: Global, counts: &Counts) {
 }
 
 /// The capture that comes after this one in the list, or the first.
-fn next_capture(position: &Position, last: Option<Move>) -> Option<Move> {
+fn capture_after(position: &Position, last: Option<Move>) -> Option<Move> {
     match position.capture_after(last) {
         Some((m, _)) => Some(m),
         None => None,
@@ -154,7 +154,12 @@ fn next_capture(position: &Position, last: Option<Move>) -> Option<Move> {
 }
 
 fn check_next(rt: &impl Abort, text: &str, last: Option<Move>, wanted: Option<Move>) {
-    check_same(rt, next_capture(&position_of(rt, text), last), wanted, text);
+    check_same(
+        rt,
+        capture_after(&position_of(rt, text), last),
+        wanted,
+        text,
+    );
 }
 
 fn goes_on_without_en_passant(rt: &impl Abort, text: &str) -> bool {
@@ -347,14 +352,19 @@ fn fault_of(parts: Parts) -> &'static str {
     }
 }
 
+fn carry(parts: &mut Parts, from: Square, to: Square) {
+    let man = parts.men.at(from);
+    parts.men.put(from, None);
+    parts.men.put(to, man);
+}
+
 /// A pawn on the last rank comes before a passed square behind no pawn.
 #[test]
 fn the_first_fault_is_told(rt: HostRuntime) {
     let mut parts = *position_of(&rt, START).parts();
     parts.en_passant = Square::new(40);
     check_text(&rt, fault_of(parts), "BadEnPassant");
-    parts.men[56] = parts.men[8];
-    parts.men[8] = None;
+    carry(&mut parts, square(&rt, 8), square(&rt, 56));
     check_text(&rt, fault_of(parts), "PawnOnEdge");
 }
 

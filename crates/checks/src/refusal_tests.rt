@@ -33,7 +33,7 @@ fn check_game_or_refusal(rt: &impl Abort, alloc: Global, set: &mut Set<'_>) {
     }
 }
 
-/// Whether the table is added; where it isn't, memory was refused.
+/// Whether the table is added, which takes no memory.
 fn is_taken<'a>(rt: &impl Abort, set: &mut Set<'a>, table: Table<'a>) -> bool {
     match set.add(table) {
         Ok(()) => true,

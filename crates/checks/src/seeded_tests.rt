@@ -2,7 +2,7 @@
 
 use crate::comparing::check_same;
 use arrayvec::ArrayVec;
-use board_core::{Kind, Men, Parts, Piece, Position, Rights, Side};
+use board_core::{Kind, Men, Parts, Piece, Position, Rights, Side, Square};
 use place_index::{Material, Shape, index, place};
 use std::process::Abort;
 
@@ -167,10 +167,11 @@ fn piece(code: u8, is_exchanged: bool) -> Piece {
 
 /// The board of these men, or with colours exchanged and ranks mirrored.
 fn board_of(codes: &[u8], squares: &Few, is_exchanged: bool) -> Men {
-    let mut men: Men = [None; 64];
+    let mut men = Men::none();
     let bits = if is_exchanged { 56u8 } else { 0 };
     for (code, square) in codes.iter().zip(squares.as_slice().iter()) {
-        men[((*square ^ bits) % 64) as usize] = Some(piece(*code, is_exchanged));
+        let square = Square::at((*square ^ bits) % 64);
+        men.put(square, Some(piece(*code, is_exchanged)));
     }
     men
 }

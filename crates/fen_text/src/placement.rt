@@ -7,7 +7,7 @@ ghost use Rattle.fen_text.specs.Placement.{man_of, cells_of, SpellsPlacement};
 ghost use Rattle.fen_text.specs.Inside.Scan.{step, fills, IsFilled};
 
 use crate::cuts::cut_first;
-use board_core::{Kind, Men, Piece, Side};
+use board_core::{Kind, Men, Piece, Side, Square};
 
 /// The man that a letter stands for.
 #[tactic(auto, unfolding(crate::specs::Placement::man_of))]
@@ -72,7 +72,7 @@ fn take_byte(byte: u8, at: Filled, men: &mut Men) -> Option<Filled>
                 if at.left == 0 {
                     return None;
                 }
-                men[at.square as usize] = Some(man);
+                men.put(Square::at(at.square), Some(man));
                 Some(Filled {
                     square: at.square + 1,
                     left: at.left - 1,
@@ -112,7 +112,7 @@ pub(crate) fn read_placement(text: &[u8]) -> Option<Men>
     ensures some { IfSome result (λ men. SpellsPlacement text.now men) }
     ensures none { IfNone result ((men : List _) → SpellsPlacement text.now men → ⊥) }
 {
-    let mut men = [None; 64];
+    let mut men = Men::none();
     let mut rest = text;
     for above in 0..7 {
         let Some((rank_text, below)) = cut_first(rest, b'/') else {

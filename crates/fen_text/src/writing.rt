@@ -71,27 +71,19 @@ fn push_cell(cell: Option<Piece>, run: u8, out: &mut ArrayString<96>) -> u8
     }
 }
 
-/// Writes a rank.
-fn push_rank(cells: &[Option<Piece>], out: &mut ArrayString<96>)
-    requires eight { length cells.now ≡ 8 }
+/// Writes a rank of the board, 0 for the first to 7 for the eighth.
+fn push_rank(men: &Men, rank: u8, out: &mut ArrayString<96>)
+    requires rank { rank < 8 }
     requires room { array_string_len out.old + 8 ≤ 96 }
-    ensures text { out.new.bytes ≡ out.old.bytes ++ rank_text 0 cells.now }
+    ensures text { out.new.bytes ≡ out.old.bytes ++ rank_text 0 (rank_men men.now rank) }
     ensures len { array_string_len out.new ≤ array_string_len out.old + 8 }
 {
     let mut run = 0;
-    for cell in cells {
-        run = push_cell(*cell, run, out);
+    for file in 0..8 {
+        let square = Square::at(8 * rank + file);
+        run = push_cell(men.at(square), run, out);
     }
     out.push_str(digit(run));
-}
-
-/// The squares of a rank, 0 for the first to 7 for the eighth.
-fn rank_men(men: &Men, rank: usize) -> &[Option<Piece>]
-    requires { rank < 8 }
-    ensures squares { result.now ≡ rank_men men.now rank }
-    ensures eight { length result.now ≡ 8 }
-{
-    &men[8 * rank..8 * rank + 8]
 }
 
 /// Writes the ranks from the eighth down to the first, with a slash between.
@@ -101,10 +93,10 @@ fn push_placement(men: &Men, out: &mut ArrayString<96>)
     ensures len { array_string_len out.new ≤ 71 }
 {
     for above in 0..7 {
-        push_rank(rank_men(men, 7 - above), out);
+        push_rank(men, 7 - above, out);
         out.push_str("/");
     }
-    push_rank(rank_men(men, 0), out);
+    push_rank(men, 0, out);
 }
 
 /// The letter of the side to move.

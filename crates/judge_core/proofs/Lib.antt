@@ -17,3 +17,5 @@ pub mod Slots
 pub mod KeptBlocks
 pub mod LookUp
 pub mod Entries
+pub mod ByReadings
+pub mod Placing

@@ -1,12 +1,13 @@
 -- What one capture more gives.
-use Rattle.std.proofs.Common.{◌≡◌, ◌∙◌, sym, ap, refl, Bool, true, false, not, List, [], ◌∷◌, ◌++◌, Option, Some, None, option_map, filter, filter_map, fold, Result, Ok, Err}
+use Rattle.std.proofs.Common.{◌≡◌, ◌∙◌, sym, ap, refl, ℕ, ◌-◌, ◌<◌, arith, cond, Bool, true, false, not, List, [], ◌∷◌, ◌++◌, Option, Some, None, option_map, filter, filter_map, fold, Result, Ok, Err}
 use Rattle.std.specs.Result.{result_ok}
 use Rattle.std.proofs.lemmas.List.{append_assoc, append-nil}
 use Rattle.std.proofs.lemmas.List.Elements.{filter_map-append, filter-append}
 use Rattle.std.proofs.lemmas.List.Sums.{fold-append}
 use Rattle.board_core.specs.declared.parts.Parts.{Parts}
 use Rattle.board_core.specs.declared.moves.Move.{Move}
-use Rattle.board_core.specs.ComputedMoves.{position_after, legal_captures, is_en_passant, is_later, captures_after}
+use Rattle.board_core.specs.ComputedMoves.{position_after, is_legal, legal_captures, is_en_passant, is_later, captures_after}
+use Rattle.board_core.specs.Moves.{place_of}
 use Rattle.judge_core.specs.declared.wdl.Wdl.TheVariants.{Loss}
 use Rattle.judge_core.specs.declared.fault.ValueFault.{ValueFault}
 use Rattle.judge_core.specs.declared.fault.ValueFault.TheVariants.{NotCovered, Damaged}
@@ -99,8 +100,38 @@ walk-goes_on value p q found found' last m r passant w next e er ep g = record {
   whole = append_assoc w.done (m ∷ []) (captures_after p (Some m)) ∙ ap (λ ms. w.done ++ ms) (sym next) ∙ w.whole;
 }
 
+-- a move that is no legal capture
+pub walk-passes : (value : Parts → Reading) (p : Parts) (found : Found) (last : Option Move) (m : Move) → Walked value p found last → captures_after p last ≡ captures_after p (Some m) → Walked value p found (Some m)
+walk-passes value p found last m w next = record {
+  done = w.done;
+  so_far = w.so_far;
+  whole = ap (λ ms. w.done ++ ms) (sym next) ∙ w.whole;
+}
+
+-- the next move that may be a capture is one where it can be played
+pub next_legal : (p q : Parts) (last : Option Move) (m : Move) → captures_after p last ≡ cond (is_legal p m) (m ∷ captures_after p (Some m)) (captures_after p (Some m)) → position_after p m ≡ Some q
+    → captures_after p last ≡ m ∷ captures_after p (Some m)
+next_legal p q last m next e = next ∙ rw e refl
+
+pub next_illegal : (p : Parts) (last : Option Move) (m : Move) → captures_after p last ≡ cond (is_legal p m) (m ∷ captures_after p (Some m)) (captures_after p (Some m)) → position_after p m ≡ None
+    → captures_after p last ≡ captures_after p (Some m)
+next_illegal p last m next e = next ∙ rw e refl
+
+-- how many moves may come after this one
+abbrev pub moves_left : Option Move → ℕ
+moves_left None = 20481
+moves_left (Some m) = 20480 - place_of m
+
+pub fewer_left : (last : Option Move) (m : Move) → ((l : Move) → last ≡ Some l → place_of l < place_of m) → place_of m < 20480 → moves_left (Some m) < moves_left last
+fewer_left None m later below = omega (arith, below)
+fewer_left (Some l) m later below = omega (arith, later l refl, below)
+
 pub walk-ends : (value : Parts → Reading) (p : Parts) (found : Found) (last : Option Move) → Walked value p found last → captures_after p last ≡ [] → found ≡ found_in value p (legal_captures p)
 walk-ends value p found last w none = w.so_far ∙ ap (found_in value p) (sym (append-nil w.done) ∙ ap (λ ms. w.done ++ ms) (sym none) ∙ w.whole)
+
+-- a position without captures
+pub no_captures : (value : Parts → Reading) (p : Parts) (found : Found) → found ≡ nothing_found → captures_after p None ≡ [] → found ≡ found_in value p (legal_captures p)
+no_captures value p found e none = walk-ends value p found None (walk-begins value p found e) none
 
 pub with_own : (tables : Tables) (value : Parts → Reading) (p : Parts) (found : Found) (own : Reading) (b : Bool) (w : Result Weighed ValueFault) → found ≡ found_in value p (legal_captures p) → own ≡ table_value tables p → b ≡ is_forced p → w ≡ closed found own b → w ≡ weighed_by tables value p
 unfolding found_in weighed_by

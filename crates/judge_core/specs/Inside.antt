@@ -2,4 +2,6 @@
 pub mod Found
 pub mod Counts
 pub mod Kept
+pub mod Placing
+pub mod Answering
 pub mod Following

@@ -40,11 +40,11 @@ pub(crate) enum Asking {
     Often,
 }
 
-/// How many keys that were asked for are remembered for each block that may be kept.
+/// How many keys that were asked for are remembered for each block that may be kept, at least.
 const REMEMBERED: usize = 16;
 
 /// A block is asked for again where no more askings have passed than so many for each block that may be kept.
-const RECENT: usize = 4;
+const RECENT: u32 = 4;
 
 /// A block that was asked for again so often is decoded, which takes as long as some hundred single values.
 const OFTEN: u32 = 128;
@@ -55,6 +55,8 @@ pub(crate) struct Blocks {
     pub(crate) kept: LruCache<BlockKey, Vec<u16>>,
     pub(crate) asked: Vec<Asked>,
     pub(crate) askings: u32,
+    /// How many askings may pass between two of a block.
+    recent: u32,
 }
 
 impl Blocks {
@@ -74,7 +76,9 @@ impl Blocks {
             when: 0,
             times: 0,
         };
-        let asked = vec![in alloc; none; REMEMBERED * most]?;
+        let recent = RECENT * most as u32;
+        let places = (REMEMBERED * most).next_power_of_two();
+        let asked = vec![in alloc; none; places]?;
         let Some(most) = NonZeroUsize::new(most) else {
             unreachable!()
         };
@@ -83,6 +87,7 @@ impl Blocks {
             kept,
             asked,
             askings: 0,
+            recent,
         })
     }
 
@@ -93,19 +98,18 @@ impl Blocks {
         self.kept.len()
     }
 
-    /// Where a key is remembered.
+    /// Where a key is remembered. The number of places is a power of two.
     fn place_of(&self, key: BlockKey) -> usize
         requires { 1 ≤ length self.now.asked.items }
         ensures { result < length self.now.asked.items }
     {
         let place = 613 * key.slot as usize + 307 * key.side as usize + 151 * key.file as usize;
-        (place + key.block as usize) % self.asked.len()
+        (place + key.block as usize) & (self.asked.len() - 1)
     }
 
     /// The asking after one that is remembered, or after that of another block.
     fn next_asking(&self, last: Asked, key: BlockKey, now: u32) -> (Asking, u32) {
-        let recent = (self.asked.len() / REMEMBERED).saturating_mul(RECENT);
-        if last.key != key || now.wrapping_sub(last.when) as usize > recent {
+        if last.key != key || now.wrapping_sub(last.when) > self.recent {
             return (Asking::First, 0);
         }
         if last.times >= OFTEN {

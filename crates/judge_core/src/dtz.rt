@@ -3,9 +3,9 @@
 ghost use Rattle.std.specs.Prelude.{◌≡◌, ◌<◌, ◌≤◌, ◌+◌, ◌-◌, IfOk, IfSome, OnErr, Some, Err};
 ghost use Rattle.board_core.specs.Position.{IsPosition};
 ghost use Rattle.table_file.specs.declared.kind.Kind.TheVariants.{Dtz};
-ghost use Rattle.table_file.specs.Tables.{IsFile};
 ghost use Rattle.judge_core.specs.Tables.{AreFiled, table_at};
 ghost use Rattle.judge_core.specs.Blocks.{AreRight};
+ghost use Rattle.judge_core.specs.Inside.Placing.{IsKnown, IsPlacedOf};
 ghost use Rattle.judge_core.specs.Distances.{plies, pawns_reach, move_counts, by_quiet_moves, distance_in, stored, by_own_table, by_moves, by_weighed, dtz_to, dtz_of};
 ghost use Rattle.judge_core.specs.Ruling.{is_out_of_scope};
 ghost use Rattle.judge_core.specs.Answers.{IsLeftOpen, IsProbe, ListsMoves, signed_in};
@@ -53,9 +53,7 @@ impl<'a> Shelf<'a> {
         requires kind { table.now.kind ≡ Dtz }
         requires on { table_at self.now.tables Dtz placed.now.material ≡ Some table.now }
         requires own { table.now.material ≡ placed.now.material }
-        requires known { placed.now.material < 145 }
-        requires side { placed.now.side < 2 }
-        requires file { IsFile table.now.material placed.now.file }
+        requires known { IsKnown placed.now }
         ensures is { result ≡ distance_in table.now placed.now outcome }
         ensures within { IfSome result (λ n. n ≤ 131070) }
         ensures right { AreRight self.now blocks.new }
@@ -73,7 +71,9 @@ impl<'a> Shelf<'a> {
         }
     }
 
-    /// Whether some pawn move that takes nothing comes to the value, or the fault of the values after these moves.
+    /// Whether some pawn move that takes nothing comes to the value, or the fault of the values after these moves. It isn't
+    /// inlined, since its locals are large.
+    #[inline(never)]
     fn pawns_reach(
         &self,
         blocks: &mut Blocks,
@@ -125,7 +125,9 @@ impl<'a> Shelf<'a> {
         Ok(counted(won, &reach))
     }
 
-    /// The distance by the positions after the moves that neither take a man nor move a pawn.
+    /// The distance by the positions after the moves that neither take a man nor move a pawn. It isn't inlined,
+    /// since its locals are large.
+    #[inline(never)]
     #[cycle(dtz)]
     fn by_quiet_moves(
         &self,
@@ -161,17 +163,20 @@ impl<'a> Shelf<'a> {
         blocks: &mut Blocks,
         alloc: Global,
         position: &Position,
+        placed: &Option<Placed>,
         outcome: Outcome,
         left: u32,
     ) -> Result<Result<Distance, ValueFault>, AllocError>
         requires position { IsPosition position.now }
+        requires placed { IsPlacedOf position.now placed.now }
+        requires known { IfSome placed.now IsKnown }
         requires left { left < 2 }
         requires right { AreRight self.now blocks.old }
         ensures right { AreRight self.now blocks.new }
         ensures is { IfOk result (λ reach. reach ≡ by_own_table self.now.tables (dtz_to self.now.tables left) position.now outcome) }
         ensures within { IfOk result (λ reach. IfOk reach (λ d. plies d ≤ 131172 + left)) }
     {
-        let Some(placed) = placed(position) else {
+        let Some(placed) = placed else {
             return Ok(Ok(Distance::Draw));
         };
         let material = placed.material();
@@ -179,7 +184,7 @@ impl<'a> Shelf<'a> {
             return Ok(Err(ValueFault::NotCovered(material)));
         };
         if table.stores(placed.side(), placed.file()) {
-            let number = self.distance(blocks, alloc, table, &placed, outcome);
+            let number = self.distance(blocks, alloc, table, placed, outcome);
             return Ok(stored(material, outcome, number));
         }
         self.by_quiet_moves(blocks, alloc, position, material, outcome, left)
@@ -192,11 +197,14 @@ impl<'a> Shelf<'a> {
         blocks: &mut Blocks,
         alloc: Global,
         position: &Position,
+        placed: &Option<Placed>,
         value: Wdl,
         outcome: Outcome,
         left: u32,
     ) -> Result<Result<Distance, ValueFault>, AllocError>
         requires position { IsPosition position.now }
+        requires placed { IsPlacedOf position.now placed.now }
+        requires known { IfSome placed.now IsKnown }
         requires left { left < 2 }
         requires right { AreRight self.now blocks.old }
         ensures right { AreRight self.now blocks.new }
@@ -214,7 +222,7 @@ impl<'a> Shelf<'a> {
                 Err(fault) => return Ok(Err(*fault)),
             }
         }
-        self.by_own_table(blocks, alloc, position, outcome, left)
+        self.by_own_table(blocks, alloc, position, placed, outcome, left)
     }
 
     /// The distance where captures and the own WDL table say this.
@@ -224,10 +232,13 @@ impl<'a> Shelf<'a> {
         blocks: &mut Blocks,
         alloc: Global,
         position: &Position,
+        placed: &Option<Placed>,
         weighed: &Result<Weighed, ValueFault>,
         left: u32,
     ) -> Result<Result<Distance, ValueFault>, AllocError>
         requires position { IsPosition position.now }
+        requires placed { IsPlacedOf position.now placed.now }
+        requires known { IfSome placed.now IsKnown }
         requires left { left < 2 }
         requires right { AreRight self.now blocks.old }
         ensures right { AreRight self.now blocks.new }
@@ -246,7 +257,7 @@ impl<'a> Shelf<'a> {
         if weighed.is_by_capture() {
             return Ok(Ok(towards(outcome, zeroing(outcome))));
         }
-        self.by_moves(blocks, alloc, position, value, outcome, left)
+        self.by_moves(blocks, alloc, position, placed, value, outcome, left)
     }
 
     /// The distance, where so many positions in a row are looked at.
@@ -269,8 +280,9 @@ impl<'a> Shelf<'a> {
         if left == 0 || position.men() <= 2 {
             return Ok(Ok(Distance::Draw));
         }
-        let weighed = self.weigh(blocks, alloc, position);
-        self.by_weighed(blocks, alloc, position, &weighed, left - 1)
+        let placed = placed(position);
+        let weighed = self.weigh(blocks, alloc, position, &placed);
+        self.by_weighed(blocks, alloc, position, &placed, &weighed, left - 1)
     }
 
     /// The distance, wherever the tables are there and whole.

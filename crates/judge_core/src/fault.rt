@@ -109,6 +109,6 @@ impl ProbeFault {
 pub enum SetFault {
     /// The set has a table of this kind for these men.
     Duplicate,
-    /// Memory for the table was refused.
+    /// Memory for the table was refused. `Set::add` takes none, and never tells it.
     OutOfMemory,
 }

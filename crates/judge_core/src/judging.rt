@@ -11,6 +11,7 @@ ghost use Rattle.board_core.specs.ComputedMoves.{legal_moves};
 use crate::found::worth_in;
 use crate::mobility::has_no_move;
 use crate::set::Set;
+use crate::shelf::placed;
 use crate::verdict;
 use crate::wdl::Wdl;
 use board_core::{Position, Verdict};
@@ -47,7 +48,8 @@ impl<'a> Set<'a> {
         if position.men() <= 2 {
             return Ok(Some(Verdict::TableDraw));
         }
-        let weighed = self.shelf.weigh(&mut self.blocks, alloc, position);
+        let placed = placed(position);
+        let weighed = self.shelf.weigh(&mut self.blocks, alloc, position, &placed);
         let reading = worth_in(weighed);
         let winner = match &reading {
             Ok(Wdl::Win) => position.side(),
@@ -56,7 +58,7 @@ impl<'a> Set<'a> {
         };
         let reach = self
             .shelf
-            .by_weighed(&mut self.blocks, alloc, position, &weighed, 1)?;
+            .by_weighed(&mut self.blocks, alloc, position, &placed, &weighed, 1)?;
         Ok(verdict::by_distance(position, winner, &reach))
     }
 }

@@ -7,6 +7,7 @@
 //! What both probes tell of a position, the verdict on it and what a game comes to are printed here too, each in one way.
 #![tactic(auto)]
 
+mod answering;
 mod blocks;
 mod counts;
 mod distance;

@@ -1,7 +1,7 @@
 //! Sets of tables.
 
-ghost use Rattle.std.specs.Prelude.{◌≡◌, ◌↔◌, ◌≤◌, IfOk, IsSome, OnOk, OnErr, None, Some, Err, replicate, slice_set};
-ghost use Rattle.judge_core.specs.declared.fault.SetFault.TheVariants.{Duplicate};
+ghost use Rattle.std.specs.Prelude.{◌≡◌, ◌≢◌, ◌↔◌, ◌≤◌, IfOk, IsSome, OnOk, OnErr, None, Some, Err, replicate, slice_set};
+ghost use Rattle.judge_core.specs.declared.fault.SetFault.TheVariants.{Duplicate, OutOfMemory};
 ghost use Rattle.judge_core.specs.Tables.{AreFiled, slot, table_at};
 
 use crate::blocks::Blocks;
@@ -36,7 +36,7 @@ impl<'a> Model for Set<'a> {
 
 impl<'a> Set<'a> {
     /// A set without tables that may keep so many decoded blocks, 1 to 4096. The error comes where memory for its slots is
-    /// refused, or for the notes of what is asked for, 16 for each block that may be kept.
+    /// refused, or for the notes of what is asked for, 16 to 32 for each block that may be kept.
     pub fn new(alloc: Global, cache: usize) -> Result<Set<'a>, AllocError>
         requires some { 1 ≤ cache }
         requires most { cache ≤ 4096 }
@@ -67,12 +67,13 @@ impl<'a> Set<'a> {
 
     /// Adds a table. One that is refused is dropped, and the set stays as it was.
     ///
-    /// `Duplicate` where there is a table of its kind for its material; otherwise `OutOfMemory` where memory for one table
-    /// more is refused.
+    /// `Duplicate` where there is a table of its kind for its material. It takes no memory, since the set has a slot for each
+    /// table, and so never tells `OutOfMemory`.
     pub fn add(&mut self, table: Table<'a>) -> Result<(), SetFault>
         ensures added { OnOk result (self.new ≡ record self.old { tables = slice_set self.old.tables (slot table.entry.kind table.entry.material) (Some table.entry) }) }
         ensures refused { OnErr result (self.new ≡ self.old) }
         ensures duplicate { (result ≡ Err Duplicate) ↔ IsSome (table_at self.old.tables table.entry.kind table.entry.material) }
+        ensures no_memory { result ≢ Err OutOfMemory }
     {
         self.shelf.add(table)
     }

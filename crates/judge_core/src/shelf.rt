@@ -1,11 +1,11 @@
 //! Tables in their slots.
 
-ghost use Rattle.std.specs.Prelude.{◌≡◌, ◌↔◌, ◌<◌, ◌≤◌, IfNone, IfOk, IfSome, IsSome, OnOk, OnErr, None, Some, Err, option_map, replicate, slice_set};
-ghost use Rattle.table_file.specs.Tables.{IsFile};
+ghost use Rattle.std.specs.Prelude.{◌≡◌, ◌≢◌, ◌↔◌, ◌<◌, ◌≤◌, IfOk, IfSome, IsSome, OnOk, OnErr, None, Some, Err, option_map, replicate, slice_set};
+ghost use Rattle.board_core.specs.declared.parts.Parts.{Parts};
 ghost use Rattle.table_file.specs.declared.kind.Kind.TheVariants.{Wdl as WdlKind};
 ghost use Rattle.judge_core.specs.Blocks.{AreRight};
-ghost use Rattle.judge_core.specs.declared.fault.SetFault.TheVariants.{Duplicate};
-ghost use Rattle.judge_core.specs.LookUp.{material_of, placed_of};
+ghost use Rattle.judge_core.specs.declared.fault.SetFault.TheVariants.{Duplicate, OutOfMemory};
+ghost use Rattle.judge_core.specs.Inside.Placing.{IsKnown, IsPlacedOf};
 ghost use Rattle.judge_core.specs.Tables.{AreFiled, slot, table_at, entry_in, table_value};
 
 use crate::blocks::Blocks;
@@ -26,8 +26,7 @@ const MATERIALS: usize = 145;
 /// Contracts see a list of 290 slots, the WDL tables by the keys of their materials and then the DTZ tables, and that number.
 #[derive(Drop)]
 pub(crate) struct Shelf<'a> {
-    tables: Vec<Table<'a>>,
-    places: Vec<Option<usize>>,
+    tables: Vec<Option<Table<'a>>>,
     cache: usize,
 }
 
@@ -58,15 +57,12 @@ pub(crate) fn slot(kind: Kind, material: Material) -> usize
 
 /// The position as its table sees it, found by one look at its men: none for bare kings and for more than five men.
 pub(crate) fn placed(position: &Position) -> Option<Placed>
-    ensures none { IfNone result (material_of position.now ≡ None) }
-    ensures some { IfSome result (λ placed. material_of position.now ≡ Some placed.material) }
-    ensures is { IfSome result (λ placed. placed ≡ placed_of placed.material position.now) }
-    ensures known { IfSome result (λ placed. placed.material < 145) }
-    ensures side { IfSome result (λ placed. placed.side < 2) }
-    ensures file { IfSome result (λ placed. IsFile placed.material placed.file) }
+    ensures is { IsPlacedOf position.now result }
+    ensures known { IfSome result IsKnown }
 {
     match Placed::of(position) {
         Some(placed) => {
+            // The contracts of these tell in which ranges they are.
             let material = placed.material();
             let _key = material.key();
             let _side = placed.side();
@@ -84,15 +80,11 @@ impl<'a> Shelf<'a> {
         requires most { cache ≤ 4096 }
         ensures { IfOk result (λ shelf. shelf ≡ record { tables = replicate 290 None; cache = cache }) }
     {
-        let mut places = Vec::with_capacity(alloc, 2 * MATERIALS)?;
+        let mut tables = Vec::with_capacity(alloc, 2 * MATERIALS)?;
         for _ in 0..2 * MATERIALS {
-            places.push(None)?;
+            tables.push(None)?;
         }
-        Ok(Shelf {
-            tables: Vec::new(alloc),
-            places,
-            cache,
-        })
+        Ok(Shelf { tables, cache })
     }
 
     /// How many decoded blocks may be kept, 1 to 4096. Its contract also says that each table is in the slot of its kind and its
@@ -106,37 +98,30 @@ impl<'a> Shelf<'a> {
         self.cache
     }
 
-    /// Puts a table into its slot. One whose memory is refused is dropped, and the shelf stays as it was.
-    fn put(&mut self, own: usize, table: Table<'a>) -> Result<(), AllocError>
+    /// Puts a table into its slot.
+    fn put(&mut self, own: usize, table: Table<'a>)
         requires own { own ≡ slot table.kind table.material }
         requires below { own < 290 }
         requires known { table.material < 145 }
-        ensures added { OnOk result (self.new ≡ record self.old { tables = slice_set self.old.tables own (Some table.entry) }) }
-        ensures refused { OnErr result (self.new ≡ self.old) }
+        ensures { self.new ≡ record self.old { tables = slice_set self.old.tables own (Some table.entry) } }
     {
-        let place = self.tables.len();
-        self.tables.push(table)?;
-        self.places[own] = Some(place);
-        Ok(())
+        self.tables[own] = Some(table);
     }
 
-    /// Adds a table. One that is refused is dropped, and the shelf stays as it was.
-    ///
-    /// `Duplicate` where there is a table of its kind for its material; otherwise `OutOfMemory` where memory for one table
-    /// more is refused.
+    /// Adds a table. One that is refused, since there is a table of its kind for its material, is dropped, and the shelf stays
+    /// as it was. It takes no memory.
     pub(crate) fn add(&mut self, table: Table<'a>) -> Result<(), SetFault>
         ensures added { OnOk result (self.new ≡ record self.old { tables = slice_set self.old.tables (slot table.entry.kind table.entry.material) (Some table.entry) }) }
         ensures refused { OnErr result (self.new ≡ self.old) }
         ensures duplicate { (result ≡ Err Duplicate) ↔ IsSome (table_at self.old.tables table.entry.kind table.entry.material) }
+        ensures no_memory { result ≢ Err OutOfMemory }
     {
         let slot = slot(table.kind(), *table.material());
-        if self.places[slot].is_some() {
+        if self.tables[slot].is_some() {
             return Err(SetFault::Duplicate);
         }
-        match self.put(slot, table) {
-            Ok(()) => Ok(()),
-            Err(_) => Err(SetFault::OutOfMemory),
-        }
+        self.put(slot, table);
+        Ok(())
     }
 
     /// The table of this kind for this material.
@@ -145,8 +130,8 @@ impl<'a> Shelf<'a> {
         ensures kind { IfSome result (λ t. t.now.kind ≡ kind) }
         ensures own { IfSome result (λ t. t.now.material ≡ material) }
     {
-        match self.places[slot(kind, material)] {
-            Some(place) => Some(&self.tables[place]),
+        match &self.tables[slot(kind, material)] {
+            Some(table) => Some(table),
             None => None,
         }
     }
@@ -162,9 +147,7 @@ impl<'a> Shelf<'a> {
         requires right { AreRight self.now blocks.old }
         requires on { table_at self.now.tables WdlKind placed.now.material ≡ Some table.now }
         requires own { table.now.material ≡ placed.now.material }
-        requires known { placed.now.material < 145 }
-        requires side { placed.now.side < 2 }
-        requires file { IsFile table.now.material placed.now.file }
+        requires known { IsKnown placed.now }
         ensures is { result ≡ entry_in table.now placed.now }
         ensures right { AreRight self.now blocks.new }
     {
@@ -175,26 +158,26 @@ impl<'a> Shelf<'a> {
         self.read(blocks, alloc, slot, table, side, file, index)
     }
 
-    /// The table value: what the position's own WDL table says of it; bare kings are a draw.
-    #[tactic(auto, unfolding(crate::specs::Tables::table_value))]
+    /// The table value of a position whose men are placed so: what its own WDL table says of it; bare kings are a draw.
     pub(crate) fn table_value(
         &self,
         blocks: &mut Blocks,
         alloc: Global,
-        position: &Position,
+        placed: &Option<Placed>,
     ) -> Result<Wdl, ValueFault>
-        requires { AreRight self.now blocks.old }
-        ensures is { result ≡ table_value self.now.tables position.now }
+        requires right { AreRight self.now blocks.old }
+        requires known { IfSome placed.now IsKnown }
+        ensures is { (p : Parts) → IsPlacedOf p placed.now → result ≡ table_value self.now.tables p }
         ensures right { AreRight self.now blocks.new }
     {
-        let Some(placed) = placed(position) else {
+        let Some(placed) = placed else {
             return Ok(Wdl::Draw);
         };
         let material = placed.material();
         let Some(table) = self.table(Kind::Wdl, material) else {
             return Err(ValueFault::NotCovered(material));
         };
-        let Some(points) = self.entry(blocks, alloc, table, &placed) else {
+        let Some(points) = self.entry(blocks, alloc, table, placed) else {
             return Err(ValueFault::Damaged(material));
         };
         match Wdl::from_points(points) {

@@ -14,7 +14,7 @@ use crate::wdl::Wdl;
 use board_core::Position;
 use std::alloc::{AllocError, Global};
 
-/// What both probes tell of a position: each a number, or why there is none. As `Set::probe` gives it, neither fault is
+/// What both probes tell of a position: each a number, or why there is none. As `Set::probe` and `Set::answers` give it, neither fault is
 /// `OutOfMemory`.
 #[derive(Clone, Copy)]
 pub struct Probed {

@@ -1,5 +1,5 @@
 -- The first number of each code length, at the top of 63 bits.
-use Rattle.std.proofs.Common.{◌≡◌, ℕ, zero, suc, ◌+◌, ◌-◌, ◌*◌, ◌/◌, ◌^◌, ◌<◌, ◌≤◌, List, length, drop, get_or, set, cond, ltb, add-zero, refl, sym, ap, ◌∙◌, inl, inr, arith}
+use Rattle.std.proofs.Common.{◌≡◌, ℕ, zero, suc, ◌+◌, ◌-◌, ◌*◌, ◌/◌, ◌^◌, ◌<◌, ◌≤◌, List, length, drop, get_or, set, min, cond, ltb, add-zero, refl, sym, ap, ◌∙◌, inl, inr, arith}
 use Rattle.std.proofs.lemmas.List.{get_or-set_same, get_or-set_other}
 use Rattle.std.proofs.lemmas.Bool.{cases_lt, cases_eq, lt-ltb, le-ltb}
 use Rattle.std.proofs.lemmas.Nat.{shr-shr, pow-add, pow_pos}
@@ -25,7 +25,7 @@ firsts_more least xs firsts j v lt len first rest k le k-lt =
       | inr ne ↦ rw (get_or-set_other firsts j k v 0 ne) (rest k (omega (arith, ne)) k-lt)
     ]
 
-split_63 : (n : ℕ) → n ≤ 63 → 2 ^ 63 ≡ 2 ^ n * 2 ^ (63 - n)
+pub split_63 : (n : ℕ) → n ≤ 63 → 2 ^ 63 ≡ 2 ^ n * 2 ^ (63 - n)
 split_63 n le =
     let e : 63 ≡ n + (63 - n) = omega arith in
     ap (λ (x : ℕ). 2 ^ x) e ∙ pow-add 2 n (63 - n)
@@ -88,6 +88,16 @@ pub missed_at : (block : List ℕ) (at word n base first : ℕ) → IsFirst n ba
 missed_at block at word n base first is window small few fits lt =
     let far : n ≤ 63 = omega arith in
     rw (front_bits block at word n window few fits) at (first_missed n base first (word / 2) is far (front_below word small) lt)
+
+-- the least of one number more
+pub least_more : (firsts : List ℕ) (i first next : ℕ) → ((j : ℕ) → j < i → first ≤ get_or firsts j 0) → next ≡ min first (get_or firsts i 0) → (j : ℕ) → j < i + 1 → next ≤ get_or firsts j 0
+least_more firsts i first next below next-is j lt =
+    elim (cases_lt j i) [
+      | inl before ↦ omega (arith, next-is, below j before)
+      | inr past ↦
+          let last : j ≡ i = omega arith in
+          rw last (omega (arith, next-is))
+    ]
 
 -- no code has one of the lengths before a place where the search may begin
 module _ (limit : ℕ) (block : List ℕ) (at least word : ℕ) (lowest firsts : List ℕ) (are : AreFirsts least lowest firsts) (window : IsWindow block at word) (small : word < 2 ^ 64) (most : least + length lowest ≤ 33) where

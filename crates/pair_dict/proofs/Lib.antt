@@ -6,8 +6,9 @@ pub mod Settling
 pub mod ValueCounts
 pub mod WordLemmas
 pub mod Longest
-pub mod ShortLemmas
+pub mod BufferLemmas
 pub mod RunLemmas
+pub mod PlaceLemmas
 pub mod FirstLemmas
 pub mod Pending
 pub mod Chain

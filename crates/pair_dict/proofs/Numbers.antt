@@ -71,10 +71,11 @@ low_bits xs ys k n within =
     ∙ mul-add-mod_self_right (number_of xs * 2 ^ m) (2 ^ (n + k)) (number_of ys) in
     sym (field_of (number_of (xs ++ ys)) n k) ∙ ap (λ (x : ℕ). x / 2 ^ k) same ∙ field_of (number_of ys) n k
 
--- a word from a byte on, moved up to a bit
-pub window_is : (block : List ℕ) (i r word moved : ℕ) → r < 8 → IsWord (drop i block) word → moved ≡ word * 2 ^ r % 2 ^ 64 → 8 * i + r ≤ 8 * length block → IsWindow block (8 * i + r) moved
+-- the first bits of a word from a byte on, moved up to a bit
+pub word_bits : (block : List ℕ) (i r word moved : ℕ) → r < 8 → IsWord (drop i block) word → moved ≡ word * 2 ^ r % 2 ^ 64 → 8 * i + r ≤ 8 * length block
+    → (n : ℕ) → n + r ≤ 64 → 8 * i + r + n ≤ 8 * length block → moved / 2 ^ (64 - n) ≡ bits block (8 * i + r) n
 unfolding bits
-window_is block i r word moved small is moved-is start n few within =
+word_bits block i r word moved small is moved-is start n few within =
     let rest = drop i block in
     let lens : length rest + i ≡ length block = omega (arith, length-drop i block) in
     let k = 8 * length block - ((8 * i + r) + n) in
@@ -118,4 +119,4 @@ IsBytes-drop n bytes h i = rw get_or-drop (h (n + i))
 pub window_at : (block : List ℕ) (at word : ℕ) → IsWord (drop (at / 8) block) word → at ≤ 8 * length block → IsWindow block at (word * 2 ^ (at % 8) % 2 ^ 64)
 window_at block at word is within =
     let e : 8 * (at / 8) + at % 8 ≡ at = omega arith in
-    rw e at (window_is block (at / 8) (at % 8) word (word * 2 ^ (at % 8) % 2 ^ 64) (omega arith) is refl (omega arith))
+    rw e at (λ (n : ℕ) (few : n ≤ 57) (fits : 8 * (at / 8) + at % 8 + n ≤ 8 * length block). word_bits block (at / 8) (at % 8) word (word * 2 ^ (at % 8) % 2 ^ 64) (omega arith) is refl (omega arith) n (omega arith) fits)

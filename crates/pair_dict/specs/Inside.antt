@@ -2,6 +2,5 @@
 pub mod Layouts
 pub mod Counts
 pub mod Windows
-pub mod ShortCodes
 pub mod Runs
 pub mod Kept

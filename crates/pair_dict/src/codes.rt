@@ -1,7 +1,6 @@
 //! Codes of symbols.
 
 ghost use Rattle.std.specs.Prelude.{◌≡◌, ◌+◌, ◌*◌, ◌^◌, ◌<◌, ◌≤◌, List, ℕ, length, true, nat_lt, IfOk, IfSome, if◌then◌else◌};
-ghost use Rattle.pair_dict.specs.Inside.ShortCodes.{AreShortCodes, IsShortCode};
 ghost use Rattle.pair_dict.specs.Codes.{bases, code_from};
 ghost use Rattle.pair_dict.specs.Reading.{falls, words};
 ghost use Rattle.pair_dict.specs.Inside.Windows.{AreFirsts, AreLong, IsFirst, IsSound};
@@ -51,16 +50,9 @@ pub(crate) struct LongCodes {
 }
 
 impl LongCodes {
-    /// A search through all lengths.
-    fn all() -> LongCodes
-        ensures { (firsts : List ℕ) → AreLong firsts result }
-    {
-        LongCodes { from: 0, first: 0 }
-    }
-
     /// The codes that are longer than so many bits.
     pub(crate) fn above(width: u32, least: u32, firsts: &[u64]) -> LongCodes
-        requires { width ≤ 12 }
+        requires { width ≤ 13 }
         ensures { AreLong firsts.now result }
     {
         let from = ((width + 1).saturating_sub(least) as usize).min(firsts.len());
@@ -115,93 +107,4 @@ pub(crate) fn code_in(
         }
     }
     None
-}
-
-/// The length that stands for no short code. It is greater than the number of bits that a buffer holds.
-const NO_LENGTH: u8 = 255;
-
-/// A short code: its symbol, and its length in bits, or `NO_LENGTH`.
-#[derive(Clone, Copy)]
-pub(crate) struct ShortCode {
-    pub(crate) symbol: u16,
-    pub(crate) length: u8,
-}
-
-/// The most bits that a short code has.
-const MOST_BITS: u32 = 12;
-
-/// How many bits short codes have where there are so many symbols: as many as the symbols' numbers, up to `MOST_BITS`.
-pub(crate) fn short_width(symbols: usize) -> u32
-    ensures some { 1 ≤ result }
-    ensures few { result ≤ 12 }
-{
-    for width in 1..MOST_BITS {
-        if symbols < 1 << width {
-            return width;
-        }
-    }
-    MOST_BITS
-}
-
-/// The short code with which these bits begin, so many as short codes have.
-fn short_code_of(
-    limit: usize,
-    width: u32,
-    front: u16,
-    least: u32,
-    firsts: &[u64],
-    lowest: &[u8],
-) -> ShortCode
-    requires few { limit ≤ 4095 }
-    requires some { 1 ≤ width }
-    requires width { width ≤ 12 }
-    requires front { front < 2 ^ width }
-    requires least { 1 ≤ least }
-    requires greatest { least + length (words lowest.now) ≤ 33 }
-    requires firsts { AreFirsts least (words lowest.now) firsts.now }
-    ensures { IsShortCode limit width least (words lowest.now) front result }
-{
-    let none = ShortCode {
-        symbol: 0,
-        length: NO_LENGTH,
-    };
-    let word = front << (16 - width);
-    let block = [(word / 256) as u8, (word % 256) as u8];
-    let Some((symbol, length)) = code_in(limit, &block, 0, least, firsts, lowest, LongCodes::all())
-    else {
-        return none;
-    };
-    if length > width {
-        return none;
-    }
-    ShortCode {
-        symbol: symbol as u16,
-        length: length as u8,
-    }
-}
-
-/// The short codes with which so many bits begin, from all bits 0 on.
-pub(crate) fn short_codes_of(
-    alloc: Global,
-    limit: usize,
-    width: u32,
-    least: u32,
-    firsts: &[u64],
-    lowest: &[u8],
-) -> Result<Vec<ShortCode>, AllocError>
-    requires few { limit ≤ 4095 }
-    requires some { 1 ≤ width }
-    requires width { width ≤ 12 }
-    requires least { 1 ≤ least }
-    requires greatest { least + length (words lowest.now) ≤ 33 }
-    requires firsts { AreFirsts least (words lowest.now) firsts.now }
-    ensures all { IfOk result (λ codes. length codes.items ≡ 2 ^ width) }
-    ensures each { IfOk result (λ codes. AreShortCodes limit width least (words lowest.now) codes.items) }
-{
-    let count = 1u16 << width;
-    let mut codes = Vec::with_capacity(alloc, count as usize)?;
-    for front in 0..count {
-        codes.push_reserved(short_code_of(limit, width, front, least, firsts, lowest));
-    }
-    Ok(codes)
 }

@@ -1,36 +1,39 @@
 //! Dictionaries.
 
-ghost use Rattle.std.specs.Prelude.{◌≡◌, ℕ, List, ◌+◌, ◌*◌, ◌<◌, ◌≤◌, ◌++◌, length, slice_index, slice_get, take, vec_len, vec_capacity, Some, IsOk, IfOk, IfErr, OnErr, IfSome};
+ghost use Rattle.std.specs.Prelude.{◌≡◌, ℕ, List, ◌+◌, ◌*◌, ◌<◌, ◌≤◌, ◌++◌, ◌-◌, ◌/◌, ◌^◌, length, slice_index, slice_get, take, vec_len, vec_capacity, Some, IsOk, IfOk, IfErr, OnErr, IfSome};
 ghost use Rattle.pair_dict.specs.Symbols.{symbol_count, values_of, AllHaveValues};
 ghost use Rattle.pair_dict.specs.Codes.{code_at};
-ghost use Rattle.pair_dict.specs.Inside.Windows.{IsCodeAt, IsSound, Shows};
-ghost use Rattle.pair_dict.specs.Inside.Runs.{IsRunAt};
+ghost use Rattle.pair_dict.specs.Inside.Windows.{IsSound, Shows};
+ghost use Rattle.pair_dict.specs.Inside.Runs.{run_values, run_bits, sum_values, sum_bits, IsLeft, IsRunAt, IsFurther};
 ghost use Rattle.pair_dict.specs.Reading.{Gives, layout_at, dictionary_at};
 ghost use Rattle.pair_dict.specs.declared.fault.DictFault.TheVariants.{OutOfMemory};
 ghost use Rattle.pair_dict.specs.Blocks.{block_values, BlockIsComputed, BlockBeginsWithValues};
 
-use crate::codes::{LongCodes, ShortCode, code_in, firsts_of, short_codes_of, short_width};
+use crate::codes::{LongCodes, code_in, firsts_of};
 use crate::counts::counts_of;
 use crate::fault::{Damaged, DictFault};
 use crate::layout::Layout;
-use crate::runs::{Run, runs_of};
+use crate::places::Place;
+use crate::runs::{Run, RunSum, run_width, runs_of};
 use crate::symbols::{MOST_VALUES, Symbol, symbol_at};
-use crate::window::BitBuffer;
+use crate::window::{BitBuffer, has_word};
 use std::alloc::{AllocError, Global};
 use std::marker::Model;
 
+/// How many runs are taken out of a word: all of their bits stand in it, 13 at most for each.
+const RUNS_IN_WORD: u32 = 4;
+
 /// The symbols of a table and their codes.
 ///
-/// It borrows the bytes that it was read from, and keeps beside them a number for each code length, the short codes
-/// and the runs of them by the bits that begin with them, and how many values each symbol stands for.
+/// It borrows the bytes that it was read from, and keeps beside them a number for each code length, the runs of short
+/// codes by the bits that begin with them, and how many values each symbol stands for.
 #[derive(Drop)]
 pub struct Dictionary<'a> {
     least: u32,
     lowest: &'a [u8],
     firsts: Vec<u64>,
     long_codes: LongCodes,
-    short_width: u32,
-    short_codes: Vec<ShortCode>,
+    run_width: u32,
     runs: Vec<Run>,
     symbols: &'a [u8],
     counts: Vec<u16>,
@@ -64,23 +67,14 @@ impl<'a> Dictionary<'a> {
         let layout = Layout::read(bytes)?;
         let counts = counts_of(alloc, layout.symbols)?;
         let firsts = firsts_of(alloc, layout.least, layout.lowest)?;
-        let short_width = short_width(counts.len());
-        let short_codes = short_codes_of(
-            alloc,
-            counts.len(),
-            short_width,
-            layout.least,
-            &firsts,
-            layout.lowest,
-        )?;
-        let runs = runs_of(alloc, &layout, short_width, &short_codes, &counts)?;
+        let run_width = run_width(counts.len());
+        let runs = runs_of(alloc, &layout, &firsts, &counts, run_width)?;
         let dictionary = Dictionary {
             least: layout.least,
             lowest: layout.lowest,
-            long_codes: LongCodes::above(short_width, layout.least, &firsts),
+            long_codes: LongCodes::above(run_width, layout.least, &firsts),
             firsts,
-            short_width,
-            short_codes,
+            run_width,
             runs,
             symbols: layout.symbols,
             counts,
@@ -88,37 +82,23 @@ impl<'a> Dictionary<'a> {
         Ok((dictionary, layout.taken))
     }
 
-    /// The short code with which the bits of a buffer begin; a length of 255 where there is none.
-    #[inline]
-    fn short_code(&self, buffer: BitBuffer) -> ShortCode
-        ensures { (block : List ℕ) (p : ℕ) → Shows block p buffer → result.length ≤ buffer.held
-            → IsCodeAt self.now block p result.symbol result.length }
-    {
-        self.short_codes[buffer.front(self.short_width)]
-    }
-
-    /// The run of codes with which the bits of a buffer begin; 255 bits where there is none.
+    /// The run of codes with which the bits of a buffer begin.
     #[inline]
     fn run(&self, buffer: BitBuffer) -> Run
-        ensures { (block : List ℕ) (p : ℕ) → Shows block p buffer → result.bits ≤ buffer.held
-            → IsRunAt self.now block p result.values result.bits }
+        ensures is { (block : List ℕ) (p : ℕ) → Shows block p buffer → run_bits result ≤ buffer.held
+            → IsRunAt self.now block p (run_values result) (run_bits result) }
+        ensures few { run_bits result ≤ 13 }
     {
-        self.runs[buffer.front(self.short_width)]
+        self.runs[buffer.front(self.run_width)]
     }
 
-    /// The symbol and the length of the code at a bit of a block, of which a buffer shows the bits from there on. Where it
-    /// holds a short code the block isn't looked at.
+    /// The symbol and the length of the code at a bit of a block.
     #[inline]
-    fn code_at(&self, buffer: BitBuffer, block: &[u8], at: usize) -> Option<(usize, u32)>
+    fn code_at(&self, block: &[u8], at: usize) -> Option<(usize, u32)>
         requires at { at ≤ 8 * length block.now }
-        requires shows { Shows block.now at buffer }
         ensures is { result ≡ code_at self.now block.now at }
         ensures sound { IfSome result (λ code. IsSound (symbol_count self.now.symbols) block.now at code) }
     {
-        let code = self.short_code(buffer);
-        if code.length as u32 <= buffer.held() {
-            return Some((code.symbol as usize, code.length as u32));
-        }
         code_in(
             self.counts.len(),
             block,
@@ -164,36 +144,125 @@ impl<'a> Dictionary<'a> {
         }
     }
 
+    /// Four runs that are taken out of a word one after the other, and the last of them.
+    #[inline]
+    fn four_runs(&self, buffer: BitBuffer) -> (RunSum, Run)
+        requires { 52 ≤ buffer.held }
+        ensures are { (block : List ℕ) (p : ℕ) → Shows block p buffer
+            → IsRunAt self.now block p (sum_values result.0) (sum_bits result.0) }
+        ensures few { sum_bits result.0 ≤ 52 }
+        ensures last { run_bits result.1 ≤ sum_bits result.0 }
+    {
+        let mut rest = buffer;
+        let mut sum = RunSum::none();
+        let mut run = Run::none();
+        for taken in 0..RUNS_IN_WORD {
+            run = self.run(rest);
+            sum = sum.with(run);
+            rest = rest.without(run.bits());
+        }
+        (sum, run)
+    }
+
+    /// Skips runs from a place on, one by one out of a single word, up to bits that begin with no run, with one that the
+    /// word doesn't hold whole, or with one that passes the value that is looked for.
+    #[inline]
+    fn skip_runs(&self, block: &[u8], from: Place) -> Place
+        requires at { from.at ≤ 8 * length block.now }
+        requires near { from.at + 32 * from.left < 2 ^ 40 }
+        ensures { IsFurther self.now block.now from result }
+    {
+        let mut place = from;
+        let mut buffer = BitBuffer::at(block, place.at);
+        'runs: loop {
+            let run = self.run(buffer);
+            let (values, bits) = (run.values(), run.bits());
+            if bits == 0 || bits > buffer.held() || values > place.left {
+                return place;
+            }
+            place = place.after(values, bits);
+            buffer = buffer.without(bits);
+        }
+    }
+
+    /// The place behind the code at a place, unless there is no code, or the value that is looked for is one of its own.
+    #[inline]
+    fn skip_code(&self, block: &[u8], from: Place) -> Option<Place>
+        requires at { from.at ≤ 8 * length block.now }
+        requires near { from.at + 32 * from.left < 2 ^ 40 }
+        ensures further { IfSome result (λ place. IsFurther self.now block.now from place) }
+        ensures more { IfSome result (λ place. from.at < place.at) }
+    {
+        let (symbol, length) = self.code_at(block, from.at)?;
+        let skipped = self.values(symbol);
+        if from.left < skipped {
+            return None;
+        }
+        Some(from.after(skipped, length))
+    }
+
+    /// Skips runs from a place on, four out of each word, and codes that no run holds: as long as eight bytes are left, and up to
+    /// a word or a code that passes the value that is looked for, or a code that isn't there.
+    #[inline]
+    fn skip_words(&self, block: &[u8], from: Place) -> Place
+        requires at { from.at ≤ 8 * length block.now }
+        requires near { from.at + 32 * from.left < 2 ^ 40 }
+        ensures { IsFurther self.now block.now from result }
+    {
+        let mut place = from;
+        'words: while has_word(block, place.at) {
+            let (sum, last) = self.four_runs(BitBuffer::at(block, place.at));
+            if sum.values() > place.left {
+                return place;
+            }
+            place = place.after(sum.values(), sum.bits());
+            if last.bits() == 0 && has_word(block, place.at) {
+                let Some(next) = self.skip_code(block, place) else {
+                    return place;
+                };
+                place = next;
+            }
+        }
+        place
+    }
+
+    /// The value that is looked for from a place on, run by run and code by code.
+    #[inline(never)]
+    fn value_from(&self, block: &[u8], from: Place) -> Result<u16, Damaged>
+        requires at { from.at ≤ 8 * length block.now }
+        requires near { from.at + 32 * from.left < 2 ^ 40 }
+        ensures found { (offset : ℕ) → IsLeft self.now block.now from.at from.left offset
+            → IfOk result (λ v. slice_get (block_values self.now block.now) offset ≡ Some v) }
+        ensures damaged { (offset : ℕ) → IsLeft self.now block.now from.at from.left offset
+            → OnErr result (length (block_values self.now block.now) ≤ offset) }
+    {
+        let mut place = from;
+        'codes: loop {
+            let next = self.skip_runs(block, place);
+            let Some((symbol, length)) = self.code_at(block, next.at) else {
+                return Err(Damaged);
+            };
+            let skipped = self.values(symbol);
+            if next.left < skipped {
+                return Ok(self.value_in(symbol, next.left));
+            }
+            place = next.after(skipped, length);
+        }
+    }
+
     /// The value of a block at an offset from its first value, 0 to 4095. It takes no memory, skips the symbols before by their
-    /// counts, several short codes in a step, and goes down into one.
+    /// counts, several codes in a step, and goes down into one.
     ///
     /// `Damaged` where the block's whole codes give no value at that offset (Syzygy table format, the values of a block).
     pub fn value(&self, block: &[u8], offset: u32) -> Result<u16, Damaged>
         ensures found { IfOk result (λ v. slice_get (block_values self.now block.now) offset ≡ Some v) }
         ensures damaged { OnErr result (length (block_values self.now block.now) ≤ offset) }
     {
-        let mut left = offset as usize;
-        let mut at: usize = 0;
-        let mut buffer = BitBuffer::at(block, 0);
-        'codes: loop {
-            let run = self.run(buffer);
-            if run.bits as u32 <= buffer.held() && run.values as usize <= left {
-                left -= run.values as usize;
-                at += run.bits as usize;
-                buffer = buffer.after(run.bits as u32, block, at);
-                continue;
-            }
-            let Some((symbol, length)) = self.code_at(buffer, block, at) else {
-                return Err(Damaged);
-            };
-            let skipped = self.values(symbol);
-            if left < skipped {
-                return Ok(self.value_in(symbol, left));
-            }
-            left -= skipped;
-            at += length as usize;
-            buffer = buffer.after(length, block, at);
-        }
+        let first = Place {
+            at: 0,
+            left: offset as usize,
+        };
+        self.value_from(block, self.skip_words(block, first))
     }
 
     /// Appends the values of a symbol, as long as there are fewer than `limit`. Right halves wait while left ones are gone
@@ -258,14 +327,12 @@ impl<'a> Dictionary<'a> {
         let mut values = Vec::with_capacity(alloc, limit)?;
         let mut waiting = [0u16; MOST_VALUES];
         let mut at: usize = 0;
-        let mut buffer = BitBuffer::at(block, 0);
         'codes: while values.len() < limit {
-            let Some((symbol, length)) = self.code_at(buffer, block, at) else {
+            let Some((symbol, length)) = self.code_at(block, at) else {
                 break;
             };
             self.push_values(symbol, limit, &mut waiting, &mut values);
             at += length as usize;
-            buffer = buffer.after(length, block, at);
         }
         Ok(values)
     }

@@ -1,88 +1,296 @@
 //! Codes that stand one after the other in a few bits.
 
-ghost use Rattle.std.specs.Prelude.{◌≡◌, ◌+◌, ◌^◌, ◌<◌, ◌≤◌, length, IfOk};
+ghost use Rattle.std.specs.Prelude.{◌≡◌, ◌+◌, ◌*◌, ◌^◌, ◌<◌, ◌≤◌, ◌↔◌, length, IsTrue, IfOk};
 ghost use Rattle.pair_dict.specs.Symbols.{symbol_count};
 ghost use Rattle.pair_dict.specs.Inside.Counts.{AreCounts};
 ghost use Rattle.pair_dict.specs.Reading.{words};
 ghost use Rattle.pair_dict.specs.Inside.Layouts.{pairing_in};
-ghost use Rattle.pair_dict.specs.Inside.ShortCodes.{AreShortCodes};
-ghost use Rattle.pair_dict.specs.Inside.Runs.{IsRun, AreRuns};
+ghost use Rattle.pair_dict.specs.Inside.Windows.{AreFirsts};
+ghost use Rattle.pair_dict.specs.Inside.Runs.{run_values, run_bits, sum_values, sum_bits, IsCodeRun, IsRunOf, IsTop, AreJoined, AreRuns};
 
-use crate::codes::ShortCode;
 use crate::layout::Layout;
-use crate::window::BitBuffer;
+use crate::words::word_of;
 use std::alloc::{AllocError, Global};
 
-/// The number of bits that stands for no code. It is greater than what a buffer holds.
-const NO_BITS: u8 = 255;
+/// The most bits that runs are looked up by.
+const MOST_BITS: u32 = 13;
 
-/// The whole short codes with which a few bits begin: how many values they stand for, and how many bits they take, or
-/// `NO_BITS` where there is none.
-#[derive(Clone, Copy)]
-pub(crate) struct Run {
-    pub(crate) values: u16,
-    pub(crate) bits: u8,
+/// How many more bits runs are looked up by than the symbols' numbers have. More bits make fewer steps and a larger table,
+/// which misses the cache more often.
+const MORE_BITS: u32 = 1;
+
+/// How many bits runs are looked up by where there are so many symbols: `MORE_BITS` more than the symbols' numbers have, up
+/// to `MOST_BITS`.
+pub(crate) fn run_width(symbols: usize) -> u32
+    ensures some { 1 ≤ result }
+    ensures few { result ≤ 13 }
+{
+    for bits in 0..MOST_BITS - MORE_BITS {
+        if symbols < 1 << bits {
+            return bits + MORE_BITS;
+        }
+    }
+    MOST_BITS
 }
 
-/// The run with which these bits begin, so many as short codes have.
-fn run_of(
-    layout: &Layout<'_>,
-    width: u32,
-    front: u16,
-    short_codes: &[ShortCode],
-    counts: &[u16],
-) -> Run
-    requires some { 1 ≤ width }
-    requires few { width ≤ 12 }
-    requires front { front < 2 ^ width }
-    requires least { 1 ≤ layout.now.least }
-    requires all { length short_codes.now ≡ 2 ^ width }
-    requires each { AreShortCodes (symbol_count layout.now.symbols.now) width layout.now.least (words layout.now.lowest.now) short_codes.now }
-    requires counts { AreCounts layout.now.symbols.now counts.now }
-    ensures { IsRun (pairing_in layout.now).0 width front result }
+/// The most values that a run stands for.
+const MOST_RUN_VALUES: usize = 1023;
+
+/// Whole codes one after the other: how many values they stand for, 0 to 1023, and how many bits they take, 0 to 63. A run
+/// of no bits holds no code.
+#[derive(Clone, Copy)]
+pub(crate) struct Run {
+    // 64 times the values, and the bits: so a word is moved up by the bits as they stand, and runs are added in one sum.
+    packed: u16,
+}
+
+impl Run {
+    /// A run that holds no code.
+    pub(crate) fn none() -> Run
+        ensures values { run_values result ≡ 0 }
+        ensures bits { run_bits result ≡ 0 }
+    {
+        Run { packed: 0 }
+    }
+
+    /// A run of so many values in so many bits.
+    fn of(values: u16, bits: u32) -> Run
+        requires values { values < 1024 }
+        requires bits { bits < 64 }
+        ensures values { run_values result ≡ values }
+        ensures bits { run_bits result ≡ bits }
+    {
+        Run {
+            packed: values * 64 + bits as u16,
+        }
+    }
+
+    /// This run and then another.
+    #[inline]
+    fn then(self, other: Run) -> Run
+        requires values { run_values self + run_values other < 1024 }
+        requires bits { run_bits self + run_bits other < 64 }
+        ensures values { run_values result ≡ run_values self + run_values other }
+        ensures bits { run_bits result ≡ run_bits self + run_bits other }
+    {
+        Run {
+            packed: self.packed + other.packed,
+        }
+    }
+
+    /// How many values the codes stand for.
+    #[inline]
+    pub(crate) fn values(self) -> usize
+        ensures { result ≡ run_values self }
+    {
+        (self.packed / 64) as usize
+    }
+
+    /// How many bits the codes take.
+    #[inline]
+    pub(crate) fn bits(self) -> u32
+        ensures { result ≡ run_bits self }
+    {
+        (self.packed % 64) as u32
+    }
+}
+
+/// Runs one after the other, taken together: how many values they stand for, and how many bits they take, 0 to 63.
+#[derive(Clone, Copy)]
+pub(crate) struct RunSum {
+    // As in a run.
+    packed: usize,
+}
+
+impl RunSum {
+    /// No runs.
+    #[inline]
+    pub(crate) fn none() -> RunSum
+        ensures values { sum_values result ≡ 0 }
+        ensures bits { sum_bits result ≡ 0 }
+    {
+        RunSum { packed: 0 }
+    }
+
+    /// These runs and then another.
+    #[inline]
+    pub(crate) fn with(self, run: Run) -> RunSum
+        requires values { sum_values self < 2 ^ 32 }
+        requires bits { sum_bits self + run_bits run < 64 }
+        ensures values { sum_values result ≡ sum_values self + run_values run }
+        ensures bits { sum_bits result ≡ sum_bits self + run_bits run }
+    {
+        RunSum {
+            packed: self.packed + run.packed as usize,
+        }
+    }
+
+    /// How many values the runs stand for.
+    #[inline]
+    pub(crate) fn values(self) -> usize
+        ensures { result ≡ sum_values self }
+    {
+        self.packed / 64
+    }
+
+    /// How many bits the runs take.
+    #[inline]
+    pub(crate) fn bits(self) -> u32
+        ensures { result ≡ sum_bits self }
+    {
+        (self.packed % 64) as u32
+    }
+}
+
+/// How many numbers of so many bits there are.
+#[inline]
+fn numbers_of(bits: u32) -> usize
+    requires { bits ≤ 14 }
+    ensures { result ≡ 2 ^ bits }
+{
+    1 << bits
+}
+
+/// The run at a place, or, where it has more than so many values, the run of fewer of its first bits that has not. The layout
+/// is there for the clauses alone.
+fn run_within(layout: &Layout<'_>, runs: &[Run], place: usize, most: usize) -> Run
+    requires some { 1 ≤ place }
+    requires known { place < length runs.now }
+    requires joined { AreJoined (pairing_in layout.now).0 runs.now }
+    ensures is { IsRunOf (pairing_in layout.now).0 place result }
+    ensures few { run_values result ≤ most }
 {
     let _ = layout;
-    let mut buffer = BitBuffer::of(front, width);
-    let mut values: u16 = 0;
-    'codes: loop {
-        let code = short_codes[buffer.front(width)];
-        if code.length as u32 > buffer.held() {
-            break;
+    let mut place = place;
+    'shorter: loop {
+        let run = runs[place];
+        if run.values() <= most {
+            return run;
         }
-        values += counts[code.symbol as usize];
-        buffer = buffer.without(code.length as u32);
+        place /= 2;
     }
-    let bits = (width - buffer.held()) as u8;
-    if bits == 0 {
-        return Run {
-            values,
-            bits: NO_BITS,
-        };
+}
+
+/// Sets the runs of so many bits that begin with one code: that code, and the run of the bits behind it. The layout is there for
+/// the clauses alone.
+fn join_code(layout: &Layout<'_>, single: Run, code: usize, width: u32, runs: &mut [Run])
+    requires code { code < 2 ^ run_bits single }
+    requires single { IsCodeRun (pairing_in layout.now).0 code single }
+    requires values { run_values single ≤ 256 }
+    requires short { run_bits single ≤ width }
+    requires few { width ≤ 13 }
+    requires room { 2 * 2 ^ width ≤ length runs.old }
+    requires joined { AreJoined (pairing_in layout.now).0 runs.old }
+    ensures joined { AreJoined (pairing_in layout.now).0 runs.new }
+    ensures lengths { length runs.new ≡ length runs.old }
+{
+    let _ = layout;
+    let behind = numbers_of(width - single.bits());
+    let place = numbers_of(width) + code * behind;
+    let most = MOST_RUN_VALUES - single.values();
+    for rest in 0..behind {
+        let run = run_within(layout, runs, behind + rest, most);
+        runs[place + rest] = single.then(run);
     }
-    Run { values, bits }
+}
+
+/// Sets the runs that begin with a code of one length: those of so many bits. Codes of that length are below `top`, which
+/// no code of a lesser length is.
+fn join_length(
+    layout: &Layout<'_>,
+    firsts: &[u64],
+    counts: &[u16],
+    i: usize,
+    top: u64,
+    width: u32,
+    runs: &mut [Run],
+)
+    requires least { 1 ≤ layout.now.least }
+    requires firsts { AreFirsts layout.now.least (words layout.now.lowest.now) firsts.now }
+    requires counts { AreCounts layout.now.symbols.now counts.now }
+    requires known { i < length firsts.now }
+    requires top { IsTop firsts.now i top }
+    requires short { layout.now.least + i ≤ width }
+    requires few { width ≤ 13 }
+    requires room { 2 * 2 ^ width ≤ length runs.old }
+    requires joined { AreJoined (pairing_in layout.now).0 runs.old }
+    ensures joined { AreJoined (pairing_in layout.now).0 runs.new }
+    ensures lengths { length runs.new ≡ length runs.old }
+{
+    let length = layout.least + i as u32;
+    let base = (firsts[i] >> (63 - length)) as usize;
+    let end = (top >> (63 - length)) as usize;
+    let lowest = word_of(layout.lowest, i) as usize;
+    for code in base..end {
+        let symbol = lowest + (code - base);
+        if symbol >= counts.len() {
+            return;
+        }
+        join_code(layout, Run::of(counts[symbol], length), code, width, runs);
+    }
+}
+
+/// Sets the runs of so many bits, by those of fewer.
+fn join_width(layout: &Layout<'_>, firsts: &[u64], counts: &[u16], width: u32, runs: &mut [Run])
+    requires least { 1 ≤ layout.now.least }
+    requires firsts { AreFirsts layout.now.least (words layout.now.lowest.now) firsts.now }
+    requires counts { AreCounts layout.now.symbols.now counts.now }
+    requires few { width ≤ 13 }
+    requires room { 2 * 2 ^ width ≤ length runs.old }
+    requires joined { AreJoined (pairing_in layout.now).0 runs.old }
+    ensures joined { AreJoined (pairing_in layout.now).0 runs.new }
+    ensures lengths { length runs.new ≡ length runs.old }
+{
+    let mut top: u64 = 1 << 63;
+    for i in 0..firsts.len() {
+        if layout.least as usize + i > width as usize {
+            return;
+        }
+        join_length(layout, firsts, counts, i, top, width, runs);
+        top = top.min(firsts[i]);
+    }
+}
+
+/// The runs of up to so many bits: those of n bits stand from the place 2^n on, by the number that the bits are.
+fn joined_runs(
+    alloc: Global,
+    layout: &Layout<'_>,
+    firsts: &[u64],
+    counts: &[u16],
+    width: u32,
+) -> Result<Vec<Run>, AllocError>
+    requires least { 1 ≤ layout.now.least }
+    requires firsts { AreFirsts layout.now.least (words layout.now.lowest.now) firsts.now }
+    requires counts { AreCounts layout.now.symbols.now counts.now }
+    requires few { width ≤ 13 }
+    ensures joined { IfOk result (λ runs. AreJoined (pairing_in layout.now).0 runs.items) }
+    ensures lengths { IfOk result (λ runs. length runs.items ≡ 2 * 2 ^ width) }
+{
+    let mut runs = vec![in alloc; Run::none(); numbers_of(width + 1)]?;
+    for bits in 1..width + 1 {
+        // Behind a code there are at most `width - least` bits, so that no other runs are joined.
+        if layout.least <= width - bits || bits == width {
+            join_width(layout, firsts, counts, bits, &mut runs);
+        }
+    }
+    Ok(runs)
 }
 
 /// The runs with which so many bits begin, from all bits 0 on.
 pub(crate) fn runs_of(
     alloc: Global,
     layout: &Layout<'_>,
-    width: u32,
-    short_codes: &[ShortCode],
+    firsts: &[u64],
     counts: &[u16],
+    width: u32,
 ) -> Result<Vec<Run>, AllocError>
-    requires some { 1 ≤ width }
-    requires few { width ≤ 12 }
     requires least { 1 ≤ layout.now.least }
-    requires all { length short_codes.now ≡ 2 ^ width }
-    requires each { AreShortCodes (symbol_count layout.now.symbols.now) width layout.now.least (words layout.now.lowest.now) short_codes.now }
+    requires firsts { AreFirsts layout.now.least (words layout.now.lowest.now) firsts.now }
     requires counts { AreCounts layout.now.symbols.now counts.now }
+    requires few { width ≤ 13 }
     ensures all { IfOk result (λ runs. length runs.items ≡ 2 ^ width) }
     ensures each { IfOk result (λ runs. AreRuns (pairing_in layout.now).0 width runs.items) }
 {
-    let count = 1u16 << width;
-    let mut runs = Vec::with_capacity(alloc, count as usize)?;
-    for front in 0..count {
-        runs.push_reserved(run_of(layout, width, front, short_codes, counts));
-    }
-    Ok(runs)
+    let joined = joined_runs(alloc, layout, firsts, counts, width)?;
+    Vec::from_slice(alloc, &joined[numbers_of(width)..])
 }

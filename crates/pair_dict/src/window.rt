@@ -1,6 +1,6 @@
 //! Bits of a block.
 
-ghost use Rattle.std.specs.Prelude.{◌≡◌, ◌+◌, ◌-◌, ◌*◌, ◌/◌, ◌%◌, ◌^◌, ◌<◌, ◌≤◌, ℕ, length, drop};
+ghost use Rattle.std.specs.Prelude.{◌≡◌, ◌+◌, ◌-◌, ◌*◌, ◌/◌, ◌%◌, ◌^◌, ◌<◌, ◌≤◌, ◌↔◌, ℕ, IsTrue, length, drop};
 ghost use Rattle.pair_dict.specs.Codes.{bits, number_of};
 ghost use Rattle.pair_dict.specs.Inside.Windows.{IsWord, IsWindow, Shows};
 
@@ -21,18 +21,31 @@ fn short_word(bytes: &[u8]) -> u64
     word << (64 - 8 * bytes.len() as u32)
 }
 
-/// The eight bytes from a place on, with zeros after the end.
+/// The eight bytes from a place on.
 #[inline]
 fn word_at(block: &[u8], place: usize) -> u64
-    requires { place ≤ length block.now }
+    requires { place + 8 ≤ length block.now }
     ensures { IsWord (drop place block.now) result }
 {
-    let rest = &block[place..];
-    if rest.len() >= 8 {
-        BigEndian::read_u64(rest)
-    } else {
-        short_word(rest)
-    }
+    BigEndian::read_u64(&block[place..])
+}
+
+/// The bytes from a place on, fewer than eight, with zeros after the end.
+#[inline(never)]
+fn last_word_at(block: &[u8], place: usize) -> u64
+    requires place { place ≤ length block.now }
+    requires few { length block.now < place + 8 }
+    ensures { IsWord (drop place block.now) result }
+{
+    short_word(&block[place..])
+}
+
+/// Whether eight bytes of the block are left from a bit on.
+#[inline]
+pub(crate) fn has_word(block: &[u8], at: usize) -> bool
+    ensures { IsTrue result ↔ (at / 8 + 8 ≤ length block.now) }
+{
+    at / 8 < block.len().saturating_sub(7)
 }
 
 /// The bits from a bit on at the top of a word, at least 57 of them, with zeros after the end.
@@ -41,7 +54,10 @@ pub(crate) fn window(block: &[u8], at: usize) -> u64
     requires { at ≤ 8 * length block.now }
     ensures { IsWindow block.now at result }
 {
-    word_at(block, at / 8) << (at % 8) as u32
+    if has_word(block, at) {
+        return word_at(block, at / 8) << (at % 8) as u32;
+    }
+    last_word_at(block, at / 8) << (at % 8) as u32
 }
 
 /// How many bits the block has from a bit on, up to 57.
@@ -51,14 +67,13 @@ pub(crate) fn room_at(block: &[u8], at: usize) -> usize
     ensures fits { (n : ℕ) → n ≤ result → at + n ≤ 8 * length block.now }
     ensures past { (n : ℕ) → n ≤ 57 → result < n → 8 * length block.now < at + n }
 {
-    let rest = block.len() - at / 8;
-    if rest < 8 { 8 * rest - at % 8 } else { 57 }
+    if has_word(block, at) {
+        return 57;
+    }
+    8 * (block.len() - at / 8) - at % 8
 }
 
-/// A buffer that would hold fewer bits is filled again: so many hold each short code.
-const FEW_BITS: u32 = 12;
-
-/// The bits of a block from some bit on, at the top of a word, and how many of them it holds.
+/// The bits of a block from some bit on, at the top of a word, and how many of them it holds, up to 64.
 #[derive(Clone, Copy)]
 pub(crate) struct BitBuffer {
     bits: u64,
@@ -66,14 +81,16 @@ pub(crate) struct BitBuffer {
 }
 
 impl BitBuffer {
-    /// The bits from a bit on; none where fewer than eight bytes are left from there.
+    /// The bits from a bit on: 57, where eight bytes are left from there.
     #[inline]
     pub(crate) fn at(block: &[u8], at: usize) -> BitBuffer
-        requires { at ≤ 8 * length block.now }
-        ensures { Shows block.now at result }
+        requires at { at ≤ 8 * length block.now }
+        requires fits { at < 2 ^ 60 }
+        ensures shows { Shows block.now at result }
+        ensures held { at / 8 + 8 ≤ length block.now → result.held ≡ 57 }
     {
-        if block.len() - at / 8 < 8 {
-            return BitBuffer { bits: 0, held: 0 };
+        if !has_word(block, at) {
+            return BitBuffer::last(block, at);
         }
         BitBuffer {
             bits: window(block, at),
@@ -81,18 +98,29 @@ impl BitBuffer {
         }
     }
 
-    /// A few bits, at the top of the word.
-    pub(crate) fn of(bits: u16, width: u32) -> BitBuffer
-        requires some { 1 ≤ width }
-        requires few { width ≤ 12 }
-        requires fits { bits < 2 ^ width }
-        ensures bits { result.bits ≡ bits * 2 ^ (64 - width) }
-        ensures held { result.held ≡ width }
+    /// The bits from a bit on to the end of the block, where fewer than eight bytes are left from there; none in a block of
+    /// fewer than eight bytes.
+    #[inline(never)]
+    fn last(block: &[u8], at: usize) -> BitBuffer
+        requires at { at ≤ 8 * length block.now }
+        requires few { length block.now < at / 8 + 8 }
+        requires fits { at < 2 ^ 60 }
+        ensures { Shows block.now at result }
     {
-        BitBuffer {
-            bits: (bits as u64) << (64 - width),
-            held: width,
+        let none = BitBuffer { bits: 0, held: 0 };
+        if block.len() < 8 {
+            return none;
         }
+        let start = block.len() - 8;
+        let before = at - 8 * start;
+        if before >= 64 {
+            return none;
+        }
+        let word = BitBuffer {
+            bits: word_at(block, start),
+            held: 64,
+        };
+        word.without(before as u32)
     }
 
     /// The bits that follow so many of those that are held.
@@ -109,33 +137,18 @@ impl BitBuffer {
         }
     }
 
-    /// The bits that follow so many that are taken, up to a bit of the block: those that are held, or the block's where few
-    /// are left.
-    #[inline]
-    pub(crate) fn after(self, taken: u32, block: &[u8], end: usize) -> BitBuffer
-        requires taken { taken ≤ end }
-        requires end { end ≤ 8 * length block.now }
-        requires shows { Shows block.now (end - taken) self }
-        ensures { Shows block.now end result }
-    {
-        if taken > self.held || self.held - taken < FEW_BITS {
-            return BitBuffer::at(block, end);
-        }
-        self.without(taken)
-    }
-
     /// The first bits, so many.
     #[inline]
     pub(crate) fn front(self, width: u32) -> usize
         requires some { 1 ≤ width }
-        requires few { width ≤ 12 }
+        requires few { width ≤ 13 }
         ensures is { result ≡ self.bits / 2 ^ (64 - width) }
         ensures below { result < 2 ^ width }
     {
         (self.bits >> (64 - width)) as usize
     }
 
-    /// How many bits are held, up to 57.
+    /// How many bits are held, up to 64.
     #[inline]
     pub(crate) fn held(self) -> u32
         ensures { result ≡ self.held }

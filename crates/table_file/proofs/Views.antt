@@ -1,10 +1,13 @@
 -- One part among the parts of a file that was checked.
-use Rattle.std.proofs.Common.{◌≡◌, ℕ, zero, suc, ◌+◌, ◌*◌, ◌/◌, ◌<◌, ◌≤◌, Bool, true, false, cond, eqb, List, [], ◌∷◌, length, get_or, Some, refl, sym, ap, subst, ◌∙◌, inl, inr, arith}
+use Rattle.std.proofs.Common.{◌≡◌, ℕ, zero, suc, ◌+◌, ◌*◌, ◌/◌, ◌<◌, ◌≤◌, Bool, true, false, cond, eqb, List, [], ◌∷◌, length, map, get_or, Some, refl, sym, ap, subst, ◌∙◌, inl, inr, arith}
 use Rattle.std.specs.Prelude.{◌%◌, not, slice_get, slice_index_or, Result, Ok, Err, IfOk}
 use Rattle.std.proofs.lemmas.Bool.{cases_Bool, false≢true, eqb-true, not_from_false, and_parts}
 use Rattle.std.proofs.lemmas.Nat.{mod_below, div-mul-add}
 use Rattle.std.proofs.Math.Nat.{mul-le-mul_left, mul-suc, mul_comm}
+use Rattle.std.proofs.lemmas.List.{get_or-map, length-map}
 use Rattle.table_file.specs.declared.parts.Part.{Part}
+use Rattle.table_file.specs.declared.table.OpenedPart.{OpenedPart}
+use Rattle.table_file.specs.Inside.OpenedParts.{plain_parts, all_entries, all_lengths, all_blocks}
 use Rattle.table_file.specs.declared.parts.Section.{Section}
 use Rattle.table_file.specs.declared.parts.Section.TheVariants.{Entries, Lengths}
 use Rattle.table_file.specs.Files.{indices, section_size, files_of, sides_of, is_symmetric}
@@ -63,6 +66,30 @@ pub right_at : (parts : List Part) (entries lengths : List (List ℕ)) (k : ℕ)
     → k < length parts → p ≡ get_or parts k p → e ≡ get_or entries k e → l ≡ get_or lengths k l → fits_in (indices p.shape) p.size_record.coding e l ≡ true
 right_at parts entries lengths k p e l es ls fit lt p-is e-is l-is =
     fit_at parts entries lengths k p e l fit es.lengths ls.lengths lt (got parts k p lt p-is) (got entries k e (omega (arith, lt, es.lengths)) e-is) (got lengths k l (omega (arith, lt, ls.lengths)) l-is)
+
+-- ---- what is kept of a part
+
+-- a field of an element that was read by its index
+mapped_at : {X Y : Type 0} (f : X → Y) (xs : List X) (k : ℕ) (x : X) → k < length xs → x ≡ get_or xs k x → f x ≡ get_or (map f xs) k (f x)
+mapped_at f xs k x lt is = ap f is ∙ sym (get_or-map f xs k x (f x) lt)
+
+here : (os : List OpenedPart) (k : ℕ) → k < length (plain_parts os) → k < length os
+here os k lt = omega (arith, lt, length-map os (λ (o : OpenedPart). o.part))
+
+pub plain_at : (os : List OpenedPart) (k : ℕ) (o : OpenedPart) → k < length (plain_parts os) → o ≡ get_or os k o → o.part ≡ get_or (plain_parts os) k o.part
+plain_at os k o lt is = mapped_at (λ (o : OpenedPart). o.part) os k o (here os k lt) is
+
+pub part_at : (os : List OpenedPart) (k : ℕ) (o : OpenedPart) → k < length (plain_parts os) → o ≡ get_or os k o → slice_get (plain_parts os) k ≡ Some o.part
+part_at os k o lt is = got (plain_parts os) k o.part lt (plain_at os k o lt is)
+
+pub entries_at : (os : List OpenedPart) (k : ℕ) (o : OpenedPart) → k < length (plain_parts os) → o ≡ get_or os k o → o.entries ≡ get_or (all_entries os) k o.entries
+entries_at os k o lt is = mapped_at (λ (o : OpenedPart). o.entries) os k o (here os k lt) is
+
+pub lengths_at : (os : List OpenedPart) (k : ℕ) (o : OpenedPart) → k < length (plain_parts os) → o ≡ get_or os k o → o.lengths ≡ get_or (all_lengths os) k o.lengths
+lengths_at os k o lt is = mapped_at (λ (o : OpenedPart). o.lengths) os k o (here os k lt) is
+
+pub blocks_at : (os : List OpenedPart) (k : ℕ) (o : OpenedPart) → k < length (plain_parts os) → o ≡ get_or os k o → o.blocks ≡ get_or (all_blocks os) k o.blocks
+blocks_at os k o lt is = mapped_at (λ (o : OpenedPart). o.blocks) os k o (here os k lt) is
 
 -- ---- what a view shows of a table
 
@@ -136,10 +163,19 @@ one_or_two : (b : Bool) → 1 ≤ cond b 1 2
 one_or_two true = omega arith
 one_or_two false = omega arith
 
-some_sides : (kind : Kind) (m : ℕ) → 1 ≤ sides_of kind m
+pub some_sides : (kind : Kind) (m : ℕ) → 1 ≤ sides_of kind m
 unfolding sides_of
 some_sides Dtz m = omega arith
 some_sides Wdl m = one_or_two (is_symmetric m)
+
+two_at_most : (b : Bool) → cond b 1 2 ≤ 2
+two_at_most true = omega arith
+two_at_most false = omega arith
+
+pub few_sides : (kind : Kind) (m : ℕ) → sides_of kind m ≤ 2
+unfolding sides_of
+few_sides Dtz m = omega arith
+few_sides Wdl m = two_at_most (is_symmetric m)
 
 pub file_of_place : (kind : Kind) (m side file k : ℕ) → k ≡ file * sides_of kind m + side % sides_of kind m → k / sides_of kind m ≡ file
 file_of_place kind m side file k is =

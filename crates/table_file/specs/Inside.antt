@@ -2,5 +2,6 @@
 pub mod Checked
 pub mod Writing
 pub mod Kept
+pub mod OpenedParts
 pub mod Opened
 pub mod Opening

@@ -1,6 +1,6 @@
 //! Opened table files.
 
-ghost use Rattle.std.specs.Prelude.{◌≡◌, ◌≢◌, ◌+◌, ◌/◌, ◌<◌, ◌≤◌, length, Some, None, IsTrue, IsOk, true, IfOk, IfErr, OnErr, ◌↔◌};
+ghost use Rattle.std.specs.Prelude.{◌≡◌, ◌≢◌, ◌+◌, ◌/◌, ◌%◌, ◌<◌, ◌≤◌, length, Some, None, IsTrue, IsOk, true, IfOk, IfErr, OnErr, ◌↔◌};
 ghost use Rattle.place_index.specs.Shape.{Layout, size_of};
 ghost use Rattle.table_file.specs.declared.fault.TableFault.TheVariants.{OutOfMemory};
 ghost use Rattle.table_file.specs.declared.kind.Kind.TheVariants.{Dtz};
@@ -10,6 +10,7 @@ ghost use Rattle.table_file.specs.Reading.{Gives};
 ghost use Rattle.table_file.specs.Sparse.{all_fit, fits_in};
 ghost use Rattle.table_file.specs.Sections.{AreShaped, AreSized};
 ghost use Rattle.table_file.specs.Inside.Checked.{IsChecked, IsViewOf};
+ghost use Rattle.table_file.specs.Inside.OpenedParts.{plain_parts, all_entries, all_lengths, all_blocks};
 ghost use Rattle.table_file.specs.Tables.{Contents, head_at, sections_at, parts_at, table_at, part_count, place_of, shape_of, flags_of, span_of, IsFile};
 ghost use Rattle.table_file.specs.Inside.Opening.{checked_at, runs_at, all_parts_at};
 ghost use Rattle.table_file.specs.Layouts.{IsLayout};
@@ -43,11 +44,10 @@ use std::sync::ledger::Ledger;
 pub struct Table<'a> {
     kind: Kind,
     material: Material,
-    parts: Vec<Part<'a>>,
+    /// How many sides to move the file has, 1 or 2.
+    sides: u8,
+    parts: Vec<OpenedPart<'a>>,
     maps: Vec<Maps<'a>>,
-    entries: Vec<Run<'a>>,
-    lengths: Vec<Run<'a>>,
-    blocks: Vec<Run<'a>>,
 }
 
 impl<'a> Model for Table<'a> {
@@ -60,6 +60,15 @@ impl<'a> Model for Table<'a> {
     ghost view = { contents_of };
 
     ghost invariant = { IsOpened };
+}
+
+/// A part with its sections: all that a look-up in it reads, in one place.
+#[derive(Drop)]
+pub(crate) struct OpenedPart<'a> {
+    entries: Run<'a>,
+    lengths: Run<'a>,
+    blocks: Run<'a>,
+    part: Part<'a>,
 }
 
 /// Whether the sparse entries of a part name the values in the middle of their spans.
@@ -167,6 +176,34 @@ fn checked_sections<'a>(
     }
 }
 
+/// Each part with its sections. The only error is that memory is refused.
+fn opened_parts<'a>(
+    alloc: Global,
+    parts: Vec<Part<'a>>,
+    sections: &Sections<'a>,
+) -> Result<Vec<OpenedPart<'a>>, AllocError>
+    requires entries { length sections.now.entries.items ≡ length parts.items }
+    requires lengths { length sections.now.lengths.items ≡ length parts.items }
+    requires blocks { length sections.now.blocks.items ≡ length parts.items }
+    ensures parts { IfOk result (λ opened. plain_parts opened.items ≡ parts.entry.items) }
+    ensures entries { IfOk result (λ opened. all_entries opened.items ≡ sections.now.entries.items) }
+    ensures lengths { IfOk result (λ opened. all_lengths opened.items ≡ sections.now.lengths.items) }
+    ensures blocks { IfOk result (λ opened. all_blocks opened.items ≡ sections.now.blocks.items) }
+{
+    let mut opened = Vec::with_capacity(alloc, parts.len())?;
+    let mut left = parts.into_iter();
+    'parts: while let Some(part) = left.next() {
+        let k = opened.len();
+        opened.push(OpenedPart {
+            entries: Run::new(sections.entries[k].bytes()),
+            lengths: Run::new(sections.lengths[k].bytes()),
+            blocks: Run::new(sections.blocks[k].bytes()),
+            part,
+        })?;
+    }
+    Ok(opened)
+}
+
 /// The table of parts, maps and the sections behind them.
 fn with_sections<'a>(
     alloc: Global,
@@ -185,15 +222,17 @@ fn with_sections<'a>(
         Ok(sections) => sections,
         Err(fault) => return Err(fault),
     };
-    Ok(Table {
-        kind,
-        material,
-        parts,
-        maps,
-        entries: sections.entries,
-        lengths: sections.lengths,
-        blocks: sections.blocks,
-    })
+    let sides = sides(kind, &material) as u8;
+    match opened_parts(alloc, parts, &sections) {
+        Ok(parts) => Ok(Table {
+            kind,
+            material,
+            sides,
+            parts,
+            maps,
+        }),
+        Err(_) => Err(TableFault::OutOfMemory),
+    }
 }
 
 /// Shapes and size records, and what is left.
@@ -255,6 +294,16 @@ pub fn open<'a>(alloc: Global, name: &[u8], file: &'a [u8]) -> Result<Table<'a>,
     }
 }
 
+/// The place of a side among so many: a file of one side doesn't look at it.
+fn side_among(sides: usize, side: u8) -> usize
+    requires side { side < 2 }
+    requires some { 1 ≤ sides }
+    requires few { sides ≤ 2 }
+    ensures { result ≡ side % sides }
+{
+    if sides == 1 { 0 } else { side as usize }
+}
+
 impl<'a> Table<'a> {
     /// The men of the table. It takes no memory, as the other readers.
     pub fn material(&self) -> &Material
@@ -284,8 +333,8 @@ impl<'a> Table<'a> {
         ensures is { result ≡ place_of self.now side file }
         ensures known { result < length self.now.parts }
     {
-        let sides = sides(self.kind, &self.material);
-        file as usize * sides + side as usize % sides
+        let sides = self.sides as usize;
+        file as usize * sides + side_among(sides, side)
     }
 
     /// The shape for a side and a file. A table of one side doesn't look at the side.
@@ -297,7 +346,7 @@ impl<'a> Table<'a> {
         ensures file { result.now.file ≡ file }
     {
         let k = self.place(side, file);
-        &self.parts[k].shape
+        &self.parts[k].part.shape
     }
 
     /// One part with its sections.
@@ -310,11 +359,11 @@ impl<'a> Table<'a> {
         let k = self.place(side, file);
         let part = &self.parts[k];
         View {
-            size: indices(&part.shape),
-            coding: &part.size_record.coding,
-            entries: self.entries[k].bytes(),
-            lengths: self.lengths[k].bytes(),
-            blocks: self.blocks[k].bytes(),
+            size: indices(&part.part.shape),
+            coding: &part.part.size_record.coding,
+            entries: part.entries.bytes(),
+            lengths: part.lengths.bytes(),
+            blocks: part.blocks.bytes(),
         }
     }
 
@@ -448,7 +497,7 @@ impl<'a> Table<'a> {
         ensures { flags_of self.now side file ≡ Some result }
     {
         let k = self.place(side, file);
-        self.parts[k].size_record.flags
+        self.parts[k].part.size_record.flags
     }
 
     /// The value maps, of each file in a DTZ file.

@@ -1,5 +1,5 @@
 -- What the search for attacks and for legal moves says of its steps; no public contract cites these.
-use Rattle.std.specs.Prelude.{◌≡◌, ℕ, ◌+◌, ◌<◌, ◌≤◌, IsTrue, List, Option, Some, None, slice_set, All, AllPairs, Contains, IfSome}
+use Rattle.std.specs.Prelude.{◌≡◌, ℕ, Bool, true, false, ◌+◌, ◌<◌, ◌≤◌, IsTrue, List, Option, Some, None, slice_set, All, AllPairs, Contains, IfSome}
 use Rattle.board_core.specs.declared.piece.Piece.{Piece}
 use Rattle.board_core.specs.declared.piece.Side.{Side}
 use Rattle.board_core.specs.declared.piece.Kind.{Kind}
@@ -17,9 +17,7 @@ use Rattle.std.specs.Int.{bit_at}
 use Rattle.board_core.specs.declared.generation.Which.{Which}
 use Rattle.board_core.specs.declared.generation.Which.TheVariants.{Every, Captures}
 use Rattle.board_core.specs.declared.generation.Survey.{Survey}
-use Rattle.board_core.specs.Moves.{Stands, IsFree, IsTaken, Legal, IsLegal, IsMove, IsEnPassant, IsCapture, IsLegalCapture, men_after, place_of}
-use Rattle.board_core.specs.Sides.{sides_of}
-use Rattle.board_core.specs.declared.capturing.Capture.{Capture}
+use Rattle.board_core.specs.Moves.{Stands, IsFree, IsTaken, IsLegal, IsMove, IsEnPassant, IsCapture, IsLegalCapture, men_after, place_of}
 use Rattle.board_core.specs.declared.mobility.Sought.{Sought}
 use Rattle.board_core.specs.declared.mobility.Sought.TheVariants.{Any, BesidesEnPassant}
 use Rattle.board_core.specs.Square.{file_of}
@@ -75,6 +73,27 @@ IsInside NorthWest k from = (k ≤ file_of from) × (rank_of from + k < 8)
 IsInside SouthEast k from = (file_of from + k < 8) × (k ≤ rank_of from)
 IsInside SouthWest k from = (k ≤ file_of from) × (k ≤ rank_of from)
 
+-- by how much the numbers of a square and of the next in this direction differ, and whether they rise
+abbrev pub stride : Direction → ℕ
+stride North = 8
+stride South = 8
+stride East = 1
+stride West = 1
+stride NorthEast = 9
+stride NorthWest = 7
+stride SouthEast = 7
+stride SouthWest = 9
+
+abbrev pub rises : Direction → Bool
+rises North = true
+rises South = false
+rises East = true
+rises West = false
+rises NorthEast = true
+rises NorthWest = true
+rises SouthEast = false
+rises SouthWest = false
+
 -- a move that is asked for: any move, or a capture
 abbrev pub IsWanted : Which → Parts → Move → Type 0
 IsWanted Every p m = Unit {0}
@@ -116,6 +135,7 @@ IsKnown p v attacked = IfSome attacked (HasAttacked (emptied p.men v.king) p.sid
 
 -- what is known of the king of the side that moves
 pub record IsGuard (p : Parts) (g : Guard) : Type 0 where
+  pub enemy : (s : ℕ) → s < 64 → IsTaken p.men (other p.side) s → bit_at g.enemy s ≡ 1
   pub only : IsOnlyKing p.men p.side g.king
   pub out_of_check : IsTrue g.out_of_check → IsAttacked p.men (other p.side) g.king → ⊥
   pub attacked : HasAttacked (emptied p.men g.king) p.side g.attacked
@@ -176,13 +196,14 @@ IsLaterFrom p start from m = IsLaterCapture p start m × (m.from ≡ from)
 abbrev pub IsLaterBetween : Parts → ℕ → ℕ → ℕ → Move → Type 0
 IsLaterBetween p start from to m = IsLaterFrom p start from m × (m.to ≡ to)
 
--- the capture is legal, and this is what stands after it
-pub record IsPlayed (p : Parts) (c : Capture) : Type 0 where
-  pub legal : Legal p c.by c.parts
-  pub sides : c.sides ≡ sides_of c.parts.men
+-- a move at this place or later that is a capture if it is legal
+pub record IsCandidate (p : Parts) (start : ℕ) (m : Move) : Type 0 where
+  pub from_board : m.from < 64
+  pub to_board : m.to < 64
+  pub takes : IsCapture p m
+  pub later : start ≤ place_of m
 
--- the capture is the first of these moves
-pub record IsFirst (p : Parts) (Wanted : Move → Type 0) (c : Capture) : Type 0 where
-  pub wanted : Wanted c.by
-  pub first : (m : Move) → Wanted m → place_of c.by ≤ place_of m
-  pub played : IsPlayed p c
+-- a candidate, before which none of these moves comes
+pub record IsFirst (p : Parts) (start : ℕ) (Wanted : Move → Type 0) (m : Move) : Type 0 where
+  pub candidate : IsCandidate p start m
+  pub first : (x : Move) → Wanted x → place_of m ≤ place_of x

@@ -4,9 +4,7 @@ use Rattle.pair_dict.specs.Codes.{Pairing}
 use Rattle.pair_dict.specs.Reading.{words}
 use Rattle.pair_dict.specs.Inside.Counts.{AreCounts}
 use Rattle.pair_dict.specs.Inside.Windows.{AreFirsts, AreLong}
-use Rattle.pair_dict.specs.Inside.ShortCodes.{AreShortCodes}
 use Rattle.pair_dict.specs.Inside.Runs.{AreRuns}
-use Rattle.pair_dict.specs.Symbols.{symbol_count}
 use Rattle.pair_dict.specs.declared.dictionary.Dictionary.TheInside.{Inside}
 
 abbrev pub pairing_of : Inside → Pairing
@@ -19,9 +17,7 @@ pub record IsKept (a : Inside) : Type 0 where
   pub firsts : AreFirsts a.least (words a.lowest.now) a.firsts.items
   pub long_codes : AreLong a.firsts.items a.long_codes
   pub counts : AreCounts a.symbols.now a.counts.items
-  pub some_bits : 1 ≤ a.short_width
-  pub few_bits : a.short_width ≤ 12
-  pub all_short : length a.short_codes.items ≡ 2 ^ a.short_width
-  pub short_codes : AreShortCodes (symbol_count a.symbols.now) a.short_width a.least (words a.lowest.now) a.short_codes.items
-  pub all_runs : length a.runs.items ≡ 2 ^ a.short_width
-  pub runs : AreRuns (pairing_of a) a.short_width a.runs.items
+  pub some_bits : 1 ≤ a.run_width
+  pub few_bits : a.run_width ≤ 13
+  pub all_runs : length a.runs.items ≡ 2 ^ a.run_width
+  pub runs : AreRuns (pairing_of a) a.run_width a.runs.items

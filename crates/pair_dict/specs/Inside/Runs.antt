@@ -1,11 +1,27 @@
 -- Codes one after the other, by the bits that begin with them, and the values that they stand for.
-use Rattle.std.specs.Prelude.{◌≡◌, ℕ, ◌+◌, ◌-◌, ◌*◌, ◌/◌, ◌^◌, ◌<◌, ◌≤◌, List, length, drop}
+use Rattle.std.specs.Prelude.{◌≡◌, ℕ, ◌+◌, ◌-◌, ◌*◌, ◌/◌, ◌%◌, ◌^◌, ◌<◌, ◌≤◌, List, length, drop, slice_index}
 use Rattle.std.proofs.Common.{get_or}
 use Rattle.pair_dict.specs.Codes.{Pairing}
 use Rattle.pair_dict.specs.Blocks.{values_from, block_values}
 use Rattle.pair_dict.specs.Inside.Windows.{Shows}
 use Rattle.pair_dict.specs.declared.window.BitBuffer.{BitBuffer}
 use Rattle.pair_dict.specs.declared.runs.Run.{Run}
+use Rattle.pair_dict.specs.declared.runs.RunSum.{RunSum}
+use Rattle.pair_dict.specs.declared.places.Place.{Place}
+
+-- how many values a run stands for, and how many bits it takes
+abbrev pub run_values : Run → ℕ
+run_values run = run.packed / 64
+
+abbrev pub run_bits : Run → ℕ
+run_bits run = run.packed % 64
+
+-- the same of runs that are taken together
+abbrev pub sum_values : RunSum → ℕ
+sum_values sum = sum.packed / 64
+
+abbrev pub sum_bits : RunSum → ℕ
+sum_bits sum = sum.packed % 64
 
 -- what is left from bit p on is what is left of the block's values from an offset on
 pub record IsLeft (d : Pairing) (block : List ℕ) (p left offset : ℕ) : Type 0 where
@@ -17,18 +33,55 @@ pub record IsLeft (d : Pairing) (block : List ℕ) (p left offset : ℕ) : Type 
 abbrev pub IsSkip : Pairing → List ℕ → ℕ → ℕ → ℕ → Type 0
 IsSkip d block p n values = (left offset : ℕ) → values ≤ left → IsLeft d block p left offset → IsLeft d block (p + n) (left - values) offset
 
--- a run at a bit of a block: a bit at least, and the values that its bits stand for
+-- a run at a bit of a block: the values that its bits stand for
 pub record IsRunAt (d : Pairing) (block : List ℕ) (p values n : ℕ) : Type 0 where
-  pub some : 1 ≤ n
   pub few : n ≤ 32 * values
   pub skips : IsSkip d block p n values
 
--- where the bits aren't 255, they are a run wherever a block shows the bits `front` and all of the run is held
-abbrev pub IsRun : Pairing → ℕ → ℕ → Run → Type 0
-IsRun d width front run =
-    run.bits < 255
-    → (block : List ℕ) (p : ℕ) (b : BitBuffer) → Shows block p b → b.bits / 2 ^ (64 - width) ≡ front → run.bits ≤ b.held → IsRunAt d block p run.values run.bits
+-- a run wherever a block shows the bits `front`, so many, and all of the run is held
+pub record IsRun (d : Pairing) (width front : ℕ) (run : Run) : Type 0 where
+  pub short : run_bits run ≤ width
+  pub few : run_values run ≤ 256 * run_bits run
+  pub is :
+      (block : List ℕ) (p : ℕ) (b : BitBuffer) → Shows block p b → b.bits / 2 ^ (64 - width) ≡ front → run_bits run ≤ b.held
+      → IsRunAt d block p (run_values run) (run_bits run)
 
 -- those of all bits from 0 on
 abbrev pub AreRuns : Pairing → ℕ → List Run → Type 0
 AreRuns d width runs = (front : ℕ) (other : Run) → front < length runs → IsRun d width front (get_or runs front other)
+
+-- ---- while they are found
+
+-- a run of one code, whose bits are the number `code`
+pub record IsCodeRun (d : Pairing) (code : ℕ) (run : Run) : Type 0 where
+  pub some : 1 ≤ run_bits run
+  pub alone : IsRun d (run_bits run) code run
+
+-- numbers of 63 bits below `top` are no code of the lengths before the place i
+pub record IsTop (firsts : List ℕ) (i top : ℕ) : Type 0 where
+  pub few : top ≤ 2 ^ 63
+  pub below : (j : ℕ) → j < i → top ≤ slice_index firsts j
+
+-- those of n bits stand from the place 2^n on
+abbrev pub AreJoined : Pairing → List Run → Type 0
+AreJoined d runs =
+    (width front : ℕ) (other : Run) → front < 2 ^ width → 2 ^ width + front < length runs
+    → IsRun d width front (get_or runs (2 ^ width + front) other)
+
+-- a run of the bits that belong to a place
+abbrev pub IsRunOf : Pairing → ℕ → Run → Type 0
+IsRunOf d place run = (width front : ℕ) → width ≤ 64 → front < 2 ^ width → place ≡ 2 ^ width + front → IsRun d width front run
+
+-- ---- while a block is gone through
+
+-- going on to a later place of a block leaves the same to be found
+pub record IsFurther (d : Pairing) (block : List ℕ) (from to : Place) : Type 0 where
+  pub within : to.at ≤ 8 * length block
+  pub forth : from.at ≤ to.at
+  pub slow : to.at + 32 * to.left ≤ from.at + 32 * from.left
+  pub rest : (offset : ℕ) → IsLeft d block from.at from.left offset → IsLeft d block to.at to.left offset
+
+-- runs that were taken from bit p on: the values that their bits stand for, and a buffer that shows what follows
+pub record AreTaken (d : Pairing) (block : List ℕ) (p : ℕ) (sum : RunSum) (buffer : BitBuffer) : Type 0 where
+  pub run : IsRunAt d block p (sum_values sum) (sum_bits sum)
+  pub shows : Shows block (p + sum_bits sum) buffer

@@ -1,7 +1,6 @@
 -- A few bits of a block at the top of a word.
-use Rattle.std.specs.Prelude.{◌≡◌, ℕ, ◌+◌, ◌-◌, ◌*◌, ◌/◌, ◌^◌, ◌<◌, ◌≤◌, List, length, slice_index, Some}
-use Rattle.pair_dict.specs.Symbols.{symbol_count}
-use Rattle.pair_dict.specs.Codes.{Pairing, bases, bits, number_of, code_at}
+use Rattle.std.specs.Prelude.{◌≡◌, ℕ, ◌+◌, ◌-◌, ◌*◌, ◌/◌, ◌^◌, ◌<◌, ◌≤◌, List, length, slice_index}
+use Rattle.pair_dict.specs.Codes.{bases, bits, number_of}
 use Rattle.pair_dict.specs.declared.window.BitBuffer.{BitBuffer}
 use Rattle.pair_dict.specs.declared.codes.LongCodes.{LongCodes}
 
@@ -16,7 +15,7 @@ IsWindow block p word = (n : ℕ) → n ≤ 57 → p + n ≤ 8 * length block �
 
 -- the bits that are held are the block's from bit p on
 pub record Shows (block : List ℕ) (p : ℕ) (b : BitBuffer) : Type 0 where
-  pub few : b.held ≤ 57
+  pub few : b.held ≤ 64
   pub within : p + b.held ≤ 8 * length block
   pub same : (n : ℕ) → n ≤ b.held → b.bits / 2 ^ (64 - n) ≡ bits block p n
 
@@ -41,8 +40,3 @@ pub record IsSound (limit : ℕ) (block : List ℕ) (p : ℕ) (code : ℕ × ℕ
   pub some : 1 ≤ code.1
   pub short : code.1 ≤ 32
   pub within : p + code.1 ≤ 8 * length block
-
--- the code at a bit of a block, a sound one
-pub record IsCodeAt (d : Pairing) (block : List ℕ) (p s n : ℕ) : Type 0 where
-  pub is : code_at d block p ≡ Some (s, n)
-  pub sound : IsSound (symbol_count d.symbols) block p (s, n)

@@ -6,7 +6,7 @@ use Rattle.board_core.proofs.capturing.capture_from.Goals as goal
 
 pub returns-in-Some-clause-found : goal.returns-in-Some-clause-found
 returns-in-Some-clause-found c =
-    first_of_all (IsLaterFrom c.args.p.now c.args.start c.args.from) (λ m. m.to) _ _ c.lowest-to.result c.args.p.now c.in-Some.capture (λ a b x y lt. rises_to a b (x.1 ∙ sym y.1) lt) (λ m w. w.0.0.0.1.to_board)
+    first_of_all (IsLaterFrom c.args.p.now c.args.start c.args.from) (λ m. m.to) _ _ c.lowest-to.result c.args.p.now c.args.start c.in-Some.m c.in-Some.ensures.to (λ x w lt. rises_to c.in-Some.m x (c.in-Some.ensures.from ∙ sym w.1) lt) (λ m w. w.0.0.0.1.to_board)
     c.targets.invariant.rests c.lowest-to.ensures.first c.targets.invariant.none c.in-Some.ensures.found
 
 pub targets-preserved : goal.targets-preserved
@@ -21,17 +21,8 @@ returns-clause-none c = λ m w. none_left _ _ _ c.targets.invariant.rests (c.is_
 pub returns-then-is_left_behind-clause-found : goal.returns-then-is_left_behind-clause-found
 returns-then-is_left_behind-clause-found c = tt
 
-pub capture_between-requires-clause-position : goal.capture_between-requires-clause-position
-capture_between-requires-clause-position c = c.requires.position
-
-pub capture_between-requires-clause-sides : goal.capture_between-requires-clause-sides
-capture_between-requires-clause-sides c = c.requires.sides
-
 pub returns-in-Some-clause-none : goal.returns-in-Some-clause-none
 returns-in-Some-clause-none c = tt
 
 pub returns-clause-found : goal.returns-clause-found
 returns-clause-found c = tt
-
-pub goals_from-rest-requires : goal.goals_from-rest-requires
-goals_from-rest-requires c = c.requires.goals

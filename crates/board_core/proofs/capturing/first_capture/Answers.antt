@@ -14,7 +14,7 @@ movers-init c = record {
 
 pub returns-in-Some-clause-found : goal.returns-in-Some-clause-found
 returns-in-Some-clause-found c =
-    first_of_all (IsLaterCapture c.args.p.now c.args.start) (λ m. m.from) _ _ c.lowest-from.result c.args.p.now c.in-Some.capture (λ a b x y lt. rises_from a b x.0.0.1.to_board lt) (λ m w. w.0.0.1.from_board)
+    first_of_all (IsLaterCapture c.args.p.now c.args.start) (λ m. m.from) _ _ c.lowest-from.result c.args.p.now c.args.start c.in-Some.m c.in-Some.ensures.from (λ x w lt. rises_from c.in-Some.m x c.in-Some.ensures.found.candidate.to_board lt) (λ m w. w.0.0.1.from_board)
     c.movers.invariant.rests c.lowest-from.ensures.first c.movers.invariant.none c.in-Some.ensures.found
 
 pub movers-preserved : goal.movers-preserved

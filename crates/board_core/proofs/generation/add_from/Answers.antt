@@ -1,4 +1,4 @@
-use Rattle.std.proofs.Common.{arith, ◌≡◌}
+use Rattle.std.proofs.Common.{arith, ◌≡◌, refl, sym}
 use Rattle.std.proofs.lemmas.Nat.Bits.{bit_at-zero}
 use Rattle.board_core.proofs.Sweep.{zero_one}
 use Rattle.board_core.proofs.Listing.{HasListedBelow-skip, IsLegal-stands, IsLegal-from}
@@ -9,7 +9,7 @@ pub returns-in-None-clause-moves : goal.returns-in-None-clause-moves
 returns-in-None-clause-moves c =
     HasListedBelow-skip _ _ _ _ _ c.requires.below (omega arith) (λ m l low high.
     let own = rw (IsLegal-from _ m _ l.0 low high) at (IsLegal-stands _ m l.0) in
-    free_where_none _ _ _ _ c.number.ensures.value c.in-None.is own.0 own.1)
+    free_where_none c.args.p.now.men c.args.p.now.side c.args.from c.args.from refl (sym c.in-None.ensures.man) own.0 own.1)
 
 pub returns-in-None-clause-memory : goal.returns-in-None-clause-memory
 returns-in-None-clause-memory c = tt
@@ -20,7 +20,7 @@ returns-in-None-clause-known c = c.requires.known
 pub returns-then-ne-clause-moves : goal.returns-then-ne-clause-moves
 returns-then-ne-clause-moves c =
     HasListedBelow-skip _ _ _ _ _ c.requires.below (omega arith) (λ m l low high.
-    of_other _ _ _ _ c.in-Some.man c.number.ensures.value c.in-Some.is c.if-ne.ensures (rw (IsLegal-from _ m _ l.0 low high) at (IsLegal-stands _ m l.0)))
+    of_other c.args.p.now.men c.args.p.now.side c.args.from c.args.from c.in-Some.man refl (sym c.in-Some.ensures.man) c.if-ne.ensures (rw (IsLegal-from _ m _ l.0 low high) at (IsLegal-stands _ m l.0)))
 
 pub returns-then-ne-clause-memory : goal.returns-then-ne-clause-memory
 returns-then-ne-clause-memory c = tt
@@ -32,7 +32,7 @@ pub candidates-set-requires-clause-survey : goal.candidates-set-requires-clause-
 candidates-set-requires-clause-survey c = c.requires.survey
 
 pub candidates-set-requires-clause-stands : goal.candidates-set-requires-clause-stands
-candidates-set-requires-clause-stands c = stands_unless _ _ _ _ c.in-Some.man c.number.ensures.value c.in-Some.is c.if-ne.ensures
+candidates-set-requires-clause-stands c = stands_unless c.args.p.now.men c.args.p.now.side c.args.from c.args.from c.in-Some.man refl (sym c.in-Some.ensures.man) c.if-ne.ensures
 
 pub returns-then-is_empty-clause-moves : goal.returns-then-is_empty-clause-moves
 returns-then-is_empty-clause-moves c =
@@ -76,7 +76,7 @@ returns-else-is_empty-clause-known c = c.guard_in-guard.ensures.known
 pub steps-set-requires : goal.steps-set-requires
 steps-set-requires c = record {
   survey = c.requires.survey;
-  stands = stands_unless _ _ _ _ c.in-Some.man c.number.ensures.value c.in-Some.is c.if-ne.ensures;
+  stands = stands_unless c.args.p.now.men c.args.p.now.side c.args.from c.args.from c.in-Some.man refl (sym c.in-Some.ensures.man) c.if-ne.ensures;
   piece = (c.in_default.not-Pawn, c.in_default.not-King);
 }
 
@@ -97,7 +97,7 @@ is_unpinned-requires c = c.guard_in-guard-in_default.ensures.guard
 
 pub add_steps-requires : goal.add_steps-requires
 add_steps-requires c = record {
-  stands = stands_unless _ _ _ _ c.in-Some.man c.number.ensures.value c.in-Some.is c.if-ne.ensures;
+  stands = stands_unless c.args.p.now.men c.args.p.now.side c.args.from c.args.from c.in-Some.man refl (sym c.in-Some.ensures.man) c.if-ne.ensures;
   piece = c.in_default.not-Pawn;
   unpinned = c.is_unpinned.ensures c.if-is_unpinned.true;
   below = c.requires.below;

@@ -1,9 +1,8 @@
-use Rattle.std.proofs.Common.{arith, sym}
-use Rattle.board_core.proofs.Taken.{taken_bare}
+use Rattle.board_core.proofs.Taken.{stands_within, taken_bare}
 use Rattle.board_core.proofs.generation.attacked_without_king.Goals as goal
 
 pub attacked_squares-requires : goal.attacked_squares-requires
-attacked_squares-requires c = λ s b t. c.requires.enemy s b (taken_bare _ _ s c.number.result (omega arith) t)
+attacked_squares-requires c = λ s b t. c.requires.enemy s b (taken_bare _ _ s c.args.v.now.king (stands_within _ _ _ _ c.requires.stands) (rw c.put.ensures at t))
 
 pub returns : goal.returns
-returns c = rw (sym c.number.ensures.value) c.attacked_squares.ensures
+returns c = rw c.put.ensures at c.attacked_squares.ensures

@@ -1,15 +1,23 @@
-use Rattle.std.proofs.Common.{rules, refl}
+use Rattle.std.proofs.Common.{arith}
+use Rattle.std.proofs.lemmas.Bool.{false≢true}
+use Rattle.board_core.proofs.Safety.{safe_legal, legal_safe, same_case, no_case}
 use Rattle.board_core.proofs.ComputedLists.{legal_computed}
 use Rattle.board_core.proofs.playing.is_legal.Goals as goal
 
 pub returns-in-Some-clause-relation : goal.returns-in-Some-clause-relation
-returns-in-Some-clause-relation c = (λ _. (c.in-Some.field-0.0, c.in-Some.ensures.legal), λ _. refl)
+returns-in-Some-clause-relation c = (
+  λ t. safe_legal _ _ c.in-Some.case (omega arith) (omega arith) c.in-Some.ensures.found (c.is_safe.ensures.0 t),
+  λ l. c.is_safe.ensures.1 (legal_safe c.args.p.now c.args.m.now c.in-Some.case l (same_case c.args.p.now c.args.m.now c.case_of.result c.in-Some.case c.case_of.ensures.only c.in-Some.is l)),
+)
 
 pub returns-in-Some-clause-computed : goal.returns-in-Some-clause-computed
 returns-in-Some-clause-computed c = legal_computed _ _ _ (returns-in-Some-clause-relation c)
 
 pub returns-in-None-clause-relation : goal.returns-in-None-clause-relation
-returns-in-None-clause-relation c = (λ t. search rules, λ h. let e = c.in-None.ensures.only h.0 h.1 in cc)
+returns-in-None-clause-relation c = (
+  λ t. absurd (false≢true t),
+  λ l. absurd (no_case c.args.p.now c.args.m.now c.case_of.result c.case_of.ensures.only c.in-None.is l),
+)
 
 pub returns-in-None-clause-computed : goal.returns-in-None-clause-computed
 returns-in-None-clause-computed c = legal_computed _ _ _ (returns-in-None-clause-relation c)

@@ -2,12 +2,13 @@ use Rattle.std.proofs.Common.{arith, inl, inr, ◌≡◌}
 use Rattle.std.proofs.lemmas.Bool.{cases_lt}
 use Rattle.std.proofs.lemmas.Nat.Bits.{bit_at-zero}
 use Rattle.board_core.proofs.Sweep.{Rests-begin, Rests-without, Rests-between, Rests-empty, zero_one}
+use Rattle.board_core.proofs.Steps.{and_both, and_left}
 use Rattle.board_core.proofs.targets.reached_of.Goals as goal
 
 pub squares-init : goal.squares-init
 squares-init c = record {
-  rests = Rests-begin _ _ (λ s b q. q);
-  within = λ s bit. bit;
+  rests = Rests-begin _ _ (λ s b q. rw c.bitand-rest.ensures (and_both _ _ s q.0 (c.reached.ensures c.args.men.now s b q.1)));
+  within = λ s bit. and_left _ _ s (rw c.bitand-rest.ensures at bit);
   reached = λ s lt. absurd (omega arith);
   only = λ s bit. absurd (zero_one _ (bit_at-zero s) (rw c.empty-reached.ensures at bit));
 }
@@ -21,7 +22,7 @@ squares-preserved c =
       reached = λ s lt bit reaches. elim (cases_lt s c.squares.next) [
         | inl before ↦ c.with_reached-reached.ensures.kept s (i.reached s before bit reaches)
         | inr ge ↦ elim (cases_lt s c.lowest-to.result) [
-          | inl between ↦ absurd (Rests-between _ _ _ _ s i.rests c.lowest-to.ensures.first (omega arith) ge between bit)
+          | inl between ↦ absurd (Rests-between _ _ _ _ s i.rests c.lowest-to.ensures.first (omega arith) ge between (bit, reaches))
           | inr past ↦
               let e : s ≡ c.lowest-to.result = omega (arith, lt, c.number-next.ensures.value) in
               rw e (c.with_reached-reached.ensures.reached (rw e at reaches))
@@ -36,5 +37,5 @@ squares-preserved c =
 pub returns-clause-reached : goal.returns-clause-reached
 returns-clause-reached c = λ s b bit reaches. elim (cases_lt s c.squares.next) [
   | inl before ↦ c.squares.invariant.reached s before bit reaches
-  | inr ge ↦ absurd (Rests-empty _ _ _ s c.squares.invariant.rests (c.is_empty.ensures.0 c.squares-test.false) b ge bit)
+  | inr ge ↦ absurd (Rests-empty _ _ _ s c.squares.invariant.rests (c.is_empty.ensures.0 c.squares-test.false) b ge (bit, reaches))
 ]

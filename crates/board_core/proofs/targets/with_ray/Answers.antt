@@ -1,4 +1,4 @@
-use Rattle.std.proofs.Common.{arith, inl, inr, sym, ◌∙◌}
+use Rattle.std.proofs.Common.{arith, inl, inr, refl, sym, ◌∙◌}
 use Rattle.std.proofs.lemmas.Bool.{false≢true}
 use Rattle.board_core.specs.Inside.Search.{IsRayEnd}
 use Rattle.board_core.proofs.Outward.{inside}
@@ -20,8 +20,8 @@ returns-then-eq-clause-kept c = c.loop-k.invariant.kept
 
 pub returns-then-eq-clause-reached : goal.returns-then-eq-clause-reached
 returns-then-eq-clause-reached c = λ n s away b along clear free.
-    let own = taken_if c.args.men.now c.args.side _ _ c.in-Some.man c.eq.result c.number.ensures.value c.in-Some.is c.eq.ensures c.if-eq.true in
-    elim (up_to c.args.men.now c.args.direction c.loop-k.k n c.args.from c.along-to.result s c.in-Some.man (rw c.number.ensures.value at c.in-Some.is) (omega arith) c.along-to.ensures along clear) [
+    let own = taken_if c.args.men.now c.args.side c.along-to.result c.along-to.result c.in-Some.man c.eq.result refl (sym c.in-Some.ensures.man) c.eq.ensures c.if-eq.true in
+    elim (up_to c.args.men.now c.args.direction c.loop-k.k n c.args.from c.along-to.result s c.in-Some.man (sym c.in-Some.ensures.man) (omega arith) c.along-to.ensures along clear) [
       | inl lt ↦ c.loop-k.invariant.reached n s away lt b along
       | inr e ↦ absurd (free own.0 (rw e own.1))
     ]
@@ -34,7 +34,7 @@ returns-in-Some-clause-kept c = λ s bit. c.with.ensures.kept s (c.loop-k.invari
 
 pub returns-in-Some-clause-reached : goal.returns-in-Some-clause-reached
 returns-in-Some-clause-reached c = λ n s away b along clear free.
-    elim (up_to c.args.men.now c.args.direction c.loop-k.k n c.args.from c.along-to.result s c.in-Some.man (rw c.number.ensures.value at c.in-Some.is) (omega arith) c.along-to.ensures along clear) [
+    elim (up_to c.args.men.now c.args.direction c.loop-k.k n c.args.from c.along-to.result s c.in-Some.man (sym c.in-Some.ensures.man) (omega arith) c.along-to.ensures along clear) [
       | inl lt ↦ c.with.ensures.kept s (c.loop-k.invariant.reached n s away lt b along)
       | inr e ↦ rw e c.with.ensures.here
     ]
@@ -47,7 +47,7 @@ returns-in-Some-clause-only c =
       away = omega arith;
       along = c.along-to.ensures;
       clear = c.loop-k.invariant.clear;
-      free = free_else _ _ _ _ c.in-Some.man c.eq.result c.number.ensures.value c.in-Some.is c.eq.ensures (λ t. false≢true (sym c.if-eq.false ∙ t));
+      free = free_else c.args.men.now c.args.side c.along-to.result c.along-to.result c.in-Some.man c.eq.result refl (sym c.in-Some.ensures.man) c.eq.ensures (λ t. false≢true (sym c.if-eq.false ∙ t));
     })
     c.loop-k.invariant.only
 
@@ -55,7 +55,7 @@ pub loop-k-preserved : goal.loop-k-preserved
 loop-k-preserved c =
     let i = c.loop-k.invariant in
     record {
-      clear = clear_more c.args.men.now c.args.direction c.loop-k.k c.args.from c.along-to.result i.clear c.along-to.ensures (rw c.number.ensures.value at c.in_default.is);
+      clear = clear_more c.args.men.now c.args.direction c.loop-k.k c.args.from c.along-to.result i.clear c.along-to.ensures (sym c.in_default.ensures.man);
       kept = λ s bit. c.with-all.ensures.kept s (i.kept s bit);
       reached = reached_more c.args.direction c.loop-k.k c.args.from c.loop-k.all _ c.along-to.result c.along-to.ensures c.with-all.ensures.here c.with-all.ensures.kept i.reached;
       only = only_more (IsRayEnd c.args.men.now c.args.side c.args.direction c.args.from) _ c.loop-k.all _ c.along-to.result c.with-all.ensures.others
@@ -64,7 +64,7 @@ loop-k-preserved c =
             away = omega arith;
             along = c.along-to.ensures;
             clear = i.clear;
-            free = free_where_none _ _ _ _ c.number.ensures.value c.in_default.is;
+            free = free_where_none c.args.men.now c.args.side c.along-to.result c.along-to.result refl (sym c.in_default.ensures.man);
           })
           i.only;
     }

@@ -5,7 +5,7 @@ use Rattle.fen_text.proofs.RanksLaws.{ReadsRanks, reads_none, reads_is_filled, r
 use Rattle.fen_text.proofs.placement.read_placement.Goals as goal
 
 pub loop-above-init : goal.loop-above-init
-loop-above-init c = record { read = reads_none _; left = refl }
+loop-above-init c = record { read = rw c.none-men.ensures (reads_none _); left = refl }
 
 pub returns-in_default-clause-none : goal.returns-in_default-clause-none
 returns-in_default-clause-none c =

@@ -14,6 +14,6 @@ returns-else-at-run-clause-puts c = λ before tail h.
 
 pub returns-else-at-eq0-clause-puts : goal.returns-else-at-eq0-clause-puts
 returns-else-at-eq0-clause-puts c = λ before tail h.
-    subst (λ (cells : List (Option Piece)). IsFilled (slice_set c.args.men.now c.args.at.square (Some c.in-Some.man)) (before ++ cells) (c.args.at.square + 1) (c.args.at.left - 1) tail)
+    rw (c.put.ensures, c.at.ensures) (subst (λ (cells : List (Option Piece)). IsFilled (slice_set c.args.men.now c.args.at.square (Some c.in-Some.man)) (before ++ cells) (c.args.at.square + 1) (c.args.at.left - 1) tail)
     (sym (man_cells c.args.byte c.in-Some.man (elim c.else-byte-ge49.either [ inl w ↦ inr w.1 | inr w ↦ inl w ]) (sym c.man_of.ensures ∙ c.in-Some.is)))
-    (fill_man c.args.men.now before c.args.at.square c.args.at.left c.in-Some.man tail (omega arith) h)
+    (fill_man c.args.men.now before c.args.at.square c.args.at.left c.in-Some.man tail (omega arith) h))

@@ -51,19 +51,21 @@ by_quiet_moves-returns-clause-is t c =
     counts_told-is c.args.material c.args.outcome reach c.args.position.now c.loop-m.counts _ c.told.result (c.deref-m-items.ensures.value ∙ c.in_ok-moves.ensures.computed) all c.told.ensures
 
 pub by_own_table-returns-in_default-clause-is : goal.by_own_table-returns-in_default-clause-is
-by_own_table-returns-in_default-clause-is t c = bare_own c.args.self.now.tables _ c.args.position.now c.args.outcome c.in_default.ensures.none
+by_own_table-returns-in_default-clause-is t c = bare_own c.args.self.now.tables _ c.args.position.now c.args.outcome (rw c.in_default.is at c.requires.placed)
 
 pub by_own_table-returns-in_default-table-clause-is :
     goal.by_own_table-returns-in_default-table-clause-is
 by_own_table-returns-in_default-table-clause-is t c =
-    let found = c.in-Some.ensures.some ∙ ap (λ (key : ℕ). Some key) (sym c.material-material.ensures) in
+    let at = rw c.in-Some.is at c.requires.placed in
+    let found = at.found ∙ ap (λ (key : ℕ). Some key) (sym c.material-material.ensures) in
     missing_own c.args.self.now.tables _ c.args.position.now c.args.outcome c.material-material.result found (sym c.table.ensures.found ∙ ap (option_map (λ t. t.now)) c.in_default-table.is)
 
 pub by_own_table-returns-then-stores-clause-is : goal.by_own_table-returns-then-stores-clause-is
 by_own_table-returns-then-stores-clause-is t c =
     let same = sym c.material-material.ensures in
-    let found = c.in-Some.ensures.some ∙ ap (λ (key : ℕ). Some key) same in
-    let placed = c.in-Some.ensures.is ∙ ap (λ (key : ℕ). placed_of key c.args.position.now) same in
+    let at = rw c.in-Some.is at c.requires.placed in
+    let found = at.found ∙ ap (λ (key : ℕ). Some key) same in
+    let placed = at.is ∙ ap (λ (key : ℕ). placed_of key c.args.position.now) same in
     stored_own c.args.self.now.tables _ c.args.position.now c.args.outcome c.material-material.result found
     c.in-Some-table.table.now c.in-Some.placed _ _ c.stores.result (sym c.table.ensures.found ∙ ap (option_map (λ t. t.now)) c.in-Some-table.is) placed c.side.ensures.is c.file.ensures.is c.stores.ensures
     c.distance-number.result c.stored.result c.if-stores.true c.distance-number.ensures.is c.stored.ensures.is
@@ -72,8 +74,9 @@ pub by_own_table-returns-clause-is : goal.by_own_table-returns-clause-is
 by_own_table-returns-clause-is t c =
     let reach = dtz_to c.args.self.now.tables c.args.left in
     let same = sym c.material-material.ensures in
-    let found = c.in-Some.ensures.some ∙ ap (λ (key : ℕ). Some key) same in
-    let placed = c.in-Some.ensures.is ∙ ap (λ (key : ℕ). placed_of key c.args.position.now) same in
+    let at = rw c.in-Some.is at c.requires.placed in
+    let found = at.found ∙ ap (λ (key : ℕ). Some key) same in
+    let placed = at.is ∙ ap (λ (key : ℕ). placed_of key c.args.position.now) same in
     let e = quiet_own c.args.self.now.tables reach c.args.position.now c.args.outcome c.material-material.result found
     c.in-Some-table.table.now c.in-Some.placed _ _ c.stores.result (sym c.table.ensures.found ∙ ap (option_map (λ t. t.now)) c.in-Some-table.is) placed c.side.ensures.is c.file.ensures.is c.stores.ensures c.if-stores.false in
     if_same c.by_quiet_moves.result _ _ e c.by_quiet_moves.ensures.is

@@ -7,4 +7,4 @@ pub loop-preserved : goal.loop-preserved
 loop-preserved c = c.in_ok-push.ensures.items ∙ ap (λ xs. xs ++ None ∷ []) c.loop.invariant ∙ replicate-append-replicate _ 1 None
 
 pub invariant_of-result : goal.invariant_of-result
-invariant_of-result c = new_kept _ c.loop.counter (omega arith) c.new.ensures.items c.loop.invariant c.requires.some c.requires.most
+invariant_of-result c = new_kept _ c.loop.counter (omega arith) c.loop.invariant c.requires.some c.requires.most

@@ -2,4 +2,4 @@ use Rattle.std.proofs.Common.{◌≡◌, replicate, None}
 use Rattle.judge_core.proofs.shelf.Shelf.new.Given as goal
 
 abbrev pub invariant-loop : goal.invariant-loop
-invariant-loop l = l.places.items ≡ replicate l.counter None
+invariant-loop l = l.tables.items ≡ replicate l.counter None

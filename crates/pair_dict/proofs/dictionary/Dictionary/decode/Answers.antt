@@ -12,7 +12,6 @@ codes-init c = record {
   short = omega (arith, c.in_ok-values.ensures.len);
   room = c.in_ok-values.ensures.capacity;
   exact = c.in_ok-values.ensures.exact;
-  shows = c.at-buffer.ensures;
   cut = rw c.in_ok-values.ensures.items (cut_first c.args.self.now c.args.block.now c.limit_of-limit.result);
 }
 
@@ -23,7 +22,6 @@ codes-preserved c = record {
   short = omega (arith, c.push_values.new.values.ok.0, ap length c.push_values.ensures.is, length-take c.limit_of-limit.result (c.codes.values.items ++ values_of c.args.self.now.symbols c.in-Some.symbol));
   room = omega (arith, c.codes.invariant.room, c.push_values.ensures.room);
   exact = c.push_values.ensures.room ∙ c.codes.invariant.exact;
-  shows = c.after-buffer.ensures;
   cut = cut_next c.args.self.now c.args.block.now c.codes.at c.limit_of-limit.result c.codes.values.items c.push_values.new.values.items c.in-Some.symbol c.in-Some.length (sym c.in-Some.ensures.is)
       c.in-Some.ensures.sound.some c.in-Some.ensures.sound.within c.push_values.ensures.is c.codes.invariant.cut;
 }

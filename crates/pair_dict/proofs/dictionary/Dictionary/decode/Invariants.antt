@@ -1,5 +1,4 @@
 use Rattle.std.proofs.Common.{◌≡◌, ◌≤◌, ◌-◌, ◌*◌, length, vec_len, vec_capacity}
-use Rattle.pair_dict.specs.Inside.Windows.{Shows}
 use Rattle.pair_dict.proofs.BlockValues.{IsCut}
 use Rattle.pair_dict.proofs.dictionary.Dictionary.decode.Given as goal
 
@@ -11,7 +10,6 @@ invariant-codes l =
       short : vec_len l.values ≤ l.limit;
       room : l.limit ≤ vec_capacity l.values;
       exact : vec_capacity l.values ≡ l.limit;
-      shows : Shows l.block l.at l.buffer;
       cut : IsCut l.self l.block l.at l.limit l.values.items;
     }
 

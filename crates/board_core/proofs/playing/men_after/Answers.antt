@@ -1,6 +1,0 @@
-use Rattle.std.proofs.Common.{arith}
-use Rattle.board_core.proofs.Pawns.{has_behind}
-use Rattle.board_core.proofs.playing.men_after.Goals as goal
-
-pub behind-passed-requires : goal.behind-passed-requires
-behind-passed-requires c = has_behind _ _ _ (omega arith) (rw c.in-EnPassant.is at c.requires).attacks

@@ -1,0 +1,116 @@
+//! The men on the squares of the board.
+
+ghost use Rattle.std.specs.Prelude.{◌≡◌, ◌<◌, ◌≤◌, None, length, replicate, slice_set};
+ghost use Rattle.board_core.specs.Attack.{man_at};
+ghost use Rattle.board_core.specs.Inside.Coding.{code_of, kind_of, man_of};
+
+use crate::piece::{Kind, Piece, Side};
+use crate::square::Square;
+use std::marker::Model;
+
+/// The code of what stands on a square, 0 to 14: 0 for nothing, 1 to 6 for white's pawn, knight, bishop, rook, queen and king,
+/// 9 to 14 for black's.
+fn code_of(man: Option<Piece>) -> u8
+    ensures { result ≡ code_of man }
+{
+    let Some(man) = man else {
+        return 0;
+    };
+    let kind = match man.kind {
+        Kind::Pawn => 1u8,
+        Kind::Knight => 2,
+        Kind::Bishop => 3,
+        Kind::Rook => 4,
+        Kind::Queen => 5,
+        Kind::King => 6,
+    };
+    match man.side {
+        Side::White => kind,
+        Side::Black => 8 + kind,
+    }
+}
+
+/// The kind of a man by the last three bits of his code.
+fn kind_of(bits: u8) -> Kind
+    ensures { result ≡ kind_of bits }
+{
+    match bits {
+        1 => Kind::Pawn,
+        2 => Kind::Knight,
+        3 => Kind::Bishop,
+        4 => Kind::Rook,
+        5 => Kind::Queen,
+        _ => Kind::King,
+    }
+}
+
+/// What a code stands for.
+fn man_of(code: u8) -> Option<Piece>
+    ensures { result ≡ man_of code }
+{
+    if code == 0 {
+        return None;
+    }
+    let side = if code < 8 { Side::White } else { Side::Black };
+    Some(Piece {
+        side,
+        kind: kind_of(code % 8),
+    })
+}
+
+/// What stands on each of the 64 squares, a byte for each; contracts see the list of it, by the number of the square.
+#[derive(Clone, Copy, PartialEq, Eq, Debug)]
+pub struct Men {
+    codes: [u8; 64],
+}
+
+impl Model for Men {
+    ghost use Rattle.std.specs.Prelude.{List, Option};
+    ghost use Rattle.std.proofs.Common.{ap};
+    ghost use Rattle.board_core.specs.declared.piece.Piece.{Piece};
+    ghost use Rattle.board_core.specs.Inside.Coding.{men_of, codes_of, AreCodes};
+
+    ghost Value = { List (Option Piece) };
+
+    ghost view = { λ m. men_of m.codes };
+
+    ghost invariant = { λ m. AreCodes m.codes };
+
+    ghost inverse = { λ men. record { codes = codes_of men } };
+
+    ghost inverse_ok = { λ a h. ap (λ x. record { codes = x }) h };
+}
+
+impl Men {
+    /// No man on any square.
+    pub fn none() -> Men
+        ensures { result ≡ replicate 64 None }
+    {
+        Men { codes: [0; 64] }
+    }
+
+    /// How many squares there are: 64. Loops go by it, and its clause tells proofs how long the list is.
+    pub(crate) fn squares(&self) -> u8
+        ensures value { result ≡ 64 }
+        ensures all { length self.now ≡ 64 }
+    {
+        let _codes = &self.codes;
+        64
+    }
+
+    /// What stands on the square.
+    pub fn at(&self, square: Square) -> Option<Piece>
+        ensures man { result ≡ man_at self.now square }
+        ensures on_board { square < 64 }
+        ensures squares { length self.now ≡ 64 }
+    {
+        man_of(self.codes[square.number() as usize])
+    }
+
+    /// Puts this man on the square in the place of what stood there, or nothing.
+    pub fn put(&mut self, square: Square, man: Option<Piece>)
+        ensures { self.new ≡ slice_set self.old square man }
+    {
+        self.codes[square.number() as usize] = code_of(man);
+    }
+}

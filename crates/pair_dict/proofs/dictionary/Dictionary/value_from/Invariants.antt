@@ -1,0 +1,9 @@
+use Rattle.std.proofs.Common.{◌-◌, ◌*◌, length}
+use Rattle.pair_dict.specs.Inside.Runs.{IsFurther}
+use Rattle.pair_dict.proofs.dictionary.Dictionary.value_from.Given as goal
+
+abbrev pub invariant-codes : goal.invariant-codes
+invariant-codes l = IsFurther l.self l.block l.fn.from l.place
+
+abbrev pub decreases-codes : goal.decreases-codes
+decreases-codes l = 8 * length l.block - l.place.at
