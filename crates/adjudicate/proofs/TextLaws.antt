@@ -37,6 +37,11 @@ module _ {A E : Type 0} (reply : A → Reply) (r : Result A E) (bytes text : Lis
       by_result (Ok a) = tt
       by_result (Err e) = (p, spelled, legal)
 
+-- what holds anyhow holds where there is an error
+pub anyhow : {A E X : Type 0} (r : Result A E) → X → OnErr r X
+anyhow (Ok a) x = tt
+anyhow (Err e) x = x
+
 -- the reply that lists the legal moves
 pub moves_listed : (p : Parts) (ms : List Move) (i : ℕ) (lines : List (List ℕ)) → length ms ≤ i → ms ≡ legal_moves p → lines ≡ map move_text (take i ms) → IsMoves p (record { text = text_of lines; status = 0 })
 unfolding moves_at

@@ -1,6 +1,10 @@
 use Rattle.std.proofs.Common.{refl}
 use Rattle.adjudicate.specs.Reply.{OfNone}
+use Rattle.adjudicate.proofs.TextLaws.{anyhow}
 use Rattle.adjudicate.proofs.probes.probe_line.Goals as goal
+
+pub returns-in-Ok-clause-memory : goal.returns-in-Ok-clause-memory
+returns-in-Ok-clause-memory c = anyhow c.columns.result (c.in-Ok.position, c.in-Ok.ensures.ok, c.in-Ok.ensures.position)
 
 pub returns-in-Err-clause-told : goal.returns-in-Err-clause-told
 returns-in-Err-clause-told c = OfNone c.in-Err.fault c.in-Err.ensures.err refl
