@@ -14,7 +14,7 @@ use crate::piece::{Kind, Side};
 use crate::square::Square;
 
 /// The eight ways in which a queen goes.
-#[derive(Clone, Copy, PartialEq, Eq, Debug)]
+#[derive(Clone, Copy)]
 pub enum Direction {
     North,
     South,
@@ -27,7 +27,7 @@ pub enum Direction {
 }
 
 /// The eight steps of a knight.
-#[derive(Clone, Copy, PartialEq, Eq, Debug)]
+#[derive(Clone, Copy)]
 pub enum KnightStep {
     EastEastNorth,
     EastEastSouth,
@@ -233,7 +233,7 @@ fn is_attacked_along(men: &Men, by: Side, direction: Direction, to: Square) -> b
     for k in 1..end {
         let from = along(direction, to, k);
         if let Some(man) = men.at(from) {
-            return man.side == by && reaches(men, by, man.kind, from, to);
+            return man.is_of(by) && reaches(men, by, man.kind, from, to);
         }
     }
     false
@@ -309,7 +309,7 @@ fn is_attacked_by_knight(men: &Men, by: Side, knight_step: KnightStep, to: Squar
 {
     match knight_step_to(knight_step, to) {
         Some(from) => match men.at(from) {
-            Some(man) => man.side == by && man.kind == Kind::Knight,
+            Some(man) => man.is(by, Kind::Knight),
             None => false,
         },
         None => false,
@@ -377,7 +377,7 @@ fn attacks_to(men: &Men, by: Side, from: Square, to: Square) -> bool
 {
     match men.at(from) {
         Some(man) => {
-            man.side == by
+            man.is_of(by)
                 && empty_board::reached(by, man.kind, from).has(to)
                 && reaches(men, by, man.kind, from, to)
         }

@@ -27,7 +27,7 @@ use crate::{attack, targets};
 use std::alloc::{AllocError, Global};
 
 /// Which of the legal moves are listed.
-#[derive(Clone, Copy, PartialEq, Eq, Debug)]
+#[derive(Clone, Copy)]
 pub enum Which {
     /// All legal moves.
     Every,
@@ -36,7 +36,7 @@ pub enum Which {
 }
 
 /// Where the men of the two sides stand, and the king of the side that moves.
-#[derive(Clone, Copy, PartialEq, Eq, Debug)]
+#[derive(Clone, Copy)]
 pub struct Survey {
     pub own: Bitboard,
     pub enemy: Bitboard,
@@ -45,7 +45,7 @@ pub struct Survey {
 
 /// What keeps the king of the side that moves safe: its square, whether it isn't attacked, the squares of the other side's men, and those
 /// that it must not go to.
-#[derive(Clone, Copy, PartialEq, Eq, Debug)]
+#[derive(Clone, Copy)]
 pub struct Guard {
     pub enemy: Bitboard,
     pub king: Square,
@@ -155,7 +155,7 @@ fn is_king_away(m: &Move, case: MoveCase, g: &Guard) -> bool
     ensures { IsTrue result → (m.now.from ≡ g.now.king) × (case ≡ MoveCase.Plain)
         × (bit_at g.now.attacked m.now.to ≡ 0) }
 {
-    m.from == g.king && case == MoveCase::Plain && !g.attacked.has(m.to)
+    m.from == g.king && matches!(case, MoveCase::Plain) && !g.attacked.has(m.to)
 }
 
 /// Where the king of the guard stands after the move.
@@ -393,6 +393,37 @@ fn guard_in(p: &Parts, v: &Survey, known: &mut Option<Bitboard>) -> Guard
     guard_of(p, v, attacked)
 }
 
+/// Adds the moves asked for of a piece other than a pawn and the king.
+fn add_piece_moves(
+    p: &Parts,
+    v: &Survey,
+    known: &mut Option<Bitboard>,
+    which: Which,
+    kind: Kind,
+    from: Square,
+    moves: &mut Vec<Move>,
+) -> Result<(), AllocError>
+    requires position { IsPosition p.now }
+    requires survey { IsSurvey p.now v.now }
+    requires stands { Stands p.now.men from p.now.side kind }
+    requires piece { (kind ≢ Kind.Pawn) × (kind ≢ Kind.King) }
+    requires known { IsKnown p.now v.now known.old }
+    requires below { HasListedBelow p.now which (320 * from) moves.old.items }
+    ensures moves { OnOk result (HasListedBelow p.now which (320 * (from + 1)) moves.new.items) }
+    ensures memory { OnErr result ((m : Move) × IsListed which p.now m) }
+    ensures known { IsKnown p.now v.now known.new }
+{
+    let set = steps(p, v, which, kind, from);
+    if set.is_empty() {
+        return Ok(());
+    }
+    let guard = guard_in(p, v, known);
+    if is_unpinned(p, &guard, from) {
+        return add_steps(p, which, kind, from, set, moves);
+    }
+    add_targets(p, &guard, which, from, set, moves)
+}
+
 /// Adds the moves asked for from a square.
 fn add_from(
     p: &Parts,
@@ -414,7 +445,7 @@ fn add_from(
         Some(man) => man,
         None => return Ok(()),
     };
-    if man.side != p.side {
+    if !man.is_of(p.side) {
         return Ok(());
     }
     match man.kind {
@@ -426,17 +457,7 @@ fn add_from(
             let guard = guard_in(p, v, known);
             add_targets(p, &guard, which, from, set, moves)
         }
-        kind => {
-            let set = steps(p, v, which, kind, from);
-            if set.is_empty() {
-                return Ok(());
-            }
-            let guard = guard_in(p, v, known);
-            if is_unpinned(p, &guard, from) {
-                return add_steps(p, which, kind, from, set, moves);
-            }
-            add_targets(p, &guard, which, from, set, moves)
-        }
+        kind => add_piece_moves(p, v, known, which, kind, from, moves),
     }
 }
 
