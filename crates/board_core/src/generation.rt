@@ -19,11 +19,10 @@ use crate::men::Men;
 use crate::moves::{Move, MoveCase, promotion_at};
 use crate::parts::Parts;
 use crate::piece::{Kind, Side};
-use crate::playing::move_men;
 use crate::rules::{case_of, is_capture, places_between};
 use crate::sides::Sides;
 use crate::square::Square;
-use crate::{attack, targets};
+use crate::{attack, playing, targets};
 use std::alloc::{AllocError, Global};
 
 /// Which of the legal moves are listed.
@@ -158,29 +157,6 @@ fn is_king_away(m: &Move, case: MoveCase, g: &Guard) -> bool
     m.from == g.king && matches!(case, MoveCase::Plain) && !g.attacked.has(m.to)
 }
 
-/// Where the king of the guard stands after the move.
-fn king_after(m: &Move, g: &Guard) -> Square
-    ensures moved { m.now.from ≡ g.now.king → result ≡ m.now.to }
-    ensures stayed { m.now.from ≢ g.now.king → result ≡ g.now.king }
-{
-    if m.from == g.king { m.to } else { g.king }
-}
-
-/// Whether the king of the side that moves isn't attacked after the move, asked of the men as they stand then.
-#[inline(never)]
-fn is_king_safe(p: &Parts, m: &Move, case: MoveCase, g: &Guard) -> bool
-    requires position { IsPosition p.now }
-    requires rule { IsMove p.now m.now case }
-    requires guard { IsGuard p.now g.now }
-    ensures { IsTrue result ↔ (IsInCheck (men_after p.now m.now case) p.now.side → ⊥) }
-{
-    prove!(m.from.number() < 64);
-    prove!(m.to.number() < 64);
-    let mut men = p.men;
-    move_men(p, &mut men, m, case);
-    !attack::is_attacked_from(&men, p.side.other(), g.enemy, king_after(m, g))
-}
-
 /// Whether the king of the side that moves isn't attacked after the move.
 fn is_safe(p: &Parts, m: &Move, case: MoveCase, g: &Guard, unpinned: bool) -> bool
     requires position { IsPosition p.now }
@@ -197,7 +173,7 @@ fn is_safe(p: &Parts, m: &Move, case: MoveCase, g: &Guard, unpinned: bool) -> bo
     if is_king_away(m, case, g) {
         return true;
     }
-    is_king_safe(p, m, case, g)
+    playing::is_safe(p, m, case, g.king, g.enemy)
 }
 
 /// Whether the move is one of those asked for.

@@ -219,7 +219,7 @@ fn first_fault(p: &Parts, sides: &Sides) -> Option<PositionFault>
 #[derive_where(PartialEq, Eq, Debug)]
 pub struct Position {
     parts: Parts,
-    // (these follow from the men)
+    // What follows from the parts is neither compared nor shown.
     #[derive_where(skip)]
     sides: Sides,
 }

@@ -1,5 +1,4 @@
-use Rattle.std.proofs.Common.{arith, rules, refl, sym, ap, ◌∙◌}
-use Rattle.std.proofs.lemmas.Bool.{false≢true}
+use Rattle.std.proofs.Common.{arith, rules, refl, sym}
 use Rattle.board_core.proofs.Taken.{stands_if}
 use Rattle.board_core.proofs.Outward.{along_reaches, along_within, inside}
 use Rattle.board_core.proofs.attack.is_attacked_along.Goals as goal
