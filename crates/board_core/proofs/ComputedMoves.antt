@@ -334,7 +334,7 @@ computed p m r legal only = elim (option_cases (position_after p m)) [
   ]
 ]
 
--- the same at each of the two ways in which a call returns
+-- a call that returns none, and one that returns a position, returns the computed one
 pub computed_none : (p : Parts) (m : Move) → ((q : Parts) → Legal p m q → None ≡ Some q) → None ≡ position_after p m
 computed_none p m only = computed p m None (λ q e. absurd (let f = e in cc)) only
 

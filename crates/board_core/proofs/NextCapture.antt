@@ -17,7 +17,7 @@ use Rattle.board_core.specs.Side.{other}
 use Rattle.board_core.specs.Attack.{man_at, Reaches}
 use Rattle.board_core.specs.Moves.{Stands, IsTaken, IsMove, IsCapture, IsLegalCapture, place_of, promotion_place}
 use Rattle.board_core.specs.ComputedMoves.{is_later, is_legal, position_after, promotion_at, legal_captures, captures_after}
-use Rattle.board_core.specs.Inside.Search.{IsFirst, IsCandidate, IsLaterCapture, IsLaterBetween, start_of}
+use Rattle.board_core.specs.Inside.Search.{AttacksTo, IsFirst, IsCandidate, IsLaterCapture, IsLaterBetween, start_of}
 use Rattle.board_core.proofs.Listing.{make, promotion_below, same_place}
 use Rattle.board_core.proofs.Steps.{kind_on, move_takes}
 use Rattle.board_core.proofs.Preserved.{way}
@@ -44,6 +44,14 @@ takes_from p m man l e =
     let who = capture_reaches p m l.0.1.case l.0.1.rule l.1 in
     let same = kind_there p.men m.from p.side who.0 man who.1 e in
     (rw same at who.1, rw same at who.2)
+
+attacks_at : (men : List (Option Piece)) (side : Side) (a b from to : ℕ) (kind : Kind) → a ≡ from → b ≡ to → Stands men a side kind → Reaches men side kind a b → AttacksTo men side to from
+attacks_at men side a b from to kind here there stands reaches = record { kind = kind; stands = rw here at stands; reaches = rw (here, there) at reaches }
+
+pub attacks_from : (p : Parts) (m : Move) (from to : ℕ) → IsLegalCapture p m → m.from ≡ from → m.to ≡ to → AttacksTo p.men p.side to from
+attacks_from p m from to l here there =
+    let who = capture_reaches p m l.0.1.case l.0.1.rule l.1 in
+    attacks_at p.men p.side m.from m.to from to who.0 here there who.1 who.2
 
 -- what a man other than a pawn takes stands there
 pub piece_goal : (p : Parts) (m : Move) (sort : Kind) (enemy : ℕ) → IsLegalCapture p m → Stands p.men m.from p.side sort → sort ≢ Pawn → (IsTaken p.men (other p.side) m.to → bit_at enemy m.to ≡ 1) → bit_at enemy m.to ≡ 1

@@ -1,4 +1,4 @@
-use Rattle.std.proofs.Common.{ℕ, ◌≡◌, ◌<◌, ◌-◌, List, Option, Some, None, arith, inl, inr, sym, ap, ◌∙◌, ◌⊎◌}
+use Rattle.std.proofs.Common.{ℕ, ◌≡◌, ◌<◌, ◌-◌, ◌+◌, List, get_or, refl, Option, Some, None, arith, inl, inr, sym, ap, ◌∙◌, ◌⊎◌}
 use Rattle.std.proofs.lemmas.Bool.{cases_lt}
 use Rattle.board_core.specs.Inside.Search.{IsKnightStepBy, IsAttackedByKnight, IsInside, IsAttackedAlong}
 use Rattle.board_core.specs.declared.piece.Piece.{Piece}
@@ -10,6 +10,7 @@ use Rattle.board_core.specs.declared.attack.Direction.{Direction}
 use Rattle.board_core.specs.declared.attack.Direction.TheVariants.{North, South, East, West, NorthEast, NorthWest, SouthEast, SouthWest}
 use Rattle.board_core.specs.declared.attack.KnightStep.{KnightStep}
 use Rattle.board_core.specs.declared.attack.KnightStep.TheVariants.{EastEastNorth, EastEastSouth, EastNorthNorth, EastSouthSouth, WestWestNorth, WestWestSouth, WestNorthNorth, WestSouthSouth}
+use Rattle.board_core.specs.declared.attack.TheConstants.{DIRECTIONS, KNIGHT_STEPS}
 use Rattle.board_core.specs.Square.{file_of, rank_of}
 use Rattle.board_core.specs.Attack.{man_at, Along, IsClear, Ray, IsKingStep, IsKnightStep, IsPawnAttack, Reaches, IsAttacked}
 
@@ -119,7 +120,7 @@ pawn_step : (by : Side) (from to : ℕ) → IsPawnAttack by from to → IsKingSt
 pawn_step White from to h = omega arith
 pawn_step Black from to h = omega arith
 
-abbrev Seen : List (Option Piece) → Side → ℕ → Type 0
+abbrev pub Seen : List (Option Piece) → Side → ℕ → Type 0
 Seen men by to = ((d : Direction) × IsAttackedAlong men by d to) ⊎ ((h : KnightStep) × IsAttackedByKnight men by h to)
 
 seen_as : (men : List (Option Piece)) (by : Side) (to : ℕ) (kind : Kind) (from : ℕ) → Attacks men by to kind from → Seen men by to
@@ -185,6 +186,83 @@ along_reaches men by d to k s man h away clear along stands =
     let same : h.kind ≡ man.kind = ap kind_on (sym there ∙ stands) in
     rw (e, same) at h.reaches
 
+-- where each direction and each step of a knight stands among the eight
+abbrev pub place_of_direction : Direction → ℕ
+place_of_direction North = 0
+place_of_direction South = 1
+place_of_direction East = 2
+place_of_direction West = 3
+place_of_direction NorthEast = 4
+place_of_direction NorthWest = 5
+place_of_direction SouthEast = 6
+place_of_direction SouthWest = 7
+
+abbrev pub place_of_step : KnightStep → ℕ
+place_of_step EastEastNorth = 0
+place_of_step EastEastSouth = 1
+place_of_step EastNorthNorth = 2
+place_of_step EastSouthSouth = 3
+place_of_step WestWestNorth = 4
+place_of_step WestWestSouth = 5
+place_of_step WestNorthNorth = 6
+place_of_step WestSouthSouth = 7
+
+there_direction : (d : Direction) → get_or DIRECTIONS (place_of_direction d) North ≡ d
+there_direction North = refl
+there_direction South = refl
+there_direction East = refl
+there_direction West = refl
+there_direction NorthEast = refl
+there_direction NorthWest = refl
+there_direction SouthEast = refl
+there_direction SouthWest = refl
+
+there_step : (h : KnightStep) → get_or KNIGHT_STEPS (place_of_step h) EastEastNorth ≡ h
+there_step EastEastNorth = refl
+there_step EastEastSouth = refl
+there_step EastNorthNorth = refl
+there_step EastSouthSouth = refl
+there_step WestWestNorth = refl
+there_step WestWestSouth = refl
+there_step WestNorthNorth = refl
+there_step WestSouthSouth = refl
+
+pub direction_below : (d : Direction) → place_of_direction d < 8
+direction_below North = omega arith
+direction_below South = omega arith
+direction_below East = omega arith
+direction_below West = omega arith
+direction_below NorthEast = omega arith
+direction_below NorthWest = omega arith
+direction_below SouthEast = omega arith
+direction_below SouthWest = omega arith
+
+pub step_below : (h : KnightStep) → place_of_step h < 8
+step_below EastEastNorth = omega arith
+step_below EastEastSouth = omega arith
+step_below EastNorthNorth = omega arith
+step_below EastSouthSouth = omega arith
+step_below WestWestNorth = omega arith
+step_below WestWestSouth = omega arith
+step_below WestNorthNorth = omega arith
+step_below WestSouthSouth = omega arith
+
+-- what is so of none of those before a place, nor of the one there, is so of none before the next place
+none_more : {A : Type 0} (P : A → Type 0) (place : A → ℕ) (all : List A) (first : A) → ((x : A) → get_or all (place x) first ≡ x) → (n : ℕ) → (P (get_or all n first) → ⊥) → ((x : A) → place x < n → P x → ⊥) → (x : A) → place x < n + 1 → P x → ⊥
+none_more P place all first there n here before x lt h = elim (cases_lt (place x) n) [
+  | inl less ↦ before x less h
+  | inr ge ↦
+      let e : n ≡ place x = omega arith in
+      let same : get_or all n first ≡ x = ap (λ i. get_or all i first) e ∙ there x in
+      here (rw same h)
+]
+
+pub no_direction_more : (P : Direction → Type 0) (n : ℕ) → (P (get_or DIRECTIONS n North) → ⊥) → ((d : Direction) → place_of_direction d < n → P d → ⊥) → (d : Direction) → place_of_direction d < n + 1 → P d → ⊥
+no_direction_more P n here before = none_more P place_of_direction DIRECTIONS North there_direction n here before
+
+pub no_step_more : (P : KnightStep → Type 0) (n : ℕ) → (P (get_or KNIGHT_STEPS n EastEastNorth) → ⊥) → ((h : KnightStep) → place_of_step h < n → P h → ⊥) → (h : KnightStep) → place_of_step h < n + 1 → P h → ⊥
+no_step_more P n here before = none_more P place_of_step KNIGHT_STEPS EastEastNorth there_step n here before
+
 pub each_direction : (P : Direction → Type 0) → P North → P South → P East → P West → P NorthEast → P NorthWest → P SouthEast → P SouthWest → (d : Direction) → P d
 each_direction P a b c d e f g h North = a
 each_direction P a b c d e f g h South = b
@@ -204,9 +282,6 @@ each_knight_step P a b c d e f g h WestWestNorth = e
 each_knight_step P a b c d e f g h WestWestSouth = f
 each_knight_step P a b c d e f g h WestNorthNorth = g
 each_knight_step P a b c d e f g h WestSouthSouth = h
-
-pub unseen : (men : List (Option Piece)) (by : Side) (to : ℕ) → ((d : Direction) → IsAttackedAlong men by d to → ⊥) → ((h : KnightStep) → IsAttackedByKnight men by h to → ⊥) → IsAttacked men by to → ⊥
-unseen men by to rays knights a = elim (seen men by to a) [ inl s ↦ rays s.0 s.1 | inr h ↦ knights h.0 h.1 ]
 
 -- what lies j squares on, seen back from n squares on, lies n - j squares off
 pub along_rest : (d : Direction) (n j from to s : ℕ) → j < n → Along d n from to → Along d j from s → Along (opposite d) (n - j) to s

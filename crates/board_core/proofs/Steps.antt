@@ -104,7 +104,7 @@ takes_step p which v sort from set s e survey bit only =
       wanted = rw e (inl (taken_there p.men (other p.side) s (survey.enemy_only s (and_right set v.enemy s bit))));
     }
 
--- the same where a set has exactly the men of the other side that are reached
+-- a set with the men of the other side that are reached has where a capture goes
 pub attacks_to_whole : (p : Parts) (which : Which) (v : Survey) (m : Move) (sort : Kind) (from set : ℕ) → which ≡ Captures → IsSurvey p v → Stands p.men from p.side sort → sort ≢ Pawn → sort ≢ King → IsListed which p m → m.from ≡ from → ((s : ℕ) → s < 64 → bit_at v.enemy s ≡ 1 → Reaches p.men p.side sort from s → bit_at set s ≡ 1) → bit_at set m.to ≡ 1
 attacks_to_whole p which v m sort from set e survey st np nk l here reached =
     let own : Stands p.men m.from p.side sort = rw here st in

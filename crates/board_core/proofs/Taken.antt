@@ -1,13 +1,10 @@
--- What tests of a man's side say of the square that he stands on.
-use Rattle.std.proofs.Common.{ℕ, ◌≡◌, ◌<◌, List, length, set, Option, Some, None, Bool, true, false, not, sym, ap, ◌∙◌, inl, inr, get_or-set_same, get_or-set_other}
+-- What a man's side says of the square that he stands on.
+use Rattle.std.proofs.Common.{ℕ, ◌≡◌, ◌<◌, List, length, set, Option, Some, None, sym, ap, ◌∙◌, inl, inr, get_or-set_same, get_or-set_other}
 use Rattle.std.proofs.lemmas.Bool.{cases_eq, cases_lt}
 use Rattle.std.proofs.lemmas.List.{get_or_past}
-use denote.Enum.Bare.{sameb, same_true, true_same, differs_true, differs_false}
-use Rattle.std.specs.Prelude.{IsTrue}
 use Rattle.board_core.specs.declared.piece.Piece.{Piece}
 use Rattle.board_core.specs.declared.piece.Side.{Side}
 use Rattle.board_core.specs.declared.piece.Kind.{Kind}
-use Rattle.board_core.specs.contracts.piece.Side.{the_type}
 use Rattle.board_core.specs.Attack.{man_at}
 use Rattle.board_core.specs.Moves.{Stands, IsFree, IsTaken}
 
@@ -18,21 +15,17 @@ abbrev side_on : Option Piece → Side → Side
 side_on None side = side
 side_on (Some man) side = man.side
 
-pub taken_if : (men : List (Option Piece)) (side : Side) (s n : ℕ) (man : Piece) (r : Bool) → n ≡ s → man_at men n ≡ Some man → r ≡ sameb the_type man.side side → IsTrue r → IsTaken men side s
-taken_if men side s n man r here there e t = (man.kind, rw here at there ∙ some_man man side (same_true the_type tt man.side side (sym e ∙ t)))
+pub stands_if : (men : List (Option Piece)) (side : Side) (s : ℕ) (man : Piece) → man_at men s ≡ Some man → man.side ≡ side → Stands men s side man.kind
+stands_if men side s man there e = there ∙ some_man man side e
 
-pub free_else : (men : List (Option Piece)) (side : Side) (s n : ℕ) (man : Piece) (r : Bool) → n ≡ s → man_at men n ≡ Some man → r ≡ sameb the_type man.side side → (IsTrue r → ⊥) → IsFree men side s
-free_else men side s n man r here there e f = λ kind st. f (e ∙ true_same the_type man.side side (ap (λ o. side_on o side) (sym (rw here at there) ∙ st)))
+pub taken_if : (men : List (Option Piece)) (side : Side) (s : ℕ) (man : Piece) → man_at men s ≡ Some man → man.side ≡ side → IsTaken men side s
+taken_if men side s man there e = (man.kind, stands_if men side s man there e)
 
-pub free_where_none : (men : List (Option Piece)) (side : Side) (s n : ℕ) → n ≡ s → man_at men n ≡ None → IsFree men side s
-free_where_none men side s n here none = λ kind st. let e = sym (rw here at none) ∙ st in cc
+pub free_else : (men : List (Option Piece)) (side : Side) (s : ℕ) (man : Piece) → man_at men s ≡ Some man → (man.side ≡ side → ⊥) → IsFree men side s
+free_else men side s man there f = λ kind st. f (ap (λ o. side_on o side) (sym there ∙ st))
 
--- the same of the test that the side differs
-pub stands_unless : (men : List (Option Piece)) (side : Side) (s n : ℕ) (man : Piece) → n ≡ s → man_at men n ≡ Some man → false ≡ not (sameb the_type man.side side) → Stands men s side man.kind
-stands_unless men side s n man here there e = rw here at there ∙ some_man man side (differs_false the_type tt man.side side (sym e))
-
-pub of_other : (men : List (Option Piece)) (side : Side) (s n : ℕ) (man : Piece) → n ≡ s → man_at men n ≡ Some man → true ≡ not (sameb the_type man.side side) → IsTaken men side s → ⊥
-of_other men side s n man here there e t = differs_true the_type man.side side (sym e) (ap (λ o. side_on o side) (sym (rw here at there) ∙ t.1))
+pub free_where_none : (men : List (Option Piece)) (side : Side) (s : ℕ) → man_at men s ≡ None → IsFree men side s
+free_where_none men side s none = λ kind st. let e = sym none ∙ st in cc
 
 -- where a man stands there is a square
 pub stands_within : (men : List (Option Piece)) (s : ℕ) (side : Side) (what : Kind) → Stands men s side what → s < length men

@@ -6,6 +6,8 @@ ghost use Rattle.board_core.specs.Inside.Search.{IsKnightStepBy, IsAttackedByKni
 ghost use Rattle.board_core.specs.Moves.{IsTaken};
 ghost use Rattle.board_core.specs.Attack.{Along, IsClear, Goes, Ray, IsKingStep, IsKnightStep, IsPawnAttack, Reaches, IsAttacked, IsInCheck, forward};
 ghost use Rattle.board_core.specs.Computed.{is_in_check};
+ghost use Rattle.board_core.specs.declared.attack.Direction.{Direction};
+ghost use Rattle.board_core.specs.declared.attack.KnightStep.{KnightStep};
 
 use crate::bitboard::Bitboard;
 use crate::empty_board;
@@ -14,7 +16,7 @@ use crate::piece::{Kind, Side};
 use crate::square::Square;
 
 /// The eight ways in which a queen goes.
-#[derive(Clone, Copy, PartialEq, Eq, Debug)]
+#[derive(Clone, Copy)]
 pub enum Direction {
     North,
     South,
@@ -27,7 +29,7 @@ pub enum Direction {
 }
 
 /// The eight steps of a knight.
-#[derive(Clone, Copy, PartialEq, Eq, Debug)]
+#[derive(Clone, Copy)]
 pub enum KnightStep {
     EastEastNorth,
     EastEastSouth,
@@ -38,6 +40,28 @@ pub enum KnightStep {
     WestNorthNorth,
     WestSouthSouth,
 }
+
+const DIRECTIONS: [Direction; 8] = [
+    Direction::North,
+    Direction::South,
+    Direction::East,
+    Direction::West,
+    Direction::NorthEast,
+    Direction::NorthWest,
+    Direction::SouthEast,
+    Direction::SouthWest,
+];
+
+const KNIGHT_STEPS: [KnightStep; 8] = [
+    KnightStep::EastEastNorth,
+    KnightStep::EastEastSouth,
+    KnightStep::EastNorthNorth,
+    KnightStep::EastSouthSouth,
+    KnightStep::WestWestNorth,
+    KnightStep::WestWestSouth,
+    KnightStep::WestNorthNorth,
+    KnightStep::WestSouthSouth,
+];
 
 /// By how much the number of a square and that of the next in this direction differ.
 fn stride(direction: Direction) -> u8
@@ -233,7 +257,7 @@ fn is_attacked_along(men: &Men, by: Side, direction: Direction, to: Square) -> b
     for k in 1..end {
         let from = along(direction, to, k);
         if let Some(man) = men.at(from) {
-            return man.side == by && reaches(men, by, man.kind, from, to);
+            return man.is_of(by) && reaches(men, by, man.kind, from, to);
         }
     }
     false
@@ -259,48 +283,16 @@ pub fn knight_step_to(knight_step: KnightStep, from: Square) -> Option<Square>
 {
     let (file, rank, place) = (from.file(), from.rank(), from.number());
     match knight_step {
-        KnightStep::EastEastNorth => {
-            if file < 6 && rank < 7 {
-                return Some(Square::at(place + 10));
-            }
-        }
-        KnightStep::EastEastSouth => {
-            if file < 6 && rank > 0 {
-                return Some(Square::at(place - 6));
-            }
-        }
-        KnightStep::EastNorthNorth => {
-            if file < 7 && rank < 6 {
-                return Some(Square::at(place + 17));
-            }
-        }
-        KnightStep::EastSouthSouth => {
-            if file < 7 && rank > 1 {
-                return Some(Square::at(place - 15));
-            }
-        }
-        KnightStep::WestWestNorth => {
-            if file > 1 && rank < 7 {
-                return Some(Square::at(place + 6));
-            }
-        }
-        KnightStep::WestWestSouth => {
-            if file > 1 && rank > 0 {
-                return Some(Square::at(place - 10));
-            }
-        }
-        KnightStep::WestNorthNorth => {
-            if file > 0 && rank < 6 {
-                return Some(Square::at(place + 15));
-            }
-        }
-        KnightStep::WestSouthSouth => {
-            if file > 0 && rank > 1 {
-                return Some(Square::at(place - 17));
-            }
-        }
+        KnightStep::EastEastNorth if file < 6 && rank < 7 => Some(Square::at(place + 10)),
+        KnightStep::EastEastSouth if file < 6 && rank > 0 => Some(Square::at(place - 6)),
+        KnightStep::EastNorthNorth if file < 7 && rank < 6 => Some(Square::at(place + 17)),
+        KnightStep::EastSouthSouth if file < 7 && rank > 1 => Some(Square::at(place - 15)),
+        KnightStep::WestWestNorth if file > 1 && rank < 7 => Some(Square::at(place + 6)),
+        KnightStep::WestWestSouth if file > 1 && rank > 0 => Some(Square::at(place - 10)),
+        KnightStep::WestNorthNorth if file > 0 && rank < 6 => Some(Square::at(place + 15)),
+        KnightStep::WestSouthSouth if file > 0 && rank > 1 => Some(Square::at(place - 17)),
+        _ => None,
     }
-    None
 }
 
 /// Whether a knight of this side attacks the square from there.
@@ -309,75 +301,51 @@ fn is_attacked_by_knight(men: &Men, by: Side, knight_step: KnightStep, to: Squar
 {
     match knight_step_to(knight_step, to) {
         Some(from) => match men.at(from) {
-            Some(man) => man.side == by && man.kind == Kind::Knight,
+            Some(man) => man.is(by, Kind::Knight),
             None => false,
         },
         None => false,
     }
 }
 
-/// Whether some man of this side attacks the square.
-pub fn is_attacked(men: &Men, by: Side, to: Square) -> bool
-    ensures { IsTrue result ↔ IsAttacked men.now by to }
+/// Whether in some direction the first man that is seen from a square is one of this side that attacks it.
+fn is_attacked_by_line(men: &Men, by: Side, to: Square) -> bool
+    ensures { IsTrue result ↔ ((d : Direction) × IsAttackedAlong men.now by d to) }
 {
-    if is_attacked_along(men, by, Direction::North, to) {
-        return true;
-    }
-    if is_attacked_along(men, by, Direction::South, to) {
-        return true;
-    }
-    if is_attacked_along(men, by, Direction::East, to) {
-        return true;
-    }
-    if is_attacked_along(men, by, Direction::West, to) {
-        return true;
-    }
-    if is_attacked_along(men, by, Direction::NorthEast, to) {
-        return true;
-    }
-    if is_attacked_along(men, by, Direction::NorthWest, to) {
-        return true;
-    }
-    if is_attacked_along(men, by, Direction::SouthEast, to) {
-        return true;
-    }
-    if is_attacked_along(men, by, Direction::SouthWest, to) {
-        return true;
-    }
-    if is_attacked_by_knight(men, by, KnightStep::EastEastNorth, to) {
-        return true;
-    }
-    if is_attacked_by_knight(men, by, KnightStep::EastEastSouth, to) {
-        return true;
-    }
-    if is_attacked_by_knight(men, by, KnightStep::EastNorthNorth, to) {
-        return true;
-    }
-    if is_attacked_by_knight(men, by, KnightStep::EastSouthSouth, to) {
-        return true;
-    }
-    if is_attacked_by_knight(men, by, KnightStep::WestWestNorth, to) {
-        return true;
-    }
-    if is_attacked_by_knight(men, by, KnightStep::WestWestSouth, to) {
-        return true;
-    }
-    if is_attacked_by_knight(men, by, KnightStep::WestNorthNorth, to) {
-        return true;
-    }
-    if is_attacked_by_knight(men, by, KnightStep::WestSouthSouth, to) {
-        return true;
+    'directions: for direction in DIRECTIONS {
+        if is_attacked_along(men, by, direction, to) {
+            return true;
+        }
     }
     false
 }
 
+/// Whether some knight of this side attacks the square.
+fn is_attacked_by_hop(men: &Men, by: Side, to: Square) -> bool
+    ensures { IsTrue result ↔ ((h : KnightStep) × IsAttackedByKnight men.now by h to) }
+{
+    'steps: for knight_step in KNIGHT_STEPS {
+        if is_attacked_by_knight(men, by, knight_step, to) {
+            return true;
+        }
+    }
+    false
+}
+
+/// Whether some man of this side attacks the square.
+pub fn is_attacked(men: &Men, by: Side, to: Square) -> bool
+    ensures { IsTrue result ↔ IsAttacked men.now by to }
+{
+    is_attacked_by_line(men, by, to) || is_attacked_by_hop(men, by, to)
+}
+
 /// Whether a man of this side stands on `from` and attacks `to`.
-fn attacks_to(men: &Men, by: Side, from: Square, to: Square) -> bool
+pub fn attacks_to(men: &Men, by: Side, from: Square, to: Square) -> bool
     ensures { IsTrue result ↔ AttacksTo men.now by to from }
 {
     match men.at(from) {
         Some(man) => {
-            man.side == by
+            man.is_of(by)
                 && empty_board::reached(by, man.kind, from).has(to)
                 && reaches(men, by, man.kind, from, to)
         }

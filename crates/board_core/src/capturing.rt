@@ -82,16 +82,6 @@ pub fn may_capture(p: &Parts, sides: &Sides) -> bool
     false
 }
 
-/// Whether the man on a square, as a man of the side to move, attacks another square.
-fn attacks(p: &Parts, from: Square, to: Square) -> bool
-    ensures { IsFalse result → (m : Move) → IsLegalCapture p.now m → m.from ≡ from → m.to ≡ to → ⊥ }
-{
-    match p.men.at(from) {
-        Some(man) => attack::reaches(&p.men, p.side, man.kind, from, to),
-        None => false,
-    }
-}
-
 /// Whether the move is at this place or later, and a capture if it is legal.
 fn is_candidate(p: &Parts, start: u32, m: &Move) -> bool
     ensures yes { IsTrue result → IsCandidate p.now start m.now }
@@ -109,7 +99,7 @@ fn capture_between(p: &Parts, start: u32, from: Square, to: Square) -> Option<Mo
     ensures to { IfSome result (λ m. m.to ≡ to) }
     ensures none { IfNone result ((m : Move) → IsLaterBetween p.now start from to m → ⊥) }
 {
-    if !attacks(p, from, to) {
+    if !attack::attacks_to(&p.men, p.side, from, to) {
         return None;
     }
     let end = places_between(p, from, to);

@@ -19,15 +19,14 @@ use crate::men::Men;
 use crate::moves::{Move, MoveCase, promotion_at};
 use crate::parts::Parts;
 use crate::piece::{Kind, Side};
-use crate::playing::move_men;
 use crate::rules::{case_of, is_capture, places_between};
 use crate::sides::Sides;
 use crate::square::Square;
-use crate::{attack, targets};
+use crate::{attack, playing, targets};
 use std::alloc::{AllocError, Global};
 
 /// Which of the legal moves are listed.
-#[derive(Clone, Copy, PartialEq, Eq, Debug)]
+#[derive(Clone, Copy)]
 pub enum Which {
     /// All legal moves.
     Every,
@@ -36,7 +35,7 @@ pub enum Which {
 }
 
 /// Where the men of the two sides stand, and the king of the side that moves.
-#[derive(Clone, Copy, PartialEq, Eq, Debug)]
+#[derive(Clone, Copy)]
 pub struct Survey {
     pub own: Bitboard,
     pub enemy: Bitboard,
@@ -45,7 +44,7 @@ pub struct Survey {
 
 /// What keeps the king of the side that moves safe: its square, whether it isn't attacked, the squares of the other side's men, and those
 /// that it must not go to.
-#[derive(Clone, Copy, PartialEq, Eq, Debug)]
+#[derive(Clone, Copy)]
 pub struct Guard {
     pub enemy: Bitboard,
     pub king: Square,
@@ -155,30 +154,7 @@ fn is_king_away(m: &Move, case: MoveCase, g: &Guard) -> bool
     ensures { IsTrue result → (m.now.from ≡ g.now.king) × (case ≡ MoveCase.Plain)
         × (bit_at g.now.attacked m.now.to ≡ 0) }
 {
-    m.from == g.king && case == MoveCase::Plain && !g.attacked.has(m.to)
-}
-
-/// Where the king of the guard stands after the move.
-fn king_after(m: &Move, g: &Guard) -> Square
-    ensures moved { m.now.from ≡ g.now.king → result ≡ m.now.to }
-    ensures stayed { m.now.from ≢ g.now.king → result ≡ g.now.king }
-{
-    if m.from == g.king { m.to } else { g.king }
-}
-
-/// Whether the king of the side that moves isn't attacked after the move, asked of the men as they stand then.
-#[inline(never)]
-fn is_king_safe(p: &Parts, m: &Move, case: MoveCase, g: &Guard) -> bool
-    requires position { IsPosition p.now }
-    requires rule { IsMove p.now m.now case }
-    requires guard { IsGuard p.now g.now }
-    ensures { IsTrue result ↔ (IsInCheck (men_after p.now m.now case) p.now.side → ⊥) }
-{
-    prove!(m.from.number() < 64);
-    prove!(m.to.number() < 64);
-    let mut men = p.men;
-    move_men(p, &mut men, m, case);
-    !attack::is_attacked_from(&men, p.side.other(), g.enemy, king_after(m, g))
+    m.from == g.king && matches!(case, MoveCase::Plain) && !g.attacked.has(m.to)
 }
 
 /// Whether the king of the side that moves isn't attacked after the move.
@@ -197,7 +173,7 @@ fn is_safe(p: &Parts, m: &Move, case: MoveCase, g: &Guard, unpinned: bool) -> bo
     if is_king_away(m, case, g) {
         return true;
     }
-    is_king_safe(p, m, case, g)
+    playing::is_safe(p, m, case, g.king, g.enemy)
 }
 
 /// Whether the move is one of those asked for.
@@ -393,6 +369,37 @@ fn guard_in(p: &Parts, v: &Survey, known: &mut Option<Bitboard>) -> Guard
     guard_of(p, v, attacked)
 }
 
+/// Adds the moves asked for of a piece other than a pawn and the king.
+fn add_piece_moves(
+    p: &Parts,
+    v: &Survey,
+    known: &mut Option<Bitboard>,
+    which: Which,
+    kind: Kind,
+    from: Square,
+    moves: &mut Vec<Move>,
+) -> Result<(), AllocError>
+    requires position { IsPosition p.now }
+    requires survey { IsSurvey p.now v.now }
+    requires stands { Stands p.now.men from p.now.side kind }
+    requires piece { (kind ≢ Kind.Pawn) × (kind ≢ Kind.King) }
+    requires known { IsKnown p.now v.now known.old }
+    requires below { HasListedBelow p.now which (320 * from) moves.old.items }
+    ensures moves { OnOk result (HasListedBelow p.now which (320 * (from + 1)) moves.new.items) }
+    ensures memory { OnErr result ((m : Move) × IsListed which p.now m) }
+    ensures known { IsKnown p.now v.now known.new }
+{
+    let set = steps(p, v, which, kind, from);
+    if set.is_empty() {
+        return Ok(());
+    }
+    let guard = guard_in(p, v, known);
+    if is_unpinned(p, &guard, from) {
+        return add_steps(p, which, kind, from, set, moves);
+    }
+    add_targets(p, &guard, which, from, set, moves)
+}
+
 /// Adds the moves asked for from a square.
 fn add_from(
     p: &Parts,
@@ -414,7 +421,7 @@ fn add_from(
         Some(man) => man,
         None => return Ok(()),
     };
-    if man.side != p.side {
+    if !man.is_of(p.side) {
         return Ok(());
     }
     match man.kind {
@@ -426,17 +433,7 @@ fn add_from(
             let guard = guard_in(p, v, known);
             add_targets(p, &guard, which, from, set, moves)
         }
-        kind => {
-            let set = steps(p, v, which, kind, from);
-            if set.is_empty() {
-                return Ok(());
-            }
-            let guard = guard_in(p, v, known);
-            if is_unpinned(p, &guard, from) {
-                return add_steps(p, which, kind, from, set, moves);
-            }
-            add_targets(p, &guard, which, from, set, moves)
-        }
+        kind => add_piece_moves(p, v, known, which, kind, from, moves),
     }
 }
 

@@ -20,7 +20,7 @@ use crate::square::Square;
 use crate::targets::targets;
 
 /// Which legal move is looked for.
-#[derive(Clone, Copy, PartialEq, Eq, Debug)]
+#[derive(Clone, Copy)]
 pub enum Sought {
     /// Any one.
     Any,
@@ -95,7 +95,7 @@ fn may_leave(p: &Parts, sides: &Sides, sought: Sought, from: Square) -> bool
 {
     match p.men.at(from) {
         Some(man) => {
-            man.side == p.side && may_go_within(p, sides, sought, from, targets(p, man.kind, from))
+            man.is_of(p.side) && may_go_within(p, sides, sought, from, targets(p, man.kind, from))
         }
         None => false,
     }

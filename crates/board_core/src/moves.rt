@@ -9,7 +9,7 @@ use crate::square::Square;
 
 /// A move: the square that a man leaves, the one where it goes, and what a pawn becomes on its last
 /// rank. Castling is the king's move of two squares.
-#[derive(Clone, Copy, PartialEq, Eq, PartialOrd, Ord, Debug)]
+#[derive(Clone, Copy, PartialEq, Eq, PartialOrd, Ord, Hash, Debug)]
 pub struct Move {
     /// The square that the man leaves.
     pub from: Square,
@@ -20,7 +20,7 @@ pub struct Move {
 }
 
 /// The cases of the rules of moves (FIDE articles 3.2 to 3.8).
-#[derive(Clone, Copy, PartialEq, Eq, Debug)]
+#[derive(Clone, Copy)]
 pub enum MoveCase {
     /// A step or a ray of a man other than a pawn.
     Plain,

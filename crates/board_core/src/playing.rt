@@ -1,17 +1,18 @@
 //! The position after a move.
 
-ghost use Rattle.std.specs.Prelude.{◌≡◌, ◌<◌, ◌↔◌, ◌+◌, ◌-◌, IsTrue, IfSome, Option, Some};
-ghost use Rattle.board_core.specs.Inside.Search.{IsInside};
+ghost use Rattle.std.specs.Prelude.{◌≡◌, ◌≢◌, ◌<◌, ◌↔◌, ◌+◌, ◌-◌, ℕ, IsTrue, IfSome, Option, Some};
+ghost use Rattle.std.specs.Int.{bit_at};
+ghost use Rattle.board_core.specs.Inside.Search.{IsInside, IsOnlyKing};
 ghost use Rattle.board_core.specs.Attack.{IsInCheck, forward};
-ghost use Rattle.board_core.specs.Moves.{IsMove, IsLegal, after, rights_after, keeps_right, en_passant_after, halfmove_after, behind, one_more, kind_of, carried, landed, men_after, fullmove_after};
+ghost use Rattle.board_core.specs.Moves.{IsMove, IsLegal, IsTaken, after, rights_after, keeps_right, en_passant_after, halfmove_after, behind, one_more, kind_of, carried, landed, men_after, fullmove_after};
 ghost use Rattle.board_core.specs.Side.{other};
 ghost use Rattle.board_core.specs.Castling.{king_home, rook_home};
 ghost use Rattle.board_core.specs.ComputedMoves.{is_legal};
 ghost use Rattle.board_core.specs.Position.{IsPosition};
 ghost use Rattle.board_core.specs.Sides.{sides_of};
 
-use crate::castling;
-use crate::king::is_in_check;
+use crate::bitboard::Bitboard;
+use crate::king::{is_in_check, king_of};
 use crate::men::Men;
 use crate::moves::{Move, MoveCase};
 use crate::parts::{Parts, Rights};
@@ -19,6 +20,7 @@ use crate::piece::{Kind, Piece, Promotion, Side, Wing};
 use crate::rules::{case_of, is_empty};
 use crate::sides::Sides;
 use crate::square::Square;
+use crate::{attack, castling};
 
 /// Moves what stands on `from` to `to`, where it is then this man.
 fn carry(men: &mut Men, from: Square, to: Square, man: Option<Piece>)
@@ -117,7 +119,7 @@ pub fn behind(side: Side, square: Square) -> Square
 }
 
 /// Moves the men, who stand as in the position, as the move does.
-pub fn move_men(p: &Parts, men: &mut Men, m: &Move, case: MoveCase)
+fn move_men(p: &Parts, men: &mut Men, m: &Move, case: MoveCase)
     requires rule { IsMove p.now m.now case }
     requires men { men.old ≡ p.now.men }
     ensures { men.new ≡ men_after p.now m.now case }
@@ -203,19 +205,29 @@ fn sides_after(p: &Parts, sides: &Sides, m: &Move, case: MoveCase) -> Sides
     }
 }
 
-/// Whether the move, which goes by this case, leaves the king of its side unattacked.
+/// Where the king that stands on this square stands after the move.
+fn king_after(m: &Move, king: Square) -> Square
+    ensures moved { m.now.from ≡ king → result ≡ m.now.to }
+    ensures stayed { m.now.from ≢ king → result ≡ king }
+{
+    if m.from == king { m.to } else { king }
+}
+
+/// Whether the move, which goes by this case, leaves the king of its side unattacked, asked of the men as they stand then. Now the
+/// king stands on this square, and all men of the other side on these.
 #[inline(never)]
-fn is_safe(p: &Parts, sides: &Sides, m: &Move, case: MoveCase) -> bool
+pub fn is_safe(p: &Parts, m: &Move, case: MoveCase, king: Square, enemy: Bitboard) -> bool
     requires position { IsPosition p.now }
-    requires sides { sides.now ≡ sides_of p.now.men }
     requires rule { IsMove p.now m.now case }
+    requires king { IsOnlyKing p.now.men p.now.side king }
+    requires enemy { (s : ℕ) → s < 64 → IsTaken p.now.men (other p.now.side) s → bit_at enemy s ≡ 1 }
     ensures { IsTrue result ↔ (IsInCheck (men_after p.now m.now case) p.now.side → ⊥) }
 {
     prove!(m.from.number() < 64);
     prove!(m.to.number() < 64);
     let mut men = p.men;
     move_men(p, &mut men, m, case);
-    !is_in_check(&men, &sides_after(p, sides, m, case), p.side)
+    !attack::is_attacked_from(&men, p.side.other(), enemy, king_after(m, king))
 }
 
 /// Makes the move, which goes by this case, on a copy of the position and of the sets of its sides, and tells whether the king of its
@@ -246,7 +258,10 @@ pub fn is_legal(p: &Parts, sides: &Sides, m: &Move) -> bool
     prove!(m.from.number() < 64);
     prove!(m.to.number() < 64);
     match case_of(p, m) {
-        Some(case) => is_safe(p, sides, m, case),
+        Some(case) => {
+            let king = king_of(&p.men, p.side, sides.of_side(p.side));
+            is_safe(p, m, case, king, sides.of_side(p.side.other()))
+        }
         None => false,
     }
 }

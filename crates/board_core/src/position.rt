@@ -17,10 +17,11 @@ use crate::mobility::Sought;
 use crate::moves::{Move, MoveCase};
 use crate::parts::{Parts, Rights};
 use crate::piece::{Kind, Piece, Side, Wing};
-use crate::sides::{Sides, is_of};
+use crate::sides::Sides;
 use crate::square::Square;
 use crate::{capturing, castling, generation, king, mobility, playing, rules};
 use std::alloc::{AllocError, Global};
+use std::fmt;
 use std::marker::Model;
 
 /// What keeps parts from being a position: the first condition that fails, in this order.
@@ -60,11 +61,22 @@ impl PositionFault {
     }
 }
 
+impl fmt::Display for PositionFault {
+    ghost use Rattle.std.specs.Prelude.{Some};
+    ghost use Rattle.board_core.specs.Position.{fault_name};
+
+    ghost output = { λ fault. Some (fault_name fault) };
+
+    fn fmt<W: fmt::Write>(&self, f: &mut fmt::Formatter<W>) -> fmt::Result {
+        f.write_str(self.name())
+    }
+}
+
 fn is_king_of(side: Side, man: Option<Piece>) -> bool
     ensures { result ≡ is_king_of side man }
 {
     match man {
-        Some(man) => is_of(side, Some(man)) && man.kind == Kind::King,
+        Some(man) => man.is(side, Kind::King),
         None => false,
     }
 }
@@ -203,9 +215,12 @@ fn first_fault(p: &Parts, sides: &Sides) -> Option<PositionFault>
 }
 
 /// A position of chess; contracts see its parts, which meet the seven conditions of `IsPosition`.
-#[derive(Clone, Copy, PartialEq, Eq, Debug)]
+#[derive(Clone, Copy)]
+#[derive_where(PartialEq, Eq, Debug)]
 pub struct Position {
     parts: Parts,
+    // What follows from the parts is neither compared nor shown.
+    #[derive_where(skip)]
     sides: Sides,
 }
 

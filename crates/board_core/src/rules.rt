@@ -19,7 +19,7 @@ pub fn stands(men: &Men, square: Square, side: Side, kind: Kind) -> bool
     ensures { IsTrue result ↔ Stands men.now square side kind }
 {
     match men.at(square) {
-        Some(man) => man.side == side && man.kind == kind,
+        Some(man) => man.is(side, kind),
         None => false,
     }
 }
@@ -37,7 +37,7 @@ pub fn is_taken(men: &Men, side: Side, square: Square) -> bool
     ensures free { (IsTrue result → ⊥) → IsFree men.now side square }
 {
     match men.at(square) {
-        Some(man) => man.side == side,
+        Some(man) => man.is_of(side),
         None => false,
     }
 }
@@ -87,7 +87,7 @@ fn is_plain(p: &Parts, m: &Move) -> bool
 {
     match p.men.at(m.from) {
         Some(man) => {
-            man.side == p.side
+            man.is_of(p.side)
                 && man.kind != Kind::Pawn
                 && m.promotion.is_none()
                 && attack::reaches(&p.men, p.side, man.kind, m.from, m.to)

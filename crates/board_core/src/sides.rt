@@ -17,10 +17,7 @@ pub fn is_of(side: Side, man: Option<Piece>) -> bool
     ensures { result ≡ is_of side man }
 {
     match man {
-        Some(man) => match (side, man.side) {
-            (Side::White, Side::White) | (Side::Black, Side::Black) => true,
-            _ => false,
-        },
+        Some(man) => man.is_of(side),
         None => false,
     }
 }
@@ -39,7 +36,7 @@ fn marked(set: Bitboard, square: Square, belongs: bool) -> Bitboard
 }
 
 /// The squares on which the men of each side stand.
-#[derive(Clone, Copy, PartialEq, Eq, Debug)]
+#[derive(Clone, Copy)]
 pub struct Sides {
     pub white: Bitboard,
     pub black: Bitboard,

@@ -6,7 +6,7 @@ ghost use Rattle.board_core.specs.Square.{file_of, rank_of};
 use std::marker::Model;
 
 /// A square of the board; contracts see its number: a1 is 0, b1 is 1, a2 is 8, h8 is 63.
-#[derive(Clone, Copy, PartialEq, Eq, PartialOrd, Ord, Debug)]
+#[derive(Clone, Copy, PartialEq, Eq, PartialOrd, Ord, Hash, Debug)]
 pub struct Square {
     place: u8,
 }

@@ -31,7 +31,7 @@ fn with_ray(men: &Men, side: Side, direction: Direction, from: Square, mask: Bit
     for k in 1..end {
         let to = attack::along(direction, from, k);
         if let Some(man) = men.at(to) {
-            if man.side == side {
+            if man.is_of(side) {
                 return all;
             }
             return all.with(to);

@@ -5,7 +5,7 @@ ghost use Rattle.board_core.specs.declared.verdict.Verdict.{Verdict};
 ghost use Rattle.board_core.specs.Verdicts.{code_of, verdict_name};
 
 /// How a game ends.
-#[derive(Clone, Copy, PartialEq, Eq, Debug)]
+#[derive(Clone, Copy, PartialEq, Eq, Hash, Debug)]
 pub enum Verdict {
     /// Black is checkmated (FIDE article 5.1.1).
     WhiteMates,

@@ -1,9 +1,10 @@
-use Rattle.std.proofs.Common.{arith, rules}
+use Rattle.std.proofs.Common.{arith, rules, refl, sym}
+use Rattle.board_core.proofs.Taken.{stands_if}
 use Rattle.board_core.proofs.Outward.{along_reaches, along_within, inside}
 use Rattle.board_core.proofs.attack.is_attacked_along.Goals as goal
 
-pub returns-then-eq : goal.returns-then-eq
-returns-then-eq c = (
+pub returns-then-is_of : goal.returns-then-is_of
+returns-then-is_of c = (
   λ t. record {
     from = c.along-from.result;
     kind = c.in-Some.man.kind;
@@ -12,8 +13,8 @@ returns-then-eq c = (
     away = omega arith;
     along = c.along-from.ensures;
     clear = c.loop-k.invariant;
-    stands = search rules;
-    reaches = search rules;
+    stands = stands_if c.args.men.now c.args.by c.along-from.result c.in-Some.man (sym c.in-Some.ensures.man) (c.if-is_of.ensures.relation.0 refl);
+    reaches = c.reaches.ensures.0 t;
   },
   λ h. c.reaches.ensures.1 (along_reaches _ _ _ _ _ _ c.in-Some.man h (omega arith) c.loop-k.invariant c.along-from.ensures (search rules)),
 )

@@ -1,15 +1,16 @@
 use Rattle.std.proofs.Common.{arith, ◌≡◌, refl, sym}
+use Rattle.std.proofs.lemmas.Bool.{false≢true}
 use Rattle.std.proofs.lemmas.Nat.Bits.{bit_at-zero}
 use Rattle.board_core.proofs.Sweep.{zero_one}
 use Rattle.board_core.proofs.Listing.{HasListedBelow-skip, IsLegal-stands, IsLegal-from}
-use Rattle.board_core.proofs.Taken.{free_where_none, stands_unless, of_other}
+use Rattle.board_core.proofs.Taken.{stands_if, free_else, free_where_none}
 use Rattle.board_core.proofs.generation.add_from.Goals as goal
 
 pub returns-in-None-clause-moves : goal.returns-in-None-clause-moves
 returns-in-None-clause-moves c =
     HasListedBelow-skip _ _ _ _ _ c.requires.below (omega arith) (λ m l low high.
     let own = rw (IsLegal-from _ m _ l.0 low high) at (IsLegal-stands _ m l.0) in
-    free_where_none c.args.p.now.men c.args.p.now.side c.args.from c.args.from refl (sym c.in-None.ensures.man) own.0 own.1)
+    free_where_none c.args.p.now.men c.args.p.now.side c.args.from (sym c.in-None.ensures.man) own.0 own.1)
 
 pub returns-in-None-clause-memory : goal.returns-in-None-clause-memory
 returns-in-None-clause-memory c = tt
@@ -17,22 +18,23 @@ returns-in-None-clause-memory c = tt
 pub returns-in-None-clause-known : goal.returns-in-None-clause-known
 returns-in-None-clause-known c = c.requires.known
 
-pub returns-then-ne-clause-moves : goal.returns-then-ne-clause-moves
-returns-then-ne-clause-moves c =
+pub returns-then-not-is_of-clause-moves : goal.returns-then-not-is_of-clause-moves
+returns-then-not-is_of-clause-moves c =
     HasListedBelow-skip _ _ _ _ _ c.requires.below (omega arith) (λ m l low high.
-    of_other c.args.p.now.men c.args.p.now.side c.args.from c.args.from c.in-Some.man refl (sym c.in-Some.ensures.man) c.if-ne.ensures (rw (IsLegal-from _ m _ l.0 low high) at (IsLegal-stands _ m l.0)))
+    let own = rw (IsLegal-from _ m _ l.0 low high) at (IsLegal-stands _ m l.0) in
+    free_else c.args.p.now.men c.args.p.now.side c.args.from c.in-Some.man (sym c.in-Some.ensures.man) (λ e. false≢true (c.if-not-is_of.ensures.relation.1 e)) own.0 own.1)
 
-pub returns-then-ne-clause-memory : goal.returns-then-ne-clause-memory
-returns-then-ne-clause-memory c = tt
+pub returns-then-not-is_of-clause-memory : goal.returns-then-not-is_of-clause-memory
+returns-then-not-is_of-clause-memory c = tt
 
-pub returns-then-ne-clause-known : goal.returns-then-ne-clause-known
-returns-then-ne-clause-known c = c.requires.known
+pub returns-then-not-is_of-clause-known : goal.returns-then-not-is_of-clause-known
+returns-then-not-is_of-clause-known c = c.requires.known
 
 pub candidates-set-requires-clause-survey : goal.candidates-set-requires-clause-survey
 candidates-set-requires-clause-survey c = c.requires.survey
 
 pub candidates-set-requires-clause-stands : goal.candidates-set-requires-clause-stands
-candidates-set-requires-clause-stands c = stands_unless c.args.p.now.men c.args.p.now.side c.args.from c.args.from c.in-Some.man refl (sym c.in-Some.ensures.man) c.if-ne.ensures
+candidates-set-requires-clause-stands c = stands_if c.args.p.now.men c.args.p.now.side c.args.from c.in-Some.man (sym c.in-Some.ensures.man) (c.if-not-is_of.ensures.relation.0 refl)
 
 pub returns-then-is_empty-clause-moves : goal.returns-then-is_empty-clause-moves
 returns-then-is_empty-clause-moves c =
@@ -73,56 +75,15 @@ returns-else-is_empty-clause-memory c = c.add_targets.ensures.memory
 pub returns-else-is_empty-clause-known : goal.returns-else-is_empty-clause-known
 returns-else-is_empty-clause-known c = c.guard_in-guard.ensures.known
 
-pub steps-set-requires : goal.steps-set-requires
-steps-set-requires c = record {
-  survey = c.requires.survey;
-  stands = stands_unless c.args.p.now.men c.args.p.now.side c.args.from c.args.from c.in-Some.man refl (sym c.in-Some.ensures.man) c.if-ne.ensures;
-  piece = (c.in_default.not-Pawn, c.in_default.not-King);
-}
-
-pub returns-then-is_empty-2 : goal.returns-then-is_empty-2
-returns-then-is_empty-2 c =
-    let none : c.steps-set.result ≡ 0 = c.is_empty-in_default.ensures.0 c.if-is_empty-2.true in record {
-      moves = HasListedBelow-skip _ _ _ _ _ c.requires.below (omega arith) (λ m l low high.
-          zero_one _ (bit_at-zero m.to) (rw none at (c.steps-set.ensures.whole m l (IsLegal-from _ m _ l.0 low high))));
-      memory = tt;
-      known = c.requires.known;
-    }
-
-pub guard_in-guard-requires-in_default : goal.guard_in-guard-requires-in_default
-guard_in-guard-requires-in_default c = record { survey = c.requires.survey; known = c.requires.known }
-
-pub is_unpinned-requires : goal.is_unpinned-requires
-is_unpinned-requires c = c.guard_in-guard-in_default.ensures.guard
-
-pub add_steps-requires : goal.add_steps-requires
-add_steps-requires c = record {
-  stands = stands_unless c.args.p.now.men c.args.p.now.side c.args.from c.args.from c.in-Some.man refl (sym c.in-Some.ensures.man) c.if-ne.ensures;
-  piece = c.in_default.not-Pawn;
-  unpinned = c.is_unpinned.ensures c.if-is_unpinned.true;
-  below = c.requires.below;
-  steps = c.steps-set.ensures.steps;
-  whole = c.steps-set.ensures.whole;
-}
-
-pub returns-then-is_unpinned : goal.returns-then-is_unpinned
-returns-then-is_unpinned c = record {
-  moves = c.add_steps.ensures.added;
-  memory = c.add_steps.ensures.memory;
-  known = c.guard_in-guard-in_default.ensures.known;
-}
-
-pub add_targets-requires-in_default : goal.add_targets-requires-in_default
-add_targets-requires-in_default c = record {
+pub add_piece_moves-requires : goal.add_piece_moves-requires
+add_piece_moves-requires c = record {
   position = c.requires.position;
-  guard = c.guard_in-guard-in_default.ensures.guard;
+  survey = c.requires.survey;
+  stands = stands_if c.args.p.now.men c.args.p.now.side c.args.from c.in-Some.man (sym c.in-Some.ensures.man) (c.if-not-is_of.ensures.relation.0 refl);
+  piece = (c.in_default.not-Pawn, c.in_default.not-King);
+  known = c.requires.known;
   below = c.requires.below;
-  whole = c.steps-set.ensures.whole;
 }
 
-pub returns-else-is_unpinned : goal.returns-else-is_unpinned
-returns-else-is_unpinned c = record {
-  moves = c.add_targets-in_default.ensures.added;
-  memory = c.add_targets-in_default.ensures.memory;
-  known = c.guard_in-guard-in_default.ensures.known;
-}
+pub returns-in_default : goal.returns-in_default
+returns-in_default c = c.add_piece_moves.ensures

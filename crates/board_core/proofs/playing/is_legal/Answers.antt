@@ -1,8 +1,22 @@
-use Rattle.std.proofs.Common.{arith}
+use Rattle.std.proofs.Common.{◌∙◌, ap, arith}
 use Rattle.std.proofs.lemmas.Bool.{false≢true}
 use Rattle.board_core.proofs.Safety.{safe_legal, legal_safe, same_case, no_case}
 use Rattle.board_core.proofs.ComputedLists.{legal_computed}
+use Rattle.board_core.proofs.SideSets.{side_set, set_of_side}
+use Rattle.board_core.proofs.SoleKing.{one_king}
+use Rattle.board_core.specs.declared.sides.Sides.{Sides}
+use Rattle.board_core.specs.Sides.{squares_of}
 use Rattle.board_core.proofs.playing.is_legal.Goals as goal
+
+pub king_of-king-requires-clause-one : goal.king_of-king-requires-clause-one
+king_of-king-requires-clause-one c = one_king c.args.p.now c.args.p.now.side c.requires.position
+
+pub king_of-king-requires-clause-own : goal.king_of-king-requires-clause-own
+king_of-king-requires-clause-own c =
+    c.of_side.ensures ∙ ap (λ (x : Sides). squares_of x c.args.p.now.side) c.requires.sides ∙ side_set c.args.p.now.men c.args.p.now.side
+
+pub is_safe-requires-clause-enemy : goal.is_safe-requires-clause-enemy
+is_safe-requires-clause-enemy c = λ s _ t. rw (c.of_side-in-Some.ensures, c.other.ensures) (set_of_side c.args.p.now.men _ c.args.sides.now s c.requires.sides t)
 
 pub returns-in-Some-clause-relation : goal.returns-in-Some-clause-relation
 returns-in-Some-clause-relation c = (

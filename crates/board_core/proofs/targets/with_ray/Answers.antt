@@ -1,4 +1,4 @@
-use Rattle.std.proofs.Common.{arith, inl, inr, refl, sym, ◌∙◌}
+use Rattle.std.proofs.Common.{arith, inl, inr, sym, ◌∙◌}
 use Rattle.std.proofs.lemmas.Bool.{false≢true}
 use Rattle.board_core.specs.Inside.Search.{IsRayEnd}
 use Rattle.board_core.proofs.Outward.{inside}
@@ -15,19 +15,19 @@ loop-k-init c = record {
   only = λ s bit. inl bit;
 }
 
-pub returns-then-eq-clause-kept : goal.returns-then-eq-clause-kept
-returns-then-eq-clause-kept c = c.loop-k.invariant.kept
+pub returns-then-is_of-clause-kept : goal.returns-then-is_of-clause-kept
+returns-then-is_of-clause-kept c = c.loop-k.invariant.kept
 
-pub returns-then-eq-clause-reached : goal.returns-then-eq-clause-reached
-returns-then-eq-clause-reached c = λ n s away b along clear free.
-    let own = taken_if c.args.men.now c.args.side c.along-to.result c.along-to.result c.in-Some.man c.eq.result refl (sym c.in-Some.ensures.man) c.eq.ensures c.if-eq.true in
+pub returns-then-is_of-clause-reached : goal.returns-then-is_of-clause-reached
+returns-then-is_of-clause-reached c = λ n s away b along clear free.
+    let own = taken_if c.args.men.now c.args.side c.along-to.result c.in-Some.man (sym c.in-Some.ensures.man) (c.is_of.ensures.relation.0 c.if-is_of.true) in
     elim (up_to c.args.men.now c.args.direction c.loop-k.k n c.args.from c.along-to.result s c.in-Some.man (sym c.in-Some.ensures.man) (omega arith) c.along-to.ensures along clear) [
       | inl lt ↦ c.loop-k.invariant.reached n s away lt b along
       | inr e ↦ absurd (free own.0 (rw e own.1))
     ]
 
-pub returns-then-eq-clause-only : goal.returns-then-eq-clause-only
-returns-then-eq-clause-only c = c.loop-k.invariant.only
+pub returns-then-is_of-clause-only : goal.returns-then-is_of-clause-only
+returns-then-is_of-clause-only c = c.loop-k.invariant.only
 
 pub returns-in-Some-clause-kept : goal.returns-in-Some-clause-kept
 returns-in-Some-clause-kept c = λ s bit. c.with.ensures.kept s (c.loop-k.invariant.kept s bit)
@@ -47,7 +47,7 @@ returns-in-Some-clause-only c =
       away = omega arith;
       along = c.along-to.ensures;
       clear = c.loop-k.invariant.clear;
-      free = free_else c.args.men.now c.args.side c.along-to.result c.along-to.result c.in-Some.man c.eq.result refl (sym c.in-Some.ensures.man) c.eq.ensures (λ t. false≢true (sym c.if-eq.false ∙ t));
+      free = free_else c.args.men.now c.args.side c.along-to.result c.in-Some.man (sym c.in-Some.ensures.man) (λ e. false≢true (sym c.if-is_of.false ∙ c.is_of.ensures.relation.1 e));
     })
     c.loop-k.invariant.only
 
@@ -64,7 +64,7 @@ loop-k-preserved c =
             away = omega arith;
             along = c.along-to.ensures;
             clear = i.clear;
-            free = free_where_none c.args.men.now c.args.side c.along-to.result c.along-to.result refl (sym c.in_default.ensures.man);
+            free = free_where_none c.args.men.now c.args.side c.along-to.result (sym c.in_default.ensures.man);
           })
           i.only;
     }
