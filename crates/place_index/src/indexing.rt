@@ -29,7 +29,7 @@ use std::marker::Model;
 pub(crate) struct Turned<'a> {
     shape: &'a Shape,
     men: &'a [Man],
-    lone_squares: LoneSquares,
+    lone_squares: &'a LoneSquares,
     turn: Turn,
 }
 
@@ -91,17 +91,15 @@ fn number_leading(turned: &Turned, earlier: &mut Earlier) -> u64
     leading.number(turned.shape().file())
 }
 
-/// The number of the group at this place among the groups, after the men of those before it. Its own men are among the earlier
-/// ones then.
+/// The number of a group after the leading one, at this place among the groups, after the men of those before it. Its own men
+/// are among the earlier ones then.
 fn number_at(turned: &Turned, place: usize, earlier: &mut Earlier) -> u64
+    requires after_leading { 1 ≤ place }
     requires place { place < length (groups_of turned.now.shape) }
     requires before { AreBefore turned.now place earlier.old }
     ensures number { result ≡ slice_index (numbers_of turned.now.shape turned.now.men) place }
     ensures after { AreBefore turned.now (place + 1) earlier.new }
 {
-    if place == 0 {
-        return number_leading(turned, earlier);
-    }
     let groups = turned.shape().groups();
     number_group(turned, groups[place], earlier)
 }
@@ -112,8 +110,9 @@ fn sum_of_groups(turned: &Turned) -> u64
 {
     let factors = turned.shape().factors();
     let mut earlier = Earlier::new();
-    let mut sum: u64 = 0;
-    for place in 0..factors.len() {
+    let leading = number_leading(turned, &mut earlier);
+    let mut sum = leading * factors[0];
+    for place in 1..factors.len() {
         let number = number_at(turned, place, &mut earlier);
         sum += number * factors[place];
     }
@@ -135,7 +134,7 @@ pub fn index(shape: &Shape, placed: &Placed) -> u64
     let turned = Turned {
         shape,
         men,
-        lone_squares,
+        lone_squares: &lone_squares,
         turn,
     };
     sum_of_groups(&turned)

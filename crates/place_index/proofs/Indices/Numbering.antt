@@ -175,17 +175,11 @@ group_at t groups none (suc n) h e ne lt =
     subst (λ g. IsAt t g (suc n)) (sym (ap (λ gs. get_or gs (suc n) none) e)) (is_after t n none h (omega (arith, lt)))
 
 -- the leading group comes first
-pub first_number : (l : Layout) (men : List Man) (place : ℕ) → place ≡ 0 → lead_number l men ≡ slice_index (numbers_of l men) place
-first_number l men place e = sym (ap (slice_index (numbers_of l men)) e ∙ ap (λ xs. slice_index xs 0) (numbers_are l men))
+pub first_number : (l : Layout) (men : List Man) → lead_number l men ≡ slice_index (numbers_of l men) 0
+first_number l men = sym (ap (λ xs. slice_index xs 0) (numbers_are l men))
 
-pub none_before : (t : TurnedMen) (place : ℕ) (earlier : List ℕ) → place ≡ 0 → AreBefore t place earlier → earlier ≡ []
-none_before t place [] e b = refl
-none_before t zero (x ∷ xs) e b = absurd (omega (arith, b.0))
-none_before t (suc n) (x ∷ xs) e b = absurd (omega (arith, e))
+pub first_before : (t : TurnedMen) (earlier : List ℕ) → CountLike earlier (squares_of_all t.men (lead_codes t.shape)) → AreBefore t 1 earlier
+first_before t earlier like = like
 
-pub first_after : (t : TurnedMen) (place : ℕ) (earlier : List ℕ) → place ≡ 0 → CountLike earlier (squares_of_all t.men (lead_codes t.shape)) → AreBefore t (place + 1) earlier
-first_after t zero earlier e like = like
-first_after t (suc n) earlier e like = absurd (omega (arith, e))
-
-pub start_before : (t : TurnedMen) (earlier : List ℕ) → earlier ≡ [] → AreBefore t 0 earlier
-start_before t earlier e = (ap length e, λ s. ap (λ l. taken l s) e)
+pub some_numbers : (l : Layout) (men : List Man) → 0 < length (numbers_of l men)
+some_numbers l men = omega (arith, ap length (numbers_are l men))

@@ -21,4 +21,4 @@ pub record IsTurned (t : TurnedMen) : Type 0 where
 pub record KeepsTurned (a : Inside) : Type 0 where
   pub turned : IsTurned (turned_men a)
   pub men : IsPlacement a.shape.now.material a.men.now
-  pub lone_squares : AreLoneSquares a.men.now a.lone_squares
+  pub lone_squares : AreLoneSquares a.men.now a.lone_squares.now

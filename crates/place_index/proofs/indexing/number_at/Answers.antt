@@ -1,32 +1,26 @@
-use Rattle.std.proofs.Common.{◌∙◌, ◌+◌, ap, sym, subst}
+use Rattle.std.proofs.Common.{◌∙◌, ◌+◌, ap, sym, subst, arith}
 use Rattle.place_index.specs.Shape.{group, groups_of}
 use Rattle.place_index.specs.Inside.TurnedMen.{AreBefore}
-use Rattle.place_index.proofs.Indices.Numbering.{group_at, first_number, first_after}
+use Rattle.place_index.proofs.Indices.Numbering.{group_at}
 use Rattle.place_index.proofs.indexing.number_at.Goals as goal
-
-pub returns-then-place-eq0-clause-number : goal.returns-then-place-eq0-clause-number
-returns-then-place-eq0-clause-number c = c.number_leading.ensures.number ∙ first_number c.args.turned.now.shape c.args.turned.now.men c.args.place c.if-place-eq0.true
-
-pub returns-then-place-eq0-clause-after : goal.returns-then-place-eq0-clause-after
-returns-then-place-eq0-clause-after c = first_after c.args.turned.now c.args.place c.number_leading.new.earlier c.if-place-eq0.true c.number_leading.ensures.earlier
 
 pub number_group-requires-clause-once : goal.number_group-requires-clause-once
 number_group-requires-clause-once c =
-    (group_at c.args.turned.now c.groups-groups.result.now (group 0 0) c.args.place c.shape.ensures.turned (c.groups-groups.ensures ∙ ap groups_of c.shape.ensures.is) c.if-place-eq0.false c.requires.place).once
+    (group_at c.args.turned.now c.groups-groups.result.now (group 0 0) c.args.place c.shape.ensures.turned (c.groups-groups.ensures ∙ ap groups_of c.shape.ensures.is) (λ e. omega (arith, e, c.requires.after_leading)) c.requires.place).once
 
 pub number_group-requires-clause-room : goal.number_group-requires-clause-room
 number_group-requires-clause-room c =
-    (group_at c.args.turned.now c.groups-groups.result.now (group 0 0) c.args.place c.shape.ensures.turned (c.groups-groups.ensures ∙ ap groups_of c.shape.ensures.is) c.if-place-eq0.false c.requires.place).room
+    (group_at c.args.turned.now c.groups-groups.result.now (group 0 0) c.args.place c.shape.ensures.turned (c.groups-groups.ensures ∙ ap groups_of c.shape.ensures.is) (λ e. omega (arith, e, c.requires.after_leading)) c.requires.place).room
     c.args.earlier.now c.requires.before
 
 pub returns-clause-number : goal.returns-clause-number
 returns-clause-number c =
     c.number_group.ensures.number
-    ∙ (group_at c.args.turned.now c.groups-groups.result.now (group 0 0) c.args.place c.shape.ensures.turned (c.groups-groups.ensures ∙ ap groups_of c.shape.ensures.is) c.if-place-eq0.false c.requires.place).number
+    ∙ (group_at c.args.turned.now c.groups-groups.result.now (group 0 0) c.args.place c.shape.ensures.turned (c.groups-groups.ensures ∙ ap groups_of c.shape.ensures.is) (λ e. omega (arith, e, c.requires.after_leading)) c.requires.place).number
     c.args.earlier.now c.requires.before
 
 pub returns-clause-after : goal.returns-clause-after
 returns-clause-after c =
     subst (AreBefore c.args.turned.now (c.args.place + 1)) (sym c.number_group.ensures.earlier)
-    ((group_at c.args.turned.now c.groups-groups.result.now (group 0 0) c.args.place c.shape.ensures.turned (c.groups-groups.ensures ∙ ap groups_of c.shape.ensures.is) c.if-place-eq0.false c.requires.place).after
+    ((group_at c.args.turned.now c.groups-groups.result.now (group 0 0) c.args.place c.shape.ensures.turned (c.groups-groups.ensures ∙ ap groups_of c.shape.ensures.is) (λ e. omega (arith, e, c.requires.after_leading)) c.requires.place).after
     c.args.earlier.now c.requires.before)
