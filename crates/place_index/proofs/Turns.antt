@@ -2,6 +2,7 @@
 pub mod Alone
 pub mod Board
 pub mod LeadSquares
+pub mod LeadingPieces
 pub mod Mirrorings
 pub mod TurnTable
 pub mod TurnedMen

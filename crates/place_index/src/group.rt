@@ -1,6 +1,13 @@
-ghost use Rattle.std.specs.Prelude.{◌≡◌, ◌≤◌, ◌<◌, ◌∷◌, length, drop, slice_index};
+ghost use Rattle.std.specs.Prelude.{◌≡◌, ◌≤◌, ◌<◌, ◌+◌, ◌++◌, ◌∷◌, length, drop, slice_index};
+ghost use Rattle.place_index.specs.Index.{first_square};
+ghost use Rattle.place_index.specs.Material.{count_of, pieces_of};
+ghost use Rattle.place_index.specs.Men.{squares_of};
+ghost use Rattle.place_index.specs.Others.{free_set_number};
 ghost use Rattle.place_index.specs.Shape.{group, runs};
 
+use crate::indexing::Turned;
+use crate::numbers::{first_square, free_number, free_set_number};
+use crate::short_lists::Earlier;
 use arrayvec::ArrayVec;
 
 /// Men of a table that are numbered together: the leading group, or a run of equal men.
@@ -37,4 +44,22 @@ pub(crate) fn groups(lead: u8, pieces: &[u8]) -> ArrayVec<Group, 5>
         start = i + 1;
     }
     groups
+}
+
+/// The number of one of the groups after the leading one, after earlier men, among whom its men are then.
+pub(crate) fn number_group(turned: &Turned, group: Group, earlier: &mut Earlier) -> u64
+    requires once { group.men ≡ 1 → count_of (pieces_of turned.now.shape.material) group.code ≡ 1 }
+    requires room { length earlier.old + length (squares_of turned.now.men group.code) ≤ 5 }
+    ensures number { result ≡ free_set_number (first_square group.code) earlier.old (squares_of turned.now.men group.code) }
+    ensures earlier { earlier.new ≡ earlier.old ++ squares_of turned.now.men group.code }
+{
+    let first = first_square(group.code);
+    if group.men != 1 {
+        let squares = turned.squares_of(group.code);
+        return free_set_number(first, earlier, squares.as_slice());
+    }
+    let square = turned.square_of(group.code);
+    let number = free_number(first, earlier, square);
+    earlier.push(square);
+    number
 }

@@ -1,139 +1,120 @@
 //! The index of a placement.
 
-ghost use Rattle.std.specs.Prelude.{◌≡◌, ◌<◌, ◌≤◌, [], true, false};
-ghost use Rattle.place_index.specs.Inside.Groups.{AreLoneSquares, IsLeadTurned};
-ghost use Rattle.place_index.specs.Index.{IsShape, IsPlacement, lead_codes, lead_number, squares_of_all, numbers_of, sum_of_products, index_of};
+ghost use Rattle.std.specs.Prelude.{◌≡◌, ◌<◌, ◌≤◌, ◌+◌, ◌∷◌, [], length, slice_index, true};
+ghost use Rattle.place_index.specs.Index.{lead_codes, lead_number, squares_of_all, numbers_of, sum_of_products, index_of};
 ghost use Rattle.place_index.specs.Inside.Groups.{CountLike};
-ghost use Rattle.place_index.specs.Shape.{has_pawns, lead_men, factors_of, size_of, greatest_size};
-ghost use Rattle.place_index.specs.Inside.Turns.{turned_by};
+ghost use Rattle.place_index.specs.Inside.Turned.{IsTurned};
+ghost use Rattle.place_index.specs.Inside.TurnedMen.{AreBefore};
+ghost use Rattle.place_index.specs.Material.{count_of, pieces_of};
+ghost use Rattle.place_index.specs.Men.{squares_of, square_of};
+ghost use Rattle.place_index.specs.Pawns.{pawn_numbers_of};
+ghost use Rattle.place_index.specs.Shape.{factors_of, groups_of, has_pawns, lead_code, size_of};
 
-use crate::lone_squares::{lone_square, lone_squares, number_group};
+use crate::group::number_group;
+use crate::leading::Leading;
+use crate::lone_squares::LoneSquares;
 use crate::man::Man;
-use crate::material::{leading_men, leading_pawn};
-use crate::numbers::{pawns_before, pawns_number, pieces_number};
+use crate::material::leading_pawn;
 use crate::placed::Placed;
 use crate::shape::Shape;
-use crate::short_lists::Earlier;
-use crate::squares::{pawn_numbers_of, pawn_square};
+use crate::short_lists::{Earlier, UpToThree};
+use crate::squares::{pawn_numbers_of, squares_of};
 use crate::turn::Turn;
-use crate::turning::{lead_codes, turn_of};
+use crate::turning::turn_of;
+use board_core::Square;
+use std::marker::Model;
 
-/// The number of the leading pieces, whose squares are the first ones of earlier men.
-fn lead_pieces(
-    shape: &Shape,
-    men: &[Man],
-    lone_squares: &[u8; 16],
+/// A placement turned as its table wants it; only `index` makes one. Contracts see the shape, and the men after the turning.
+#[derive(Drop)]
+pub(crate) struct Turned<'a> {
+    shape: &'a Shape,
+    men: &'a [Man],
+    lone_squares: &'a LoneSquares,
     turn: Turn,
-    earlier: &mut Earlier,
-) -> u64
-    requires shape { IsShape shape.now }
-    requires men { IsPlacement shape.now.material men.now }
-    requires lone_squares { AreLoneSquares men.now lone_squares.now }
-    requires turned { IsPlacement shape.now.material (turned_by turn men.now) }
-    requires lead { IsLeadTurned shape.now (turned_by turn men.now) }
-    requires plain { has_pawns shape.now.material ≡ false }
-    requires none { earlier.old ≡ [] }
-    ensures number { result ≡ lead_number shape.now (turned_by turn men.now) }
-    ensures earlier { CountLike earlier.new (squares_of_all (turned_by turn men.now) (lead_codes shape.now)) }
-{
-    for code in lead_codes(shape) {
-        let from = lone_square(lone_squares, *code);
-        earlier.push(turn.square(from));
-    }
-    pieces_number(shape, men, turn, earlier.as_slice())
 }
 
-/// The number of a leading pawn without others, whose square is the first one of earlier men.
-fn lone_pawn(
-    shape: &Shape,
-    men: &[Man],
-    lone_squares: &[u8; 16],
-    turn: Turn,
-    earlier: &mut Earlier,
-) -> u64
-    requires shape { IsShape shape.now }
-    requires men { IsPlacement shape.now.material men.now }
-    requires lone_squares { AreLoneSquares men.now lone_squares.now }
-    requires turned { IsPlacement shape.now.material (turned_by turn men.now) }
-    requires lead { IsLeadTurned shape.now (turned_by turn men.now) }
-    requires pawned { has_pawns shape.now.material ≡ true }
-    requires one { lead_men shape.now.material ≡ 1 }
-    requires none { earlier.old ≡ [] }
-    ensures number { result ≡ lead_number shape.now (turned_by turn men.now) }
-    ensures earlier { CountLike earlier.new (squares_of_all (turned_by turn men.now) (lead_codes shape.now)) }
-{
-    let material = shape.material();
-    let from = lone_square(lone_squares, leading_pawn(material));
-    let square = turn.square(from);
-    earlier.push(square);
-    pawns_before(shape.file(), 0, (square / 8) as usize - 1)
+impl<'a> Model for Turned<'a> {
+    ghost use Rattle.place_index.specs.Inside.TurnedMen.{TurnedMen};
+
+    ghost Value = { TurnedMen };
+
+    ghost use Rattle.place_index.specs.Inside.Turned.{turned_men, KeepsTurned};
+
+    ghost view = { turned_men };
+
+    ghost invariant = { KeepsTurned };
 }
 
-/// The number of the leading pawns, whose squares are the first ones of earlier men.
-fn lead_pawns(shape: &Shape, men: &[Man], turn: Turn, earlier: &mut Earlier) -> u64
-    requires shape { IsShape shape.now }
-    requires men { IsPlacement shape.now.material men.now }
-    requires turned { IsPlacement shape.now.material (turned_by turn men.now) }
-    requires lead { IsLeadTurned shape.now (turned_by turn men.now) }
-    requires pawned { has_pawns shape.now.material ≡ true }
-    requires none { earlier.old ≡ [] }
-    ensures number { result ≡ lead_number shape.now (turned_by turn men.now) }
-    ensures earlier { CountLike earlier.new (squares_of_all (turned_by turn men.now) (lead_codes shape.now)) }
-{
-    let material = shape.material();
-    let numbers = pawn_numbers_of(men, turn, leading_pawn(material));
-    for number in numbers.as_slice() {
-        earlier.push(pawn_square(*number));
+impl<'a> Turned<'a> {
+    /// The shape for which the men are turned.
+    pub(crate) fn shape(&self) -> &Shape
+        ensures is { result.now ≡ self.now.shape }
+        ensures turned { IsTurned self.now }
+    {
+        self.shape
     }
-    pawns_number(shape.file(), numbers.as_slice())
+
+    /// The square of the man who is the only one with this code.
+    pub(crate) fn square_of(&self, code: u8) -> Square
+        requires { count_of (pieces_of self.now.shape.material) code ≡ 1 }
+        ensures { squares_of self.now.men code ≡ result ∷ [] }
+    {
+        let from = self.lone_squares.of(code);
+        self.turn.square(from)
+    }
+
+    /// The squares of the men with this code, the highest first.
+    pub(crate) fn squares_of(&self, code: u8) -> UpToThree
+        ensures { result ≡ squares_of self.now.men code }
+    {
+        squares_of(self.men, self.turn, code)
+    }
+
+    /// The pawn numbers of the leading pawns, the greatest first.
+    pub(crate) fn pawn_numbers(&self) -> UpToThree
+        requires { has_pawns self.now.shape.material ≡ true }
+        ensures { result ≡ pawn_numbers_of self.now.men (lead_code self.now.shape.material) }
+    {
+        let material = self.shape.material();
+        pawn_numbers_of(self.men, self.turn, leading_pawn(material))
+    }
 }
 
 /// The number of the leading group, whose squares are the first ones of earlier men.
-fn lead_group(
-    shape: &Shape,
-    men: &[Man],
-    lone_squares: &[u8; 16],
-    turn: Turn,
-    earlier: &mut Earlier,
-) -> u64
-    requires shape { IsShape shape.now }
-    requires men { IsPlacement shape.now.material men.now }
-    requires lone_squares { AreLoneSquares men.now lone_squares.now }
-    requires turned { IsPlacement shape.now.material (turned_by turn men.now) }
-    requires lead { IsLeadTurned shape.now (turned_by turn men.now) }
-    requires none { earlier.old ≡ [] }
-    ensures number { result ≡ lead_number shape.now (turned_by turn men.now) }
-    ensures earlier { CountLike earlier.new (squares_of_all (turned_by turn men.now) (lead_codes shape.now)) }
+fn number_leading(turned: &Turned, earlier: &mut Earlier) -> u64
+    requires { earlier.old ≡ [] }
+    ensures number { result ≡ lead_number turned.now.shape turned.now.men }
+    ensures earlier { CountLike earlier.new (squares_of_all turned.now.men (lead_codes turned.now.shape)) }
 {
-    let material = shape.material();
-    if !material.has_pawns() {
-        return lead_pieces(shape, men, lone_squares, turn, earlier);
-    }
-    if leading_men(material) == 1 {
-        lone_pawn(shape, men, lone_squares, turn, earlier)
-    } else {
-        lead_pawns(shape, men, turn, earlier)
-    }
+    let leading = Leading::of(turned);
+    leading.stand(earlier);
+    leading.number(turned.shape().file())
 }
 
-/// The sum of the groups' numbers after the turn, each times its factor.
-fn sum_of_groups(shape: &Shape, men: &[Man], lone_squares: &[u8; 16], turn: Turn) -> u64
-    requires shape { IsShape shape.now }
-    requires men { IsPlacement shape.now.material men.now }
-    requires lone_squares { AreLoneSquares men.now lone_squares.now }
-    requires turned { IsPlacement shape.now.material (turned_by turn men.now) }
-    requires lead { IsLeadTurned shape.now (turned_by turn men.now) }
-    requires fits { sum_of_products (numbers_of shape.now (turned_by turn men.now)) (factors_of shape.now) ≤ greatest_size }
-    ensures { result ≡ sum_of_products (numbers_of shape.now (turned_by turn men.now)) (factors_of shape.now) }
+/// The number of a group after the leading one, at this place among the groups, after the men of those before it. Its own men
+/// are among the earlier ones then.
+fn number_at(turned: &Turned, place: usize, earlier: &mut Earlier) -> u64
+    requires after_leading { 1 ≤ place }
+    requires place { place < length (groups_of turned.now.shape) }
+    requires before { AreBefore turned.now place earlier.old }
+    ensures number { result ≡ slice_index (numbers_of turned.now.shape turned.now.men) place }
+    ensures after { AreBefore turned.now (place + 1) earlier.new }
 {
-    let groups = shape.groups();
-    let factors = shape.factors();
+    let groups = turned.shape().groups();
+    number_group(turned, groups[place], earlier)
+}
+
+/// The sum of the groups' numbers, each times its factor.
+fn sum_of_groups(turned: &Turned) -> u64
+    ensures { result ≡ sum_of_products (numbers_of turned.now.shape turned.now.men) (factors_of turned.now.shape) }
+{
+    let factors = turned.shape().factors();
     let mut earlier = Earlier::new();
-    let lead = lead_group(shape, men, lone_squares, turn, &mut earlier);
-    let mut sum = lead * factors[0];
-    for i in 1..groups.len() {
-        let number = number_group(&mut earlier, men, lone_squares, turn, groups[i]);
-        sum += number * factors[i];
+    let leading = number_leading(turned, &mut earlier);
+    let mut sum = leading * factors[0];
+    for place in 1..factors.len() {
+        let number = number_at(turned, place, &mut earlier);
+        sum += number * factors[place];
     }
     sum
 }
@@ -148,7 +129,13 @@ pub fn index(shape: &Shape, placed: &Placed) -> u64
     ensures below { result < size_of shape.now }
 {
     let men = placed.men();
-    let lone_squares = lone_squares(men);
+    let lone_squares = LoneSquares::new(men);
     let turn = turn_of(shape, placed, &lone_squares);
-    sum_of_groups(shape, men, &lone_squares, turn)
+    let turned = Turned {
+        shape,
+        men,
+        lone_squares: &lone_squares,
+        turn,
+    };
+    sum_of_groups(&turned)
 }

@@ -7,6 +7,7 @@ mod finding;
 mod group;
 mod indexing;
 mod laws;
+mod leading;
 mod lone_squares;
 mod man;
 mod material;

@@ -1,25 +1,21 @@
 //! The numbers of the groups.
 
-ghost use Rattle.std.specs.Prelude.{◌≡◌, ◌<◌, ◌≤◌, ◌+◌, ◌++◌, ℕ, length, slice_index, false};
+ghost use Rattle.std.specs.Prelude.{◌≡◌, ◌<◌, ◌≤◌, ◌+◌, ◌++◌, ℕ, length, slice_index};
 ghost use Rattle.place_index.specs.Choose.{set_number, IsFallingBelow};
-ghost use Rattle.place_index.specs.Inside.Groups.{ArePawnsAt, IsLeadTurned};
-ghost use Rattle.place_index.specs.Index.{IsPlacement, first_square, lead_codes, lead_pawns_number, lead_number, squares_of_all};
+ghost use Rattle.place_index.specs.Inside.Groups.{ArePawnsAt};
+ghost use Rattle.place_index.specs.Index.{first_square, lead_pawns_number};
 ghost use Rattle.place_index.specs.Kings.{AreTurnedKings, kings_number};
 ghost use Rattle.place_index.specs.Others.{taken, free_number, free_set_number};
 ghost use Rattle.place_index.specs.Pawns.{pawns_before};
-ghost use Rattle.place_index.specs.Shape.{has_pawns};
 ghost use Rattle.place_index.specs.Square.{before};
 ghost use Rattle.place_index.specs.Three.{three_number, triangle_number, lower_number};
-ghost use Rattle.place_index.specs.Inside.Turns.{turned_by};
 
 use crate::choose::choices;
-use crate::man::{BLACK_PAWN, Man, WHITE_PAWN};
-use crate::material::leading_men;
-use crate::shape::Shape;
+use crate::man::{BLACK_PAWN, WHITE_PAWN};
 use crate::short_lists::Earlier;
 use crate::squares::pawn_square;
 use crate::tables::{KINGS, LOWER, PAWNS_BEFORE, TRIANGLE};
-use crate::turn::Turn;
+use board_core::Square;
 
 /// 1 where the first square is the lower one, else 0.
 #[tactic(auto, unfolding(crate::specs::Square::before))]
@@ -30,55 +26,51 @@ fn before(a: u8, b: u8) -> u64
     if a < b { 1 } else { 0 }
 }
 
-fn triangle_number(square: u8) -> u64
-    requires { square < 64 }
+fn triangle_number(square: Square) -> u64
     ensures is { result ≡ triangle_number square }
     ensures few { result ≤ 10 }
 {
-    TRIANGLE[square as usize] as u64
+    TRIANGLE[square.number() as usize] as u64
 }
 
-fn lower_number(square: u8) -> u64
-    requires { square < 64 }
+fn lower_number(square: Square) -> u64
     ensures is { result ≡ lower_number square }
     ensures few { result ≤ 28 }
 {
-    LOWER[square as usize] as u64
+    LOWER[square.number() as usize] as u64
 }
 
 /// The number of a leading group of three.
 #[tactic(auto, unfolding(crate::specs::Three::three_at))]
-fn three_number(a: u8, b: u8, c: u8) -> u64
-    requires a { a < 64 }
-    requires b { b < 64 }
-    requires c { c < 64 }
+pub(crate) fn three_number(a: Square, b: Square, c: Square) -> u64
     ensures { result ≡ three_number a b c }
 {
-    let earlier = before(a, b);
-    let third_earlier = before(a, c) + before(b, c);
-    let third = (c as u64).saturating_sub(third_earlier);
-    let rank = (a / 8) as u64;
-    if a % 8 != a / 8 {
-        let second = (b as u64).saturating_sub(earlier);
-        return (triangle_number(a) * 63 + second) * 62 + third;
+    let (first, second, third) = (a.number(), b.number(), c.number());
+    let earlier = before(first, second);
+    let third_earlier = before(first, third) + before(second, third);
+    let last = (third as u64).saturating_sub(third_earlier);
+    let rank = a.rank() as u64;
+    if a.file() != a.rank() {
+        let next = (second as u64).saturating_sub(earlier);
+        return (triangle_number(a) * 63 + next) * 62 + last;
     }
-    if b % 8 != b / 8 {
-        return (378 + rank * 28 + lower_number(b)) * 62 + third;
+    if b.file() != b.rank() {
+        return (378 + rank * 28 + lower_number(b)) * 62 + last;
     }
-    let second = ((b / 8) as u64).saturating_sub(earlier);
-    if c % 8 != c / 8 {
-        return 30380 + rank * 196 + second * 28 + lower_number(c);
+    let next = (b.rank() as u64).saturating_sub(earlier);
+    if c.file() != c.rank() {
+        return 30380 + rank * 196 + next * 28 + lower_number(c);
     }
-    31164 + rank * 42 + second * 6 + ((c / 8) as u64).saturating_sub(third_earlier)
+    31164 + rank * 42 + next * 6 + (c.rank() as u64).saturating_sub(third_earlier)
 }
 
 /// The number of a leading group of two kings.
-fn kings_number(a: u8, b: u8) -> u64
+pub(crate) fn kings_number(a: Square, b: Square) -> u64
     requires { AreTurnedKings a b }
     ensures { result ≡ kings_number a b }
 {
     let triangle = triangle_number(a);
-    KINGS[triangle as usize * 64 + b as usize] as u64
+    KINGS[triangle as usize * 64 + b.number() as usize] as u64
 }
 
 /// The number of a set, the greatest of its numbers first.
@@ -114,26 +106,9 @@ pub(crate) fn pawns_number(file: u8, numbers: &[u8]) -> u64
 {
     let greatest = numbers[0];
     let lead = pawn_square(greatest);
-    let earlier = pawns_before(file, numbers.len() - 1, (lead / 8) as usize - 1);
+    let earlier = pawns_before(file, numbers.len() - 1, lead.rank() as usize - 1);
     let lower = set_number(&numbers[1..]);
     earlier + lower
-}
-
-/// The number of a leading group without pawns, whose men go to these squares.
-pub(crate) fn pieces_number(shape: &Shape, men: &[Man], turn: Turn, squares: &[u8]) -> u64
-    requires placed { IsPlacement shape.now.material (turned_by turn men.now) }
-    requires plain { has_pawns shape.now.material ≡ false }
-    requires lead { IsLeadTurned shape.now (turned_by turn men.now) }
-    requires squares { squares.now ≡ squares_of_all (turned_by turn men.now) (lead_codes shape.now) }
-    ensures { result ≡ lead_number shape.now (turned_by turn men.now) }
-{
-    let material = shape.material();
-    let lead = leading_men(material);
-    if lead == 3 {
-        three_number(squares[0], squares[1], squares[2])
-    } else {
-        kings_number(squares[0], squares[1])
-    }
 }
 
 /// How many of these men stand on lower squares.
@@ -161,13 +136,12 @@ pub(crate) fn first_square(code: u8) -> u8
 
 /// The square's number among the free ones from the first square on.
 #[tactic(auto, unfolding(crate::specs::Others::free_number))]
-pub(crate) fn free_number(first: u8, earlier: &Earlier, square: u8) -> u64
-    requires { square ≤ 64 }
+pub(crate) fn free_number(first: u8, earlier: &Earlier, square: Square) -> u64
     ensures is { result ≡ free_number first earlier.now square }
-    ensures small { result ≤ square }
+    ensures small { result ≤ 64 }
 {
     let lower = earlier.taken(square);
-    (square as u64)
+    (square.number() as u64)
         .saturating_sub(lower)
         .saturating_sub(first as u64)
 }
@@ -181,10 +155,11 @@ pub(crate) fn free_set_number(first: u8, earlier: &mut Earlier, squares: &[u8]) 
     ensures earlier { earlier.new ≡ earlier.old ++ squares.now }
 {
     let mut sum: u64 = 0;
-    for (i, square) in squares.iter().enumerate() {
-        let free = free_number(first, earlier, *square);
+    for (i, number) in squares.iter().enumerate() {
+        let square = Square::at(*number);
+        let free = free_number(first, earlier, square);
         sum += choices(free, (squares.len() - i) as u64);
-        earlier.push(*square);
+        earlier.push(square);
     }
     sum
 }

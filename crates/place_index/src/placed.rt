@@ -12,7 +12,7 @@ use crate::man::Man;
 use crate::material::Material;
 use crate::sweep::{exchange, men_on};
 use crate::turning::lead_pawn;
-use board_core::{Position, Side};
+use board_core::{Position, Side, Square};
 use std::marker::Model;
 
 /// What a table is asked for: a position's men with the colours of the table's name, the side to move, and the file of the
@@ -23,7 +23,7 @@ pub struct Placed {
     men: [Man; 5],
     count: u8,
     side: u8,
-    lead: u8,
+    lead: Square,
     file: u8,
 }
 
@@ -74,7 +74,7 @@ impl Placed {
     }
 
     /// The square of the leading pawn, where there are pawns.
-    pub(crate) fn lead_pawn(&self) -> u8
+    pub(crate) fn lead_pawn(&self) -> Square
         ensures { has_pawns self.now.material ≡ true → result ≡ lead_pawn self.now.material self.now.men }
     {
         self.lead
@@ -92,7 +92,7 @@ fn side_number(side: Side) -> u8
 }
 
 /// The square of the leading pawn; 0 without pawns.
-fn lead_square(material: Material, men: &[Man]) -> u8
+fn lead_square(material: Material, men: &[Man]) -> Square
     requires known { material < 145 }
     requires placed { IsPlacement material men.now }
     ensures { result ≡ lead_square material men.now }
@@ -100,15 +100,15 @@ fn lead_square(material: Material, men: &[Man]) -> u8
     if material.has_pawns() {
         lead_pawn(material, men)
     } else {
-        0
+        Square::at(0)
     }
 }
 
 /// The file of a square after the turning to the left, 0 to 3.
-fn left_file(square: u8) -> u8
+fn left_file(square: Square) -> u8
     ensures { result ≡ left_file square }
 {
-    let file = square % 8;
+    let file = square.file();
     if file < 4 { file } else { 7 - file }
 }
 

@@ -6,6 +6,7 @@ ghost use Rattle.place_index.specs.Inside.ShortLists.{inserted};
 ghost use Rattle.place_index.specs.Others.{taken};
 
 use crate::numbers::taken;
+use board_core::Square;
 use std::marker::Model;
 
 /// Up to three numbers, the greatest first.
@@ -99,27 +100,19 @@ impl Earlier {
         }
     }
 
-    /// The squares.
-    pub(crate) fn as_slice(&self) -> &[u8]
-        ensures { result.now ≡ self.now }
-    {
-        &self.squares[..self.men]
-    }
-
     /// Adds a man on this square.
-    pub(crate) fn push(&mut self, square: u8)
+    pub(crate) fn push(&mut self, square: Square)
         requires { length self.old < 5 }
         ensures { self.new ≡ self.old ++ square ∷ [] }
     {
-        self.squares[self.men] = square;
+        self.squares[self.men] = square.number();
         self.men += 1;
     }
 
     /// How many of the men stand on lower squares.
-    pub(crate) fn taken(&self, square: u8) -> u64
-        requires { square ≤ 64 }
+    pub(crate) fn taken(&self, square: Square) -> u64
         ensures { result ≡ taken self.now square }
     {
-        taken(&self.squares, square)
+        taken(&self.squares, square.number())
     }
 }

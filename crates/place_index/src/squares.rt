@@ -10,6 +10,7 @@ use crate::man::Man;
 use crate::short_lists::UpToThree;
 use crate::tables::{PAWN_NUMBERS, PAWN_SQUARES};
 use crate::turn::Turn;
+use board_core::Square;
 
 /// The squares to which the men with this code go, the highest first.
 pub(crate) fn squares_of(men: &[Man], turn: Turn, code: u8) -> UpToThree
@@ -27,7 +28,7 @@ pub(crate) fn squares_of(men: &[Man], turn: Turn, code: u8) -> UpToThree
             continue;
         }
         let square = turn.square(man.square);
-        squares.insert(square);
+        squares.insert(square.number());
     }
     squares
 }
@@ -56,19 +57,18 @@ pub(crate) fn pawn_numbers_of(men: &[Man], turn: Turn, code: u8) -> UpToThree
 }
 
 /// The pawn number of a square.
-pub(crate) fn pawn_number(square: u8) -> u8
-    requires { square < 64 }
+pub(crate) fn pawn_number(square: Square) -> u8
     ensures { result ≡ pawn_number square }
 {
-    PAWN_NUMBERS[square as usize]
+    PAWN_NUMBERS[square.number() as usize]
 }
 
 /// The square of a pawn number.
-pub(crate) fn pawn_square(number: u8) -> u8
+pub(crate) fn pawn_square(number: u8) -> Square
     requires { number < 48 }
     ensures is { result ≡ pawn_square number }
     ensures least { 8 ≤ result }
     ensures most { result < 56 }
 {
-    PAWN_SQUARES[number as usize]
+    Square::at(PAWN_SQUARES[number as usize])
 }

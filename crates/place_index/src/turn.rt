@@ -1,6 +1,6 @@
 //! All mirrorings of a placement in one.
 
-ghost use Rattle.std.specs.Prelude.{◌≡◌, ◌<◌, ◌≤◌, ◌+◌, ◌*◌, false};
+ghost use Rattle.std.specs.Prelude.{◌≡◌, ◌≤◌, ◌+◌, ◌*◌, false};
 ghost use Rattle.place_index.specs.Inside.Turns.{turn_number, turn_square};
 
 use crate::tables::TURNED;
@@ -47,11 +47,10 @@ impl Turn {
     }
 
     /// Where a man goes from this square.
-    pub(crate) fn square(self, square: Square) -> u8
-        ensures is { result ≡ turn_square self square }
-        ensures board { result < 64 }
+    pub(crate) fn square(self, square: Square) -> Square
+        ensures { result ≡ turn_square self square }
     {
         let turn = self.number();
-        TURNED[64 * turn + square.number() as usize]
+        Square::at(TURNED[64 * turn + square.number() as usize])
     }
 }

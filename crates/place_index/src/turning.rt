@@ -10,14 +10,14 @@ ghost use Rattle.place_index.specs.Square.{file, rank};
 ghost use Rattle.place_index.specs.Turning.{lead_pawn, turned};
 ghost use Rattle.place_index.specs.Inside.Turns.{turned_by, turn_square, low, is_first_above};
 
-use crate::lone_squares::lone_square;
+use crate::lone_squares::LoneSquares;
 use crate::man::Man;
 use crate::material::{Material, leading_men, leading_pawn};
 use crate::placed::Placed;
 use crate::shape::Shape;
-use crate::squares::pawn_square;
-use crate::tables::PAWN_NUMBERS;
+use crate::squares::{pawn_number, pawn_square};
 use crate::turn::Turn;
+use board_core::Square;
 
 /// The greater of this number and the man's pawn number, which counts for a man with this code alone.
 fn raised(greatest: u8, man: Man, code: u8) -> u8
@@ -28,7 +28,7 @@ fn raised(greatest: u8, man: Man, code: u8) -> u8
     if man.code != code {
         return greatest;
     }
-    let number = PAWN_NUMBERS[man.square.number() as usize];
+    let number = pawn_number(man.square);
     if number > greatest { number } else { greatest }
 }
 
@@ -49,12 +49,11 @@ fn greatest_number(men: &[Man], code: u8) -> u8
 }
 
 /// The square of the leading pawn: of the leading colour's pawns the one with the greatest pawn number.
-pub(crate) fn lead_pawn(material: Material, men: &[Man]) -> u8
+pub(crate) fn lead_pawn(material: Material, men: &[Man]) -> Square
     requires known { material < 145 }
     requires placed { IsPlacement material men.now }
     requires pawned { has_pawns material ≡ true }
-    ensures is { result ≡ lead_pawn material men.now }
-    ensures board { result < 64 }
+    ensures { result ≡ lead_pawn material men.now }
 {
     let code = leading_pawn(material);
     let greatest = greatest_number(men, code);
@@ -75,16 +74,15 @@ pub(crate) fn lead_codes(shape: &Shape) -> &[u8]
 }
 
 /// Whether the first of the leading men off the diagonal a1-h8, if there is one, stands above it after the turn.
-fn is_above(lone_squares: &[u8; 16], turn: Turn, lead: &[u8]) -> bool
+fn is_above(lone_squares: &LoneSquares, turn: Turn, lead: &[u8]) -> bool
     requires codes { (i : ℕ) → i < length lead.now → slice_index lead.now i < 16 }
-    requires board { (c : ℕ) → c < 16 → slice_index lone_squares.now c < 64 }
     ensures { result ≡ is_first_above (map (λ c. turn_square turn (slice_index lone_squares.now c)) lead.now) }
 {
     for code in lead {
-        let from = lone_square(lone_squares, *code);
+        let from = lone_squares.of(*code);
         let square = turn.square(from);
-        let file = square % 8;
-        let rank = square / 8;
+        let file = square.file();
+        let rank = square.rank();
         if file != rank {
             return file < rank;
         }
@@ -94,28 +92,26 @@ fn is_above(lone_squares: &[u8; 16], turn: Turn, lead: &[u8]) -> bool
 
 /// The turn of pieces: the first of the leading men goes to the left and to the bottom, and then the first one off the
 /// diagonal a1-h8 to below it.
-fn turn_of_pieces(lone_squares: &[u8; 16], lead: &[u8]) -> Turn
+fn turn_of_pieces(lone_squares: &LoneSquares, lead: &[u8]) -> Turn
     requires some { 1 ≤ length lead.now }
     requires codes { (i : ℕ) → i < length lead.now → slice_index lead.now i < 16 }
-    requires board { (c : ℕ) → c < 16 → slice_index lone_squares.now c < 64 }
     ensures left_right { result.left_right ≡ not (nat_lt (file (slice_index lone_squares.now (slice_index lead.now 0))) 4) }
     ensures bottom_top { result.bottom_top ≡ not (nat_lt (rank (slice_index lone_squares.now (slice_index lead.now 0))) 4) }
     ensures across { result.across ≡ is_first_above (map (λ c. turn_square (low result) (slice_index lone_squares.now c)) lead.now) }
 {
-    let first = lone_square(lone_squares, lead[0]).number();
+    let first = lone_squares.of(lead[0]);
     let mut turn = Turn::still();
-    turn.left_right = first % 8 >= 4;
-    turn.bottom_top = first / 8 >= 4;
+    turn.left_right = first.file() >= 4;
+    turn.bottom_top = first.rank() >= 4;
     let across = is_above(lone_squares, turn, lead);
     turn.across = across;
     turn
 }
 
 /// How all men are turned for the shape's index: with pawns left and right alone, by the leading pawn.
-pub(crate) fn turn_of(shape: &Shape, placed: &Placed, lone_squares: &[u8; 16]) -> Turn
-    requires material { placed.now.material ≡ shape.now.material }
-    requires lone_squares { AreLoneSquares placed.now.men lone_squares.now }
-    ensures is { turned_by result placed.now.men ≡ turned shape.now placed.now.men }
+pub(crate) fn turn_of(shape: &Shape, placed: &Placed, lone_squares: &LoneSquares) -> Turn
+    requires { AreLoneSquares placed.now.men lone_squares.now }
+    ensures is { placed.now.material ≡ shape.now.material → turned_by result placed.now.men ≡ turned shape.now placed.now.men }
     ensures shape { IsShape shape.now }
 {
     let material = shape.material();
@@ -124,7 +120,7 @@ pub(crate) fn turn_of(shape: &Shape, placed: &Placed, lone_squares: &[u8; 16]) -
     if material.has_pawns() {
         let lead = placed.lead_pawn();
         return Turn {
-            left_right: lead % 8 >= 4,
+            left_right: lead.file() >= 4,
             bottom_top: false,
             across: false,
         };

@@ -404,6 +404,9 @@ products_length l men s =
     ap length (numbers_are l men) ∙ ap suc (numbers_length (lead_codes l) men (other_groups l.material l.pieces)) ∙ sym (places_size l s)
     ∙ sym (length-map (places_of l) (factor_at (places_of l) (sizes_of l)))
 
+pub factors_size : (l : Layout) → IsShape l → length (factors_of l) ≡ length (groups_of l)
+factors_size l s = length-map (places_of l) (factor_at (places_of l) (sizes_of l)) ∙ places_size l s
+
 pub index_products : (l : Layout) (men : List Man) → sum_of_products (numbers_of l (turned l men)) (factors_of l) ≡ index_of l men
 unfolding index_of
 index_products l men = refl

@@ -1,19 +1,20 @@
 -- The numbers of the groups, one after another.
-use Rattle.std.proofs.Common.{◌≡◌, ℕ, zero, suc, ◌+◌, ◌-◌, ◌*◌, ◌<◌, ◌≤◌, true, eqb, List, [], ◌∷◌, ◌++◌, length, take, drop, map, slice_index, get_or, refl, sym, ap, ◌∙◌, subst, inl, inr, arith, length-append}
+use Rattle.std.proofs.Common.{◌≡◌, ◌≢◌, ℕ, zero, suc, ◌+◌, ◌-◌, ◌<◌, ◌≤◌, true, List, [], ◌∷◌, ◌++◌, length, take, map, slice_index, get_or, refl, sym, ap, ◌∙◌, subst, inl, inr, arith, length-append}
 use Rattle.std.proofs.lemmas.Bool.{cases_eq, cases_Bool}
-use Rattle.std.proofs.lemmas.List.{drop_more, drop_all, append_assoc, append-nil, length-drop, take_more}
 use Rattle.place_index.specs.Material.{pieces_of, count_of}
 use Rattle.place_index.specs.Choose.{set_number}
 use Rattle.place_index.specs.Men.{squares_of}
 use Rattle.place_index.specs.Inside.Groups.{CountLike}
+use Rattle.place_index.specs.Inside.Turned.{IsTurned}
+use Rattle.place_index.specs.Inside.TurnedMen.{TurnedMen, codes_with, codes_before, AreBefore}
 use Rattle.place_index.specs.Others.{taken, free_number, free_set_number}
-use Rattle.place_index.specs.Shape.{Layout, has_pawns, has_unique, lead_code, lead_men, joined, runs, other_groups}
-use Rattle.place_index.specs.Index.{lead_codes, lead_number, squares_of_all, first_square, other_numbers, numbers_of, sum_of_products, IsPlacement, IsShape}
+use Rattle.place_index.specs.Shape.{Layout, has_pawns, has_unique, lead_code, other_groups, groups_of}
+use Rattle.place_index.specs.Index.{lead_codes, lead_number, squares_of_all, first_square, other_numbers, numbers_of, IsPlacement, IsShape}
 use Rattle.place_index.specs.declared.group.Group.{Group}
 use Rattle.place_index.specs.declared.man.Man.{Man}
-use Rattle.place_index.proofs.Materials.Arranging.{count_nil, count_hit, count_miss}
+use Rattle.place_index.proofs.Materials.Arranging.{count_nil, count_hit, count_miss, count_arranged}
 use Rattle.place_index.proofs.Shapes.Beginning.{lead_by_pawns}
-use Rattle.place_index.proofs.Shapes.Greatest.{good_length, lead_least}
+use Rattle.place_index.proofs.Shapes.Greatest.{lead_least}
 use Rattle.place_index.proofs.Materials.MenTables.{men_most}
 use Rattle.place_index.proofs.Indices.Factors.{IsApart, AreDistinct}
 use Rattle.place_index.proofs.Shapes.Grouping.{AreGroups}
@@ -100,57 +101,7 @@ codes_pawned l s pawned least =
     one [] some = absurd (omega (arith, some))
     one (x ∷ xs) some = refl
 
--- the squares of the first codes
-pub all_more : (men : List Man) (codes : List ℕ) (i : ℕ) → i < length codes → squares_of_all men (take (i + 1) codes) ≡ squares_of_all men (take i codes) ++ squares_of men (get_or codes i 0)
-all_more men codes i lt = ap (squares_of_all men) (take_more codes i 0 lt) ∙ last (take i codes) (get_or codes i 0)
-  where
-    last : (xs : List ℕ) (c : ℕ) → squares_of_all men (xs ++ c ∷ []) ≡ squares_of_all men xs ++ squares_of men c
-    last [] c = append-nil (squares_of men c)
-    last (x ∷ xs) c = ap (λ l. squares_of men x ++ l) (last xs c) ∙ sym (append_assoc (squares_of men x) (squares_of_all men xs) (squares_of men c))
-
-pub distinct_taken : (i : ℕ) (codes : List ℕ) → AreDistinct codes → AreDistinct (take i codes)
-distinct_taken zero codes d = tt
-distinct_taken (suc i) [] d = tt
-distinct_taken (suc i) (c ∷ codes) d = (apart i c codes d.0, distinct_taken i codes d.1)
-  where
-    apart : (i c : ℕ) (codes : List ℕ) → IsApart c codes → IsApart c (take i codes)
-    apart zero c codes a = tt
-    apart (suc i) c [] a = tt
-    apart (suc i) c (x ∷ codes) a = (a.0, apart i c codes a.1)
-
--- ---- the groups' numbers
-
-pub record IsNumbered (l : Layout) (men : List Man) (gs : List Group) (numbers earlier : List ℕ) : Type 0 where
-  pub codes : List ℕ
-  pub is : numbers ++ other_numbers codes men gs ≡ numbers_of l men
-  pub taken : (s : ℕ) → taken earlier s ≡ taken (squares_of_all men codes) s
-  pub size : length earlier ≡ length (squares_of_all men codes)
-  pub distinct : AreDistinct codes
-  pub groups : AreGroups l.pieces codes gs
-  pub room : length numbers + length gs ≤ 5
-
-joined_length : (x : ℕ) (gs : List Group) → length (joined x gs) ≤ suc (length gs)
-joined_length x [] = omega arith
-joined_length x (g ∷ gs) = elim (cases_Bool (eqb x g.code)) [ inl t ↦ rw t (omega arith) | inr f ↦ rw f (omega arith) ]
-
-runs_length : (xs : List ℕ) → length (runs xs) ≤ length xs
-unfolding runs
-runs_length [] = omega arith
-runs_length (x ∷ xs) = omega (arith, joined_length x (runs xs), runs_length xs)
-
-pub numbered_start : (l : Layout) (men : List Man) (number : ℕ) (numbers earlier : List ℕ) → IsShape l → number ≡ lead_number l men → numbers ≡ number ∷ [] → CountLike earlier (squares_of_all men (lead_codes l))
-    → IsNumbered l men (other_groups l.material l.pieces) numbers earlier
-numbered_start l men number numbers earlier s e f like =
-    let g = follow l s in
-    record {
-      codes = lead_codes l;
-      is = ap (λ x. x ++ other_numbers (lead_codes l) men (other_groups l.material l.pieces)) f ∙ ap (λ n. n ∷ other_numbers (lead_codes l) men (other_groups l.material l.pieces)) e ∙ sym (numbers_are l men);
-      taken = like.1;
-      size = like.0;
-      distinct = g.distinct;
-      groups = g.groups;
-      room = omega (arith, ap length f, runs_length (drop (lead_men l.material) l.pieces), length-drop (lead_men l.material) l.pieces, good_length l.material l.pieces s.pieces, men_most l.material s.material, lead_least l.material s.material);
-    }
+-- ---- what is taken
 
 pub taken_append : (xs ys : List ℕ) (s : ℕ) → taken (xs ++ ys) s ≡ taken xs s + taken ys s
 unfolding taken
@@ -165,46 +116,70 @@ mapped_same : (first : ℕ) (one other xs : List ℕ) → ((s : ℕ) → taken o
 mapped_same first one other [] e = refl
 mapped_same first one other (x ∷ xs) e = rw (free_same first one other x (e x), mapped_same first one other xs e) refl
 
-pub numbers_more : (codes : List ℕ) (men : List Man) (g : Group) (gs : List Group)
-    → other_numbers codes men (g ∷ gs) ≡ free_set_number (first_square g.code) (squares_of_all men codes) (squares_of men g.code) ∷ other_numbers (g.code ∷ codes) men gs
-unfolding other_numbers
-numbers_more codes men g gs = refl
+-- ---- the groups' numbers, one after another
 
-pub numbered_next : (l : Layout) (men : List Man) (g : Group) (gs : List Group) (numbers earlier more after : List ℕ) (first number : ℕ) → IsNumbered l men (g ∷ gs) numbers earlier
-    → first ≡ first_square g.code → number ≡ free_set_number first earlier (squares_of men g.code) → more ≡ numbers ++ number ∷ [] → after ≡ earlier ++ squares_of men g.code → IsNumbered l men gs more after
-numbered_next l men g gs numbers earlier more after first number n f e m a =
-    let is-number : number ≡ free_set_number (first_square g.code) (squares_of_all men n.codes) (squares_of men g.code) =
-    e ∙ ap (λ x. free_set_number x earlier (squares_of men g.code)) f ∙ ap set_number (mapped_same (first_square g.code) earlier (squares_of_all men n.codes) (squares_of men g.code) n.taken) in
+others_number : (codes : List ℕ) (men : List Man) (gs : List Group) (n : ℕ) (none : Group) → n < length gs
+    → slice_index (other_numbers codes men gs) n ≡ free_set_number (first_square (get_or gs n none).code) (squares_of_all men (codes_with codes gs n)) (squares_of men (get_or gs n none).code)
+unfolding other_numbers
+others_number codes men [] n none lt = absurd (omega (arith, lt))
+others_number codes men (g ∷ gs) zero none lt = refl
+others_number codes men (g ∷ gs) (suc n) none lt = others_number (g.code ∷ codes) men gs n none (omega (arith, lt))
+
+codes_more : (codes : List ℕ) (gs : List Group) (n : ℕ) (none : Group) → n < length gs → codes_with codes gs (suc n) ≡ (get_or gs n none).code ∷ codes_with codes gs n
+codes_more codes [] n none lt = absurd (omega (arith, lt))
+codes_more codes (g ∷ gs) zero none lt = refl
+codes_more codes (g ∷ gs) (suc n) none lt = codes_more (g.code ∷ codes) gs n none (omega (arith, lt))
+
+codes_distinct : (pieces codes : List ℕ) (gs : List Group) (n : ℕ) → AreDistinct codes → AreGroups pieces codes gs → AreDistinct (codes_with codes gs n)
+codes_distinct pieces codes gs zero d a = d
+codes_distinct pieces codes [] (suc n) d a = d
+codes_distinct pieces codes (g ∷ gs) (suc n) d a = codes_distinct pieces (g.code ∷ codes) gs n (a.1, d) a.2
+
+men_counted : (pieces codes : List ℕ) (gs : List Group) (n : ℕ) (none : Group) → n < length gs → AreGroups pieces codes gs → (get_or gs n none).men ≡ count_of pieces (get_or gs n none).code
+men_counted pieces codes [] n none lt a = absurd (omega (arith, lt))
+men_counted pieces codes (g ∷ gs) zero none lt a = a.0
+men_counted pieces codes (g ∷ gs) (suc n) none lt a = men_counted pieces (g.code ∷ codes) gs n none (omega (arith, lt)) a.2
+
+-- a group after the leading one, at its place among all groups
+pub record IsAt (t : TurnedMen) (g : Group) (place : ℕ) : Type 0 where
+  pub once : g.men ≡ 1 → count_of (pieces_of t.shape.material) g.code ≡ 1
+  pub room : (earlier : List ℕ) → AreBefore t place earlier → length earlier + length (squares_of t.men g.code) ≤ 5
+  pub number : (earlier : List ℕ) → AreBefore t place earlier → free_set_number (first_square g.code) earlier (squares_of t.men g.code) ≡ slice_index (numbers_of t.shape t.men) place
+  pub after : (earlier : List ℕ) → AreBefore t place earlier → AreBefore t (place + 1) (earlier ++ squares_of t.men g.code)
+
+is_after : (t : TurnedMen) (n : ℕ) (none : Group) → IsTurned t → n < length (other_groups t.shape.material t.shape.pieces) → IsAt t (get_or (other_groups t.shape.material t.shape.pieces) n none) (suc n)
+is_after t n none h lt =
+    let others = other_groups t.shape.material t.shape.pieces in
+    let g = get_or others n none in
+    let codes = codes_before t.shape (suc n) in
+    let f = follow t.shape h.shape in
+    let more : codes_before t.shape (suc (suc n)) ≡ g.code ∷ codes = codes_more (lead_codes t.shape) others n none lt in
+    let one_more : suc n + 1 ≡ suc (suc n) = omega arith in
+    let next : codes_before t.shape (suc n + 1) ≡ g.code ∷ codes = ap (codes_before t.shape) one_more ∙ more in
+    let distinct : AreDistinct (g.code ∷ codes) = subst AreDistinct more (codes_distinct t.shape.pieces (lead_codes t.shape) others (suc n) f.distinct f.groups) in
     record {
-      codes = g.code ∷ n.codes;
-      is = ap (λ x. x ++ other_numbers (g.code ∷ n.codes) men gs) m ∙ append_assoc numbers (number ∷ []) (other_numbers (g.code ∷ n.codes) men gs)
-          ∙ ap (λ x. numbers ++ x ∷ other_numbers (g.code ∷ n.codes) men gs) is-number ∙ ap (λ x. numbers ++ x) (sym (numbers_more n.codes men g gs)) ∙ n.is;
-      taken = λ s. omega (arith, ap (λ x. taken x s) a, taken_append earlier (squares_of men g.code) s, taken_append (squares_of men g.code) (squares_of_all men n.codes) s, n.taken s);
-      size = omega (arith, ap length a, length-append earlier (squares_of men g.code), length-append (squares_of men g.code) (squares_of_all men n.codes), n.size);
-      distinct = (n.groups.1, n.distinct);
-      groups = n.groups.2;
-      room = omega (arith, ap length m, length-append numbers (number ∷ []), n.room);
+      once = λ one. sym (count_arranged t.shape.pieces (pieces_of t.shape.material) g.code h.shape.pieces.arrangement) ∙ sym (men_counted t.shape.pieces (lead_codes t.shape) others n none lt f.groups) ∙ one;
+      room = λ earlier b. omega (arith, b.0, length-append (squares_of t.men g.code) (squares_of_all t.men codes), squares_few t.shape.material t.men (g.code ∷ codes) h.shape.material h.men distinct);
+      number = λ earlier b.
+          ap set_number (mapped_same (first_square g.code) earlier (squares_of_all t.men codes) (squares_of t.men g.code) b.1)
+          ∙ sym (others_number (lead_codes t.shape) t.men others n none lt) ∙ sym (ap (λ xs. slice_index xs (suc n)) (numbers_are t.shape t.men));
+      after = λ earlier b. subst (λ cs. CountLike (earlier ++ squares_of t.men g.code) (squares_of_all t.men cs)) (sym next) (
+        omega (arith, length-append earlier (squares_of t.men g.code), length-append (squares_of t.men g.code) (squares_of_all t.men codes), b.0),
+        λ s. omega (arith, taken_append earlier (squares_of t.men g.code) s, taken_append (squares_of t.men g.code) (squares_of_all t.men codes) s, b.1 s),
+      );
     }
 
-pub numbered_room : (l : Layout) (men : List Man) (g : Group) (gs : List Group) (numbers earlier : List ℕ) → l.material < 145 → IsPlacement l.material men → IsNumbered l men (g ∷ gs) numbers earlier
-    → length earlier + length (squares_of men g.code) ≤ 5
-numbered_room l men g gs numbers earlier lt p n =
-    omega (arith, n.size, length-append (squares_of men g.code) (squares_of_all men n.codes), squares_few l.material men (g.code ∷ n.codes) lt p (n.groups.1, n.distinct))
+pub group_at : (t : TurnedMen) (groups : List Group) (none : Group) (place : ℕ) → IsTurned t → groups ≡ groups_of t.shape → place ≢ 0 → place < length (groups_of t.shape) → IsAt t (get_or groups place none) place
+group_at t groups none zero h e ne lt = absurd (ne refl)
+group_at t groups none (suc n) h e ne lt =
+    subst (λ g. IsAt t g (suc n)) (sym (ap (λ gs. get_or gs (suc n) none) e)) (is_after t n none h (omega (arith, lt)))
 
-no_numbers : (men : List Man) (codes : List ℕ) → other_numbers codes men [] ≡ []
-unfolding other_numbers
-no_numbers men codes = refl
+-- the leading group comes first
+pub first_number : (l : Layout) (men : List Man) → lead_number l men ≡ slice_index (numbers_of l men) 0
+first_number l men = sym (ap (λ xs. slice_index xs 0) (numbers_are l men))
 
-pub numbered_end : (l : Layout) (men : List Man) (gs : List Group) (numbers earlier : List ℕ) → gs ≡ [] → IsNumbered l men gs numbers earlier → numbers ≡ numbers_of l men
-numbered_end l men gs numbers earlier e n =
-    sym (append-nil numbers) ∙ ap (λ x. numbers ++ x) (sym (no_numbers men n.codes) ∙ ap (other_numbers n.codes men) (sym e)) ∙ n.is
+pub first_before : (t : TurnedMen) (earlier : List ℕ) → CountLike earlier (squares_of_all t.men (lead_codes t.shape)) → AreBefore t 1 earlier
+first_before t earlier like = like
 
--- ---- the sum
-
-pub products_more : (xs ys : List ℕ) (i : ℕ) → i < length xs → i < length ys → sum_of_products (drop i xs) (drop i ys) ≡ get_or xs i 0 * get_or ys i 0 + sum_of_products (drop (i + 1) xs) (drop (i + 1) ys)
-unfolding sum_of_products
-products_more xs ys i lx ly = rw (drop_more xs i 0 lx, drop_more ys i 0 ly) refl
-
-pub products_end : (xs ys : List ℕ) (i : ℕ) → length xs ≤ i → sum_of_products (drop i xs) (drop i ys) ≡ 0
-unfolding sum_of_products
-products_end xs ys i le = rw (drop_all i xs le) refl
+pub some_numbers : (l : Layout) (men : List Man) → 0 < length (numbers_of l men)
+some_numbers l men = omega (arith, ap length (numbers_are l men))

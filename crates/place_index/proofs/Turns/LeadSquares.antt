@@ -1,20 +1,22 @@
 -- The leading men's squares.
-use Rattle.std.proofs.Common.{◌≡◌, ℕ, zero, suc, ◌+◌, ◌-◌, ◌*◌, ◌<◌, ◌≤◌, true, cond, List, [], ◌∷◌, ◌++◌, length, take, map, slice_index, get_or, refl, sym, ap, ◌∙◌, subst, inl, inr, arith}
+use Rattle.std.proofs.Common.{◌≡◌, ℕ, zero, suc, ◌+◌, ◌*◌, ◌<◌, ◌≤◌, true, cond, List, [], ◌∷◌, ◌++◌, length, take, map, slice_index, get_or, refl, sym, ap, ◌∙◌, subst, inl, inr, arith}
 use Rattle.std.proofs.lemmas.Bool.{cases_eq, cases_lt, lt-ltb, le-ltb}
 use Rattle.std.proofs.lemmas.List.{append-nil, length-map, take_more}
-use Rattle.place_index.specs.Square.{file, rank, before}
+use Rattle.place_index.specs.Square.{file, before}
 use Rattle.place_index.specs.Material.{pieces_of, count_of}
-use Rattle.place_index.specs.Men.{stands, squares_of, square_of}
+use Rattle.place_index.specs.Men.{stands, squares_of}
 use Rattle.place_index.specs.Inside.ShortLists.{inserted}
 use Rattle.place_index.specs.Others.{taken}
 use Rattle.place_index.specs.Inside.Groups.{CountLike}
-use Rattle.place_index.specs.Pawns.{pawn_number, pawn_square, pawn_numbers_of, pawns_before, pawns_number}
-use Rattle.place_index.specs.Shape.{Layout, has_pawns, lead_code, lead_men}
-use Rattle.place_index.specs.Inside.Turns.{turn_square, turned_by}
-use Rattle.place_index.specs.Index.{AreAlone, IsPlacement, IsShape, lead_codes, lead_number, lead_pawns_number, squares_of_all}
-use Rattle.place_index.specs.Inside.Groups.{IsLeadTurned}
+use Rattle.place_index.specs.Pawns.{pawn_number, pawn_square, pawn_numbers_of, pawns_number}
+use Rattle.place_index.specs.Shape.{has_pawns, lead_code, lead_men}
+use Rattle.place_index.specs.Index.{AreAlone, IsPlacement, lead_codes, lead_pawns_number, squares_of_all}
+use Rattle.place_index.specs.Inside.Groups.{ArePawnsAt}
+use Rattle.place_index.specs.Inside.Leading.{AreLeading}
+use Rattle.place_index.specs.Inside.Turned.{IsTurned}
+use Rattle.place_index.specs.Inside.TurnedMen.{TurnedMen}
 use Rattle.place_index.specs.declared.man.Man.{Man}
-use Rattle.place_index.specs.declared.turn.Turn.{Turn}
+use Rattle.place_index.specs.declared.leading.Leading.TheVariants.{Pawn, Pawns}
 use Rattle.place_index.proofs.Shapes.Beginning.{lead_by_pawns}
 use Rattle.place_index.proofs.Turns.Board.{settled, stands_here, stands_later, squares_more, squares_still, inserted_below, length_inserted}
 use Rattle.place_index.proofs.Indices.Collecting.{inserted_above, inserted_last, squares_none, numbers_none}
@@ -25,7 +27,7 @@ use Rattle.place_index.proofs.Shapes.LayoutGroups.{lead_count}
 use Rattle.place_index.proofs.Materials.MenTables.{codes_small}
 use Rattle.place_index.proofs.Turns.TurnedMen.{lead_range, lead_numbers_size, numbers_fall}
 use Rattle.place_index.proofs.Turns.TurnedPawns.{square_number, number_square, numbers_more, numbers_still}
-use Rattle.place_index.proofs.Turns.Mirrorings.{lone_squares, count_small}
+use Rattle.place_index.proofs.Turns.Mirrorings.{count_small}
 
 -- ---- squares of pawn numbers
 
@@ -123,45 +125,38 @@ one_square a b same =
 pub lone_pawn_once : (key : ℕ) → has_pawns key ≡ true → lead_men key ≡ 1 → count_of (pieces_of key) (lead_code key) ≡ 1
 lone_pawn_once key pawned one = lead_count key ∙ sym (lead_by_pawns key pawned) ∙ one
 
-pub lone_number : (key : ℕ) (men : List Man) (t : Turn) → key < 145 → has_pawns key ≡ true → lead_men key ≡ 1 → IsPlacement key men → IsPlacement key (turned_by t men)
-    → pawn_numbers_of (turned_by t men) (lead_code key) ≡ pawn_number (turn_square t (square_of men (lead_code key))) ∷ []
-lone_number key men t lt pawned one p q =
-    let numbers = single (pawn_numbers_of (turned_by t men) (lead_code key)) (lead_numbers_size key (turned_by t men) pawned q ∙ one) in
-    let squares = lone_squares key men t (lead_code key) lt p (lone_pawn_once key pawned one) in
-    let n = slice_index (pawn_numbers_of (turned_by t men) (lead_code key)) 0 in
-    let small : n < 48 = numbers_fall (turned_by t men) (lead_code key) 0 (omega (arith, ap length numbers)) in
-    let same : pawn_square n ≡ turn_square t (square_of men (lead_code key)) =
-    one_square (pawn_square n) (turn_square t (square_of men (lead_code key)))
-    (λ s. ap (λ l. taken (map pawn_square l) s) (sym numbers) ∙ pawns_taken (turned_by t men) (lead_code key) s q.alone (lead_range key (turned_by t men) q) ∙ ap (λ l. taken l s) squares) in
+lone_number : (key : ℕ) (men : List Man) (s : ℕ) → has_pawns key ≡ true → lead_men key ≡ 1 → IsPlacement key men → squares_of men (lead_code key) ≡ s ∷ [] → pawn_numbers_of men (lead_code key) ≡ pawn_number s ∷ []
+lone_number key men s pawned one p squares =
+    let numbers = single (pawn_numbers_of men (lead_code key)) (lead_numbers_size key men pawned p ∙ one) in
+    let n = slice_index (pawn_numbers_of men (lead_code key)) 0 in
+    let small : n < 48 = numbers_fall men (lead_code key) 0 (omega (arith, ap length numbers)) in
+    let same : pawn_square n ≡ s =
+    one_square (pawn_square n) s (λ x. ap (λ l. taken (map pawn_square l) x) (sym numbers) ∙ pawns_taken men (lead_code key) x p.alone (lead_range key men p) ∙ ap (λ l. taken l x) squares) in
     numbers ∙ ap (λ k. k ∷ []) (sym (square_number n small) ∙ ap pawn_number same)
 
 first_stands : (men : List Man) (c s : ℕ) → squares_of men c ≡ s ∷ [] → stands men c s ≡ true
 unfolding squares_of
 first_stands men c s e = (falling_member (stands men c) 64 s [] e).0
 
-pub record LonePawn (l : Layout) (men : List Man) (s : ℕ) : Type 0 where
-  pub above : 1 ≤ rank s
-  pub below : rank s ≤ 6
-  pub on_file : file s ≡ l.file
-  pub number : lead_number l men ≡ pawns_before (file s) 0 (rank s - 1)
-  pub squares : squares_of_all men (lead_codes l) ≡ s ∷ []
-
-pub lone_pawn_is : (l : Layout) (men : List Man) (t : Turn) (s : ℕ) → IsShape l → has_pawns l.material ≡ true → lead_men l.material ≡ 1 → IsPlacement l.material men → IsPlacement l.material (turned_by t men)
-    → IsLeadTurned l (turned_by t men) → s ≡ turn_square t (square_of men (lead_code l.material)) → LonePawn l (turned_by t men) s
-lone_pawn_is l men t s shape pawned one p q lead is =
-    let numbers : pawn_numbers_of (turned_by t men) (lead_code l.material) ≡ pawn_number s ∷ [] =
-    lone_number l.material men t shape.material pawned one p q ∙ ap (λ x. pawn_number x ∷ []) (sym is) in
-    let squares : squares_of (turned_by t men) (lead_code l.material) ≡ s ∷ [] =
-    lone_squares l.material men t (lead_code l.material) shape.material p (lone_pawn_once l.material pawned one) ∙ ap (λ x. x ∷ []) (sym is) in
-    let range = lead_range l.material (turned_by t men) q s (first_stands (turned_by t men) (lead_code l.material) s squares) in
+pub pawn_leads : (t : TurnedMen) (s : ℕ) → IsTurned t → has_pawns t.shape.material ≡ true → lead_men t.shape.material ≡ 1 → squares_of t.men (lead_code t.shape.material) ≡ s ∷ [] → AreLeading t (Pawn s)
+pawn_leads t s h pawned one squares =
+    let numbers = lone_number t.shape.material t.men s pawned one h.men squares in
+    let range = lead_range t.shape.material t.men h.men s (first_stands t.men (lead_code t.shape.material) s squares) in
     let same : pawn_square (pawn_number s) ≡ s = number_square s range.0 range.1 in
+    let all : squares_of_all t.men (lead_codes t.shape) ≡ s ∷ [] = ap (squares_of_all t.men) (codes_by_pawns t.shape pawned) ∙ append-nil (squares_of t.men (lead_code t.shape.material)) ∙ squares in
     record {
-      above = omega (arith, range.0);
-      below = omega (arith, range.1);
-      on_file = ap (λ x. file x) (sym same ∙ ap (λ xs. pawn_square (slice_index xs 0)) (sym numbers)) ∙ (lead.pawns pawned).file;
-      number = number_by_pawns l (turned_by t men) pawned ∙ ap lead_pawns_number numbers ∙ ap (λ x. pawns_number x []) same ∙ omega arith;
-      squares = ap (squares_of_all (turned_by t men)) (codes_by_pawns l pawned) ∙ append-nil (squares_of (turned_by t men) (lead_code l.material)) ∙ squares;
+      wanted = (omega (arith, range.0), omega (arith, range.1), ap (λ x. file x) (sym same ∙ ap (λ xs. pawn_square (slice_index xs 0)) (sym numbers)) ∙ (h.lead.pawns pawned).file);
+      number = sym (number_by_pawns t.shape t.men pawned ∙ ap lead_pawns_number numbers ∙ ap (λ x. pawns_number x []) same ∙ omega arith);
+      squares = (ap length (sym all), λ k. ap (λ l. taken l k) (sym all));
     }
+
+pub pawns_lead : (t : TurnedMen) (numbers : List ℕ) → IsTurned t → has_pawns t.shape.material ≡ true → numbers ≡ pawn_numbers_of t.men (lead_code t.shape.material) → AreLeading t (Pawns numbers)
+pawns_lead t numbers h pawned e = record {
+  wanted = subst (ArePawnsAt t.shape.file) (sym e) (h.lead.pawns pawned);
+  number = ap lead_pawns_number e ∙ sym (number_by_pawns t.shape t.men pawned);
+  squares = subst (CountLike (map pawn_square numbers)) (sym (ap (squares_of_all t.men) (codes_by_pawns t.shape pawned) ∙ append-nil (squares_of t.men (lead_code t.shape.material))))
+      (pawns_like t.shape.material t.men (map pawn_square numbers) h.men (ap (map pawn_square) e));
+}
 
 -- ---- no more than three men of a kind
 

@@ -5,22 +5,22 @@ use Rattle.place_index.specs.Square.{file, rank}
 use Rattle.place_index.specs.Material.{pieces_of, white_pawns, black_pawns}
 use Rattle.place_index.specs.Men.{codes_of, stands, falling, square_of, moved}
 use Rattle.place_index.specs.Pawns.{pawn_square, pawn_numbers_of}
-use Rattle.place_index.specs.Shape.{Layout, has_pawns, lead_code, lead_men}
+use Rattle.place_index.specs.Shape.{Layout, has_pawns, lead_code, lead_men, factors_of, greatest_size}
 use Rattle.place_index.specs.Turning.{leftward, turned_pieces, turned_pawns, lead_pawn, turned, lead_file}
 use Rattle.place_index.specs.Inside.Groups.{AreMen, IsLeadTurned}
-use Rattle.place_index.specs.Index.{IsPlacement, IsShape}
+use Rattle.place_index.specs.Index.{IsPlacement, IsShape, numbers_of, sum_of_products}
 use Rattle.place_index.specs.declared.man.Man.{Man}
 use Rattle.place_index.proofs.Materials.Arranging.{arranged_length}
 use Rattle.place_index.proofs.Shapes.Beginning.{lead_by_pawns, some_pawns, no_pawns}
 use Rattle.place_index.proofs.Counting.Falling.{falling_falls}
-use Rattle.place_index.proofs.Shapes.Greatest.{lead_least, lead_most}
+use Rattle.place_index.proofs.Shapes.Greatest.{lead_least, lead_most, size_is_within}
 use Rattle.place_index.proofs.Materials.MenTables.{men_most}
 use Rattle.place_index.proofs.Counting.MappedSets.{falling_at}
 use Rattle.place_index.proofs.Turns.Board.{settled, IsMirroring, moved_alone, moved_board}
 use Rattle.place_index.proofs.Turns.TurnedPawns.{numbers_size}
 use Rattle.place_index.proofs.Turns.Alone.{square_of_alone}
 use Rattle.place_index.proofs.Shapes.LayoutGroups.{lead_is_pawn, lead_count}
-use Rattle.place_index.proofs.Indices.IndexLaw.{pawns_are, lead_kings, two_are, turned_placement}
+use Rattle.place_index.proofs.Indices.IndexLaw.{pawns_are, lead_kings, two_are, turned_placement, index_products, index_below}
 
 pub men_few : (key : ℕ) (men : List Man) → key < 145 → IsPlacement key men → length men ≤ 5
 men_few key men lt p = omega (arith, length-map men (λ m. m.code), arranged_length (codes_of men) (pieces_of key) p.material, men_most key lt)
@@ -80,7 +80,7 @@ lead_is_turned l men s p on =
             some = few.0;
             few = omega (arith, size, lead_most l.material s.material);
             lead = few.1;
-            all = λ k lt. omega (arith, numbers_fall (turned l men) (lead_code l.material) k lt);
+            all = λ k lt. numbers_fall (turned l men) (lead_code l.material) k lt;
             file = ap (λ n. file (pawn_square n)) first ∙ a.turned.on_file;
             off_last = omega (arith, ap (λ n. rank (pawn_square n)) first, a.turned.off_last);
           };
@@ -91,6 +91,9 @@ lead_is_turned l men s p on =
           let second : square_of (turned l men) (slice_index l.pieces 1) ≡ u.s1 = ap (λ xs. square_of (turned l men) (slice_index xs 1)) t.pieces ∙ square_of_alone (turned l men) t.b u.s1 u.second in
           rw (first, second) u.turned;
     }
+
+pub products_fit : (l : Layout) (men : List Man) → IsShape l → IsPlacement l.material men → lead_file l.material men ≡ l.file → sum_of_products (numbers_of l (turned l men)) (factors_of l) ≤ greatest_size
+products_fit l men s p on = omega (arith, index_products l men, index_below l men s p on, size_is_within l.material l.pieces l.order l.second l.file s.material s.file s.pieces)
 
 -- how many pawns there are tells whether there are any
 pub pawned_of : (key : ℕ) → 1 ≤ white_pawns key + black_pawns key → has_pawns key ≡ true

@@ -23,7 +23,7 @@ pub record ArePawnsAt (f : ℕ) (numbers : List ℕ) : Type 0 where
   pub some : 1 ≤ length numbers
   pub few : length numbers ≤ 3
   pub lead : slice_index numbers 0 < 48
-  pub all : (k : ℕ) → k < length numbers → slice_index numbers k ≤ 64
+  pub all : (k : ℕ) → k < length numbers → slice_index numbers k < 48
   pub file : file (pawn_square (slice_index numbers 0)) ≡ f
   pub off_last : rank (pawn_square (slice_index numbers 0)) ≤ 6
 

@@ -24,7 +24,7 @@ men-preserved-then-man-code c = record {
 pub men-preserved : goal.men-preserved
 men-preserved c = record {
   is = c.insert.ensures
-      ∙ ap (λ n. inserted n c.men.numbers) (c.pawn_number-number.ensures ∙ ap pawn_number c.square-square.ensures.is)
+      ∙ ap (λ n. inserted n c.men.numbers) (c.pawn_number-number.ensures ∙ ap pawn_number c.square-square.ensures)
       ∙ ap (inserted (pawn_number (turn_square c.args.turn c.index-men-i.result.square))) c.men.invariant.is
       ∙ numbers_take (turned_by c.args.turn c.args.men.now) c.men.i c.args.code (man c.index-men-i.result.code (turn_square c.args.turn c.index-men-i.result.square)) (turned_men c.args.turn c.args.men.now c.requires.men) c.requires.pawns c.men-test.true
       (turned_within c.args.turn c.args.men.now c.men.i c.men.invariant.within) (turned_at c.args.turn c.args.men.now c.men.i c.index-men-i.result c.men-test.true c.men.invariant.within c.index-men-i.is) c.if-man-code.false;

@@ -19,7 +19,7 @@ pawn_square-requires c =
       (lead_number_few c.args.material c.args.men.now c.requires.known c.requires.pawned c.requires.placed).1,
     )
 
-pub returns-clause-is : goal.returns-clause-is
-returns-clause-is c =
+pub returns : goal.returns
+returns c =
     lead_pawn_is c.args.material c.args.men.now c.pawn_square.result
     (c.pawn_square.ensures.is ∙ ap pawn_square (c.greatest_number-greatest.ensures ∙ ap (λ d. slice_index (pawn_numbers_of c.args.men.now d) 0) c.leading_pawn-code.ensures))
