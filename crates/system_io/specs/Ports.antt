@@ -1,0 +1,37 @@
+-- What passes at a port (this project's own).
+use Rattle.std.specs.Prelude.{◌≡◌, ◌++◌, ◌≤◌, ℕ, zero, suc, List, [], ◌∷◌, Option, Some, None}
+
+pub data Passing : Type 0 where
+  -- a datagram came; these are its first 64 bytes
+  Came : (bytes : List ℕ) → Passing
+  -- nothing came in time
+  Quiet : Passing
+  -- no datagram could be received
+  Missed : Passing
+  -- a datagram was handed over to be sent to the address at this place, whether or not it went out
+  Handed : (to : ℕ) (bytes : List ℕ) → Passing
+
+-- what is known of a port: what has passed there so far, in order, none where it doesn't tell; how often it has failed; to how
+-- many addresses it sends
+pub record PortFacts : Type 0 where
+  pub passed : Option (List Passing)
+  pub faults : ℕ
+  pub addresses : ℕ
+
+-- where a port tells what has passed, this came after all that it told before
+abbrev pub Passes : Option (List Passing) → Option (List Passing) → List Passing → Type 0
+Passes None None more = Unit {0}
+Passes (Some old) None more = Unit {0}
+Passes None (Some new) more = ⊥
+Passes (Some old) (Some new) more = new ≡ old ++ more
+
+-- a datagram is handed over for each of so many addresses, once and in their order
+unfoldable pub to_each : ℕ → List ℕ → List Passing
+to_each zero bytes = []
+to_each (suc n) bytes = to_each n bytes ++ Handed n bytes ∷ []
+
+-- this passed; the addresses are the same, and the count of failures didn't fall
+pub record Passed (old new : PortFacts) (more : List Passing) : Type 0 where
+  pub passes : Passes old.passed new.passed more
+  pub addresses : new.addresses ≡ old.addresses
+  pub count : old.faults ≤ new.faults

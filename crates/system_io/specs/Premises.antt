@@ -1,0 +1,35 @@
+-- What is trusted of the system: for each of its own disks, inputs, outputs, ports, files and hosts what a proof knows of it. The
+-- standard library claims nothing of what the system's calls do, so each says only that the system is asked.
+use Rattle.std.specs.Prelude.{ℕ, None}
+use Rattle.system_io.specs.Disks.{DiskFacts}
+use Rattle.system_io.specs.Inputs.{InputFacts}
+use Rattle.system_io.specs.Outputs.{OutputFacts}
+use Rattle.system_io.specs.Ports.{PortFacts}
+use Rattle.system_io.specs.KeptFiles.{KeptFacts}
+use Rattle.system_io.specs.Hosts.{HostFacts}
+
+-- DISK: the names of a folder and the bytes of a file are those that the system tells, and what it refuses can't be read
+abbrev pub system_disk : DiskFacts
+system_disk = record { lists = λ _ _. Unit {0}; holds = λ _ _. Unit {0}; fails = λ _. Unit {0} }
+
+-- INPUT: the bytes of standard input are those that the system tells
+abbrev pub system_input : InputFacts
+system_input = record { gives = λ _. Unit {0}; fails = Unit {0} }
+
+-- OUTPUT: what a flush of standard output says has gone out
+abbrev pub system_output : OutputFacts
+system_output = record { gone = Unit {0}; stuck = Unit {0} }
+
+-- DATAGRAMS: what the socket receives came, and what is handed to it is on its way to each address; how often a call failed and to
+-- how many addresses it sends is counted
+abbrev pub system_port : ℕ → ℕ → PortFacts
+system_port faults addresses = record { passed = None; faults = faults; addresses = addresses }
+
+-- KEPT FILE: bytes that were written beside, synced, renamed and whose folder was synced are what a start finds under the name, and
+-- until then it finds those or the old ones
+abbrev pub system_file : KeptFacts
+system_file = record { reached = λ _ _. Unit {0}; finds = λ _ _. Unit {0}; settled = Unit {0}; unreadable = Unit {0} }
+
+-- HOST: a port is bound where the system binds it, and a file is the one at its path
+abbrev pub system_host : {P F : Type 0} → HostFacts P F
+system_host = record { binds = λ _ _ _. Unit {0}; unbound = λ _. Unit {0}; is_at = λ _ _. Unit {0} }

@@ -1,0 +1,24 @@
+//! Folders and files, as they are read.
+
+ghost use Rattle.std.specs.Prelude.{◌≤◌, length, map, string_bytes, IfOk, IsErrOf};
+ghost use Rattle.system_io.specs.Disks.{DiskFacts, AtFile, AtFolder, most_bytes};
+
+use crate::reading::ReadFault;
+use std::alloc::Global;
+
+/// Where folders and files are read.
+pub trait Disk {
+    /// What its folders list, what its files hold, and what can't be read there.
+    ghost facts: { Self → DiskFacts };
+
+    /// The names in a folder, in any order; a name that is no text is left out.
+    fn names(&self, alloc: Global, folder: &str) -> Result<Vec<String>, ReadFault>
+        ensures listed { IfOk result (λ names. (facts self.now).lists folder.now (map string_bytes names.items)) }
+        ensures cause { IsErrOf result ReadFault.Unreadable → (facts self.now).fails (AtFolder folder.now) };
+
+    /// All bytes of a file, at most 2^30.
+    fn read(&self, alloc: Global, path: &str) -> Result<Vec<u8>, ReadFault>
+        ensures bytes { IfOk result (λ bytes. (facts self.now).holds path.now bytes.items) }
+        ensures short { IfOk result (λ bytes. length bytes.items ≤ most_bytes) }
+        ensures cause { IsErrOf result ReadFault.Unreadable → (facts self.now).fails (AtFile path.now) };
+}

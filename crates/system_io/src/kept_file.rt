@@ -1,0 +1,61 @@
+//! The file in which a record is kept, and how another takes its place.
+
+ghost use Rattle.std.specs.Prelude.{◌≤◌, ℕ, List, Option, Some, length, option_map, IfOk, IfSome, OnOk, OnErr, IsErrOf};
+ghost use Rattle.system_io.specs.KeptFiles.{KeptFacts, Written, Synced, Renamed, FindsOldOrNew};
+
+use crate::reading::ReadFault;
+use std::alloc::Global;
+use std::io;
+
+/// How many bytes are kept at most: as many as a record of 4096 moves has, 25 and two for each (record format).
+pub const MOST_KEPT_BYTES: usize = 8217;
+
+/// A file under a name, and one beside it that is to take its name.
+pub trait KeptFile {
+    /// How far bytes have come on their way to the name, and what a start finds there.
+    ghost facts: { Self → KeptFacts };
+
+    /// Lets what stands under the name reach the disk, as a run that stopped before may not have done.
+    fn settle(&self) -> Result<(), ReadFault>
+        ensures settled { OnOk result (facts self.now).settled }
+        ensures cause { IsErrOf result ReadFault.Unreadable → (facts self.now).unreadable };
+
+    /// The bytes of the file under the name, at most 8217, or that there is none.
+    fn read(&self, alloc: Global) -> Result<Option<Vec<u8>>, ReadFault>
+        ensures found { (facts self.now).settled → IfOk result (λ got. (facts self.now).finds (option_map (λ v. v.items) got) (option_map (λ v. v.items) got)) }
+        ensures short { IfOk result (λ got. IfSome got (λ v. length v.items ≤ 8217)) }
+        ensures cause { IsErrOf result ReadFault.Unreadable → (facts self.now).unreadable };
+
+    /// Writes bytes to the file beside, in place of what an earlier run may have left there.
+    fn write_beside(&mut self, bytes: &[u8]) -> io::Result<()>
+        ensures written { OnOk result ((facts self.new).reached Written bytes.now) }
+        ensures same { (a b : Option (List ℕ)) → (facts self.old).finds a b → (facts self.new).finds a b };
+
+    /// Lets what was written beside reach the disk.
+    fn sync_beside(&mut self) -> io::Result<()>
+        ensures synced { OnOk result ((bytes : List ℕ) → (facts self.old).reached Written bytes → (facts self.new).reached Synced bytes) }
+        ensures same { (a b : Option (List ℕ)) → (facts self.old).finds a b → (facts self.new).finds a b };
+
+    /// Gives the file beside the name, in place of the file that had it. A name leads to the one file or the other, also where
+    /// this fails, and what is synced is whole.
+    fn rename(&mut self) -> io::Result<()>
+        ensures renamed { OnOk result ((bytes : List ℕ) → (facts self.old).reached Synced bytes → (facts self.new).reached Renamed bytes) }
+        ensures either { (old : Option (List ℕ)) (bytes : List ℕ) → (facts self.old).finds old old → (facts self.old).reached Synced bytes → (facts self.new).finds old (Some bytes) };
+
+    /// Lets the new name reach the disk.
+    fn sync_folder(&mut self) -> io::Result<()>
+        ensures synced { OnOk result ((bytes : List ℕ) → (facts self.old).reached Renamed bytes → (facts self.new).finds (Some bytes) (Some bytes)) }
+        ensures same { OnErr result ((a b : Option (List ℕ)) → (facts self.old).finds a b → (facts self.new).finds a b) };
+}
+
+/// Lets bytes take the place of those in the file. Where this fails, or the process stops on the way, a start finds the old
+/// bytes or the new.
+pub fn replace<F: KeptFile>(file: &mut F, bytes: &[u8]) -> io::Result<()>
+    ensures ok { OnOk result ((F.facts file.new).finds (Some bytes.now) (Some bytes.now)) }
+    ensures err { (old : Option (List ℕ)) → (F.facts file.old).finds old old → OnErr result (FindsOldOrNew (F.facts file.new) old bytes.now) }
+{
+    file.write_beside(bytes)?;
+    file.sync_beside()?;
+    file.rename()?;
+    file.sync_folder()
+}

@@ -1,0 +1,33 @@
+//! Where the outside comes in: folders and files, an input and an output, datagrams, and a file in which something is kept.
+//!
+//! Each is a trait, whose `facts` are all that a proof sees of it; beside it stands the system's own. `specs/Premises.antt` says
+//! what is trusted of the system.
+//!
+//! Its tests stand in `checks`.
+#![tactic(auto)]
+
+mod disk;
+mod host;
+mod input;
+mod kept_file;
+mod output;
+mod port;
+mod reading;
+mod system_disk;
+mod system_file;
+mod system_host;
+mod system_input;
+mod udp_port;
+
+pub use disk::Disk;
+pub use host::{BindFault, Host};
+pub use input::Input;
+pub use kept_file::{KeptFile, MOST_KEPT_BYTES, replace};
+pub use output::{Output, WriteFault, end};
+pub use port::{Port, PortFault};
+pub use reading::{ReadFault, read_at_most};
+pub use system_disk::SystemDisk;
+pub use system_file::SystemFile;
+pub use system_host::SystemHost;
+pub use system_input::SystemInput;
+pub use udp_port::UdpPort;

@@ -1,0 +1,51 @@
+//! Where datagrams come from and go to.
+
+ghost use Rattle.std.specs.Prelude.{◌≡◌, ◌≤◌, [], ◌∷◌, None, Ok, take, IfOk, IfSome, OnErr};
+ghost use Rattle.system_io.specs.Failures.{Risen};
+ghost use Rattle.system_io.specs.Ports.{PortFacts, Came, Quiet, Missed, Passed, to_each};
+
+use std::time::Duration;
+
+/// Why a port does nothing.
+#[derive(Clone, Copy)]
+pub enum PortFault {
+    /// It failed.
+    Failed,
+}
+
+/// Where datagrams come from, and the addresses to which they are sent, in an order.
+///
+/// `Failed` comes only where the failures rose in this call; a count that stands at its greatest value stays there and is taken
+/// as risen.
+pub trait Port {
+    /// What has passed there, how often it has failed, and to how many addresses it sends.
+    ghost facts: { Self → PortFacts };
+
+    /// Waits for a datagram, puts its first 64 bytes at the front of the buffer, and tells how many they are.
+    fn receive(&mut self, buffer: &mut [u8; 64]) -> Result<usize, PortFault>
+        ensures length { IfOk result (λ n. n ≤ 64) }
+        ensures came { IfOk result (λ n. Passed (facts self.old) (facts self.new) (Came (take n buffer.new) ∷ [])) }
+        ensures missed { OnErr result (Passed (facts self.old) (facts self.new) (Missed ∷ [])) }
+        ensures cause { OnErr result (Risen (facts self.old).faults (facts self.new).faults) };
+
+    /// The same, but waits no longer than so long, which is more than nothing: none where nothing came in time.
+    fn receive_in_time(
+        &mut self,
+        wait: Duration,
+        buffer: &mut [u8; 64],
+    ) -> Result<Option<usize>, PortFault>
+        ensures length { IfOk result (λ got. IfSome got (λ n. n ≤ 64)) }
+        ensures came { IfOk result (λ got. IfSome got (λ n. Passed (facts self.old) (facts self.new) (Came (take n buffer.new) ∷ []))) }
+        ensures quiet { result ≡ Ok None → Passed (facts self.old) (facts self.new) (Quiet ∷ []) }
+        ensures missed { OnErr result (Passed (facts self.old) (facts self.new) (Missed ∷ [])) }
+        ensures cause { OnErr result (Risen (facts self.old).faults (facts self.new).faults) };
+
+    /// Sends a datagram to each address in turn. One that can't be sent keeps none of the others back.
+    fn send(&mut self, bytes: &[u8]) -> Result<(), PortFault>
+        ensures handed { Passed (facts self.old) (facts self.new) (to_each (facts self.old).addresses bytes.now) }
+        ensures cause { OnErr result (Risen (facts self.old).faults (facts self.new).faults) };
+
+    /// How often the port has failed; at its greatest value the count stays.
+    fn failures(&self) -> u64
+        ensures { result ≡ (facts self.now).faults };
+}

@@ -1,0 +1,63 @@
+//! Folders and files of the system.
+
+use crate::disk::Disk;
+use crate::reading::{MOST_BYTES, ReadFault, read_at_most};
+use std::alloc::Global;
+use std::fs::{DirEntry, OpenFile};
+use std::rt::Files;
+use std::{fs, io};
+
+/// The folders and files of the system.
+#[derive(Drop)]
+pub struct SystemDisk<'a, R: Files + AllocGlobal + Clone + Drop> {
+    rt: &'a R,
+}
+
+impl<'a, R: Files + AllocGlobal + Clone + Drop> SystemDisk<'a, R> {
+    /// Those of this system.
+    pub fn new(rt: &'a R) -> SystemDisk<'a, R> {
+        SystemDisk { rt }
+    }
+}
+
+/// The name of an entry of a folder; none where it is no text.
+fn name_of<R: Files + AllocGlobal + Clone + Drop>(
+    rt: &R,
+    entry: io::Result<DirEntry<R>>,
+) -> io::Result<Option<String>> {
+    match entry {
+        Ok(entry) => Ok(Some(String::from_str(rt.alloc(), entry.file_name())?)),
+        Err(error) if error.kind() == io::ErrorKind::InvalidFilename => Ok(None),
+        Err(error) => Err(error),
+    }
+}
+
+/// The names in a folder; those that are no text are left out.
+fn names_in<R: Files + AllocGlobal + Clone + Drop>(
+    rt: &R,
+    folder: &str,
+) -> io::Result<Vec<String>> {
+    let mut names = Vec::new(rt.alloc());
+    for entry in fs::read_dir(rt, folder)? {
+        if let Some(name) = name_of(rt, entry)? {
+            names.push(name)?;
+        }
+    }
+    Ok(names)
+}
+
+impl<'a, R: Files + AllocGlobal + Clone + Drop> Disk for SystemDisk<'a, R> {
+    ghost use Rattle.system_io.specs.Premises.{system_disk};
+
+    ghost facts = { λ _. system_disk };
+
+    fn names(&self, _alloc: Global, folder: &str) -> Result<Vec<String>, ReadFault> {
+        Ok(names_in(self.rt, folder)?)
+    }
+
+    fn read(&self, alloc: Global, path: &str) -> Result<Vec<u8>, ReadFault> {
+        let file = fs::open(self.rt, path)?;
+        let length = file.metadata()?.len();
+        read_at_most(alloc, file, length, MOST_BYTES)
+    }
+}

@@ -1,0 +1,88 @@
+//! A file of the system, and the one beside it.
+
+use crate::kept_file::{KeptFile, MOST_KEPT_BYTES};
+use crate::reading::{ReadFault, read_at_most};
+use std::alloc::{AllocError, Global};
+use std::fs::OpenFile;
+use std::io::Write;
+use std::rt::Files;
+use std::{fs, io};
+
+/// A file of the system by its path. The one beside it has the same path with `.new` at its end.
+#[derive(Drop)]
+pub struct SystemFile<'a, R: Files + AllocGlobal> {
+    rt: &'a R,
+    path: String,
+    beside: String,
+    open: Option<R::File>,
+}
+
+/// The path of the folder in which a file stands.
+fn folder_of(path: &str) -> &str {
+    match path.rfind('/') {
+        None => ".",
+        Some(0) => "/",
+        Some(end) => &path[..end],
+    }
+}
+
+impl<'a, R: Files + AllocGlobal> SystemFile<'a, R> {
+    /// The file at a path.
+    pub fn at(rt: &'a R, alloc: Global, path: &str) -> Result<SystemFile<'a, R>, AllocError> {
+        let beside = format!(in alloc; "{path}.new")?;
+        let path = String::from_str(alloc, path)?;
+        Ok(SystemFile {
+            rt,
+            path,
+            beside,
+            open: None,
+        })
+    }
+
+    /// Lets the folder, and with it the names in it, reach the disk.
+    fn sync_name(&self) -> io::Result<()> {
+        fs::open(self.rt, folder_of(self.path.as_str()))?.sync_all()
+    }
+}
+
+impl<'a, R: Files + AllocGlobal> KeptFile for SystemFile<'a, R> {
+    ghost use Rattle.system_io.specs.Premises.{system_file};
+
+    ghost facts = { λ _. system_file };
+
+    fn settle(&self) -> Result<(), ReadFault> {
+        Ok(self.sync_name()?)
+    }
+
+    fn read(&self, alloc: Global) -> Result<Option<Vec<u8>>, ReadFault> {
+        let file = match fs::open(self.rt, self.path.as_str()) {
+            Ok(file) => file,
+            Err(error) if error.kind() == io::ErrorKind::NotFound => return Ok(None),
+            Err(error) => return Err(ReadFault::from(error)),
+        };
+        let length = file.metadata()?.len();
+        Ok(Some(read_at_most(alloc, file, length, MOST_KEPT_BYTES as u64)?))
+    }
+
+    fn write_beside(&mut self, bytes: &[u8]) -> io::Result<()> {
+        let mut file = fs::create(self.rt, self.beside.as_str())?;
+        file.write_all(bytes)?;
+        self.open = Some(file);
+        Ok(())
+    }
+
+    fn sync_beside(&mut self) -> io::Result<()> {
+        match self.open.take() {
+            Some(file) => file.sync_all(),
+            None => Err(io::Error::from(io::ErrorKind::NotFound)),
+        }
+    }
+
+    fn rename(&mut self) -> io::Result<()> {
+        fs::rename(self.rt, self.beside.as_str(), self.path.as_str())
+    }
+
+    fn sync_folder(&mut self) -> io::Result<()> {
+        self.sync_name()
+    }
+}

@@ -1,0 +1,29 @@
+//! The standard input.
+
+use crate::input::Input as Source;
+use crate::reading::{MOST_BYTES, ReadFault, read_at_most};
+use std::alloc::Global;
+use std::io::Input;
+
+/// The standard input of the system.
+#[derive(Drop)]
+pub struct SystemInput<'a, R: Input + Drop> {
+    rt: &'a R,
+}
+
+impl<'a, R: Input + Drop> SystemInput<'a, R> {
+    /// That of this system.
+    pub fn new(rt: &'a R) -> SystemInput<'a, R> {
+        SystemInput { rt }
+    }
+}
+
+impl<'a, R: Input + Drop> Source for SystemInput<'a, R> {
+    ghost use Rattle.system_io.specs.Premises.{system_input};
+
+    ghost facts = { λ _. system_input };
+
+    fn read_to_end(&self, alloc: Global) -> Result<Vec<u8>, ReadFault> {
+        read_at_most(alloc, self.rt.reader(), 0, MOST_BYTES)
+    }
+}
