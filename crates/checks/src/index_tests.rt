@@ -188,8 +188,18 @@ fn a_shape_shows_its_groups(rt: HostRuntime) {
     check_factors(&rt, &shape);
 }
 
+/// The example of `place_index`, `indexing.rt`: two leading pawns on file a, which have 252 placements.
+#[test]
+fn the_example_has_its_factors(rt: HostRuntime) {
+    let material = material(&rt, "KRPPvK");
+    let shape = shaped(&rt, &material, &[1, 1, 6, 4, 14], (2, 0), 0).expect(&rt, "a shape");
+    let factors = [3782, 1, 62, 3782 * 252];
+    assert_eq!(rt; shape.factors(), factors.as_slice());
+    check_same(&rt, shape.size(), 57183840, "size");
+}
+
 /// A position, the pieces of its table in their order, the places of the leading group and of the other side's pawns, and
-/// the index. The first eight are worked by hand; those after them were counted, placement by placement, by a plain program.
+/// the index. The first nine are worked by hand; those after them were counted, placement by placement, by a plain program.
 struct Placement {
     text: &'static str,
     pieces: &'static [u8],
@@ -198,7 +208,15 @@ struct Placement {
     index: u64,
 }
 
-const PLACEMENTS: [Placement; 20] = [
+const PLACEMENTS: [Placement; 21] = [
+    // the example of place_index, indexing.rt
+    Placement {
+        text: "8/8/5k2/8/6p1/7p/2K5/7r b - - 0 1",
+        pieces: &[1, 1, 6, 4, 14],
+        order: 2,
+        second: 0,
+        index: 205 * 3782 + 18 + 53 * 62 + 50 * 953064,
+    },
     // the same placement and its mirror
     Placement {
         text: "7k/8/8/8/8/2R5/8/1K6 w - - 0 1",

@@ -1,4 +1,33 @@
-//! The index of a placement.
+//! The index of a placement (Syzygy index): from a FEN to its place in the table.
+//!
+//! One example, `8/8/5k2/8/6p1/7p/2K5/7r b - - 0 1`, on its way through this crate; `checks`, `index_tests.rt`, has the same
+//! numbers.
+//!
+//! **Placement** (`placed.rt`). Black has king, rook and two pawns, so the table is KRPPvK, whose first side has more men.
+//! Colours are exchanged, each man goes to the opposite rank, and the first side is to move: R h8, k c7, P h6, P g5, K f3
+//! (capitals are the first side).
+//!
+//! **Turned placement** (`turning.rt`, `Turned`). With pawns the leading pawn goes to the files a to d. Of the leading colour's
+//! pawns it is the one with the greatest pawn number: h6 has 38, g5 has 28. It stands on h, so all men are mirrored left to
+//! right: R a8, k f7, P a6, P b5, K c3. The file of the leading pawn is now a, number 0, which picks the table's record. (Without
+//! pawns the first leading man goes to the left and to the bottom, and then the first one off the diagonal a1-h8 to below it.)
+//!
+//! **Groups** (`group.rt`, `places.rt`). The record gives the pieces 1 1 6 4 14, that is P P K R k, and the order 2. Two pawns
+//! lead (`leading.rt`); the groups after them are the runs of equal pieces, here K, R and k. The order is the place of the
+//! leading group, and the others take the free places in sequence: K 0, R 1, the pawns 2, k 3.
+//!
+//! **Sizes and factors** (`sizes.rt`, `places.rt`). Two leading pawns on file a have 47 + 45 + 43 + 41 + 39 + 37 = 252
+//! placements: for the leading one on a2 to a7 so many squares of lower pawn numbers are left to the other. K has the 62 squares
+//! that are free then, R 61, k 60. A group's factor is the product of the sizes at places before its own: K 1, R 62, the pawns
+//! 62 * 61 = 3,782, k 3,782 * 252 = 953,064. The product of all, 57,183,840, is the size of the record.
+//!
+//! **Numbers** (`leading.rt`, `numbers.rt`). The pawns have the pawn numbers 39 (a6) and 29 (b5): 47 + 45 + 43 + 41 = 176
+//! placements have the leading one on a2 to a5, and 29 more come first, so their number is 205. Squares are numbered from a1 = 0
+//! to h8 = 63, and each man that was numbered before and stands lower takes one away. K on c3: 18, none lower. R on a8: 56 less
+//! three (a6 = 40, b5 = 33, c3 = 18), 53. k on f7: 53 less the same three, 50.
+//!
+//! **Index** (`index`). Each number times its factor:
+//! 205 * 3,782 + 18 * 1 + 53 * 62 + 50 * 953,064 = 775,310 + 18 + 3,286 + 47,653,200 = 48,431,814.
 
 ghost use Rattle.std.specs.Prelude.{◌≡◌, ◌<◌, ◌≤◌, ◌+◌, ◌∷◌, [], length, slice_index, true};
 ghost use Rattle.place_index.specs.Index.{lead_codes, lead_number, squares_of_all, numbers_of, sum_of_products, index_of};

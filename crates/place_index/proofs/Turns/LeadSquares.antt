@@ -1,7 +1,7 @@
 -- The leading men's squares.
-use Rattle.std.proofs.Common.{◌≡◌, ℕ, zero, suc, ◌+◌, ◌*◌, ◌<◌, ◌≤◌, true, cond, List, [], ◌∷◌, ◌++◌, length, take, map, slice_index, get_or, refl, sym, ap, ◌∙◌, subst, inl, inr, arith}
+use Rattle.std.proofs.Common.{◌≡◌, ℕ, ◌+◌, ◌*◌, ◌<◌, ◌≤◌, true, cond, List, [], ◌∷◌, length, map, slice_index, refl, sym, ap, ◌∙◌, subst, inl, inr, arith}
 use Rattle.std.proofs.lemmas.Bool.{cases_eq, cases_lt, lt-ltb, le-ltb}
-use Rattle.std.proofs.lemmas.List.{append-nil, length-map, take_more}
+use Rattle.std.proofs.lemmas.List.{append-nil, length-map}
 use Rattle.place_index.specs.Square.{file, before}
 use Rattle.place_index.specs.Material.{pieces_of, count_of}
 use Rattle.place_index.specs.Men.{stands, squares_of}
@@ -171,20 +171,3 @@ count_few key c lt =
 
 pub group_few : (key : ℕ) (men : List Man) (c : ℕ) → key < 145 → IsPlacement key men → length (squares_of men c) ≤ 3
 group_few key men c lt p = omega (arith, (settled key men p).counts c, count_few key c lt)
-
--- ---- squares added one after another
-
-map_last : (xs : List ℕ) (x : ℕ) → map pawn_square (xs ++ x ∷ []) ≡ map pawn_square xs ++ pawn_square x ∷ []
-map_last [] x = refl
-map_last (y ∷ xs) x = ap (λ l. pawn_square y ∷ l) (map_last xs x)
-
-pub pawn_next : (numbers : List ℕ) (i : ℕ) → i < length numbers → map pawn_square (take (i + 1) numbers) ≡ map pawn_square (take i numbers) ++ pawn_square (get_or numbers i 0) ∷ []
-pawn_next numbers i lt = ap (map pawn_square) (take_more numbers i 0 lt) ∙ map_last (take i numbers) (get_or numbers i 0)
-
-pub pawn_room : (numbers : List ℕ) (i : ℕ) → i ≤ length numbers → length (map pawn_square (take i numbers)) ≡ i
-pawn_room numbers i le = length-map (take i numbers) pawn_square ∙ front i numbers le
-  where
-    front : (n : ℕ) (xs : List ℕ) → n ≤ length xs → length (take n xs) ≡ n
-    front zero xs le = refl
-    front (suc n) [] le = absurd (omega (arith, le))
-    front (suc n) (x ∷ xs) le = ap suc (front n xs (omega (arith, le)))

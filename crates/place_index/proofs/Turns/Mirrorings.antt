@@ -21,10 +21,8 @@ use Rattle.place_index.proofs.Turns.Alone.{IsAlone, alone_of, alone_moved, squar
 use Rattle.place_index.proofs.Turns.TurnedMen.{are_men, moved_men, turned_pawned, turned_plain}
 use Rattle.place_index.proofs.Indices.IndexLaw.{leads_three, lead_kings, codes_by_pieces}
 use Rattle.place_index.proofs.Materials.MenTables.{codes_small}
-use Rattle.place_index.proofs.Indices.Settled.{squares_fall}
 use Rattle.place_index.proofs.Counting.Choosing.{choose_one}
 use Rattle.place_index.specs.Others.{free_number, free_set_number}
-use Rattle.place_index.specs.Choose.{IsFallingBelow}
 
 -- ---- one mirroring after another
 
@@ -289,48 +287,6 @@ king_squares_are l men s p plain common =
   where
     join : (xs ys : List ℕ) (x y : ℕ) → xs ≡ x ∷ [] → ys ≡ y ∷ [] → xs ++ (ys ++ []) ≡ x ∷ y ∷ []
     join xs ys x y e f = rw (e, f) refl
-
-pub record StandThree (l : Layout) (men : List Man) (squares : List ℕ) : Type 0 where
-  pub size : length squares ≡ 3
-  pub first : slice_index squares 0 ≡ square_of men (slice_index l.pieces 0)
-  pub second : slice_index squares 1 ≡ square_of men (slice_index l.pieces 1)
-  pub third : slice_index squares 2 ≡ square_of men (slice_index l.pieces 2)
-  pub board0 : slice_index squares 0 < 64
-  pub board1 : slice_index squares 1 < 64
-  pub board2 : slice_index squares 2 < 64
-
-square_board : (men : List Man) (c : ℕ) → square_of men c < 64
-square_board men c = first (squares_of men c) (squares_fall men c)
-  where
-    first : (xs : List ℕ) → IsFallingBelow 64 xs → slice_index xs 0 < 64
-    first [] f = omega arith
-    first (x ∷ xs) f = f.0
-
-pub stand_three : (l : Layout) (men : List Man) (squares : List ℕ) → IsShape l → IsPlacement l.material men → has_pawns l.material ≡ false → has_unique l.material ≡ true → squares ≡ squares_of_all men (lead_codes l) → StandThree l men squares
-stand_three l men squares s p plain unique e =
-    let is = e ∙ three_squares_are l men s p plain unique in
-    let first = ap (λ xs. slice_index xs 0) is in
-    let second = ap (λ xs. slice_index xs 1) is in
-    let third = ap (λ xs. slice_index xs 2) is in
-    record {
-      size = ap length is;
-      first = first;
-      second = second;
-      third = third;
-      board0 = omega (arith, first, square_board men (slice_index l.pieces 0));
-      board1 = omega (arith, second, square_board men (slice_index l.pieces 1));
-      board2 = omega (arith, third, square_board men (slice_index l.pieces 2));
-    }
-
-pub record StandTwo (l : Layout) (men : List Man) (squares : List ℕ) : Type 0 where
-  pub size : length squares ≡ 2
-  pub first : slice_index squares 0 ≡ square_of men (slice_index l.pieces 0)
-  pub second : slice_index squares 1 ≡ square_of men (slice_index l.pieces 1)
-
-pub stand_two : (l : Layout) (men : List Man) (squares : List ℕ) → IsShape l → IsPlacement l.material men → has_pawns l.material ≡ false → has_unique l.material ≡ false → squares ≡ squares_of_all men (lead_codes l) → StandTwo l men squares
-stand_two l men squares s p plain common e =
-    let is = e ∙ king_squares_are l men s p plain common in
-    record { size = ap length is; first = ap (λ xs. slice_index xs 0) is; second = ap (λ xs. slice_index xs 1) is }
 
 -- ---- men of one code, collected from men that are turned on the way
 
