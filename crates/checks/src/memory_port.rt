@@ -1,39 +1,40 @@
 //! A port in memory, which fails when it is told to.
 
-ghost use Rattle.std.specs.Prelude.{◌≡◌, ◌≤◌, ◌∷◌, [], IsTrue, IfNone, IfSome};
+ghost use Rattle.std.specs.Prelude.{◌≡◌, ◌≤◌, ◌∷◌, [], map, IsTrue, IfNone, IfSome};
 ghost use Rattle.system_io.specs.Failures.{Risen};
 ghost use Rattle.system_io.specs.Ports.{Passes, to_each};
-ghost use Rattle.checks.specs.MemoryPorts.{passing, passings, told_if};
+ghost use Rattle.checks.specs.MemoryPorts.{passing, told_if};
 
 use std::alloc::Global;
 use std::time::Duration;
 use system_io::{Port, PortFault};
 
-/// How something passes.
-#[derive(Clone, Copy)]
-pub(crate) enum Kind {
-    /// A datagram came.
-    Came,
-    /// A receive failed.
-    Missed,
-    /// A datagram was handed over for the address at this place.
-    Handed(usize),
-}
-
-/// What has passed.
+/// What has passed: a datagram that came or was handed over for the address at a place, or a receive that failed.
 #[derive(Drop)]
 pub(crate) struct Passage {
-    pub(crate) kind: Kind,
+    pub(crate) is_missed: bool,
+    pub(crate) is_handed: bool,
+    pub(crate) to: usize,
     pub(crate) bytes: Vec<u8>,
 }
 
 /// What passes; none where memory is refused.
-fn passage_of(alloc: Global, kind: Kind, bytes: &[u8]) -> Option<Passage>
-    ensures kind { IfSome result (λ p. p.kind ≡ kind) }
-    ensures bytes { IfSome result (λ p. p.bytes.items ≡ bytes.now) }
+fn passage_of(
+    alloc: Global,
+    is_missed: bool,
+    is_handed: bool,
+    to: usize,
+    bytes: &[u8],
+) -> Option<Passage>
+    ensures { IfSome result (λ e. passing e.is_missed e.is_handed e.to e.bytes.items ≡ passing is_missed is_handed to bytes.now) }
 {
     match Vec::from_slice(alloc, bytes) {
-        Ok(bytes) => Some(Passage { kind, bytes }),
+        Ok(bytes) => Some(Passage {
+            is_missed,
+            is_handed,
+            to,
+            bytes,
+        }),
         Err(_) => None,
     }
 }
@@ -85,11 +86,11 @@ impl<'a> MemoryPort<'a> {
     }
 
     /// Keeps what passes.
-    fn note(&mut self, kind: Kind, bytes: &[u8])
-        ensures passes { Passes (told_if self.old.is_whole (passings self.old.passages.items)) (told_if self.new.is_whole (passings self.new.passages.items)) (passing kind bytes.now ∷ []) }
+    fn note(&mut self, is_missed: bool, is_handed: bool, to: usize, bytes: &[u8])
+        ensures passes { Passes (told_if self.old.is_whole (map (λ e. passing e.is_missed e.is_handed e.to e.bytes.items) self.old.passages.items)) (told_if self.new.is_whole (map (λ e. passing e.is_missed e.is_handed e.to e.bytes.items) self.new.passages.items)) (passing is_missed is_handed to bytes.now ∷ []) }
         ensures same { self.new.failures ≡ self.old.failures }
     {
-        let Some(passage) = passage_of(self.alloc, kind, bytes) else {
+        let Some(passage) = passage_of(self.alloc, is_missed, is_handed, to, bytes) else {
             self.is_whole = false;
             return;
         };
@@ -101,11 +102,11 @@ impl<'a> MemoryPort<'a> {
 
     /// Keeps that a datagram is handed over for each address.
     fn note_each(&mut self, bytes: &[u8])
-        ensures passes { Passes (told_if self.old.is_whole (passings self.old.passages.items)) (told_if self.new.is_whole (passings self.new.passages.items)) (to_each 2 bytes.now) }
+        ensures passes { Passes (told_if self.old.is_whole (map (λ e. passing e.is_missed e.is_handed e.to e.bytes.items) self.old.passages.items)) (told_if self.new.is_whole (map (λ e. passing e.is_missed e.is_handed e.to e.bytes.items) self.new.passages.items)) (to_each 2 bytes.now) }
         ensures same { self.new.failures ≡ self.old.failures }
     {
-        self.note(Kind::Handed(0), bytes);
-        self.note(Kind::Handed(1), bytes);
+        self.note(false, true, 0, bytes);
+        self.note(false, true, 1, bytes);
     }
 
     /// Whether this call fails.
@@ -144,19 +145,20 @@ impl<'a> MemoryPort<'a> {
 }
 
 impl<'a> Port for MemoryPort<'a> {
-    ghost use Rattle.checks.specs.MemoryPorts.{passings, told_if};
+    ghost use Rattle.std.specs.Prelude.{map};
+    ghost use Rattle.checks.specs.MemoryPorts.{passing, told_if};
 
-    ghost facts = { λ p. record { passed = told_if p.is_whole (passings p.passages.items); faults = p.failures; addresses = 2 } };
+    ghost facts = { λ p. record { passed = told_if p.is_whole (map (λ e. passing e.is_missed e.is_handed e.to e.bytes.items) p.passages.items); faults = p.failures; addresses = 2 } };
 
     fn receive(&mut self, buffer: &mut [u8; 64]) -> Result<usize, PortFault> {
         match self.next() {
             Some(datagram) => {
                 let length = fill(buffer, datagram);
-                self.note(Kind::Came, &buffer[..length]);
+                self.note(false, false, 0, &buffer[..length]);
                 Ok(length)
             }
             None => {
-                self.note(Kind::Missed, &[]);
+                self.note(true, false, 0, &[]);
                 Err(PortFault::Failed)
             }
         }

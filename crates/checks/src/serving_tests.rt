@@ -6,7 +6,7 @@ use crate::arbiters::{empty_keeper, game, open_first};
 use crate::comparing::{check_bytes, check_same};
 use crate::files::push_bytes;
 use crate::forge_tests::Failing;
-use crate::memory_port::{Kind, MemoryPort, Passage};
+use crate::memory_port::{MemoryPort, Passage};
 use crate::positions::START;
 use arbiter_core::{Arbiter, Keep, MemoryKeeper};
 use arbiter_service::serve;
@@ -80,11 +80,14 @@ fn check_lines(rt: &impl Abort, alloc: Global, port: &mut MemoryPort<'_>, row: &
 
 /// The letter of what passed.
 fn letter_of(passage: &Passage) -> u8 {
-    match passage.kind {
-        Kind::Came => b'c',
-        Kind::Missed => b'm',
-        Kind::Handed(0) => b'h',
-        Kind::Handed(_) => b'i',
+    if passage.is_missed {
+        b'm'
+    } else if !passage.is_handed {
+        b'c'
+    } else if passage.to == 0 {
+        b'h'
+    } else {
+        b'i'
     }
 }
 
