@@ -17,7 +17,7 @@ use Rattle.move_msg.specs.declared.who.Who.{Who}
 use Rattle.relay_world.specs.declared.world.State.{State}
 use Rattle.relay_world.specs.declared.world.State.TheVariants as state
 use Rattle.relay_world.specs.Texts.{who_word}
-use Rattle.arbiter_core.specs.ServedLines.{refused_keeper, refused_port, verdict_or_none}
+use Rattle.arbiter_service.specs.ServedLines.{refused_keeper, refused_port, verdict_or_none}
 use Rattle.adjudicate.specs.declared.tables.FileFault.{FileFault}
 use Rattle.adjudicate.specs.declared.tables.FileFault.TheVariants.{Missing, Changed, Bad}
 use Rattle.adjudicate.specs.declared.lines.Kept.{Kept}

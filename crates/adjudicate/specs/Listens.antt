@@ -1,5 +1,5 @@
 -- What `listen` makes of its words and of what it reads (this project's own).
-use Rattle.std.specs.Prelude.{◌≡◌, ℕ, List, Option, Ok, Err}
+use Rattle.std.specs.Prelude.{◌≡◌, ℕ, List, [], ◌∷◌, Option, Ok, Err}
 use Rattle.board_core.specs.declared.parts.Parts.{Parts}
 use Rattle.board_core.specs.Position.{IsPosition}
 use Rattle.fen_text.specs.declared.fault.FenFault.{FenFault}
@@ -10,19 +10,21 @@ use Rattle.move_msg.specs.Manifests.{SpellsManifest}
 use Rattle.move_msg.specs.Senders.{who_number}
 use Rattle.arbiter_core.specs.declared.fault.OpenFault.{OpenFault}
 use Rattle.arbiter_core.specs.declared.fault.OpenFault.TheVariants.{BadSetup, KeeperFailed, BadRecord, OtherStamp, OutOfMemory}
-use Rattle.arbiter_core.specs.OverFiles.{IsOpened, ServesOpened}
+use Rattle.arbiter_service.specs.OverFiles.{IsOpened, ServesOpened}
 use Rattle.arbiter_core.specs.Setups.{SetupView}
-use Rattle.arbiter_core.specs.declared.file_keeper.FileKeeper.{FileKeeper}
+use Rattle.arbiter_service.specs.declared.file_keeper.FileKeeper.{FileKeeper}
 use Rattle.adjudicate.specs.declared.listening.Listening.{Listening}
 use Rattle.move_msg.specs.Given.{Given}
-use Rattle.arbiter_core.specs.KeptFiles.{Finds}
-use Rattle.arbiter_core.specs.ServedLines.{refused_keeper, refused_port}
+use Rattle.system_io.specs.KeptFiles.{KeptFacts}
+use Rattle.system_io.specs.Hosts.{HostFacts}
+use Rattle.arbiter_service.specs.ServedLines.{refused_keeper, refused_port}
 use Rattle.move_msg.specs.ToldLines.{refused_memory}
 use Rattle.adjudicate.specs.Lines.{refused_fen}
 use Rattle.adjudicate.specs.Looks.{gathered}
-use Rattle.arbiter_core.specs.Ports.{Passing, AtPort, NothingPassed, at_port}
+use Rattle.system_io.specs.Ports.{Passed, PortFacts}
+use Rattle.arbiter_service.specs.Serving.{Scene, scene}
 use Rattle.adjudicate.specs.Reply.{IsText}
-use Rattle.arbiter_core.specs.StoredBytes.{IsInFile, file_of}
+use Rattle.arbiter_service.specs.StoredBytes.{IsInFile, file_of}
 use Rattle.adjudicate.specs.Telling.{TellsOne}
 
 -- the setup of the arbiter
@@ -39,49 +41,38 @@ TellsUnopened OutOfMemory old new status = TellsOne refused_memory old new statu
 
 -- ---- all of it
 
--- what a host tells of its ports and of its files
+-- what is known of a host, of its ports and of its files
 pub record Hosted (P F : Type 0) : Type 1 where
-  -- the port is bound to this address and sends to that one
-  pub binds : List ℕ → List ℕ → P → Type 0
-  -- this address can't be bound
-  pub unbound : List ℕ → Type 0
-  -- what has passed at a port, and how often it has failed
-  pub passed : P → Option (List Passing)
-  pub faults : P → ℕ
-  -- the file is the one at this path
-  pub is_at : List ℕ → F → Type 0
-  -- what stands under its name can't be read
-  pub unreadable : F → Type 0
-  -- what a start finds there
-  pub finds : Finds F
+  pub host : HostFacts P F
+  pub port : P → PortFacts
+  pub file : F → KeptFacts
 
-abbrev pub hosted : {P F : Type 0} → (List ℕ → List ℕ → P → Type 0) → (List ℕ → Type 0) → (List ℕ → F → Type 0) → (P → Option (List Passing)) → (P → ℕ) → (F → Type 0) → Finds F → Hosted P F
-hosted binds unbound is_at passed faults unreadable finds =
-    record { binds = binds; unbound = unbound; passed = passed; faults = faults; is_at = is_at; unreadable = unreadable; finds = finds }
+abbrev pub hosted : {P F : Type 0} → HostFacts P F → (P → PortFacts) → (F → KeptFacts) → Hosted P F
+hosted host port file = record { host = host; port = port; file = file }
 
 -- an arbiter is opened over the keeper and serves the datagrams, and between any two of them its record is in the file; or it
 -- isn't opened, and nothing is served; the keeper is left so
-pub data OpensAndServes {F : Type 0} (finds : Finds F) (l : Listening) (setup : SetupView) (before after : FileKeeper F) (port port' : AtPort) (old new : Option (List ℕ)) (status : ℕ) : Type 0 where
-  Served : ServesOpened finds setup l.datagrams l.fetch before after port port' old new (Ok status) → OpensAndServes finds l setup before after port port' old new status
-  Unopened : (fault : OpenFault) → IsOpened finds setup before after (Err fault) → NothingPassed port port' → TellsUnopened fault old new status → OpensAndServes finds l setup before after port port' old new status
+pub data OpensAndServes {F : Type 0} (facts : F → KeptFacts) (l : Listening) (setup : SetupView) (old new : Scene (FileKeeper F)) (status : ℕ) : Type 0 where
+  Served : ServesOpened facts setup l.datagrams l.fetch old new (Ok status) → OpensAndServes facts l setup old new status
+  Unopened : (fault : OpenFault) → IsOpened facts setup old.at new.at (Err fault) → Passed old.port new.port [] → TellsUnopened fault old.written new.written status → OpensAndServes facts l setup old new status
 
 -- over the file in which the record is kept: it can't be read; or an arbiter is opened over a keeper of this file, which has
 -- stored what a start finds there
-pub data KeepsAndServes {F : Type 0} (unreadable : F → Type 0) (finds : Finds F) (l : Listening) (setup : SetupView) (file : F) (port port' : AtPort) (old new : Option (List ℕ)) (status : ℕ) : Type 0 where
-  Unreadable : unreadable file → NothingPassed port port' → TellsOne refused_keeper old new status → KeepsAndServes unreadable finds l setup file port port' old new status
-  NoRoomToKeep : NothingPassed port port' → TellsOne refused_memory old new status → KeepsAndServes unreadable finds l setup file port port' old new status
-  Kept : (keeper after : FileKeeper F) → file_of keeper ≡ file → IsInFile finds keeper → OpensAndServes finds l setup keeper after port port' old new status → KeepsAndServes unreadable finds l setup file port port' old new status
+pub data KeepsAndServes {F : Type 0} (facts : F → KeptFacts) (l : Listening) (setup : SetupView) (file : F) (port port' : PortFacts) (old new : Option (List ℕ)) (status : ℕ) : Type 0 where
+  Unreadable : (facts file).unreadable → Passed port port' [] → TellsOne refused_keeper old new status → KeepsAndServes facts l setup file port port' old new status
+  NoRoomToKeep : Passed port port' [] → TellsOne refused_memory old new status → KeepsAndServes facts l setup file port port' old new status
+  Kept : (keeper after : FileKeeper F) → file_of keeper ≡ file → IsInFile facts keeper → OpensAndServes facts l setup (scene keeper port old) (scene after port' new) status → KeepsAndServes facts l setup file port port' old new status
 
 -- at a port, over the file at the path of the words
-pub data ServesAt {P F : Type 0} (host : Hosted P F) (l : Listening) (setup : SetupView) (port port' : AtPort) (old new : Option (List ℕ)) (status : ℕ) : Type 0 where
-  AtFile : (file : F) → host.is_at l.kept.now file → KeepsAndServes host.unreadable host.finds l setup file port port' old new status → ServesAt host l setup port port' old new status
-  NoRoomForFile : NothingPassed port port' → TellsOne refused_memory old new status → ServesAt host l setup port port' old new status
+pub data ServesAt {P F : Type 0} (host : Hosted P F) (l : Listening) (setup : SetupView) (port port' : PortFacts) (old new : Option (List ℕ)) (status : ℕ) : Type 0 where
+  AtFile : (file : F) → host.host.is_at l.kept.now file → KeepsAndServes host.file l setup file port port' old new status → ServesAt host l setup port port' old new status
+  NoRoomForFile : Passed port port' [] → TellsOne refused_memory old new status → ServesAt host l setup port port' old new status
 
--- with these tables: the port can't be bound; or it is, and the record is kept in the file at the path
+-- with these tables: the port can't be bound; or it is, sends to the other address, and the record is kept in the file at the path
 pub data BindsAndServes {P F : Type 0} (host : Hosted P F) (l : Listening) (setup : SetupView) (old new : Option (List ℕ)) (status : ℕ) : Type 0 where
-  Unbound : host.unbound l.bind.now → TellsOne refused_port old new status → BindsAndServes host l setup old new status
+  Unbound : host.host.unbound l.bind.now → TellsOne refused_port old new status → BindsAndServes host l setup old new status
   NoRoomToBind : TellsOne refused_memory old new status → BindsAndServes host l setup old new status
-  Bound : (port port' : P) → host.binds l.bind.now l.to.now port → ServesAt host l setup (at_port host.passed host.faults port) (at_port host.passed host.faults port') old new status → BindsAndServes host l setup old new status
+  Bound : (port port' : P) → host.host.binds l.bind.now (l.to.now ∷ []) port → (host.port port).addresses ≡ 1 → ServesAt host l setup (host.port port) (host.port port') old new status → BindsAndServes host l setup old new status
 
 -- listening: the text of the start is no position; or else a table is refused; or else what follows, with the manifest of the
 -- tables' files

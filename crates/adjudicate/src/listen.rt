@@ -8,21 +8,22 @@ ghost use Rattle.move_msg.specs.Manifests.{SpellsManifest};
 ghost use Rattle.arbiter_core.specs.Setups.{setup_view};
 ghost use Rattle.adjudicate.specs.Listens.{BindsAndServes, KeepsAndServes, Listens, OpensAndServes, ServesAt, TellsUnopened, hosted, setup_for};
 ghost use Rattle.adjudicate.specs.Looks.{gathered};
-ghost use Rattle.arbiter_core.specs.Ports.{at_port};
-ghost use Rattle.arbiter_core.specs.StoredBytes.{IsInFile};
+ghost use Rattle.arbiter_service.specs.Serving.{scene};
+ghost use Rattle.arbiter_service.specs.StoredBytes.{IsInFile};
 
-use crate::host::{BindFault, Host};
 use crate::lines::put_refusal;
 use crate::listening::Listening;
 use crate::refusals::Refusal;
 use crate::tables::gather;
-use arbiter_core::{FileKeeper, KeptFile, OpenFault, Port, Setup};
+use arbiter_core::{OpenFault, Setup};
+use arbiter_service::FileKeeper;
 use board_core::Position;
 use fen_text::read;
 use judge_core::Set;
-use move_msg::{ReadFault, Sources, WriteFault, manifest_of};
+use move_msg::{Sources, WriteFault, manifest_of};
 use std::alloc::{AllocError, Global};
 use std::io::Write;
+use system_io::{BindFault, Host, KeptFile, Port, ReadFault};
 
 /// Tells that no arbiter is opened: `refused keeper`, or `refused memory` where memory was refused.
 fn put_unopened<W: Write>(fault: OpenFault, out: &mut W) -> Result<u8, WriteFault>
@@ -44,10 +45,10 @@ fn open_and_serve<F: KeptFile + Drop, P: Port, W: Write>(
     port: &mut P,
     out: &mut W,
 ) -> Result<u8, WriteFault>
-    requires { IsInFile F.finds keeper.old }
-    ensures { IfOk result (OpensAndServes F.finds listening.now (setup_view setup.entry) keeper.old keeper.new (at_port P.passed P.faults port.old) (at_port P.passed P.faults port.new) (W.contents out.old) (W.contents out.new)) }
+    requires { IsInFile F.facts keeper.old }
+    ensures { IfOk result (OpensAndServes F.facts listening.now (setup_view setup.entry) (scene keeper.old (P.facts port.old) (W.contents out.old)) (scene keeper.new (P.facts port.new) (W.contents out.new))) }
 {
-    match arbiter_core::open_and_serve(
+    match arbiter_service::open_and_serve(
         alloc,
         setup,
         keeper,
@@ -71,7 +72,7 @@ fn keep_and_serve<F: KeptFile + Drop, P: Port, W: Write>(
     port: &mut P,
     out: &mut W,
 ) -> Result<u8, WriteFault>
-    ensures { IfOk result (KeepsAndServes F.unreadable F.finds listening.now (setup_view setup.entry) file (at_port P.passed P.faults port.old) (at_port P.passed P.faults port.new) (W.contents out.old) (W.contents out.new)) }
+    ensures { IfOk result (KeepsAndServes F.facts listening.now (setup_view setup.entry) file (P.facts port.old) (P.facts port.new) (W.contents out.old) (W.contents out.new)) }
 {
     match FileKeeper::new(alloc, file) {
         Ok(mut keeper) => open_and_serve(alloc, listening, setup, &mut keeper, port, out),
@@ -89,7 +90,7 @@ fn serve_at<H: Host, W: Write>(
     port: &mut H::Port,
     out: &mut W,
 ) -> Result<u8, WriteFault>
-    ensures { IfOk result (ServesAt (hosted (H.binds host.now) (H.unbound host.now) (H.is_at host.now) H.Port.passed H.Port.faults H.File.unreadable H.File.finds) listening.now (setup_view setup.entry) (at_port H.Port.passed H.Port.faults port.old) (at_port H.Port.passed H.Port.faults port.new) (W.contents out.old) (W.contents out.new)) }
+    ensures { IfOk result (ServesAt (hosted (H.facts host.now) H.Port.facts H.File.facts) listening.now (setup_view setup.entry) (H.Port.facts port.old) (H.Port.facts port.new) (W.contents out.old) (W.contents out.new)) }
 {
     match host.file(alloc, listening.kept) {
         Ok(file) => keep_and_serve(alloc, listening, setup, file, port, out),
@@ -105,9 +106,9 @@ fn bind_and_serve<H: Host, W: Write>(
     host: &H,
     out: &mut W,
 ) -> Result<u8, WriteFault>
-    ensures { IfOk result (BindsAndServes (hosted (H.binds host.now) (H.unbound host.now) (H.is_at host.now) H.Port.passed H.Port.faults H.File.unreadable H.File.finds) listening.now (setup_view setup.entry) (W.contents out.old) (W.contents out.new)) }
+    ensures { IfOk result (BindsAndServes (hosted (H.facts host.now) H.Port.facts H.File.facts) listening.now (setup_view setup.entry) (W.contents out.old) (W.contents out.new)) }
 {
-    match host.bind(alloc, listening.bind, listening.to) {
+    match host.bind(alloc, listening.bind, &[listening.to]) {
         Ok(mut port) => serve_at(alloc, listening, setup, host, &mut port, out),
         Err(BindFault::Unbound) => put_refusal(out, Refusal::Port),
         Err(BindFault::OutOfMemory) => put_refusal(out, Refusal::Memory),
@@ -133,7 +134,7 @@ fn listen_with<'a, H: Host, W: Write>(
     out: &mut W,
 ) -> Result<u8, WriteFault>
     requires { name.now ≡ listening.now.name.now }
-    ensures { IfOk result (BindsAndServes (hosted (H.binds host.now) (H.unbound host.now) (H.is_at host.now) H.Port.passed H.Port.faults H.File.unreadable H.File.finds) listening.now (setup_for listening.now start set.entry manifest.entry.now) (W.contents out.old) (W.contents out.new)) }
+    ensures { IfOk result (BindsAndServes (hosted (H.facts host.now) H.Port.facts H.File.facts) listening.now (setup_for listening.now start set.entry manifest.entry.now) (W.contents out.old) (W.contents out.new)) }
 {
     let setup = Setup {
         name,
@@ -156,7 +157,7 @@ fn listen_by<'a, H: Host, W: Write>(
     host: &H,
     out: &mut W,
 ) -> Result<u8, WriteFault>
-    ensures { Ok set.entry.tables ≡ gathered sources.now → SpellsPosition listening.now.start.now start → IsPosition start → IfOk result (Listens (hosted (H.binds host.now) (H.unbound host.now) (H.is_at host.now) H.Port.passed H.Port.faults H.File.unreadable H.File.finds) listening.now sources.now (W.contents out.old) (W.contents out.new)) }
+    ensures { Ok set.entry.tables ≡ gathered sources.now → SpellsPosition listening.now.start.now start → IsPosition start → IfOk result (Listens (hosted (H.facts host.now) H.Port.facts H.File.facts) listening.now sources.now (W.contents out.old) (W.contents out.new)) }
 {
     let manifest = match manifest_for(alloc, sources) {
         Ok(manifest) => manifest,
@@ -178,7 +179,7 @@ pub fn listen<'a, H: Host, W: Write>(
     host: &H,
     out: &mut W,
 ) -> Result<u8, WriteFault>
-    ensures { IfOk result (Listens (hosted (H.binds host.now) (H.unbound host.now) (H.is_at host.now) H.Port.passed H.Port.faults H.File.unreadable H.File.finds) listening.now sources.now (W.contents out.old) (W.contents out.new)) }
+    ensures { IfOk result (Listens (hosted (H.facts host.now) H.Port.facts H.File.facts) listening.now sources.now (W.contents out.old) (W.contents out.new)) }
 {
     let start = match read(listening.start.as_bytes()) {
         Ok(start) => start,

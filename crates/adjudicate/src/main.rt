@@ -13,7 +13,6 @@
 mod answers;
 mod commands;
 mod games;
-mod host;
 mod lines;
 mod listen;
 mod listening;
@@ -27,7 +26,6 @@ mod show;
 mod tables;
 mod usage;
 
-use host::SystemHost;
 use lines::put_refusal;
 use move_msg::{SystemDisk, WriteFault, end};
 use program::run;
@@ -35,6 +33,7 @@ use refusals::Refusal;
 use std::alloc::{AllocError, Global};
 use std::io::{self, BufWriter, Write};
 use std::process::ExitCode;
+use system_io::SystemHost;
 use usage::Usage;
 
 /// The words that the program was called with, its own name first. Words that are no text are a

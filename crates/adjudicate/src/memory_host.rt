@@ -1,18 +1,18 @@
 //! A host in memory: a port at which datagrams wait, and a kept file.
 
-ghost use Rattle.std.specs.Prelude.{◌≤◌, None, length, IfOk, IfSome, IfNone};
-ghost use Rattle.arbiter_core.specs.Keeping.{Risen};
+ghost use Rattle.std.specs.Prelude.{◌≡◌, ◌≤◌, length, IfOk, IfSome, IfNone};
+ghost use Rattle.system_io.specs.Failures.{Risen};
 
-use crate::host::{BindFault, Host};
-use arbiter_core::{KeptFile, Port, PortFault};
-use move_msg::{ReadFault, read_at_most};
 use std::alloc::{AllocError, Global};
 use std::io;
+use std::time::Duration;
+use system_io::{BindFault, Host, KeptFile, Port, PortFault, ReadFault, read_at_most};
 
 /// A port at which datagrams wait; what is sent there goes nowhere.
 #[derive(Drop)]
 pub(crate) struct WaitingPort<'a> {
     waiting: &'a [&'a [u8]],
+    addresses: usize,
     failures: u64,
 }
 
@@ -30,6 +30,7 @@ impl<'a> WaitingPort<'a> {
     fn next(&mut self) -> Option<&'a [u8]>
         ensures count { self.old.failures ≤ self.new.failures }
         ensures risen { IfNone result (Risen self.old.failures self.new.failures) }
+        ensures same { self.new.addresses ≡ self.old.addresses }
     {
         match self.waiting {
             [] => {
@@ -45,13 +46,24 @@ impl<'a> WaitingPort<'a> {
 }
 
 impl<'a> Port for WaitingPort<'a> {
-    ghost passed = { λ _. None };
+    ghost use Rattle.system_io.specs.Premises.{system_port};
 
-    ghost faults = { λ p. p.failures };
+    ghost facts = { λ p. system_port p.failures p.addresses };
 
     fn receive(&mut self, buffer: &mut [u8; 64]) -> Result<usize, PortFault> {
         match self.next() {
             Some(datagram) => Ok(fill(buffer, datagram)),
+            None => Err(PortFault::Failed),
+        }
+    }
+
+    fn receive_in_time(
+        &mut self,
+        _wait: Duration,
+        buffer: &mut [u8; 64],
+    ) -> Result<Option<usize>, PortFault> {
+        match self.next() {
+            Some(datagram) => Ok(Some(fill(buffer, datagram))),
             None => Err(PortFault::Failed),
         }
     }
@@ -89,13 +101,9 @@ fn read_bytes(alloc: Global, bytes: &[u8]) -> Result<Option<Vec<u8>>, ReadFault>
 }
 
 impl<'a> KeptFile for Stands<'a> {
-    ghost reached = { λ _ _ _. Unit {0} };
+    ghost use Rattle.system_io.specs.Premises.{system_file};
 
-    ghost finds = { λ _ _ _. Unit {0} };
-
-    ghost settled = { λ _. Unit {0} };
-
-    ghost unreadable = { λ _. Unit {0} };
+    ghost facts = { λ _. system_file };
 
     fn settle(&self) -> Result<(), ReadFault> {
         match self {
@@ -153,23 +161,22 @@ impl<'a> Host for MemoryHost<'a> {
 
     type File = Stands<'a>;
 
-    ghost binds = { λ _ _ _ _. Unit {0} };
+    ghost use Rattle.system_io.specs.Premises.{system_host};
 
-    ghost unbound = { λ _ _. Unit {0} };
-
-    ghost is_at = { λ _ _ _. Unit {0} };
+    ghost facts = { λ _. system_host };
 
     fn bind(
         &self,
         _alloc: Global,
         _address: &str,
-        _to: &str,
+        to: &[&str],
     ) -> Result<WaitingPort<'a>, BindFault> {
         if !self.is_bound {
             return Err(BindFault::Unbound);
         }
         Ok(WaitingPort {
             waiting: self.waiting,
+            addresses: to.len(),
             failures: 0,
         })
     }

@@ -8,7 +8,6 @@ ghost use Rattle.adjudicate.specs.Tasks.{IsTask, tells_progress};
 
 use crate::answers::answer_task;
 use crate::commands::{Task, parse};
-use crate::host::Host;
 use crate::lines::put_refusal;
 use crate::listen::listen;
 use crate::places::places_of;
@@ -17,6 +16,7 @@ use crate::usage::Usage;
 use move_msg::{Disk, ReadFault, Sources, WriteFault};
 use std::alloc::Global;
 use std::io::Write;
+use system_io::Host;
 
 /// What a misuse is told.
 const USAGE: &str = "usage: adjudicate judge [--tables DIR] [--manifest FILE] FEN
@@ -49,7 +49,7 @@ fn answer_given<H: Host, W: Write, E: Write>(
     errors: &mut E,
 ) -> Result<u8, WriteFault>
     ensures quiet { tells_progress task.now ≡ false → errors.new ≡ errors.old }
-    ensures answered { IfOk result (AnswersFrom (Listens (hosted (H.binds host.now) (H.unbound host.now) (H.is_at host.now) H.Port.passed H.Port.faults H.File.unreadable H.File.finds)) task.now sources.now (W.contents out.old) (W.contents out.new)) }
+    ensures answered { IfOk result (AnswersFrom (Listens (hosted (H.facts host.now) H.Port.facts H.File.facts)) task.now sources.now (W.contents out.old) (W.contents out.new)) }
 {
     match task {
         Task::Listen(listening) => listen(alloc, listening, sources, host, out),
@@ -67,7 +67,7 @@ fn run_task<D: Disk, H: Host, W: Write, E: Write>(
     errors: &mut E,
 ) -> Result<u8, WriteFault>
     ensures quiet { tells_progress task.now ≡ false → errors.new ≡ errors.old }
-    ensures answered { IfOk result (AnswersTask (D.lists disk.now) (D.holds disk.now) (D.gives disk.now) (D.fails disk.now) (Listens (hosted (H.binds host.now) (H.unbound host.now) (H.is_at host.now) H.Port.passed H.Port.faults H.File.unreadable H.File.finds)) task.now (W.contents out.old) (W.contents out.new)) }
+    ensures answered { IfOk result (AnswersTask (D.lists disk.now) (D.holds disk.now) (D.gives disk.now) (D.fails disk.now) (Listens (hosted (H.facts host.now) H.Port.facts H.File.facts)) task.now (W.contents out.old) (W.contents out.new)) }
 {
     let places = places_of(task);
     match Sources::read(alloc, disk, &places) {
@@ -93,7 +93,7 @@ pub fn run<D: Disk, H: Host, W: Write, E: Write>(
     errors: &mut E,
 ) -> Result<u8, WriteFault>
     ensures quiet { errors.new ≢ errors.old → (result ≡ Ok 2) ⊎ ((t : Task) × IsTask (map (λ w. w.now) words.now) t × (tells_progress t ≡ true)) }
-    ensures answered { IfOk result (Runs (D.lists disk.now) (D.holds disk.now) (D.gives disk.now) (D.fails disk.now) (Listens (hosted (H.binds host.now) (H.unbound host.now) (H.is_at host.now) H.Port.passed H.Port.faults H.File.unreadable H.File.finds)) (map (λ w. w.now) words.now) (W.contents out.old) (W.contents out.new)) }
+    ensures answered { IfOk result (Runs (D.lists disk.now) (D.holds disk.now) (D.gives disk.now) (D.fails disk.now) (Listens (hosted (H.facts host.now) H.Port.facts H.File.facts)) (map (λ w. w.now) words.now) (W.contents out.old) (W.contents out.new)) }
 {
     match parse(alloc, words) {
         Ok(task) => run_task(alloc, &task, disk, host, out, errors),

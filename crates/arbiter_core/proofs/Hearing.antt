@@ -16,6 +16,7 @@ use Rattle.std.specs.Str.{bytes_eq}
 use Rattle.move_msg.specs.Messages.{stamp_in}
 use Rattle.move_msg.specs.Heard.{heard_in}
 use Rattle.move_msg.specs.Numbers.{most_moves}
+use Rattle.arbiter_core.specs.Keeping.{KeeperFacts}
 use Rattle.arbiter_core.specs.declared.fault.DeliverFault.{DeliverFault}
 use Rattle.arbiter_core.specs.declared.fault.DeliverFault.TheVariants.{NotAMessage, Stranger, IllegalMove, Down}
 use Rattle.arbiter_core.specs.Recording.{count_of, advance}
@@ -80,8 +81,8 @@ illegal_is v number m short going turn after =
 pub sends_as : {K : Type 0} (old : View) (before now : K) (new : View) (told : Outcome) (a b : Answer) → a ≡ b → RefusesOrSends old before now new told b → RefusesOrSends old before now new told a
 sends_as old before now new told a b e h = subst (RefusesOrSends old before now new told) (sym e) h
 
-pub puts_as : {K : Type 0} (may_be : K → Keep → Type 0) (kept : K → Option (List ℕ)) (faults : K → ℕ) (leaves : K → List ℕ → K → Type 0) (old : View) (before now : K) (new : View) (told : Outcome) (a b : Answer) → a ≡ b → PutsIfAny may_be kept faults leaves old before now new told b → PutsIfAny may_be kept faults leaves old before now new told a
-puts_as may_be kept faults leaves old before now new told a b e h = subst (PutsIfAny may_be kept faults leaves old before now new told) (sym e) h
+pub puts_as : {K : Type 0} (facts : KeeperFacts K) (old : View) (before now : K) (new : View) (told : Outcome) (a b : Answer) → a ≡ b → PutsIfAny facts old before now new told b → PutsIfAny facts old before now new told a
+puts_as facts old before now new told a b e h = subst (PutsIfAny facts old before now new told) (sym e) h
 
 module _ (v : View) (message : Message) where
   abbrev pub answered : Answer

@@ -10,9 +10,4 @@ pub mod Going
 pub mod StillKept
 pub mod InWords
 pub mod WorkedRows
-pub mod PortLaws
-pub mod ServingLaws
-pub mod StepLaws
 pub mod Growing
-pub mod FoundLaws
-pub mod OpenedLaws

@@ -30,7 +30,8 @@ use Rattle.arbiter_core.specs.declared.keeper.KeepFault.{KeepFault}
 use Rattle.arbiter_core.specs.declared.keeper.KeepFault.TheVariants.{Failed}
 use Rattle.arbiter_core.specs.declared.fault.OpenFault.{OpenFault}
 use Rattle.arbiter_core.specs.declared.fault.OpenFault.TheVariants.{KeeperFailed, OutOfMemory as Memory}
-use Rattle.arbiter_core.specs.Keeping.{PutIs, PutLeaves, Risen}
+use Rattle.system_io.specs.Failures.{Risen}
+use Rattle.arbiter_core.specs.Keeping.{KeeperFacts, PutIs, PutLeaves}
 use Rattle.arbiter_core.specs.Delivers.{IsSpelled, IsWritten, Keeps}
 use Rattle.arbiter_core.specs.Answering.{Identity, nothing_waits}
 use Rattle.arbiter_core.specs.Setups.{SetupView, rules_at}
@@ -226,13 +227,13 @@ wrote_so stamp delay p kept sent now same same_delay is written there =
     (subst (λ (k : Recorded). WritesRecord sent (spelled_as stamp delay k)) is
     (subst (WritesRecord sent) (record_is p.record.stamp stamp p.record.delay delay p.record.verdict p.record.moves same same_delay) written))
 
-pub put_fails : {K : Type 0} {T : Type 0} (may_be : K → Keep → Type 0) (kept : K → Option (List ℕ)) (faults : K → ℕ) (leaves : K → List ℕ → K → Type 0) (setup : SetupView) (me : Identity) (before now : K) (sent : List ℕ) (p : Played) (f : KeepFault) → PutLeaves {T = T} (may_be before) (kept before) sent (kept now) (Err f) → (IsErrOf {T = T} (Err f) Failed → Risen (faults before) (faults now)) → IsPlayed setup me.stamp p × (recorded_in p ≡ first_record (rules_at setup)) → SpellsRecord sent p.record → WritesRecord sent p.record → leaves before sent now → IsPutFirst may_be kept faults leaves setup me before now (Err KeeperFailed)
-put_fails {T = T} may_be kept faults leaves setup me before now sent p f o cause first spelled written once = by_keep o.keep o.stated o.is
+pub put_fails : {K : Type 0} {T : Type 0} (facts : KeeperFacts K) (setup : SetupView) (me : Identity) (before now : K) (sent : List ℕ) (p : Played) (f : KeepFault) → PutLeaves {T = T} (facts.may_be before) (facts.kept before) sent (facts.kept now) (Err f) → (IsErrOf {T = T} (Err f) Failed → Risen (facts.faults before) (facts.faults now)) → IsPlayed setup me.stamp p × (recorded_in p ≡ first_record (rules_at setup)) → SpellsRecord sent p.record → WritesRecord sent p.record → facts.leaves before sent now → IsPutFirst facts setup me before now (Err KeeperFailed)
+put_fails {T = T} facts setup me before now sent p f o cause first spelled written once = by_keep o.keep o.stated o.is
   where
-    by_keep : (keep : Keep) → may_be before keep → PutIs {T = T} keep (kept before) sent (kept now) (Err f) → IsPutFirst may_be kept faults leaves setup me before now (Err KeeperFailed)
+    by_keep : (keep : Keep) → facts.may_be before keep → PutIs {T = T} keep (facts.kept before) sent (facts.kept now) (Err f) → IsPutFirst facts setup me before now (Err KeeperFailed)
     by_keep Good stated is = absurd (let x = is.0 in cc)
     by_keep FailsOld stated is = inr (record { keep = FailsOld; stated = stated; is = (refl, is.1); written = inl is.1; sent = sent; spells = wrote_so me.stamp setup.delay p (first_record (rules_at setup)) sent (Some sent) first.0.stamp_is first.0.delay_is first.1 written refl; once = once; cause = λ _. cause is.0 })
-    by_keep FailsNew stated is = inr (record { keep = FailsNew; stated = stated; is = (refl, kept_so me.stamp setup.delay p (first_record (rules_at setup)) sent (kept now) first.0.stamp_is first.0.delay_is first.1 spelled is.1); written = inr (wrote_so me.stamp setup.delay p (first_record (rules_at setup)) sent (kept now) first.0.stamp_is first.0.delay_is first.1 written is.1); sent = sent; spells = wrote_so me.stamp setup.delay p (first_record (rules_at setup)) sent (Some sent) first.0.stamp_is first.0.delay_is first.1 written refl; once = once; cause = λ _. cause is.0 })
+    by_keep FailsNew stated is = inr (record { keep = FailsNew; stated = stated; is = (refl, kept_so me.stamp setup.delay p (first_record (rules_at setup)) sent (facts.kept now) first.0.stamp_is first.0.delay_is first.1 spelled is.1); written = inr (wrote_so me.stamp setup.delay p (first_record (rules_at setup)) sent (facts.kept now) first.0.stamp_is first.0.delay_is first.1 written is.1); sent = sent; spells = wrote_so me.stamp setup.delay p (first_record (rules_at setup)) sent (Some sent) first.0.stamp_is first.0.delay_is first.1 written refl; once = once; cause = λ _. cause is.0 })
 
 -- ---- over what is kept
 
@@ -240,17 +241,17 @@ risen_from : (before mid now : ℕ) → before ≤ mid → Risen mid now → Ris
 risen_from before mid now le (inl lt) = inl (omega arith)
 risen_from before mid now le (inr most) = inr most
 
-module _ {K : Type 0} (may_be : K → Keep → Type 0) (kept : K → Option (List ℕ)) (faults : K → ℕ) (get_may_fail : K → Type 0) (leaves : K → List ℕ → K → Type 0) (reads : K → Option KeepFault → K → Type 0) (setup : SetupView) (me : Identity) where
-  pub over_bytes : (before now : K) (bytes : List ℕ) (result : Result Played OpenFault) → Some bytes ≡ kept before → kept now ≡ kept before → reads before None now → IfOk result (λ p. IsPlayed setup me.stamp p × IsResumed (rules_at setup) me.stamp bytes (recorded_in p)) → IfErr result (IsBadKept (rules_at setup) me.stamp bytes) → Opens may_be kept faults get_may_fail leaves reads setup me before now (told_from setup me result)
-  over_bytes before now bytes (Ok p) e still got ok err = inr (inr (subst (λ (o : Option (List ℕ)). OpensOver may_be kept faults leaves reads setup me o before now (told_from setup me (Ok p))) e (still, (refl, ok.1), got)))
-  over_bytes before now bytes (Err f) e still got ok err = inr (inr (subst (λ (o : Option (List ℕ)). OpensOver may_be kept faults leaves reads setup me o before now (told_from setup me (Err f))) e (still, err, got)))
+module _ {K : Type 0} (facts : KeeperFacts K) (setup : SetupView) (me : Identity) where
+  pub over_bytes : (before now : K) (bytes : List ℕ) (result : Result Played OpenFault) → Some bytes ≡ facts.kept before → facts.kept now ≡ facts.kept before → facts.reads before None now → IfOk result (λ p. IsPlayed setup me.stamp p × IsResumed (rules_at setup) me.stamp bytes (recorded_in p)) → IfErr result (IsBadKept (rules_at setup) me.stamp bytes) → Opens facts setup me before now (told_from setup me result)
+  over_bytes before now bytes (Ok p) e still got ok err = inr (inr (subst (λ (o : Option (List ℕ)). OpensOver facts setup me o before now (told_from setup me (Ok p))) e (still, (refl, ok.1), got)))
+  over_bytes before now bytes (Err f) e still got ok err = inr (inr (subst (λ (o : Option (List ℕ)). OpensOver facts setup me o before now (told_from setup me (Err f))) e (still, err, got)))
 
-  pub played_first : (mid now : K) (result : Result Played OpenFault) → IsPutFirst may_be kept faults leaves setup me mid now result → IfOk result (IsPlayed setup me.stamp)
+  pub played_first : (mid now : K) (result : Result Played OpenFault) → IsPutFirst facts setup me mid now result → IfOk result (IsPlayed setup me.stamp)
   played_first mid now (Err f) h = tt
   played_first mid now (Ok p) (inl m) = absurd (let x : ◌≡◌ {A = Result Played OpenFault} (Ok p) (Err Memory) = m.0 in cc)
   played_first mid now (Ok p) (inr o) = by_keep o.keep o.is
     where
-      by_keep : (keep : Keep) → IsPutSo keep setup me (kept mid) (kept now) (Ok p) → IsPlayed setup me.stamp p
+      by_keep : (keep : Keep) → IsPutSo keep setup me (facts.kept mid) (facts.kept now) (Ok p) → IsPlayed setup me.stamp p
       by_keep Good is = is.0
       by_keep FailsOld is = absurd (let x : ◌≡◌ {A = Result Played OpenFault} (Ok p) (Err KeeperFailed) = is.0 in cc)
       by_keep FailsNew is = absurd (let x : ◌≡◌ {A = Result Played OpenFault} (Ok p) (Err KeeperFailed) = is.0 in cc)
@@ -269,18 +270,18 @@ module _ {K : Type 0} (may_be : K → Keep → Type 0) (kept : K → Option (Lis
   failed_first (Ok p) e = absurd (let x : ◌≡◌ {A = Told} (Ok (running setup me (recorded_in p))) (Err KeeperFailed) = e in cc)
   failed_first (Err f) e = let x : ◌≡◌ {A = Told} (Err f) (Err KeeperFailed) = e in cc
 
-  pub over_nothing : (before mid now : K) (result : Result Played OpenFault) → None ≡ kept before → kept mid ≡ kept before → ((k : Keep) → may_be mid k ↔ may_be before k) → faults before ≤ faults mid → reads before None mid → IsPutFirst may_be kept faults leaves setup me mid now result → Opens may_be kept faults get_may_fail leaves reads setup me before now (told_from setup me result)
-  over_nothing before mid now result e still same rise got (inl m) = inr (inl (record { answer = ap (told_from setup me) m.0; still = ap kept m.1 ∙ still; cause = inr (sym e, subst (λ (k : K). reads before None k) (sym m.1) got) }))
+  pub over_nothing : (before mid now : K) (result : Result Played OpenFault) → None ≡ facts.kept before → facts.kept mid ≡ facts.kept before → ((k : Keep) → facts.may_be mid k ↔ facts.may_be before k) → facts.faults before ≤ facts.faults mid → facts.reads before None mid → IsPutFirst facts setup me mid now result → Opens facts setup me before now (told_from setup me result)
+  over_nothing before mid now result e still same rise got (inl m) = inr (inl (record { answer = ap (told_from setup me) m.0; still = ap facts.kept m.1 ∙ still; cause = inr (sym e, subst (λ (k : K). facts.reads before None k) (sym m.1) got) }))
   over_nothing before mid now result e still same rise got (inr o) =
-      inr (inr (subst (λ (k : Option (List ℕ)). OpensOver may_be kept faults leaves reads setup me k before now (told_from setup me result)) e
-      (record { keep = o.keep; stated = (same o.keep).0 o.stated; lands = first_lands o.keep (kept before) (kept mid) (kept now) result still o.is; written = wrote_later (kept before) (kept mid) (kept now) still o.written; mid = mid; got = got; sent = o.sent; spells = o.spells; once = o.once; cause = λ f. risen_from (faults before) (faults mid) (faults now) rise (o.cause (failed_first result f)) })))
+      inr (inr (subst (λ (k : Option (List ℕ)). OpensOver facts setup me k before now (told_from setup me result)) e
+      (record { keep = o.keep; stated = (same o.keep).0 o.stated; lands = first_lands o.keep (facts.kept before) (facts.kept mid) (facts.kept now) result still o.is; written = wrote_later (facts.kept before) (facts.kept mid) (facts.kept now) still o.written; mid = mid; got = got; sent = o.sent; spells = o.spells; once = o.once; cause = λ f. risen_from (facts.faults before) (facts.faults mid) (facts.faults now) rise (o.cause (failed_first result f)) })))
 
 pub runs_is : (s t : SetupView) (own stamp : Stamp) (who : Who) (kept : Recorded) → s ≡ t → own ≡ stamp → ◌≡◌ {A = View} (record { setup = s; me = record { stamp = own; who = who }; kept = kept; window = nothing_waits; is_down = false }) (running t (record { stamp = stamp; who = who }) kept)
 runs_is s t own stamp who kept e f =
     ap (λ (x : SetupView). running x (record { stamp = own; who = who }) kept) e ∙ ap (λ (x : Stamp). running t (record { stamp = x; who = who }) kept) f
 
-pub opens_as : {K : Type 0} (may_be : K → Keep → Type 0) (kept : K → Option (List ℕ)) (faults : K → ℕ) (get_may_fail : K → Type 0) (leaves : K → List ℕ → K → Type 0) (reads : K → Option KeepFault → K → Type 0) (setup : SetupView) (me : Identity) (before now : K) (told other : Told) → told ≡ other → Opens may_be kept faults get_may_fail leaves reads setup me before now told → Opens may_be kept faults get_may_fail leaves reads setup me before now other
-opens_as may_be kept faults get_may_fail leaves reads setup me before now told other e h = subst (Opens may_be kept faults get_may_fail leaves reads setup me before now) e h
+pub opens_as : {K : Type 0} (facts : KeeperFacts K) (setup : SetupView) (me : Identity) (before now : K) (told other : Told) → told ≡ other → Opens facts setup me before now told → Opens facts setup me before now other
+opens_as facts setup me before now told other e h = subst (Opens facts setup me before now) e h
 
 pub was_some : {T : Type 0} (f : T → List ℕ) (o : Option T) (x : T) (k : Option (List ℕ)) → o ≡ Some x → option_map f o ≡ k → Some (f x) ≡ k
 was_some f o x k e h = ap (option_map f) (sym e) ∙ h
@@ -290,22 +291,22 @@ was_none f o k e h = ap (option_map f) (sym e) ∙ h
 
 -- ---- what an opened arbiter has recorded is what is kept
 
-module _ {K : Type 0} (may_be : K → Keep → Type 0) (kept : K → Option (List ℕ)) (faults : K → ℕ) (get_may_fail : K → Type 0) (leaves : K → List ℕ → K → Type 0) (reads : K → Option KeepFault → K → Type 0) (setup : SetupView) (me : Identity) (before now : K) (v : View) where
+module _ {K : Type 0} (facts : KeeperFacts K) (setup : SetupView) (me : Identity) (before now : K) (v : View) where
   not_failed : (fault : OpenFault) → Ok v ≡ Err fault → ⊥
   not_failed fault e = let f : ◌≡◌ {A = Told} (Ok v) (Err fault) = e in cc
 
-  first_kept : (keep : Keep) → FirstLands keep setup me (kept before) (kept now) (Ok v) → Keeps (kept now) v
-  first_kept Good h = let e : ◌≡◌ {A = Told} (Ok v) (Ok (running setup me (first_record (rules_at setup)))) = h.0 in let same : v ≡ running setup me (first_record (rules_at setup)) = cc in subst (Keeps (kept now)) (sym same) h.1
+  first_kept : (keep : Keep) → FirstLands keep setup me (facts.kept before) (facts.kept now) (Ok v) → Keeps (facts.kept now) v
+  first_kept Good h = let e : ◌≡◌ {A = Told} (Ok v) (Ok (running setup me (first_record (rules_at setup)))) = h.0 in let same : v ≡ running setup me (first_record (rules_at setup)) = cc in subst (Keeps (facts.kept now)) (sym same) h.1
   first_kept FailsOld h = absurd (not_failed KeeperFailed h.0)
   first_kept FailsNew h = absurd (not_failed KeeperFailed h.0)
 
-  over_kept : (o : Option (List ℕ)) → kept before ≡ o → OpensOver may_be kept faults leaves reads setup me o before now (Ok v) → Keeps (kept now) v
+  over_kept : (o : Option (List ℕ)) → facts.kept before ≡ o → OpensOver facts setup me o before now (Ok v) → Keeps (facts.kept now) v
   over_kept None e h = first_kept h.keep h.lands
   over_kept (Some bytes) e h =
       let spelled : Keeps (Some bytes) (running setup me v.kept) = h.1.1.0 in
       subst (λ (o : Option (List ℕ)). Keeps o v) (sym (h.0 ∙ e)) (subst (Keeps (Some bytes)) (sym h.1.0) spelled)
 
-  pub opened_keeps : Opens may_be kept faults get_may_fail leaves reads setup me before now (Ok v) → Keeps (kept now) v
+  pub opened_keeps : Opens facts setup me before now (Ok v) → Keeps (facts.kept now) v
   opened_keeps (inl h) = absurd (not_failed KeeperFailed h.answer)
   opened_keeps (inr (inl h)) = absurd (not_failed Memory h.answer)
-  opened_keeps (inr (inr h)) = over_kept (kept before) refl h
+  opened_keeps (inr (inr h)) = over_kept (facts.kept before) refl h

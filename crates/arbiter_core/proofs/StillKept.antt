@@ -1,6 +1,7 @@
 -- What a running arbiter has recorded stays what is kept.
 use Rattle.std.proofs.Common.{◌≡◌, ◌∙◌, sym, ap, subst, ℕ, true, false, List, Option, inl, inr}
 use Rattle.move_msg.specs.declared.message.Message.{Message}
+use Rattle.arbiter_core.specs.Keeping.{KeeperFacts}
 use Rattle.arbiter_core.specs.declared.keeper.Keep.{Keep}
 use Rattle.arbiter_core.specs.declared.keeper.Keep.TheVariants.{Good, FailsOld, FailsNew}
 use Rattle.arbiter_core.specs.Recording.{Recorded, Window}
@@ -8,26 +9,26 @@ use Rattle.arbiter_core.specs.Answering.{Answer, Refuses, Sends, Puts}
 use Rattle.arbiter_core.specs.Views.{View}
 use Rattle.arbiter_core.specs.Delivers.{IsKept, Told, Lands, RefusesOrSends, PutsIfAny, with_window, with_record, downed}
 
-module _ {K : Type 0} (may_be : K → Keep → Type 0) (kept : K → Option (List ℕ)) (faults : K → ℕ) (leaves : K → List ℕ → K → Type 0) (old new : View) (before now : K) (told : Told) where
-  same_kept : new ≡ old → now ≡ before → IsKept (kept before) old → IsKept (kept now) new
-  same_kept e f k = subst (IsKept (kept now)) (sym e) (subst (λ (x : K). IsKept (kept x) old) (sym f) k)
+module _ {K : Type 0} (facts : KeeperFacts K) (old new : View) (before now : K) (told : Told) where
+  same_kept : new ≡ old → now ≡ before → IsKept (facts.kept before) old → IsKept (facts.kept now) new
+  same_kept e f k = subst (IsKept (facts.kept now)) (sym e) (subst (λ (x : K). IsKept (facts.kept x) old) (sym f) k)
 
-  windowed : (window : Window) → new ≡ with_window old window → now ≡ before → IsKept (kept before) old → IsKept (kept now) new
+  windowed : (window : Window) → new ≡ with_window old window → now ≡ before → IsKept (facts.kept before) old → IsKept (facts.kept now) new
   windowed window e f k =
-      let there : IsKept (kept before) (with_window old window) = k in
-      subst (IsKept (kept now)) (sym e) (subst (λ (x : K). IsKept (kept x) (with_window old window)) (sym f) there)
+      let there : IsKept (facts.kept before) (with_window old window) = k in
+      subst (IsKept (facts.kept now)) (sym e) (subst (λ (x : K). IsKept (facts.kept x) (with_window old window)) (sym f) there)
 
-  downed_keeps : new ≡ downed old → IsKept (kept now) new
+  downed_keeps : new ≡ downed old → IsKept (facts.kept now) new
   downed_keeps e up = absurd (let down : true ≡ false = ap (λ (v : View). v.is_down) (sym e) ∙ up in cc)
 
-  landed : (keep : Keep) (next : Recorded) (outputs : List Message) (window : Window) → Lands keep old next outputs window (kept before) (kept now) new told → IsKept (kept now) new
+  landed : (keep : Keep) (next : Recorded) (outputs : List Message) (window : Window) → Lands keep old next outputs window (facts.kept before) (facts.kept now) new told → IsKept (facts.kept now) new
   landed Good next outputs window h =
-      let there : IsKept (kept now) (with_record old next window) = λ up. h.2 in
-      subst (IsKept (kept now)) (sym h.1) there
+      let there : IsKept (facts.kept now) (with_record old next window) = λ up. h.2 in
+      subst (IsKept (facts.kept now)) (sym h.1) there
   landed FailsOld next outputs window h = downed_keeps h.1
   landed FailsNew next outputs window h = downed_keeps h.1
 
-  pub still_kept : (a : Answer) → RefusesOrSends old before now new told a → PutsIfAny may_be kept faults leaves old before now new told a → IsKept (kept before) old → IsKept (kept now) new
+  pub still_kept : (a : Answer) → RefusesOrSends old before now new told a → PutsIfAny facts old before now new told a → IsKept (facts.kept before) old → IsKept (facts.kept now) new
   still_kept (Refuses fault) h p k = same_kept h.arbiter h.keeper k
   still_kept (Sends outputs window) (inl h) p k = windowed window h.arbiter h.keeper k
   still_kept (Sends outputs window) (inr h) p k = let u = h.1 in same_kept u.arbiter u.keeper k

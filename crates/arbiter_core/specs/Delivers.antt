@@ -7,13 +7,14 @@ use Rattle.move_msg.specs.declared.message.MessageFault.{MessageFault}
 use Rattle.move_msg.specs.Messages.{stamp_in}
 use Rattle.move_msg.specs.Heard.{heard_in}
 use Rattle.move_msg.specs.Records.{SpellsRecord, WritesRecord}
+use Rattle.arbiter_core.specs.Keeping.{KeeperFacts}
 use Rattle.arbiter_core.specs.declared.keeper.Keep.{Keep}
 use Rattle.arbiter_core.specs.declared.keeper.Keep.TheVariants.{Good, FailsOld, FailsNew}
 use Rattle.arbiter_core.specs.declared.fault.DeliverFault.{DeliverFault}
 use Rattle.arbiter_core.specs.declared.fault.DeliverFault.TheVariants.{NotAMessage, Stranger, Down, KeeperFailed, OutOfMemory}
 use Rattle.arbiter_core.specs.Recording.{Recorded, Window}
 use Rattle.arbiter_core.specs.Answering.{Answer, Refuses, Sends, Puts, answer_heard}
-use Rattle.arbiter_core.specs.Keeping.{Risen}
+use Rattle.system_io.specs.Failures.{Risen}
 use Rattle.arbiter_core.specs.Setups.{rules_at}
 use Rattle.arbiter_core.specs.Views.{View, spelled_as}
 
@@ -60,6 +61,23 @@ with_record v next window = record { setup = v.setup; me = v.me; kept = next; wi
 abbrev pub Told : Type 0
 Told = Result (List Message) DeliverFault
 
+-- an arbiter and its keeper at one moment
+pub record Moment (K : Type 0) : Type 0 where
+  pub arbiter : View
+  pub keeper : K
+
+abbrev pub moment : {K : Type 0} → View → K → Moment K
+moment arbiter keeper = record { arbiter = arbiter; keeper = keeper }
+
+-- a datagram that came, what the arbiter answered, and the moment after it
+pub record Exchange (K : Type 0) : Type 0 where
+  pub datagram : List ℕ
+  pub told : Told
+  pub after : Moment K
+
+abbrev pub exchange : {K : Type 0} → List ℕ → Told → Moment K → Exchange K
+exchange datagram told after = record { datagram = datagram; told = told; after = after }
+
 -- a put of the next record with this outcome, and what is then answered
 abbrev pub Lands : Keep → View → Recorded → List Message → Window → Option (List ℕ) → Option (List ℕ) → View → Told → Type 0
 Lands Good old next outputs window before now new told = (told ≡ Ok outputs) × (new ≡ with_record old next window) × IsSpelled old.me.stamp old.setup.delay next now
@@ -67,15 +85,15 @@ Lands FailsOld old next outputs window before now new told = (told ≡ Err Keepe
 Lands FailsNew old next outputs window before now new told = (told ≡ Err KeeperFailed) × (new ≡ downed old) × IsSpelled old.me.stamp old.setup.delay next now
 
 -- one put, with an outcome that the keeper stated
-pub record PutsOnce {K : Type 0} (may_be : K → Keep → Type 0) (kept : K → Option (List ℕ)) (faults : K → ℕ) (leaves : K → List ℕ → K → Type 0) (old : View) (next : Recorded) (outputs : List Message) (window : Window) (before now : K) (new : View) (told : Told) : Type 0 where
+pub record PutsOnce {K : Type 0} (facts : KeeperFacts K) (old : View) (next : Recorded) (outputs : List Message) (window : Window) (before now : K) (new : View) (told : Told) : Type 0 where
   pub keep : Keep
-  pub stated : may_be before keep
-  pub lands : Lands keep old next outputs window (kept before) (kept now) new told
-  pub written : (kept now ≡ kept before) ⊎ IsWritten old.me.stamp old.setup.delay next (kept now)
+  pub stated : facts.may_be before keep
+  pub lands : Lands keep old next outputs window (facts.kept before) (facts.kept now) new told
+  pub written : (facts.kept now ≡ facts.kept before) ⊎ IsWritten old.me.stamp old.setup.delay next (facts.kept now)
   pub sent : List ℕ
   pub spells : WritesRecord sent (spelled_as old.me.stamp old.setup.delay next)
-  pub once : leaves before sent now
-  pub cause : told ≡ Err KeeperFailed → Risen (faults before) (faults now)
+  pub once : facts.leaves before sent now
+  pub cause : told ≡ Err KeeperFailed → Risen (facts.faults before) (facts.faults now)
 
 -- nothing has changed but to this view, and the answer is this
 pub record Unchanged {K : Type 0} (old : View) (before now : K) (new : View) (told wanted : Told) : Type 0 where
@@ -92,8 +110,19 @@ RefusesOrSends old before now new told (Sends outputs window) =
 RefusesOrSends old before now new told (Puts next outputs window) = Unit {0}
 
 -- where the answer is a put: it is made once, or memory was refused before it
-abbrev pub PutsIfAny : {K : Type 0} → (K → Keep → Type 0) → (K → Option (List ℕ)) → (K → ℕ) → (K → List ℕ → K → Type 0) → View → K → K → View → Told → Answer → Type 0
-PutsIfAny may_be kept faults leaves old before now new told (Refuses fault) = Unit {0}
-PutsIfAny may_be kept faults leaves old before now new told (Sends outputs window) = Unit {0}
-PutsIfAny may_be kept faults leaves old before now new told (Puts next outputs window) =
-    Unchanged old before now new told (Err OutOfMemory) ⊎ PutsOnce may_be kept faults leaves old next outputs window before now new told
+abbrev pub PutsIfAny : {K : Type 0} → KeeperFacts K → View → K → K → View → Told → Answer → Type 0
+PutsIfAny facts old before now new told (Refuses fault) = Unit {0}
+PutsIfAny facts old before now new told (Sends outputs window) = Unit {0}
+PutsIfAny facts old before now new told (Puts next outputs window) =
+    Unchanged old before now new told (Err OutOfMemory) ⊎ PutsOnce facts old next outputs window before now new told
+
+-- what an arbiter answers to a datagram
+abbrev pub answer_at : View → List ℕ → Answer
+answer_at v datagram = answer_of v (heard v.me.stamp datagram)
+
+-- the arbiter answers so, and it and the keeper are so afterwards
+pub record Delivers {K : Type 0} (facts : KeeperFacts K) (old : Moment K) (e : Exchange K) : Type 0 where
+  -- a refusal leaves both as they were, and so does what is sent without a put, but for the window
+  pub answered : RefusesOrSends old.arbiter old.keeper e.after.keeper e.after.arbiter e.told (answer_at old.arbiter e.datagram)
+  -- a record to be put is put once, with an outcome that the keeper states, or memory was refused before it
+  pub put : PutsIfAny facts old.arbiter old.keeper e.after.keeper e.after.arbiter e.told (answer_at old.arbiter e.datagram)

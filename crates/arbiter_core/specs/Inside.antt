@@ -1,4 +1,3 @@
 -- What values keep and what functions find on the way; cited by private clauses alone.
 pub mod Fields
 pub mod Starting
-pub mod Steps

@@ -9,9 +9,3 @@ pub mod Inside
 pub mod Delivers
 pub mod Opens
 pub mod Laws
-pub mod Ports
-pub mod KeptFiles
-pub mod StoredBytes
-pub mod ServedLines
-pub mod Serving
-pub mod OverFiles

@@ -8,6 +8,7 @@ use Rattle.move_msg.specs.declared.stamp.Stamp.{Stamp}
 use Rattle.move_msg.specs.declared.record_bytes.Record.{Record}
 use Rattle.move_msg.specs.Records.{SpellsRecord, WritesRecord, HasRecordLayout}
 use Rattle.judge_core.specs.Games.{Rules}
+use Rattle.arbiter_core.specs.Keeping.{KeeperFacts}
 use Rattle.arbiter_core.specs.declared.keeper.Keep.{Keep}
 use Rattle.arbiter_core.specs.declared.keeper.Keep.TheVariants.{Good, FailsOld, FailsNew}
 use Rattle.arbiter_core.specs.declared.keeper.KeepFault.{KeepFault}
@@ -17,8 +18,8 @@ use Rattle.arbiter_core.specs.declared.fault.OpenFault.{OpenFault}
 use Rattle.arbiter_core.specs.declared.fault.OpenFault.TheVariants.{BadSetup, KeeperFailed, BadRecord, OtherStamp, OutOfMemory}
 use Rattle.arbiter_core.specs.Recording.{Recorded, reaches, record_at}
 use Rattle.arbiter_core.specs.Answering.{Identity, nothing_waits}
-use Rattle.arbiter_core.specs.Keeping.{Risen}
-use Rattle.arbiter_core.specs.Setups.{SetupView, rules_at}
+use Rattle.system_io.specs.Failures.{Risen}
+use Rattle.arbiter_core.specs.Setups.{SetupView, IsGood, IsIdentity, rules_at}
 use Rattle.arbiter_core.specs.Views.{View, spelled_as}
 use Rattle.arbiter_core.specs.Delivers.{IsSpelled, IsWritten}
 
@@ -70,17 +71,17 @@ FirstLands FailsOld setup me before now told = (told ≡ Err KeeperFailed) × (n
 FirstLands FailsNew setup me before now told = (told ≡ Err KeeperFailed) × IsSpelled me.stamp setup.delay (first_record (rules_at setup)) now
 
 -- over nothing kept one put is made, with an outcome that the keeper stated
-pub record PutsFirst {K : Type 0} (may_be : K → Keep → Type 0) (kept : K → Option (List ℕ)) (faults : K → ℕ) (leaves : K → List ℕ → K → Type 0) (reads : K → Option KeepFault → K → Type 0) (setup : SetupView) (me : Identity) (before now : K) (told : Told) : Type 0 where
+pub record PutsFirst {K : Type 0} (facts : KeeperFacts K) (setup : SetupView) (me : Identity) (before now : K) (told : Told) : Type 0 where
   pub keep : Keep
-  pub stated : may_be before keep
-  pub lands : FirstLands keep setup me (kept before) (kept now) told
-  pub written : (kept now ≡ kept before) ⊎ IsWritten me.stamp setup.delay (first_record (rules_at setup)) (kept now)
+  pub stated : facts.may_be before keep
+  pub lands : FirstLands keep setup me (facts.kept before) (facts.kept now) told
+  pub written : (facts.kept now ≡ facts.kept before) ⊎ IsWritten me.stamp setup.delay (first_record (rules_at setup)) (facts.kept now)
   pub mid : K
-  pub got : reads before None mid
+  pub got : facts.reads before None mid
   pub sent : List ℕ
   pub spells : WritesRecord sent (spelled_as me.stamp setup.delay (first_record (rules_at setup)))
-  pub once : leaves mid sent now
-  pub cause : told ≡ Err KeeperFailed → Risen (faults before) (faults now)
+  pub once : facts.leaves mid sent now
+  pub cause : told ≡ Err KeeperFailed → Risen (facts.faults before) (facts.faults now)
 
 -- over kept bytes nothing is put
 abbrev pub Resumes : SetupView → Identity → List ℕ → Told → Type 0
@@ -88,26 +89,30 @@ Resumes setup me bytes (Ok v) = (v ≡ running setup me v.kept) × IsResumed (ru
 Resumes setup me bytes (Err fault) = IsBadKept (rules_at setup) me.stamp bytes fault
 
 -- by what was kept
-abbrev pub OpensOver : {K : Type 0} → (K → Keep → Type 0) → (K → Option (List ℕ)) → (K → ℕ) → (K → List ℕ → K → Type 0) → (K → Option KeepFault → K → Type 0) → SetupView → Identity → Option (List ℕ) → K → K → Told → Type 0
-OpensOver may_be kept faults leaves reads setup me None before now told = PutsFirst may_be kept faults leaves reads setup me before now told
-OpensOver may_be kept faults leaves reads setup me (Some bytes) before now told = (kept now ≡ kept before) × Resumes setup me bytes told × reads before None now
+abbrev pub OpensOver : {K : Type 0} → KeeperFacts K → SetupView → Identity → Option (List ℕ) → K → K → Told → Type 0
+OpensOver facts setup me None before now told = PutsFirst facts setup me before now told
+OpensOver facts setup me (Some bytes) before now told = (facts.kept now ≡ facts.kept before) × Resumes setup me bytes told × facts.reads before None now
 
 -- the get failed, and nothing was put
-pub record GetFails {K : Type 0} (kept : K → Option (List ℕ)) (faults : K → ℕ) (get_may_fail : K → Type 0) (reads : K → Option KeepFault → K → Type 0) (before now : K) (told : Told) : Type 0 where
+pub record GetFails {K : Type 0} (facts : KeeperFacts K) (before now : K) (told : Told) : Type 0 where
   pub answer : told ≡ Err KeeperFailed
-  pub still : kept now ≡ kept before
-  pub stated : get_may_fail before
-  pub got : reads before (Some Failed) now
-  pub cause : Risen (faults before) (faults now)
+  pub still : facts.kept now ≡ facts.kept before
+  pub stated : facts.get_may_fail before
+  pub got : facts.reads before (Some Failed) now
+  pub cause : Risen (facts.faults before) (facts.faults now)
 
 -- memory was refused, to the get or, where nothing was kept, for the first record; nothing was put
-pub record NoMemory {K : Type 0} (kept : K → Option (List ℕ)) (reads : K → Option KeepFault → K → Type 0) (before now : K) (told : Told) : Type 0 where
+pub record NoMemory {K : Type 0} (facts : KeeperFacts K) (before now : K) (told : Told) : Type 0 where
   pub answer : told ≡ Err OutOfMemory
-  pub still : kept now ≡ kept before
-  pub cause : reads before (Some keep_fault.OutOfMemory) now ⊎ ((kept before ≡ None) × reads before None now)
+  pub still : facts.kept now ≡ facts.kept before
+  pub cause : facts.reads before (Some keep_fault.OutOfMemory) now ⊎ ((facts.kept before ≡ None) × facts.reads before None now)
 
 -- what opening a good setup leaves
-abbrev pub Opens : {K : Type 0} → (K → Keep → Type 0) → (K → Option (List ℕ)) → (K → ℕ) → (K → Type 0) → (K → List ℕ → K → Type 0) → (K → Option KeepFault → K → Type 0) → SetupView → Identity → K → K → Told → Type 0
-Opens may_be kept faults get_may_fail leaves reads setup me before now told =
-    GetFails kept faults get_may_fail reads before now told
-    ⊎ (NoMemory kept reads before now told ⊎ OpensOver may_be kept faults leaves reads setup me (kept before) before now told)
+abbrev pub Opens : {K : Type 0} → KeeperFacts K → SetupView → Identity → K → K → Told → Type 0
+Opens facts setup me before now told =
+    GetFails facts before now told
+    ⊎ (NoMemory facts before now told ⊎ OpensOver facts setup me (facts.kept before) before now told)
+
+-- an arbiter of a good setup is opened so
+abbrev pub OpensIfGood : {K : Type 0} → KeeperFacts K → SetupView → K → K → Told → Type 0
+OpensIfGood facts setup before now told = IsGood setup → (me : Identity) × IsIdentity setup me × Opens facts setup me before now told

@@ -13,7 +13,7 @@ ghost use Rattle.arbiter_core.specs.Recording.{advance, count_of};
 ghost use Rattle.arbiter_core.specs.Answering.{asked, fetched, sent_by, told_of, puts, nothing_waits, answer_to, answer_to_move};
 ghost use Rattle.arbiter_core.specs.Setups.{rules_at, setup_view};
 ghost use Rattle.arbiter_core.specs.Views.{IsSettled};
-ghost use Rattle.arbiter_core.specs.Delivers.{heard, Keeps, IsKept, RefusesOrSends, PutsIfAny, answer_of};
+ghost use Rattle.arbiter_core.specs.Delivers.{Delivers, heard, Keeps, IsKept, RefusesOrSends, PutsIfAny, answer_of, exchange, moment};
 
 use crate::fault::DeliverFault;
 use crate::keeper::Keeper;
@@ -124,8 +124,8 @@ impl<'a> Arbiter<'a> {
         requires unruled { self.old.kept.verdict ≡ None }
         requires legal { position_after_all self.old.setup.start (self.old.kept.moves ++ m.now ∷ []) ≡ Some position.now }
         requires short { length self.old.kept.moves < most_moves }
-        requires keeps { Keeps (K.kept keeper.old) self.old }
-        ensures { PutsIfAny K.may_be K.kept K.faults K.leaves self.old keeper.old keeper.new self.new (result_map_both (λ o. o.items) (λ e. e) result) (puts self.old.me self.old.kept self.old.window (advance (rules_at self.old.setup) self.old.kept.moves m.now self.old.window)) }
+        requires keeps { Keeps (K.facts.kept keeper.old) self.old }
+        ensures { PutsIfAny K.facts self.old keeper.old keeper.new self.new (result_map_both (λ o. o.items) (λ e. e) result) (puts self.old.me self.old.kept self.old.window (advance (rules_at self.old.setup) self.old.kept.moves m.now self.old.window)) }
     {
         let count = self.played.record.moves.as_slice().len();
         let Ok(next) = plan(
@@ -192,9 +192,9 @@ impl<'a> Arbiter<'a> {
         number: u32,
         m: &Move,
     ) -> Result<Outputs, DeliverFault>
-        requires { Keeps (K.kept keeper.old) self.old }
+        requires { Keeps (K.facts.kept keeper.old) self.old }
         ensures answered { RefusesOrSends self.old keeper.old keeper.new self.new (result_map_both (λ o. o.items) (λ e. e) result) (answer_to_move (rules_at self.old.setup) self.old.me self.old.kept self.old.window number m.now) }
-        ensures put { PutsIfAny K.may_be K.kept K.faults K.leaves self.old keeper.old keeper.new self.new (result_map_both (λ o. o.items) (λ e. e) result) (answer_to_move (rules_at self.old.setup) self.old.me self.old.kept self.old.window number m.now) }
+        ensures put { PutsIfAny K.facts self.old keeper.old keeper.new self.new (result_map_both (λ o. o.items) (λ e. e) result) (answer_to_move (rules_at self.old.setup) self.old.me self.old.kept self.old.window number m.now) }
     {
         if number >= 4096 {
             return Err(DeliverFault::TooLong);
@@ -280,9 +280,9 @@ impl<'a> Arbiter<'a> {
         keeper: &mut K,
         message: &Message,
     ) -> Result<Outputs, DeliverFault>
-        requires { Keeps (K.kept keeper.old) self.old }
+        requires { Keeps (K.facts.kept keeper.old) self.old }
         ensures answered { RefusesOrSends self.old keeper.old keeper.new self.new (result_map_both (λ o. o.items) (λ e. e) result) (answer_to (rules_at self.old.setup) self.old.me self.old.kept self.old.window message.now) }
-        ensures put { PutsIfAny K.may_be K.kept K.faults K.leaves self.old keeper.old keeper.new self.new (result_map_both (λ o. o.items) (λ e. e) result) (answer_to (rules_at self.old.setup) self.old.me self.old.kept self.old.window message.now) }
+        ensures put { PutsIfAny K.facts self.old keeper.old keeper.new self.new (result_map_both (λ o. o.items) (λ e. e) result) (answer_to (rules_at self.old.setup) self.old.me self.old.kept self.old.window message.now) }
     {
         match *message {
             Message::Move { number, m, .. } => self.take_move(alloc, keeper, number, &m),
@@ -302,9 +302,9 @@ impl<'a> Arbiter<'a> {
         keeper: &mut K,
         bytes: &[u8],
     ) -> Result<Outputs, DeliverFault>
-        requires { IsKept (K.kept keeper.old) self.old }
+        requires { IsKept (K.facts.kept keeper.old) self.old }
         ensures answered { RefusesOrSends self.old keeper.old keeper.new self.new (result_map_both (λ o. o.items) (λ e. e) result) (answer_of self.old (heard self.old.me.stamp bytes.now)) }
-        ensures put { PutsIfAny K.may_be K.kept K.faults K.leaves self.old keeper.old keeper.new self.new (result_map_both (λ o. o.items) (λ e. e) result) (answer_of self.old (heard self.old.me.stamp bytes.now)) }
+        ensures put { PutsIfAny K.facts self.old keeper.old keeper.new self.new (result_map_both (λ o. o.items) (λ e. e) result) (answer_of self.old (heard self.old.me.stamp bytes.now)) }
     {
         let heard = self.hear(bytes);
         if self.down {
@@ -342,16 +342,13 @@ impl<'a> Arbiter<'a> {
         bytes: &[u8],
     ) -> Result<Outputs, DeliverFault>
         // A running arbiter's record is the one that the keeper keeps.
-        requires { IsKept (K.kept keeper.old) self.old }
+        requires { IsKept (K.facts.kept keeper.old) self.old }
 
-        // A refusal leaves arbiter and keeper as they were, and so does what is sent without a put, but for the window.
-        ensures answered { RefusesOrSends self.old keeper.old keeper.new self.new (result_map_both (λ o. o.items) (λ e. e) result) (answer_of self.old (heard self.old.me.stamp bytes.now)) }
-
-        // A record to be put is put once, with an outcome that the keeper states, or memory was refused before it.
-        ensures put { PutsIfAny K.may_be K.kept K.faults K.leaves self.old keeper.old keeper.new self.new (result_map_both (λ o. o.items) (λ e. e) result) (answer_of self.old (heard self.old.me.stamp bytes.now)) }
+        // It is answered by what was heard and recorded, and a record is put where the answer says so.
+        ensures delivered { Delivers K.facts (moment self.old keeper.old) (exchange bytes.now (result_map_both (λ o. o.items) (λ e. e) result) (moment self.new keeper.new)) }
 
         // So it is afterwards.
-        ensures keeps { IsKept (K.kept keeper.new) self.new }
+        ensures keeps { IsKept (K.facts.kept keeper.new) self.new }
     {
         self.respond(alloc, keeper, bytes)
     }

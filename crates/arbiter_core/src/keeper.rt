@@ -3,15 +3,14 @@
 ghost use Rattle.std.specs.Prelude.{◌≡◌, ℕ, ◌<◌, ◌≤◌, ◌↔◌, List, length, IfOk, IfErr, Option, Some, None, Result, Ok, Err};
 ghost use Rattle.std.specs.Option.{option_map};
 ghost use Rattle.std.specs.Result.{IsErrOf};
-ghost use Rattle.arbiter_core.specs.Keeping.{PutLeaves, Risen};
+ghost use Rattle.arbiter_core.specs.Keeping.{KeeperFacts, PutLeaves};
+ghost use Rattle.system_io.specs.Failures.{Risen};
 ghost use Rattle.arbiter_core.specs.declared.keeper.Keep.{Keep};
 ghost use Rattle.arbiter_core.specs.declared.keeper.KeepFault.{KeepFault};
 
 use std::alloc::{AllocError, Global};
 use std::marker::Model;
-
-/// How many bytes a record has at most: 25 and two for each of 4096 moves (record format).
-pub(crate) const MOST_BYTES: usize = 8217;
+use system_io::MOST_KEPT_BYTES;
 
 /// The outcome of a put.
 #[derive(Clone, Copy, PartialEq, Eq, Debug)]
@@ -33,26 +32,11 @@ pub enum KeepFault {
     OutOfMemory,
 }
 
-/// Keeps nothing or one list of bytes, at most 8217. Proofs see what it keeps, how often it has failed, which outcomes its next
-/// put may have and whether a get may fail.
+/// Keeps nothing or one list of bytes, at most 8217.
 pub trait Keeper {
-    /// What is kept.
-    ghost kept: { Self → Option (List ℕ) };
-
-    /// How often it has failed.
-    ghost faults: { Self → ℕ };
-
-    /// Which outcomes its next put may have.
-    ghost may_be: { Self → Keep → Type 0 };
-
-    /// Whether a get may fail.
-    ghost get_may_fail: { Self → Type 0 };
-
-    /// What one put of these bytes may make of it.
-    ghost leaves: { Self → List ℕ → Self → Type 0 };
-
-    /// What one get may make of it, with the fault that it tells, if any.
-    ghost reads: { Self → Option KeepFault → Self → Type 0 };
+    /// What it keeps, how often it has failed, which outcomes its next put may have, whether a get may fail, and what a put and a
+    /// get make of it.
+    ghost facts: { KeeperFacts Self };
 
     /// Keeps these bytes in place of what was kept. Where it fails, what is kept is the old or the new, and stays so.
     ///
@@ -60,26 +44,26 @@ pub trait Keeper {
     /// a count that stands at its greatest value stays there and is taken as risen.
     fn put(&mut self, bytes: &[u8]) -> Result<(), KeepFault>
         requires { length bytes.now ≤ 8217 }
-        ensures outcome { PutLeaves (may_be self.old) (kept self.old) bytes.now (kept self.new) result }
-        ensures cause { IsErrOf result KeepFault.Failed → Risen (faults self.old) (faults self.new) }
-        ensures count { faults self.old ≤ faults self.new }
-        ensures once { leaves self.old bytes.now self.new };
+        ensures outcome { PutLeaves (facts.may_be self.old) (facts.kept self.old) bytes.now (facts.kept self.new) result }
+        ensures cause { IsErrOf result KeepFault.Failed → Risen (facts.faults self.old) (facts.faults self.new) }
+        ensures count { facts.faults self.old ≤ facts.faults self.new }
+        ensures once { facts.leaves self.old bytes.now self.new };
 
     /// A copy of what is kept, which stays kept. `Failed` comes only where the failures rose in this call and the keeper states
     /// that a get may fail, `OutOfMemory` where memory for the copy is refused.
     fn get(&mut self, alloc: Global) -> Result<Option<Vec<u8>>, KeepFault>
-        ensures value { IfOk result (λ got. option_map (λ v. v.items) got ≡ kept self.old) }
-        ensures kept { kept self.new ≡ kept self.old }
-        ensures count { faults self.old ≤ faults self.new }
-        ensures outcomes { (keep : Keep) → may_be self.new keep ↔ may_be self.old keep }
-        ensures cause { IsErrOf result KeepFault.Failed → Risen (faults self.old) (faults self.new) }
-        ensures stated { IsErrOf result KeepFault.Failed → get_may_fail self.old }
-        ensures once { IfOk result (λ got. reads self.old None self.new) }
-        ensures told { IfErr result (λ fault. reads self.old (Some fault) self.new) };
+        ensures value { IfOk result (λ got. option_map (λ v. v.items) got ≡ facts.kept self.old) }
+        ensures kept { facts.kept self.new ≡ facts.kept self.old }
+        ensures count { facts.faults self.old ≤ facts.faults self.new }
+        ensures outcomes { (keep : Keep) → facts.may_be self.new keep ↔ facts.may_be self.old keep }
+        ensures cause { IsErrOf result KeepFault.Failed → Risen (facts.faults self.old) (facts.faults self.new) }
+        ensures stated { IsErrOf result KeepFault.Failed → facts.get_may_fail self.old }
+        ensures once { IfOk result (λ got. facts.reads self.old None self.new) }
+        ensures told { IfErr result (λ fault. facts.reads self.old (Some fault) self.new) };
 
     /// How often the keeper has failed; at its greatest value the count stays.
     fn failures(&self) -> u64
-        ensures { result ≡ faults self.now };
+        ensures { result ≡ facts.faults self.now };
 }
 
 /// Keeps bytes in memory, in room for 8217 that `new` makes; no other call takes memory but `get`. The outcome of each put is
@@ -110,7 +94,7 @@ impl MemoryKeeper {
     pub fn new(alloc: Global) -> Result<MemoryKeeper, AllocError>
         ensures { IfOk result (λ m. m ≡ record { kept = None; keep = Keep.Good; failures = 0 }) }
     {
-        let bytes = Vec::with_capacity(alloc, MOST_BYTES)?;
+        let bytes = Vec::with_capacity(alloc, MOST_KEPT_BYTES)?;
         Ok(MemoryKeeper {
             bytes,
             is_kept: false,
@@ -158,17 +142,9 @@ impl MemoryKeeper {
 }
 
 impl Keeper for MemoryKeeper {
-    ghost kept = { λ m. m.kept };
+    ghost use Rattle.arbiter_core.specs.Memory.{memory_facts};
 
-    ghost faults = { λ m. m.failures };
-
-    ghost may_be = { λ m keep. m.keep ≡ keep };
-
-    ghost get_may_fail = { λ m. ⊥ };
-
-    ghost leaves = { λ m bytes n. (n.keep ≡ m.keep) × (m.keep ≡ Keep.Good → n.failures ≡ m.failures) };
-
-    ghost reads = { λ m fault n. n ≡ m };
+    ghost facts = { memory_facts };
 
     fn put(&mut self, bytes: &[u8]) -> Result<(), KeepFault> {
         match self.keep {

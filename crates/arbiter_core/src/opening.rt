@@ -4,8 +4,7 @@ ghost use Rattle.std.specs.Prelude.{◌≡◌, ◌≤◌, IfOk, IfErr, IsErr, Is
 ghost use Rattle.arbiter_core.specs.Setups.{setup_view, rules_at, IsGood, IsIdentity};
 ghost use Rattle.std.specs.Result.{result_map_both};
 ghost use Rattle.move_msg.specs.declared.who.Who.{Who};
-ghost use Rattle.arbiter_core.specs.Answering.{Identity};
-ghost use Rattle.arbiter_core.specs.Opens.{Opens, IsResumed, IsBadKept, at_end, first_record};
+ghost use Rattle.arbiter_core.specs.Opens.{Opens, OpensIfGood, IsResumed, IsBadKept, at_end, first_record};
 ghost use Rattle.arbiter_core.specs.Delivers.{IsKept};
 ghost use Rattle.arbiter_core.specs.Inside.Starting.{IsPlayed, IsPutFirst, told_from};
 
@@ -140,7 +139,7 @@ fn put_first<K: Keeper>(
 ) -> Result<Played, OpenFault>
     requires { setup.old.delay ≤ 8 }
     ensures same { setup.new ≡ setup.old }
-    ensures put { (who : Who) → IsPutFirst K.may_be K.kept K.faults K.leaves (setup_view setup.old) (record { stamp = stamp; who = who }) keeper.old keeper.new result }
+    ensures put { (who : Who) → IsPutFirst K.facts (setup_view setup.old) (record { stamp = stamp; who = who }) keeper.old keeper.new result }
 {
     let Ok(played) = first(alloc, setup, stamp) else {
         return Err(OpenFault::OutOfMemory);
@@ -164,7 +163,7 @@ fn recorded<K: Keeper>(
     requires { setup.old.delay ≤ 8 }
     ensures same { setup.new ≡ setup.old }
     ensures played { IfOk result (IsPlayed (setup_view setup.old) stamp) }
-    ensures opens { (who : Who) → Opens K.may_be K.kept K.faults K.get_may_fail K.leaves K.reads (setup_view setup.old) (record { stamp = stamp; who = who }) keeper.old keeper.new (told_from (setup_view setup.old) (record { stamp = stamp; who = who }) result) }
+    ensures opens { (who : Who) → Opens K.facts (setup_view setup.old) (record { stamp = stamp; who = who }) keeper.old keeper.new (told_from (setup_view setup.old) (record { stamp = stamp; who = who }) result) }
 {
     match keeper.get(alloc) {
         Ok(Some(bytes)) => resume(alloc, setup, stamp, &bytes),
@@ -192,8 +191,8 @@ impl<'a> Arbiter<'a> {
         ensures back { IfErr result (λ r. setup_view r.setup ≡ setup_view setup.entry) }
         ensures bad { (IsGood (setup_view setup.entry) → ⊥) → IfErr result (λ r. r.fault ≡ OpenFault.BadSetup) × IsErr result × (keeper.new ≡ keeper.old) }
         // What a running arbiter has recorded is what is kept.
-        ensures keeps { IfOk result (λ a. IsKept (K.kept keeper.new) a) }
-        ensures good { IsGood (setup_view setup.entry) → (me : Identity) × IsIdentity (setup_view setup.entry) me × Opens K.may_be K.kept K.faults K.get_may_fail K.leaves K.reads (setup_view setup.entry) me keeper.old keeper.new (result_map_both (λ a. a) (λ r. r.fault) result) }
+        ensures keeps { IfOk result (λ a. IsKept (K.facts.kept keeper.new) a) }
+        ensures good { OpensIfGood K.facts (setup_view setup.entry) keeper.old keeper.new (result_map_both (λ a. a) (λ r. r.fault) result) }
     {
         let Some((stamp, who)) = identify(&setup) else {
             return Err(Refused {

@@ -5,7 +5,8 @@ use crate::comparing::check_same;
 use crate::memory_file::{Call, MemoryFile};
 use crate::opening_tests::open_fault;
 use crate::positions::START;
-use arbiter_core::{FileKeeper, KeepFault, Keeper, OpenFault};
+use arbiter_core::{KeepFault, Keeper, OpenFault};
+use arbiter_service::FileKeeper;
 use std::alloc::Global;
 use std::process::Abort;
 

@@ -3,12 +3,13 @@
 ghost use Rattle.std.specs.Prelude.{◌≤◌, length};
 
 use crate::comparing::check_same;
-use arbiter_core::{FileKeeper, KeepFault, Keeper, KeptFile, SystemFile};
-use move_msg::ReadFault;
+use arbiter_core::{KeepFault, Keeper};
+use arbiter_service::FileKeeper;
 use std::alloc::Global;
 use std::fs;
 use std::process::Abort;
 use std::rt::Files;
+use system_io::{KeptFile, ReadFault, SystemFile};
 
 /// What a keeper keeps.
 fn got<F: KeptFile + Drop>(

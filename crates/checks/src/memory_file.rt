@@ -2,10 +2,9 @@
 
 ghost use Rattle.std.specs.Prelude.{◌≤◌, length, IfOk, IfSome};
 
-use arbiter_core::KeptFile;
-use move_msg::{ReadFault, read_at_most};
 use std::alloc::Global;
 use std::io;
+use system_io::{KeptFile, ReadFault, read_at_most};
 
 /// A call that changes a file.
 #[derive(Clone, Copy, PartialEq, Eq, Debug)]
@@ -66,13 +65,10 @@ impl<'a> MemoryFile<'a> {
 }
 
 impl<'a> KeptFile for MemoryFile<'a> {
-    ghost reached = { λ _ _ _. Unit {0} };
+    ghost use Rattle.system_io.specs.Premises.{system_file};
 
-    ghost finds = { λ _ _ _. Unit {0} };
-
-    ghost settled = { λ _. Unit {0} };
-
-    ghost unreadable = { λ _. Unit {0} };
+    // Nothing is told of it.
+    ghost facts = { λ _. system_file };
 
     fn settle(&self) -> Result<(), ReadFault> {
         Ok(())

@@ -1,28 +1,38 @@
 //! A port in memory, which fails when it is told to.
 
 ghost use Rattle.std.specs.Prelude.{◌≡◌, ◌≤◌, ◌∷◌, [], map, IsTrue, IfNone, IfSome};
-ghost use Rattle.arbiter_core.specs.Keeping.{Risen};
-ghost use Rattle.arbiter_core.specs.Ports.{Passes, passing, told_if};
+ghost use Rattle.system_io.specs.Failures.{Risen};
+ghost use Rattle.system_io.specs.Ports.{Passes, to_each};
+ghost use Rattle.checks.specs.MemoryPorts.{passing, told_if};
 
-use arbiter_core::{Port, PortFault};
 use std::alloc::Global;
+use std::time::Duration;
+use system_io::{Port, PortFault};
 
-/// What has passed: a datagram that came or was handed over, or a receive that failed.
+/// What has passed: a datagram that came or was handed over for the address at a place, or a receive that failed.
 #[derive(Drop)]
-pub(crate) struct Event {
+pub(crate) struct Passage {
     pub(crate) is_missed: bool,
     pub(crate) is_handed: bool,
+    pub(crate) to: usize,
     pub(crate) bytes: Vec<u8>,
 }
 
 /// What passes; none where memory is refused.
-fn event_of(alloc: Global, is_missed: bool, is_handed: bool, bytes: &[u8]) -> Option<Event>
-    ensures { IfSome result (λ e. passing e.is_missed e.is_handed e.bytes.items ≡ passing is_missed is_handed bytes.now) }
+fn passage_of(
+    alloc: Global,
+    is_missed: bool,
+    is_handed: bool,
+    to: usize,
+    bytes: &[u8],
+) -> Option<Passage>
+    ensures { IfSome result (λ e. passing e.is_missed e.is_handed e.to e.bytes.items ≡ passing is_missed is_handed to bytes.now) }
 {
     match Vec::from_slice(alloc, bytes) {
-        Ok(bytes) => Some(Event {
+        Ok(bytes) => Some(Passage {
             is_missed,
             is_handed,
+            to,
             bytes,
         }),
         Err(_) => None,
@@ -38,13 +48,13 @@ fn fill(buffer: &mut [u8; 64], datagram: &[u8]) -> usize
     length
 }
 
-/// Gives the datagrams of a list, and keeps all that passes.
+/// Gives the datagrams of a list, sends to two addresses, and keeps all that passes.
 #[derive(Drop)]
 pub(crate) struct MemoryPort<'a> {
     alloc: Global,
     waiting: &'a [&'a [u8]],
     place: usize,
-    events: Vec<Event>,
+    passages: Vec<Passage>,
     is_whole: bool,
     failures: u64,
     calls: usize,
@@ -58,7 +68,7 @@ impl<'a> MemoryPort<'a> {
             alloc,
             waiting,
             place: 0,
-            events: Vec::new(alloc),
+            passages: Vec::new(alloc),
             is_whole: true,
             failures: 0,
             calls: 0,
@@ -67,32 +77,41 @@ impl<'a> MemoryPort<'a> {
     }
 
     /// All that has passed; none where memory for it was refused.
-    pub(crate) fn events(&self) -> Option<&[Event]> {
+    pub(crate) fn passages(&self) -> Option<&[Passage]> {
         if self.is_whole {
-            Some(&self.events)
+            Some(&self.passages)
         } else {
             None
         }
     }
 
     /// Keeps what passes.
-    fn note(&mut self, is_missed: bool, is_handed: bool, bytes: &[u8])
-        ensures passes { Passes (told_if self.old.is_whole (map (λ e. passing e.is_missed e.is_handed e.bytes.items) self.old.events.items)) (told_if self.new.is_whole (map (λ e. passing e.is_missed e.is_handed e.bytes.items) self.new.events.items)) (passing is_missed is_handed bytes.now ∷ []) }
+    fn note(&mut self, is_missed: bool, is_handed: bool, to: usize, bytes: &[u8])
+        ensures passes { Passes (told_if self.old.is_whole (map (λ e. passing e.is_missed e.is_handed e.to e.bytes.items) self.old.passages.items)) (told_if self.new.is_whole (map (λ e. passing e.is_missed e.is_handed e.to e.bytes.items) self.new.passages.items)) (passing is_missed is_handed to bytes.now ∷ []) }
         ensures same { self.new.failures ≡ self.old.failures }
     {
-        let Some(event) = event_of(self.alloc, is_missed, is_handed, bytes) else {
+        let Some(passage) = passage_of(self.alloc, is_missed, is_handed, to, bytes) else {
             self.is_whole = false;
             return;
         };
-        let Ok(()) = self.events.push(event) else {
+        let Ok(()) = self.passages.push(passage) else {
             self.is_whole = false;
             return;
         };
     }
 
+    /// Keeps that a datagram is handed over for each address.
+    fn note_each(&mut self, bytes: &[u8])
+        ensures passes { Passes (told_if self.old.is_whole (map (λ e. passing e.is_missed e.is_handed e.to e.bytes.items) self.old.passages.items)) (told_if self.new.is_whole (map (λ e. passing e.is_missed e.is_handed e.to e.bytes.items) self.new.passages.items)) (to_each 2 bytes.now) }
+        ensures same { self.new.failures ≡ self.old.failures }
+    {
+        self.note(false, true, 0, bytes);
+        self.note(false, true, 1, bytes);
+    }
+
     /// Whether this call fails.
     fn fails(&mut self) -> bool
-        ensures events { self.new.events ≡ self.old.events }
+        ensures passages { self.new.passages ≡ self.old.passages }
         ensures whole { self.new.is_whole ≡ self.old.is_whole }
         ensures count { self.old.failures ≤ self.new.failures }
         ensures risen { IsTrue result → Risen self.old.failures self.new.failures }
@@ -107,7 +126,7 @@ impl<'a> MemoryPort<'a> {
 
     /// The next datagram, unless this call fails.
     fn next(&mut self) -> Option<&'a [u8]>
-        ensures events { self.new.events ≡ self.old.events }
+        ensures passages { self.new.passages ≡ self.old.passages }
         ensures whole { self.new.is_whole ≡ self.old.is_whole }
         ensures count { self.old.failures ≤ self.new.failures }
         ensures risen { IfNone result (Risen self.old.failures self.new.failures) }
@@ -126,26 +145,38 @@ impl<'a> MemoryPort<'a> {
 }
 
 impl<'a> Port for MemoryPort<'a> {
-    ghost passed = { λ p. told_if p.is_whole (map (λ e. passing e.is_missed e.is_handed e.bytes.items) p.events.items) };
+    ghost use Rattle.std.specs.Prelude.{map};
+    ghost use Rattle.checks.specs.MemoryPorts.{passing, told_if};
 
-    ghost faults = { λ p. p.failures };
+    ghost facts = { λ p. record { passed = told_if p.is_whole (map (λ e. passing e.is_missed e.is_handed e.to e.bytes.items) p.passages.items); faults = p.failures; addresses = 2 } };
 
     fn receive(&mut self, buffer: &mut [u8; 64]) -> Result<usize, PortFault> {
         match self.next() {
             Some(datagram) => {
                 let length = fill(buffer, datagram);
-                self.note(false, false, &buffer[..length]);
+                self.note(false, false, 0, &buffer[..length]);
                 Ok(length)
             }
             None => {
-                self.note(true, false, &[]);
+                self.note(true, false, 0, &[]);
                 Err(PortFault::Failed)
             }
         }
     }
 
+    fn receive_in_time(
+        &mut self,
+        _wait: Duration,
+        buffer: &mut [u8; 64],
+    ) -> Result<Option<usize>, PortFault> {
+        match self.receive(buffer) {
+            Ok(length) => Ok(Some(length)),
+            Err(fault) => Err(fault),
+        }
+    }
+
     fn send(&mut self, bytes: &[u8]) -> Result<(), PortFault> {
-        self.note(false, true, bytes);
+        self.note_each(bytes);
         if self.fails() {
             return Err(PortFault::Failed);
         }

@@ -199,17 +199,7 @@ impl Keeper for Broken {
     ghost use Rattle.std.specs.Prelude.{◌≡◌, None};
     ghost use Rattle.arbiter_core.specs.declared.keeper.Keep.TheVariants.{FailsOld};
 
-    ghost kept = { λ k. None };
-
-    ghost faults = { λ k. k.failures };
-
-    ghost may_be = { λ k keep. keep ≡ FailsOld };
-
-    ghost get_may_fail = { λ k. Unit {0} };
-
-    ghost leaves = { λ k bytes n. Unit {0} };
-
-    ghost reads = { λ k fault n. Unit {0} };
+    ghost facts = { record { kept = λ k. None; faults = λ k. k.failures; may_be = λ k keep. keep ≡ FailsOld; get_may_fail = λ k. Unit {0}; leaves = λ k bytes n. Unit {0}; reads = λ k fault n. Unit {0} } };
 
     fn put(&mut self, _bytes: &[u8]) -> Result<(), KeepFault> {
         self.failures = self.failures.saturating_add(1);

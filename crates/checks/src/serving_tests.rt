@@ -6,17 +6,19 @@ use crate::arbiters::{empty_keeper, game, open_first};
 use crate::comparing::{check_bytes, check_same};
 use crate::files::push_bytes;
 use crate::forge_tests::Failing;
-use crate::memory_port::{Event, MemoryPort};
+use crate::memory_port::{MemoryPort, Passage};
 use crate::positions::START;
-use arbiter_core::{Arbiter, Keep, MemoryKeeper, serve};
-use move_msg::WriteFault;
+use arbiter_core::{Arbiter, Keep, MemoryKeeper};
+use arbiter_service::serve;
 use std::alloc::Global;
 use std::io::Write;
 use std::process::Abort;
+use system_io::WriteFault;
 
 /// How a port is served at which the game's moves wait: the call of it that fails, how many datagrams are to come, whether the
 /// other arbiter is asked first, the outcome of each put, the lines and the status, and what passes, a letter for each: `c` for
-/// a datagram that came, `m` for one that was missed, `h` for one that was handed over.
+/// a datagram that came, `m` for one that was missed, `h` and `i` for one that was handed over for the first and for the second
+/// address.
 struct Row {
     fails_at: usize,
     datagrams: u32,
@@ -77,29 +79,31 @@ fn check_lines(rt: &impl Abort, alloc: Global, port: &mut MemoryPort<'_>, row: &
 }
 
 /// The letter of what passed.
-fn letter_of(event: &Event) -> u8 {
-    if event.is_missed {
+fn letter_of(passage: &Passage) -> u8 {
+    if passage.is_missed {
         b'm'
-    } else if event.is_handed {
+    } else if !passage.is_handed {
+        b'c'
+    } else if passage.to == 0 {
         b'h'
     } else {
-        b'c'
+        b'i'
     }
 }
 
 /// The letters of what passed.
-fn letters_of(rt: &impl Abort, alloc: Global, events: &[Event]) -> Vec<u8> {
+fn letters_of(rt: &impl Abort, alloc: Global, passages: &[Passage]) -> Vec<u8> {
     let mut letters = Vec::new(alloc);
-    for event in events {
-        push_bytes(rt, &mut letters, &[letter_of(event)]);
+    for passage in passages {
+        push_bytes(rt, &mut letters, &[letter_of(passage)]);
     }
     letters
 }
 
 /// All that passed at a port has these letters.
 fn check_passed(rt: &impl Abort, alloc: Global, port: &MemoryPort<'_>, letters: &str) {
-    let events = port.events().expect(rt, "memory");
-    let told = letters_of(rt, alloc, events);
+    let passages = port.passages().expect(rt, "memory");
+    let told = letters_of(rt, alloc, passages);
     check_bytes(rt, &told, letters.as_bytes(), letters);
 }
 
@@ -141,7 +145,7 @@ const FAILED_RECEIVES: [Row; 3] = [
         keep: Keep::Good,
         lines: "ok 1 none\nrefused port\n",
         status: 1,
-        letters: "chm",
+        letters: "chim",
     },
     Row {
         fails_at: 4,
@@ -150,7 +154,7 @@ const FAILED_RECEIVES: [Row; 3] = [
         keep: Keep::Good,
         lines: "ok 1 none\nok 2 none\nrefused port\n",
         status: 1,
-        letters: "chchm",
+        letters: "chichim",
     },
 ];
 
@@ -163,7 +167,7 @@ const FAILED_SENDS: [Row; 4] = [
         keep: Keep::Good,
         lines: ALL,
         status: 0,
-        letters: "chchch",
+        letters: "chichichi",
     },
     Row {
         fails_at: 3,
@@ -172,7 +176,7 @@ const FAILED_SENDS: [Row; 4] = [
         keep: Keep::Good,
         lines: ALL,
         status: 0,
-        letters: "chchch",
+        letters: "chichichi",
     },
     Row {
         fails_at: 5,
@@ -181,7 +185,7 @@ const FAILED_SENDS: [Row; 4] = [
         keep: Keep::Good,
         lines: ALL,
         status: 0,
-        letters: "chchch",
+        letters: "chichichi",
     },
     Row {
         fails_at: 6,
@@ -190,7 +194,7 @@ const FAILED_SENDS: [Row; 4] = [
         keep: Keep::Good,
         lines: ALL,
         status: 0,
-        letters: "chchch",
+        letters: "chichichi",
     },
 ];
 
@@ -209,7 +213,7 @@ const NO_MORE: [Row; 2] = [
         keep: Keep::Good,
         lines: "ok 1 none\nok 2 none\n",
         status: 0,
-        letters: "chch",
+        letters: "chichi",
     },
     Row {
         fails_at: NEVER,
@@ -236,7 +240,7 @@ const ASKED: [Row; 2] = [
         keep: Keep::Good,
         lines: "",
         status: 0,
-        letters: "h",
+        letters: "hi",
     },
     Row {
         fails_at: NEVER,
@@ -245,7 +249,7 @@ const ASKED: [Row; 2] = [
         keep: Keep::Good,
         lines: ALL,
         status: 0,
-        letters: "hchchch",
+        letters: "hichichichi",
     },
 ];
 

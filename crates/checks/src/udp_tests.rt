@@ -3,12 +3,14 @@
 use crate::arbiters::{empty_keeper, game, open_first, text_of};
 use crate::comparing::{check_bytes, check_same, check_text};
 use crate::positions::START;
-use arbiter_core::{MemoryKeeper, UdpPort, serve};
-use move_msg::{Message, WriteFault};
+use arbiter_core::MemoryKeeper;
+use arbiter_service::serve;
+use move_msg::Message;
 use std::alloc::Global;
 use std::io::Write;
 use std::net::{Net, SocketAddr, UdpSocket};
 use std::process::Abort;
+use system_io::{UdpPort, WriteFault};
 
 /// How a port is served for six datagrams by the first arbiter of the game over a keeper.
 fn serve_six<W: Write>(
@@ -68,7 +70,7 @@ fn send_others(rt: &impl Abort, client: &UdpSocket, to: SocketAddr) {
 fn port_over(rt: &impl Abort, alloc: Global, socket: UdpSocket, client: &UdpSocket) -> UdpPort {
     let address = address_of(rt, client);
     let to = format!(in alloc; "{address}").expect(rt, "memory");
-    UdpPort::over(alloc, socket, to.as_str()).expect(rt, "memory")
+    UdpPort::over(alloc, socket, &[to.as_str()]).expect(rt, "memory")
 }
 
 /// A port at which the game's moves wait, and what is no message.

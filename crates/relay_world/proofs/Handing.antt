@@ -6,11 +6,10 @@ use Rattle.move_msg.specs.declared.message.Message.{Message}
 use Rattle.arbiter_core.specs.declared.fault.DeliverFault.{DeliverFault}
 use Rattle.arbiter_core.specs.declared.fault.DeliverFault.TheVariants.{OutOfMemory, Down as IsDown}
 use Rattle.arbiter_core.specs.declared.keeper.Keep.{Keep}
-use Rattle.arbiter_core.specs.declared.keeper.KeepFault.{KeepFault}
 use Rattle.arbiter_core.specs.declared.keeper.Keep.TheVariants.{Good, FailsOld, FailsNew}
 use Rattle.arbiter_core.specs.Recording.{Recorded, Window}
 use Rattle.arbiter_core.specs.Answering.{Identity, Answer, Refuses, Sends, Puts, answer_heard}
-use Rattle.arbiter_core.specs.Memory.{Memory}
+use Rattle.arbiter_core.specs.Memory.{Memory, memory_facts}
 use Rattle.arbiter_core.specs.Setups.{SetupView, rules_at}
 use Rattle.arbiter_core.specs.Views.{View}
 use Rattle.arbiter_core.specs.Delivers.{Told, answer_of, RefusesOrSends, PutsIfAny, Unchanged, Lands, IsSpelled}
@@ -20,23 +19,13 @@ use Rattle.relay_world.specs.Worlds.{Side, Life, Closed, Down, Running, answered
 use Rattle.relay_world.specs.Inside.Seats.{PlaceIs, Stands, Steps}
 use Rattle.relay_world.specs.Runs.{KeptIs}
 
-abbrev pub may_be : Memory → Keep → Type 0
-may_be m keep = m.keep ≡ keep
-
--- one put and one get of a keeper in memory
-abbrev pub leaves : Memory → List ℕ → Memory → Type 0
-leaves m bytes n = (n.keep ≡ m.keep) × (m.keep ≡ Good → n.failures ≡ m.failures)
-
-abbrev pub reads : Memory → Option KeepFault → Memory → Type 0
-reads m fault n = n ≡ m
-
 -- what was sent, where a refusal sends nothing
 abbrev pub sent_in : Told → List Message
 sent_in (Ok outputs) = outputs
 sent_in (Err fault) = []
 
 -- of an arbiter that runs
-running : (me : Identity) (setup : SetupView) (v new : View) (k kn : Memory) (keep : Keep) (a : Answer) (told : Told) → v.is_down ≡ false → v.setup ≡ setup → v.me ≡ me → k.keep ≡ keep → KeptIs me.stamp setup.delay k.kept (Some v.kept) → RefusesOrSends v k kn new told a → PutsIfAny may_be (λ m. m.kept) (λ m. m.failures) leaves v k kn new told a → told ≢ Err OutOfMemory → Steps me setup (Open new) kn (sent_in told) (answered keep v.kept v.window a)
+running : (me : Identity) (setup : SetupView) (v new : View) (k kn : Memory) (keep : Keep) (a : Answer) (told : Told) → v.is_down ≡ false → v.setup ≡ setup → v.me ≡ me → k.keep ≡ keep → KeptIs me.stamp setup.delay k.kept (Some v.kept) → RefusesOrSends v k kn new told a → PutsIfAny memory_facts v k kn new told a → told ≢ Err OutOfMemory → Steps me setup (Open new) kn (sent_in told) (answered keep v.kept v.window a)
 running me setup v new k kn keep (Refuses f) told up s m e kept r p n =
     record {
       stands = record {
@@ -83,7 +72,7 @@ running me setup v new k kn keep (Puts next outputs later) told up s m e kept r 
       sent = ap sent_in l.0;
     })
 
-pub delivered_steps : (me : Identity) (setup : SetupView) (v new : View) (old k kn : Memory) (side : Side) (keep : Keep) (heard : Result Message DeliverFault) (told : Told) → Stands me setup (Open v) old side → k.kept ≡ old.kept → k.keep ≡ keep → RefusesOrSends v k kn new told (answer_of v heard) → PutsIfAny may_be (λ m. m.kept) (λ m. m.failures) leaves v k kn new told (answer_of v heard) → told ≢ Err OutOfMemory → Steps me setup (Open new) kn (sent_in told) (handed keep side (λ kept window. answer_heard (rules_at setup) me kept window heard))
+pub delivered_steps : (me : Identity) (setup : SetupView) (v new : View) (old k kn : Memory) (side : Side) (keep : Keep) (heard : Result Message DeliverFault) (told : Told) → Stands me setup (Open v) old side → k.kept ≡ old.kept → k.keep ≡ keep → RefusesOrSends v k kn new told (answer_of v heard) → PutsIfAny memory_facts v k kn new told (answer_of v heard) → told ≢ Err OutOfMemory → Steps me setup (Open new) kn (sent_in told) (handed keep side (λ kept window. answer_heard (rules_at setup) me kept window heard))
 delivered_steps me setup v new old k kn side keep heard told h ke e r p n = by_cases v.is_down refl
   where
     by_cases : (b : Bool) → v.is_down ≡ b → Steps me setup (Open new) kn (sent_in told) (handed keep side (λ kept window. answer_heard (rules_at setup) me kept window heard))
@@ -113,7 +102,7 @@ delivered_steps me setup v new old k kn side keep heard told h ke e r p n = by_c
         ∙ ap (λ (x : SetupView). answer_heard (rules_at x) v.me v.kept v.window heard) s
         ∙ ap (λ (x : Identity). answer_heard (rules_at setup) x v.kept v.window heard) m in
         let kept : KeptIs me.stamp setup.delay k.kept (Some v.kept) = subst (λ (x : Option (List ℕ)). KeptIs me.stamp setup.delay x (Some v.kept)) (sym ke) (subst (KeptIs me.stamp setup.delay old.kept) run.1 h.kept) in
-        rw (run.0, run.1) (running me setup v new k kn keep (answer_heard (rules_at setup) me v.kept v.window heard) told d s m e kept (subst (RefusesOrSends v k kn new told) is r) (subst (PutsIfAny may_be (λ m. m.kept) (λ m. m.failures) leaves v k kn new told) is p) n)
+        rw (run.0, run.1) (running me setup v new k kn keep (answer_heard (rules_at setup) me v.kept v.window heard) told d s m e kept (subst (RefusesOrSends v k kn new told) is r) (subst (PutsIfAny memory_facts v k kn new told) is p) n)
 
 -- a closed seat hears nothing
 pub shut_steps : (me : Identity) (setup : SetupView) (place : Place) (old k : Memory) (side : Side) (keep : Keep) (respond : Recorded → Window → Answer) → Stands me setup place old side → k.kept ≡ old.kept → side.life ≡ Closed → Steps me setup place k [] (handed keep side respond)

@@ -16,7 +16,7 @@ use Rattle.arbiter_core.specs.declared.keeper.Keep.TheVariants.{Good, FailsOld, 
 use Rattle.arbiter_core.specs.declared.setup.Setup.{Setup}
 use Rattle.arbiter_core.specs.Recording.{Recorded}
 use Rattle.arbiter_core.specs.Answering.{Identity}
-use Rattle.arbiter_core.specs.Memory.{Memory}
+use Rattle.arbiter_core.specs.Memory.{Memory, memory_facts}
 use Rattle.arbiter_core.specs.Setups.{SetupView, setup_view, rules_at, IsIdentity}
 use Rattle.arbiter_core.specs.Views.{View, spelled_as}
 use Rattle.arbiter_core.specs.Delivers.{IsSpelled}
@@ -27,7 +27,6 @@ use Rattle.relay_world.specs.declared.seat.Place.TheVariants.{Shut, Open}
 use Rattle.relay_world.specs.Worlds.{Side, opened, restarted}
 use Rattle.relay_world.specs.Inside.Seats.{PlaceIs, IsOpen, Stands, setup_in}
 use Rattle.relay_world.specs.Runs.{KeptIs}
-use Rattle.relay_world.proofs.Handing.{may_be, leaves, reads}
 
 abbrev stamp_from : List ℕ → Stamp
 stamp_from x = record { 0 = x }
@@ -93,11 +92,11 @@ module _ (me : Identity) (setup : SetupView) (kn : Memory) where
   over_bytes keep bytes old (Err BadSetup) h still n r = absurd r
   over_bytes keep bytes old (Err KeeperFailed) h still n r = absurd r
 
-pub reopened : (me : Identity) (setup : SetupView) (place : Place) (old k kn : Memory) (side : Side) (keep : Keep) (told : Told) → IsIdentity setup me → IfSome side.kept (IsWhole (rules_at setup)) → Stands me setup place old side → k.kept ≡ old.kept → k.keep ≡ keep → (i : Identity) × IsIdentity setup i × Opens may_be (λ m. m.kept) (λ m. m.failures) (λ m. ⊥) leaves reads setup i k kn told → told ≢ Err OutOfMemory → Reopens me setup kn (restarted (rules_at setup) keep side.kept) told
+pub reopened : (me : Identity) (setup : SetupView) (place : Place) (old k kn : Memory) (side : Side) (keep : Keep) (told : Told) → IsIdentity setup me → IfSome side.kept (IsWhole (rules_at setup)) → Stands me setup place old side → k.kept ≡ old.kept → k.keep ≡ keep → (i : Identity) × IsIdentity setup i × Opens memory_facts setup i k kn told → told ≢ Err OutOfMemory → Reopens me setup kn (restarted (rules_at setup) keep side.kept) told
 reopened me setup place old k kn side keep told is whole h ke kk o n =
-    by_opens (subst (λ (i : Identity). Opens may_be (λ m. m.kept) (λ m. m.failures) (λ m. ⊥) leaves reads setup i k kn told) (one_identity setup o.0 me o.1 is) o.2)
+    by_opens (subst (λ (i : Identity). Opens memory_facts setup i k kn told) (one_identity setup o.0 me o.1 is) o.2)
   where
-    by_kept : (kept : Option Recorded) (bytes : Option (List ℕ)) → k.kept ≡ bytes → KeptIs me.stamp setup.delay bytes kept → IfSome kept (IsWhole (rules_at setup)) → OpensOver may_be (λ m. m.kept) (λ m. m.failures) leaves reads setup me bytes k kn told → Reopens me setup kn (restarted (rules_at setup) keep kept) told
+    by_kept : (kept : Option Recorded) (bytes : Option (List ℕ)) → k.kept ≡ bytes → KeptIs me.stamp setup.delay bytes kept → IfSome kept (IsWhole (rules_at setup)) → OpensOver memory_facts setup me bytes k kn told → Reopens me setup kn (restarted (rules_at setup) keep kept) told
     by_kept None None e f w q =
         let same : q.keep ≡ keep = sym q.stated ∙ kk in
         subst (λ (x : Keep). Reopens me setup kn (opened x (first_record (rules_at setup))) told) same (first_put me setup kn q.keep k.kept told e q.lands)
@@ -105,7 +104,7 @@ reopened me setup place old k kn side keep told is whole h ke kk o n =
     by_kept (Some kept) None e f w q = absurd f
     by_kept (Some kept) (Some bytes) e f w q = over_bytes me setup kn keep bytes kept told (f, w) (q.0 ∙ e) n q.1
 
-    by_opens : Opens may_be (λ m. m.kept) (λ m. m.failures) (λ m. ⊥) leaves reads setup me k kn told → Reopens me setup kn (restarted (rules_at setup) keep side.kept) told
+    by_opens : Opens memory_facts setup me k kn told → Reopens me setup kn (restarted (rules_at setup) keep side.kept) told
     by_opens (inl g) = absurd g.stated
     by_opens (inr (inl g)) = absurd (n g.answer)
     by_opens (inr (inr q)) = by_kept side.kept k.kept refl (subst (λ (x : Option (List ℕ)). KeptIs me.stamp setup.delay x side.kept) (sym ke) h.kept) whole q

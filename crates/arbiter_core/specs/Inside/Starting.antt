@@ -4,6 +4,7 @@ use Rattle.move_msg.specs.declared.stamp.Stamp.{Stamp}
 use Rattle.move_msg.specs.Numbers.{most_moves}
 use Rattle.judge_core.specs.Games.{verdict_after}
 use Rattle.judge_core.specs.Standings.{IsAt}
+use Rattle.arbiter_core.specs.Keeping.{KeeperFacts}
 use Rattle.arbiter_core.specs.declared.keeper.Keep.{Keep}
 use Rattle.arbiter_core.specs.declared.keeper.Keep.TheVariants.{Good, FailsOld, FailsNew}
 use Rattle.arbiter_core.specs.declared.fault.OpenFault.{OpenFault}
@@ -11,7 +12,7 @@ use Rattle.arbiter_core.specs.declared.fault.OpenFault.TheVariants.{KeeperFailed
 use Rattle.arbiter_core.specs.declared.arbiter.Played.{Played}
 use Rattle.arbiter_core.specs.Recording.{Recorded, reaches}
 use Rattle.arbiter_core.specs.Answering.{Identity}
-use Rattle.arbiter_core.specs.Keeping.{Risen}
+use Rattle.system_io.specs.Failures.{Risen}
 use Rattle.arbiter_core.specs.Setups.{SetupView, rules_at}
 use Rattle.move_msg.specs.Records.{WritesRecord}
 use Rattle.arbiter_core.specs.Views.{spelled_as}
@@ -37,20 +38,20 @@ IsPutSo Good setup me before now (Err fault) = ⊥
 IsPutSo FailsOld setup me before now result = (result ≡ Err KeeperFailed) × (now ≡ before)
 IsPutSo FailsNew setup me before now result = (result ≡ Err KeeperFailed) × IsSpelled me.stamp setup.delay (first_record (rules_at setup)) now
 
-pub record IsPutOnce {K : Type 0} (may_be : K → Keep → Type 0) (kept : K → Option (List ℕ)) (faults : K → ℕ) (leaves : K → List ℕ → K → Type 0) (setup : SetupView) (me : Identity) (before now : K) (result : Result Played OpenFault) : Type 0 where
+pub record IsPutOnce {K : Type 0} (facts : KeeperFacts K) (setup : SetupView) (me : Identity) (before now : K) (result : Result Played OpenFault) : Type 0 where
   pub keep : Keep
-  pub stated : may_be before keep
-  pub is : IsPutSo keep setup me (kept before) (kept now) result
-  pub written : (kept now ≡ kept before) ⊎ IsWritten me.stamp setup.delay (first_record (rules_at setup)) (kept now)
+  pub stated : facts.may_be before keep
+  pub is : IsPutSo keep setup me (facts.kept before) (facts.kept now) result
+  pub written : (facts.kept now ≡ facts.kept before) ⊎ IsWritten me.stamp setup.delay (first_record (rules_at setup)) (facts.kept now)
   pub sent : List ℕ
   pub spells : WritesRecord sent (spelled_as me.stamp setup.delay (first_record (rules_at setup)))
-  pub once : leaves before sent now
-  pub cause : result ≡ Err KeeperFailed → Risen (faults before) (faults now)
+  pub once : facts.leaves before sent now
+  pub cause : result ≡ Err KeeperFailed → Risen (facts.faults before) (facts.faults now)
 
 -- the put was made once, or memory was refused before it
-abbrev pub IsPutFirst : {K : Type 0} → (K → Keep → Type 0) → (K → Option (List ℕ)) → (K → ℕ) → (K → List ℕ → K → Type 0) → SetupView → Identity → K → K → Result Played OpenFault → Type 0
-IsPutFirst may_be kept faults leaves setup me before now result =
-    ((result ≡ Err OutOfMemory) × (now ≡ before)) ⊎ IsPutOnce may_be kept faults leaves setup me before now result
+abbrev pub IsPutFirst : {K : Type 0} → KeeperFacts K → SetupView → Identity → K → K → Result Played OpenFault → Type 0
+IsPutFirst facts setup me before now result =
+    ((result ≡ Err OutOfMemory) × (now ≡ before)) ⊎ IsPutOnce facts setup me before now result
 
 -- what is answered where this is recorded
 abbrev pub told_from : SetupView → Identity → Result Played OpenFault → Told

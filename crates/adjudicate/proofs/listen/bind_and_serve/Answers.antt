@@ -4,7 +4,7 @@ use Rattle.adjudicate.specs.Listens.{Bound, Unbound}
 use Rattle.adjudicate.proofs.listen.bind_and_serve.Goals as goal
 
 pub returns-in-Ok : goal.returns-in-Ok
-returns-in-Ok g c = IfOk-weaker c.serve_at.result _ _ (λ status h. Bound _ _ c.in-Ok.ensures.bound h) c.serve_at.ensures
+returns-in-Ok g c = IfOk-weaker c.serve_at.result _ _ (λ status h. Bound _ _ c.in-Ok.ensures.bound c.in-Ok.ensures.each h) c.serve_at.ensures
 
 pub returns-in-Err-Unbound : goal.returns-in-Err-Unbound
 returns-in-Err-Unbound g c =

@@ -9,4 +9,5 @@ pub returns-in-Ok-Err : goal.returns-in-Ok-Err
 returns-in-Ok-Err g c =
     let is = c.in-Ok-Err.field-0-is in
     let same = rw is at c.in-Ok-Err.ensures.unwritten in
-    IfOk-weaker c.put_unopened.result _ _ (λ status h. Unopened _ (rw is at c.in-Ok-Err.ensures.unopened) (rw is at c.in-Ok-Err.ensures.nothing) h) (rw same at c.put_unopened.ensures)
+    let refused = rw is at c.in-Ok-Err.ensures.served in
+    IfOk-weaker c.put_unopened.result _ _ (λ status h. Unopened _ refused.is_refused refused.nothing h) (rw same at c.put_unopened.ensures)

@@ -9,6 +9,6 @@ put-requires g c = subst (λ (t : List ℕ). length t ≤ 8217) (sym c.deref.ens
 
 pub returns-in-Err-clause-put : goal.returns-in-Err-clause-put
 returns-in-Err-clause-put g c = λ who.
-    put_fails g.K.Keeper.may_be g.K.Keeper.kept g.K.Keeper.faults g.K.Keeper.leaves (setup_view c.args.setup.now) (record { stamp = c.args.stamp; who = who }) c.args.keeper.now c.put.new.self c.deref.result.now c.in-Ok.played _
+    put_fails g.K.Keeper.facts (setup_view c.args.setup.now) (record { stamp = c.args.stamp; who = who }) c.args.keeper.now c.put.new.self c.deref.result.now c.in-Ok.played _
     c.in-Err.ensures.outcome c.in-Err.ensures.cause c.in-Ok.ensures.ok (subst (λ (t : List ℕ). SpellsRecord t c.in-Ok.played.record) (sym c.deref.ensures.value) c.in-Ok-encode.ensures.spelled)
     (subst (λ (t : List ℕ). WritesRecord t c.in-Ok.played.record) (sym c.deref.ensures.value) c.in-Ok-encode.ensures.written) c.in-Err.ensures.once

@@ -4,11 +4,11 @@ use Rattle.arbiter_core.specs.declared.fault.DeliverFault.{DeliverFault}
 use Rattle.arbiter_core.specs.declared.fault.DeliverFault.TheVariants.{OutOfMemory}
 use Rattle.arbiter_core.specs.Answering.{Identity}
 use Rattle.arbiter_core.specs.Delivers.{heard, Told, answer_of, RefusesOrSends, PutsIfAny}
-use Rattle.arbiter_core.specs.Memory.{Memory}
+use Rattle.arbiter_core.specs.Memory.{Memory, memory_facts}
 use Rattle.relay_world.specs.Inside.Seats.{Stands}
 use Rattle.relay_world.specs.declared.seat.Place.{Place}
 use Rattle.relay_world.specs.declared.seat.Place.TheVariants.{Open}
-use Rattle.relay_world.proofs.Handing.{may_be, leaves, delivered_steps}
+use Rattle.relay_world.proofs.Handing.{delivered_steps}
 use Rattle.relay_world.proofs.seat.hand.Goals as goal
 
 pub returns-in_default : goal.returns-in_default
@@ -19,8 +19,8 @@ returns-in_default c me setup side stands =
     rw c.new-in_default.ensures.items
     (delivered_steps me setup c.in-Open.arbiter c.deliver.new.self c.args.keeper.now c.set.new.self c.deliver.new.keeper side c.args.keep (heard me.stamp c.args.bytes.now) told
     h (ap (λ (m : Memory). m.kept) c.set.ensures) (ap (λ (m : Memory). m.keep) c.set.ensures)
-    (subst (λ (s : Result Message DeliverFault). RefusesOrSends c.in-Open.arbiter c.set.new.self c.deliver.new.keeper c.deliver.new.self told (answer_of c.in-Open.arbiter s)) same c.in-Err.ensures.answered)
-    (subst (λ (s : Result Message DeliverFault). PutsIfAny may_be (λ m. m.kept) (λ m. m.failures) leaves c.in-Open.arbiter c.set.new.self c.deliver.new.keeper c.deliver.new.self told (answer_of c.in-Open.arbiter s)) same c.in-Err.ensures.put)
+    (subst (λ (s : Result Message DeliverFault). RefusesOrSends c.in-Open.arbiter c.set.new.self c.deliver.new.keeper c.deliver.new.self told (answer_of c.in-Open.arbiter s)) same c.in-Err.ensures.delivered.answered)
+    (subst (λ (s : Result Message DeliverFault). PutsIfAny memory_facts c.in-Open.arbiter c.set.new.self c.deliver.new.keeper c.deliver.new.self told (answer_of c.in-Open.arbiter s)) same c.in-Err.ensures.delivered.put)
     (refused c.in-Err.fault c.in_default.not-OutOfMemory))
   where
     refused : (f : DeliverFault) → (f ≡ OutOfMemory → ⊥) → ◌≡◌ {A = Told} (Err f) (Err OutOfMemory) → ⊥

@@ -96,7 +96,7 @@ returns-in-Ok-put g c =
       | then-is_some w ↦ w.window-is ∙ sym (cond-true (is_some next.verdict) nothing_waits (still_waits v.window (count_of next - count_of v.kept)) (sym c.is_some.ensures ∙ w.if-is_some.true))
       | else-is_some w ↦ w.window-is ∙ w.still_waiting-window.ensures ∙ rw (size, count) (sym (cond-false (is_some next.verdict) nothing_waits (still_waits v.window (count_of next - count_of v.kept)) (sym c.is_some.ensures ∙ w.if-is_some.false)))
     ] in
-    goes_ok g.K.Keeper.may_be g.K.Keeper.kept g.K.Keeper.faults g.K.Keeper.leaves v c.args.self.now c.args.m.now next c.args.keeper.now c.put.new.self _ c.deref.result.now c.self.view_is e spelled written c.in-Ok-put.ensures.once _ _ c.if-is_some.window c.in-Ok-put.ensures.outcome told later (new_is v _ next _ _ setup refl)
+    goes_ok g.K.Keeper.facts v c.args.self.now c.args.m.now next c.args.keeper.now c.put.new.self _ c.deref.result.now c.self.view_is e spelled written c.in-Ok-put.ensures.once _ _ c.if-is_some.window c.in-Ok-put.ensures.outcome told later (new_is v _ next _ _ setup refl)
 
 pub returns-in-Err : goal.returns-in-Err
 returns-in-Err g c =
@@ -113,4 +113,4 @@ returns-in-Err g c =
     subst (λ (t : List ℕ). WritesRecord t (spelled_as v.me.stamp v.setup.delay next)) (sym c.deref.ensures.value)
     (subst (λ (n : ℕ). WritesRecord c.in-Ok-encode.bytes.items (record { stamp = v.me.stamp; delay = n; verdict = next.verdict; moves = next.moves })) c.self.invariant.delay c.in-Ok-encode.ensures.written) in
     let setup = ap setup_view c.in-Ok.ensures.same in
-    goes_err g.K.Keeper.may_be g.K.Keeper.kept g.K.Keeper.faults g.K.Keeper.leaves v c.args.self.now c.args.m.now next c.args.keeper.now c.put.new.self _ c.deref.result.now c.self.view_is e spelled written c.in-Err.ensures.once _ c.in-Err.ensures.outcome c.in-Err.ensures.cause (down_is v _ setup)
+    goes_err g.K.Keeper.facts v c.args.self.now c.args.m.now next c.args.keeper.now c.put.new.self _ c.deref.result.now c.self.view_is e spelled written c.in-Err.ensures.once _ c.in-Err.ensures.outcome c.in-Err.ensures.cause (down_is v _ setup)

@@ -20,7 +20,7 @@ returns-in-Ok-clause-good g c = λ good.
     let me : Identity = record { stamp = c.in-Some.stamp; who = c.in-Some.who } in (
       me,
       c.in-Some.ensures.some.1,
-      opens_as g.K.Keeper.may_be g.K.Keeper.kept g.K.Keeper.faults g.K.Keeper.get_may_fail g.K.Keeper.leaves g.K.Keeper.reads (setup_view c.args.setup) me c.args.keeper.now c.recorded.new.keeper _ _
+      opens_as g.K.Keeper.facts (setup_view c.args.setup) me c.args.keeper.now c.recorded.new.keeper _ _
           (ap (λ (v : View). Ok v) (sym (c.running.ensures ∙ runs_is _ (setup_view c.args.setup) _ c.in-Some.stamp c.in-Some.who (recorded_in c.in-Ok.played) (ap setup_view c.in-Ok.ensures.same) c.in-Ok.ensures.played.stamp_is)))
           (c.in-Ok.ensures.opens c.in-Some.who),
     )
@@ -32,7 +32,7 @@ returns-in-Err-clause-good g c = λ good.
 pub returns-in-Ok-clause-keeps : goal.returns-in-Ok-clause-keeps
 returns-in-Ok-clause-keeps g c = λ up.
     let me : Identity = record { stamp = c.in-Some.stamp; who = c.in-Some.who } in
-    opened_keeps g.K.Keeper.may_be g.K.Keeper.kept g.K.Keeper.faults g.K.Keeper.get_may_fail g.K.Keeper.leaves g.K.Keeper.reads (setup_view c.args.setup) me c.args.keeper.now c.recorded.new.keeper c.running.result
-    (opens_as g.K.Keeper.may_be g.K.Keeper.kept g.K.Keeper.faults g.K.Keeper.get_may_fail g.K.Keeper.leaves g.K.Keeper.reads (setup_view c.args.setup) me c.args.keeper.now c.recorded.new.keeper _ _
+    opened_keeps g.K.Keeper.facts (setup_view c.args.setup) me c.args.keeper.now c.recorded.new.keeper c.running.result
+    (opens_as g.K.Keeper.facts (setup_view c.args.setup) me c.args.keeper.now c.recorded.new.keeper _ _
     (ap (λ (v : View). Ok v) (sym (c.running.ensures ∙ runs_is _ (setup_view c.args.setup) _ c.in-Some.stamp c.in-Some.who (recorded_in c.in-Ok.played) (ap setup_view c.in-Ok.ensures.same) c.in-Ok.ensures.played.stamp_is)))
     (c.in-Ok.ensures.opens c.in-Some.who))

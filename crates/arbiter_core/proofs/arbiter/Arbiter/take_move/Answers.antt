@@ -38,4 +38,4 @@ pub returns-clause-answered : goal.returns-clause-answered
 returns-clause-answered g c = sends_as _ _ _ _ _ _ _ (its_turn g c) tt
 
 pub returns-clause-put : goal.returns-clause-put
-returns-clause-put g c = puts_as _ _ _ _ _ _ _ _ _ _ _ (its_turn g c) c.go_on.ensures
+returns-clause-put g c = puts_as g.K.Keeper.facts _ _ _ _ _ _ _ (its_turn g c) c.go_on.ensures

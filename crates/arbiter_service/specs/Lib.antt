@@ -1,0 +1,5 @@
+pub mod StoredBytes
+pub mod ServedLines
+pub mod Serving
+pub mod OverFiles
+pub mod Inside

@@ -1,0 +1,81 @@
+-- An arbiter over a file in which its record is kept (this project's own).
+use Rattle.std.specs.Prelude.{◌≡◌, ◌⊎◌, ℕ, Bool, List, [], Some, Result, Ok, Err}
+use Rattle.std.specs.List.{AllByRecursion}
+use Rattle.system_io.specs.declared.output.WriteFault.{WriteFault}
+use Rattle.arbiter_core.specs.declared.fault.OpenFault.{OpenFault}
+use Rattle.arbiter_core.specs.declared.fault.OpenFault.TheVariants.{BadSetup}
+use Rattle.arbiter_service.specs.declared.file_keeper.FileKeeper.{FileKeeper}
+use Rattle.system_io.specs.KeptFiles.{KeptFacts}
+use Rattle.arbiter_core.specs.Opens.{IsResumed, OpensIfGood, Told}
+use Rattle.system_io.specs.Ports.{Passed}
+use Rattle.arbiter_core.specs.Recording.{Recorded}
+use Rattle.arbiter_core.specs.Delivers.{Moment}
+use Rattle.arbiter_service.specs.Serving.{Loss, NoLoss, KeeperLost, PortLost, Run, Scene, ServesRun, TellsRun, asked_first}
+use Rattle.arbiter_core.specs.Setups.{SetupView, IsGood, rules_at}
+use Rattle.arbiter_service.specs.StoredBytes.{file_of, keeper_over}
+use Rattle.arbiter_core.specs.Views.{View}
+
+-- ---- over a keeper
+
+-- over this keeper an arbiter of a good setup is opened so, or refused; a bad one is refused, and nothing is put
+pub record IsOpened {F : Type 0} (facts : F → KeptFacts) (setup : SetupView) (before now : FileKeeper F) (told : Told) : Type 0 where
+  pub good : OpensIfGood (keeper_over facts) setup before now told
+  pub bad : (IsGood setup → ⊥) → (told ≡ Err BadSetup) × (now ≡ before)
+
+-- ---- the file through a run
+
+-- these bytes are a record of the arbiter's game, from which it could run again
+abbrev pub IsItsRecord : View → List ℕ → Recorded → Type 0
+IsItsRecord v bytes kept = IsResumed (rules_at v.setup) v.me.stamp bytes kept
+
+-- a start that comes now finds the arbiter's record in the file
+pub record FindsRecord {F : Type 0} (facts : F → KeptFacts) (at : Moment (FileKeeper F)) : Type 0 where
+  pub bytes : List ℕ
+  pub is : IsItsRecord at.arbiter bytes at.arbiter.kept
+  pub found : (facts (file_of at.keeper)).finds (Some bytes) (Some bytes)
+
+-- it finds the arbiter's record, or another of its game; which one, a failed put says (`PutsInto`, by what it was to keep)
+pub record FindsEither {F : Type 0} (facts : F → KeptFacts) (at : Moment (FileKeeper F)) : Type 0 where
+  pub bytes : List ℕ
+  pub is : IsItsRecord at.arbiter bytes at.arbiter.kept
+  pub next : Recorded
+  pub sent : List ℕ
+  pub is_next : IsItsRecord at.arbiter sent next
+  pub found : (facts (file_of at.keeper)).finds (Some bytes) (Some bytes) ⊎ ((facts (file_of at.keeper)).finds (Some bytes) (Some sent) ⊎ (facts (file_of at.keeper)).finds (Some sent) (Some sent))
+
+abbrev pub FindsAtLoss : {F : Type 0} → (F → KeptFacts) → Loss (FileKeeper F) → Type 0
+FindsAtLoss facts NoLoss = Unit {0}
+FindsAtLoss facts (KeeperLost last) = FindsEither facts last.after
+FindsAtLoss facts PortLost = Unit {0}
+
+-- before the first datagram of a run and after each one a start finds the arbiter's record, and where the keeper
+-- failed that or the record that the put was to keep
+pub record FindsThroughout {F : Type 0} (facts : F → KeptFacts) (opened : Moment (FileKeeper F)) (run : Run (FileKeeper F)) : Type 0 where
+  pub first : FindsRecord facts opened
+  pub each : AllByRecursion (λ e. FindsRecord facts e.after) run.exchanges
+  pub at_loss : FindsAtLoss facts run.loss
+
+-- ---- opened and served
+
+-- an arbiter is opened over the keeper and serves so many datagrams, and between any two of them its record is in the file; the
+-- keeper is left so; the run ends with its status, or where a line could not be written
+pub record ServesOpened {F : Type 0} (facts : F → KeptFacts) (setup : SetupView) (n : ℕ) (fetch : Bool) (old new : Scene (FileKeeper F)) (ended : Result ℕ WriteFault) : Type 0 where
+  pub opened : Moment (FileKeeper F)
+  pub now : Moment (FileKeeper F)
+  pub is_opened : IsOpened facts setup old.at opened.keeper (Ok opened.arbiter)
+  pub run : Run (FileKeeper F)
+  pub served : ServesRun (keeper_over facts) opened now old.port new.port (asked_first old.port.addresses fetch opened.arbiter) run
+  pub left : now.keeper ≡ new.at
+  pub found : FindsThroughout facts opened run
+  pub told : TellsRun n run old.written new.written ended
+
+-- no arbiter is opened, and nothing passes at the port
+pub record IsRefused {F : Type 0} (facts : F → KeptFacts) (setup : SetupView) (old new : Scene (FileKeeper F)) (fault : OpenFault) : Type 0 where
+  pub is_refused : IsOpened facts setup old.at new.at (Err fault)
+  pub nothing : Passed old.port new.port []
+
+-- one is opened and serves, or it is refused; the outer error comes where a line could not be written
+abbrev pub OpensAndServes : {F : Type 0} → (F → KeptFacts) → SetupView → ℕ → Bool → Scene (FileKeeper F) → Scene (FileKeeper F) → Result (Result ℕ OpenFault) WriteFault → Type 0
+OpensAndServes facts setup n fetch old new (Ok (Ok status)) = ServesOpened facts setup n fetch old new (Ok status)
+OpensAndServes facts setup n fetch old new (Ok (Err fault)) = IsRefused facts setup old new fault
+OpensAndServes facts setup n fetch old new (Err fault) = ServesOpened facts setup n fetch old new (Err fault)

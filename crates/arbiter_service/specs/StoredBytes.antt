@@ -1,0 +1,39 @@
+-- What a keeper over a file has stored (this project's own).
+use Rattle.std.specs.Prelude.{◌≡◌, ℕ, List, Option, Some, None, cond}
+use Rattle.arbiter_core.specs.Keeping.{KeeperFacts}
+use Rattle.system_io.specs.Failures.{Risen}
+use Rattle.arbiter_service.specs.declared.file_keeper.FileKeeper.{FileKeeper}
+use Rattle.system_io.specs.KeptFiles.{KeptFacts, FindsOldOrNew}
+
+-- the bytes that it keeps, if any
+abbrev pub stored : {F : Type 0} → FileKeeper F → Option (List ℕ)
+stored k = cond k.is_kept (Some k.bytes.items) None
+
+-- the file
+abbrev pub file_of : {F : Type 0} → FileKeeper F → F
+file_of k = k.file
+
+-- a start that comes now finds in the file what the keeper has stored
+abbrev pub IsInFile : {F : Type 0} → (F → KeptFacts) → FileKeeper F → Type 0
+IsInFile facts k = (facts (file_of k)).finds (stored k) (stored k)
+
+-- how often its puts have failed
+abbrev pub keeper_faults : {F : Type 0} → FileKeeper F → ℕ
+keeper_faults k = k.failures
+
+-- what a put of bytes makes of a keeper: they have come into the file and are stored; or it failed, which
+-- is counted, what was stored stays, and a start finds what stood in the file or these bytes
+pub data PutsInto {F : Type 0} (facts : F → KeptFacts) (before : FileKeeper F) (bytes : List ℕ) (now : FileKeeper F) : Type 0 where
+  Landed : stored now ≡ Some bytes → (facts (file_of now)).finds (Some bytes) (Some bytes) → PutsInto facts before bytes now
+  Failed : stored now ≡ stored before → Risen (keeper_faults before) (keeper_faults now) → ((old : Option (List ℕ)) → (facts (file_of before)).finds old old → FindsOldOrNew (facts (file_of now)) old bytes) → PutsInto facts before bytes now
+
+-- what keepers over files tell of themselves: any outcome of a put, and no get that fails or changes one
+abbrev pub keeper_over : {F : Type 0} → (F → KeptFacts) → KeeperFacts (FileKeeper F)
+keeper_over facts = record {
+  kept = stored;
+  faults = keeper_faults;
+  may_be = λ k keep. Unit {0};
+  get_may_fail = λ k. ⊥;
+  leaves = PutsInto facts;
+  reads = λ k fault n. n ≡ k;
+}

@@ -1,0 +1,139 @@
+//! The keeper over a file.
+
+ghost use Rattle.std.specs.Prelude.{◌≡◌, ◌≤◌, ℕ, List, Option, Some, length, vec_capacity, IfOk, IfErr, OnOk, OnErr, IsErrOf};
+ghost use Rattle.system_io.specs.Failures.{Risen};
+ghost use Rattle.system_io.specs.KeptFiles.{FindsOldOrNew};
+
+use arbiter_core::{KeepFault, Keeper};
+use std::alloc::{AllocError, Global};
+use system_io::{KeptFile, MOST_KEPT_BYTES, ReadFault, replace};
+
+/// Keeps bytes in a file, and stores them in room for 8217 that `new` makes. No other call takes memory but `get`, and a get
+/// never fails.
+#[derive(Drop)]
+pub struct FileKeeper<F: Drop> {
+    file: F,
+    bytes: Vec<u8>,
+    is_kept: bool,
+    failures: u64,
+    ghost room: { 8217 ≤ vec_capacity bytes },
+}
+
+/// Bytes in room for as many as are ever kept.
+fn roomy(alloc: Global, bytes: &[u8]) -> Result<Vec<u8>, AllocError>
+    ensures items { IfOk result (λ v. v.items ≡ bytes.now) }
+    ensures room { IfOk result (λ v. 8217 ≤ vec_capacity v) }
+{
+    let mut all = Vec::with_capacity(alloc, MOST_KEPT_BYTES)?;
+    all.extend_from_slice(bytes)?;
+    Ok(all)
+}
+
+impl<F: KeptFile + Drop> FileKeeper<F> {
+    ghost use Rattle.arbiter_service.specs.StoredBytes.{IsInFile, file_of, stored};
+
+    /// A keeper over a file, which is read here and never again: a file that isn't there is nothing kept. Before it is read its
+    /// folder is synced, so that a loss of power can't take back what is read. `Unreadable` where the folder can't be synced, or
+    /// the file can't be read or has more than 8217 bytes.
+    pub fn new(alloc: Global, file: F) -> Result<FileKeeper<F>, ReadFault>
+        ensures found { IfOk result (IsInFile F.facts) }
+        ensures file { IfOk result (λ k. file_of k ≡ file) }
+        ensures cause { IsErrOf result ReadFault.Unreadable → (F.facts file).unreadable }
+    {
+        match file.settle() {
+            Ok(()) => {}
+            Err(fault) => return Err(fault),
+        }
+        let got = match file.read(alloc) {
+            Ok(got) => got,
+            Err(fault) => return Err(fault),
+        };
+        let (bytes, is_kept) = match got {
+            Some(bytes) => (roomy(alloc, &bytes)?, true),
+            None => (roomy(alloc, &[])?, false),
+        };
+        Ok(FileKeeper {
+            file,
+            bytes,
+            is_kept,
+            failures: 0,
+        })
+    }
+
+    /// The file.
+    pub fn file(&self) -> &F
+        ensures { result.now ≡ file_of self.now }
+    {
+        &self.file
+    }
+
+    /// Stores bytes that are in the file.
+    fn store(&mut self, bytes: &[u8])
+        requires { length bytes.now ≤ 8217 }
+        ensures stored { stored self.new ≡ Some bytes.now }
+        ensures file { self.new.file ≡ self.old.file }
+        ensures failures { self.new.failures ≡ self.old.failures }
+    {
+        self.bytes.clear();
+        let _done = self.bytes.extend_from_slice(bytes);
+        self.is_kept = true;
+    }
+
+    /// Counts one failure.
+    fn fail(&mut self) -> KeepFault
+        ensures failed { result ≡ KeepFault.Failed }
+        ensures stored { stored self.new ≡ stored self.old }
+        ensures file { self.new.file ≡ self.old.file }
+        ensures risen { Risen self.old.failures self.new.failures }
+        ensures count { self.old.failures ≤ self.new.failures }
+    {
+        self.failures = self.failures.saturating_add(1);
+        KeepFault::Failed
+    }
+
+    /// Lets bytes take the place of those in the file, and only then stores them. Where that fails the stored bytes stay, and a
+    /// start finds the old bytes or the new.
+    fn keep(&mut self, bytes: &[u8]) -> Result<(), KeepFault>
+        requires { length bytes.now ≤ 8217 }
+        ensures ok { OnOk result (stored self.new ≡ Some bytes.now) }
+        ensures found { OnOk result ((F.facts self.new.file).finds (Some bytes.now) (Some bytes.now)) }
+        ensures err { OnErr result (stored self.new ≡ stored self.old) }
+        ensures left { (old : Option (List ℕ)) → (F.facts self.old.file).finds old old → OnErr result (FindsOldOrNew (F.facts self.new.file) old bytes.now) }
+        ensures fault { IfErr result (λ e. e ≡ KeepFault.Failed) }
+        ensures cause { OnErr result (Risen self.old.failures self.new.failures) }
+        ensures count { self.old.failures ≤ self.new.failures }
+    {
+        match replace(&mut self.file, bytes) {
+            Ok(()) => {
+                self.store(bytes);
+                Ok(())
+            }
+            Err(_) => Err(self.fail()),
+        }
+    }
+}
+
+impl<F: KeptFile + Drop> Keeper for FileKeeper<F> {
+    ghost use Rattle.arbiter_service.specs.StoredBytes.{keeper_over};
+
+    // Which record a start finds after a put that failed isn't known; one that succeeds has brought the bytes into the file.
+    ghost facts = { keeper_over F.facts };
+
+    fn put(&mut self, bytes: &[u8]) -> Result<(), KeepFault> {
+        self.keep(bytes)
+    }
+
+    fn get(&mut self, alloc: Global) -> Result<Option<Vec<u8>>, KeepFault> {
+        if !self.is_kept {
+            return Ok(None);
+        }
+        match Vec::from_slice(alloc, &self.bytes) {
+            Ok(copy) => Ok(Some(copy)),
+            Err(_) => Err(KeepFault::OutOfMemory),
+        }
+    }
+
+    fn failures(&self) -> u64 {
+        self.failures
+    }
+}

@@ -1,0 +1,16 @@
+//! An arbiter in service: it answers the datagrams of a port (`serve`), over a record in a file (`FileKeeper`, `open_and_serve`).
+//!
+//! What it answers and what it records is `arbiter_core`'s; ports and files are those of `system_io`.
+//!
+//! Its tests stand in `checks`.
+#![tactic(auto)]
+
+mod file_keeper;
+mod heard;
+mod over_file;
+mod serving;
+
+pub use file_keeper::FileKeeper;
+pub use heard::verdict_or_none;
+pub use over_file::open_and_serve;
+pub use serving::serve;

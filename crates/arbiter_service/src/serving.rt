@@ -1,0 +1,180 @@
+//! An arbiter that answers the datagrams of a port.
+
+ghost use Rattle.std.specs.Prelude.{◌≡◌, [], cond, false, OnOk};
+ghost use Rattle.std.specs.List.{flat_map};
+ghost use Rattle.std.specs.Result.{result_map_both};
+ghost use Rattle.std.specs.Io.KnownBytes.{Appends};
+ghost use Rattle.arbiter_core.specs.Delivers.{IsKept, moment};
+ghost use Rattle.move_msg.specs.TextLines.{ended};
+ghost use Rattle.system_io.specs.Ports.{Passed};
+ghost use Rattle.arbiter_service.specs.ServedLines.{heard_line, refused_datagram, refused_keeper};
+ghost use Rattle.arbiter_service.specs.Serving.{Run, Serves, ServesRun, asked_first, handed, is_loss, scene};
+ghost use Rattle.arbiter_service.specs.Inside.Steps.{Hears, IsOneStep, status_by, stops};
+
+use crate::heard::Heard;
+use arbiter_core::{Arbiter, DeliverFault, Keeper};
+use move_msg::Message;
+use std::alloc::Global;
+use std::io::Write;
+use system_io::{Port, WriteFault};
+
+/// Whether a run goes on.
+#[derive(Clone, Copy)]
+pub(crate) enum Next {
+    /// The next datagram is awaited.
+    GoesOn,
+    /// The keeper or the port is lost.
+    Stops,
+}
+
+/// Sends a message. A send that fails is a loss, as on the way.
+fn send<P: Port>(port: &mut P, message: &Message)
+    ensures { Passed (P.facts port.old) (P.facts port.new) (handed (P.facts port.old).addresses message.now) }
+{
+    let _sent = port.send(&message.encode());
+}
+
+/// Sends messages, each once and in their order.
+fn send_all<P: Port>(port: &mut P, messages: &[Message])
+    ensures { Passed (P.facts port.old) (P.facts port.new) (flat_map (handed (P.facts port.old).addresses) messages.now) }
+{
+    for message in messages {
+        send(port, message);
+    }
+}
+
+/// The line for a refusal, and whether the run goes on after it.
+fn refusal(fault: DeliverFault) -> (Heard, Next)
+    ensures words { heard_line result.0 ≡ cond (is_loss fault) refused_keeper (refused_datagram fault) }
+    ensures stop { stops result.1 ≡ is_loss fault }
+{
+    match fault {
+        DeliverFault::KeeperFailed | DeliverFault::Down => (Heard::KeeperLost, Next::Stops),
+        _ => (Heard::Refused(fault), Next::GoesOn),
+    }
+}
+
+/// Delivers a datagram and sends what is answered; tells the line for it, and whether the run goes on.
+fn hear<K: Keeper, P: Port>(
+    alloc: Global,
+    arbiter: &mut Arbiter<'_>,
+    keeper: &mut K,
+    port: &mut P,
+    bytes: &[u8],
+) -> (Heard, Next)
+    requires { IsKept (K.facts.kept keeper.old) arbiter.old }
+    ensures hears { Hears K.facts (moment arbiter.old keeper.old) (moment arbiter.new keeper.new) (P.facts port.old) (P.facts port.new) bytes.now result.0 result.1 }
+    ensures keeps { IsKept (K.facts.kept keeper.new) arbiter.new }
+{
+    match arbiter.deliver(alloc, keeper, bytes) {
+        Ok(outputs) => {
+            send_all(port, outputs.as_slice());
+            (
+                Heard::Recorded(arbiter.count(), arbiter.verdict()),
+                Next::GoesOn,
+            )
+        }
+        Err(fault) => refusal(fault),
+    }
+}
+
+/// Receives a datagram and answers it; tells the line for it, and whether the run goes on.
+fn receive<K: Keeper, P: Port>(
+    alloc: Global,
+    arbiter: &mut Arbiter<'_>,
+    keeper: &mut K,
+    port: &mut P,
+) -> (Heard, Next)
+    requires { IsKept (K.facts.kept keeper.old) arbiter.old }
+    ensures run { (run : Run K) × ServesRun K.facts (moment arbiter.old keeper.old) (moment arbiter.new keeper.new) (P.facts port.old) (P.facts port.new) [] run × IsOneStep run result.0 result.1 }
+    ensures keeps { IsKept (K.facts.kept keeper.new) arbiter.new }
+{
+    let mut buffer = [0u8; 64];
+    match port.receive(&mut buffer) {
+        Ok(length) => hear(alloc, arbiter, keeper, port, &buffer[..length]),
+        Err(_) => (Heard::PortLost, Next::Stops),
+    }
+}
+
+/// Writes a line, and lets it go out at once.
+fn put_now<W: Write>(out: &mut W, line: &Heard) -> Result<(), WriteFault>
+    ensures { OnOk result (Appends (W.contents out.old) (W.contents out.new) (ended (heard_line line.now))) }
+{
+    let Ok(()) = writeln!(out, "{line}") else {
+        return Err(WriteFault::Io);
+    };
+    match out.flush() {
+        Ok(()) => Ok(()),
+        Err(_) => Err(WriteFault::Io),
+    }
+}
+
+/// Receives a datagram, answers it and writes the line for it; tells whether the run goes on.
+fn serve_one<K: Keeper, P: Port, W: Write>(
+    alloc: Global,
+    arbiter: &mut Arbiter<'_>,
+    keeper: &mut K,
+    port: &mut P,
+    out: &mut W,
+) -> Result<Next, WriteFault>
+    requires { IsKept (K.facts.kept keeper.old) arbiter.old }
+    ensures run { Serves K.facts 1 false (scene (moment arbiter.old keeper.old) (P.facts port.old) (W.contents out.old)) (scene (moment arbiter.new keeper.new) (P.facts port.new) (W.contents out.new)) (result_map_both status_by (λ e. e) result) }
+    ensures keeps { IsKept (K.facts.kept keeper.new) arbiter.new }
+{
+    let (line, next) = receive(alloc, arbiter, keeper, port);
+    match put_now(out, &line) {
+        Ok(()) => Ok(next),
+        Err(fault) => Err(fault),
+    }
+}
+
+/// Asks the other arbiter for moves, where that is wanted.
+fn ask_if<P: Port>(arbiter: &Arbiter<'_>, port: &mut P, fetch: bool)
+    ensures { Passed (P.facts port.old) (P.facts port.new) (asked_first (P.facts port.old).addresses fetch arbiter.now) }
+{
+    if fetch {
+        if let Some(message) = arbiter.ask() {
+            send(port, &message);
+        }
+    }
+}
+
+/// Receives so many datagrams, hands each to the arbiter in turn, and sends what it answers; tells the status, 0 where all came.
+///
+/// A line is written for each datagram, and goes out at once: `ok`, how many moves are recorded and the verdict or `none`, or else `refused` and
+/// why. Each message of an answer is handed to the port once for each
+/// address, in order, and one that isn't sent is lost, as it may be on its
+/// way. Where the keeper fails or has failed the line is `refused keeper`, and where no datagram can be received `refused
+/// port`; each ends the run with status 1. Where `fetch` is set, the arbiter's question for moves, if it has one, is sent once
+/// before the first datagram.
+///
+/// That the keeper keeps the arbiter's record while it runs is the caller's condition. The error comes only where the writer
+/// failed; what was delivered stays. It returns if each `receive` does.
+pub fn serve<K: Keeper, P: Port, W: Write>(
+    alloc: Global,
+    arbiter: &mut Arbiter<'_>,
+    keeper: &mut K,
+    port: &mut P,
+    n: u32,
+    fetch: bool,
+    out: &mut W,
+) -> Result<u8, WriteFault>
+    requires { IsKept (K.facts.kept keeper.old) arbiter.old }
+
+    // The arbiter has answered the datagrams in turn, all else at the port is what it sends to each address, and the lines and
+    // the status are those of this run.
+    ensures run { Serves K.facts n fetch (scene (moment arbiter.old keeper.old) (P.facts port.old) (W.contents out.old)) (scene (moment arbiter.new keeper.new) (P.facts port.new) (W.contents out.new)) result }
+
+    // A running arbiter's record is still the one that the keeper keeps.
+    ensures keeps { IsKept (K.facts.kept keeper.new) arbiter.new }
+{
+    ask_if(arbiter, port, fetch);
+    for _ in 0..n {
+        match serve_one(alloc, arbiter, keeper, port, out) {
+            Ok(Next::GoesOn) => {}
+            Ok(Next::Stops) => return Ok(1),
+            Err(fault) => return Err(fault),
+        }
+    }
+    Ok(0)
+}
