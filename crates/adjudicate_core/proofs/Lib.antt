@@ -1,0 +1,7 @@
+pub mod NameLaws
+pub mod TellLaws
+pub mod Clap
+pub mod TableLaws
+pub mod TextLaws
+pub mod ShowLaws
+pub mod ScheduleLaws

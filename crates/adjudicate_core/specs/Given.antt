@@ -1,0 +1,10 @@
+-- What a task is answered from (this project's own).
+use Rattle.std.specs.Prelude.{ℕ, List, Option}
+use Rattle.move_msg.specs.Files.{File}
+use Rattle.move_msg.specs.ToldManifests.{Told}
+
+-- the files of a folder in rising order of names, what the manifest tells, if one is named, and the input
+pub record Given : Type 0 where
+  pub files : List File
+  pub told : Option Told
+  pub input : List ℕ

@@ -1,0 +1,163 @@
+//! The program's words, its output and its status.
+
+ghost use Rattle.std.specs.Prelude.{◌≡◌, ◌≢◌, ◌⊎◌, drop, map, string_bytes, true, false, Ok, IfOk};
+ghost use Rattle.adjudicate_core.specs.declared.commands.Task.{Task};
+ghost use Rattle.adjudicate_core.specs.ToldLines.{refused_memory};
+ghost use Rattle.adjudicate_core.specs.Listens.{hosted};
+ghost use Rattle.adjudicate_core.specs.Running.{AnswersFrom, AnswersTask, Called, Runs, called_by, outside};
+ghost use Rattle.adjudicate_core.specs.Tasks.{IsTask, tells_progress};
+ghost use Rattle.adjudicate_core.specs.Telling.{TellsOne};
+
+use crate::answers::answer_task;
+use crate::commands::{Task, parse};
+use crate::host::Host;
+use crate::lines::put_refusal;
+use crate::listen::listen;
+use crate::places::places_of;
+use crate::refusals::Refusal;
+use crate::sources::Sources;
+use crate::usage::Usage;
+use std::alloc::{AllocError, Global};
+use std::io::Write;
+use system_io::{Disk, Input, ReadFault, WriteFault};
+
+/// What a misuse is told.
+const USAGE: &str = "usage: adjudicate judge [--tables DIR] [--manifest FILE] FEN
+       adjudicate moves FEN
+       adjudicate probe --tables DIR [--manifest FILE] FEN
+       adjudicate list DIR
+       adjudicate check --manifest FILE DIR
+       adjudicate show
+       adjudicate probes --tables DIR [--manifest FILE] [--progress]
+       adjudicate game [--tables DIR] [--manifest FILE] [--delay N] FEN
+       adjudicate run [--tables DIR] [--cache N] [--delay N]
+       adjudicate listen --name N --start FEN --tables DIR --me M --bind ADDR --to ADDR --kept FILE
+                         --datagrams N [--delay N] [--fetch]";
+
+/// Writes what a misuse is told; a failure changes nothing.
+fn put_usage<E: Write>(errors: &mut E) {
+    match writeln!(errors, "{USAGE}") {
+        Ok(()) => {}
+        Err(_) => {}
+    }
+}
+
+/// Answers a task from what was read for it.
+fn answer_given<H: Host, W: Write, E: Write>(
+    alloc: Global,
+    task: &Task,
+    sources: &Sources,
+    host: &H,
+    out: &mut W,
+    errors: &mut E,
+) -> Result<u8, WriteFault>
+    ensures quiet { tells_progress task.now ≡ false → errors.new ≡ errors.old }
+    ensures answered { IfOk result (AnswersFrom (hosted (H.binds host.now) (H.unbound host.now) (H.is_at host.now) H.Port.passed H.Port.faults H.File.unreadable H.File.finds) task.now sources.now (W.contents out.old) (W.contents out.new)) }
+{
+    match task {
+        Task::Listen(listening) => listen(alloc, listening, sources, host, out),
+        _ => answer_task(alloc, task, sources, out, errors),
+    }
+}
+
+/// Answers a task from what it reads.
+fn run_task<D: Disk, I: Input, H: Host, W: Write, E: Write>(
+    alloc: Global,
+    task: &Task,
+    disk: &D,
+    input: &I,
+    host: &H,
+    out: &mut W,
+    errors: &mut E,
+) -> Result<u8, WriteFault>
+    ensures quiet { tells_progress task.now ≡ false → errors.new ≡ errors.old }
+    ensures answered { IfOk result (AnswersTask (outside (D.facts disk.now) (I.facts input.now) (hosted (H.binds host.now) (H.unbound host.now) (H.is_at host.now) H.Port.passed H.Port.faults H.File.unreadable H.File.finds)) task.now (W.contents out.old) (W.contents out.new)) }
+{
+    let places = places_of(task);
+    match Sources::read(alloc, disk, input, &places) {
+        Ok(sources) => answer_given(alloc, task, &sources, host, out, errors),
+        Err(ReadFault::Unreadable) => put_refusal(out, Refusal::Files),
+        Err(ReadFault::OutOfMemory) => put_refusal(out, Refusal::Memory),
+    }
+}
+
+/// Runs the program on the words after its own name, and tells the status: 0 done, 1 refused, 2
+/// misuse.
+///
+/// All that a task names is read before anything is answered: its folder, of which the files of
+/// tables are looked at, its manifest, and for `show`, `run`, `probes` and `game` the input, to its end. What can't be read or
+/// has more than 2^30 bytes is told as `refused files`. Only `listen` opens a port and a kept file. Answers go to `out` and the text of a
+/// misuse to `errors`, as does how far `probes --progress` is; nothing else is written there, and its failure changes nothing. The error comes only where `out` failed.
+pub fn run<D: Disk, I: Input, H: Host, W: Write, E: Write>(
+    alloc: Global,
+    words: &[&str],
+    disk: &D,
+    input: &I,
+    host: &H,
+    out: &mut W,
+    errors: &mut E,
+) -> Result<u8, WriteFault>
+    ensures quiet { errors.new ≢ errors.old → (result ≡ Ok 2) ⊎ ((t : Task) × IsTask (map (λ w. w.now) words.now) t × (tells_progress t ≡ true)) }
+    ensures answered { IfOk result (Runs (outside (D.facts disk.now) (I.facts input.now) (hosted (H.binds host.now) (H.unbound host.now) (H.is_at host.now) H.Port.passed H.Port.faults H.File.unreadable H.File.finds)) (map (λ w. w.now) words.now) (W.contents out.old) (W.contents out.new)) }
+{
+    match parse(alloc, words) {
+        Ok(task) => run_task(alloc, &task, disk, input, host, out, errors),
+        Err(Usage::OutOfMemory) => put_refusal(out, Refusal::Memory),
+        Err(Usage::Misuse) => {
+            put_usage(errors);
+            Ok(2)
+        }
+    }
+}
+
+/// The words after the first.
+fn tail_of<'a>(alloc: Global, words: &'a [String]) -> Result<Vec<&'a str>, AllocError>
+    ensures { IfOk result (λ tail. map (λ w. w.now) tail.items ≡ drop 1 (map string_bytes words.now)) }
+{
+    match words {
+        [] => Ok(Vec::new(alloc)),
+        [_, others @ ..] => texts_of(alloc, others),
+    }
+}
+
+/// Words as texts.
+fn texts_of<'a>(alloc: Global, words: &'a [String]) -> Result<Vec<&'a str>, AllocError>
+    ensures { IfOk result (λ texts. map (λ w. w.now) texts.items ≡ map string_bytes words.now) }
+{
+    let mut texts = Vec::new(alloc);
+    for word in words {
+        texts.push(word.as_str())?;
+    }
+    Ok(texts)
+}
+
+/// Writes the line `refused memory`, and tells the status 1.
+pub fn refuse_memory<W: Write>(out: &mut W) -> Result<u8, WriteFault>
+    ensures { IfOk result (TellsOne refused_memory (W.contents out.old) (W.contents out.new)) }
+{
+    put_refusal(out, Refusal::Memory)
+}
+
+/// Runs the program on all words that it was called with, its own name first. Where they are no texts it runs on none, and
+/// where memory was refused for them, that is told.
+pub fn run_program<D: Disk, I: Input, H: Host, W: Write, E: Write>(
+    alloc: Global,
+    called: &Result<Vec<String>, Usage>,
+    disk: &D,
+    input: &I,
+    host: &H,
+    out: &mut W,
+    errors: &mut E,
+) -> Result<u8, WriteFault>
+    ensures { IfOk result (Called (outside (D.facts disk.now) (I.facts input.now) (hosted (H.binds host.now) (H.unbound host.now) (H.is_at host.now) H.Port.passed H.Port.faults H.File.unreadable H.File.finds)) (called_by called.now) (W.contents out.old) (W.contents out.new)) }
+{
+    let words = match called {
+        Ok(words) => tail_of(alloc, words),
+        Err(Usage::Misuse) => Ok(Vec::new(alloc)),
+        Err(Usage::OutOfMemory) => Err(AllocError),
+    };
+    match words {
+        Ok(words) => run(alloc, &words, disk, input, host, out, errors),
+        Err(_) => refuse_memory(out),
+    }
+}

@@ -1,0 +1,180 @@
+//! A host in memory: a port at which datagrams wait, and a kept file.
+
+ghost use Rattle.std.specs.Prelude.{◌≤◌, None, length, IfOk, IfSome, IfNone};
+ghost use Rattle.arbiter_core.specs.Keeping.{Risen};
+
+use adjudicate_core::{BindFault, Host};
+use arbiter_core::{KeptFile, Port, PortFault};
+use move_msg::{ReadFault, read_at_most};
+use std::alloc::{AllocError, Global};
+use std::io;
+
+/// A port at which datagrams wait; what is sent there goes nowhere.
+#[derive(Drop)]
+pub(crate) struct WaitingPort<'a> {
+    waiting: &'a [&'a [u8]],
+    failures: u64,
+}
+
+/// Puts the first 64 bytes of a datagram at the front of a buffer, and tells how many they are.
+fn fill(buffer: &mut [u8; 64], datagram: &[u8]) -> usize
+    ensures { result ≤ 64 }
+{
+    let length = datagram.len().min(64);
+    buffer[..length].copy_from_slice(&datagram[..length]);
+    length
+}
+
+impl<'a> WaitingPort<'a> {
+    /// The next datagram, or one more failure where none waits.
+    fn next(&mut self) -> Option<&'a [u8]>
+        ensures count { self.old.failures ≤ self.new.failures }
+        ensures risen { IfNone result (Risen self.old.failures self.new.failures) }
+    {
+        match self.waiting {
+            [] => {
+                self.failures = self.failures.saturating_add(1);
+                None
+            }
+            [first, others @ ..] => {
+                self.waiting = others;
+                Some(first)
+            }
+        }
+    }
+}
+
+impl<'a> Port for WaitingPort<'a> {
+    ghost passed = { λ _. None };
+
+    ghost faults = { λ p. p.failures };
+
+    fn receive(&mut self, buffer: &mut [u8; 64]) -> Result<usize, PortFault> {
+        match self.next() {
+            Some(datagram) => Ok(fill(buffer, datagram)),
+            None => Err(PortFault::Failed),
+        }
+    }
+
+    fn send(&mut self, _bytes: &[u8]) -> Result<(), PortFault> {
+        Ok(())
+    }
+
+    fn failures(&self) -> u64 {
+        self.failures
+    }
+}
+
+/// What stands under a name.
+#[derive(Clone, Copy)]
+pub(crate) enum Stands<'a> {
+    /// Nothing.
+    Nothing,
+    /// A file with these bytes.
+    Bytes(&'a [u8]),
+    /// Something that can't be read.
+    Unreadable,
+    /// A file in a folder that can't be synced.
+    Unsettled,
+}
+
+/// What is read of a file with these bytes.
+fn read_bytes(alloc: Global, bytes: &[u8]) -> Result<Option<Vec<u8>>, ReadFault>
+    ensures { IfOk result (λ got. IfSome got (λ v. length v.items ≤ 8217)) }
+{
+    match read_at_most(alloc, bytes, 0, 8217) {
+        Ok(bytes) => Ok(Some(bytes)),
+        Err(fault) => Err(fault),
+    }
+}
+
+impl<'a> KeptFile for Stands<'a> {
+    ghost reached = { λ _ _ _. Unit {0} };
+
+    ghost finds = { λ _ _ _. Unit {0} };
+
+    ghost settled = { λ _. Unit {0} };
+
+    ghost unreadable = { λ _. Unit {0} };
+
+    fn settle(&self) -> Result<(), ReadFault> {
+        match self {
+            Stands::Unsettled => Err(ReadFault::Unreadable),
+            _ => Ok(()),
+        }
+    }
+
+    fn read(&self, alloc: Global) -> Result<Option<Vec<u8>>, ReadFault> {
+        match self {
+            Stands::Bytes(bytes) => read_bytes(alloc, bytes),
+            Stands::Nothing => Ok(None),
+            Stands::Unreadable | Stands::Unsettled => Err(ReadFault::Unreadable),
+        }
+    }
+
+    fn write_beside(&mut self, _bytes: &[u8]) -> io::Result<()> {
+        Ok(())
+    }
+
+    fn sync_beside(&mut self) -> io::Result<()> {
+        Ok(())
+    }
+
+    fn rename(&mut self) -> io::Result<()> {
+        Ok(())
+    }
+
+    fn sync_folder(&mut self) -> io::Result<()> {
+        Ok(())
+    }
+}
+
+/// A host whose address can be bound if it is so said, at which these datagrams wait, and under whose paths this stands.
+#[derive(Clone, Copy)]
+pub(crate) struct MemoryHost<'a> {
+    pub(crate) is_bound: bool,
+    pub(crate) waiting: &'a [&'a [u8]],
+    pub(crate) stands: Stands<'a>,
+}
+
+impl<'a> MemoryHost<'a> {
+    /// One whose address can't be bound.
+    pub(crate) fn unbound() -> MemoryHost<'a> {
+        MemoryHost {
+            is_bound: false,
+            waiting: &[],
+            stands: Stands::Unreadable,
+        }
+    }
+}
+
+impl<'a> Host for MemoryHost<'a> {
+    type Port = WaitingPort<'a>;
+
+    type File = Stands<'a>;
+
+    ghost binds = { λ _ _ _ _. Unit {0} };
+
+    ghost unbound = { λ _ _. Unit {0} };
+
+    ghost is_at = { λ _ _ _. Unit {0} };
+
+    fn bind(
+        &self,
+        _alloc: Global,
+        _address: &str,
+        _to: &str,
+    ) -> Result<WaitingPort<'a>, BindFault> {
+        if !self.is_bound {
+            return Err(BindFault::Unbound);
+        }
+        Ok(WaitingPort {
+            waiting: self.waiting,
+            failures: 0,
+        })
+    }
+
+    fn file(&self, _alloc: Global, _path: &str) -> Result<Stands<'a>, AllocError> {
+        Ok(self.stands)
+    }
+}
