@@ -12,23 +12,20 @@ fn words_of(rt: &HostRuntime) -> Result<Vec<String>, Usage> {
     Ok(env::args(rt)?.collect(rt.alloc())?)
 }
 
-/// Runs the program and tells its status, 1 where the output can't be written. Its lines are gathered before they are written.
-fn status_of(rt: &HostRuntime) -> u8 {
-    let Ok(mut out) = BufWriter::new(rt.alloc(), io::writer(rt)) else {
-        return refuse_memory(&mut io::writer(rt)).unwrap_or(1);
+/// Runs the program, and ends with its status, 1 where the output can't be written. Its lines are gathered before they are
+/// written.
+fn main(rt: HostRuntime) -> ExitCode {
+    let Ok(mut out) = BufWriter::new(rt.alloc(), io::writer(&rt)) else {
+        return ExitCode::from(refuse_memory(&mut io::writer(&rt)).unwrap_or(1));
     };
     let answered = run_program(
         rt.alloc(),
-        &words_of(rt),
-        &SystemDisk::new(rt),
-        &SystemInput::new(rt),
-        &SystemHost::new(rt),
+        &words_of(&rt),
+        &SystemDisk::new(&rt),
+        &SystemInput::new(&rt),
+        &SystemHost::new(&rt),
         &mut out,
         &mut rt.stderr(),
     );
-    end(&mut out, answered)
-}
-
-fn main(rt: HostRuntime) -> ExitCode {
-    ExitCode::from(status_of(&rt))
+    ExitCode::from(end(&mut out, answered))
 }

@@ -8,7 +8,7 @@ use Rattle.adjudicate_core.specs.declared.usage.Usage.TheVariants.{Misuse, OutOf
 use Rattle.adjudicate_core.specs.declared.commands.Name.{Name}
 use Rattle.adjudicate_core.specs.declared.commands.Name.TheVariants as name
 use Rattle.adjudicate_core.specs.Usage.{usage_of}
-use Rattle.adjudicate_core.specs.Commands.{app_for}
+use Rattle.adjudicate_core.specs.Tasks.{app_for}
 
 pub is_taken_for_memory : (kinds : Kinds) (e : Error) → HasKind kinds e → kinds ≡ [] → usage_of (kind_of e) ≡ Misuse → ⊥
 is_taken_for_memory kinds e h none is =

@@ -1,5 +1,6 @@
 pub mod NameLaws
 pub mod TellLaws
+pub mod AnswerLaws
 pub mod Clap
 pub mod TableLaws
 pub mod TextLaws

@@ -10,7 +10,8 @@ use Rattle.move_msg.specs.Streams.{BeginsBy, EndsSo, AfterMessage, Cut, AtFault}
 use Rattle.move_msg.specs.TextLines.{ended, text_of}
 use Rattle.move_msg.specs.MessageWords.{message_words}
 use Rattle.adjudicate_core.specs.Lines.{refused_message}
-use Rattle.adjudicate_core.specs.Reply.{IsShown, Reply, WritesReply, shown}
+use Rattle.adjudicate_core.specs.Commands.Show.{IsShown, shown}
+use Rattle.adjudicate_core.specs.Reply.{Reply, WritesReply}
 use Rattle.move_msg.proofs.LineLaws.{more_lines}
 
 -- the lines of some messages were written, and the rest of the stream is left

@@ -7,7 +7,8 @@ use Rattle.std.proofs.lemmas.List.Folds.{list_all-map, list_all_more}
 use Rattle.judge_core.specs.Tables.{Tables}
 use Rattle.move_msg.specs.TextLines.{text_of}
 use Rattle.adjudicate_core.specs.Looks.{Found, Look, ◌>>=◌, are_tables, look_line, tables_from, with_found}
-use Rattle.adjudicate_core.specs.Reply.{checked, status_if}
+use Rattle.adjudicate_core.specs.Commands.Check.{checked}
+use Rattle.adjudicate_core.specs.Reply.{status_if}
 
 -- one look more
 one_more : (tables more : Tables) (look : Look) (looks : List Look) → with_found tables look.name look.found ≡ Ok more → tables_from tables (look ∷ looks) ≡ tables_from more looks

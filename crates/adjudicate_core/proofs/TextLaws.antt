@@ -11,7 +11,8 @@ use Rattle.fen_text.specs.Coordinates.{move_text}
 use Rattle.fen_text.specs.Fen.{IsFirstFenFault, SpellsPosition}
 use Rattle.move_msg.specs.TextLines.{text_of}
 use Rattle.adjudicate_core.specs.Lines.{refused_fen}
-use Rattle.adjudicate_core.specs.Reply.{ForNone, ForPosition, IsForText, IsMoves, IsText, Reply, moves_at, refused}
+use Rattle.adjudicate_core.specs.Reply.{ForNone, ForPosition, IsForText, IsText, Reply, refused}
+use Rattle.adjudicate_core.specs.Commands.Moves.{IsMoves, moves_at}
 
 -- that of a text that is none, by its bytes
 pub for_none : (bytes text : List ℕ) (IsAnswer : Parts → Reply → Type 0) (fault : FenFault) → bytes ≡ text → IsFirstFenFault bytes fault → IsForText text IsAnswer (refused (refused_fen fault))

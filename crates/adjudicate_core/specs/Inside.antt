@@ -3,5 +3,4 @@ pub mod Asked
 pub mod Fronts
 pub mod ListeningParts
 pub mod Placing
-pub mod ProbeSteps
 pub mod Refusals

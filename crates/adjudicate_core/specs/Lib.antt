@@ -4,16 +4,15 @@ pub mod Given
 pub mod Sources
 pub mod ToldLines
 pub mod Numbers
+pub mod Rules
 pub mod Commands
 pub mod Tasks
 pub mod Usage
 pub mod Lines
-pub mod Reads
 pub mod Looks
 pub mod Schedules
 pub mod Reply
 pub mod Telling
 pub mod Running
-pub mod Listenings
 pub mod Listens
 pub mod Inside

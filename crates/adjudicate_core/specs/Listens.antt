@@ -13,7 +13,7 @@ use Rattle.arbiter_core.specs.declared.fault.OpenFault.TheVariants.{BadSetup, Ke
 use Rattle.arbiter_core.specs.OverFiles.{IsOpened, ServesOpened}
 use Rattle.arbiter_core.specs.Setups.{SetupView}
 use Rattle.arbiter_core.specs.declared.file_keeper.FileKeeper.{FileKeeper}
-use Rattle.adjudicate_core.specs.declared.listening.Listening.{Listening}
+use Rattle.adjudicate_core.specs.declared.commands.listen.Listen.{Listen}
 use Rattle.adjudicate_core.specs.Given.{Given}
 use Rattle.arbiter_core.specs.KeptFiles.{Finds}
 use Rattle.arbiter_core.specs.ServedLines.{refused_keeper, refused_port}
@@ -26,7 +26,7 @@ use Rattle.arbiter_core.specs.StoredBytes.{IsInFile, file_of}
 use Rattle.adjudicate_core.specs.Telling.{TellsOne}
 
 -- the setup of the arbiter
-abbrev pub setup_for : Listening → Parts → Holding → List ℕ → SetupView
+abbrev pub setup_for : Listen → Parts → Holding → List ℕ → SetupView
 setup_for l start set manifest = record { name = l.name.now; start = start; manifest = manifest; me = who_number l.me; delay = l.delay; set = set }
 
 -- what is told where no arbiter is opened
@@ -61,31 +61,31 @@ hosted binds unbound is_at passed faults unreadable finds =
 
 -- an arbiter is opened over the keeper and serves the datagrams, and between any two of them its record is in the file; or it
 -- isn't opened, and nothing is served; the keeper is left so
-pub data OpensAndServes {F : Type 0} (finds : Finds F) (l : Listening) (setup : SetupView) (before after : FileKeeper F) (port port' : AtPort) (old new : Option (List ℕ)) (status : ℕ) : Type 0 where
+pub data OpensAndServes {F : Type 0} (finds : Finds F) (l : Listen) (setup : SetupView) (before after : FileKeeper F) (port port' : AtPort) (old new : Option (List ℕ)) (status : ℕ) : Type 0 where
   Served : ServesOpened finds setup l.datagrams l.fetch before after port port' old new (Ok status) → OpensAndServes finds l setup before after port port' old new status
   Unopened : (fault : OpenFault) → IsOpened finds setup before after (Err fault) → NothingPassed port port' → TellsUnopened fault old new status → OpensAndServes finds l setup before after port port' old new status
 
 -- over the file in which the record is kept: it can't be read; or an arbiter is opened over a keeper of this file, which has
 -- stored what a start finds there
-pub data KeepsAndServes {F : Type 0} (unreadable : F → Type 0) (finds : Finds F) (l : Listening) (setup : SetupView) (file : F) (port port' : AtPort) (old new : Option (List ℕ)) (status : ℕ) : Type 0 where
+pub data KeepsAndServes {F : Type 0} (unreadable : F → Type 0) (finds : Finds F) (l : Listen) (setup : SetupView) (file : F) (port port' : AtPort) (old new : Option (List ℕ)) (status : ℕ) : Type 0 where
   Unreadable : unreadable file → NothingPassed port port' → TellsOne refused_keeper old new status → KeepsAndServes unreadable finds l setup file port port' old new status
   NoRoomToKeep : NothingPassed port port' → TellsOne refused_memory old new status → KeepsAndServes unreadable finds l setup file port port' old new status
   Kept : (keeper after : FileKeeper F) → file_of keeper ≡ file → IsInFile finds keeper → OpensAndServes finds l setup keeper after port port' old new status → KeepsAndServes unreadable finds l setup file port port' old new status
 
 -- at a port, over the file at the path of the words
-pub data ServesAt {P F : Type 0} (host : Hosted P F) (l : Listening) (setup : SetupView) (port port' : AtPort) (old new : Option (List ℕ)) (status : ℕ) : Type 0 where
+pub data ServesAt {P F : Type 0} (host : Hosted P F) (l : Listen) (setup : SetupView) (port port' : AtPort) (old new : Option (List ℕ)) (status : ℕ) : Type 0 where
   AtFile : (file : F) → host.is_at l.kept.now file → KeepsAndServes host.unreadable host.finds l setup file port port' old new status → ServesAt host l setup port port' old new status
   NoRoomForFile : NothingPassed port port' → TellsOne refused_memory old new status → ServesAt host l setup port port' old new status
 
 -- with these tables: the port can't be bound; or it is, and the record is kept in the file at the path
-pub data BindsAndServes {P F : Type 0} (host : Hosted P F) (l : Listening) (setup : SetupView) (old new : Option (List ℕ)) (status : ℕ) : Type 0 where
+pub data BindsAndServes {P F : Type 0} (host : Hosted P F) (l : Listen) (setup : SetupView) (old new : Option (List ℕ)) (status : ℕ) : Type 0 where
   Unbound : host.unbound l.bind.now → TellsOne refused_port old new status → BindsAndServes host l setup old new status
   NoRoomToBind : TellsOne refused_memory old new status → BindsAndServes host l setup old new status
   Bound : (port port' : P) → host.binds l.bind.now l.to.now port → ServesAt host l setup (at_port host.passed host.faults port) (at_port host.passed host.faults port') old new status → BindsAndServes host l setup old new status
 
 -- listening: the text of the start is no position; or else a table is refused; or else what follows, with the manifest of the
 -- tables' files
-pub data Listens {P F : Type 0} (host : Hosted P F) (l : Listening) (given : Given) (old new : Option (List ℕ)) (status : ℕ) : Type 0 where
+pub data Listens {P F : Type 0} (host : Hosted P F) (l : Listen) (given : Given) (old new : Option (List ℕ)) (status : ℕ) : Type 0 where
   BadStart : (fault : FenFault) → IsFirstFenFault l.start.now fault → TellsOne (refused_fen fault) old new status → Listens host l given old new status
   BadTables : IsText l.start.now → (words : List ℕ) → gathered given ≡ Err words → TellsOne words old new status → Listens host l given old new status
   NoRoom : IsText l.start.now → TellsOne refused_memory old new status → Listens host l given old new status

@@ -4,8 +4,7 @@ use Rattle.std.specs.Global.{Global}
 use Rattle.system_io.specs.Disks.{DiskFacts}
 use Rattle.system_io.specs.Inputs.{InputFacts}
 use Rattle.adjudicate_core.specs.declared.commands.Task.{Task}
-use Rattle.adjudicate_core.specs.declared.commands.Task.TheVariants.{Listen}
-use Rattle.adjudicate_core.specs.declared.listening.Listening.{Listening}
+use Rattle.adjudicate_core.specs.declared.commands.Task.TheVariants as task
 use Rattle.adjudicate_core.specs.declared.usage.Usage.{Usage}
 use Rattle.adjudicate_core.specs.declared.usage.Usage.TheVariants.{Misuse}
 use Rattle.adjudicate_core.specs.Given.{Given}
@@ -13,10 +12,18 @@ use Rattle.adjudicate_core.specs.ToldLines.{refused_memory}
 use Rattle.adjudicate_core.specs.Lines.{refused_files}
 use Rattle.adjudicate_core.specs.Listens.{Hosted, Listens}
 use Rattle.adjudicate_core.specs.Sources.{CannotRead, IsGiven, reads_some}
-use Rattle.adjudicate_core.specs.Reads.{named_in}
-use Rattle.adjudicate_core.specs.Reply.{Answers}
+use Rattle.adjudicate_core.specs.Commands.Judge as judges
+use Rattle.adjudicate_core.specs.Commands.Probe as probes
+use Rattle.adjudicate_core.specs.Commands.Moves as of_moves
+use Rattle.adjudicate_core.specs.Commands.List as lists
+use Rattle.adjudicate_core.specs.Commands.Check as checks
+use Rattle.adjudicate_core.specs.Commands.Show as shows
+use Rattle.adjudicate_core.specs.Commands.Run as runs
+use Rattle.adjudicate_core.specs.Commands.Game as games
+use Rattle.adjudicate_core.specs.Commands.Probes.{PutsProbes}
+use Rattle.adjudicate_core.specs.Reply.{AnswersOnce, IsText}
 use Rattle.adjudicate_core.specs.Telling.{TellsOne}
-use Rattle.adjudicate_core.specs.Tasks.{IsTask, IsMisuse, NamesNone}
+use Rattle.adjudicate_core.specs.Tasks.{IsTask, IsMisuse, NamesNone, named_in}
 
 -- what is outside of the program: its disk, its input, and the host of its ports and files
 pub record Outside (P F : Type 0) : Type 1 where
@@ -27,10 +34,19 @@ pub record Outside (P F : Type 0) : Type 1 where
 abbrev pub outside : {P F : Type 0} → DiskFacts → InputFacts → Hosted P F → Outside P F
 outside disk source host = record { disk = disk; source = source; host = host }
 
--- from what was read for a task the program answers, or it listens
-pub data AnswersFrom {P F : Type 0} (host : Hosted P F) (t : Task) (given : Given) (old new : Option (List ℕ)) (status : ℕ) : Type 0 where
-  Answered : Answers t given old new status → AnswersFrom host t given old new status
-  Listened : (l : Listening) → t ≡ Listen l → Listens host l given old new status → AnswersFrom host t given old new status
+-- what the program answers to a task from what was read for it: `judge`, `probe`, `moves`, `game` take memory for a text that
+-- is a position, `list`, `check` and `run` always, and `show` never
+abbrev pub AnswersFrom : {P F : Type 0} → Hosted P F → Task → Given → Option (List ℕ) → Option (List ℕ) → ℕ → Type 0
+AnswersFrom host (task.Judge t) given old new status = AnswersOnce (judges.IsReply t given) (IsText t.fen.now) old new status
+AnswersFrom host (task.Probe t) given old new status = AnswersOnce (probes.IsReply t given) (IsText t.fen.now) old new status
+AnswersFrom host (task.Moves t) given old new status = AnswersOnce (of_moves.IsReply t) (IsText t.fen.now) old new status
+AnswersFrom host (task.List t) given old new status = AnswersOnce (lists.IsReply given) (Unit {0}) old new status
+AnswersFrom host (task.Check t) given old new status = AnswersOnce (checks.IsReply given) (Unit {0}) old new status
+AnswersFrom host (task.Show t) given old new status = shows.Answers given old new status
+AnswersFrom host (task.Run t) given old new status = AnswersOnce (runs.IsReply t given) (Unit {0}) old new status
+AnswersFrom host (task.Listen t) given old new status = Listens host t given old new status
+AnswersFrom host (task.Probes t) given old new status = PutsProbes given old new status
+AnswersFrom host (task.Game t) given old new status = AnswersOnce (games.IsReply t given) (IsText t.fen.now) old new status
 
 -- to a task the program answers from what it reads; or something that it reads for it can't be read; or memory was refused while
 -- it read

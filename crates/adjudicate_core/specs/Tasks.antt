@@ -1,14 +1,122 @@
--- What a task says of the words that it was read from (this project's own commands).
-use Rattle.std.specs.Prelude.{◌≡◌, ◌⊎◌, ℕ, Bool, false, List, [], Option, Some, None, codes, option_map, slice_get}
-use Rattle.clap.specs.Words.{App, Text}
-use Rattle.adjudicate_core.specs.Commands.{app_for, fault_in, value_in, word_of}
-use Rattle.adjudicate_core.specs.Listenings.{IsListening}
-use Rattle.adjudicate_core.specs.Numbers.{IsCache, IsDelay, is_set}
-use Rattle.adjudicate_core.specs.declared.listening.Listening.{Listening}
+-- Commands and tasks: a list for each thing that the program asks of a command (this project's own).
+use Rattle.std.specs.Prelude.{◌≡◌, ◌⊎◌, Bool, false, List, [], Option, Some, None, codes, slice_get}
+use Rattle.clap.specs.Words.{App, Rule, Text, new_app}
+use Rattle.adjudicate_core.specs.Rules.{fault_in, value_in, with_rules}
+use Rattle.adjudicate_core.specs.Sources.{Named}
+use Rattle.adjudicate_core.specs.Commands.Judge as judges
+use Rattle.adjudicate_core.specs.Commands.Probe as probes
+use Rattle.adjudicate_core.specs.Commands.Moves as of_moves
+use Rattle.adjudicate_core.specs.Commands.List as lists
+use Rattle.adjudicate_core.specs.Commands.Check as checks
+use Rattle.adjudicate_core.specs.Commands.Show as shows
+use Rattle.adjudicate_core.specs.Commands.Run as runs
+use Rattle.adjudicate_core.specs.Commands.Listen as listens
+use Rattle.adjudicate_core.specs.Commands.Probes as of_probes
+use Rattle.adjudicate_core.specs.Commands.Game as games
 use Rattle.adjudicate_core.specs.declared.commands.Name.{Name}
 use Rattle.adjudicate_core.specs.declared.commands.Name.TheVariants as name
 use Rattle.adjudicate_core.specs.declared.commands.Task.{Task}
 use Rattle.adjudicate_core.specs.declared.commands.Task.TheVariants as task
+
+-- ---- by the command
+
+-- the word that names it
+abbrev pub word_of : Name → Text
+word_of name.Judge = codes "judge"
+word_of name.Probe = codes "probe"
+word_of name.Moves = codes "moves"
+word_of name.List = codes "list"
+word_of name.Check = codes "check"
+word_of name.Show = codes "show"
+word_of name.Run = codes "run"
+word_of name.Listen = codes "listen"
+word_of name.Probes = codes "probes"
+word_of name.Game = codes "game"
+
+-- what it is given
+abbrev pub rules_of : Name → List Rule
+rules_of name.Judge = judges.rules
+rules_of name.Probe = probes.rules
+rules_of name.Moves = of_moves.rules
+rules_of name.List = lists.rules
+rules_of name.Check = checks.rules
+rules_of name.Show = shows.rules
+rules_of name.Run = runs.rules
+rules_of name.Listen = listens.rules
+rules_of name.Probes = of_probes.rules
+rules_of name.Game = games.rules
+
+-- an argument that it needs has no value, or a number is none that it takes
+abbrev pub Lacks : (Text → Option Text) → Name → Type 0
+Lacks value name.Judge = judges.Lacks value
+Lacks value name.Probe = probes.Lacks value
+Lacks value name.Moves = of_moves.Lacks value
+Lacks value name.List = lists.Lacks value
+Lacks value name.Check = checks.Lacks value
+Lacks value name.Show = shows.Lacks value
+Lacks value name.Run = runs.Lacks value
+Lacks value name.Listen = listens.Lacks value
+Lacks value name.Probes = of_probes.Lacks value
+Lacks value name.Game = games.Lacks value
+
+-- ---- by the task
+
+abbrev pub name_of : Task → Name
+name_of (task.Judge t) = name.Judge
+name_of (task.Probe t) = name.Probe
+name_of (task.Moves t) = name.Moves
+name_of (task.List t) = name.List
+name_of (task.Check t) = name.Check
+name_of (task.Show t) = name.Show
+name_of (task.Run t) = name.Run
+name_of (task.Listen t) = name.Listen
+name_of (task.Probes t) = name.Probes
+name_of (task.Game t) = name.Game
+
+-- it has these values of its command's arguments
+abbrev pub HasValues : (Text → Option Text) → Task → Type 0
+HasValues value (task.Judge t) = judges.HasValues value t
+HasValues value (task.Probe t) = probes.HasValues value t
+HasValues value (task.Moves t) = of_moves.HasValues value t
+HasValues value (task.List t) = lists.HasValues value t
+HasValues value (task.Check t) = checks.HasValues value t
+HasValues value (task.Show t) = Unit {0}
+HasValues value (task.Run t) = runs.HasValues value t
+HasValues value (task.Listen t) = listens.IsListening value t
+HasValues value (task.Probes t) = of_probes.HasValues value t
+HasValues value (task.Game t) = games.HasValues value t
+
+-- what is read for it
+abbrev pub named_in : Task → Named
+named_in (task.Judge t) = judges.named t
+named_in (task.Probe t) = probes.named t
+named_in (task.Moves t) = of_moves.named t
+named_in (task.List t) = lists.named t
+named_in (task.Check t) = checks.named t
+named_in (task.Show t) = shows.named
+named_in (task.Run t) = runs.named t
+named_in (task.Listen t) = listens.named t
+named_in (task.Probes t) = of_probes.named t
+named_in (task.Game t) = games.named t
+
+-- how far it is, is told on the way
+abbrev pub tells_progress : Task → Bool
+tells_progress (task.Judge t) = false
+tells_progress (task.Probe t) = false
+tells_progress (task.Moves t) = false
+tells_progress (task.List t) = false
+tells_progress (task.Check t) = false
+tells_progress (task.Show t) = false
+tells_progress (task.Run t) = false
+tells_progress (task.Listen t) = false
+tells_progress (task.Probes t) = t.progress
+tells_progress (task.Game t) = false
+
+-- ---- words
+
+-- the command as the parser reads it
+unfoldable pub app_for : Name → App
+app_for name = with_rules (new_app (word_of name)) (rules_of name)
 
 -- the command takes the words
 abbrev pub IsTaken : App → List Text → Type 0
@@ -22,91 +130,11 @@ Names words name = slice_get words 0 ≡ Some (word_of name)
 abbrev pub NamesNone : List Text → Type 0
 NamesNone words = (name : Name) → Names words name → ⊥
 
-abbrev pub name_of : Task → Name
-name_of (task.Judge tables manifest fen) = name.Judge
-name_of (task.Probe tables manifest fen) = name.Probe
-name_of (task.Moves fen) = name.Moves
-name_of (task.List folder) = name.List
-name_of (task.Check manifest folder) = name.Check
-name_of task.Show = name.Show
-name_of (task.Run tables cache delay) = name.Run
-name_of (task.Listen l) = name.Listen
-name_of (task.Game tables manifest delay fen) = name.Game
-name_of (task.Probes tables manifest progress) = name.Probes
-
--- how the lines for a task are written: all at once, each as it is made, or while datagrams are answered
-pub data Way : Type 0 where
-  AtOnce : Way
-  AsMade : Way
-  AtPort : Way
-
-abbrev pub way_of : Task → Way
-way_of (task.Judge tables manifest fen) = AtOnce
-way_of (task.Probe tables manifest fen) = AtOnce
-way_of (task.Moves fen) = AtOnce
-way_of (task.List folder) = AtOnce
-way_of (task.Check manifest folder) = AtOnce
-way_of task.Show = AsMade
-way_of (task.Run tables cache delay) = AtOnce
-way_of (task.Listen l) = AtPort
-way_of (task.Game tables manifest delay fen) = AtOnce
-way_of (task.Probes tables manifest progress) = AsMade
-
--- how far it is, is told on the way
-abbrev pub tells_progress : Task → Bool
-tells_progress (task.Judge tables manifest fen) = false
-tells_progress (task.Probe tables manifest fen) = false
-tells_progress (task.Moves fen) = false
-tells_progress (task.List folder) = false
-tells_progress (task.Check manifest folder) = false
-tells_progress task.Show = false
-tells_progress (task.Run tables cache delay) = false
-tells_progress (task.Listen l) = false
-tells_progress (task.Game tables manifest delay fen) = false
-tells_progress (task.Probes tables manifest progress) = progress
-
--- the task has these values of its command's arguments
-abbrev pub HasValues : (Text → Option Text) → Task → Type 0
-HasValues value (task.Judge tables manifest fen) =
-    (option_map (λ s. s.now) tables ≡ value (codes "tables")) × (option_map (λ s. s.now) manifest ≡ value (codes "manifest"))
-    × (Some fen.now ≡ value (codes "FEN"))
-HasValues value (task.Probe tables manifest fen) =
-    (Some tables.now ≡ value (codes "tables")) × (option_map (λ s. s.now) manifest ≡ value (codes "manifest"))
-    × (Some fen.now ≡ value (codes "FEN"))
-HasValues value (task.Moves fen) = Some fen.now ≡ value (codes "FEN")
-HasValues value (task.List folder) = Some folder.now ≡ value (codes "DIR")
-HasValues value (task.Check manifest folder) =
-    (Some manifest.now ≡ value (codes "manifest")) × (Some folder.now ≡ value (codes "DIR"))
-HasValues value task.Show = Unit {0}
-HasValues value (task.Run tables cache delay) =
-    (option_map (λ s. s.now) tables ≡ value (codes "tables")) × IsCache (value (codes "cache")) cache × IsDelay (value (codes "delay")) delay
-HasValues value (task.Listen l) = IsListening value l
-HasValues value (task.Probes tables manifest progress) =
-    (Some tables.now ≡ value (codes "tables")) × (option_map (λ s. s.now) manifest ≡ value (codes "manifest"))
-    × (progress ≡ is_set (value (codes "progress")))
-HasValues value (task.Game tables manifest delay fen) =
-    (option_map (λ s. s.now) tables ≡ value (codes "tables")) × (option_map (λ s. s.now) manifest ≡ value (codes "manifest"))
-    × IsDelay (value (codes "delay")) delay × (Some fen.now ≡ value (codes "FEN"))
-
 -- the words name the task's command, which takes them and gives the task's values
 pub record IsTask (words : List Text) (t : Task) : Type 0 where
   pub named : Names words (name_of t)
   pub taken : IsTaken (app_for (name_of t)) words
   pub values : HasValues (value_in (app_for (name_of t)) words) t
-
--- a needed argument of the command has no value, or a number is none that the command takes
-abbrev pub Lacks : (Text → Option Text) → Name → Type 0
-Lacks value name.Judge = value (codes "FEN") ≡ None
-Lacks value name.Probe = (value (codes "tables") ≡ None) ⊎ (value (codes "FEN") ≡ None)
-Lacks value name.Moves = value (codes "FEN") ≡ None
-Lacks value name.List = value (codes "DIR") ≡ None
-Lacks value name.Check = (value (codes "manifest") ≡ None) ⊎ (value (codes "DIR") ≡ None)
-Lacks value name.Show = ⊥
-Lacks value name.Run =
-    ((blocks : ℕ) → IsCache (value (codes "cache")) blocks → ⊥) ⊎ ((plies : ℕ) → IsDelay (value (codes "delay")) plies → ⊥)
-Lacks value name.Listen = (l : Listening) → IsListening value l → ⊥
-Lacks value name.Probes = value (codes "tables") ≡ None
-Lacks value name.Game = (value (codes "FEN") ≡ None) ⊎ ((plies : ℕ) → IsDelay (value (codes "delay")) plies → ⊥)
 
 -- the values are read as this task of the command, or as none where they lack one that it needs, or a number that it takes
 abbrev pub IsReadAs : Name → (Text → Option Text) → Option Task → Type 0

@@ -1,12 +1,34 @@
-//! Command lines, as tasks.
+//! The commands: their names, and command lines as tasks. Each command has a file of its own in `commands/`.
 
-ghost use Rattle.std.specs.Prelude.{◌≡◌, List, [], map, true, false, IfOk, IfErr, IfSome, IfNone, Err, Option};
-ghost use Rattle.clap.specs.Words.{app_of, is_simple_and_free, found_of, first_value, rule_of, with_rule};
-ghost use Rattle.adjudicate_core.specs.Commands.{app_for, rule_of_value, rules_of, value_in, word_of};
-ghost use Rattle.adjudicate_core.specs.Tasks.{IsReadAs, IsTask, IsMisuse, IsTaken, Names, NamesNone};
+ghost use Rattle.std.specs.Prelude.{◌≡◌, [], map, true, false, IfOk, IfErr, IfSome, IfNone, Err, Option};
+ghost use Rattle.clap.specs.Words.{Text, app_of, is_simple_and_free, found_of, first_value, rule_of, with_rule};
+ghost use Rattle.adjudicate_core.specs.Rules.{rule_of_value, value_in};
+ghost use Rattle.adjudicate_core.specs.Sources.{named_by};
+ghost use Rattle.adjudicate_core.specs.Tasks.{IsReadAs, IsTask, IsMisuse, IsTaken, Names, NamesNone, app_for, named_in, rules_of, word_of};
 
-use crate::listening::Listening;
-use crate::numbers::{CacheSize, Delay, is_set};
+mod check;
+mod game;
+mod judge;
+mod list;
+mod listen;
+mod moves;
+mod probe;
+mod probes;
+mod run;
+mod show;
+
+pub use check::Check;
+pub use game::Game;
+pub use judge::Judge;
+pub use list::List;
+pub use listen::Listen;
+pub use moves::Moves;
+pub use probe::Probe;
+pub use probes::Probes;
+pub use run::Run;
+pub use show::Show;
+
+use crate::sources::Places;
 use crate::usage::Usage;
 use clap::{Arg, ArgAction, ArgMatches, Command};
 use std::alloc::{AllocError, Global};
@@ -15,73 +37,25 @@ use std::alloc::{AllocError, Global};
 #[derive(Drop)]
 pub enum Task<'a> {
     /// The verdict of a position.
-    Judge {
-        /// The folder of the tables, if one is named.
-        tables: Option<&'a str>,
-        /// The file of the manifest that the tables are held to, if one is named.
-        manifest: Option<&'a str>,
-        /// The position's FEN text.
-        fen: &'a str,
-    },
+    Judge(Judge<'a>),
     /// What the tables say of a position.
-    Probe {
-        /// The folder of the tables.
-        tables: &'a str,
-        /// The file of the manifest that the tables are held to, if one is named.
-        manifest: Option<&'a str>,
-        /// The position's FEN text.
-        fen: &'a str,
-    },
+    Probe(Probe<'a>),
     /// The legal moves of a position.
-    Moves {
-        /// The position's FEN text.
-        fen: &'a str,
-    },
+    Moves(Moves<'a>),
     /// The manifest of the tables in a folder.
-    List {
-        /// The folder.
-        folder: &'a str,
-    },
+    List(List<'a>),
     /// Whether the tables in a folder are those of a manifest.
-    Check {
-        /// The file of the manifest.
-        manifest: &'a str,
-        /// The folder.
-        folder: &'a str,
-    },
+    Check(Check<'a>),
     /// The messages of the input.
-    Show,
+    Show(Show),
     /// What becomes of two arbiters under the schedule of the input.
-    Run {
-        /// The folder of the tables, if one is named.
-        tables: Option<&'a str>,
-        /// How many decoded blocks the cache of each arbiter may have.
-        cache: CacheSize,
-        /// For how many further plies a verdict by tables must hold.
-        delay: Delay,
-    },
+    Run(Run<'a>),
     /// An arbiter that answers datagrams.
-    Listen(Listening<'a>),
+    Listen(Listen<'a>),
     /// What tables tell of the positions of the input.
-    Probes {
-        /// The folder of the tables.
-        tables: &'a str,
-        /// The file of the manifest that the tables are held to, if one is named.
-        manifest: Option<&'a str>,
-        /// Whether it is told on the way how many are done.
-        progress: bool,
-    },
+    Probes(Probes<'a>),
     /// What the game of the input comes to.
-    Game {
-        /// The folder of the tables, if one is named.
-        tables: Option<&'a str>,
-        /// The file of the manifest that the tables are held to, if one is named.
-        manifest: Option<&'a str>,
-        /// For how many further plies a verdict by tables must hold.
-        delay: Delay,
-        /// The FEN text of the position before the first move.
-        fen: &'a str,
-    },
+    Game(Game<'a>),
 }
 
 /// The commands.
@@ -129,158 +103,6 @@ pub struct Value {
     form: Form,
 }
 
-/// The values of `judge`.
-const OF_JUDGE: [Value; 3] = [
-    Value {
-        name: "tables",
-        form: Form::Option,
-    },
-    Value {
-        name: "manifest",
-        form: Form::Option,
-    },
-    Value {
-        name: "FEN",
-        form: Form::Word,
-    },
-];
-
-/// The values of `probe`.
-const OF_PROBE: [Value; 3] = [
-    Value {
-        name: "tables",
-        form: Form::NeededOption,
-    },
-    Value {
-        name: "manifest",
-        form: Form::Option,
-    },
-    Value {
-        name: "FEN",
-        form: Form::Word,
-    },
-];
-
-/// The values of `moves`.
-const OF_MOVES: [Value; 1] = [Value {
-    name: "FEN",
-    form: Form::Word,
-}];
-
-/// The values of `list`.
-const OF_LIST: [Value; 1] = [Value {
-    name: "DIR",
-    form: Form::Word,
-}];
-
-/// The values of `check`.
-const OF_CHECK: [Value; 2] = [
-    Value {
-        name: "manifest",
-        form: Form::NeededOption,
-    },
-    Value {
-        name: "DIR",
-        form: Form::Word,
-    },
-];
-
-/// The values of `run`.
-const OF_RUN: [Value; 3] = [
-    Value {
-        name: "tables",
-        form: Form::Option,
-    },
-    Value {
-        name: "cache",
-        form: Form::Option,
-    },
-    Value {
-        name: "delay",
-        form: Form::Option,
-    },
-];
-
-/// The values of `listen`.
-const OF_LISTEN: [Value; 10] = [
-    Value {
-        name: "name",
-        form: Form::NeededOption,
-    },
-    Value {
-        name: "start",
-        form: Form::NeededOption,
-    },
-    Value {
-        name: "tables",
-        form: Form::NeededOption,
-    },
-    Value {
-        name: "me",
-        form: Form::NeededOption,
-    },
-    Value {
-        name: "bind",
-        form: Form::NeededOption,
-    },
-    Value {
-        name: "to",
-        form: Form::NeededOption,
-    },
-    Value {
-        name: "kept",
-        form: Form::NeededOption,
-    },
-    Value {
-        name: "datagrams",
-        form: Form::NeededOption,
-    },
-    Value {
-        name: "delay",
-        form: Form::Option,
-    },
-    Value {
-        name: "fetch",
-        form: Form::Flag,
-    },
-];
-
-/// The values of `probes`.
-const OF_PROBES: [Value; 3] = [
-    Value {
-        name: "tables",
-        form: Form::NeededOption,
-    },
-    Value {
-        name: "manifest",
-        form: Form::Option,
-    },
-    Value {
-        name: "progress",
-        form: Form::Flag,
-    },
-];
-
-/// The values of `game`.
-const OF_GAME: [Value; 4] = [
-    Value {
-        name: "tables",
-        form: Form::Option,
-    },
-    Value {
-        name: "manifest",
-        form: Form::Option,
-    },
-    Value {
-        name: "delay",
-        form: Form::Option,
-    },
-    Value {
-        name: "FEN",
-        form: Form::Word,
-    },
-];
-
 impl Name {
     /// The command that a word names.
     fn of(word: &str) -> Option<Name>
@@ -325,16 +147,16 @@ impl Name {
         ensures { map rule_of_value result.now ≡ rules_of self }
     {
         match self {
-            Name::Judge => &OF_JUDGE,
-            Name::Probe => &OF_PROBE,
-            Name::Moves => &OF_MOVES,
-            Name::List => &OF_LIST,
-            Name::Check => &OF_CHECK,
+            Name::Judge => &judge::VALUES,
+            Name::Probe => &probe::VALUES,
+            Name::Moves => &moves::VALUES,
+            Name::List => &list::VALUES,
+            Name::Check => &check::VALUES,
             Name::Show => &[],
-            Name::Run => &OF_RUN,
-            Name::Listen => &OF_LISTEN,
-            Name::Probes => &OF_PROBES,
-            Name::Game => &OF_GAME,
+            Name::Run => &run::VALUES,
+            Name::Listen => &listen::VALUES,
+            Name::Probes => &probes::VALUES,
+            Name::Game => &game::VALUES,
         }
     }
 }
@@ -379,106 +201,12 @@ fn command_of<'a>(alloc: Global, name: Name) -> Result<Command<'a>, AllocError>
 fn matches_at<'a>(command: Command<'a>, words: &'a [&'a str]) -> Result<ArgMatches<'a>, Usage>
     requires { is_simple_and_free (app_of command) ≡ true }
     ensures taken { IfOk result (λ m. IsTaken (app_of command.entry) (map (λ w. w.now) words.entry.now)) }
-    ensures values { IfOk result (λ m. (id : List _) → first_value (found_of m) id ≡ value_in (app_of command.entry) (map (λ w. w.now) words.entry.now) id) }
+    ensures values { IfOk result (λ m. (id : Text) → first_value (found_of m) id ≡ value_in (app_of command.entry) (map (λ w. w.now) words.entry.now) id) }
     ensures misuse { IfErr result (λ e. e ≡ Usage.Misuse → IsTaken (app_of command.entry) (map (λ w. w.now) words.entry.now) → ⊥) }
 {
     match command.try_get_matches_from(words) {
         Ok(matches) => Ok(matches),
         Err(error) => Err(Usage::from(error)),
-    }
-}
-
-/// The task of `judge` with these values; none where it lacks one that it needs.
-fn judge_of<'a>(matches: &ArgMatches<'a>) -> Option<Task<'a>>
-    ensures { IsReadAs Name.Judge (first_value (found_of matches.now)) result }
-{
-    Some(Task::Judge {
-        tables: matches.get_str("tables"),
-        manifest: matches.get_str("manifest"),
-        fen: matches.get_str("FEN")?,
-    })
-}
-
-/// The task of `probe`; none where it lacks one that it needs.
-fn probe_of<'a>(matches: &ArgMatches<'a>) -> Option<Task<'a>>
-    ensures { IsReadAs Name.Probe (first_value (found_of matches.now)) result }
-{
-    Some(Task::Probe {
-        tables: matches.get_str("tables")?,
-        manifest: matches.get_str("manifest"),
-        fen: matches.get_str("FEN")?,
-    })
-}
-
-/// The task of `moves`; none where it lacks one that it needs.
-fn moves_of<'a>(matches: &ArgMatches<'a>) -> Option<Task<'a>>
-    ensures { IsReadAs Name.Moves (first_value (found_of matches.now)) result }
-{
-    Some(Task::Moves {
-        fen: matches.get_str("FEN")?,
-    })
-}
-
-/// The task of `list`; none where it lacks one that it needs.
-fn list_of<'a>(matches: &ArgMatches<'a>) -> Option<Task<'a>>
-    ensures { IsReadAs Name.List (first_value (found_of matches.now)) result }
-{
-    Some(Task::List {
-        folder: matches.get_str("DIR")?,
-    })
-}
-
-/// The task of `check`; none where it lacks one that it needs.
-fn check_of<'a>(matches: &ArgMatches<'a>) -> Option<Task<'a>>
-    ensures { IsReadAs Name.Check (first_value (found_of matches.now)) result }
-{
-    Some(Task::Check {
-        manifest: matches.get_str("manifest")?,
-        folder: matches.get_str("DIR")?,
-    })
-}
-
-/// The task of `run`; none where a number isn't one that it takes.
-fn run_of<'a>(matches: &ArgMatches<'a>) -> Option<Task<'a>>
-    ensures { IsReadAs Name.Run (first_value (found_of matches.now)) result }
-{
-    Some(Task::Run {
-        tables: matches.get_str("tables"),
-        cache: CacheSize::of(matches.get_str("cache"))?,
-        delay: Delay::of(matches.get_str("delay"))?,
-    })
-}
-
-/// The task of `probes`; none where it lacks one that it needs.
-fn probes_of<'a>(matches: &ArgMatches<'a>) -> Option<Task<'a>>
-    ensures { IsReadAs Name.Probes (first_value (found_of matches.now)) result }
-{
-    Some(Task::Probes {
-        tables: matches.get_str("tables")?,
-        manifest: matches.get_str("manifest"),
-        progress: is_set(matches.get_str("progress")),
-    })
-}
-
-/// The task of `game`; none where it lacks one, or the delay isn't one that it takes.
-fn game_of<'a>(matches: &ArgMatches<'a>) -> Option<Task<'a>>
-    ensures { IsReadAs Name.Game (first_value (found_of matches.now)) result }
-{
-    Some(Task::Game {
-        tables: matches.get_str("tables"),
-        manifest: matches.get_str("manifest"),
-        delay: Delay::of(matches.get_str("delay"))?,
-        fen: matches.get_str("FEN")?,
-    })
-}
-
-/// The task of `listen`; none where it lacks one, or has one that it doesn't take.
-fn listen_of<'a>(matches: &ArgMatches<'a>) -> Option<Task<'a>>
-    ensures { IsReadAs Name.Listen (first_value (found_of matches.now)) result }
-{
-    match Listening::of(matches) {
-        Some(listening) => Some(Task::Listen(listening)),
-        None => None,
     }
 }
 
@@ -488,16 +216,63 @@ fn task_of<'a>(name: Name, matches: &ArgMatches<'a>) -> Option<Task<'a>>
     ensures { IsReadAs name (first_value (found_of matches.now)) result }
 {
     match name {
-        Name::Judge => judge_of(matches),
-        Name::Probe => probe_of(matches),
-        Name::Moves => moves_of(matches),
-        Name::List => list_of(matches),
-        Name::Check => check_of(matches),
-        Name::Show => Some(Task::Show),
-        Name::Run => run_of(matches),
-        Name::Listen => listen_of(matches),
-        Name::Probes => probes_of(matches),
-        Name::Game => game_of(matches),
+        Name::Judge => match Judge::of(matches) {
+            Some(task) => Some(Task::Judge(task)),
+            None => None,
+        },
+        Name::Probe => match Probe::of(matches) {
+            Some(task) => Some(Task::Probe(task)),
+            None => None,
+        },
+        Name::Moves => match Moves::of(matches) {
+            Some(task) => Some(Task::Moves(task)),
+            None => None,
+        },
+        Name::List => match List::of(matches) {
+            Some(task) => Some(Task::List(task)),
+            None => None,
+        },
+        Name::Check => match Check::of(matches) {
+            Some(task) => Some(Task::Check(task)),
+            None => None,
+        },
+        Name::Show => Some(Task::Show(Show)),
+        Name::Run => match Run::of(matches) {
+            Some(task) => Some(Task::Run(task)),
+            None => None,
+        },
+        Name::Listen => match Listen::of(matches) {
+            Some(task) => Some(Task::Listen(task)),
+            None => None,
+        },
+        Name::Probes => match Probes::of(matches) {
+            Some(task) => Some(Task::Probes(task)),
+            None => None,
+        },
+        Name::Game => match Game::of(matches) {
+            Some(task) => Some(Task::Game(task)),
+            None => None,
+        },
+    }
+}
+
+impl<'a> Task<'a> {
+    /// What is read for the task.
+    pub(crate) fn places(&self) -> Places<'a>
+        ensures { named_by result ≡ named_in self.now }
+    {
+        match self {
+            Task::Judge(task) => task.places(),
+            Task::Probe(task) => task.places(),
+            Task::Moves(task) => task.places(),
+            Task::List(task) => task.places(),
+            Task::Check(task) => task.places(),
+            Task::Show(task) => task.places(),
+            Task::Run(task) => task.places(),
+            Task::Listen(task) => task.places(),
+            Task::Probes(task) => task.places(),
+            Task::Game(task) => task.places(),
+        }
     }
 }
 

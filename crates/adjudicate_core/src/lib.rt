@@ -15,27 +15,22 @@
 mod answers;
 mod commands;
 mod file_name;
-mod games;
 mod host;
 mod lines;
-mod listen;
 mod listening;
 mod numbers;
-mod places;
-mod probes;
 mod program;
 mod reading;
 mod refusals;
-mod schedules;
-mod show;
 mod sources;
 mod tables;
 mod told_lines;
 mod usage;
 
-pub use commands::{Form, Name, Task, Value, parse};
+pub use commands::{
+    Check, Form, Game, Judge, List, Listen, Moves, Name, Probe, Probes, Run, Show, Task, Value, parse,
+};
 pub use host::{BindFault, Host, SystemHost};
-pub use listening::Listening;
 pub use numbers::{CacheSize, Delay};
 pub use program::{refuse_memory, run, run_program};
 pub use reading::files_in;

@@ -1,138 +1,194 @@
-//! The words of `listen`.
+//! An arbiter that answers datagrams, from its words to its status.
 
-ghost use Rattle.std.specs.Prelude.{ℕ, Bool, List, IfSome, IfNone};
-ghost use Rattle.clap.specs.Words.{found_of, first_value};
-ghost use Rattle.move_msg.specs.declared.who.Who.{Who};
-ghost use Rattle.adjudicate_core.specs.Inside.ListeningParts.{AreEnds, AreGameWords, AreTerms, IsName};
+ghost use Rattle.std.specs.Prelude.{◌≡◌, IfOk, Ok};
+ghost use Rattle.board_core.specs.Position.{IsPosition};
+ghost use Rattle.fen_text.specs.Fen.{SpellsPosition};
+ghost use Rattle.move_msg.specs.Files.{entries_of};
+ghost use Rattle.move_msg.specs.Manifests.{SpellsManifest};
+ghost use Rattle.arbiter_core.specs.Setups.{setup_view};
+ghost use Rattle.adjudicate_core.specs.Listens.{BindsAndServes, KeepsAndServes, Listens, OpensAndServes, ServesAt, TellsUnopened, hosted, setup_for};
+ghost use Rattle.adjudicate_core.specs.Looks.{gathered};
+ghost use Rattle.arbiter_core.specs.Ports.{at_port};
+ghost use Rattle.arbiter_core.specs.StoredBytes.{IsInFile};
 
-use crate::numbers::{Delay, datagrams_of, is_set, me_of};
-use clap::ArgMatches;
-use move_msg::{Who, is_game_name};
+use crate::commands::Listen;
+use crate::host::{BindFault, Host};
+use crate::lines::put_refusal;
+use crate::refusals::Refusal;
+use crate::sources::Sources;
+use crate::tables::gather;
+use arbiter_core::{FileKeeper, KeptFile, OpenFault, Port, Setup};
+use board_core::Position;
+use fen_text::read;
+use judge_core::Set;
+use move_msg::{ReadFault, manifest_of};
+use std::alloc::{AllocError, Global};
+use std::io::Write;
+use system_io::WriteFault;
 
-/// What an arbiter that answers datagrams is opened from.
-#[derive(Clone, Copy)]
-pub struct Listening<'a> {
-    /// The name of the game.
-    pub name: &'a str,
-    /// The FEN text of its start.
-    pub start: &'a str,
-    /// The folder of the tables.
-    pub tables: &'a str,
-    /// Which of the two arbiters it is.
-    pub me: Who,
-    /// The address at which datagrams come.
-    pub bind: &'a str,
-    /// The address to which messages are sent.
-    pub to: &'a str,
-    /// The file in which the record is kept.
-    pub kept: &'a str,
-    /// How many datagrams are answered.
-    pub datagrams: u32,
-    /// For how many further plies a verdict by tables must hold.
-    pub delay: Delay,
-    /// Whether the other arbiter is asked for moves first.
-    pub fetch: bool,
-}
-
-/// The words on the game.
-#[derive(Clone, Copy)]
-struct GameWords<'a> {
-    name: &'a str,
-    start: &'a str,
-    tables: &'a str,
-}
-
-/// The addresses and the kept file.
-#[derive(Clone, Copy)]
-struct Ends<'a> {
-    bind: &'a str,
-    to: &'a str,
-    kept: &'a str,
-}
-
-/// The numbers, and whether it asks first.
-#[derive(Clone, Copy)]
-struct Terms {
-    me: Who,
-    datagrams: u32,
-    delay: Delay,
-    fetch: bool,
-}
-
-/// The name of a game.
-fn game_name_in<'a>(matches: &ArgMatches<'a>) -> Option<&'a str>
-    ensures some { IfSome result (λ name. IsName (first_value (found_of matches.now)) name.now) }
-    ensures none { IfNone result ((name : List ℕ) → IsName (first_value (found_of matches.now)) name → ⊥) }
+/// Tells that no arbiter is opened: `refused keeper`, or `refused memory` where memory was refused.
+fn put_unopened<W: Write>(fault: OpenFault, out: &mut W) -> Result<u8, WriteFault>
+    ensures { IfOk result (TellsUnopened fault (W.contents out.old) (W.contents out.new)) }
 {
-    match matches.get_str("name") {
-        Some(name) if is_game_name(name.as_bytes()) => Some(name),
-        _ => None,
+    match fault {
+        OpenFault::OutOfMemory => put_refusal(out, Refusal::Memory),
+        _ => put_refusal(out, Refusal::Keeper),
     }
 }
 
-/// The words on the game; none where one of them isn't there, or no game may have the name.
-fn game_words_of<'a>(matches: &ArgMatches<'a>) -> Option<GameWords<'a>>
-    ensures some { IfSome result (λ w. AreGameWords (first_value (found_of matches.now)) w.name.now w.start.now w.tables.now) }
-    ensures none { IfNone result ((name start tables : List ℕ) → AreGameWords (first_value (found_of matches.now)) name start tables → ⊥) }
+/// Opens an arbiter over a keeper, and lets it answer the datagrams of a port. An arbiter that can't be opened is told as
+/// `refused keeper`.
+fn open_and_serve<F: KeptFile + Drop, P: Port, W: Write>(
+    alloc: Global,
+    listening: &Listen<'_>,
+    setup: Setup<'_>,
+    keeper: &mut FileKeeper<F>,
+    port: &mut P,
+    out: &mut W,
+) -> Result<u8, WriteFault>
+    requires { IsInFile F.finds keeper.old }
+    ensures { IfOk result (OpensAndServes F.finds listening.now (setup_view setup.entry) keeper.old keeper.new (at_port P.passed P.faults port.old) (at_port P.passed P.faults port.new) (W.contents out.old) (W.contents out.new)) }
 {
-    Some(GameWords {
-        name: game_name_in(matches)?,
-        start: matches.get_str("start")?,
-        tables: matches.get_str("tables")?,
-    })
+    match arbiter_core::open_and_serve(
+        alloc,
+        setup,
+        keeper,
+        port,
+        listening.datagrams,
+        listening.fetch,
+        out,
+    ) {
+        Ok(Ok(status)) => Ok(status),
+        Ok(Err(fault)) => put_unopened(fault, out),
+        Err(_) => Err(WriteFault::Io),
+    }
 }
 
-/// The addresses and the kept file; none where one of them isn't there.
-fn ends_of<'a>(matches: &ArgMatches<'a>) -> Option<Ends<'a>>
-    ensures some { IfSome result (λ e. AreEnds (first_value (found_of matches.now)) e.bind.now e.to.now e.kept.now) }
-    ensures none { IfNone result ((bind to kept : List ℕ) → AreEnds (first_value (found_of matches.now)) bind to kept → ⊥) }
+/// The same over a file in which the record is kept. A file that can't be read is told as `refused keeper`.
+fn keep_and_serve<F: KeptFile + Drop, P: Port, W: Write>(
+    alloc: Global,
+    listening: &Listen<'_>,
+    setup: Setup<'_>,
+    file: F,
+    port: &mut P,
+    out: &mut W,
+) -> Result<u8, WriteFault>
+    ensures { IfOk result (KeepsAndServes F.unreadable F.finds listening.now (setup_view setup.entry) file (at_port P.passed P.faults port.old) (at_port P.passed P.faults port.new) (W.contents out.old) (W.contents out.new)) }
 {
-    Some(Ends {
-        bind: matches.get_str("bind")?,
-        to: matches.get_str("to")?,
-        kept: matches.get_str("kept")?,
-    })
+    match FileKeeper::new(alloc, file) {
+        Ok(mut keeper) => open_and_serve(alloc, listening, setup, &mut keeper, port, out),
+        Err(ReadFault::Unreadable) => put_refusal(out, Refusal::Keeper),
+        Err(ReadFault::OutOfMemory) => put_refusal(out, Refusal::Memory),
+    }
 }
 
-/// The numbers; none where one of them isn't one that the command takes.
-fn terms_of(matches: &ArgMatches<'_>) -> Option<Terms>
-    ensures some { IfSome result (λ t. AreTerms (first_value (found_of matches.now)) t.me t.datagrams t.delay t.fetch) }
-    ensures none { IfNone result ((me : Who) (datagrams delay : ℕ) (fetch : Bool) → AreTerms (first_value (found_of matches.now)) me datagrams delay fetch → ⊥) }
+/// The same over the file that the words name.
+fn serve_at<H: Host, W: Write>(
+    alloc: Global,
+    listening: &Listen<'_>,
+    setup: Setup<'_>,
+    host: &H,
+    port: &mut H::Port,
+    out: &mut W,
+) -> Result<u8, WriteFault>
+    ensures { IfOk result (ServesAt (hosted (H.binds host.now) (H.unbound host.now) (H.is_at host.now) H.Port.passed H.Port.faults H.File.unreadable H.File.finds) listening.now (setup_view setup.entry) (at_port H.Port.passed H.Port.faults port.old) (at_port H.Port.passed H.Port.faults port.new) (W.contents out.old) (W.contents out.new)) }
 {
-    Some(Terms {
-        me: me_of(matches.get_str("me"))?,
-        datagrams: datagrams_of(matches.get_str("datagrams"))?,
-        delay: Delay::of(matches.get_str("delay"))?,
-        fetch: is_set(matches.get_str("fetch")),
-    })
+    match host.file(alloc, listening.kept) {
+        Ok(file) => keep_and_serve(alloc, listening, setup, file, port, out),
+        Err(_) => put_refusal(out, Refusal::Memory),
+    }
 }
 
-impl<'a> Listening<'a> {
-    ghost use Rattle.std.specs.Prelude.{IfSome, IfNone};
-    ghost use Rattle.clap.specs.Words.{found_of, first_value};
-    ghost use Rattle.adjudicate_core.specs.declared.listening.Listening.{Listening};
-    ghost use Rattle.adjudicate_core.specs.Listenings.{IsListening};
+/// The same at the address and over the file that the words name. An address that can't be bound is told as `refused port`.
+fn bind_and_serve<H: Host, W: Write>(
+    alloc: Global,
+    listening: &Listen<'_>,
+    setup: Setup<'_>,
+    host: &H,
+    out: &mut W,
+) -> Result<u8, WriteFault>
+    ensures { IfOk result (BindsAndServes (hosted (H.binds host.now) (H.unbound host.now) (H.is_at host.now) H.Port.passed H.Port.faults H.File.unreadable H.File.finds) listening.now (setup_view setup.entry) (W.contents out.old) (W.contents out.new)) }
+{
+    match host.bind(alloc, listening.bind, listening.to) {
+        Ok(mut port) => serve_at(alloc, listening, setup, host, &mut port, out),
+        Err(BindFault::Unbound) => put_refusal(out, Refusal::Port),
+        Err(BindFault::OutOfMemory) => put_refusal(out, Refusal::Memory),
+    }
+}
 
-    /// What these values tell; none where one that is needed has none, a number isn't one that the command takes, or no game
-    /// may have the name.
-    pub fn of(matches: &ArgMatches<'a>) -> Option<Listening<'a>>
-        ensures some { IfSome result (IsListening (first_value (found_of matches.now))) }
-        ensures none { IfNone result ((l : Listening) → IsListening (first_value (found_of matches.now)) l → ⊥) }
-    {
-        let game = game_words_of(matches)?;
-        let ends = ends_of(matches)?;
-        let terms = terms_of(matches)?;
-        Some(Listening {
-            name: game.name,
-            start: game.start,
-            tables: game.tables,
-            me: terms.me,
-            bind: ends.bind,
-            to: ends.to,
-            kept: ends.kept,
-            datagrams: terms.datagrams,
-            delay: terms.delay,
-            fetch: terms.fetch,
-        })
+/// The manifest of the tables.
+fn manifest_for(alloc: Global, sources: &Sources) -> Result<Vec<u8>, AllocError>
+    ensures { IfOk result (λ text. SpellsManifest text.items (entries_of sources.now.files)) }
+{
+    manifest_of(alloc, sources.files())
+}
+
+/// The same with the tables of a set and their manifest.
+fn listen_with<'a, H: Host, W: Write>(
+    alloc: Global,
+    listening: &Listen<'_>,
+    name: &'a [u8],
+    start: Position,
+    manifest: &'a [u8],
+    set: Set<'a>,
+    host: &H,
+    out: &mut W,
+) -> Result<u8, WriteFault>
+    requires { name.now ≡ listening.now.name.now }
+    ensures { IfOk result (BindsAndServes (hosted (H.binds host.now) (H.unbound host.now) (H.is_at host.now) H.Port.passed H.Port.faults H.File.unreadable H.File.finds) listening.now (setup_for listening.now start set.entry manifest.entry.now) (W.contents out.old) (W.contents out.new)) }
+{
+    let setup = Setup {
+        name,
+        start,
+        manifest,
+        me: listening.me.number(),
+        delay: listening.delay.plies(),
+        set,
+    };
+    bind_and_serve(alloc, listening, setup, host, out)
+}
+
+/// The same with the tables of a set.
+fn listen_by<'a, H: Host, W: Write>(
+    alloc: Global,
+    listening: &Listen<'a>,
+    sources: &Sources,
+    start: Position,
+    set: Set<'a>,
+    host: &H,
+    out: &mut W,
+) -> Result<u8, WriteFault>
+    ensures { Ok set.entry.tables ≡ gathered sources.now → SpellsPosition listening.now.start.now start → IsPosition start → IfOk result (Listens (hosted (H.binds host.now) (H.unbound host.now) (H.is_at host.now) H.Port.passed H.Port.faults H.File.unreadable H.File.finds) listening.now sources.now (W.contents out.old) (W.contents out.new)) }
+{
+    let manifest = match manifest_for(alloc, sources) {
+        Ok(manifest) => manifest,
+        Err(_) => return put_refusal(out, Refusal::Memory),
+    };
+    let name = listening.name.as_bytes();
+    listen_with(alloc, listening, name, start, &manifest, set, host, out)
+}
+
+/// Opens an arbiter as its words say, lets it answer datagrams, and tells the status.
+///
+/// What is refused is told in one line, in this order: the text of its start, the tables, the address, and the file in which the
+/// record is kept or what stands there. Where memory is refused the line is `refused memory`. The error comes only where the
+/// writer failed.
+pub fn listen<'a, H: Host, W: Write>(
+    alloc: Global,
+    listening: &Listen<'a>,
+    sources: &'a Sources,
+    host: &H,
+    out: &mut W,
+) -> Result<u8, WriteFault>
+    ensures { IfOk result (Listens (hosted (H.binds host.now) (H.unbound host.now) (H.is_at host.now) H.Port.passed H.Port.faults H.File.unreadable H.File.finds) listening.now sources.now (W.contents out.old) (W.contents out.new)) }
+{
+    let start = match read(listening.start.as_bytes()) {
+        Ok(start) => start,
+        Err(fault) => return put_refusal(out, Refusal::Fen(fault)),
+    };
+    match gather(alloc, sources) {
+        Ok(Ok(set)) => listen_by(alloc, listening, sources, start, set, host, out),
+        Ok(Err(refusal)) => put_refusal(out, refusal),
+        Err(_) => put_refusal(out, Refusal::Memory),
     }
 }

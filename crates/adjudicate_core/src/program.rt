@@ -8,12 +8,11 @@ ghost use Rattle.adjudicate_core.specs.Running.{AnswersFrom, AnswersTask, Called
 ghost use Rattle.adjudicate_core.specs.Tasks.{IsTask, tells_progress};
 ghost use Rattle.adjudicate_core.specs.Telling.{TellsOne};
 
-use crate::answers::answer_task;
+use crate::answers::put_answered;
 use crate::commands::{Task, parse};
 use crate::host::Host;
 use crate::lines::put_refusal;
-use crate::listen::listen;
-use crate::places::places_of;
+use crate::listening::listen;
 use crate::refusals::Refusal;
 use crate::sources::Sources;
 use crate::usage::Usage;
@@ -42,7 +41,17 @@ fn put_usage<E: Write>(errors: &mut E) {
     }
 }
 
-/// Answers a task from what was read for it.
+/// Answers a task from what was read for it, and tells the status, 0 done or 1 refused.
+///
+/// `judge` and `probe` look at all files, or with a manifest at those of its lines, in its order, and
+/// tell the first refusal: of the text, then of the manifest, then of a file. `run` tells that of a line of
+/// the schedule, then of a file; and where it refuses nothing, there are worlds of the schedule, in each of
+/// which the records of both arbiters are true to the game and their verdicts one, and it tells the last.
+///
+/// Where memory is refused, the line `refused memory` comes in place of all else, for `probes` after the whole lines before it,
+/// with status 1; a
+/// text that is no position takes none, and `show` takes none. The error comes only where the writer
+/// failed. With `--progress`, `probes` tells `errors` after every 10,000 lines how many are done; no other task writes there.
 fn answer_given<H: Host, W: Write, E: Write>(
     alloc: Global,
     task: &Task,
@@ -55,8 +64,16 @@ fn answer_given<H: Host, W: Write, E: Write>(
     ensures answered { IfOk result (AnswersFrom (hosted (H.binds host.now) (H.unbound host.now) (H.is_at host.now) H.Port.passed H.Port.faults H.File.unreadable H.File.finds) task.now sources.now (W.contents out.old) (W.contents out.new)) }
 {
     match task {
-        Task::Listen(listening) => listen(alloc, listening, sources, host, out),
-        _ => answer_task(alloc, task, sources, out, errors),
+        Task::Judge(task) => put_answered(out, task.answer(alloc, sources)),
+        Task::Probe(task) => put_answered(out, task.answer(alloc, sources)),
+        Task::Moves(task) => put_answered(out, task.answer(alloc)),
+        Task::List(task) => put_answered(out, task.answer(alloc, sources)),
+        Task::Check(task) => put_answered(out, task.answer(alloc, sources)),
+        Task::Show(task) => task.answer(sources, out),
+        Task::Run(task) => put_answered(out, task.answer(alloc, sources)),
+        Task::Listen(task) => listen(alloc, task, sources, host, out),
+        Task::Probes(task) => task.answer(alloc, sources, out, errors),
+        Task::Game(task) => put_answered(out, task.answer(alloc, sources)),
     }
 }
 
@@ -73,7 +90,7 @@ fn run_task<D: Disk, I: Input, H: Host, W: Write, E: Write>(
     ensures quiet { tells_progress task.now ≡ false → errors.new ≡ errors.old }
     ensures answered { IfOk result (AnswersTask (outside (D.facts disk.now) (I.facts input.now) (hosted (H.binds host.now) (H.unbound host.now) (H.is_at host.now) H.Port.passed H.Port.faults H.File.unreadable H.File.finds)) task.now (W.contents out.old) (W.contents out.new)) }
 {
-    let places = places_of(task);
+    let places = task.places();
     match Sources::read(alloc, disk, input, &places) {
         Ok(sources) => answer_given(alloc, task, &sources, host, out, errors),
         Err(ReadFault::Unreadable) => put_refusal(out, Refusal::Files),
@@ -151,13 +168,12 @@ pub fn run_program<D: Disk, I: Input, H: Host, W: Write, E: Write>(
 ) -> Result<u8, WriteFault>
     ensures { IfOk result (Called (outside (D.facts disk.now) (I.facts input.now) (hosted (H.binds host.now) (H.unbound host.now) (H.is_at host.now) H.Port.passed H.Port.faults H.File.unreadable H.File.finds)) (called_by called.now) (W.contents out.old) (W.contents out.new)) }
 {
-    let words = match called {
-        Ok(words) => tail_of(alloc, words),
-        Err(Usage::Misuse) => Ok(Vec::new(alloc)),
-        Err(Usage::OutOfMemory) => Err(AllocError),
-    };
-    match words {
-        Ok(words) => run(alloc, &words, disk, input, host, out, errors),
-        Err(_) => refuse_memory(out),
+    match called {
+        Ok(words) => match tail_of(alloc, words) {
+            Ok(tail) => run(alloc, &tail, disk, input, host, out, errors),
+            Err(_) => refuse_memory(out),
+        },
+        Err(Usage::Misuse) => run(alloc, &[], disk, input, host, out, errors),
+        Err(Usage::OutOfMemory) => refuse_memory(out),
     }
 }

@@ -106,7 +106,12 @@ pub(crate) fn expect_answers(rt: &impl Abort, alloc: Global, rows: &[Row]) {
 }
 
 /// The same over other folders, files or another input.
-pub(crate) fn expect_rows<D: Disk + Source>(rt: &impl Abort, alloc: Global, disk: &D, rows: &[Row]) {
+pub(crate) fn expect_rows<D: Disk + Source>(
+    rt: &impl Abort,
+    alloc: Global,
+    disk: &D,
+    rows: &[Row],
+) {
     for row in rows {
         expect_row(rt, alloc, disk, *row);
     }

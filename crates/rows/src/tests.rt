@@ -138,9 +138,9 @@ fn parsed<'a>(alloc: Global, words: &'a [&'a str]) -> Result<Task<'a>, Usage> {
 /// The name of a task.
 fn name_of(task: &Task<'_>, wanted: &str) -> &'static str {
     match task {
-        Task::Show => "show",
-        Task::Moves { fen } if *fen == wanted => "moves",
-        Task::Judge { fen, .. } if *fen == wanted => "judge",
+        Task::Show(_) => "show",
+        Task::Moves(moves) if moves.fen == wanted => "moves",
+        Task::Judge(judge) if judge.fen == wanted => "judge",
         _ => "another",
     }
 }

@@ -2,8 +2,8 @@
 use Rattle.std.specs.Prelude.{◌≡◌, ◌++◌, ℕ, List, length}
 use Rattle.move_msg.specs.Messages.{SpellsMessage}
 use Rattle.move_msg.specs.Streams.{Feed, EndsSo, AfterMessage, Cut, AtFault, nothing_fed}
-use Rattle.adjudicate_core.specs.declared.show.Front.{Front}
-use Rattle.adjudicate_core.specs.declared.show.Front.TheVariants as front
+use Rattle.adjudicate_core.specs.declared.commands.show.Front.{Front}
+use Rattle.adjudicate_core.specs.declared.commands.show.Front.TheVariants as front
 
 -- a message, after which the feeder holds nothing again; or the stream ends
 abbrev pub IsFront : List ℕ → Front → Feed → Type 0

@@ -3,7 +3,7 @@ use Rattle.std.specs.Prelude.{Some, true}
 use Rattle.clap.specs.Words.{Rule, rule_of}
 use Rattle.clap.specs.declared.builder.action.ArgAction.TheVariants.{SetTrue}
 use Rattle.clap.specs.declared.builder.arg.Arg.{Arg}
-use Rattle.adjudicate_core.specs.Commands.{rule_of_form}
+use Rattle.adjudicate_core.specs.Rules.{rule_of_form}
 use Rattle.adjudicate_core.specs.declared.commands.Form.{Form}
 use Rattle.adjudicate_core.proofs.commands.arg_of.Goals as goal
 

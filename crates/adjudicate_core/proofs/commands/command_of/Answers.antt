@@ -1,7 +1,8 @@
 use Rattle.std.proofs.Common.{◌≡◌, ◌+◌, ◌<◌, ℕ, List, map, length, drop, get_or, ap, ◌∙◌, sym}
 use Rattle.std.proofs.lemmas.List.{at_drop_more}
 use Rattle.clap.specs.Words.{App, new_app, with_rule}
-use Rattle.adjudicate_core.specs.Commands.{app_for, rule_of_value, with_rules}
+use Rattle.adjudicate_core.specs.Tasks.{app_for}
+use Rattle.adjudicate_core.specs.Rules.{rule_of_value, with_rules}
 use Rattle.adjudicate_core.specs.declared.commands.Value.{Value}
 use Rattle.adjudicate_core.proofs.commands.command_of.Goals as goal
 

@@ -1,6 +1,7 @@
 use Rattle.std.proofs.Common.{◌≡◌, map, drop}
 use Rattle.clap.specs.Words.{app_of}
-use Rattle.adjudicate_core.specs.Commands.{app_for, rule_of_value, with_rules}
+use Rattle.adjudicate_core.specs.Tasks.{app_for}
+use Rattle.adjudicate_core.specs.Rules.{rule_of_value, with_rules}
 use Rattle.adjudicate_core.proofs.commands.command_of.Given as goal
 
 -- the values that are left make it the whole command

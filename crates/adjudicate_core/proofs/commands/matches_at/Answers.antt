@@ -1,7 +1,7 @@
 use Rattle.std.proofs.Common.{◌∙◌, ap, sym}
 use Rattle.clap.specs.Words.{found_of, first_of}
 use Rattle.clap.proofs.WalkLemmas.{both, first_value-rows}
-use Rattle.adjudicate_core.specs.Commands.{value_in, fault_in}
+use Rattle.adjudicate_core.specs.Rules.{value_in, fault_in}
 use Rattle.adjudicate_core.proofs.Clap.{is_taken_for_memory}
 use Rattle.adjudicate_core.proofs.commands.matches_at.Goals as goal
 

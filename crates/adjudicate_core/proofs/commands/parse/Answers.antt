@@ -3,8 +3,8 @@ use Rattle.std.specs.Prelude.{◌==◌, if◌then◌else◌, slice_index}
 use Rattle.clap.specs.Words.{Text, is_simple_and_free}
 use Rattle.adjudicate_core.specs.declared.commands.Name.{Name}
 use Rattle.adjudicate_core.specs.declared.commands.Name.TheVariants as name
-use Rattle.adjudicate_core.specs.Commands.{value_in, word_of}
-use Rattle.adjudicate_core.specs.Numbers.{IsCache, IsDatagrams, IsDelay, IsMe, is_set}
+use Rattle.adjudicate_core.specs.Rules.{value_in}
+use Rattle.adjudicate_core.specs.Tasks.{word_of}
 use Rattle.adjudicate_core.specs.Tasks.{IsMisused, Lacks, Names}
 use Rattle.adjudicate_core.proofs.Clap.{is_simple}
 use Rattle.adjudicate_core.proofs.commands.parse.Goals as goal
@@ -42,32 +42,7 @@ one_named words a b is_a is_b =
     sym (by_word a) ∙ ap (λ (word : Text). begun_by (slice_index word 0) (length word)) same ∙ by_word b
 
 lacks_same : (v w : Text → Option Text) (name : Name) → ((id : Text) → v id ≡ w id) → Lacks v name → Lacks w name
-lacks_same v w name.Judge same h = sym (same _) ∙ h
-lacks_same v w name.Probe same (inl h) = inl (sym (same _) ∙ h)
-lacks_same v w name.Probe same (inr h) = inr (sym (same _) ∙ h)
-lacks_same v w name.Moves same h = sym (same _) ∙ h
-lacks_same v w name.List same h = sym (same _) ∙ h
-lacks_same v w name.Check same (inl h) = inl (sym (same _) ∙ h)
-lacks_same v w name.Check same (inr h) = inr (sym (same _) ∙ h)
-lacks_same v w name.Show same h = h
-lacks_same v w name.Run same (inl h) = inl (λ blocks is. h blocks (subst (λ text. IsCache text blocks) (sym (same _)) is))
-lacks_same v w name.Probes same h = sym (same _) ∙ h
-lacks_same v w name.Game same (inl h) = inl (sym (same _) ∙ h)
-lacks_same v w name.Game same (inr h) = inr (λ plies is. h plies (subst (λ text. IsDelay text plies) (sym (same _)) is))
-lacks_same v w name.Listen same h = λ l is. h l (record {
-  name = is.name ∙ sym (same _);
-  is_name = is.is_name;
-  start = is.start ∙ sym (same _);
-  tables = is.tables ∙ sym (same _);
-  me = subst (λ text. IsMe text l.me) (sym (same _)) is.me;
-  bind = is.bind ∙ sym (same _);
-  to = is.to ∙ sym (same _);
-  kept = is.kept ∙ sym (same _);
-  datagrams = subst (λ text. IsDatagrams text l.datagrams) (sym (same _)) is.datagrams;
-  delay = subst (λ text. IsDelay text l.delay) (sym (same _)) is.delay;
-  fetch = is.fetch ∙ ap is_set (sym (same _));
-})
-lacks_same v w name.Run same (inr h) = inr (λ plies is. h plies (subst (λ text. IsDelay text plies) (sym (same _)) is))
+lacks_same v w name same h = let one : v ≡ w = (λ i id. same id i) in subst (λ (x : Text → Option Text). Lacks x name) one h
 
 pub returns-clause-misuse : goal.returns-clause-misuse
 returns-clause-misuse c = λ is name named.
