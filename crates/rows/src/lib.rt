@@ -4,6 +4,10 @@
 #![tactic(auto)]
 
 #[cfg(test)]
+mod comparing;
+#[cfg(test)]
+mod disk_tests;
+#[cfg(test)]
 mod fixtures;
 #[cfg(test)]
 mod folders;
@@ -21,5 +25,7 @@ mod run_tests;
 mod schedule_tests;
 #[cfg(test)]
 mod table_tests;
+#[cfg(test)]
+mod telling_tests;
 #[cfg(test)]
 mod tests;

@@ -6,11 +6,11 @@ ghost use Rattle.std.specs.Io.KnownBytes.{Appends};
 ghost use Rattle.move_msg.specs.TextLines.{ended};
 
 use crate::comparing::{check_bytes, check_same};
-use crate::files::push_bytes;
-use move_msg::{TellFault, Teller, WriteFault, tell_lines};
+use adjudicate_core::{TellFault, Teller, tell_lines};
 use std::alloc::Global;
 use std::io::Write;
 use std::process::Abort;
+use system_io::WriteFault;
 
 /// Tells how many bytes a line has; one byte isn't all. For an empty line memory is refused, and at the line `!` the writer
 /// fails.
@@ -79,7 +79,7 @@ fn lines_are_told_in_turn(rt: HostRuntime) {
 fn long_text(rt: &impl Abort, alloc: Global, lines: usize) -> Vec<u8> {
     let mut text = Vec::new(alloc);
     for _ in 0..lines {
-        push_bytes(rt, &mut text, b"ab\n");
+        text.extend_from_slice(b"ab\n").expect(rt, "memory");
     }
     text
 }

@@ -1,13 +1,15 @@
 //! What is read of the folders and files of the system, by a folder that the test makes.
 
 use crate::comparing::{check_bytes, check_same, check_text};
-use crate::files::{KNIGHT, QUEEN, QUEEN_PLIES, file_of};
-use move_msg::{Line, Manifest, NamedFile, Places, ReadFault, Sources, SystemDisk};
+use crate::folders::{KNIGHT, QUEEN, QUEEN_DISTANCE, ROOK};
+use adjudicate_core::{Places, Sources};
+use move_msg::{Line, Manifest, NamedFile};
 use std::alloc::Global;
 use std::fs;
 use std::io::Input;
 use std::process::Abort;
 use std::rt::Files;
+use system_io::{ReadFault, SystemDisk, SystemInput};
 
 /// The folder that is made.
 const FOLDER: &str = "/tmp/checks-test-tables";
@@ -18,11 +20,6 @@ const KNIGHT_MANIFEST: &str = "/tmp/checks-test-tables/knight";
 /// Where neither a file nor a folder is.
 const NOWHERE: &str = "/tmp/checks-test-tables/none";
 
-/// How a rook's table begins: it wins, and loses for the other side.
-const ROOK: [u8; 14] = [
-    0x71, 0xE8, 0x23, 0x5D, 0x01, 0x00, 0x66, 0x44, 0xEE, 0x00, 0x80, 0x04, 0x80, 0x00,
-];
-
 /// A table by its name, and how its 80 bytes begin.
 type Table = (&'static str, &'static [u8]);
 
@@ -30,13 +27,21 @@ type Table = (&'static str, &'static [u8]);
 const TABLES: [Table; 4] = [
     ("KNvK.rtbw", &KNIGHT),
     ("KQvK.rtbw", &QUEEN),
-    ("KQvK.rtbz", &QUEEN_PLIES),
+    ("KQvK.rtbz", &QUEEN_DISTANCE),
     ("KRvK.rtbw", &ROOK),
 ];
 
 /// The manifest of the knight's table (its digest by sha256sum).
 const KNIGHT_LIST: &str =
     "87cdf77207282e1dea3ecceff56cc1cc1126b2cabc55a34e1dc17bd812a1a686  KNvK.rtbw\n";
+
+/// A table's 80 bytes, which begin so; the others are zero.
+fn file_of(front: &[u8]) -> [u8; 80] {
+    let mut file = [0u8; 80];
+    let length = front.len().min(80);
+    file[..length].copy_from_slice(&front[..length]);
+    file
+}
 
 /// The path of a file of the folder.
 fn path_of(rt: &impl Abort, alloc: Global, name: &str) -> String {
@@ -77,7 +82,8 @@ fn sources_at<R: Files + Input + AllocGlobal + Clone + Drop>(
         manifest,
         reads_input: false,
     };
-    Sources::read(rt.alloc(), &SystemDisk::new(rt), &places)
+    let (disk, input) = (SystemDisk::new(rt), SystemInput::new(rt));
+    Sources::read(rt.alloc(), &disk, &input, &places)
 }
 
 /// That a file that was read is this table.
