@@ -16,8 +16,6 @@ mod delivery_tests;
 #[cfg(test)]
 mod dictionary_tests;
 #[cfg(test)]
-mod disk_tests;
-#[cfg(test)]
 mod distance_tests;
 #[cfg(test)]
 mod fen_tests;
@@ -61,8 +59,6 @@ mod seeded_world_tests;
 mod serving_tests;
 #[cfg(test)]
 mod table_tests;
-#[cfg(test)]
-mod telling_tests;
 #[cfg(test)]
 mod udp_tests;
 #[cfg(test)]

@@ -11,8 +11,6 @@ pub mod ManifestLaws
 pub mod FileLaws
 pub mod InputLaws
 pub mod GameTextLaws
-pub mod NameLaws
 pub mod ManifestFaults
 pub mod LineLaws
-mod TellLaws
 mod WorkedRows

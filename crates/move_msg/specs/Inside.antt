@@ -2,4 +2,3 @@
 pub mod Cut
 pub mod GameSteps
 pub mod Layouts
-pub mod Placing

@@ -11,14 +11,10 @@ pub mod Laws
 pub mod TableNames
 pub mod Manifests
 pub mod Files
-pub mod FileNames
 pub mod ToldManifests
 pub mod ToldBy
-pub mod Outside
-pub mod Given
-pub mod Reads
 pub mod GameTexts
+pub mod Inputs
 pub mod Outputs
 pub mod TextLines
-pub mod ToldLines
 pub mod Inside

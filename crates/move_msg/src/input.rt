@@ -1,7 +1,7 @@
 //! Bytes that are read to their end.
 
 ghost use Rattle.std.specs.Prelude.{◌≡◌, ◌≤◌, length, IfOk, IfSome};
-ghost use Rattle.move_msg.specs.Outside.{most_bytes};
+ghost use Rattle.move_msg.specs.Inputs.{most_bytes};
 ghost use Rattle.move_msg.specs.declared.input.ReadFault.TheVariants.{OutOfMemory};
 
 use std::alloc::{AllocError, Global};

@@ -1,7 +1,0 @@
-use Rattle.std.proofs.Common.{refl, subst}
-use Rattle.move_msg.specs.GameTexts.{IsBadWordAt, words_in}
-use Rattle.adjudicate.specs.Reply.{BadWord}
-use Rattle.adjudicate.proofs.games.answer_from.Goals as goal
-
-pub returns-in-Err : goal.returns-in-Err
-returns-in-Err c = BadWord c.in-Err.place (subst (λ t. IsBadWordAt (words_in t) c.in-Err.place) c.input.ensures (rw c.in-Err.is at c.in_ok-moves.ensures.err)) refl

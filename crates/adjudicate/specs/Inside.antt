@@ -1,6 +1,0 @@
--- What values keep and what functions find on the way; cited by private clauses alone.
-pub mod Asked
-pub mod Fronts
-pub mod ListeningParts
-pub mod ProbeSteps
-pub mod Refusals

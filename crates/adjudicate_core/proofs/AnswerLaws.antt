@@ -1,0 +1,27 @@
+-- Answers that are written all at once.
+use Rattle.std.proofs.Common.{◌≡◌, ℕ, List, Option}
+use Rattle.std.specs.Prelude.{Result, Ok, Err, IfOk, OnErr}
+use Rattle.adjudicate_core.specs.declared.answers.Answer.{Answer}
+use Rattle.adjudicate_core.specs.Inside.Asked.{PutsAnswered, reply_of}
+use Rattle.adjudicate_core.specs.Reply.{AnswersOnce, Refused, Replied, Reply}
+
+module _ {E F : Type 0} (answered : Result Answer E) (IsReply : Reply → Type 0) (is : IfOk answered (λ a. IsReply (reply_of a))) (result : Result ℕ F) (old new : Option (List ℕ)) (puts : IfOk result (PutsAnswered answered old new)) where
+  -- by a command that may take memory
+  pub once : (TakesMemory : Type 0) → OnErr answered TakesMemory → IfOk result (AnswersOnce IsReply TakesMemory old new)
+  once TakesMemory memory = by_result answered is memory result puts
+    where
+      by_answer : (a : Result Answer E) → IfOk a (λ a. IsReply (reply_of a)) → OnErr a TakesMemory → (status : ℕ) → PutsAnswered a old new status → AnswersOnce IsReply TakesMemory old new status
+      by_answer (Ok a) is memory status h = Replied (reply_of a) is h
+      by_answer (Err e) is memory status h = Refused memory h
+
+      by_result : (a : Result Answer E) → IfOk a (λ a. IsReply (reply_of a)) → OnErr a TakesMemory → (r : Result ℕ F) → IfOk r (PutsAnswered a old new) → IfOk r (AnswersOnce IsReply TakesMemory old new)
+      by_result a is memory (Ok status) h = by_answer a is memory status h
+      by_result a is memory (Err f) h = tt
+
+always : {A E : Type 0} (r : Result A E) → OnErr r (Unit {0})
+always (Ok a) = tt
+always (Err e) = tt
+
+-- by one that takes memory for every reply
+pub once_always : {E F : Type 0} (answered : Result Answer E) (IsReply : Reply → Type 0) → IfOk answered (λ a. IsReply (reply_of a)) → (result : Result ℕ F) (old new : Option (List ℕ)) → IfOk result (PutsAnswered answered old new) → IfOk result (AnswersOnce IsReply (Unit {0}) old new)
+once_always answered IsReply is result old new puts = once answered IsReply is result old new puts (Unit {0}) (always answered)

@@ -1,0 +1,49 @@
+-- What is answered to a text of a position.
+use Rattle.std.proofs.Common.{◌≡◌, ℕ, ◌≤◌, List, length, map, take, ap, ◌∙◌, refl, subst}
+use Rattle.std.specs.Prelude.{Result, Ok, Err, IfOk, OnErr}
+use Rattle.std.proofs.lemmas.List.{take_all}
+use Rattle.board_core.specs.declared.parts.Parts.{Parts}
+use Rattle.board_core.specs.declared.moves.Move.{Move}
+use Rattle.board_core.specs.ComputedMoves.{legal_moves}
+use Rattle.board_core.specs.Position.{IsPosition}
+use Rattle.fen_text.specs.declared.fault.FenFault.{FenFault}
+use Rattle.fen_text.specs.Coordinates.{move_text}
+use Rattle.fen_text.specs.Fen.{IsFirstFenFault, SpellsPosition}
+use Rattle.move_msg.specs.TextLines.{text_of}
+use Rattle.adjudicate_core.specs.Lines.{refused_fen}
+use Rattle.adjudicate_core.specs.Reply.{ForNone, ForPosition, IsForText, IsText, Reply, refused}
+use Rattle.adjudicate_core.specs.Commands.Moves.{IsMoves, moves_at}
+
+-- that of a text that is none, by its bytes
+pub for_none : (bytes text : List ℕ) (IsAnswer : Parts → Reply → Type 0) (fault : FenFault) → bytes ≡ text → IsFirstFenFault bytes fault → IsForText text IsAnswer (refused (refused_fen fault))
+for_none bytes text IsAnswer fault same first = ForNone fault (subst (λ t. IsFirstFenFault t fault) same first) refl
+
+module _ {A E : Type 0} (reply : A → Reply) (r : Result A E) (bytes text : List ℕ) (p : Parts) (same : bytes ≡ text) (spells : SpellsPosition bytes p) (legal : IsPosition p) where
+  spelled : SpellsPosition text p
+  spelled = subst (λ t. SpellsPosition t p) same spells
+
+  -- that of a position
+  pub for_position : (IsAnswer : Parts → Reply → Type 0) → IfOk r (λ a. IsAnswer p (reply a)) → IfOk r (λ a. IsForText text IsAnswer (reply a))
+  for_position IsAnswer h = by_result r h
+    where
+      by_result : (q : Result A E) → IfOk q (λ a. IsAnswer p (reply a)) → IfOk q (λ a. IsForText text IsAnswer (reply a))
+      by_result (Ok a) is = ForPosition p spelled legal is
+      by_result (Err e) is = tt
+
+  -- memory is refused for a position alone
+  pub for_memory : OnErr r (IsText text)
+  for_memory = by_result r
+    where
+      by_result : (q : Result A E) → OnErr q (IsText text)
+      by_result (Ok a) = tt
+      by_result (Err e) = (p, spelled, legal)
+
+-- what holds anyhow holds where there is an error
+pub anyhow : {A E X : Type 0} (r : Result A E) → X → OnErr r X
+anyhow (Ok a) x = tt
+anyhow (Err e) x = x
+
+-- the reply that lists the legal moves
+pub moves_listed : (p : Parts) (ms : List Move) (i : ℕ) (lines : List (List ℕ)) → length ms ≤ i → ms ≡ legal_moves p → lines ≡ map move_text (take i ms) → IsMoves p (record { text = text_of lines; status = 0 })
+unfolding moves_at
+moves_listed p ms i lines all legal ls = ap (λ (x : List (List ℕ)). record { text = text_of x; status = 0 }) (ls ∙ ap (map move_text) (take_all i ms all ∙ legal))

@@ -1,0 +1,31 @@
+use Rattle.adjudicate_core.proofs.commands.Task.places.Goals as goal
+
+pub returns-in-Judge : goal.returns-in-Judge
+returns-in-Judge c = rw c.in-Judge.is c.places.ensures
+
+pub returns-in-Probe : goal.returns-in-Probe
+returns-in-Probe c = rw c.in-Probe.is c.places-in-Probe.ensures
+
+pub returns-in-Moves : goal.returns-in-Moves
+returns-in-Moves c = rw c.in-Moves.is c.places-in-Moves.ensures
+
+pub returns-in-List : goal.returns-in-List
+returns-in-List c = rw c.in-List.is c.places-in-List.ensures
+
+pub returns-in-Check : goal.returns-in-Check
+returns-in-Check c = rw c.in-Check.is c.places-in-Check.ensures
+
+pub returns-in-Show : goal.returns-in-Show
+returns-in-Show c = rw c.in-Show.is c.places-in-Show.ensures
+
+pub returns-in-Run : goal.returns-in-Run
+returns-in-Run c = rw c.in-Run.is c.places-in-Run.ensures
+
+pub returns-in-Listen : goal.returns-in-Listen
+returns-in-Listen c = rw c.in-Listen.is c.places-in-Listen.ensures
+
+pub returns-in-Probes : goal.returns-in-Probes
+returns-in-Probes c = rw c.in-Probes.is c.places-in-Probes.ensures
+
+pub returns-in-Game : goal.returns-in-Game
+returns-in-Game c = rw c.in-Game.is c.places-in-Game.ensures

@@ -1,0 +1,15 @@
+use Rattle.std.proofs.Common.{Err, ap}
+use Rattle.std.proofs.lemmas.Result.{IfOk-weaker}
+use Rattle.adjudicate_core.specs.Listens.{Kept, NoRoomToKeep, Unreadable}
+use Rattle.arbiter_service.proofs.PortLaws.{Passed-nil}
+use Rattle.adjudicate_core.proofs.listening.keep_and_serve.Goals as goal
+
+pub returns-in-Ok : goal.returns-in-Ok
+returns-in-Ok g c = IfOk-weaker c.open_and_serve.result _ _ (λ status h. Kept _ _ c.in-Ok.ensures.file c.in-Ok.ensures.found h) c.open_and_serve.ensures
+
+pub returns-in-Err-Unreadable : goal.returns-in-Err-Unreadable
+returns-in-Err-Unreadable g c =
+    IfOk-weaker c.put_refusal.result _ _ (λ status h. Unreadable (c.in-Err-Unreadable.ensures.cause (ap Err c.in-Err-Unreadable.field-0-is)) (Passed-nil _) h) c.put_refusal.ensures
+
+pub returns : goal.returns
+returns g c = IfOk-weaker c.put_refusal-in-Err-OutOfMemory.result _ _ (λ status h. NoRoomToKeep (Passed-nil _) h) c.put_refusal-in-Err-OutOfMemory.ensures

@@ -1,0 +1,34 @@
+use Rattle.std.proofs.Common.{◌∙◌, refl, sym, ap}
+use Rattle.adjudicate_core.specs.Tasks.{tells_progress}
+use Rattle.adjudicate_core.proofs.AnswerLaws.{once, once_always}
+use Rattle.adjudicate_core.proofs.program.answer_given.Goals as goal
+
+pub returns-in-Judge : goal.returns-in-Judge
+returns-in-Judge g c = record { answered = rw c.in-Judge.is (once c.answer.result _ c.answer.ensures.ok c.put_answered.result _ _ c.put_answered.ensures _ c.answer.ensures.memory); quiet = λ unasked. refl }
+
+pub returns-in-Probe : goal.returns-in-Probe
+returns-in-Probe g c = record { answered = rw c.in-Probe.is (once c.answer-in-Probe.result _ c.answer-in-Probe.ensures.ok c.put_answered-in-Probe.result _ _ c.put_answered-in-Probe.ensures _ c.answer-in-Probe.ensures.memory); quiet = λ unasked. refl }
+
+pub returns-in-Moves : goal.returns-in-Moves
+returns-in-Moves g c = record { answered = rw c.in-Moves.is (once c.answer-in-Moves.result _ c.answer-in-Moves.ensures.ok c.put_answered-in-Moves.result _ _ c.put_answered-in-Moves.ensures _ c.answer-in-Moves.ensures.memory); quiet = λ unasked. refl }
+
+pub returns-in-List : goal.returns-in-List
+returns-in-List g c = record { answered = rw c.in-List.is (once_always c.answer-in-List.result _ c.answer-in-List.ensures c.put_answered-in-List.result _ _ c.put_answered-in-List.ensures); quiet = λ unasked. refl }
+
+pub returns-in-Check : goal.returns-in-Check
+returns-in-Check g c = record { answered = rw c.in-Check.is (once_always c.answer-in-Check.result _ c.answer-in-Check.ensures c.put_answered-in-Check.result _ _ c.put_answered-in-Check.ensures); quiet = λ unasked. refl }
+
+pub returns-in-Show : goal.returns-in-Show
+returns-in-Show g c = record { answered = rw c.in-Show.is c.answer-in-Show.ensures; quiet = λ unasked. refl }
+
+pub returns-in-Run : goal.returns-in-Run
+returns-in-Run g c = record { answered = rw c.in-Run.is (once_always c.answer-in-Run.result _ c.answer-in-Run.ensures c.put_answered-in-Run.result _ _ c.put_answered-in-Run.ensures); quiet = λ unasked. refl }
+
+pub returns-in-Listen : goal.returns-in-Listen
+returns-in-Listen g c = record { answered = rw c.in-Listen.is c.listen.ensures; quiet = λ unasked. refl }
+
+pub returns-in-Probes : goal.returns-in-Probes
+returns-in-Probes g c = record { answered = rw c.in-Probes.is c.answer-in-Probes.ensures.written; quiet = λ unasked. c.answer-in-Probes.ensures.quiet (ap tells_progress (sym c.in-Probes.is) ∙ unasked) }
+
+pub returns-in-Game : goal.returns-in-Game
+returns-in-Game g c = record { answered = rw c.in-Game.is (once c.answer-in-Game.result _ c.answer-in-Game.ensures.ok c.put_answered-in-Game.result _ _ c.put_answered-in-Game.ensures _ c.answer-in-Game.ensures.memory); quiet = λ unasked. refl }

@@ -1,0 +1,19 @@
+use Rattle.std.proofs.Common.{◌≡◌, ◌∙◌, sym, ap, map}
+use Rattle.judge_core.specs.Tables.{Holding}
+use Rattle.move_msg.specs.Files.{file_of}
+use Rattle.move_msg.specs.Manifests.{entry_of}
+use Rattle.adjudicate_core.specs.Looks.{look_for, no_tables, tables_from}
+use Rattle.adjudicate_core.specs.Inside.Refusals.{filled}
+use Rattle.adjudicate_core.proofs.tables.gather_lines.Goals as goal
+
+pub returns-in-Ok : goal.returns-in-Ok
+returns-in-Ok c =
+    let empty : c.in_ok-set.set.tables ≡ no_tables = ap (λ (s : Holding). s.tables) c.in_ok-set.ensures in
+    sym (ap (λ added. filled added c.add_lines.new.set.tables) c.in-Ok.is) ∙ c.in_ok-add_lines.ensures
+    ∙ ap (λ tables. tables_from tables (map (look_for (map file_of c.args.files.now)) (map entry_of c.args.lines.now))) empty
+
+pub returns : goal.returns
+returns c =
+    let empty : c.in_ok-set.set.tables ≡ no_tables = ap (λ (s : Holding). s.tables) c.in_ok-set.ensures in
+    sym (ap (λ added. filled added c.add_lines.new.set.tables) c.in-Err.is) ∙ c.in_ok-add_lines.ensures
+    ∙ ap (λ tables. tables_from tables (map (look_for (map file_of c.args.files.now)) (map entry_of c.args.lines.now))) empty

@@ -1,0 +1,11 @@
+-- The commands, one by one.
+pub mod Check
+pub mod Game
+pub mod Judge
+pub mod List
+pub mod Listen
+pub mod Moves
+pub mod Probe
+pub mod Probes
+pub mod Run
+pub mod Show

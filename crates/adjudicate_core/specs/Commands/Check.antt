@@ -1,0 +1,43 @@
+-- `check --manifest FILE DIR`: whether the tables in a folder are those of a manifest (this project's own).
+use Rattle.std.specs.Prelude.{◌≡◌, ◌⊎◌, false, List, [], ◌∷◌, map, Option, Some, None, Ok, Err, codes}
+use Rattle.move_msg.specs.Files.{File}
+use Rattle.move_msg.specs.TextLines.{text_of}
+use Rattle.move_msg.specs.ToldManifests.{Told}
+use Rattle.clap.specs.Words.{Rule, Text}
+use Rattle.adjudicate_core.specs.Rules.{rule_of_form}
+use Rattle.adjudicate_core.specs.declared.commands.Form.TheVariants as form
+use Rattle.adjudicate_core.specs.Sources.{Named}
+use Rattle.adjudicate_core.specs.Given.{Given}
+use Rattle.adjudicate_core.specs.Lines.{refused_manifest}
+use Rattle.adjudicate_core.specs.Looks.{Look, are_tables, look_for, look_line}
+use Rattle.adjudicate_core.specs.Reply.{Reply, refused, status_if}
+use Rattle.adjudicate_core.specs.declared.commands.check.Check.{Check}
+
+abbrev pub rules : List Rule
+rules =
+    rule_of_form form.NeededOption (codes "manifest")
+    ∷ rule_of_form form.Word (codes "DIR") ∷ []
+
+-- the values of its arguments
+abbrev pub HasValues : (Text → Option Text) → Check → Type 0
+HasValues value t = (Some t.manifest.now ≡ value (codes "manifest")) × (Some t.folder.now ≡ value (codes "DIR"))
+
+-- an argument that it needs has no value
+abbrev pub Lacks : (Text → Option Text) → Type 0
+Lacks value = (value (codes "manifest") ≡ None) ⊎ (value (codes "DIR") ≡ None)
+
+-- what is read for it
+abbrev pub named : Check → Named
+named t = record { folder = Some t.folder.now; manifest = Some t.manifest.now; input = false }
+
+-- a line for each line of the manifest, in its order, and whether all files are there and as they should be
+abbrev pub checked : List Look → Reply
+checked looks = record { text = text_of (map look_line looks); status = status_if (are_tables looks) }
+
+abbrev pub checked_by : List File → Option Told → Reply
+checked_by files None = checked []
+checked_by files (Some (Ok es)) = checked (map (look_for files) es)
+checked_by files (Some (Err number)) = refused (refused_manifest number)
+
+abbrev pub IsReply : Given → Reply → Type 0
+IsReply given r = r ≡ checked_by given.files given.told

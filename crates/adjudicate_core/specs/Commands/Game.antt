@@ -1,0 +1,58 @@
+-- `game [--tables DIR] [--manifest FILE] [--delay N] FEN`: what the game of the input comes to (this project's own).
+use Rattle.std.specs.Prelude.{◌≡◌, ◌⊎◌, ℕ, true, List, [], ◌∷◌, length, Option, Some, None, Result, Ok, Err, codes, option_map}
+use Rattle.board_core.specs.declared.parts.Parts.{Parts}
+use Rattle.board_core.specs.declared.moves.Move.{Move}
+use Rattle.move_msg.specs.GameTexts.{IsBadWordAt, TellsMoves, words_in}
+use Rattle.move_msg.specs.TextLines.{ended}
+use Rattle.judge_core.specs.declared.game.GameOutcome.{GameOutcome}
+use Rattle.judge_core.specs.declared.game.GameOutcome.TheVariants.{Ruled, Illegal, Going}
+use Rattle.judge_core.specs.Games.{IsOutcome}
+use Rattle.judge_core.specs.ToldWords.{outcome_words}
+use Rattle.judge_core.specs.Tables.{Tables}
+use Rattle.clap.specs.Words.{Rule, Text}
+use Rattle.adjudicate_core.specs.Rules.{rule_of_form}
+use Rattle.adjudicate_core.specs.declared.commands.Form.TheVariants as form
+use Rattle.adjudicate_core.specs.Sources.{Named}
+use Rattle.adjudicate_core.specs.Given.{Given}
+use Rattle.adjudicate_core.specs.Lines.{refused_move}
+use Rattle.adjudicate_core.specs.Looks.{gathered}
+use Rattle.adjudicate_core.specs.Numbers.{IsDelay}
+use Rattle.adjudicate_core.specs.Reply.{IsForText, Reply, refused}
+use Rattle.adjudicate_core.specs.declared.commands.game.Game.{Game}
+
+abbrev pub rules : List Rule
+rules =
+    rule_of_form form.Option (codes "tables")
+    ∷ rule_of_form form.Option (codes "manifest")
+    ∷ rule_of_form form.Option (codes "delay")
+    ∷ rule_of_form form.Word (codes "FEN") ∷ []
+
+-- the values of its arguments
+abbrev pub HasValues : (Text → Option Text) → Game → Type 0
+HasValues value t = (option_map (λ s. s.now) t.tables ≡ value (codes "tables")) × (option_map (λ s. s.now) t.manifest ≡ value (codes "manifest")) × IsDelay (value (codes "delay")) t.delay × (Some t.fen.now ≡ value (codes "FEN"))
+
+-- an argument that it needs has no value, or the number is none that it takes
+abbrev pub Lacks : (Text → Option Text) → Type 0
+Lacks value = (value (codes "FEN") ≡ None) ⊎ ((plies : ℕ) → IsDelay (value (codes "delay")) plies → ⊥)
+
+-- what is read for it
+abbrev pub named : Game → Named
+named t = record { folder = option_map (λ s. s.now) t.tables; manifest = option_map (λ s. s.now) t.manifest; input = true }
+
+-- 0 where all moves are legal, 1 where one isn't
+abbrev pub outcome_status : GameOutcome → ℕ
+outcome_status (Ruled ply verdict) = 0
+outcome_status (Illegal place) = 1
+outcome_status Going = 0
+
+abbrev pub outcome_reply : GameOutcome → List Move → Reply
+outcome_reply outcome moves = record { text = ended (outcome_words outcome (length moves)); status = outcome_status outcome }
+
+-- the refusal of the first word that is no move; or else that of the tables; or else what the game comes to
+pub data IsPlayed (text : List ℕ) (found : Result Tables (List ℕ)) (delay : ℕ) (start : Parts) (r : Reply) : Type 0 where
+  BadWord : (place : ℕ) → IsBadWordAt (words_in text) place → r ≡ refused (refused_move place) → IsPlayed text found delay start r
+  BadTables : (moves : List Move) → TellsMoves text moves → (words : List ℕ) → found ≡ Err words → r ≡ refused words → IsPlayed text found delay start r
+  Played : (moves : List Move) → TellsMoves text moves → (tables : Tables) → found ≡ Ok tables → (outcome : GameOutcome) → IsOutcome (record { start = start; tables = tables; delay = delay }) moves outcome → r ≡ outcome_reply outcome moves → IsPlayed text found delay start r
+
+abbrev pub IsReply : Game → Given → Reply → Type 0
+IsReply t given r = IsForText t.fen.now (IsPlayed given.input (gathered given) t.delay) r

@@ -1,0 +1,43 @@
+-- `judge [--tables DIR] [--manifest FILE] FEN`: the verdict on a position (this project's own).
+use Rattle.std.specs.Prelude.{◌≡◌, false, List, [], ◌∷◌, Option, Some, None, codes, option_map}
+use Rattle.board_core.specs.declared.parts.Parts.{Parts}
+use Rattle.judge_core.specs.Ruling.{ruling}
+use Rattle.judge_core.specs.ToldWords.{verdict_words}
+use Rattle.judge_core.specs.Tables.{Tables}
+use Rattle.move_msg.specs.TextLines.{ended}
+use Rattle.clap.specs.Words.{Rule, Text}
+use Rattle.adjudicate_core.specs.Rules.{rule_of_form}
+use Rattle.adjudicate_core.specs.declared.commands.Form.TheVariants as form
+use Rattle.adjudicate_core.specs.Sources.{Named}
+use Rattle.adjudicate_core.specs.Given.{Given}
+use Rattle.adjudicate_core.specs.Looks.{gathered}
+use Rattle.adjudicate_core.specs.Reply.{ByTables, IsForText, Reply}
+use Rattle.adjudicate_core.specs.declared.commands.judge.Judge.{Judge}
+
+abbrev pub rules : List Rule
+rules =
+    rule_of_form form.Option (codes "tables")
+    ∷ rule_of_form form.Option (codes "manifest")
+    ∷ rule_of_form form.Word (codes "FEN") ∷ []
+
+-- the values of its arguments
+abbrev pub HasValues : (Text → Option Text) → Judge → Type 0
+HasValues value t = (option_map (λ s. s.now) t.tables ≡ value (codes "tables")) × (option_map (λ s. s.now) t.manifest ≡ value (codes "manifest")) × (Some t.fen.now ≡ value (codes "FEN"))
+
+-- an argument that it needs has no value
+abbrev pub Lacks : (Text → Option Text) → Type 0
+Lacks value = value (codes "FEN") ≡ None
+
+-- what is read for it
+abbrev pub named : Judge → Named
+named t = record { folder = option_map (λ s. s.now) t.tables; manifest = option_map (λ s. s.now) t.manifest; input = false }
+
+-- the verdict's name, or that the game goes on
+unfoldable pub judged : Tables → Parts → Reply
+judged tables p = record { text = ended (verdict_words (ruling tables p)); status = 0 }
+
+abbrev pub IsJudged : Tables → Parts → Reply → Type 0
+IsJudged tables p r = r ≡ judged tables p
+
+abbrev pub IsReply : Judge → Given → Reply → Type 0
+IsReply t given r = IsForText t.fen.now (ByTables (gathered given) IsJudged) r

@@ -1,0 +1,34 @@
+-- `list DIR`: the manifest of the tables in a folder (this project's own).
+use Rattle.std.specs.Prelude.{◌≡◌, false, List, [], ◌∷◌, Option, Some, None, codes}
+use Rattle.move_msg.specs.Files.{File, entries_of}
+use Rattle.move_msg.specs.Manifests.{SpellsManifest}
+use Rattle.clap.specs.Words.{Rule, Text}
+use Rattle.adjudicate_core.specs.Rules.{rule_of_form}
+use Rattle.adjudicate_core.specs.declared.commands.Form.TheVariants as form
+use Rattle.adjudicate_core.specs.Sources.{Named}
+use Rattle.adjudicate_core.specs.Given.{Given}
+use Rattle.adjudicate_core.specs.Reply.{Reply}
+use Rattle.adjudicate_core.specs.declared.commands.list.List.{List as ListTask}
+
+abbrev pub rules : List Rule
+rules =
+    rule_of_form form.Word (codes "DIR") ∷ []
+
+-- the values of its arguments
+abbrev pub HasValues : (Text → Option Text) → ListTask → Type 0
+HasValues value t = Some t.folder.now ≡ value (codes "DIR")
+
+-- an argument that it needs has no value
+abbrev pub Lacks : (Text → Option Text) → Type 0
+Lacks value = value (codes "DIR") ≡ None
+
+-- what is read for it
+abbrev pub named : ListTask → Named
+named t = record { folder = Some t.folder.now; manifest = None; input = false }
+
+-- the manifest of the files
+abbrev pub IsListed : List File → Reply → Type 0
+IsListed files r = SpellsManifest r.text (entries_of files) × (r.status ≡ 0)
+
+abbrev pub IsReply : Given → Reply → Type 0
+IsReply given r = IsListed given.files r

@@ -1,0 +1,45 @@
+-- `listen --name N --start FEN --tables DIR --me M --bind ADDR --to ADDR --kept FILE --datagrams N [--delay N] [--fetch]`: an
+-- arbiter that answers datagrams; specs/Listens.antt has what it makes of them (this project's own).
+use Rattle.std.specs.Prelude.{◌≡◌, false, List, [], ◌∷◌, Option, Some, None, codes}
+use Rattle.move_msg.specs.Stamps.{IsGameName}
+use Rattle.clap.specs.Words.{Rule, Text}
+use Rattle.adjudicate_core.specs.Rules.{rule_of_form}
+use Rattle.adjudicate_core.specs.declared.commands.Form.TheVariants as form
+use Rattle.adjudicate_core.specs.Sources.{Named}
+use Rattle.adjudicate_core.specs.Numbers.{IsDatagrams, IsDelay, IsMe, is_set}
+use Rattle.adjudicate_core.specs.declared.commands.listen.Listen.{Listen}
+
+abbrev pub rules : List Rule
+rules =
+    rule_of_form form.NeededOption (codes "name")
+    ∷ rule_of_form form.NeededOption (codes "start")
+    ∷ rule_of_form form.NeededOption (codes "tables")
+    ∷ rule_of_form form.NeededOption (codes "me")
+    ∷ rule_of_form form.NeededOption (codes "bind")
+    ∷ rule_of_form form.NeededOption (codes "to")
+    ∷ rule_of_form form.NeededOption (codes "kept")
+    ∷ rule_of_form form.NeededOption (codes "datagrams")
+    ∷ rule_of_form form.Option (codes "delay")
+    ∷ rule_of_form form.Flag (codes "fetch") ∷ []
+
+-- the values of its arguments, of which the name is that of a game
+pub record IsListening (value : Text → Option Text) (l : Listen) : Type 0 where
+  pub name : Some l.name.now ≡ value (codes "name")
+  pub is_name : IsGameName l.name.now
+  pub start : Some l.start.now ≡ value (codes "start")
+  pub tables : Some l.tables.now ≡ value (codes "tables")
+  pub me : IsMe (value (codes "me")) l.me
+  pub bind : Some l.bind.now ≡ value (codes "bind")
+  pub to : Some l.to.now ≡ value (codes "to")
+  pub kept : Some l.kept.now ≡ value (codes "kept")
+  pub datagrams : IsDatagrams (value (codes "datagrams")) l.datagrams
+  pub delay : IsDelay (value (codes "delay")) l.delay
+  pub fetch : l.fetch ≡ is_set (value (codes "fetch"))
+
+-- they have none of the kind
+abbrev pub Lacks : (Text → Option Text) → Type 0
+Lacks value = (t : Listen) → IsListening value t → ⊥
+
+-- what is read for it
+abbrev pub named : Listen → Named
+named t = record { folder = Some t.tables.now; manifest = None; input = false }

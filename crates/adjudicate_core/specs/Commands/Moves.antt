@@ -1,0 +1,38 @@
+-- `moves FEN`: the legal moves of a position (this project's own).
+use Rattle.std.specs.Prelude.{◌≡◌, false, List, [], ◌∷◌, map, Option, Some, None, codes}
+use Rattle.board_core.specs.declared.parts.Parts.{Parts}
+use Rattle.board_core.specs.ComputedMoves.{legal_moves}
+use Rattle.fen_text.specs.Coordinates.{move_text}
+use Rattle.move_msg.specs.TextLines.{text_of}
+use Rattle.clap.specs.Words.{Rule, Text}
+use Rattle.adjudicate_core.specs.Rules.{rule_of_form}
+use Rattle.adjudicate_core.specs.declared.commands.Form.TheVariants as form
+use Rattle.adjudicate_core.specs.Sources.{Named}
+use Rattle.adjudicate_core.specs.Reply.{IsForText, Reply}
+use Rattle.adjudicate_core.specs.declared.commands.moves.Moves.{Moves}
+
+abbrev pub rules : List Rule
+rules =
+    rule_of_form form.Word (codes "FEN") ∷ []
+
+-- the values of its arguments
+abbrev pub HasValues : (Text → Option Text) → Moves → Type 0
+HasValues value t = Some t.fen.now ≡ value (codes "FEN")
+
+-- an argument that it needs has no value
+abbrev pub Lacks : (Text → Option Text) → Type 0
+Lacks value = value (codes "FEN") ≡ None
+
+-- what is read for it
+abbrev pub named : Moves → Named
+named t = record { folder = None; manifest = None; input = false }
+
+-- the legal moves in coordinates, one a line
+unfoldable pub moves_at : Parts → Reply
+moves_at p = record { text = text_of (map move_text (legal_moves p)); status = 0 }
+
+abbrev pub IsMoves : Parts → Reply → Type 0
+IsMoves p r = r ≡ moves_at p
+
+abbrev pub IsReply : Moves → Reply → Type 0
+IsReply t r = IsForText t.fen.now IsMoves r

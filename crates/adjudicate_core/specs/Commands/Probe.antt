@@ -1,0 +1,48 @@
+-- `probe --tables DIR [--manifest FILE] FEN`: what tables tell of a position (this project's own).
+use Rattle.std.specs.Prelude.{◌≡◌, ◌⊎◌, false, List, [], ◌∷◌, Option, Some, None, codes, option_map}
+use Rattle.board_core.specs.declared.parts.Parts.{Parts}
+use Rattle.judge_core.specs.declared.told.Probed.{Probed}
+use Rattle.judge_core.specs.Told.{IsProbed, is_told}
+use Rattle.judge_core.specs.Tables.{Tables}
+use Rattle.move_msg.specs.TextLines.{text_of}
+use Rattle.clap.specs.Words.{Rule, Text}
+use Rattle.adjudicate_core.specs.Rules.{rule_of_form}
+use Rattle.adjudicate_core.specs.declared.commands.Form.TheVariants as form
+use Rattle.adjudicate_core.specs.Sources.{Named}
+use Rattle.adjudicate_core.specs.Given.{Given}
+use Rattle.adjudicate_core.specs.Lines.{told_words}
+use Rattle.adjudicate_core.specs.Looks.{gathered}
+use Rattle.adjudicate_core.specs.Reply.{ByTables, IsForText, Reply, status_if}
+use Rattle.adjudicate_core.specs.declared.commands.probe.Probe.{Probe}
+
+abbrev pub rules : List Rule
+rules =
+    rule_of_form form.NeededOption (codes "tables")
+    ∷ rule_of_form form.Option (codes "manifest")
+    ∷ rule_of_form form.Word (codes "FEN") ∷ []
+
+-- the values of its arguments
+abbrev pub HasValues : (Text → Option Text) → Probe → Type 0
+HasValues value t = (Some t.tables.now ≡ value (codes "tables")) × (option_map (λ s. s.now) t.manifest ≡ value (codes "manifest")) × (Some t.fen.now ≡ value (codes "FEN"))
+
+-- an argument that it needs has no value
+abbrev pub Lacks : (Text → Option Text) → Type 0
+Lacks value = (value (codes "tables") ≡ None) ⊎ (value (codes "FEN") ≡ None)
+
+-- what is read for it
+abbrev pub named : Probe → Named
+named t = record { folder = Some t.tables.now; manifest = option_map (λ s. s.now) t.manifest; input = false }
+
+-- a line a question, the value and then the distance
+abbrev pub told : Probed → Reply
+told probed = record {
+  text = text_of (told_words (codes "wdl") probed.wdl ∷ told_words (codes "dtz") probed.dtz ∷ []);
+  status = status_if (is_told probed);
+}
+
+-- what both probes answer, told
+abbrev pub IsTold : Tables → Parts → Reply → Type 0
+IsTold tables p r = (probed : Probed) × IsProbed tables p probed × (r ≡ told probed)
+
+abbrev pub IsReply : Probe → Given → Reply → Type 0
+IsReply t given r = IsForText t.fen.now (ByTables (gathered given) IsTold) r

@@ -1,0 +1,57 @@
+-- `probes --tables DIR [--manifest FILE] [--progress]`: what tables tell of the positions of the input (this project's own).
+use Rattle.std.specs.Prelude.{◌≡◌, ℕ, Bool, true, false, List, [], ◌∷◌, Option, Some, None, Ok, Err, codes, option_map}
+use Rattle.std.specs.Io.KnownBytes.{Appends}
+use Rattle.board_core.specs.declared.parts.Parts.{Parts}
+use Rattle.board_core.specs.Position.{IsPosition}
+use Rattle.fen_text.specs.declared.fault.FenFault.{FenFault}
+use Rattle.fen_text.specs.Fen.{SpellsPosition, IsFirstFenFault}
+use Rattle.judge_core.specs.declared.told.Probed.{Probed}
+use Rattle.judge_core.specs.Ruling.{ruling}
+use Rattle.judge_core.specs.Told.{IsProbed, is_told}
+use Rattle.judge_core.specs.ToldWords.{columns_words}
+use Rattle.judge_core.specs.Tables.{Tables}
+use Rattle.move_msg.specs.TextLines.{ended}
+use Rattle.clap.specs.Words.{Rule, Text}
+use Rattle.adjudicate_core.specs.Rules.{rule_of_form}
+use Rattle.adjudicate_core.specs.declared.commands.Form.TheVariants as form
+use Rattle.adjudicate_core.specs.Sources.{Named}
+use Rattle.adjudicate_core.specs.Given.{Given}
+use Rattle.adjudicate_core.specs.Lines.{refused_fen}
+use Rattle.adjudicate_core.specs.Looks.{gathered}
+use Rattle.adjudicate_core.specs.Numbers.{is_set}
+use Rattle.adjudicate_core.specs.Reply.{IsText, status_if}
+use Rattle.adjudicate_core.specs.ToldLines.{LineTold, WritesAllTold, refused_memory}
+use Rattle.adjudicate_core.specs.declared.commands.probes.Probes.{Probes}
+
+abbrev pub rules : List Rule
+rules =
+    rule_of_form form.NeededOption (codes "tables")
+    ∷ rule_of_form form.Option (codes "manifest")
+    ∷ rule_of_form form.Flag (codes "progress") ∷ []
+
+-- the values of its arguments
+abbrev pub HasValues : (Text → Option Text) → Probes → Type 0
+HasValues value t = (Some t.tables.now ≡ value (codes "tables")) × (option_map (λ s. s.now) t.manifest ≡ value (codes "manifest")) × (t.progress ≡ is_set (value (codes "progress")))
+
+-- an argument that it needs has no value
+abbrev pub Lacks : (Text → Option Text) → Type 0
+Lacks value = value (codes "tables") ≡ None
+
+-- what is read for it
+abbrev pub named : Probes → Named
+named t = record { folder = Some t.tables.now; manifest = option_map (λ s. s.now) t.manifest; input = true }
+
+-- a line: what `probe` and `judge` tell of its position, in columns, or the refusal of the text
+pub data TellsLine (tables : Tables) (text : List ℕ) (told : LineTold) : Type 0 where
+  OfPosition : (p : Parts) → SpellsPosition text p → IsPosition p → (probed : Probed) → IsProbed tables p probed → told ≡ record { words = columns_words probed.wdl probed.dtz (ruling tables p); done = is_told probed } → TellsLine tables text told
+  OfNone : (fault : FenFault) → IsFirstFenFault text fault → told ≡ record { words = refused_fen fault; done = false } → TellsLine tables text told
+
+-- each line was told, or the first ones until memory was refused
+abbrev pub PutsLines : Tables → List ℕ → Option (List ℕ) → Option (List ℕ) → ℕ → Type 0
+PutsLines tables text old new status = (done : Bool) × WritesAllTold (TellsLine tables) IsText text old new done × (status ≡ status_if done)
+
+-- the tables are refused; or these lines were written, or memory was refused before them
+pub data PutsProbes (given : Given) (old new : Option (List ℕ)) (status : ℕ) : Type 0 where
+  PutsRefusal : (words : List ℕ) → gathered given ≡ Err words → Appends old new (ended words) → status ≡ 1 → PutsProbes given old new status
+  PutsLinesOf : (tables : Tables) → gathered given ≡ Ok tables → PutsLines tables given.input old new status → PutsProbes given old new status
+  PutsNoLine : Appends old new (ended refused_memory) → status ≡ 1 → PutsProbes given old new status

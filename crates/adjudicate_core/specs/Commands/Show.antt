@@ -1,0 +1,36 @@
+-- `show`: the messages of the input (this project's own).
+use Rattle.std.specs.Prelude.{◌≡◌, ◌+◌, ◌++◌, ℕ, true, List, [], ◌∷◌, length, map, Option, None, codes}
+use Rattle.move_msg.specs.MessageWords.{message_words}
+use Rattle.move_msg.specs.declared.message.Message.{Message}
+use Rattle.move_msg.specs.Messages.{fault_name as message_fault_name}
+use Rattle.move_msg.specs.Streams.{End, AfterMessage, Cut, AtFault, SpellsStream}
+use Rattle.move_msg.specs.TextLines.{text_of}
+use Rattle.clap.specs.Words.{Rule, Text}
+use Rattle.adjudicate_core.specs.Sources.{Named}
+use Rattle.adjudicate_core.specs.Given.{Given}
+use Rattle.adjudicate_core.specs.Lines.{refused_message}
+use Rattle.adjudicate_core.specs.Reply.{Reply, WritesReply}
+
+abbrev pub rules : List Rule
+rules = []
+
+-- it has no argument that could lack
+abbrev pub Lacks : (Text → Option Text) → Type 0
+Lacks value = ⊥
+
+-- what is read for it
+abbrev pub named : Named
+named = record { folder = None; manifest = None; input = true }
+
+-- a line a message, and a refusal where the stream doesn't end after one
+abbrev pub shown : List Message → End → Reply
+shown ms AfterMessage = record { text = text_of (map message_words ms); status = 0 }
+shown ms Cut = record { text = text_of (map message_words ms ++ refused_message (length ms + 1) (codes "Cut") ∷ []); status = 1 }
+shown ms (AtFault fault) =
+    record { text = text_of (map message_words ms ++ refused_message (length ms + 1) (message_fault_name fault) ∷ []); status = 1 }
+
+abbrev pub IsShown : List ℕ → Reply → Type 0
+IsShown input r = (ms : List Message) × (end : End) × SpellsStream input ms end × (r ≡ shown ms end)
+
+abbrev pub Answers : Given → Option (List ℕ) → Option (List ℕ) → ℕ → Type 0
+Answers given old new status = (r : Reply) × IsShown given.input r × WritesReply old new r status

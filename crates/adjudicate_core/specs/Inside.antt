@@ -1,0 +1,6 @@
+-- What values keep and what functions find on the way; cited by private clauses alone.
+pub mod Asked
+pub mod Fronts
+pub mod ListeningParts
+pub mod Placing
+pub mod Refusals

@@ -1,0 +1,14 @@
+-- What is gathered in a set; cited by private functions alone.
+use Rattle.std.specs.Prelude.{ℕ, List, Result, Ok, Err}
+use Rattle.judge_core.specs.Tables.{Tables, Holding}
+use Rattle.adjudicate_core.specs.declared.refusals.Refusal.{Refusal}
+use Rattle.adjudicate_core.specs.Lines.{refusal_words}
+
+-- the tables that are in a set where nothing was refused
+abbrev pub filled : {X : Type 0} → Result X Refusal → Tables → Result Tables (List ℕ)
+filled (Ok x) tables = Ok tables
+filled (Err refusal) tables = Err (refusal_words refusal)
+
+abbrev pub tables_in : Result Holding Refusal → Result Tables (List ℕ)
+tables_in (Ok set) = Ok set.tables
+tables_in (Err refusal) = Err (refusal_words refusal)

@@ -1,0 +1,130 @@
+-- The lines that the program writes (this project's own).
+use Rattle.std.specs.Prelude.{ℕ, ℤ, List, ◌++◌, Option, Some, None, Result, codes}
+use Rattle.std.specs.Fmt.{decimal}
+use Rattle.board_core.specs.Position.{fault_name as position_fault_name}
+use Rattle.fen_text.specs.declared.fault.FenFault.{FenFault}
+use Rattle.fen_text.specs.declared.fault.FenFault.TheVariants as fen
+use Rattle.fen_text.specs.Fen.{fault_name as fen_fault_name}
+use Rattle.fen_text.specs.Coordinates.{move_text}
+use Rattle.table_file.specs.Faults.{table_fault_name}
+use Rattle.judge_core.specs.declared.fault.ProbeFault.{ProbeFault}
+use Rattle.judge_core.specs.ToldWords.{column_words, columns_words, outcome_words, verdict_words}
+use Rattle.move_msg.specs.declared.message.MessageFault.{MessageFault}
+use Rattle.move_msg.specs.Messages.{fault_name as message_fault_name}
+use Rattle.move_msg.specs.MessageWords.{message_words}
+use Rattle.adjudicate_core.specs.ToldLines.{refused_memory}
+use Rattle.move_msg.specs.declared.who.Who.{Who}
+use Rattle.relay_world.specs.declared.world.State.{State}
+use Rattle.relay_world.specs.declared.world.State.TheVariants as state
+use Rattle.relay_world.specs.Texts.{who_word}
+use Rattle.arbiter_service.specs.ServedLines.{refused_keeper, refused_port, verdict_or_none}
+use Rattle.adjudicate_core.specs.declared.tables.FileFault.{FileFault}
+use Rattle.adjudicate_core.specs.declared.tables.FileFault.TheVariants.{Missing, Changed, Bad}
+use Rattle.adjudicate_core.specs.declared.lines.Kept.{Kept}
+use Rattle.adjudicate_core.specs.declared.lines.Line.{Line}
+use Rattle.adjudicate_core.specs.declared.lines.Line.TheVariants as line
+use Rattle.adjudicate_core.specs.declared.refusals.Refusal.{Refusal}
+use Rattle.adjudicate_core.specs.declared.refusals.Refusal.TheVariants as refusal
+
+-- ---- names
+
+abbrev pub file_fault_name : FileFault → List ℕ
+file_fault_name Missing = codes "missing"
+file_fault_name Changed = codes "changed"
+file_fault_name (Bad fault) = table_fault_name fault
+
+-- the fault of a text, with that of the position after it where the text spells its parts
+abbrev pub fault_text : FenFault → List ℕ
+fault_text (fen.BadPosition fault) = codes "BadPosition " ++ position_fault_name fault
+fault_text fen.FieldCount = fen_fault_name fen.FieldCount
+fault_text fen.BadPlacement = fen_fault_name fen.BadPlacement
+fault_text fen.BadSide = fen_fault_name fen.BadSide
+fault_text fen.BadCastlingText = fen_fault_name fen.BadCastlingText
+fault_text fen.BadSquare = fen_fault_name fen.BadSquare
+fault_text fen.BadNumber = fen_fault_name fen.BadNumber
+
+-- ---- lines
+
+abbrev pub refused_fen : FenFault → List ℕ
+refused_fen fault = codes "refused FEN " ++ fault_text fault
+
+-- what a probe tells, or why it tells nothing
+abbrev pub told_words : List ℕ → Result ℤ ProbeFault → List ℕ
+told_words question told = question ++ codes " " ++ column_words told
+
+-- the refusal of a manifest by the number of its first line at fault, and of a file
+abbrev pub refused_manifest : ℕ → List ℕ
+refused_manifest number = codes "refused manifest " ++ decimal number
+
+abbrev pub refused_file : List ℕ → List ℕ → List ℕ
+refused_file name word = codes "refused " ++ name ++ codes " " ++ word
+
+-- a name, and what was found there
+abbrev pub look_word : Option FileFault → List ℕ
+look_word None = codes "ok"
+look_word (Some fault) = file_fault_name fault
+
+abbrev pub look_words : List ℕ → Option FileFault → List ℕ
+look_words name fault = name ++ codes " " ++ look_word fault
+
+-- what is wrong with a message; nothing where the stream ends inside it
+abbrev pub message_fault : Option MessageFault → List ℕ
+message_fault None = codes "Cut"
+message_fault (Some fault) = message_fault_name fault
+
+-- the refusal of a message by its number, the first being 1
+abbrev pub refused_message : ℕ → List ℕ → List ℕ
+refused_message number name = codes "refused message " ++ decimal number ++ codes " " ++ name
+
+-- how an arbiter is
+abbrev pub state_word : State → List ℕ
+state_word state.Running = codes "running"
+state_word state.Down = codes "down"
+state_word state.Closed = codes "closed"
+
+-- an arbiter: its letter, how it is, how many moves it keeps and its verdict
+unfoldable pub arbiter_words : Who → State → Option Kept → List ℕ
+arbiter_words who state None = who_word who ++ codes " " ++ state_word state ++ codes " - none"
+arbiter_words who state (Some kept) =
+    who_word who ++ codes " " ++ state_word state ++ codes " " ++ decimal kept.count ++ codes " " ++ verdict_or_none kept.verdict
+
+-- how many messages were sent
+abbrev pub sent_words : ℕ → List ℕ
+sent_words number = codes "sent " ++ decimal number
+
+-- the refusal of a word that is no move by its place, the first being 0
+abbrev pub refused_move : ℕ → List ℕ
+refused_move place = codes "refused move " ++ decimal place
+
+-- the refusal of a schedule by the number of its first line at fault
+abbrev pub refused_line : ℕ → List ℕ
+refused_line number = codes "refused line " ++ decimal number
+
+abbrev pub refused_files : List ℕ
+refused_files = codes "refused files"
+
+-- why something is refused
+abbrev pub refusal_words : Refusal → List ℕ
+refusal_words (refusal.Fen fault) = refused_fen fault
+refusal_words (refusal.Manifest number) = refused_manifest number
+refusal_words (refusal.File name fault) = refused_file name.bytes (file_fault_name fault)
+refusal_words (refusal.Message number fault) = refused_message number (message_fault fault)
+refusal_words (refusal.Line number) = refused_line number
+refusal_words (refusal.Move place) = refused_move place
+refusal_words refusal.Port = refused_port
+refusal_words refusal.Keeper = refused_keeper
+refusal_words refusal.Files = refused_files
+refusal_words refusal.Memory = refused_memory
+
+abbrev pub words_of : Line → List ℕ
+words_of (line.Ruling verdict) = verdict_words verdict
+words_of (line.Refused why) = refusal_words why
+words_of (line.Move m) = move_text m
+words_of (line.Look name fault) = look_words name.bytes fault
+words_of (line.Wdl told) = told_words (codes "wdl") told.0
+words_of (line.Dtz told) = told_words (codes "dtz") told.0
+words_of (line.Message m) = message_words m
+words_of (line.Arbiter who state kept) = arbiter_words who state kept
+words_of (line.Sent number) = sent_words number
+words_of (line.Outcome o) = outcome_words o.outcome o.plies
+words_of (line.Columns c) = columns_words c.probed.wdl c.probed.dtz c.verdict

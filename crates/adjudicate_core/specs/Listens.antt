@@ -1,0 +1,83 @@
+-- What `listen` makes of its words and of what it reads (this project's own).
+use Rattle.std.specs.Prelude.{◌≡◌, ℕ, List, [], ◌∷◌, Option, Ok, Err}
+use Rattle.board_core.specs.declared.parts.Parts.{Parts}
+use Rattle.board_core.specs.Position.{IsPosition}
+use Rattle.fen_text.specs.declared.fault.FenFault.{FenFault}
+use Rattle.fen_text.specs.Fen.{SpellsPosition, IsFirstFenFault}
+use Rattle.judge_core.specs.Tables.{Holding}
+use Rattle.move_msg.specs.Files.{entries_of}
+use Rattle.move_msg.specs.Manifests.{SpellsManifest}
+use Rattle.move_msg.specs.Senders.{who_number}
+use Rattle.arbiter_core.specs.declared.fault.OpenFault.{OpenFault}
+use Rattle.arbiter_core.specs.declared.fault.OpenFault.TheVariants.{BadSetup, KeeperFailed, BadRecord, OtherStamp, OutOfMemory}
+use Rattle.arbiter_service.specs.OverFiles.{IsOpened, ServesOpened}
+use Rattle.arbiter_core.specs.Setups.{SetupView}
+use Rattle.arbiter_service.specs.declared.file_keeper.FileKeeper.{FileKeeper}
+use Rattle.adjudicate_core.specs.declared.commands.listen.Listen.{Listen}
+use Rattle.adjudicate_core.specs.Given.{Given}
+use Rattle.system_io.specs.KeptFiles.{KeptFacts}
+use Rattle.system_io.specs.Hosts.{HostFacts}
+use Rattle.arbiter_service.specs.ServedLines.{refused_keeper, refused_port}
+use Rattle.adjudicate_core.specs.ToldLines.{refused_memory}
+use Rattle.adjudicate_core.specs.Lines.{refused_fen}
+use Rattle.adjudicate_core.specs.Looks.{gathered}
+use Rattle.system_io.specs.Ports.{Passed, PortFacts}
+use Rattle.arbiter_service.specs.Serving.{Scene, scene}
+use Rattle.adjudicate_core.specs.Reply.{IsText}
+use Rattle.arbiter_service.specs.StoredBytes.{IsInFile, file_of}
+use Rattle.adjudicate_core.specs.Telling.{TellsOne}
+
+-- the setup of the arbiter
+abbrev pub setup_for : Listen → Parts → Holding → List ℕ → SetupView
+setup_for l start set manifest = record { name = l.name.now; start = start; manifest = manifest; me = who_number l.me; delay = l.delay; set = set }
+
+-- what is told where no arbiter is opened
+abbrev pub TellsUnopened : OpenFault → Option (List ℕ) → Option (List ℕ) → ℕ → Type 0
+TellsUnopened BadSetup old new status = TellsOne refused_keeper old new status
+TellsUnopened KeeperFailed old new status = TellsOne refused_keeper old new status
+TellsUnopened BadRecord old new status = TellsOne refused_keeper old new status
+TellsUnopened OtherStamp old new status = TellsOne refused_keeper old new status
+TellsUnopened OutOfMemory old new status = TellsOne refused_memory old new status
+
+-- ---- all of it
+
+-- what is known of a host, of its ports and of its files
+pub record Hosted (P F : Type 0) : Type 1 where
+  pub host : HostFacts P F
+  pub port : P → PortFacts
+  pub file : F → KeptFacts
+
+abbrev pub hosted : {P F : Type 0} → HostFacts P F → (P → PortFacts) → (F → KeptFacts) → Hosted P F
+hosted host port file = record { host = host; port = port; file = file }
+
+-- an arbiter is opened over the keeper and serves the datagrams, and between any two of them its record is in the file; or it
+-- isn't opened, and nothing is served; the keeper is left so
+pub data OpensAndServes {F : Type 0} (facts : F → KeptFacts) (l : Listen) (setup : SetupView) (old new : Scene (FileKeeper F)) (status : ℕ) : Type 0 where
+  Served : ServesOpened facts setup l.datagrams l.fetch old new (Ok status) → OpensAndServes facts l setup old new status
+  Unopened : (fault : OpenFault) → IsOpened facts setup old.at new.at (Err fault) → Passed old.port new.port [] → TellsUnopened fault old.written new.written status → OpensAndServes facts l setup old new status
+
+-- over the file in which the record is kept: it can't be read; or an arbiter is opened over a keeper of this file, which has
+-- stored what a start finds there
+pub data KeepsAndServes {F : Type 0} (facts : F → KeptFacts) (l : Listen) (setup : SetupView) (file : F) (port port' : PortFacts) (old new : Option (List ℕ)) (status : ℕ) : Type 0 where
+  Unreadable : (facts file).unreadable → Passed port port' [] → TellsOne refused_keeper old new status → KeepsAndServes facts l setup file port port' old new status
+  NoRoomToKeep : Passed port port' [] → TellsOne refused_memory old new status → KeepsAndServes facts l setup file port port' old new status
+  Kept : (keeper after : FileKeeper F) → file_of keeper ≡ file → IsInFile facts keeper → OpensAndServes facts l setup (scene keeper port old) (scene after port' new) status → KeepsAndServes facts l setup file port port' old new status
+
+-- at a port, over the file at the path of the words
+pub data ServesAt {P F : Type 0} (host : Hosted P F) (l : Listen) (setup : SetupView) (port port' : PortFacts) (old new : Option (List ℕ)) (status : ℕ) : Type 0 where
+  AtFile : (file : F) → host.host.is_at l.kept.now file → KeepsAndServes host.file l setup file port port' old new status → ServesAt host l setup port port' old new status
+  NoRoomForFile : Passed port port' [] → TellsOne refused_memory old new status → ServesAt host l setup port port' old new status
+
+-- with these tables: the port can't be bound; or it is, sends to the other address, and the record is kept in the file at the path
+pub data BindsAndServes {P F : Type 0} (host : Hosted P F) (l : Listen) (setup : SetupView) (old new : Option (List ℕ)) (status : ℕ) : Type 0 where
+  Unbound : host.host.unbound l.bind.now → TellsOne refused_port old new status → BindsAndServes host l setup old new status
+  NoRoomToBind : TellsOne refused_memory old new status → BindsAndServes host l setup old new status
+  Bound : (port port' : P) → host.host.binds l.bind.now (l.to.now ∷ []) port → (host.port port).addresses ≡ 1 → ServesAt host l setup (host.port port) (host.port port') old new status → BindsAndServes host l setup old new status
+
+-- listening: the text of the start is no position; or else a table is refused; or else what follows, with the manifest of the
+-- tables' files
+pub data Listens {P F : Type 0} (host : Hosted P F) (l : Listen) (given : Given) (old new : Option (List ℕ)) (status : ℕ) : Type 0 where
+  BadStart : (fault : FenFault) → IsFirstFenFault l.start.now fault → TellsOne (refused_fen fault) old new status → Listens host l given old new status
+  BadTables : IsText l.start.now → (words : List ℕ) → gathered given ≡ Err words → TellsOne words old new status → Listens host l given old new status
+  NoRoom : IsText l.start.now → TellsOne refused_memory old new status → Listens host l given old new status
+  Opened : (start : Parts) → SpellsPosition l.start.now start → IsPosition start → (set : Holding) → Ok set.tables ≡ gathered given → (manifest : List ℕ) → SpellsManifest manifest (entries_of given.files) → BindsAndServes host l (setup_for l start set manifest) old new status → Listens host l given old new status

@@ -1,0 +1,32 @@
+-- What commands are given, as the parser of command lines reads it.
+use Rattle.std.specs.Prelude.{List, [], ◌∷◌, Option, Some, true}
+use Rattle.clap.specs.Words.{App, Rule, Text, fault_of, first_of, matches_of, new_rule, with_rule}
+use Rattle.clap.specs.Kinds.{Kinds}
+use Rattle.clap.specs.declared.builder.action.ArgAction.TheVariants.{SetTrue}
+use Rattle.adjudicate_core.specs.declared.commands.Form.{Form}
+use Rattle.adjudicate_core.specs.declared.commands.Form.TheVariants as form
+use Rattle.adjudicate_core.specs.declared.commands.Value.{Value}
+
+-- a value of this name: a word that has to be there, an option as `--tables DIR`, an option that has to be there, or a flag
+-- as `--fetch`
+abbrev pub rule_of_form : Form → Text → Rule
+rule_of_form form.Word id = record (new_rule id) { required = true }
+rule_of_form form.Option id = record (new_rule id) { long = Some id }
+rule_of_form form.NeededOption id = record (new_rule id) { long = Some id; required = true }
+rule_of_form form.Flag id = record (new_rule id) { long = Some id; action = Some SetTrue }
+
+abbrev pub rule_of_value : Value → Rule
+rule_of_value v = rule_of_form v.form v.name.now
+
+-- a command with more rules
+abbrev pub with_rules : App → List Rule → App
+with_rules app [] = app
+with_rules app (rule ∷ rules) = with_rules (with_rule app rule) rules
+
+-- the value that a command gives an argument at the words
+unfoldable pub value_in : App → List Text → Text → Option Text
+value_in app words id = first_of id (matches_of app words)
+
+-- what a command finds wrong with the words: nothing where it takes them
+unfoldable pub fault_in : App → List Text → Kinds
+fault_in app words = fault_of app words

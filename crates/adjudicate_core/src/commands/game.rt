@@ -1,0 +1,144 @@
+//! `game`: a game that is told by the moves of the input, and what it comes to.
+
+ghost use Rattle.std.specs.Prelude.{◌≡◌, IfOk, IfNone, IfSome, OnErr};
+ghost use Rattle.clap.specs.Words.{first_value, found_of};
+ghost use Rattle.move_msg.specs.GameTexts.{TellsMoves};
+ghost use Rattle.adjudicate_core.specs.Inside.Asked.{reply_of};
+ghost use Rattle.adjudicate_core.specs.Looks.{gathered};
+ghost use Rattle.adjudicate_core.specs.Reply.{IsText, status_if};
+ghost use Rattle.adjudicate_core.specs.Commands.Game.{HasValues, IsPlayed, IsReply, Lacks, named, outcome_status};
+ghost use Rattle.adjudicate_core.specs.Sources.{named_by};
+
+use super::{Form, Value};
+use crate::answers::Answer;
+use crate::lines::Line;
+use crate::numbers::Delay;
+use crate::refusals::Refusal;
+use crate::sources::{Places, Sources};
+use crate::tables::gather;
+use board_core::{Move, Position};
+use clap::ArgMatches;
+use fen_text::read;
+use judge_core::{GameOutcome, Outcome};
+use move_msg::read_moves;
+use std::alloc::{AllocError, Global};
+
+/// What the game of the input comes to.
+#[derive(Clone, Copy)]
+pub struct Game<'a> {
+    /// The folder of the tables, if one is named.
+    pub tables: Option<&'a str>,
+    /// The file of the manifest that the tables are held to, if one is named.
+    pub manifest: Option<&'a str>,
+    /// For how many further plies a verdict by tables must hold.
+    pub delay: Delay,
+    /// The FEN text of the position before the first move.
+    pub fen: &'a str,
+}
+
+/// The values of `game`.
+pub(crate) const VALUES: [Value; 4] = [
+    Value {
+        name: "tables",
+        form: Form::Option,
+    },
+    Value {
+        name: "manifest",
+        form: Form::Option,
+    },
+    Value {
+        name: "delay",
+        form: Form::Option,
+    },
+    Value {
+        name: "FEN",
+        form: Form::Word,
+    },
+];
+
+/// What a game comes to by the tables of files, or the refusal of these.
+fn answer_moves(
+    alloc: Global,
+    sources: &Sources,
+    delay: Delay,
+    start: &Position,
+    moves: &[Move],
+) -> Result<Answer, AllocError>
+    requires { TellsMoves sources.now.input moves.now }
+    ensures { IfOk result (λ a. IsPlayed sources.now.input (gathered sources.now) delay start.now (reply_of a)) }
+{
+    let mut set = match gather(alloc, sources)? {
+        Ok(set) => set,
+        Err(refusal) => return Ok(Answer::Refused(refusal)),
+    };
+    let outcome = set.judge_game(alloc, start, moves, delay.plies())?;
+    let line = Line::Outcome(Outcome {
+        outcome,
+        plies: moves.len(),
+    });
+    Ok(Answer::One(line, is_legal(outcome)))
+}
+
+/// Whether all moves of a game are legal.
+fn is_legal(outcome: GameOutcome) -> bool
+    ensures { status_if result ≡ outcome_status outcome }
+{
+    match outcome {
+        GameOutcome::Illegal { .. } => false,
+        _ => true,
+    }
+}
+
+/// What the game of the input comes to from a position: the first word that is no move is refused,
+/// then a manifest at fault, then the first file at fault.
+fn answer_from(
+    alloc: Global,
+    sources: &Sources,
+    delay: Delay,
+    start: &Position,
+) -> Result<Answer, AllocError>
+    ensures { IfOk result (λ a. IsPlayed sources.now.input (gathered sources.now) delay start.now (reply_of a)) }
+{
+    match read_moves(alloc, sources.input())? {
+        Ok(moves) => answer_moves(alloc, sources, delay, start, &moves),
+        Err(place) => Ok(Answer::Refused(Refusal::Move(place))),
+    }
+}
+
+impl<'a> Game<'a> {
+    /// The task with these values; none where it lacks one, or the delay isn't one that it takes.
+    pub(crate) fn of(matches: &ArgMatches<'a>) -> Option<Game<'a>>
+        ensures some { IfSome result (HasValues (first_value (found_of matches.now))) }
+        ensures none { IfNone result (Lacks (first_value (found_of matches.now))) }
+    {
+        Some(Game {
+            tables: matches.get_str("tables"),
+            manifest: matches.get_str("manifest"),
+            delay: Delay::of(matches.get_str("delay"))?,
+            fen: matches.get_str("FEN")?,
+        })
+    }
+
+    /// What is read for it.
+    pub(crate) fn places(&self) -> Places<'a>
+        ensures { named_by result ≡ named self.now }
+    {
+        Places {
+            folder: self.tables,
+            manifest: self.manifest,
+            reads_input: true,
+        }
+    }
+
+    /// What the game of the input comes to from the position of the text: a text that is none is refused
+    /// first.
+    pub(crate) fn answer(&self, alloc: Global, sources: &Sources) -> Result<Answer, AllocError>
+        ensures ok { IfOk result (λ a. IsReply self.now sources.now (reply_of a)) }
+        ensures memory { OnErr result (IsText self.now.fen.now) }
+    {
+        match read(self.fen.as_bytes()) {
+            Err(fault) => Ok(Answer::Refused(Refusal::Fen(fault))),
+            Ok(position) => answer_from(alloc, sources, self.delay, &position),
+        }
+    }
+}

@@ -1,0 +1,112 @@
+//! `judge`: the verdict on a position.
+
+ghost use Rattle.std.specs.Prelude.{◌≡◌, IfOk, IfNone, IfSome, OnErr};
+ghost use Rattle.clap.specs.Words.{first_value, found_of};
+ghost use Rattle.adjudicate_core.specs.Commands.Judge.{HasValues, IsJudged, IsReply, Lacks, named};
+ghost use Rattle.adjudicate_core.specs.Inside.Asked.{reply_of};
+ghost use Rattle.adjudicate_core.specs.Looks.{gathered};
+ghost use Rattle.adjudicate_core.specs.Reply.{ByTables, IsText};
+ghost use Rattle.adjudicate_core.specs.Sources.{named_by};
+
+use super::{Form, Value};
+use crate::answers::Answer;
+use crate::lines::Line;
+use crate::refusals::Refusal;
+use crate::sources::{Places, Sources};
+use crate::tables::gather;
+use board_core::Position;
+use clap::ArgMatches;
+use fen_text::read;
+use judge_core::Set;
+use std::alloc::{AllocError, Global};
+
+/// The verdict on a position.
+#[derive(Clone, Copy)]
+pub struct Judge<'a> {
+    /// The folder of the tables, if one is named.
+    pub tables: Option<&'a str>,
+    /// The file of the manifest that the tables are held to, if one is named.
+    pub manifest: Option<&'a str>,
+    /// The position's FEN text.
+    pub fen: &'a str,
+}
+
+/// The values of `judge`.
+pub(crate) const VALUES: [Value; 3] = [
+    Value {
+        name: "tables",
+        form: Form::Option,
+    },
+    Value {
+        name: "manifest",
+        form: Form::Option,
+    },
+    Value {
+        name: "FEN",
+        form: Form::Word,
+    },
+];
+
+/// The verdict on a position, or that the game goes on.
+#[tactic(auto, unfolding(crate::specs::Commands::Judge::judged))]
+fn verdict_by(
+    alloc: Global,
+    set: &mut Set<'_>,
+    position: &Position,
+) -> Result<Answer, AllocError>
+    ensures { IfOk result (λ a. IsJudged set.old.tables position.now (reply_of a)) }
+{
+    let verdict = set.judge(alloc, position)?;
+    Ok(Answer::One(Line::Ruling(verdict), true))
+}
+
+/// The verdict by the tables of files, or the refusal of these: of a manifest at fault, then of the first file at fault.
+fn verdict_of(
+    alloc: Global,
+    sources: &Sources,
+    position: &Position,
+) -> Result<Answer, AllocError>
+    ensures { IfOk result (λ a. ByTables (gathered sources.now) IsJudged position.now (reply_of a)) }
+{
+    match gather(alloc, sources) {
+        Ok(Ok(mut set)) => verdict_by(alloc, &mut set, position),
+        Ok(Err(refusal)) => Ok(Answer::Refused(refusal)),
+        Err(_) => Err(AllocError),
+    }
+}
+
+impl<'a> Judge<'a> {
+    /// The task with these values; none where it lacks one that it needs.
+    pub(crate) fn of(matches: &ArgMatches<'a>) -> Option<Judge<'a>>
+        ensures some { IfSome result (HasValues (first_value (found_of matches.now))) }
+        ensures none { IfNone result (Lacks (first_value (found_of matches.now))) }
+    {
+        Some(Judge {
+            tables: matches.get_str("tables"),
+            manifest: matches.get_str("manifest"),
+            fen: matches.get_str("FEN")?,
+        })
+    }
+
+    /// What is read for it.
+    pub(crate) fn places(&self) -> Places<'a>
+        ensures { named_by result ≡ named self.now }
+    {
+        Places {
+            folder: self.tables,
+            manifest: self.manifest,
+            reads_input: false,
+        }
+    }
+
+    /// The verdict on the position of the text: a text that is none is refused first.
+    pub(crate) fn answer(&self, alloc: Global, sources: &Sources) -> Result<Answer, AllocError>
+        ensures ok { IfOk result (λ a. IsReply self.now sources.now (reply_of a)) }
+        ensures memory { OnErr result (IsText self.now.fen.now) }
+    {
+        match read(self.fen.as_bytes()) {
+            Err(fault) => Ok(Answer::Refused(Refusal::Fen(fault))),
+            Ok(position) => verdict_of(alloc, sources, &position),
+        }
+    }
+}

@@ -1,0 +1,114 @@
+//! `probe`: what tables tell of a position.
+
+ghost use Rattle.std.specs.Prelude.{◌≡◌, IfOk, IfNone, IfSome, OnErr};
+ghost use Rattle.clap.specs.Words.{first_value, found_of};
+ghost use Rattle.adjudicate_core.specs.Commands.Probe.{HasValues, IsReply, IsTold, Lacks, named, told};
+ghost use Rattle.adjudicate_core.specs.Inside.Asked.{reply_of};
+ghost use Rattle.adjudicate_core.specs.Looks.{gathered};
+ghost use Rattle.adjudicate_core.specs.Reply.{ByTables, IsText};
+ghost use Rattle.adjudicate_core.specs.Sources.{named_by};
+
+use super::{Form, Value};
+use crate::answers::Answer;
+use crate::lines::Line;
+use crate::refusals::Refusal;
+use crate::sources::{Places, Sources};
+use crate::tables::gather;
+use board_core::Position;
+use clap::ArgMatches;
+use fen_text::read;
+use judge_core::{Probed, Set, Told};
+use std::alloc::{AllocError, Global};
+
+/// What tables tell of a position.
+#[derive(Clone, Copy)]
+pub struct Probe<'a> {
+    /// The folder of the tables.
+    pub tables: &'a str,
+    /// The file of the manifest that the tables are held to, if one is named.
+    pub manifest: Option<&'a str>,
+    /// The position's FEN text.
+    pub fen: &'a str,
+}
+
+/// The values of `probe`.
+pub(crate) const VALUES: [Value; 3] = [
+    Value {
+        name: "tables",
+        form: Form::NeededOption,
+    },
+    Value {
+        name: "manifest",
+        form: Form::Option,
+    },
+    Value {
+        name: "FEN",
+        form: Form::Word,
+    },
+];
+
+/// What both probes tell, a line each.
+fn tell(alloc: Global, probed: Probed) -> Result<Answer, AllocError>
+    ensures { IfOk result (λ a. reply_of a ≡ told probed) }
+{
+    let lines = [Line::Wdl(Told(probed.wdl)), Line::Dtz(Told(probed.dtz))];
+    let lines = Vec::from_slice(alloc, &lines)?;
+    Ok(Answer::Lines(lines, probed.is_told()))
+}
+
+/// What the tables tell of a position, a line a question.
+fn told_by(alloc: Global, set: &mut Set<'_>, position: &Position) -> Result<Answer, AllocError>
+    ensures { IfOk result (λ a. IsTold set.old.tables position.now (reply_of a)) }
+{
+    match set.probe(alloc, position) {
+        Ok(probed) => tell(alloc, probed),
+        Err(_) => Err(AllocError),
+    }
+}
+
+/// What the tables of files tell of a position, or the refusal of these: of a manifest at fault, then of the first file at fault.
+fn told_of(alloc: Global, sources: &Sources, position: &Position) -> Result<Answer, AllocError>
+    ensures { IfOk result (λ a. ByTables (gathered sources.now) IsTold position.now (reply_of a)) }
+{
+    match gather(alloc, sources) {
+        Ok(Ok(mut set)) => told_by(alloc, &mut set, position),
+        Ok(Err(refusal)) => Ok(Answer::Refused(refusal)),
+        Err(_) => Err(AllocError),
+    }
+}
+
+impl<'a> Probe<'a> {
+    /// The task with these values; none where it lacks one that it needs.
+    pub(crate) fn of(matches: &ArgMatches<'a>) -> Option<Probe<'a>>
+        ensures some { IfSome result (HasValues (first_value (found_of matches.now))) }
+        ensures none { IfNone result (Lacks (first_value (found_of matches.now))) }
+    {
+        Some(Probe {
+            tables: matches.get_str("tables")?,
+            manifest: matches.get_str("manifest"),
+            fen: matches.get_str("FEN")?,
+        })
+    }
+
+    /// What is read for it.
+    pub(crate) fn places(&self) -> Places<'a>
+        ensures { named_by result ≡ named self.now }
+    {
+        Places {
+            folder: Some(self.tables),
+            manifest: self.manifest,
+            reads_input: false,
+        }
+    }
+
+    /// What the tables tell of the position of the text: a text that is none is refused first.
+    pub(crate) fn answer(&self, alloc: Global, sources: &Sources) -> Result<Answer, AllocError>
+        ensures ok { IfOk result (λ a. IsReply self.now sources.now (reply_of a)) }
+        ensures memory { OnErr result (IsText self.now.fen.now) }
+    {
+        match read(self.fen.as_bytes()) {
+            Err(fault) => Ok(Answer::Refused(Refusal::Fen(fault))),
+            Ok(position) => told_of(alloc, sources, &position),
+        }
+    }
+}

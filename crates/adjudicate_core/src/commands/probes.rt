@@ -1,0 +1,177 @@
+//! `probes`: what tables tell of the positions of the input, a line each.
+
+ghost use Rattle.std.specs.Prelude.{◌≡◌, false, IfOk, IfNone, IfSome, OnErr};
+ghost use Rattle.clap.specs.Words.{first_value, found_of};
+ghost use Rattle.board_core.specs.Position.{IsPosition};
+ghost use Rattle.fen_text.specs.Fen.{SpellsPosition};
+ghost use Rattle.adjudicate_core.specs.Commands.Probes.{HasValues, Lacks, PutsLines, PutsProbes, TellsLine, named};
+ghost use Rattle.adjudicate_core.specs.Lines.{words_of};
+ghost use Rattle.adjudicate_core.specs.Sources.{named_by};
+ghost use Rattle.adjudicate_core.specs.Reply.{IsText};
+
+use super::{Form, Value};
+use crate::answers::status_if;
+use crate::lines::{Line, put_line, put_refusal};
+use crate::numbers::is_set;
+use crate::refusals::Refusal;
+use crate::sources::{Places, Sources};
+use crate::tables::gather;
+use crate::told_lines::{TellFault, Teller, tell_lines};
+use board_core::Position;
+use clap::ArgMatches;
+use fen_text::read;
+use judge_core::Set;
+use std::alloc::{AllocError, Global};
+use std::io::Write;
+use system_io::WriteFault;
+
+/// What tables tell of the positions of the input.
+#[derive(Clone, Copy)]
+pub struct Probes<'a> {
+    /// The folder of the tables.
+    pub tables: &'a str,
+    /// The file of the manifest that the tables are held to, if one is named.
+    pub manifest: Option<&'a str>,
+    /// Whether it is told on the way how many are done.
+    pub progress: bool,
+}
+
+/// The values of `probes`.
+pub(crate) const VALUES: [Value; 3] = [
+    Value {
+        name: "tables",
+        form: Form::NeededOption,
+    },
+    Value {
+        name: "manifest",
+        form: Form::Option,
+    },
+    Value {
+        name: "progress",
+        form: Form::Flag,
+    },
+];
+
+/// What the tables tell of a position, in columns, and whether all of it is told.
+fn columns(
+    alloc: Global,
+    set: &mut Set<'_>,
+    text: &[u8],
+    position: &Position,
+) -> Result<(Line, bool), AllocError>
+    requires spelled { SpellsPosition text.now position.now }
+    requires position { IsPosition position.now }
+    ensures told { IfOk result (λ told. TellsLine set.old.tables text.now (record { words = words_of told.0; done = told.1 })) }
+    ensures unchanged { set.new.tables ≡ set.old.tables }
+{
+    let columns = set.answers(alloc, position)?;
+    Ok((Line::Columns(columns), columns.probed.is_told()))
+}
+
+/// What is told of a line, and whether all of it is told.
+fn probe_line(alloc: Global, set: &mut Set<'_>, text: &[u8]) -> Result<(Line, bool), AllocError>
+    ensures told { IfOk result (λ told. TellsLine set.old.tables text.now (record { words = words_of told.0; done = told.1 })) }
+    ensures unchanged { set.new.tables ≡ set.old.tables }
+    ensures memory { OnErr result (IsText text.now) }
+{
+    match read(text) {
+        Ok(position) => columns(alloc, set, text, &position),
+        Err(fault) => Ok((Line::Refused(Refusal::Fen(fault)), false)),
+    }
+}
+
+/// Tells of a line what tables tell of its position.
+#[derive(Drop)]
+struct Prober<'a> {
+    /// Where its memory comes from.
+    alloc: Global,
+    /// The tables.
+    set: Set<'a>,
+}
+
+impl<'a> Teller for Prober<'a> {
+    ghost use Rattle.adjudicate_core.specs.Reply.{IsText};
+    ghost use Rattle.adjudicate_core.specs.Commands.Probes.{TellsLine};
+
+    ghost tells = { λ p. TellsLine p.set.tables };
+
+    ghost takes_memory = { IsText };
+
+    fn tell<W: Write>(&mut self, line: &[u8], out: &mut W) -> Result<bool, TellFault> {
+        match probe_line(self.alloc, &mut self.set, line) {
+            Ok((told, is_told)) => match put_line(out, &told) {
+                Ok(()) => Ok(is_told),
+                Err(_) => Err(TellFault::Io),
+            },
+            Err(_) => Err(TellFault::OutOfMemory),
+        }
+    }
+}
+
+/// Writes what a set tells of each line of a text as it is made, and tells the status; on the way it tells how far it is, where
+/// that is wanted.
+fn put_probes<W: Write, E: Write>(
+    alloc: Global,
+    set: Set<'_>,
+    text: &[u8],
+    out: &mut W,
+    errors: &mut E,
+    progress: bool,
+) -> Result<u8, WriteFault>
+    ensures written { IfOk result (PutsLines set.entry.tables text.now (W.contents out.old) (W.contents out.new)) }
+    ensures quiet { progress ≡ false → errors.new ≡ errors.old }
+{
+    let mut prober = Prober { alloc, set };
+    match tell_lines(&mut prober, text, out, errors, progress) {
+        Ok(done) => Ok(status_if(done)),
+        Err(fault) => Err(fault),
+    }
+}
+
+impl<'a> Probes<'a> {
+    /// The task with these values; none where it lacks one that it needs.
+    pub(crate) fn of(matches: &ArgMatches<'a>) -> Option<Probes<'a>>
+        ensures some { IfSome result (HasValues (first_value (found_of matches.now))) }
+        ensures none { IfNone result (Lacks (first_value (found_of matches.now))) }
+    {
+        Some(Probes {
+            tables: matches.get_str("tables")?,
+            manifest: matches.get_str("manifest"),
+            progress: is_set(matches.get_str("progress")),
+        })
+    }
+
+    /// What is read for it.
+    pub(crate) fn places(&self) -> Places<'a>
+        ensures { named_by result ≡ named self.now }
+    {
+        Places {
+            folder: Some(self.tables),
+            manifest: self.manifest,
+            reads_input: true,
+        }
+    }
+
+    /// Writes what the tables of files tell of each line of the input, or the refusal of the tables;
+    /// tells the status, 0 where all is told, else 1.
+    ///
+    /// Each line goes out as it is made, so that memory doesn't grow with their number; where memory is
+    /// refused, the line `refused memory` follows the whole lines before it. With `--progress` it tells `errors` after every
+    /// 10,000 lines how many are done; without, nothing is written there.
+    pub(crate) fn answer<W: Write, E: Write>(
+        &self,
+        alloc: Global,
+        sources: &Sources,
+        out: &mut W,
+        errors: &mut E,
+    ) -> Result<u8, WriteFault>
+        ensures written { IfOk result (PutsProbes sources.now (W.contents out.old) (W.contents out.new)) }
+        ensures quiet { self.now.progress ≡ false → errors.new ≡ errors.old }
+    {
+        match gather(alloc, sources) {
+            Ok(Ok(set)) => put_probes(alloc, set, sources.input(), out, errors, self.progress),
+            Ok(Err(refusal)) => put_refusal(out, refusal),
+            Err(_) => put_refusal(out, Refusal::Memory),
+        }
+    }
+}

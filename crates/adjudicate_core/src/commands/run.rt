@@ -1,0 +1,245 @@
+//! `run`: two arbiters under the schedule of the input.
+
+ghost use Rattle.std.specs.Prelude.{◌≡◌, ◌<◌, ℕ, Option, length, map, Err, IfOk, IfErr, IfNone, IfSome};
+ghost use Rattle.clap.specs.Words.{first_value, found_of};
+ghost use Rattle.move_msg.specs.declared.stamp.Stamp.{Stamp};
+ghost use Rattle.move_msg.specs.Files.{AreFiles, file_of};
+ghost use Rattle.arbiter_core.specs.Recording.{Recorded};
+ghost use Rattle.relay_world.specs.declared.fault.WorldFault.TheVariants.{BadTable};
+ghost use Rattle.relay_world.specs.Gathering.{file_as, tables_of};
+ghost use Rattle.relay_world.specs.Runs.{Runs, Tells, TellsSide, told_of, KeptIs};
+ghost use Rattle.relay_world.specs.Texts.{SpellsSchedule, IsFirstBadLine};
+ghost use Rattle.relay_world.specs.Worlds.{Game as Judged, Side, World as Worlds};
+ghost use Rattle.move_msg.specs.TextLines.{text_of};
+ghost use Rattle.adjudicate_core.specs.Inside.Asked.{reply_of};
+ghost use Rattle.adjudicate_core.specs.Lines.{refused_line, refusal_words, words_of};
+ghost use Rattle.adjudicate_core.specs.Commands.Run.{HasValues, IsReply, IsRun, Lacks, named};
+ghost use Rattle.adjudicate_core.specs.Sources.{named_by};
+ghost use Rattle.adjudicate_core.specs.Schedules.{RefusesTable, counted, game_of, side_words, world_words};
+
+use super::{Form, Value};
+use crate::answers::Answer;
+use crate::lines::{Kept, Line};
+use crate::numbers::{CacheSize, Delay};
+use crate::refusals::Refusal;
+use crate::sources::{Places, Sources};
+use crate::tables::FileFault;
+use board_core::Verdict;
+use clap::ArgMatches;
+use move_msg::{NamedFile, Who};
+use relay_world::schedule::{Schedule, ScheduleFault, read};
+use relay_world::{Event, Game, World, WorldFault, run};
+use std::alloc::{AllocError, Global};
+use table_file::{TableFault, reads_what_is_laid_out};
+
+/// What becomes of two arbiters under the schedule of the input.
+#[derive(Clone, Copy)]
+pub struct Run<'a> {
+    /// The folder of the tables, if one is named.
+    pub tables: Option<&'a str>,
+    /// How many decoded blocks the cache of each arbiter may have.
+    pub cache: CacheSize,
+    /// For how many further plies a verdict by tables must hold.
+    pub delay: Delay,
+}
+
+/// The values of `run`.
+pub(crate) const VALUES: [Value; 3] = [
+    Value {
+        name: "tables",
+        form: Form::Option,
+    },
+    Value {
+        name: "cache",
+        form: Form::Option,
+    },
+    Value {
+        name: "delay",
+        form: Form::Option,
+    },
+];
+
+/// The schedule of a text, or why it is refused.
+fn schedule_of(alloc: Global, text: &[u8]) -> Result<Result<Schedule, Refusal>, AllocError>
+    ensures ok { IfOk result (λ found. IfOk found (SpellsSchedule text.now)) }
+    ensures err { IfOk result (λ found. IfErr found (λ refusal. (k : ℕ) × IsFirstBadLine text.now k × (refusal_words refusal ≡ refused_line k))) }
+{
+    match read(alloc, text) {
+        Ok(schedule) => Ok(Ok(schedule)),
+        Err(ScheduleFault::BadLine(number)) => Ok(Err(Refusal::Line(number))),
+        Err(ScheduleFault::OutOfMemory) => Err(AllocError),
+    }
+}
+
+/// The game of a schedule.
+fn game_of(alloc: Global, schedule: &Schedule, delay: Delay) -> Result<Game, AllocError>
+    ensures { IfOk result (λ game. game ≡ game_of schedule.now delay) }
+{
+    match Game::new(
+        alloc,
+        &schedule.name,
+        schedule.start,
+        &schedule.moves,
+        delay.plies(),
+    ) {
+        Ok(game) => Ok(game),
+        Err(_) => Err(AllocError),
+    }
+}
+
+/// The names of files with their bytes.
+fn named_bytes<'f>(
+    alloc: Global,
+    files: &'f [NamedFile],
+) -> Result<Vec<(&'f [u8], &'f [u8])>, AllocError>
+    ensures { IfOk result (λ named. map (λ f. file_as f.0.now f.1.now) named.items ≡ map file_of files.now) }
+{
+    let mut named = Vec::new(alloc);
+    for file in files {
+        named.push((file.name.as_str().as_bytes(), file.bytes.as_slice()))?;
+    }
+    Ok(named)
+}
+
+/// Why the first file that is no table is refused.
+fn refused_table(files: &[NamedFile], place: usize, fault: TableFault) -> Refusal
+    requires within { place < length files.now }
+    requires refused { tables_of (map file_of files.now) ≡ Err (BadTable place fault) }
+    ensures { RefusesTable (map file_of files.now) (refusal_words result) }
+{
+    Refusal::File(files[place].name, FileFault::Bad(fault))
+}
+
+/// The world after the events of a game, or why a file is refused.
+fn world_of(
+    alloc: Global,
+    game: &Game,
+    files: &[NamedFile],
+    cache: CacheSize,
+    events: &[Event],
+) -> Result<Result<World, Refusal>, AllocError>
+    requires { AreFiles (map file_of files.now) }
+    ensures ok { IfOk result (λ ran. IfOk ran (Runs game.now (map file_of files.now) events.now)) }
+    ensures err { IfOk result (λ ran. IfErr ran (λ refusal. RefusesTable (map file_of files.now) (refusal_words refusal))) }
+{
+    let named = named_bytes(alloc, files)?;
+    reads_what_is_laid_out();
+    match run(alloc, game, &named, cache.blocks(), events) {
+        Ok(world) => Ok(Ok(world)),
+        Err(WorldFault::BadTable(place, fault)) => Ok(Err(refused_table(files, place, fault))),
+        Err(WorldFault::DuplicateTable(_)) => unreachable!(),
+        Err(WorldFault::OutOfMemory) => Err(AllocError),
+    }
+}
+
+/// How many moves an arbiter keeps, and the verdict; none where nothing is kept.
+fn kept_of(world: &World, who: Who) -> Option<Kept>
+    ensures { (stamp : Stamp) (delay : ℕ) (kept : Option Recorded) → KeptIs stamp delay (told_of world.now who).bytes kept → result ≡ counted kept }
+{
+    match world.kept(who) {
+        None => None,
+        Some((count, code)) => Some(Kept {
+            count,
+            verdict: Verdict::from_code(code),
+        }),
+    }
+}
+
+/// What is told of an arbiter.
+fn line_of(world: &World, who: Who) -> Line
+    ensures { (stamp : Stamp) (delay : ℕ) (side : Side) → TellsSide stamp delay (told_of world.now who) side → words_of result ≡ side_words who side }
+{
+    Line::Arbiter(who, world.state(who), kept_of(world, who))
+}
+
+/// What is told of a world.
+fn lines_of(alloc: Global, world: &World) -> Result<Vec<Line>, AllocError>
+    ensures { IfOk result (λ lines. (game : Judged) (last : Worlds) → Tells game world.now last → map words_of lines.items ≡ world_words last) }
+{
+    let lines = [
+        line_of(world, Who::A),
+        line_of(world, Who::B),
+        Line::Sent(world.log().len()),
+    ];
+    Vec::from_slice(alloc, &lines)
+}
+
+/// What is told of a world, as an answer.
+fn answer_world(alloc: Global, world: &World) -> Result<Answer, AllocError>
+    ensures { IfOk result (λ a. (game : Judged) (last : Worlds) → Tells game world.now last → reply_of a ≡ record { text = text_of (world_words last); status = 0 }) }
+{
+    let lines = lines_of(alloc, world)?;
+    Ok(Answer::Lines(lines, true))
+}
+
+/// What becomes of two arbiters under the events of a schedule, or the refusal of the first file that is no table.
+fn answer_events(
+    alloc: Global,
+    sources: &Sources,
+    cache: CacheSize,
+    schedule: &Schedule,
+    game: &Game,
+) -> Result<Answer, AllocError>
+    requires { SpellsSchedule sources.now.input schedule.now }
+    ensures { IfOk result (λ a. (delay : ℕ) → game.now ≡ game_of schedule.now delay → IsRun sources.now.input sources.now.files delay (reply_of a)) }
+{
+    match world_of(alloc, game, sources.files(), cache, &schedule.events) {
+        Ok(Ok(world)) => answer_world(alloc, &world),
+        Ok(Err(refusal)) => Ok(Answer::Refused(refusal)),
+        Err(_) => Err(AllocError),
+    }
+}
+
+/// What becomes of two arbiters under a schedule, or the refusal of the first file that is no table.
+fn answer_schedule(
+    alloc: Global,
+    sources: &Sources,
+    cache: CacheSize,
+    delay: Delay,
+    schedule: &Schedule,
+) -> Result<Answer, AllocError>
+    requires { SpellsSchedule sources.now.input schedule.now }
+    ensures { IfOk result (λ a. IsRun sources.now.input sources.now.files delay (reply_of a)) }
+{
+    match game_of(alloc, schedule, delay) {
+        Ok(game) => answer_events(alloc, sources, cache, schedule, &game),
+        Err(_) => Err(AllocError),
+    }
+}
+
+impl<'a> Run<'a> {
+    /// The task with these values; none where a number isn't one that it takes.
+    pub(crate) fn of(matches: &ArgMatches<'a>) -> Option<Run<'a>>
+        ensures some { IfSome result (HasValues (first_value (found_of matches.now))) }
+        ensures none { IfNone result (Lacks (first_value (found_of matches.now))) }
+    {
+        Some(Run {
+            tables: matches.get_str("tables"),
+            cache: CacheSize::of(matches.get_str("cache"))?,
+            delay: Delay::of(matches.get_str("delay"))?,
+        })
+    }
+
+    /// What is read for it.
+    pub(crate) fn places(&self) -> Places<'a>
+        ensures { named_by result ≡ named self.now }
+    {
+        Places {
+            folder: self.tables,
+            manifest: None,
+            reads_input: true,
+        }
+    }
+
+    /// What becomes of two arbiters under the schedule of the input: the first line at fault is refused,
+    /// then the first file that is no table.
+    pub(crate) fn answer(&self, alloc: Global, sources: &Sources) -> Result<Answer, AllocError>
+        ensures { IfOk result (λ a. IsReply self.now sources.now (reply_of a)) }
+    {
+        match schedule_of(alloc, sources.input()) {
+            Ok(Ok(schedule)) => answer_schedule(alloc, sources, self.cache, self.delay, &schedule),
+            Ok(Err(refused)) => Ok(Answer::Refused(refused)),
+            Err(_) => Err(AllocError),
+        }
+    }
+}

@@ -1,0 +1,96 @@
+//! `show`: the messages of the input as lines.
+
+ghost use Rattle.std.specs.Prelude.{◌≡◌, IfOk};
+ghost use Rattle.move_msg.specs.Streams.{nothing_fed};
+ghost use Rattle.adjudicate_core.specs.Commands.Show.{Answers, IsShown, named};
+ghost use Rattle.adjudicate_core.specs.Reply.{Reply, WritesReply};
+ghost use Rattle.adjudicate_core.specs.Inside.Fronts.{IsFront};
+ghost use Rattle.adjudicate_core.specs.Sources.{named_by};
+
+use crate::lines::{Line, put_line, put_refusal};
+use crate::refusals::Refusal;
+use crate::sources::{Places, Sources};
+use move_msg::{Feeder, Message, MessageFault};
+use std::io::Write;
+use system_io::WriteFault;
+
+/// The messages of the input.
+#[derive(Clone, Copy)]
+pub struct Show;
+
+/// What stands at the front of a stream.
+enum Front<'a> {
+    /// A message, and what follows it.
+    Message(Message, &'a [u8]),
+    /// As many bytes as a message has, which are none.
+    Fault(MessageFault),
+    /// The beginning of a message.
+    Cut,
+    /// Nothing.
+    End,
+}
+
+/// What stands at the front of a stream, by a feeder that holds nothing.
+fn read_front<'a>(feeder: &mut Feeder, stream: &'a [u8]) -> Front<'a>
+    requires { feeder.old ≡ nothing_fed }
+    ensures { IsFront stream.now result feeder.new }
+{
+    let (taken, answer) = feeder.feed(stream);
+    match answer {
+        Some(Ok(message)) => Front::Message(message, &stream[taken..]),
+        Some(Err(fault)) => Front::Fault(fault),
+        None if feeder.held() == 0 => Front::End,
+        None => Front::Cut,
+    }
+}
+
+/// Writes a line for each message of a stream, and a refusal where it doesn't end after one; tells
+/// the status, 0 done or 1 refused.
+fn show_messages<W: Write>(stream: &[u8], out: &mut W) -> Result<u8, WriteFault>
+    ensures { IfOk result (λ status. (r : Reply) × IsShown stream.now r × WritesReply (W.contents out.old) (W.contents out.new) r status) }
+{
+    let mut feeder = Feeder::new();
+    let mut rest = stream;
+    let mut number: usize = 1;
+    loop {
+        match read_front(&mut feeder, rest) {
+            Front::Message(message, tail) => {
+                match put_line(out, &Line::Message(message)) {
+                    Ok(()) => {}
+                    Err(fault) => return Err(fault),
+                }
+                rest = tail;
+                number += 1;
+            }
+            Front::Fault(fault) => {
+                return put_refusal(out, Refusal::Message(number, Some(fault)));
+            }
+            Front::Cut => return put_refusal(out, Refusal::Message(number, None)),
+            Front::End => return Ok(0),
+        }
+    }
+}
+
+impl Show {
+    /// What is read for it.
+    pub(crate) fn places<'a>(&self) -> Places<'a>
+        ensures { named_by result ≡ named }
+    {
+        Places {
+            folder: None,
+            manifest: None,
+            reads_input: true,
+        }
+    }
+
+    /// Writes a line for each message of the input, as it is read, and tells the status.
+    pub(crate) fn answer<W: Write>(
+        &self,
+        sources: &Sources,
+        out: &mut W,
+    ) -> Result<u8, WriteFault>
+        ensures { IfOk result (Answers sources.now (W.contents out.old) (W.contents out.new)) }
+    {
+        show_messages(sources.input(), out)
+    }
+}

@@ -1,0 +1,37 @@
+//! The commands of the adjudicator: words in, lines and a status out.
+//!
+//! `judge FEN` prints the verdict on a position, or `open`; `moves FEN` prints its legal moves;
+//! `probe --tables DIR FEN` prints what tables say of it; `list DIR` prints the manifest of a
+//! folder's tables, and `check --manifest FILE DIR` whether they are those of one; `probes --tables DIR`
+//! prints what tables say of each line of standard input, and `game FEN` what the game of the moves there
+//! comes to; `show` prints the
+//! messages on standard input; `run` runs the schedule on standard input, and prints what becomes of its
+//! two arbiters; `listen` is an arbiter that answers the datagrams of a socket and keeps its record in a file.
+//! Statuses: 0 done, 1 refused, 2 misuse.
+//!
+//! Its tests stand in `rows`.
+#![tactic(auto)]
+
+mod answers;
+mod commands;
+mod file_name;
+mod lines;
+mod listening;
+mod numbers;
+mod program;
+mod reading;
+mod refusals;
+mod sources;
+mod tables;
+mod told_lines;
+mod usage;
+
+pub use commands::{
+    Check, Form, Game, Judge, List, Listen, Moves, Name, Probe, Probes, Run, Show, Task, Value, parse,
+};
+pub use numbers::{CacheSize, Delay};
+pub use program::{refuse_memory, run, run_program};
+pub use reading::files_in;
+pub use sources::{Places, Sources};
+pub use told_lines::{TellFault, Teller, tell_lines};
+pub use usage::Usage;

@@ -1,0 +1,158 @@
+//! The lines that the program writes.
+
+ghost use Rattle.std.specs.Prelude.{◌≡◌, ◌++◌, Some, IfOk, OnOk, codes};
+ghost use Rattle.std.specs.Fmt.{DisplaysOnOk};
+ghost use Rattle.std.specs.Io.KnownBytes.{Appends};
+ghost use Rattle.move_msg.specs.TextLines.{ended};
+ghost use Rattle.arbiter_service.specs.ServedLines.{verdict_or_none};
+ghost use Rattle.adjudicate_core.specs.Lines.{arbiter_words, refusal_words, state_word, told_words, words_of};
+ghost use Rattle.relay_world.specs.Texts.{who_word};
+
+use crate::refusals::Refusal;
+use crate::tables::FileFault;
+use arbiter_service::verdict_or_none;
+use arrayvec::ArrayString;
+use board_core::{Move, Verdict};
+use fen_text::write_move;
+use judge_core::{Columns, Outcome, Told, verdict_or_open};
+use move_msg::{Message, Who};
+use relay_world::State;
+use std::fmt;
+use std::io::Write;
+use system_io::WriteFault;
+
+/// What an arbiter keeps.
+#[derive(Clone, Copy)]
+pub(crate) struct Kept {
+    /// How many moves.
+    pub(crate) count: u32,
+    /// The verdict, if there is one.
+    pub(crate) verdict: Option<Verdict>,
+}
+
+/// A line, without its line feed.
+#[derive(Clone, Copy)]
+pub(crate) enum Line {
+    /// The verdict on a position; none where the game goes on.
+    Ruling(Option<Verdict>),
+    /// Why something is refused.
+    Refused(Refusal),
+    /// A move in coordinates.
+    Move(Move),
+    /// Whether the file of this name is the table that it should be.
+    Look(ArrayString<16>, Option<FileFault>),
+    /// The value that the tables tell, or why they tell none.
+    Wdl(Told),
+    /// The distance that the tables tell, or why they tell none.
+    Dtz(Told),
+    /// A message.
+    Message(Message),
+    /// How an arbiter is, and what it keeps, if anything.
+    Arbiter(Who, State, Option<Kept>),
+    /// How many messages were sent.
+    Sent(usize),
+    /// What a game comes to.
+    Outcome(Outcome),
+    /// What both probes tell of a position, and the verdict on it.
+    Columns(Columns),
+}
+
+/// Tells what the tables tell, or why they tell nothing.
+fn fmt_told<W: fmt::Write>(f: &mut fmt::Formatter<W>, question: &str, told: Told) -> fmt::Result
+    ensures { DisplaysOnOk W.Write.write_str_gives f.old result (Some (told_words question.now told.0)) f.new }
+{
+    write!(f, "{question} {told}")
+}
+
+/// The letter of an arbiter.
+fn letter_of(who: Who) -> &'static str
+    ensures { result.now ≡ who_word who }
+{
+    match who {
+        Who::A => "A",
+        Who::B => "B",
+    }
+}
+
+/// The word for how an arbiter is.
+fn state_word(state: State) -> &'static str
+    ensures { result.now ≡ state_word state }
+{
+    match state {
+        State::Running => "running",
+        State::Down => "down",
+        State::Closed => "closed",
+    }
+}
+
+/// Tells how an arbiter is, and what it keeps.
+#[tactic(auto, unfolding(crate::specs::Lines::arbiter_words))]
+fn fmt_arbiter<W: fmt::Write>(
+    f: &mut fmt::Formatter<W>,
+    who: Who,
+    state: State,
+    kept: Option<Kept>,
+) -> fmt::Result
+    ensures { DisplaysOnOk W.Write.write_str_gives f.old result (Some (arbiter_words who state kept)) f.new }
+{
+    let letter = letter_of(who);
+    let word = state_word(state);
+    match kept {
+        None => write!(f, "{letter} {word} - none"),
+        Some(kept) => {
+            let verdict = verdict_or_none(kept.verdict);
+            write!(f, "{letter} {word} {} {verdict}", kept.count)
+        }
+    }
+}
+
+/// Tells a name, and a word on it.
+fn fmt_named<W: fmt::Write>(f: &mut fmt::Formatter<W>, name: &str, word: &str) -> fmt::Result
+    ensures { DisplaysOnOk W.Write.write_str_gives f.old result (Some (name.now ++ codes " " ++ word.now)) f.new }
+{
+    write!(f, "{name} {word}")
+}
+
+impl fmt::Display for Line {
+    ghost use Rattle.std.specs.Prelude.{Some};
+    ghost use Rattle.adjudicate_core.specs.Lines.{words_of};
+
+    ghost output = { λ l. Some (words_of l) };
+
+    fn fmt<W: fmt::Write>(&self, f: &mut fmt::Formatter<W>) -> fmt::Result {
+        match self {
+            Line::Ruling(verdict) => f.write_str(verdict_or_open(*verdict)),
+            Line::Refused(refusal) => fmt::Display::fmt(refusal, f),
+            Line::Move(m) => f.write_str(write_move(m).as_str()),
+            Line::Look(name, None) => fmt_named(f, name.as_str(), "ok"),
+            Line::Look(name, Some(fault)) => fmt_named(f, name.as_str(), fault.name()),
+            Line::Wdl(told) => fmt_told(f, "wdl", *told),
+            Line::Dtz(told) => fmt_told(f, "dtz", *told),
+            Line::Message(message) => fmt::Display::fmt(message, f),
+            Line::Arbiter(who, state, kept) => fmt_arbiter(f, *who, *state, *kept),
+            Line::Sent(number) => write!(f, "sent {number}"),
+            Line::Outcome(outcome) => fmt::Display::fmt(outcome, f),
+            Line::Columns(columns) => fmt::Display::fmt(columns, f),
+        }
+    }
+}
+
+/// Writes a line.
+pub(crate) fn put_line<W: Write>(out: &mut W, line: &Line) -> Result<(), WriteFault>
+    ensures { OnOk result (Appends (W.contents out.old) (W.contents out.new) (ended (words_of line.now))) }
+{
+    match writeln!(out, "{line}") {
+        Ok(()) => Ok(()),
+        Err(_) => Err(WriteFault::Io),
+    }
+}
+
+/// Writes why all else is refused, and tells the status 1.
+pub(crate) fn put_refusal<W: Write>(out: &mut W, refusal: Refusal) -> Result<u8, WriteFault>
+    ensures { IfOk result (λ status. Appends (W.contents out.old) (W.contents out.new) (ended (refusal_words refusal)) × (status ≡ 1)) }
+{
+    match put_line(out, &Line::Refused(refusal)) {
+        Ok(()) => Ok(1),
+        Err(fault) => Err(fault),
+    }
+}

@@ -1,0 +1,194 @@
+//! An arbiter that answers datagrams, from its words to its status.
+
+ghost use Rattle.std.specs.Prelude.{◌≡◌, IfOk, Ok};
+ghost use Rattle.board_core.specs.Position.{IsPosition};
+ghost use Rattle.fen_text.specs.Fen.{SpellsPosition};
+ghost use Rattle.move_msg.specs.Files.{entries_of};
+ghost use Rattle.move_msg.specs.Manifests.{SpellsManifest};
+ghost use Rattle.arbiter_core.specs.Setups.{setup_view};
+ghost use Rattle.adjudicate_core.specs.Listens.{BindsAndServes, KeepsAndServes, Listens, OpensAndServes, ServesAt, TellsUnopened, hosted, setup_for};
+ghost use Rattle.adjudicate_core.specs.Looks.{gathered};
+ghost use Rattle.arbiter_service.specs.Serving.{scene};
+ghost use Rattle.arbiter_service.specs.StoredBytes.{IsInFile};
+
+use crate::commands::Listen;
+use crate::lines::put_refusal;
+use crate::refusals::Refusal;
+use crate::sources::Sources;
+use crate::tables::gather;
+use arbiter_core::{OpenFault, Setup};
+use arbiter_service::FileKeeper;
+use board_core::Position;
+use fen_text::read;
+use judge_core::Set;
+use move_msg::manifest_of;
+use std::alloc::{AllocError, Global};
+use std::io::Write;
+use system_io::{BindFault, Host, KeptFile, Port, ReadFault, WriteFault};
+
+/// Tells that no arbiter is opened: `refused keeper`, or `refused memory` where memory was refused.
+fn put_unopened<W: Write>(fault: OpenFault, out: &mut W) -> Result<u8, WriteFault>
+    ensures { IfOk result (TellsUnopened fault (W.contents out.old) (W.contents out.new)) }
+{
+    match fault {
+        OpenFault::OutOfMemory => put_refusal(out, Refusal::Memory),
+        _ => put_refusal(out, Refusal::Keeper),
+    }
+}
+
+/// Opens an arbiter over a keeper, and lets it answer the datagrams of a port. An arbiter that can't be opened is told as
+/// `refused keeper`.
+fn open_and_serve<F: KeptFile + Drop, P: Port, W: Write>(
+    alloc: Global,
+    listening: &Listen<'_>,
+    setup: Setup<'_>,
+    keeper: &mut FileKeeper<F>,
+    port: &mut P,
+    out: &mut W,
+) -> Result<u8, WriteFault>
+    requires { IsInFile F.facts keeper.old }
+    ensures { IfOk result (OpensAndServes F.facts listening.now (setup_view setup.entry) (scene keeper.old (P.facts port.old) (W.contents out.old)) (scene keeper.new (P.facts port.new) (W.contents out.new))) }
+{
+    match arbiter_service::open_and_serve(
+        alloc,
+        setup,
+        keeper,
+        port,
+        listening.datagrams,
+        listening.fetch,
+        out,
+    ) {
+        Ok(Ok(status)) => Ok(status),
+        Ok(Err(fault)) => put_unopened(fault, out),
+        Err(_) => Err(WriteFault::Io),
+    }
+}
+
+/// The same over a file in which the record is kept. A file that can't be read is told as `refused keeper`.
+fn keep_and_serve<F: KeptFile + Drop, P: Port, W: Write>(
+    alloc: Global,
+    listening: &Listen<'_>,
+    setup: Setup<'_>,
+    file: F,
+    port: &mut P,
+    out: &mut W,
+) -> Result<u8, WriteFault>
+    ensures { IfOk result (KeepsAndServes F.facts listening.now (setup_view setup.entry) file (P.facts port.old) (P.facts port.new) (W.contents out.old) (W.contents out.new)) }
+{
+    match FileKeeper::new(alloc, file) {
+        Ok(mut keeper) => open_and_serve(alloc, listening, setup, &mut keeper, port, out),
+        Err(ReadFault::Unreadable) => put_refusal(out, Refusal::Keeper),
+        Err(ReadFault::OutOfMemory) => put_refusal(out, Refusal::Memory),
+    }
+}
+
+/// The same over the file that the words name.
+fn serve_at<H: Host, W: Write>(
+    alloc: Global,
+    listening: &Listen<'_>,
+    setup: Setup<'_>,
+    host: &H,
+    port: &mut H::Port,
+    out: &mut W,
+) -> Result<u8, WriteFault>
+    ensures { IfOk result (ServesAt (hosted (H.facts host.now) H.Port.facts H.File.facts) listening.now (setup_view setup.entry) (H.Port.facts port.old) (H.Port.facts port.new) (W.contents out.old) (W.contents out.new)) }
+{
+    match host.file(alloc, listening.kept) {
+        Ok(file) => keep_and_serve(alloc, listening, setup, file, port, out),
+        Err(_) => put_refusal(out, Refusal::Memory),
+    }
+}
+
+/// The same at the address and over the file that the words name. An address that can't be bound is told as `refused port`.
+fn bind_and_serve<H: Host, W: Write>(
+    alloc: Global,
+    listening: &Listen<'_>,
+    setup: Setup<'_>,
+    host: &H,
+    out: &mut W,
+) -> Result<u8, WriteFault>
+    ensures { IfOk result (BindsAndServes (hosted (H.facts host.now) H.Port.facts H.File.facts) listening.now (setup_view setup.entry) (W.contents out.old) (W.contents out.new)) }
+{
+    match host.bind(alloc, listening.bind, &[listening.to]) {
+        Ok(mut port) => serve_at(alloc, listening, setup, host, &mut port, out),
+        Err(BindFault::Unbound) => put_refusal(out, Refusal::Port),
+        Err(BindFault::OutOfMemory) => put_refusal(out, Refusal::Memory),
+    }
+}
+
+/// The manifest of the tables.
+fn manifest_for(alloc: Global, sources: &Sources) -> Result<Vec<u8>, AllocError>
+    ensures { IfOk result (λ text. SpellsManifest text.items (entries_of sources.now.files)) }
+{
+    manifest_of(alloc, sources.files())
+}
+
+/// The same with the tables of a set and their manifest.
+fn listen_with<'a, H: Host, W: Write>(
+    alloc: Global,
+    listening: &Listen<'_>,
+    name: &'a [u8],
+    start: Position,
+    manifest: &'a [u8],
+    set: Set<'a>,
+    host: &H,
+    out: &mut W,
+) -> Result<u8, WriteFault>
+    requires { name.now ≡ listening.now.name.now }
+    ensures { IfOk result (BindsAndServes (hosted (H.facts host.now) H.Port.facts H.File.facts) listening.now (setup_for listening.now start set.entry manifest.entry.now) (W.contents out.old) (W.contents out.new)) }
+{
+    let setup = Setup {
+        name,
+        start,
+        manifest,
+        me: listening.me.number(),
+        delay: listening.delay.plies(),
+        set,
+    };
+    bind_and_serve(alloc, listening, setup, host, out)
+}
+
+/// The same with the tables of a set.
+fn listen_by<'a, H: Host, W: Write>(
+    alloc: Global,
+    listening: &Listen<'a>,
+    sources: &Sources,
+    start: Position,
+    set: Set<'a>,
+    host: &H,
+    out: &mut W,
+) -> Result<u8, WriteFault>
+    ensures { Ok set.entry.tables ≡ gathered sources.now → SpellsPosition listening.now.start.now start → IsPosition start → IfOk result (Listens (hosted (H.facts host.now) H.Port.facts H.File.facts) listening.now sources.now (W.contents out.old) (W.contents out.new)) }
+{
+    let manifest = match manifest_for(alloc, sources) {
+        Ok(manifest) => manifest,
+        Err(_) => return put_refusal(out, Refusal::Memory),
+    };
+    let name = listening.name.as_bytes();
+    listen_with(alloc, listening, name, start, &manifest, set, host, out)
+}
+
+/// Opens an arbiter as its words say, lets it answer datagrams, and tells the status.
+///
+/// What is refused is told in one line, in this order: the text of its start, the tables, the address, and the file in which the
+/// record is kept or what stands there. Where memory is refused the line is `refused memory`. The error comes only where the
+/// writer failed.
+pub fn listen<'a, H: Host, W: Write>(
+    alloc: Global,
+    listening: &Listen<'a>,
+    sources: &'a Sources,
+    host: &H,
+    out: &mut W,
+) -> Result<u8, WriteFault>
+    ensures { IfOk result (Listens (hosted (H.facts host.now) H.Port.facts H.File.facts) listening.now sources.now (W.contents out.old) (W.contents out.new)) }
+{
+    let start = match read(listening.start.as_bytes()) {
+        Ok(start) => start,
+        Err(fault) => return put_refusal(out, Refusal::Fen(fault)),
+    };
+    match gather(alloc, sources) {
+        Ok(Ok(set)) => listen_by(alloc, listening, sources, start, set, host, out),
+        Ok(Err(refusal)) => put_refusal(out, refusal),
+        Err(_) => put_refusal(out, Refusal::Memory),
+    }
+}

@@ -1,0 +1,178 @@
+//! The program's words, its output and its status.
+
+ghost use Rattle.std.specs.Prelude.{◌≡◌, ◌≢◌, ◌⊎◌, drop, map, string_bytes, true, false, Ok, IfOk};
+ghost use Rattle.adjudicate_core.specs.declared.commands.Task.{Task};
+ghost use Rattle.adjudicate_core.specs.ToldLines.{refused_memory};
+ghost use Rattle.adjudicate_core.specs.Listens.{hosted};
+ghost use Rattle.adjudicate_core.specs.Running.{AnswersFrom, AnswersTask, Called, Runs, called_by, outside};
+ghost use Rattle.adjudicate_core.specs.Tasks.{IsTask, tells_progress};
+ghost use Rattle.adjudicate_core.specs.Telling.{TellsOne};
+
+use crate::answers::put_answered;
+use crate::commands::{Task, parse};
+use crate::lines::put_refusal;
+use crate::listening::listen;
+use crate::refusals::Refusal;
+use crate::sources::Sources;
+use crate::usage::Usage;
+use std::alloc::{AllocError, Global};
+use std::io::Write;
+use system_io::{Disk, Host, Input, ReadFault, WriteFault};
+
+/// What a misuse is told.
+const USAGE: &str = "usage: adjudicate judge [--tables DIR] [--manifest FILE] FEN
+       adjudicate moves FEN
+       adjudicate probe --tables DIR [--manifest FILE] FEN
+       adjudicate list DIR
+       adjudicate check --manifest FILE DIR
+       adjudicate show
+       adjudicate probes --tables DIR [--manifest FILE] [--progress]
+       adjudicate game [--tables DIR] [--manifest FILE] [--delay N] FEN
+       adjudicate run [--tables DIR] [--cache N] [--delay N]
+       adjudicate listen --name N --start FEN --tables DIR --me M --bind ADDR --to ADDR --kept FILE
+                         --datagrams N [--delay N] [--fetch]";
+
+/// Writes what a misuse is told; a failure changes nothing.
+fn put_usage<E: Write>(errors: &mut E) {
+    match writeln!(errors, "{USAGE}") {
+        Ok(()) => {}
+        Err(_) => {}
+    }
+}
+
+/// Answers a task from what was read for it, and tells the status, 0 done or 1 refused.
+///
+/// `judge` and `probe` look at all files, or with a manifest at those of its lines, in its order, and
+/// tell the first refusal: of the text, then of the manifest, then of a file. `run` tells that of a line of
+/// the schedule, then of a file; and where it refuses nothing, there are worlds of the schedule, in each of
+/// which the records of both arbiters are true to the game and their verdicts one, and it tells the last.
+///
+/// Where memory is refused, the line `refused memory` comes in place of all else, for `probes` after the whole lines before it,
+/// with status 1; a
+/// text that is no position takes none, and `show` takes none. The error comes only where the writer
+/// failed. With `--progress`, `probes` tells `errors` after every 10,000 lines how many are done; no other task writes there.
+fn answer_given<H: Host, W: Write, E: Write>(
+    alloc: Global,
+    task: &Task,
+    sources: &Sources,
+    host: &H,
+    out: &mut W,
+    errors: &mut E,
+) -> Result<u8, WriteFault>
+    ensures quiet { tells_progress task.now ≡ false → errors.new ≡ errors.old }
+    ensures answered { IfOk result (AnswersFrom (hosted (H.facts host.now) H.Port.facts H.File.facts) task.now sources.now (W.contents out.old) (W.contents out.new)) }
+{
+    match task {
+        Task::Judge(task) => put_answered(out, task.answer(alloc, sources)),
+        Task::Probe(task) => put_answered(out, task.answer(alloc, sources)),
+        Task::Moves(task) => put_answered(out, task.answer(alloc)),
+        Task::List(task) => put_answered(out, task.answer(alloc, sources)),
+        Task::Check(task) => put_answered(out, task.answer(alloc, sources)),
+        Task::Show(task) => task.answer(sources, out),
+        Task::Run(task) => put_answered(out, task.answer(alloc, sources)),
+        Task::Listen(task) => listen(alloc, task, sources, host, out),
+        Task::Probes(task) => task.answer(alloc, sources, out, errors),
+        Task::Game(task) => put_answered(out, task.answer(alloc, sources)),
+    }
+}
+
+/// Answers a task from what it reads.
+fn run_task<D: Disk, I: Input, H: Host, W: Write, E: Write>(
+    alloc: Global,
+    task: &Task,
+    disk: &D,
+    input: &I,
+    host: &H,
+    out: &mut W,
+    errors: &mut E,
+) -> Result<u8, WriteFault>
+    ensures quiet { tells_progress task.now ≡ false → errors.new ≡ errors.old }
+    ensures answered { IfOk result (AnswersTask (outside (D.facts disk.now) (I.facts input.now) (hosted (H.facts host.now) H.Port.facts H.File.facts)) task.now (W.contents out.old) (W.contents out.new)) }
+{
+    let places = task.places();
+    match Sources::read(alloc, disk, input, &places) {
+        Ok(sources) => answer_given(alloc, task, &sources, host, out, errors),
+        Err(ReadFault::Unreadable) => put_refusal(out, Refusal::Files),
+        Err(ReadFault::OutOfMemory) => put_refusal(out, Refusal::Memory),
+    }
+}
+
+/// Runs the program on the words after its own name, and tells the status: 0 done, 1 refused, 2
+/// misuse.
+///
+/// All that a task names is read before anything is answered: its folder, of which the files of
+/// tables are looked at, its manifest, and for `show`, `run`, `probes` and `game` the input, to its end. What can't be read or
+/// has more than 2^30 bytes is told as `refused files`. Only `listen` opens a port and a kept file. Answers go to `out` and the text of a
+/// misuse to `errors`, as does how far `probes --progress` is; nothing else is written there, and its failure changes nothing. The error comes only where `out` failed.
+pub fn run<D: Disk, I: Input, H: Host, W: Write, E: Write>(
+    alloc: Global,
+    words: &[&str],
+    disk: &D,
+    input: &I,
+    host: &H,
+    out: &mut W,
+    errors: &mut E,
+) -> Result<u8, WriteFault>
+    ensures quiet { errors.new ≢ errors.old → (result ≡ Ok 2) ⊎ ((t : Task) × IsTask (map (λ w. w.now) words.now) t × (tells_progress t ≡ true)) }
+    ensures answered { IfOk result (Runs (outside (D.facts disk.now) (I.facts input.now) (hosted (H.facts host.now) H.Port.facts H.File.facts)) (map (λ w. w.now) words.now) (W.contents out.old) (W.contents out.new)) }
+{
+    match parse(alloc, words) {
+        Ok(task) => run_task(alloc, &task, disk, input, host, out, errors),
+        Err(Usage::OutOfMemory) => put_refusal(out, Refusal::Memory),
+        Err(Usage::Misuse) => {
+            put_usage(errors);
+            Ok(2)
+        }
+    }
+}
+
+/// The words after the first.
+fn tail_of<'a>(alloc: Global, words: &'a [String]) -> Result<Vec<&'a str>, AllocError>
+    ensures { IfOk result (λ tail. map (λ w. w.now) tail.items ≡ drop 1 (map string_bytes words.now)) }
+{
+    match words {
+        [] => Ok(Vec::new(alloc)),
+        [_, others @ ..] => texts_of(alloc, others),
+    }
+}
+
+/// Words as texts.
+fn texts_of<'a>(alloc: Global, words: &'a [String]) -> Result<Vec<&'a str>, AllocError>
+    ensures { IfOk result (λ texts. map (λ w. w.now) texts.items ≡ map string_bytes words.now) }
+{
+    let mut texts = Vec::new(alloc);
+    for word in words {
+        texts.push(word.as_str())?;
+    }
+    Ok(texts)
+}
+
+/// Writes the line `refused memory`, and tells the status 1.
+pub fn refuse_memory<W: Write>(out: &mut W) -> Result<u8, WriteFault>
+    ensures { IfOk result (TellsOne refused_memory (W.contents out.old) (W.contents out.new)) }
+{
+    put_refusal(out, Refusal::Memory)
+}
+
+/// Runs the program on all words that it was called with, its own name first. Where they are no texts it runs on none, and
+/// where memory was refused for them, that is told.
+pub fn run_program<D: Disk, I: Input, H: Host, W: Write, E: Write>(
+    alloc: Global,
+    called: &Result<Vec<String>, Usage>,
+    disk: &D,
+    input: &I,
+    host: &H,
+    out: &mut W,
+    errors: &mut E,
+) -> Result<u8, WriteFault>
+    ensures { IfOk result (Called (outside (D.facts disk.now) (I.facts input.now) (hosted (H.facts host.now) H.Port.facts H.File.facts)) (called_by called.now) (W.contents out.old) (W.contents out.new)) }
+{
+    match called {
+        Ok(words) => match tail_of(alloc, words) {
+            Ok(tail) => run(alloc, &tail, disk, input, host, out, errors),
+            Err(_) => refuse_memory(out),
+        },
+        Err(Usage::Misuse) => run(alloc, &[], disk, input, host, out, errors),
+        Err(Usage::OutOfMemory) => refuse_memory(out),
+    }
+}

@@ -1,0 +1,157 @@
+//! What a task is answered from: the files of its folder, its manifest and the input.
+
+ghost use Rattle.std.specs.Prelude.{◌≡◌, List, ℕ, map, option_map, is_some, true, Some, IfOk, OnErr, IsErrOf};
+ghost use Rattle.move_msg.specs.Files.{AreFiles, file_of};
+ghost use Rattle.move_msg.specs.ToldBy.{told_by};
+ghost use Rattle.system_io.specs.Disks.{AtFile};
+ghost use Rattle.adjudicate_core.specs.Outside.{AreFilesAt, FolderFails, IsToldAt};
+ghost use Rattle.adjudicate_core.specs.Sources.{CannotRead, IsGiven, IsInputAt, named_by, reads_some};
+
+use crate::reading::files_in;
+use move_msg::{Manifest, NamedFile};
+use std::alloc::Global;
+use std::marker::Model;
+use system_io::{Disk, Input, ReadFault};
+
+/// What is read for a task: the folder of its tables, the file of its manifest, and whether the input is.
+#[derive(Clone, Copy)]
+pub struct Places<'a> {
+    /// The path of the folder, if one is read.
+    pub folder: Option<&'a str>,
+    /// The path of the manifest, if one is read.
+    pub manifest: Option<&'a str>,
+    /// Whether the input is read, to its end.
+    pub reads_input: bool,
+}
+
+/// What a task is answered from. Contracts see the files, what the manifest tells, and the input.
+#[derive(Drop)]
+pub struct Sources {
+    files: Vec<NamedFile>,
+    manifest: Manifest,
+    input: Vec<u8>,
+}
+
+impl Model for Sources {
+    ghost use Rattle.std.specs.Prelude.{map};
+    ghost use Rattle.move_msg.specs.Files.{AreFiles, file_of};
+    ghost use Rattle.adjudicate_core.specs.Given.{Given};
+    ghost use Rattle.move_msg.specs.ToldBy.{told_by};
+
+    ghost Value = { Given };
+
+    ghost view = { λ s. record { files = map file_of s.files.items; told = told_by s.manifest; input = s.input.items } };
+
+    ghost invariant = { λ s. AreFiles (map file_of s.files.items) };
+}
+
+/// The manifest at a path, if there is one.
+fn read_manifest<D: Disk>(
+    alloc: Global,
+    disk: &D,
+    path: Option<&str>,
+) -> Result<Manifest, ReadFault>
+    ensures ok { IfOk result (λ manifest. IsToldAt (D.facts disk.now) (option_map (λ s. s.now) path.entry) (told_by manifest)) }
+    ensures cause { IsErrOf result ReadFault.Unreadable → (p : List ℕ) × (option_map (λ s. s.now) path.entry ≡ Some p) × (D.facts disk.now).fails (AtFile p) }
+    ensures some { OnErr result (is_some path.entry ≡ true) }
+{
+    let Some(path) = path else {
+        return Ok(Manifest::Unnamed);
+    };
+    let text = match disk.read(alloc, path) {
+        Ok(text) => text,
+        Err(fault) => return Err(fault),
+    };
+    match Manifest::of(alloc, &text) {
+        Ok(manifest) => Ok(manifest),
+        Err(_) => Err(ReadFault::OutOfMemory),
+    }
+}
+
+/// The wanted files of a folder, if there is one.
+fn read_folder<D: Disk>(
+    alloc: Global,
+    disk: &D,
+    folder: Option<&str>,
+    manifest: &Manifest,
+) -> Result<Vec<NamedFile>, ReadFault>
+    ensures ok { IfOk result (λ files. AreFilesAt (D.facts disk.now) (option_map (λ s. s.now) folder.entry) (told_by manifest.now) (map file_of files.items)) }
+    ensures files { IfOk result (λ files. AreFiles (map file_of files.items)) }
+    ensures cause { IsErrOf result ReadFault.Unreadable → (f : List ℕ) × (option_map (λ s. s.now) folder.entry ≡ Some f) × FolderFails (D.facts disk.now) f (told_by manifest.now) }
+    ensures some { OnErr result (is_some folder.entry ≡ true) }
+{
+    match folder {
+        None => Ok(Vec::new(alloc)),
+        Some(folder) => files_in(alloc, disk, folder, manifest),
+    }
+}
+
+/// The input, if it is wanted.
+fn read_input<I: Input>(alloc: Global, input: &I, is_wanted: bool) -> Result<Vec<u8>, ReadFault>
+    ensures ok { IfOk result (λ bytes. IsInputAt (I.facts input.now) is_wanted bytes.items) }
+    ensures cause { IsErrOf result ReadFault.Unreadable → (I.facts input.now).fails }
+    ensures some { OnErr result (is_wanted ≡ true) }
+{
+    if is_wanted {
+        input.read_to_end(alloc)
+    } else {
+        Ok(Vec::new(alloc))
+    }
+}
+
+impl Sources {
+    /// Reads what these places name: the manifest, the wanted files of the folder, and the input where it is wanted.
+    ///
+    /// Files whose names are not those of tables are passed over, and with a manifest those that it doesn't name.
+    /// `Unreadable` where the folder, one of these files, the manifest or the input can't be read or has more than 2^30 bytes, or
+    /// the folder lists one of these files twice; `OutOfMemory` where memory is refused. Nothing fails where nothing is named.
+    pub fn read<D: Disk, I: Input>(
+        alloc: Global,
+        disk: &D,
+        input: &I,
+        places: &Places,
+    ) -> Result<Sources, ReadFault>
+        ensures given { IfOk result (IsGiven (D.facts disk.now) (I.facts input.now) (named_by places.now)) }
+        ensures cause { IsErrOf result ReadFault.Unreadable → CannotRead (D.facts disk.now) (I.facts input.now) (named_by places.now) }
+        ensures some { OnErr result (reads_some (named_by places.now) ≡ true) }
+    {
+        let manifest = match read_manifest(alloc, disk, places.manifest) {
+            Ok(manifest) => manifest,
+            Err(fault) => return Err(fault),
+        };
+        let files = match read_folder(alloc, disk, places.folder, &manifest) {
+            Ok(files) => files,
+            Err(fault) => return Err(fault),
+        };
+        match read_input(alloc, input, places.reads_input) {
+            Ok(input) => Ok(Sources {
+                files,
+                manifest,
+                input,
+            }),
+            Err(fault) => Err(fault),
+        }
+    }
+
+    /// The files, in rising order of names; none where no folder is read.
+    pub fn files(&self) -> &[NamedFile]
+        ensures files { map file_of result.now ≡ self.now.files }
+        ensures rising { AreFiles (map file_of result.now) }
+    {
+        &self.files
+    }
+
+    /// The manifest.
+    pub fn manifest(&self) -> &Manifest
+        ensures { told_by result.now ≡ self.now.told }
+    {
+        &self.manifest
+    }
+
+    /// The input; empty where none is read.
+    pub fn input(&self) -> &[u8]
+        ensures { result.now ≡ self.now.input }
+    {
+        &self.input
+    }
+}

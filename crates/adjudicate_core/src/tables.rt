@@ -1,0 +1,187 @@
+//! The tables of files, with or without a manifest.
+
+ghost use Rattle.std.specs.Prelude.{◌≡◌, map, option_map, IfOk, Some, None, Ok};
+ghost use Rattle.move_msg.specs.Files.{file_of};
+ghost use Rattle.move_msg.specs.Manifests.{entry_of};
+ghost use Rattle.adjudicate_core.specs.FileNames.{file_named};
+ghost use Rattle.adjudicate_core.specs.Lines.{file_fault_name};
+ghost use Rattle.adjudicate_core.specs.Looks.{found_in, gathered, gathered_by, held, look_at, look_for, tables_from, with_found};
+ghost use Rattle.adjudicate_core.specs.Inside.Refusals.{filled, tables_in};
+
+use crate::refusals::Refusal;
+use crate::sources::Sources;
+use arrayvec::ArrayString;
+use judge_core::{Set, SetFault};
+use move_msg::{Line as Entry, Manifest, NamedFile, file_digest};
+use std::alloc::{AllocError, Global};
+use table_file::{Table, TableFault, open};
+
+/// How many decoded blocks a set may keep.
+const CACHE: usize = 64;
+
+/// Why a file that is looked at isn't the table that it should be.
+#[derive(Clone, Copy)]
+pub enum FileFault {
+    /// No file has the name that the manifest tells.
+    Missing,
+    /// The SHA-256 digest of the file's bytes isn't the manifest's.
+    Changed,
+    /// The bytes are no table of that name.
+    Bad(TableFault),
+}
+
+impl FileFault {
+    /// The fault's name, as it is printed.
+    pub fn name(self) -> &'static str
+        ensures { result.now ≡ file_fault_name self }
+    {
+        match self {
+            FileFault::Missing => "missing",
+            FileFault::Changed => "changed",
+            FileFault::Bad(fault) => fault.name(),
+        }
+    }
+}
+
+/// The table that a file is.
+fn open_file<'f>(
+    alloc: Global,
+    file: &'f NamedFile,
+) -> Result<Result<Table<'f>, FileFault>, AllocError>
+    ensures { IfOk result (λ found. found ≡ found_in (file_of file.now)) }
+{
+    match open(alloc, file.name.as_str().as_bytes(), &file.bytes) {
+        Ok(table) => Ok(Ok(table)),
+        Err(TableFault::OutOfMemory) => Err(AllocError),
+        Err(fault) => Ok(Err(FileFault::Bad(fault))),
+    }
+}
+
+/// The file of this name.
+fn file_named<'f>(files: &'f [NamedFile], name: &str) -> Option<&'f NamedFile>
+    ensures { option_map (λ f. file_of f.now) result ≡ file_named name.now (map file_of files.now) }
+{
+    for file in files {
+        if file.name.as_str() == name {
+            return Some(file);
+        }
+    }
+    None
+}
+
+/// The table of a manifest's line: its file has to be there and to have its digest.
+pub(crate) fn open_line<'f>(
+    alloc: Global,
+    files: &'f [NamedFile],
+    line: &Entry,
+) -> Result<Result<Table<'f>, FileFault>, AllocError>
+    ensures { IfOk result (λ found. found ≡ held line.now.digest (file_named line.now.name.bytes (map file_of files.now))) }
+{
+    let Some(file) = file_named(files, line.name.as_str()) else {
+        return Ok(Err(FileFault::Missing));
+    };
+    if file_digest(&file.bytes) != line.digest {
+        return Ok(Err(FileFault::Changed));
+    }
+    open_file(alloc, file)
+}
+
+/// Adds a table that was found; of two tables of one kind and material the first stays.
+fn add_found<'f>(
+    set: &mut Set<'f>,
+    name: &ArrayString<16>,
+    found: Result<Table<'f>, FileFault>,
+) -> Result<Result<(), Refusal>, AllocError>
+    ensures { IfOk result (λ added. filled added set.new.tables ≡ with_found set.old.tables name.now.bytes found.entry) }
+{
+    match found {
+        Err(fault) => Ok(Err(Refusal::File(*name, fault))),
+        Ok(table) => match set.add(table) {
+            Ok(()) | Err(SetFault::Duplicate) => Ok(Ok(())),
+            Err(SetFault::OutOfMemory) => Err(AllocError),
+        },
+    }
+}
+
+/// Adds the tables of all files, up to the first that is at fault.
+fn add_files<'f>(
+    alloc: Global,
+    set: &mut Set<'f>,
+    files: &'f [NamedFile],
+) -> Result<Result<(), Refusal>, AllocError>
+    ensures { IfOk result (λ added. filled added set.new.tables ≡ tables_from set.old.tables (map look_at (map file_of files.now))) }
+{
+    for file in files {
+        let found = open_file(alloc, file)?;
+        match add_found(set, &file.name, found)? {
+            Ok(()) => {}
+            Err(refusal) => return Ok(Err(refusal)),
+        }
+    }
+    Ok(Ok(()))
+}
+
+/// Adds the tables of a manifest's lines, up to the first whose file is at fault.
+fn add_lines<'f>(
+    alloc: Global,
+    set: &mut Set<'f>,
+    files: &'f [NamedFile],
+    lines: &[Entry],
+) -> Result<Result<(), Refusal>, AllocError>
+    ensures { IfOk result (λ added. filled added set.new.tables ≡ tables_from set.old.tables (map (look_for (map file_of files.now)) (map entry_of lines.now))) }
+{
+    for line in lines {
+        let found = open_line(alloc, files, line)?;
+        match add_found(set, &line.name, found)? {
+            Ok(()) => {}
+            Err(refusal) => return Ok(Err(refusal)),
+        }
+    }
+    Ok(Ok(()))
+}
+
+/// The set of all files.
+fn gather_files<'f>(
+    alloc: Global,
+    files: &'f [NamedFile],
+) -> Result<Result<Set<'f>, Refusal>, AllocError>
+    ensures { IfOk result (λ set. tables_in set ≡ gathered_by (map file_of files.now) None) }
+{
+    let mut set = Set::new(alloc, CACHE)?;
+    match add_files(alloc, &mut set, files)? {
+        Ok(()) => Ok(Ok(set)),
+        Err(refusal) => Ok(Err(refusal)),
+    }
+}
+
+/// The set of the files that the lines of a manifest name.
+fn gather_lines<'f>(
+    alloc: Global,
+    files: &'f [NamedFile],
+    lines: &[Entry],
+) -> Result<Result<Set<'f>, Refusal>, AllocError>
+    ensures { IfOk result (λ set. tables_in set ≡ gathered_by (map file_of files.now) (Some (Ok (map entry_of lines.now)))) }
+{
+    let mut set = Set::new(alloc, CACHE)?;
+    match add_lines(alloc, &mut set, files, lines)? {
+        Ok(()) => Ok(Ok(set)),
+        Err(refusal) => Ok(Err(refusal)),
+    }
+}
+
+/// The set of the files that are looked at, or the first refusal: without a manifest all files are,
+/// in their order; with one those that its lines name, in its order. The error comes only where
+/// memory is refused.
+#[tactic(auto, unfolding(crate::specs::Looks::gathered))]
+pub(crate) fn gather<'f>(
+    alloc: Global,
+    sources: &'f Sources,
+) -> Result<Result<Set<'f>, Refusal>, AllocError>
+    ensures { IfOk result (λ set. tables_in set ≡ gathered sources.now) }
+{
+    match sources.manifest() {
+        Manifest::Unnamed => gather_files(alloc, sources.files()),
+        Manifest::Lines(lines) => gather_lines(alloc, sources.files(), lines),
+        Manifest::BadLine(number) => Ok(Err(Refusal::Manifest(*number))),
+    }
+}

@@ -1,0 +1,238 @@
+//! The worked rows, refusals of words, and writers that fail.
+
+use crate::fixtures::*;
+use crate::folders::Folders;
+use adjudicate_core::{Task, Usage, parse};
+use std::alloc::Global;
+use std::process::Abort;
+
+/// Verdicts without tables, and texts that are refused.
+const VERDICTS: [Row; 14] = [
+    (
+        "judge FEN",
+        "8/8/8/4k3/8/8/8/K7 w - - 0 1",
+        "TableDraw\n",
+        0,
+    ),
+    (
+        "judge FEN",
+        "7k/5KQ1/8/8/8/8/8/8 b - - 0 1",
+        "WhiteMates\n",
+        0,
+    ),
+    (
+        "judge FEN",
+        "7K/5kq1/8/8/8/8/8/8 w - - 0 1",
+        "BlackMates\n",
+        0,
+    ),
+    (
+        "judge FEN",
+        "7k/5Q2/6K1/8/8/8/8/8 b - - 0 1",
+        "Stalemate\n",
+        0,
+    ),
+    ("judge FEN", "8/8/8/4k3/8/8/8/KQ6 w - - 0 1", "open\n", 0),
+    ("judge FEN", "4k3/8/8/8/8/8/8/4K2R w K - 0 1", "open\n", 0),
+    (
+        "judge FEN",
+        "8/8/8/8/8/8/8/K7 w - - 0 1",
+        "refused FEN BadPosition BadKings\n",
+        1,
+    ),
+    (
+        "judge FEN",
+        "8/8/8/4k3/8/8/8/KN6 x - - 0 1",
+        "refused FEN BadSide\n",
+        1,
+    ),
+    (
+        "judge FEN",
+        "8/8/8/4k3/8/8/8/KN6 w - - 0",
+        "refused FEN FieldCount\n",
+        1,
+    ),
+    (
+        "judge FEN",
+        "8/8/8/4k3/8/8/8/KN5 w - - 0 1",
+        "refused FEN BadPlacement\n",
+        1,
+    ),
+    (
+        "judge FEN",
+        "8/8/8/4k3/8/8/8/KN6 w QK - 0 1",
+        "refused FEN BadCastlingText\n",
+        1,
+    ),
+    (
+        "judge FEN",
+        "8/8/8/4k3/8/8/8/KN6 w - e9 0 1",
+        "refused FEN BadSquare\n",
+        1,
+    ),
+    (
+        "judge FEN",
+        "8/8/8/4k3/8/8/8/KN6 w - - 007 1",
+        "refused FEN BadNumber\n",
+        1,
+    ),
+    (
+        "judge FEN",
+        "8/8/8/4k3/8/8/8/KN6 w K - 0 1",
+        "refused FEN BadPosition BadCastling\n",
+        1,
+    ),
+];
+
+#[test]
+fn judges_the_worked_rows(rt: HostRuntime) {
+    expect_answers(&rt, rt.alloc(), &VERDICTS);
+}
+
+/// All legal moves of positions, and a text that is refused.
+const MOVES: [Row; 5] = [
+    (
+        "moves FEN",
+        "8/8/8/K2pP2r/8/8/8/7k w - d6 0 1",
+        "a5a4\na5b4\na5b5\na5a6\na5b6\ne5e6\n",
+        0,
+    ),
+    (
+        "moves FEN",
+        "4k3/8/8/8/8/8/5r2/4K2R w K - 0 1",
+        "e1d1\ne1f2\nh1f1\nh1g1\nh1h2\nh1h3\nh1h4\nh1h5\nh1h6\nh1h7\nh1h8\n",
+        0,
+    ),
+    (
+        "moves FEN",
+        "8/P7/8/8/8/8/8/K6k w - - 0 1",
+        "a1b1\na1a2\na1b2\na7a8q\na7a8r\na7a8b\na7a8n\n",
+        0,
+    ),
+    ("moves FEN", "7k/5Q2/6K1/8/8/8/8/8 b - - 0 1", "", 0),
+    (
+        "moves FEN",
+        "8/8/8/8/8/8/8/K7 w - - 0 1",
+        "refused FEN BadPosition BadKings\n",
+        1,
+    ),
+];
+
+#[test]
+fn lists_the_worked_moves(rt: HostRuntime) {
+    expect_answers(&rt, rt.alloc(), &MOVES);
+}
+
+#[test]
+fn lists_the_moves_of_the_start_in_order(rt: HostRuntime) {
+    let words = ("moves FEN", START);
+    let begins = begins_with(&rt, rt.alloc(), &Folders, words, "b1a3\nb1c3\ng1f3\n");
+    check(&rt, begins, START);
+}
+
+/// What words are read as, without its contract.
+fn parsed<'a>(alloc: Global, words: &'a [&'a str]) -> Result<Task<'a>, Usage> {
+    parse(alloc, words)
+}
+
+/// The name of a task.
+fn name_of(task: &Task<'_>, wanted: &str) -> &'static str {
+    match task {
+        Task::Show(_) => "show",
+        Task::Moves(moves) if moves.fen == wanted => "moves",
+        Task::Judge(judge) if judge.fen == wanted => "judge",
+        _ => "another",
+    }
+}
+
+/// The name of the task that words are read as.
+fn task_of(alloc: Global, words: &[&str], wanted: &str) -> &'static str {
+    match parsed(alloc, words) {
+        Ok(task) => name_of(&task, wanted),
+        Err(Usage::Misuse) => "misuse",
+        Err(Usage::OutOfMemory) => "another",
+    }
+}
+
+/// Words, their FEN, and the task that they are read as.
+const TASKS: [(&str, &str, &str); 12] = [
+    ("", "", "misuse"),
+    ("judge", "", "misuse"),
+    ("moves", "", "misuse"),
+    ("probe FEN", START, "misuse"),
+    ("--help", "", "misuse"),
+    ("judge --help", "", "misuse"),
+    ("judge FEN FEN", START, "misuse"),
+    ("judge --table here FEN", START, "misuse"),
+    ("show FEN", START, "misuse"),
+    ("show", "", "show"),
+    ("moves FEN", START, "moves"),
+    ("judge FEN", START, "judge"),
+];
+
+/// That words are read as a task.
+fn expect_task(rt: &impl Abort, alloc: Global, words: Words, task: &str) {
+    let read = words_of(rt, alloc, words);
+    check(
+        rt,
+        task_of(alloc, read.as_slice(), words.1) == task,
+        words.0,
+    );
+}
+
+#[test]
+fn reads_words_as_tasks(rt: HostRuntime) {
+    for row in &TASKS {
+        expect_task(&rt, rt.alloc(), (row.0, row.1), row.2);
+    }
+}
+
+/// A task that is done, one that is refused, and two misuses.
+const STATUSES: [Row; 4] = [
+    (
+        "judge FEN",
+        "8/8/8/4k3/8/8/8/K7 w - - 0 1",
+        "TableDraw\n",
+        0,
+    ),
+    ("judge x", "", "refused FEN FieldCount\n", 1),
+    ("prove FEN", START, "", 2),
+    ("", "", "", 2),
+];
+
+/// That the program tells so, and its use where it ends with status 2.
+fn expect_status(rt: &impl Abort, alloc: Global, row: Row) {
+    let mut errors = Vec::new(alloc);
+    expect_run(rt, alloc, &Folders, &mut errors, row);
+    check(
+        rt,
+        errors.starts_with(b"usage: ") == (row.3 == 2),
+        "its use",
+    );
+}
+
+#[test]
+fn tells_each_status(rt: HostRuntime) {
+    for row in &STATUSES {
+        expect_status(&rt, rt.alloc(), *row);
+    }
+}
+
+#[test]
+fn tells_each_status_where_its_use_cannot_be_written(rt: HostRuntime) {
+    for row in &STATUSES {
+        expect_run(&rt, rt.alloc(), &Folders, &mut Failing::after(0), *row);
+    }
+}
+
+/// The writes of the moves of the start, of a verdict, and of a refusal.
+const WRITES: [Writes; 3] = [
+    ("moves FEN", START, 20),
+    ("judge FEN", "8/8/8/4k3/8/8/8/K7 w - - 0 1", 1),
+    ("judge FEN", "no position", 1),
+];
+
+#[test]
+fn tells_each_failed_write(rt: HostRuntime) {
+    expect_all_failures(&rt, rt.alloc(), &WRITES);
+}
