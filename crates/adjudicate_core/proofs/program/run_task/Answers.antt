@@ -5,10 +5,10 @@ use Rattle.adjudicate_core.proofs.program.run_task.Goals as goal
 
 pub returns-in-Ok : goal.returns-in-Ok
 returns-in-Ok g c =
-    let given = rw c.places.ensures at c.in-Ok.ensures.given in
+    let given = rw c.places-places.ensures at c.in-Ok.ensures.given in
     record { answered = IfOk-weaker c.answer_given.result _ _ (λ status h. FromGiven _ given h) c.answer_given.ensures.answered; quiet = c.answer_given.ensures.quiet }
 
 pub returns-in-Err-Unreadable : goal.returns-in-Err-Unreadable
 returns-in-Err-Unreadable g c =
-    let cause = rw c.places.ensures at (c.in-Err-Unreadable.ensures.cause (ap Err c.in-Err-Unreadable.field-0-is)) in
+    let cause = rw c.places-places.ensures at (c.in-Err-Unreadable.ensures.cause (ap Err c.in-Err-Unreadable.field-0-is)) in
     record { answered = IfOk-weaker c.put_refusal.result _ _ (λ status h. Unread cause h) c.put_refusal.ensures; quiet = λ unasked. refl }
