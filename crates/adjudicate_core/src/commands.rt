@@ -17,7 +17,10 @@ mod probes;
 mod run;
 mod show;
 
+use crate::sources::Places;
+use crate::usage::Usage;
 pub use check::Check;
+use clap::{Arg, ArgAction, ArgMatches, Command};
 pub use game::Game;
 pub use judge::Judge;
 pub use list::List;
@@ -27,10 +30,6 @@ pub use probe::Probe;
 pub use probes::Probes;
 pub use run::Run;
 pub use show::Show;
-
-use crate::sources::Places;
-use crate::usage::Usage;
-use clap::{Arg, ArgAction, ArgMatches, Command};
 use std::alloc::{AllocError, Global};
 
 /// What a command line asks for.

@@ -49,11 +49,7 @@ pub(crate) const VALUES: [Value; 3] = [
 
 /// The verdict on a position, or that the game goes on.
 #[tactic(auto, unfolding(crate::specs::Commands::Judge::judged))]
-fn verdict_by(
-    alloc: Global,
-    set: &mut Set<'_>,
-    position: &Position,
-) -> Result<Answer, AllocError>
+fn verdict_by(alloc: Global, set: &mut Set<'_>, position: &Position) -> Result<Answer, AllocError>
     ensures { IfOk result (λ a. IsJudged set.old.tables position.now (reply_of a)) }
 {
     let verdict = set.judge(alloc, position)?;
@@ -61,11 +57,7 @@ fn verdict_by(
 }
 
 /// The verdict by the tables of files, or the refusal of these: of a manifest at fault, then of the first file at fault.
-fn verdict_of(
-    alloc: Global,
-    sources: &Sources,
-    position: &Position,
-) -> Result<Answer, AllocError>
+fn verdict_of(alloc: Global, sources: &Sources, position: &Position) -> Result<Answer, AllocError>
     ensures { IfOk result (λ a. ByTables (gathered sources.now) IsJudged position.now (reply_of a)) }
 {
     match gather(alloc, sources) {

@@ -84,11 +84,7 @@ impl Show {
     }
 
     /// Writes a line for each message of the input, as it is read, and tells the status.
-    pub(crate) fn answer<W: Write>(
-        &self,
-        sources: &Sources,
-        out: &mut W,
-    ) -> Result<u8, WriteFault>
+    pub(crate) fn answer<W: Write>(&self, sources: &Sources, out: &mut W) -> Result<u8, WriteFault>
         ensures { IfOk result (Answers sources.now (W.contents out.old) (W.contents out.new)) }
     {
         show_messages(sources.input(), out)
