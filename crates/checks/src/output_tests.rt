@@ -2,10 +2,10 @@
 
 use crate::comparing::check_same;
 use crate::forge_tests::Failing;
-use move_msg::{WriteFault, end};
 use std::alloc::Global;
 use std::io::{BufWriter, Write};
 use std::process::Abort;
+use system_io::{WriteFault, end};
 
 /// A buffer that holds three bytes, over a writer that fails at the call of this number, the first being 0.
 fn buffer(rt: &impl Abort, alloc: Global, fails_at: u32) -> BufWriter<Failing> {

@@ -9,7 +9,6 @@ pub mod TableNameLaws
 pub mod HexDigits
 pub mod ManifestLaws
 pub mod FileLaws
-pub mod InputLaws
 pub mod GameTextLaws
 pub mod ManifestFaults
 pub mod LineLaws

@@ -14,7 +14,5 @@ pub mod Files
 pub mod ToldManifests
 pub mod ToldBy
 pub mod GameTexts
-pub mod Inputs
-pub mod Outputs
 pub mod TextLines
 pub mod Inside

@@ -4,8 +4,7 @@
 //! delay of its verdicts by tables and the verdict on it, if any. All numbers have their highest
 //! byte first.
 //!
-//! Also what a manifest tells, and the moves that a text tells (`read_moves`). `Output`, `ReadFault` and `read_at_most` stand here
-//! until the arbiters take those of `system_io`.
+//! Also what a manifest tells, and the moves that a text tells (`read_moves`). Its tests stand in `checks`.
 #![tactic(auto)]
 
 mod coding;
@@ -13,13 +12,11 @@ mod count;
 mod feeder;
 mod files;
 mod game_text;
-mod input;
 pub mod laws;
 mod manifest;
 mod message;
 mod message_text;
 mod move_list;
-mod output;
 mod record_bytes;
 mod stamp;
 mod table_name;
@@ -32,11 +29,9 @@ pub use count::{Count, MOST_MOVES, Wanted};
 pub use feeder::Feeder;
 pub use files::{NamedFile, file_digest};
 pub use game_text::read_moves;
-pub use input::{ReadFault, read_all, read_at_most};
 pub use manifest::{Line, ManifestFault, manifest_of, manifest_read, manifest_write};
 pub use message::{Message, MessageFault};
 pub use move_list::MoveList;
-pub use output::{Output, WriteFault, end};
 pub use record_bytes::{Record, RecordFault};
 pub use stamp::{Stamp, is_game_name};
 pub use table_name::is_file_name;
