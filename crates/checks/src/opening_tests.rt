@@ -174,7 +174,7 @@ fn refuses_other_games(rt: HostRuntime) {
     check_refuses(&rt, rt.alloc(), 0, &other, OpenFault::OtherStamp);
 }
 
-/// The same of this game with another delay, and without one.
+/// A record of this game with another delay, and of it without one, is refused.
 #[test]
 fn refuses_other_delays(rt: HostRuntime) {
     let other = illegal(&rt, rt.alloc(), 2);

@@ -45,7 +45,7 @@ fn serve_row<W: Write>(
     (ended, arbiter.count())
 }
 
-/// The same of a new arbiter of the game over a keeper.
+/// What a new arbiter of the game over a keeper does with the datagrams of a row.
 fn served_over<W: Write>(
     rt: &impl Abort,
     alloc: Global,
@@ -58,7 +58,7 @@ fn served_over<W: Write>(
     serve_row(alloc, &mut arbiter, keeper, port, row, out)
 }
 
-/// The same over a keeper that keeps nothing so far.
+/// What an arbiter over a keeper that keeps nothing so far does with them.
 fn served<W: Write>(
     rt: &impl Abort,
     alloc: Global,

@@ -24,7 +24,7 @@ fn serve_six<W: Write>(
     serve(alloc, &mut arbiter, keeper, port, 6, false, out)
 }
 
-/// The same over a keeper that keeps nothing so far.
+/// What an arbiter over a keeper that keeps nothing so far does with the datagrams.
 fn served<W: Write>(
     rt: &impl Abort,
     alloc: Global,
