@@ -5,26 +5,26 @@ ghost use Rattle.std.specs.List.Sorted.{IsPermutation};
 ghost use Rattle.place_index.specs.Material.{pieces_of, count_of};
 ghost use Rattle.place_index.specs.Shape.{IsSideBySide, AreAll, BeginsByPawns, BeginsByThree, BeginsByKings, BeginsWell, HasGoodPieces, has_pawns};
 
-use crate::man::{BLACK_KING, WHITE_KING};
 use crate::material::{Material, leading_men, leading_pawn, men, other_pawn, other_pawns};
+use crate::piece_code::PieceCode;
 
 /// How many of the pieces have this code.
 #[tactic(auto, unfolding(crate::specs::Material::count_of))]
-fn occurrences(pieces: &[u8], code: u8) -> usize
+fn occurrences(pieces: &[PieceCode], code: PieceCode) -> usize
     ensures { result ≡ count_of pieces.now code }
 {
     pieces.iter().filter(|piece| **piece == code).count()
 }
 
 /// Whether the pieces are the men of the material.
-pub(crate) fn is_arrangement(material: Material, pieces: &[u8]) -> bool
+pub(crate) fn is_arrangement(material: Material, pieces: &[PieceCode]) -> bool
     ensures { IsTrue result ↔ IsPermutation pieces.now (pieces_of material) }
 {
     if pieces.len() != men(material) as usize {
         return false;
     }
-    for code in 0u8..16 {
-        if occurrences(pieces, code) != material.count(code) as usize {
+    for piece in pieces {
+        if occurrences(pieces, *piece) != material.count(*piece) as usize {
             return false;
         }
     }
@@ -32,7 +32,7 @@ pub(crate) fn is_arrangement(material: Material, pieces: &[u8]) -> bool
 }
 
 /// Whether equal pieces stand side by side.
-fn is_side_by_side(pieces: &[u8]) -> bool
+fn is_side_by_side(pieces: &[PieceCode]) -> bool
     ensures { IsTrue result ↔ IsSideBySide pieces.now }
 {
     for k in 1..pieces.len() {
@@ -44,7 +44,7 @@ fn is_side_by_side(pieces: &[u8]) -> bool
 }
 
 /// Whether the pieces from one place on and before another one all have this code.
-fn are_all(pieces: &[u8], from: usize, to: usize, code: u8) -> bool
+fn are_all(pieces: &[PieceCode], from: usize, to: usize, code: PieceCode) -> bool
     requires { to ≤ length pieces.now }
     ensures { IsTrue result ↔ AreAll pieces.now from to code }
 {
@@ -56,7 +56,7 @@ fn are_all(pieces: &[u8], from: usize, to: usize, code: u8) -> bool
     true
 }
 
-fn begins_by_pawns(material: Material, pieces: &[u8]) -> bool
+fn begins_by_pawns(material: Material, pieces: &[PieceCode]) -> bool
     requires pawns { has_pawns material ≡ true }
     requires men { length pieces.now ≡ length (pieces_of material) }
     ensures { IsTrue result ↔ BeginsByPawns material pieces.now }
@@ -67,7 +67,7 @@ fn begins_by_pawns(material: Material, pieces: &[u8]) -> bool
         && are_all(pieces, lead, both, other_pawn(material))
 }
 
-fn begins_by_three(pieces: &[u8]) -> bool
+fn begins_by_three(pieces: &[PieceCode]) -> bool
     requires { 3 ≤ length pieces.now }
     ensures { IsTrue result ↔ BeginsByThree pieces.now }
 {
@@ -79,17 +79,18 @@ fn begins_by_three(pieces: &[u8]) -> bool
     true
 }
 
-fn begins_by_kings(pieces: &[u8]) -> bool
+fn begins_by_kings(pieces: &[PieceCode]) -> bool
     requires { 3 ≤ length pieces.now }
     ensures { IsTrue result ↔ BeginsByKings pieces.now }
 {
     let first = pieces[0];
     let second = pieces[1];
-    first == WHITE_KING && second == BLACK_KING || first == BLACK_KING && second == WHITE_KING
+    first == PieceCode::WHITE_KING && second == PieceCode::BLACK_KING
+        || first == PieceCode::BLACK_KING && second == PieceCode::WHITE_KING
 }
 
 /// Whether the men that lead come first.
-fn begins_well(material: Material, pieces: &[u8]) -> bool
+fn begins_well(material: Material, pieces: &[PieceCode]) -> bool
     requires { length pieces.now ≡ length (pieces_of material) }
     ensures { IsTrue result ↔ BeginsWell material pieces.now }
 {
@@ -103,7 +104,7 @@ fn begins_well(material: Material, pieces: &[u8]) -> bool
 }
 
 /// Whether a table of this material may give its pieces in this order.
-pub(crate) fn has_good_pieces(material: Material, pieces: &[u8]) -> bool
+pub(crate) fn has_good_pieces(material: Material, pieces: &[PieceCode]) -> bool
     ensures { IsTrue result ↔ HasGoodPieces material pieces.now }
 {
     if !is_arrangement(material, pieces) {

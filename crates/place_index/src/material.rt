@@ -4,7 +4,7 @@ ghost use Rattle.place_index.specs.Shape.{lead_men, lead_code, other_code, other
 ghost use Rattle.place_index.specs.Inside.Groups.{leading_code};
 ghost use Rattle.place_index.specs.Inside.NameKeys.{key_by_name, rank_of, pair_of, triple_of};
 
-use crate::man::{BLACK_PAWN, WHITE_PAWN};
+use crate::piece_code::PieceCode;
 use crate::tables::{
     COUNTS, LEADING_MEN, LEADING_PAWNS, LETTERS, PAIRS, SYMMETRIC, TALLIES, TRIPLES,
 };
@@ -186,14 +186,13 @@ impl Material {
         leading_code(*self) != 0
     }
 
-    /// How many men have this code of a table file: 1 to 6 for the first side's pawns, knights, bishops, rooks, queens and
-    /// king, 9 to 14 for the second side's, and no man for other codes.
-    pub(crate) fn count(&self, code: u8) -> u8
-        requires { code < 16 }
+    /// How many men have this code.
+    pub(crate) fn count(&self, code: PieceCode) -> u8
         ensures is { result ≡ count_of (pieces_of self.now) code }
         ensures few { result ≤ 3 }
     {
         let key = self.key();
+        let code = code.number();
         COUNTS[key as usize * 16 + code as usize]
     }
 
@@ -235,8 +234,8 @@ pub(crate) fn leading_men(material: Material) -> u8
 fn black_leads(material: Material) -> bool
     ensures { result ≡ black_leads material }
 {
-    let white = material.count(WHITE_PAWN);
-    let black = material.count(BLACK_PAWN);
+    let white = material.count(PieceCode::WHITE_PAWN);
+    let black = material.count(PieceCode::BLACK_PAWN);
     black != 0 && (white == 0 || black < white)
 }
 
@@ -249,23 +248,26 @@ fn leading_code(material: Material) -> u8
     LEADING_PAWNS[key as usize]
 }
 
-/// The code of the leading pawns, white's without pawns.
-pub(crate) fn leading_pawn(material: Material) -> u8
+/// The leading pawns, white's without pawns.
+pub(crate) fn leading_pawn(material: Material) -> PieceCode
     ensures { result ≡ lead_code material }
 {
-    let code = leading_code(material);
-    if code == 0 { WHITE_PAWN } else { code }
+    if leading_code(material) == 9 {
+        PieceCode::BLACK_PAWN
+    } else {
+        PieceCode::WHITE_PAWN
+    }
 }
 
-/// The code of the pawns that don't lead.
+/// The pawns that don't lead.
 #[tactic(auto, unfolding(crate::specs::Shape::other_code))]
-pub(crate) fn other_pawn(material: Material) -> u8
+pub(crate) fn other_pawn(material: Material) -> PieceCode
     ensures { result ≡ other_code material }
 {
     if black_leads(material) {
-        WHITE_PAWN
+        PieceCode::WHITE_PAWN
     } else {
-        BLACK_PAWN
+        PieceCode::BLACK_PAWN
     }
 }
 
@@ -275,9 +277,9 @@ pub(crate) fn other_pawns(material: Material) -> u8
     ensures { result ≡ other_pawns material }
 {
     if black_leads(material) {
-        material.count(WHITE_PAWN)
+        material.count(PieceCode::WHITE_PAWN)
     } else {
-        material.count(BLACK_PAWN)
+        material.count(PieceCode::BLACK_PAWN)
     }
 }
 
@@ -285,8 +287,8 @@ pub(crate) fn other_pawns(material: Material) -> u8
 pub(crate) fn both_have_pawns(material: Material) -> bool
     ensures { result ≡ both_have_pawns material }
 {
-    let white = material.count(WHITE_PAWN);
-    let black = material.count(BLACK_PAWN);
+    let white = material.count(PieceCode::WHITE_PAWN);
+    let black = material.count(PieceCode::BLACK_PAWN);
     white != 0 && black != 0
 }
 

@@ -1,12 +1,14 @@
-ghost use Rattle.std.specs.Prelude.{◌≡◌, ◌≤◌, ◌<◌, ◌↔◌, IfOk, OnOk, Err, Some, None, IsTrue, cond, length};
+ghost use Rattle.std.specs.Prelude.{◌≡◌, ◌≤◌, ◌<◌, ◌↔◌, ◌⊎◌, ℕ, IfOk, OnOk, IfSome, IfNone, Err, Some, None, IsTrue, cond, length, slice_index};
 ghost use Rattle.place_index.specs.Shape.{layout, both_have_pawns, HasGoodPieces, HasGoodOrder, groups_of, factors_of, size_of, greatest_size};
 ghost use Rattle.place_index.specs.Index.{IsShape};
+ghost use Rattle.place_index.specs.Material.{IsPieceCode};
 ghost use Rattle.std.specs.Option.{ForSome};
 
 use crate::arrangement::has_good_pieces;
 use crate::group::{Group, groups};
 use crate::material::{Material, both_have_pawns, leading_men};
 use crate::pawn_file::PawnFile;
+use crate::piece_code::PieceCode;
 use crate::places::{factors, places};
 use crate::sizes::{leading_size, product, sizes};
 use arrayvec::ArrayVec;
@@ -30,7 +32,7 @@ pub enum ShapeFault {
 #[derive(Drop, Debug)]
 pub struct Shape {
     material: Material,
-    pieces: ArrayVec<u8, 5>,
+    pieces: ArrayVec<PieceCode, 5>,
     order: u8,
     second: u8,
     file: PawnFile,
@@ -94,11 +96,14 @@ impl Shape {
         ensures bad_pieces { (result ≡ Err ShapeFault.BadPieces) ↔ (HasGoodPieces material.now pieces.now → ⊥) }
         ensures bad_order { result ≡ Err ShapeFault.BadOrder → HasGoodPieces material.now pieces.now × (HasGoodOrder (layout material.now pieces.now order second file) → ⊥) }
     {
-        if !has_good_pieces(*material, pieces) {
+        let lead = leading_men(*material);
+        let Some(pieces) = coded(pieces) else {
+            return Err(ShapeFault::BadPieces);
+        };
+        if !has_good_pieces(*material, pieces.as_slice()) {
             return Err(ShapeFault::BadPieces);
         }
-        let lead = leading_men(*material);
-        let groups = groups(lead, pieces);
+        let groups = groups(lead, pieces.as_slice());
         let second_place = second_place(*material, second);
         if !has_good_order(groups.len(), order, second_place) {
             return Err(ShapeFault::BadOrder);
@@ -107,7 +112,7 @@ impl Shape {
         let places = places(groups.len(), order, second_place);
         Ok(Shape {
             material: *material,
-            pieces: copied(pieces),
+            pieces,
             order,
             second,
             file,
@@ -125,12 +130,28 @@ impl Shape {
         self.material
     }
 
-    /// The piece codes in the order of the groups.
-    pub fn pieces(&self) -> &[u8]
+    /// The pieces in the order of the groups.
+    pub fn pieces(&self) -> &[PieceCode]
         ensures is { result.now ≡ self.now.pieces }
         ensures least { 3 ≤ length result.now }
     {
         self.pieces.as_slice()
+    }
+
+    /// Whether the pieces have these codes of a table file, in this order.
+    pub fn has_pieces(&self, codes: &[u8]) -> bool
+        ensures { IsTrue result ↔ (self.now.pieces ≡ codes.now) }
+    {
+        let pieces = self.pieces();
+        if pieces.len() != codes.len() {
+            return false;
+        }
+        for i in 0..pieces.len() {
+            if pieces[i].number() != codes[i] {
+                return false;
+            }
+        }
+        true
     }
 
     /// The place of the leading group among all groups.
@@ -179,14 +200,20 @@ impl Shape {
     }
 }
 
-/// The pieces in room of their own.
-fn copied(pieces: &[u8]) -> ArrayVec<u8, 5>
-    requires { length pieces.now ≤ 5 }
-    ensures { result.items ≡ pieces.now }
+/// The pieces of these codes; none where there are more than five, or no piece has one of them.
+fn coded(codes: &[u8]) -> Option<ArrayVec<PieceCode, 5>>
+    ensures pieces { IfSome result (λ pieces. pieces.items ≡ codes.now) }
+    ensures none { IfNone result ((5 < length codes.now) ⊎ ((k : ℕ) × (k < length codes.now) × (IsPieceCode (slice_index codes.now k) → ⊥))) }
 {
-    let mut copied = ArrayVec::<u8, 5>::new();
-    for piece in pieces {
-        copied.push(*piece);
+    if codes.len() > 5 {
+        return None;
     }
-    copied
+    let mut pieces = ArrayVec::<PieceCode, 5>::new();
+    for code in codes {
+        let Some(piece) = PieceCode::new(*code) else {
+            return None;
+        };
+        pieces.push(piece);
+    }
+    Some(pieces)
 }

@@ -5,7 +5,6 @@ ghost use Rattle.place_index.specs.Shape.{lead_size, other_sizes, is_pawn, produ
 
 use crate::choose::choices;
 use crate::group::Group;
-use crate::man::{BLACK_PAWN, WHITE_PAWN};
 use crate::material::{Material, leading_men};
 use crate::pawn_file::PawnFile;
 use crate::tables::PAWN_PLACEMENTS;
@@ -24,19 +23,6 @@ pub(crate) fn leading_size(material: Material, file: PawnFile) -> u64
     if lead == 3 { 31332 } else { 462 }
 }
 
-/// How many squares a group may stand on, where so many are left free: pawns have the 48 squares of pawns less those of the
-/// leading ones.
-fn squares(code: u8, lead: u8, free: u8) -> u8
-    requires { lead ≤ 3 }
-    ensures { result ≡ cond (is_pawn code) (48 - lead) free }
-{
-    if code == WHITE_PAWN || code == BLACK_PAWN {
-        48 - lead
-    } else {
-        free
-    }
-}
-
 /// The sizes of all groups, the first one of so many men and of this size.
 pub(crate) fn sizes(first: u64, lead: u8, groups: &[Group]) -> ArrayVec<u64, 5>
     requires lead { lead ≤ 3 }
@@ -49,7 +35,7 @@ pub(crate) fn sizes(first: u64, lead: u8, groups: &[Group]) -> ArrayVec<u64, 5>
     sizes.push(first);
     let mut free = 64 - lead;
     for group in groups {
-        let squares = squares(group.code, lead, free);
+        let squares = group.squares(lead, free);
         sizes.push(choices(squares as u64, group.men as u64));
         free -= group.men;
     }

@@ -137,16 +137,16 @@ pub leading_code_table : (k : ℕ) → k < 145 → slice_index LEADING_PAWNS k �
 unfolding each pieces count_of lead_code leading_code white_in black_in pawns_in black_leads_in lead_code_in leading_code_in
 leading_code_table k lt = eqb-true _ _ (each_pieces (λ k ps. eqb (slice_index LEADING_PAWNS k) (leading_code_in ps)) refl k lt)
 
-lead_code_test : (k : ℕ) → k < 145 → eqb (cond (eqb (leading_code k) 0) 1 (leading_code k)) (lead_code k) ≡ true
+lead_code_test : (k : ℕ) → k < 145 → eqb (cond (eqb (leading_code k) 9) 9 1) (lead_code k) ≡ true
 unfolding each pieces count_of lead_code leading_code white_in black_in pawns_in black_leads_in lead_code_in leading_code_in
-lead_code_test k lt = each_pieces (λ k ps. eqb (cond (eqb (leading_code_in ps) 0) 1 (leading_code_in ps)) (lead_code_in ps)) refl k lt
+lead_code_test k lt = each_pieces (λ k ps. eqb (cond (eqb (leading_code_in ps) 9) 9 1) (lead_code_in ps)) refl k lt
+
+pub lead_code_black : (k : ℕ) → k < 145 → leading_code k ≡ 9 → 9 ≡ lead_code k
+lead_code_black k lt e = eqb-true _ _ (rw (eq-eqb (leading_code k) 9 e) at (lead_code_test k lt))
 
 -- without pawns the word for the leading pawns' code is white's
-pub lead_code_none : (k : ℕ) → k < 145 → leading_code k ≡ 0 → 1 ≡ lead_code k
-lead_code_none k lt e = eqb-true _ _ (rw (eq-eqb (leading_code k) 0 e) at (lead_code_test k lt))
-
-pub lead_code_some : (k : ℕ) → k < 145 → leading_code k ≢ 0 → leading_code k ≡ lead_code k
-lead_code_some k lt ne = eqb-true _ _ (rw (ne_eqb (leading_code k) 0 ne) at (lead_code_test k lt))
+pub lead_code_white : (k : ℕ) → k < 145 → leading_code k ≢ 9 → 1 ≡ lead_code k
+lead_code_white k lt ne = eqb-true _ _ (rw (ne_eqb (leading_code k) 9 ne) at (lead_code_test k lt))
 
 pub pawned_table : (k : ℕ) → k < 145 → not (eqb (leading_code k) 0) ≡ leb 1 (white_pawns k + black_pawns k)
 unfolding each agrees pieces count_of lead_code leading_code white_in black_in pawns_in black_leads_in lead_code_in leading_code_in

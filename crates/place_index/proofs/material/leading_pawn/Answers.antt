@@ -1,9 +1,9 @@
 use Rattle.std.proofs.Common.{◌∙◌, sym}
-use Rattle.place_index.proofs.Materials.KeyTables.{lead_code_none, lead_code_some}
+use Rattle.place_index.proofs.Materials.KeyTables.{lead_code_black, lead_code_white}
 use Rattle.place_index.proofs.material.leading_pawn.Goals as goal
 
-pub returns-then-code-eq0 : goal.returns-then-code-eq0
-returns-then-code-eq0 c = lead_code_none c.args.material c.leading_code-code.ensures.known (sym c.leading_code-code.ensures.is ∙ c.if-code-eq0.true)
+pub returns-then-leading_code-eq9 : goal.returns-then-leading_code-eq9
+returns-then-leading_code-eq9 c = lead_code_black c.args.material c.leading_code.ensures.known (sym c.leading_code.ensures.is ∙ c.if-leading_code-eq9.true)
 
-pub returns-else-code-eq0 : goal.returns-else-code-eq0
-returns-else-code-eq0 c = c.leading_code-code.ensures.is ∙ lead_code_some c.args.material c.leading_code-code.ensures.known (λ e. c.if-code-eq0.false (c.leading_code-code.ensures.is ∙ e))
+pub returns-else-leading_code-eq9 : goal.returns-else-leading_code-eq9
+returns-else-leading_code-eq9 c = lead_code_white c.args.material c.leading_code.ensures.known (λ e. c.if-leading_code-eq9.false (c.leading_code.ensures.is ∙ e))
