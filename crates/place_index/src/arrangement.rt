@@ -1,12 +1,102 @@
-//! Which orders of its pieces a table may give.
+//! The men of a material in an order in which its tables may take them.
 
-ghost use Rattle.std.specs.Prelude.{◌≡◌, ◌↔◌, ◌≤◌, ◌+◌, IsTrue, true, length};
+ghost use Rattle.std.specs.Prelude.{◌≡◌, ◌↔◌, ◌≤◌, ◌<◌, ◌+◌, ◌⊎◌, ℕ, IfNone, IfSome, IsTrue, true, length, slice_index};
 ghost use Rattle.std.specs.List.Sorted.{IsPermutation};
-ghost use Rattle.place_index.specs.Material.{pieces_of, count_of};
+ghost use Rattle.place_index.specs.Inside.Arranged.{arranged, groups_in};
+ghost use Rattle.place_index.specs.Material.{IsPieceCode, pieces_of, count_of};
 ghost use Rattle.place_index.specs.Shape.{IsSideBySide, AreAll, BeginsByPawns, BeginsByThree, BeginsByKings, BeginsWell, HasGoodPieces, has_pawns};
 
+use crate::group::{Group, groups};
 use crate::material::{Material, leading_men, leading_pawn, men, other_pawn, other_pawns};
 use crate::piece_code::PieceCode;
+use arrayvec::ArrayVec;
+use std::marker::Model;
+
+/// The men of a material in an order in which its tables may take them, and their groups.
+#[derive(Drop, Debug)]
+pub(crate) struct Arrangement {
+    material: Material,
+    pieces: ArrayVec<PieceCode, 5>,
+    groups: ArrayVec<Group, 5>,
+}
+
+impl Model for Arrangement {
+    ghost use Rattle.place_index.specs.Inside.Arranged.{Arranged};
+
+    ghost Value = { Arranged };
+
+    ghost use Rattle.place_index.specs.Inside.Arrangements.{arranged_men, IsArranged};
+
+    ghost view = { arranged_men };
+
+    ghost invariant = { IsArranged };
+}
+
+impl Arrangement {
+    /// The material's men in the order of these codes of a table file; none where no table of the material gives them so.
+    pub(crate) fn new(material: Material, codes: &[u8]) -> Option<Arrangement>
+        ensures is { IfSome result (λ a. a ≡ arranged material codes.now) }
+        ensures good { IfSome result (λ _. HasGoodPieces material codes.now) }
+        ensures none { IfNone result (HasGoodPieces material codes.now → ⊥) }
+    {
+        let lead = leading_men(material);
+        let Some(pieces) = coded(codes) else {
+            return None;
+        };
+        if !has_good_pieces(material, pieces.as_slice()) {
+            return None;
+        }
+        let groups = groups(lead, pieces.as_slice());
+        Some(Arrangement {
+            material,
+            pieces,
+            groups,
+        })
+    }
+
+    /// The material.
+    pub(crate) fn material(&self) -> Material
+        ensures is { result ≡ self.now.material }
+        ensures known { self.now.material < 145 }
+        ensures good { HasGoodPieces self.now.material self.now.pieces }
+    {
+        self.material
+    }
+
+    /// The pieces in their order.
+    pub(crate) fn pieces(&self) -> &[PieceCode]
+        ensures is { result.now ≡ self.now.pieces }
+        ensures least { 3 ≤ length result.now }
+    {
+        self.pieces.as_slice()
+    }
+
+    /// The leading group, then the runs of equal pieces after it.
+    pub(crate) fn groups(&self) -> &[Group]
+        ensures is { result.now ≡ groups_in self.now }
+        ensures few { length result.now ≤ 5 }
+    {
+        self.groups.as_slice()
+    }
+}
+
+/// The pieces of these codes; none where there are more than five, or no piece has one of them.
+fn coded(codes: &[u8]) -> Option<ArrayVec<PieceCode, 5>>
+    ensures pieces { IfSome result (λ pieces. pieces.items ≡ codes.now) }
+    ensures none { IfNone result ((5 < length codes.now) ⊎ ((k : ℕ) × (k < length codes.now) × (IsPieceCode (slice_index codes.now k) → ⊥))) }
+{
+    if codes.len() > 5 {
+        return None;
+    }
+    let mut pieces = ArrayVec::<PieceCode, 5>::new();
+    for code in codes {
+        let Some(piece) = PieceCode::new(*code) else {
+            return None;
+        };
+        pieces.push(piece);
+    }
+    Some(pieces)
+}
 
 /// How many of the pieces have this code.
 #[tactic(auto, unfolding(crate::specs::Material::count_of))]
@@ -17,7 +107,7 @@ fn occurrences(pieces: &[PieceCode], code: PieceCode) -> usize
 }
 
 /// Whether the pieces are the men of the material.
-pub(crate) fn is_arrangement(material: Material, pieces: &[PieceCode]) -> bool
+fn is_arrangement(material: Material, pieces: &[PieceCode]) -> bool
     ensures { IsTrue result ↔ IsPermutation pieces.now (pieces_of material) }
 {
     if pieces.len() != men(material) as usize {
@@ -104,7 +194,7 @@ fn begins_well(material: Material, pieces: &[PieceCode]) -> bool
 }
 
 /// Whether a table of this material may give its pieces in this order.
-pub(crate) fn has_good_pieces(material: Material, pieces: &[PieceCode]) -> bool
+fn has_good_pieces(material: Material, pieces: &[PieceCode]) -> bool
     ensures { IsTrue result ↔ HasGoodPieces material pieces.now }
 {
     if !is_arrangement(material, pieces) {

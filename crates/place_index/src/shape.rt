@@ -1,16 +1,15 @@
-ghost use Rattle.std.specs.Prelude.{◌≡◌, ◌≤◌, ◌<◌, ◌↔◌, ◌⊎◌, ℕ, IfOk, OnOk, IfSome, IfNone, Err, Some, None, IsTrue, cond, length, slice_index};
+ghost use Rattle.std.specs.Prelude.{◌≡◌, ◌≤◌, ◌<◌, ◌↔◌, IfOk, OnOk, Err, Some, None, IsTrue, cond, length};
 ghost use Rattle.place_index.specs.Shape.{layout, both_have_pawns, HasGoodPieces, HasGoodOrder, groups_of, factors_of, size_of, greatest_size};
 ghost use Rattle.place_index.specs.Index.{IsShape};
-ghost use Rattle.place_index.specs.Material.{IsPieceCode};
 ghost use Rattle.std.specs.Option.{ForSome};
 
-use crate::arrangement::has_good_pieces;
-use crate::group::{Group, groups};
-use crate::material::{Material, both_have_pawns, leading_men};
+use crate::arrangement::Arrangement;
+use crate::group::Group;
+use crate::material::{Material, both_have_pawns};
 use crate::pawn_file::PawnFile;
 use crate::piece_code::PieceCode;
 use crate::places::{factors, places};
-use crate::sizes::{leading_size, product, sizes};
+use crate::sizes::Sizes;
 use arrayvec::ArrayVec;
 use std::marker::Model;
 
@@ -31,12 +30,10 @@ pub enum ShapeFault {
 /// numbers times the groups' factors.
 #[derive(Drop, Debug)]
 pub struct Shape {
-    material: Material,
-    pieces: ArrayVec<PieceCode, 5>,
+    arrangement: Arrangement,
     order: u8,
     second: u8,
     file: PawnFile,
-    groups: ArrayVec<Group, 5>,
     factors: ArrayVec<u64, 5>,
     size: u64,
 }
@@ -96,29 +93,23 @@ impl Shape {
         ensures bad_pieces { (result ≡ Err ShapeFault.BadPieces) ↔ (HasGoodPieces material.now pieces.now → ⊥) }
         ensures bad_order { result ≡ Err ShapeFault.BadOrder → HasGoodPieces material.now pieces.now × (HasGoodOrder (layout material.now pieces.now order second file) → ⊥) }
     {
-        let lead = leading_men(*material);
-        let Some(pieces) = coded(pieces) else {
+        let Some(arrangement) = Arrangement::new(*material, pieces) else {
             return Err(ShapeFault::BadPieces);
         };
-        if !has_good_pieces(*material, pieces.as_slice()) {
-            return Err(ShapeFault::BadPieces);
-        }
-        let groups = groups(lead, pieces.as_slice());
+        let groups = arrangement.groups().len();
         let second_place = second_place(*material, second);
-        if !has_good_order(groups.len(), order, second_place) {
+        if !has_good_order(groups, order, second_place) {
             return Err(ShapeFault::BadOrder);
         }
-        let sizes = sizes(leading_size(*material, file), lead, &groups.as_slice()[1..]);
-        let places = places(groups.len(), order, second_place);
+        let sizes = Sizes::of(&arrangement, file);
+        let places = places(groups, order, second_place);
         Ok(Shape {
-            material: *material,
-            pieces,
+            arrangement,
             order,
             second,
             file,
-            groups,
-            factors: factors(places.as_slice(), sizes.as_slice()),
-            size: product(sizes.as_slice()),
+            factors: factors(places.as_slice(), &sizes),
+            size: sizes.product(),
         })
     }
 
@@ -127,7 +118,7 @@ impl Shape {
         ensures is { result ≡ self.now.material }
         ensures shape { IsShape self.now }
     {
-        self.material
+        self.arrangement.material()
     }
 
     /// The pieces in the order of the groups.
@@ -135,7 +126,7 @@ impl Shape {
         ensures is { result.now ≡ self.now.pieces }
         ensures least { 3 ≤ length result.now }
     {
-        self.pieces.as_slice()
+        self.arrangement.pieces()
     }
 
     /// Whether the pieces have these codes of a table file, in this order.
@@ -180,7 +171,7 @@ impl Shape {
     pub fn groups(&self) -> &[Group]
         ensures { result.now ≡ groups_of self.now }
     {
-        self.groups.as_slice()
+        self.arrangement.groups()
     }
 
     /// By what each group's number is multiplied, a number for each group in their order; the lowest is 1.
@@ -198,22 +189,4 @@ impl Shape {
     {
         self.size
     }
-}
-
-/// The pieces of these codes; none where there are more than five, or no piece has one of them.
-fn coded(codes: &[u8]) -> Option<ArrayVec<PieceCode, 5>>
-    ensures pieces { IfSome result (λ pieces. pieces.items ≡ codes.now) }
-    ensures none { IfNone result ((5 < length codes.now) ⊎ ((k : ℕ) × (k < length codes.now) × (IsPieceCode (slice_index codes.now k) → ⊥))) }
-{
-    if codes.len() > 5 {
-        return None;
-    }
-    let mut pieces = ArrayVec::<PieceCode, 5>::new();
-    for code in codes {
-        let Some(piece) = PieceCode::new(*code) else {
-            return None;
-        };
-        pieces.push(piece);
-    }
-    Some(pieces)
 }

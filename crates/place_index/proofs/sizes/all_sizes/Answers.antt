@@ -1,6 +1,6 @@
 use Rattle.std.proofs.Common.{arith}
 use Rattle.place_index.proofs.Shapes.Sizing.{sized_none, sized_more, sized_all, sized_left, squares_most}
-use Rattle.place_index.proofs.sizes.sizes.Goals as goal
+use Rattle.place_index.proofs.sizes.all_sizes.Goals as goal
 
 pub choices-requires-clause-things : goal.choices-requires-clause-things
 choices-requires-clause-things c =
