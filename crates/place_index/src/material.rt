@@ -84,38 +84,36 @@ fn key_by_name(text: &[u8]) -> u8
     }
 }
 
-fn name_length(key: usize) -> usize
-    requires { key < 145 }
-    ensures is { result ≡ length (name_at key) }
+fn name_length(material: Material) -> usize
+    ensures is { result ≡ length (name_at material) }
     ensures few { result ≤ 6 }
 {
-    match key {
+    match material.key() {
         0..5 => 4,
         5..35 => 5,
         _ => 6,
     }
 }
 
-fn letter(key: usize, i: usize) -> u8
-    requires key { key < 145 }
-    requires i { i < 6 }
-    ensures is { result ≡ slice_index (name_at key) i }
+fn letter(material: Material, i: usize) -> u8
+    requires { i < 6 }
+    ensures is { result ≡ slice_index (name_at material) i }
     ensures ascii { result < 128 }
 {
+    let key = material.key() as usize;
     LETTERS[key * 6 + i]
 }
 
-/// Whether the text is the name with this key.
-fn is_name(key: usize, text: &[u8]) -> bool
-    requires { key < 145 }
-    ensures { IsTrue result ↔ (name_at key ≡ text.now) }
+/// Whether the text is the material's name.
+fn is_name(material: Material, text: &[u8]) -> bool
+    ensures { IsTrue result ↔ (name_at material ≡ text.now) }
 {
-    let length = name_length(key);
+    let length = name_length(material);
     if text.len() != length {
         return false;
     }
     for i in 0..length {
-        let wanted = letter(key, i);
+        let wanted = letter(material, i);
         if text[i] != wanted {
             return false;
         }
@@ -129,9 +127,11 @@ impl Material {
         ensures found { IfSome result (λ m. name_of (men_of m) ≡ name.now) }
         ensures none { IfNone result ((m : Men) → IsTable m → name_of m ≡ name.now → ⊥) }
     {
-        let key = key_by_name(name);
-        if is_name(key as usize, name) {
-            Some(Material { key })
+        let material = Material {
+            key: key_by_name(name),
+        };
+        if is_name(material, name) {
+            Some(material)
         } else {
             None
         }
@@ -141,11 +141,10 @@ impl Material {
     pub fn name(&self) -> ArrayString<8>
         ensures { result.bytes ≡ name_of (men_of self.now) }
     {
-        let key = self.key();
-        let length = name_length(key as usize);
+        let length = name_length(*self);
         let mut text = ArrayString::<8>::new();
         for i in 0..length {
-            let next = letter(key as usize, i);
+            let next = letter(*self, i);
             text.push(next as char);
         }
         text
@@ -250,7 +249,8 @@ fn leading_code(material: Material) -> u8
 
 /// The leading pawns, white's without pawns.
 pub(crate) fn leading_pawn(material: Material) -> PieceCode
-    ensures { result ≡ lead_code material }
+    ensures is { result ≡ lead_code material }
+    ensures known { material < 145 }
 {
     if leading_code(material) == 9 {
         PieceCode::BLACK_PAWN

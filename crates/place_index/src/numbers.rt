@@ -111,8 +111,7 @@ pub(crate) fn pawns_number(file: PawnFile, numbers: &[u8]) -> u64
 }
 
 /// How many of these men stand on lower squares.
-pub(crate) fn taken(earlier: &[u8], square: u8) -> u64
-    requires { length earlier.now ≤ 8 }
+pub(crate) fn taken(earlier: &[u8; 8], square: u8) -> u64
     ensures { result ≡ taken earlier.now square }
 {
     let mut count: u64 = 0;

@@ -84,8 +84,7 @@ impl Placed {
 
 /// The square of the leading pawn; 0 without pawns.
 fn lead_square(material: Material, men: &[Man]) -> Square
-    requires known { material < 145 }
-    requires placed { IsPlacement material men.now }
+    requires { IsPlacement material men.now }
     ensures { result ≡ lead_square material men.now }
 {
     if material.has_pawns() {
@@ -136,15 +135,15 @@ fn looked_up(
     count: usize,
     exchanges: bool,
 ) -> Placed
-    requires known { material < 145 }
     requires men { take count men ≡ men_on position.now.men }
     requires few { count ≤ 5 }
     requires named { IsNamed material (cond exchanges (exchanged (men_on position.now.men)) (men_on position.now.men)) }
     requires white { IsSymmetric material → cond exchanges (other position.now.side) position.now.side ≡ White }
     ensures { IsLookedUp material position.now result }
 {
-    // The proof alone reads that it is a position.
+    // The proof alone reads that it is a position, and that the key is below 145.
     let _position = position.parts();
+    let _key = material.key();
     in_colours(&mut men, exchanges);
     let lead = lead_square(material, &men[..count]);
     Placed {

@@ -51,7 +51,6 @@ fn greatest_number(men: &[Man], code: PieceCode) -> u8
 
 /// The square of the leading pawn: of the leading colour's pawns the one with the greatest pawn number.
 pub(crate) fn lead_pawn(material: Material, men: &[Man]) -> Square
-    requires known { material < 145 }
     requires placed { IsPlacement material men.now }
     requires pawned { has_pawns material ≡ true }
     ensures { result ≡ lead_pawn material men.now }
