@@ -252,10 +252,11 @@ pub(crate) fn leading_pawn(material: Material) -> PieceCode
     ensures is { result ≡ lead_code material }
     ensures known { material < 145 }
 {
-    if leading_code(material) == 9 {
-        PieceCode::BLACK_PAWN
-    } else {
+    let code = leading_code(material);
+    if code == 0 {
         PieceCode::WHITE_PAWN
+    } else {
+        PieceCode::at(code)
     }
 }
 

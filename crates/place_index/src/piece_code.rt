@@ -53,6 +53,14 @@ impl PieceCode {
         }
     }
 
+    /// The piece of a code.
+    pub(crate) fn at(code: u8) -> PieceCode
+        requires { IsPieceCode code }
+        ensures { result ≡ code }
+    {
+        PieceCode { code }
+    }
+
     /// The code of a man, white's being the first side's.
     pub fn of(piece: Piece) -> PieceCode
         ensures { result ≡ code_of piece }

@@ -124,7 +124,11 @@ fn in_colours(men: &mut [Man; 5], exchanges: bool)
 fn side_after(side: Side, exchange: bool) -> Side
     ensures { result ≡ cond exchange (other side) side }
 {
-    if exchange { side.other() } else { side }
+    if (side == Side::Black) != exchange {
+        Side::Black
+    } else {
+        Side::White
+    }
 }
 
 /// The position's men, which are the first `count` of these, as their table sees them.

@@ -45,7 +45,9 @@ pub(crate) fn men_on(position: &Position, men: &mut [Man; 5]) -> (usize, u64)
             unreachable!()
         };
         let code = PieceCode::of(piece);
-        men[count] = Man { code, square };
+        // Written part by part: two instructions fewer than a man at once.
+        men[count].code = code;
+        men[count].square = square;
         tally += known_tally(code);
         rest = rest.without(square);
         next = number + 1;
