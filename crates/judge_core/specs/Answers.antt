@@ -21,6 +21,16 @@ IsProbe (Err (NotCovered key)) outside reading = (outside ≡ false) × (reading
 IsProbe (Err (Damaged key)) outside reading = (outside ≡ false) × (reading ≡ Err (Broken key))
 IsProbe (Err OutOfMemory) outside reading = outside ≡ false
 
+-- the fault of a probe that meets this one
+abbrev pub probe_fault : ValueFault → ProbeFault
+probe_fault (Missing key) = NotCovered key
+probe_fault (Broken key) = Damaged key
+
+-- what a probe tells of a reading
+abbrev pub as_probe : {X Y : Type 0} → (X → Y) → Result X ValueFault → Result Y ProbeFault
+as_probe say (Ok x) = Ok (say x)
+as_probe say (Err fault) = Err (probe_fault fault)
+
 -- what is weighed is there, no draw, and not by a capture
 abbrev pub IsLeftOpen : Result Weighed ValueFault → Type 0
 IsLeftOpen (Ok w) = (worth w ≢ Draw) × (is_by_capture w ≡ false)

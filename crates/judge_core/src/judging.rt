@@ -10,8 +10,8 @@ ghost use Rattle.board_core.specs.ComputedMoves.{legal_moves};
 
 use crate::found::worth_in;
 use crate::mobility::has_no_move;
+use crate::probe::{Probe, is_bare};
 use crate::set::Set;
-use crate::shelf::placed;
 use crate::verdict;
 use crate::wdl::Wdl;
 use board_core::{Position, Verdict};
@@ -45,20 +45,18 @@ impl<'a> Set<'a> {
         if verdict::is_out_of_scope(position) {
             return Ok(None);
         }
-        if position.men() <= 2 {
+        if is_bare(position) {
             return Ok(Some(Verdict::TableDraw));
         }
-        let placed = placed(position);
-        let weighed = self.shelf.weigh(&mut self.blocks, alloc, position, &placed);
+        let probe = Probe::of(position);
+        let weighed = self.weigh(alloc, &probe);
         let reading = worth_in(weighed);
         let winner = match &reading {
             Ok(Wdl::Win) => position.side(),
             Ok(Wdl::Loss) => position.side().other(),
             _ => return Ok(verdict::by_value(&reading)),
         };
-        let reach = self
-            .shelf
-            .by_weighed(&mut self.blocks, alloc, position, &placed, &weighed, 1)?;
+        let reach = self.by_weighed(alloc, &probe, &weighed, 1)?;
         Ok(verdict::by_distance(position, winner, &reach))
     }
 }

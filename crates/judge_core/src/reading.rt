@@ -1,17 +1,22 @@
-//! Reading tables through decoded blocks.
+//! Reading tables through decoded blocks: these functions alone see tables and blocks apart.
 
-ghost use Rattle.std.specs.Prelude.{◌≡◌, ◌<◌, ℕ, Some, None, IfSome, IfOk, OnErr, slice_index_or};
+ghost use Rattle.std.specs.Prelude.{◌≡◌, ◌<◌, ◌≤◌, ℕ, Some, None, IfSome, IfOk, OnErr, slice_index_or};
+ghost use Rattle.table_file.specs.declared.kind.Kind.TheVariants.{Wdl, Dtz};
 ghost use Rattle.table_file.specs.declared.spots.Spot.TheVariants.{At};
 ghost use Rattle.table_file.specs.Tables.{IsFile};
 ghost use Rattle.table_file.specs.Expansion.{expansion, entry_at, real_blocks, IsSpot, IsRealSpot, IsPast};
 ghost use Rattle.judge_core.specs.Blocks.{AreRight, IsRight};
+ghost use Rattle.judge_core.specs.Distances.{distance_in};
+ghost use Rattle.judge_core.specs.Inside.Placing.{IsKnown};
+ghost use Rattle.judge_core.specs.Tables.{table_at, entry_in};
 
 use crate::blocks::{Asking, BlockKey, Blocks};
-use crate::shelf::Shelf;
+use crate::shelf::{Shelf, slot};
+use place_index::{Placed, index};
 use std::alloc::Global;
 use std::marker::Brand;
 use std::sync::ledger::{Blank, Ledger};
-use table_file::{Damaged, Spot, Steps, Table};
+use table_file::{Damaged, Kind, Outcome, Spot, Steps, Table};
 
 /// Where the value of an index stands, by a count of its own.
 fn spot_by<L: Ledger>(
@@ -112,7 +117,7 @@ impl<'a> Shelf<'a> {
     }
 
     /// What the table of a slot has at an index; none where that is damaged.
-    pub(crate) fn read(
+    fn read(
         &self,
         blocks: &mut Blocks,
         alloc: Global,
@@ -141,6 +146,59 @@ impl<'a> Shelf<'a> {
                 };
                 self.value_in_block(blocks, alloc, table, key, offset)
             }
+            Err(_) => None,
+        }
+    }
+
+    /// What a WDL table of the shelf has at the index of placed men; none where that is damaged.
+    pub(crate) fn entry(
+        &self,
+        blocks: &mut Blocks,
+        alloc: Global,
+        table: &Table<'a>,
+        placed: &Placed,
+    ) -> Option<u16>
+        requires right { AreRight self.now blocks.old }
+        requires on { table_at self.now.tables Wdl placed.now.material ≡ Some table.now }
+        requires own { table.now.material ≡ placed.now.material }
+        requires known { IsKnown placed.now }
+        ensures is { result ≡ entry_in table.now placed.now }
+        ensures right { AreRight self.now blocks.new }
+    {
+        let side = placed.side();
+        let file = placed.file();
+        let slot = slot(Kind::Wdl, placed.material());
+        let index = index(table.shape(side, file), placed);
+        self.read(blocks, alloc, slot, table, side, file, index)
+    }
+
+    /// What a DTZ table of the shelf stores for placed men; none where that is damaged.
+    pub(crate) fn distance(
+        &self,
+        blocks: &mut Blocks,
+        alloc: Global,
+        table: &Table<'a>,
+        placed: &Placed,
+        outcome: Outcome,
+    ) -> Option<u32>
+        requires right { AreRight self.now blocks.old }
+        requires kind { table.now.kind ≡ Dtz }
+        requires on { table_at self.now.tables Dtz placed.now.material ≡ Some table.now }
+        requires own { table.now.material ≡ placed.now.material }
+        requires known { IsKnown placed.now }
+        ensures is { result ≡ distance_in table.now placed.now outcome }
+        ensures within { IfSome result (λ n. n ≤ 131070) }
+        ensures right { AreRight self.now blocks.new }
+    {
+        let side = placed.side();
+        let file = placed.file();
+        let slot = slot(Kind::Dtz, placed.material());
+        let index = index(table.shape(side, file), placed);
+        let Some(value) = self.read(blocks, alloc, slot, table, 0, file, index) else {
+            return None;
+        };
+        match table.plies_of(file, value, outcome) {
+            Ok(plies) => Some(plies),
             Err(_) => None,
         }
     }

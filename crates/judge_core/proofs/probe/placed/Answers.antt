@@ -1,7 +1,7 @@
 use Rattle.std.proofs.Common.{◌<◌, ◌∙◌, sym, arith}
 use Rattle.judge_core.proofs.LookUp.{material_found, material_none, placed_is}
 use Rattle.judge_core.proofs.Entries.{one_file}
-use Rattle.judge_core.proofs.shelf.placed.Goals as goal
+use Rattle.judge_core.proofs.probe.placed.Goals as goal
 
 pub returns-in-None-clause-is : goal.returns-in-None-clause-is
 returns-in-None-clause-is c = sym (material_none _ c.in-None.ensures.none)
