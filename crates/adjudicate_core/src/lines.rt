@@ -58,7 +58,7 @@ pub(crate) enum Line {
 }
 
 /// Tells what the tables tell, or why they tell nothing.
-fn fmt_told<W: fmt::Write>(f: &mut fmt::Formatter<W>, question: &str, column: Column) -> fmt::Result
+fn fmt_told<W: fmt::Write>(f: &mut fmt::Formatter<W>, question: &str, told: Column) -> fmt::Result
     ensures { DisplaysOnOk W.Write.write_str_gives f.old result (Some (told_words question.now told.0)) f.new }
 {
     write!(f, "{question} {told}")

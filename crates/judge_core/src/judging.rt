@@ -1,12 +1,9 @@
 //! The verdict on a position.
 
-ghost use Rattle.std.specs.Prelude.{◌≡◌, false, IfOk, OnErr};
+ghost use Rattle.std.specs.Prelude.{◌≡◌, IfOk, OnErr};
+ghost use Rattle.judge_core.specs.Answers.{ListsMovesForVerdict};
+ghost use Rattle.judge_core.specs.Ruling.{ruling};
 ghost use Rattle.judge_core.specs.Tables.{AreFiled};
-ghost use Rattle.judge_core.specs.Answers.{IsDecisive, ListsMoves};
-ghost use Rattle.judge_core.specs.Ends.{has_no_move};
-ghost use Rattle.judge_core.specs.Probing.{wdl_of};
-ghost use Rattle.judge_core.specs.Ruling.{is_out_of_scope, ruling};
-ghost use Rattle.board_core.specs.ComputedMoves.{legal_moves};
 
 use crate::found::worth_in;
 use crate::mobility::has_no_move;
@@ -33,7 +30,7 @@ impl<'a> Set<'a> {
         position: &Position,
     ) -> Result<Option<Verdict>, AllocError>
         ensures value { IfOk result (λ verdict. verdict ≡ ruling self.old.tables position.now) }
-        ensures memory { OnErr result ((has_no_move (legal_moves position.now) ≡ false) × (is_out_of_scope position.now ≡ false) × IsDecisive (wdl_of self.old.tables position.now) × ListsMoves self.old.tables position.now) }
+        ensures memory { OnErr result (ListsMovesForVerdict self.old.tables position.now) }
         ensures filed { AreFiled self.old.tables }
         ensures unchanged { self.new ≡ self.old }
     {
