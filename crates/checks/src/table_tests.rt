@@ -1,7 +1,6 @@
 //! The worked files, first faults, values in blocks, and distances by flags and maps.
 
 ghost use Rattle.std.specs.Prelude.{◌≡◌, ◌<◌, IfOk};
-ghost use Rattle.table_file.specs.Tables.{IsFile};
 ghost use Rattle.table_file.specs.Expansion.{IsRealSpot};
 
 use crate::comparing::{check_bytes, check_same};
@@ -9,12 +8,13 @@ use crate::files::{
     BISHOP, KNIGHT, PAWN, PAWN_FILES, PAWNS, QUEEN, QUEEN_PLIES, file_of, fill, push_bytes,
     queen_file,
 };
-use place_index::Shape;
+use board_core::Side;
+use place_index::PawnFile;
 use std::alloc::Global;
 use std::marker::Brand;
 use std::process::Abort;
 use std::sync::ledger::{Blank, Ledger};
-use table_file::{Damaged, Kind, Outcome, Spot, Steps, Table, TableFault, open};
+use table_file::{Damaged, Kind, Outcome, Spot, Steps, Table, TableFault, TablePart, open};
 
 /// A file as a table, or its fault. The functions down to `distance` show a table to the tests without its contracts.
 fn opened<'a>(alloc: Global, name: &str, file: &'a [u8]) -> Result<Table<'a>, TableFault> {
@@ -39,60 +39,36 @@ fn fault(alloc: Global, name: &str, file: &[u8]) -> Option<TableFault> {
     }
 }
 
-/// A table has a part for a side and a file.
-fn check_part(rt: &impl Abort, table: &Table<'_>, side: u8, file: u8)
-    ensures side { side < 2 }
-    ensures file { IsFile table.now.material file }
-{
-    assert!(rt; side < 2 && file < 4 && (file == 0 || table.material().has_pawns()));
+/// The part for a side and a file by its number.
+fn part<'t, 'a>(rt: &impl Abort, table: &'t Table<'a>, side: Side, file: u8) -> TablePart<'t, 'a> {
+    table.part(side, PawnFile::new(file).expect(rt, "a file"))
 }
 
-fn shape<'t>(rt: &impl Abort, table: &'t Table<'_>, side: u8, file: u8) -> &'t Shape {
-    check_part(rt, table, side, file);
-    table.shape(side, file)
-}
-
-fn value(
-    rt: &impl Abort,
-    table: &Table<'_>,
-    side: u8,
-    file: u8,
-    index: u64,
-) -> Result<u16, Damaged> {
-    check_part(rt, table, side, file);
-    table.value(side, file, index)
+fn value(part: &TablePart<'_, '_>, index: u64) -> Result<u16, Damaged> {
+    part.value(index)
 }
 
 /// Where a value stands, by a count of its own.
-fn spot_by<L: Ledger>(
-    table: &Table<'_>,
-    side: u8,
-    file: u8,
-    index: u64,
-    blank: Blank,
-) -> Result<Spot, Damaged>
-    requires side { side < 2 }
-    requires file { IsFile table.now.material file }
+fn spot_by<L: Ledger>(part: &TablePart<'_, '_>, index: u64, blank: Blank) -> Result<Spot, Damaged>
     requires name { blank.name ≡ L.name }
     requires parts { blank.parts ≡ L.parts }
     requires some { 0 < blank.parts }
-    ensures { IfOk result (λ s. IsRealSpot table.now side file s) }
+    ensures { IfOk result (λ s. IsRealSpot part.now s) }
 {
-    table.locate(side, file, index, &mut Steps::<L>::new(blank))
+    part.locate(index, &mut Steps::<L>::new(blank))
 }
 
-fn spot(rt: &impl Abort, table: &Table<'_>, side: u8, file: u8, index: u64) -> Result<Spot, Damaged>
-    ensures { IfOk result (λ s. IsRealSpot table.now side file s) }
+fn spot(part: &TablePart<'_, '_>, index: u64) -> Result<Spot, Damaged>
+    ensures { IfOk result (λ s. IsRealSpot part.now s) }
 {
-    check_part(rt, table, side, file);
-    spot_by::<Brand>(table, side, file, index, Blank::new(1))
+    spot_by::<Brand>(part, index, Blank::new(1))
 }
 
 /// Whether a DTZ table stores a side.
-fn stores(rt: &impl Abort, table: &Table<'_>, side: u8, file: u8) -> bool {
-    check_part(rt, table, side, file);
+fn stores(rt: &impl Abort, table: &Table<'_>, side: Side, file: u8) -> bool {
     assert!(rt; table.kind() == Kind::Dtz);
-    table.stores(side, file)
+    let file = PawnFile::new(file).expect(rt, "a file");
+    table.part(side, file).stores()
 }
 
 /// The plies that a DTZ table tells.
@@ -103,9 +79,9 @@ pub(crate) fn distance(
     index: u64,
     outcome: Outcome,
 ) -> Result<u32, Damaged> {
-    check_part(rt, table, 0, file);
     assert!(rt; table.kind() == Kind::Dtz);
-    table.dtz(file, index, outcome)
+    let file = PawnFile::new(file).expect(rt, "a file");
+    table.part(Side::White, file).dtz(index, outcome)
 }
 
 /// A file of 80 bytes, its values for both sides, its pieces, and its last file of the leading pawn.
@@ -178,24 +154,26 @@ fn check_title(rt: &impl Abort, table: &Table<'_>, name: &str, is_dtz: bool) {
     );
 }
 
-fn check_shape(rt: &impl Abort, table: &Table<'_>, file: u8, pieces: &[u8]) {
-    let shape = shape(rt, table, 1, file);
+fn check_shape(rt: &impl Abort, part: &TablePart<'_, '_>, file: u8, pieces: &[u8]) {
+    let shape = part.shape();
     check_bytes(rt, shape.pieces(), pieces, "pieces");
-    check_same(rt, shape.file(), file, "file");
+    check_same(rt, shape.file().number(), file, "file");
 }
 
 /// Each side has one value at all indices.
 fn check_singles(rt: &impl Abort, table: &Table<'_>, file: u8, values: [u16; 2]) {
     let [first, second] = values;
-    check_same(rt, value(rt, table, 0, file, 0), Ok(first), "value");
-    check_same(rt, value(rt, table, 1, file, u64::MAX), Ok(second), "value");
-    let wanted = Ok(Spot::Single(second));
-    check_same(rt, spot(rt, table, 1, file, 31332), wanted, "spot");
+    let white = part(rt, table, Side::White, file);
+    let black = part(rt, table, Side::Black, file);
+    check_same(rt, value(&white, 0), Ok(first), "value");
+    check_same(rt, value(&black, u64::MAX), Ok(second), "value");
+    check_same(rt, spot(&black, 31332), Ok(Spot::Single(second)), "spot");
 }
 
 fn check_table(rt: &impl Abort, table: &Table<'_>, row: &Worked) {
     check_title(rt, table, row.name, row.is_dtz);
-    check_shape(rt, table, row.file, row.pieces);
+    let black = part(rt, table, Side::Black, row.file);
+    check_shape(rt, &black, row.file, row.pieces);
     check_singles(rt, table, row.file, row.values);
 }
 
@@ -297,44 +275,48 @@ fn cut_files_are_refused(rt: HostRuntime) {
 }
 
 /// 4 at even indices and 0 at odd ones.
-fn check_value(rt: &impl Abort, table: &Table<'_>, index: u64) {
+fn check_value(rt: &impl Abort, part: &TablePart<'_, '_>, index: u64) {
     let wanted = if index % 2 == 0 { 4u16 } else { 0 };
-    let told = value(rt, table, 0, 0, index);
+    let told = value(part, index);
     check_same(rt, (index, told), (index, Ok(wanted)), "value");
 }
 
-/// Side 0 of the queen's table has no value at an index, and side 1 has the value 0.
-fn check_past(rt: &impl Abort, table: &Table<'_>, index: u64) {
-    check_same(rt, value(rt, table, 0, 0, index), Err(Damaged), "value");
-    check_same(rt, spot(rt, table, 0, 0, index), Err(Damaged), "spot");
-    check_same(rt, value(rt, table, 1, 0, index), Ok(0), "other side");
+/// White's part of the queen's table has no value at an index.
+fn check_past(rt: &impl Abort, part: &TablePart<'_, '_>, index: u64) {
+    check_same(rt, value(part, index), Err(Damaged), "value");
+    check_same(rt, spot(part, index), Err(Damaged), "spot");
 }
 
+/// White's part has values in blocks, and black's the value 0 at each index.
 fn check_all_values(rt: &impl Abort, table: &Table<'_>) {
+    let white = part(rt, table, Side::White, 0);
+    let black = part(rt, table, Side::Black, 0);
     for index in 0u64..31332 {
-        check_value(rt, table, index);
+        check_value(rt, &white, index);
     }
-    check_past(rt, table, 31332);
-    check_past(rt, table, u64::MAX);
+    for index in [31332, u64::MAX] {
+        check_past(rt, &white, index);
+        check_same(rt, value(&black, index), Ok(0), "other side");
+    }
 }
 
-fn check_spot(rt: &impl Abort, table: &Table<'_>, index: u64, block: u32, offset: u32) {
+fn check_spot(rt: &impl Abort, part: &TablePart<'_, '_>, index: u64, block: u32, offset: u32) {
     let wanted = Ok(Spot::At { block, offset });
-    check_same(rt, spot(rt, table, 0, 0, index), wanted, "spot");
+    check_same(rt, spot(part, index), wanted, "spot");
 }
 
-fn check_spots(rt: &impl Abort, table: &Table<'_>) {
+fn check_spots(rt: &impl Abort, part: &TablePart<'_, '_>) {
     for (index, block, offset) in [(0u64, 0, 0), (127, 1, 27), (128, 1, 28), (31331, 313, 31)] {
-        check_spot(rt, table, index, block, offset);
+        check_spot(rt, part, index, block, offset);
     }
 }
 
 /// The values of the block in which an index stands.
-fn unpacked(rt: &impl Abort, alloc: Global, table: &Table<'_>, index: u64) -> Vec<u16> {
-    let Ok(Spot::At { block, .. }) = spot(rt, table, 0, 0, index) else {
+fn unpacked(rt: &impl Abort, alloc: Global, part: &TablePart<'_, '_>, index: u64) -> Vec<u16> {
+    let Ok(Spot::At { block, .. }) = spot(part, index) else {
         return Vec::new(alloc);
     };
-    table.unpack(alloc, 0, 0, block).expect(rt, "memory")
+    part.unpack(alloc, block).expect(rt, "memory")
 }
 
 /// The values of a block are so many, 4 and 0 in turn.
@@ -346,16 +328,17 @@ fn check_block(rt: &impl Abort, values: &[u16], count: usize) {
     }
 }
 
-fn check_blocks(rt: &impl Abort, alloc: Global, table: &Table<'_>) {
+fn check_blocks(rt: &impl Abort, alloc: Global, part: &TablePart<'_, '_>) {
     for (index, count) in [(0u64, 100usize), (31299, 100), (31300, 32)] {
-        check_block(rt, &unpacked(rt, alloc, table, index), count);
+        check_block(rt, &unpacked(rt, alloc, part, index), count);
     }
 }
 
 fn check_queen(rt: &impl Abort, alloc: Global, table: &Table<'_>) {
     check_all_values(rt, table);
-    check_spots(rt, table);
-    check_blocks(rt, alloc, table);
+    let white = part(rt, table, Side::White, 0);
+    check_spots(rt, &white);
+    check_blocks(rt, alloc, &white);
 }
 
 #[test]
@@ -449,8 +432,9 @@ fn all_plies(rt: &impl Abort, table: &Table<'_>) -> [Option<u32>; 4] {
 }
 
 fn check_stored(rt: &impl Abort, table: &Table<'_>, file: u8, wanted: [bool; 2]) {
-    let told = [stores(rt, table, 0, file), stores(rt, table, 1, file)];
-    check_same(rt, told, wanted, "sides");
+    let white = stores(rt, table, Side::White, file);
+    let black = stores(rt, table, Side::Black, file);
+    check_same(rt, [white, black], wanted, "sides");
 }
 
 fn check_plies(rt: &impl Abort, table: &Table<'_>, row: &Distances) {

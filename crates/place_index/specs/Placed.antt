@@ -1,5 +1,5 @@
 -- How a position is looked up in its table: with colours exchanged where the table names them the other way (Syzygy tables).
-use Rattle.std.specs.Prelude.{◌≡◌, ℕ, suc, ◌+◌, ◌-◌, ◌⊎◌, List, [], ◌∷◌, Bool, true, false, cond, Option, Some, None}
+use Rattle.std.specs.Prelude.{◌≡◌, ℕ, suc, ◌+◌, ◌⊎◌, List, [], ◌∷◌, Bool, true, false, cond, Option, Some, None}
 use Rattle.std.specs.List.Sorted.{IsPermutation}
 use Rattle.board_core.specs.declared.piece.Piece.{Piece}
 use Rattle.board_core.specs.declared.piece.Side.{Side}
@@ -7,8 +7,10 @@ use Rattle.board_core.specs.declared.piece.Side.TheVariants.{White, Black}
 use Rattle.board_core.specs.declared.piece.Kind.{Kind}
 use Rattle.board_core.specs.declared.piece.Kind.TheVariants.{Pawn, Knight, Bishop, Rook, Queen, King}
 use Rattle.board_core.specs.declared.parts.Parts.{Parts}
+use Rattle.board_core.specs.Side.{other}
 use Rattle.place_index.specs.Material.{men_of, pieces_of}
 use Rattle.place_index.specs.Men.{man, codes_of, exchanged}
+use Rattle.place_index.specs.Shape.{Layout}
 use Rattle.place_index.specs.Turning.{lead_file}
 use Rattle.place_index.specs.declared.man.Man.{Man}
 
@@ -54,13 +56,18 @@ IsMaterialOf key men = IsNamed key men ⊎ IsNamed key (exchanged men)
 abbrev pub IsSymmetric : ℕ → Type 0
 IsSymmetric key = (men_of key).first ≡ (men_of key).second
 
--- What is looked up: the men after the exchange of colours, the side to move (0 for white, 1 for black), and the file of the
--- leading pawn.
+-- What is looked up: the men and the side to move after the exchange of colours, and the file of the leading pawn. White is
+-- the first side of the table's name.
 pub record Placement : Type 0 where
   pub material : ℕ
   pub men : List Man
-  pub side : ℕ
+  pub side : Side
   pub file : ℕ
+
+-- a shape is of the placement's material and of the file of its leading pawn
+pub record Fits (l : Layout) (placed : Placement) : Type 0 where
+  pub material : placed.material ≡ l.material
+  pub file : placed.file ≡ l.file
 
 abbrev pub side_number : Side → ℕ
 side_number White = 0
@@ -72,6 +79,6 @@ pub record IsLookedUp (key : ℕ) (p : Parts) (placed : Placement) : Type 0 wher
   pub material : placed.material ≡ key
   pub men : placed.men ≡ cond is_exchanged (exchanged (men_on p.men)) (men_on p.men)
   pub named : IsNamed key placed.men
-  pub side : placed.side ≡ cond is_exchanged (1 - side_number p.side) (side_number p.side)
-  pub white : IsSymmetric key → placed.side ≡ 0
+  pub side : placed.side ≡ cond is_exchanged (other p.side) p.side
+  pub white : IsSymmetric key → placed.side ≡ White
   pub file : placed.file ≡ lead_file key placed.men

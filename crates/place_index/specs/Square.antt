@@ -7,6 +7,10 @@ file s = s % 8
 abbrev pub rank : ℕ → ℕ
 rank s = s / 8
 
+-- the file of a square mirrored to the left, 0 for a and h to 3 for d and e
+abbrev pub left_file : ℕ → ℕ
+left_file s = cond (nat_lt (file s) 4) (file s) (7 - file s)
+
 abbrev pub on_diagonal : ℕ → Bool
 on_diagonal s = file s == rank s
 

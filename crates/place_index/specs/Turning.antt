@@ -1,6 +1,6 @@
 -- The turning of all men of a placement (Syzygy index, mirrorings).
 use Rattle.std.specs.Prelude.{ℕ, ◌-◌, List, [], ◌∷◌, take, Bool, false, cond, nat_lt, slice_index}
-use Rattle.place_index.specs.Square.{file, rank, on_diagonal, left_right, bottom_top, across}
+use Rattle.place_index.specs.Square.{file, rank, left_file, on_diagonal, left_right, bottom_top, across}
 use Rattle.place_index.specs.Men.{square_of, moved}
 use Rattle.place_index.specs.Pawns.{pawn_square, pawn_numbers_of}
 use Rattle.place_index.specs.Shape.{Layout, has_pawns, lead_men, lead_code}
@@ -47,4 +47,4 @@ turned l men = cond (has_pawns l.material) (turned_pawns l.material men) (turned
 
 -- the file that picks the table's record, 0 to 3: that of the leading pawn after the turning, and 0 without pawns
 unfoldable pub lead_file : ℕ → List Man → ℕ
-lead_file key men = cond (has_pawns key) (cond (nat_lt (file (lead_pawn key men)) 4) (file (lead_pawn key men)) (7 - file (lead_pawn key men))) 0
+lead_file key men = cond (has_pawns key) (left_file (lead_pawn key men)) 0

@@ -37,6 +37,7 @@ ghost use Rattle.place_index.specs.Inside.TurnedMen.{AreBefore};
 ghost use Rattle.place_index.specs.Material.{count_of, pieces_of};
 ghost use Rattle.place_index.specs.Men.{squares_of, square_of};
 ghost use Rattle.place_index.specs.Pawns.{pawn_numbers_of};
+ghost use Rattle.place_index.specs.Placed.{Fits};
 ghost use Rattle.place_index.specs.Shape.{factors_of, groups_of, has_pawns, lead_code, size_of};
 
 use crate::group::number_group;
@@ -149,11 +150,9 @@ fn sum_of_groups(turned: &Turned) -> u64
 }
 
 /// The index of a placement in its table (Syzygy index): the sum of the groups' numbers times their factors, from 0 and
-/// below the shape's size. That shape and placement have one material and one file of the leading pawn is the caller's
-/// condition.
+/// below the shape's size. That the shape fits the placement is the caller's condition.
 pub fn index(shape: &Shape, placed: &Placed) -> u64
-    requires material { placed.now.material ≡ shape.now.material }
-    requires file { placed.now.file ≡ shape.now.file }
+    requires fits { Fits shape.now placed.now }
     ensures is { result ≡ index_of shape.now placed.now.men }
     ensures below { result < size_of shape.now }
 {

@@ -8,6 +8,7 @@ ghost use Rattle.place_index.specs.Shape.{has_pawns};
 use crate::indexing::Turned;
 use crate::material::{leading_men, leading_pawn};
 use crate::numbers::{kings_number, pawns_before, pawns_number, three_number};
+use crate::pawn_file::PawnFile;
 use crate::short_lists::{Earlier, UpToThree};
 use crate::squares::pawn_square;
 use board_core::Square;
@@ -39,9 +40,8 @@ impl Leading {
     }
 
     /// The group's number; leading pawns stand on this file.
-    pub(crate) fn number(&self, file: u8) -> u64
-        requires file { file < 4 }
-        requires wanted { StandAsWanted file self.now }
+    pub(crate) fn number(&self, file: PawnFile) -> u64
+        requires { StandAsWanted file self.now }
         ensures { result ≡ leading_number self.now }
     {
         match self {

@@ -12,6 +12,7 @@ ghost use Rattle.place_index.specs.Three.{three_number, triangle_number, lower_n
 
 use crate::choose::choices;
 use crate::man::{BLACK_PAWN, WHITE_PAWN};
+use crate::pawn_file::PawnFile;
 use crate::short_lists::Earlier;
 use crate::squares::pawn_square;
 use crate::tables::{KINGS, LOWER, PAWNS_BEFORE, TRIANGLE};
@@ -88,20 +89,19 @@ fn set_number(numbers: &[u8]) -> u64
 }
 
 /// The placements with the leading pawn on one of the first ranks of a file from the second on, and so many pawns beside it.
-pub(crate) fn pawns_before(file: u8, others: usize, ranks: usize) -> u64
-    requires file { file < 4 }
+pub(crate) fn pawns_before(file: PawnFile, others: usize, ranks: usize) -> u64
     requires others { others ≤ 2 }
     requires ranks { ranks ≤ 6 }
     ensures is { result ≡ pawns_before file others ranks }
     ensures few { result ≤ 5201 }
 {
-    PAWNS_BEFORE[(others * 4 + file as usize) * 7 + ranks] as u64
+    let file = file.number() as usize;
+    PAWNS_BEFORE[(others * 4 + file) * 7 + ranks] as u64
 }
 
 /// The number of leading pawns with these pawn numbers, the greatest first.
-pub(crate) fn pawns_number(file: u8, numbers: &[u8]) -> u64
-    requires file { file < 4 }
-    requires pawns { ArePawnsAt file numbers.now }
+pub(crate) fn pawns_number(file: PawnFile, numbers: &[u8]) -> u64
+    requires { ArePawnsAt file numbers.now }
     ensures { result ≡ lead_pawns_number numbers.now }
 {
     let greatest = numbers[0];

@@ -1,15 +1,18 @@
-ghost use Rattle.std.specs.Prelude.{◌≡◌, ◌<◌, ◌≤◌, ◌-◌, ℕ, IfNone, IfSome, true, take, cond};
+ghost use Rattle.std.specs.Prelude.{◌≡◌, ◌<◌, ◌≤◌, ℕ, IfNone, IfSome, true, false, take, cond};
+ghost use Rattle.board_core.specs.Side.{other};
+ghost use Rattle.board_core.specs.declared.piece.Side.TheVariants.{White};
 ghost use Rattle.place_index.specs.Index.{IsPlacement};
 ghost use Rattle.place_index.specs.Material.{tally_of};
 ghost use Rattle.place_index.specs.Men.{codes_of, exchanged};
-ghost use Rattle.place_index.specs.Placed.{IsNamed, IsMaterialOf, IsSymmetric, IsLookedUp, men_on, side_number};
+ghost use Rattle.place_index.specs.Placed.{IsNamed, IsMaterialOf, IsSymmetric, IsLookedUp, men_on};
 ghost use Rattle.place_index.specs.Shape.{has_pawns};
 ghost use Rattle.place_index.specs.Turning.{lead_file, lead_pawn};
-ghost use Rattle.place_index.specs.Inside.Turns.{lead_square, left_file};
+ghost use Rattle.place_index.specs.Inside.Turns.{lead_square};
 
 use crate::finding::material_by_tally;
 use crate::man::Man;
 use crate::material::Material;
+use crate::pawn_file::PawnFile;
 use crate::sweep::{exchange, men_on};
 use crate::turning::lead_pawn;
 use board_core::{Position, Side, Square};
@@ -22,9 +25,9 @@ pub struct Placed {
     material: Material,
     men: [Man; 5],
     count: u8,
-    side: u8,
+    side: Side,
     lead: Square,
-    file: u8,
+    file: PawnFile,
 }
 
 impl Model for Placed {
@@ -56,19 +59,17 @@ impl Placed {
         &self.men[..self.count as usize]
     }
 
-    /// The side to move after the exchange of colours, 0 for white and 1 for black.
-    pub fn side(&self) -> u8
-        ensures is { result ≡ self.now.side }
-        ensures few { result < 2 }
+    /// The side to move after the exchange of colours: white for the first side of the table's name.
+    pub fn side(&self) -> Side
+        ensures { result ≡ self.now.side }
     {
         self.side
     }
 
-    /// The file that picks the table's record, that of the leading pawn mirrored to the left: 0 for a and h to 3 for d and
-    /// e, and 0 without pawns.
-    pub fn file(&self) -> u8
+    /// The file that picks the table's record: that of the leading pawn mirrored to the left, and the first one without pawns.
+    pub fn file(&self) -> PawnFile
         ensures is { result ≡ self.now.file }
-        ensures left { result < 4 }
+        ensures first { has_pawns self.now.material ≡ false → result ≡ 0 }
     {
         self.file
     }
@@ -78,16 +79,6 @@ impl Placed {
         ensures { has_pawns self.now.material ≡ true → result ≡ lead_pawn self.now.material self.now.men }
     {
         self.lead
-    }
-}
-
-fn side_number(side: Side) -> u8
-    ensures is { result ≡ side_number side }
-    ensures few { result < 2 }
-{
-    match side {
-        Side::White => 0,
-        Side::Black => 1,
     }
 }
 
@@ -104,21 +95,13 @@ fn lead_square(material: Material, men: &[Man]) -> Square
     }
 }
 
-/// The file of a square after the turning to the left, 0 to 3.
-fn left_file(square: Square) -> u8
-    ensures { result ≡ left_file square }
-{
-    let file = square.file();
-    if file < 4 { file } else { 7 - file }
-}
-
 /// Whether the position, whose men have this tally, is looked up with colours exchanged: where white's men are the name's
 /// second side, and for symmetric material with black to move.
 fn is_exchanged(material: Material, position: &Position, tally: u64) -> bool
     requires tally { tally ≡ tally_of (codes_of (men_on position.now.men)) }
     requires material { IsMaterialOf material (men_on position.now.men) }
     ensures named { IsNamed material (cond result (exchanged (men_on position.now.men)) (men_on position.now.men)) }
-    ensures white { IsSymmetric material → cond result (1 - side_number position.now.side) (side_number position.now.side) ≡ 0 }
+    ensures white { IsSymmetric material → cond result (other position.now.side) position.now.side ≡ White }
 {
     // The proof alone reads that the key is below 145.
     let _key = material.key();
@@ -139,12 +122,10 @@ fn in_colours(men: &mut [Man; 5], exchanges: bool)
 }
 
 /// The side to move after the exchange, if there is one.
-fn side_after(side: u8, exchange: bool) -> u8
-    requires { side < 2 }
-    ensures is { result ≡ cond exchange (1 - side) side }
-    ensures few { result < 2 }
+fn side_after(side: Side, exchange: bool) -> Side
+    ensures { result ≡ cond exchange (other side) side }
 {
-    if exchange { 1 - side } else { side }
+    if exchange { side.other() } else { side }
 }
 
 /// The position's men, which are the first `count` of these, as their table sees them.
@@ -159,7 +140,7 @@ fn looked_up(
     requires men { take count men ≡ men_on position.now.men }
     requires few { count ≤ 5 }
     requires named { IsNamed material (cond exchanges (exchanged (men_on position.now.men)) (men_on position.now.men)) }
-    requires white { IsSymmetric material → cond exchanges (1 - side_number position.now.side) (side_number position.now.side) ≡ 0 }
+    requires white { IsSymmetric material → cond exchanges (other position.now.side) position.now.side ≡ White }
     ensures { IsLookedUp material position.now result }
 {
     // The proof alone reads that it is a position.
@@ -170,16 +151,15 @@ fn looked_up(
         material,
         men,
         count: count as u8,
-        side: side_after(side_number(position.side()), exchanges),
+        side: side_after(position.side(), exchanges),
         lead,
-        file: left_file(lead),
+        file: PawnFile::of(lead),
     }
 }
 
 impl Placed {
     /// The position as its table sees it, found by one look at its men: what `Material::of` finds, and then what `place` gives for
-    /// that material (Syzygy tables); the side is 0 or 1, the file of the leading pawn 0 to 3, and 0 without pawns. `None` for
-    /// bare kings and for more than five men. It takes no memory.
+    /// that material (Syzygy tables). `None` for bare kings and for more than five men. It takes no memory.
     pub fn of(position: &Position) -> Option<Placed>
         ensures material { IfSome result (λ placed. IsMaterialOf placed.material (men_on position.now.men)) }
         ensures placed { IfSome result (λ placed. IsLookedUp placed.material position.now placed) }

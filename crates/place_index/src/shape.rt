@@ -6,6 +6,7 @@ ghost use Rattle.std.specs.Option.{ForSome};
 use crate::arrangement::has_good_pieces;
 use crate::group::{Group, groups};
 use crate::material::{Material, both_have_pawns, leading_men};
+use crate::pawn_file::PawnFile;
 use crate::places::{factors, places};
 use crate::sizes::{leading_size, product, sizes};
 use arrayvec::ArrayVec;
@@ -32,7 +33,7 @@ pub struct Shape {
     pieces: ArrayVec<u8, 5>,
     order: u8,
     second: u8,
-    file: u8,
+    file: PawnFile,
     groups: ArrayVec<Group, 5>,
     factors: ArrayVec<u64, 5>,
     size: u64,
@@ -73,8 +74,7 @@ fn has_good_order(groups: usize, order: u8, second: Option<u8>) -> bool
 }
 
 impl Shape {
-    /// The shape of a table with this material, for leading pawns on a file from 0 for a and h to 3 for d and e (0 is
-    /// given where there are no pawns); that the file is below 4 is the caller's condition.
+    /// The shape of a table with this material, for leading pawns on this file.
     ///
     /// The pieces are codes of the table file: 1 to 6 for white's pawn, knight, bishop, rook, queen and king, 9 to 14 for
     /// black's. `order` is the place of the leading group among the groups, and `second` that of the other side's pawns,
@@ -86,10 +86,8 @@ impl Shape {
         pieces: &[u8],
         order: u8,
         second: u8,
-        file: u8,
+        file: PawnFile,
     ) -> Result<Shape, ShapeFault>
-        requires { file < 4 }
-
         ensures shape { IfOk result (λ s. s ≡ layout material.now pieces.now order second file) }
         ensures good { OnOk result (HasGoodPieces material.now pieces.now × HasGoodOrder (layout material.now pieces.now order second file)) }
 
@@ -150,10 +148,9 @@ impl Shape {
         self.second
     }
 
-    /// The file of the leading pawn, from 0 for a and h to 3 for d and e.
-    pub fn file(&self) -> u8
-        ensures is { result ≡ self.now.file }
-        ensures left { result < 4 }
+    /// The file of the leading pawn.
+    pub fn file(&self) -> PawnFile
+        ensures { result ≡ self.now.file }
     {
         self.file
     }

@@ -7,15 +7,17 @@ use crate::choose::choices;
 use crate::group::Group;
 use crate::man::{BLACK_PAWN, WHITE_PAWN};
 use crate::material::{Material, leading_men};
+use crate::pawn_file::PawnFile;
 use crate::tables::PAWN_PLACEMENTS;
 use arrayvec::ArrayVec;
 
-/// How many placements the leading group has, for leading pawns on a file from 0 to 3.
-pub(crate) fn leading_size(material: Material, file: u8) -> u64
-    requires { file < 4 }
-    ensures { result ≡ lead_size material file }
+/// How many placements the leading group has, for leading pawns on this file.
+pub(crate) fn leading_size(material: Material, file: PawnFile) -> u64
+    ensures is { result ≡ lead_size material file }
+    ensures left { file < 4 }
 {
     let lead = leading_men(material);
+    let file = file.number();
     if material.has_pawns() {
         return PAWN_PLACEMENTS[(lead as usize - 1) * 4 + file as usize] as u64;
     }

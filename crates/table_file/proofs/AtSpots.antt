@@ -12,15 +12,15 @@ use Rattle.table_file.specs.declared.spots.View.{View}
 use Rattle.table_file.specs.Figures.{Figures, block_size}
 use Rattle.table_file.specs.Files.{section_size}
 use Rattle.table_file.specs.Sparse.{sizes_of}
-use Rattle.table_file.specs.Tables.{Contents}
+use Rattle.table_file.specs.Tables.{PartAt}
 use Rattle.table_file.specs.Inside.Checked.{IsChecked, IsViewOf}
 use Rattle.table_file.specs.Expansion.{expanded, expansion, entry_at, values_in, values_of, IsSpotOf, IsSpot}
 use Rattle.table_file.proofs.Expanded.{spot_value}
 use Rattle.table_file.proofs.Views.{view_expansion, view_values}
 
-spot_view : (t : Contents) (side file index : ℕ) (spot : Spot) (v : View) → IsViewOf t side file v → IsSpot t side file index spot → IsSpotOf v.coding.now v.lengths.now index spot
+spot_view : (p : PartAt) (index : ℕ) (spot : Spot) (v : View) → IsViewOf p v → IsSpot p index spot → IsSpotOf v.coding.now v.lengths.now index spot
 unfolding IsSpot
-spot_view t side file index spot v h at = rw (h.coding, h.lengths) (rw h.found at at)
+spot_view p index spot v h at = rw (h.coding, h.lengths) (rw h.found at at)
 
 get-take : {X : Type 0} (n i : ℕ) (xs : List X) → i < n → slice_get (take n xs) i ≡ slice_get xs i
 get-take zero i xs lt = absurd (omega arith)
@@ -35,25 +35,25 @@ in_values (Pairs c) size lengths blocks index block offset fit spot =
     get-take (get_or (sizes_of lengths) block 0) offset (block_values c.dictionary (take (block_size c) (drop (block * block_size c) blocks))) spot.within
     ∙ sym (spot_value c lengths blocks index block offset (omega (arith, fit)) spot)
 
-module _ (t : Contents) (side file : ℕ) (v : View) (h : IsViewOf t side file v) (checked : IsChecked v) where
-  pub among : (index block offset : ℕ) → IsSpot t side file index (At block offset) → slice_get (values_of t side file block) offset ≡ entry_at (expansion t side file) index
+module _ (p : PartAt) (v : View) (h : IsViewOf p v) (checked : IsChecked v) where
+  pub among : (index block offset : ℕ) → IsSpot p index (At block offset) → slice_get (values_of p block) offset ≡ entry_at (expansion p) index
   among index block offset spot =
-      ap (λ (vs : List ℕ). slice_get vs offset) (sym (view_values t side file block v h))
-      ∙ in_values v.coding.now v.size v.lengths.now v.blocks.now index block offset checked.lengths_fit (spot_view t side file index (At block offset) v h spot)
-      ∙ ap (λ e. entry_at e index) (view_expansion t side file v h)
+      ap (λ (vs : List ℕ). slice_get vs offset) (sym (view_values p block v h))
+      ∙ in_values v.coding.now v.size v.lengths.now v.blocks.now index block offset checked.lengths_fit (spot_view p index (At block offset) v h spot)
+      ∙ ap (λ e. entry_at e index) (view_expansion p v h)
 
   -- by the dictionary's answer for the block
-  module _ (c : Figures) (is : v.coding.now ≡ Pairs c) (index block offset : ℕ) (spot : IsSpot t side file index (At block offset)) where
-    here : entry_at (expansion t side file) index ≡ slice_get (block_values c.dictionary (take (block_size c) (drop (block * block_size c) v.blocks.now))) offset
+  module _ (c : Figures) (is : v.coding.now ≡ Pairs c) (index block offset : ℕ) (spot : IsSpot p index (At block offset)) where
+    here : entry_at (expansion p) index ≡ slice_get (block_values c.dictionary (take (block_size c) (drop (block * block_size c) v.blocks.now))) offset
     here =
         let fit : length v.lengths.now ≡ 2 * (c.blocks + c.padding) = rw is at checked.lengths_fit in
-        ap (λ e. entry_at e index) (sym (view_expansion t side file v h)) ∙ ap (λ (k : Coding). entry_at (expanded k v.lengths.now v.blocks.now) index) is
-        ∙ spot_value c v.lengths.now v.blocks.now index block offset (omega (arith, fit)) (rw is at (spot_view t side file index (At block offset) v h spot))
+        ap (λ e. entry_at e index) (sym (view_expansion p v h)) ∙ ap (λ (k : Coding). entry_at (expanded k v.lengths.now v.blocks.now) index) is
+        ∙ spot_value c v.lengths.now v.blocks.now index block offset (omega (arith, fit)) (rw is at (spot_view p index (At block offset) v h spot))
 
-    pub found_in : {E : Type 0} (r : Result ℕ E) → IfOk r (λ x. slice_get (block_values c.dictionary (take (block_size c) (drop (block * block_size c) v.blocks.now))) offset ≡ Some x) → IfOk r (λ x. entry_at (expansion t side file) index ≡ Some x)
+    pub found_in : {E : Type 0} (r : Result ℕ E) → IfOk r (λ x. slice_get (block_values c.dictionary (take (block_size c) (drop (block * block_size c) v.blocks.now))) offset ≡ Some x) → IfOk r (λ x. entry_at (expansion p) index ≡ Some x)
     found_in (Ok x) e = here ∙ e
     found_in (Err e) h = tt
 
-    pub damaged_in : {E : Type 0} (r : Result ℕ E) → OnErr r (length (block_values c.dictionary (take (block_size c) (drop (block * block_size c) v.blocks.now))) ≤ offset) → OnErr r (entry_at (expansion t side file) index ≡ None)
+    pub damaged_in : {E : Type 0} (r : Result ℕ E) → OnErr r (length (block_values c.dictionary (take (block_size c) (drop (block * block_size c) v.blocks.now))) ≤ offset) → OnErr r (entry_at (expansion p) index ≡ None)
     damaged_in (Ok x) e = tt
     damaged_in (Err e) le = here ∙ slice_get_past _ offset le

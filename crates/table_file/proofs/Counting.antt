@@ -1,10 +1,9 @@
 -- Sums over the symbols of blocks, and cut lengths.
-use Rattle.std.proofs.Common.{◌≡◌, ℕ, zero, suc, ◌-◌, ◌+◌, ◌*◌, ◌/◌, ◌≤◌, ◌<◌, Some, true, false, cond, List, [], ◌∷◌, ◌++◌, length, get_or, take, drop, map, refl, sym, ap, ◌∙◌, inl, inr, append_assoc, arith}
+use Rattle.std.proofs.Common.{◌≡◌, ℕ, zero, suc, ◌-◌, ◌+◌, ◌/◌, ◌≤◌, ◌<◌, Some, true, false, cond, List, [], ◌∷◌, ◌++◌, length, get_or, take, drop, map, refl, sym, ap, ◌∙◌, inl, inr, append_assoc, arith}
 use Rattle.std.specs.Prelude.{◌⊎◌, nat_le, slice_get}
 use Rattle.std.specs.List.{flat_map, All}
 use Rattle.std.proofs.lemmas.Bool.{cases_Bool, leb-true, leb-false}
 use Rattle.std.proofs.lemmas.List.{length-append, append-nil, take_more, drop_more, drop_all}
-use Rattle.std.proofs.lemmas.Nat.{div_below}
 use Rattle.pair_dict.specs.Symbols.{HasValues, leaf, pair, values_of, left, right, symbol_count}
 use Rattle.pair_dict.proofs.Settling.{has_some}
 use Rattle.table_file.specs.declared.forging.codes.Code.{Code}
@@ -135,6 +134,3 @@ all_good_values kind material sides parts each = λ k d lt.
 pub laid_end : (material sides k : ℕ) (parts : List PartPlan) (done whole : List Laid) → length parts ≤ k → done ++ laid_parts material sides k (drop k parts) ≡ whole → done ≡ whole
 laid_end material sides k parts done whole le h =
     sym (append-nil done) ∙ ap (λ (xs : List PartPlan). done ++ laid_parts material sides k xs) (sym (drop_all k parts le)) ∙ h
-
-pub few_files_before : (k n sides : ℕ) → k < n → n ≤ 4 * sides → 1 ≤ sides → k / sides < 4
-few_files_before k n sides lt few some = div_below k sides 4 (omega (arith, some)) (omega (arith, lt, few))

@@ -19,7 +19,7 @@ use Rattle.table_file.specs.Reading.{byte_at, exponent_at}
 use Rattle.table_file.specs.Dictionaries.{after, pairing_at}
 use Rattle.table_file.specs.Figures.{Figures}
 use Rattle.table_file.specs.SizeRecords.{codes_at, single_at, coding_at, size_record_at}
-use Rattle.table_file.specs.Files.{nibble, second_at, setup_at, part_at}
+use Rattle.table_file.specs.Files.{side_of, nibble, second_at, setup_at, part_at}
 use Rattle.table_file.specs.Layouts.{IsByte, IsSecond, IsSetup, IsExponent, IsDictionary, AreCodes, IsSingle, IsCoding, IsSizeRecord, IsPart}
 use Rattle.table_file.proofs.ShapeTests.{shape_is, shape_ok}
 use Rattle.table_file.proofs.Agreeing.{Agrees, bind_ok, done, is_ok, drops, then_agrees, done_agrees, like_agrees, cond_agrees, guard_agrees, taken_agrees, number_agrees, byte_agrees, next}
@@ -198,9 +198,9 @@ setup_agrees body m sides k known = record {
       let o = (byte_agrees body).reads p h.order h.at_second le h.order_is in
       let s = (second_agrees body m).reads h.at_second h.second h.at_men o.0 h.second_is in
       let t = (taken_agrees body (length (pieces_of m))).reads h.at_men h.men h.at_end s.0 h.men_are in
-      let g = shape_is m (map (nibble (k % sides)) h.men) (nibble (k % sides) h.order) (nibble (k % sides) h.second) (k / sides) h.pieces (subst HasGoodOrder h.shape_is h.orders) in (
+      let g = shape_is m (map (nibble (side_of (k % sides))) h.men) (nibble (side_of (k % sides)) h.order) (nibble (side_of (k % sides)) h.second) (k / sides) h.pieces (subst HasGoodOrder h.shape_is h.orders) in (
         subst (λ n. n ≤ length body) (sym h.next) (rest_le last body h.at_end p t.0 le),
-        rw (o.1, s.1, t.1, g, h.shape_is, h.next) (ap (λ (l : List ℕ). done (layout m (map (nibble (k % sides)) h.men) (nibble (k % sides) h.order) (nibble (k % sides) h.second) (k / sides), l)) (rest_of last body h.at_end p)),
+        rw (o.1, s.1, t.1, g, h.shape_is, h.next) (ap (λ (l : List ℕ). done (layout m (map (nibble (side_of (k % sides))) h.men) (nibble (side_of (k % sides)) h.order) (nibble (side_of (k % sides)) h.second) (k / sides), l)) (rest_of last body h.at_end p)),
       );
   tells = λ p shape rest le g.
       let last = eqb (k % sides + 1) sides in
@@ -211,7 +211,7 @@ setup_agrees body m sides k known = record {
       let d = bind_ok _ _ (shape, rest) b.2 in
       let d1 = next (taken_agrees body (length (pieces_of m))) b.0.1 b1.0 d.0 b1.2 b1.3 d.1 in
       let e = bind_ok _ _ (shape, rest) d.2 in
-      let good = shape_ok m (map (nibble (k % sides)) d.0.0) (nibble (k % sides) a.0.0) (nibble (k % sides) b.0.0) (k / sides) e.0 known e.1 in
+      let good = shape_ok m (map (nibble (side_of (k % sides))) d.0.0) (nibble (side_of (k % sides)) a.0.0) (nibble (side_of (k % sides)) b.0.0) (k / sides) e.0 known e.1 in
       let same = is_ok _ (shape, rest) e.2 in
       let shape-is : e.0 ≡ shape = ap (λ (z : Layout × List ℕ). z.0) same in
       let q = cond last d1.0 p in (

@@ -8,6 +8,7 @@ pub mod Laying
 pub mod Counting
 pub mod Appending
 pub mod Spelling
+pub mod PartPlaces
 pub mod Views
 pub mod AtSpots
 pub mod ShapeTests

@@ -17,7 +17,7 @@ use Rattle.table_file.specs.Reading.{each_at, byte_at, taken_at, word_at, number
 use Rattle.table_file.specs.Dictionaries.{fault_of, after, pairing_at}
 use Rattle.table_file.specs.SizeRecords.{single_value, codes_at, single_at, coding_at, size_record_at}
 use Rattle.table_file.specs.Shapes.{are_good_pieces, are_good_orders, shape_at}
-use Rattle.table_file.specs.Files.{nibble, second_at, setup_at, part_at, indices, section_size, section_at}
+use Rattle.table_file.specs.Files.{side_of, nibble, second_at, setup_at, part_at, indices, section_size, section_at}
 use Rattle.table_file.specs.Maps.{no_maps, map_at, four_at, maps_at, all_maps_at}
 use Rattle.table_file.specs.Layouts.{IsByte, AreBytes, IsNumber, IsSecond, IsExponent, IsMap, IsMapStart, AreMaps, IsSection}
 use Rattle.table_file.specs.FirstFaults.{PassEnd, IsNot, IsSecondFault, IsShapeFault, IsSetupFault, IsExponentFault, IsDictionaryFault, IsCodesFault, IsCodingFault, IsSizeRecordFault, IsMapFault, IsFourFault, IsMapsFault, IsAllMapsFault, IsSectionFault, InEach}
@@ -145,8 +145,8 @@ setup_misses body m sides k p known le =
     then_misses body (second_at m) _ (IsSecond m body) (IsSecondFault m body) _ at_second le_second (second_agrees body m) (second_misses body m at_second le_second) (λ second at_men le_men.
     then_misses body (taken_at (length (pieces_of m))) _ (AreBytes (length (pieces_of m)) body) (PassEnd (length (pieces_of m)) body) _ at_men le_men (taken_agrees body (length (pieces_of m)))
     (taken_misses body (length (pieces_of m)) at_men le_men) (λ men at_end le_end.
-    end_misses (shape_at m (map (nibble (k % sides)) men) (nibble (k % sides) order) (nibble (k % sides) second) (k / sides)) _ _
-    (shape_misses m (map (nibble (k % sides)) men) (nibble (k % sides) order) (nibble (k % sides) second) (k / sides) known))))
+    end_misses (shape_at m (map (nibble (side_of (k % sides))) men) (nibble (side_of (k % sides)) order) (nibble (side_of (k % sides)) second) (k / sides)) _ _
+    (shape_misses m (map (nibble (side_of (k % sides))) men) (nibble (side_of (k % sides)) order) (nibble (side_of (k % sides)) second) (k / sides) known))))
 
 -- ---- value maps
 

@@ -1,7 +1,6 @@
 -- The steps of opening a file make the whole.
-use Rattle.std.proofs.Common.{◌≡◌, ◌≢◌, ℕ, ◌+◌, ◌/◌, Bool, true, false, cond, eqb, List, length, map, Result, Ok, Err, refl, sym, ap, ◌∙◌}
+use Rattle.std.proofs.Common.{◌≡◌, ℕ, ◌+◌, ◌/◌, Bool, true, false, cond, eqb, List, length, map, Result, Ok, Err, refl, sym, ap, ◌∙◌}
 use Rattle.std.specs.Prelude.{IfOk, ◌%◌}
-use Rattle.std.proofs.lemmas.Bool.{eq-eqb, ne_eqb}
 use Rattle.std.specs.List.{range_with_len}
 use Rattle.place_index.specs.Material.{pieces_of}
 use Rattle.place_index.specs.Shape.{Layout}
@@ -11,7 +10,7 @@ use Rattle.table_file.specs.declared.kind.Kind.{Kind}
 use Rattle.table_file.specs.declared.parts.Part.{Part}
 use Rattle.table_file.specs.declared.parts.Section.TheVariants.{Entries, Lengths, Blocks}
 use Rattle.table_file.specs.Reading.{◌>>=◌, each_at, byte_at, taken_at, risen, Fails, Gives}
-use Rattle.table_file.specs.Files.{sides_of, second_at, nibble, setup_at, part_at, section_at}
+use Rattle.table_file.specs.Files.{side_of, sides_of, second_at, nibble, setup_at, part_at, section_at}
 use Rattle.table_file.specs.Shapes.{shape_at}
 use Rattle.table_file.specs.Maps.{ValueMaps, all_maps_at}
 use Rattle.table_file.specs.Sparse.{all_fit}
@@ -109,7 +108,7 @@ if_given view (Err e) read P g f = tt
 
 abbrev shaped : ℕ → ℕ → ℕ → List ℕ → (ℕ × ℕ × List ℕ) × List ℕ → Result (Layout × List ℕ) TableFault
 shaped m sides k bytes s =
-    shape_at m (map (nibble (k % sides)) s.0.2) (nibble (k % sides) s.0.0) (nibble (k % sides) s.0.1) (k / sides) >>= λ shape. Ok (shape, cond (eqb (k % sides + 1) sides) s.1 bytes)
+    shape_at m (map (nibble (side_of (k % sides))) s.0.2) (nibble (side_of (k % sides)) s.0.0) (nibble (side_of (k % sides)) s.0.1) (k / sides) >>= λ shape. Ok (shape, cond (eqb (k % sides + 1) sides) s.1 bytes)
 
 men_first : (men : Result (List ℕ × List ℕ) TableFault) (m sides k : ℕ) (bytes : List ℕ) (order second : ℕ)
     → (men >>= λ n. shaped m sides k bytes ((order, second, n.0), n.1)) ≡ ((men >>= λ n. Ok ((order, second, n.0), n.1)) >>= shaped m sides k bytes)
@@ -138,19 +137,17 @@ with_setups : (m sides k : ℕ) (bytes : List ℕ) (s : (ℕ × ℕ × List ℕ)
 with_setups m sides k bytes s is = setup_first m sides k bytes ∙ ap (λ (x : Result ((ℕ × ℕ × List ℕ) × List ℕ) TableFault). x >>= shaped m sides k bytes) is
 
 pub no_shape : (m sides k : ℕ) (bytes : List ℕ) (s : (ℕ × ℕ × List ℕ) × List ℕ) (e : TableFault) → both_setups_at m bytes ≡ Ok s
-    → Fails e (shape_at m (map (nibble (k % sides)) s.0.2) (nibble (k % sides) s.0.0) (nibble (k % sides) s.0.1) (k / sides)) → Fails e (setup_at m sides k bytes)
+    → Fails e (shape_at m (map (nibble (side_of (k % sides))) s.0.2) (nibble (side_of (k % sides)) s.0.0) (nibble (side_of (k % sides)) s.0.1) (k / sides)) → Fails e (setup_at m sides k bytes)
 no_shape m sides k bytes s e is h =
-    fails_on e (shape_at m (map (nibble (k % sides)) s.0.2) (nibble (k % sides) s.0.0) (nibble (k % sides) s.0.1) (k / sides)) (setup_at m sides k bytes) h
+    fails_on e (shape_at m (map (nibble (side_of (k % sides))) s.0.2) (nibble (side_of (k % sides)) s.0.0) (nibble (side_of (k % sides)) s.0.1) (k / sides)) (setup_at m sides k bytes) h
     (λ fault. with_setups m sides k bytes s is ∙ ap (λ (x : Result Layout TableFault). x >>= λ shape. Ok (shape, cond (eqb (k % sides + 1) sides) s.1 bytes)) fault)
 
 pub with_shape : (m sides k : ℕ) (bytes : List ℕ) (s : (ℕ × ℕ × List ℕ) × List ℕ) (l : Layout) → both_setups_at m bytes ≡ Ok s
-    → shape_at m (map (nibble (k % sides)) s.0.2) (nibble (k % sides) s.0.0) (nibble (k % sides) s.0.1) (k / sides) ≡ Ok l
+    → shape_at m (map (nibble (side_of (k % sides))) s.0.2) (nibble (side_of (k % sides)) s.0.0) (nibble (side_of (k % sides)) s.0.1) (k / sides) ≡ Ok l
     → setup_at m sides k bytes ≡ Ok (l, cond (eqb (k % sides + 1) sides) s.1 bytes)
 with_shape m sides k bytes s l is shape =
     with_setups m sides k bytes s is ∙ ap (λ (x : Result Layout TableFault). x >>= λ shape. Ok (shape, cond (eqb (k % sides + 1) sides) s.1 bytes)) shape
 
-pub last_side : (n sides : ℕ) (rest bytes : List ℕ) → n ≡ sides → cond (eqb n sides) rest bytes ≡ rest
-last_side n sides rest bytes is = rw (eq-eqb n sides is) refl
-
-pub other_side : (n sides : ℕ) (rest bytes : List ℕ) → n ≢ sides → cond (eqb n sides) rest bytes ≡ bytes
-other_side n sides rest bytes not = rw (ne_eqb n sides not) refl
+-- what is left after a side's shape
+pub left_after : (n sides : ℕ) (last : Bool) (rest bytes : List ℕ) → last ≡ eqb n sides → cond (eqb n sides) rest bytes ≡ cond last rest bytes
+left_after n sides last rest bytes is = ap (λ b. cond b rest bytes) (sym is)

@@ -11,7 +11,7 @@ use Rattle.table_file.specs.declared.kind.Kind.TheVariants.{Wdl, Dtz}
 use Rattle.table_file.specs.declared.parts.Part.{Part}
 use Rattle.table_file.specs.Reading.{◌>>=◌, each_at, byte_at, taken_at, risen}
 use Rattle.table_file.specs.Shapes.{shape_at, are_good_pieces, are_good_orders}
-use Rattle.table_file.specs.Files.{setup_at, second_at, nibble, part_at, sides_of}
+use Rattle.table_file.specs.Files.{side_of, setup_at, second_at, nibble, part_at, sides_of}
 use Rattle.table_file.specs.SizeRecords.{size_record_at}
 use Rattle.table_file.specs.Maps.{ValueMaps, maps_at, all_maps_at}
 use Rattle.table_file.specs.Sections.{AreShaped}
@@ -61,12 +61,12 @@ shape_read m pieces order second file s e = two_tests (are_good_pieces m pieces)
 setup_read : (m sides k : ℕ) (bytes : List ℕ) (s : Layout) (after : List ℕ) → setup_at m sides k bytes ≡ Ok (s, after) → (s.material ≡ m) × (s.file ≡ k / sides)
 unfolding setup_at
 setup_read m sides k bytes s after e =
-    let side = k % sides in
+    let side = side_of (k % sides) in
     let order = bind_ok (byte_at bytes) _ (s, after) e in
     let second = bind_ok (second_at m order.0.1) _ (s, after) order.2 in
     let men = bind_ok (taken_at (length (pieces_of m)) second.0.1) _ (s, after) second.2 in
     let shape = bind_ok (shape_at m (map (nibble side) men.0.0) (nibble side order.0.0) (nibble side second.0.0) (k / sides)) _ (s, after) men.2 in
-    let same = is_ok (shape.0, cond (eqb (side + 1) sides) men.0.1 bytes) (s, after) shape.2 in
+    let same = is_ok (shape.0, cond (eqb (k % sides + 1) sides) men.0.1 bytes) (s, after) shape.2 in
     let is = shape_read m (map (nibble side) men.0.0) (nibble side order.0.0) (nibble side second.0.0) (k / sides) shape.0 shape.1 ∙ ap (λ (z : Layout × List ℕ). z.0) same in
     (ap (λ (l : Layout). l.material) (sym is), ap (λ (l : Layout). l.file) (sym is))
 

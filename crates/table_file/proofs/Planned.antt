@@ -1,29 +1,25 @@
 -- Plans, their values, and blocks that hold them.
-use Rattle.std.proofs.Common.{◌≡◌, ◌≢◌, ℕ, zero, suc, ◌-◌, ◌+◌, ◌*◌, ◌/◌, ◌≤◌, ◌<◌, Bool, true, false, cond, eqb, List, [], ◌∷◌, ◌++◌, length, get_or, take, drop, map, replicate, Option, None, Some, Result, Ok, Err, refl, sym, ap, subst, ◌∙◌, inl, inr, append_assoc, arith}
-use Rattle.std.specs.Prelude.{◌%◌, ◌⊎◌, not, slice_get, OnOk, IfOk}
+use Rattle.std.proofs.Common.{◌≡◌, ◌≢◌, ℕ, zero, suc, ◌-◌, ◌+◌, ◌*◌, ◌/◌, ◌≤◌, ◌<◌, Bool, true, false, eqb, List, [], ◌∷◌, ◌++◌, length, get_or, take, drop, map, replicate, Option, None, Some, Result, Ok, Err, refl, sym, ap, subst, ◌∙◌, inl, inr, append_assoc, arith}
+use Rattle.std.specs.Prelude.{◌⊎◌, slice_get, OnOk, IfOk}
 use Rattle.std.specs.List.{flat_map}
 use Rattle.std.proofs.lemmas.List.Concat.{flat_map-append}
 use Rattle.std.specs.Cmp.Lexicographic.{pointwise}
-use Rattle.std.proofs.lemmas.Bool.{ne_eqb, cases_Bool, false≢true}
+use Rattle.std.proofs.lemmas.Bool.{ne_eqb}
 use Rattle.std.proofs.lemmas.Bool.Decides.{Decides-eqb}
 use Rattle.std.proofs.lemmas.Slice.Eq.{strip_prefix_is}
 use Rattle.std.proofs.lemmas.List.{length-append, length-take, take_all, take_more, append-nil, append_cancel_left, drop_more, drop_all, drop-drop, get_or-take, map-append}
-use Rattle.std.proofs.lemmas.Nat.{div_below, div-add-mod'}
-use Rattle.std.proofs.lemmas.Option.{slice_get_within}
 use denote.Ref.{Bor}
 use Rattle.pair_dict.specs.Symbols.{values_to, left, right}
 use Rattle.pair_dict.specs.Blocks.{block_values}
-use Rattle.place_index.specs.Material.{white_pawns, black_pawns}
-use Rattle.place_index.specs.Shape.{Layout, has_pawns}
+use Rattle.place_index.specs.Shape.{Layout}
 use Rattle.table_file.specs.Figures.{Figures, block_size}
 use Rattle.table_file.specs.Sparse.{sizes_of}
-use Rattle.table_file.specs.Files.{files_of, sides_of, indices}
-use Rattle.table_file.specs.Tables.{Contents, IsFile, part_of, shape_in, shape_of, flags_in, flags_of, part_count}
+use Rattle.table_file.specs.Files.{indices}
+use Rattle.table_file.specs.Tables.{PartAt, part_of, shape_in, shape_of, flags_in, flags_of}
 use Rattle.table_file.specs.Plan.{planned_shape, planned_expansion, HasEnough}
 use Rattle.table_file.specs.Forged.{IsPartOf}
 use Rattle.table_file.specs.Inside.Checked.{IsViewOf}
 use Rattle.table_file.specs.declared.plan.PartPlan.{PartPlan}
-use Rattle.table_file.specs.declared.kind.Kind.{Kind}
 use Rattle.table_file.specs.declared.spots.View.{View}
 use Rattle.table_file.proofs.Views.{got, view_expansion}
 use Rattle.table_file.specs.Expansion.{filled, joined, listed, expanded, expansion, values_in}
@@ -182,22 +178,6 @@ pub stripped : (s p held : List ℕ) (x : Bor (List ℕ)) → (pointwise eqb (ta
     → p ≡ held → s ≡ held ++ x.now
 stripped s p held x h is = let e : s ≡ p ++ x.now = strip_prefix_is Decides-eqb s p (Some x) h in e ∙ ap (λ (q : List ℕ). q ++ x.now) is
 
--- ---- a part
-
-pub files_are : (m file : ℕ) → file < files_of m → IsFile m file
-unfolding files_of
-files_are m file lt =
-    elim (cases_Bool (has_pawns m)) [
-      | inl pawned ↦ (rw pawned at lt, λ e. absurd (some_not (white_pawns m + black_pawns m) pawned e))
-      | inr none ↦ (omega (arith, below_one none lt), λ e. omega (arith, below_one none lt))
-    ]
-  where
-    below_one : has_pawns m ≡ false → file < cond (has_pawns m) 4 1 → file < 1
-    below_one none lt = rw none at lt
-
-    some_not : (n : ℕ) → not (eqb n 0) ≡ true → n ≡ 0 → ⊥
-    some_not n t e = let f : not (eqb n 0) ≡ false = rw e refl in false≢true (sym f ∙ t)
-
 -- ---- shorter forms of what the loop over the blocks knows
 
 pub coded_lengths : (size : ℕ) (v : Coding) (c : Figures) (lengths : List ℕ) → v ≡ Pairs c → length lengths ≡ section_size Lengths size v → c.blocks ≤ length lengths / 2
@@ -212,11 +192,11 @@ pub coded_expansion : (v : Coding) (c : Figures) (lengths blocks values : List �
 coded_expansion v c lengths blocks values is h = rw is (ap listed (sym h))
 
 -- what the comparison of a part found
-pub part_is : (material : ℕ) (t : Contents) (side file : ℕ) (p : PartPlan) (v : View) (flags size : ℕ) (shape : Layout)
-    → IsViewOf t side file v → flags_of t side file ≡ Some flags → flags ≡ p.flags → shape_of t side file ≡ Some shape → shape ≡ planned_shape material p file → size ≡ indices shape
-    → HasEnough p.content size → expanded v.coding.now v.lengths.now v.blocks.now ≡ planned_expansion p.content size → IsPartOf material t side file p
-part_is material t side file p v flags size shape h flags-are flags-is shape-found shape-is size-is enough values =
-    let found : part_of t side file ≡ Some h.part = h.found in
+pub part_is : (material : ℕ) (at : PartAt) (p : PartPlan) (v : View) (flags size : ℕ) (shape : Layout)
+    → IsViewOf at v → flags_of at ≡ Some flags → flags ≡ p.flags → shape_of at ≡ Some shape → shape ≡ planned_shape material p at.file → size ≡ indices shape
+    → HasEnough p.content size → expanded v.coding.now v.lengths.now v.blocks.now ≡ planned_expansion p.content size → IsPartOf material at p
+part_is material at p v flags size shape h flags-are flags-is shape-found shape-is size-is enough values =
+    let found : part_of at ≡ Some h.part = h.found in
     let f : h.part.size_record.flags ≡ flags = some_is h.part.size_record.flags flags (sym (ap flags_in found) ∙ flags-are) in
     let g : h.part.shape ≡ shape = some_is h.part.shape shape (sym (ap shape_in found) ∙ shape-found) in
     let n : size ≡ indices h.part.shape = size-is ∙ ap indices (sym g) in
@@ -226,21 +206,21 @@ part_is material t side file p v flags size shape h flags-are flags-is shape-fou
       shape = g ∙ shape-is;
       flags = f ∙ flags-is;
       enough = subst (λ (k : ℕ). HasEnough p.content k) n enough;
-      values = sym (view_expansion t side file v h) ∙ subst (λ (k : ℕ). expanded v.coding.now v.lengths.now v.blocks.now ≡ planned_expansion p.content k) n values;
+      values = sym (view_expansion at v h) ∙ subst (λ (k : ℕ). expanded v.coding.now v.lengths.now v.blocks.now ≡ planned_expansion p.content k) n values;
     }
   where
     some_is : {A : Type 0} (a b : A) → Some a ≡ Some b → a ≡ b
     some_is a b e = cc
 
 -- what a part that is as planned has to show in the comparison
-pub part_has : (material : ℕ) (t : Contents) (side file : ℕ) (p : PartPlan) (v : View) (size : ℕ) (shape : Layout)
-    → IsViewOf t side file v → shape_of t side file ≡ Some shape → size ≡ indices shape → IsPartOf material t side file p
+pub part_has : (material : ℕ) (at : PartAt) (p : PartPlan) (v : View) (size : ℕ) (shape : Layout)
+    → IsViewOf at v → shape_of at ≡ Some shape → size ≡ indices shape → IsPartOf material at p
     → HasEnough p.content size × (expanded v.coding.now v.lengths.now v.blocks.now ≡ planned_expansion p.content size)
-part_has material t side file p v size shape h shape-found size-is is =
+part_has material at p v size shape h shape-found size-is is =
     let g : is.part.shape ≡ shape = some_is is.part.shape shape (sym (ap shape_in is.found) ∙ shape-found) in
     let n : indices is.part.shape ≡ size = ap indices g ∙ sym size-is in (
       subst (λ (k : ℕ). HasEnough p.content k) n is.enough,
-      view_expansion t side file v h ∙ subst (λ (k : ℕ). expansion t side file ≡ planned_expansion p.content k) n is.values,
+      view_expansion at v h ∙ subst (λ (k : ℕ). expansion at ≡ planned_expansion p.content k) n is.values,
     )
   where
     some_is : {A : Type 0} (a b : A) → Some a ≡ Some b → a ≡ b
@@ -253,43 +233,6 @@ if_one (Err e) h f = tt
 pub if_both : {E : Type 0} {P R Q : Bool → Type 0} (r : Result Bool E) → IfOk r P → IfOk r R → ((b : Bool) → P b → R b → Q b) → IfOk r Q
 if_both (Ok x) h k f = f x h k
 if_both (Err e) h k f = tt
-
--- what holds of the parts so far, and of one more
-pub one_more_part : (material : ℕ) (t : Contents) (parts : List PartPlan) (k sides : ℕ) (x : PartPlan) → k < length parts → x ≡ get_or parts k x → IsPartOf material t (k % sides) (k / sides) x
-    → ((j : ℕ) (p : PartPlan) → j < k → slice_get parts j ≡ Some p → IsPartOf material t (j % sides) (j / sides) p)
-    → (j : ℕ) (p : PartPlan) → j < k + 1 → slice_get parts j ≡ Some p → IsPartOf material t (j % sides) (j / sides) p
-one_more_part material t parts k sides x lt is here before j p below e =
-    elim (cases_lt j k) [
-      | inl less ↦ before j p less e
-      | inr not_less ↦
-          let same : j ≡ k = omega arith in
-          let at : slice_get parts k ≡ Some p = ap (λ (i : ℕ). slice_get parts i) (sym same) ∙ e in
-          let eq : x ≡ p = some_is x p (sym (got parts k x lt is) ∙ at) in
-          subst (λ (q : PartPlan). IsPartOf material t (j % sides) (j / sides) q) eq (subst (λ (i : ℕ). IsPartOf material t (i % sides) (i / sides) x) (sym same) here)
-    ]
-  where
-    some_is : {A : Type 0} (a b : A) → Some a ≡ Some b → a ≡ b
-    some_is a b e = cc
-
-    cases_lt : (i n : ℕ) → (i < n) ⊎ (n ≤ i)
-    cases_lt i n = grind arith
-
--- the number of sides, and the file that a part's number gives
-pub sides_are : (t : Contents) (kind : Kind) (material sides : ℕ) → sides ≡ sides_of kind material → kind ≡ t.kind → material ≡ t.material → sides ≡ sides_of t.kind t.material
-sides_are t kind material sides is kind-is material-is = is ∙ ap (λ (x : Kind). sides_of x material) kind-is ∙ ap (λ (m : ℕ). sides_of t.kind m) material-is
-
-pub file_of_part : (t : Contents) (sides k n : ℕ) → sides ≡ sides_of t.kind t.material → n ≡ part_count t.kind t.material → 1 ≤ sides → k < n → IsFile t.material (k / sides)
-file_of_part t sides k n sides-are n-is some lt =
-    let e : n ≡ files_of t.material * sides = n-is ∙ ap (λ (x : ℕ). files_of t.material * x) (sym sides-are) in
-    files_are t.material (k / sides) (div_below k sides (files_of t.material) some (omega (arith, lt, e)))
-
-pub few_files : (m file : ℕ) → IsFile m file → file < 256
-few_files m file h = omega (arith, h.0)
-
-pub all_parts : (material : ℕ) (t : Contents) (parts : List PartPlan) (k sides : ℕ) → length parts ≤ k
-    → ((j : ℕ) (p : PartPlan) → j < k → slice_get parts j ≡ Some p → IsPartOf material t (j % sides) (j / sides) p)
-    → (j : ℕ) (p : PartPlan) → slice_get parts j ≡ Some p → IsPartOf material t (j % sides) (j / sides) p
-all_parts material t parts k sides le h j p e = h j p (omega (arith, slice_get_within parts j p e, le)) e
 
 -- ---- how many values blocks have
 
@@ -319,12 +262,6 @@ each_more {X} P xs k x lt is here before j p below e =
 
     cases_lt : (i n : ℕ) → (i < n) ⊎ (n ≤ i)
     cases_lt i n = grind arith
-
-pub whole_files : (n sides files : ℕ) → n % sides ≡ 0 → n / sides ≡ files → n ≡ files * sides
-whole_files n sides files none is =
-    let e : n / sides * sides + n % sides ≡ n = div-add-mod' n sides in
-    let f : n / sides * sides ≡ files * sides = ap (λ (x : ℕ). x * sides) is in
-    omega (arith, e, f, none)
 
 -- ---- what is mapped one after the other
 

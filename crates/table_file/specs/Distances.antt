@@ -1,32 +1,36 @@
 -- Distances that a DTZ table tells (Syzygy table format, flags of DTZ tables and value maps).
 use Rattle.std.specs.Prelude.{◌≡◌, ℕ, ◌*◌, ◌%◌, Bool, true, false, List, slice_get, slice_index_or, Option, Some, None, ◌==◌, ◌||◌, not, if◌then◌else◌}
+use Rattle.board_core.specs.declared.piece.Side.TheVariants.{White, Black}
 use Rattle.pair_dict.specs.Reading.{words}
+use Rattle.place_index.specs.Placed.{side_number}
 use Rattle.table_file.specs.declared.outcome.Outcome.{Outcome}
 use Rattle.table_file.specs.declared.outcome.Outcome.TheVariants.{Win, CursedWin, BlessedLoss, Loss}
 use Rattle.table_file.specs.Reading.{has_bit}
 use Rattle.table_file.specs.Files.{is_symmetric}
 use Rattle.table_file.specs.Maps.{ValueMaps, no_maps}
-use Rattle.table_file.specs.Tables.{Contents, place_of, flags_of}
+use Rattle.table_file.specs.Tables.{Contents, PartAt, part_for, place_of, flags_of}
 use Rattle.table_file.specs.Expansion.{expansion, entry_at}
 
 abbrev pub flags_or_none : Option ℕ → ℕ
 flags_or_none None = 0
 flags_or_none (Some flags) = flags
 
--- the flags of a file of the leading pawn, and its maps
-abbrev pub file_flags : Contents → ℕ → ℕ
-file_flags t file = flags_or_none (flags_of t 0 file)
+-- The flags of a file of the leading pawn, which has one side, and its maps.
+abbrev pub file_flags : PartAt → ℕ
+file_flags p = flags_or_none (flags_of (part_for p.table White p.file))
 
-abbrev pub file_maps : Contents → ℕ → ValueMaps
-file_maps t file = slice_index_or t.maps (place_of t 0 file) no_maps
+abbrev pub file_maps : PartAt → ValueMaps
+file_maps p = slice_index_or p.table.maps (place_of (part_for p.table White p.file)) no_maps
 
 -- Whether the values of a file are for this side to move: bit 0 of the flags is the side, or both sides have the same men.
-unfoldable pub stores : Contents → ℕ → ℕ → Bool
-stores t side file = file_flags t file % 2 == side || is_symmetric t.material
+unfoldable pub stores : PartAt → Bool
+stores p = file_flags p % 2 == side_number p.side || is_symmetric p.table.material
 
 -- A file stores one side at least.
 abbrev pub ASideIsStored : Type 0
-ASideIsStored = (t : Contents) (file : ℕ) → (stores t 0 file ≡ false → stores t 1 file ≡ true) × (stores t 1 file ≡ false → stores t 0 file ≡ true)
+ASideIsStored =
+    (t : Contents) (file : ℕ)
+    → (stores (part_for t White file) ≡ false → stores (part_for t Black file) ≡ true) × (stores (part_for t Black file) ≡ false → stores (part_for t White file) ≡ true)
 
 -- the bytes of the map of an outcome
 abbrev pub map_of : ValueMaps → Outcome → List ℕ
@@ -67,7 +71,7 @@ abbrev pub mapped : ℕ → ValueMaps → Outcome → Option ℕ → Option ℕ
 mapped flags maps outcome None = None
 mapped flags maps outcome (Some value) = mapped_value flags maps outcome value
 
--- How many plies the table tells at an index of a file, for a game of that outcome, if the value is there: the entry of
+-- How many plies the table tells at an index of a part, for a game of that outcome, if the value is there: the entry of
 -- the expanded table, through the map, and doubled where it counts moves.
-unfoldable pub distance : Contents → ℕ → ℕ → Outcome → Option ℕ
-distance t file index outcome = told (file_flags t file) outcome (mapped (file_flags t file) (file_maps t file) outcome (entry_at (expansion t 0 file) index))
+unfoldable pub distance : PartAt → ℕ → Outcome → Option ℕ
+distance p index outcome = told (file_flags p) outcome (mapped (file_flags p) (file_maps p) outcome (entry_at (expansion p) index))

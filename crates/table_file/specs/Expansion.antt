@@ -1,4 +1,4 @@
--- The expanded table of a side and a file: all its values in one list (Syzygy table format, the values of a table).
+-- The expanded table of a part: all its values in one list (Syzygy table format, the values of a table).
 use Rattle.std.specs.Prelude.{◌≡◌, ℕ, ◌-◌, ◌*◌, ◌<◌, ◌≤◌, List, [], ◌∷◌, ◌++◌, length, map, take, drop, slice_get, slice_index, replicate, Option, Some, None}
 use Rattle.pair_dict.specs.Blocks.{block_values}
 use Rattle.table_file.specs.declared.size_record.Coding.{Coding}
@@ -8,7 +8,7 @@ use Rattle.table_file.specs.declared.spots.Spot.{Spot}
 use Rattle.table_file.specs.declared.spots.Spot.TheVariants.{Single as SingleSpot, At}
 use Rattle.table_file.specs.Figures.{Figures, block_size}
 use Rattle.table_file.specs.Sparse.{sizes_of, IsSpotIn}
-use Rattle.table_file.specs.Tables.{Contents, part_of, lengths_of, blocks_of}
+use Rattle.table_file.specs.Tables.{PartAt, part_of, lengths_of, blocks_of}
 
 -- A single value stands at each index. Otherwise the entries are listed, and None is one that is damaged.
 pub data Expansion : Type 0 where
@@ -33,8 +33,8 @@ abbrev pub expanded_part : Option Part → List ℕ → List ℕ → Expansion
 expanded_part None lengths blocks = listed []
 expanded_part (Some p) lengths blocks = expanded p.size_record.coding lengths blocks
 
-unfoldable pub expansion : Contents → ℕ → ℕ → Expansion
-expansion t side file = expanded_part (part_of t side file) (lengths_of t side file) (blocks_of t side file)
+unfoldable pub expansion : PartAt → Expansion
+expansion p = expanded_part (part_of p) (lengths_of p) (blocks_of p)
 
 abbrev pub known : Option (Option ℕ) → Option ℕ
 known None = None
@@ -69,8 +69,8 @@ IsSpotAt (Some p) lengths index spot = IsSpotOf p.size_record.coding lengths ind
 
 -- Where the entry of an index stands: the single value, or a real block and an offset in it that with the values before
 -- the block makes the index.
-unfoldable pub IsSpot : Contents → ℕ → ℕ → ℕ → Spot → Type 0
-IsSpot t side file index spot = IsSpotAt (part_of t side file) (lengths_of t side file) index spot
+unfoldable pub IsSpot : PartAt → ℕ → Spot → Type 0
+IsSpot p index spot = IsSpotAt (part_of p) (lengths_of p) index spot
 
 -- ---- blocks
 
@@ -83,13 +83,13 @@ real_blocks_in None = 0
 real_blocks_in (Some p) = blocks_in p.size_record.coding
 
 -- how many blocks hold values, those of padding entries not counted
-unfoldable pub real_blocks : Contents → ℕ → ℕ → ℕ
-real_blocks t side file = real_blocks_in (part_of t side file)
+unfoldable pub real_blocks : PartAt → ℕ
+real_blocks p = real_blocks_in (part_of p)
 
 -- a spot in a block names a real one, and an offset below 65536
-abbrev pub IsRealSpot : Contents → ℕ → ℕ → Spot → Type 0
-IsRealSpot t side file (SingleSpot v) = Unit {0}
-IsRealSpot t side file (At block offset) = (block < real_blocks t side file) × (offset < 65536)
+abbrev pub IsRealSpot : PartAt → Spot → Type 0
+IsRealSpot p (SingleSpot v) = Unit {0}
+IsRealSpot p (At block offset) = (block < real_blocks p) × (offset < 65536)
 
 abbrev pub values_in : Coding → List ℕ → List ℕ → ℕ → List ℕ
 values_in (Single v) lengths blocks block = []
@@ -100,5 +100,5 @@ values_at None lengths blocks block = []
 values_at (Some p) lengths blocks block = values_in p.size_record.coding lengths blocks block
 
 -- the values of a block, cut by its length
-unfoldable pub values_of : Contents → ℕ → ℕ → ℕ → List ℕ
-values_of t side file block = values_at (part_of t side file) (lengths_of t side file) (blocks_of t side file) block
+unfoldable pub values_of : PartAt → ℕ → List ℕ
+values_of p block = values_at (part_of p) (lengths_of p) (blocks_of p) block

@@ -1,5 +1,7 @@
 -- The parts of a table file, in their order (Syzygy table format).
 use Rattle.std.specs.Prelude.{ℕ, ◌+◌, ◌-◌, ◌*◌, ◌/◌, ◌%◌, Bool, true, false, List, length, map, take, Result, Ok, Err, nat_lt, ◌==◌, ◌&&◌, not, if◌then◌else◌}
+use Rattle.board_core.specs.declared.piece.Side.{Side}
+use Rattle.board_core.specs.declared.piece.Side.TheVariants.{White, Black}
 use Rattle.place_index.specs.Material.{men_of, pieces_of}
 use Rattle.place_index.specs.Shape.{Layout, has_pawns, both_have_pawns, size_of}
 use Rattle.table_file.specs.declared.fault.TableFault.{TableFault}
@@ -31,6 +33,10 @@ sides_of Wdl m = if is_symmetric m then 1 else 2
 -- files a to d of the leading pawn where there are pawns, else one
 unfoldable pub files_of : ℕ → ℕ
 files_of m = if has_pawns m then 4 else 1
+
+-- The side of a number: 0 is the first side of the name, which counts as white, and 1 the second.
+abbrev pub side_of : ℕ → Side
+side_of n = if n == 0 then White else Black
 
 -- how many indices a shape has
 unfoldable pub indices : Layout → ℕ
@@ -71,8 +77,9 @@ flags_at kind m bytes = do
 -- ---- orders and pieces
 
 -- the half of a byte that belongs to a side: the low nibble to side 0, the high one to side 1
-abbrev pub nibble : ℕ → ℕ → ℕ
-nibble side b = if side == 0 then b % 16 else b / 16
+abbrev pub nibble : Side → ℕ → ℕ
+nibble White b = b % 16
+nibble Black b = b / 16
 
 -- the second order byte, where both sides have pawns
 unfoldable pub second_at : ℕ → List ℕ → Result (ℕ × List ℕ) TableFault
@@ -84,7 +91,7 @@ setup_at m sides k bytes = do
   order ← byte_at bytes
   second ← second_at m order.1
   men ← taken_at (length (pieces_of m)) second.1
-  shape ← shape_at m (map (nibble (k % sides)) men.0) (nibble (k % sides) order.0) (nibble (k % sides) second.0) (k / sides)
+  shape ← shape_at m (map (nibble (side_of (k % sides))) men.0) (nibble (side_of (k % sides)) order.0) (nibble (side_of (k % sides)) second.0) (k / sides)
   Ok (shape, if k % sides + 1 == sides then men.1 else bytes)
 
 -- ---- size records

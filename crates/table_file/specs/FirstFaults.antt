@@ -17,7 +17,7 @@ use Rattle.table_file.specs.declared.parts.Section.TheVariants.{Entries, Lengths
 use Rattle.table_file.specs.Reading.{has_bit}
 use Rattle.table_file.specs.Names.{file_name}
 use Rattle.table_file.specs.Dictionaries.{fault_of}
-use Rattle.table_file.specs.Files.{sides_of, indices, magic_of, flags_agree, nibble, section_size}
+use Rattle.table_file.specs.Files.{sides_of, side_of, indices, magic_of, flags_agree, nibble, section_size}
 use Rattle.table_file.specs.Tables.{part_count, table_at}
 use Rattle.table_file.specs.Layouts.{IsByte, AreBytes, IsNumber, IsRaised, Each, IsSecond, IsSetup, IsExponent, IsPart, IsMap, IsMapStart, AreMaps, AreAllMaps, IsSectionStart, IsSection, AllSparseEntries, IsHead}
 
@@ -56,7 +56,7 @@ IsSetupFault m sides k body =
     InTurn (PassEnd 1 body) (IsByte body) (λ order.
     InTurn (IsSecondFault m body) (IsSecond m body) (λ second.
     InTurn (PassEnd (length (pieces_of m)) body) (AreBytes (length (pieces_of m)) body) (λ men _.
-    IsShapeFault m (map (nibble (k % sides)) men) (layout m (map (nibble (k % sides)) men) (nibble (k % sides) order) (nibble (k % sides) second) (k / sides)))))
+    IsShapeFault m (map (nibble (side_of (k % sides))) men) (layout m (map (nibble (side_of (k % sides))) men) (nibble (side_of (k % sides)) order) (nibble (side_of (k % sides)) second) (k / sides)))))
 
 -- ---- size records
 

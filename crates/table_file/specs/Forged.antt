@@ -1,29 +1,28 @@
 -- What the forge promises: a file of the plan's name opens, and says what the plan says.
-use Rattle.std.specs.Prelude.{◌≡◌, ℕ, ◌/◌, ◌%◌, List, length, slice_get, Some, Ok}
+use Rattle.std.specs.Prelude.{◌≡◌, ℕ, List, length, slice_get, Some, Ok}
 use Rattle.table_file.specs.declared.parts.Part.{Part}
 use Rattle.table_file.specs.declared.plan.Plan.{Plan}
 use Rattle.table_file.specs.declared.plan.PartPlan.{PartPlan}
 use Rattle.table_file.specs.Names.{file_name}
-use Rattle.table_file.specs.Files.{indices, sides_of}
-use Rattle.table_file.specs.Tables.{Contents, table_at, part_of}
+use Rattle.table_file.specs.Files.{indices}
+use Rattle.table_file.specs.Tables.{Contents, PartAt, nth_part, table_at, part_of}
 use Rattle.table_file.specs.Expansion.{expansion}
 use Rattle.table_file.specs.Plan.{planned_shape, planned_expansion, planned_maps, HasEnough, IsGoodPlan}
 use Rattle.table_file.specs.PlannedFile.{file_of}
 
 -- a part of an opened file has the pieces, orders and flags of a planned part, and its values, one for each index
-pub record IsPartOf (material : ℕ) (t : Contents) (side file : ℕ) (p : PartPlan) : Type 0 where
+pub record IsPartOf (material : ℕ) (at : PartAt) (p : PartPlan) : Type 0 where
   pub part : Part
-  pub found : part_of t side file ≡ Some part
-  pub shape : part.shape ≡ planned_shape material p file
+  pub found : part_of at ≡ Some part
+  pub shape : part.shape ≡ planned_shape material p at.file
   pub flags : part.size_record.flags ≡ p.flags
   pub enough : HasEnough p.content (indices part.shape)
-  pub values : expansion t side file ≡ planned_expansion p.content (indices part.shape)
+  pub values : expansion at ≡ planned_expansion p.content (indices part.shape)
 
 -- Parts go by files, and in each file by sides.
 abbrev pub ArePartsOf : ℕ → Contents → List PartPlan → Type 0
 ArePartsOf material t parts =
-    (k : ℕ) (p : PartPlan) → slice_get parts k ≡ Some p
-    → IsPartOf material t (k % sides_of t.kind t.material) (k / sides_of t.kind t.material) p
+    (k : ℕ) (p : PartPlan) → slice_get parts k ≡ Some p → IsPartOf material (nth_part t k) p
 
 -- an opened file says what the plan says
 pub record Shows (plan : Plan) (t : Contents) : Type 0 where

@@ -2,6 +2,8 @@
 pub mod Checked
 pub mod Writing
 pub mod Kept
+pub mod Places
+pub mod KeptPart
 pub mod OpenedParts
 pub mod Opened
 pub mod Opening

@@ -19,7 +19,7 @@ use Rattle.table_file.specs.Reading.{has_bit}
 use Rattle.table_file.specs.Names.{file_name}
 use Rattle.table_file.specs.Figures.{Figures, span, points}
 use Rattle.table_file.specs.SizeRecords.{single_value}
-use Rattle.table_file.specs.Files.{sides_of, indices, magic_of, flags_agree, nibble, section_size}
+use Rattle.table_file.specs.Files.{sides_of, side_of, indices, magic_of, flags_agree, nibble, section_size}
 use Rattle.table_file.specs.Maps.{ValueMaps, no_maps}
 use Rattle.table_file.specs.Sparse.{sizes_of, values_before, entry_block, entry_offset}
 use Rattle.table_file.specs.Tables.{Contents, part_count, table_at}
@@ -73,8 +73,8 @@ pub record IsSetup (m sides k : ℕ) (body : List ℕ) (p : ℕ) (shape : Layout
   pub order_is : IsByte body p order at_second
   pub second_is : IsSecond m body at_second second at_men
   pub men_are : AreBytes (length (pieces_of m)) body at_men men at_end
-  pub shape_is : shape ≡ layout m (map (nibble (k % sides)) men) (nibble (k % sides) order) (nibble (k % sides) second) (k / sides)
-  pub pieces : HasGoodPieces m (map (nibble (k % sides)) men)
+  pub shape_is : shape ≡ layout m (map (nibble (side_of (k % sides))) men) (nibble (side_of (k % sides)) order) (nibble (side_of (k % sides)) second) (k / sides)
+  pub pieces : HasGoodPieces m (map (nibble (side_of (k % sides))) men)
   pub orders : HasGoodOrder shape
   pub next : q ≡ (if k % sides + 1 == sides then at_end else p)
 

@@ -1,8 +1,9 @@
 -- What a table file says, and the first fault in the order of its parts (Syzygy table format).
-use Rattle.std.specs.Prelude.{◌≡◌, ℕ, ◌+◌, ◌*◌, ◌%◌, ◌<◌, List, [], slice_get, slice_index_or, Option, Some, None, Result, Ok, Err, if◌then◌else◌}
+use Rattle.std.specs.Prelude.{◌≡◌, ℕ, false, ◌+◌, ◌*◌, ◌/◌, ◌%◌, List, [], slice_get, slice_index_or, Option, Some, None, Result, Ok, Err, if◌then◌else◌}
 use Rattle.std.specs.List.{range_with_len}
-use Rattle.place_index.specs.Material.{white_pawns, black_pawns}
-use Rattle.place_index.specs.Shape.{Layout}
+use Rattle.board_core.specs.declared.piece.Side.{Side}
+use Rattle.place_index.specs.Placed.{Placement, side_number}
+use Rattle.place_index.specs.Shape.{Layout, has_pawns}
 use Rattle.table_file.specs.declared.fault.TableFault.{TableFault}
 use Rattle.table_file.specs.declared.fault.TableFault.TheVariants.{BadSparse}
 use Rattle.table_file.specs.declared.kind.Kind.{Kind}
@@ -13,7 +14,7 @@ use Rattle.table_file.specs.declared.parts.Section.TheVariants.{Entries, Lengths
 use Rattle.table_file.specs.Reading.{◌>>=◌, each_at, risen}
 use Rattle.table_file.specs.Names.{title_of}
 use Rattle.table_file.specs.Figures.{span}
-use Rattle.table_file.specs.Files.{sides_of, files_of, body_of, magic_at, flags_at, setup_at, part_at, section_at}
+use Rattle.table_file.specs.Files.{sides_of, files_of, side_of, body_of, magic_at, flags_at, setup_at, part_at, section_at}
 use Rattle.table_file.specs.Maps.{ValueMaps, all_maps_at}
 use Rattle.table_file.specs.Sparse.{all_fit}
 
@@ -65,40 +66,59 @@ table_at name file = do
   head ← head_at name file
   parts_at head.0.0 head.0.1 head.1
 
--- ---- parts by side and file
+-- ---- one part
 
--- a file of the leading pawn, 0 to 3, and 0 where there are no pawns
-abbrev pub IsFile : ℕ → ℕ → Type 0
-IsFile material file = (file < 4) × (white_pawns material + black_pawns material ≡ 0 → file ≡ 0)
+-- One part of a table: that for a side to move and a file of the leading pawn, 0 for a and h to 3 for d and e.
+pub record PartAt : Type 0 where
+  pub table : Contents
+  pub side : Side
+  pub file : ℕ
 
--- the place of a part; a table of one side doesn't look at the side
-abbrev pub place_of : Contents → ℕ → ℕ → ℕ
-place_of t side file = file * sides_of t.kind t.material + side % sides_of t.kind t.material
+abbrev pub part_for : Contents → Side → ℕ → PartAt
+part_for t side file = record { table = t; side = side; file = file }
 
-abbrev pub part_of : Contents → ℕ → ℕ → Option Part
-part_of t side file = slice_get t.parts (place_of t side file)
+-- part k of a table
+abbrev pub nth_part : Contents → ℕ → PartAt
+nth_part t k = part_for t (side_of (k % sides_of t.kind t.material)) (k / sides_of t.kind t.material)
 
-abbrev pub lengths_of : Contents → ℕ → ℕ → List ℕ
-lengths_of t side file = slice_index_or t.lengths (place_of t side file) []
+-- a file of the leading pawn, and 0 where there are no pawns
+abbrev pub part_file : ℕ → ℕ → ℕ
+part_file material file = if has_pawns material then file else 0
 
-abbrev pub blocks_of : Contents → ℕ → ℕ → List ℕ
-blocks_of t side file = slice_index_or t.blocks (place_of t side file) []
+-- The place of a part. A table without pawns doesn't look at the file, and one of one side not at the side.
+abbrev pub place_of : PartAt → ℕ
+place_of p = part_file p.table.material p.file * sides_of p.table.kind p.table.material + side_number p.side % sides_of p.table.kind p.table.material
+
+-- a placement for the table, by whose file of the leading pawn the part was found
+pub record IsAskedBy (p : PartAt) (placed : Placement) : Type 0 where
+  pub material : placed.material ≡ p.table.material
+  pub file : placed.file ≡ p.file
+  pub first : has_pawns placed.material ≡ false → placed.file ≡ 0
+
+abbrev pub part_of : PartAt → Option Part
+part_of p = slice_get p.table.parts (place_of p)
+
+abbrev pub lengths_of : PartAt → List ℕ
+lengths_of p = slice_index_or p.table.lengths (place_of p) []
+
+abbrev pub blocks_of : PartAt → List ℕ
+blocks_of p = slice_index_or p.table.blocks (place_of p) []
 
 abbrev pub shape_in : Option Part → Option Layout
 shape_in None = None
 shape_in (Some p) = Some p.shape
 
--- the shape for a side and a file
-abbrev pub shape_of : Contents → ℕ → ℕ → Option Layout
-shape_of t side file = shape_in (part_of t side file)
+-- the shape of a part
+abbrev pub shape_of : PartAt → Option Layout
+shape_of p = shape_in (part_of p)
 
 abbrev pub flags_in : Option Part → Option ℕ
 flags_in None = None
 flags_in (Some p) = Some p.size_record.flags
 
--- the flags of the size record for a side and a file
-abbrev pub flags_of : Contents → ℕ → ℕ → Option ℕ
-flags_of t side file = flags_in (part_of t side file)
+-- the flags of a part's size record
+abbrev pub flags_of : PartAt → Option ℕ
+flags_of p = flags_in (part_of p)
 
 -- how many values lie between two sparse entries of a part; one of a single value has no entry
 abbrev pub coding_span : Coding → ℕ
@@ -109,6 +129,6 @@ abbrev pub span_in : Option Part → ℕ
 span_in None = 0
 span_in (Some p) = coding_span p.size_record.coding
 
--- the span for a side and a file
-abbrev pub span_of : Contents → ℕ → ℕ → ℕ
-span_of t side file = span_in (part_of t side file)
+-- the span of a part
+abbrev pub span_of : PartAt → ℕ
+span_of p = span_in (part_of p)

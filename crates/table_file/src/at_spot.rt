@@ -3,14 +3,13 @@
 ghost use Rattle.std.specs.Prelude.{◌≡◌, ◌<◌, ◌≤◌, ℕ, slice_get, Some, None, IfOk, OnErr};
 ghost use Rattle.table_file.specs.declared.kind.Kind.TheVariants.{Dtz};
 ghost use Rattle.table_file.specs.declared.spots.Spot.TheVariants.{At};
-ghost use Rattle.table_file.specs.Tables.{IsFile};
 ghost use Rattle.table_file.specs.Expansion.{expansion, entry_at, real_blocks, values_of, IsSpot};
 ghost use Rattle.table_file.specs.Distances.{distance};
 
 use crate::outcome::{Outcome, counts_moves, plies};
 use crate::size_record::Coding;
 use crate::spots::block_of;
-use crate::table::Table;
+use crate::table_part::TablePart;
 use pair_dict::Damaged;
 
 /// The value at a place of a list.
@@ -20,23 +19,14 @@ fn value_at(values: &[u16], place: u32) -> Option<u16>
     values.get(place as usize).copied()
 }
 
-impl<'a> Table<'a> {
-    /// The value in a real block at an offset, as `value` tells it at the index for which `locate` told them. No memory is
-    /// taken.
-    pub fn value_in_block(
-        &self,
-        side: u8,
-        file: u8,
-        block: u32,
-        offset: u32,
-    ) -> Result<u16, Damaged>
-        requires side { side < 2 }
-        requires file { IsFile self.now.material file }
-        requires real { block < real_blocks self.now side file }
-        ensures found { (index : ℕ) → IsSpot self.now side file index (At block offset) → IfOk result (λ v. entry_at (expansion self.now side file) index ≡ Some v) }
-        ensures damaged { (index : ℕ) → IsSpot self.now side file index (At block offset) → OnErr result (entry_at (expansion self.now side file) index ≡ None) }
+impl<'t, 'a> TablePart<'t, 'a> {
+    /// The value in a real block at an offset, as `value` tells it at the index for which `locate` told them.
+    pub fn value_in_block(&self, block: u32, offset: u32) -> Result<u16, Damaged>
+        requires real { block < real_blocks self.now }
+        ensures found { (index : ℕ) → IsSpot self.now index (At block offset) → IfOk result (λ v. entry_at (expansion self.now) index ≡ Some v) }
+        ensures damaged { (index : ℕ) → IsSpot self.now index (At block offset) → OnErr result (entry_at (expansion self.now) index ≡ None) }
     {
-        let view = self.view(side, file);
+        let view = self.view();
         match view.coding {
             Coding::Single(_) => unreachable!(),
             Coding::Pairs(codes) => codes
@@ -47,40 +37,30 @@ impl<'a> Table<'a> {
 
     /// The value at an offset of a block, out of the values that `unpack` gave for it, as `value` tells it at the index for
     /// which `locate` told them; none where that is damaged.
-    pub fn value_among(
-        &self,
-        side: u8,
-        file: u8,
-        block: u32,
-        offset: u32,
-        values: &[u16],
-    ) -> Option<u16>
-        requires side { side < 2 }
-        requires file { IsFile self.now.material file }
-        requires values { values.now ≡ values_of self.now side file block }
-        ensures { (index : ℕ) → IsSpot self.now side file index (At block offset) → result ≡ entry_at (expansion self.now side file) index }
+    pub fn value_among(&self, block: u32, offset: u32, values: &[u16]) -> Option<u16>
+        requires values { values.now ≡ values_of self.now block }
+        ensures { (index : ℕ) → IsSpot self.now index (At block offset) → result ≡ entry_at (expansion self.now) index }
     {
         // Its contract tells what was checked of the part.
-        let _view = self.view(side, file);
+        let _view = self.view();
         let _block = block;
         value_at(values, offset)
     }
 
     /// How many plies a stored value of a DTZ table stands for, as `dtz` tells them at an index that has it: through the value
-    /// map where the file is mapped, and doubled where it counts moves. No memory is taken.
+    /// map where the file is mapped, and doubled where it counts moves.
     ///
     /// It is at most 131070. `Damaged` where the map has no entry.
     #[tactic(auto, unfolding(crate::specs::Distances::distance))]
-    pub fn plies_of(&self, file: u8, value: u16, outcome: Outcome) -> Result<u32, Damaged>
-        requires kind { self.now.kind ≡ Dtz }
-        requires file { IsFile self.now.material file }
-        ensures found { (index : ℕ) → entry_at (expansion self.now 0 file) index ≡ Some value → IfOk result (λ d. distance self.now file index outcome ≡ Some d) }
-        ensures damaged { (index : ℕ) → entry_at (expansion self.now 0 file) index ≡ Some value → OnErr result (distance self.now file index outcome ≡ None) }
+    pub fn plies_of(&self, value: u16, outcome: Outcome) -> Result<u32, Damaged>
+        requires kind { self.now.table.kind ≡ Dtz }
+        ensures found { (index : ℕ) → entry_at (expansion self.now) index ≡ Some value → IfOk result (λ d. distance self.now index outcome ≡ Some d) }
+        ensures damaged { (index : ℕ) → entry_at (expansion self.now) index ≡ Some value → OnErr result (distance self.now index outcome ≡ None) }
         ensures most { IfOk result (λ d. d ≤ 131070) }
     {
-        let Some(value) = self.mapped(file, outcome, value) else {
+        let Some(value) = self.mapped(outcome, value) else {
             return Err(Damaged);
         };
-        Ok(plies(counts_moves(self.flags(0, file), outcome), value))
+        Ok(plies(counts_moves(self.flags(), outcome), value))
     }
 }

@@ -3,9 +3,8 @@
 ghost use Rattle.std.specs.Prelude.{◌≡◌, ◌≤◌, length};
 ghost use Rattle.place_index.specs.Material.{pieces_of};
 ghost use Rattle.place_index.specs.Shape.{has_pawns, both_have_pawns, greatest_size};
-ghost use Rattle.table_file.specs.Files.{is_symmetric, sides_of, files_of, indices};
+ghost use Rattle.table_file.specs.Files.{is_symmetric, files_of, indices};
 
-use crate::kind::Kind;
 use place_index::{Material, Shape, tables_are_numbered};
 
 /// Whether both sides have the same men.
@@ -41,19 +40,6 @@ pub(crate) fn men(material: &Material) -> usize
     let _ = material.key();
     let name = material.name();
     name.as_str().len() - 1
-}
-
-/// How many sides to move a table file has.
-#[tactic(auto, unfolding(crate::specs::Files::sides_of))]
-pub(crate) fn sides(kind: Kind, material: &Material) -> usize
-    ensures is { result ≡ sides_of kind material.now }
-    ensures some { 1 ≤ result }
-    ensures few { result ≤ 2 }
-{
-    match kind {
-        Kind::Wdl => { if is_symmetric(material) { 1 } else { 2 } }
-        Kind::Dtz => 1,
-    }
 }
 
 /// How many files of the leading pawn a table file has.

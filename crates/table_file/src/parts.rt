@@ -1,22 +1,26 @@
 //! The parts of a file, in their order.
 
-ghost use Rattle.std.specs.Prelude.{◌≡◌, ◌≢◌, ◌≤◌, ◌<◌, ◌*◌, ◌/◌, length, map, IfOk, IfErr};
+ghost use Rattle.std.specs.Prelude.{◌≡◌, ◌≢◌, ◌≤◌, ℕ, length, map, IfOk, IfErr};
 ghost use Rattle.std.specs.List.{range_with_len};
 ghost use Rattle.place_index.specs.Shape.{greatest_size};
 ghost use Rattle.table_file.specs.declared.fault.TableFault.TheVariants.{OutOfMemory};
 ghost use Rattle.table_file.specs.Reading.{Gives, each_at};
 ghost use Rattle.table_file.specs.Sections.{AreSized};
+ghost use Rattle.table_file.specs.Tables.{part_count};
 ghost use Rattle.table_file.specs.Inside.Opening.{both_setups_at};
+ghost use Rattle.table_file.specs.Inside.Places.{IsPlace};
 ghost use Rattle.table_file.specs.Shapes.{shape_at};
-ghost use Rattle.table_file.specs.Files.{indices, body_of, magic_of, magic_at, same, flags_agree, flags_at, nibble, second_at, setup_at, part_at, section_size, section_at};
+ghost use Rattle.table_file.specs.Files.{indices, sides_of, body_of, magic_of, magic_at, same, flags_agree, flags_at, nibble, second_at, setup_at, part_at, section_size, section_at};
 
 use crate::fault::TableFault;
 use crate::kind::Kind;
 use crate::material::{both_have_pawns, has_pawns, indices, is_symmetric, men};
+use crate::places::{PartPlace, place_at};
 use crate::reading::{Run, aligned, byte, has_bit, number, taken};
 use crate::size_record::{Coding, SizeRecord, size_record};
 use arrayvec::ArrayVec;
-use place_index::{Material, Shape, ShapeFault};
+use board_core::Side;
+use place_index::{Material, PawnFile, Shape, ShapeFault};
 use std::alloc::Global;
 
 /// A shape, and what is said of its values.
@@ -105,14 +109,17 @@ pub(crate) fn flags<'a>(
 }
 
 /// The half of a byte that belongs to a side.
-fn nibble(side: usize, byte: u8) -> u8
+fn nibble(side: Side, byte: u8) -> u8
     ensures { result ≡ nibble side byte }
 {
-    if side == 0 { byte % 16 } else { byte / 16 }
+    match side {
+        Side::White => byte % 16,
+        Side::Black => byte / 16,
+    }
 }
 
 /// The halves of some bytes that belong to a side.
-fn nibbles(side: usize, bytes: &[u8]) -> ArrayVec<u8, 5>
+fn nibbles(side: Side, bytes: &[u8]) -> ArrayVec<u8, 5>
     requires { length bytes.now ≤ 5 }
     ensures { result.items ≡ map (nibble side) bytes.now }
 {
@@ -143,9 +150,8 @@ fn shape(
     pieces: &[u8],
     order: u8,
     second: u8,
-    file: u8,
+    file: PawnFile,
 ) -> Result<Shape, TableFault>
-    requires { file < 4 }
     ensures is { Gives (λ x. x) result (shape_at material.now pieces.now order second file) }
     ensures no_memory { IfErr result (λ e. e ≢ OutOfMemory) }
 {
@@ -160,14 +166,13 @@ fn shape(
 /// The shape that the halves of some bytes make which belong to a side.
 fn side_shape(
     material: &Material,
-    side: usize,
+    side: Side,
     men: &[u8],
     order: u8,
     second: u8,
-    file: u8,
+    file: PawnFile,
 ) -> Result<Shape, TableFault>
-    requires men { length men.now ≤ 5 }
-    requires file { file < 4 }
+    requires { length men.now ≤ 5 }
     ensures is { Gives (λ x. x) result (shape_at material.now (map (nibble side) men.now) (nibble side order) (nibble side second) file) }
     ensures no_memory { IfErr result (λ e. e ≢ OutOfMemory) }
 {
@@ -197,46 +202,39 @@ fn both_setups<'a>(
     Ok(((order, second, men), rest))
 }
 
-/// The shape of part k, and what is left.
+/// The shape of the part at a place, and what is left.
 fn setup<'a>(
     material: &Material,
-    sides: usize,
-    k: usize,
+    place: PartPlace,
     bytes: &'a [u8],
 ) -> Result<(Shape, &'a [u8]), TableFault>
-    requires some { 1 ≤ sides }
-    requires few { k / sides < 4 }
-    ensures is { Gives (λ x. (x.0, x.1.now)) result (setup_at material.now sides k bytes.now) }
+    ensures is { (sides k : ℕ) → IsPlace sides k place → Gives (λ x. (x.0, x.1.now)) result (setup_at material.now sides k bytes.now) }
     ensures no_memory { IfErr result (λ e. e ≢ OutOfMemory) }
 {
-    let side = k % sides;
     let ((order, second, men), rest) = match both_setups(material, bytes) {
         Ok(read) => read,
         Err(fault) => return Err(fault),
     };
-    match side_shape(material, side, men, order, second, (k / sides) as u8) {
-        Ok(shape) => Ok((shape, if side + 1 == sides { rest } else { bytes })),
+    match side_shape(material, place.side, men, order, second, place.file) {
+        Ok(shape) => Ok((shape, if place.is_last { rest } else { bytes })),
         Err(fault) => Err(fault),
     }
 }
 
-/// All n shapes, so many sides of each file, and what is left.
+/// The shapes of all parts, and what is left.
 pub(crate) fn setups<'a>(
     alloc: Global,
+    kind: Kind,
     material: &Material,
-    sides: usize,
-    n: usize,
     bytes: &'a [u8],
 ) -> Result<(Vec<Shape>, &'a [u8]), TableFault>
-    requires some { 1 ≤ sides }
-    requires few { n ≤ 4 * sides }
-    ensures is { Gives (λ x. (x.0.items, x.1.now)) result (each_at (setup_at material.now sides) (range_with_len 0 n) bytes.now) }
-    ensures all { IfOk result (λ x. length x.0.items ≡ n) }
+    ensures is { Gives (λ x. (x.0.items, x.1.now)) result (each_at (setup_at material.now (sides_of kind material.now)) (range_with_len 0 (part_count kind material.now)) bytes.now) }
+    ensures all { IfOk result (λ x. length x.0.items ≡ part_count kind material.now) }
 {
     let mut shapes = Vec::new(alloc);
     let mut rest = bytes;
-    for k in 0..n {
-        let (shape, after) = setup(material, sides, k, rest)?;
+    'places: while let Some(place) = place_at(kind, material, shapes.len()) {
+        let (shape, after) = setup(material, place, rest)?;
         shapes.push(shape)?;
         rest = after;
     }

@@ -1,7 +1,6 @@
 //! Opened table files.
 
-ghost use Rattle.std.specs.Prelude.{◌≡◌, ◌≢◌, ◌+◌, ◌/◌, ◌%◌, ◌<◌, ◌≤◌, length, Some, None, IsTrue, IsOk, true, IfOk, IfErr, OnErr, ◌↔◌};
-ghost use Rattle.place_index.specs.Shape.{Layout, size_of};
+ghost use Rattle.std.specs.Prelude.{◌≡◌, ◌≢◌, ◌<◌, length, IsTrue, IsOk, true, cond, IfOk, IfErr, ◌↔◌};
 ghost use Rattle.table_file.specs.declared.fault.TableFault.TheVariants.{OutOfMemory};
 ghost use Rattle.table_file.specs.declared.kind.Kind.TheVariants.{Dtz};
 ghost use Rattle.table_file.specs.declared.parts.Section.TheVariants.{Entries, Lengths, Blocks};
@@ -9,43 +8,35 @@ ghost use Rattle.table_file.specs.Files.{indices, section_size};
 ghost use Rattle.table_file.specs.Reading.{Gives};
 ghost use Rattle.table_file.specs.Sparse.{all_fit, fits_in};
 ghost use Rattle.table_file.specs.Sections.{AreShaped, AreSized};
-ghost use Rattle.table_file.specs.Inside.Checked.{IsChecked, IsViewOf};
 ghost use Rattle.table_file.specs.Inside.OpenedParts.{plain_parts, all_entries, all_lengths, all_blocks};
-ghost use Rattle.table_file.specs.Tables.{Contents, head_at, sections_at, parts_at, table_at, part_count, place_of, shape_of, flags_of, span_of, IsFile};
+ghost use Rattle.table_file.specs.Tables.{Contents, head_at, sections_at, parts_at, table_at, part_count, part_for, place_of};
 ghost use Rattle.table_file.specs.Inside.Opening.{checked_at, runs_at, all_parts_at};
 ghost use Rattle.table_file.specs.Layouts.{IsLayout};
 ghost use Rattle.table_file.specs.FirstFaults.{IsFirstFault};
-ghost use Rattle.table_file.specs.Expansion.{expansion, entry_at, real_blocks, values_of, IsSpot, IsRealSpot, IsPast};
-ghost use Rattle.table_file.specs.Distances.{file_flags, file_maps, mapped_value, stores, distance};
 
 use crate::fault::TableFault;
 use crate::kind::{Kind, title};
 use crate::laws::{reads_what_is_laid_out, tells_first_fault};
 use crate::maps::{Maps, all_maps};
-use crate::material::{files, indices, is_symmetric, sides};
-use crate::outcome::{Outcome, counts_moves, plies};
+use crate::material::{has_pawns, indices};
 use crate::parts::{Part, Section, body, flags, magic, parts, sections, setups};
-use crate::reading::{Run, even, has_bit};
+use crate::places::{Sides, side_number};
+use crate::reading::{Run, even};
 use crate::sparse::fits_in;
-use crate::spots::{Spot, View, spot_in, value_in, values_in};
-use crate::steps::Steps;
-use pair_dict::Damaged;
-use place_index::{Material, Shape};
+use crate::table_part::TablePart;
+use board_core::Side;
+use place_index::{Material, PawnFile};
 use std::alloc::{AllocError, Global};
 use std::marker::Model;
-use std::sync::ledger::Ledger;
 
 /// A table file that was opened: its parts are there and in order, and its sparse entries name the values that they are to
 /// name. It borrows the file's bytes.
-///
-/// Side 0 is the first side of the name to move, side 1 the second; files are 0 to 3 for the leading pawn on a or h to d or
-/// e, and 0 where there are no pawns.
 #[derive(Drop)]
 pub struct Table<'a> {
     kind: Kind,
     material: Material,
-    /// How many sides to move the file has, 1 or 2.
-    sides: u8,
+    has_pawns: bool,
+    sides: Sides,
     parts: Vec<OpenedPart<'a>>,
     maps: Vec<Maps<'a>>,
 }
@@ -65,10 +56,10 @@ impl<'a> Model for Table<'a> {
 /// A part with its sections: all that a look-up in it reads, in one place.
 #[derive(Drop)]
 pub(crate) struct OpenedPart<'a> {
-    entries: Run<'a>,
-    lengths: Run<'a>,
-    blocks: Run<'a>,
-    part: Part<'a>,
+    pub(crate) entries: Run<'a>,
+    pub(crate) lengths: Run<'a>,
+    pub(crate) blocks: Run<'a>,
+    pub(crate) head: Part<'a>,
 }
 
 /// Whether the sparse entries of a part name the values in the middle of their spans.
@@ -198,7 +189,7 @@ fn opened_parts<'a>(
             entries: Run::new(sections.entries[k].bytes()),
             lengths: Run::new(sections.lengths[k].bytes()),
             blocks: Run::new(sections.blocks[k].bytes()),
-            part,
+            head: part,
         })?;
     }
     Ok(opened)
@@ -222,11 +213,13 @@ fn with_sections<'a>(
         Ok(sections) => sections,
         Err(fault) => return Err(fault),
     };
-    let sides = sides(kind, &material) as u8;
+    let has_pawns = has_pawns(&material);
+    let sides = Sides::of(kind, &material);
     match opened_parts(alloc, parts, &sections) {
         Ok(parts) => Ok(Table {
             kind,
             material,
+            has_pawns,
             sides,
             parts,
             maps,
@@ -247,9 +240,7 @@ fn all_parts<'a>(
     ensures all { IfOk result (λ x. length x.0.items ≡ part_count kind material.now) }
     ensures shaped { IfOk result (λ x. AreShaped kind material.now x.0.items) }
 {
-    let sides = sides(kind, material);
-    let n = files(material) * sides;
-    let (shapes, rest) = setups(alloc, material, sides, n, bytes)?;
+    let (shapes, rest) = setups(alloc, kind, material, bytes)?;
     parts(alloc, kind, shapes, even(rest))
 }
 
@@ -294,14 +285,14 @@ pub fn open<'a>(alloc: Global, name: &[u8], file: &'a [u8]) -> Result<Table<'a>,
     }
 }
 
-/// The place of a side among so many: a file of one side doesn't look at it.
-fn side_among(sides: usize, side: u8) -> usize
-    requires side { side < 2 }
-    requires some { 1 ≤ sides }
-    requires few { sides ≤ 2 }
-    ensures { result ≡ side % sides }
+/// The file of the leading pawn that picks a part: 0 where there are no pawns.
+fn own_file(has_pawns: bool, file: PawnFile) -> usize
+    ensures is { result ≡ cond has_pawns file 0 }
+    ensures few { result < 4 }
+    ensures left { file < 4 }
 {
-    if sides == 1 { 0 } else { side as usize }
+    let number = file.number() as usize;
+    if has_pawns { number } else { 0 }
 }
 
 impl<'a> Table<'a> {
@@ -327,161 +318,31 @@ impl<'a> Table<'a> {
     }
 
     /// The number of the part for a side and a file.
-    fn place(&self, side: u8, file: u8) -> usize
-        requires side { side < 2 }
-        requires file { IsFile self.now.material file }
-        ensures is { result ≡ place_of self.now side file }
+    pub(crate) fn place(&self, side: Side, file: PawnFile) -> usize
+        ensures is { result ≡ place_of (part_for self.now side file) }
         ensures known { result < length self.now.parts }
     {
-        let sides = self.sides as usize;
-        file as usize * sides + side_among(sides, side)
-    }
-
-    /// The shape for a side and a file. A table of one side doesn't look at the side.
-    pub fn shape(&self, side: u8, file: u8) -> &Shape
-        requires side { side < 2 }
-        requires file { IsFile self.now.material file }
-        ensures is { shape_of self.now side file ≡ Some result.now }
-        ensures material { result.now.material ≡ self.now.material }
-        ensures file { result.now.file ≡ file }
-    {
-        let k = self.place(side, file);
-        &self.parts[k].part.shape
-    }
-
-    /// One part with its sections.
-    pub(crate) fn view(&self, side: u8, file: u8) -> View<'_, 'a>
-        requires side { side < 2 }
-        requires file { IsFile self.now.material file }
-        ensures checked { IsChecked result }
-        ensures part { IsViewOf self.now side file result }
-    {
-        let k = self.place(side, file);
-        let part = &self.parts[k];
-        View {
-            size: indices(&part.part.shape),
-            coding: &part.part.size_record.coding,
-            entries: part.entries.bytes(),
-            lengths: part.lengths.bytes(),
-            blocks: part.blocks.bytes(),
+        let file = own_file(self.has_pawns, file);
+        match self.sides {
+            Sides::One => file,
+            Sides::Two => 2 * file + side_number(side) as usize,
         }
     }
 
-    /// The value at an index: the entry of the expanded table. A table of one side doesn't look at the side. No memory is
-    /// taken, and no block is unpacked.
-    ///
-    /// `Damaged` where the expanded table has no entry there, or one that its block doesn't give.
-    pub fn value(&self, side: u8, file: u8, index: u64) -> Result<u16, Damaged>
-        requires side { side < 2 }
-        requires file { IsFile self.now.material file }
-        ensures found { IfOk result (λ v. entry_at (expansion self.now side file) index ≡ Some v) }
-        ensures damaged { OnErr result (entry_at (expansion self.now side file) index ≡ None) }
+    /// The part for a side to move, white for the first side of the name, and a file of the leading pawn. A table of one
+    /// side doesn't look at the side, and one without pawns not at the file.
+    pub fn part(&self, side: Side, file: PawnFile) -> TablePart<'_, 'a>
+        ensures { result ≡ part_for self.now side file }
     {
-        value_in(self.view(side, file), index)
-    }
-
-    /// Where the value at an index stands: the single value, or a real block and the offset in it. A table of one side
-    /// doesn't look at the side. No memory is taken.
-    ///
-    /// It goes from the sparse entry of the index's span, and past the last span from the last entry, back or on over whole
-    /// blocks, and `steps` counts the block lengths that it reads: for an index below the size at most half a span and 65536.
-    ///
-    /// `Damaged` exactly where the index is past the expanded table.
-    pub fn locate<L: Ledger>(
-        &self,
-        side: u8,
-        file: u8,
-        index: u64,
-        steps: &mut Steps<L>,
-    ) -> Result<Spot, Damaged>
-        requires side { side < 2 }
-        requires file { IsFile self.now.material file }
-        ensures found { IfOk result (λ s. IsSpot self.now side file index s) }
-        ensures real { IfOk result (λ s. IsRealSpot self.now side file s) }
-        ensures damaged { OnErr result (IsPast (expansion self.now side file) index) }
-        ensures cost { (shape : Layout) → shape_of self.now side file ≡ Some shape → index < size_of shape → steps.new ≤ steps.old + span_of self.now side file / 2 + 65536 }
-    {
-        spot_in(self.view(side, file), index, steps)
-    }
-
-    /// The values of a real block, as `locate` tells it: those that its codes give, at most as many as its length says and
-    /// at most 65536. The only error is that memory is refused.
-    pub fn unpack(
-        &self,
-        alloc: Global,
-        side: u8,
-        file: u8,
-        block: u32,
-    ) -> Result<Vec<u16>, AllocError>
-        requires side { side < 2 }
-        requires file { IsFile self.now.material file }
-        requires real { block < real_blocks self.now side file }
-        ensures is { IfOk result (λ values. values.items ≡ values_of self.now side file block) }
-        ensures few { IfOk result (λ values. length values.items ≤ 65536) }
-    {
-        values_in(alloc, self.view(side, file), block as usize)
-    }
-
-    /// Whether a DTZ table tells distances for this side to move: its file stores the side, or both sides have the same
-    /// men (Syzygy table format, flags of DTZ tables). No memory is taken.
-    #[tactic(auto, unfolding(crate::specs::Distances::stores))]
-    pub fn stores(&self, side: u8, file: u8) -> bool
-        requires kind { self.now.kind ≡ Dtz }
-        requires side { side < 2 }
-        requires file { IsFile self.now.material file }
-        ensures { result ≡ stores self.now side file }
-    {
-        self.flags(0, file) % 2 == side || is_symmetric(&self.material)
-    }
-
-    /// The value maps of a file of the leading pawn.
-    fn file_maps(&self, file: u8) -> &Maps<'a>
-        requires kind { self.now.kind ≡ Dtz }
-        requires file { IsFile self.now.material file }
-        ensures { result.now ≡ file_maps self.now file }
-    {
-        let k = self.place(0, file);
-        &self.maps[k]
-    }
-
-    /// What a stored value of a file stands for: where the file is mapped, the entry at that place of the map.
-    pub(crate) fn mapped(&self, file: u8, outcome: Outcome, value: u16) -> Option<u16>
-        requires kind { self.now.kind ≡ Dtz }
-        requires file { IsFile self.now.material file }
-        ensures { result ≡ mapped_value (file_flags self.now file) (file_maps self.now file) outcome value }
-    {
-        if has_bit(2, self.flags(0, file)) {
-            self.file_maps(file).entry(outcome, value as usize)
-        } else {
-            Some(value)
+        let k = self.place(side, file);
+        TablePart {
+            table: self,
+            part: &self.parts[k],
+            side,
+            file,
         }
     }
 
-    /// How many plies a DTZ table tells at an index, for a game of that outcome for the side that the file stores: the value
-    /// of the expanded table, through the value map where the file is mapped, and doubled where it counts moves and not plies
-    /// (Syzygy table format, flags of DTZ tables and value maps). No memory is taken.
-    ///
-    /// It is at most 131070. `Damaged` where the expanded table has no value there, or the map no entry.
-    #[tactic(auto, unfolding(crate::specs::Distances::distance))]
-    pub fn dtz(&self, file: u8, index: u64, outcome: Outcome) -> Result<u32, Damaged>
-        requires kind { self.now.kind ≡ Dtz }
-        requires file { IsFile self.now.material file }
-        ensures found { IfOk result (λ d. distance self.now file index outcome ≡ Some d) }
-        ensures damaged { OnErr result (distance self.now file index outcome ≡ None) }
-        ensures most { IfOk result (λ d. d ≤ 131070) }
-    {
-        let Ok(stored) = self.value(0, file, index) else {
-            return Err(Damaged);
-        };
-        let Some(value) = self.mapped(file, outcome, stored) else {
-            return Err(Damaged);
-        };
-        Ok(plies(counts_moves(self.flags(0, file), outcome), value))
-    }
-}
-
-/// What the forge compares with a plan.
-impl<'a> Table<'a> {
     /// How many parts there are: of each file of the leading pawn its sides.
     pub(crate) fn part_count(&self) -> usize
         ensures is { result ≡ length self.now.parts }
@@ -490,19 +351,10 @@ impl<'a> Table<'a> {
         self.parts.len()
     }
 
-    /// The flags of the size record for a side and a file.
-    pub(crate) fn flags(&self, side: u8, file: u8) -> u8
-        requires side { side < 2 }
-        requires file { IsFile self.now.material file }
-        ensures { flags_of self.now side file ≡ Some result }
-    {
-        let k = self.place(side, file);
-        self.parts[k].part.size_record.flags
-    }
-
     /// The value maps, of each file in a DTZ file.
     pub(crate) fn maps(&self) -> &[Maps<'a>]
-        ensures { result.now ≡ self.now.maps }
+        ensures is { result.now ≡ self.now.maps }
+        ensures all { self.now.kind ≡ Dtz → length self.now.maps ≡ length self.now.parts }
     {
         &self.maps
     }

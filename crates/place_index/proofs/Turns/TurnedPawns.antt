@@ -2,7 +2,7 @@
 use Rattle.std.proofs.Common.{◌≡◌, ◌≢◌, ℕ, zero, suc, ◌+◌, ◌-◌, ◌%◌, ◌<◌, ◌≤◌, ◌⊎◌, Bool, true, false, cond, eqb, leb, List, [], ◌∷◌, length, slice_index, refl, sym, ap, ◌∙◌, subst, inl, inr, arith}
 use Rattle.std.specs.Prelude.{nat_lt, ◌&&◌, ◌||◌}
 use Rattle.std.proofs.lemmas.Bool.{cases_lt, cases_eq, cases_Bool, eq-eqb, ne_eqb, eqb-true, leb-true, lt-ltb, le-ltb, and_parts, false≢true, agree_below_at}
-use Rattle.place_index.specs.Square.{file, rank, left_right}
+use Rattle.place_index.specs.Square.{file, rank, left_file, left_right}
 use Rattle.place_index.specs.Choose.{IsFallingBelow}
 use Rattle.place_index.specs.Material.{count_of, pieces_of}
 use Rattle.place_index.specs.Men.{codes_of, stands, falling, squares_of, moved}
@@ -10,7 +10,7 @@ use Rattle.place_index.specs.Inside.ShortLists.{inserted}
 use Rattle.place_index.specs.Pawns.{pawn_number, pawn_square, pawn_numbers_of, AreTurnedPawns}
 use Rattle.place_index.specs.Shape.{has_pawns, is_pawn, lead_code}
 use Rattle.place_index.specs.Turning.{lead_pawn, leftward, turned_pawns, lead_file}
-use Rattle.place_index.specs.Inside.Turns.{lead_square, left_file}
+use Rattle.place_index.specs.Inside.Turns.{lead_square}
 use Rattle.place_index.specs.Index.{AreAlone, IsPlacement}
 use Rattle.place_index.specs.declared.man.Man.{Man}
 use Rattle.place_index.proofs.Materials.Arranging.{count_nil, count_hit, count_miss, count_arranged}
@@ -209,13 +209,11 @@ file_none key men plain = rw plain refl
 
 -- by the leading pawn's square, 0 without pawns
 pub left_is : (key : ℕ) (men : List Man) → left_file (lead_square key men) ≡ lead_file key men
+unfolding lead_file
 left_is key men =
     elim (cases_Bool (has_pawns key)) [
-      | inr plain ↦ ap (λ b. left_file (cond {A = ℕ} b (lead_pawn key men) 0)) plain ∙ sym (file_none key men plain)
-      | inl pawned ↦ ap (λ b. left_file (cond {A = ℕ} b (lead_pawn key men) 0)) pawned ∙ (elim (cases_lt (file (lead_pawn key men)) 4) [
-        | inl lt ↦ rw (lt-ltb (file (lead_pawn key men)) 4 lt) (sym (file_left key men (lead_pawn key men) pawned refl lt))
-        | inr le ↦ rw (le-ltb (file (lead_pawn key men)) 4 le) (sym (file_right key men (lead_pawn key men) pawned refl le))
-      ])
+      | inr plain ↦ rw plain refl
+      | inl pawned ↦ rw pawned refl
     ]
 
 file_opposite : (s : ℕ) → s < 64 → file (left_right s) ≡ 7 - file s

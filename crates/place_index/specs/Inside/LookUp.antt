@@ -28,6 +28,5 @@ pub record IsPlaced (a : Inside) : Type 0 where
   pub material : a.material < 145
   pub count : a.count ≤ 5
   pub men : IsPlacement a.material (take a.count a.men)
-  pub side : a.side < 2
   pub lead : a.lead ≡ lead_square a.material (take a.count a.men)
   pub file : a.file ≡ lead_file a.material (take a.count a.men)

@@ -1,4 +1,4 @@
--- All mirrorings of a placement in one, and the leading pawn's file.
+-- All mirrorings of a placement in one, and the leading pawn's square.
 use Rattle.std.specs.Prelude.{ℕ, ◌+◌, ◌*◌, ◌-◌, List, [], ◌∷◌, Bool, false, cond, nat_lt}
 use Rattle.place_index.specs.Square.{file, rank, on_diagonal, left_right, bottom_top, across}
 use Rattle.place_index.specs.Men.{moved}
@@ -10,10 +10,6 @@ use Rattle.place_index.specs.declared.turn.Turn.{Turn}
 -- the leading pawn's square, 0 without pawns
 abbrev pub lead_square : ℕ → List Man → ℕ
 lead_square key men = cond (has_pawns key) (lead_pawn key men) 0
-
--- the file of a square after the turning to the left
-abbrev pub left_file : ℕ → ℕ
-left_file s = cond (nat_lt (file s) 4) (file s) (7 - file s)
 
 -- ---- all mirrorings in one
 

@@ -6,7 +6,7 @@ use Rattle.table_file.specs.declared.spots.View.{View}
 use Rattle.table_file.specs.Figures.{Figures, span, points}
 use Rattle.table_file.specs.Files.{section_size, indices}
 use Rattle.table_file.specs.Sparse.{sizes_of, are_entries, fits_in}
-use Rattle.table_file.specs.Tables.{Contents, part_of, lengths_of, blocks_of}
+use Rattle.table_file.specs.Tables.{PartAt, part_of, lengths_of, blocks_of}
 use Rattle.table_file.specs.declared.parts.Part.{Part}
 
 -- sparse entries and block lengths of a part with blocks
@@ -26,11 +26,11 @@ pub record IsChecked (v : View) : Type 0 where
   pub blocks_fit : length v.blocks.now ≡ section_size Blocks v.size v.coding.now
   pub right : fits_in v.size v.coding.now v.entries.now v.lengths.now ≡ true
 
--- a view of the part for a side and a file
-pub record IsViewOf (t : Contents) (side file : ℕ) (v : View) : Type 0 where
+-- a view of a part
+pub record IsViewOf (p : PartAt) (v : View) : Type 0 where
   pub part : Part
-  pub found : part_of t side file ≡ Some part
+  pub found : part_of p ≡ Some part
   pub size : v.size ≡ indices part.shape
   pub coding : v.coding.now ≡ part.size_record.coding
-  pub lengths : v.lengths.now ≡ lengths_of t side file
-  pub blocks : v.blocks.now ≡ blocks_of t side file
+  pub lengths : v.lengths.now ≡ lengths_of p
+  pub blocks : v.blocks.now ≡ blocks_of p

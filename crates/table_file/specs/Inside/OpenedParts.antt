@@ -4,7 +4,7 @@ use Rattle.table_file.specs.declared.parts.Part.{Part}
 use Rattle.table_file.specs.declared.table.OpenedPart.{OpenedPart}
 
 abbrev pub plain_parts : List OpenedPart → List Part
-plain_parts opened = map (λ o. o.part) opened
+plain_parts opened = map (λ o. o.head) opened
 
 abbrev pub all_entries : List OpenedPart → List (List ℕ)
 all_entries opened = map (λ o. o.entries) opened

@@ -6,24 +6,25 @@ ghost use Rattle.table_file.specs.Expansion.{expanded, listed};
 ghost use Rattle.table_file.specs.Plan.{planned_shape, planned_expansion, planned_maps, planned_maps_of, map_bytes, is_wide, HasEnough, IsGoodMap, AreGoodMaps, IsGoodPlan};
 ghost use Rattle.std.specs.List.{All};
 ghost use Rattle.table_file.specs.Inside.Writing.{HasGoodValues};
-ghost use Rattle.table_file.specs.Tables.{IsFile};
 ghost use Rattle.table_file.specs.Forged.{IsPartOf, ArePartsOf, Shows};
 
 use super::values::{map_bytes, plan_values};
 use crate::codes::Codes;
 use crate::kind::Kind;
 use crate::maps::Maps;
-use crate::material::{indices, sides};
+use crate::material::indices;
+use crate::places::place_at;
 use crate::plan::{Content, PartPlan, Plan};
 use crate::size_record::Coding;
 use crate::spots::{View, values_in};
 use crate::steps::size_at;
 use crate::table::Table;
-use place_index::{Material, Shape};
+use crate::table_part::TablePart;
+use place_index::{Material, PawnFile, Shape};
 use std::alloc::{AllocError, Global};
 
 /// Whether a shape is that of a planned part.
-fn has_shape(material: &Material, part: &PartPlan, file: u8, shape: &Shape) -> bool
+fn has_shape(material: &Material, part: &PartPlan, file: PawnFile, shape: &Shape) -> bool
     ensures { IsTrue result ↔ (shape.now ≡ planned_shape material.now part.now file) }
 {
     shape.material().key() == material.key()
@@ -85,29 +86,25 @@ fn has_values(
     }
 }
 
-/// Whether the part of a side and a file is as planned.
+/// Whether a part is as planned.
 fn is_part(
     alloc: Global,
     material: &Material,
-    part: &PartPlan,
-    table: &Table<'_>,
-    side: u8,
-    file: u8,
+    planned: &PartPlan,
+    part: &TablePart<'_, '_>,
 ) -> Result<bool, AllocError>
-    requires side { side < 2 }
-    requires file { IsFile table.now.material file }
-    requires good { HasGoodValues part.now.content }
-    ensures is { IfOk result (λ b. IsTrue b → IsPartOf material.now table.now side file part.now) }
-    ensures all { IfOk result (λ b. IsPartOf material.now table.now side file part.now → IsTrue b) }
+    requires { HasGoodValues planned.now.content }
+    ensures is { IfOk result (λ b. IsTrue b → IsPartOf material.now part.now planned.now) }
+    ensures all { IfOk result (λ b. IsPartOf material.now part.now planned.now → IsTrue b) }
 {
-    if table.flags(side, file) != part.flags {
+    if part.flags() != planned.flags {
         return Ok(false);
     }
-    let shape = table.shape(side, file);
-    if !has_shape(material, part, file, shape) {
+    let shape = part.shape();
+    if !has_shape(material, planned, part.file(), shape) {
         return Ok(false);
     }
-    has_values(alloc, table.view(side, file), indices(shape), &part.content)
+    has_values(alloc, part.view(), indices(shape), &planned.content)
 }
 
 /// Whether a map has the planned entries.
@@ -205,11 +202,12 @@ fn are_parts(alloc: Global, plan: &Plan, table: &Table<'_>) -> Result<bool, Allo
     ensures all { IfOk result (λ b. ArePartsOf plan.now.material table.now plan.now.parts.items → IsTrue b) }
 {
     let _ = table.part_count();
-    let sides = sides(table.kind(), table.material());
     for k in 0..plan.parts.len() {
-        let side = (k % sides) as u8;
-        let file = (k / sides) as u8;
-        match is_part(alloc, &plan.material, &plan.parts[k], table, side, file) {
+        let Some(place) = place_at(table.kind(), table.material(), k) else {
+            return Ok(false);
+        };
+        let part = table.part(place.side, place.file);
+        match is_part(alloc, &plan.material, &plan.parts[k], &part) {
             Ok(true) => {}
             Ok(false) => return Ok(false),
             Err(fault) => return Err(fault),

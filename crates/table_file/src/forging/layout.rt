@@ -1,27 +1,28 @@
 //! The bytes of a planned file.
 
-ghost use Rattle.std.specs.Prelude.{◌≡◌, ◌≤◌, ◌+◌, ◌++◌, ◌*◌, ◌^◌, ◌<◌, ◌∷◌, ◌/◌, ◌↔◌, [], ℕ, true, false, length, IsSome, IsTrue, IfOk, OnOk, IfSome, IfNone, slice_get, Some};
+ghost use Rattle.std.specs.Prelude.{◌≡◌, ◌≤◌, ◌+◌, ◌++◌, ◌*◌, ◌^◌, ◌<◌, ◌∷◌, ◌↔◌, [], true, false, length, IsSome, IsTrue, IfOk, OnOk, IfSome, IfNone};
 ghost use Rattle.std.specs.List.{flat_map, All};
 ghost use Rattle.std.specs.Int.{w32, to_le_bytes};
 ghost use Rattle.table_file.specs.declared.plan.Content.{Content};
-ghost use Rattle.table_file.specs.declared.plan.PartPlan.{PartPlan};
 ghost use Rattle.pair_dict.specs.Reading.{falls};
 ghost use Rattle.pair_dict.specs.Symbols.{AllHaveValues};
 ghost use Rattle.place_index.specs.Shape.{size_of, greatest_size, both_have_pawns, HasGoodPieces, HasGoodOrder};
 ghost use Rattle.table_file.specs.Plan.{planned_shape, symbol_bytes, is_wide, has_maps, last_point, AreGoodFigures, AreGoodCodes, AreGoodBlocks, FitsBlock, AreGoodPairs, AreGoodMaps, IsGoodMap, IsGoodSingle, IsGoodContent, IsGoodPart, IsGoodPlan, HasNoMaps};
 ghost use Rattle.table_file.specs.Files.{sides_of};
+ghost use Rattle.table_file.specs.Inside.Places.{sides_count};
 ghost use Rattle.table_file.specs.PlannedFile.{Laid, filled_to, head_bytes, halves, piece_halves, setup_bytes, one_sided, two_sided, setups_bytes, word_bytes, dictionary_bytes, figures_bytes, planned_lengths, padding_for, planned_span, laid_content, laid_part, laid_parts, one_map_bytes, four_maps_bytes, with_maps, with_each_maps, with_all_maps, with_blocks, front_bytes, with_sections, ended, file_with, file_of};
 
 use super::blocks::{blocks_bytes, entries_of, fit_blocks, lengths_of, padded, padding_of};
 use super::codes::are_good_codes;
 use super::values::{counts_of, put_map_bytes, symbol_bytes};
 use crate::kind::Kind;
-use crate::material::{both_have_pawns, files, has_pawns, is_symmetric, sides};
+use crate::material::{both_have_pawns, has_pawns, is_symmetric};
 use crate::parts::magic_of;
+use crate::places::{Sides, part_count, place_at};
 use crate::plan::{Content, MapsPlan, PairsPlan, PartPlan, Plan};
 use crate::reading::has_bit;
 use pair_dict::{DictFault, Dictionary};
-use place_index::{Material, Shape};
+use place_index::{Material, PawnFile, Shape};
 use std::alloc::{AllocError, Global};
 use std::marker::Model;
 
@@ -365,8 +366,7 @@ fn laid_content(
 }
 
 /// The number of indices of a planned part, on a file of the leading pawn, if its pieces and orders make a shape.
-fn indices_of(material: &Material, part: &PartPlan, file: u8) -> Option<u64>
-    requires { file < 4 }
+fn indices_of(material: &Material, part: &PartPlan, file: PawnFile) -> Option<u64>
     ensures found { IfSome result (λ size. size ≡ size_of (planned_shape material.now part.now file)) }
     ensures few { IfSome result (λ size. (1 ≤ size) × (size ≤ greatest_size)) }
     ensures good { IfSome result (λ _. HasGoodPieces material.now part.now.pieces.items × HasGoodOrder (planned_shape material.now part.now file) × (IsSome part.now.second ↔ (both_have_pawns material.now ≡ true))) }
@@ -425,9 +425,8 @@ fn laid_part(
     kind: Kind,
     material: &Material,
     part: &PartPlan,
-    file: u8,
+    file: PawnFile,
 ) -> Result<Option<LaidPart>, AllocError>
-    requires { file < 4 }
     ensures found { IfOk result (λ o. IfSome o (λ laid. laid ≡ laid_part material.now part.now file)) }
     ensures good { IfOk result (λ o. IfSome o (λ _. IsGoodPart kind material.now part.now file)) }
     ensures bad { IfOk result (λ o. IfNone o (IsGoodPart kind material.now part.now file → ⊥)) }
@@ -441,19 +440,21 @@ fn laid_part(
     laid_content(alloc, kind, part, size)
 }
 
-/// All planned parts as the sections of a file hold them. There is nothing where one makes the plan bad.
-fn laid_parts(alloc: Global, plan: &Plan, sides: usize) -> Result<Option<Vec<LaidPart>>, AllocError>
-    requires some { 1 ≤ sides }
-    requires few { sides ≤ 2 }
-    requires count { length plan.now.parts.items ≤ 4 * sides }
-    ensures found { IfOk result (λ o. IfSome o (λ laid. laid.items ≡ laid_parts plan.now.material sides 0 plan.now.parts.items)) }
-    ensures good { IfOk result (λ o. IfSome o (λ _. (k : ℕ) (p : PartPlan) → slice_get plan.now.parts.items k ≡ Some p → IsGoodPart plan.now.kind plan.now.material p (k / sides))) }
-    ensures bad { IfOk result (λ o. IfNone o (((k : ℕ) (p : PartPlan) → slice_get plan.now.parts.items k ≡ Some p → IsGoodPart plan.now.kind plan.now.material p (k / sides)) → ⊥)) }
+/// All planned parts as the sections of a file hold them. There is nothing where the plan is bad.
+fn laid_parts(alloc: Global, plan: &Plan) -> Result<Option<Vec<LaidPart>>, AllocError>
+    ensures found { IfOk result (λ o. IfSome o (λ laid. laid.items ≡ laid_parts plan.now.material (sides_of plan.now.kind plan.now.material) 0 plan.now.parts.items)) }
+    ensures good { IfOk result (λ o. IfSome o (λ _. IsGoodPlan plan.now.kind plan.now.material plan.now.parts.items)) }
+    ensures bad { IfOk result (λ o. IfNone o (IsGoodPlan plan.now.kind plan.now.material plan.now.parts.items → ⊥)) }
 {
+    if plan.parts.len() != part_count(plan.kind, &plan.material) {
+        return Ok(None);
+    }
     let mut laid = Vec::new(alloc);
     for k in 0..plan.parts.len() {
-        let file = (k / sides) as u8;
-        match laid_part(alloc, plan.kind, &plan.material, &plan.parts[k], file) {
+        let Some(place) = place_at(plan.kind, &plan.material, k) else {
+            return Ok(None);
+        };
+        match laid_part(alloc, plan.kind, &plan.material, &plan.parts[k], place.file) {
             Ok(Some(part)) => laid.push(part)?,
             Ok(None) => return Ok(None),
             Err(fault) => return Err(fault),
@@ -560,22 +561,21 @@ fn put_two_sided(parts: &[PartPlan], file: &mut Vec<u8>) -> Result<(), AllocErro
 }
 
 /// Orders and pieces of all files of the leading pawn.
-fn put_setups(parts: &[PartPlan], sides: usize, file: &mut Vec<u8>) -> Result<(), AllocError>
-    ensures { OnOk result (file.new.items ≡ file.old.items ++ setups_bytes sides parts.now) }
+fn put_setups(parts: &[PartPlan], sides: Sides, file: &mut Vec<u8>) -> Result<(), AllocError>
+    ensures { OnOk result (file.new.items ≡ file.old.items ++ setups_bytes (sides_count sides) parts.now) }
 {
-    if sides == 1 {
-        put_one_sided(parts, file)
-    } else {
-        put_two_sided(parts, file)
+    match sides {
+        Sides::One => put_one_sided(parts, file),
+        Sides::Two => put_two_sided(parts, file),
     }
 }
 
 /// What stands before the size records: head, shapes and a fill byte.
 #[tactic(auto, unfolding(crate::specs::PlannedFile::front_bytes))]
-fn front(alloc: Global, plan: &Plan, sides: usize) -> Result<Vec<u8>, AllocError>
-    requires { sides ≡ sides_of plan.now.kind plan.now.material }
+fn front(alloc: Global, plan: &Plan) -> Result<Vec<u8>, AllocError>
     ensures { IfOk result (λ v. v.items ≡ front_bytes plan.now) }
 {
+    let sides = Sides::of(plan.kind, &plan.material);
     let mut file = Vec::new(alloc);
     put_head(plan.kind, &plan.material, &mut file)?;
     put_setups(&plan.parts, sides, &mut file)?;
@@ -721,17 +721,11 @@ fn put_end(file: &mut Vec<u8>) -> Result<(), AllocError>
 
 /// The file of the parts that are laid out.
 #[tactic(auto, unfolding(crate::specs::PlannedFile::file_with))]
-fn file_with(
-    alloc: Global,
-    plan: &Plan,
-    sides: usize,
-    laid: &[LaidPart],
-) -> Result<Vec<u8>, AllocError>
-    requires sides { sides ≡ sides_of plan.now.kind plan.now.material }
-    requires maps { All (λ p. AreGoodMaps (is_wide p) p.maps) plan.now.parts.items }
+fn file_with(alloc: Global, plan: &Plan, laid: &[LaidPart]) -> Result<Vec<u8>, AllocError>
+    requires { All (λ p. AreGoodMaps (is_wide p) p.maps) plan.now.parts.items }
     ensures { IfOk result (λ v. v.items ≡ file_with plan.now laid.now) }
 {
-    let mut file = front(alloc, plan, sides)?;
+    let mut file = front(alloc, plan)?;
     put_size_records(laid, &mut file)?;
     put_all_maps(plan.kind, &plan.parts, &mut file)?;
     put_sections(laid, &mut file)?;
@@ -746,13 +740,9 @@ pub(super) fn laid_out(alloc: Global, plan: &Plan) -> Result<Option<Vec<u8>>, Al
     ensures good { IfOk result (λ o. IfSome o (λ _. IsGoodPlan plan.now.kind plan.now.material plan.now.parts.items)) }
     ensures bad { IfOk result (λ o. IfNone o (IsGoodPlan plan.now.kind plan.now.material plan.now.parts.items → ⊥)) }
 {
-    let sides = sides(plan.kind, &plan.material);
-    if plan.parts.len() != files(&plan.material) * sides {
-        return Ok(None);
-    }
-    let Some(laid) = laid_parts(alloc, plan, sides)? else {
+    let Some(laid) = laid_parts(alloc, plan)? else {
         return Ok(None);
     };
-    let file = file_with(alloc, plan, sides, &laid)?;
+    let file = file_with(alloc, plan, &laid)?;
     Ok(Some(file))
 }

@@ -19,9 +19,9 @@ turn_of-turn-requires c = subst (λ men. AreLoneSquares men c.new-lone_squares.r
 
 pub invariant_of-turned : goal.invariant_of-turned
 invariant_of-turned c =
-    let placed : IsPlacement c.args.shape.now.material c.args.placed.now.men = subst (λ k. IsPlacement k c.args.placed.now.men) c.requires.material c.men-men.ensures.placement in
-    let file : lead_file c.args.shape.now.material c.args.placed.now.men ≡ c.args.shape.now.file = ap (λ k. lead_file k c.args.placed.now.men) (sym c.requires.material) ∙ c.men-men.ensures.file ∙ c.requires.file in
-    let is : turned_by c.turn_of-turn.result c.men-men.result.now ≡ turned c.args.shape.now c.args.placed.now.men = ap (turned_by c.turn_of-turn.result) c.men-men.ensures.is ∙ c.turn_of-turn.ensures.is c.requires.material in
+    let placed : IsPlacement c.args.shape.now.material c.args.placed.now.men = subst (λ k. IsPlacement k c.args.placed.now.men) c.requires.fits.material c.men-men.ensures.placement in
+    let file : lead_file c.args.shape.now.material c.args.placed.now.men ≡ c.args.shape.now.file = ap (λ k. lead_file k c.args.placed.now.men) (sym c.requires.fits.material) ∙ c.men-men.ensures.file ∙ c.requires.fits.file in
+    let is : turned_by c.turn_of-turn.result c.men-men.result.now ≡ turned c.args.shape.now c.args.placed.now.men = ap (turned_by c.turn_of-turn.result) c.men-men.ensures.is ∙ c.turn_of-turn.ensures.is c.requires.fits.material in
     record {
       turned = record {
         shape = c.turn_of-turn.ensures.shape;
@@ -39,16 +39,16 @@ invariant_of-turned c =
 
 pub returns-clause-is : goal.returns-clause-is
 returns-clause-is c =
-    let is : turned_by c.turn_of-turn.result c.men-men.result.now ≡ turned c.args.shape.now c.args.placed.now.men = ap (turned_by c.turn_of-turn.result) c.men-men.ensures.is ∙ c.turn_of-turn.ensures.is c.requires.material in
+    let is : turned_by c.turn_of-turn.result c.men-men.result.now ≡ turned c.args.shape.now c.args.placed.now.men = ap (turned_by c.turn_of-turn.result) c.men-men.ensures.is ∙ c.turn_of-turn.ensures.is c.requires.fits.material in
     c.sum_of_groups.ensures
     ∙ ap (λ men. sum_of_products (numbers_of c.args.shape.now men) (factors_of c.args.shape.now)) is
     ∙ index_products c.args.shape.now c.args.placed.now.men
 
 pub returns-clause-below : goal.returns-clause-below
 returns-clause-below c =
-    let placed : IsPlacement c.args.shape.now.material c.args.placed.now.men = subst (λ k. IsPlacement k c.args.placed.now.men) c.requires.material c.men-men.ensures.placement in
-    let file : lead_file c.args.shape.now.material c.args.placed.now.men ≡ c.args.shape.now.file = ap (λ k. lead_file k c.args.placed.now.men) (sym c.requires.material) ∙ c.men-men.ensures.file ∙ c.requires.file in
-    let is : turned_by c.turn_of-turn.result c.men-men.result.now ≡ turned c.args.shape.now c.args.placed.now.men = ap (turned_by c.turn_of-turn.result) c.men-men.ensures.is ∙ c.turn_of-turn.ensures.is c.requires.material in
+    let placed : IsPlacement c.args.shape.now.material c.args.placed.now.men = subst (λ k. IsPlacement k c.args.placed.now.men) c.requires.fits.material c.men-men.ensures.placement in
+    let file : lead_file c.args.shape.now.material c.args.placed.now.men ≡ c.args.shape.now.file = ap (λ k. lead_file k c.args.placed.now.men) (sym c.requires.fits.material) ∙ c.men-men.ensures.file ∙ c.requires.fits.file in
+    let is : turned_by c.turn_of-turn.result c.men-men.result.now ≡ turned c.args.shape.now c.args.placed.now.men = ap (turned_by c.turn_of-turn.result) c.men-men.ensures.is ∙ c.turn_of-turn.ensures.is c.requires.fits.material in
     omega (
       arith,
       c.sum_of_groups.ensures,

@@ -1,8 +1,9 @@
-use Rattle.std.proofs.Common.{◌≡◌, ◌-◌, ◌∙◌, cond, take, ap, refl, sym, subst}
+use Rattle.std.proofs.Common.{◌≡◌, ◌∙◌, cond, take, ap, refl, sym, subst}
 use Rattle.place_index.specs.Men.{exchanged}
 use Rattle.place_index.specs.Index.{IsPlacement}
-use Rattle.place_index.specs.Placed.{IsNamed, men_on, side_number}
-use Rattle.place_index.specs.Inside.Turns.{left_file}
+use Rattle.board_core.specs.Side.{other}
+use Rattle.place_index.specs.Placed.{IsNamed, men_on}
+use Rattle.place_index.specs.Square.{left_file}
 use Rattle.place_index.proofs.LookUp.Colours.{taken_in_colours}
 use Rattle.place_index.proofs.LookUp.MenOn.{stood, placement_in_colours}
 use Rattle.place_index.proofs.Turns.TurnedPawns.{left_is}
@@ -24,18 +25,16 @@ invariant_of-result c =
       count = c.requires.few;
       men = subst (IsPlacement c.args.material) (sym men)
           (placement_in_colours c.args.material c.args.position.now.men c.args.exchanges (stood c.args.position.now c.parts-position.ensures.position) c.requires.named);
-      side = c.side_after.ensures.few;
       lead = c.lead_square-lead.ensures;
-      file = c.left_file.ensures ∙ ap left_file c.lead_square-lead.ensures ∙ left_is c.args.material (take c.args.count c.in_colours.new.men);
+      file = c.of.ensures ∙ ap left_file c.lead_square-lead.ensures ∙ left_is c.args.material (take c.args.count c.in_colours.new.men);
     }
 
 pub returns : goal.returns
 returns c =
     let men : take c.args.count c.in_colours.new.men ≡ cond c.args.exchanges (exchanged (men_on c.args.position.now.men)) (men_on c.args.position.now.men) =
     taken_in_colours c.args.count c.args.men c.in_colours.new.men (men_on c.args.position.now.men) c.args.exchanges c.in_colours.ensures c.requires.men in
-    let before : c.side_number.result ≡ side_number c.args.position.now.side = c.side_number.ensures.is ∙ ap side_number c.side.ensures in
-    let side : c.side_after.result ≡ cond c.args.exchanges (1 - side_number c.args.position.now.side) (side_number c.args.position.now.side) =
-    c.side_after.ensures.is ∙ ap (λ n. cond c.args.exchanges (1 - n) n) before in
+    let side : c.side_after.result ≡ cond c.args.exchanges (other c.args.position.now.side) c.args.position.now.side =
+    c.side_after.ensures ∙ ap (λ s. cond c.args.exchanges (other s) s) c.side.ensures in
     record {
       is_exchanged = c.args.exchanges;
       material = refl;
@@ -43,5 +42,5 @@ returns c =
       named = subst (IsNamed c.args.material) (sym men) c.requires.named;
       side = side;
       white = λ symmetric. side ∙ c.requires.white symmetric;
-      file = c.left_file.ensures ∙ ap left_file c.lead_square-lead.ensures ∙ left_is c.args.material (take c.args.count c.in_colours.new.men);
+      file = c.of.ensures ∙ ap left_file c.lead_square-lead.ensures ∙ left_is c.args.material (take c.args.count c.in_colours.new.men);
     }

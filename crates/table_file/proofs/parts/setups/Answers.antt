@@ -1,33 +1,59 @@
-use Rattle.std.proofs.Common.{◌-◌, ◌+◌, length, ap, arith}
+use Rattle.std.proofs.Common.{◌≡◌, ◌<◌, ◌-◌, ◌+◌, ◌++◌, ◌∷◌, [], length, ap, subst, arith}
 use Rattle.std.proofs.lemmas.Result.{err_from_is_err_and}
-use Rattle.std.proofs.lemmas.Nat.{div_below}
 use Rattle.std.proofs.lemmas.List.{length_push}
 use Rattle.std.specs.List.{range_with_len}
 use Rattle.table_file.specs.Reading.{each_at}
-use Rattle.table_file.specs.Files.{setup_at}
+use Rattle.table_file.specs.Files.{sides_of, setup_at}
+use Rattle.table_file.specs.Tables.{part_count}
+use Rattle.table_file.specs.Inside.Places.{IsPlace}
 use Rattle.table_file.proofs.Loops.{goes_on, ends, is_done, range_more, range_none}
 use Rattle.table_file.proofs.parts.setups.Goals as goal
-
-pub setup-requires-clause-few : goal.setup-requires-clause-few
-setup-requires-clause-few c = div_below c.loop-k.k c.args.sides 4 c.requires.some (omega (arith, c.requires.few, c.loop-k-test.true))
 
 pub returns-in_err-shape-clause-is : goal.returns-in_err-shape-clause-is
 returns-in_err-shape-clause-is c =
     let p = err_from_is_err_and c.from_residual.result c.from_residual.ensures.1 in
-    let step = setup_at c.args.material.now c.args.sides in
-    rw (p.1, p.2) (ends c.in_err-shape.field-0.0 step c.loop-k.shapes.items c.loop-k.k (range_with_len c.loop-k.k (c.args.n - c.loop-k.k)) (range_with_len (c.loop-k.k + 1) (c.args.n - (c.loop-k.k + 1))) c.loop-k.rest.now (each_at step (range_with_len 0 c.args.n) c.args.bytes.now)
-    (range_more c.loop-k.k c.args.n c.loop-k-test.true) c.in_err-shape.ensures.is c.loop-k.invariant.read)
+    let m = c.args.material.now in
+    let sides = sides_of c.args.kind m in
+    let n = part_count c.args.kind m in
+    let step = setup_at m sides in
+    let front = c.places.shapes.items in
+    let k = length front in
+    let here : c.len.result ≡ k = omega (arith, c.len.ensures, c.places.shapes.ok.0) in
+    let lt : k < n = omega (arith, c.in-Some.ensures.within, here) in
+    let at = subst (λ j. IsPlace sides j c.in-Some.place) here c.in-Some.ensures.is in
+    rw (p.1, p.2) (ends c.in_err-shape.field-0.0 step front k (range_with_len k (n - k)) (range_with_len (k + 1) (n - (k + 1))) c.places.rest.now (each_at step (range_with_len 0 n) c.args.bytes.now)
+    (range_more k n lt) (c.in_err-shape.ensures.is sides k at) c.places.invariant.read)
 
-pub loop-k-preserved : goal.loop-k-preserved
-loop-k-preserved c =
-    let step = setup_at c.args.material.now c.args.sides in
+pub places-smaller : goal.places-smaller
+places-smaller c =
+    omega (arith, c.in-Some.ensures.within, c.len.ensures, c.places.shapes.ok.0, ap length c.in_ok-push.ensures.items, length_push c.places.shapes.items c.in_ok-shape.shape)
+
+pub places-preserved : goal.places-preserved
+places-preserved c =
+    let m = c.args.material.now in
+    let sides = sides_of c.args.kind m in
+    let n = part_count c.args.kind m in
+    let step = setup_at m sides in
+    let front = c.places.shapes.items in
+    let k = length front in
+    let here : c.len.result ≡ k = omega (arith, c.len.ensures, c.places.shapes.ok.0) in
+    let lt : k < n = omega (arith, c.in-Some.ensures.within, here) in
+    let at = subst (λ j. IsPlace sides j c.in-Some.place) here c.in-Some.ensures.is in
+    let more : length (front ++ c.in_ok-shape.shape ∷ []) ≡ k + 1 = length_push front c.in_ok-shape.shape in
     record {
-      read = rw c.in_ok-push.ensures.items (goes_on step c.loop-k.shapes.items c.loop-k.k (range_with_len c.loop-k.k (c.args.n - c.loop-k.k)) (range_with_len (c.loop-k.k + 1) (c.args.n - (c.loop-k.k + 1))) c.loop-k.rest.now c.in_ok-shape.shape c.in_ok-shape.after.now (each_at step (range_with_len 0 c.args.n) c.args.bytes.now)
-          (range_more c.loop-k.k c.args.n c.loop-k-test.true) c.in_ok-shape.ensures.is c.loop-k.invariant.read);
-      all = omega (arith, ap length c.in_ok-push.ensures.items, length_push c.loop-k.shapes.items c.in_ok-shape.shape, c.loop-k.invariant.all);
+      read = rw (c.in_ok-push.ensures.items, more) (goes_on step front k (range_with_len k (n - k)) (range_with_len (k + 1) (n - (k + 1))) c.places.rest.now c.in_ok-shape.shape c.in_ok-shape.after.now (each_at step (range_with_len 0 n) c.args.bytes.now)
+          (range_more k n lt) (c.in_ok-shape.ensures.is sides k at) c.places.invariant.read);
+      few = omega (arith, lt, ap length c.in_ok-push.ensures.items, more);
     }
 
 pub returns-clause-is : goal.returns-clause-is
 returns-clause-is c =
-    let step = setup_at c.args.material.now c.args.sides in
-    is_done step c.loop-k.shapes.items (range_with_len c.loop-k.k (c.args.n - c.loop-k.k)) c.loop-k.rest.now (each_at step (range_with_len 0 c.args.n) c.args.bytes.now) (range_none c.loop-k.k c.args.n c.loop-k-test.false) c.loop-k.invariant.read
+    let m = c.args.material.now in
+    let n = part_count c.args.kind m in
+    let step = setup_at m (sides_of c.args.kind m) in
+    let front = c.places.shapes.items in
+    is_done step front (range_with_len (length front) (n - length front)) c.places.rest.now (each_at step (range_with_len 0 n) c.args.bytes.now)
+    (range_none (length front) n (omega (arith, c.in_default.ensures.none, c.len.ensures, c.places.shapes.ok.0))) c.places.invariant.read
+
+pub returns-clause-all : goal.returns-clause-all
+returns-clause-all c = omega (arith, c.in_default.ensures.none, c.len.ensures, c.places.shapes.ok.0, c.places.invariant.few)

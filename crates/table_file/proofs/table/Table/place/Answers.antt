@@ -1,18 +1,23 @@
-use Rattle.std.proofs.Common.{◌∙◌, length, sym, ap, arith}
-use Rattle.table_file.specs.Tables.{Contents, IsFile}
-use Rattle.table_file.proofs.Views.{within_parts, some_sides, few_sides}
+use Rattle.std.proofs.Common.{◌<◌, ◌∙◌, length, cond, sym, ap, subst}
+use Rattle.table_file.specs.Tables.{Contents, part_for, place_of}
+use Rattle.table_file.specs.Inside.Opened.{contents_of}
+use Rattle.table_file.proofs.PartPlaces.{within_parts, place_in_one, place_in_two}
 use Rattle.table_file.proofs.table.Table.place.Goals as goal
 
-pub side_among-requires-clause-some : goal.side_among-requires-clause-some
-side_among-requires-clause-some c = omega (arith, c.self.invariant.sides, some_sides c.self.inside.kind c.self.inside.material)
-
-pub side_among-requires-clause-few : goal.side_among-requires-clause-few
-side_among-requires-clause-few c = omega (arith, c.self.invariant.sides, few_sides c.self.inside.kind c.self.inside.material)
-
-pub returns-clause-known : goal.returns-clause-known
-returns-clause-known c =
+pub returns-in-One-clause-known : goal.returns-in-One-clause-known
+returns-in-One-clause-known c =
     let a = c.self.inside in
-    let file : IsFile a.material c.args.file = rw (← c.self.view_is) at c.requires.file in
-    let here = within_parts a.kind a.material c.args.file c.args.side file (some_sides a.kind a.material) in
+    let p = part_for (contents_of a) c.args.side c.args.file in
+    let own = c.own_file-file.ensures.is ∙ ap (λ b. cond b c.args.file 0) c.self.invariant.has_pawns in
+    let here = place_in_one p c.own_file-file.result (rw c.in-One.is at c.self.invariant.sides) own in
     let count = sym (ap (λ (t : Contents). length t.parts) c.self.view_is) ∙ c.self.invariant.parts in
-    rw (c.side_among.ensures, c.self.invariant.sides, count) here
+    subst (λ n. n < length c.args.self.now.parts) (sym here) (subst (λ n. place_of p < n) (sym count) (within_parts p c.own_file-file.ensures.left))
+
+pub returns-in-Two-clause-known : goal.returns-in-Two-clause-known
+returns-in-Two-clause-known c =
+    let a = c.self.inside in
+    let p = part_for (contents_of a) c.args.side c.args.file in
+    let own = c.own_file-file.ensures.is ∙ ap (λ b. cond b c.args.file 0) c.self.invariant.has_pawns in
+    let here = place_in_two p c.own_file-file.result c.side_number.result (rw c.in-Two.is at c.self.invariant.sides) own c.side_number.ensures.is c.side_number.ensures.few in
+    let count = sym (ap (λ (t : Contents). length t.parts) c.self.view_is) ∙ c.self.invariant.parts in
+    subst (λ n. n < length c.args.self.now.parts) (sym here) (subst (λ n. place_of p < n) (sym count) (within_parts p c.own_file-file.ensures.left))
