@@ -140,13 +140,12 @@ impl<'a> Set<'a> {
             return Ok(Ok(Distance::Draw));
         };
         let material = placed.material();
-        let Some(table) = self.shelf.table(Kind::Dtz, material) else {
+        let Some(part) = self.shelf.part(Kind::Dtz, placed) else {
             return Ok(Err(ValueFault::NotCovered(material)));
         };
-        if table.stores(placed.side(), placed.file()) {
-            let number = self
-                .shelf
-                .distance(&mut self.blocks, alloc, table, placed, outcome);
+        if part.stores() {
+            let blocks = &mut self.blocks;
+            let number = self.shelf.distance(blocks, alloc, &part, placed, outcome);
             return Ok(stored(material, outcome, number));
         }
         self.by_quiet_moves(alloc, probe.position(), material, outcome, left)

@@ -3,7 +3,7 @@
 ghost use Rattle.std.specs.Prelude.{◌≡◌, ◌<◌, ◌≤◌, IsTrue, IsFalse};
 ghost use Rattle.board_core.specs.ComputedMoves.{count_of_men};
 ghost use Rattle.board_core.specs.Position.{IsPosition};
-ghost use Rattle.judge_core.specs.Inside.Placing.{IsKnownOf, IsPlacedOf};
+ghost use Rattle.judge_core.specs.Inside.Placing.{IsPlacedOf};
 
 use board_core::Position;
 use place_index::Placed;
@@ -42,16 +42,12 @@ pub(crate) fn is_bare(position: &Position) -> bool
 
 /// The position's men as its table sees them: none for bare kings and for more than five men.
 fn placed(position: &Position) -> Option<Placed>
-    ensures is { IsPlacedOf position.now result }
-    ensures known { IsKnownOf result }
+    ensures { IsPlacedOf position.now result }
 {
     match Placed::of(position) {
         Some(placed) => {
-            // The contracts of these tell in which ranges they are.
-            let material = placed.material();
-            let _key = material.key();
-            let _side = placed.side();
-            let _file = placed.file();
+            // The proof alone reads that the key is below 145.
+            let _men = placed.men();
             Some(placed)
         }
         None => None,
@@ -79,8 +75,7 @@ impl<'p> Probe<'p> {
 
     /// Its men as its table sees them: none for bare kings and for more than five men.
     pub fn placed(&self) -> &Option<Placed>
-        ensures is { IsPlacedOf self.now result.now }
-        ensures known { IsKnownOf result.now }
+        ensures { IsPlacedOf self.now result.now }
     {
         &self.placed
     }

@@ -40,10 +40,11 @@ impl<'a> Set<'a> {
             return Ok(Wdl::Draw);
         };
         let material = placed.material();
-        let Some(table) = self.shelf.table(Kind::Wdl, material) else {
+        let Some(part) = self.shelf.part(Kind::Wdl, placed) else {
             return Err(ValueFault::NotCovered(material));
         };
-        let Some(points) = self.shelf.entry(&mut self.blocks, alloc, table, placed) else {
+        let blocks = &mut self.blocks;
+        let Some(points) = self.shelf.read(blocks, alloc, Kind::Wdl, &part, placed) else {
             return Err(ValueFault::Damaged(material));
         };
         match Wdl::from_points(points) {

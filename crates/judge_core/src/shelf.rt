@@ -1,14 +1,15 @@
 //! Tables in their slots.
 
-ghost use Rattle.std.specs.Prelude.{◌≡◌, ◌≢◌, ◌↔◌, ◌<◌, ◌≤◌, IfOk, IfSome, IsSome, OnOk, OnErr, None, Some, Err, option_map, replicate, slice_set};
+ghost use Rattle.std.specs.Prelude.{◌≡◌, ◌≢◌, ◌↔◌, ◌<◌, ◌≤◌, IfNone, IfOk, IfSome, IsSome, OnOk, OnErr, None, Some, Err, replicate, slice_set};
 ghost use Rattle.judge_core.specs.declared.fault.SetFault.TheVariants.{Duplicate, OutOfMemory};
+ghost use Rattle.judge_core.specs.Inside.Placing.{IsPartFor};
 ghost use Rattle.judge_core.specs.Tables.{AreFiled, slot, table_at};
 
 use crate::fault::SetFault;
-use place_index::Material;
+use place_index::{Material, Placed};
 use std::alloc::{AllocError, Global};
 use std::marker::Model;
-use table_file::{Kind, Table};
+use table_file::{Kind, Table, TablePart};
 
 /// How many materials there are.
 const MATERIALS: usize = 145;
@@ -99,14 +100,13 @@ impl<'a> Shelf<'a> {
         Ok(())
     }
 
-    /// The table of this kind for this material.
-    pub(crate) fn table(&self, kind: Kind, material: Material) -> Option<&Table<'a>>
-        ensures found { option_map (λ t. t.now) result ≡ table_at self.now.tables kind material }
-        ensures kind { IfSome result (λ t. t.now.kind ≡ kind) }
-        ensures own { IfSome result (λ t. t.now.material ≡ material) }
+    /// The part of the table of this kind for placed men: that for their side to move and the file of their leading pawn.
+    pub(crate) fn part(&self, kind: Kind, placed: &Placed) -> Option<TablePart<'_, 'a>>
+        ensures found { IfSome result (IsPartFor self.now.tables kind placed.now) }
+        ensures none { IfNone result (table_at self.now.tables kind placed.now.material ≡ None) }
     {
-        match &self.tables[slot(kind, material)] {
-            Some(table) => Some(table),
+        match &self.tables[slot(kind, placed.material())] {
+            Some(table) => Some(table.part(placed.side(), placed.file())),
             None => None,
         }
     }

@@ -1,8 +1,9 @@
-use Rattle.std.proofs.Common.{◌∙◌, ◌-◌, sym, ap, subst, ℕ, option_map, Some, Ok}
+use Rattle.std.proofs.Common.{◌∙◌, ◌-◌, sym, ap, subst, ℕ, Some, Ok}
 use Rattle.std.proofs.lemmas.List.{take_all}
 use Rattle.std.proofs.lemmas.Result.{on_err_weaker}
 use Rattle.judge_core.specs.Answers.{IsLeftOpen}
 use Rattle.table_file.specs.declared.kind.Kind.TheVariants.{Dtz}
+use Rattle.table_file.specs.Distances.{stores}
 use Rattle.judge_core.specs.LookUp.{placed_of}
 use Rattle.judge_core.specs.Probing.{weighed_by, wdl_of}
 use Rattle.judge_core.specs.Tables.{Holding, table_at}
@@ -54,37 +55,37 @@ by_quiet_moves-returns-clause-is t c =
     counts_result-is c.args.material c.args.outcome reach c.args.position.now c.loop-m.counts _ c.result.result (c.deref-m-items.ensures.value ∙ c.in_ok-moves.ensures.computed) all c.result.ensures
 
 pub by_own_table-returns-in_default-clause-is : goal.by_own_table-returns-in_default-clause-is
-by_own_table-returns-in_default-clause-is t c = bare_own c.args.self.now.tables _ c.args.probe.now c.args.outcome (rw c.in_default.is at c.placed.ensures.is)
+by_own_table-returns-in_default-clause-is t c = bare_own c.args.self.now.tables _ c.args.probe.now c.args.outcome (rw c.in_default.is at c.placed.ensures)
 
-pub by_own_table-returns-in_default-table-clause-is :
-    goal.by_own_table-returns-in_default-table-clause-is
-by_own_table-returns-in_default-table-clause-is t c =
-    let at = rw c.in-Some.is at c.placed.ensures.is in
-    let found = at.found ∙ ap (λ (key : ℕ). Some key) (sym c.material-material.ensures) in
-    let table = c.table.ensures.found ∙ ap (λ (h : Holding). table_at h.tables Dtz c.material-material.result) c.self.view_is in
-    missing_own c.args.self.now.tables _ c.args.probe.now c.args.outcome c.material-material.result found (sym table ∙ ap (option_map (λ t. t.now)) c.in_default-table.is)
+pub by_own_table-returns-in_default-part-clause-is : goal.by_own_table-returns-in_default-part-clause-is
+by_own_table-returns-in_default-part-clause-is t c =
+    let there = ap (λ (h : Holding). table_at h.tables Dtz c.material-material.result) (sym c.self.view_is) ∙ ap (table_at c.self.inside.shelf.tables Dtz) c.material-material.ensures in
+    let same = sym c.material-material.ensures in
+    let at = rw c.in-Some.is at c.placed.ensures in
+    let found = at.found ∙ ap (λ (key : ℕ). Some key) same in
+    missing_own c.args.self.now.tables _ c.args.probe.now c.args.outcome c.material-material.result found (there ∙ c.in_default-part.ensures.none)
 
 pub by_own_table-returns-then-stores-clause-is : goal.by_own_table-returns-then-stores-clause-is
 by_own_table-returns-then-stores-clause-is t c =
+    let there = ap (λ (h : Holding). table_at h.tables Dtz c.material-material.result) (sym c.self.view_is) ∙ ap (table_at c.self.inside.shelf.tables Dtz) c.material-material.ensures in
     let same = sym c.material-material.ensures in
-    let at = rw c.in-Some.is at c.placed.ensures.is in
+    let at = rw c.in-Some.is at c.placed.ensures in
     let found = at.found ∙ ap (λ (key : ℕ). Some key) same in
     let placed = at.is ∙ ap (λ (key : ℕ). placed_of key c.args.probe.now) same in
-    let table = c.table.ensures.found ∙ ap (λ (h : Holding). table_at h.tables Dtz c.material-material.result) c.self.view_is in
     stored_own c.args.self.now.tables _ c.args.probe.now c.args.outcome c.material-material.result found
-    c.in-Some-table.table.now c.in-Some.placed _ _ c.stores.result (sym table ∙ ap (option_map (λ t. t.now)) c.in-Some-table.is) placed c.side.ensures.is c.file.ensures.is c.stores.ensures
+    c.in-Some-part.part.table c.in-Some.placed c.stores.result (there ∙ c.in-Some-part.ensures.found.on) placed (c.stores.ensures ∙ ap stores c.in-Some-part.ensures.found.is)
     c.distance-number.result c.stored.result c.if-stores.true c.distance-number.ensures.is c.stored.ensures.is
 
 pub by_own_table-returns-clause-is : goal.by_own_table-returns-clause-is
 by_own_table-returns-clause-is t c =
     let reach = dtz_to c.args.self.now.tables c.args.left in
+    let there = ap (λ (h : Holding). table_at h.tables Dtz c.material-material.result) (sym c.self.view_is) ∙ ap (table_at c.self.inside.shelf.tables Dtz) c.material-material.ensures in
     let same = sym c.material-material.ensures in
-    let at = rw c.in-Some.is at c.placed.ensures.is in
+    let at = rw c.in-Some.is at c.placed.ensures in
     let found = at.found ∙ ap (λ (key : ℕ). Some key) same in
     let placed = at.is ∙ ap (λ (key : ℕ). placed_of key c.args.probe.now) same in
-    let table = c.table.ensures.found ∙ ap (λ (h : Holding). table_at h.tables Dtz c.material-material.result) c.self.view_is in
     let e = quiet_own c.args.self.now.tables reach c.args.probe.now c.args.outcome c.material-material.result found
-    c.in-Some-table.table.now c.in-Some.placed _ _ c.stores.result (sym table ∙ ap (option_map (λ t. t.now)) c.in-Some-table.is) placed c.side.ensures.is c.file.ensures.is c.stores.ensures c.if-stores.false in
+    c.in-Some-part.part.table c.in-Some.placed c.stores.result (there ∙ c.in-Some-part.ensures.found.on) placed (c.stores.ensures ∙ ap stores c.in-Some-part.ensures.found.is) c.if-stores.false in
     if_same c.by_quiet_moves.result _ _ (ap (by_quiet_moves c.material-material.result c.args.outcome reach) c.position.ensures.is ∙ e) c.by_quiet_moves.ensures.is
 
 pub by_moves-returns-then-reached-clause-is : goal.by_moves-returns-then-reached-clause-is

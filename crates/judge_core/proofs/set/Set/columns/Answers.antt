@@ -1,5 +1,4 @@
 use Rattle.std.proofs.Common.{◌∙◌, Ok, ap, subst}
-use Rattle.std.proofs.lemmas.Result.{on_err_weaker}
 use Rattle.board_core.specs.declared.parts.Parts.{Parts}
 use Rattle.judge_core.specs.declared.wdl.Wdl.TheVariants.{Draw}
 use Rattle.judge_core.specs.declared.distance.Distance.TheVariants.{Draw as AtDraw}
