@@ -8,7 +8,7 @@ use Rattle.fen_text.specs.Fen.{fault_name as fen_fault_name}
 use Rattle.fen_text.specs.Coordinates.{move_text}
 use Rattle.table_file.specs.Faults.{table_fault_name}
 use Rattle.judge_core.specs.declared.fault.ProbeFault.{ProbeFault}
-use Rattle.judge_core.specs.ToldWords.{column_words, columns_words, outcome_words, verdict_words}
+use Rattle.judge_core.specs.Words.{column_words, columns_words, outcome_words, verdict_words}
 use Rattle.move_msg.specs.declared.message.MessageFault.{MessageFault}
 use Rattle.move_msg.specs.Messages.{fault_name as message_fault_name}
 use Rattle.move_msg.specs.MessageWords.{message_words}

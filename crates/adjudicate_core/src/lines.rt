@@ -14,7 +14,7 @@ use arbiter_service::verdict_or_none;
 use arrayvec::ArrayString;
 use board_core::{Move, Verdict};
 use fen_text::write_move;
-use judge_core::{Columns, Outcome, Told, verdict_or_open};
+use judge_core::{Column, Columns, Outcome, verdict_or_open};
 use move_msg::{Message, Who};
 use relay_world::State;
 use std::fmt;
@@ -42,9 +42,9 @@ pub(crate) enum Line {
     /// Whether the file of this name is the table that it should be.
     Look(ArrayString<16>, Option<FileFault>),
     /// The value that the tables tell, or why they tell none.
-    Wdl(Told),
+    Wdl(Column),
     /// The distance that the tables tell, or why they tell none.
-    Dtz(Told),
+    Dtz(Column),
     /// A message.
     Message(Message),
     /// How an arbiter is, and what it keeps, if anything.
@@ -58,7 +58,7 @@ pub(crate) enum Line {
 }
 
 /// Tells what the tables tell, or why they tell nothing.
-fn fmt_told<W: fmt::Write>(f: &mut fmt::Formatter<W>, question: &str, told: Told) -> fmt::Result
+fn fmt_told<W: fmt::Write>(f: &mut fmt::Formatter<W>, question: &str, told: Column) -> fmt::Result
     ensures { DisplaysOnOk W.Write.write_str_gives f.old result (Some (told_words question.now told.0)) f.new }
 {
     write!(f, "{question} {told}")

@@ -52,10 +52,10 @@ passing test p m = if test m then position_after p m else None
 
 module _ {X S : Type 0} (note : S → Result X ValueFault → S) (start : S) (say : Parts → Result X ValueFault) (test : Move → Bool) (p : Parts) where
   -- the state after these moves
-  abbrev pub noted_all : List Move → S
-  noted_all ms = fold note start (asked say p (filter test ms))
+  abbrev pub with_all : List Move → S
+  with_all ms = fold note start (asked say p (filter test ms))
 
-  one_more : (ms : List Move) (m : Move) → noted_all (ms ++ m ∷ []) ≡ fold note (noted_all ms) (asked say p (filter test (m ∷ [])))
+  one_more : (ms : List Move) (m : Move) → with_all (ms ++ m ∷ []) ≡ fold note (with_all ms) (asked say p (filter test (m ∷ [])))
   one_more ms m = ap (λ xs. fold note start (asked say p xs)) (filter-append test ms (m ∷ [])) ∙ ap (fold note start) (asked-append say p (filter test ms) (filter test (m ∷ []))) ∙ fold-append note start (asked say p (filter test ms)) (asked say p (filter test (m ∷ [])))
 
   none_more : (m : Move) (b : Bool) → test m ≡ b → (if b then position_after p m else None) ≡ None → asked say p (filter test (m ∷ [])) ≡ []
@@ -66,12 +66,12 @@ module _ {X S : Type 0} (note : S → Result X ValueFault → S) (start : S) (sa
   some_more m q true e some = rw (e, some) refl
   some_more m q false e some = absurd (cc)
 
-  module _ (xs : List Move) (i : ℕ) (m : Move) (s s' : S) (lt : i < length xs) (is : m ≡ get_or xs i m) (so_far : s ≡ noted_all (take i xs)) where
+  module _ (xs : List Move) (i : ℕ) (m : Move) (s s' : S) (lt : i < length xs) (is : m ≡ get_or xs i m) (so_far : s ≡ with_all (take i xs)) where
     longer : take (i + 1) xs ≡ take i xs ++ m ∷ []
     longer = take_more xs i m lt ∙ ap (λ x. take i xs ++ x ∷ []) (sym is)
 
-    pub walk-passed : passing test p m ≡ None → s' ≡ s → s' ≡ noted_all (take (i + 1) xs)
-    walk-passed e g = g ∙ so_far ∙ sym (ap noted_all longer ∙ one_more (take i xs) m ∙ ap (fold note (noted_all (take i xs))) (none_more m (test m) refl e))
+    pub walk-passed : passing test p m ≡ None → s' ≡ s → s' ≡ with_all (take (i + 1) xs)
+    walk-passed e g = g ∙ so_far ∙ sym (ap with_all longer ∙ one_more (take i xs) m ∙ ap (fold note (with_all (take i xs))) (none_more m (test m) refl e))
 
-    pub walk-noted : (q : Parts) (r : Result X ValueFault) → passing test p m ≡ Some q → r ≡ say q → s' ≡ note s r → s' ≡ noted_all (take (i + 1) xs)
-    walk-noted q r e er g = g ∙ ap (λ x. note x r) so_far ∙ ap (note (noted_all (take i xs))) er ∙ sym (ap noted_all longer ∙ one_more (take i xs) m ∙ ap (fold note (noted_all (take i xs))) (some_more m q (test m) refl e))
+    pub walk-added : (q : Parts) (r : Result X ValueFault) → passing test p m ≡ Some q → r ≡ say q → s' ≡ note s r → s' ≡ with_all (take (i + 1) xs)
+    walk-added q r e er g = g ∙ ap (λ x. note x r) so_far ∙ ap (note (with_all (take i xs))) er ∙ sym (ap with_all longer ∙ one_more (take i xs) m ∙ ap (fold note (with_all (take i xs))) (some_more m q (test m) refl e))

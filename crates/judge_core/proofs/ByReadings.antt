@@ -7,38 +7,37 @@ use Rattle.judge_core.specs.declared.fault.ValueFault.{ValueFault}
 use Rattle.judge_core.specs.declared.fault.ValueFault.TheVariants.{NotCovered, Damaged}
 use Rattle.judge_core.specs.declared.fault.ProbeFault.TheVariants.{OutOfScope, OutOfMemory}
 use Rattle.judge_core.specs.declared.distance.Distance.TheVariants.{Draw}
-use Rattle.judge_core.specs.declared.told.Probed.{Probed}
-use Rattle.judge_core.specs.Answers.{IsProbe, signed_in}
+use Rattle.judge_core.specs.declared.probed.Probed.{Probed}
+use Rattle.judge_core.specs.Answers.{IsProbe, as_probe, signed_in}
 use Rattle.judge_core.specs.Distances.{Reach, dtz_of}
 use Rattle.judge_core.specs.Ends.{has_no_move}
-use Rattle.judge_core.specs.Inside.Answering.{told_by_probe}
 use Rattle.judge_core.specs.Probing.{wdl_of}
 use Rattle.judge_core.specs.Ruling.{end_of, is_out_of_scope, ruling, ruling_by}
 use Rattle.judge_core.specs.Tables.{Tables}
-use Rattle.judge_core.specs.Told.{IsProbed, number_of, numbered}
+use Rattle.judge_core.specs.Probed.{IsProbed, number_of, numbered}
 use Rattle.judge_core.specs.Values.{Reading}
 use Rattle.judge_core.proofs.Reaching.{few_men}
 
-answered : {X : Type 0} (r : Result X ValueFault) → told_by_probe (λ x. x) r ≢ Err OutOfMemory
+answered : {X : Type 0} (r : Result X ValueFault) → as_probe (λ x. x) r ≢ Err OutOfMemory
 answered (Ok x) e = absurd cc
 answered (Err (NotCovered key)) e = absurd cc
 answered (Err (Damaged key)) e = absurd cc
 
-is_probe : {X : Type 0} (r reading : Result X ValueFault) (outside : Bool) → outside ≡ false → r ≡ reading → IsProbe (told_by_probe (λ x. x) r) outside reading
+is_probe : {X : Type 0} (r reading : Result X ValueFault) (outside : Bool) → outside ≡ false → r ≡ reading → IsProbe (as_probe (λ x. x) r) outside reading
 is_probe (Ok x) reading outside scope e = (scope, sym e)
 is_probe (Err (NotCovered key)) reading outside scope e = (scope, sym e)
 is_probe (Err (Damaged key)) reading outside scope e = (scope, sym e)
 
-is_numbered : (value : Reading) → numbered (told_by_probe (λ x. x) value) ≡ told_by_probe number_of value
+is_numbered : (value : Reading) → numbered (as_probe (λ x. x) value) ≡ as_probe number_of value
 is_numbered (Ok v) = refl
 is_numbered (Err fault) = refl
 
 module _ (tables : Tables) (p : Parts) where
   pub probed_by : (value : Reading) (reach : Reach) (probed : Probed) → is_out_of_scope p ≡ false → value ≡ wdl_of tables p → reach ≡ dtz_of tables p
-      → probed.wdl ≡ told_by_probe number_of value → probed.dtz ≡ told_by_probe (λ n. n) (signed_in reach) → IsProbed tables p probed
+      → probed.wdl ≡ as_probe number_of value → probed.dtz ≡ as_probe (λ n. n) (signed_in reach) → IsProbed tables p probed
   probed_by value reach probed scope ev er ew ed = record {
-    wdl = told_by_probe (λ x. x) value;
-    dtz = told_by_probe (λ x. x) (signed_in reach);
+    wdl = as_probe (λ x. x) value;
+    dtz = as_probe (λ x. x) (signed_in reach);
     are = record {
       wdl_answered = answered value;
       wdl_is = is_probe value (wdl_of tables p) (is_out_of_scope p) scope ev;

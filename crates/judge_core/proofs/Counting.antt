@@ -13,11 +13,11 @@ use Rattle.judge_core.specs.declared.counts.Steps.{Steps}
 use Rattle.judge_core.specs.declared.wdl.Wdl.{Wdl}
 use Rattle.judge_core.specs.Values.{Reading, turned}
 use Rattle.judge_core.specs.Tables.{Tables}
-use Rattle.judge_core.specs.Asked.{asked, fault_in, told, unless, with_answer}
+use Rattle.judge_core.specs.Asked.{asked, fault_in, first_fault, unless, with_answer}
 use Rattle.judge_core.specs.Probing.{wdl_of}
 use Rattle.judge_core.specs.Distances.{Reach, is_value, is_pawn_step, pawns_reach, is_quiet, move_counts, count_in, lesser, is_odd, by_quiet_moves, by_counts}
-use Rattle.judge_core.specs.Inside.Counts.{no_steps, with_reading, steps_told, no_counts, with_count, counts_told, AreWithin}
-use Rattle.judge_core.proofs.Asking.{faults_more, faults_in-is, noted_all}
+use Rattle.judge_core.specs.Inside.Counts.{no_steps, with_reading, steps_result, no_counts, with_count, counts_result, AreWithin}
+use Rattle.judge_core.proofs.Asking.{faults_more, faults_in-is, with_all}
 use Rattle.judge_core.proofs.Quiet.{no_steps_listed}
 
 or-assoc : (a b c : Bool) → ((a || b) || c) ≡ (a || (b || c))
@@ -38,12 +38,12 @@ steps-is : (v : Wdl) (s : Steps) (rs : List Reading) → fold (with_reading v) s
 steps-is v s [] = ap (λ (b : Bool). record { faults = s.faults; reached = b }) (sym (or-false s.reached))
 steps-is v s (r ∷ rs) = steps-is v (with_reading v s r) rs ∙ ap (λ (b : Bool). record { faults = faults_more (with_answer s.faults r) rs; reached = b }) (or-assoc s.reached (is_value v r) (list_any (is_value v) rs))
 
-pub steps_told-is : (tables : Tables) (p : Parts) (v : Wdl) (steps : Steps) (moves : List Move) (r : Result Bool ValueFault) → moves ≡ legal_moves p → steps ≡ noted_all (with_reading v) no_steps (λ q. turned (wdl_of tables q)) (is_pawn_step p) p moves → r ≡ steps_told steps → r ≡ pawns_reach tables p v
+pub steps_result-is : (tables : Tables) (p : Parts) (v : Wdl) (steps : Steps) (moves : List Move) (r : Result Bool ValueFault) → moves ≡ legal_moves p → steps ≡ with_all (with_reading v) no_steps (λ q. turned (wdl_of tables q)) (is_pawn_step p) p moves → r ≡ steps_result steps → r ≡ pawns_reach tables p v
 unfolding pawns_reach
-steps_told-is tables p v steps moves r e f g =
+steps_result-is tables p v steps moves r e f g =
     let rs = asked (λ q. turned (wdl_of tables q)) p (filter (is_pawn_step p) (legal_moves p)) in
-    let h : steps ≡ fold (with_reading v) no_steps rs = f ∙ ap (λ ms. noted_all (with_reading v) no_steps (λ q. turned (wdl_of tables q)) (is_pawn_step p) p ms) e in
-    g ∙ ap steps_told (h ∙ steps-is v no_steps rs) ∙ ap (λ (x : Faults). unless (told x) (Ok (list_any (is_value v) rs))) (sym (faults_in-is rs))
+    let h : steps ≡ fold (with_reading v) no_steps rs = f ∙ ap (λ ms. with_all (with_reading v) no_steps (λ q. turned (wdl_of tables q)) (is_pawn_step p) p ms) e in
+    g ∙ ap steps_result (h ∙ steps-is v no_steps rs) ∙ ap (λ (x : Faults). unless (first_fault x) (Ok (list_any (is_value v) rs))) (sym (faults_in-is rs))
 
 -- ---- quiet moves
 
@@ -71,12 +71,12 @@ counts-is c (Ok None ∷ cs) = counts-is (with_count c (Ok None)) cs ∙ ap (λ 
 counts-is c (Ok (Some n) ∷ cs) = counts-is (with_count c (Ok (Some n))) cs
 counts-is c (Err fault ∷ cs) = counts-is (with_count c (Err fault)) cs
 
-pub counts_told-is : (key : ℕ) (outcome : Outcome) (reach : Parts → Reach) (p : Parts) (counts : Counts) (moves : List Move) (r : Reach) → moves ≡ legal_moves p → counts ≡ noted_all with_count (no_counts outcome) (move_counts outcome reach) (is_quiet p) p moves → r ≡ counts_told key outcome counts → r ≡ by_quiet_moves key outcome reach p
+pub counts_result-is : (key : ℕ) (outcome : Outcome) (reach : Parts → Reach) (p : Parts) (counts : Counts) (moves : List Move) (r : Reach) → moves ≡ legal_moves p → counts ≡ with_all with_count (no_counts outcome) (move_counts outcome reach) (is_quiet p) p moves → r ≡ counts_result key outcome counts → r ≡ by_quiet_moves key outcome reach p
 unfolding by_quiet_moves
-counts_told-is key outcome reach p counts moves r e f g =
+counts_result-is key outcome reach p counts moves r e f g =
     let cs = asked (move_counts outcome reach) p (filter (is_quiet p) (legal_moves p)) in
-    let h : counts ≡ fold with_count (no_counts outcome) cs = f ∙ ap (λ ms. noted_all with_count (no_counts outcome) (move_counts outcome reach) (is_quiet p) p ms) e in
-    g ∙ ap (counts_told key outcome) (h ∙ counts-is (no_counts outcome) cs) ∙ ap (λ (x : Faults). unless (told x) (by_counts key outcome cs)) (sym (faults_in-is cs))
+    let h : counts ≡ fold with_count (no_counts outcome) cs = f ∙ ap (λ ms. with_all with_count (no_counts outcome) (move_counts outcome reach) (is_quiet p) p ms) e in
+    g ∙ ap (counts_result key outcome) (h ∙ counts-is (no_counts outcome) cs) ∙ ap (λ (x : Faults). unless (first_fault x) (by_counts key outcome cs)) (sym (faults_in-is cs))
 
 -- numbers that are counted stay within a bound
 pub within-count : (n : ℕ) (c c' : Counts) (r : Result (Option ℕ) ValueFault) → AreWithin n c → IfOk r (λ o. IfSome o (λ m. m ≤ n)) → c' ≡ with_count c r → AreWithin n c'

@@ -17,7 +17,7 @@ use Rattle.judge_core.specs.declared.fault.ValueFault.TheVariants.{Damaged}
 use Rattle.judge_core.specs.declared.found.Weighed.{Weighed}
 use Rattle.judge_core.specs.Values.{outcome_of}
 use Rattle.judge_core.specs.LookUp.{material_of, placed_of}
-use Rattle.judge_core.specs.Tables.{Tables, table_at}
+use Rattle.judge_core.specs.Tables.{Tables, table_at, part_asked}
 use Rattle.judge_core.specs.Asked.{fault_in, unless}
 use Rattle.judge_core.specs.Probing.{weighed_by, wdl_of, worth}
 use Rattle.board_core.specs.Castling.{has_any_right}
@@ -57,13 +57,13 @@ module _ (tables : Tables) (reach : Parts → Reach) (p : Parts) where
     by_found t own None e = no_number left own e
     by_found t own (Some n) e = by_number left own e
 
-    by_side : (t : Contents) → table_at tables Dtz key ≡ Some t → (b : Bool) → stores t (placed_of key p).side (placed_of key p).file ≡ b → IsDistance tables reach p (if b then stored key outcome (distance_in t (placed_of key p) outcome) else by_quiet_moves key outcome reach p)
+    by_side : (t : Contents) → table_at tables Dtz key ≡ Some t → (b : Bool) → stores (part_asked t (placed_of key p)) ≡ b → IsDistance tables reach p (if b then stored key outcome (distance_in t (placed_of key p) outcome) else by_quiet_moves key outcome reach p)
     by_side t at true e = by_found t (record { material = m; table = at; stored = e }) (distance_in t (placed_of key p) outcome) refl
     by_side t at false e = by_moves_left key outcome (record { w = w; left = left; t = t; own = record { material = m; table = at; stored = e } })
 
     by_there : (o : Option Contents) → table_at tables Dtz key ≡ o → IsDistance tables reach p (by_table o key reach p outcome)
     by_there None e = no_table left m e
-    by_there (Some t) e = by_side t e (stores t (placed_of key p).side (placed_of key p).file) refl
+    by_there (Some t) e = by_side t e (stores (part_asked t (placed_of key p))) refl
 
   module _ (covered : 2 < count_of_men p → (key : ℕ) × (material_of p ≡ Some key)) where
     by_own : (w : Weighed) (outcome : Outcome) → IsLeft tables p w outcome → IsDistance tables reach p (by_own_table tables reach p outcome)

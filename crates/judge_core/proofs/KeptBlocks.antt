@@ -1,16 +1,16 @@
 -- Kept blocks stay right.
-use Rattle.std.proofs.Common.{◌≡◌, ℕ, true, List, Some, None, Result, Ok, Err, get_or, sym, ap, subst, ◌∙◌, inl, inr, arith}
+use Rattle.std.proofs.Common.{◌≡◌, ℕ, true, List, Some, Result, Ok, Err, sym, ap, subst, ◌∙◌, inl, inr, arith}
 use Rattle.std.proofs.lemmas.Grind.{common_steps}
 use Rattle.std.specs.Prelude.{OnOk, OnErr, Contains, option_map}
 use Rattle.std.specs.Map.{lookup}
 use Rattle.lru.specs.LruCache.{LruCache, lru_cache, put_entries}
 use Rattle.lru.proofs.CallerLemmas.{Contains-lookup, Contains-put_entries}
-use Rattle.table_file.specs.Tables.{Contents}
+use Rattle.table_file.specs.Tables.{PartAt}
 use Rattle.table_file.specs.Expansion.{values_of}
 use Rattle.judge_core.specs.declared.blocks.BlockKey.{BlockKey}
 use Rattle.judge_core.specs.contracts.blocks.BlockKeyPartialEq.TheImpl as same_keys
 use Rattle.judge_core.specs.Tables.{Tables}
-use Rattle.judge_core.specs.Blocks.{IsRight}
+use Rattle.judge_core.specs.Blocks.{IsRight, part_at}
 
 -- the keys' own test tells them apart
 pub same_key : (a b : BlockKey) → (same_keys.eq-value).it a b ≡ true → a ≡ b
@@ -44,7 +44,7 @@ module _ {V : Type 0} (items : V → List ℕ) (tables : Tables) where
   cap_kept (Err e) old new key v ok err = ap (λ (c : LruCache BlockKey V). c.cap) err
 
 -- the values of a key's block, if these are they
-pub right_values : (tables : Tables) (key : BlockKey) (t : Contents) (values : List ℕ) → get_or tables key.slot None ≡ Some t → IsRight tables key values → values ≡ values_of t key.side key.file key.block
-right_values tables key t values at right =
-    let e : Some (values_of t key.side key.file key.block) ≡ Some values = sym (ap (option_map (λ (u : Contents). values_of u key.side key.file key.block)) at) ∙ right in
+pub right_values : (tables : Tables) (key : BlockKey) (part : PartAt) (values : List ℕ) → part_at tables key ≡ Some part → IsRight tables key values → values ≡ values_of part key.block
+right_values tables key part values at right =
+    let e : Some (values_of part key.block) ≡ Some values = sym (ap (option_map (λ (x : PartAt). values_of x key.block)) at) ∙ right in
     cc

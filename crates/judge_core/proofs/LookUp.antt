@@ -1,17 +1,18 @@
 -- The functions of a look-up are what the relations decide.
-use Rattle.std.proofs.Common.{◌≡◌, ◌≢◌, ◌∙◌, sym, ap, subst, refl, ℕ, zero, suc, ◌+◌, ◌-◌, ◌<◌, ◌≤◌, Bool, true, false, cond, not, eqb, ltb, List, [], ◌∷◌, length, map, Some, None, inl, inr, arith}
+use Rattle.std.proofs.Common.{◌≡◌, ◌≢◌, ◌∙◌, sym, ap, subst, refl, ℕ, zero, suc, ◌+◌, ◌<◌, ◌≤◌, Bool, true, false, cond, not, eqb, ltb, List, [], ◌∷◌, length, map, Some, None, inl, inr, arith}
 use Rattle.std.specs.Prelude.{find, ◌||◌}
 use Rattle.std.specs.List.{list_all, range_with_len}
 use Rattle.std.specs.List.Sorted.{IsPermutation}
 use Rattle.std.proofs.lemmas.Bool.{cases_Bool, cases_eq, and_parts, and_from, or_cases, or_left, or_right, eq-eqb, eqb-true, false≢true, agree_below_at}
 use Rattle.board_core.specs.declared.piece.Side.{Side}
+use Rattle.board_core.specs.Side.{other}
 use Rattle.board_core.specs.declared.piece.Side.TheVariants.{White, Black}
 use Rattle.board_core.specs.declared.parts.Parts.{Parts}
 use Rattle.place_index.specs.declared.man.Man.{Man}
 use Rattle.place_index.specs.Material.{men_of, pieces_of, count_of}
 use Rattle.place_index.specs.Turning.{lead_file}
 use Rattle.place_index.specs.Men.{codes_of, exchanged, other_side}
-use Rattle.place_index.specs.Placed.{Placement, IsNamed, IsMaterialOf, IsSymmetric, IsLookedUp, men_on, is_black, side_number}
+use Rattle.place_index.specs.Placed.{Placement, IsNamed, IsMaterialOf, IsSymmetric, IsLookedUp, men_on, is_black}
 use Rattle.place_index.proofs.Materials.Arranging.{count_arranged, arranged_by_counts, arranged_length}
 use Rattle.place_index.proofs.LookUp.TallyKeys.{found_key}
 use Rattle.place_index.proofs.Materials.Symmetric.{codes_exchanged}
@@ -147,24 +148,24 @@ both_named key men known a b =
     after_not true y e h = h
     after_not false y e h = absurd (false≢true e)
 
--- the number of a side to move after an exchange of colours, and what it was where that is 0
-unswapped : (b : Bool) (side : Side) → cond b (1 - side_number side) (side_number side) ≡ 0 → b ≡ is_black side
-unswapped true White e = absurd (omega (arith, e))
+-- the side to move after an exchange of colours, and what it was where that is white
+unswapped : (b : Bool) (side : Side) → cond b (other side) side ≡ White → b ≡ is_black side
+unswapped true White e = absurd cc
 unswapped true Black e = refl
 unswapped false White e = refl
-unswapped false Black e = absurd (omega (arith, e))
+unswapped false Black e = absurd cc
 
 decided : (key : ℕ) (p : Parts) (placed : Placement) → key < 145 → (l : IsLookedUp key p placed) → l.is_exchanged ≡ is_exchanged key p
 decided key p placed known l = elim (cases_Bool (is_symmetric key)) [
   | inl even ↦ unswapped l.is_exchanged p.side (sym l.side ∙ l.white (symmetric_is key even)) ∙ sym (chosen even)
-  | inr odd ↦ by_men l.is_exchanged odd (subst (IsNamed key) l.men l.named) ∙ sym (other odd)
+  | inr odd ↦ by_men l.is_exchanged odd (subst (IsNamed key) l.men l.named) ∙ sym (by_colours odd)
 ]
   where
     chosen : is_symmetric key ≡ true → is_exchanged key p ≡ is_black p.side
     chosen e = ap (λ b. cond b (is_black p.side) (not (is_named key (men_on p.men)))) e
 
-    other : is_symmetric key ≡ false → is_exchanged key p ≡ not (is_named key (men_on p.men))
-    other e = ap (λ b. cond b (is_black p.side) (not (is_named key (men_on p.men)))) e
+    by_colours : is_symmetric key ≡ false → is_exchanged key p ≡ not (is_named key (men_on p.men))
+    by_colours e = ap (λ b. cond b (is_black p.side) (not (is_named key (men_on p.men)))) e
 
     by_men : (b : Bool) → is_symmetric key ≡ false → IsNamed key (cond b (exchanged (men_on p.men)) (men_on p.men)) → b ≡ not (is_named key (men_on p.men))
     by_men false odd named = ap not (sym (is-named key (men_on p.men) named))
@@ -173,11 +174,11 @@ decided key p placed known l = elim (cases_Bool (is_symmetric key)) [
       | inr not_own ↦ ap not (sym not_own)
     ]
 
-same_fields : (a : Placement) (key : ℕ) (men : List Man) (side file : ℕ) → a.material ≡ key → a.men ≡ men → a.side ≡ side → a.file ≡ file → a ≡ record { material = key; men = men; side = side; file = file }
+same_fields : (a : Placement) (key : ℕ) (men : List Man) (side : Side) (file : ℕ) → a.material ≡ key → a.men ≡ men → a.side ≡ side → a.file ≡ file → a ≡ record { material = key; men = men; side = side; file = file }
 same_fields a key men side file k m s f = rw (← k, ← m, ← s, ← f) refl
 
-same_placement : (b : Bool) (key : ℕ) (p : Parts) (placed : Placement) → placed.material ≡ key → placed.men ≡ cond b (exchanged (men_on p.men)) (men_on p.men) → placed.side ≡ cond b (1 - side_number p.side) (side_number p.side) → placed.file ≡ lead_file key placed.men
-    → placed ≡ cond b (placement key (exchanged (men_on p.men)) (1 - side_number p.side)) (placement key (men_on p.men) (side_number p.side))
+same_placement : (b : Bool) (key : ℕ) (p : Parts) (placed : Placement) → placed.material ≡ key → placed.men ≡ cond b (exchanged (men_on p.men)) (men_on p.men) → placed.side ≡ cond b (other p.side) p.side → placed.file ≡ lead_file key placed.men
+    → placed ≡ cond b (placement key (exchanged (men_on p.men)) (other p.side)) (placement key (men_on p.men) p.side)
 same_placement true key p placed m men side file = same_fields placed key _ _ _ m men side (file ∙ ap (lead_file key) men)
 same_placement false key p placed m men side file = same_fields placed key _ _ _ m men side (file ∙ ap (lead_file key) men)
 
@@ -185,4 +186,4 @@ pub placed_is : (key : ℕ) (p : Parts) (placed : Placement) → key < 145 → I
 unfolding placed_of
 placed_is key p placed known l =
     same_placement l.is_exchanged key p placed l.material l.men l.side l.file
-    ∙ ap (λ b. cond b (placement key (exchanged (men_on p.men)) (1 - side_number p.side)) (placement key (men_on p.men) (side_number p.side))) (decided key p placed known l)
+    ∙ ap (λ b. cond b (placement key (exchanged (men_on p.men)) (other p.side)) (placement key (men_on p.men) p.side)) (decided key p placed known l)

@@ -15,7 +15,7 @@ use Rattle.judge_core.specs.declared.fault.ValueFault.TheVariants.{NotCovered}
 use Rattle.judge_core.specs.declared.distance.Distance.{Distance}
 use Rattle.judge_core.specs.declared.distance.Distance.TheVariants.{Draw}
 use Rattle.judge_core.specs.LookUp.{material_of, placed_of}
-use Rattle.judge_core.specs.Tables.{Tables, table_at}
+use Rattle.judge_core.specs.Tables.{Tables, table_at, part_asked}
 use Rattle.judge_core.specs.Ends.{is_mate}
 use Rattle.judge_core.specs.Probing.{weighed_by, wdl_of}
 use Rattle.judge_core.specs.Distances.{Reach, is_won, zeroing, towards, counted, move_counts, by_quiet_moves, distance_in, stored, by_own_table, pawns_reach, unless_reached, by_moves, by_weighed, dtz_to}
@@ -47,9 +47,9 @@ module _ (tables : Tables) (reach : Parts → Reach) (p : Parts) (outcome : Outc
     unfolding by_own_table
     missing_own e = rw (m, e) refl
 
-    module _ (t : Contents) (placed : Placement) (side file : ℕ) (b : Bool) (at : table_at tables Dtz key ≡ Some t) (ep : placed ≡ placed_of key p) (es : side ≡ placed.side) (ef : file ≡ placed.file) (eb : b ≡ stores t side file) where
-      stored_side : stores t (placed_of key p).side (placed_of key p).file ≡ b
-      stored_side = ap (λ (x : Placement). stores t x.side x.file) (sym ep) ∙ ap (λ n. stores t n placed.file) (sym es) ∙ ap (stores t side) (sym ef) ∙ sym eb
+    module _ (t : Contents) (placed : Placement) (b : Bool) (at : table_at tables Dtz key ≡ Some t) (ep : placed ≡ placed_of key p) (eb : b ≡ stores (part_asked t placed)) where
+      stored_side : stores (part_asked t (placed_of key p)) ≡ b
+      stored_side = ap (λ (x : Placement). stores (part_asked t x)) (sym ep) ∙ sym eb
 
       pub stored_own : (n : Option ℕ) (r : Reach) → b ≡ true → n ≡ distance_in t placed outcome → r ≡ stored key outcome n → r ≡ by_own_table tables reach p outcome
       unfolding by_own_table

@@ -15,11 +15,11 @@ use Rattle.judge_core.specs.declared.found.Found.{Found}
 use Rattle.judge_core.specs.declared.found.Weighed.{Weighed}
 use Rattle.judge_core.specs.Values.{Reading, turned, greater}
 use Rattle.judge_core.specs.Tables.{Tables, table_value}
-use Rattle.judge_core.specs.Asked.{faults_in, told, unless}
+use Rattle.judge_core.specs.Asked.{faults_in, first_fault, unless}
 use Rattle.judge_core.specs.Probing.{after, greatest, value_or_loss, is_forced, weighed_by}
 use Rattle.judge_core.specs.declared.fault.Faults.{Faults}
 use Rattle.judge_core.proofs.Asking.{asked-append, faults-append, faults_more}
-use Rattle.judge_core.specs.Inside.Found.{lands_empty, found_in, nothing_found, noted, closed}
+use Rattle.judge_core.specs.Inside.Found.{lands_empty, found_in, nothing_found, found_with, closed}
 use Rattle.judge_core.proofs.Captures.{passants, others}
 
 greatest-append : (xs ys : List Reading) → greatest (xs ++ ys) ≡ fold greater (greatest xs) (filter_map result_ok ys)
@@ -32,7 +32,7 @@ more value p test ms m = ap (after value p) (filter-append test ms (m ∷ [])) �
 -- what has been found, with this reading more where there is one
 abbrev pub joined : Found → Option Reading → Bool → Found
 joined f None passant = f
-joined f (Some r) passant = noted f r passant
+joined f (Some r) passant = found_with f r passant
 
 module _ (value : Parts → Reading) (p : Parts) (ms : List Move) (m : Move) where
   abbrev pub reading : Option Reading
@@ -74,7 +74,7 @@ found-nothing value p = refl
 
 -- ---- a walk over the captures
 
--- so much has been found up to the last capture, and what comes after it is still to be noted
+-- so much has been found up to the last capture, and what comes after it is still to come
 pub record Walked (value : Parts → Reading) (p : Parts) (found : Found) (last : Option Move) : Type 0 where
   pub done : List Move
   pub so_far : found ≡ found_in value p done
@@ -93,7 +93,7 @@ walk-begins value p found e = record {
 }
 
 pub walk-goes_on : (value : Parts → Reading) (p q : Parts) (found found' : Found) (last : Option Move) (m : Move) (r : Reading) (passant : Bool) → Walked value p found last → captures_after p last ≡ m ∷ captures_after p (Some m)
-    → position_after p m ≡ Some q → r ≡ turned (value q) → passant ≡ lands_empty p m → found' ≡ noted found r passant → Walked value p found' (Some m)
+    → position_after p m ≡ Some q → r ≡ turned (value q) → passant ≡ lands_empty p m → found' ≡ found_with found r passant → Walked value p found' (Some m)
 walk-goes_on value p q found found' last m r passant w next e er ep g = record {
   done = w.done ++ m ∷ [];
   so_far = rw (found-step value p w.done m, e, ← w.so_far, ← er, ← ep) g;
@@ -136,7 +136,7 @@ no_captures value p found e none = walk-ends value p found None (walk-begins val
 pub with_own : (tables : Tables) (value : Parts → Reading) (p : Parts) (found : Found) (own : Reading) (b : Bool) (w : Result Weighed ValueFault) → found ≡ found_in value p (legal_captures p) → own ≡ table_value tables p → b ≡ is_forced p → w ≡ closed found own b → w ≡ weighed_by tables value p
 unfolding found_in weighed_by
 with_own tables value p found own b w f o i c =
-    c ∙ rw (f, o, i, passants p, others p) (ap (λ (x : Faults). unless (told x) (Ok (record {
+    c ∙ rw (f, o, i, passants p, others p) (ap (λ (x : Faults). unless (first_fault x) (Ok (record {
       capture = greatest (after value p (filter (λ m. not (is_en_passant p m)) (legal_captures p)));
       passant = greatest (after value p (filter (is_en_passant p) (legal_captures p)));
       own = value_or_loss (table_value tables p);

@@ -1,5 +1,5 @@
 -- After a quiet move the other side of the same table is asked.
-use Rattle.std.proofs.Common.{◌≡◌, ◌≢◌, ◌∙◌, sym, ap, refl, ℕ, zero, suc, ◌+◌, ◌-◌, ◌<◌, ◌⊎◌, Bool, true, false, cond, not, eqb, ◌&&◌, ◌||◌, is_some, List, [], ◌∷◌, length, map, set, get_or, Option, Some, None, inl, inr, arith, if◌then◌else◌}
+use Rattle.std.proofs.Common.{◌≡◌, ◌≢◌, ◌∙◌, sym, ap, refl, ℕ, zero, suc, ◌+◌, ◌<◌, ◌⊎◌, Bool, true, false, cond, not, eqb, ◌&&◌, ◌||◌, is_some, List, [], ◌∷◌, length, map, set, get_or, Option, Some, None, inl, inr, arith, if◌then◌else◌}
 use Rattle.std.specs.Prelude.{find, count_by, sum_by}
 use Rattle.std.specs.List.{list_any, list_all, range_with_len}
 use Rattle.std.proofs.lemmas.Bool.{and_parts, false≢true}
@@ -32,7 +32,7 @@ use Rattle.place_index.specs.Material.{count_of, pieces_of}
 use Rattle.place_index.specs.Shape.{lead_code, black_leads}
 use Rattle.place_index.specs.Pawns.{pawn_square, pawn_numbers_of}
 use Rattle.place_index.specs.Turning.{lead_pawn, lead_file}
-use Rattle.place_index.specs.Placed.{is_black, kind_code, code_of, men_from, men_on, side_number}
+use Rattle.place_index.specs.Placed.{is_black, kind_code, code_of, men_from, men_on}
 use Rattle.table_file.specs.Files.{is_symmetric}
 use Rattle.judge_core.specs.LookUp.{is_named, is_material, material_of, placement, placed_of}
 use Rattle.judge_core.specs.Distances.{moves_pawn, is_quiet}
@@ -313,13 +313,11 @@ module _ (p q : Parts) (m : Move) (position : IsPosition p) (quiet : IsQuietAfte
   material_kept = find-same (is_material (men_on q.men)) (is_material (men_on p.men)) (λ key. rw (named-same key (men_on q.men) (men_on p.men) codes_kept, named-same key (exchanged (men_on q.men)) (exchanged (men_on p.men)) codes_exchanged) refl) (range_with_len 0 145)
 
   -- unsymmetric material: the same file, and the other side
-  pub other_side_asked : (key : ℕ) → is_symmetric key ≡ false → ((placed_of key q).file ≡ (placed_of key p).file) × ((placed_of key q).side ≡ 1 - (placed_of key p).side)
+  pub other_side_asked : (key : ℕ) → is_symmetric key ≡ false → ((placed_of key q).file ≡ (placed_of key p).file) × ((placed_of key q).side ≡ other (placed_of key p).side)
   unfolding placed_of
   other_side_asked key unsymmetric = rw (unsymmetric, named-same key (men_on q.men) (men_on p.men) codes_kept, quiet.side) (by_exchange (not (is_named key (men_on p.men))) p.side)
     where
-      by_exchange : (b : Bool) (side : Side) → ((if b then placement key (exchanged (men_on q.men)) (1 - side_number (other side)) else placement key (men_on q.men) (side_number (other side))).file ≡ (if b then placement key (exchanged (men_on p.men)) (1 - side_number side) else placement key (men_on p.men) (side_number side)).file)
-          × ((if b then placement key (exchanged (men_on q.men)) (1 - side_number (other side)) else placement key (men_on q.men) (side_number (other side))).side ≡ 1 - (if b then placement key (exchanged (men_on p.men)) (1 - side_number side) else placement key (men_on p.men) (side_number side)).side)
-      by_exchange true White = (lead_file-same key (exchanged (men_on q.men)) (exchanged (men_on p.men)) pawns_exchanged, refl)
-      by_exchange true Black = (lead_file-same key (exchanged (men_on q.men)) (exchanged (men_on p.men)) pawns_exchanged, refl)
-      by_exchange false White = (lead_file-same key (men_on q.men) (men_on p.men) pawns_kept, refl)
-      by_exchange false Black = (lead_file-same key (men_on q.men) (men_on p.men) pawns_kept, refl)
+      by_exchange : (b : Bool) (side : Side) → ((if b then placement key (exchanged (men_on q.men)) (other (other side)) else placement key (men_on q.men) (other side)).file ≡ (if b then placement key (exchanged (men_on p.men)) (other side) else placement key (men_on p.men) side).file)
+          × ((if b then placement key (exchanged (men_on q.men)) (other (other side)) else placement key (men_on q.men) (other side)).side ≡ other (if b then placement key (exchanged (men_on p.men)) (other side) else placement key (men_on p.men) side).side)
+      by_exchange true side = (lead_file-same key (exchanged (men_on q.men)) (exchanged (men_on p.men)) pawns_exchanged, refl)
+      by_exchange false side = (lead_file-same key (men_on q.men) (men_on p.men) pawns_kept, refl)

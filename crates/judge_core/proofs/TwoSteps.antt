@@ -1,5 +1,5 @@
 -- The distance of a position meets its rules: after a quiet move the table has the other side.
-use Rattle.std.proofs.Common.{◌≡◌, ◌∙◌, sym, ap, refl, ℕ, zero, suc, ◌+◌, ◌-◌, ◌%◌, ◌<◌, nat_le, nat_lt, Bool, true, false, eqb, ◌||◌, List, [], ◌∷◌, Option, Some, None, option_map, filter, Result, Ok, Err, arith, if◌then◌else◌}
+use Rattle.std.proofs.Common.{◌≡◌, ◌∙◌, sym, ap, refl, ℕ, zero, suc, ◌+◌, ◌%◌, ◌<◌, nat_le, nat_lt, Bool, true, false, eqb, ◌||◌, List, [], ◌∷◌, Option, Some, None, option_map, filter, Result, Ok, Err, arith, if◌then◌else◌}
 use Rattle.std.proofs.lemmas.Bool.{eqb-false, eq-eqb, false≢true}
 use Rattle.std.proofs.Math.Bool.{or-false}
 use Rattle.board_core.specs.declared.parts.Parts.{Parts}
@@ -10,19 +10,19 @@ use Rattle.std.specs.Prelude.{find}
 use Rattle.std.specs.List.{range_with_len}
 use Rattle.board_core.specs.declared.piece.Side.{Side}
 use Rattle.board_core.specs.declared.piece.Side.TheVariants.{White, Black}
-use Rattle.place_index.specs.Men.{exchanged}
+use Rattle.board_core.specs.Side.{other}
 use Rattle.place_index.specs.Placed.{men_on, side_number}
 use Rattle.table_file.specs.declared.kind.Kind.TheVariants.{Dtz}
 use Rattle.table_file.specs.declared.outcome.Outcome.{Outcome}
 use Rattle.table_file.specs.Files.{is_symmetric}
-use Rattle.table_file.specs.Tables.{Contents}
+use Rattle.table_file.specs.Tables.{Contents, part_for}
 use Rattle.table_file.specs.Distances.{stores, file_flags}
 use Rattle.judge_core.specs.declared.wdl.Wdl.{Wdl}
 use Rattle.judge_core.specs.declared.found.Weighed.{Weighed}
 use Rattle.judge_core.specs.declared.fault.ValueFault.{ValueFault}
 use Rattle.judge_core.specs.declared.distance.Distance.TheVariants.{Draw}
-use Rattle.judge_core.specs.LookUp.{is_material, material_of, is_exchanged, placement, placed_of}
-use Rattle.judge_core.specs.Tables.{Tables, AreFiled, table_at}
+use Rattle.judge_core.specs.LookUp.{is_material, material_of, placed_of}
+use Rattle.judge_core.specs.Tables.{Tables, AreFiled, table_at, part_asked}
 use Rattle.judge_core.specs.Asked.{asked, fault_in, unless}
 use Rattle.judge_core.specs.Probing.{weighed_by, wdl_of, worth}
 use Rattle.board_core.specs.Castling.{has_any_right}
@@ -34,7 +34,7 @@ use Rattle.judge_core.proofs.SameTable.{quiet_after, material_kept, other_side_a
 
 -- the table that is asked stores the side to move
 abbrev IsStored : Tables → Parts → Type 0
-IsStored tables p = (key : ℕ) (t : Contents) → material_of p ≡ Some key → table_at tables Dtz key ≡ Some t → stores t (placed_of key p).side (placed_of key p).file ≡ true
+IsStored tables p = (key : ℕ) (t : Contents) → material_of p ≡ Some key → table_at tables Dtz key ≡ Some t → stores (part_asked t (placed_of key p)) ≡ true
 
 -- two ways to tell a distance agree after each quiet move
 abbrev Agree : (Parts → Reach) → (Parts → Reach) → Parts → Type 0
@@ -62,13 +62,13 @@ same_quiet key outcome f g p agree = ap (λ counts. unless (fault_in counts) (by
 
 -- stored, or the two agree
 abbrev IsEither : Tables → (Parts → Reach) → (Parts → Reach) → Parts → Type 0
-IsEither tables f g p = (key : ℕ) (t : Contents) → material_of p ≡ Some key → table_at tables Dtz key ≡ Some t → stores t (placed_of key p).side (placed_of key p).file ≡ false → Agree f g p
+IsEither tables f g p = (key : ℕ) (t : Contents) → material_of p ≡ Some key → table_at tables Dtz key ≡ Some t → stores (part_asked t (placed_of key p)) ≡ false → Agree f g p
 
-same_table : (tables : Tables) (f g : Parts → Reach) (p : Parts) (outcome : Outcome) (key : ℕ) (o : Option Contents) → ((t : Contents) → o ≡ Some t → stores t (placed_of key p).side (placed_of key p).file ≡ false → Agree f g p) → by_table o key f p outcome ≡ by_table o key g p outcome
+same_table : (tables : Tables) (f g : Parts → Reach) (p : Parts) (outcome : Outcome) (key : ℕ) (o : Option Contents) → ((t : Contents) → o ≡ Some t → stores (part_asked t (placed_of key p)) ≡ false → Agree f g p) → by_table o key f p outcome ≡ by_table o key g p outcome
 same_table tables f g p outcome key None h = refl
-same_table tables f g p outcome key (Some t) h = by_side (stores t (placed_of key p).side (placed_of key p).file) refl
+same_table tables f g p outcome key (Some t) h = by_side (stores (part_asked t (placed_of key p))) refl
   where
-    by_side : (b : Bool) → stores t (placed_of key p).side (placed_of key p).file ≡ b → by_table (Some t) key f p outcome ≡ by_table (Some t) key g p outcome
+    by_side : (b : Bool) → stores (part_asked t (placed_of key p)) ≡ b → by_table (Some t) key f p outcome ≡ by_table (Some t) key g p outcome
     by_side true e = rw e refl
     by_side false e = rw e (same_quiet key outcome f g p (h t refl e))
 
@@ -97,30 +97,27 @@ same_rules tables f g p h = ap (λ (r : Reach). if nat_le (count_of_men p) 2 the
 
 -- ---- one of the sides is stored
 
-other_number : (n side : ℕ) → side < 2 → eqb (n % 2) side ≡ false → n % 2 ≡ 1 - side
-other_number n side lt e = let apart = eqb-false (n % 2) side e in omega (arith, lt, apart)
+other_number : (n : ℕ) (side : Side) → eqb (n % 2) (side_number side) ≡ false → n % 2 ≡ side_number (other side)
+other_number n White e = let apart = eqb-false (n % 2) 0 e in omega (arith, apart)
+other_number n Black e = let apart = eqb-false (n % 2) 1 e in omega (arith, apart)
 
-other_stored : (t : Contents) (side file : ℕ) → side < 2 → stores t side file ≡ false → (stores t (1 - side) file ≡ true) × (is_symmetric t.material ≡ false)
+other_stored : (t : Contents) (side : Side) (file : ℕ) → stores (part_for t side file) ≡ false → (stores (part_for t (other side) file) ≡ true) × (is_symmetric t.material ≡ false)
 unfolding stores
-other_stored t side file lt e = by_flag (is_symmetric t.material) e
+other_stored t side file e = by_flag (is_symmetric t.material) e
   where
+    flags : ℕ
+    flags = file_flags (part_for t side file)
+
     or_true : (a : Bool) → (a || true) ≡ false → ⊥
     or_true true h = false≢true (sym h)
     or_true false h = false≢true (sym h)
 
-    by_flag : (b : Bool) → (eqb (file_flags t file % 2) side || b) ≡ false → ((eqb (file_flags t file % 2) (1 - side) || b) ≡ true) × (b ≡ false)
-    by_flag true e = absurd (or_true (eqb (file_flags t file % 2) side) e)
-    by_flag false e = (or-false (eqb (file_flags t file % 2) (1 - side)) ∙ eq-eqb (file_flags t file % 2) (1 - side) (other_number (file_flags t file) side lt (sym (or-false (eqb (file_flags t file % 2) side)) ∙ e)), refl)
-
-two_sides : (key : ℕ) (p : Parts) → (placed_of key p).side < 2
-unfolding placed_of
-two_sides key p = by_exchange (is_exchanged key p) p.side
-  where
-    by_exchange : (b : Bool) (side : Side) → (if b then placement key (exchanged (men_on p.men)) (1 - side_number side) else placement key (men_on p.men) (side_number side)).side < 2
-    by_exchange true White = omega arith
-    by_exchange true Black = omega arith
-    by_exchange false White = omega arith
-    by_exchange false Black = omega arith
+    by_flag : (b : Bool) → (eqb (flags % 2) (side_number side) || b) ≡ false → ((eqb (flags % 2) (side_number (other side)) || b) ≡ true) × (b ≡ false)
+    by_flag true h = absurd (or_true (eqb (flags % 2) (side_number side)) h)
+    by_flag false h = (
+      or-false (eqb (flags % 2) (side_number (other side))) ∙ eq-eqb (flags % 2) (side_number (other side)) (other_number flags side (sym (or-false (eqb (flags % 2) (side_number side))) ∙ h)),
+      refl,
+    )
 
 found_below : (f : ℕ → Bool) (from n k : ℕ) → find f (range_with_len from n) ≡ Some k → k < from + n
 found_below f from zero k e = absurd (cc)
@@ -137,14 +134,14 @@ known_key p key e = found_below (is_material (men_on p.men)) 0 145 key e
 -- ---- the law
 
 module _ (tables : Tables) (filed : AreFiled tables) (p : Parts) (position : IsPosition p) (rights : has_any_right p.rights ≡ false) where
-  module _ (key : ℕ) (t : Contents) (m : material_of p ≡ Some key) (at : table_at tables Dtz key ≡ Some t) (unstored : stores t (placed_of key p).side (placed_of key p).file ≡ false) (move : Move) (q : Parts) (quiet : is_quiet p move ≡ true) (e : position_after p move ≡ Some q) where
+  module _ (key : ℕ) (t : Contents) (m : material_of p ≡ Some key) (at : table_at tables Dtz key ≡ Some t) (unstored : stores (part_asked t (placed_of key p)) ≡ false) (move : Move) (q : Parts) (quiet : is_quiet p move ≡ true) (e : position_after p move ≡ Some q) where
     unsymmetric : is_symmetric key ≡ false
-    unsymmetric = ap is_symmetric (sym (filed Dtz key t (known_key p key m) at).1) ∙ (other_stored t (placed_of key p).side (placed_of key p).file (two_sides key p) unstored).1
+    unsymmetric = ap is_symmetric (sym (filed Dtz key t (known_key p key m) at).1) ∙ (other_stored t (placed_of key p).side (placed_of key p).file unstored).1
 
-    stored_there : stores t (placed_of key q).side (placed_of key q).file ≡ true
+    stored_there : stores (part_asked t (placed_of key q)) ≡ true
     stored_there =
         let asked = other_side_asked p q move position (quiet_after p q move rights quiet e) key unsymmetric in
-        ap (λ n. stores t n (placed_of key q).file) asked.1 ∙ ap (stores t (1 - (placed_of key p).side)) asked.0 ∙ (other_stored t (placed_of key p).side (placed_of key p).file (two_sides key p) unstored).0
+        ap (λ (s : Side). stores (part_for t s (placed_of key q).file)) asked.1 ∙ ap (λ (f : ℕ). stores (part_for t (other (placed_of key p).side) f)) asked.0 ∙ (other_stored t (placed_of key p).side (placed_of key p).file unstored).0
 
     stored_after : (f g : Parts → Reach) → IsEither tables f g q
     stored_after f g key' t' m' at' unstored' =
@@ -153,7 +150,7 @@ module _ (tables : Tables) (filed : AreFiled tables) (p : Parts) (position : IsP
         let same : key' ≡ key = cc in
         let contents : Some t' ≡ Some t = sym at' ∙ ap (table_at tables Dtz) same ∙ at in
         let same_t : t' ≡ t = cc in
-        absurd (false≢true (sym unstored' ∙ ap (λ (x : Contents). stores x (placed_of key' q).side (placed_of key' q).file) same_t ∙ ap (λ n. stores t (placed_of n q).side (placed_of n q).file) same ∙ stored_there))
+        absurd (false≢true (sym unstored' ∙ ap (λ (x : Contents). stores (part_asked x (placed_of key' q))) same_t ∙ ap (λ n. stores (part_asked t (placed_of n q))) same ∙ stored_there))
 
     one_is_enough : dtz_to tables 1 q ≡ dtz_of tables q
     unfolding dtz_of dtz_to

@@ -1,7 +1,7 @@
 -- What the calls of a set answer.
 use Rattle.std.specs.Prelude.{◌≡◌, ◌≢◌, ◌⊎◌, ◌<◌, ℕ, ℤ, Bool, true, false, List, Result, Ok, Err, codes}
 use Rattle.board_core.specs.declared.parts.Parts.{Parts}
-use Rattle.board_core.specs.ComputedMoves.{count_of_men}
+use Rattle.board_core.specs.ComputedMoves.{legal_moves, count_of_men}
 use Rattle.judge_core.specs.declared.fault.ValueFault.{ValueFault}
 use Rattle.judge_core.specs.declared.found.Weighed.{Weighed}
 use Rattle.judge_core.specs.declared.fault.ValueFault.TheVariants.{NotCovered as Missing, Damaged as Broken}
@@ -12,6 +12,8 @@ use Rattle.judge_core.specs.Values.{Reading}
 use Rattle.judge_core.specs.Tables.{Tables}
 use Rattle.judge_core.specs.Probing.{wdl_of, weighed_by, worth}
 use Rattle.judge_core.specs.Distances.{Reach, is_by_capture, signed}
+use Rattle.judge_core.specs.Ends.{has_no_move}
+use Rattle.judge_core.specs.Ruling.{is_out_of_scope}
 
 -- The probe answers what the tables tell, unless the position is out of their scope or memory was refused.
 abbrev pub IsProbe : {X : Type 0} → Result X ProbeFault → Bool → Result X ValueFault → Type 0
@@ -20,6 +22,16 @@ IsProbe (Err OutOfScope) outside reading = outside ≡ true
 IsProbe (Err (NotCovered key)) outside reading = (outside ≡ false) × (reading ≡ Err (Missing key))
 IsProbe (Err (Damaged key)) outside reading = (outside ≡ false) × (reading ≡ Err (Broken key))
 IsProbe (Err OutOfMemory) outside reading = outside ≡ false
+
+-- the fault of a probe that meets this one
+abbrev pub probe_fault : ValueFault → ProbeFault
+probe_fault (Missing key) = NotCovered key
+probe_fault (Broken key) = Damaged key
+
+-- what a probe tells of a reading
+abbrev pub as_probe : {X Y : Type 0} → (X → Y) → Result X ValueFault → Result Y ProbeFault
+as_probe say (Ok x) = Ok (say x)
+as_probe say (Err fault) = Err (probe_fault fault)
 
 -- what is weighed is there, no draw, and not by a capture
 abbrev pub IsLeftOpen : Result Weighed ValueFault → Type 0
@@ -33,6 +45,11 @@ ListsMoves tables p = (2 < count_of_men p) × IsLeftOpen (weighed_by tables (wdl
 -- the value is there and a win or a loss: only then a verdict asks for a distance
 abbrev pub IsDecisive : Reading → Type 0
 IsDecisive reading = (reading ≡ Ok Win) ⊎ (reading ≡ Ok Loss)
+
+-- a move is left, the position is in scope, and its value is a win or a loss that no capture brings about: only then a verdict
+-- lists moves
+abbrev pub ListsMovesForVerdict : Tables → Parts → Type 0
+ListsMovesForVerdict tables p = (has_no_move (legal_moves p) ≡ false) × (is_out_of_scope p ≡ false) × IsDecisive (wdl_of tables p) × ListsMoves tables p
 
 -- a distance as a number
 abbrev pub signed_in : Reach → Result ℤ ValueFault

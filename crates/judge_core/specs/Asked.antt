@@ -31,18 +31,18 @@ first say (r ∷ rs) = option_or (say r) (first say rs)
 abbrev pub faults_in : {X : Type 0} → List (Result X ValueFault) → Faults
 faults_in rs = record { missing = first missing rs; damaged = first damaged rs }
 
--- a missing table is told before a damaged one
+-- a missing table comes before a damaged one
 abbrev pub fault_of : Option ℕ → Option ℕ → Option ValueFault
 fault_of (Some key) other = Some (NotCovered key)
 fault_of None (Some key) = Some (Damaged key)
 fault_of None None = None
 
-abbrev pub told : Faults → Option ValueFault
-told f = fault_of f.missing f.damaged
+abbrev pub first_fault : Faults → Option ValueFault
+first_fault f = fault_of f.missing f.damaged
 
 -- the fault of a list: the first table that is missing, or else the first that is damaged
 abbrev pub fault_in : {X : Type 0} → List (Result X ValueFault) → Option ValueFault
-fault_in rs = told (faults_in rs)
+fault_in rs = first_fault (faults_in rs)
 
 abbrev pub unless : {X : Type 0} → Option ValueFault → Result X ValueFault → Result X ValueFault
 unless (Some fault) r = Err fault

@@ -1,13 +1,19 @@
 -- Decoded blocks of tables.
 use Rattle.std.specs.Prelude.{◌≡◌, ℕ, ◌≤◌, List, [], length, Option, None, Some, option_map, slice_index_or, Contains}
+use Rattle.table_file.specs.Files.{side_of}
+use Rattle.table_file.specs.Tables.{PartAt, part_for}
 use Rattle.table_file.specs.Expansion.{values_of}
 use Rattle.judge_core.specs.declared.blocks.BlockKey.{BlockKey}
 use Rattle.judge_core.specs.declared.blocks.Blocks.{Blocks}
 use Rattle.judge_core.specs.Tables.{Tables, Holding}
 
+-- the part of a table that the key names
+abbrev pub part_at : Tables → BlockKey → Option PartAt
+part_at tables key = option_map (λ t. part_for t (side_of key.side) key.file) (slice_index_or tables key.slot None)
+
 -- the values of the block that the key names
 abbrev pub block_at : Tables → BlockKey → Option (List ℕ)
-block_at tables key = option_map (λ t. values_of t key.side key.file key.block) (slice_index_or tables key.slot None)
+block_at tables key = option_map (λ part. values_of part key.block) (part_at tables key)
 
 -- these are the values of that block
 abbrev pub IsRight : Tables → BlockKey → List ℕ → Type 0

@@ -11,7 +11,7 @@ use Rattle.place_index.specs.Shape.{Layout}
 use Rattle.place_index.specs.Index.{index_of}
 use Rattle.place_index.specs.Placed.{Placement}
 use Rattle.table_file.specs.declared.kind.Kind.TheVariants.{Dtz}
-use Rattle.table_file.specs.Tables.{Contents, shape_of}
+use Rattle.table_file.specs.Tables.{Contents, PartAt, shape_of}
 use Rattle.table_file.specs.declared.outcome.Outcome.{Outcome}
 use Rattle.table_file.specs.declared.outcome.Outcome.TheVariants.{Win as Won, CursedWin as WonCursed, BlessedLoss as LostBlessed, Loss as Lost}
 use Rattle.judge_core.specs.declared.distance.Distance.{Distance}
@@ -23,7 +23,7 @@ use Rattle.judge_core.specs.declared.fault.ValueFault.TheVariants.{NotCovered, D
 use Rattle.judge_core.specs.declared.found.Weighed.{Weighed}
 use Rattle.judge_core.specs.Values.{Reading, is_winning, is_below, is_same, outcome_of, greater}
 use Rattle.judge_core.specs.LookUp.{material_of, placed_of}
-use Rattle.judge_core.specs.Tables.{Tables, table_at}
+use Rattle.judge_core.specs.Tables.{Tables, table_at, part_asked}
 use Rattle.judge_core.specs.Asked.{asked, fault_in, unless}
 use Rattle.table_file.specs.Distances.{stores, distance}
 use Rattle.judge_core.specs.Probing.{after, weighed_by, wdl_of, worth}
@@ -159,12 +159,12 @@ by_quiet_moves key outcome reach p =
 -- ---- the own table
 
 -- the table's distance at the index of placed men
-abbrev pub distance_of : Option Layout → Contents → Placement → Outcome → Option ℕ
-distance_of None t placed outcome = None
-distance_of (Some shape) t placed outcome = distance t placed.file (index_of shape placed.men) outcome
+abbrev pub distance_of : Option Layout → PartAt → Placement → Outcome → Option ℕ
+distance_of None part placed outcome = None
+distance_of (Some shape) part placed outcome = distance part (index_of shape placed.men) outcome
 
 unfoldable pub distance_in : Contents → Placement → Outcome → Option ℕ
-distance_in t placed outcome = distance_of (shape_of t placed.side placed.file) t placed outcome
+distance_in t placed outcome = distance_of (shape_of (part_asked t placed)) (part_asked t placed) placed outcome
 
 abbrev pub stored : ℕ → Outcome → Option ℕ → Reach
 stored key outcome None = Err (Damaged key)
@@ -174,7 +174,7 @@ stored key outcome (Some n) = Ok (towards outcome (zeroing outcome + n))
 abbrev pub by_table : Option Contents → ℕ → (Parts → Reach) → Parts → Outcome → Reach
 by_table None key reach p outcome = Err (NotCovered key)
 by_table (Some t) key reach p outcome =
-    if stores t (placed_of key p).side (placed_of key p).file
+    if stores (part_asked t (placed_of key p))
     then stored key outcome (distance_in t (placed_of key p) outcome)
     else by_quiet_moves key outcome reach p
 

@@ -15,7 +15,7 @@ use Rattle.judge_core.specs.declared.fault.ValueFault.TheVariants.{NotCovered, D
 use Rattle.judge_core.specs.declared.found.Weighed.{Weighed}
 use Rattle.judge_core.specs.Values.{outcome_of}
 use Rattle.judge_core.specs.LookUp.{material_of, placed_of}
-use Rattle.judge_core.specs.Tables.{Tables, AreFiled, table_at}
+use Rattle.judge_core.specs.Tables.{Tables, AreFiled, table_at, part_asked}
 use Rattle.judge_core.specs.Asked.{asked, fault_in}
 use Rattle.judge_core.specs.Probing.{weighed_by, wdl_of, worth}
 use Rattle.judge_core.specs.Ruling.{is_out_of_scope}
@@ -41,7 +41,7 @@ pub record IsLeft (tables : Tables) (p : Parts) (w : Weighed) (outcome : Outcome
 pub record IsOwnTable (tables : Tables) (p : Parts) (key : ℕ) (t : Contents) (side_is_stored : Bool) : Type 0 where
   pub material : material_of p ≡ Some key
   pub table : table_at tables Dtz key ≡ Some t
-  pub stored : stores t (placed_of key p).side (placed_of key p).file ≡ side_is_stored
+  pub stored : stores (part_asked t (placed_of key p)) ≡ side_is_stored
 
 -- one ply more than the distance after each move that neither takes a man nor moves a pawn, where that move keeps the win or loss
 abbrev pub counts_after : (Parts → Reach) → Parts → Outcome → List (Result (Option ℕ) ValueFault)

@@ -3,5 +3,4 @@ pub mod Found
 pub mod Counts
 pub mod Kept
 pub mod Placing
-pub mod Answering
 pub mod Following

@@ -10,8 +10,8 @@ pub mod Ruling
 pub mod Games
 pub mod Standings
 pub mod Answers
-pub mod Told
-pub mod ToldWords
+pub mod Probed
+pub mod Words
 pub mod Laws
 pub mod FiveRules
 pub mod Inside

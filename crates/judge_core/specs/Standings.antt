@@ -1,9 +1,11 @@
 -- Where a game stands after its moves, as it is carried from ply to ply.
-use Rattle.std.specs.Prelude.{◌≡◌, ℕ, ◌+◌, ◌≤◌, nat_le, nat_lt, cond, ◌&&◌, ◌||◌, List, length, Option, Some, None}
+use Rattle.std.specs.Prelude.{◌≡◌, ℕ, ◌+◌, ◌≤◌, nat_le, nat_lt, cond, ◌&&◌, ◌||◌, List, [], ◌∷◌, ◌++◌, length, Option, Some, None, Result, IfOk}
 use Rattle.board_core.specs.declared.parts.Parts.{Parts}
 use Rattle.board_core.specs.declared.moves.Move.{Move}
 use Rattle.board_core.specs.declared.verdict.Verdict.{Verdict}
+use Rattle.board_core.specs.ComputedMoves.{position_after}
 use Rattle.judge_core.specs.Ruling.{ruling}
+use Rattle.judge_core.specs.Tables.{Tables}
 use Rattle.board_core.specs.Delays.{most_delay}
 use Rattle.judge_core.specs.Games.{Rules, position_after_all, has_stood, is_judged, is_end}
 
@@ -23,6 +25,11 @@ pub record IsAt (rules : Rules) (moves : List Move) (s : Reached) : Type 0 where
   pub position : position_after_all rules.start moves ≡ Some s.position
   pub judged : s.judged ≡ ruling rules.tables s.position
   pub stood : HasStood rules moves s
+
+-- where a game that stands so stands one legal move later, which leads to this position
+abbrev pub MovesOn : {E : Type 0} → Tables → Reached → Parts → Result Reached E → Type 0
+MovesOn tables s q result =
+    (rules : Rules) (moves : List Move) (m : Move) → rules.tables ≡ tables → IsAt rules moves s → position_after s.position m ≡ Some q → IfOk result (IsAt rules (moves ++ m ∷ []))
 
 -- how many plies a ruling has stood, one ply later
 abbrev pub plies_by : Option Verdict → Option Verdict → ℕ → ℕ

@@ -6,7 +6,7 @@ use Rattle.place_index.specs.Index.{index_of}
 use Rattle.place_index.specs.Placed.{Placement}
 use Rattle.table_file.specs.declared.kind.Kind.{Kind}
 use Rattle.table_file.specs.declared.kind.Kind.TheVariants.{Wdl, Dtz}
-use Rattle.table_file.specs.Tables.{Contents, shape_of}
+use Rattle.table_file.specs.Tables.{Contents, PartAt, part_for, shape_of}
 use Rattle.table_file.specs.Expansion.{expansion, entry_at}
 use Rattle.judge_core.specs.declared.wdl.Wdl.{Wdl as Value}
 use Rattle.judge_core.specs.declared.wdl.Wdl.TheVariants.{Draw}
@@ -37,13 +37,17 @@ pub record Holding : Type 0 where
 
 -- ---- table value
 
-abbrev pub entry_of : Option Layout → Contents → Placement → Option ℕ
-entry_of None t placed = None
-entry_of (Some shape) t placed = entry_at (expansion t placed.side placed.file) (index_of shape placed.men)
+-- the part of a table in which placed men are looked up
+abbrev pub part_asked : Contents → Placement → PartAt
+part_asked t placed = part_for t placed.side placed.file
+
+abbrev pub entry_of : Option Layout → PartAt → Placement → Option ℕ
+entry_of None part placed = None
+entry_of (Some shape) part placed = entry_at (expansion part) (index_of shape placed.men)
 
 -- the entry of the expanded table at the index of placed men, if there is one
 unfoldable pub entry_in : Contents → Placement → Option ℕ
-entry_in t placed = entry_of (shape_of t placed.side placed.file) t placed
+entry_in t placed = entry_of (shape_of (part_asked t placed)) (part_asked t placed) placed
 
 abbrev pub value_or_damaged : ℕ → Option Value → Reading
 value_or_damaged key None = Err (Damaged key)

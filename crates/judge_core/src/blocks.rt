@@ -7,14 +7,14 @@ use lru::LruCache;
 use std::alloc::{AllocError, Global};
 use std::num::NonZeroUsize;
 
-/// Names a block of a file of a side of a table.
+/// Names a block of a part of a table.
 #[derive(Clone, Copy, PartialEq, Eq, Hash)]
 pub(crate) struct BlockKey {
     /// The table's slot.
     pub(crate) slot: u16,
-    /// The side, 0 where the table doesn't look at the side.
+    /// The number of the part's side, 0 for the first one.
     pub(crate) side: u8,
-    /// The file of the leading pawn.
+    /// The number of the part's file of the leading pawn.
     pub(crate) file: u8,
     /// The block's number.
     pub(crate) block: u32,

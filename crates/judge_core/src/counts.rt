@@ -2,7 +2,7 @@
 
 ghost use Rattle.std.specs.Prelude.{◌≡◌, max};
 ghost use Rattle.judge_core.specs.Distances.{plies, lesser};
-ghost use Rattle.judge_core.specs.Inside.Counts.{no_steps, with_reading, steps_told, no_counts, with_count, counts_told, AreWithin};
+ghost use Rattle.judge_core.specs.Inside.Counts.{no_steps, with_reading, steps_result, no_counts, with_count, counts_result, AreWithin};
 
 use crate::distance::{self, Distance};
 use crate::fault::{Faults, ValueFault};
@@ -10,7 +10,7 @@ use crate::wdl::Wdl;
 use place_index::Material;
 use table_file::Outcome;
 
-/// What the pawn moves so far have told.
+/// The values after the pawn moves so far.
 #[derive(Clone, Copy)]
 pub(crate) struct Steps {
     /// The first faults of the values after them.
@@ -31,7 +31,7 @@ impl Steps {
     }
 
     /// With the value after one move more, or its fault.
-    pub fn note(&self, value: Wdl, reading: &Result<Wdl, ValueFault>) -> Steps
+    pub fn with(&self, value: Wdl, reading: &Result<Wdl, ValueFault>) -> Steps
         ensures { result ≡ with_reading value self.now reading.now }
     {
         let mut steps = *self;
@@ -43,17 +43,17 @@ impl Steps {
     }
 
     /// Whether one of them comes to the value, or the fault.
-    pub fn told(&self) -> Result<bool, ValueFault>
-        ensures { result ≡ steps_told self.now }
+    pub fn result(&self) -> Result<bool, ValueFault>
+        ensures { result ≡ steps_result self.now }
     {
-        match self.faults.told() {
+        match self.faults.first() {
             Some(fault) => Err(fault),
             None => Ok(self.reached),
         }
     }
 }
 
-/// What the quiet moves so far have told.
+/// The distances after the quiet moves so far.
 #[derive(Clone, Copy)]
 pub(crate) struct Counts {
     /// The first faults of the distances after them.
@@ -91,7 +91,7 @@ impl Counts {
     }
 
     /// With what one move more comes to.
-    pub fn note(&self, count: &Result<Option<u32>, ValueFault>) -> Counts
+    pub fn with(&self, count: &Result<Option<u32>, ValueFault>) -> Counts
         ensures { result ≡ with_count self.now count.now }
     {
         let mut counts = *self;
@@ -107,10 +107,10 @@ impl Counts {
     }
 
     /// The distance by all of them. The table of this material contradicts itself where there is none.
-    pub fn told(&self, material: Material, outcome: Outcome) -> Result<Distance, ValueFault>
-        ensures { result ≡ counts_told material outcome self.now }
+    pub fn result(&self, material: Material, outcome: Outcome) -> Result<Distance, ValueFault>
+        ensures { result ≡ counts_result material outcome self.now }
     {
-        if let Some(fault) = self.faults.told() {
+        if let Some(fault) = self.faults.first() {
             return Err(fault);
         }
         if distance::is_won(outcome) {

@@ -1,31 +1,26 @@
 //! DTZ probes.
 
 ghost use Rattle.std.specs.Prelude.{◌≡◌, ◌<◌, ◌≤◌, ◌+◌, ◌-◌, IfOk, IfSome, OnErr, Some, Err};
-ghost use Rattle.board_core.specs.Position.{IsPosition};
-ghost use Rattle.table_file.specs.declared.kind.Kind.TheVariants.{Dtz};
-ghost use Rattle.judge_core.specs.Tables.{AreFiled, table_at};
-ghost use Rattle.judge_core.specs.Blocks.{AreRight};
-ghost use Rattle.judge_core.specs.Inside.Placing.{IsKnown, IsPlacedOf};
-ghost use Rattle.judge_core.specs.Distances.{plies, pawns_reach, move_counts, by_quiet_moves, distance_in, stored, by_own_table, by_moves, by_weighed, dtz_to, dtz_of};
+ghost use Rattle.judge_core.specs.Tables.{AreFiled};
+ghost use Rattle.judge_core.specs.Distances.{plies, pawns_reach, move_counts, by_quiet_moves, stored, by_own_table, by_moves, by_weighed, dtz_to, dtz_of};
 ghost use Rattle.judge_core.specs.Ruling.{is_out_of_scope};
-ghost use Rattle.judge_core.specs.Answers.{IsLeftOpen, IsProbe, ListsMoves, signed_in};
+ghost use Rattle.judge_core.specs.Answers.{IsLeftOpen, IsProbe, ListsMoves, as_probe, signed_in};
 ghost use Rattle.judge_core.specs.declared.fault.ProbeFault.TheVariants.{OutOfMemory};
 
-use crate::blocks::Blocks;
 use crate::counts::{Counts, Steps};
 use crate::distance::{Distance, counted, is_won, towards, zeroing};
 use crate::fault::{ProbeFault, ValueFault};
 use crate::found::Weighed;
 use crate::mobility::is_mate;
 use crate::moving::{after_pawn_step, after_quiet_move, has_pawn};
+use crate::probe::{Probe, is_bare};
 use crate::set::Set;
-use crate::shelf::{Shelf, placed, slot};
 use crate::verdict::is_out_of_scope;
 use crate::wdl::{Wdl, turned};
 use board_core::Position;
-use place_index::{Material, Placed, index};
+use place_index::Material;
 use std::alloc::{AllocError, Global};
-use table_file::{Kind, Outcome, Table};
+use table_file::{Kind, Outcome};
 
 /// The distance by what the table stores.
 fn stored(material: Material, outcome: Outcome, number: Option<u32>) -> Result<Distance, ValueFault>
@@ -39,52 +34,29 @@ fn stored(material: Material, outcome: Outcome, number: Option<u32>) -> Result<D
     }
 }
 
-impl<'a> Shelf<'a> {
-    /// What a DTZ table of the shelf stores for placed men; none where that is damaged.
-    fn distance(
-        &self,
-        blocks: &mut Blocks,
-        alloc: Global,
-        table: &Table<'a>,
-        placed: &Placed,
-        outcome: Outcome,
-    ) -> Option<u32>
-        requires right { AreRight self.now blocks.old }
-        requires kind { table.now.kind ≡ Dtz }
-        requires on { table_at self.now.tables Dtz placed.now.material ≡ Some table.now }
-        requires own { table.now.material ≡ placed.now.material }
-        requires known { IsKnown placed.now }
-        ensures is { result ≡ distance_in table.now placed.now outcome }
-        ensures within { IfSome result (λ n. n ≤ 131070) }
-        ensures right { AreRight self.now blocks.new }
-    {
-        let side = placed.side();
-        let file = placed.file();
-        let slot = slot(Kind::Dtz, placed.material());
-        let index = index(table.shape(side, file), placed);
-        let Some(value) = self.read(blocks, alloc, slot, table, 0, file, index) else {
-            return None;
-        };
-        match table.plies_of(file, value, outcome) {
-            Ok(plies) => Some(plies),
-            Err(_) => None,
-        }
+/// The number by which a DTZ probe tells this distance, or its fault.
+pub(crate) fn signed_in(reach: &Result<Distance, ValueFault>) -> Result<i32, ProbeFault>
+    requires { IfOk reach.now (λ d. plies d ≤ 1000000) }
+    ensures { result ≡ as_probe (λ n. n) (signed_in reach.now) }
+{
+    match reach {
+        Ok(distance) => Ok(distance.signed()),
+        Err(fault) => Err(fault.of_probe()),
     }
+}
 
+impl<'a> Set<'a> {
     /// Whether some pawn move that takes nothing comes to the value, or the fault of the values after these moves. It isn't
     /// inlined, since its locals are large.
     #[inline(never)]
     fn pawns_reach(
-        &self,
-        blocks: &mut Blocks,
+        &mut self,
         alloc: Global,
         position: &Position,
         value: Wdl,
     ) -> Result<Result<bool, ValueFault>, AllocError>
-        requires position { IsPosition position.now }
-        requires right { AreRight self.now blocks.old }
-        ensures right { AreRight self.now blocks.new }
-        ensures is { IfOk result (λ told. told ≡ pawns_reach self.now.tables position.now value) }
+        ensures is { IfOk result (λ reached. reached ≡ pawns_reach self.old.tables position.now value) }
+        ensures unchanged { self.new ≡ self.old }
     {
         if !has_pawn(position) {
             return Ok(Ok(false));
@@ -93,35 +65,32 @@ impl<'a> Shelf<'a> {
         let mut steps = Steps::new();
         for m in &moves {
             if let Some(after) = after_pawn_step(position, m) {
-                let reading = self.wdl_of(blocks, alloc, &after);
-                steps = steps.note(value, &turned(reading));
+                let reading = self.wdl_of(alloc, &after);
+                steps = steps.with(value, &turned(reading));
             }
         }
-        Ok(steps.told())
+        Ok(steps.result())
     }
 
     /// What a move comes to by the position after it. The distance after a mating move isn't asked where that wins.
     #[cycle(dtz)]
     fn move_counts(
-        &self,
-        blocks: &mut Blocks,
+        &mut self,
         alloc: Global,
         after: &Position,
         outcome: Outcome,
         left: u32,
     ) -> Result<Result<Option<u32>, ValueFault>, AllocError>
-        requires position { IsPosition after.now }
-        requires left { left ≤ 2 }
-        requires right { AreRight self.now blocks.old }
-        ensures right { AreRight self.now blocks.new }
-        ensures is { IfOk result (λ count. count ≡ move_counts outcome (dtz_to self.now.tables left) after.now) }
+        requires { left ≤ 2 }
+        ensures is { IfOk result (λ count. count ≡ move_counts outcome (dtz_to self.old.tables left) after.now) }
         ensures within { IfOk result (λ count. IfOk count (λ n. IfSome n (λ k. k ≤ 131172 + left))) }
+        ensures unchanged { self.new ≡ self.old }
     {
         let won = is_won(outcome);
         if won && is_mate(after) {
             return Ok(Ok(Some(1)));
         }
-        let reach = self.dtz_to(blocks, alloc, after, left)?;
+        let reach = self.dtz_to(alloc, after, left)?;
         Ok(counted(won, &reach))
     }
 
@@ -130,89 +99,75 @@ impl<'a> Shelf<'a> {
     #[inline(never)]
     #[cycle(dtz)]
     fn by_quiet_moves(
-        &self,
-        blocks: &mut Blocks,
+        &mut self,
         alloc: Global,
         position: &Position,
         material: Material,
         outcome: Outcome,
         left: u32,
     ) -> Result<Result<Distance, ValueFault>, AllocError>
-        requires position { IsPosition position.now }
-        requires left { left < 2 }
-        requires right { AreRight self.now blocks.old }
-        ensures right { AreRight self.now blocks.new }
-        ensures is { IfOk result (λ reach. reach ≡ by_quiet_moves material outcome (dtz_to self.now.tables left) position.now) }
+        requires { left < 2 }
+        ensures is { IfOk result (λ reach. reach ≡ by_quiet_moves material outcome (dtz_to self.old.tables left) position.now) }
         ensures within { IfOk result (λ reach. IfOk reach (λ d. plies d ≤ 131172 + left)) }
+        ensures unchanged { self.new ≡ self.old }
     {
         let moves = position.legal(alloc)?;
         let mut counts = Counts::new(outcome);
         for m in &moves {
             if let Some(after) = after_quiet_move(position, m) {
-                let count = self.move_counts(blocks, alloc, &after, outcome, left)?;
-                counts = counts.note(&count);
+                let count = self.move_counts(alloc, &after, outcome, left)?;
+                counts = counts.with(&count);
             }
         }
-        Ok(counts.told(material, outcome))
+        Ok(counts.result(material, outcome))
     }
 
     /// The distance by the own table, or by the quiet moves where that stores the other side alone.
     #[cycle(dtz)]
     fn by_own_table(
-        &self,
-        blocks: &mut Blocks,
+        &mut self,
         alloc: Global,
-        position: &Position,
-        placed: &Option<Placed>,
+        probe: &Probe<'_>,
         outcome: Outcome,
         left: u32,
     ) -> Result<Result<Distance, ValueFault>, AllocError>
-        requires position { IsPosition position.now }
-        requires placed { IsPlacedOf position.now placed.now }
-        requires known { IfSome placed.now IsKnown }
-        requires left { left < 2 }
-        requires right { AreRight self.now blocks.old }
-        ensures right { AreRight self.now blocks.new }
-        ensures is { IfOk result (λ reach. reach ≡ by_own_table self.now.tables (dtz_to self.now.tables left) position.now outcome) }
+        requires { left < 2 }
+        ensures is { IfOk result (λ reach. reach ≡ by_own_table self.old.tables (dtz_to self.old.tables left) probe.now outcome) }
         ensures within { IfOk result (λ reach. IfOk reach (λ d. plies d ≤ 131172 + left)) }
+        ensures unchanged { self.new ≡ self.old }
     {
-        let Some(placed) = placed else {
+        let Some(placed) = probe.placed() else {
             return Ok(Ok(Distance::Draw));
         };
         let material = placed.material();
-        let Some(table) = self.table(Kind::Dtz, material) else {
+        let Some(part) = self.shelf.part(Kind::Dtz, placed) else {
             return Ok(Err(ValueFault::NotCovered(material)));
         };
-        if table.stores(placed.side(), placed.file()) {
-            let number = self.distance(blocks, alloc, table, placed, outcome);
+        if part.stores() {
+            let blocks = &mut self.blocks;
+            let number = self.shelf.distance(blocks, alloc, &part, placed, outcome);
             return Ok(stored(material, outcome, number));
         }
-        self.by_quiet_moves(blocks, alloc, position, material, outcome, left)
+        self.by_quiet_moves(alloc, probe.position(), material, outcome, left)
     }
 
     /// A win by a pawn move, or what the own table tells.
     #[cycle(dtz)]
     fn by_moves(
-        &self,
-        blocks: &mut Blocks,
+        &mut self,
         alloc: Global,
-        position: &Position,
-        placed: &Option<Placed>,
+        probe: &Probe<'_>,
         value: Wdl,
         outcome: Outcome,
         left: u32,
     ) -> Result<Result<Distance, ValueFault>, AllocError>
-        requires position { IsPosition position.now }
-        requires placed { IsPlacedOf position.now placed.now }
-        requires known { IfSome placed.now IsKnown }
-        requires left { left < 2 }
-        requires right { AreRight self.now blocks.old }
-        ensures right { AreRight self.now blocks.new }
-        ensures is { IfOk result (λ reach. reach ≡ by_moves self.now.tables (dtz_to self.now.tables left) position.now value outcome) }
+        requires { left < 2 }
+        ensures is { IfOk result (λ reach. reach ≡ by_moves self.old.tables (dtz_to self.old.tables left) probe.now value outcome) }
         ensures within { IfOk result (λ reach. IfOk reach (λ d. plies d ≤ 131172 + left)) }
+        ensures unchanged { self.new ≡ self.old }
     {
         if is_won(outcome) {
-            let reached = self.pawns_reach(blocks, alloc, position, value)?;
+            let reached = self.pawns_reach(alloc, probe.position(), value)?;
             match &reached {
                 Ok(reached) => {
                     if *reached {
@@ -222,29 +177,23 @@ impl<'a> Shelf<'a> {
                 Err(fault) => return Ok(Err(*fault)),
             }
         }
-        self.by_own_table(blocks, alloc, position, placed, outcome, left)
+        self.by_own_table(alloc, probe, outcome, left)
     }
 
     /// The distance where captures and the own WDL table say this.
     #[cycle(dtz)]
     pub(crate) fn by_weighed(
-        &self,
-        blocks: &mut Blocks,
+        &mut self,
         alloc: Global,
-        position: &Position,
-        placed: &Option<Placed>,
+        probe: &Probe<'_>,
         weighed: &Result<Weighed, ValueFault>,
         left: u32,
     ) -> Result<Result<Distance, ValueFault>, AllocError>
-        requires position { IsPosition position.now }
-        requires placed { IsPlacedOf position.now placed.now }
-        requires known { IfSome placed.now IsKnown }
-        requires left { left < 2 }
-        requires right { AreRight self.now blocks.old }
-        ensures right { AreRight self.now blocks.new }
-        ensures is { IfOk result (λ reach. reach ≡ by_weighed self.now.tables (dtz_to self.now.tables left) position.now weighed.now) }
+        requires { left < 2 }
+        ensures is { IfOk result (λ reach. reach ≡ by_weighed self.old.tables (dtz_to self.old.tables left) probe.now weighed.now) }
         ensures memory { OnErr result (IsLeftOpen weighed.now) }
         ensures within { IfOk result (λ reach. IfOk reach (λ d. plies d ≤ 131172 + left)) }
+        ensures unchanged { self.new ≡ self.old }
     {
         let weighed = match weighed {
             Ok(weighed) => weighed,
@@ -257,54 +206,31 @@ impl<'a> Shelf<'a> {
         if weighed.is_by_capture() {
             return Ok(Ok(towards(outcome, zeroing(outcome))));
         }
-        self.by_moves(blocks, alloc, position, placed, value, outcome, left)
+        self.by_moves(alloc, probe, value, outcome, left)
     }
 
     /// The distance, where so many positions in a row are looked at.
     #[cycle(dtz)]
     fn dtz_to(
-        &self,
-        blocks: &mut Blocks,
+        &mut self,
         alloc: Global,
         position: &Position,
         left: u32,
     ) -> Result<Result<Distance, ValueFault>, AllocError>
-        requires position { IsPosition position.now }
-        requires left { left ≤ 2 }
-        requires right { AreRight self.now blocks.old }
-        ensures right { AreRight self.now blocks.new }
-        ensures is { IfOk result (λ reach. reach ≡ dtz_to self.now.tables left position.now) }
-        ensures memory { OnErr result (ListsMoves self.now.tables position.now) }
+        requires { left ≤ 2 }
+        ensures is { IfOk result (λ reach. reach ≡ dtz_to self.old.tables left position.now) }
+        ensures memory { OnErr result (ListsMoves self.old.tables position.now) }
         ensures within { IfOk result (λ reach. IfOk reach (λ d. plies d ≤ 131171 + left)) }
+        ensures unchanged { self.new ≡ self.old }
     {
-        if left == 0 || position.men() <= 2 {
+        if left == 0 || is_bare(position) {
             return Ok(Ok(Distance::Draw));
         }
-        let placed = placed(position);
-        let weighed = self.weigh(blocks, alloc, position, &placed);
-        self.by_weighed(blocks, alloc, position, &placed, &weighed, left - 1)
+        let probe = Probe::of(position);
+        let weighed = self.weigh(alloc, &probe);
+        self.by_weighed(alloc, &probe, &weighed, left - 1)
     }
 
-    /// The distance, wherever the tables are there and whole.
-    #[tactic(auto, unfolding(crate::specs::Distances::dtz_of))]
-    pub(crate) fn dtz_of(
-        &self,
-        blocks: &mut Blocks,
-        alloc: Global,
-        position: &Position,
-    ) -> Result<Result<Distance, ValueFault>, AllocError>
-        requires position { IsPosition position.now }
-        requires right { AreRight self.now blocks.old }
-        ensures right { AreRight self.now blocks.new }
-        ensures is { IfOk result (λ reach. reach ≡ dtz_of self.now.tables position.now) }
-        ensures memory { OnErr result (ListsMoves self.now.tables position.now) }
-        ensures within { IfOk result (λ reach. IfOk reach (λ d. plies d ≤ 131173)) }
-    {
-        self.dtz_to(blocks, alloc, position, 2)
-    }
-}
-
-impl<'a> Set<'a> {
     /// The distance to the next move that sets the halfmove clock to 0, a capture or a pawn move, or to mate, in plies: above 0
     /// where the side to move wins, below 0 where it loses, 0 at a draw. It is 100 more where the rule of fifty moves takes
     /// the win away, and may be off by one ply (Syzygy DTZ tables).
@@ -315,6 +241,7 @@ impl<'a> Set<'a> {
     /// move where the side to move wins. A table that contradicts itself there is damaged. `OutOfMemory` comes only where memory
     /// for a list of moves is refused, at a position in scope with more than two men, whose WDL value is there, no draw, and not
     /// by a capture. The set stays as it was but for its cache.
+    #[tactic(auto, unfolding(crate::specs::Distances::dtz_of))]
     pub fn dtz(&mut self, alloc: Global, position: &Position) -> Result<i32, ProbeFault>
         ensures answer { IsProbe result (is_out_of_scope position.now) (signed_in (dtz_of self.old.tables position.now)) }
         ensures memory { result ≡ Err OutOfMemory → ListsMoves self.old.tables position.now }
@@ -326,13 +253,9 @@ impl<'a> Set<'a> {
         if is_out_of_scope(position) {
             return Err(ProbeFault::OutOfScope);
         }
-        let Ok(reach) = self.shelf.dtz_of(&mut self.blocks, alloc, position) else {
+        let Ok(reach) = self.dtz_to(alloc, position, 2) else {
             return Err(ProbeFault::OutOfMemory);
         };
-        match &reach {
-            Ok(distance) => Ok(distance.signed()),
-            Err(ValueFault::NotCovered(material)) => Err(ProbeFault::NotCovered(*material)),
-            Err(ValueFault::Damaged(material)) => Err(ProbeFault::Damaged(*material)),
-        }
+        signed_in(&reach)
     }
 }

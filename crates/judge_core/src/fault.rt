@@ -2,8 +2,8 @@
 
 ghost use Rattle.std.specs.Prelude.{◌≡◌, Some};
 ghost use Rattle.std.specs.Option.{option_or};
-ghost use Rattle.judge_core.specs.Asked.{no_faults, with_fault, told};
-ghost use Rattle.judge_core.specs.Answers.{probe_fault_name};
+ghost use Rattle.judge_core.specs.Answers.{probe_fault, probe_fault_name};
+ghost use Rattle.judge_core.specs.Asked.{first_fault, no_faults, with_fault};
 
 use place_index::Material;
 
@@ -14,6 +14,18 @@ pub(crate) enum ValueFault {
     NotCovered(Material),
     /// The table for these men has no value there.
     Damaged(Material),
+}
+
+impl ValueFault {
+    /// The fault of a probe that meets this one.
+    pub fn of_probe(&self) -> ProbeFault
+        ensures { result ≡ probe_fault self.now }
+    {
+        match self {
+            ValueFault::NotCovered(material) => ProbeFault::NotCovered(*material),
+            ValueFault::Damaged(material) => ProbeFault::Damaged(*material),
+        }
+    }
 }
 
 /// The first table that is missing and the first that is damaged, of those asked so far.
@@ -62,9 +74,9 @@ impl Faults {
         }
     }
 
-    /// The one that is told: a missing table before a damaged one.
-    pub fn told(&self) -> Option<ValueFault>
-        ensures { result ≡ told self.now }
+    /// The first one, a missing table before a damaged one.
+    pub fn first(&self) -> Option<ValueFault>
+        ensures { result ≡ first_fault self.now }
     {
         if let Some(material) = self.missing {
             return Some(ValueFault::NotCovered(material));

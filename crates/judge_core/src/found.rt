@@ -3,7 +3,7 @@
 ghost use Rattle.std.specs.Prelude.{◌≡◌};
 ghost use Rattle.judge_core.specs.Probing.{worth, worth_in};
 ghost use Rattle.judge_core.specs.Distances.{is_by_capture};
-ghost use Rattle.judge_core.specs.Inside.Found.{nothing_found, noted, closed};
+ghost use Rattle.judge_core.specs.Inside.Found.{nothing_found, found_with, closed};
 
 use crate::fault::{Faults, ValueFault};
 use crate::wdl::Wdl;
@@ -56,7 +56,7 @@ pub(crate) fn worth_in(weighed: Result<Weighed, ValueFault>) -> Result<Wdl, Valu
     }
 }
 
-/// What the captures so far have told.
+/// The values after the captures so far.
 #[derive(Clone, Copy)]
 pub(crate) struct Found {
     /// The first faults of their values.
@@ -80,8 +80,8 @@ impl Found {
     }
 
     /// With the value after one capture more, or its fault.
-    pub fn note(&self, reading: &Result<Wdl, ValueFault>, passant: bool) -> Found
-        ensures { result ≡ noted self.now reading.now passant }
+    pub fn with(&self, reading: &Result<Wdl, ValueFault>, passant: bool) -> Found
+        ensures { result ≡ found_with self.now reading.now passant }
     {
         let mut found = *self;
         match reading {
@@ -101,8 +101,8 @@ impl Found {
     pub fn close(&self, own: &Result<Wdl, ValueFault>, forced: bool) -> Result<Weighed, ValueFault>
         ensures { result ≡ closed self.now own.now forced }
     {
-        let all = self.note(own, false);
-        if let Some(fault) = all.faults.told() {
+        let all = self.with(own, false);
+        if let Some(fault) = all.faults.first() {
             return Err(fault);
         }
         match own {

@@ -1,17 +1,14 @@
 //! The verdict on a position.
 
-ghost use Rattle.std.specs.Prelude.{◌≡◌, false, IfOk, OnErr};
+ghost use Rattle.std.specs.Prelude.{◌≡◌, IfOk, OnErr};
+ghost use Rattle.judge_core.specs.Answers.{ListsMovesForVerdict};
+ghost use Rattle.judge_core.specs.Ruling.{ruling};
 ghost use Rattle.judge_core.specs.Tables.{AreFiled};
-ghost use Rattle.judge_core.specs.Answers.{IsDecisive, ListsMoves};
-ghost use Rattle.judge_core.specs.Ends.{has_no_move};
-ghost use Rattle.judge_core.specs.Probing.{wdl_of};
-ghost use Rattle.judge_core.specs.Ruling.{is_out_of_scope, ruling};
-ghost use Rattle.board_core.specs.ComputedMoves.{legal_moves};
 
 use crate::found::worth_in;
 use crate::mobility::has_no_move;
+use crate::probe::{Probe, is_bare};
 use crate::set::Set;
-use crate::shelf::placed;
 use crate::verdict;
 use crate::wdl::Wdl;
 use board_core::{Position, Verdict};
@@ -33,7 +30,7 @@ impl<'a> Set<'a> {
         position: &Position,
     ) -> Result<Option<Verdict>, AllocError>
         ensures value { IfOk result (λ verdict. verdict ≡ ruling self.old.tables position.now) }
-        ensures memory { OnErr result ((has_no_move (legal_moves position.now) ≡ false) × (is_out_of_scope position.now ≡ false) × IsDecisive (wdl_of self.old.tables position.now) × ListsMoves self.old.tables position.now) }
+        ensures memory { OnErr result (ListsMovesForVerdict self.old.tables position.now) }
         ensures filed { AreFiled self.old.tables }
         ensures unchanged { self.new ≡ self.old }
     {
@@ -45,20 +42,18 @@ impl<'a> Set<'a> {
         if verdict::is_out_of_scope(position) {
             return Ok(None);
         }
-        if position.men() <= 2 {
+        if is_bare(position) {
             return Ok(Some(Verdict::TableDraw));
         }
-        let placed = placed(position);
-        let weighed = self.shelf.weigh(&mut self.blocks, alloc, position, &placed);
+        let probe = Probe::of(position);
+        let weighed = self.weigh(alloc, &probe);
         let reading = worth_in(weighed);
         let winner = match &reading {
             Ok(Wdl::Win) => position.side(),
             Ok(Wdl::Loss) => position.side().other(),
             _ => return Ok(verdict::by_value(&reading)),
         };
-        let reach = self
-            .shelf
-            .by_weighed(&mut self.blocks, alloc, position, &placed, &weighed, 1)?;
+        let reach = self.by_weighed(alloc, &probe, &weighed, 1)?;
         Ok(verdict::by_distance(position, winner, &reach))
     }
 }

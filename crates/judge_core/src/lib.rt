@@ -3,7 +3,7 @@
 //! A set finds a table by its material and its kind, and reads it at the index of the position. The value of a position is
 //! the best of its own table's and of those after its captures, since the tables may hold less where a capture does better,
 //! and know nothing of en passant (Syzygy WDL tables). The distance is that to the next move that sets the halfmove clock to 0; its
-//! tables store one side alone, and the other side's is told by the positions after its moves (Syzygy DTZ tables).
+//! tables store one side alone, and the other side's comes from the positions after its moves (Syzygy DTZ tables).
 //! What both probes tell of a position, the verdict on it and what a game comes to are printed here too, each in one way.
 #![tactic(auto)]
 
@@ -19,12 +19,13 @@ mod judging;
 pub mod laws;
 mod mobility;
 mod moving;
+mod probe;
+mod probed;
 mod probing;
 mod reading;
 mod set;
 mod shelf;
 mod standing;
-mod told;
 mod verdict;
 mod wdl;
 mod words;
@@ -32,8 +33,8 @@ mod words;
 pub use board_core::Verdict;
 pub use fault::{ProbeFault, SetFault};
 pub use game::{Followed, GameOutcome};
+pub use probed::Probed;
 pub use set::Set;
 pub use standing::Standing;
-pub use told::Probed;
 pub use wdl::Wdl;
-pub use words::{Columns, Outcome, Told, verdict_or_open};
+pub use words::{Column, Columns, Outcome, verdict_or_open};

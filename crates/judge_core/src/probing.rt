@@ -1,27 +1,24 @@
 //! WDL probes.
 
-ghost use Rattle.std.specs.Prelude.{◌≡◌, ◌≢◌, Err, IfSome};
+ghost use Rattle.std.specs.Prelude.{◌≡◌, ◌≢◌, Err};
 ghost use Rattle.board_core.specs.ComputedMoves.{legal_captures};
-ghost use Rattle.board_core.specs.Position.{IsPosition};
 ghost use Rattle.judge_core.specs.Probing.{is_forced, weighed_by, wdl_of};
 ghost use Rattle.judge_core.specs.Ruling.{is_out_of_scope};
 ghost use Rattle.judge_core.specs.Answers.{IsProbe};
 ghost use Rattle.judge_core.specs.declared.fault.ProbeFault.TheVariants.{OutOfMemory};
-ghost use Rattle.judge_core.specs.Blocks.{AreRight};
 ghost use Rattle.judge_core.specs.Inside.Found.{found_in};
-ghost use Rattle.judge_core.specs.Inside.Placing.{IsKnown, IsPlacedOf};
+ghost use Rattle.judge_core.specs.Tables.{table_value};
 
-use crate::blocks::Blocks;
 use crate::fault::{ProbeFault, ValueFault};
 use crate::found::{Found, Weighed, worth_in};
 use crate::moving::lands_empty;
+use crate::probe::{Probe, is_bare};
 use crate::set::Set;
-use crate::shelf::{Shelf, placed};
 use crate::verdict::is_out_of_scope;
 use crate::wdl::{Wdl, turned};
 use board_core::Position;
-use place_index::Placed;
 use std::alloc::Global;
+use table_file::Kind;
 
 /// Whether each legal move is en passant, and there is one.
 fn is_forced(position: &Position) -> bool
@@ -33,88 +30,87 @@ fn is_forced(position: &Position) -> bool
     }
 }
 
-impl<'a> Shelf<'a> {
-    /// What the captures of the position tell, looked for one after the other. It isn't inlined,
+impl<'a> Set<'a> {
+    /// The table value of a position: what its own WDL table says of it; bare kings are a draw.
+    fn table_value(&mut self, alloc: Global, probe: &Probe<'_>) -> Result<Wdl, ValueFault>
+        ensures is { result ≡ table_value self.old.tables probe.now }
+        ensures unchanged { self.new ≡ self.old }
+    {
+        let Some(placed) = probe.placed() else {
+            return Ok(Wdl::Draw);
+        };
+        let material = placed.material();
+        let Some(part) = self.shelf.part(Kind::Wdl, placed) else {
+            return Err(ValueFault::NotCovered(material));
+        };
+        let blocks = &mut self.blocks;
+        let Some(points) = self.shelf.read(blocks, alloc, Kind::Wdl, &part, placed) else {
+            return Err(ValueFault::Damaged(material));
+        };
+        match Wdl::from_points(points) {
+            Some(value) => Ok(value),
+            None => Err(ValueFault::Damaged(material)),
+        }
+    }
+
+    /// The values after the captures of the position, looked for one after the other. It isn't inlined,
     /// since room for a position after a move costs time at each entry, also where nothing can be taken.
     #[inline(never)]
     #[cycle(wdl)]
-    fn search_captures(&self, blocks: &mut Blocks, alloc: Global, position: &Position) -> Found
-        requires position { IsPosition position.now }
-        requires right { AreRight self.now blocks.old }
-        ensures is { result ≡ found_in (wdl_of self.now.tables) position.now (legal_captures position.now) }
-        ensures right { AreRight self.now blocks.new }
+    fn search_captures(&mut self, alloc: Global, probe: &Probe<'_>) -> Found
+        ensures is { result ≡ found_in (wdl_of self.old.tables) probe.now (legal_captures probe.now) }
+        ensures unchanged { self.new ≡ self.old }
     {
+        let position = probe.position();
         let mut found = Found::new();
         let mut last = None;
         'captures: while let Some(m) = position.next_capture(last) {
             if let Some(after) = position.play(m) {
-                let reading = self.wdl_of(blocks, alloc, &after);
-                found = found.note(&turned(reading), lands_empty(position, &m));
+                let reading = self.wdl_of(alloc, &after);
+                found = found.with(&turned(reading), lands_empty(position, &m));
             }
             last = Some(m);
         }
         found
     }
 
-    /// What the captures of the position tell.
+    /// The values after the captures of the position.
     #[cycle(wdl)]
-    fn found_in_captures(&self, blocks: &mut Blocks, alloc: Global, position: &Position) -> Found
-        requires position { IsPosition position.now }
-        requires right { AreRight self.now blocks.old }
-        ensures is { result ≡ found_in (wdl_of self.now.tables) position.now (legal_captures position.now) }
-        ensures right { AreRight self.now blocks.new }
+    fn found_in_captures(&mut self, alloc: Global, probe: &Probe<'_>) -> Found
+        ensures is { result ≡ found_in (wdl_of self.old.tables) probe.now (legal_captures probe.now) }
+        ensures unchanged { self.new ≡ self.old }
     {
-        if position.may_capture() {
-            self.search_captures(blocks, alloc, position)
+        if probe.position().may_capture() {
+            self.search_captures(alloc, probe)
         } else {
             Found::new()
         }
     }
 
-    /// What the captures and the own table say of the position, whose men are placed so.
+    /// What the captures and the own table say of the position.
     #[cycle(wdl)]
-    pub(crate) fn weigh(
-        &self,
-        blocks: &mut Blocks,
-        alloc: Global,
-        position: &Position,
-        placed: &Option<Placed>,
-    ) -> Result<Weighed, ValueFault>
-        requires position { IsPosition position.now }
-        requires placed { IsPlacedOf position.now placed.now }
-        requires known { IfSome placed.now IsKnown }
-        requires right { AreRight self.now blocks.old }
-        ensures is { result ≡ weighed_by self.now.tables (wdl_of self.now.tables) position.now }
-        ensures right { AreRight self.now blocks.new }
+    pub(crate) fn weigh(&mut self, alloc: Global, probe: &Probe<'_>) -> Result<Weighed, ValueFault>
+        ensures is { result ≡ weighed_by self.old.tables (wdl_of self.old.tables) probe.now }
+        ensures unchanged { self.new ≡ self.old }
     {
-        let found = self.found_in_captures(blocks, alloc, position);
-        let own = self.table_value(blocks, alloc, placed);
-        found.close(&own, is_forced(position))
+        let found = self.found_in_captures(alloc, probe);
+        let own = self.table_value(alloc, probe);
+        found.close(&own, is_forced(probe.position()))
     }
 
     /// What the position is worth to the side to move, wherever its tables are there and whole.
     #[cycle(wdl)]
-    pub(crate) fn wdl_of(
-        &self,
-        blocks: &mut Blocks,
-        alloc: Global,
-        position: &Position,
-    ) -> Result<Wdl, ValueFault>
-        requires position { IsPosition position.now }
-        requires right { AreRight self.now blocks.old }
-        ensures is { result ≡ wdl_of self.now.tables position.now }
-        ensures right { AreRight self.now blocks.new }
+    pub(crate) fn wdl_of(&mut self, alloc: Global, position: &Position) -> Result<Wdl, ValueFault>
+        ensures is { result ≡ wdl_of self.old.tables position.now }
+        ensures unchanged { self.new ≡ self.old }
     {
-        if position.men() <= 2 {
+        if is_bare(position) {
             return Ok(Wdl::Draw);
         }
-        let placed = placed(position);
-        let weighed = self.weigh(blocks, alloc, position, &placed);
+        let weighed = self.weigh(alloc, &Probe::of(position));
         worth_in(weighed)
     }
-}
 
-impl<'a> Set<'a> {
     /// What the position is worth to the side to move by the WDL tables, captures and en passant looked at.
     ///
     /// The first of the faults that applies is told, in the order of `ProbeFault`, and never `OutOfMemory`: the probe takes memory only
@@ -127,11 +123,10 @@ impl<'a> Set<'a> {
         if is_out_of_scope(position) {
             return Err(ProbeFault::OutOfScope);
         }
-        let reading = self.shelf.wdl_of(&mut self.blocks, alloc, position);
+        let reading = self.wdl_of(alloc, position);
         match &reading {
             Ok(value) => Ok(*value),
-            Err(ValueFault::NotCovered(material)) => Err(ProbeFault::NotCovered(*material)),
-            Err(ValueFault::Damaged(material)) => Err(ProbeFault::Damaged(*material)),
+            Err(fault) => Err(fault.of_probe()),
         }
     }
 }

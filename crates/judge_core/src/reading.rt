@@ -1,47 +1,52 @@
-//! Reading tables through decoded blocks.
+//! Reading tables through decoded blocks: these functions alone see tables and blocks apart.
 
-ghost use Rattle.std.specs.Prelude.{◌≡◌, ◌<◌, ℕ, Some, None, IfSome, IfOk, OnErr, slice_index_or};
-ghost use Rattle.table_file.specs.declared.spots.Spot.TheVariants.{At};
-ghost use Rattle.table_file.specs.Tables.{IsFile};
-ghost use Rattle.table_file.specs.Expansion.{expansion, entry_at, real_blocks, IsSpot, IsRealSpot, IsPast};
-ghost use Rattle.judge_core.specs.Blocks.{AreRight, IsRight};
+ghost use Rattle.std.specs.Prelude.{◌≡◌, ◌<◌, ◌≤◌, Some, IfSome, IfOk, OnErr};
+ghost use Rattle.place_index.specs.Placed.{side_number};
+ghost use Rattle.table_file.specs.declared.kind.Kind.TheVariants.{Dtz};
+ghost use Rattle.table_file.specs.Expansion.{expansion, real_blocks, IsSpot, IsRealSpot, IsPast};
+ghost use Rattle.judge_core.specs.Blocks.{AreRight, IsRight, part_at};
+ghost use Rattle.judge_core.specs.Distances.{distance_in};
+ghost use Rattle.judge_core.specs.Inside.Placing.{IsPartFor, IsValueAt};
+ghost use Rattle.judge_core.specs.Tables.{entry_in};
 
 use crate::blocks::{Asking, BlockKey, Blocks};
-use crate::shelf::Shelf;
+use crate::shelf::{Shelf, slot};
+use board_core::Side;
+use place_index::{Placed, index};
 use std::alloc::Global;
 use std::marker::Brand;
 use std::sync::ledger::{Blank, Ledger};
-use table_file::{Damaged, Spot, Steps, Table};
+use table_file::{Damaged, Kind, Outcome, Spot, Steps, TablePart};
 
 /// Where the value of an index stands, by a count of its own.
-fn spot_by<L: Ledger>(
-    table: &Table<'_>,
-    side: u8,
-    file: u8,
-    index: u64,
-    blank: Blank,
-) -> Result<Spot, Damaged>
-    requires side { side < 2 }
-    requires file { IsFile table.now.material file }
+fn spot_by<L: Ledger>(part: &TablePart<'_, '_>, index: u64, blank: Blank) -> Result<Spot, Damaged>
     requires name { blank.name ≡ L.name }
     requires parts { blank.parts ≡ L.parts }
     requires some { 0 < blank.parts }
-    ensures found { IfOk result (λ s. IsSpot table.now side file index s) }
-    ensures real { IfOk result (λ s. IsRealSpot table.now side file s) }
-    ensures damaged { OnErr result (IsPast (expansion table.now side file) index) }
+    ensures found { IfOk result (λ s. IsSpot part.now index s) }
+    ensures real { IfOk result (λ s. IsRealSpot part.now s) }
+    ensures damaged { OnErr result (IsPast (expansion part.now) index) }
 {
-    table.locate(side, file, index, &mut Steps::<L>::new(blank))
+    part.locate(index, &mut Steps::<L>::new(blank))
 }
 
 /// Where the value of an index stands.
-fn spot_of(table: &Table<'_>, side: u8, file: u8, index: u64) -> Result<Spot, Damaged>
-    requires side { side < 2 }
-    requires file { IsFile table.now.material file }
-    ensures found { IfOk result (λ s. IsSpot table.now side file index s) }
-    ensures real { IfOk result (λ s. IsRealSpot table.now side file s) }
-    ensures damaged { OnErr result (IsPast (expansion table.now side file) index) }
+fn spot_of(part: &TablePart<'_, '_>, index: u64) -> Result<Spot, Damaged>
+    ensures found { IfOk result (λ s. IsSpot part.now index s) }
+    ensures real { IfOk result (λ s. IsRealSpot part.now s) }
+    ensures damaged { OnErr result (IsPast (expansion part.now) index) }
 {
-    spot_by::<Brand>(table, side, file, index, Blank::new(1))
+    spot_by::<Brand>(part, index, Blank::new(1))
+}
+
+/// The number of a side in a key.
+fn side_number(side: Side) -> u8
+    ensures { result ≡ side_number side }
+{
+    match side {
+        Side::White => 0,
+        Side::Black => 1,
+    }
 }
 
 impl<'a> Shelf<'a> {
@@ -49,20 +54,18 @@ impl<'a> Shelf<'a> {
     fn kept_value(
         &self,
         blocks: &mut Blocks,
-        table: &Table<'a>,
+        part: &TablePart<'_, 'a>,
         key: &BlockKey,
         offset: u32,
     ) -> Option<Option<u16>>
         requires right { AreRight self.now blocks.old }
-        requires on { slice_index_or self.now.tables key.now.slot None ≡ Some table.now }
-        requires side { key.now.side < 2 }
-        requires file { IsFile table.now.material key.now.file }
-        ensures found { IfSome result (λ value. (index : ℕ) → IsSpot table.now key.now.side key.now.file index (At key.now.block offset) → value ≡ entry_at (expansion table.now key.now.side key.now.file) index) }
+        requires on { part_at self.now.tables key.now ≡ Some part.now }
+        ensures found { IfSome result (IsValueAt part.now key.now.block offset) }
         ensures right { AreRight self.now blocks.new }
     {
         let _ = self;
         let values = blocks.kept.get(key)?;
-        Some(table.value_among(key.side, key.file, key.block, offset, values))
+        Some(part.value_among(key.block, offset, values))
     }
 
     /// Keeps the values of a block, where there is memory for it.
@@ -81,66 +84,82 @@ impl<'a> Shelf<'a> {
         &self,
         blocks: &mut Blocks,
         alloc: Global,
-        table: &Table<'a>,
+        part: &TablePart<'_, 'a>,
         key: BlockKey,
         offset: u32,
     ) -> Option<u16>
         requires right { AreRight self.now blocks.old }
-        requires on { slice_index_or self.now.tables key.slot None ≡ Some table.now }
-        requires side { key.side < 2 }
-        requires file { IsFile table.now.material key.file }
-        requires real { key.block < real_blocks table.now key.side key.file }
-        ensures found { (index : ℕ) → IsSpot table.now key.side key.file index (At key.block offset) → result ≡ entry_at (expansion table.now key.side key.file) index }
+        requires on { part_at self.now.tables key ≡ Some part.now }
+        requires real { key.block < real_blocks part.now }
+        ensures found { IsValueAt part.now key.block offset result }
         ensures right { AreRight self.now blocks.new }
     {
         let asking = blocks.ask(key);
         if asking != Asking::First {
-            if let Some(value) = self.kept_value(blocks, table, &key, offset) {
+            if let Some(value) = self.kept_value(blocks, part, &key, offset) {
                 return value;
             }
         }
         if asking == Asking::Often {
-            if let Ok(values) = table.unpack(alloc, key.side, key.file, key.block) {
-                let value = table.value_among(key.side, key.file, key.block, offset, &values);
+            if let Ok(values) = part.unpack(alloc, key.block) {
+                let value = part.value_among(key.block, offset, &values);
                 self.keep(blocks, key, values);
                 return value;
             }
         }
-        table
-            .value_in_block(key.side, key.file, key.block, offset)
-            .ok()
+        part.value_in_block(key.block, offset).ok()
     }
 
-    /// What the table of a slot has at an index; none where that is damaged.
+    /// What the part of a table of this kind for placed men has at their index; none where that is damaged.
     pub(crate) fn read(
         &self,
         blocks: &mut Blocks,
         alloc: Global,
-        slot: usize,
-        table: &Table<'a>,
-        side: u8,
-        file: u8,
-        index: u64,
+        kind: Kind,
+        part: &TablePart<'_, 'a>,
+        placed: &Placed,
     ) -> Option<u16>
         requires right { AreRight self.now blocks.old }
-        requires slot { slot < 290 }
-        requires on { slice_index_or self.now.tables slot None ≡ Some table.now }
-        requires side { side < 2 }
-        requires file { IsFile table.now.material file }
-        ensures is { result ≡ entry_at (expansion table.now side file) index }
+        requires part { IsPartFor self.now.tables kind placed.now part.now }
+        ensures is { result ≡ entry_in part.now.table placed.now }
         ensures right { AreRight self.now blocks.new }
     {
-        match spot_of(table, side, file, index) {
+        let index = index(part.shape(), placed);
+        match spot_of(part, index) {
             Ok(Spot::Single(value)) => Some(value),
             Ok(Spot::At { block, offset }) => {
                 let key = BlockKey {
-                    slot: slot as u16,
-                    side,
-                    file,
+                    slot: slot(kind, placed.material()) as u16,
+                    side: side_number(placed.side()),
+                    file: placed.file().number(),
                     block,
                 };
-                self.value_in_block(blocks, alloc, table, key, offset)
+                self.value_in_block(blocks, alloc, part, key, offset)
             }
+            Err(_) => None,
+        }
+    }
+
+    /// What the part of a DTZ table for placed men stores for them; none where that is damaged.
+    pub(crate) fn distance(
+        &self,
+        blocks: &mut Blocks,
+        alloc: Global,
+        part: &TablePart<'_, 'a>,
+        placed: &Placed,
+        outcome: Outcome,
+    ) -> Option<u32>
+        requires right { AreRight self.now blocks.old }
+        requires part { IsPartFor self.now.tables Dtz placed.now part.now }
+        ensures is { result ≡ distance_in part.now.table placed.now outcome }
+        ensures within { IfSome result (λ n. n ≤ 131070) }
+        ensures right { AreRight self.now blocks.new }
+    {
+        let Some(value) = self.read(blocks, alloc, Kind::Dtz, part, placed) else {
+            return None;
+        };
+        match part.plies_of(value, outcome) {
+            Ok(plies) => Some(plies),
             Err(_) => None,
         }
     }

@@ -1,21 +1,15 @@
 //! Tables in their slots.
 
-ghost use Rattle.std.specs.Prelude.{◌≡◌, ◌≢◌, ◌↔◌, ◌<◌, ◌≤◌, IfOk, IfSome, IsSome, OnOk, OnErr, None, Some, Err, option_map, replicate, slice_set};
-ghost use Rattle.board_core.specs.declared.parts.Parts.{Parts};
-ghost use Rattle.table_file.specs.declared.kind.Kind.TheVariants.{Wdl as WdlKind};
-ghost use Rattle.judge_core.specs.Blocks.{AreRight};
+ghost use Rattle.std.specs.Prelude.{◌≡◌, ◌≢◌, ◌↔◌, ◌<◌, ◌≤◌, IfNone, IfOk, IfSome, IsSome, OnOk, OnErr, None, Some, Err, replicate, slice_set};
 ghost use Rattle.judge_core.specs.declared.fault.SetFault.TheVariants.{Duplicate, OutOfMemory};
-ghost use Rattle.judge_core.specs.Inside.Placing.{IsKnown, IsPlacedOf};
-ghost use Rattle.judge_core.specs.Tables.{AreFiled, slot, table_at, entry_in, table_value};
+ghost use Rattle.judge_core.specs.Inside.Placing.{IsPartFor};
+ghost use Rattle.judge_core.specs.Tables.{AreFiled, slot, table_at};
 
-use crate::blocks::Blocks;
-use crate::fault::{SetFault, ValueFault};
-use crate::wdl::Wdl;
-use board_core::Position;
-use place_index::{Material, Placed, index};
+use crate::fault::SetFault;
+use place_index::{Material, Placed};
 use std::alloc::{AllocError, Global};
 use std::marker::Model;
-use table_file::{Kind, Table};
+use table_file::{Kind, Table, TablePart};
 
 /// How many materials there are.
 const MATERIALS: usize = 145;
@@ -52,24 +46,6 @@ pub(crate) fn slot(kind: Kind, material: Material) -> usize
     match kind {
         Kind::Wdl => key,
         Kind::Dtz => MATERIALS + key,
-    }
-}
-
-/// The position as its table sees it, found by one look at its men: none for bare kings and for more than five men.
-pub(crate) fn placed(position: &Position) -> Option<Placed>
-    ensures is { IsPlacedOf position.now result }
-    ensures known { IfSome result IsKnown }
-{
-    match Placed::of(position) {
-        Some(placed) => {
-            // The contracts of these tell in which ranges they are.
-            let material = placed.material();
-            let _key = material.key();
-            let _side = placed.side();
-            let _file = placed.file();
-            Some(placed)
-        }
-        None => None,
     }
 }
 
@@ -124,65 +100,14 @@ impl<'a> Shelf<'a> {
         Ok(())
     }
 
-    /// The table of this kind for this material.
-    pub(crate) fn table(&self, kind: Kind, material: Material) -> Option<&Table<'a>>
-        ensures found { option_map (λ t. t.now) result ≡ table_at self.now.tables kind material }
-        ensures kind { IfSome result (λ t. t.now.kind ≡ kind) }
-        ensures own { IfSome result (λ t. t.now.material ≡ material) }
+    /// The part of the table of this kind for placed men: that for their side to move and the file of their leading pawn.
+    pub(crate) fn part(&self, kind: Kind, placed: &Placed) -> Option<TablePart<'_, 'a>>
+        ensures found { IfSome result (IsPartFor self.now.tables kind placed.now) }
+        ensures none { IfNone result (table_at self.now.tables kind placed.now.material ≡ None) }
     {
-        match &self.tables[slot(kind, material)] {
-            Some(table) => Some(table),
+        match &self.tables[slot(kind, placed.material())] {
+            Some(table) => Some(table.part(placed.side(), placed.file())),
             None => None,
-        }
-    }
-
-    /// What a WDL table of the shelf has at the index of placed men; none where that is damaged.
-    fn entry(
-        &self,
-        blocks: &mut Blocks,
-        alloc: Global,
-        table: &Table<'a>,
-        placed: &Placed,
-    ) -> Option<u16>
-        requires right { AreRight self.now blocks.old }
-        requires on { table_at self.now.tables WdlKind placed.now.material ≡ Some table.now }
-        requires own { table.now.material ≡ placed.now.material }
-        requires known { IsKnown placed.now }
-        ensures is { result ≡ entry_in table.now placed.now }
-        ensures right { AreRight self.now blocks.new }
-    {
-        let side = placed.side();
-        let file = placed.file();
-        let slot = slot(Kind::Wdl, placed.material());
-        let index = index(table.shape(side, file), placed);
-        self.read(blocks, alloc, slot, table, side, file, index)
-    }
-
-    /// The table value of a position whose men are placed so: what its own WDL table says of it; bare kings are a draw.
-    pub(crate) fn table_value(
-        &self,
-        blocks: &mut Blocks,
-        alloc: Global,
-        placed: &Option<Placed>,
-    ) -> Result<Wdl, ValueFault>
-        requires right { AreRight self.now blocks.old }
-        requires known { IfSome placed.now IsKnown }
-        ensures is { (p : Parts) → IsPlacedOf p placed.now → result ≡ table_value self.now.tables p }
-        ensures right { AreRight self.now blocks.new }
-    {
-        let Some(placed) = placed else {
-            return Ok(Wdl::Draw);
-        };
-        let material = placed.material();
-        let Some(table) = self.table(Kind::Wdl, material) else {
-            return Err(ValueFault::NotCovered(material));
-        };
-        let Some(points) = self.entry(blocks, alloc, table, placed) else {
-            return Err(ValueFault::Damaged(material));
-        };
-        match Wdl::from_points(points) {
-            Some(value) => Ok(value),
-            None => Err(ValueFault::Damaged(material)),
         }
     }
 }

@@ -1,11 +1,10 @@
 //! Where a game stands, carried from ply to ply.
 
-ghost use Rattle.std.specs.Prelude.{◌≡◌, ◌≤◌, List, [], ◌∷◌, ◌++◌, Option, Some, IfOk};
+ghost use Rattle.std.specs.Prelude.{◌≡◌, ◌≤◌, List, [], IfOk};
 ghost use Rattle.board_core.specs.declared.moves.Move.{Move};
-ghost use Rattle.board_core.specs.ComputedMoves.{position_after};
 ghost use Rattle.judge_core.specs.Tables.{AreFiled};
 ghost use Rattle.judge_core.specs.Games.{Rules, verdict_after, is_end, is_judged};
-ghost use Rattle.judge_core.specs.Standings.{Reached, IsAt, plies_by, verdict_of};
+ghost use Rattle.judge_core.specs.Standings.{IsAt, MovesOn, plies_by, verdict_of};
 
 use crate::set::Set;
 use board_core::{Position, Verdict};
@@ -126,8 +125,7 @@ impl<'a> Set<'a> {
         standing: &Standing,
         position: Position,
     ) -> Result<Standing, AllocError>
-        ensures at { (rules : Rules) (moves : List Move) (m : Move) → rules.tables ≡ self.old.tables → IsAt rules moves standing.now
-            → position_after standing.now.position m ≡ Some position → IfOk result (IsAt rules (moves ++ m ∷ [])) }
+        ensures at { MovesOn self.old.tables standing.now position result }
         ensures filed { AreFiled self.old.tables }
         ensures unchanged { self.new ≡ self.old }
     {

@@ -4,11 +4,11 @@ ghost use Rattle.std.specs.Prelude.{◌≡◌, ◌++◌, Some, Err, codes};
 ghost use Rattle.std.specs.Fmt.{DisplaysOnOk, decimal};
 ghost use Rattle.board_core.specs.Verdicts.{verdict_name};
 ghost use Rattle.place_index.specs.Material.{name_of, men_of};
-ghost use Rattle.judge_core.specs.ToldWords.{column_words, verdict_words};
+ghost use Rattle.judge_core.specs.Words.{column_words, verdict_words};
 
 use crate::fault::ProbeFault;
 use crate::game::GameOutcome;
-use crate::told::Probed;
+use crate::probed::Probed;
 use board_core::Verdict;
 use place_index::Material;
 use std::fmt;
@@ -16,10 +16,10 @@ use std::fmt;
 /// A number that the tables tell, or why they tell none, for printing: the number with `-` before it where it is below 0, or
 /// `refused`, the fault's name, and the name of the table that is missing or damaged, each after a space.
 #[derive(Clone, Copy)]
-pub struct Told(pub Result<i32, ProbeFault>);
+pub struct Column(pub Result<i32, ProbeFault>);
 
 /// What both probes tell of a position and the verdict on it, for printing: three columns with a tab between, each number as
-/// by `Told`, the verdict as by `verdict_or_open`.
+/// by `Column`, the verdict as by `verdict_or_open`.
 #[derive(Clone, Copy)]
 pub struct Columns {
     /// What both probes tell.
@@ -68,7 +68,7 @@ fn fmt_of_table<W: fmt::Write>(
 }
 
 /// Tells why there is no number.
-#[tactic(auto, unfolding(crate::specs::ToldWords::column_words))]
+#[tactic(auto, unfolding(crate::specs::Words::column_words))]
 fn fmt_fault<W: fmt::Write>(f: &mut fmt::Formatter<W>, fault: ProbeFault) -> fmt::Result
     ensures { DisplaysOnOk W.Write.write_str_gives f.old result (Some (column_words (Err fault))) f.new }
 {
@@ -80,13 +80,13 @@ fn fmt_fault<W: fmt::Write>(f: &mut fmt::Formatter<W>, fault: ProbeFault) -> fmt
     }
 }
 
-impl fmt::Display for Told {
+impl fmt::Display for Column {
     ghost use Rattle.std.specs.Prelude.{Some};
-    ghost use Rattle.judge_core.specs.ToldWords.{column_words};
+    ghost use Rattle.judge_core.specs.Words.{column_words};
 
-    ghost output = { λ told. Some (column_words told.0) };
+    ghost output = { λ column. Some (column_words column.0) };
 
-    #[tactic(auto, unfolding(crate::specs::ToldWords::column_words))]
+    #[tactic(auto, unfolding(crate::specs::Words::column_words))]
     fn fmt<W: fmt::Write>(&self, f: &mut fmt::Formatter<W>) -> fmt::Result {
         match self.0 {
             Ok(number) => write!(f, "{number}"),
@@ -98,8 +98,8 @@ impl fmt::Display for Told {
 /// Tells three columns.
 fn fmt_columns<W: fmt::Write>(
     f: &mut fmt::Formatter<W>,
-    wdl: Told,
-    dtz: Told,
+    wdl: Column,
+    dtz: Column,
     verdict: &str,
 ) -> fmt::Result
     ensures { DisplaysOnOk W.Write.write_str_gives f.old result (Some (column_words wdl.0 ++ codes "\t" ++ column_words dtz.0 ++ codes "\t" ++ verdict.now)) f.new }
@@ -109,13 +109,13 @@ fn fmt_columns<W: fmt::Write>(
 
 impl fmt::Display for Columns {
     ghost use Rattle.std.specs.Prelude.{Some};
-    ghost use Rattle.judge_core.specs.ToldWords.{columns_words};
+    ghost use Rattle.judge_core.specs.Words.{columns_words};
 
     ghost output = { λ c. Some (columns_words c.probed.wdl c.probed.dtz c.verdict) };
 
     fn fmt<W: fmt::Write>(&self, f: &mut fmt::Formatter<W>) -> fmt::Result {
-        let wdl = Told(self.probed.wdl);
-        let dtz = Told(self.probed.dtz);
+        let wdl = Column(self.probed.wdl);
+        let dtz = Column(self.probed.dtz);
         fmt_columns(f, wdl, dtz, verdict_or_open(self.verdict))
     }
 }
@@ -129,11 +129,11 @@ fn fmt_ruled<W: fmt::Write>(f: &mut fmt::Formatter<W>, ply: usize, verdict: Verd
 
 impl fmt::Display for Outcome {
     ghost use Rattle.std.specs.Prelude.{Some};
-    ghost use Rattle.judge_core.specs.ToldWords.{outcome_words};
+    ghost use Rattle.judge_core.specs.Words.{outcome_words};
 
     ghost output = { λ o. Some (outcome_words o.outcome o.plies) };
 
-    #[tactic(auto, unfolding(crate::specs::ToldWords::outcome_words))]
+    #[tactic(auto, unfolding(crate::specs::Words::outcome_words))]
     fn fmt<W: fmt::Write>(&self, f: &mut fmt::Formatter<W>) -> fmt::Result {
         match self.outcome {
             GameOutcome::Ruled { ply, verdict } => fmt_ruled(f, ply, verdict),

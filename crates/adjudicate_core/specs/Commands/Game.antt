@@ -7,7 +7,7 @@ use Rattle.move_msg.specs.TextLines.{ended}
 use Rattle.judge_core.specs.declared.game.GameOutcome.{GameOutcome}
 use Rattle.judge_core.specs.declared.game.GameOutcome.TheVariants.{Ruled, Illegal, Going}
 use Rattle.judge_core.specs.Games.{IsOutcome}
-use Rattle.judge_core.specs.ToldWords.{outcome_words}
+use Rattle.judge_core.specs.Words.{outcome_words}
 use Rattle.judge_core.specs.Tables.{Tables}
 use Rattle.clap.specs.Words.{Rule, Text}
 use Rattle.adjudicate_core.specs.Rules.{rule_of_form}

@@ -2,7 +2,7 @@
 use Rattle.std.specs.Prelude.{◌≡◌, false, List, [], ◌∷◌, Option, Some, None, codes, option_map}
 use Rattle.board_core.specs.declared.parts.Parts.{Parts}
 use Rattle.judge_core.specs.Ruling.{ruling}
-use Rattle.judge_core.specs.ToldWords.{verdict_words}
+use Rattle.judge_core.specs.Words.{verdict_words}
 use Rattle.judge_core.specs.Tables.{Tables}
 use Rattle.move_msg.specs.TextLines.{ended}
 use Rattle.clap.specs.Words.{Rule, Text}

@@ -1,8 +1,8 @@
 -- `probe --tables DIR [--manifest FILE] FEN`: what tables tell of a position (this project's own).
 use Rattle.std.specs.Prelude.{◌≡◌, ◌⊎◌, false, List, [], ◌∷◌, Option, Some, None, codes, option_map}
 use Rattle.board_core.specs.declared.parts.Parts.{Parts}
-use Rattle.judge_core.specs.declared.told.Probed.{Probed}
-use Rattle.judge_core.specs.Told.{IsProbed, is_told}
+use Rattle.judge_core.specs.declared.probed.Probed.{Probed}
+use Rattle.judge_core.specs.Probed.{IsProbed, has_both}
 use Rattle.judge_core.specs.Tables.{Tables}
 use Rattle.move_msg.specs.TextLines.{text_of}
 use Rattle.clap.specs.Words.{Rule, Text}
@@ -37,7 +37,7 @@ named t = record { folder = Some t.tables.now; manifest = option_map (λ s. s.no
 abbrev pub told : Probed → Reply
 told probed = record {
   text = text_of (told_words (codes "wdl") probed.wdl ∷ told_words (codes "dtz") probed.dtz ∷ []);
-  status = status_if (is_told probed);
+  status = status_if (has_both probed);
 }
 
 -- what both probes answer, told

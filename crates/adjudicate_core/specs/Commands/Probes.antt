@@ -5,10 +5,10 @@ use Rattle.board_core.specs.declared.parts.Parts.{Parts}
 use Rattle.board_core.specs.Position.{IsPosition}
 use Rattle.fen_text.specs.declared.fault.FenFault.{FenFault}
 use Rattle.fen_text.specs.Fen.{SpellsPosition, IsFirstFenFault}
-use Rattle.judge_core.specs.declared.told.Probed.{Probed}
+use Rattle.judge_core.specs.declared.probed.Probed.{Probed}
 use Rattle.judge_core.specs.Ruling.{ruling}
-use Rattle.judge_core.specs.Told.{IsProbed, is_told}
-use Rattle.judge_core.specs.ToldWords.{columns_words}
+use Rattle.judge_core.specs.Probed.{IsProbed, has_both}
+use Rattle.judge_core.specs.Words.{columns_words}
 use Rattle.judge_core.specs.Tables.{Tables}
 use Rattle.move_msg.specs.TextLines.{ended}
 use Rattle.clap.specs.Words.{Rule, Text}
@@ -43,7 +43,7 @@ named t = record { folder = Some t.tables.now; manifest = option_map (λ s. s.no
 
 -- a line: what `probe` and `judge` tell of its position, in columns, or the refusal of the text
 pub data TellsLine (tables : Tables) (text : List ℕ) (told : LineTold) : Type 0 where
-  OfPosition : (p : Parts) → SpellsPosition text p → IsPosition p → (probed : Probed) → IsProbed tables p probed → told ≡ record { words = columns_words probed.wdl probed.dtz (ruling tables p); done = is_told probed } → TellsLine tables text told
+  OfPosition : (p : Parts) → SpellsPosition text p → IsPosition p → (probed : Probed) → IsProbed tables p probed → told ≡ record { words = columns_words probed.wdl probed.dtz (ruling tables p); done = has_both probed } → TellsLine tables text told
   OfNone : (fault : FenFault) → IsFirstFenFault text fault → told ≡ record { words = refused_fen fault; done = false } → TellsLine tables text told
 
 -- each line was told, or the first ones until memory was refused

@@ -17,7 +17,6 @@ use crate::tables::gather;
 use board_core::Position;
 use clap::ArgMatches;
 use fen_text::read;
-use judge_core::Set;
 use std::alloc::{AllocError, Global};
 
 /// The verdict on a position.
@@ -47,21 +46,17 @@ pub(crate) const VALUES: [Value; 3] = [
     },
 ];
 
-/// The verdict on a position, or that the game goes on.
+/// The verdict by the tables of files, or that the game goes on, or the refusal of the files: of a manifest at fault, then of
+/// the first file at fault.
 #[tactic(auto, unfolding(crate::specs::Commands::Judge::judged))]
-fn verdict_by(alloc: Global, set: &mut Set<'_>, position: &Position) -> Result<Answer, AllocError>
-    ensures { IfOk result (λ a. IsJudged set.old.tables position.now (reply_of a)) }
-{
-    let verdict = set.judge(alloc, position)?;
-    Ok(Answer::One(Line::Ruling(verdict), true))
-}
-
-/// The verdict by the tables of files, or the refusal of these: of a manifest at fault, then of the first file at fault.
 fn verdict_of(alloc: Global, sources: &Sources, position: &Position) -> Result<Answer, AllocError>
     ensures { IfOk result (λ a. ByTables (gathered sources.now) IsJudged position.now (reply_of a)) }
 {
     match gather(alloc, sources) {
-        Ok(Ok(mut set)) => verdict_by(alloc, &mut set, position),
+        Ok(Ok(mut set)) => {
+            let verdict = set.judge(alloc, position)?;
+            Ok(Answer::One(Line::Ruling(verdict), true))
+        }
         Ok(Err(refusal)) => Ok(Answer::Refused(refusal)),
         Err(_) => Err(AllocError),
     }

@@ -17,7 +17,7 @@ use crate::tables::gather;
 use board_core::Position;
 use clap::ArgMatches;
 use fen_text::read;
-use judge_core::{Probed, Set, Told};
+use judge_core::{Column, Probed, Set};
 use std::alloc::{AllocError, Global};
 
 /// What tables tell of a position.
@@ -51,9 +51,9 @@ pub(crate) const VALUES: [Value; 3] = [
 fn tell(alloc: Global, probed: Probed) -> Result<Answer, AllocError>
     ensures { IfOk result (λ a. reply_of a ≡ told probed) }
 {
-    let lines = [Line::Wdl(Told(probed.wdl)), Line::Dtz(Told(probed.dtz))];
+    let lines = [Line::Wdl(Column(probed.wdl)), Line::Dtz(Column(probed.dtz))];
     let lines = Vec::from_slice(alloc, &lines)?;
-    Ok(Answer::Lines(lines, probed.is_told()))
+    Ok(Answer::Lines(lines, probed.has_both()))
 }
 
 /// What the tables tell of a position, a line a question.

@@ -65,7 +65,7 @@ fn columns(
     ensures unchanged { set.new.tables ≡ set.old.tables }
 {
     let columns = set.answers(alloc, position)?;
-    Ok((Line::Columns(columns), columns.probed.is_told()))
+    Ok((Line::Columns(columns), columns.probed.has_both()))
 }
 
 /// What is told of a line, and whether all of it is told.

@@ -8,7 +8,7 @@ use Rattle.judge_core.specs.declared.counts.Steps.{Steps}
 use Rattle.table_file.specs.declared.outcome.Outcome.{Outcome}
 use Rattle.judge_core.specs.declared.wdl.Wdl.{Wdl}
 use Rattle.judge_core.specs.Values.{Reading}
-use Rattle.judge_core.specs.Asked.{told, unless, no_faults, with_fault, with_answer}
+use Rattle.judge_core.specs.Asked.{first_fault, unless, no_faults, with_fault, with_answer}
 use Rattle.judge_core.specs.Distances.{Reach, is_won, is_value, zeroing, lesser, won_in}
 
 -- ---- pawn moves
@@ -21,8 +21,8 @@ no_steps = record { faults = no_faults; reached = false }
 abbrev pub with_reading : Wdl → Steps → Reading → Steps
 with_reading v s r = record { faults = with_answer s.faults r; reached = s.reached || is_value v r }
 
-abbrev pub steps_told : Steps → Result Bool ValueFault
-steps_told s = unless (told s.faults) (Ok s.reached)
+abbrev pub steps_result : Steps → Result Bool ValueFault
+steps_result s = unless (first_fault s.faults) (Ok s.reached)
 
 -- ---- quiet moves
 
@@ -37,9 +37,9 @@ with_count c (Ok (Some n)) = record { faults = c.faults; least = lesser c.least 
 with_count c (Err fault) = record { faults = with_fault c.faults fault; least = c.least; greatest = c.greatest; odd = c.odd }
 
 -- the same as by all counts
-abbrev pub counts_told : ℕ → Outcome → Counts → Reach
-counts_told key outcome c =
-    unless (told c.faults) (if is_won outcome then won_in key c.least else if c.odd then Err (Damaged key) else Ok (Loss c.greatest))
+abbrev pub counts_result : ℕ → Outcome → Counts → Reach
+counts_result key outcome c =
+    unless (first_fault c.faults) (if is_won outcome then won_in key c.least else if c.odd then Err (Damaged key) else Ok (Loss c.greatest))
 
 -- the numbers are no greater than this one
 abbrev pub AreWithin : ℕ → Counts → Type 0

@@ -9,7 +9,7 @@ use Rattle.judge_core.specs.declared.fault.ValueFault.{ValueFault}
 use Rattle.judge_core.specs.declared.found.Found.{Found}
 use Rattle.judge_core.specs.declared.found.Weighed.{Weighed}
 use Rattle.judge_core.specs.Values.{Reading, greater}
-use Rattle.judge_core.specs.Asked.{faults_in, told, unless, no_faults, with_fault, with_answer}
+use Rattle.judge_core.specs.Asked.{faults_in, first_fault, unless, no_faults, with_fault, with_answer}
 use Rattle.judge_core.specs.Probing.{after, greatest, value_or_loss}
 
 -- a move that goes to an empty square; a capture that does is en passant
@@ -28,19 +28,19 @@ found_in value p moves = record {
 abbrev pub nothing_found : Found
 nothing_found = record { faults = no_faults; capture = Loss; passant = Loss }
 
-abbrev pub noted_value : Found → Wdl → Bool → Found
-noted_value f v true = record { faults = f.faults; capture = f.capture; passant = greater f.passant v }
-noted_value f v false = record { faults = f.faults; capture = greater f.capture v; passant = f.passant }
+abbrev pub found_with_value : Found → Wdl → Bool → Found
+found_with_value f v true = record { faults = f.faults; capture = f.capture; passant = greater f.passant v }
+found_with_value f v false = record { faults = f.faults; capture = greater f.capture v; passant = f.passant }
 
 -- one reading more
-abbrev pub noted : Found → Reading → Bool → Found
-noted f (Ok v) passant = noted_value f v passant
-noted f (Err fault) passant = record { faults = with_fault f.faults fault; capture = f.capture; passant = f.passant }
+abbrev pub found_with : Found → Reading → Bool → Found
+found_with f (Ok v) passant = found_with_value f v passant
+found_with f (Err fault) passant = record { faults = with_fault f.faults fault; capture = f.capture; passant = f.passant }
 
 -- with the own table last
 abbrev pub closed : Found → Reading → Bool → Result Weighed ValueFault
 closed f own forced =
-    unless (told (with_answer f.faults own)) (Ok (record {
+    unless (first_fault (with_answer f.faults own)) (Ok (record {
       capture = f.capture;
       passant = f.passant;
       own = value_or_loss own;

@@ -1,6 +1,6 @@
 use Rattle.std.proofs.Common.{length, refl, sym, ap}
 use Rattle.move_msg.specs.TextLines.{ended}
-use Rattle.judge_core.specs.ToldWords.{outcome_words}
+use Rattle.judge_core.specs.Words.{outcome_words}
 use Rattle.adjudicate_core.specs.Lines.{refusal_words}
 use Rattle.adjudicate_core.specs.Commands.Game.{BadTables, Played}
 use Rattle.adjudicate_core.proofs.commands.game.answer_moves.Goals as goal

@@ -1,5 +1,5 @@
-use Rattle.std.proofs.Common.{rules, ◌≡◌, ◌<◌, ◌∙◌, sym, subst, refl, ap, arith, Ok, Some, inl, inr}
-use Rattle.board_core.specs.ComputedMoves.{count_of_men}
+use Rattle.std.proofs.Common.{rules, ◌≡◌, ◌∙◌, sym, subst, refl, ap, Ok, Some, inl, inr}
+use Rattle.board_core.specs.declared.parts.Parts.{Parts}
 use Rattle.board_core.specs.Side.{other}
 use Rattle.judge_core.specs.declared.wdl.Wdl.TheVariants.{Draw, Win, Loss}
 use Rattle.board_core.specs.declared.verdict.Verdict.TheVariants.{TableDraw}
@@ -12,40 +12,49 @@ use Rattle.judge_core.proofs.Plies.{ruled_by, by_win, by_loss, reached}
 use Rattle.judge_core.proofs.set.Set.judge.Goals.{in-Ok-Win, in-Ok-Loss}
 use Rattle.judge_core.proofs.set.Set.judge.Goals as goal
 
-pub returns-then-men-le2-clause-value : goal.returns-then-men-le2-clause-value
-returns-then-men-le2-clause-value c =
+pub returns-then-is_bare-clause-value : goal.returns-then-is_bare-clause-value
+returns-then-is_bare-clause-value c =
     ruled_by c.args.self.now.tables c.args.position.now (Ok Draw) (Some TableDraw)
     (sym c.has_no_move.ensures ∙ c.if-has_no_move.false) (sym c.is_out_of_scope.ensures.is ∙ c.if-is_out_of_scope.false)
-    (bare _ _ c.is_out_of_scope.ensures.position (omega (arith, c.men.ensures.computed, c.if-men-le2.true))) refl
+    (bare _ _ c.is_out_of_scope.ensures.position (c.is_bare.ensures.bare c.if-is_bare.true)) refl
 
 pub returns-in_default-clause-value : goal.returns-in_default-clause-value
 returns-in_default-clause-value c =
-    ruled_by c.args.self.now.tables c.args.position.now c.worth_in-reading.result c.by_value.result
+    let tables = c.args.self.now.tables in
+    let is = c.weigh-weighed.ensures.is ∙ ap (weighed_by tables (wdl_of tables)) c.of-probe.ensures in
+    ruled_by tables c.args.position.now c.worth_in-reading.result c.by_value.result
     (sym c.has_no_move.ensures ∙ c.if-has_no_move.false) (sym c.is_out_of_scope.ensures.is ∙ c.if-is_out_of_scope.false)
-    (c.worth_in-reading.ensures ∙ weighed c.args.self.now.tables c.args.position.now c.weigh-weighed.result c.is_out_of_scope.ensures.position (omega (arith, c.men.ensures.computed, c.if-men-le2.false)) (c.weigh-weighed.ensures.is ∙ ap (λ (h : Holding). weighed_by h.tables (wdl_of h.tables) c.args.position.now) c.self.view_is))
-    (c.by_value.ensures c.args.position.now (dtz_of c.args.self.now.tables c.args.position.now))
+    (c.worth_in-reading.ensures ∙ weighed tables c.args.position.now c.weigh-weighed.result c.is_out_of_scope.ensures.position (c.is_bare.ensures.more c.if-is_bare.false) is)
+    (c.by_value.ensures c.args.position.now (dtz_of tables c.args.position.now))
 
 pub returns-clause-value : goal.returns-clause-value
 returns-clause-value c =
-    let many : 2 < count_of_men c.args.position.now = omega (arith, c.men.ensures.computed, c.if-men-le2.false) in
+    let tables = c.args.self.now.tables in
+    let many = c.is_bare.ensures.more c.if-is_bare.false in
+    let is = c.weigh-weighed.ensures.is ∙ ap (weighed_by tables (wdl_of tables)) c.of-probe.ensures in
     let scope = sym c.is_out_of_scope.ensures.is ∙ c.if-is_out_of_scope.false in
     let moves = sym c.has_no_move.ensures ∙ c.if-has_no_move.false in
-    let value = c.worth_in-reading.ensures ∙ weighed c.args.self.now.tables c.args.position.now c.weigh-weighed.result c.is_out_of_scope.ensures.position many (c.weigh-weighed.ensures.is ∙ ap (λ (h : Holding). weighed_by h.tables (wdl_of h.tables) c.args.position.now) c.self.view_is) in
-    let reach = c.in_ok-reach.ensures.is ∙ ap (λ (h : Holding). by_weighed h.tables (dtz_to h.tables 1) c.args.position.now c.weigh-weighed.result) c.self.view_is ∙ reached c.args.self.now.tables c.args.position.now c.weigh-weighed.result many (c.weigh-weighed.ensures.is ∙ ap (λ (h : Holding). weighed_by h.tables (wdl_of h.tables) c.args.position.now) c.self.view_is) in
+    let value = c.worth_in-reading.ensures ∙ weighed tables c.args.position.now c.weigh-weighed.result c.is_out_of_scope.ensures.position many is in
+    let reach =
+    c.in_ok-reach.ensures.is
+    ∙ ap (λ (h : Holding). by_weighed h.tables (dtz_to h.tables 1) c.of-probe.result c.weigh-weighed.result) c.weigh-weighed.ensures.unchanged
+    ∙ ap (λ (p : Parts). by_weighed tables (dtz_to tables 1) p c.weigh-weighed.result) c.of-probe.ensures
+    ∙ reached tables c.args.position.now c.weigh-weighed.result many is in
     elim c.match-reading-2.branch [
       | in-Ok-Win w ↦ (
           let won : c.worth_in-reading.result ≡ Ok Win = search rules in
-          by_win c.args.self.now.tables c.args.position.now c.worth_in-reading.result c.match-reading-2.winner c.in_ok-reach.reach c.by_distance.result moves scope value won (w.winner-is ∙ w.side-winner.ensures) reach c.by_distance.ensures)
+          by_win tables c.args.position.now c.worth_in-reading.result c.match-reading-2.winner c.in_ok-reach.reach c.by_distance.result moves scope value won (w.winner-is ∙ w.side-winner.ensures) reach c.by_distance.ensures)
       | in-Ok-Loss w ↦ (
           let lost : c.worth_in-reading.result ≡ Ok Loss = search rules in
-          by_loss c.args.self.now.tables c.args.position.now c.worth_in-reading.result c.match-reading-2.winner c.in_ok-reach.reach c.by_distance.result moves scope value lost (w.winner-is ∙ w.other-winner.ensures ∙ ap other w.side.ensures) reach c.by_distance.ensures)
+          by_loss tables c.args.position.now c.worth_in-reading.result c.match-reading-2.winner c.in_ok-reach.reach c.by_distance.result moves scope value lost (w.winner-is ∙ w.other-winner.ensures ∙ ap other w.side.ensures) reach c.by_distance.ensures)
     ]
 
 pub returns-in_err-reach-clause-memory : goal.returns-in_err-reach-clause-memory
 returns-in_err-reach-clause-memory c =
-    let many : 2 < count_of_men c.args.position.now = omega (arith, c.men.ensures.computed, c.if-men-le2.false) in
-    let is = c.weigh-weighed.ensures.is ∙ ap (λ (h : Holding). weighed_by h.tables (wdl_of h.tables) c.args.position.now) c.self.view_is in
-    let value = c.worth_in-reading.ensures ∙ weighed c.args.self.now.tables c.args.position.now c.weigh-weighed.result c.is_out_of_scope.ensures.position many is in
+    let tables = c.args.self.now.tables in
+    let many = c.is_bare.ensures.more c.if-is_bare.false in
+    let is = c.weigh-weighed.ensures.is ∙ ap (weighed_by tables (wdl_of tables)) c.of-probe.ensures in
+    let value = c.worth_in-reading.ensures ∙ weighed tables c.args.position.now c.weigh-weighed.result c.is_out_of_scope.ensures.position many is in
     let decisive : IsDecisive (wdl_of c.args.self.now.tables c.args.position.now) = elim c.match-reading-2.branch [
       | in-Ok-Win w ↦ (let won : c.worth_in-reading.result ≡ Ok Win = search rules in inl (sym value ∙ won))
       | in-Ok-Loss w ↦ (let lost : c.worth_in-reading.result ≡ Ok Loss = search rules in inr (sym value ∙ lost))

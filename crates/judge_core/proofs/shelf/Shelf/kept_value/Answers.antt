@@ -11,11 +11,13 @@ returns-in_err-values-clause-right c = record {
   right = λ kept d. c.requires.right.right kept (Contains-promoted _ c.args.blocks.now.kept.entries kept (subst (λ x. Contains x.entries kept) c.get.follows.holds-at-none d));
 }
 
-pub value_among-requires-clause-values : goal.value_among-requires-clause-values
-value_among-requires-clause-values c =
-    c.deref.ensures.value
-    ∙ right_values c.args.self.now.tables c.args.key.now c.args.table.now c.in_ok-values.values.now.items c.requires.on
-    (right_found (λ v. v.items) c.args.self.now.tables c.args.blocks.now.kept.entries c.args.key.now c.in_ok-values.values.now c.requires.right.right c.in_ok-values.ensures.value)
+pub value_among-requires : goal.value_among-requires
+value_among-requires c = record {
+  values =
+      c.deref.ensures.value
+      ∙ right_values c.args.self.now.tables c.args.key.now c.args.part.now c.in_ok-values.values.now.items c.requires.on
+      (right_found (λ v. v.items) c.args.self.now.tables c.args.blocks.now.kept.entries c.args.key.now c.in_ok-values.values.now c.requires.right.right c.in_ok-values.ensures.value);
+}
 
 pub returns-clause-right : goal.returns-clause-right
 returns-clause-right c = record {

@@ -5,7 +5,7 @@ use Rattle.board_core.specs.declared.parts.Parts.{Parts}
 use Rattle.judge_core.specs.declared.wdl.Wdl.{Wdl}
 use Rattle.judge_core.specs.declared.fault.ProbeFault.{ProbeFault}
 use Rattle.judge_core.specs.declared.fault.ProbeFault.TheVariants.{OutOfMemory}
-use Rattle.judge_core.specs.declared.told.Probed.{Probed}
+use Rattle.judge_core.specs.declared.probed.Probed.{Probed}
 use Rattle.judge_core.specs.Answers.{IsProbe, signed_in}
 use Rattle.judge_core.specs.Distances.{dtz_of}
 use Rattle.judge_core.specs.Probing.{wdl_of}
@@ -37,5 +37,5 @@ pub record IsProbed (tables : Tables) (p : Parts) (probed : Probed) : Type 0 whe
   pub told : probed ≡ record { wdl = numbered wdl; dtz = dtz }
 
 -- both are numbers
-abbrev pub is_told : Probed → Bool
-is_told probed = is_ok probed.wdl && is_ok probed.dtz
+abbrev pub has_both : Probed → Bool
+has_both probed = is_ok probed.wdl && is_ok probed.dtz

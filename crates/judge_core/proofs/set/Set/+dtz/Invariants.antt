@@ -1,9 +1,8 @@
 use Rattle.std.proofs.Common.{◌≡◌, ◌+◌, ◌*◌, take}
 use Rattle.judge_core.specs.Distances.{is_quiet, move_counts, dtz_to}
-use Rattle.judge_core.specs.Blocks.{AreRight}
 use Rattle.judge_core.specs.Inside.Counts.{no_counts, with_count, AreWithin}
-use Rattle.judge_core.proofs.Asking.{noted_all}
-use Rattle.judge_core.proofs.shelf.Shelf.+dtz.Given as goal
+use Rattle.judge_core.proofs.Asking.{with_all}
+use Rattle.judge_core.proofs.set.Set.+dtz.Given as goal
 
 abbrev pub decreases-dtz_to : goal.decreases-dtz_to
 decreases-dtz_to l = 8 * l.left
@@ -25,6 +24,6 @@ decreases-move_counts l = 8 * l.left + 1
 
 abbrev pub invariant-by_quiet_moves-loop-m : goal.invariant-by_quiet_moves-loop-m
 invariant-by_quiet_moves-loop-m l =
-    (l.counts ≡ noted_all with_count (no_counts l.outcome) (move_counts l.outcome (dtz_to l.self.tables l.left)) (is_quiet l.position) l.position (take l.m-index l.m-items))
+    (l.counts ≡ with_all with_count (no_counts l.outcome) (move_counts l.outcome (dtz_to l.fn.self.tables l.left)) (is_quiet l.position) l.position (take l.m-index l.m-items))
     × AreWithin (131172 + l.left) l.counts
-    × AreRight l.self l.blocks
+    × (l.self ≡ l.fn.self)

@@ -1,24 +1,23 @@
-use Rattle.std.proofs.Common.{◌+◌, ◌*◌}
+use Rattle.std.proofs.Common.{◌≡◌, ◌+◌, ◌*◌}
 use Rattle.board_core.specs.ComputedMoves.{count_of_men}
 use Rattle.judge_core.specs.Probing.{wdl_of}
-use Rattle.judge_core.specs.Blocks.{AreRight}
 use Rattle.judge_core.proofs.Readings.{Walked, moves_left}
-use Rattle.judge_core.proofs.shelf.Shelf.+wdl.Given as goal
+use Rattle.judge_core.proofs.set.Set.+wdl.Given as goal
 
 abbrev pub decreases-search_captures : goal.decreases-search_captures
-decreases-search_captures l = 4 * count_of_men l.position.now
+decreases-search_captures l = 4 * count_of_men l.probe.now
 
 abbrev pub decreases-found_in_captures : goal.decreases-found_in_captures
-decreases-found_in_captures l = 4 * count_of_men l.position.now + 1
+decreases-found_in_captures l = 4 * count_of_men l.probe.now + 1
 
 abbrev pub decreases-weigh : goal.decreases-weigh
-decreases-weigh l = 4 * count_of_men l.position.now + 2
+decreases-weigh l = 4 * count_of_men l.probe.now + 2
 
 abbrev pub decreases-wdl_of : goal.decreases-wdl_of
 decreases-wdl_of l = 4 * count_of_men l.position.now + 3
 
 abbrev pub invariant-search_captures-captures : goal.invariant-search_captures-captures
-invariant-search_captures-captures l = Walked (wdl_of l.self.tables) l.position l.found l.last × AreRight l.self l.blocks
+invariant-search_captures-captures l = Walked (wdl_of l.fn.self.tables) l.probe l.found l.last × (l.self ≡ l.fn.self)
 
 abbrev pub decreases-search_captures-captures : goal.decreases-search_captures-captures
 decreases-search_captures-captures l = moves_left l.last
