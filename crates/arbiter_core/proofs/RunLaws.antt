@@ -14,7 +14,10 @@ use Rattle.board_core.specs.declared.verdict.Verdict.{Verdict}
 use Rattle.judge_core.specs.Games.{position_after_all, Rules, verdict_after}
 use Rattle.judge_core.specs.Standings.{Reached, IsAt}
 use Rattle.judge_core.proofs.Plies.{goes_on as after_one}
-use Rattle.arbiter_core.specs.Recording.{Window, reaches, record_at, last_ply, advance}
+use Rattle.move_msg.specs.Numbers.{most_moves}
+use Rattle.arbiter_core.specs.declared.planning.Plan.{Plan}
+use Rattle.arbiter_core.specs.Recording.{Recorded, Window, reaches, record_at, last_ply, advance}
+use Rattle.arbiter_core.specs.Inside.Playing.{IsPlan}
 use Rattle.arbiter_core.specs.Answering.{still_waits, nothing_waits}
 use Rattle.arbiter_core.proofs.Reach.{Step, step_of, step_to, reach_more, last_is}
 
@@ -25,6 +28,10 @@ pub record Runs (r : Rules) (before : List Move) (m : Move) (window : Window) (n
   pub ruled : verdict ≡ verdict_after r moves
   pub reached : reaches r moves (length moves) ≡ true
   pub count : length moves ≡ length before + 1 + n
+
+-- the moves, the standing and the verdict at the end of the run are a plan
+pub planned : (r : Rules) (old : Recorded) (m : Move) (window : Window) (n : ℕ) (p : Plan) → Runs r old.moves m window n p.moves.items p.standing p.verdict → length p.moves.items ≤ most_moves → record { moves = p.moves.items; verdict = p.verdict } ≡ advance r old.moves m window → IsPlan r old m window p
+planned r old m window n p h short e = record { advanced = e; at = h.at; short = short; more = let count = h.count in omega arith }
 
 take_whole : (moves rest : List Move) → take (length moves) (moves ++ rest) ≡ moves
 take_whole moves rest = take_at moves rest (length moves) refl
@@ -85,7 +92,7 @@ ends_illegal r before m window n moves standing verdict w h l e illegal =
     let t : is_some (position_after_all r.start (moves ++ w ∷ [])) ≡ true = subst (λ (xs : List Move). is_some (position_after_all r.start xs) ≡ true) one s.legal in
     let f : is_some (position_after_all r.start (moves ++ w ∷ [])) ≡ false = ap is_some p in cc))
 
-none_of : (o : Option Verdict) → is_some o ≡ false → o ≡ None
+pub none_of : (o : Option Verdict) → is_some o ≡ false → o ≡ None
 none_of None q = refl
 none_of (Some x) q = cc
 
