@@ -23,7 +23,7 @@ use Rattle.arbiter_core.specs.Answering.{Identity, waits_too, told_now, Answer, 
 use Rattle.arbiter_core.proofs.Reach.{step_of, reach_below, last_reached}
 use Rattle.relay_world.specs.declared.event.Event.{Event}
 use Rattle.relay_world.specs.declared.event.Event.TheVariants.{Deliver, Noise, Restart, Ask}
-use Rattle.relay_world.specs.Worlds.{Life, Closed, Down, Running, Side, World, Game, identity, side_of, turned, answered, handed_at, delivered, happens, first_world, after}
+use Rattle.relay_world.specs.Worlds.{Life, Closed, Down, Running, Side, World, Game, identity, side_of, turned, answered, hears_at, delivered, happens, first_world, after}
 use Rattle.relay_world.specs.Headline.{IsRecordOf, kept_count}
 use Rattle.relay_world.specs.InOrder.{is_running, is_same, is_move, brings, brought, RunsThrough}
 use Rattle.relay_world.proofs.Steps.{SideHolds, all_at, moved, count_at, Holds, Goes, happens_goes}
@@ -67,9 +67,9 @@ put_landed Good me old window next e = refl
 put_landed FailsOld me old window next e = cc
 put_landed FailsNew me old window next e = cc
 
--- a side that runs and is handed the move number n, where the lesser of n and the last ply is kept already
+-- a side that runs hears the move number n, where the lesser of n and the last ply is kept already
 one_more : (r : Rules) (game : List Moves) (me : Identity) (keep : Keep) (kept : Option Recorded) (life : Life) (stamp : Stamp) (sender : Sender) (n : ℕ) (word : Moves) → SideHolds r game (record { kept = kept; life = life }) → slice_get game n ≡ Some word → length game ≤ 4096
-    → let late = handed_at keep kept life (λ old window. answer_to r me old window (Move stamp sender n word)) in
+    → let late = hears_at keep kept life (λ old window. answer_to r me old window (Move stamp sender n word)) in
     is_running life ≡ true → is_running late.0.life ≡ true → kept_count kept ≤ kept_count late.0.kept → min n (last_ply r game) ≤ kept_count kept → min (n + 1) (last_ply r game) ≤ kept_count late.0.kept
 unfolding answer_to
 one_more r game me keep None Closed stamp sender n word h e short a b g low = cc
@@ -134,7 +134,7 @@ rises game world who (Deliver to index keep) n h short br a b low =
     let step : Goes game world (happens game world (Deliver to index keep)) = happens_goes game world (Deliver to index keep) h in
     let g = grows_at game _ _ who step in
     let sound : slice_get game.moves n ≡ Some m.1.1.0 = all_at _ world.log index _ h.log m.1.1.1 in
-    let late : Side × List Message = handed_at keep (side_of world who).kept (side_of world who).life (λ old window. answer_to game.rules (identity game who) old window (Move m.0 m.1.0 n m.1.1.0)) in
+    let late : Side × List Message = hears_at keep (side_of world who).kept (side_of world who).life (λ old window. answer_to game.rules (identity game who) old window (Move m.0 m.1.0 n m.1.1.0)) in
     let is : side_of (happens game world (Deliver to index keep)) who ≡ late.0 =
     ap (λ o. side_of (delivered game world to keep o) who) m.1.1.1
     ∙ ap (λ (w : Who). side_of (delivered game world w keep (Some (Move m.0 m.1.0 n m.1.1.0))) who) t

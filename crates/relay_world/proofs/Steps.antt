@@ -28,7 +28,7 @@ use Rattle.arbiter_core.proofs.Waiting.{Fits, drop_at, gapless, fits_too, fits_s
 use Rattle.arbiter_core.specs.Delivers.{heard}
 use Rattle.relay_world.specs.declared.event.Event.{Event}
 use Rattle.relay_world.specs.declared.event.Event.TheVariants.{Deliver, Noise, Restart, Ask}
-use Rattle.relay_world.specs.Worlds.{Life, Closed, Down, Running, Side, World, Game, identity, side_of, turned, answered, handed_at, restarted, delivered, listed, wants, happens, first_world, after}
+use Rattle.relay_world.specs.Worlds.{Life, Closed, Down, Running, Side, World, Game, identity, side_of, turned, answered, hears_at, restarted, delivered, listed, wants, happens, first_world, after}
 use Rattle.relay_world.specs.Headline.{IsRecordOf, Agree, IsRight, kept_count}
 
 -- what waits at a running arbiter is the game's
@@ -264,11 +264,11 @@ answered_turn r game me FailsNew old window (Puts next outputs later) h f q = re
 stays : (r : Rules) (game : List Moves) (me : Identity) (side : Side) → SideHolds r game side → Turn r game me side.kept (side, [])
 stays r game me side h = record { side = h; grows = grows_not side.kept; says = tt }
 
-pub handed_turn : (r : Rules) (game : List Moves) (me : Identity) (keep : Keep) (kept : Option Recorded) (life : Life) (respond : Recorded → Window → Answer) → SideHolds r game (record { kept = kept; life = life }) → ((old : Recorded) (window : Window) → IsRecordOf r game old → Fits window game (count_of old + 1) → AnswerHolds r game me old (respond old window)) → Turn r game me kept (handed_at keep kept life respond)
-handed_turn r game me keep (Some old) (Running window) respond h q = answered_turn r game me keep old window (respond old window) h.kept h.waits (q old window h.kept h.waits)
-handed_turn r game me keep (Some old) Closed respond h q = stays r game me _ h
-handed_turn r game me keep (Some old) Down respond h q = stays r game me _ h
-handed_turn r game me keep None life respond h q = stays r game me _ h
+pub hears_turn : (r : Rules) (game : List Moves) (me : Identity) (keep : Keep) (kept : Option Recorded) (life : Life) (respond : Recorded → Window → Answer) → SideHolds r game (record { kept = kept; life = life }) → ((old : Recorded) (window : Window) → IsRecordOf r game old → Fits window game (count_of old + 1) → AnswerHolds r game me old (respond old window)) → Turn r game me kept (hears_at keep kept life respond)
+hears_turn r game me keep (Some old) (Running window) respond h q = answered_turn r game me keep old window (respond old window) h.kept h.waits (q old window h.kept h.waits)
+hears_turn r game me keep (Some old) Closed respond h q = stays r game me _ h
+hears_turn r game me keep (Some old) Down respond h q = stays r game me _ h
+hears_turn r game me keep None life respond h q = stays r game me _ h
 
 first_is : (r : Rules) (game : List Moves) → IsRecordOf r game (record_at r [] 0)
 first_is r game = record { ply = 0; reached = refl; is = refl }
@@ -350,7 +350,7 @@ turned_goes game world B late h t =
 delivered_goes : (game : Game) (world : World) (who : Who) (keep : Keep) (o : Option Message) → Holds game world → ((m : Message) → o ≡ Some m → IsSound game.rules game.moves (kept_count world.a.kept) (kept_count world.b.kept) m) → Goes game world (delivered game world who keep o)
 delivered_goes game world who keep None h q = record { holds = h; a = grows_not world.a.kept; b = grows_not world.b.kept; log = λ i m e. e }
 delivered_goes game world who keep (Some m) h q =
-    turned_goes game world who _ h (handed_turn game.rules game.moves (identity game who) keep _ _ _ (side_holds game world who h)
+    turned_goes game world who _ h (hears_turn game.rules game.moves (identity game who) keep _ _ _ (side_holds game world who h)
     (λ old window i f. answer_holds game.rules game.moves (identity game who) (kept_count world.a.kept) (kept_count world.b.kept) old window m i f (q m refl)))
   where
     side_holds : (game : Game) (world : World) (who : Who) → Holds game world → SideHolds game.rules game.moves (side_of world who)
@@ -382,7 +382,7 @@ happens_goes game world (Deliver who index keep) h =
 happens_goes game world (Noise who bytes keep) h =
     cond_both (is_ok (heard game.stamp bytes.items)) world _ (Goes game world)
     (λ _. record { holds = h; a = grows_not world.a.kept; b = grows_not world.b.kept; log = λ i m e. e })
-    (λ e. turned_goes game world who _ h (handed_turn game.rules game.moves (identity game who) keep _ _ _ (side_at game world who h)
+    (λ e. turned_goes game world who _ h (hears_turn game.rules game.moves (identity game who) keep _ _ _ (side_at game world who h)
     (λ old window i f. refused_holds game (identity game who) old window bytes.items e)))
 happens_goes game world (Ask who) h =
     turned_goes game world who _ h (record { side = side_at game world who h; grows = grows_not _; says = asked_says game.rules game.moves (identity game who) (kept_count (side_of world who).kept) (side_of world who).kept (side_of world who).life })

@@ -1,5 +1,5 @@
 -- Two arbiters and all that was ever sent, step by step (this project's own, docs/RULES.md).
-use Rattle.std.specs.Prelude.{◌≡◌, cond, List, [], ◌∷◌, ◌++◌, slice_get, Option, Some, None, Result, is_ok}
+use Rattle.std.specs.Prelude.{◌≡◌, ℕ, cond, List, [], ◌∷◌, ◌++◌, slice_get, Option, Some, None, Result, is_ok}
 use Rattle.std.specs.List.{AllByRecursion}
 use Rattle.board_core.specs.declared.moves.Move.{Move as Moves}
 use Rattle.judge_core.specs.Games.{Rules}
@@ -66,13 +66,17 @@ answered keep old window (Refuses fault) = (record { kept = Some old; life = Run
 answered keep old window (Sends outputs later) = (record { kept = Some old; life = Running later }, outputs)
 answered keep old window (Puts next outputs later) = put keep (Some old) next outputs later
 
--- A side is handed something that has this answer where it runs. A closed one and one that is down hear nothing.
-abbrev pub handed_at : Keep → Option Recorded → Life → (Recorded → Window → Answer) → Side × List Message
-handed_at keep (Some old) (Running window) respond = answered keep old window (respond old window)
-handed_at keep kept life respond = (record { kept = kept; life = life }, [])
+-- A side hears something that has this answer where it runs. A closed one and one that is down hear nothing.
+abbrev pub hears_at : Keep → Option Recorded → Life → (Recorded → Window → Answer) → Side × List Message
+hears_at keep (Some old) (Running window) respond = answered keep old window (respond old window)
+hears_at keep kept life respond = (record { kept = kept; life = life }, [])
 
-abbrev pub handed : Keep → Side → (Recorded → Window → Answer) → Side × List Message
-handed keep side respond = handed_at keep side.kept side.life respond
+abbrev pub hears : Keep → Side → (Recorded → Window → Answer) → Side × List Message
+hears keep side respond = hears_at keep side.kept side.life respond
+
+-- what a running arbiter answers to a datagram
+abbrev pub answer_to_datagram : Rules → Identity → List ℕ → Recorded → Window → Answer
+answer_to_datagram rules me datagram old window = answer_heard rules me old window (heard me.stamp datagram)
 
 -- an open over nothing kept whose put fails leaves the arbiter closed
 abbrev pub opened : Keep → Recorded → Side
@@ -88,7 +92,7 @@ restarted rules keep None = opened keep (record_at rules [] 0)
 abbrev pub delivered : Game → World → Who → Keep → Option Message → World
 delivered game world who keep None = world
 delivered game world who keep (Some message) =
-    turned world who (handed keep (side_of world who) (λ old window. answer_to game.rules (identity game who) old window message))
+    turned world who (hears keep (side_of world who) (λ old window. answer_to game.rules (identity game who) old window message))
 
 abbrev pub listed : Option Message → List Message
 listed None = []
@@ -105,7 +109,7 @@ wants me None life = []
 abbrev pub noised : Game → World → Who → Keep → Result Message DeliverFault → World
 noised game world who keep said =
     cond (is_ok said) world
-    (turned world who (handed keep (side_of world who) (λ old window. answer_heard game.rules (identity game who) old window said)))
+    (turned world who (hears keep (side_of world who) (λ old window. answer_heard game.rules (identity game who) old window said)))
 
 -- one step: the world after the event
 unfoldable pub happens : Game → World → Event → World

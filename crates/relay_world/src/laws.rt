@@ -11,8 +11,8 @@ ghost use Rattle.judge_core.specs.Games.{IsFirst, IsUnruled, Rules, position_aft
 ghost use Rattle.arbiter_core.specs.Recording.{Recorded, last_ply, reaches};
 ghost use Rattle.relay_world.specs.declared.event.Event.{Event};
 ghost use Rattle.relay_world.specs.Worlds.{Game, World, after, worlds, first_world, side_of, AreStamped};
-ghost use Rattle.relay_world.specs.Headline.{IsFaithful, kept_count};
-ghost use Rattle.relay_world.specs.InOrder.{RunsThrough, brought};
+ghost use Rattle.relay_world.specs.Headline.{IsFaithful};
+ghost use Rattle.relay_world.specs.Laws.{AcksAreKept, CountsGrow, MovesAreTheGames, RisingOrder, VerdictsAreFirst, VerdictsStay};
 ghost use Rattle.relay_world.specs.Runs.{AreWorlds};
 ghost use Rattle.relay_world.specs.declared.schedule.Schedule.{Schedule};
 ghost use Rattle.relay_world.specs.Texts.{IsFirstBadLine, IsSameSchedule, SpellsSchedule};
@@ -42,33 +42,33 @@ pub fn reached_plies()
 
 /// A kept count never falls.
 pub fn counts_grow()
-    ensures { (game : Game) (early late : List Event) (who : Who) → kept_count (side_of (after game (first_world game) early) who).kept ≤ kept_count (side_of (after game (first_world game) (early ++ late)) who).kept }
+    ensures { CountsGrow }
 {}
 
 /// No Ack tells more than its sender keeps, then and later.
 pub fn acks_are_kept()
-    ensures { (game : Game) (early late : List Event) (i : ℕ) (stamp : Stamp) (who : Who) (n : ℕ) → slice_get (after game (first_world game) early).log i ≡ Some (Ack stamp who n) → n ≤ kept_count (side_of (after game (first_world game) (early ++ late)) who).kept }
+    ensures { AcksAreKept }
 {}
 
 /// Each verdict that is sent is the first of the game, with its ply.
 pub fn verdicts_are_first()
-    ensures { (game : Game) (events : List Event) (i : ℕ) (stamp : Stamp) (who : Who) (ply : ℕ) (v : Ruling) → slice_get (after game (first_world game) events).log i ≡ Some (Verdict stamp who ply v) → IsFirst game.rules game.moves ply v }
+    ensures { VerdictsAreFirst }
 {}
 
 /// A kept verdict stays, and the record with it.
 pub fn verdicts_stay()
-    ensures { (game : Game) (early late : List Event) (who : Who) (kept : Recorded) (v : Ruling) → (side_of (after game (first_world game) early) who).kept ≡ Some kept → kept.verdict ≡ Some v → (side_of (after game (first_world game) (early ++ late)) who).kept ≡ Some kept }
+    ensures { VerdictsStay }
 {}
 
 /// An arbiter that runs through a stretch, in which the moves up to number n came in rising order, keeps n moves, or
 /// as many as the game reaches.
 pub fn rising_order()
-    ensures { (game : Game) (early late : List Event) (who : Who) → length game.moves ≤ 4096 → RunsThrough game (after game (first_world game) early) who late → min (brought game (after game (first_world game) early) who late 0) (last_ply game.rules game.moves) ≤ kept_count (side_of (after game (after game (first_world game) early) late) who).kept }
+    ensures { RisingOrder }
 {}
 
 /// Each move in the log is the game's at its number, whoever sent it.
 pub fn moves_are_the_games()
-    ensures { (game : Game) (events : List Event) (i : ℕ) (stamp : Stamp) (sender : Sender) (n : ℕ) (m : Moves) → slice_get (after game (first_world game) events).log i ≡ Some (Move stamp sender n m) → slice_get game.moves n ≡ Some m }
+    ensures { MovesAreTheGames }
 {}
 
 /// Every message that was ever sent is of the game.

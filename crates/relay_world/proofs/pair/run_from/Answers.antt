@@ -17,21 +17,12 @@ next : (game : Game) (world : World) (events : List Event) (i : ℕ) (event : Ev
 next game world events i event l is =
     ap (after game world) (take_more events i event l ∙ ap (λ (x : Event). take i events ++ x ∷ []) (sym is)) ∙ after_more game world (take i events) event
 
-pub step-requires : goal.step-requires
-step-requires c = record {
-  game = c.requires.0;
-  a = c.requires.1.a;
-  b = c.requires.1.b;
-  world = after c.requires.0 (first_world c.requires.0) (take c.loop-event.event-index c.args.events.now);
-  is = c.loop-event.invariant c.requires.0 c.requires.1.a c.requires.1.b c.requires.1.setups c.requires.1.is;
-}
-
 pub loop-event-preserved : goal.loop-event-preserved
 loop-event-preserved c game a b setups h =
     let front : List Event = take c.loop-event.event-index c.args.events.now in
     let w : World = after game (first_world game) front in
     subst (λ (x : World). PairIs game a b c.in_ok-pair.pair x) (sym (next game (first_world game) c.args.events.now c.loop-event.event-index c.event-item.result (omega arith) c.event-item.is))
-    (c.in_ok-pair.ensures game a b w setups (right_of game w (holds_after game front)) (stamped_after game front) (c.loop-event.invariant game a b setups h))
+    (c.in_ok-pair.ensures game a b w (record { setups = setups; right = right_of game w (holds_after game front); stamped = stamped_after game front; is = c.loop-event.invariant game a b setups h }))
 
 pub returns : goal.returns
 returns c game a b setups h =

@@ -26,8 +26,8 @@ returns c tables e f =
       };
       is = record {
         stamp_is = c.stamp-stamp.ensures tables;
-        a_stands = record { place_is = (refl, refl); kept = c.in_ok-first_keeper.ensures };
-        b_stands = record { place_is = (refl, refl); kept = c.in_ok-second_keeper.ensures };
+        a_stands = rw c.closed.ensures (record { place_is = (refl, refl); kept = c.in_ok-first_keeper.ensures });
+        b_stands = rw c.closed-2.ensures (record { place_is = (refl, refl); kept = c.in_ok-second_keeper.ensures });
         log_is = c.in_ok-log.ensures ∙ ap (λ (s : Stamp). sent_by s Source 0 c.moves.result.now) (c.stamp-stamp.ensures tables) ∙ ap (λ (ms : List Move). sent_by game.stamp Source 0 ms) c.moves.ensures.is;
       };
     }
