@@ -15,7 +15,7 @@ use Rattle.arbiter_core.specs.Answering.{still_waits, nothing_waits, waits_too}
 use Rattle.arbiter_core.specs.Views.{IsNear}
 use Rattle.arbiter_core.proofs.Reach.{step_to, reach_within, reach_more, reach_front, last_reached}
 use Rattle.arbiter_core.proofs.Waiting.{each_nothing, each_still, each_too}
-use Rattle.arbiter_core.proofs.RunLaws.{next_position}
+use Rattle.arbiter_core.proofs.PlanLaws.{next_position}
 
 -- after a legal move the next ply is reached
 pub reach_next : (r : Rules) (moves : List Move) (m : Move) (s : Reached) (q : Parts) (v : Option Verdict) → IsAt r moves s → v ≡ verdict_after r moves → v ≡ None → reaches r moves (length moves) ≡ true → position_after s.position m ≡ Some q → reaches r (moves ++ m ∷ []) (length moves + 1) ≡ true

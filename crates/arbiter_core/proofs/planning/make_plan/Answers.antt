@@ -9,7 +9,7 @@ use Rattle.judge_core.specs.Standings.{IsAt}
 use Rattle.arbiter_core.specs.declared.setup.Setup.{Setup}
 use Rattle.arbiter_core.specs.Recording.{Window}
 use Rattle.arbiter_core.specs.Setups.{rules_at, setup_view}
-use Rattle.arbiter_core.proofs.RunLaws.{run_starts, planned, ends_ruled, ends_none, ends_past, ends_illegal, goes_on, default_free, next_position}
+use Rattle.arbiter_core.proofs.PlanLaws.{plan_starts, planned, ends_ruled, ends_none, ends_past, ends_illegal, goes_on, default_free, next_position}
 use Rattle.arbiter_core.proofs.Settling.{reach_next}
 use Rattle.arbiter_core.proofs.planning.make_plan.Goals as goal
 
@@ -33,13 +33,13 @@ loop-slot-init c =
     record {
       same = same_setup c.args.setup.now c.args.setup.now _ c.in_ok-standing.ensures.unchanged refl;
       short = omega arith;
-      runs = run_starts r before m c.args.window.now _ _ _ pushed at (c.verdict-verdict.ensures r (before ++ m ∷ []) refl at) reached;
+      plan = plan_starts r before m c.args.window.now _ _ _ pushed at (c.verdict-verdict.ensures r (before ++ m ∷ []) refl at) reached;
     }
 
 pub returns-then-is_some-clause-planned : goal.returns-then-is_some-clause-planned
 returns-then-is_some-clause-planned c =
-    planned _ _ _ _ _ _ c.loop-slot.invariant.runs c.loop-slot.invariant.short
-    (ends_ruled _ _ _ _ _ _ _ _ c.loop-slot.invariant.runs (sym c.is_some.ensures ∙ c.if-is_some.true))
+    planned _ _ _ _ _ _ c.loop-slot.invariant.plan c.loop-slot.invariant.short
+    (ends_ruled _ _ _ _ _ _ _ _ c.loop-slot.invariant.plan (sym c.is_some.ensures ∙ c.if-is_some.true))
 
 -- what a slot holds is what the window has there
 slot_is : (w v : Window) (i : ℕ) (o p : Option Move) → v ≡ w → i < length v → o ≡ get_or v i o → o ≡ p → (i < length w) × (get_or w i None ≡ p)
@@ -48,19 +48,19 @@ slot_is w v i o p e l is here = subst (λ (x : Window). (i < length x) × (get_o
 pub returns-in_default-clause-planned : goal.returns-in_default-clause-planned
 returns-in_default-clause-planned c =
     let slot = slot_is c.args.window.now _ _ _ None c.places-slot-items.ensures c.loop-slot-test.true c.slot-item.is c.in_default.is in
-    planned _ _ _ _ _ _ c.loop-slot.invariant.runs c.loop-slot.invariant.short (ends_none _ _ _ _ _ _ _ _ c.loop-slot.invariant.runs slot.0 slot.1)
+    planned _ _ _ _ _ _ c.loop-slot.invariant.plan c.loop-slot.invariant.short (ends_none _ _ _ _ _ _ _ _ c.loop-slot.invariant.plan slot.0 slot.1)
 
 pub returns-in_default-play-clause-planned : goal.returns-in_default-play-clause-planned
 returns-in_default-play-clause-planned c =
     let slot = slot_is c.args.window.now _ _ _ (Some c.in-Some.m) c.places-slot-items.ensures c.loop-slot-test.true c.slot-item.is c.in-Some.is in
-    planned _ _ _ _ _ _ c.loop-slot.invariant.runs c.loop-slot.invariant.short
-    (ends_illegal _ _ _ _ _ _ _ _ _ c.loop-slot.invariant.runs slot.0 slot.1
+    planned _ _ _ _ _ _ c.loop-slot.invariant.plan c.loop-slot.invariant.short
+    (ends_illegal _ _ _ _ _ _ _ _ _ c.loop-slot.invariant.plan slot.0 slot.1
     (ap (λ (p : Parts). position_after p c.in-Some.m) (sym c.position.ensures) ∙ sym c.play.ensures.computed ∙ c.in_default-play.is))
 
 pub returns-clause-planned : goal.returns-clause-planned
 returns-clause-planned c =
     let end : length c.args.window.now ≤ c.loop-slot.slot-index = subst (λ (w : Window). length w ≤ c.loop-slot.slot-index) c.places-slot-items.ensures c.loop-slot-test.false in
-    planned _ _ _ _ _ _ c.loop-slot.invariant.runs c.loop-slot.invariant.short (ends_past _ _ _ _ _ _ _ _ c.loop-slot.invariant.runs end)
+    planned _ _ _ _ _ _ c.loop-slot.invariant.plan c.loop-slot.invariant.short (ends_past _ _ _ _ _ _ _ _ c.loop-slot.invariant.plan end)
 
 pub loop-slot-preserved : goal.loop-slot-preserved
 loop-slot-preserved c =
@@ -71,13 +71,13 @@ loop-slot-preserved c =
     let tables = sym (ap (λ (s : Setup). s.set.tables) c.loop-slot.invariant.same) in
     let legal : position_after c.loop-slot.plan.standing.position m ≡ Some c.in-Some-play.position =
     ap (λ (p : Parts). position_after p m) (sym c.position.ensures) ∙ sym c.play.ensures.computed ∙ c.in-Some-play.is in
-    let at : IsAt r (moves ++ m ∷ []) c.in_ok-plan.field-0 = c.in_ok-plan.ensures.at r moves m tables c.loop-slot.invariant.runs.at legal in
+    let at : IsAt r (moves ++ m ∷ []) c.in_ok-plan.field-0 = c.in_ok-plan.ensures.at r moves m tables c.loop-slot.invariant.plan.at legal in
     let near : length c.args.played.now.record.moves + 1 + c.loop-slot.slot-index < most_moves = c.requires.in_order.near c.loop-slot.slot-index m slot.1 in
-    let count = c.loop-slot.invariant.runs.count in
+    let count = c.loop-slot.invariant.plan.count in
     let pushed = c.in_ok-push-2.ensures.items in
     let size : length c.push-in-loop-slot.new.self.items ≡ length c.loop-slot.plan.moves.items + 1 = ap length pushed ∙ simp length-append in
     record {
       same = same_setup c.loop-slot.setup c.args.setup.now _ c.in_ok-plan.ensures.unchanged c.loop-slot.invariant.same;
       short = omega arith;
-      runs = rw pushed (goes_on _ _ _ _ _ _ _ _ m _ _ c.loop-slot.invariant.runs (sym c.is_some.ensures ∙ c.if-is_some.false) slot.0 slot.1 at (c.verdict-plan.ensures r (moves ++ m ∷ []) refl at));
+      plan = rw pushed (goes_on _ _ _ _ _ _ _ _ m _ _ c.loop-slot.invariant.plan (sym c.is_some.ensures ∙ c.if-is_some.false) slot.0 slot.1 at (c.verdict-plan.ensures r (moves ++ m ∷ []) refl at));
     }

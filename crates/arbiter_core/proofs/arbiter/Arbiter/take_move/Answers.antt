@@ -7,7 +7,7 @@ use Rattle.arbiter_core.specs.Views.{View}
 use Rattle.arbiter_core.specs.Delivers.{answer_to_next, answer_to_numbered, with_window}
 use Rattle.arbiter_core.specs.Inside.Fields.{view_of}
 use Rattle.arbiter_core.proofs.Hearing.{answers_as, turn_is}
-use Rattle.arbiter_core.proofs.RunLaws.{none_of}
+use Rattle.arbiter_core.proofs.PlanLaws.{none_of}
 use Rattle.arbiter_core.proofs.Taking.{below, counts, goes_on, illegal, is_turn, of_fields, ruled, tells, told, too_far, too_long, waits}
 use Rattle.arbiter_core.proofs.arbiter.Arbiter.take_move.Goals as goal
 use Rattle.arbiter_core.proofs.arbiter.Arbiter.take_move.Goals.{then-is_some-via-then-is_some, then-is_some-via-else-is_some+then-number}

@@ -3,7 +3,7 @@ use Rattle.std.proofs.lemmas.Bool.{cases_lt}
 use Rattle.std.proofs.lemmas.List.{get_or_past}
 use Rattle.arbiter_core.specs.Recording.{Window}
 use Rattle.arbiter_core.specs.Answering.{still_waits}
-use Rattle.arbiter_core.proofs.RunLaws.{still_from, none_reads}
+use Rattle.arbiter_core.proofs.PlanLaws.{still_from, none_reads}
 use Rattle.arbiter_core.proofs.window.Window.after.Goals as goal
 
 pub returns : goal.returns
