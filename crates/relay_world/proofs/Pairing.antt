@@ -11,7 +11,7 @@ use Rattle.arbiter_core.specs.Memory.{Memory}
 use Rattle.arbiter_core.specs.Opens.{IsWhole}
 use Rattle.arbiter_core.specs.Setups.{SetupView}
 use Rattle.relay_world.specs.Headline.{IsRecordOf}
-use Rattle.relay_world.specs.Worlds.{Side, World, Game, identity, turned}
+use Rattle.relay_world.specs.Worlds.{Side, World, Judged, identity, turned}
 use Rattle.relay_world.specs.Inside.Seats.{PlaceView, Steps}
 use Rattle.relay_world.specs.Inside.Pairs.{IsWorld}
 use Rattle.arbiter_core.proofs.Reach.{reach_front, reach_within}
@@ -35,7 +35,7 @@ whole_of r game (Some kept) h =
       is = h.is ∙ ap (λ (xs : List Moves). record { moves = xs; verdict = verdict_after r xs }) (sym (take_all (length front) front (omega arith)));
     }
 
-module _ (game : Game) (a b : SetupView) where
+module _ (game : Judged) (a b : SetupView) where
   -- the seat of A changes, and messages are sent
   pub turned_a : (stamp : Stamp) (p q p2 : PlaceView) (k l k2 : Memory) (log log2 outputs : List Message) (world : World) (late : Side × List Message) → IsWorld game a b stamp p k q l log world → Steps (identity game A) a p2 k2 outputs late → log2 ≡ log ++ outputs → IsWorld game a b stamp p2 k2 q l log2 (turned world A late)
   turned_a stamp p q p2 k l k2 log log2 outputs world late h s e =

@@ -23,7 +23,7 @@ use Rattle.arbiter_core.specs.Answering.{Identity, waits_too, told_now, Answer, 
 use Rattle.arbiter_core.proofs.Reach.{step_of, reach_below, last_reached}
 use Rattle.relay_world.specs.declared.event.Event.{Event}
 use Rattle.relay_world.specs.declared.event.Event.TheVariants.{Deliver, Noise, Restart, Ask}
-use Rattle.relay_world.specs.Worlds.{Life, Closed, Down, Running, Side, World, Game, identity, side_of, turned, answered, hears_at, delivered, happens, first_world, after}
+use Rattle.relay_world.specs.Worlds.{Life, Closed, Down, Running, Side, World, Judged, identity, side_of, turned, answered, hears_at, delivered, happens, first_world, after}
 use Rattle.relay_world.specs.Headline.{IsRecordOf, kept_count}
 use Rattle.relay_world.specs.InOrder.{is_running, is_same, is_move, brings, brought, RunsThrough}
 use Rattle.relay_world.proofs.Steps.{SideHolds, all_at, moved, count_at, Holds, Goes, happens_goes}
@@ -119,11 +119,11 @@ move_is n (Some (Verdict stamp who ply v)) e = cc
 move_is n (Some (Fetch stamp who number wanted)) e = cc
 move_is n None e = cc
 
-side_at : (game : Game) (world : World) (who : Who) → Holds game world → SideHolds game.rules game.moves (side_of world who)
+side_at : (game : Judged) (world : World) (who : Who) → Holds game world → SideHolds game.rules game.moves (side_of world who)
 side_at game world A h = h.a
 side_at game world B h = h.b
 
-rises : (game : Game) (world : World) (who : Who) (event : Event) (n : ℕ) → Holds game world → length game.moves ≤ 4096 → brings world who n event ≡ true
+rises : (game : Judged) (world : World) (who : Who) (event : Event) (n : ℕ) → Holds game world → length game.moves ≤ 4096 → brings world who n event ≡ true
     → is_running (side_of world who).life ≡ true → is_running (side_of (happens game world event) who).life ≡ true
     → min n (last_ply game.rules game.moves) ≤ kept_count (side_of world who).kept → min (n + 1) (last_ply game.rules game.moves) ≤ kept_count (side_of (happens game world event) who).kept
 unfolding happens
@@ -147,11 +147,11 @@ rises game world who (Noise to bytes keep) n h short br a b low = cc
 rises game world who (Restart to keep) n h short br a b low = cc
 rises game world who (Ask to) n h short br a b low = cc
 
-starts : (game : Game) (world : World) (who : Who) (events : List Event) → RunsThrough game world who events → is_running (side_of world who).life ≡ true
+starts : (game : Judged) (world : World) (who : Who) (events : List Event) → RunsThrough game world who events → is_running (side_of world who).life ≡ true
 starts game world who [] h = h
 starts game world who (e ∷ events) h = h.0
 
-pub rising : (game : Game) (world : World) (who : Who) (events : List Event) (n : ℕ) → Holds game world → length game.moves ≤ 4096 → RunsThrough game world who events → min n (last_ply game.rules game.moves) ≤ kept_count (side_of world who).kept → min (brought game world who events n) (last_ply game.rules game.moves) ≤ kept_count (side_of (after game world events) who).kept
+pub rising : (game : Judged) (world : World) (who : Who) (events : List Event) (n : ℕ) → Holds game world → length game.moves ≤ 4096 → RunsThrough game world who events → min n (last_ply game.rules game.moves) ≤ kept_count (side_of world who).kept → min (brought game world who events n) (last_ply game.rules game.moves) ≤ kept_count (side_of (after game world events) who).kept
 rising game world who [] n h short runs low = low
 rising game world who (event ∷ events) n h short runs low =
     let step = happens_goes game world event h in
@@ -164,5 +164,5 @@ rising game world who (event ∷ events) n h short runs low =
     rw no (rising game (happens game world event) who events n step.holds short runs.1 (omega arith)))
     (cases_Bool (brings world who n event))
 
-pub rising_from : (game : Game) (early late : List Event) (who : Who) → length game.moves ≤ 4096 → RunsThrough game (after game (first_world game) early) who late → min (brought game (after game (first_world game) early) who late 0) (last_ply game.rules game.moves) ≤ kept_count (side_of (after game (after game (first_world game) early) late) who).kept
+pub rising_from : (game : Judged) (early late : List Event) (who : Who) → length game.moves ≤ 4096 → RunsThrough game (after game (first_world game) early) who late → min (brought game (after game (first_world game) early) who late 0) (last_ply game.rules game.moves) ≤ kept_count (side_of (after game (after game (first_world game) early) late) who).kept
 rising_from game early late who short runs = rising game _ who late 0 (holds_after game early) short runs (omega arith)

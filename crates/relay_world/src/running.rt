@@ -11,7 +11,7 @@ ghost use Rattle.relay_world.specs.declared.fault.WorldFault.TheVariants.{OutOfM
 ghost use Rattle.relay_world.specs.Gathering.{tables_of};
 ghost use Rattle.relay_world.specs.Inside.Pairs.{IsBegunFor, PairIs};
 ghost use Rattle.relay_world.specs.Runs.{Runs, Tells, judged_by};
-ghost use Rattle.relay_world.specs.Worlds.{Game as Judged, World as Worlds};
+ghost use Rattle.relay_world.specs.Worlds.{Judged, World as Worlds};
 
 use crate::event::Event;
 use crate::fault::WorldFault;

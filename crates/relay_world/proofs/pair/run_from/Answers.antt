@@ -2,18 +2,18 @@ use Rattle.std.proofs.Common.{◌≡◌, ℕ, ◌+◌, ◌<◌, List, [], ◌∷
 use Rattle.std.proofs.lemmas.List.{take_more, take_all}
 use Rattle.relay_world.specs.declared.event.Event.{Event}
 use Rattle.relay_world.specs.Inside.Pairs.{PairIs}
-use Rattle.relay_world.specs.Worlds.{Game, World, after, first_world, happens}
+use Rattle.relay_world.specs.Worlds.{Judged, World, after, first_world, happens}
 use Rattle.relay_world.proofs.Schedules.{holds_after}
 use Rattle.relay_world.proofs.Steps.{right_of}
 use Rattle.relay_world.proofs.Stamped.{stamped_after}
 use Rattle.relay_world.proofs.pair.run_from.Goals as goal
 
-after_more : (game : Game) (world : World) (events : List Event) (event : Event) → after game world (events ++ event ∷ []) ≡ happens game (after game world events) event
+after_more : (game : Judged) (world : World) (events : List Event) (event : Event) → after game world (events ++ event ∷ []) ≡ happens game (after game world events) event
 after_more game world [] event = refl
 after_more game world (e ∷ events) event = after_more game (happens game world e) events event
 
 -- the world after one more event of the list
-next : (game : Game) (world : World) (events : List Event) (i : ℕ) (event : Event) → i < length events → event ≡ get_or events i event → after game world (take (i + 1) events) ≡ happens game (after game world (take i events)) event
+next : (game : Judged) (world : World) (events : List Event) (i : ℕ) (event : Event) → i < length events → event ≡ get_or events i event → after game world (take (i + 1) events) ≡ happens game (after game world (take i events)) event
 next game world events i event l is =
     ap (after game world) (take_more events i event l ∙ ap (λ (x : Event). take i events ++ x ∷ []) (sym is)) ∙ after_more game world (take i events) event
 

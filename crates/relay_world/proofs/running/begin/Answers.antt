@@ -7,12 +7,12 @@ use Rattle.move_msg.specs.declared.who.Who.TheVariants.{A, B}
 use Rattle.arbiter_core.specs.Answering.{sent_by}
 use Rattle.arbiter_core.specs.Setups.{SetupView, setup_view, rules_at, IsIdentity}
 use Rattle.relay_world.specs.Runs.{judged_by}
-use Rattle.relay_world.specs.Worlds.{Game, identity}
+use Rattle.relay_world.specs.Worlds.{Judged, identity}
 use Rattle.relay_world.proofs.running.begin.Goals as goal
 
 pub returns : goal.returns
 returns c tables e f =
-    let game : Game = judged_by c.args.game.now tables c.args.manifest.now in
+    let game : Judged = judged_by c.args.game.now tables c.args.manifest.now in
     record {
       a = setup_view c.setup-a.result;
       b = setup_view c.setup-b.result;
