@@ -9,20 +9,14 @@ use Rattle.move_msg.specs.declared.message.Message.{Message}
 use Rattle.move_msg.specs.declared.message.Message.TheVariants.{Move, Ack, Verdict, Fetch}
 use Rattle.arbiter_core.specs.declared.fault.DeliverFault.{DeliverFault}
 use Rattle.arbiter_core.specs.declared.fault.DeliverFault.TheVariants.{Down}
-use Rattle.arbiter_core.specs.Recording.{Recorded, Window, advance, count_of, last_ply, reaches}
+use Rattle.arbiter_core.specs.Recording.{Recorded, Window, advance, last_ply, reaches}
 use Rattle.arbiter_core.specs.Answering.{Answer, Identity, Puts, Refuses, Sends, answer_heard, answer_to, answer_to_move}
+use Rattle.arbiter_core.specs.Setups.{rules_at}
+use Rattle.arbiter_core.specs.Delivers.{heard}
+pub use Rattle.arbiter_core.specs.Laws.{Grows, IsOwn}
+use Rattle.arbiter_core.specs.Laws.{PutsGrow}
 use Rattle.arbiter_core.proofs.Reach.{last_bound, last_reached, reach_more, reach_within, step_to}
 use Rattle.arbiter_core.proofs.Settling.{advanced}
-
--- a record is that of its own moves, which the game reaches
-pub record IsOwn (r : Rules) (kept : Recorded) : Type 0 where
-  pub ruled : kept.verdict ≡ verdict_after r kept.moves
-  pub reached : reaches r kept.moves (length kept.moves) ≡ true
-
--- the next record is its own too, and has more moves
-pub record Grows (r : Rules) (old next : Recorded) : Type 0 where
-  pub own : IsOwn r next
-  pub more : count_of old < count_of next
 
 none_if : {A : Type 0} (o : Option A) → is_some o ≡ false → o ≡ None
 none_if None h = refl
@@ -97,3 +91,6 @@ module _ (r : Rules) (me : Identity) (old : Recorded) (waiting : Window) (own : 
   pub put_grows : (down : Bool) (h : Result Message DeliverFault) → Puts next outputs window ≡ cond down (Refuses Down) (answer_heard r me old waiting h) → Grows r old next
   put_grows true h e = absurd cc
   put_grows false h e = by_heard h e
+
+pub puts_grow : PutsGrow
+puts_grow v datagram next outputs window own e = put_grows (rules_at v.setup) v.me v.kept v.window own next outputs window v.is_down (heard v.me.stamp datagram) (sym e)

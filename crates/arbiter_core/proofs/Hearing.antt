@@ -1,5 +1,5 @@
 -- What bytes say, and the answer to it.
-use Rattle.std.proofs.Common.{◌≡◌, ℕ, ◌<◌, true, false, List, [], ◌∷◌, ◌++◌, length, suc, Option, Some, None, Result, Ok, Err, refl, sym, ap, ◌∙◌, subst}
+use Rattle.std.proofs.Common.{◌≡◌, ℕ, ◌<◌, true, false, List, [], ◌∷◌, ◌++◌, length, suc, Some, None, Result, Ok, Err, inl, inr, refl, sym, ap, ◌∙◌, subst}
 use Rattle.std.specs.Prelude.{is_some, is_none}
 use Rattle.std.proofs.lemmas.Bool.{cond-true, cond-false}
 use Rattle.board_core.specs.declared.parts.Parts.{Parts}
@@ -18,13 +18,12 @@ use Rattle.move_msg.specs.Heard.{heard_in}
 use Rattle.move_msg.specs.Numbers.{most_moves}
 use Rattle.arbiter_core.specs.Keeping.{KeeperFacts}
 use Rattle.arbiter_core.specs.declared.fault.DeliverFault.{DeliverFault}
-use Rattle.arbiter_core.specs.declared.fault.DeliverFault.TheVariants.{NotAMessage, Stranger, IllegalMove, Down}
-use Rattle.arbiter_core.specs.Recording.{count_of, advance}
+use Rattle.arbiter_core.specs.declared.fault.DeliverFault.TheVariants.{NotAMessage, Stranger, IllegalMove, Down, OutOfMemory}
+use Rattle.arbiter_core.specs.Recording.{Window, count_of, advance}
 use Rattle.arbiter_core.specs.Answering.{Answer, Refuses, Sends, fetched, sent_by, puts, answer_to, answer_to_move, answer_heard}
 use Rattle.arbiter_core.specs.Setups.{rules_at}
 use Rattle.arbiter_core.specs.Views.{View}
-use Rattle.arbiter_core.specs.declared.keeper.Keep.{Keep}
-use Rattle.arbiter_core.specs.Delivers.{heard, in_game, answer_of, Told as Outcome, RefusesOrSends, PutsIfAny}
+use Rattle.arbiter_core.specs.Delivers.{Answers, Moment, heard, in_game, answer_of, moment, with_window, Told as Outcome}
 use Rattle.arbiter_core.proofs.Cases.{case_turn}
 
 -- ---- what bytes say
@@ -78,11 +77,20 @@ illegal_is v number m short going turn after =
 
 -- ---- what holds of an answer holds of an equal one
 
-pub sends_as : {K : Type 0} (old : View) (before now : K) (new : View) (told : Outcome) (a b : Answer) → a ≡ b → RefusesOrSends old before now new told b → RefusesOrSends old before now new told a
-sends_as old before now new told a b e h = subst (RefusesOrSends old before now new told) (sym e) h
+pub answers_as : {K : Type 0} (facts : KeeperFacts K) (old after : Moment K) (told : Outcome) (a b : Answer) → a ≡ b → Answers facts old b told after → Answers facts old a told after
+answers_as facts old after told a b e h = subst (λ (x : Answer). Answers facts old x told after) (sym e) h
 
-pub puts_as : {K : Type 0} (facts : KeeperFacts K) (old : View) (before now : K) (new : View) (told : Outcome) (a b : Answer) → a ≡ b → PutsIfAny facts old before now new told b → PutsIfAny facts old before now new told a
-puts_as facts old before now new told a b e h = subst (PutsIfAny facts old before now new told) (sym e) h
+-- ---- answers without a put
+
+module _ {K : Type 0} (facts : KeeperFacts K) (old : View) (keeper : K) where
+  pub refuses : (a : Answer) (fault : DeliverFault) → a ≡ Refuses fault → Answers facts (moment old keeper) a (Err fault) (moment old keeper)
+  refuses a fault e = answers_as facts _ _ _ a (Refuses fault) e (record { answered = record { answer = refl; arbiter = refl; keeper = refl }; put = tt })
+
+  pub sends : (a : Answer) (outputs : List Message) (window : Window) (told : List Message) (new : View) → a ≡ Sends outputs window → told ≡ outputs → new ≡ with_window old window → Answers facts (moment old keeper) a (Ok told) (moment new keeper)
+  sends a outputs window told new e is same = answers_as facts _ _ _ a (Sends outputs window) e (record { answered = inl (record { answer = ap Ok is; arbiter = same; keeper = refl }); put = tt })
+
+  pub wants_memory : (a : Answer) (outputs : List Message) (window : Window) → a ≡ Sends outputs window → 4 < length outputs → Answers facts (moment old keeper) a (Err OutOfMemory) (moment old keeper)
+  wants_memory a outputs window e many = answers_as facts _ _ _ a (Sends outputs window) e (record { answered = inr (many, record { answer = refl; arbiter = refl; keeper = refl }); put = tt })
 
 module _ (v : View) (message : Message) where
   abbrev pub answered : Answer

@@ -1,6 +1,6 @@
 pub mod Reach
 pub mod Waiting
-pub mod RunLaws
+pub mod PlanLaws
 pub mod Cases
 pub mod Settling
 pub mod Hearing

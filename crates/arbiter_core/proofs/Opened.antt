@@ -22,7 +22,7 @@ use Rattle.move_msg.specs.Numbers.{most_moves}
 use Rattle.judge_core.specs.Standings.{IsAt}
 use Rattle.judge_core.proofs.Plies.{goes_on}
 use Rattle.arbiter_core.specs.Recording.{Recorded, reaches}
-use Rattle.arbiter_core.specs.declared.arbiter.Played.{Played}
+use Rattle.arbiter_core.specs.declared.played.Played.{Played}
 use Rattle.std.specs.Result.{IsErrOf}
 use Rattle.arbiter_core.specs.declared.keeper.Keep.{Keep}
 use Rattle.arbiter_core.specs.declared.keeper.Keep.TheVariants.{Good, FailsOld, FailsNew}
@@ -36,8 +36,9 @@ use Rattle.arbiter_core.specs.Delivers.{IsSpelled, IsWritten, Keeps}
 use Rattle.arbiter_core.specs.Answering.{Identity, nothing_waits}
 use Rattle.arbiter_core.specs.Setups.{SetupView, rules_at}
 use Rattle.move_msg.specs.declared.who.Who.{Who}
-use Rattle.arbiter_core.specs.Views.{View, spelled_as, IsSettled}
-use Rattle.arbiter_core.specs.Inside.Starting.{IsPlayed, IsPutSo, IsPutFirst, recorded_in, told_from}
+use Rattle.arbiter_core.specs.Views.{View, spelled_as}
+use Rattle.arbiter_core.specs.Inside.Playing.{IsInOrder, IsPlayed, recorded_in}
+use Rattle.arbiter_core.specs.Inside.Starting.{IsPutSo, IsPutFirst, told_from}
 use Rattle.arbiter_core.specs.Opens.{IsWhole, IsResumed, IsBadKept, at_end, first_record, running, Told, FirstLands, OpensOver, Opens}
 use Rattle.arbiter_core.proofs.Settling.{near_nothing}
 use Rattle.arbiter_core.proofs.Reach.{step_to, step_of, reach_below, unruled_below}
@@ -198,9 +199,9 @@ played_is setup stamp p o v same h e verdict delay at short =
       short = short;
     }
 
--- an arbiter that is opened is settled
-pub settled_first : (setup : SetupView) (stamp : Stamp) (p : Played) → setup.delay ≤ most_delay → IsPlayed setup stamp p → IsSettled setup (recorded_in p) p.standing nothing_waits
-settled_first setup stamp p few h = record { at = h.at; ruled = h.ruled; reached = h.reached; short = h.short; near = near_nothing (length p.record.moves + 1); delay = few }
+-- an arbiter that is opened is in order
+pub first_in_order : (setup : SetupView) (stamp : Stamp) (p : Played) → setup.delay ≤ most_delay → IsPlayed setup stamp p → IsInOrder setup p nothing_waits
+first_in_order setup stamp p few h = record { played = subst (λ (s : Stamp). IsPlayed setup s p) (sym h.stamp_is) h; near = near_nothing (length p.record.moves + 1); delay = few }
 
 -- bytes that are read as none spell no record
 pub no_record : (t : List ℕ) (d : Result Record RecordFault) (fault : RecordFault) → d ≡ Err fault → (fault ≡ NoMemory → ⊥) → ((r : Record) → SpellsRecord t r → (d ≡ Ok r) ⊎ (d ≡ Err NoMemory)) → (r : Record) → SpellsRecord t r → ⊥

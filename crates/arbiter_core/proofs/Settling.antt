@@ -7,17 +7,15 @@ use Rattle.board_core.specs.declared.parts.Parts.{Parts}
 use Rattle.board_core.specs.declared.moves.Move.{Move}
 use Rattle.board_core.specs.ComputedMoves.{position_after}
 use Rattle.board_core.specs.declared.verdict.Verdict.{Verdict}
-use Rattle.board_core.specs.Delays.{most_delay}
 use Rattle.judge_core.specs.Games.{position_after_all, Rules, verdict_after}
 use Rattle.move_msg.specs.Numbers.{most_moves}
 use Rattle.judge_core.specs.Standings.{Reached, IsAt}
 use Rattle.arbiter_core.specs.Recording.{Recorded, Window, reaches, last_ply, advance}
 use Rattle.arbiter_core.specs.Answering.{still_waits, nothing_waits, waits_too}
-use Rattle.arbiter_core.specs.Setups.{SetupView, rules_at}
-use Rattle.arbiter_core.specs.Views.{IsSettled, IsNear}
+use Rattle.arbiter_core.specs.Views.{IsNear}
 use Rattle.arbiter_core.proofs.Reach.{step_to, reach_within, reach_more, reach_front, last_reached}
 use Rattle.arbiter_core.proofs.Waiting.{each_nothing, each_still, each_too}
-use Rattle.arbiter_core.proofs.RunLaws.{next_position}
+use Rattle.arbiter_core.proofs.PlanLaws.{next_position}
 
 -- after a legal move the next ply is reached
 pub reach_next : (r : Rules) (moves : List Move) (m : Move) (s : Reached) (q : Parts) (v : Option Verdict) → IsAt r moves s → v ≡ verdict_after r moves → v ≡ None → reaches r moves (length moves) ≡ true → position_after s.position m ≡ Some q → reaches r (moves ++ m ∷ []) (length moves + 1) ≡ true
@@ -66,8 +64,3 @@ near_nothing at = each_nothing (λ n w. n < most_moves) at
 
 pub near_too : (window : Window) (k number : ℕ) (m : Move) → k < number → number < most_moves → IsNear window (k + 1) → IsNear (waits_too window (number - (k + 1)) m) (k + 1)
 near_too window k number m l u h = let e : k + 1 + (number - (k + 1)) < most_moves = omega arith in each_too (λ n w. n < most_moves) window (k + 1) (number - (k + 1)) m e h
-
-pub settled_next : (setup : SetupView) (before : List Move) (m : Move) (window later : Window) (moves : List Move) (verdict : Option Verdict) (s : Reached) → record { moves = moves; verdict = verdict } ≡ advance (rules_at setup) before m window → IsAt (rules_at setup) moves s → length moves ≤ most_moves → IsNear later (length moves + 1) → setup.delay ≤ most_delay → IsSettled setup (record { moves = moves; verdict = verdict }) s later
-settled_next setup before m window later moves verdict s e at short near delay =
-    let a = advanced (rules_at setup) before m window moves verdict e in
-    record { at = at; ruled = a.ruled; reached = a.reached; short = short; near = near; delay = delay }

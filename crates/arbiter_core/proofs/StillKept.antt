@@ -1,5 +1,5 @@
 -- What a running arbiter has recorded stays what is kept.
-use Rattle.std.proofs.Common.{◌≡◌, ◌∙◌, sym, ap, subst, ℕ, true, false, List, Option, inl, inr}
+use Rattle.std.proofs.Common.{◌≡◌, ◌∙◌, sym, ap, subst, true, false, List, inl, inr}
 use Rattle.move_msg.specs.declared.message.Message.{Message}
 use Rattle.arbiter_core.specs.Keeping.{KeeperFacts}
 use Rattle.arbiter_core.specs.declared.keeper.Keep.{Keep}
@@ -7,7 +7,7 @@ use Rattle.arbiter_core.specs.declared.keeper.Keep.TheVariants.{Good, FailsOld, 
 use Rattle.arbiter_core.specs.Recording.{Recorded, Window}
 use Rattle.arbiter_core.specs.Answering.{Answer, Refuses, Sends, Puts}
 use Rattle.arbiter_core.specs.Views.{View}
-use Rattle.arbiter_core.specs.Delivers.{IsKept, Told, Lands, RefusesOrSends, PutsIfAny, with_window, with_record, downed}
+use Rattle.arbiter_core.specs.Delivers.{Answers, IsKept, Told, Lands, RefusesOrSends, PutsIfAny, moment, with_window, with_record, downed}
 
 module _ {K : Type 0} (facts : KeeperFacts K) (old new : View) (before now : K) (told : Told) where
   same_kept : new ≡ old → now ≡ before → IsKept (facts.kept before) old → IsKept (facts.kept now) new
@@ -28,9 +28,12 @@ module _ {K : Type 0} (facts : KeeperFacts K) (old new : View) (before now : K) 
   landed FailsOld next outputs window h = downed_keeps h.1
   landed FailsNew next outputs window h = downed_keeps h.1
 
-  pub still_kept : (a : Answer) → RefusesOrSends old before now new told a → PutsIfAny facts old before now new told a → IsKept (facts.kept before) old → IsKept (facts.kept now) new
-  still_kept (Refuses fault) h p k = same_kept h.arbiter h.keeper k
-  still_kept (Sends outputs window) (inl h) p k = windowed window h.arbiter h.keeper k
-  still_kept (Sends outputs window) (inr h) p k = let u = h.1 in same_kept u.arbiter u.keeper k
-  still_kept (Puts next outputs window) h (inl p) k = same_kept p.arbiter p.keeper k
-  still_kept (Puts next outputs window) h (inr p) k = landed p.keep next outputs window p.lands
+  by_answer : (a : Answer) → RefusesOrSends old before now new told a → PutsIfAny facts old before now new told a → IsKept (facts.kept before) old → IsKept (facts.kept now) new
+  by_answer (Refuses fault) h p k = same_kept h.arbiter h.keeper k
+  by_answer (Sends outputs window) (inl h) p k = windowed window h.arbiter h.keeper k
+  by_answer (Sends outputs window) (inr h) p k = let u = h.1 in same_kept u.arbiter u.keeper k
+  by_answer (Puts next outputs window) h (inl p) k = same_kept p.arbiter p.keeper k
+  by_answer (Puts next outputs window) h (inr p) k = landed p.keep next outputs window p.lands
+
+  pub still_kept : (a : Answer) → Answers facts (moment old before) a told (moment new now) → IsKept (facts.kept before) old → IsKept (facts.kept now) new
+  still_kept a h k = by_answer a h.answered h.put k

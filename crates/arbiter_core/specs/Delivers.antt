@@ -1,6 +1,7 @@
 -- What a delivery leaves.
 use Rattle.std.specs.Prelude.{◌≡◌, ℕ, ◌<◌, true, false, cond, List, length, Option, Some, None, Result, Ok, Err, ◌⊎◌}
 use Rattle.std.specs.Str.{bytes_eq}
+use Rattle.board_core.specs.declared.moves.Move.{Move as Moves}
 use Rattle.move_msg.specs.declared.stamp.Stamp.{Stamp}
 use Rattle.move_msg.specs.declared.message.Message.{Message}
 use Rattle.move_msg.specs.declared.message.MessageFault.{MessageFault}
@@ -12,8 +13,8 @@ use Rattle.arbiter_core.specs.declared.keeper.Keep.{Keep}
 use Rattle.arbiter_core.specs.declared.keeper.Keep.TheVariants.{Good, FailsOld, FailsNew}
 use Rattle.arbiter_core.specs.declared.fault.DeliverFault.{DeliverFault}
 use Rattle.arbiter_core.specs.declared.fault.DeliverFault.TheVariants.{NotAMessage, Stranger, Down, KeeperFailed, OutOfMemory}
-use Rattle.arbiter_core.specs.Recording.{Recorded, Window}
-use Rattle.arbiter_core.specs.Answering.{Answer, Refuses, Sends, Puts, answer_heard}
+use Rattle.arbiter_core.specs.Recording.{Recorded, Window, advance}
+use Rattle.arbiter_core.specs.Answering.{Answer, Refuses, Sends, Puts, answer_heard, answer_to, answer_to_move, puts}
 use Rattle.system_io.specs.Failures.{Risen}
 use Rattle.arbiter_core.specs.Setups.{rules_at}
 use Rattle.arbiter_core.specs.Views.{View, spelled_as}
@@ -116,13 +117,29 @@ PutsIfAny facts old before now new told (Sends outputs window) = Unit {0}
 PutsIfAny facts old before now new told (Puts next outputs window) =
     Unchanged old before now new told (Err OutOfMemory) ⊎ PutsOnce facts old next outputs window before now new told
 
+-- the arbiter tells this where its answer is so, and it and the keeper are so afterwards
+pub record Answers {K : Type 0} (facts : KeeperFacts K) (old : Moment K) (answer : Answer) (told : Told) (after : Moment K) : Type 0 where
+  -- a refusal leaves both as they were, and so does what is sent without a put, but for the window
+  pub answered : RefusesOrSends old.arbiter old.keeper after.keeper after.arbiter told answer
+  -- a record to be put is put once, with an outcome that the keeper states, or memory was refused before it
+  pub put : PutsIfAny facts old.arbiter old.keeper after.keeper after.arbiter told answer
+
 -- what an arbiter answers to a datagram
 abbrev pub answer_at : View → List ℕ → Answer
 answer_at v datagram = answer_of v (heard v.me.stamp datagram)
 
--- the arbiter answers so, and it and the keeper are so afterwards
-pub record Delivers {K : Type 0} (facts : KeeperFacts K) (old : Moment K) (e : Exchange K) : Type 0 where
-  -- a refusal leaves both as they were, and so does what is sent without a put, but for the window
-  pub answered : RefusesOrSends old.arbiter old.keeper e.after.keeper e.after.arbiter e.told (answer_at old.arbiter e.datagram)
-  -- a record to be put is put once, with an outcome that the keeper states, or memory was refused before it
-  pub put : PutsIfAny facts old.arbiter old.keeper e.after.keeper e.after.arbiter e.told (answer_at old.arbiter e.datagram)
+-- what a running one answers to a message
+abbrev pub answer_to_message : View → Message → Answer
+answer_to_message v message = answer_to (rules_at v.setup) v.me v.kept v.window message
+
+-- to a move with this number
+abbrev pub answer_to_numbered : View → ℕ → Moves → Answer
+answer_to_numbered v number m = answer_to_move (rules_at v.setup) v.me v.kept v.window number m
+
+-- to a move that is legal in its turn
+abbrev pub answer_to_next : View → Moves → Answer
+answer_to_next v m = puts v.me v.kept v.window (advance (rules_at v.setup) v.kept.moves m v.window)
+
+-- a datagram is answered so
+abbrev pub Delivers : {K : Type 0} → KeeperFacts K → Moment K → Exchange K → Type 0
+Delivers facts old e = Answers facts old (answer_at old.arbiter e.datagram) e.told e.after

@@ -1,10 +1,15 @@
 -- Laws over the definitions. The functions of src/laws.rt carry these.
-use Rattle.std.specs.Prelude.{◌≡◌, ◌≤◌, ◌↔◌, ℕ, true, List, length, take, Some, IsSome}
+use Rattle.std.specs.Prelude.{◌≡◌, ◌<◌, ◌≤◌, ◌↔◌, ℕ, true, List, length, take, Some, IsSome}
 use Rattle.board_core.specs.declared.moves.Move.{Move}
 use Rattle.board_core.specs.declared.verdict.Verdict.{Verdict}
+use Rattle.move_msg.specs.declared.message.Message.{Message}
 use Rattle.move_msg.specs.declared.stamp.Stamp.{Stamp}
-use Rattle.judge_core.specs.Games.{Rules, position_after_all, IsUnruled, IsFirst}
-use Rattle.arbiter_core.specs.Recording.{Recorded, reaches, record_at, last_ply}
+use Rattle.judge_core.specs.Games.{Rules, position_after_all, verdict_after, IsUnruled, IsFirst}
+use Rattle.arbiter_core.specs.Recording.{Recorded, Window, count_of, reaches, record_at, last_ply}
+use Rattle.arbiter_core.specs.Answering.{Puts}
+use Rattle.arbiter_core.specs.Setups.{rules_at}
+use Rattle.arbiter_core.specs.Views.{View}
+use Rattle.arbiter_core.specs.Delivers.{answer_at}
 use Rattle.arbiter_core.specs.Opens.{IsResumed}
 
 -- the first k moves are there and legal in turn, and no ply before k has a verdict
@@ -37,3 +42,18 @@ LastPlyInWords = (rules : Rules) (game : List Move) → IsLastReached rules game
 -- Bytes are resumed as one record.
 abbrev pub OneResumed : Type 0
 OneResumed = (rules : Rules) (stamp : Stamp) (bytes : List ℕ) (a b : Recorded) → IsResumed rules stamp bytes a → IsResumed rules stamp bytes b → a ≡ b
+
+-- a record is that of its own moves, which the game reaches
+pub record IsOwn (rules : Rules) (kept : Recorded) : Type 0 where
+  pub ruled : kept.verdict ≡ verdict_after rules kept.moves
+  pub reached : reaches rules kept.moves (length kept.moves) ≡ true
+
+-- the next record is its own too, and has more moves
+pub record Grows (rules : Rules) (old next : Recorded) : Type 0 where
+  pub own : IsOwn rules next
+  pub more : count_of old < count_of next
+
+-- A record that is put has more moves than the one before.
+abbrev pub PutsGrow : Type 0
+PutsGrow = (v : View) (datagram : List ℕ) (next : Recorded) (outputs : List Message) (window : Window) → IsOwn (rules_at v.setup) v.kept
+    → answer_at v datagram ≡ Puts next outputs window → Grows (rules_at v.setup) v.kept next

@@ -11,7 +11,6 @@ use Rattle.judge_core.specs.Games.{Rules}
 use Rattle.arbiter_core.specs.Keeping.{KeeperFacts}
 use Rattle.arbiter_core.specs.declared.keeper.Keep.{Keep}
 use Rattle.arbiter_core.specs.declared.keeper.Keep.TheVariants.{Good, FailsOld, FailsNew}
-use Rattle.arbiter_core.specs.declared.keeper.KeepFault.{KeepFault}
 use Rattle.arbiter_core.specs.declared.keeper.KeepFault.TheVariants.{Failed}
 use Rattle.arbiter_core.specs.declared.keeper.KeepFault.TheVariants as keep_fault
 use Rattle.arbiter_core.specs.declared.fault.OpenFault.{OpenFault}

@@ -1,43 +1,32 @@
 //! A running arbiter.
 
-ghost use Rattle.std.specs.Prelude.{◌≡◌, ◌+◌, ◌-◌, ◌<◌, ◌≤◌, [], ◌∷◌, ◌++◌, length, IfOk, IsErr, cond, Option, Some, None, Result, Ok, Err, true, false};
+ghost use Rattle.std.specs.Prelude.{◌≡◌, ◌+◌, ◌<◌, ◌≤◌, ◌∷◌, [], ◌++◌, length, IfOk, IsErr, cond, Option, None};
 ghost use Rattle.std.specs.Result.{result_map_both};
-ghost use Rattle.std.specs.Str.{bytes_eq};
-ghost use Rattle.board_core.specs.ComputedMoves.{position_after};
 ghost use Rattle.judge_core.specs.Games.{position_after_all};
-ghost use Rattle.move_msg.specs.declared.message.Message.{Message};
 ghost use Rattle.move_msg.specs.Numbers.{most_moves};
 ghost use Rattle.move_msg.specs.declared.who.Sender.{Sender};
-ghost use Rattle.arbiter_core.specs.declared.fault.DeliverFault.{DeliverFault};
-ghost use Rattle.arbiter_core.specs.Recording.{advance, count_of};
-ghost use Rattle.arbiter_core.specs.Answering.{asked, fetched, sent_by, told_of, puts, nothing_waits, answer_to, answer_to_move};
+ghost use Rattle.arbiter_core.specs.Recording.{count_of};
+ghost use Rattle.arbiter_core.specs.Answering.{asked, fetched, nothing_waits, sent_by, told_of};
 ghost use Rattle.arbiter_core.specs.Setups.{rules_at, setup_view};
-ghost use Rattle.arbiter_core.specs.Views.{IsSettled};
-ghost use Rattle.arbiter_core.specs.Delivers.{Delivers, heard, Keeps, IsKept, RefusesOrSends, PutsIfAny, answer_of, exchange, moment};
+ghost use Rattle.arbiter_core.specs.Opens.{running};
+ghost use Rattle.arbiter_core.specs.Delivers.{Answers, Delivers, IsKept, Keeps, answer_to_message, answer_to_next, answer_to_numbered, exchange, heard, moment};
+ghost use Rattle.arbiter_core.specs.Inside.Playing.{IsInOrder, IsNext, recorded_in};
 
 use crate::fault::DeliverFault;
 use crate::keeper::Keeper;
-use crate::planning::plan;
+use crate::planning::play_on;
+use crate::played::Played;
 use crate::setup::Setup;
-use crate::window::{Window, still_waiting, wait_too};
+use crate::window::Window;
 use board_core::{Move, Position};
-use judge_core::{Standing, Verdict};
-use move_msg::{Count, Message, MoveList, Record, Sender, Stamp, Wanted, Who};
+use judge_core::Verdict;
+use move_msg::{Count, Message, Sender, Stamp, Wanted, Who};
 use smallvec::SmallVec;
 use std::alloc::{AllocError, Global};
 use std::marker::Model;
 
 /// What a delivery sends: at most two messages, or for a `Fetch` at most eight; up to four take no memory.
 pub type Outputs = SmallVec<Message, 4>;
-
-/// What is recorded, and where the game stands.
-#[derive(Drop)]
-pub(crate) struct Played {
-    /// The record: what is kept, unless the arbiter is down.
-    pub record: Record,
-    /// Where the game stands after its moves.
-    pub standing: Standing,
-}
 
 /// An arbiter that is open: it runs, or it is down.
 #[derive(Drop)]
@@ -51,20 +40,13 @@ pub struct Arbiter<'a> {
 
 impl<'a> Model for Arbiter<'a> {
     ghost use Rattle.arbiter_core.specs.Views.{View};
-    ghost use Rattle.arbiter_core.specs.Inside.Fields.{view_of, IsInOrder};
+    ghost use Rattle.arbiter_core.specs.Inside.Fields.{AreInOrder, view_of};
 
     ghost Value = { View };
 
     ghost view = { view_of };
 
-    ghost invariant = { IsInOrder };
-}
-
-/// Whether two messages or records with these stamps are of one game.
-fn is_same(a: Stamp, b: Stamp) -> bool
-    ensures { result ≡ bytes_eq a.0 b.0 }
-{
-    a == b
+    ghost invariant = { AreInOrder };
 }
 
 /// What an arbiter tells of its record.
@@ -121,52 +103,40 @@ impl<'a> Arbiter<'a> {
         m: &Move,
         position: &Position,
     ) -> Result<Outputs, DeliverFault>
-        requires unruled { self.old.kept.verdict ≡ None }
-        requires legal { position_after_all self.old.setup.start (self.old.kept.moves ++ m.now ∷ []) ≡ Some position.now }
-        requires short { length self.old.kept.moves < most_moves }
+        requires next { IsNext (rules_at self.old.setup) self.old.kept m.now position.now }
         requires keeps { Keeps (K.facts.kept keeper.old) self.old }
-        ensures { PutsIfAny K.facts self.old keeper.old keeper.new self.new (result_map_both (λ o. o.items) (λ e. e) result) (puts self.old.me self.old.kept self.old.window (advance (rules_at self.old.setup) self.old.kept.moves m.now self.old.window)) }
+        ensures { Answers K.facts (moment self.old keeper.old) (answer_to_next self.old m.now) (result_map_both (λ o. o.items) (λ e. e) result) (moment self.new keeper.new) }
     {
         let count = self.played.record.moves.as_slice().len();
-        let Ok(next) = plan(
+        let Ok(next) = play_on(
             alloc,
             &mut self.setup,
-            self.played.record.moves.as_slice(),
+            &self.played,
             *m,
-            &self.played.standing,
             *position,
             &self.window,
         ) else {
             return Err(DeliverFault::OutOfMemory);
         };
-        let more = next.moves.len() - count;
-        let played = Played {
-            record: Record {
-                stamp: self.played.record.stamp,
-                delay: self.played.record.delay,
-                verdict: next.verdict,
-                moves: MoveList::from_vec(next.moves),
-            },
-            standing: next.standing,
-        };
-        let Ok(bytes) = played.record.encode(alloc) else {
+        let Ok(bytes) = next.record.encode(alloc) else {
             return Err(DeliverFault::OutOfMemory);
+        };
+        let more = next.record.moves.as_slice().len() - count;
+        let window = if next.record.verdict.is_some() {
+            Window::empty()
+        } else {
+            self.window.after(more)
         };
         let outputs = tell(
             alloc,
-            played.record.stamp,
+            self.played.record.stamp,
             self.who,
-            played.record.moves.count(),
-            played.record.verdict,
+            next.record.moves.count(),
+            next.record.verdict,
         );
-        let window = if played.record.verdict.is_some() {
-            [None; 31]
-        } else {
-            still_waiting(&self.window, more)
-        };
         match keeper.put(&bytes) {
             Ok(()) => {
-                self.played = played;
+                self.played = next;
                 self.window = window;
                 Ok(outputs)
             }
@@ -193,8 +163,7 @@ impl<'a> Arbiter<'a> {
         m: &Move,
     ) -> Result<Outputs, DeliverFault>
         requires { Keeps (K.facts.kept keeper.old) self.old }
-        ensures answered { RefusesOrSends self.old keeper.old keeper.new self.new (result_map_both (λ o. o.items) (λ e. e) result) (answer_to_move (rules_at self.old.setup) self.old.me self.old.kept self.old.window number m.now) }
-        ensures put { PutsIfAny K.facts self.old keeper.old keeper.new self.new (result_map_both (λ o. o.items) (λ e. e) result) (answer_to_move (rules_at self.old.setup) self.old.me self.old.kept self.old.window number m.now) }
+        ensures { Answers K.facts (moment self.old keeper.old) (answer_to_numbered self.old number m.now) (result_map_both (λ o. o.items) (λ e. e) result) (moment self.new keeper.new) }
     {
         if number >= 4096 {
             return Err(DeliverFault::TooLong);
@@ -213,7 +182,7 @@ impl<'a> Arbiter<'a> {
             return Err(DeliverFault::TooFarAhead);
         }
         if number > count.number() {
-            wait_too(&mut self.window, (number - count.number() - 1) as usize, *m);
+            self.window.wait((number - count.number() - 1) as usize, *m);
             return Ok(tell(alloc, self.played.record.stamp, self.who, count, None));
         }
         let Some(position) = self.position_after(*m) else {
@@ -228,7 +197,7 @@ impl<'a> Arbiter<'a> {
     {
         match Message::decode(bytes) {
             Ok(message) => {
-                if is_same(message.stamp(), self.played.record.stamp) {
+                if message.stamp() == self.played.record.stamp {
                     Ok(message)
                 } else {
                     Err(DeliverFault::Stranger)
@@ -281,8 +250,7 @@ impl<'a> Arbiter<'a> {
         message: &Message,
     ) -> Result<Outputs, DeliverFault>
         requires { Keeps (K.facts.kept keeper.old) self.old }
-        ensures answered { RefusesOrSends self.old keeper.old keeper.new self.new (result_map_both (λ o. o.items) (λ e. e) result) (answer_to (rules_at self.old.setup) self.old.me self.old.kept self.old.window message.now) }
-        ensures put { PutsIfAny K.facts self.old keeper.old keeper.new self.new (result_map_both (λ o. o.items) (λ e. e) result) (answer_to (rules_at self.old.setup) self.old.me self.old.kept self.old.window message.now) }
+        ensures { Answers K.facts (moment self.old keeper.old) (answer_to_message self.old message.now) (result_map_both (λ o. o.items) (λ e. e) result) (moment self.new keeper.new) }
     {
         match *message {
             Message::Move { number, m, .. } => self.take_move(alloc, keeper, number, &m),
@@ -292,27 +260,6 @@ impl<'a> Arbiter<'a> {
                 Ok(outputs) => Ok(outputs),
                 Err(_) => Err(DeliverFault::OutOfMemory),
             },
-        }
-    }
-
-    /// Answers a datagram: what `deliver` does.
-    fn respond<K: Keeper>(
-        &mut self,
-        alloc: Global,
-        keeper: &mut K,
-        bytes: &[u8],
-    ) -> Result<Outputs, DeliverFault>
-        requires { IsKept (K.facts.kept keeper.old) self.old }
-        ensures answered { RefusesOrSends self.old keeper.old keeper.new self.new (result_map_both (λ o. o.items) (λ e. e) result) (answer_of self.old (heard self.old.me.stamp bytes.now)) }
-        ensures put { PutsIfAny K.facts self.old keeper.old keeper.new self.new (result_map_both (λ o. o.items) (λ e. e) result) (answer_of self.old (heard self.old.me.stamp bytes.now)) }
-    {
-        let heard = self.hear(bytes);
-        if self.down {
-            return Err(DeliverFault::Down);
-        }
-        match heard {
-            Ok(message) => self.answer(alloc, keeper, &message),
-            Err(fault) => Err(fault),
         }
     }
 
@@ -350,7 +297,14 @@ impl<'a> Arbiter<'a> {
         // So it is afterwards.
         ensures keeps { IsKept (K.facts.kept keeper.new) self.new }
     {
-        self.respond(alloc, keeper, bytes)
+        let heard = self.hear(bytes);
+        if self.down {
+            return Err(DeliverFault::Down);
+        }
+        match heard {
+            Ok(message) => self.answer(alloc, keeper, &message),
+            Err(fault) => Err(fault),
+        }
     }
 
     /// Gives back what the arbiter was opened from.
@@ -399,15 +353,14 @@ impl<'a> Arbiter<'a> {
 
     /// An arbiter that runs from this record.
     pub(crate) fn running(setup: Setup<'a>, who: Who, played: Played) -> Arbiter<'a>
-        requires settled { IsSettled (setup_view setup) (record { moves = played.record.moves; verdict = played.record.verdict }) played.standing nothing_waits }
-        requires delay { played.record.delay ≡ setup.delay }
-        ensures { result ≡ record { setup = setup_view setup.entry; me = record { stamp = played.record.stamp; who = who }; kept = record { moves = played.record.moves; verdict = played.record.verdict }; window = nothing_waits; is_down = false } }
+        requires { IsInOrder (setup_view setup) played nothing_waits }
+        ensures { result ≡ running (setup_view setup.entry) (record { stamp = played.record.stamp; who = who }) (recorded_in played) }
     {
         Arbiter {
             setup,
             who,
             played,
-            window: [None; 31],
+            window: Window::empty(),
             down: false,
         }
     }

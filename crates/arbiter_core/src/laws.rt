@@ -1,6 +1,6 @@
 //! Laws over the definitions of specs/, for proofs above: each function carries one law and does nothing.
 
-ghost use Rattle.arbiter_core.specs.Laws.{ReachedInWords, RecordInWords, LastPlyInWords, OneResumed};
+ghost use Rattle.arbiter_core.specs.Laws.{LastPlyInWords, OneResumed, PutsGrow, ReachedInWords, RecordInWords};
 
 /// A game reaches a ply exactly where the moves before it are legal in turn and no ply before it has a verdict.
 pub fn reached_in_words()
@@ -20,4 +20,9 @@ pub fn last_ply_in_words()
 /// Kept bytes are resumed as one record.
 pub fn one_resumed()
     ensures { OneResumed }
+{}
+
+/// A record that is put has more moves than the one before, and is that of its own moves where that one was.
+pub fn puts_grow()
+    ensures { PutsGrow }
 {}

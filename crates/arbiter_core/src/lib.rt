@@ -14,6 +14,7 @@ mod keeper;
 pub mod laws;
 mod opening;
 mod planning;
+mod played;
 mod setup;
 mod window;
 

@@ -4,13 +4,15 @@ ghost use Rattle.std.specs.Prelude.{◌≡◌, ◌≤◌, IfOk, IfErr, IsErr, Is
 ghost use Rattle.arbiter_core.specs.Setups.{setup_view, rules_at, IsGood, IsIdentity};
 ghost use Rattle.std.specs.Result.{result_map_both};
 ghost use Rattle.move_msg.specs.declared.who.Who.{Who};
-ghost use Rattle.arbiter_core.specs.Opens.{Opens, OpensIfGood, IsResumed, IsBadKept, at_end, first_record};
+ghost use Rattle.arbiter_core.specs.Opens.{OpensIfGood, IsResumed, IsBadKept, at_end, first_record};
 ghost use Rattle.arbiter_core.specs.Delivers.{IsKept};
-ghost use Rattle.arbiter_core.specs.Inside.Starting.{IsPlayed, IsPutFirst, told_from};
+ghost use Rattle.arbiter_core.specs.Inside.Playing.{IsPlayed, recorded_in};
+ghost use Rattle.arbiter_core.specs.Inside.Starting.{IsPutFirst, OpensAsEither};
 
-use crate::arbiter::{Arbiter, Played};
+use crate::arbiter::Arbiter;
 use crate::fault::OpenFault;
 use crate::keeper::{KeepFault, Keeper};
+use crate::played::Played;
 use crate::setup::Setup;
 use judge_core::{GameOutcome, Verdict};
 use move_msg::{MoveList, Record, RecordFault, Stamp, Who};
@@ -66,13 +68,6 @@ fn is_of_game(kept: &Record, stamp: Stamp, delay: u8) -> bool
     kept.stamp == stamp && kept.delay == delay
 }
 
-/// Whether two verdicts are one, or both none.
-fn is_same(a: Option<Verdict>, b: Option<Verdict>) -> bool
-    ensures { IsTrue result ↔ (a ≡ b) }
-{
-    a == b
-}
-
 /// What is recorded by kept bytes, if they are a record of this game.
 fn resume(
     alloc: Global,
@@ -82,7 +77,7 @@ fn resume(
 ) -> Result<Played, OpenFault>
     requires { setup.old.delay ≤ 8 }
     ensures same { setup.new ≡ setup.old }
-    ensures ok { IfOk result (λ p. IsPlayed (setup_view setup.old) stamp p × IsResumed (rules_at (setup_view setup.old)) stamp bytes.now (record { moves = p.record.moves; verdict = p.record.verdict })) }
+    ensures ok { IfOk result (λ p. IsPlayed (setup_view setup.old) stamp p × IsResumed (rules_at (setup_view setup.old)) stamp bytes.now (recorded_in p)) }
     ensures err { IfErr result (IsBadKept (rules_at (setup_view setup.old)) stamp bytes.now) }
 {
     let record = match Record::decode(alloc, bytes) {
@@ -104,7 +99,7 @@ fn resume(
     let Some(verdict) = at_end(followed.outcome, moves.len()) else {
         return Err(OpenFault::BadRecord);
     };
-    if !is_same(record.verdict, verdict) {
+    if record.verdict != verdict {
         return Err(OpenFault::BadRecord);
     }
     Ok(Played {
@@ -117,7 +112,7 @@ fn resume(
 fn first(alloc: Global, setup: &mut Setup<'_>, stamp: Stamp) -> Result<Played, AllocError>
     requires { setup.old.delay ≤ 8 }
     ensures same { setup.new ≡ setup.old }
-    ensures ok { IfOk result (λ p. IsPlayed (setup_view setup.old) stamp p × (record { moves = p.record.moves; verdict = p.record.verdict } ≡ first_record (rules_at (setup_view setup.old)))) }
+    ensures ok { IfOk result (λ p. IsPlayed (setup_view setup.old) stamp p × (recorded_in p ≡ first_record (rules_at (setup_view setup.old)))) }
 {
     let standing = setup.set.begin(alloc, &setup.start)?;
     let verdict = standing.verdict(setup.delay);
@@ -163,7 +158,7 @@ fn recorded<K: Keeper>(
     requires { setup.old.delay ≤ 8 }
     ensures same { setup.new ≡ setup.old }
     ensures played { IfOk result (IsPlayed (setup_view setup.old) stamp) }
-    ensures opens { (who : Who) → Opens K.facts (setup_view setup.old) (record { stamp = stamp; who = who }) keeper.old keeper.new (told_from (setup_view setup.old) (record { stamp = stamp; who = who }) result) }
+    ensures opens { OpensAsEither K.facts (setup_view setup.old) stamp keeper.old keeper.new result }
 {
     match keeper.get(alloc) {
         Ok(Some(bytes)) => resume(alloc, setup, stamp, &bytes),

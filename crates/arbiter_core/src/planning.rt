@@ -1,78 +1,95 @@
 //! A legal move and the moves that wait behind it.
 
-ghost use Rattle.std.specs.Prelude.{◌≡◌, ◌+◌, ◌<◌, ◌≤◌, [], ◌∷◌, ◌++◌, length, IfOk, Some, true};
-ghost use Rattle.board_core.specs.declared.moves.Move.{Move};
-ghost use Rattle.board_core.specs.ComputedMoves.{position_after};
-ghost use Rattle.move_msg.specs.Numbers.{most_moves};
-ghost use Rattle.judge_core.specs.Standings.{IsAt};
-ghost use Rattle.arbiter_core.specs.Recording.{reaches, advance};
+ghost use Rattle.std.specs.Prelude.{◌≡◌, IfOk};
 ghost use Rattle.arbiter_core.specs.Setups.{rules_at, setup_view};
-ghost use Rattle.arbiter_core.specs.Views.{IsNear};
+ghost use Rattle.arbiter_core.specs.Inside.Playing.{IsInOrder, IsNext, IsPlan, IsPlayedOn, recorded_in};
 
+use crate::played::Played;
 use crate::setup::Setup;
 use crate::window::Window;
 use board_core::{Move, Position};
 use judge_core::{Standing, Verdict};
+use move_msg::{MoveList, Record};
 use std::alloc::{AllocError, Global};
 
-/// Moves, where the game stands after them, and the verdict there.
+/// The plan of a delivery: the moves of the next record, where the game stands after them, and the verdict there.
 #[derive(Drop)]
-pub(crate) struct Run {
-    pub moves: Vec<Move>,
-    pub standing: Standing,
-    pub verdict: Option<Verdict>,
+struct Plan {
+    moves: Vec<Move>,
+    standing: Standing,
+    verdict: Option<Verdict>,
 }
 
-/// Plays a legal move that led to this position, and then those that wait behind it: as long as there is no verdict, the next
+/// Plans a legal move that leads to this position, and then those that wait behind it: as long as there is no verdict, the next
 /// move waits and it is legal. Each new position is judged once.
 ///
 /// The error comes only where memory for the moves, or for a list of moves while judging, is refused. The setup stays as it
 /// was but for the set's cache.
-pub(crate) fn plan(
+fn make_plan(
     alloc: Global,
     setup: &mut Setup<'_>,
-    before: &[Move],
+    played: &Played,
     m: Move,
-    standing: &Standing,
     position: Position,
     window: &Window,
-) -> Result<Run, AllocError>
-    requires at { IsAt (rules_at (setup_view setup.old)) before.now standing.now }
-    requires legal { position_after standing.now.position m ≡ Some position }
-    requires reached { reaches (rules_at (setup_view setup.old)) (before.now ++ m ∷ []) (length before.now + 1) ≡ true }
-    requires short { length before.now < most_moves }
-    requires near { IsNear window.now (length before.now + 1) }
-    requires delay { setup.old.delay ≤ 8 }
+) -> Result<Plan, AllocError>
+    requires in_order { IsInOrder (setup_view setup.old) played.now window.now }
+    requires next { IsNext (rules_at (setup_view setup.old)) (recorded_in played.now) m position }
     ensures same { setup.new ≡ setup.old }
-    ensures advanced { IfOk result (λ next. record { moves = next.moves.items; verdict = next.verdict } ≡ advance (rules_at (setup_view setup.old)) before.now m window.now) }
-    ensures at { IfOk result (λ next. IsAt (rules_at (setup_view setup.old)) next.moves.items next.standing) }
-    ensures short { IfOk result (λ next. length next.moves.items ≤ most_moves) }
-    ensures more { IfOk result (λ next. length before.now < length next.moves.items) }
+    ensures planned { IfOk result (IsPlan (rules_at (setup_view setup.old)) (recorded_in played.now) m window.now) }
 {
     let delay = setup.delay;
+    let before = played.record.moves.as_slice();
     let mut moves = Vec::with_capacity(alloc, before.len() + 32)?;
     moves.extend_from_slice(before)?;
     moves.push(m)?;
-    let standing = setup.set.move_on(alloc, standing, position)?;
+    let standing = setup.set.move_on(alloc, &played.standing, position)?;
     let verdict = standing.verdict(delay);
-    let mut next = Run {
+    let mut plan = Plan {
         moves,
         standing,
         verdict,
     };
-    for slot in window {
-        if next.verdict.is_some() {
-            return Ok(next);
+    for slot in window.places() {
+        if plan.verdict.is_some() {
+            return Ok(plan);
         }
         let Some(m) = slot else {
-            return Ok(next);
+            return Ok(plan);
         };
-        let Some(position) = next.standing.position().play(*m) else {
-            return Ok(next);
+        let Some(position) = plan.standing.position().play(*m) else {
+            return Ok(plan);
         };
-        next.standing = setup.set.move_on(alloc, &next.standing, position)?;
-        next.verdict = next.standing.verdict(delay);
-        next.moves.push(*m)?;
+        plan.standing = setup.set.move_on(alloc, &plan.standing, position)?;
+        plan.verdict = plan.standing.verdict(delay);
+        plan.moves.push(*m)?;
     }
-    Ok(next)
+    Ok(plan)
+}
+
+/// What is recorded once a legal move that leads to this position is played, and those that wait behind it. The error and the
+/// setup are as in `make_plan`.
+pub(crate) fn play_on(
+    alloc: Global,
+    setup: &mut Setup<'_>,
+    played: &Played,
+    m: Move,
+    position: Position,
+    window: &Window,
+) -> Result<Played, AllocError>
+    requires in_order { IsInOrder (setup_view setup.old) played.now window.now }
+    requires next { IsNext (rules_at (setup_view setup.old)) (recorded_in played.now) m position }
+    ensures same { setup.new ≡ setup.old }
+    ensures played_on { IfOk result (IsPlayedOn (setup_view setup.old) played.now m window.now) }
+{
+    let plan = make_plan(alloc, setup, played, m, position, window)?;
+    Ok(Played {
+        record: Record {
+            stamp: played.record.stamp,
+            delay: played.record.delay,
+            verdict: plan.verdict,
+            moves: MoveList::from_vec(plan.moves),
+        },
+        standing: plan.standing,
+    })
 }

@@ -1,30 +1,61 @@
 //! Moves that wait for their turn.
 
 ghost use Rattle.std.specs.Prelude.{◌≡◌, ◌<◌};
-ghost use Rattle.arbiter_core.specs.Answering.{waits_too, still_waits};
+ghost use Rattle.arbiter_core.specs.Answering.{nothing_waits, still_waits, waits_too};
 
 use board_core::Move;
+use std::marker::Model;
 
-/// Moves that came before their turn: place i, from 0 on, has the one whose number is i + 1 above the count, if it came.
-pub(crate) type Window = [Option<Move>; 31];
-
-/// A move waits at this place, unless one waits there already.
-pub(crate) fn wait_too(window: &mut Window, place: usize, m: Move)
-    requires { place < 31 }
-    ensures { window.new ≡ waits_too window.old place m }
-{
-    if window[place].is_none() {
-        window[place] = Some(m);
-    }
+/// Moves that came before their turn: place i, from 0 to 30, has the one whose number is i + 1 above the count, if it came.
+#[derive(Drop)]
+pub(crate) struct Window {
+    places: [Option<Move>; 31],
 }
 
-/// The moves that still wait once the count is higher by n.
-pub(crate) fn still_waiting(window: &Window, n: usize) -> Window
-    ensures { result ≡ still_waits window.now n }
-{
-    let mut later = [None; 31];
-    for i in n..31 {
-        later[i - n] = window[i];
+impl Model for Window {
+    ghost use Rattle.std.specs.Prelude.{◌≡◌, List, Option, length};
+    ghost use Rattle.board_core.specs.declared.moves.Move.{Move};
+
+    ghost Value = { List (Option Move) };
+
+    ghost view = { λ w. w.places };
+
+    ghost invariant = { λ w. length w.places ≡ 31 };
+}
+
+impl Window {
+    /// No move waits.
+    pub fn empty() -> Window
+        ensures { result ≡ nothing_waits }
+    {
+        Window { places: [None; 31] }
     }
-    later
+
+    /// A move waits at this place, 0 to 30, unless one waits there already.
+    pub fn wait(&mut self, place: usize, m: Move)
+        requires { place < 31 }
+        ensures { self.new ≡ waits_too self.old place m }
+    {
+        if self.places[place].is_none() {
+            self.places[place] = Some(m);
+        }
+    }
+
+    /// The moves that still wait once the count is higher by n.
+    pub fn after(&self, n: usize) -> Window
+        ensures { result ≡ still_waits self.now n }
+    {
+        let mut places = [None; 31];
+        for i in n..31 {
+            places[i - n] = self.places[i];
+        }
+        Window { places }
+    }
+
+    /// The places in turn.
+    pub fn places(&self) -> &[Option<Move>]
+        ensures { result.now ≡ self.now }
+    {
+        &self.places
+    }
 }

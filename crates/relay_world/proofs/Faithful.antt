@@ -10,7 +10,7 @@ use Rattle.judge_core.specs.Games.{Rules, IsFirst, IsUnruled, position_after_all
 use Rattle.arbiter_core.specs.Recording.{Recorded, reaches, count_of}
 use Rattle.arbiter_core.proofs.Reach.{step_to, reach_within, unruled_below}
 use Rattle.relay_world.specs.declared.event.Event.{Event}
-use Rattle.relay_world.specs.Worlds.{Game, World, happens, after, worlds, first_world}
+use Rattle.relay_world.specs.Worlds.{Judged, World, happens, after, worlds, first_world}
 use Rattle.relay_world.specs.Headline.{IsFrontOf, IsFaithful, IsRecordOf, IsOneVerdict, Agree, IsRight}
 use Rattle.relay_world.specs.Runs.{AreWorlds}
 use Rattle.relay_world.proofs.Steps.{start_legal, all_at}
@@ -50,7 +50,7 @@ agree_at r game (Some x) (Some y) h one other v w e f p q =
     let z : IsOneVerdict r game x y v w = h v w (ap (λ (k : Recorded). k.verdict) a ∙ p) (ap (λ (k : Recorded). k.verdict) b ∙ q) in
     (ap count_of (sym a) ∙ z.ply ∙ ap count_of b, z.verdict)
 
-pub faithful_of : (game : Game) (world : World) → IsRight game world → IsFaithful game world
+pub faithful_of : (game : Judged) (world : World) → IsRight game world → IsFaithful game world
 faithful_of game world h = record {
   a = if_front game.rules game.moves world.a.kept h.a;
   b = if_front game.rules game.moves world.b.kept h.b;
@@ -59,15 +59,15 @@ faithful_of game world h = record {
 
 -- ---- the worlds of a schedule as a list
 
-many_of : (game : Game) (world : World) (events : List Event) → length (worlds game world events) ≡ length events + 1
+many_of : (game : Judged) (world : World) (events : List Event) → length (worlds game world events) ≡ length events + 1
 many_of game world [] = refl
 many_of game world (e ∷ events) = let h = many_of game (happens game world e) events in omega arith
 
-first_of : (game : Game) (world : World) (events : List Event) → slice_get (worlds game world events) 0 ≡ Some world
+first_of : (game : Judged) (world : World) (events : List Event) → slice_get (worlds game world events) 0 ≡ Some world
 first_of game world [] = refl
 first_of game world (e ∷ events) = refl
 
-each_of : (game : Game) (world : World) (events : List Event) (i : ℕ) (event : Event) (old new : World) → slice_get events i ≡ Some event → slice_get (worlds game world events) i ≡ Some old → slice_get (worlds game world events) (suc i) ≡ Some new → new ≡ happens game old event
+each_of : (game : Judged) (world : World) (events : List Event) (i : ℕ) (event : Event) (old new : World) → slice_get events i ≡ Some event → slice_get (worlds game world events) i ≡ Some old → slice_get (worlds game world events) (suc i) ≡ Some new → new ≡ happens game old event
 each_of game world [] i event old new p q r = absurd cc
 each_of game world (e ∷ events) zero event old new p q r =
     let a : e ≡ event = cc in
@@ -80,15 +80,15 @@ each_of game world (e ∷ events) zero event old new p q r =
 each_of game world (e ∷ events) (suc i) event old new p q r = each_of game (happens game world e) events i event old new p q r
 
 -- the world at a place is the one after so many events
-pub at_of : (game : Game) (world : World) (early late : List Event) → slice_get (worlds game world (early ++ late)) (length early) ≡ Some (after game world early)
+pub at_of : (game : Judged) (world : World) (early late : List Event) → slice_get (worlds game world (early ++ late)) (length early) ≡ Some (after game world early)
 at_of game world [] late = first_of game world late
 at_of game world (e ∷ early) late = at_of game (happens game world e) early late
 
-pub last_of : (game : Game) (world : World) (events : List Event) → slice_get (worlds game world events) (length events) ≡ Some (after game world events)
+pub last_of : (game : Judged) (world : World) (events : List Event) → slice_get (worlds game world events) (length events) ≡ Some (after game world events)
 last_of game world [] = refl
 last_of game world (e ∷ events) = last_of game (happens game world e) events
 
-pub are_worlds : (game : Game) (events : List Event) → AreWorlds game events (worlds game (first_world game) events)
+pub are_worlds : (game : Judged) (events : List Event) → AreWorlds game events (worlds game (first_world game) events)
 are_worlds game events = record {
   many = many_of game (first_world game) events;
   first = first_of game (first_world game) events;
@@ -98,11 +98,11 @@ are_worlds game events = record {
     add_one : (i : ℕ) → i + 1 ≡ suc i
     add_one i = omega arith
 
-pub faithful_at : (game : Game) (events : List Event) (i : ℕ) (world : World) → slice_get (worlds game (first_world game) events) i ≡ Some world → IsFaithful game world
+pub faithful_at : (game : Judged) (events : List Event) (i : ℕ) (world : World) → slice_get (worlds game (first_world game) events) i ≡ Some world → IsFaithful game world
 faithful_at game events i world e = faithful_of game world (all_at (IsRight game) (worlds game (first_world game) events) i world (first_is_right game events) e)
 
 -- the first world, the steps and the number of events leave one list
-one_from : (game : Game) (world : World) (events : List Event) (ws : List World) → length ws ≡ length events + 1 → slice_get ws 0 ≡ Some world → ((i : ℕ) (event : Event) (old new : World) → slice_get events i ≡ Some event → slice_get ws i ≡ Some old → slice_get ws (suc i) ≡ Some new → new ≡ happens game old event) → ws ≡ worlds game world events
+one_from : (game : Judged) (world : World) (events : List Event) (ws : List World) → length ws ≡ length events + 1 → slice_get ws 0 ≡ Some world → ((i : ℕ) (event : Event) (old new : World) → slice_get events i ≡ Some event → slice_get ws i ≡ Some old → slice_get ws (suc i) ≡ Some new → new ≡ happens game old event) → ws ≡ worlds game world events
 one_from game world events [] l f each = absurd cc
 one_from game world [] (x ∷ []) l f each = ap (λ (w : World). w ∷ []) cc
 one_from game world [] (x ∷ y ∷ ws) l f each = absurd (omega arith)
@@ -114,7 +114,7 @@ one_from game world (e ∷ events) (x ∷ y ∷ ws) l f each =
     one_from game (happens game world e) events (y ∷ ws) (omega arith) (ap Some b) (λ i event old new. each (suc i) event old new) in
     ap (λ (w : World). w ∷ y ∷ ws) a ∙ ap (λ (v : List World). world ∷ v) rest
 
-pub one_list : (game : Game) (events : List Event) (ws : List World) → AreWorlds game events ws → ws ≡ worlds game (first_world game) events
+pub one_list : (game : Judged) (events : List Event) (ws : List World) → AreWorlds game events ws → ws ≡ worlds game (first_world game) events
 one_list game events ws h = one_from game (first_world game) events ws h.many h.first (λ i event old new p q r. h.each i event old new p q (subst (λ n. slice_get ws n ≡ Some new) (add_one i) r))
   where
     add_one : (i : ℕ) → suc i ≡ i + 1

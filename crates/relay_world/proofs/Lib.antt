@@ -2,7 +2,7 @@ pub mod Steps
 pub mod Schedules
 pub mod Rising
 pub mod Stamped
-pub mod Handing
+pub mod Hearing
 pub mod Reopening
 pub mod Pairing
 pub mod Faithful

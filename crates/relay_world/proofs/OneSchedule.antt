@@ -19,7 +19,7 @@ use Rattle.relay_world.specs.declared.event.Event.{Event}
 use Rattle.relay_world.specs.declared.event.Event.TheVariants.{Deliver, Noise, Restart, Ask}
 use Rattle.relay_world.specs.declared.schedule.Schedule.{Schedule}
 use Rattle.relay_world.specs.Texts.{AreEvents, AreSameEvents, IsEvent, IsMovesLine, IsNameLine, IsSameEvent, IsSameSchedule, IsStartLine, SpellsBytes, SpellsPlace, SpellsSchedule, keep_word, who_word}
-use Rattle.relay_world.specs.Worlds.{Game, World, happens, noised, worlds}
+use Rattle.relay_world.specs.Worlds.{Judged, World, happens, noised, worlds}
 use Rattle.relay_world.proofs.Reading.{first_byte, first_word, later_words}
 
 -- ---- words
@@ -148,7 +148,7 @@ one_schedule position move text s t h g =
 
 -- ---- the worlds of events that are one
 
-one_step : (game : Game) (world : World) (e f : Event) → IsSameEvent e f → happens game world e ≡ happens game world f
+one_step : (game : Judged) (world : World) (e f : Event) → IsSameEvent e f → happens game world e ≡ happens game world f
 unfolding happens
 one_step game world (Deliver who place keep) f h = ap (happens game world) h
 one_step game world (Noise who bytes keep) (Noise other more how) h =
@@ -161,12 +161,12 @@ one_step game world (Noise who bytes keep) (Ask other) h = ap (happens game worl
 one_step game world (Restart who keep) f h = ap (happens game world) h
 one_step game world (Ask who) f h = ap (happens game world) h
 
-one_run : (game : Game) (world : World) (es fs : List Event) → AreSameEvents es fs → worlds game world es ≡ worlds game world fs
+one_run : (game : Judged) (world : World) (es fs : List Event) → AreSameEvents es fs → worlds game world es ≡ worlds game world fs
 one_run game world [] [] h = refl
 one_run game world [] (f ∷ fs) h = absurd h
 one_run game world (e ∷ es) [] h = absurd h
 one_run game world (e ∷ es) (f ∷ fs) h =
     ap (λ (w : World). world ∷ worlds game w es) (one_step game world e f h.0) ∙ ap (λ (ws : List World). world ∷ ws) (one_run game (happens game world f) es fs h.1)
 
-pub same_worlds : (game : Game) (world : World) (s t : Schedule) → IsSameSchedule s t → worlds game world s.events.items ≡ worlds game world t.events.items
+pub same_worlds : (game : Judged) (world : World) (s t : Schedule) → IsSameSchedule s t → worlds game world s.events.items ≡ worlds game world t.events.items
 same_worlds game world s t h = one_run game world s.events.items t.events.items h.events

@@ -13,19 +13,19 @@ use Rattle.judge_core.specs.Games.{Rules, verdict_after}
 use Rattle.arbiter_core.specs.declared.fault.OpenFault.TheVariants.{BadSetup, KeeperFailed, BadRecord, OtherStamp, OutOfMemory}
 use Rattle.arbiter_core.specs.declared.keeper.Keep.{Keep}
 use Rattle.arbiter_core.specs.declared.keeper.Keep.TheVariants.{Good, FailsOld, FailsNew}
-use Rattle.arbiter_core.specs.declared.setup.Setup.{Setup}
 use Rattle.arbiter_core.specs.Recording.{Recorded}
 use Rattle.arbiter_core.specs.Answering.{Identity}
 use Rattle.arbiter_core.specs.Memory.{Memory, memory_facts}
-use Rattle.arbiter_core.specs.Setups.{SetupView, setup_view, rules_at, IsIdentity}
+use Rattle.arbiter_core.specs.Setups.{SetupView, rules_at, IsIdentity}
 use Rattle.arbiter_core.specs.Views.{View, spelled_as}
 use Rattle.arbiter_core.specs.Delivers.{IsSpelled}
 use Rattle.arbiter_core.specs.Opens.{Told, Opens, OpensOver, FirstLands, Resumes, IsResumed, IsWhole, running, first_record}
 use Rattle.arbiter_core.proofs.Opened.{from_whole}
 use Rattle.relay_world.specs.declared.seat.Place.{Place}
-use Rattle.relay_world.specs.declared.seat.Place.TheVariants.{Shut, Open}
+use Rattle.relay_world.specs.declared.seat.Place.TheVariants as place
 use Rattle.relay_world.specs.Worlds.{Side, opened, restarted}
-use Rattle.relay_world.specs.Inside.Seats.{PlaceIs, IsOpen, Stands, setup_in}
+use Rattle.relay_world.specs.Inside.Seats.{PlaceIs, PlaceView, Shut, Open, IsOpen, Stands}
+use Rattle.relay_world.specs.Inside.Fields.{place_of, setup_in}
 use Rattle.relay_world.specs.Runs.{KeptIs}
 
 abbrev stamp_from : List ℕ → Stamp
@@ -62,7 +62,7 @@ one_whole rules stamp bytes one other f g =
 -- what an opening leaves: an arbiter, or the setup
 abbrev pub Reopens : Identity → SetupView → Memory → Side → Told → Type 0
 Reopens me setup kn late (Ok v) = Stands me setup (Open v) kn late
-Reopens me setup kn late (Err fault) = (s : Setup) → setup_view s ≡ setup → Stands me setup (Shut s) kn late
+Reopens me setup kn late (Err fault) = (s : SetupView) → s ≡ setup → Stands me setup (Shut s) kn late
 
 module _ (me : Identity) (setup : SetupView) (kn : Memory) where
   runs : (kept : Recorded) → IsSpelled me.stamp setup.delay kept kn.kept → Stands me setup (Open (running setup me kept)) kn (restarted (rules_at setup) Good (Some kept))
@@ -92,7 +92,7 @@ module _ (me : Identity) (setup : SetupView) (kn : Memory) where
   over_bytes keep bytes old (Err BadSetup) h still n r = absurd r
   over_bytes keep bytes old (Err KeeperFailed) h still n r = absurd r
 
-pub reopened : (me : Identity) (setup : SetupView) (place : Place) (old k kn : Memory) (side : Side) (keep : Keep) (told : Told) → IsIdentity setup me → IfSome side.kept (IsWhole (rules_at setup)) → Stands me setup place old side → k.kept ≡ old.kept → k.keep ≡ keep → (i : Identity) × IsIdentity setup i × Opens memory_facts setup i k kn told → told ≢ Err OutOfMemory → Reopens me setup kn (restarted (rules_at setup) keep side.kept) told
+pub reopened : (me : Identity) (setup : SetupView) (place : PlaceView) (old k kn : Memory) (side : Side) (keep : Keep) (told : Told) → IsIdentity setup me → IfSome side.kept (IsWhole (rules_at setup)) → Stands me setup place old side → k.kept ≡ old.kept → k.keep ≡ keep → (i : Identity) × IsIdentity setup i × Opens memory_facts setup i k kn told → told ≢ Err OutOfMemory → Reopens me setup kn (restarted (rules_at setup) keep side.kept) told
 reopened me setup place old k kn side keep told is whole h ke kk o n =
     by_opens (subst (λ (i : Identity). Opens memory_facts setup i k kn told) (one_identity setup o.0 me o.1 is) o.2)
   where
@@ -109,6 +109,6 @@ reopened me setup place old k kn side keep told is whole h ke kk o n =
     by_opens (inr (inl g)) = absurd (n g.answer)
     by_opens (inr (inr q)) = by_kept side.kept k.kept refl (subst (λ (x : Option (List ℕ)). KeptIs me.stamp setup.delay x side.kept) (sym ke) h.kept) whole q
 
-pub setup_of : (me : Identity) (setup : SetupView) (place : Place) (side : Side) → PlaceIs me setup place side → setup_in place ≡ setup
-setup_of me setup (Shut s) side h = h.0
-setup_of me setup (Open v) side h = h.0
+pub setup_of : (me : Identity) (setup : SetupView) (p : Place) (side : Side) → PlaceIs me setup (place_of p) side → setup_in p ≡ setup
+setup_of me setup (place.Shut s) side h = h.0
+setup_of me setup (place.Open v) side h = h.0

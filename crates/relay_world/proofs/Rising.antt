@@ -23,7 +23,7 @@ use Rattle.arbiter_core.specs.Answering.{Identity, waits_too, told_now, Answer, 
 use Rattle.arbiter_core.proofs.Reach.{step_of, reach_below, last_reached}
 use Rattle.relay_world.specs.declared.event.Event.{Event}
 use Rattle.relay_world.specs.declared.event.Event.TheVariants.{Deliver, Noise, Restart, Ask}
-use Rattle.relay_world.specs.Worlds.{Life, Closed, Down, Running, Side, World, Game, identity, side_of, turned, answered, handed_at, delivered, happens, first_world, after}
+use Rattle.relay_world.specs.Worlds.{Life, Closed, Down, Running, Side, World, Judged, identity, side_of, turned, answered, hears_at, delivered, happens, first_world, after}
 use Rattle.relay_world.specs.Headline.{IsRecordOf, kept_count}
 use Rattle.relay_world.specs.InOrder.{is_running, is_same, is_move, brings, brought, RunsThrough}
 use Rattle.relay_world.proofs.Steps.{SideHolds, all_at, moved, count_at, Holds, Goes, happens_goes}
@@ -67,9 +67,9 @@ put_landed Good me old window next e = refl
 put_landed FailsOld me old window next e = cc
 put_landed FailsNew me old window next e = cc
 
--- a side that runs and is handed the move number n, where the lesser of n and the last ply is kept already
+-- a side that runs hears the move number n, where the lesser of n and the last ply is kept already
 one_more : (r : Rules) (game : List Moves) (me : Identity) (keep : Keep) (kept : Option Recorded) (life : Life) (stamp : Stamp) (sender : Sender) (n : ℕ) (word : Moves) → SideHolds r game (record { kept = kept; life = life }) → slice_get game n ≡ Some word → length game ≤ 4096
-    → let late = handed_at keep kept life (λ old window. answer_to r me old window (Move stamp sender n word)) in
+    → let late = hears_at keep kept life (λ old window. answer_to r me old window (Move stamp sender n word)) in
     is_running life ≡ true → is_running late.0.life ≡ true → kept_count kept ≤ kept_count late.0.kept → min n (last_ply r game) ≤ kept_count kept → min (n + 1) (last_ply r game) ≤ kept_count late.0.kept
 unfolding answer_to
 one_more r game me keep None Closed stamp sender n word h e short a b g low = cc
@@ -119,11 +119,11 @@ move_is n (Some (Verdict stamp who ply v)) e = cc
 move_is n (Some (Fetch stamp who number wanted)) e = cc
 move_is n None e = cc
 
-side_at : (game : Game) (world : World) (who : Who) → Holds game world → SideHolds game.rules game.moves (side_of world who)
+side_at : (game : Judged) (world : World) (who : Who) → Holds game world → SideHolds game.rules game.moves (side_of world who)
 side_at game world A h = h.a
 side_at game world B h = h.b
 
-rises : (game : Game) (world : World) (who : Who) (event : Event) (n : ℕ) → Holds game world → length game.moves ≤ 4096 → brings world who n event ≡ true
+rises : (game : Judged) (world : World) (who : Who) (event : Event) (n : ℕ) → Holds game world → length game.moves ≤ 4096 → brings world who n event ≡ true
     → is_running (side_of world who).life ≡ true → is_running (side_of (happens game world event) who).life ≡ true
     → min n (last_ply game.rules game.moves) ≤ kept_count (side_of world who).kept → min (n + 1) (last_ply game.rules game.moves) ≤ kept_count (side_of (happens game world event) who).kept
 unfolding happens
@@ -134,7 +134,7 @@ rises game world who (Deliver to index keep) n h short br a b low =
     let step : Goes game world (happens game world (Deliver to index keep)) = happens_goes game world (Deliver to index keep) h in
     let g = grows_at game _ _ who step in
     let sound : slice_get game.moves n ≡ Some m.1.1.0 = all_at _ world.log index _ h.log m.1.1.1 in
-    let late : Side × List Message = handed_at keep (side_of world who).kept (side_of world who).life (λ old window. answer_to game.rules (identity game who) old window (Move m.0 m.1.0 n m.1.1.0)) in
+    let late : Side × List Message = hears_at keep (side_of world who).kept (side_of world who).life (λ old window. answer_to game.rules (identity game who) old window (Move m.0 m.1.0 n m.1.1.0)) in
     let is : side_of (happens game world (Deliver to index keep)) who ≡ late.0 =
     ap (λ o. side_of (delivered game world to keep o) who) m.1.1.1
     ∙ ap (λ (w : Who). side_of (delivered game world w keep (Some (Move m.0 m.1.0 n m.1.1.0))) who) t
@@ -147,11 +147,11 @@ rises game world who (Noise to bytes keep) n h short br a b low = cc
 rises game world who (Restart to keep) n h short br a b low = cc
 rises game world who (Ask to) n h short br a b low = cc
 
-starts : (game : Game) (world : World) (who : Who) (events : List Event) → RunsThrough game world who events → is_running (side_of world who).life ≡ true
+starts : (game : Judged) (world : World) (who : Who) (events : List Event) → RunsThrough game world who events → is_running (side_of world who).life ≡ true
 starts game world who [] h = h
 starts game world who (e ∷ events) h = h.0
 
-pub rising : (game : Game) (world : World) (who : Who) (events : List Event) (n : ℕ) → Holds game world → length game.moves ≤ 4096 → RunsThrough game world who events → min n (last_ply game.rules game.moves) ≤ kept_count (side_of world who).kept → min (brought game world who events n) (last_ply game.rules game.moves) ≤ kept_count (side_of (after game world events) who).kept
+pub rising : (game : Judged) (world : World) (who : Who) (events : List Event) (n : ℕ) → Holds game world → length game.moves ≤ 4096 → RunsThrough game world who events → min n (last_ply game.rules game.moves) ≤ kept_count (side_of world who).kept → min (brought game world who events n) (last_ply game.rules game.moves) ≤ kept_count (side_of (after game world events) who).kept
 rising game world who [] n h short runs low = low
 rising game world who (event ∷ events) n h short runs low =
     let step = happens_goes game world event h in
@@ -164,5 +164,5 @@ rising game world who (event ∷ events) n h short runs low =
     rw no (rising game (happens game world event) who events n step.holds short runs.1 (omega arith)))
     (cases_Bool (brings world who n event))
 
-pub rising_from : (game : Game) (early late : List Event) (who : Who) → length game.moves ≤ 4096 → RunsThrough game (after game (first_world game) early) who late → min (brought game (after game (first_world game) early) who late 0) (last_ply game.rules game.moves) ≤ kept_count (side_of (after game (after game (first_world game) early) late) who).kept
+pub rising_from : (game : Judged) (early late : List Event) (who : Who) → length game.moves ≤ 4096 → RunsThrough game (after game (first_world game) early) who late → min (brought game (after game (first_world game) early) who late 0) (last_ply game.rules game.moves) ≤ kept_count (side_of (after game (after game (first_world game) early) late) who).kept
 rising_from game early late who short runs = rising game _ who late 0 (holds_after game early) short runs (omega arith)

@@ -24,7 +24,7 @@ use Rattle.arbiter_core.specs.Recording.{Recorded, Window, count_of, advance}
 use Rattle.arbiter_core.specs.Answering.{Identity, waits_too, told_of, told_now, Answer, Refuses, Sends, Puts, puts, sent_by, answer_to_move, answer_to, answer_heard}
 use Rattle.relay_world.specs.declared.event.Event.{Event}
 use Rattle.relay_world.specs.declared.event.Event.TheVariants.{Deliver, Noise, Restart, Ask}
-use Rattle.relay_world.specs.Worlds.{Life, Closed, Down, Running, Side, World, Game, identity, side_of, turned, answered, handed_at, delivered, listed, wants, happens, first_world, after}
+use Rattle.relay_world.specs.Worlds.{Life, Closed, Down, Running, Side, World, Judged, identity, side_of, turned, answered, hears_at, delivered, listed, wants, happens, first_world, after}
 use Rattle.arbiter_core.specs.Delivers.{heard}
 use Rattle.relay_world.specs.Worlds.{AreStamped}
 use Rattle.relay_world.proofs.Steps.{all_append}
@@ -78,13 +78,13 @@ answered_are stamp Good old window (Puts next outputs later) q = q
 answered_are stamp FailsOld old window (Puts next outputs later) q = tt
 answered_are stamp FailsNew old window (Puts next outputs later) q = tt
 
-handed_are : (stamp : Stamp) (keep : Keep) (kept : Option Recorded) (life : Life) (respond : Recorded → Window → Answer) → ((old : Recorded) (window : Window) → SaysOf stamp (respond old window)) → AreOf stamp (handed_at keep kept life respond).1
-handed_are stamp keep (Some old) (Running window) respond q = answered_are stamp keep old window (respond old window) (q old window)
-handed_are stamp keep (Some old) Closed respond q = tt
-handed_are stamp keep (Some old) Down respond q = tt
-handed_are stamp keep None life respond q = tt
+heard_are : (stamp : Stamp) (keep : Keep) (kept : Option Recorded) (life : Life) (respond : Recorded → Window → Answer) → ((old : Recorded) (window : Window) → SaysOf stamp (respond old window)) → AreOf stamp (hears_at keep kept life respond).1
+heard_are stamp keep (Some old) (Running window) respond q = answered_are stamp keep old window (respond old window) (q old window)
+heard_are stamp keep (Some old) Closed respond q = tt
+heard_are stamp keep (Some old) Down respond q = tt
+heard_are stamp keep None life respond q = tt
 
-turned_are : (game : Game) (world : World) (who : Who) (late : Side × List Message) → AreStamped game world → AreOf game.stamp late.1 → AreStamped game (turned world who late)
+turned_are : (game : Judged) (world : World) (who : Who) (late : Side × List Message) → AreStamped game world → AreOf game.stamp late.1 → AreStamped game (turned world who late)
 turned_are game world A late h q = all_append _ world.log late.1 h q
 turned_are game world B late h q = all_append _ world.log late.1 h q
 
@@ -94,22 +94,22 @@ wants_are me (Some old) Closed = tt
 wants_are me (Some old) Down = tt
 wants_are me None life = tt
 
-delivered_are : (game : Game) (world : World) (who : Who) (keep : Keep) (o : Option Message) → AreStamped game world → AreStamped game (delivered game world who keep o)
+delivered_are : (game : Judged) (world : World) (who : Who) (keep : Keep) (o : Option Message) → AreStamped game world → AreStamped game (delivered game world who keep o)
 delivered_are game world who keep None h = h
-delivered_are game world who keep (Some m) h = turned_are game world who _ h (handed_are game.stamp keep _ _ _ (λ old window. answer_says game.rules (identity game who) old window m))
+delivered_are game world who keep (Some m) h = turned_are game world who _ h (heard_are game.stamp keep _ _ _ (λ old window. answer_says game.rules (identity game who) old window m))
 
-pub happens_are : (game : Game) (world : World) (event : Event) → AreStamped game world → AreStamped game (happens game world event)
+pub happens_are : (game : Judged) (world : World) (event : Event) → AreStamped game world → AreStamped game (happens game world event)
 unfolding happens
 happens_are game world (Deliver who index keep) h = delivered_are game world who keep (slice_get world.log index) h
 happens_are game world (Noise who bytes keep) h =
     cond_both (is_ok (heard game.stamp bytes.items)) world _ (AreStamped game) (λ _. h)
-    (λ _. turned_are game world who _ h (handed_are game.stamp keep _ _ _ (λ old window. heard_says game.rules (identity game who) old window (heard game.stamp bytes.items))))
+    (λ _. turned_are game world who _ h (heard_are game.stamp keep _ _ _ (λ old window. heard_says game.rules (identity game who) old window (heard game.stamp bytes.items))))
 happens_are game world (Ask who) h = turned_are game world who _ h (wants_are (identity game who) (side_of world who).kept (side_of world who).life)
 happens_are game world (Restart who keep) h = turned_are game world who _ h tt
 
-after_are : (game : Game) (world : World) (events : List Event) → AreStamped game world → AreStamped game (after game world events)
+after_are : (game : Judged) (world : World) (events : List Event) → AreStamped game world → AreStamped game (after game world events)
 after_are game world [] h = h
 after_are game world (e ∷ events) h = after_are game (happens game world e) events (happens_are game world e h)
 
-pub stamped_after : (game : Game) (events : List Event) → AreStamped game (after game (first_world game) events)
+pub stamped_after : (game : Judged) (events : List Event) → AreStamped game (after game (first_world game) events)
 stamped_after game events = after_are game (first_world game) events (sent_are game.stamp Source 0 game.moves)

@@ -28,7 +28,7 @@ use Rattle.arbiter_core.proofs.Waiting.{Fits, drop_at, gapless, fits_too, fits_s
 use Rattle.arbiter_core.specs.Delivers.{heard}
 use Rattle.relay_world.specs.declared.event.Event.{Event}
 use Rattle.relay_world.specs.declared.event.Event.TheVariants.{Deliver, Noise, Restart, Ask}
-use Rattle.relay_world.specs.Worlds.{Life, Closed, Down, Running, Side, World, Game, identity, side_of, turned, answered, handed_at, restarted, delivered, listed, wants, happens, first_world, after}
+use Rattle.relay_world.specs.Worlds.{Life, Closed, Down, Running, Side, World, Judged, identity, side_of, turned, answered, hears_at, restarted, delivered, listed, wants, happens, first_world, after}
 use Rattle.relay_world.specs.Headline.{IsRecordOf, Agree, IsRight, kept_count}
 
 -- what waits at a running arbiter is the game's
@@ -264,11 +264,11 @@ answered_turn r game me FailsNew old window (Puts next outputs later) h f q = re
 stays : (r : Rules) (game : List Moves) (me : Identity) (side : Side) → SideHolds r game side → Turn r game me side.kept (side, [])
 stays r game me side h = record { side = h; grows = grows_not side.kept; says = tt }
 
-pub handed_turn : (r : Rules) (game : List Moves) (me : Identity) (keep : Keep) (kept : Option Recorded) (life : Life) (respond : Recorded → Window → Answer) → SideHolds r game (record { kept = kept; life = life }) → ((old : Recorded) (window : Window) → IsRecordOf r game old → Fits window game (count_of old + 1) → AnswerHolds r game me old (respond old window)) → Turn r game me kept (handed_at keep kept life respond)
-handed_turn r game me keep (Some old) (Running window) respond h q = answered_turn r game me keep old window (respond old window) h.kept h.waits (q old window h.kept h.waits)
-handed_turn r game me keep (Some old) Closed respond h q = stays r game me _ h
-handed_turn r game me keep (Some old) Down respond h q = stays r game me _ h
-handed_turn r game me keep None life respond h q = stays r game me _ h
+pub hears_turn : (r : Rules) (game : List Moves) (me : Identity) (keep : Keep) (kept : Option Recorded) (life : Life) (respond : Recorded → Window → Answer) → SideHolds r game (record { kept = kept; life = life }) → ((old : Recorded) (window : Window) → IsRecordOf r game old → Fits window game (count_of old + 1) → AnswerHolds r game me old (respond old window)) → Turn r game me kept (hears_at keep kept life respond)
+hears_turn r game me keep (Some old) (Running window) respond h q = answered_turn r game me keep old window (respond old window) h.kept h.waits (q old window h.kept h.waits)
+hears_turn r game me keep (Some old) Closed respond h q = stays r game me _ h
+hears_turn r game me keep (Some old) Down respond h q = stays r game me _ h
+hears_turn r game me keep None life respond h q = stays r game me _ h
 
 first_is : (r : Rules) (game : List Moves) → IsRecordOf r game (record_at r [] 0)
 first_is r game = record { ply = 0; reached = refl; is = refl }
@@ -283,13 +283,13 @@ restarted_turn r game me FailsOld None h = record { side = record { kept = tt; w
 restarted_turn r game me FailsNew None h = record { side = record { kept = first_is r game; waits = tt }; grows = grows_from_none _; says = tt }
 
 -- the invariant
-pub record Holds (game : Game) (world : World) : Type 0 where
+pub record Holds (game : Judged) (world : World) : Type 0 where
   pub a : SideHolds game.rules game.moves world.a
   pub b : SideHolds game.rules game.moves world.b
   pub log : AllByRecursion (IsSound game.rules game.moves (kept_count world.a.kept) (kept_count world.b.kept)) world.log
 
 -- a step from one world to the next
-pub record Goes (game : Game) (early late : World) : Type 0 where
+pub record Goes (game : Judged) (early late : World) : Type 0 where
   pub holds : Holds game late
   pub a : Grows early.a.kept late.a.kept
   pub b : Grows early.b.kept late.b.kept
@@ -319,7 +319,7 @@ sound_b r game s a b (Ack stamp who n) e = subst (λ (w : Who). n ≤ count_by w
 sound_b r game s a b (Verdict stamp who ply v) e = e
 sound_b r game s a b (Fetch stamp who number wanted) e = tt
 
-pub turned_goes : (game : Game) (world : World) (who : Who) (late : Side × List Message) → Holds game world → Turn game.rules game.moves (identity game who) (side_of world who).kept late → Goes game world (turned world who late)
+pub turned_goes : (game : Judged) (world : World) (who : Who) (late : Side × List Message) → Holds game world → Turn game.rules game.moves (identity game who) (side_of world who).kept late → Goes game world (turned world who late)
 turned_goes game world A late h t =
     record {
       holds = record {
@@ -347,22 +347,22 @@ turned_goes game world B late h t =
       log = slice_get_more world.log late.1;
     }
 
-delivered_goes : (game : Game) (world : World) (who : Who) (keep : Keep) (o : Option Message) → Holds game world → ((m : Message) → o ≡ Some m → IsSound game.rules game.moves (kept_count world.a.kept) (kept_count world.b.kept) m) → Goes game world (delivered game world who keep o)
+delivered_goes : (game : Judged) (world : World) (who : Who) (keep : Keep) (o : Option Message) → Holds game world → ((m : Message) → o ≡ Some m → IsSound game.rules game.moves (kept_count world.a.kept) (kept_count world.b.kept) m) → Goes game world (delivered game world who keep o)
 delivered_goes game world who keep None h q = record { holds = h; a = grows_not world.a.kept; b = grows_not world.b.kept; log = λ i m e. e }
 delivered_goes game world who keep (Some m) h q =
-    turned_goes game world who _ h (handed_turn game.rules game.moves (identity game who) keep _ _ _ (side_holds game world who h)
+    turned_goes game world who _ h (hears_turn game.rules game.moves (identity game who) keep _ _ _ (side_holds game world who h)
     (λ old window i f. answer_holds game.rules game.moves (identity game who) (kept_count world.a.kept) (kept_count world.b.kept) old window m i f (q m refl)))
   where
-    side_holds : (game : Game) (world : World) (who : Who) → Holds game world → SideHolds game.rules game.moves (side_of world who)
+    side_holds : (game : Judged) (world : World) (who : Who) → Holds game world → SideHolds game.rules game.moves (side_of world who)
     side_holds game world A h = h.a
     side_holds game world B h = h.b
 
-side_at : (game : Game) (world : World) (who : Who) → Holds game world → SideHolds game.rules game.moves (side_of world who)
+side_at : (game : Judged) (world : World) (who : Who) → Holds game world → SideHolds game.rules game.moves (side_of world who)
 side_at game world A h = h.a
 side_at game world B h = h.b
 
 -- noise says nothing that an arbiter takes for a message of this game
-refused_holds : (game : Game) (me : Identity) (old : Recorded) (window : Window) (bytes : List ℕ) → is_ok (heard game.stamp bytes) ≡ false → AnswerHolds game.rules game.moves me old (answer_heard game.rules me old window (heard game.stamp bytes))
+refused_holds : (game : Judged) (me : Identity) (old : Recorded) (window : Window) (bytes : List ℕ) → is_ok (heard game.stamp bytes) ≡ false → AnswerHolds game.rules game.moves me old (answer_heard game.rules me old window (heard game.stamp bytes))
 refused_holds game me old window bytes h = by_cases (heard game.stamp bytes) h
   where
     by_cases : (o : Result Message DeliverFault) → is_ok o ≡ false → AnswerHolds game.rules game.moves me old (answer_heard game.rules me old window o)
@@ -375,27 +375,27 @@ asked_says r game me count (Some old) Closed = tt
 asked_says r game me count (Some old) Down = tt
 asked_says r game me count None life = tt
 
-pub happens_goes : (game : Game) (world : World) (event : Event) → Holds game world → Goes game world (happens game world event)
+pub happens_goes : (game : Judged) (world : World) (event : Event) → Holds game world → Goes game world (happens game world event)
 unfolding happens
 happens_goes game world (Deliver who index keep) h =
     delivered_goes game world who keep (slice_get world.log index) h (λ m e. all_at _ world.log index m h.log e)
 happens_goes game world (Noise who bytes keep) h =
     cond_both (is_ok (heard game.stamp bytes.items)) world _ (Goes game world)
     (λ _. record { holds = h; a = grows_not world.a.kept; b = grows_not world.b.kept; log = λ i m e. e })
-    (λ e. turned_goes game world who _ h (handed_turn game.rules game.moves (identity game who) keep _ _ _ (side_at game world who h)
+    (λ e. turned_goes game world who _ h (hears_turn game.rules game.moves (identity game who) keep _ _ _ (side_at game world who h)
     (λ old window i f. refused_holds game (identity game who) old window bytes.items e)))
 happens_goes game world (Ask who) h =
     turned_goes game world who _ h (record { side = side_at game world who h; grows = grows_not _; says = asked_says game.rules game.moves (identity game who) (kept_count (side_of world who).kept) (side_of world who).kept (side_of world who).life })
 happens_goes game world (Restart who keep) h =
     turned_goes game world who _ h (restarted_turn game.rules game.moves (identity game who) keep _ (side_at game world who h).kept)
 
-pub first_holds : (game : Game) → Holds game (first_world game)
+pub first_holds : (game : Judged) → Holds game (first_world game)
 first_holds game = record { a = record { kept = tt; waits = tt }; b = record { kept = tt; waits = tt }; log = moves_all (IsSound game.rules game.moves 0 0) game.moves game.stamp Source 0 [] game.moves [] (λ k w e. e) refl (sym (append-nil game.moves)) }
 
 grows_on : (x y z : Option Recorded) → Grows x y → Grows y z → Grows x z
 grows_on x y z f g = record { count = omega (arith, f.count, g.count); verdict = λ k v e s. g.verdict k v (f.verdict k v e s) s }
 
-pub run_goes : (game : Game) (world : World) (events : List Event) → Holds game world → Goes game world (after game world events)
+pub run_goes : (game : Judged) (world : World) (events : List Event) → Holds game world → Goes game world (after game world events)
 run_goes game world [] h = record { holds = h; a = grows_not world.a.kept; b = grows_not world.b.kept; log = λ i m e. e }
 run_goes game world (event ∷ events) h =
     let one = happens_goes game world event h in
@@ -409,7 +409,7 @@ agree_of r game one other f g v w d e =
     let s = one_first r game _ _ v w x y in
     record { ply = s.0; verdict = s.1; first = x }
 
-pub right_of : (game : Game) (world : World) → Holds game world → IsRight game world
+pub right_of : (game : Judged) (world : World) → Holds game world → IsRight game world
 right_of game world h = record { a = h.a.kept; b = h.b.kept; agree = pairs world.a.kept world.b.kept h.a.kept h.b.kept }
   where
     pairs : (x y : Option Recorded) → IfSome x (IsRecordOf game.rules game.moves) → IfSome y (IsRecordOf game.rules game.moves) → IfSome x (λ one. IfSome y (Agree game.rules game.moves one))

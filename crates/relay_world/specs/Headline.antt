@@ -4,7 +4,7 @@ use Rattle.board_core.specs.declared.moves.Move.{Move as Moves}
 use Rattle.board_core.specs.declared.verdict.Verdict.{Verdict as Ruling}
 use Rattle.judge_core.specs.Games.{Rules, IsFirst, IsUnruled, position_after_all}
 use Rattle.arbiter_core.specs.Recording.{Recorded, reaches, record_at, count_of}
-use Rattle.relay_world.specs.Worlds.{Game, World}
+use Rattle.relay_world.specs.Worlds.{Judged, World}
 
 -- ---- in plain words
 
@@ -20,7 +20,7 @@ pub record IsFrontOf (rules : Rules) (game : List Moves) (kept : Recorded) : Typ
 
 -- What both arbiters keep is true to the game: each keeps nothing or the record of its first so many moves, and where both
 -- keep a verdict, it is one, at one ply.
-pub record IsFaithful (game : Game) (world : World) : Type 0 where
+pub record IsFaithful (game : Judged) (world : World) : Type 0 where
   pub a : IfSome world.a.kept (IsFrontOf game.rules game.moves)
   pub b : IfSome world.b.kept (IsFrontOf game.rules game.moves)
   pub agree : (one other : Recorded) (v w : Ruling) → world.a.kept ≡ Some one → world.b.kept ≡ Some other → one.verdict ≡ Some v → other.verdict ≡ Some w → (count_of one ≡ count_of other) × (v ≡ w)
@@ -47,7 +47,7 @@ pub record IsOneVerdict (rules : Rules) (game : List Moves) (one other : Recorde
 abbrev pub Agree : Rules → List Moves → Recorded → Recorded → Type 0
 Agree rules game one other = (v w : Ruling) → one.verdict ≡ Some v → other.verdict ≡ Some w → IsOneVerdict rules game one other v w
 
-pub record IsRight (game : Game) (world : World) : Type 0 where
+pub record IsRight (game : Judged) (world : World) : Type 0 where
   pub a : IfSome world.a.kept (IsRecordOf game.rules game.moves)
   pub b : IfSome world.b.kept (IsRecordOf game.rules game.moves)
   pub agree : IfSome world.a.kept (λ one. IfSome world.b.kept (Agree game.rules game.moves one))

@@ -10,6 +10,8 @@ use Rattle.move_msg.specs.declared.message.Message.{Message}
 use Rattle.move_msg.specs.declared.who.Who.{Who}
 use Rattle.move_msg.specs.declared.who.Who.TheVariants.{A, B}
 use Rattle.move_msg.specs.Numbers.{most_moves}
+use Rattle.move_msg.specs.Records.{SpellsRecord, code_or_none}
+use Rattle.move_msg.specs.declared.record_bytes.Record.{Record}
 use Rattle.move_msg.specs.Stamps.{IsGameName, stamp_of}
 use Rattle.arbiter_core.specs.Recording.{Recorded}
 use Rattle.arbiter_core.specs.Delivers.{IsSpelled}
@@ -19,7 +21,7 @@ use Rattle.relay_world.specs.declared.world.State.TheVariants as state
 use Rattle.move_msg.specs.Files.{File}
 use Rattle.relay_world.specs.Gathering.{tables_of, IsManifestOf}
 use Rattle.relay_world.specs.Headline.{IsFaithful}
-use Rattle.relay_world.specs.Worlds.{Game, Side, World, Life, Closed, Down, Running, first_world, happens}
+use Rattle.relay_world.specs.Worlds.{Judged, Side, World, Life, Closed, Down, Running, first_world, happens}
 
 -- ---- a game
 
@@ -37,7 +39,7 @@ pub record IsGame (game : GameView) : Type 0 where
   pub delay : game.delay ≤ most_delay
 
 -- the game as it is judged by tables with this manifest
-abbrev pub judged_by : GameView → Tables → List ℕ → Game
+abbrev pub judged_by : GameView → Tables → List ℕ → Judged
 judged_by game tables manifest = record {
   rules = record { start = game.start; tables = tables; delay = game.delay };
   stamp = record { 0 = stamp_of game.name (fen_of game.start) manifest game.delay };
@@ -65,6 +67,14 @@ abbrev pub told_of : WorldView → Who → SideView
 told_of told A = told.a
 told_of told B = told.b
 
+-- the bytes that are told spell a record with so many moves and a verdict of this code
+pub record SpellsCounted (told : SideView) (found : ℕ × ℕ) : Type 0 where
+  pub bytes : List ℕ
+  pub spelled : Record
+  pub is : told.bytes ≡ Some bytes
+  pub spells : SpellsRecord bytes spelled
+  pub counts : found ≡ (length spelled.moves, code_or_none spelled.verdict)
+
 -- the bytes that are kept spell the record that is kept
 abbrev pub KeptIs : Stamp → ℕ → Option (List ℕ) → Option Recorded → Type 0
 KeptIs stamp delay bytes None = bytes ≡ None
@@ -75,7 +85,7 @@ pub record TellsSide (stamp : Stamp) (delay : ℕ) (told : SideView) (side : Sid
   pub state : told.state ≡ state_of side.life
   pub bytes : KeptIs stamp delay told.bytes side.kept
 
-pub record Tells (game : Game) (told : WorldView) (world : World) : Type 0 where
+pub record Tells (game : Judged) (told : WorldView) (world : World) : Type 0 where
   pub a : TellsSide game.stamp game.rules.delay told.a world.a
   pub b : TellsSide game.stamp game.rules.delay told.b world.b
   pub log : told.log ≡ world.log
@@ -83,7 +93,7 @@ pub record Tells (game : Game) (told : WorldView) (world : World) : Type 0 where
 -- ---- a run
 
 -- the worlds of a schedule: the first, and the one after each event
-pub record AreWorlds (game : Game) (events : List Event) (worlds : List World) : Type 0 where
+pub record AreWorlds (game : Judged) (events : List Event) (worlds : List World) : Type 0 where
   pub many : length worlds ≡ length events + 1
   pub first : slice_get worlds 0 ≡ Some (first_world game)
   pub each : (i : ℕ) (event : Event) (old new : World) → slice_get events i ≡ Some event → slice_get worlds i ≡ Some old → slice_get worlds (i + 1) ≡ Some new → new ≡ happens game old event

@@ -1,5 +1,5 @@
 -- Two arbiters and all that was ever sent, step by step (this project's own, docs/RULES.md).
-use Rattle.std.specs.Prelude.{◌≡◌, cond, List, [], ◌∷◌, ◌++◌, slice_get, Option, Some, None, Result, is_ok}
+use Rattle.std.specs.Prelude.{◌≡◌, ℕ, cond, List, [], ◌∷◌, ◌++◌, slice_get, Option, Some, None, Result, is_ok}
 use Rattle.std.specs.List.{AllByRecursion}
 use Rattle.board_core.specs.declared.moves.Move.{Move as Moves}
 use Rattle.judge_core.specs.Games.{Rules}
@@ -36,13 +36,13 @@ pub record World : Type 0 where
   -- every message that was ever sent, in order
   pub log : List Message
 
--- What a game is: its rules, its stamp and the moves that the source sends.
-pub record Game : Type 0 where
+-- A game as it is judged: its rules, its stamp and the moves that the source sends.
+pub record Judged : Type 0 where
   pub rules : Rules
   pub stamp : Stamp
   pub moves : List Moves
 
-abbrev pub identity : Game → Who → Identity
+abbrev pub identity : Judged → Who → Identity
 identity game who = record { stamp = game.stamp; who = who }
 
 abbrev pub side_of : World → Who → Side
@@ -66,13 +66,17 @@ answered keep old window (Refuses fault) = (record { kept = Some old; life = Run
 answered keep old window (Sends outputs later) = (record { kept = Some old; life = Running later }, outputs)
 answered keep old window (Puts next outputs later) = put keep (Some old) next outputs later
 
--- A side is handed something that has this answer where it runs. A closed one and one that is down hear nothing.
-abbrev pub handed_at : Keep → Option Recorded → Life → (Recorded → Window → Answer) → Side × List Message
-handed_at keep (Some old) (Running window) respond = answered keep old window (respond old window)
-handed_at keep kept life respond = (record { kept = kept; life = life }, [])
+-- A side hears something that has this answer where it runs. A closed one and one that is down hear nothing.
+abbrev pub hears_at : Keep → Option Recorded → Life → (Recorded → Window → Answer) → Side × List Message
+hears_at keep (Some old) (Running window) respond = answered keep old window (respond old window)
+hears_at keep kept life respond = (record { kept = kept; life = life }, [])
 
-abbrev pub handed : Keep → Side → (Recorded → Window → Answer) → Side × List Message
-handed keep side respond = handed_at keep side.kept side.life respond
+abbrev pub hears : Keep → Side → (Recorded → Window → Answer) → Side × List Message
+hears keep side respond = hears_at keep side.kept side.life respond
+
+-- what a running arbiter answers to a datagram
+abbrev pub answer_to_datagram : Rules → Identity → List ℕ → Recorded → Window → Answer
+answer_to_datagram rules me datagram old window = answer_heard rules me old window (heard me.stamp datagram)
 
 -- an open over nothing kept whose put fails leaves the arbiter closed
 abbrev pub opened : Keep → Recorded → Side
@@ -85,10 +89,10 @@ abbrev pub restarted : Rules → Keep → Option Recorded → Side
 restarted rules keep (Some old) = record { kept = Some old; life = Running nothing_waits }
 restarted rules keep None = opened keep (record_at rules [] 0)
 
-abbrev pub delivered : Game → World → Who → Keep → Option Message → World
+abbrev pub delivered : Judged → World → Who → Keep → Option Message → World
 delivered game world who keep None = world
 delivered game world who keep (Some message) =
-    turned world who (handed keep (side_of world who) (λ old window. answer_to game.rules (identity game who) old window message))
+    turned world who (hears keep (side_of world who) (λ old window. answer_to game.rules (identity game who) old window message))
 
 abbrev pub listed : Option Message → List Message
 listed None = []
@@ -102,32 +106,32 @@ wants me (Some old) Down = []
 wants me None life = []
 
 -- noise that is a message of the game does nothing
-abbrev pub noised : Game → World → Who → Keep → Result Message DeliverFault → World
+abbrev pub noised : Judged → World → Who → Keep → Result Message DeliverFault → World
 noised game world who keep said =
     cond (is_ok said) world
-    (turned world who (handed keep (side_of world who) (λ old window. answer_heard game.rules (identity game who) old window said)))
+    (turned world who (hears keep (side_of world who) (λ old window. answer_heard game.rules (identity game who) old window said)))
 
 -- one step: the world after the event
-unfoldable pub happens : Game → World → Event → World
+unfoldable pub happens : Judged → World → Event → World
 happens game world (Deliver who index keep) = delivered game world who keep (slice_get world.log index)
 happens game world (Noise who bytes keep) = noised game world who keep (heard game.stamp bytes.items)
 happens game world (Ask who) = turned world who (side_of world who, wants (identity game who) (side_of world who).kept (side_of world who).life)
 happens game world (Restart who keep) = turned world who (restarted game.rules keep (side_of world who).kept, [])
 
 -- both closed, nothing kept, and the game's moves sent
-abbrev pub first_world : Game → World
+abbrev pub first_world : Judged → World
 first_world game = record { a = record { kept = None; life = Closed }; b = record { kept = None; life = Closed }; log = sent_by game.stamp Source 0 game.moves }
 
 -- the world after a whole schedule
-abbrev pub after : Game → World → List Event → World
+abbrev pub after : Judged → World → List Event → World
 after game world [] = world
 after game world (event ∷ events) = after game (happens game world event) events
 
 -- every world of a schedule, one more than its events
-abbrev pub worlds : Game → World → List Event → List World
+abbrev pub worlds : Judged → World → List Event → List World
 worlds game world [] = world ∷ []
 worlds game world (event ∷ events) = world ∷ worlds game (happens game world event) events
 
 -- every message in the log is of the game
-abbrev pub AreStamped : Game → World → Type 0
+abbrev pub AreStamped : Judged → World → Type 0
 AreStamped game world = AllByRecursion (λ m. stamp_in m ≡ game.stamp) world.log

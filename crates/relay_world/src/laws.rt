@@ -1,18 +1,10 @@
 //! What holds along every schedule.
 
-ghost use Rattle.std.specs.Prelude.{◌≡◌, ℕ, ◌≤◌, ◌↔◌, true, List, ◌++◌, slice_get, take, min, length, Some, IsSome};
-ghost use Rattle.board_core.specs.declared.moves.Move.{Move as Moves};
-ghost use Rattle.board_core.specs.declared.verdict.Verdict.{Verdict as Ruling};
-ghost use Rattle.move_msg.specs.declared.message.Message.TheVariants.{Ack, Verdict, Move};
-ghost use Rattle.move_msg.specs.declared.stamp.Stamp.{Stamp};
-ghost use Rattle.move_msg.specs.declared.who.Sender.{Sender};
-ghost use Rattle.move_msg.specs.declared.who.Who.{Who};
-ghost use Rattle.judge_core.specs.Games.{IsFirst, IsUnruled, Rules, position_after_all};
-ghost use Rattle.arbiter_core.specs.Recording.{Recorded, last_ply, reaches};
+ghost use Rattle.std.specs.Prelude.{◌≡◌, ℕ, List, ◌++◌, slice_get, length, Some};
 ghost use Rattle.relay_world.specs.declared.event.Event.{Event};
-ghost use Rattle.relay_world.specs.Worlds.{Game, World, after, worlds, first_world, side_of, AreStamped};
-ghost use Rattle.relay_world.specs.Headline.{IsFaithful, kept_count};
-ghost use Rattle.relay_world.specs.InOrder.{RunsThrough, brought};
+ghost use Rattle.relay_world.specs.Worlds.{Judged, World, after, worlds, first_world, AreStamped};
+ghost use Rattle.relay_world.specs.Headline.{IsFaithful};
+ghost use Rattle.relay_world.specs.Laws.{AcksAreKept, CountsGrow, MovesAreTheGames, ReachedPlies, RisingOrder, VerdictsAreFirst, VerdictsStay};
 ghost use Rattle.relay_world.specs.Runs.{AreWorlds};
 ghost use Rattle.relay_world.specs.declared.schedule.Schedule.{Schedule};
 ghost use Rattle.relay_world.specs.Texts.{IsFirstBadLine, IsSameSchedule, SpellsSchedule};
@@ -24,56 +16,56 @@ use place_index::tables_are_numbered;
 /// In each world of each schedule each kept record is that of the game's first so many moves, with the first verdict exactly at
 /// its ply, and two kept verdicts are one.
 pub fn headline()
-    ensures { (game : Game) (events : List Event) (i : ℕ) (world : World) → slice_get (worlds game (first_world game) events) i ≡ Some world → IsFaithful game world }
+    ensures { (game : Judged) (events : List Event) (i : ℕ) (world : World) → slice_get (worlds game (first_world game) events) i ≡ Some world → IsFaithful game world }
 {}
 
 /// The first world and the steps leave one list of worlds, so that these laws are about those of `run`: the world at a place is
 /// the one after so many events, and the last is the one after all.
 pub fn one_list_of_worlds()
-    ensures list { (game : Game) (events : List Event) (ws : List World) → AreWorlds game events ws → ws ≡ worlds game (first_world game) events }
-    ensures each { (game : Game) (early late : List Event) → slice_get (worlds game (first_world game) (early ++ late)) (length early) ≡ Some (after game (first_world game) early) }
-    ensures last { (game : Game) (events : List Event) → slice_get (worlds game (first_world game) events) (length events) ≡ Some (after game (first_world game) events) }
+    ensures list { (game : Judged) (events : List Event) (ws : List World) → AreWorlds game events ws → ws ≡ worlds game (first_world game) events }
+    ensures each { (game : Judged) (early late : List Event) → slice_get (worlds game (first_world game) (early ++ late)) (length early) ≡ Some (after game (first_world game) early) }
+    ensures last { (game : Judged) (events : List Event) → slice_get (worlds game (first_world game) events) (length events) ≡ Some (after game (first_world game) events) }
 {}
 
 /// A game reaches a ply exactly where its moves up to it are there and legal in turn, and no earlier ply has a verdict.
 pub fn reached_plies()
-    ensures { (rules : Rules) (game : List Moves) (ply : ℕ) → (reaches rules game ply ≡ true) ↔ ((ply ≤ length game) × IsSome (position_after_all rules.start (take ply game)) × IsUnruled rules game ply) }
+    ensures { ReachedPlies }
 {}
 
 /// A kept count never falls.
 pub fn counts_grow()
-    ensures { (game : Game) (early late : List Event) (who : Who) → kept_count (side_of (after game (first_world game) early) who).kept ≤ kept_count (side_of (after game (first_world game) (early ++ late)) who).kept }
+    ensures { CountsGrow }
 {}
 
 /// No Ack tells more than its sender keeps, then and later.
 pub fn acks_are_kept()
-    ensures { (game : Game) (early late : List Event) (i : ℕ) (stamp : Stamp) (who : Who) (n : ℕ) → slice_get (after game (first_world game) early).log i ≡ Some (Ack stamp who n) → n ≤ kept_count (side_of (after game (first_world game) (early ++ late)) who).kept }
+    ensures { AcksAreKept }
 {}
 
 /// Each verdict that is sent is the first of the game, with its ply.
 pub fn verdicts_are_first()
-    ensures { (game : Game) (events : List Event) (i : ℕ) (stamp : Stamp) (who : Who) (ply : ℕ) (v : Ruling) → slice_get (after game (first_world game) events).log i ≡ Some (Verdict stamp who ply v) → IsFirst game.rules game.moves ply v }
+    ensures { VerdictsAreFirst }
 {}
 
 /// A kept verdict stays, and the record with it.
 pub fn verdicts_stay()
-    ensures { (game : Game) (early late : List Event) (who : Who) (kept : Recorded) (v : Ruling) → (side_of (after game (first_world game) early) who).kept ≡ Some kept → kept.verdict ≡ Some v → (side_of (after game (first_world game) (early ++ late)) who).kept ≡ Some kept }
+    ensures { VerdictsStay }
 {}
 
 /// An arbiter that runs through a stretch, in which the moves up to number n came in rising order, keeps n moves, or
 /// as many as the game reaches.
 pub fn rising_order()
-    ensures { (game : Game) (early late : List Event) (who : Who) → length game.moves ≤ 4096 → RunsThrough game (after game (first_world game) early) who late → min (brought game (after game (first_world game) early) who late 0) (last_ply game.rules game.moves) ≤ kept_count (side_of (after game (after game (first_world game) early) late) who).kept }
+    ensures { RisingOrder }
 {}
 
 /// Each move in the log is the game's at its number, whoever sent it.
 pub fn moves_are_the_games()
-    ensures { (game : Game) (events : List Event) (i : ℕ) (stamp : Stamp) (sender : Sender) (n : ℕ) (m : Moves) → slice_get (after game (first_world game) events).log i ≡ Some (Move stamp sender n m) → slice_get game.moves n ≡ Some m }
+    ensures { MovesAreTheGames }
 {}
 
 /// Every message that was ever sent is of the game.
 pub fn log_is_of_the_game()
-    ensures { (game : Game) (events : List Event) → AreStamped game (after game (first_world game) events) }
+    ensures { (game : Judged) (events : List Event) → AreStamped game (after game (first_world game) events) }
 {}
 
 /// The file names that a manifest may have are those of the 145 tables, each with either ending, and no others.
@@ -93,7 +85,7 @@ pub fn one_bad_line()
 /// they have the same items. Schedules that are so one come to the same worlds.
 pub fn one_schedule()
     ensures one { (text : List ℕ) (s t : Schedule) → SpellsSchedule text s → SpellsSchedule text t → IsSameSchedule s t }
-    ensures worlds { (game : Game) (s t : Schedule) → IsSameSchedule s t → worlds game (first_world game) s.events.items ≡ worlds game (first_world game) t.events.items }
+    ensures worlds { (game : Judged) (s t : Schedule) → IsSameSchedule s t → worlds game (first_world game) s.events.items ≡ worlds game (first_world game) t.events.items }
 {
     one_position();
     one_move();

@@ -1,18 +1,14 @@
 //! Two seats and what was sent.
 
-ghost use Rattle.std.specs.Prelude.{◌≡◌, ◌++◌, [], slice_get, IfOk, OnOk, IsOk, is_ok};
-ghost use Rattle.std.specs.Str.{bytes_eq};
+ghost use Rattle.std.specs.Prelude.{◌≡◌, ◌++◌, slice_get, IfOk, OnOk, IsOk, is_ok};
 ghost use Rattle.move_msg.specs.declared.who.Who.TheVariants.{A, B};
-ghost use Rattle.arbiter_core.specs.Answering.{answer_heard};
 ghost use Rattle.arbiter_core.specs.Delivers.{heard};
-ghost use Rattle.arbiter_core.specs.Setups.{SetupView};
-ghost use Rattle.relay_world.specs.Headline.{IsRight};
-ghost use Rattle.relay_world.specs.Inside.Pairs.{AreSetups, PairIs, IsOne, IsBegun};
-ghost use Rattle.relay_world.specs.Worlds.{Game, World, after, first_world, identity, side_of, turned, handed, restarted, wants, listed, delivered, noised, happens, AreStamped};
+ghost use Rattle.relay_world.specs.Inside.Pairs.{IsAfter, IsAfterAll, IsAsked, asks, hears_datagram, restarts};
+ghost use Rattle.relay_world.specs.Worlds.{delivered, happens, listed, noised};
 
 use crate::event::Event;
-use crate::seat::{Place, ask, hand, restart};
-use arbiter_core::{Keep, MemoryKeeper, Outputs};
+use crate::seat::Seat;
+use arbiter_core::{Keep, Outputs};
 use move_msg::{Message, Stamp, Who};
 use std::alloc::{AllocError, Global};
 use std::vec::Vec;
@@ -22,14 +18,10 @@ use std::vec::Vec;
 pub(crate) struct Pair<'a> {
     /// The game.
     pub stamp: Stamp,
-    /// Where A sits.
-    pub first: Place<'a>,
-    /// What A keeps.
-    pub first_keeper: MemoryKeeper,
-    /// Where B sits.
-    pub second: Place<'a>,
-    /// What B keeps.
-    pub second_keeper: MemoryKeeper,
+    /// A and its keeper.
+    pub first: Seat<'a>,
+    /// B and its keeper.
+    pub second: Seat<'a>,
     /// Every message that was ever sent, in order.
     pub log: Vec<Message>,
 }
@@ -58,101 +50,82 @@ fn note(log: &mut Vec<Message>, asked: Option<Message>) -> Result<(), AllocError
     Ok(())
 }
 
-/// Hands bytes to A.
-fn hand_first(
+/// Delivers a datagram to A.
+fn deliver_first(
     alloc: Global,
     pair: &mut Pair<'_>,
     keep: Keep,
     bytes: &[u8],
 ) -> Result<(), AllocError>
-    requires { IsOne pair.old }
-    ensures { (game : Game) (a b : SetupView) (world : World) → AreSetups game a b → PairIs game a b pair.old world → OnOk result (PairIs game a b pair.new (turned world A (handed keep world.a (λ old window. answer_heard game.rules (identity game A) old window (heard game.stamp bytes.now))))) }
+    ensures { OnOk result (IsAfter pair.old (hears_datagram A keep bytes.now) pair.new) }
 {
-    let outputs = hand(alloc, &mut pair.first, &mut pair.first_keeper, keep, bytes)?;
+    let outputs = pair.first.deliver(alloc, keep, bytes)?;
     append(&mut pair.log, &outputs)
 }
 
-/// Hands bytes to B.
-fn hand_second(
+/// Delivers a datagram to B.
+fn deliver_second(
     alloc: Global,
     pair: &mut Pair<'_>,
     keep: Keep,
     bytes: &[u8],
 ) -> Result<(), AllocError>
-    requires { IsOne pair.old }
-    ensures { (game : Game) (a b : SetupView) (world : World) → AreSetups game a b → PairIs game a b pair.old world → OnOk result (PairIs game a b pair.new (turned world B (handed keep world.b (λ old window. answer_heard game.rules (identity game B) old window (heard game.stamp bytes.now))))) }
+    ensures { OnOk result (IsAfter pair.old (hears_datagram B keep bytes.now) pair.new) }
 {
-    let outputs = hand(
-        alloc,
-        &mut pair.second,
-        &mut pair.second_keeper,
-        keep,
-        bytes,
-    )?;
+    let outputs = pair.second.deliver(alloc, keep, bytes)?;
     append(&mut pair.log, &outputs)
 }
 
-/// Hands bytes to one of the two.
-fn hand_to(
+/// Delivers a datagram to one of the two.
+fn deliver_to(
     alloc: Global,
     pair: &mut Pair<'_>,
     who: Who,
     keep: Keep,
     bytes: &[u8],
 ) -> Result<(), AllocError>
-    requires { IsOne pair.old }
-    ensures { (game : Game) (a b : SetupView) (world : World) → AreSetups game a b → PairIs game a b pair.old world → OnOk result (PairIs game a b pair.new (turned world who (handed keep (side_of world who) (λ old window. answer_heard game.rules (identity game who) old window (heard game.stamp bytes.now))))) }
+    ensures { OnOk result (IsAfter pair.old (hears_datagram who keep bytes.now) pair.new) }
 {
     match who {
-        Who::A => hand_first(alloc, pair, keep, bytes),
-        Who::B => hand_second(alloc, pair, keep, bytes),
+        Who::A => deliver_first(alloc, pair, keep, bytes),
+        Who::B => deliver_second(alloc, pair, keep, bytes),
     }
 }
 
 /// Opens A again.
 fn restart_first<'a>(alloc: Global, pair: Pair<'a>, keep: Keep) -> Result<Pair<'a>, AllocError>
-    ensures { (game : Game) (a b : SetupView) (world : World) → AreSetups game a b → IsRight game world → PairIs game a b pair.entry world → IfOk result (λ late. PairIs game a b late (turned world A (restarted game.rules keep world.a.kept, []))) }
+    ensures { IfOk result (IsAfter pair.entry (restarts A keep)) }
 {
     let Pair {
         stamp,
         first,
-        first_keeper,
         second,
-        second_keeper,
         log,
     } = pair;
-    let mut first_keeper = first_keeper;
-    let first = restart(alloc, first, &mut first_keeper, keep)?;
+    let first = first.restart(alloc, keep)?;
     Ok(Pair {
         stamp,
         first,
-        first_keeper,
         second,
-        second_keeper,
         log,
     })
 }
 
 /// Opens B again.
 fn restart_second<'a>(alloc: Global, pair: Pair<'a>, keep: Keep) -> Result<Pair<'a>, AllocError>
-    ensures { (game : Game) (a b : SetupView) (world : World) → AreSetups game a b → IsRight game world → PairIs game a b pair.entry world → IfOk result (λ late. PairIs game a b late (turned world B (restarted game.rules keep world.b.kept, []))) }
+    ensures { IfOk result (IsAfter pair.entry (restarts B keep)) }
 {
     let Pair {
         stamp,
         first,
-        first_keeper,
         second,
-        second_keeper,
         log,
     } = pair;
-    let mut second_keeper = second_keeper;
-    let second = restart(alloc, second, &mut second_keeper, keep)?;
+    let second = second.restart(alloc, keep)?;
     Ok(Pair {
         stamp,
         first,
-        first_keeper,
         second,
-        second_keeper,
         log,
     })
 }
@@ -164,7 +137,7 @@ fn restart_at<'a>(
     who: Who,
     keep: Keep,
 ) -> Result<Pair<'a>, AllocError>
-    ensures { (game : Game) (a b : SetupView) (world : World) → AreSetups game a b → IsRight game world → PairIs game a b pair.entry world → IfOk result (λ late. PairIs game a b late (turned world who (restarted game.rules keep (side_of world who).kept, []))) }
+    ensures { IfOk result (IsAfter pair.entry (restarts who keep)) }
 {
     match who {
         Who::A => restart_first(alloc, pair, keep),
@@ -174,27 +147,20 @@ fn restart_at<'a>(
 
 /// What one of the two asks for.
 fn asked_by(pair: &Pair<'_>, who: Who) -> Option<Message>
-    ensures { (game : Game) (a b : SetupView) (world : World) → PairIs game a b pair.now world → listed result ≡ wants (identity game who) (side_of world who).kept (side_of world who).life }
+    ensures { IsAsked pair.now who (listed result) }
 {
     match who {
-        Who::A => ask(&pair.first),
-        Who::B => ask(&pair.second),
+        Who::A => pair.first.ask(),
+        Who::B => pair.second.ask(),
     }
 }
 
 /// One of the two asks for moves.
 fn ask_at(pair: &mut Pair<'_>, who: Who) -> Result<(), AllocError>
-    ensures { (game : Game) (a b : SetupView) (world : World) → PairIs game a b pair.old world → OnOk result (PairIs game a b pair.new (turned world who (side_of world who, wants (identity game who) (side_of world who).kept (side_of world who).life))) }
+    ensures { OnOk result (IsAfter pair.old (asks who) pair.new) }
 {
     let asked = asked_by(pair, who);
     note(&mut pair.log, asked)
-}
-
-/// Whether two stamps are of one game.
-fn is_same(a: Stamp, b: Stamp) -> bool
-    ensures { result ≡ bytes_eq a.0 b.0 }
-{
-    a == b
 }
 
 /// Whether bytes are a message of the game.
@@ -202,44 +168,42 @@ fn is_ours(stamp: Stamp, bytes: &[u8]) -> bool
     ensures { result ≡ is_ok (heard stamp bytes.now) }
 {
     match Message::decode(bytes) {
-        Ok(message) => is_same(message.stamp(), stamp),
+        Ok(message) => message.stamp() == stamp,
         Err(_) => false,
     }
 }
 
-/// Hands one of the two a message that was sent before.
-fn deliver_to(
+/// Delivers a message that was sent before to one of the two.
+fn deliver_sent(
     alloc: Global,
     pair: &mut Pair<'_>,
     who: Who,
     index: usize,
     keep: Keep,
 ) -> Result<(), AllocError>
-    requires { IsOne pair.old }
-    ensures { (game : Game) (a b : SetupView) (world : World) → AreSetups game a b → AreStamped game world → PairIs game a b pair.old world → OnOk result (PairIs game a b pair.new (delivered game world who keep (slice_get world.log index))) }
+    ensures { OnOk result (IsAfter pair.old (λ game world. delivered game world who keep (slice_get world.log index)) pair.new) }
 {
     if index >= pair.log.len() {
         return Ok(());
     }
     let message = pair.log[index];
-    hand_to(alloc, pair, who, keep, &message.encode())
+    deliver_to(alloc, pair, who, keep, &message.encode())
 }
 
-/// Hands one of the two bytes that nobody of the game sent.
-fn noise_to(
+/// Delivers bytes that nobody of the game sent to one of the two.
+fn deliver_noise(
     alloc: Global,
     pair: &mut Pair<'_>,
     who: Who,
     bytes: &[u8],
     keep: Keep,
 ) -> Result<(), AllocError>
-    requires { IsOne pair.old }
-    ensures { (game : Game) (a b : SetupView) (world : World) → AreSetups game a b → PairIs game a b pair.old world → OnOk result (PairIs game a b pair.new (noised game world who keep (heard game.stamp bytes.now))) }
+    ensures { OnOk result (IsAfter pair.old (λ game world. noised game world who keep (heard game.stamp bytes.now)) pair.new) }
 {
     if is_ours(pair.stamp, bytes) {
         return Ok(());
     }
-    hand_to(alloc, pair, who, keep, bytes)
+    deliver_to(alloc, pair, who, keep, bytes)
 }
 
 /// A pair after what was done to it; none where that wanted memory.
@@ -255,18 +219,17 @@ fn if_done<'a>(pair: Pair<'a>, done: Result<(), AllocError>) -> Result<Pair<'a>,
 
 /// One event.
 fn step<'a>(alloc: Global, pair: Pair<'a>, event: &Event) -> Result<Pair<'a>, AllocError>
-    requires { IsOne pair }
-    ensures { (game : Game) (a b : SetupView) (world : World) → AreSetups game a b → IsRight game world → AreStamped game world → PairIs game a b pair.entry world → IfOk result (λ late. PairIs game a b late (happens game world event.now)) }
+    ensures { IfOk result (IsAfter pair.entry (λ game world. happens game world event.now)) }
 {
     match event {
         Event::Deliver { who, index, keep } => {
             let mut pair = pair;
-            let done = deliver_to(alloc, &mut pair, *who, *index, *keep);
+            let done = deliver_sent(alloc, &mut pair, *who, *index, *keep);
             if_done(pair, done)
         }
         Event::Noise { who, bytes, keep } => {
             let mut pair = pair;
-            let done = noise_to(alloc, &mut pair, *who, bytes, *keep);
+            let done = deliver_noise(alloc, &mut pair, *who, bytes, *keep);
             if_done(pair, done)
         }
         Event::Restart { who, keep } => restart_at(alloc, pair, *who, *keep),
@@ -284,8 +247,7 @@ pub(crate) fn run_from<'a>(
     pair: Pair<'a>,
     events: &[Event],
 ) -> Result<Pair<'a>, AllocError>
-    requires { IsBegun pair }
-    ensures { (game : Game) (a b : SetupView) → AreSetups game a b → PairIs game a b pair.entry (first_world game) → IfOk result (λ late. PairIs game a b late (after game (first_world game) events.now)) }
+    ensures { IfOk result (IsAfterAll pair.entry events.now) }
 {
     let mut pair = pair;
     for event in events {

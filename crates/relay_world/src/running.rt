@@ -4,16 +4,14 @@ ghost use Rattle.std.specs.Prelude.{◌≡◌, ◌≤◌, ◌⊎◌, map, length
 ghost use Rattle.board_core.specs.declared.moves.Move.{Move};
 ghost use Rattle.move_msg.specs.declared.who.Sender.TheVariants.{Source};
 ghost use Rattle.move_msg.specs.Numbers.{most_moves};
-ghost use Rattle.arbiter_core.specs.Answering.{Identity, sent_by};
-ghost use Rattle.arbiter_core.specs.Memory.{Memory};
+ghost use Rattle.arbiter_core.specs.Answering.{sent_by};
 ghost use Rattle.arbiter_core.specs.Setups.{SetupView};
 ghost use Rattle.judge_core.specs.Tables.{Tables};
 ghost use Rattle.relay_world.specs.declared.fault.WorldFault.TheVariants.{OutOfMemory};
 ghost use Rattle.relay_world.specs.Gathering.{tables_of};
 ghost use Rattle.relay_world.specs.Inside.Pairs.{IsBegunFor, PairIs};
-ghost use Rattle.relay_world.specs.Runs.{Runs, Tells, judged_by, state_of};
-ghost use Rattle.relay_world.specs.Inside.Seats.{Stands};
-ghost use Rattle.relay_world.specs.Worlds.{Game as Judged, Side, World as Worlds};
+ghost use Rattle.relay_world.specs.Runs.{Runs, Tells, judged_by};
+ghost use Rattle.relay_world.specs.Worlds.{Judged, World as Worlds};
 
 use crate::event::Event;
 use crate::fault::WorldFault;
@@ -21,8 +19,8 @@ use crate::game::Game;
 use crate::gathering::gather;
 use crate::listing::manifest_of;
 use crate::pair::{Pair, run_from};
-use crate::seat::Place;
-use crate::world::{State, World};
+use crate::seat::Seat;
+use crate::world::World;
 use arbiter_core::MemoryKeeper;
 use board_core::Move;
 use judge_core::Set;
@@ -80,49 +78,29 @@ fn begin<'a>(
     let b = game.setup(manifest, 2, second);
     Ok(Pair {
         stamp,
-        first: Place::Shut(a),
-        first_keeper,
-        second: Place::Shut(b),
-        second_keeper,
+        first: Seat::closed(a, first_keeper),
+        second: Seat::closed(b, second_keeper),
         log,
     })
 }
 
-/// How an arbiter is.
-fn state_of(place: &Place<'_>) -> State
-    ensures { (me : Identity) (setup : SetupView) (keeper : Memory) (side : Side) → Stands me setup place.now keeper side → result ≡ state_of side.life }
-{
-    match place {
-        Place::Shut(_) => State::Closed,
-        Place::Open(arbiter) => {
-            if arbiter.is_down() {
-                State::Down
-            } else {
-                State::Running
-            }
-        }
-    }
-}
-
-/// What is told of a pair.
-fn told(pair: Pair<'_>) -> World
+/// How both arbiters are, what they keep and what was sent.
+fn world_of(pair: Pair<'_>) -> World
     ensures { (game : Judged) (a b : SetupView) (world : Worlds) → a.delay ≡ game.rules.delay → b.delay ≡ game.rules.delay → PairIs game a b pair.entry world → Tells game result world }
 {
-    let first_state = state_of(&pair.first);
-    let second_state = state_of(&pair.second);
     let Pair {
         stamp: _,
-        first: _,
-        first_keeper,
-        second: _,
-        second_keeper,
+        first,
+        second,
         log,
     } = pair;
+    let first_state = first.state();
+    let second_state = second.state();
     World {
         first: first_state,
-        first_keeper,
+        first_keeper: first.into_keeper(),
         second: second_state,
-        second_keeper,
+        second_keeper: second.into_keeper(),
         log,
     }
 }
@@ -130,8 +108,8 @@ fn told(pair: Pair<'_>) -> World
 /// Runs a schedule: two arbiters of a game, A and B, both closed and with nothing kept, and a log of everything that was ever
 /// sent, at first the game's moves, number i at place i. Then one event after the other.
 ///
-/// - A message of the log is handed to an arbiter, which answers it; an index past the log's end and a closed arbiter do nothing.
-/// - Noise is handed to an arbiter likewise, but bytes that spell a message of this game do nothing: nobody forges one.
+/// - A message of the log is delivered to an arbiter, which answers it; an index past the log's end and a closed arbiter do nothing.
+/// - Noise is delivered to an arbiter likewise, but bytes that spell a message of this game do nothing: nobody forges one.
 /// - An arbiter is closed, unless it is closed already, and opened over what is kept.
 /// - An arbiter that runs without a verdict asks the other for moves.
 ///
@@ -171,5 +149,5 @@ pub fn run<'a>(
     let Ok(ended) = run_from(alloc, begun, events) else {
         return Err(WorldFault::OutOfMemory);
     };
-    Ok(told(ended))
+    Ok(world_of(ended))
 }

@@ -1,50 +1,46 @@
-//! Where an arbiter sits: it is open, or what it is opened from lies there.
+//! Where an arbiter sits, beside its keeper.
 
-ghost use Rattle.std.specs.Prelude.{◌≡◌, IfOk, IfSome};
-ghost use Rattle.arbiter_core.specs.Answering.{Identity, answer_heard};
-ghost use Rattle.arbiter_core.specs.Delivers.{heard};
-ghost use Rattle.arbiter_core.specs.Opens.{IsWhole};
-ghost use Rattle.arbiter_core.specs.Setups.{SetupView, IsGood, IsIdentity, setup_view, rules_at};
-ghost use Rattle.arbiter_core.specs.Memory.{Memory};
-ghost use Rattle.relay_world.specs.Worlds.{Side, handed, restarted, wants, listed};
-ghost use Rattle.relay_world.specs.Inside.Seats.{Stands, Steps, IsKept, setup_in};
+ghost use Rattle.std.specs.Prelude.{◌≡◌, IfOk};
+ghost use Rattle.arbiter_core.specs.Answering.{Identity};
+ghost use Rattle.arbiter_core.specs.Setups.{SetupView, setup_view};
+ghost use Rattle.relay_world.specs.Runs.{state_of};
+ghost use Rattle.relay_world.specs.Worlds.{Side, wants, listed};
+ghost use Rattle.relay_world.specs.Inside.Seats.{IsDelivered, IsRestarted, SeatIs, Shut};
+ghost use Rattle.relay_world.specs.Inside.Fields.{setup_in};
 
+use crate::world::State;
 use arbiter_core::{Arbiter, DeliverFault, Keep, MemoryKeeper, OpenFault, Outputs, Setup};
 use move_msg::Message;
 use smallvec::SmallVec;
 use std::alloc::{AllocError, Global};
+use std::marker::Model;
 
 /// An arbiter, or what one is opened from.
 #[derive(Drop)]
-pub(crate) enum Place<'a> {
+enum Place<'a> {
     /// It is closed.
     Shut(Setup<'a>),
     /// It runs, or is down.
     Open(Arbiter<'a>),
 }
 
-/// Hands bytes to a seat, where the put that follows, if any, has this outcome.
-pub(crate) fn hand(
-    alloc: Global,
-    place: &mut Place<'_>,
-    keeper: &mut MemoryKeeper,
-    keep: Keep,
-    bytes: &[u8],
-) -> Result<Outputs, AllocError>
-    requires { IsKept place.old keeper.old }
-    ensures { (me : Identity) (setup : SetupView) (side : Side) → Stands me setup place.old keeper.old side → IfOk result (λ outputs. Steps me setup place.new keeper.new outputs.items (handed keep side (λ old window. answer_heard (rules_at setup) me old window (heard me.stamp bytes.now)))) }
-{
-    keeper.set(keep);
-    match place {
-        Place::Shut(_) => Ok(SmallVec::new(alloc)),
-        Place::Open(arbiter) => match arbiter.deliver(alloc, keeper, bytes) {
-            Ok(outputs) => Ok(outputs),
-            Err(fault) => match fault {
-                DeliverFault::OutOfMemory => Err(AllocError),
-                _ => Ok(SmallVec::new(alloc)),
-            },
-        },
-    }
+/// An arbiter and its keeper. It is closed or down, or it runs over what the keeper keeps.
+#[derive(Drop)]
+pub(crate) struct Seat<'a> {
+    place: Place<'a>,
+    keeper: MemoryKeeper,
+}
+
+impl<'a> Model for Seat<'a> {
+    ghost use Rattle.relay_world.specs.Inside.Seats.{SeatView};
+
+    ghost Value = { SeatView };
+
+    ghost use Rattle.relay_world.specs.Inside.Fields.{IsKept, seat_of};
+
+    ghost view = { seat_of };
+
+    ghost invariant = { λ s. IsKept s.place s.keeper };
 }
 
 /// What an arbiter is opened from.
@@ -57,31 +53,91 @@ fn emptied<'a>(place: Place<'a>) -> Setup<'a>
     }
 }
 
-/// Closes an arbiter, unless it is closed already, and opens it over what is kept.
-pub(crate) fn restart<'a>(
-    alloc: Global,
-    place: Place<'a>,
-    keeper: &mut MemoryKeeper,
-    keep: Keep,
-) -> Result<Place<'a>, AllocError>
-    ensures { (me : Identity) (setup : SetupView) (side : Side) → IsGood setup → IsIdentity setup me → IfSome side.kept (IsWhole (rules_at setup)) → Stands me setup place.entry keeper.old side → IfOk result (λ late. Stands me setup late keeper.new (restarted (rules_at setup) keep side.kept)) }
-{
-    keeper.set(keep);
-    match Arbiter::open(alloc, keeper, emptied(place)) {
-        Ok(arbiter) => Ok(Place::Open(arbiter)),
-        Err(refused) => match refused.fault {
-            OpenFault::OutOfMemory => Err(AllocError),
-            _ => Ok(Place::Shut(refused.setup)),
-        },
+impl<'a> Seat<'a> {
+    /// A closed arbiter and a keeper.
+    pub fn closed(setup: Setup<'a>, keeper: MemoryKeeper) -> Seat<'a>
+        ensures { result ≡ record { place = Shut (setup_view setup.entry); keeper = keeper } }
+    {
+        Seat {
+            place: Place::Shut(setup),
+            keeper,
+        }
     }
-}
 
-/// What an arbiter asks the other for.
-pub(crate) fn ask(place: &Place<'_>) -> Option<Message>
-    ensures { (me : Identity) (setup : SetupView) (keeper : Memory) (side : Side) → Stands me setup place.now keeper side → listed result ≡ wants me side.kept side.life }
-{
-    match place {
-        Place::Shut(_) => None,
-        Place::Open(arbiter) => arbiter.ask(),
+    /// Delivers a datagram, where the put that follows, if any, has this outcome. A closed arbiter hears nothing, and a refusal
+    /// sends nothing; the error comes only where memory is refused.
+    pub fn deliver(
+        &mut self,
+        alloc: Global,
+        keep: Keep,
+        bytes: &[u8],
+    ) -> Result<Outputs, AllocError>
+        ensures { IfOk result (λ outputs. IsDelivered keep bytes.now self.old self.new outputs.items) }
+    {
+        self.keeper.set(keep);
+        match &mut self.place {
+            Place::Shut(_) => Ok(SmallVec::new(alloc)),
+            Place::Open(arbiter) => match arbiter.deliver(alloc, &mut self.keeper, bytes) {
+                Ok(outputs) => Ok(outputs),
+                Err(fault) => match fault {
+                    DeliverFault::OutOfMemory => Err(AllocError),
+                    _ => Ok(SmallVec::new(alloc)),
+                },
+            },
+        }
+    }
+
+    /// Closes the arbiter, unless it is closed already, and opens it over what is kept. The error comes only where memory is
+    /// refused.
+    pub fn restart(self, alloc: Global, keep: Keep) -> Result<Seat<'a>, AllocError>
+        ensures { IfOk result (IsRestarted keep self.entry) }
+    {
+        let Seat { place, keeper } = self;
+        let mut keeper = keeper;
+        keeper.set(keep);
+        match Arbiter::open(alloc, &mut keeper, emptied(place)) {
+            Ok(arbiter) => Ok(Seat {
+                place: Place::Open(arbiter),
+                keeper,
+            }),
+            Err(refused) => match refused.fault {
+                OpenFault::OutOfMemory => Err(AllocError),
+                _ => Ok(Seat::closed(refused.setup, keeper)),
+            },
+        }
+    }
+
+    /// What the arbiter asks the other for.
+    pub fn ask(&self) -> Option<Message>
+        ensures { (me : Identity) (setup : SetupView) (side : Side) → SeatIs me setup self.now side → listed result ≡ wants me side.kept side.life }
+    {
+        match &self.place {
+            Place::Shut(_) => None,
+            Place::Open(arbiter) => arbiter.ask(),
+        }
+    }
+
+    /// How the arbiter is.
+    pub fn state(&self) -> State
+        ensures { (me : Identity) (setup : SetupView) (side : Side) → SeatIs me setup self.now side → result ≡ state_of side.life }
+    {
+        match &self.place {
+            Place::Shut(_) => State::Closed,
+            Place::Open(arbiter) => {
+                if arbiter.is_down() {
+                    State::Down
+                } else {
+                    State::Running
+                }
+            }
+        }
+    }
+
+    /// The keeper, without the arbiter.
+    pub fn into_keeper(self) -> MemoryKeeper
+        ensures { result ≡ self.entry.keeper }
+    {
+        let Seat { place: _, keeper } = self;
+        keeper
     }
 }

@@ -3,7 +3,7 @@
 ghost use Rattle.std.specs.Prelude.{◌≡◌, option_map, length, Option, Some, None, List, IfSome};
 ghost use Rattle.move_msg.specs.declared.record_bytes.Record.{Record};
 ghost use Rattle.move_msg.specs.Records.{SpellsRecord, code_or_none};
-ghost use Rattle.relay_world.specs.Runs.{told_of};
+ghost use Rattle.relay_world.specs.Runs.{SpellsCounted, told_of};
 
 use arbiter_core::MemoryKeeper;
 use move_msg::{Message, Record, Who};
@@ -65,7 +65,7 @@ impl World {
     pub fn kept(&self, who: Who) -> Option<(u32, u8)>
         ensures nothing { (told_of self.now who).bytes ≡ None → result ≡ None }
         ensures record { (bytes : List _) (r : Record) → (told_of self.now who).bytes ≡ Some bytes → SpellsRecord bytes r → result ≡ Some (length r.moves, code_or_none r.verdict) }
-        ensures some { IfSome result (λ found. (bytes : List _) × (r : Record) × ((told_of self.now who).bytes ≡ Some bytes) × SpellsRecord bytes r × (found ≡ (length r.moves, code_or_none r.verdict))) }
+        ensures some { IfSome result (SpellsCounted (told_of self.now who)) }
     {
         match self.bytes(who) {
             Some(bytes) => Record::summary(bytes),

@@ -9,7 +9,7 @@ ghost use Rattle.relay_world.specs.declared.fault.WorldFault.TheVariants.{BadTab
 ghost use Rattle.relay_world.specs.Gathering.{file_as, tables_of};
 ghost use Rattle.relay_world.specs.Runs.{Runs, Tells, TellsSide, told_of, KeptIs};
 ghost use Rattle.relay_world.specs.Texts.{SpellsSchedule, IsFirstBadLine};
-ghost use Rattle.relay_world.specs.Worlds.{Game as Judged, Side, World as Worlds};
+ghost use Rattle.relay_world.specs.Worlds.{Judged, Side, World as Worlds};
 ghost use Rattle.move_msg.specs.TextLines.{text_of};
 ghost use Rattle.adjudicate_core.specs.Inside.Asked.{reply_of};
 ghost use Rattle.adjudicate_core.specs.Lines.{refused_line, refusal_words, words_of};

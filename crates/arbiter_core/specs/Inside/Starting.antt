@@ -1,35 +1,21 @@
 -- What is recorded where an arbiter is opened; cited by private functions alone.
-use Rattle.std.specs.Prelude.{◌≡◌, ◌≤◌, ℕ, true, List, length, Option, Result, Ok, Err, ◌⊎◌}
+use Rattle.std.specs.Prelude.{◌≡◌, ℕ, List, Option, Result, Ok, Err, ◌⊎◌}
 use Rattle.move_msg.specs.declared.stamp.Stamp.{Stamp}
-use Rattle.move_msg.specs.Numbers.{most_moves}
-use Rattle.judge_core.specs.Games.{verdict_after}
-use Rattle.judge_core.specs.Standings.{IsAt}
+use Rattle.move_msg.specs.declared.who.Who.{Who}
 use Rattle.arbiter_core.specs.Keeping.{KeeperFacts}
 use Rattle.arbiter_core.specs.declared.keeper.Keep.{Keep}
 use Rattle.arbiter_core.specs.declared.keeper.Keep.TheVariants.{Good, FailsOld, FailsNew}
 use Rattle.arbiter_core.specs.declared.fault.OpenFault.{OpenFault}
 use Rattle.arbiter_core.specs.declared.fault.OpenFault.TheVariants.{KeeperFailed, OutOfMemory}
-use Rattle.arbiter_core.specs.declared.arbiter.Played.{Played}
-use Rattle.arbiter_core.specs.Recording.{Recorded, reaches}
+use Rattle.arbiter_core.specs.declared.played.Played.{Played}
 use Rattle.arbiter_core.specs.Answering.{Identity}
 use Rattle.system_io.specs.Failures.{Risen}
 use Rattle.arbiter_core.specs.Setups.{SetupView, rules_at}
 use Rattle.move_msg.specs.Records.{WritesRecord}
 use Rattle.arbiter_core.specs.Views.{spelled_as}
 use Rattle.arbiter_core.specs.Delivers.{IsSpelled, IsWritten}
-use Rattle.arbiter_core.specs.Opens.{first_record, Told, running}
-
-abbrev pub recorded_in : Played → Recorded
-recorded_in p = record { moves = p.record.moves; verdict = p.record.verdict }
-
--- what is recorded is whole, and the game stands so
-pub record IsPlayed (setup : SetupView) (stamp : Stamp) (p : Played) : Type 0 where
-  pub stamp_is : p.record.stamp ≡ stamp
-  pub delay_is : p.record.delay ≡ setup.delay
-  pub at : IsAt (rules_at setup) p.record.moves p.standing
-  pub ruled : p.record.verdict ≡ verdict_after (rules_at setup) p.record.moves
-  pub reached : reaches (rules_at setup) p.record.moves (length p.record.moves) ≡ true
-  pub short : length p.record.moves ≤ most_moves
+use Rattle.arbiter_core.specs.Opens.{first_record, Opens, Told, running}
+use Rattle.arbiter_core.specs.Inside.Playing.{IsPlayed, recorded_in}
 
 -- a put of the first record with this outcome
 abbrev pub IsPutSo : Keep → SetupView → Identity → Option (List ℕ) → Option (List ℕ) → Result Played OpenFault → Type 0
@@ -57,3 +43,8 @@ IsPutFirst facts setup me before now result =
 abbrev pub told_from : SetupView → Identity → Result Played OpenFault → Told
 told_from setup me (Ok p) = Ok (running setup me (recorded_in p))
 told_from setup me (Err fault) = Err fault
+
+-- the same for either arbiter of a game with this stamp
+abbrev pub OpensAsEither : {K : Type 0} → KeeperFacts K → SetupView → Stamp → K → K → Result Played OpenFault → Type 0
+OpensAsEither facts setup stamp before now result =
+    (who : Who) → Opens facts setup (record { stamp = stamp; who = who }) before now (told_from setup (record { stamp = stamp; who = who }) result)

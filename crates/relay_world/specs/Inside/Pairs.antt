@@ -1,17 +1,20 @@
 -- Two seats and a log stand for a world.
-use Rattle.std.specs.Prelude.{◌≡◌, List}
+use Rattle.std.specs.Prelude.{◌≡◌, ℕ, List, []}
 use Rattle.move_msg.specs.declared.stamp.Stamp.{Stamp}
 use Rattle.move_msg.specs.declared.message.Message.{Message}
+use Rattle.move_msg.specs.declared.who.Who.{Who}
 use Rattle.move_msg.specs.declared.who.Who.TheVariants.{A, B}
+use Rattle.arbiter_core.specs.declared.keeper.Keep.{Keep}
 use Rattle.arbiter_core.specs.Memory.{Memory}
 use Rattle.arbiter_core.specs.Setups.{SetupView, rules_at, IsGood, IsIdentity}
+use Rattle.relay_world.specs.declared.event.Event.{Event}
 use Rattle.relay_world.specs.declared.pair.Pair.{Pair}
-use Rattle.relay_world.specs.declared.seat.Place.{Place}
-use Rattle.relay_world.specs.Inside.Seats.{Stands}
-use Rattle.relay_world.specs.Worlds.{World, Game, identity, first_world}
+use Rattle.relay_world.specs.Headline.{IsRight}
+use Rattle.relay_world.specs.Inside.Seats.{PlaceView, Stands}
+use Rattle.relay_world.specs.Worlds.{AreStamped, Judged, World, after, answer_to_datagram, first_world, hears, identity, restarted, side_of, turned, wants}
 
 -- the setups of A and B are good and of this game
-pub record AreSetups (game : Game) (a b : SetupView) : Type 0 where
+pub record AreSetups (game : Judged) (a b : SetupView) : Type 0 where
   pub rules_a : rules_at a ≡ game.rules
   pub rules_b : rules_at b ≡ game.rules
   pub good_a : IsGood a
@@ -19,30 +22,52 @@ pub record AreSetups (game : Game) (a b : SetupView) : Type 0 where
   pub who_a : IsIdentity a (identity game A)
   pub who_b : IsIdentity b (identity game B)
 
-pub record IsWorld (game : Game) (a b : SetupView) (stamp : Stamp) (place_a : Place) (keeper_a : Memory) (place_b : Place) (keeper_b : Memory) (log : List Message) (world : World) : Type 0 where
+pub record IsWorld (game : Judged) (a b : SetupView) (stamp : Stamp) (place_a : PlaceView) (keeper_a : Memory) (place_b : PlaceView) (keeper_b : Memory) (log : List Message) (world : World) : Type 0 where
   pub stamp_is : stamp ≡ game.stamp
   pub a_stands : Stands (identity game A) a place_a keeper_a world.a
   pub b_stands : Stands (identity game B) b place_b keeper_b world.b
   pub log_is : log ≡ world.log
 
-abbrev pub PairIs : Game → SetupView → SetupView → Pair → World → Type 0
-PairIs game a b p world = IsWorld game a b p.stamp p.first p.first_keeper p.second p.second_keeper p.log.items world
+abbrev pub PairIs : Judged → SetupView → SetupView → Pair → World → Type 0
+PairIs game a b p world = IsWorld game a b p.stamp p.first.place p.first.keeper p.second.place p.second.keeper p.log.items world
 
--- a pair stands for some world of some game
-pub record IsOne (p : Pair) : Type 0 where
-  pub game : Game
-  pub a : SetupView
-  pub b : SetupView
-  pub world : World
+-- a pair stands for a world of a game, as it can come about
+pub record StandsFor (game : Judged) (a b : SetupView) (p : Pair) (world : World) : Type 0 where
+  pub setups : AreSetups game a b
+  pub right : IsRight game world
+  pub stamped : AreStamped game world
   pub is : PairIs game a b p world
 
+-- whatever world the pair stood for, it stands for the one after this step
+abbrev pub IsAfter : Pair → (Judged → World → World) → Pair → Type 0
+IsAfter old step new = (game : Judged) (a b : SetupView) (world : World) → StandsFor game a b old world → PairIs game a b new (step game world)
+
+-- whatever it stands for, these messages are what one of the two asks for
+abbrev pub IsAsked : Pair → Who → List Message → Type 0
+IsAsked p who asked =
+    (game : Judged) (a b : SetupView) (world : World) → StandsFor game a b p world → asked ≡ wants (identity game who) (side_of world who).kept (side_of world who).life
+
+-- ---- steps
+
+-- one of the two hears a datagram
+abbrev pub hears_datagram : Who → Keep → List ℕ → Judged → World → World
+hears_datagram who keep datagram game world = turned world who (hears keep (side_of world who) (answer_to_datagram game.rules (identity game who) datagram))
+
+-- it is opened again
+abbrev pub restarts : Who → Keep → Judged → World → World
+restarts who keep game world = turned world who (restarted game.rules keep (side_of world who).kept, [])
+
+-- it asks for moves
+abbrev pub asks : Who → Judged → World → World
+asks who game world = turned world who (side_of world who, wants (identity game who) (side_of world who).kept (side_of world who).life)
+
 -- a pair stands for the first world of a game
-pub record IsBegunFor (game : Game) (p : Pair) : Type 0 where
+pub record IsBegunFor (game : Judged) (p : Pair) : Type 0 where
   pub a : SetupView
   pub b : SetupView
   pub setups : AreSetups game a b
   pub is : PairIs game a b p (first_world game)
 
--- the same, of some game
-abbrev pub IsBegun : Pair → Type 0
-IsBegun p = (game : Game) × IsBegunFor game p
+-- where it stood for the first world of a game, it stands for the one after these events
+abbrev pub IsAfterAll : Pair → List Event → Pair → Type 0
+IsAfterAll old events new = (game : Judged) (a b : SetupView) → AreSetups game a b → PairIs game a b old (first_world game) → PairIs game a b new (after game (first_world game) events)

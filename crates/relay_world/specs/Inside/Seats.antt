@@ -1,38 +1,52 @@
 -- A seat stands for a side of a world.
-use Rattle.std.specs.Prelude.{◌≡◌, false, MatchBool, List, Some}
+use Rattle.std.specs.Prelude.{◌≡◌, ℕ, MatchBool, List, IfSome, Some}
 use Rattle.move_msg.specs.declared.message.Message.{Message}
+use Rattle.arbiter_core.specs.declared.keeper.Keep.{Keep}
 use Rattle.arbiter_core.specs.Answering.{Identity}
-use Rattle.arbiter_core.specs.Setups.{SetupView, setup_view}
+use Rattle.arbiter_core.specs.Setups.{SetupView, IsGood, IsIdentity, rules_at}
 use Rattle.arbiter_core.specs.Views.{View}
-use Rattle.arbiter_core.specs.Delivers.{Keeps}
 use Rattle.arbiter_core.specs.Memory.{Memory}
-use Rattle.relay_world.specs.declared.seat.Place.{Place}
-use Rattle.relay_world.specs.declared.seat.Place.TheVariants.{Shut, Open}
-use Rattle.relay_world.specs.Worlds.{Side, Closed, Down, Running}
+use Rattle.arbiter_core.specs.Opens.{IsWhole}
+use Rattle.relay_world.specs.Worlds.{Side, Closed, Down, Running, answer_to_datagram, hears, restarted}
 use Rattle.relay_world.specs.Runs.{KeptIs}
 
-abbrev pub setup_in : Place → SetupView
-setup_in (Shut s) = setup_view s
-setup_in (Open v) = v.setup
+-- an arbiter, or what one is opened from
+pub data PlaceView : Type 0 where
+  Shut : (setup : SetupView) → PlaceView
+  Open : (arbiter : View) → PlaceView
+
+pub record SeatView : Type 0 where
+  pub place : PlaceView
+  pub keeper : Memory
 
 -- an open arbiter is down, or runs over what is kept
 abbrev pub IsOpen : View → Side → Type 0
 IsOpen v side = MatchBool v.is_down (side.life ≡ Down) ((side.life ≡ Running v.window) × (side.kept ≡ Some v.kept))
 
-abbrev pub PlaceIs : Identity → SetupView → Place → Side → Type 0
-PlaceIs me setup (Shut s) side = (setup_view s ≡ setup) × (side.life ≡ Closed)
+abbrev pub PlaceIs : Identity → SetupView → PlaceView → Side → Type 0
+PlaceIs me setup (Shut s) side = (s ≡ setup) × (side.life ≡ Closed)
 PlaceIs me setup (Open v) side = (v.setup ≡ setup) × (v.me ≡ me) × IsOpen v side
 
-pub record Stands (me : Identity) (setup : SetupView) (place : Place) (keeper : Memory) (side : Side) : Type 0 where
+pub record Stands (me : Identity) (setup : SetupView) (place : PlaceView) (keeper : Memory) (side : Side) : Type 0 where
   pub place_is : PlaceIs me setup place side
   pub kept : KeptIs me.stamp setup.delay keeper.kept side.kept
 
 -- a step of a seat is the step of its side
-pub record Steps (me : Identity) (setup : SetupView) (place : Place) (keeper : Memory) (outputs : List Message) (late : Side × List Message) : Type 0 where
+pub record Steps (me : Identity) (setup : SetupView) (place : PlaceView) (keeper : Memory) (outputs : List Message) (late : Side × List Message) : Type 0 where
   pub stands : Stands me setup place keeper late.0
   pub sent : outputs ≡ late.1
 
--- what a running arbiter has recorded is what is kept
-abbrev pub IsKept : Place → Memory → Type 0
-IsKept (Shut s) keeper = Unit {0}
-IsKept (Open v) keeper = v.is_down ≡ false → Keeps keeper.kept v
+abbrev pub SeatIs : Identity → SetupView → SeatView → Side → Type 0
+SeatIs me setup seat side = Stands me setup seat.place seat.keeper side
+
+-- whatever side the seat stood for, this was sent and it stands for the one that heard the datagram
+abbrev pub IsDelivered : Keep → List ℕ → SeatView → SeatView → List Message → Type 0
+IsDelivered keep datagram old new outputs =
+    (me : Identity) (setup : SetupView) (side : Side) → SeatIs me setup old side
+    → Steps me setup new.place new.keeper outputs (hears keep side (answer_to_datagram (rules_at setup) me datagram))
+
+-- whatever side with a whole record or none the seat stood for, it stands for the one that was restarted
+abbrev pub IsRestarted : Keep → SeatView → SeatView → Type 0
+IsRestarted keep old new =
+    (me : Identity) (setup : SetupView) (side : Side) → IsGood setup → IsIdentity setup me → IfSome side.kept (IsWhole (rules_at setup)) → SeatIs me setup old side
+    → SeatIs me setup new (restarted (rules_at setup) keep side.kept)

@@ -2,36 +2,27 @@ use Rattle.std.proofs.Common.{◌≡◌, ℕ, ◌+◌, ◌<◌, List, [], ◌∷
 use Rattle.std.proofs.lemmas.List.{take_more, take_all}
 use Rattle.relay_world.specs.declared.event.Event.{Event}
 use Rattle.relay_world.specs.Inside.Pairs.{PairIs}
-use Rattle.relay_world.specs.Worlds.{Game, World, after, first_world, happens}
+use Rattle.relay_world.specs.Worlds.{Judged, World, after, first_world, happens}
 use Rattle.relay_world.proofs.Schedules.{holds_after}
 use Rattle.relay_world.proofs.Steps.{right_of}
 use Rattle.relay_world.proofs.Stamped.{stamped_after}
 use Rattle.relay_world.proofs.pair.run_from.Goals as goal
 
-after_more : (game : Game) (world : World) (events : List Event) (event : Event) → after game world (events ++ event ∷ []) ≡ happens game (after game world events) event
+after_more : (game : Judged) (world : World) (events : List Event) (event : Event) → after game world (events ++ event ∷ []) ≡ happens game (after game world events) event
 after_more game world [] event = refl
 after_more game world (e ∷ events) event = after_more game (happens game world e) events event
 
 -- the world after one more event of the list
-next : (game : Game) (world : World) (events : List Event) (i : ℕ) (event : Event) → i < length events → event ≡ get_or events i event → after game world (take (i + 1) events) ≡ happens game (after game world (take i events)) event
+next : (game : Judged) (world : World) (events : List Event) (i : ℕ) (event : Event) → i < length events → event ≡ get_or events i event → after game world (take (i + 1) events) ≡ happens game (after game world (take i events)) event
 next game world events i event l is =
     ap (after game world) (take_more events i event l ∙ ap (λ (x : Event). take i events ++ x ∷ []) (sym is)) ∙ after_more game world (take i events) event
-
-pub step-requires : goal.step-requires
-step-requires c = record {
-  game = c.requires.0;
-  a = c.requires.1.a;
-  b = c.requires.1.b;
-  world = after c.requires.0 (first_world c.requires.0) (take c.loop-event.event-index c.args.events.now);
-  is = c.loop-event.invariant c.requires.0 c.requires.1.a c.requires.1.b c.requires.1.setups c.requires.1.is;
-}
 
 pub loop-event-preserved : goal.loop-event-preserved
 loop-event-preserved c game a b setups h =
     let front : List Event = take c.loop-event.event-index c.args.events.now in
     let w : World = after game (first_world game) front in
     subst (λ (x : World). PairIs game a b c.in_ok-pair.pair x) (sym (next game (first_world game) c.args.events.now c.loop-event.event-index c.event-item.result (omega arith) c.event-item.is))
-    (c.in_ok-pair.ensures game a b w setups (right_of game w (holds_after game front)) (stamped_after game front) (c.loop-event.invariant game a b setups h))
+    (c.in_ok-pair.ensures game a b w (record { setups = setups; right = right_of game w (holds_after game front); stamped = stamped_after game front; is = c.loop-event.invariant game a b setups h }))
 
 pub returns : goal.returns
 returns c game a b setups h =

@@ -7,12 +7,12 @@ use Rattle.move_msg.specs.declared.who.Who.TheVariants.{A, B}
 use Rattle.arbiter_core.specs.Answering.{sent_by}
 use Rattle.arbiter_core.specs.Setups.{SetupView, setup_view, rules_at, IsIdentity}
 use Rattle.relay_world.specs.Runs.{judged_by}
-use Rattle.relay_world.specs.Worlds.{Game, identity}
+use Rattle.relay_world.specs.Worlds.{Judged, identity}
 use Rattle.relay_world.proofs.running.begin.Goals as goal
 
 pub returns : goal.returns
 returns c tables e f =
-    let game : Game = judged_by c.args.game.now tables c.args.manifest.now in
+    let game : Judged = judged_by c.args.game.now tables c.args.manifest.now in
     record {
       a = setup_view c.setup-a.result;
       b = setup_view c.setup-b.result;
@@ -26,8 +26,8 @@ returns c tables e f =
       };
       is = record {
         stamp_is = c.stamp-stamp.ensures tables;
-        a_stands = record { place_is = (refl, refl); kept = c.in_ok-first_keeper.ensures };
-        b_stands = record { place_is = (refl, refl); kept = c.in_ok-second_keeper.ensures };
+        a_stands = rw c.closed.ensures (record { place_is = (refl, refl); kept = c.in_ok-first_keeper.ensures });
+        b_stands = rw c.closed-2.ensures (record { place_is = (refl, refl); kept = c.in_ok-second_keeper.ensures });
         log_is = c.in_ok-log.ensures ∙ ap (λ (s : Stamp). sent_by s Source 0 c.moves.result.now) (c.stamp-stamp.ensures tables) ∙ ap (λ (ms : List Move). sent_by game.stamp Source 0 ms) c.moves.ensures.is;
       };
     }

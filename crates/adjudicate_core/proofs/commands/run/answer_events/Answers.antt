@@ -5,7 +5,7 @@ use Rattle.relay_world.specs.declared.event.Event.{Event}
 use Rattle.relay_world.specs.declared.schedule.Schedule.{Schedule}
 use Rattle.relay_world.specs.Runs.{GameView, Runs, Tells, WorldView}
 use Rattle.relay_world.specs.Texts.{SpellsSchedule}
-use Rattle.relay_world.specs.Worlds.{Game, World}
+use Rattle.relay_world.specs.Worlds.{Judged, World}
 use Rattle.move_msg.specs.TextLines.{text_of}
 use Rattle.adjudicate_core.specs.Commands.Run.{BadTable, IsRun, Ran}
 use Rattle.adjudicate_core.specs.Reply.{Reply}
@@ -14,7 +14,7 @@ use Rattle.adjudicate_core.proofs.ScheduleLaws.{last_of}
 use Rattle.adjudicate_core.proofs.commands.run.answer_events.Goals as goal
 
 -- what is told of the last world is the reply
-ran : (text : List ℕ) (files read : List File) (delay : ℕ) (schedule : Schedule) (game : GameView) (events : List Event) (told : WorldView) (reply : Reply) → SpellsSchedule text schedule → game ≡ game_of schedule delay → read ≡ files → events ≡ schedule.events.items → Runs game read events told → ((judged : Game) (last : World) → Tells judged told last → reply ≡ record { text = text_of (world_words last); status = 0 }) → IsRun text files delay reply
+ran : (text : List ℕ) (files read : List File) (delay : ℕ) (schedule : Schedule) (game : GameView) (events : List Event) (told : WorldView) (reply : Reply) → SpellsSchedule text schedule → game ≡ game_of schedule delay → read ≡ files → events ≡ schedule.events.items → Runs game read events told → ((judged : Judged) (last : World) → Tells judged told last → reply ≡ record { text = text_of (world_words last); status = 0 }) → IsRun text files delay reply
 ran text files read delay schedule game events told reply spells is_game are_files are_events h tells =
     let by_game : Runs (game_of schedule delay) read events told = subst (λ g. Runs g read events told) is_game h in
     let by_files : Runs (game_of schedule delay) files events told = subst (λ fs. Runs (game_of schedule delay) fs events told) are_files by_game in

@@ -1,11 +1,29 @@
-use Rattle.arbiter_core.specs.Delivers.{heard, answer_of}
+use Rattle.std.proofs.Common.{◌≡◌, false, ap, sym, ◌∙◌}
+use Rattle.arbiter_core.specs.declared.fault.DeliverFault.TheVariants.{Down}
+use Rattle.arbiter_core.specs.Views.{View}
+use Rattle.arbiter_core.specs.Delivers.{answer_at, heard}
+use Rattle.arbiter_core.proofs.Hearing.{answers_as, hears_down, refuses, to_fault, to_heard}
 use Rattle.arbiter_core.proofs.StillKept.{still_kept}
 use Rattle.arbiter_core.proofs.arbiter.Arbiter.deliver.Goals as goal
 
-pub returns-clause-delivered : goal.returns-clause-delivered
-returns-clause-delivered g c = record { answered = c.respond.ensures.answered; put = c.respond.ensures.put }
+pub returns-then-self : goal.returns-then-self
+returns-then-self g c = record {
+  delivered =
+      refuses g.K.Keeper.facts c.args.self.now c.args.keeper.now (answer_at c.args.self.now c.args.bytes.now) Down
+      (hears_down c.args.self.now (heard c.args.self.now.me.stamp c.args.bytes.now) (ap (λ (v : View). v.is_down) (sym c.self.view_is) ∙ c.if-self.true));
+  keeps = c.requires;
+}
 
-pub returns-clause-keeps : goal.returns-clause-keeps
-returns-clause-keeps g c =
-    still_kept g.K.Keeper.facts c.args.self.now c.respond.new.self c.args.keeper.now c.respond.new.keeper _
-    (answer_of c.args.self.now (heard c.args.self.now.me.stamp c.args.bytes.now)) c.respond.ensures.answered c.respond.ensures.put c.requires
+pub returns-in-Ok : goal.returns-in-Ok
+returns-in-Ok g c =
+    let up : c.args.self.now.is_down ≡ false = ap (λ (v : View). v.is_down) (sym c.self.view_is) ∙ c.if-self.false in
+    let delivered = answers_as g.K.Keeper.facts _ _ _ (answer_at c.args.self.now c.args.bytes.now) _ (to_heard c.args.self.now c.in-Ok.message (heard c.args.self.now.me.stamp c.args.bytes.now) up (sym c.in-Ok.is ∙ c.hear-heard.ensures)) c.answer.ensures in
+    record { delivered = delivered; keeps = still_kept g.K.Keeper.facts c.args.self.now c.answer.new.self c.args.keeper.now c.answer.new.keeper _ _ delivered c.requires }
+
+pub returns-in-Err : goal.returns-in-Err
+returns-in-Err g c = record {
+  delivered =
+      refuses g.K.Keeper.facts c.args.self.now c.args.keeper.now (answer_at c.args.self.now c.args.bytes.now) c.in-Err.fault
+      (to_fault c.args.self.now c.in-Err.fault (heard c.args.self.now.me.stamp c.args.bytes.now) (ap (λ (v : View). v.is_down) (sym c.self.view_is) ∙ c.if-self.false) (sym c.in-Err.is ∙ c.hear-heard.ensures));
+  keeps = c.requires;
+}

@@ -2,18 +2,15 @@ use Rattle.std.proofs.Common.{ap, sym, ◌∙◌, subst, Ok}
 use Rattle.arbiter_core.specs.declared.setup.Setup.{Setup}
 use Rattle.arbiter_core.specs.Answering.{Identity, nothing_waits}
 use Rattle.arbiter_core.specs.Setups.{setup_view}
-use Rattle.arbiter_core.specs.Views.{View, IsSettled}
-use Rattle.arbiter_core.specs.Inside.Starting.{recorded_in}
-use Rattle.arbiter_core.proofs.Opened.{settled_first, runs_is, opens_as, opened_keeps}
+use Rattle.arbiter_core.specs.Views.{View}
+use Rattle.arbiter_core.specs.Inside.Playing.{IsInOrder, recorded_in}
+use Rattle.arbiter_core.proofs.Opened.{first_in_order, runs_is, opens_as, opened_keeps}
 use Rattle.arbiter_core.proofs.arbiter.Arbiter.open.Goals as goal
 
-pub running-requires-clause-settled : goal.running-requires-clause-settled
-running-requires-clause-settled g c =
-    subst (λ (s : Setup). IsSettled (setup_view s) (recorded_in c.in-Ok.played) c.in-Ok.played.standing nothing_waits) (sym c.in-Ok.ensures.same)
-    (settled_first (setup_view c.args.setup) c.in-Some.stamp c.in-Ok.played c.in-Some.ensures.some.0.delay c.in-Ok.ensures.played)
-
-pub running-requires-clause-delay : goal.running-requires-clause-delay
-running-requires-clause-delay g c = c.in-Ok.ensures.played.delay_is ∙ ap (λ (s : Setup). s.delay) (sym c.in-Ok.ensures.same)
+pub running-requires : goal.running-requires
+running-requires g c =
+    subst (λ (s : Setup). IsInOrder (setup_view s) c.in-Ok.played nothing_waits) (sym c.in-Ok.ensures.same)
+    (first_in_order (setup_view c.args.setup) c.in-Some.stamp c.in-Ok.played c.in-Some.ensures.some.0.delay c.in-Ok.ensures.played)
 
 pub returns-in-Ok-clause-good : goal.returns-in-Ok-clause-good
 returns-in-Ok-clause-good g c = λ good.

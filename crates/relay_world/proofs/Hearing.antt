@@ -12,11 +12,9 @@ use Rattle.arbiter_core.specs.Answering.{Identity, Answer, Refuses, Sends, Puts,
 use Rattle.arbiter_core.specs.Memory.{Memory, memory_facts}
 use Rattle.arbiter_core.specs.Setups.{SetupView, rules_at}
 use Rattle.arbiter_core.specs.Views.{View}
-use Rattle.arbiter_core.specs.Delivers.{Told, answer_of, RefusesOrSends, PutsIfAny, Unchanged, Lands, IsSpelled}
-use Rattle.relay_world.specs.declared.seat.Place.{Place}
-use Rattle.relay_world.specs.declared.seat.Place.TheVariants.{Open}
-use Rattle.relay_world.specs.Worlds.{Side, Life, Closed, Down, Running, answered, handed, handed_at}
-use Rattle.relay_world.specs.Inside.Seats.{PlaceIs, Stands, Steps}
+use Rattle.arbiter_core.specs.Delivers.{Answers, Told, answer_at, answer_of, heard, moment, RefusesOrSends, PutsIfAny, Unchanged, Lands, IsSpelled}
+use Rattle.relay_world.specs.Worlds.{Side, Life, Closed, Down, Running, answered, hears, hears_at}
+use Rattle.relay_world.specs.Inside.Seats.{IsDelivered, PlaceIs, PlaceView, Open, Stands, Steps}
 use Rattle.relay_world.specs.Runs.{KeptIs}
 
 -- what was sent, where a refusal sends nothing
@@ -72,13 +70,13 @@ running me setup v new k kn keep (Puts next outputs later) told up s m e kept r 
       sent = ap sent_in l.0;
     })
 
-pub delivered_steps : (me : Identity) (setup : SetupView) (v new : View) (old k kn : Memory) (side : Side) (keep : Keep) (heard : Result Message DeliverFault) (told : Told) → Stands me setup (Open v) old side → k.kept ≡ old.kept → k.keep ≡ keep → RefusesOrSends v k kn new told (answer_of v heard) → PutsIfAny memory_facts v k kn new told (answer_of v heard) → told ≢ Err OutOfMemory → Steps me setup (Open new) kn (sent_in told) (handed keep side (λ kept window. answer_heard (rules_at setup) me kept window heard))
-delivered_steps me setup v new old k kn side keep heard told h ke e r p n = by_cases v.is_down refl
+pub delivered_steps : (me : Identity) (setup : SetupView) (v new : View) (old k kn : Memory) (side : Side) (keep : Keep) (heard : Result Message DeliverFault) (told : Told) → Stands me setup (Open v) old side → k.kept ≡ old.kept → k.keep ≡ keep → Answers memory_facts (moment v k) (answer_of v heard) told (moment new kn) → told ≢ Err OutOfMemory → Steps me setup (Open new) kn (sent_in told) (hears keep side (λ kept window. answer_heard (rules_at setup) me kept window heard))
+delivered_steps me setup v new old k kn side keep heard told h ke e answers n = by_cases v.is_down refl
   where
-    by_cases : (b : Bool) → v.is_down ≡ b → Steps me setup (Open new) kn (sent_in told) (handed keep side (λ kept window. answer_heard (rules_at setup) me kept window heard))
+    by_cases : (b : Bool) → v.is_down ≡ b → Steps me setup (Open new) kn (sent_in told) (hears keep side (λ kept window. answer_heard (rules_at setup) me kept window heard))
     by_cases true d =
         let life : side.life ≡ Down = subst (λ b. MatchBool b (side.life ≡ Down) ((side.life ≡ Running v.window) × (side.kept ≡ Some v.kept))) d h.place_is.2 in
-        let u : Unchanged v k kn new told (Err IsDown) = subst (RefusesOrSends v k kn new told) (cond-true v.is_down (Refuses IsDown) (answer_heard (rules_at v.setup) v.me v.kept v.window heard) d) r in
+        let u : Unchanged v k kn new told (Err IsDown) = subst (RefusesOrSends v k kn new told) (cond-true v.is_down (Refuses IsDown) (answer_heard (rules_at v.setup) v.me v.kept v.window heard) d) answers.answered in
         let at : Steps me setup (Open new) kn (sent_in told) (side, []) = record {
           stands = record {
             place_is = subst (λ (x : View). PlaceIs me setup (Open x) side) (sym u.arbiter) h.place_is;
@@ -88,7 +86,7 @@ delivered_steps me setup v new old k kn side keep heard told h ke e r p n = by_c
         } in
         subst (Steps me setup (Open new) kn (sent_in told)) (sym (still_down side.kept side.life life)) at
       where
-        still_down : (kept : Option Recorded) (life : Life) → life ≡ Down → handed_at keep kept life (λ one window. answer_heard (rules_at setup) me one window heard) ≡ (record { kept = kept; life = life }, [])
+        still_down : (kept : Option Recorded) (life : Life) → life ≡ Down → hears_at keep kept life (λ one window. answer_heard (rules_at setup) me one window heard) ≡ (record { kept = kept; life = life }, [])
         still_down None life e = refl
         still_down (Some x) Down e = refl
         still_down (Some x) Closed e = refl
@@ -102,10 +100,16 @@ delivered_steps me setup v new old k kn side keep heard told h ke e r p n = by_c
         ∙ ap (λ (x : SetupView). answer_heard (rules_at x) v.me v.kept v.window heard) s
         ∙ ap (λ (x : Identity). answer_heard (rules_at setup) x v.kept v.window heard) m in
         let kept : KeptIs me.stamp setup.delay k.kept (Some v.kept) = subst (λ (x : Option (List ℕ)). KeptIs me.stamp setup.delay x (Some v.kept)) (sym ke) (subst (KeptIs me.stamp setup.delay old.kept) run.1 h.kept) in
-        rw (run.0, run.1) (running me setup v new k kn keep (answer_heard (rules_at setup) me v.kept v.window heard) told d s m e kept (subst (RefusesOrSends v k kn new told) is r) (subst (PutsIfAny memory_facts v k kn new told) is p) n)
+        rw (run.0, run.1) (running me setup v new k kn keep (answer_heard (rules_at setup) me v.kept v.window heard) told d s m e kept (subst (RefusesOrSends v k kn new told) is answers.answered) (subst (PutsIfAny memory_facts v k kn new told) is answers.put) n)
+
+-- a seat with an open arbiter
+pub delivered_seat : (keep : Keep) (datagram : List ℕ) (v new : View) (old k kn : Memory) (told : Told) → k.kept ≡ old.kept → k.keep ≡ keep → Answers memory_facts (moment v k) (answer_at v datagram) told (moment new kn) → told ≢ Err OutOfMemory → IsDelivered keep datagram (record { place = Open v; keeper = old }) (record { place = Open new; keeper = kn }) (sent_in told)
+delivered_seat keep datagram v new old k kn told ke e answers n me setup side stands =
+    let same : heard v.me.stamp datagram ≡ heard me.stamp datagram = ap (λ (i : Identity). heard i.stamp datagram) stands.place_is.1 in
+    delivered_steps me setup v new old k kn side keep (heard me.stamp datagram) told stands ke e (subst (λ (s : Result Message DeliverFault). Answers memory_facts (moment v k) (answer_of v s) told (moment new kn)) same answers) n
 
 -- a closed seat hears nothing
-pub shut_steps : (me : Identity) (setup : SetupView) (place : Place) (old k : Memory) (side : Side) (keep : Keep) (respond : Recorded → Window → Answer) → Stands me setup place old side → k.kept ≡ old.kept → side.life ≡ Closed → Steps me setup place k [] (handed keep side respond)
+pub shut_steps : (me : Identity) (setup : SetupView) (place : PlaceView) (old k : Memory) (side : Side) (keep : Keep) (respond : Recorded → Window → Answer) → Stands me setup place old side → k.kept ≡ old.kept → side.life ≡ Closed → Steps me setup place k [] (hears keep side respond)
 shut_steps me setup place old k side keep respond h ke life =
     subst (Steps me setup place k []) (sym (still_shut side.kept side.life life)) (record {
       stands = record {
@@ -115,7 +119,7 @@ shut_steps me setup place old k side keep respond h ke life =
       sent = refl;
     })
   where
-    still_shut : (kept : Option Recorded) (life : Life) → life ≡ Closed → handed_at keep kept life respond ≡ (record { kept = kept; life = life }, [])
+    still_shut : (kept : Option Recorded) (life : Life) → life ≡ Closed → hears_at keep kept life respond ≡ (record { kept = kept; life = life }, [])
     still_shut None life e = refl
     still_shut (Some x) Down e = refl
     still_shut (Some x) Closed e = refl

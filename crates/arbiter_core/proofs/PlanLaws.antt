@@ -1,4 +1,4 @@
--- A run of waiting moves, move by move.
+-- A plan, move by move.
 use Rattle.std.proofs.Common.{◌≡◌, ◌≢◌, ℕ, ◌+◌, ◌-◌, ◌<◌, ◌≤◌, true, false, List, [], ◌∷◌, ◌++◌, length, length-append, take, drop, get_or, Option, Some, None, zero, suc, sym, refl, ap, ◌∙◌, subst, arith, ⊎_elim, append_assoc, add-one}
 use Rattle.std.specs.Prelude.{is_some, replicate}
 use Rattle.std.specs.Option.{some_prefix, option_and_then}
@@ -14,24 +14,31 @@ use Rattle.board_core.specs.declared.verdict.Verdict.{Verdict}
 use Rattle.judge_core.specs.Games.{position_after_all, Rules, verdict_after}
 use Rattle.judge_core.specs.Standings.{Reached, IsAt}
 use Rattle.judge_core.proofs.Plies.{goes_on as after_one}
-use Rattle.arbiter_core.specs.Recording.{Window, reaches, record_at, last_ply, advance}
+use Rattle.move_msg.specs.Numbers.{most_moves}
+use Rattle.arbiter_core.specs.declared.planning.Plan.{Plan}
+use Rattle.arbiter_core.specs.Recording.{Recorded, Window, reaches, record_at, last_ply, advance}
+use Rattle.arbiter_core.specs.Inside.Playing.{IsPlan}
 use Rattle.arbiter_core.specs.Answering.{still_waits, nothing_waits}
 use Rattle.arbiter_core.proofs.Reach.{Step, step_of, step_to, reach_more, last_is}
 
--- how far the run has come after the first n places of the window
-pub record Runs (r : Rules) (before : List Move) (m : Move) (window : Window) (n : ℕ) (moves : List Move) (standing : Reached) (verdict : Option Verdict) : Type 0 where
+-- how far the plan has come after the first n places of the window
+pub record PlansTo (r : Rules) (before : List Move) (m : Move) (window : Window) (n : ℕ) (moves : List Move) (standing : Reached) (verdict : Option Verdict) : Type 0 where
   pub all : moves ++ some_prefix (drop n window) ≡ before ++ m ∷ some_prefix window
   pub at : IsAt r moves standing
   pub ruled : verdict ≡ verdict_after r moves
   pub reached : reaches r moves (length moves) ≡ true
   pub count : length moves ≡ length before + 1 + n
 
+-- at the end it is the plan of the next record
+pub planned : (r : Rules) (old : Recorded) (m : Move) (window : Window) (n : ℕ) (p : Plan) → PlansTo r old.moves m window n p.moves.items p.standing p.verdict → length p.moves.items ≤ most_moves → record { moves = p.moves.items; verdict = p.verdict } ≡ advance r old.moves m window → IsPlan r old m window p
+planned r old m window n p h short e = record { advanced = e; at = h.at; short = short; more = let count = h.count in omega arith }
+
 take_whole : (moves rest : List Move) → take (length moves) (moves ++ rest) ≡ moves
 take_whole moves rest = take_at moves rest (length moves) refl
 
--- the run ends where the whole list goes no further
-run_ends : (r : Rules) (before : List Move) (m : Move) (window : Window) (n : ℕ) (moves : List Move) (standing : Reached) (verdict : Option Verdict) → Runs r before m window n moves standing verdict → reaches r (moves ++ some_prefix (drop n window)) (suc (length moves)) ≡ false → record { moves = moves; verdict = verdict } ≡ advance r before m window
-run_ends r before m window n moves standing verdict h stop =
+-- the plan ends where the whole list goes no further
+plan_ends : (r : Rules) (before : List Move) (m : Move) (window : Window) (n : ℕ) (moves : List Move) (standing : Reached) (verdict : Option Verdict) → PlansTo r before m window n moves standing verdict → reaches r (moves ++ some_prefix (drop n window)) (suc (length moves)) ≡ false → record { moves = moves; verdict = verdict } ≡ advance r before m window
+plan_ends r before m window n moves standing verdict h stop =
     let rest : List Move = some_prefix (drop n window) in
     let all : List Move = moves ++ rest in
     let last : last_ply r all ≡ length moves = last_is r all (length moves) (reach_more r moves rest (length moves) h.reached) stop in
@@ -43,16 +50,16 @@ run_ends r before m window n moves standing verdict h stop =
 ends_from : (r : Rules) (moves rest : List Move) → (Step r (moves ++ rest) (length moves) → ⊥) → reaches r (moves ++ rest) (suc (length moves)) ≡ false
 ends_from r moves rest never = false_from_ne_true _ (λ y. never (step_of r (moves ++ rest) (length moves) y))
 
-pub ends_ruled : (r : Rules) (before : List Move) (m : Move) (window : Window) (n : ℕ) (moves : List Move) (standing : Reached) (verdict : Option Verdict) → Runs r before m window n moves standing verdict → is_some verdict ≡ true → record { moves = moves; verdict = verdict } ≡ advance r before m window
+pub ends_ruled : (r : Rules) (before : List Move) (m : Move) (window : Window) (n : ℕ) (moves : List Move) (standing : Reached) (verdict : Option Verdict) → PlansTo r before m window n moves standing verdict → is_some verdict ≡ true → record { moves = moves; verdict = verdict } ≡ advance r before m window
 ends_ruled r before m window n moves standing verdict h some =
-    run_ends r before m window n moves standing verdict h (ends_from r moves _ (λ s.
+    plan_ends r before m window n moves standing verdict h (ends_from r moves _ (λ s.
     let none : verdict_after r moves ≡ None = subst (λ (xs : List Move). verdict_after r xs ≡ None) (take_whole moves _) s.unruled in
     let v : verdict ≡ None = h.ruled ∙ none in
     let t : is_some verdict ≡ false = ap is_some v in cc))
 
-ends_gap : (r : Rules) (before : List Move) (m : Move) (window : Window) (n : ℕ) (moves : List Move) (standing : Reached) (verdict : Option Verdict) → Runs r before m window n moves standing verdict → some_prefix (drop n window) ≡ [] → record { moves = moves; verdict = verdict } ≡ advance r before m window
+ends_gap : (r : Rules) (before : List Move) (m : Move) (window : Window) (n : ℕ) (moves : List Move) (standing : Reached) (verdict : Option Verdict) → PlansTo r before m window n moves standing verdict → some_prefix (drop n window) ≡ [] → record { moves = moves; verdict = verdict } ≡ advance r before m window
 ends_gap r before m window n moves standing verdict h gap =
-    run_ends r before m window n moves standing verdict h (ends_from r moves _ (λ s.
+    plan_ends r before m window n moves standing verdict h (ends_from r moves _ (λ s.
     let w : length moves < length (moves ++ some_prefix (drop n window)) = s.within in
     let e : length (moves ++ some_prefix (drop n window)) ≡ length moves = ap (λ (xs : List Move). length (moves ++ xs)) gap ∙ ap length (append-nil moves) in
     omega arith))
@@ -61,7 +68,7 @@ ends_gap r before m window n moves standing verdict h gap =
 place_is : (window : Window) (n : ℕ) (o : Option Move) → n < length window → get_or window n None ≡ o → drop n window ≡ o ∷ drop (n + 1) window
 place_is window n o l e = drop-cons window n None l ∙ ap (λ (x : Option Move). x ∷ drop (suc n) window) e ∙ ap (λ k. o ∷ drop k window) (sym (add-one n))
 
-pub ends_none : (r : Rules) (before : List Move) (m : Move) (window : Window) (n : ℕ) (moves : List Move) (standing : Reached) (verdict : Option Verdict) → Runs r before m window n moves standing verdict → n < length window → get_or window n None ≡ None → record { moves = moves; verdict = verdict } ≡ advance r before m window
+pub ends_none : (r : Rules) (before : List Move) (m : Move) (window : Window) (n : ℕ) (moves : List Move) (standing : Reached) (verdict : Option Verdict) → PlansTo r before m window n moves standing verdict → n < length window → get_or window n None ≡ None → record { moves = moves; verdict = verdict } ≡ advance r before m window
 ends_none r before m window n moves standing verdict h l e = ends_gap r before m window n moves standing verdict h (ap some_prefix (place_is window n None l e))
 
 prefix_is : (window : Window) (n : ℕ) (w : Move) → n < length window → get_or window n None ≡ Some w → some_prefix (drop n window) ≡ w ∷ some_prefix (drop (n + 1) window)
@@ -76,21 +83,21 @@ take_one moves rest w =
 pub next_position : (r : Rules) (moves : List Move) (standing : Reached) (w : Move) → IsAt r moves standing → position_after_all r.start (moves ++ w ∷ []) ≡ position_after standing.position w
 next_position r moves standing w at = after_one r.start moves w ∙ ap (option_and_then (λ q. position_after q w)) at.position
 
-pub ends_illegal : (r : Rules) (before : List Move) (m : Move) (window : Window) (n : ℕ) (moves : List Move) (standing : Reached) (verdict : Option Verdict) (w : Move) → Runs r before m window n moves standing verdict → n < length window → get_or window n None ≡ Some w → position_after standing.position w ≡ None → record { moves = moves; verdict = verdict } ≡ advance r before m window
+pub ends_illegal : (r : Rules) (before : List Move) (m : Move) (window : Window) (n : ℕ) (moves : List Move) (standing : Reached) (verdict : Option Verdict) (w : Move) → PlansTo r before m window n moves standing verdict → n < length window → get_or window n None ≡ Some w → position_after standing.position w ≡ None → record { moves = moves; verdict = verdict } ≡ advance r before m window
 ends_illegal r before m window n moves standing verdict w h l e illegal =
-    run_ends r before m window n moves standing verdict h (ends_from r moves _ (λ s.
+    plan_ends r before m window n moves standing verdict h (ends_from r moves _ (λ s.
     let one : take (suc (length moves)) (moves ++ some_prefix (drop n window)) ≡ moves ++ w ∷ [] =
     ap (λ (xs : List Move). take (suc (length moves)) (moves ++ xs)) (prefix_is window n w l e) ∙ take_one moves _ w in
     let p : position_after_all r.start (moves ++ w ∷ []) ≡ None = next_position r moves standing w h.at ∙ illegal in
     let t : is_some (position_after_all r.start (moves ++ w ∷ [])) ≡ true = subst (λ (xs : List Move). is_some (position_after_all r.start xs) ≡ true) one s.legal in
     let f : is_some (position_after_all r.start (moves ++ w ∷ [])) ≡ false = ap is_some p in cc))
 
-none_of : (o : Option Verdict) → is_some o ≡ false → o ≡ None
+pub none_of : (o : Option Verdict) → is_some o ≡ false → o ≡ None
 none_of None q = refl
 none_of (Some x) q = cc
 
 -- one more move
-pub goes_on : (r : Rules) (before : List Move) (m : Move) (window : Window) (n : ℕ) (moves : List Move) (standing : Reached) (verdict : Option Verdict) (w : Move) (next : Reached) (v : Option Verdict) → Runs r before m window n moves standing verdict → is_some verdict ≡ false → n < length window → get_or window n None ≡ Some w → IsAt r (moves ++ w ∷ []) next → v ≡ verdict_after r (moves ++ w ∷ []) → Runs r before m window (n + 1) (moves ++ w ∷ []) next v
+pub goes_on : (r : Rules) (before : List Move) (m : Move) (window : Window) (n : ℕ) (moves : List Move) (standing : Reached) (verdict : Option Verdict) (w : Move) (next : Reached) (v : Option Verdict) → PlansTo r before m window n moves standing verdict → is_some verdict ≡ false → n < length window → get_or window n None ≡ Some w → IsAt r (moves ++ w ∷ []) next → v ≡ verdict_after r (moves ++ w ∷ []) → PlansTo r before m window (n + 1) (moves ++ w ∷ []) next v
 goes_on r before m window n moves standing verdict w next v h unruled l e at ruled =
     let size : length (moves ++ w ∷ []) ≡ suc (length moves) = simp length-append (omega arith) in
     let step : reaches r (moves ++ w ∷ []) (suc (length moves)) ≡ true = step_to r (moves ++ w ∷ []) (length moves) (record {
@@ -107,8 +114,8 @@ goes_on r before m window n moves standing verdict w next v h unruled l e at rul
       count = omega (arith, size, h.count);
     }
 
-pub run_starts : (r : Rules) (before : List Move) (m : Move) (window : Window) (moves : List Move) (standing : Reached) (verdict : Option Verdict) → moves ≡ before ++ m ∷ [] → IsAt r (before ++ m ∷ []) standing → verdict ≡ verdict_after r (before ++ m ∷ []) → reaches r (before ++ m ∷ []) (length before + 1) ≡ true → Runs r before m window 0 moves standing verdict
-run_starts r before m window moves standing verdict e at ruled reached =
+pub plan_starts : (r : Rules) (before : List Move) (m : Move) (window : Window) (moves : List Move) (standing : Reached) (verdict : Option Verdict) → moves ≡ before ++ m ∷ [] → IsAt r (before ++ m ∷ []) standing → verdict ≡ verdict_after r (before ++ m ∷ []) → reaches r (before ++ m ∷ []) (length before + 1) ≡ true → PlansTo r before m window 0 moves standing verdict
+plan_starts r before m window moves standing verdict e at ruled reached =
     let size : length (before ++ m ∷ []) ≡ length before + 1 = simp length-append (omega arith) in
     record {
       all = ap (λ (xs : List Move). xs ++ some_prefix window) e ∙ append_assoc before (m ∷ []) (some_prefix window);
@@ -124,7 +131,7 @@ drop_past [] (suc n) h = refl
 drop_past (o ∷ w) zero h = absurd (omega arith)
 drop_past (o ∷ w) (suc n) h = drop_past w n (omega arith)
 
-pub ends_past : (r : Rules) (before : List Move) (m : Move) (window : Window) (n : ℕ) (moves : List Move) (standing : Reached) (verdict : Option Verdict) → Runs r before m window n moves standing verdict → length window ≤ n → record { moves = moves; verdict = verdict } ≡ advance r before m window
+pub ends_past : (r : Rules) (before : List Move) (m : Move) (window : Window) (n : ℕ) (moves : List Move) (standing : Reached) (verdict : Option Verdict) → PlansTo r before m window n moves standing verdict → length window ≤ n → record { moves = moves; verdict = verdict } ≡ advance r before m window
 ends_past r before m window n moves standing verdict h l = ends_gap r before m window n moves standing verdict h (ap some_prefix (drop_past window n l))
 
 -- ---- windows by their places

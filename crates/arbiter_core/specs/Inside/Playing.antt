@@ -1,0 +1,51 @@
+-- What is recorded of a game and where it stands, by the rules of its setup; cited by private clauses alone.
+use Rattle.std.specs.Prelude.{◌≡◌, ◌+◌, ◌<◌, ◌≤◌, true, [], ◌∷◌, ◌++◌, length, Some, None}
+use Rattle.board_core.specs.Delays.{most_delay}
+use Rattle.board_core.specs.declared.moves.Move.{Move}
+use Rattle.board_core.specs.declared.parts.Parts.{Parts}
+use Rattle.judge_core.specs.Games.{Rules, position_after_all, verdict_after}
+use Rattle.judge_core.specs.Standings.{IsAt}
+use Rattle.move_msg.specs.Numbers.{most_moves}
+use Rattle.move_msg.specs.declared.stamp.Stamp.{Stamp}
+use Rattle.arbiter_core.specs.declared.planning.Plan.{Plan}
+use Rattle.arbiter_core.specs.declared.played.Played.{Played}
+use Rattle.arbiter_core.specs.Recording.{Recorded, Window, advance, reaches}
+use Rattle.arbiter_core.specs.Setups.{SetupView, rules_at}
+use Rattle.arbiter_core.specs.Views.{IsNear}
+
+abbrev pub recorded_in : Played → Recorded
+recorded_in p = record { moves = p.record.moves; verdict = p.record.verdict }
+
+-- what is recorded for this stamp is whole, and the game stands so after its moves
+pub record IsPlayed (setup : SetupView) (stamp : Stamp) (p : Played) : Type 0 where
+  pub stamp_is : p.record.stamp ≡ stamp
+  pub delay_is : p.record.delay ≡ setup.delay
+  pub at : IsAt (rules_at setup) p.record.moves p.standing
+  pub ruled : p.record.verdict ≡ verdict_after (rules_at setup) p.record.moves
+  pub reached : reaches (rules_at setup) p.record.moves (length p.record.moves) ≡ true
+  pub short : length p.record.moves ≤ most_moves
+
+-- what always holds of an arbiter's setup, of what it has recorded and of the moves that wait
+pub record IsInOrder (setup : SetupView) (p : Played) (window : Window) : Type 0 where
+  pub played : IsPlayed setup p.record.stamp p
+  pub near : IsNear window (length p.record.moves + 1)
+  pub delay : setup.delay ≤ most_delay
+
+-- this move is the next one: there is no verdict yet, it is legal and leads to this position, and there is room for it
+pub record IsNext (rules : Rules) (old : Recorded) (m : Move) (position : Parts) : Type 0 where
+  pub unruled : old.verdict ≡ None
+  pub legal : position_after_all rules.start (old.moves ++ m ∷ []) ≡ Some position
+  pub short : length old.moves < most_moves
+
+-- the plan is of the record after this move and those that wait behind it
+pub record IsPlan (rules : Rules) (old : Recorded) (m : Move) (window : Window) (p : Plan) : Type 0 where
+  pub advanced : record { moves = p.moves.items; verdict = p.verdict } ≡ advance rules old.moves m window
+  pub at : IsAt rules p.moves.items p.standing
+  pub short : length p.moves.items ≤ most_moves
+  pub more : length old.moves < length p.moves.items
+
+-- this is recorded after this move and those that wait behind it
+pub record IsPlayedOn (setup : SetupView) (old : Played) (m : Move) (window : Window) (new : Played) : Type 0 where
+  pub played : IsPlayed setup old.record.stamp new
+  pub advanced : recorded_in new ≡ advance (rules_at setup) old.record.moves m window
+  pub more : length old.record.moves < length new.record.moves
