@@ -124,3 +124,9 @@ left_so d got one rest = ⊎_elim (λ e. e) (λ e. e) (one (seen d) (seen d) (at
 -- what a loss of power left is one of any two of which each leaves the one or the other
 pub so_one : (d : DiskFile) (which : ℕ) (garbage : List ℕ) (got : Option (List ℕ)) → got ≡ after_stop d which garbage → IsOneOfFound (disk_facts d) got
 so_one d which garbage got is = λ a b h. subst (λ (o : Option (List ℕ)). (o ≡ a) ⊎ (o ≡ b)) (sym is) (h which garbage)
+
+-- what was to be found before a loss of power is to be found after it
+pub stopped : (d : DiskFile) (earlier : List Held) (now : Held) (which : ℕ) (bytes : List ℕ) (a b : Option (List ℕ)) → earlier ≡ [] → IsOnPlatter now → shown now ≡ after_stop d which bytes → LeavesOneOf d a b → Each earlier now a b
+stopped d earlier now which bytes a b none on left h = λ w garbage.
+    let is : left_of (get_or earlier w now) garbage ≡ after_stop d which bytes = ap (λ (xs : List Held). left_of (get_or xs w now) garbage) none ∙ on_left now garbage on ∙ left in
+    subst (λ (o : Option (List ℕ)). (o ≡ a) ⊎ (o ≡ b)) (sym is) (h which bytes)

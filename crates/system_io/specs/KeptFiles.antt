@@ -48,3 +48,7 @@ IsOneOfFound file c = (a b : Option (List ℕ)) → file.finds a b → (c ≡ a)
 -- a start finds what was there before, or that or these bytes
 abbrev pub FindsOldOrNew : KeptFacts → Option (List ℕ) → List ℕ → Type 0
 FindsOldOrNew file old bytes = file.finds old old ⊎ file.finds old (Some bytes)
+
+-- a put of these bytes was cut off somewhere in it: a start finds what was there before, or these bytes
+abbrev pub IsCutOff : KeptFacts → List ℕ → KeptFacts → Type 0
+IsCutOff before bytes left = (old : Option (List ℕ)) → before.finds old old → FindsOldOrNew left old bytes ⊎ left.finds (Some bytes) (Some bytes)

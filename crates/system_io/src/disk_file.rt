@@ -1,8 +1,8 @@
 //! A file in memory, on a disk that loses power and whose calls fail as they are told to.
 
-ghost use Rattle.std.specs.Prelude.{◌≡◌, ℕ, [], List, Option, Some, true, false, IsTrue, IfOk, OnOk, IsErr};
+ghost use Rattle.std.specs.Prelude.{◌≡◌, ℕ, [], List, slice_index_or, Option, Some, true, false, IsTrue, IfOk, OnOk, IsErr};
 ghost use Rattle.system_io.specs.KeptFiles.{IsOneOfFound, bytes_of};
-ghost use Rattle.system_io.specs.PowerLosses.{HoldsBytes, HoldsSynced, IsAtRest, IsSpoilt, LeavesOneOf, after_stop, disk_facts, next_of, seen};
+ghost use Rattle.system_io.specs.PowerLosses.{HoldsBytes, HoldsSynced, IsAtRest, IsOnPlatter, IsSpoilt, LeavesOneOf, after_stop, disk_facts, left_of, next_of, seen, shown};
 
 use crate::kept_file::{KeptFile, MOST_KEPT_BYTES, begin};
 use crate::reading::ReadFault;
@@ -99,6 +99,35 @@ fn synced(content: Content) -> Content
             is_synced: true,
             is_spoiled,
         }
+    }
+}
+
+/// What has the name after a loss of power: of what had it earlier that of this number, or what has it now.
+fn named(earlier: Vec<Option<Content>>, which: usize, stands: Option<Content>) -> Option<Content>
+    ensures { result ≡ slice_index_or earlier.items which stands }
+{
+    let mut earlier = earlier;
+    if which < earlier.len() {
+        earlier.remove(which)
+    } else {
+        stands
+    }
+}
+
+/// What a loss of power leaves of a file: its bytes where they are synced, and else these.
+fn lasting(held: Option<Content>, garbage: Vec<u8>) -> Option<Content>
+    ensures left { shown result ≡ left_of held garbage.items }
+    ensures synced { IsOnPlatter result }
+{
+    match held {
+        Some(content) => {
+            if content.is_synced {
+                Some(on_platter(content.bytes))
+            } else {
+                Some(on_platter(garbage))
+            }
+        }
+        None => None,
     }
 }
 
@@ -248,36 +277,23 @@ impl DiskFile {
     pub fn stop(self, choice: Choice) -> DiskFile
         ensures left { seen result ≡ after_stop self choice.which choice.bytes.items }
         ensures rest { IsAtRest result }
+        ensures same { (a b : Option (List ℕ)) → (disk_facts self).finds a b → (disk_facts result).finds a b }
     {
         let DiskFile {
             alloc,
             stands,
-            mut earlier,
+            earlier,
             beside: _beside,
             outcomes,
             reads_fail,
         } = self;
         let Choice {
             which,
-            bytes: garbage,
-            beside: beside_it,
+            bytes,
+            beside,
         } = choice;
-        let held = if which < earlier.len() {
-            earlier.remove(which)
-        } else {
-            stands
-        };
-        let stands = match held {
-            Some(content) => {
-                if content.is_synced {
-                    Some(on_platter(content.bytes))
-                } else {
-                    Some(on_platter(garbage))
-                }
-            }
-            None => None,
-        };
-        let beside = match beside_it {
+        let stands = lasting(named(earlier, which, stands), bytes);
+        let beside = match beside {
             Some(bytes) => Some(on_platter(bytes)),
             None => None,
         };

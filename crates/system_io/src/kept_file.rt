@@ -1,7 +1,7 @@
 //! The file in which a record is kept, and how another takes its place.
 
-ghost use Rattle.std.specs.Prelude.{◌≤◌, ℕ, List, Option, Some, length, IfOk, IfSome, OnOk, OnErr, IsErrOf};
-ghost use Rattle.system_io.specs.KeptFiles.{KeptFacts, Written, Synced, Renamed, CannotStart, FindsOldOrNew, FindsOne, IsOneOfFound, bytes_of};
+ghost use Rattle.std.specs.Prelude.{◌≤◌, ℕ, List, Option, Some, length, IsTrue, IfOk, IfSome, OnOk, OnErr, IsErrOf};
+ghost use Rattle.system_io.specs.KeptFiles.{KeptFacts, Written, Synced, Renamed, CannotStart, FindsOldOrNew, FindsOne, IsCutOff, IsOneOfFound, bytes_of};
 
 use crate::reading::ReadFault;
 use std::alloc::Global;
@@ -80,4 +80,22 @@ pub fn replace<F: KeptFile>(file: &mut F, bytes: &[u8]) -> io::Result<()>
     file.sync_beside()?;
     file.rename()?;
     file.sync_folder()
+}
+
+/// Makes the first calls of `replace`, so many, and no more: what is left where a process stops in the middle of it. Tells
+/// whether all four were made and none failed.
+pub fn replace_in_part<F: KeptFile>(file: &mut F, bytes: &[u8], calls: usize) -> bool
+    ensures cut { IsCutOff (F.facts file.old) bytes.now (F.facts file.new) }
+    ensures done { IsTrue result → (F.facts file.new).finds (Some bytes.now) (Some bytes.now) }
+{
+    if calls == 0 || file.write_beside(bytes).is_err() {
+        return false;
+    }
+    if calls == 1 || file.sync_beside().is_err() {
+        return false;
+    }
+    if calls == 2 || file.rename().is_err() || calls == 3 {
+        return false;
+    }
+    file.sync_folder().is_ok()
 }

@@ -25,7 +25,7 @@ pub use disk::Disk;
 pub use disk_file::{Choice, DiskFile, Outcome, read_after};
 pub use host::{BindFault, Host};
 pub use input::Input;
-pub use kept_file::{KeptFile, MOST_KEPT_BYTES, begin, replace};
+pub use kept_file::{KeptFile, MOST_KEPT_BYTES, begin, replace, replace_in_part};
 pub use output::{Output, WriteFault, end};
 pub use port::{Port, PortFault};
 pub use reading::{ReadFault, read_at_most};
