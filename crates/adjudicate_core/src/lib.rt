@@ -27,7 +27,7 @@ mod told_lines;
 mod usage;
 
 pub use commands::{
-    Check, Form, Game, Judge, List, Listen, Moves, Name, Probe, Probes, Run, Show, Task, Value,
+    Check, FollowGame, Form, Judge, List, Listen, Moves, Name, Probe, Probes, RunSchedule, Show, Task, Value,
     parse,
 };
 pub use numbers::{CacheSize, Delay};

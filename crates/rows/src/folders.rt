@@ -4,7 +4,7 @@ ghost use Rattle.std.specs.Prelude.{◌≤◌, length, IfOk};
 ghost use Rattle.system_io.specs.Disks.{most_bytes};
 
 use std::alloc::{AllocError, Global};
-use std::io::{self, Read};
+use std::io::{self, BufReader, Read};
 use system_io::{Disk, Input as Source, ReadFault, read_at_most};
 
 /// A file by its name or path: how it begins, and its length. The other bytes are zero.
@@ -218,6 +218,8 @@ impl Disk for Folders {
 }
 
 impl Source for Folders {
+    type Lines = BufReader<Given<'static>, Global>;
+
     ghost use Rattle.system_io.specs.Premises.{system_input};
 
     ghost facts = { λ _. system_input };
@@ -225,28 +227,52 @@ impl Source for Folders {
     fn read_to_end(&self, _alloc: Global) -> Result<Vec<u8>, ReadFault> {
         Err(ReadFault::Unreadable)
     }
+
+    fn lines(&self, alloc: Global) -> Result<BufReader<Given<'static>, Global>, AllocError> {
+        lines_of(alloc, Input::failing(0).reader())
+    }
 }
 
-/// A reader that gives a byte a call, and fails at one call.
+/// A reader that gives these bytes, or where it fails at one call a byte a call until then.
 #[derive(Drop)]
-struct Breaking {
+pub(crate) struct Given<'a> {
+    rest: &'a [u8],
     calls: u32,
-    fails_at: u32,
+    fails_at: Option<u32>,
 }
 
-impl Read for Breaking {
+/// Puts a byte at the front of a buffer, and tells how many were put.
+fn put_byte(buf: &mut [u8]) -> usize {
+    match buf {
+        [first, ..] => {
+            *first = 0x53;
+            1
+        }
+        [] => 0,
+    }
+}
+
+/// The lines of a reader.
+fn lines_of<'a>(
+    alloc: Global,
+    reader: Given<'a>,
+) -> Result<BufReader<Given<'a>, Global>, AllocError> {
+    match BufReader::new(alloc, reader) {
+        Ok(lines) => Ok(lines),
+        Err(_) => Err(AllocError),
+    }
+}
+
+impl<'a> Read for Given<'a> {
     fn read(&mut self, buf: &mut [u8]) -> io::Result<usize> {
-        if self.calls == self.fails_at {
+        let Some(fails_at) = self.fails_at else {
+            return self.rest.read(buf);
+        };
+        if self.calls == fails_at {
             return Err(io::Error::from(io::ErrorKind::BrokenPipe));
         }
         self.calls = self.calls.wrapping_add(1);
-        match buf {
-            [first, ..] => {
-                *first = 0x53;
-                Ok(1)
-            }
-            [] => Ok(0),
-        }
+        Ok(put_byte(buf))
     }
 }
 
@@ -273,6 +299,15 @@ impl<'a> Input<'a> {
             fails_at: Some(calls),
         }
     }
+
+    /// A reader of the whole input.
+    fn reader(&self) -> Given<'a> {
+        Given {
+            rest: self.bytes,
+            calls: 0,
+            fails_at: self.fails_at,
+        }
+    }
 }
 
 impl<'a> Disk for Input<'a> {
@@ -290,14 +325,17 @@ impl<'a> Disk for Input<'a> {
 }
 
 impl<'a> Source for Input<'a> {
+    type Lines = BufReader<Given<'a>, Global>;
+
     ghost use Rattle.system_io.specs.Premises.{system_input};
 
     ghost facts = { λ _. system_input };
 
     fn read_to_end(&self, alloc: Global) -> Result<Vec<u8>, ReadFault> {
-        match self.fails_at {
-            None => read_all(alloc, self.bytes, 0),
-            Some(fails_at) => read_all(alloc, Breaking { calls: 0, fails_at }, 0),
-        }
+        read_all(alloc, self.reader(), 0)
+    }
+
+    fn lines(&self, alloc: Global) -> Result<BufReader<Given<'a>, Global>, AllocError> {
+        lines_of(alloc, self.reader())
     }
 }
