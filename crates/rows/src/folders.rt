@@ -229,26 +229,28 @@ impl Source for Folders {
     }
 
     fn lines(&self, alloc: Global) -> Result<BufReader<Given<'static>, Global>, AllocError> {
-        lines_of(alloc, Input::failing(0).reader())
+        no_lines(alloc)
     }
 }
 
-/// A reader that gives these bytes, or where it fails at one call a byte a call until then.
+/// A reader that gives these bytes a byte a call, and then has ended or fails.
 #[derive(Drop)]
 pub(crate) struct Given<'a> {
     rest: &'a [u8],
-    calls: u32,
-    fails_at: Option<u32>,
+    fails: bool,
 }
 
-/// Puts a byte at the front of a buffer, and tells how many were put.
-fn put_byte(buf: &mut [u8]) -> usize {
-    match buf {
-        [first, ..] => {
-            *first = 0x53;
-            1
+impl<'a> Read for Given<'a> {
+    fn read(&mut self, buf: &mut [u8]) -> io::Result<usize> {
+        match (self.rest, buf) {
+            ([byte, rest @ ..], [first, ..]) => {
+                *first = *byte;
+                self.rest = rest;
+                Ok(1)
+            }
+            ([], _) if self.fails => Err(io::Error::from(io::ErrorKind::BrokenPipe)),
+            _ => Ok(0),
         }
-        [] => 0,
     }
 }
 
@@ -263,24 +265,23 @@ fn lines_of<'a>(
     }
 }
 
-impl<'a> Read for Given<'a> {
-    fn read(&mut self, buf: &mut [u8]) -> io::Result<usize> {
-        let Some(fails_at) = self.fails_at else {
-            return self.rest.read(buf);
-        };
-        if self.calls == fails_at {
-            return Err(io::Error::from(io::ErrorKind::BrokenPipe));
-        }
-        self.calls = self.calls.wrapping_add(1);
-        Ok(put_byte(buf))
-    }
+/// The lines of an input that can't be read.
+pub(crate) fn no_lines(alloc: Global) -> Result<BufReader<Given<'static>, Global>, AllocError> {
+    let nothing: &'static [u8] = &[];
+    lines_of(
+        alloc,
+        Given {
+            rest: nothing,
+            fails: true,
+        },
+    )
 }
 
-/// The folders and an input, which fails at one of its calls, if at any.
+/// The folders and an input, which may fail after its bytes.
 #[derive(Drop)]
 pub(crate) struct Input<'a> {
     bytes: &'a [u8],
-    fails_at: Option<u32>,
+    fails: bool,
 }
 
 impl<'a> Input<'a> {
@@ -288,24 +289,20 @@ impl<'a> Input<'a> {
     pub(crate) fn of(bytes: &'a [u8]) -> Input<'a> {
         Input {
             bytes,
-            fails_at: None,
+            fails: false,
         }
     }
 
-    /// One that fails after so many calls.
-    pub(crate) fn failing(calls: u32) -> Input<'a> {
-        Input {
-            bytes: &[],
-            fails_at: Some(calls),
-        }
+    /// One that fails after these bytes.
+    pub(crate) fn failing(bytes: &'a [u8]) -> Input<'a> {
+        Input { bytes, fails: true }
     }
 
     /// A reader of the whole input.
     fn reader(&self) -> Given<'a> {
         Given {
             rest: self.bytes,
-            calls: 0,
-            fails_at: self.fails_at,
+            fails: self.fails,
         }
     }
 }
