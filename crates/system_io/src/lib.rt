@@ -26,9 +26,10 @@ pub use disk::Disk;
 pub use disk_file::{Choice, DiskFile, Outcome, read_after};
 pub use host::{BindFault, Host};
 pub use input::Input;
-pub use kept_file::{KeptFile, MOST_KEPT_BYTES, replace};
+pub use kept_file::{
+    KeptFile, KeptFile, MOST_KEPT_BYTES, MOST_KEPT_BYTES, begin, replace, replace,
+};
 pub use line_reader::LineReader;
-pub use kept_file::{KeptFile, MOST_KEPT_BYTES, begin, replace};
 pub use output::{Output, WriteFault, end};
 pub use port::{Port, PortFault};
 pub use reading::{ReadFault, read_at_most};
