@@ -8,10 +8,11 @@ use Rattle.std.specs.Io.KnownBytes.{Appends, IsAtEnd, Keeps}
 use Rattle.std.proofs.KnownBytes.{Appends-kept, Appends-nil}
 use Rattle.std.proofs.lemmas.List.{map-append}
 use Rattle.move_msg.specs.TextLines.{ended, lines_in, text_of, whole_lines}
-
 use Rattle.move_msg.proofs.LineLaws.{more_lines}
 use Rattle.system_io.specs.LineReaders.{ReadsLine}
-use Rattle.adjudicate_core.specs.ToldLines.{AllTold, AreRead, CutOff, CutShort, HasTold, IsCut, LineTold, ReadAll, TellsLines, TextCutShort, WantsMemory, WritesRead, WritesText, WritesTold, all_told, refused_files, refused_memory, words_told}
+use Rattle.adjudicate_core.specs.declared.told_lines.Step.{Step}
+use Rattle.adjudicate_core.specs.declared.told_lines.Step.TheVariants as step
+use Rattle.adjudicate_core.specs.ToldLines.{AllTold, AreRead, CutOff, CutShort, HasTold, IsCut, LineTold, ReadAll, StepTells, TellsLines, TextCutShort, WantsMemory, WritesRead, WritesText, WritesTold, all_told, refused_files, refused_memory, words_told}
 
 pub are_read_more : (a b c : Option (List ℕ)) (lines : List (List ℕ)) (line : List ℕ) → AreRead a lines b → ReadsLine b c line → AreRead a (lines ++ line ∷ []) c
 unfolding AreRead
@@ -76,6 +77,10 @@ pub told_cut : (Tells : List ℕ → LineTold → Type 0) (TakesMemory : List �
     → ((line : List ℕ) × ReadsLine now next line × TakesMemory line × Appends mid new (ended refused_memory)) ⊎ ((words : List ℕ) × IsCut Now [] words × Appends mid new (ended words)) → WritesRead Tells TakesMemory Fails input old new false
 told_cut Tells TakesMemory Now Fails count input now next old mid new done h back (inl (line, read, takes, wrote)) = WantsMemory h.told now next line h.has read takes (more_lines old mid new (words_told h.told) refused_memory h.written wrote) refl
 told_cut Tells TakesMemory Now Fails count input now next old mid new done h back (inr (words, is, wrote)) = CutShort h.told now words h.has (cut_after Now Fails h.told words back is) (more_lines old mid new (words_told h.told) words h.written wrote) refl
+
+-- the line that says why no more is read was written
+pub step_cut : (Tells : List ℕ → LineTold → Type 0) (TakesMemory : List ℕ → Type 0) (Fails : Type 0) (input left old new : Option (List ℕ)) (s : Step) (words : List ℕ) → s ≡ step.Cut → IsCut Fails [] words → Appends old new (ended words) → StepTells Tells TakesMemory Fails input left old new s
+step_cut Tells TakesMemory Fails input left old new s words e is wrote = subst (StepTells Tells TakesMemory Fails input left old new) (sym e) (inr (words, is, wrote))
 
 -- so many lines were told that no more are counted
 pub told_most : (Tells : List ℕ → LineTold → Type 0) (TakesMemory : List ℕ → Type 0) (Fails : Type 0) (count : ℕ) (input now old mid new : Option (List ℕ)) (done : Bool) → ToldSoFar Tells count input now old mid done → 2 ^ 64 - 1 ≤ count → Appends mid new (ended refused_files) → WritesRead Tells TakesMemory Fails input old new false

@@ -19,7 +19,7 @@ ghost use Rattle.adjudicate_core.specs.Schedules.{RefusesTable, counted, game_of
 
 use super::{Form, Value};
 use crate::answers::Answer;
-use crate::lines::{Progress, Line};
+use crate::lines::{Line, Progress};
 use crate::numbers::{CacheSize, Delay};
 use crate::refusals::Refusal;
 use crate::sources::{Places, Sources};
