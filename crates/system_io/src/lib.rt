@@ -26,9 +26,7 @@ pub use disk::Disk;
 pub use disk_file::{Choice, DiskFile, Outcome, read_after};
 pub use host::{BindFault, Host};
 pub use input::Input;
-pub use kept_file::{
-    KeptFile, KeptFile, MOST_KEPT_BYTES, MOST_KEPT_BYTES, begin, replace, replace,
-};
+pub use kept_file::{KeptFile, MOST_KEPT_BYTES, begin, replace};
 pub use line_reader::LineReader;
 pub use output::{Output, WriteFault, end};
 pub use port::{Port, PortFault};
