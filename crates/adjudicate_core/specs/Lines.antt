@@ -12,7 +12,7 @@ use Rattle.judge_core.specs.Words.{column_words, columns_words, outcome_words, v
 use Rattle.move_msg.specs.declared.message.MessageFault.{MessageFault}
 use Rattle.move_msg.specs.Messages.{fault_name as message_fault_name}
 use Rattle.move_msg.specs.MessageWords.{message_words}
-use Rattle.adjudicate_core.specs.ToldLines.{refused_memory}
+use Rattle.adjudicate_core.specs.ToldLines.{refused_files, refused_memory}
 use Rattle.move_msg.specs.declared.who.Who.{Who}
 use Rattle.relay_world.specs.declared.world.State.{State}
 use Rattle.relay_world.specs.declared.world.State.TheVariants as state
@@ -20,7 +20,7 @@ use Rattle.relay_world.specs.Texts.{who_word}
 use Rattle.arbiter_service.specs.ServedLines.{refused_keeper, refused_port, verdict_or_none}
 use Rattle.adjudicate_core.specs.declared.tables.FileFault.{FileFault}
 use Rattle.adjudicate_core.specs.declared.tables.FileFault.TheVariants.{Missing, Changed, Bad}
-use Rattle.adjudicate_core.specs.declared.lines.Kept.{Kept}
+use Rattle.adjudicate_core.specs.declared.lines.Progress.{Progress}
 use Rattle.adjudicate_core.specs.declared.lines.Line.{Line}
 use Rattle.adjudicate_core.specs.declared.lines.Line.TheVariants as line
 use Rattle.adjudicate_core.specs.declared.refusals.Refusal.{Refusal}
@@ -83,7 +83,7 @@ state_word state.Down = codes "down"
 state_word state.Closed = codes "closed"
 
 -- an arbiter: its letter, how it is, how many moves it keeps and its verdict
-unfoldable pub arbiter_words : Who → State → Option Kept → List ℕ
+unfoldable pub arbiter_words : Who → State → Option Progress → List ℕ
 arbiter_words who state None = who_word who ++ codes " " ++ state_word state ++ codes " - none"
 arbiter_words who state (Some kept) =
     who_word who ++ codes " " ++ state_word state ++ codes " " ++ decimal kept.count ++ codes " " ++ verdict_or_none kept.verdict
@@ -99,9 +99,6 @@ refused_move place = codes "refused move " ++ decimal place
 -- the refusal of a schedule by the number of its first line at fault
 abbrev pub refused_line : ℕ → List ℕ
 refused_line number = codes "refused line " ++ decimal number
-
-abbrev pub refused_files : List ℕ
-refused_files = codes "refused files"
 
 -- why something is refused
 abbrev pub refusal_words : Refusal → List ℕ

@@ -1,5 +1,6 @@
 -- What the program makes of its words and of what it reads (this project's own).
 use Rattle.std.specs.Prelude.{◌≡◌, ℕ, true, List, [], Option, Result, Ok, Err, drop, map, String, Vec, string_bytes}
+use Rattle.std.specs.Borrow.{Bor}
 use Rattle.std.specs.Global.{Global}
 use Rattle.system_io.specs.Disks.{DiskFacts}
 use Rattle.system_io.specs.Inputs.{InputFacts}
@@ -8,9 +9,11 @@ use Rattle.adjudicate_core.specs.declared.commands.Task.TheVariants as task
 use Rattle.adjudicate_core.specs.declared.usage.Usage.{Usage}
 use Rattle.adjudicate_core.specs.declared.usage.Usage.TheVariants.{Misuse}
 use Rattle.adjudicate_core.specs.Given.{Given}
-use Rattle.adjudicate_core.specs.ToldLines.{refused_memory}
-use Rattle.adjudicate_core.specs.Lines.{refused_files}
-use Rattle.adjudicate_core.specs.Listens.{Hosted, Listens}
+use Rattle.adjudicate_core.specs.ToldLines.{refused_files, refused_memory}
+use Rattle.system_io.specs.Hosts.{HostFacts}
+use Rattle.system_io.specs.KeptFiles.{KeptFacts}
+use Rattle.system_io.specs.Ports.{PortFacts}
+use Rattle.adjudicate_core.specs.Listens.{Hosted, Listens, hosted}
 use Rattle.adjudicate_core.specs.Sources.{CannotRead, IsGiven, reads_some}
 use Rattle.adjudicate_core.specs.Commands.Judge as judges
 use Rattle.adjudicate_core.specs.Commands.Probe as probes
@@ -31,36 +34,40 @@ pub record Outside (P F : Type 0) : Type 1 where
   pub source : InputFacts
   pub host : Hosted P F
 
-abbrev pub outside : {P F : Type 0} → DiskFacts → InputFacts → Hosted P F → Outside P F
-outside disk source host = record { disk = disk; source = source; host = host }
+abbrev pub outside : {P F : Type 0} → DiskFacts → InputFacts → HostFacts P F → (P → PortFacts) → (F → KeptFacts) → Outside P F
+outside disk source host port file = record { disk = disk; source = source; host = hosted host port file }
+
+-- words as the bytes of their texts
+abbrev pub texts : List (Bor (List ℕ)) → List (List ℕ)
+texts words = map (λ w. w.now) words
 
 -- what the program answers to a task from what was read for it: `judge`, `probe`, `moves`, `game` take memory for a text that
 -- is a position, `list`, `check` and `run` always, and `show` never
-abbrev pub AnswersFrom : {P F : Type 0} → Hosted P F → Task → Given → Option (List ℕ) → Option (List ℕ) → ℕ → Type 0
-AnswersFrom host (task.Judge t) given old new status = AnswersOnce (judges.IsReply t given) (IsText t.fen.now) old new status
-AnswersFrom host (task.Probe t) given old new status = AnswersOnce (probes.IsReply t given) (IsText t.fen.now) old new status
-AnswersFrom host (task.Moves t) given old new status = AnswersOnce (of_moves.IsReply t) (IsText t.fen.now) old new status
-AnswersFrom host (task.List t) given old new status = AnswersOnce (lists.IsReply given) (Unit {0}) old new status
-AnswersFrom host (task.Check t) given old new status = AnswersOnce (checks.IsReply given) (Unit {0}) old new status
-AnswersFrom host (task.Show t) given old new status = shows.Answers given old new status
-AnswersFrom host (task.Run t) given old new status = AnswersOnce (runs.IsReply t given) (Unit {0}) old new status
-AnswersFrom host (task.Listen t) given old new status = Listens host t given old new status
-AnswersFrom host (task.Probes t) given old new status = PutsProbes given old new status
-AnswersFrom host (task.Game t) given old new status = AnswersOnce (games.IsReply t given) (IsText t.fen.now) old new status
+abbrev pub AnswersFrom : {P F : Type 0} → InputFacts → Hosted P F → Task → Given → Option (List ℕ) → Option (List ℕ) → ℕ → Type 0
+AnswersFrom source host (task.Judge t) given old new status = AnswersOnce (judges.IsReply t given) (IsText t.fen.now) old new status
+AnswersFrom source host (task.Probe t) given old new status = AnswersOnce (probes.IsReply t given) (IsText t.fen.now) old new status
+AnswersFrom source host (task.Moves t) given old new status = AnswersOnce (of_moves.IsReply t) (IsText t.fen.now) old new status
+AnswersFrom source host (task.List t) given old new status = AnswersOnce (lists.IsReply given) (Unit {0}) old new status
+AnswersFrom source host (task.Check t) given old new status = AnswersOnce (checks.IsReply given) (Unit {0}) old new status
+AnswersFrom source host (task.Show t) given old new status = shows.Answers given old new status
+AnswersFrom source host (task.Run t) given old new status = AnswersOnce (runs.IsReply t given) (Unit {0}) old new status
+AnswersFrom source host (task.Listen t) given old new status = Listens host t given old new status
+AnswersFrom source host (task.Probes t) given old new status = PutsProbes source given old new status
+AnswersFrom source host (task.Game t) given old new status = AnswersOnce (games.IsReply t given) (IsText t.fen.now) old new status
 
 -- to a task the program answers from what it reads; or something that it reads for it can't be read; or memory was refused while
 -- it read
 pub data AnswersTask {P F : Type 0} (out : Outside P F) (t : Task) (old new : Option (List ℕ)) (status : ℕ) : Type 0 where
-  FromGiven : (given : Given) → IsGiven out.disk out.source (named_in t) given → AnswersFrom out.host t given old new status → AnswersTask out t old new status
+  FromGiven : (given : Given) → IsGiven out.disk out.source (named_in t) given → AnswersFrom out.source out.host t given old new status → AnswersTask out t old new status
   Unread : CannotRead out.disk out.source (named_in t) → TellsOne refused_files old new status → AnswersTask out t old new status
   NoMemory : reads_some (named_in t) ≡ true → TellsOne refused_memory old new status → AnswersTask out t old new status
 
 -- what the program makes of its words: the answer to the task that they name; or they are misused, and nothing is
 -- written; or memory was refused before there was a task, where they name a command
-pub data Runs {P F : Type 0} (out : Outside P F) (words : List (List ℕ)) (old new : Option (List ℕ)) (status : ℕ) : Type 0 where
-  ToTask : (t : Task) → IsTask words t → AnswersTask out t old new status → Runs out words old new status
-  ToMisuse : IsMisuse words → new ≡ old → status ≡ 2 → Runs out words old new status
-  ToNone : (NamesNone words → ⊥) → TellsOne refused_memory old new status → Runs out words old new status
+pub data Performs {P F : Type 0} (out : Outside P F) (words : List (List ℕ)) (old new : Option (List ℕ)) (status : ℕ) : Type 0 where
+  ToTask : (t : Task) → IsTask words t → AnswersTask out t old new status → Performs out words old new status
+  ToMisuse : IsMisuse words → new ≡ old → status ≡ 2 → Performs out words old new status
+  ToNone : (NamesNone words → ⊥) → TellsOne refused_memory old new status → Performs out words old new status
 
 -- the words that a program is called with, or why there are none
 abbrev pub called_by : Result (Vec (String Global) Global) Usage → Result (List (List ℕ)) Usage
@@ -70,6 +77,6 @@ called_by (Err usage) = Err usage
 -- what it makes of all words that it was called with, of which the first is its own name; words that are no texts are none; or
 -- memory was refused for them
 pub data Called {P F : Type 0} (out : Outside P F) (called : Result (List (List ℕ)) Usage) (old new : Option (List ℕ)) (status : ℕ) : Type 0 where
-  OnWords : (words : List (List ℕ)) → called ≡ Ok words → Runs out (drop 1 words) old new status → Called out called old new status
-  OnNone : called ≡ Err Misuse → Runs out [] old new status → Called out called old new status
+  OnWords : (words : List (List ℕ)) → called ≡ Ok words → Performs out (drop 1 words) old new status → Called out called old new status
+  OnNone : called ≡ Err Misuse → Performs out [] old new status → Called out called old new status
   NoRoomForWords : TellsOne refused_memory old new status → Called out called old new status

@@ -1,9 +1,12 @@
--- What is told of the lines of a text, a line each (this project's own).
-use Rattle.std.specs.Prelude.{◌≡◌, ◌++◌, ℕ, Bool, false, List, [], ◌∷◌, map, Option, codes}
+-- What is told of the lines of an input, a line each, as they come (this project's own).
+use Rattle.std.specs.Prelude.{◌≡◌, ◌≤◌, ◌⊎◌, ◌++◌, ◌^◌, ◌-◌, ℕ, Bool, false, List, [], ◌∷◌, length, map, Option, codes}
 use Rattle.std.specs.Fmt.{decimal}
 use Rattle.std.specs.List.{list_all}
-use Rattle.std.specs.Io.KnownBytes.{Appends}
+use Rattle.std.specs.Io.KnownBytes.{Appends, IsAtEnd}
+use Rattle.system_io.specs.LineReaders.{ReadsLine}
 use Rattle.move_msg.specs.TextLines.{ended, lines_in, text_of}
+use Rattle.adjudicate_core.specs.declared.told_lines.Step.{Step}
+use Rattle.adjudicate_core.specs.declared.told_lines.Step.TheVariants as step
 
 -- what is told of a line, and whether all of it is told
 pub record LineTold : Type 0 where
@@ -38,7 +41,50 @@ done_words lines = decimal lines ++ codes " done"
 abbrev pub refused_memory : List ℕ
 refused_memory = codes "refused memory"
 
--- all lines were told, or the first ones until memory was refused for one
-pub data WritesAllTold (Tells : List ℕ → LineTold → Type 0) (TakesMemory : List ℕ → Type 0) (text : List ℕ) (old new : Option (List ℕ)) (done : Bool) : Type 0 where
-  AllTold : (told : List LineTold) → TellsLines Tells (lines_in text) told → Appends old new (text_of (words_told told)) → done ≡ all_told told → WritesAllTold Tells TakesMemory text old new done
-  CutOff : (front : List (List ℕ)) (line : List ℕ) (rest : List (List ℕ)) → lines_in text ≡ front ++ line ∷ rest → TakesMemory line → (told : List LineTold) → TellsLines Tells front told → Appends old new (text_of (words_told told ++ refused_memory ∷ [])) → done ≡ false → WritesAllTold Tells TakesMemory text old new done
+abbrev pub refused_files : List ℕ
+refused_files = codes "refused files"
+
+-- ---- lines as they come
+
+-- these lines were read, one after the other
+unfoldable pub AreRead : Option (List ℕ) → List (List ℕ) → Option (List ℕ) → Type 0
+AreRead old [] new = new ≡ old
+AreRead old (line ∷ lines) new = (mid : Option (List ℕ)) × ReadsLine old mid line × AreRead mid lines new
+
+-- the lines that were read were told
+pub record HasTold (Tells : List ℕ → LineTold → Type 0) (input now : Option (List ℕ)) (told : List LineTold) : Type 0 where
+  pub lines : List (List ℕ)
+  pub read : AreRead input lines now
+  pub tells : TellsLines Tells lines told
+
+-- why no more is read: the input fails, or 2^64 - 1 lines were read; or memory for the next line was refused
+abbrev pub IsCut : Type 0 → List LineTold → List ℕ → Type 0
+IsCut Fails told words = ((words ≡ refused_files) × (Fails ⊎ (2 ^ 64 - 1 ≤ length told))) ⊎ (words ≡ refused_memory)
+
+-- all lines to the input's end were told; or those until memory was refused for one that was read; or those until no more was read
+pub data WritesRead (Tells : List ℕ → LineTold → Type 0) (TakesMemory : List ℕ → Type 0) (Fails : Type 0) (input old new : Option (List ℕ)) (done : Bool) : Type 0 where
+  ReadAll : (told : List LineTold) (now : Option (List ℕ)) → HasTold Tells input now told → IsAtEnd now → Appends old new (text_of (words_told told)) → done ≡ all_told told → WritesRead Tells TakesMemory Fails input old new done
+  WantsMemory : (told : List LineTold) (now after : Option (List ℕ)) (line : List ℕ) → HasTold Tells input now told → ReadsLine now after line → TakesMemory line → Appends old new (text_of (words_told told ++ refused_memory ∷ [])) → done ≡ false → WritesRead Tells TakesMemory Fails input old new done
+  CutShort : (told : List LineTold) (now : Option (List ℕ)) (words : List ℕ) → HasTold Tells input now told → IsCut Fails told words → Appends old new (text_of (words_told told ++ words ∷ [])) → done ≡ false → WritesRead Tells TakesMemory Fails input old new done
+
+-- what came of a line that was read
+abbrev pub LineTells : (LineTold → Type 0) → Type 0 → Option (List ℕ) → Option (List ℕ) → Step → Type 0
+LineTells IsTold TakesMemory old new (step.Told done) = WritesTold IsTold old new done
+LineTells IsTold TakesMemory old new step.Ended = ⊥
+LineTells IsTold TakesMemory old new step.Cut = TakesMemory × Appends old new (ended refused_memory)
+
+-- what came of the next line
+abbrev pub StepTells : (List ℕ → LineTold → Type 0) → (List ℕ → Type 0) → Type 0 → Option (List ℕ) → Option (List ℕ) → Option (List ℕ) → Option (List ℕ) → Step → Type 0
+StepTells Tells TakesMemory Fails input left old new (step.Told done) = (line : List ℕ) × ReadsLine input left line × WritesTold (Tells line) old new done
+StepTells Tells TakesMemory Fails input left old new step.Ended = IsAtEnd input × (new ≡ old)
+StepTells Tells TakesMemory Fails input left old new step.Cut =
+    ((line : List ℕ) × ReadsLine input left line × TakesMemory line × Appends old new (ended refused_memory))
+    ⊎ ((words : List ℕ) × IsCut Fails [] words × Appends old new (ended words))
+
+-- ---- the same over the whole text
+
+-- all lines of the text were told; or the first ones until memory was refused for one of them; or until no more was read
+pub data WritesText (Tells : List ℕ → LineTold → Type 0) (TakesMemory : List ℕ → Type 0) (Fails : Type 0) (text : List ℕ) (old new : Option (List ℕ)) (done : Bool) : Type 0 where
+  AllTold : (told : List LineTold) → TellsLines Tells (lines_in text) told → Appends old new (text_of (words_told told)) → done ≡ all_told told → WritesText Tells TakesMemory Fails text old new done
+  CutOff : (front : List (List ℕ)) (line : List ℕ) (rest : List (List ℕ)) → lines_in text ≡ front ++ line ∷ rest → TakesMemory line → (told : List LineTold) → TellsLines Tells front told → Appends old new (text_of (words_told told ++ refused_memory ∷ [])) → done ≡ false → WritesText Tells TakesMemory Fails text old new done
+  TextCutShort : (front rest : List (List ℕ)) → lines_in text ≡ front ++ rest → (told : List LineTold) → TellsLines Tells front told → (words : List ℕ) → IsCut Fails told words → Appends old new (text_of (words_told told ++ words ∷ [])) → done ≡ false → WritesText Tells TakesMemory Fails text old new done

@@ -21,14 +21,14 @@ use crate::sources::Places;
 use crate::usage::Usage;
 pub use check::Check;
 use clap::{Arg, ArgAction, ArgMatches, Command};
-pub use game::Game;
+pub use game::FollowGame;
 pub use judge::Judge;
 pub use list::List;
 pub use listen::Listen;
 pub use moves::Moves;
 pub use probe::Probe;
 pub use probes::Probes;
-pub use run::Run;
+pub use run::RunSchedule;
 pub use show::Show;
 use std::alloc::{AllocError, Global};
 
@@ -48,13 +48,13 @@ pub enum Task<'a> {
     /// The messages of the input.
     Show(Show),
     /// What becomes of two arbiters under the schedule of the input.
-    Run(Run<'a>),
+    Run(RunSchedule<'a>),
     /// An arbiter that answers datagrams.
     Listen(Listen<'a>),
     /// What tables tell of the positions of the input.
     Probes(Probes<'a>),
     /// What the game of the input comes to.
-    Game(Game<'a>),
+    Game(FollowGame<'a>),
 }
 
 /// The commands.
@@ -236,7 +236,7 @@ fn task_of<'a>(name: Name, matches: &ArgMatches<'a>) -> Option<Task<'a>>
             None => None,
         },
         Name::Show => Some(Task::Show(Show)),
-        Name::Run => match Run::of(matches) {
+        Name::Run => match RunSchedule::of(matches) {
             Some(task) => Some(Task::Run(task)),
             None => None,
         },
@@ -248,7 +248,7 @@ fn task_of<'a>(name: Name, matches: &ArgMatches<'a>) -> Option<Task<'a>>
             Some(task) => Some(Task::Probes(task)),
             None => None,
         },
-        Name::Game => match Game::of(matches) {
+        Name::Game => match FollowGame::of(matches) {
             Some(task) => Some(Task::Game(task)),
             None => None,
         },

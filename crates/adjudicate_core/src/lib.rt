@@ -27,8 +27,8 @@ mod told_lines;
 mod usage;
 
 pub use commands::{
-    Check, Form, Game, Judge, List, Listen, Moves, Name, Probe, Probes, Run, Show, Task, Value,
-    parse,
+    Check, FollowGame, Form, Judge, List, Listen, Moves, Name, Probe, Probes, RunSchedule, Show,
+    Task, Value, parse,
 };
 pub use numbers::{CacheSize, Delay};
 pub use program::{refuse_memory, run, run_program};

@@ -4,7 +4,7 @@ ghost use Rattle.std.specs.Prelude.{◌≡◌, ◌≢◌, ◌⊎◌, drop, map, 
 ghost use Rattle.adjudicate_core.specs.declared.commands.Task.{Task};
 ghost use Rattle.adjudicate_core.specs.ToldLines.{refused_memory};
 ghost use Rattle.adjudicate_core.specs.Listens.{hosted};
-ghost use Rattle.adjudicate_core.specs.Running.{AnswersFrom, AnswersTask, Called, Runs, called_by, outside};
+ghost use Rattle.adjudicate_core.specs.Running.{AnswersFrom, AnswersTask, Called, Performs, called_by, outside, texts};
 ghost use Rattle.adjudicate_core.specs.Tasks.{IsTask, tells_progress};
 ghost use Rattle.adjudicate_core.specs.Telling.{TellsOne};
 
@@ -51,16 +51,17 @@ fn put_usage<E: Write>(errors: &mut E) {
 /// with status 1; a
 /// text that is no position takes none, and `show` takes none. The error comes only where the writer
 /// failed. With `--progress`, `probes` tells `errors` after every 10,000 lines how many are done; no other task writes there.
-fn answer_given<H: Host, W: Write, E: Write>(
+fn answer_given<I: Input, H: Host, W: Write, E: Write>(
     alloc: Global,
     task: &Task,
     sources: &Sources,
+    input: &I,
     host: &H,
     out: &mut W,
     errors: &mut E,
 ) -> Result<u8, WriteFault>
     ensures quiet { tells_progress task.now ≡ false → errors.new ≡ errors.old }
-    ensures answered { IfOk result (AnswersFrom (hosted (H.facts host.now) H.Port.facts H.File.facts) task.now sources.now (W.contents out.old) (W.contents out.new)) }
+    ensures answered { IfOk result (AnswersFrom (I.facts input.now) (hosted (H.facts host.now) H.Port.facts H.File.facts) task.now sources.now (W.contents out.old) (W.contents out.new)) }
 {
     match task {
         Task::Judge(task) => put_answered(out, task.answer(alloc, sources)),
@@ -71,7 +72,7 @@ fn answer_given<H: Host, W: Write, E: Write>(
         Task::Show(task) => task.answer(sources, out),
         Task::Run(task) => put_answered(out, task.answer(alloc, sources)),
         Task::Listen(task) => listen(alloc, task, sources, host, out),
-        Task::Probes(task) => task.answer(alloc, sources, out, errors),
+        Task::Probes(task) => task.answer(alloc, sources, input, out, errors),
         Task::Game(task) => put_answered(out, task.answer(alloc, sources)),
     }
 }
@@ -87,11 +88,11 @@ fn run_task<D: Disk, I: Input, H: Host, W: Write, E: Write>(
     errors: &mut E,
 ) -> Result<u8, WriteFault>
     ensures quiet { tells_progress task.now ≡ false → errors.new ≡ errors.old }
-    ensures answered { IfOk result (AnswersTask (outside (D.facts disk.now) (I.facts input.now) (hosted (H.facts host.now) H.Port.facts H.File.facts)) task.now (W.contents out.old) (W.contents out.new)) }
+    ensures answered { IfOk result (AnswersTask (outside (D.facts disk.now) (I.facts input.now) (H.facts host.now) H.Port.facts H.File.facts) task.now (W.contents out.old) (W.contents out.new)) }
 {
     let places = task.places();
     match Sources::read(alloc, disk, input, &places) {
-        Ok(sources) => answer_given(alloc, task, &sources, host, out, errors),
+        Ok(sources) => answer_given(alloc, task, &sources, input, host, out, errors),
         Err(ReadFault::Unreadable) => put_refusal(out, Refusal::Files),
         Err(ReadFault::OutOfMemory) => put_refusal(out, Refusal::Memory),
     }
@@ -101,8 +102,9 @@ fn run_task<D: Disk, I: Input, H: Host, W: Write, E: Write>(
 /// misuse.
 ///
 /// All that a task names is read before anything is answered: its folder, of which the files of
-/// tables are looked at, its manifest, and for `show`, `run`, `probes` and `game` the input, to its end. What can't be read or
-/// has more than 2^30 bytes is told as `refused files`. Only `listen` opens a port and a kept file. Answers go to `out` and the text of a
+/// tables are looked at, its manifest, and for `show`, `run` and `game` the input, to its end. What can't be read or
+/// has more than 2^30 bytes is told as `refused files`. `probes` alone reads the input line by line, and answers each line as it
+/// comes. Only `listen` opens a port and a kept file. Answers go to `out` and the text of a
 /// misuse to `errors`, as does how far `probes --progress` is; nothing else is written there, and its failure changes nothing. The error comes only where `out` failed.
 pub fn run<D: Disk, I: Input, H: Host, W: Write, E: Write>(
     alloc: Global,
@@ -113,8 +115,8 @@ pub fn run<D: Disk, I: Input, H: Host, W: Write, E: Write>(
     out: &mut W,
     errors: &mut E,
 ) -> Result<u8, WriteFault>
-    ensures quiet { errors.new ≢ errors.old → (result ≡ Ok 2) ⊎ ((t : Task) × IsTask (map (λ w. w.now) words.now) t × (tells_progress t ≡ true)) }
-    ensures answered { IfOk result (Runs (outside (D.facts disk.now) (I.facts input.now) (hosted (H.facts host.now) H.Port.facts H.File.facts)) (map (λ w. w.now) words.now) (W.contents out.old) (W.contents out.new)) }
+    ensures quiet { errors.new ≢ errors.old → (result ≡ Ok 2) ⊎ ((t : Task) × IsTask (texts words.now) t × (tells_progress t ≡ true)) }
+    ensures runs { IfOk result (Performs (outside (D.facts disk.now) (I.facts input.now) (H.facts host.now) H.Port.facts H.File.facts) (texts words.now) (W.contents out.old) (W.contents out.new)) }
 {
     match parse(alloc, words) {
         Ok(task) => run_task(alloc, &task, disk, input, host, out, errors),
@@ -165,7 +167,7 @@ pub fn run_program<D: Disk, I: Input, H: Host, W: Write, E: Write>(
     out: &mut W,
     errors: &mut E,
 ) -> Result<u8, WriteFault>
-    ensures { IfOk result (Called (outside (D.facts disk.now) (I.facts input.now) (hosted (H.facts host.now) H.Port.facts H.File.facts)) (called_by called.now) (W.contents out.old) (W.contents out.new)) }
+    ensures { IfOk result (Called (outside (D.facts disk.now) (I.facts input.now) (H.facts host.now) H.Port.facts H.File.facts) (called_by called.now) (W.contents out.old) (W.contents out.new)) }
 {
     match called {
         Ok(words) => match tail_of(alloc, words) {

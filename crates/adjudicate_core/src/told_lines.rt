@@ -1,16 +1,19 @@
-//! What is told of the lines of a text, a line each.
+//! What is told of the lines of an input, a line each, as they come.
 
-ghost use Rattle.std.specs.Prelude.{◌≡◌, ◌≢◌, ◌%◌, ◌<◌, ◌==◌, ◌∷◌, List, ℕ, true, false, length, position, IfOk, OnOk, IsErrOf};
-ghost use Rattle.std.specs.Io.KnownBytes.{Appends};
-ghost use Rattle.move_msg.specs.GameTexts.{has_bytes};
-ghost use Rattle.move_msg.specs.TextLines.{ended, lines_in};
-ghost use Rattle.adjudicate_core.specs.ToldLines.{LineTold, TellsNoMore, WritesAllTold, WritesTold, done_words, refused_memory};
+ghost use Rattle.std.specs.Prelude.{◌≡◌, ◌≢◌, ◌%◌, List, ℕ, false, IfOk, IfSome, OnOk, IsErrOf};
+ghost use Rattle.std.specs.Io.KnownBytes.{Appends, Keeps};
+ghost use Rattle.move_msg.specs.TextLines.{ended};
+ghost use Rattle.adjudicate_core.specs.Lines.{refusal_words};
+ghost use Rattle.adjudicate_core.specs.ToldLines.{LineTells, LineTold, StepTells, TellsNoMore, WritesRead, WritesText, WritesTold, done_words};
 
+use crate::lines::{Line, put_line};
+use crate::refusals::Refusal;
+use std::alloc::Global;
 use std::io::Write;
-use system_io::WriteFault;
+use system_io::{LineReader, ReadFault, WriteFault};
 
 /// After how many lines it is told how many are done.
-const PROGRESS_STEP: usize = 10_000;
+const PROGRESS_STEP: u64 = 10_000;
 
 /// Why a line was not told.
 #[derive(Clone, Copy, PartialEq, Eq, Debug)]
@@ -21,7 +24,7 @@ pub enum TellFault {
     Io,
 }
 
-/// What tells something of each line of a text.
+/// What tells something of each line of an input.
 pub trait Teller {
     /// This is told of the line.
     ghost tells: { Self → List ℕ → LineTold → Type 0 };
@@ -40,27 +43,8 @@ pub trait Teller {
         ensures same { TellsNoMore (tells self.old) (tells self.new) };
 }
 
-/// The first place of a line feed.
-fn line_feed_in(text: &[u8]) -> Option<usize>
-    ensures { result ≡ position (λ b. b == 10) text.now }
-{
-    text.iter().position(|b| *b == b'\n')
-}
-
-/// The first line of a text that isn't empty, and the text after it.
-fn first_line(text: &[u8]) -> (&[u8], &[u8])
-    requires { has_bytes text.now ≡ true }
-    ensures lines { lines_in text.now ≡ result.0.now ∷ lines_in result.1.now }
-    ensures shorter { length result.1.now < length text.now }
-{
-    match line_feed_in(text) {
-        None => (text, &[]),
-        Some(i) => (&text[..i], &text[i + 1..]),
-    }
-}
-
 /// Writes how many lines are done.
-fn put_done<E: Write>(errors: &mut E, lines: usize) -> Result<(), WriteFault>
+fn put_done<E: Write>(errors: &mut E, lines: u64) -> Result<(), WriteFault>
     ensures { OnOk result (Appends (E.contents errors.old) (E.contents errors.new) (ended (done_words lines))) }
 {
     match writeln!(errors, "{lines} done") {
@@ -70,7 +54,7 @@ fn put_done<E: Write>(errors: &mut E, lines: usize) -> Result<(), WriteFault>
 }
 
 /// Tells how many lines are done, where that is wanted and enough are done; a failure changes nothing.
-fn tell_progress<E: Write>(errors: &mut E, progress: bool, lines: usize)
+fn tell_progress<E: Write>(errors: &mut E, progress: bool, lines: u64)
     ensures quiet { progress ≡ false → errors.new ≡ errors.old }
     ensures seldom { lines % 10000 ≢ 0 → errors.new ≡ errors.old }
 {
@@ -83,48 +67,116 @@ fn tell_progress<E: Write>(errors: &mut E, progress: bool, lines: usize)
     }
 }
 
-/// Writes that memory was refused, and tells that not all is told.
-fn put_refused_memory<W: Write>(out: &mut W) -> Result<bool, WriteFault>
-    ensures { IfOk result (λ done. Appends (W.contents out.old) (W.contents out.new) (ended refused_memory) × (done ≡ false)) }
+/// What came of the next line.
+#[derive(Clone, Copy)]
+pub(crate) enum Step {
+    /// It is told, and whether all of it is.
+    Told(bool),
+    /// There is none.
+    Ended,
+    /// It isn't told, and nothing more is.
+    Cut,
+}
+
+/// Writes why no more is told.
+fn put_cut<W: Write>(out: &mut W, refusal: Refusal) -> Result<Step, WriteFault>
+    ensures { IfOk result (λ step. (step ≡ Step.Cut) × Appends (W.contents out.old) (W.contents out.new) (ended (refusal_words refusal))) }
 {
-    match out.write_all(b"refused memory\n") {
-        Ok(()) => Ok(false),
+    match put_line(out, &Line::Refused(refusal)) {
+        Ok(()) => Ok(Step::Cut),
+        Err(fault) => Err(fault),
+    }
+}
+
+/// Tells something of a line.
+fn tell_line<T: Teller, W: Write>(
+    teller: &mut T,
+    line: &[u8],
+    out: &mut W,
+) -> Result<Step, WriteFault>
+    ensures told { IfOk result (LineTells (T.tells teller.old line.now) (T.takes_memory line.now) (W.contents out.old) (W.contents out.new)) }
+    ensures same { TellsNoMore (T.tells teller.old) (T.tells teller.new) }
+{
+    match teller.tell(line, out) {
+        Ok(is_told) => Ok(Step::Told(is_told)),
+        Err(TellFault::OutOfMemory) => put_cut(out, Refusal::Memory),
+        Err(TellFault::Io) => Err(WriteFault::Io),
+    }
+}
+
+/// Reads the next line of an input, and tells something of it.
+fn tell_next<T: Teller, L: LineReader, W: Write>(
+    teller: &mut T,
+    reader: &mut L,
+    line: &mut Vec<u8>,
+    out: &mut W,
+) -> Result<Step, WriteFault>
+    ensures told { IfOk result (StepTells (T.tells teller.old) T.takes_memory (L.facts reader.old).fails (L.facts reader.old).left (L.facts reader.new).left (W.contents out.old) (W.contents out.new)) }
+    ensures reader { (L.facts reader.new).fails → (L.facts reader.old).fails }
+    ensures same { TellsNoMore (T.tells teller.old) (T.tells teller.new) }
+{
+    match reader.next_line(line) {
+        Ok(true) => tell_line(teller, line, out),
+        Ok(false) => Ok(Step::Ended),
+        Err(ReadFault::Unreadable) => put_cut(out, Refusal::Files),
+        Err(ReadFault::OutOfMemory) => put_cut(out, Refusal::Memory),
+    }
+}
+
+/// Lets what was written go out before a line is waited for: nothing is done where the next line has come already.
+fn flush_before_wait<L: LineReader, W: Write>(reader: &L, out: &mut W) -> Result<(), WriteFault>
+    ensures { Keeps (W.contents out.old) (W.contents out.new) }
+{
+    if reader.has_line() {
+        return Ok(());
+    }
+    match out.flush() {
+        Ok(()) => Ok(()),
         Err(_) => Err(WriteFault::Io),
     }
 }
 
-/// Writes what is told of each line of a text as it is made, and tells whether all of it is told. The last line may lack its line
+/// Writes what is told of each line of an input as it comes, and tells whether all of it is told. The last line may lack its line
 /// feed.
 ///
-/// Memory doesn't grow with the number of lines. Where it is refused for one, the line `refused memory` follows the whole lines
-/// before it, and nothing after, and not all is told. With `progress` it tells `errors` after every 10,000 lines how many are
-/// done, as `20000 done`; without, nothing is written there, and a failure there changes nothing. The error comes where the
-/// writer of the lines fails, or the teller tells that it did; what it has then isn't told.
-pub fn tell_lines<T: Teller, W: Write, E: Write>(
+/// What was told goes out before the next line is waited for, so that each line is answered before the next one has to be there.
+/// Memory is that of the longest line. Where it is refused for one, the line `refused memory` follows the whole lines before it;
+/// where the input can't be read further, `refused files`. Nothing follows then, and not all is told.
+///
+/// With `progress` it tells `errors` after every 10,000 lines how many are done, as `20000 done`; without, nothing is written
+/// there, and a failure there changes nothing. The error comes where the writer of the lines fails, or the teller tells that it
+/// did; what it has then isn't told.
+pub fn tell_lines<T: Teller, L: LineReader, W: Write, E: Write>(
+    alloc: Global,
     teller: &mut T,
-    text: &[u8],
+    reader: &mut L,
     out: &mut W,
     errors: &mut E,
     progress: bool,
 ) -> Result<bool, WriteFault>
-    ensures written { IfOk result (WritesAllTold (T.tells teller.old) T.takes_memory text.now (W.contents out.old) (W.contents out.new)) }
+    // The lines that were read are told.
+    ensures written { IfOk result (WritesRead (T.tells teller.old) T.takes_memory (L.facts reader.old).fails (L.facts reader.old).left (W.contents out.old) (W.contents out.new)) }
+
+    // Where the reader tells its bytes, these are the lines of the whole text, or those until it was cut short.
+    ensures same_text { IfOk result (λ done. IfSome (L.facts reader.old).left (λ text. WritesText (T.tells teller.old) T.takes_memory (L.facts reader.old).fails text (W.contents out.old) (W.contents out.new) done)) }
+
     ensures quiet { progress ≡ false → errors.new ≡ errors.old }
     ensures same { TellsNoMore (T.tells teller.old) (T.tells teller.new) }
 {
-    let mut rest = text;
+    let mut line = Vec::new(alloc);
     let mut done = true;
-    let mut lines = 0usize;
-    while !rest.is_empty() {
-        let (line, tail) = first_line(rest);
-        let is_told = match teller.tell(line, out) {
-            Ok(is_told) => is_told,
-            Err(TellFault::OutOfMemory) => return put_refused_memory(out),
-            Err(TellFault::Io) => return Err(WriteFault::Io),
-        };
-        lines = lines.saturating_add(1);
-        tell_progress(errors, progress, lines);
-        done = done && is_told;
-        rest = tail;
+    for before in 0..u64::MAX {
+        flush_before_wait(reader, out)?;
+        match tell_next(teller, reader, &mut line, out) {
+            Ok(Step::Told(is_told)) => done &= is_told,
+            Ok(Step::Ended) => return Ok(done),
+            Ok(Step::Cut) => return Ok(false),
+            Err(fault) => return Err(fault),
+        }
+        tell_progress(errors, progress, before + 1);
     }
-    Ok(done)
+    match put_cut(out, Refusal::Files) {
+        Ok(_) => Ok(false),
+        Err(fault) => Err(fault),
+    }
 }

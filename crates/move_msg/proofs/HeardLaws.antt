@@ -18,8 +18,8 @@ use Rattle.move_msg.specs.declared.message.Message.{Message}
 use Rattle.move_msg.specs.declared.message.Message.TheVariants.{Move, Ack, Verdict, Fetch}
 use Rattle.move_msg.specs.declared.message.MessageFault.{MessageFault}
 use Rattle.move_msg.specs.declared.message.MessageFault.TheVariants.{BadLength, BadHead, BadKind, BadField}
-use Rattle.move_msg.specs.declared.coding.Kind.{Kind}
-use Rattle.move_msg.specs.declared.coding.Kind.TheVariants as kind
+use Rattle.move_msg.specs.declared.coding.MessageKind.{MessageKind}
+use Rattle.move_msg.specs.declared.coding.MessageKind.TheVariants as kind
 use Rattle.move_msg.specs.declared.coding.Fields.{Fields}
 use Rattle.move_msg.specs.Numbers.{most_moves, most_wanted}
 use Rattle.move_msg.specs.Senders.{who_number, sender_number}
@@ -224,7 +224,7 @@ differ : (k n : ℕ) → (n == n) ≡ true → (k == n) ≡ false → k ≡ n �
 differ k n same e is = let x : (k == n) ≡ (n == n) = ap (λ (y : ℕ). y == n) is in absurd cc
 
 abbrev KindFound : ℕ → ℕ → Type 0
-KindFound v k = ((reader_of v k ≡ None) × (IsKind v k → ⊥)) ⊎ ((kd : Kind) × (v ≡ version_number kd) × (k ≡ kind_number kd))
+KindFound v k = ((reader_of v k ≡ None) × (IsKind v k → ⊥)) ⊎ ((kd : MessageKind) × (v ≡ version_number kd) × (k ≡ kind_number kd))
 
 no_old : (k : ℕ) → (k ≡ 1 → ⊥) → (k ≡ 2 → ⊥) → (k ≡ 3 → ⊥) → IsKind 1 k → ⊥
 no_old k a b c (inl h) = let low = h.1 in let high = h.2 in absurd (omega arith)
@@ -255,7 +255,7 @@ good : (o : Option Message) (m : Message) → ok_or o BadField ≡ Ok m → o �
 good None m e = absurd cc
 good (Some x) m e = cc
 
-has_of : (kd : Kind) (s : Stamp) (a n w : ℕ) (m : Message) → n < 2 ^ 32 → heard_by (reader_of (version_number kd) (kind_number kd)) s a n w ≡ Ok m → HasFields kd (made s a n w) m
+has_of : (kd : MessageKind) (s : Stamp) (a n w : ℕ) (m : Message) → n < 2 ^ 32 → heard_by (reader_of (version_number kd) (kind_number kd)) s a n w ≡ Ok m → HasFields kd (made s a n w) m
 unfolding reader_of
 has_of kind.Move s a n w m small e = move_has s a n w m small (good _ m e)
 has_of kind.Ack s a n w m small e = ack_has s a n w m (good _ m e)
@@ -285,7 +285,7 @@ one_error : (o : Option Message) (fault : MessageFault) → ok_or o BadField ≡
 one_error None fault e = only_fault _ _ e
 one_error (Some m) fault e = absurd cc
 
-field_error : (kd : Kind) (f : Fields) (fault : MessageFault) → by_kind (version_number kd) (kind_number kd) f ≡ Err fault → BadField ≡ fault
+field_error : (kd : MessageKind) (f : Fields) (fault : MessageFault) → by_kind (version_number kd) (kind_number kd) f ≡ Err fault → BadField ≡ fault
 unfolding reader_of
 field_error kind.Move f fault e = one_error _ fault e
 field_error kind.Ack f fault e = one_error _ fault e

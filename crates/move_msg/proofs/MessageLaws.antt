@@ -14,8 +14,8 @@ use Rattle.move_msg.specs.declared.message.Message.{Message}
 use Rattle.move_msg.specs.declared.message.Message.TheVariants.{Move, Ack, Verdict, Fetch}
 use Rattle.move_msg.specs.declared.message.MessageFault.{MessageFault}
 use Rattle.move_msg.specs.declared.message.MessageFault.TheVariants.{BadLength, BadHead, BadKind, BadField}
-use Rattle.move_msg.specs.declared.coding.Kind.{Kind}
-use Rattle.move_msg.specs.declared.coding.Kind.TheVariants as kind
+use Rattle.move_msg.specs.declared.coding.MessageKind.{MessageKind}
+use Rattle.move_msg.specs.declared.coding.MessageKind.TheVariants as kind
 use Rattle.move_msg.specs.declared.coding.Fields.{Fields}
 use Rattle.move_msg.specs.Senders.{who_number, sender_number}
 use Rattle.board_core.specs.Verdicts.{code_of}
@@ -149,7 +149,7 @@ version_known (Ack stamp a count) = inl refl
 version_known (Verdict stamp a ply v) = inl refl
 version_known (Fetch stamp a number wanted) = inr refl
 
-pub one_of_five : (t : List ℕ) (k : Kind) → slice_index t 2 ≡ version_number k → slice_index t 3 ≡ kind_number k → HasKind t
+pub one_of_five : (t : List ℕ) (k : MessageKind) → slice_index t 2 ≡ version_number k → slice_index t 3 ≡ kind_number k → HasKind t
 one_of_five t kind.Move v is = inl (v, omega arith, omega arith)
 one_of_five t kind.Ack v is = inl (v, omega arith, omega arith)
 one_of_five t kind.Verdict v is = inl (v, omega arith, omega arith)
@@ -184,7 +184,7 @@ laid_out t m h =
     }
 
 -- its fields are those that its kind has
-pub has_fields : (t : List ℕ) (k : Kind) (m : Message) → SpellsMessage t m → slice_index t 2 ≡ version_number k → slice_index t 3 ≡ kind_number k → HasFields k (fields_at t) m
+pub has_fields : (t : List ℕ) (k : MessageKind) (m : Message) → SpellsMessage t m → slice_index t 2 ≡ version_number k → slice_index t 3 ≡ kind_number k → HasFields k (fields_at t) m
 has_fields t k m h version is =
     let p = laid_out t m h in
     record {
@@ -201,7 +201,7 @@ pub frame_is : (v v' k k' : ℕ) (s s' : List ℕ) (a a' n n' w w' : ℕ) → v 
 frame_is v v' k k' s s' a a' n n' w w' ev ek es ea en ew = cc
 
 -- bytes that are laid out as a message with these fields spell it
-pub found : (t : List ℕ) (k : Kind) (m : Message) → IsBytes t → length t ≡ 27 → HasHead t → slice_index t 2 ≡ version_number k → slice_index t 3 ≡ kind_number k → HasFields k (fields_at t) m → SpellsMessage t m
+pub found : (t : List ℕ) (k : MessageKind) (m : Message) → IsBytes t → length t ≡ 27 → HasHead t → slice_index t 2 ≡ version_number k → slice_index t 3 ≡ kind_number k → HasFields k (fields_at t) m → SpellsMessage t m
 unfolding fields_at
 found t k m fits len head version is f =
     let sixteen : length (take 16 (drop 4 t)) ≡ 16 = omega (arith, length-take 16 (drop 4 t), length-drop 4 t, len) in
@@ -241,7 +241,7 @@ one_fault t BadField BadKind h l = absurd (l.2 h.2)
 one_fault t BadField BadField h l = refl
 
 -- what each kind is written as
-pub move_spelled : (t : List ℕ) (s : Stamp) (a : Sender) (k : Kind) (sender n w : ℕ) (m : Moves) → (length s.0 ≡ 16) × (n < 2 ^ 32) → version_number k ≡ version_by a → kind_number k ≡ 1 → sender ≡ sender_number a → SpellsWord w m → t ≡ frame (version_number k) (kind_number k) s.0 sender n w → SpellsMessage t (Move s a n m)
+pub move_spelled : (t : List ℕ) (s : Stamp) (a : Sender) (k : MessageKind) (sender n w : ℕ) (m : Moves) → (length s.0 ≡ 16) × (n < 2 ^ 32) → version_number k ≡ version_by a → kind_number k ≡ 1 → sender ≡ sender_number a → SpellsWord w m → t ≡ frame (version_number k) (kind_number k) s.0 sender n w → SpellsMessage t (Move s a n m)
 move_spelled t s a k sender n w m fits version is from word text =
     record {
       in_range = (fits.1, subst (λ (x : ℕ). SpellsWord x m) word.value word);

@@ -18,7 +18,7 @@ use byteorder::{BigEndian, ByteOrder};
 
 /// The kinds of messages.
 #[derive(Clone, Copy)]
-enum Kind {
+enum MessageKind {
     Move,
     Ack,
     Verdict,
@@ -55,8 +55,8 @@ fn fields_in(bytes: &[u8]) -> Fields
 /// The move that the source tells by these fields.
 fn move_of(fields: &Fields) -> Option<Message>
     requires { fields.now.number < 2 ^ 32 }
-    ensures some { IfSome result (λ m. HasFields Kind.Move fields.now m) }
-    ensures only { (m : Message) → HasFields Kind.Move fields.now m → result ≡ Some m }
+    ensures some { IfSome result (λ m. HasFields MessageKind.Move fields.now m) }
+    ensures only { (m : Message) → HasFields MessageKind.Move fields.now m → result ≡ Some m }
 {
     if fields.sender != 0 {
         return None;
@@ -74,8 +74,8 @@ fn move_of(fields: &Fields) -> Option<Message>
 
 /// The number of moves that an arbiter tells by these fields.
 fn ack_of(fields: &Fields) -> Option<Message>
-    ensures some { IfSome result (λ m. HasFields Kind.Ack fields.now m) }
-    ensures only { (m : Message) → HasFields Kind.Ack fields.now m → result ≡ Some m }
+    ensures some { IfSome result (λ m. HasFields MessageKind.Ack fields.now m) }
+    ensures only { (m : Message) → HasFields MessageKind.Ack fields.now m → result ≡ Some m }
 {
     let Some(who) = Who::of_number(fields.sender) else {
         return None;
@@ -95,8 +95,8 @@ fn ack_of(fields: &Fields) -> Option<Message>
 
 /// The verdict that an arbiter tells by these fields.
 fn verdict_of(fields: &Fields) -> Option<Message>
-    ensures some { IfSome result (λ m. HasFields Kind.Verdict fields.now m) }
-    ensures only { (m : Message) → HasFields Kind.Verdict fields.now m → result ≡ Some m }
+    ensures some { IfSome result (λ m. HasFields MessageKind.Verdict fields.now m) }
+    ensures only { (m : Message) → HasFields MessageKind.Verdict fields.now m → result ≡ Some m }
 {
     let Some(who) = Who::of_number(fields.sender) else {
         return None;
@@ -121,8 +121,8 @@ fn verdict_of(fields: &Fields) -> Option<Message>
 /// The move that an arbiter tells by these fields.
 fn relayed_of(fields: &Fields) -> Option<Message>
     requires { fields.now.number < 2 ^ 32 }
-    ensures some { IfSome result (λ m. HasFields Kind.Relayed fields.now m) }
-    ensures only { (m : Message) → HasFields Kind.Relayed fields.now m → result ≡ Some m }
+    ensures some { IfSome result (λ m. HasFields MessageKind.Relayed fields.now m) }
+    ensures only { (m : Message) → HasFields MessageKind.Relayed fields.now m → result ≡ Some m }
 {
     let Some(who) = Who::of_number(fields.sender) else {
         return None;
@@ -140,8 +140,8 @@ fn relayed_of(fields: &Fields) -> Option<Message>
 
 /// What an arbiter asks for by these fields.
 fn fetch_of(fields: &Fields) -> Option<Message>
-    ensures some { IfSome result (λ m. HasFields Kind.Fetch fields.now m) }
-    ensures only { (m : Message) → HasFields Kind.Fetch fields.now m → result ≡ Some m }
+    ensures some { IfSome result (λ m. HasFields MessageKind.Fetch fields.now m) }
+    ensures only { (m : Message) → HasFields MessageKind.Fetch fields.now m → result ≡ Some m }
 {
     let Some(who) = Who::of_number(fields.sender) else {
         return None;
@@ -164,7 +164,7 @@ fn fetch_of(fields: &Fields) -> Option<Message>
 }
 
 /// The kind of 27 bytes that begin as a message.
-fn kind_in(bytes: &[u8]) -> Result<Kind, MessageFault>
+fn kind_in(bytes: &[u8]) -> Result<MessageKind, MessageFault>
     ensures ok { IfOk result (λ kind. (length bytes.now ≡ 27) × HasHead bytes.now × (slice_index bytes.now 2 ≡ version_number kind) × (slice_index bytes.now 3 ≡ kind_number kind)) }
     ensures err { IfErr result (IsFirstMessageFault bytes.now) }
     ensures other { IfErr result (λ fault. fault ≡ MessageFault.BadField → ⊥) }
@@ -177,45 +177,45 @@ fn kind_in(bytes: &[u8]) -> Result<Kind, MessageFault>
     }
     if bytes[2] == 2 {
         return match bytes[3] {
-            1 => Ok(Kind::Relayed),
-            4 => Ok(Kind::Fetch),
+            1 => Ok(MessageKind::Relayed),
+            4 => Ok(MessageKind::Fetch),
             _ => Err(MessageFault::BadKind),
         };
     }
     match bytes[3] {
-        1 => Ok(Kind::Move),
-        2 => Ok(Kind::Ack),
-        3 => Ok(Kind::Verdict),
+        1 => Ok(MessageKind::Move),
+        2 => Ok(MessageKind::Ack),
+        3 => Ok(MessageKind::Verdict),
         _ => Err(MessageFault::BadKind),
     }
 }
 
 /// The message of a kind by its fields.
-fn message_of(kind: Kind, fields: &Fields) -> Option<Message>
+fn message_of(kind: MessageKind, fields: &Fields) -> Option<Message>
     requires { fields.now.number < 2 ^ 32 }
     ensures some { IfSome result (λ m. HasFields kind fields.now m) }
     ensures only { (m : Message) → HasFields kind fields.now m → result ≡ Some m }
 {
     match kind {
-        Kind::Move => move_of(fields),
-        Kind::Ack => ack_of(fields),
-        Kind::Verdict => verdict_of(fields),
-        Kind::Relayed => relayed_of(fields),
-        Kind::Fetch => fetch_of(fields),
+        MessageKind::Move => move_of(fields),
+        MessageKind::Ack => ack_of(fields),
+        MessageKind::Verdict => verdict_of(fields),
+        MessageKind::Relayed => relayed_of(fields),
+        MessageKind::Fetch => fetch_of(fields),
     }
 }
 
-impl Kind {
+impl MessageKind {
     /// The kind's number in a message.
     fn number(self) -> u8
         ensures { result ≡ kind_number self }
     {
         match self {
-            Kind::Move => 1,
-            Kind::Ack => 2,
-            Kind::Verdict => 3,
-            Kind::Relayed => 1,
-            Kind::Fetch => 4,
+            MessageKind::Move => 1,
+            MessageKind::Ack => 2,
+            MessageKind::Verdict => 3,
+            MessageKind::Relayed => 1,
+            MessageKind::Fetch => 4,
         }
     }
 
@@ -224,15 +224,15 @@ impl Kind {
         ensures { result ≡ version_number self }
     {
         match self {
-            Kind::Move | Kind::Ack | Kind::Verdict => 1,
-            Kind::Relayed | Kind::Fetch => 2,
+            MessageKind::Move | MessageKind::Ack | MessageKind::Verdict => 1,
+            MessageKind::Relayed | MessageKind::Fetch => 2,
         }
     }
 }
 
 /// The bytes of a message.
 #[tactic(auto, unfolding(crate::specs::Messages::frame))]
-fn frame(kind: Kind, stamp: Stamp, sender: u8, number: u32, word: u16) -> [u8; 27]
+fn frame(kind: MessageKind, stamp: Stamp, sender: u8, number: u32, word: u16) -> [u8; 27]
     ensures text { result ≡ frame (version_number kind) (kind_number kind) stamp.0 sender number word }
     ensures fits { (length stamp.0 ≡ 16) × (number < 2 ^ 32) }
 {
@@ -251,13 +251,13 @@ fn frame(kind: Kind, stamp: Stamp, sender: u8, number: u32, word: u16) -> [u8; 2
 }
 
 /// The kind of a move by who tells it.
-fn kind_by(sender: Sender) -> Kind
+fn kind_by(sender: Sender) -> MessageKind
     ensures version { version_number result ≡ version_by sender }
     ensures kind { kind_number result ≡ 1 }
 {
     match sender {
-        Sender::Source => Kind::Move,
-        Sender::Arbiter(_) => Kind::Relayed,
+        Sender::Source => MessageKind::Move,
+        Sender::Arbiter(_) => MessageKind::Relayed,
     }
 }
 
@@ -274,7 +274,7 @@ impl Message {
                 m,
             } => frame(kind_by(sender), stamp, sender.number(), number, word(m)),
             Message::Ack { stamp, who, count } => {
-                frame(Kind::Ack, stamp, who.number(), count.number(), 0)
+                frame(MessageKind::Ack, stamp, who.number(), count.number(), 0)
             }
             Message::Verdict {
                 stamp,
@@ -282,7 +282,7 @@ impl Message {
                 ply,
                 verdict,
             } => frame(
-                Kind::Verdict,
+                MessageKind::Verdict,
                 stamp,
                 who.number(),
                 ply.number(),
@@ -294,7 +294,7 @@ impl Message {
                 number,
                 wanted,
             } => frame(
-                Kind::Fetch,
+                MessageKind::Fetch,
                 stamp,
                 who.number(),
                 number.number(),

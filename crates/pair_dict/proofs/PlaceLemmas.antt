@@ -3,7 +3,7 @@ use Rattle.std.proofs.Common.{◌≡◌, ℕ, ◌+◌, ◌-◌, ◌*◌, ◌/◌
 use Rattle.pair_dict.specs.Symbols.{values_of}
 use Rattle.pair_dict.specs.Codes.{Pairing, code_at}
 use Rattle.pair_dict.specs.Inside.Runs.{run_values, run_bits, sum_values, sum_bits, IsRunAt, IsFurther, AreTaken}
-use Rattle.pair_dict.specs.declared.runs.Run.{Run}
+use Rattle.pair_dict.specs.declared.runs.CodeRun.{CodeRun}
 use Rattle.pair_dict.specs.declared.runs.RunSum.{RunSum}
 use Rattle.pair_dict.specs.Inside.Windows.{Shows}
 use Rattle.pair_dict.specs.declared.places.Place.{Place}
@@ -75,7 +75,7 @@ taken_first d block p sum buffer values-is bits-is shows =
       shows = subst (λ (q : ℕ). Shows block q buffer) there shows;
     }
 
-pub taken_more : (d : Pairing) (block : List ℕ) (p : ℕ) (sum next : RunSum) (buffer left : BitBuffer) (run : Run) → AreTaken d block p sum buffer → (Shows block (p + sum_bits sum) buffer → IsRunAt d block (p + sum_bits sum) (run_values run) (run_bits run))
+pub taken_more : (d : Pairing) (block : List ℕ) (p : ℕ) (sum next : RunSum) (buffer left : BitBuffer) (run : CodeRun) → AreTaken d block p sum buffer → (Shows block (p + sum_bits sum) buffer → IsRunAt d block (p + sum_bits sum) (run_values run) (run_bits run))
     → run_bits run ≤ buffer.held → sum_values next ≡ sum_values sum + run_values run → sum_bits next ≡ sum_bits sum + run_bits run → left.bits ≡ buffer.bits * 2 ^ run_bits run % 2 ^ 64 → left.held ≡ buffer.held - run_bits run → AreTaken d block p next left
 taken_more d block p sum next buffer left run are more held values-is bits-is left-bits left-held =
     let n = run_bits run in

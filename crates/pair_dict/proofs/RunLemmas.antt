@@ -10,7 +10,7 @@ use Rattle.pair_dict.specs.Codes.{Pairing, IsCode, bases, bits}
 use Rattle.pair_dict.specs.Inside.Windows.{Shows, IsFirst, AreFirsts}
 use Rattle.pair_dict.specs.Inside.Runs.{run_values, run_bits, IsLeft, IsSkip, IsRunAt, IsRun, IsRunOf, IsCodeRun, IsTop, AreJoined}
 use Rattle.pair_dict.specs.declared.window.BitBuffer.{BitBuffer}
-use Rattle.pair_dict.specs.declared.runs.Run.{Run}
+use Rattle.pair_dict.specs.declared.runs.CodeRun.{CodeRun}
 use Rattle.pair_dict.proofs.Longest.{code_complete}
 use Rattle.pair_dict.proofs.BufferLemmas.{shows_after}
 use Rattle.pair_dict.proofs.FirstLemmas.{first_missed, split_63}
@@ -27,9 +27,9 @@ no_run_at d block p values n values-is n-is = record {
       subst (λ (q : ℕ). IsLeft d block q (left - values) offset) there (subst (λ (l : ℕ). IsLeft d block p l offset) all rest);
 }
 
-pub no_runs : (d : Pairing) (runs : List Run) (n : ℕ) (run : Run) → runs ≡ replicate n run → run_values run ≡ 0 → run_bits run ≡ 0 → AreJoined d runs
+pub no_runs : (d : Pairing) (runs : List CodeRun) (n : ℕ) (run : CodeRun) → runs ≡ replicate n run → run_values run ≡ 0 → run_bits run ≡ 0 → AreJoined d runs
 no_runs d runs n run all values-is bits-is width front other lt within =
-    let len : 2 ^ width + front < n = omega (arith, ap length all, length-replicate {A = Run} n run) in
+    let len : 2 ^ width + front < n = omega (arith, ap length all, length-replicate {A = CodeRun} n run) in
     rw (all, get_or-replicate n (2 ^ width + front) run other len) (record {
       short = omega arith;
       few = omega arith;
@@ -66,7 +66,7 @@ moved : BitBuffer → ℕ → BitBuffer
 moved b n = record { bits = b.bits * 2 ^ n % 2 ^ 64; held = b.held - n }
 
 -- a code and the run of the bits behind it
-pub run_join : (d : Pairing) (code rest spare : ℕ) (single run both : Run) → IsCodeRun d code single → IsRun d spare rest run → rest < 2 ^ spare → run_bits single + spare ≤ 13
+pub run_join : (d : Pairing) (code rest spare : ℕ) (single run both : CodeRun) → IsCodeRun d code single → IsRun d spare rest run → rest < 2 ^ spare → run_bits single + spare ≤ 13
     → run_values both ≡ run_values single + run_values run → run_bits both ≡ run_bits single + run_bits run → IsRun d (run_bits single + spare) (code * 2 ^ spare + rest) both
 unfolding moved
 run_join d code rest spare single run both one more lt few values-is bits-is = record {
@@ -85,7 +85,7 @@ run_join d code rest spare single run both one more lt few values-is bits-is = r
 }
 
 -- a code alone
-pub code_run : (d : Pairing) (counts : List ℕ) (code s n : ℕ) (single : Run) → AreCounts d.symbols counts → 1 ≤ d.least → IsCode d n code s → run_bits single ≡ n → n ≤ 32 → run_values single ≡ get_or counts s 0 → IsCodeRun d code single
+pub code_run : (d : Pairing) (counts : List ℕ) (code s n : ℕ) (single : CodeRun) → AreCounts d.symbols counts → 1 ≤ d.least → IsCode d n code s → run_bits single ≡ n → n ≤ 32 → run_values single ≡ get_or counts s 0 → IsCodeRun d code single
 code_run d counts code s n single h some is bits-is small values-is = record {
   some = omega (arith, is.shortest);
   alone = record {
@@ -192,13 +192,13 @@ rest_place rest n spare width room some sum lt le =
     let twice : 2 ^ (spare + 1) ≡ 2 ^ spare * 2 = pow-add 2 spare 1 in
     omega (arith, more, twice)
 
-pub behind_within : (runs : List Run) (width n spare rest behind : ℕ) → behind ≡ 2 ^ spare → rest < behind → 1 ≤ n → n + spare ≡ width → 2 * 2 ^ width ≤ length runs → behind + rest < length runs
+pub behind_within : (runs : List CodeRun) (width n spare rest behind : ℕ) → behind ≡ 2 ^ spare → rest < behind → 1 ≤ n → n + spare ≡ width → 2 * 2 ^ width ≤ length runs → behind + rest < length runs
 behind_within runs width n spare rest behind behind-is lt some sum room =
     let few : rest < 2 ^ spare = rw behind-is at lt in
     rw behind-is (rest_place rest n spare width (length runs) some sum few room)
 
 -- a run of bits without the last one is one of all of them
-fewer_bits : (d : Pairing) (width front : ℕ) (run : Run) → 1 ≤ width → width ≤ 64 → IsRun d (width - 1) (front / 2) run → IsRun d width front run
+fewer_bits : (d : Pairing) (width front : ℕ) (run : CodeRun) → 1 ≤ width → width ≤ 64 → IsRun d (width - 1) (front / 2) run → IsRun d width front run
 fewer_bits d width front run some few shorter = record {
   short = omega (arith, shorter.short);
   few = shorter.few;
@@ -209,7 +209,7 @@ fewer_bits d width front run some few shorter = record {
 }
 
 -- half the place is that of the bits without the last one
-pub half_place : (d : Pairing) (place : ℕ) (run : Run) → 2 ≤ place → IsRunOf d (place / 2) run → IsRunOf d place run
+pub half_place : (d : Pairing) (place : ℕ) (run : CodeRun) → 2 ≤ place → IsRunOf d (place / 2) run → IsRunOf d place run
 half_place d place run two of width front few lt is =
     elim (cases_eq width 0) [
       | inl none ↦
@@ -223,7 +223,7 @@ half_place d place run two of width front few lt is =
     ]
 
 -- a run that stands at the place of no bits has no values
-pub first_place : (d : Pairing) (runs : List Run) (place : ℕ) (other : Run) → AreJoined d runs → place < length runs → 1 ≤ place → 1 ≤ run_values (get_or runs place other) → 2 ≤ place
+pub first_place : (d : Pairing) (runs : List CodeRun) (place : ℕ) (other : CodeRun) → AreJoined d runs → place < length runs → 1 ≤ place → 1 ≤ run_values (get_or runs place other) → 2 ≤ place
 first_place d runs place other joined within some more =
     elim (cases_lt 1 place) [
       | inl lt ↦ lt
@@ -234,7 +234,7 @@ first_place d runs place other joined within some more =
     ]
 
 -- one run more
-pub joined_more : (d : Pairing) (runs : List Run) (width front place : ℕ) (run : Run) → AreJoined d runs → front < 2 ^ width → place ≡ 2 ^ width + front → place < length runs → IsRun d width front run → AreJoined d (set runs place run)
+pub joined_more : (d : Pairing) (runs : List CodeRun) (width front place : ℕ) (run : CodeRun) → AreJoined d runs → front < 2 ^ width → place ≡ 2 ^ width + front → place < length runs → IsRun d width front run → AreJoined d (set runs place run)
 joined_more d runs width front place run all front-lt place-is within next w f other f-lt f-within =
     elim (cases_eq (2 ^ w + f) place) [
       | inl same ↦

@@ -5,8 +5,8 @@ ghost use Rattle.pair_dict.specs.Codes.{bases, code_from};
 ghost use Rattle.pair_dict.specs.Reading.{falls, words};
 ghost use Rattle.pair_dict.specs.Inside.Windows.{AreFirsts, AreLong, IsFirst, IsSound};
 
+use crate::two_bytes::word_of;
 use crate::window::{room_at, window};
-use crate::words::word_of;
 use std::alloc::{AllocError, Global};
 
 /// The base of a length at the top of 63 bits, or 2^63 where no code has that length.

@@ -14,7 +14,7 @@ use crate::counts::counts_of;
 use crate::fault::{Damaged, DictFault};
 use crate::layout::Layout;
 use crate::places::Place;
-use crate::runs::{Run, RunSum, run_width, runs_of};
+use crate::runs::{CodeRun, RunSum, run_width, runs_of};
 use crate::symbols::{MOST_VALUES, Symbol, symbol_at};
 use crate::window::{BitBuffer, has_word};
 use std::alloc::{AllocError, Global};
@@ -34,7 +34,7 @@ pub struct Dictionary<'a> {
     firsts: Vec<u64>,
     long_codes: LongCodes,
     run_width: u32,
-    runs: Vec<Run>,
+    runs: Vec<CodeRun>,
     symbols: &'a [u8],
     counts: Vec<u16>,
 }
@@ -84,7 +84,7 @@ impl<'a> Dictionary<'a> {
 
     /// The run of codes with which the bits of a buffer begin.
     #[inline]
-    fn run(&self, buffer: BitBuffer) -> Run
+    fn run(&self, buffer: BitBuffer) -> CodeRun
         ensures is { (block : List ℕ) (p : ℕ) → Shows block p buffer → run_bits result ≤ buffer.held
             → IsRunAt self.now block p (run_values result) (run_bits result) }
         ensures few { run_bits result ≤ 13 }
@@ -146,7 +146,7 @@ impl<'a> Dictionary<'a> {
 
     /// Four runs that are taken out of a word one after the other, and the last of them.
     #[inline]
-    fn four_runs(&self, buffer: BitBuffer) -> (RunSum, Run)
+    fn four_runs(&self, buffer: BitBuffer) -> (RunSum, CodeRun)
         requires { 52 ≤ buffer.held }
         ensures are { (block : List ℕ) (p : ℕ) → Shows block p buffer
             → IsRunAt self.now block p (sum_values result.0) (sum_bits result.0) }
@@ -155,7 +155,7 @@ impl<'a> Dictionary<'a> {
     {
         let mut rest = buffer;
         let mut sum = RunSum::none();
-        let mut run = Run::none();
+        let mut run = CodeRun::none();
         for taken in 0..RUNS_IN_WORD {
             run = self.run(rest);
             sum = sum.with(run);

@@ -4,7 +4,7 @@ ghost use Rattle.std.specs.Prelude.{◌≡◌, ◌+◌, ◌-◌, ◌*◌, ◌/�
 ghost use Rattle.pair_dict.specs.Reading.{Reads, layout_at, falls, words, lengths_at, lowest_at, count_at, symbols_at};
 
 use crate::fault::DictFault;
-use crate::words::word_of;
+use crate::two_bytes::word_of;
 
 /// The greatest length of a code and the least.
 #[tactic(auto, unfolding(crate::specs::Reading::lengths_at))]

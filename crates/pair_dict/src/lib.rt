@@ -13,8 +13,8 @@ mod layout;
 mod places;
 mod runs;
 mod symbols;
+mod two_bytes;
 mod window;
-mod words;
 
 pub use dictionary::Dictionary;
 pub use fault::{Damaged, DictFault};

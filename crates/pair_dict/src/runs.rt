@@ -9,7 +9,7 @@ ghost use Rattle.pair_dict.specs.Inside.Windows.{AreFirsts};
 ghost use Rattle.pair_dict.specs.Inside.Runs.{run_values, run_bits, sum_values, sum_bits, IsCodeRun, IsRunOf, IsTop, AreJoined, AreRuns};
 
 use crate::layout::Layout;
-use crate::words::word_of;
+use crate::two_bytes::word_of;
 use std::alloc::{AllocError, Global};
 
 /// The most bits that runs are looked up by.
@@ -39,41 +39,41 @@ const MOST_RUN_VALUES: usize = 1023;
 /// Whole codes one after the other: how many values they stand for, 0 to 1023, and how many bits they take, 0 to 63. A run
 /// of no bits holds no code.
 #[derive(Clone, Copy)]
-pub(crate) struct Run {
+pub(crate) struct CodeRun {
     // 64 times the values, and the bits: so a word is moved up by the bits as they stand, and runs are added in one sum.
     packed: u16,
 }
 
-impl Run {
+impl CodeRun {
     /// A run that holds no code.
-    pub(crate) fn none() -> Run
+    pub(crate) fn none() -> CodeRun
         ensures values { run_values result ≡ 0 }
         ensures bits { run_bits result ≡ 0 }
     {
-        Run { packed: 0 }
+        CodeRun { packed: 0 }
     }
 
     /// A run of so many values in so many bits.
-    fn of(values: u16, bits: u32) -> Run
+    fn of(values: u16, bits: u32) -> CodeRun
         requires values { values < 1024 }
         requires bits { bits < 64 }
         ensures values { run_values result ≡ values }
         ensures bits { run_bits result ≡ bits }
     {
-        Run {
+        CodeRun {
             packed: values * 64 + bits as u16,
         }
     }
 
     /// This run and then another.
     #[inline]
-    fn then(self, other: Run) -> Run
+    fn then(self, other: CodeRun) -> CodeRun
         requires values { run_values self + run_values other < 1024 }
         requires bits { run_bits self + run_bits other < 64 }
         ensures values { run_values result ≡ run_values self + run_values other }
         ensures bits { run_bits result ≡ run_bits self + run_bits other }
     {
-        Run {
+        CodeRun {
             packed: self.packed + other.packed,
         }
     }
@@ -114,7 +114,7 @@ impl RunSum {
 
     /// These runs and then another.
     #[inline]
-    pub(crate) fn with(self, run: Run) -> RunSum
+    pub(crate) fn with(self, run: CodeRun) -> RunSum
         requires values { sum_values self < 2 ^ 32 }
         requires bits { sum_bits self + run_bits run < 64 }
         ensures values { sum_values result ≡ sum_values self + run_values run }
@@ -153,7 +153,7 @@ fn numbers_of(bits: u32) -> usize
 
 /// The run at a place, or, where it has more than so many values, the run of fewer of its first bits that has not. The layout
 /// is there for the clauses alone.
-fn run_within(layout: &Layout<'_>, runs: &[Run], place: usize, most: usize) -> Run
+fn run_within(layout: &Layout<'_>, runs: &[CodeRun], place: usize, most: usize) -> CodeRun
     requires some { 1 ≤ place }
     requires known { place < length runs.now }
     requires joined { AreJoined (pairing_in layout.now).0 runs.now }
@@ -173,7 +173,7 @@ fn run_within(layout: &Layout<'_>, runs: &[Run], place: usize, most: usize) -> R
 
 /// Sets the runs of so many bits that begin with one code: that code, and the run of the bits behind it. The layout is there for
 /// the clauses alone.
-fn join_code(layout: &Layout<'_>, single: Run, code: usize, width: u32, runs: &mut [Run])
+fn join_code(layout: &Layout<'_>, single: CodeRun, code: usize, width: u32, runs: &mut [CodeRun])
     requires code { code < 2 ^ run_bits single }
     requires single { IsCodeRun (pairing_in layout.now).0 code single }
     requires values { run_values single ≤ 256 }
@@ -203,7 +203,7 @@ fn join_length(
     i: usize,
     top: u64,
     width: u32,
-    runs: &mut [Run],
+    runs: &mut [CodeRun],
 )
     requires least { 1 ≤ layout.now.least }
     requires firsts { AreFirsts layout.now.least (words layout.now.lowest.now) firsts.now }
@@ -226,12 +226,18 @@ fn join_length(
         if symbol >= counts.len() {
             return;
         }
-        join_code(layout, Run::of(counts[symbol], length), code, width, runs);
+        join_code(
+            layout,
+            CodeRun::of(counts[symbol], length),
+            code,
+            width,
+            runs,
+        );
     }
 }
 
 /// Sets the runs of so many bits, by those of fewer.
-fn join_width(layout: &Layout<'_>, firsts: &[u64], counts: &[u16], width: u32, runs: &mut [Run])
+fn join_width(layout: &Layout<'_>, firsts: &[u64], counts: &[u16], width: u32, runs: &mut [CodeRun])
     requires least { 1 ≤ layout.now.least }
     requires firsts { AreFirsts layout.now.least (words layout.now.lowest.now) firsts.now }
     requires counts { AreCounts layout.now.symbols.now counts.now }
@@ -258,7 +264,7 @@ fn joined_runs(
     firsts: &[u64],
     counts: &[u16],
     width: u32,
-) -> Result<Vec<Run>, AllocError>
+) -> Result<Vec<CodeRun>, AllocError>
     requires least { 1 ≤ layout.now.least }
     requires firsts { AreFirsts layout.now.least (words layout.now.lowest.now) firsts.now }
     requires counts { AreCounts layout.now.symbols.now counts.now }
@@ -266,7 +272,7 @@ fn joined_runs(
     ensures joined { IfOk result (λ runs. AreJoined (pairing_in layout.now).0 runs.items) }
     ensures lengths { IfOk result (λ runs. length runs.items ≡ 2 * 2 ^ width) }
 {
-    let mut runs = vec![in alloc; Run::none(); numbers_of(width + 1)]?;
+    let mut runs = vec![in alloc; CodeRun::none(); numbers_of(width + 1)]?;
     for bits in 1..width + 1 {
         // Behind a code there are at most `width - least` bits, so that no other runs are joined.
         if layout.least <= width - bits || bits == width {
@@ -283,7 +289,7 @@ pub(crate) fn runs_of(
     firsts: &[u64],
     counts: &[u16],
     width: u32,
-) -> Result<Vec<Run>, AllocError>
+) -> Result<Vec<CodeRun>, AllocError>
     requires least { 1 ≤ layout.now.least }
     requires firsts { AreFirsts layout.now.least (words layout.now.lowest.now) firsts.now }
     requires counts { AreCounts layout.now.symbols.now counts.now }

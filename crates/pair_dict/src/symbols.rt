@@ -4,7 +4,7 @@ ghost use Rattle.std.specs.Prelude.{◌<◌};
 ghost use Rattle.pair_dict.specs.Symbols.{symbol_count};
 ghost use Rattle.pair_dict.specs.Inside.Counts.{IsSymbol};
 
-use crate::words::word_at;
+use crate::two_bytes::word_at;
 
 /// The most values that a symbol may stand for (Syzygy table format, the symbols of a size record).
 pub(crate) const MOST_VALUES: usize = 256;

@@ -4,7 +4,7 @@ ghost use Rattle.std.specs.Prelude.{◌≤◌, length, IfOk};
 ghost use Rattle.system_io.specs.Disks.{most_bytes};
 
 use std::alloc::{AllocError, Global};
-use std::io::{self, Read};
+use std::io::{self, BufReader, Read};
 use system_io::{Disk, Input as Source, ReadFault, read_at_most};
 
 /// A file by its name or path: how it begins, and its length. The other bytes are zero.
@@ -218,6 +218,8 @@ impl Disk for Folders {
 }
 
 impl Source for Folders {
+    type Lines = BufReader<Given<'static>, Global>;
+
     ghost use Rattle.system_io.specs.Premises.{system_input};
 
     ghost facts = { λ _. system_input };
@@ -225,36 +227,61 @@ impl Source for Folders {
     fn read_to_end(&self, _alloc: Global) -> Result<Vec<u8>, ReadFault> {
         Err(ReadFault::Unreadable)
     }
+
+    fn lines(&self, alloc: Global) -> Result<BufReader<Given<'static>, Global>, AllocError> {
+        no_lines(alloc)
+    }
 }
 
-/// A reader that gives a byte a call, and fails at one call.
+/// A reader that gives these bytes a byte a call, and then has ended or fails.
 #[derive(Drop)]
-struct Breaking {
-    calls: u32,
-    fails_at: u32,
+pub(crate) struct Given<'a> {
+    rest: &'a [u8],
+    fails: bool,
 }
 
-impl Read for Breaking {
+impl<'a> Read for Given<'a> {
     fn read(&mut self, buf: &mut [u8]) -> io::Result<usize> {
-        if self.calls == self.fails_at {
-            return Err(io::Error::from(io::ErrorKind::BrokenPipe));
-        }
-        self.calls = self.calls.wrapping_add(1);
-        match buf {
-            [first, ..] => {
-                *first = 0x53;
+        match (self.rest, buf) {
+            ([byte, rest @ ..], [first, ..]) => {
+                *first = *byte;
+                self.rest = rest;
                 Ok(1)
             }
-            [] => Ok(0),
+            ([], _) if self.fails => Err(io::Error::from(io::ErrorKind::BrokenPipe)),
+            _ => Ok(0),
         }
     }
 }
 
-/// The folders and an input, which fails at one of its calls, if at any.
+/// The lines of a reader.
+fn lines_of<'a>(
+    alloc: Global,
+    reader: Given<'a>,
+) -> Result<BufReader<Given<'a>, Global>, AllocError> {
+    match BufReader::new(alloc, reader) {
+        Ok(lines) => Ok(lines),
+        Err(_) => Err(AllocError),
+    }
+}
+
+/// The lines of an input that can't be read.
+pub(crate) fn no_lines(alloc: Global) -> Result<BufReader<Given<'static>, Global>, AllocError> {
+    let nothing: &'static [u8] = &[];
+    lines_of(
+        alloc,
+        Given {
+            rest: nothing,
+            fails: true,
+        },
+    )
+}
+
+/// The folders and an input, which may fail after its bytes.
 #[derive(Drop)]
 pub(crate) struct Input<'a> {
     bytes: &'a [u8],
-    fails_at: Option<u32>,
+    fails: bool,
 }
 
 impl<'a> Input<'a> {
@@ -262,15 +289,20 @@ impl<'a> Input<'a> {
     pub(crate) fn of(bytes: &'a [u8]) -> Input<'a> {
         Input {
             bytes,
-            fails_at: None,
+            fails: false,
         }
     }
 
-    /// One that fails after so many calls.
-    pub(crate) fn failing(calls: u32) -> Input<'a> {
-        Input {
-            bytes: &[],
-            fails_at: Some(calls),
+    /// One that fails after these bytes.
+    pub(crate) fn failing(bytes: &'a [u8]) -> Input<'a> {
+        Input { bytes, fails: true }
+    }
+
+    /// A reader of the whole input.
+    fn reader(&self) -> Given<'a> {
+        Given {
+            rest: self.bytes,
+            fails: self.fails,
         }
     }
 }
@@ -290,14 +322,17 @@ impl<'a> Disk for Input<'a> {
 }
 
 impl<'a> Source for Input<'a> {
+    type Lines = BufReader<Given<'a>, Global>;
+
     ghost use Rattle.system_io.specs.Premises.{system_input};
 
     ghost facts = { λ _. system_input };
 
     fn read_to_end(&self, alloc: Global) -> Result<Vec<u8>, ReadFault> {
-        match self.fails_at {
-            None => read_all(alloc, self.bytes, 0),
-            Some(fails_at) => read_all(alloc, Breaking { calls: 0, fails_at }, 0),
-        }
+        read_all(alloc, self.reader(), 0)
+    }
+
+    fn lines(&self, alloc: Global) -> Result<BufReader<Given<'a>, Global>, AllocError> {
+        lines_of(alloc, self.reader())
     }
 }

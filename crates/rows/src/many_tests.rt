@@ -188,6 +188,25 @@ fn judges_games(rt: HostRuntime) {
     expect_all_given(&rt, rt.alloc(), &GAMES);
 }
 
+/// What is told of the lines of an input that fails after them; a line that it cut isn't told.
+const CUT_LINES: [(&str, &str); 4] = [
+    ("", "refused files\n"),
+    ("8/8 w", "refused files\n"),
+    ("8/8 w\n", "refused FEN FieldCount\nrefused files\n"),
+    (
+        "8/8 w\n8/8/8/4k3/8/8/8/KN6 w - - 0 1\n8",
+        "refused FEN FieldCount\n0\t0\tTableDraw\nrefused files\n",
+    ),
+];
+
+#[test]
+fn tells_the_lines_before_a_failed_read(rt: HostRuntime) {
+    for (bytes, lines) in CUT_LINES {
+        let row = ("probes --tables worked", "", lines, 1);
+        expect_row(&rt, rt.alloc(), &Input::failing(bytes.as_bytes()), row);
+    }
+}
+
 /// Lines that are no positions, so many that it is told twice how many are done.
 fn many_lines(rt: &impl Abort, alloc: Global) -> Vec<u8> {
     let mut lines = Vec::new(alloc);

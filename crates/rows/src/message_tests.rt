@@ -113,11 +113,14 @@ fn shows_nothing_of_nothing(rt: HostRuntime) {
     expect_shown(&rt, rt.alloc(), [].as_slice(), "", 0);
 }
 
+/// What comes before a read fails.
+const BEFORE: [u8; 30] = [0x53; 30];
+
 #[test]
 fn tells_each_failed_read(rt: HostRuntime) {
     let row = ("show", "", "refused files\n", 1);
-    for calls in 0..30u32 {
-        expect_row(&rt, rt.alloc(), &Input::failing(calls), row);
+    for calls in 0..30usize {
+        expect_row(&rt, rt.alloc(), &Input::failing(&BEFORE[..calls]), row);
     }
 }
 

@@ -3,6 +3,7 @@
 use crate::fixtures::*;
 use crate::folders::*;
 use std::alloc::{AllocError, Global};
+use std::io::BufReader;
 use system_io::{Disk, Input as Source, ReadFault};
 
 /// One folder, `tables`, with these names, parted by spaces, and files by their paths. A name without a file can't be
@@ -42,12 +43,18 @@ impl Disk for Memory {
 }
 
 impl Source for Memory {
+    type Lines = BufReader<Given<'static>, Global>;
+
     ghost use Rattle.system_io.specs.Premises.{system_input};
 
     ghost facts = { λ _. system_input };
 
     fn read_to_end(&self, _alloc: Global) -> Result<Vec<u8>, ReadFault> {
         Err(ReadFault::Unreadable)
+    }
+
+    fn lines(&self, alloc: Global) -> Result<BufReader<Given<'static>, Global>, AllocError> {
+        no_lines(alloc)
     }
 }
 

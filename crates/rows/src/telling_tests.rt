@@ -1,4 +1,4 @@
-//! A text that is told line by line.
+//! Lines of an input that are told as they come.
 
 ghost use Rattle.std.specs.Prelude.{OnOk};
 ghost use Rattle.std.specs.Fmt.{decimal};
@@ -8,7 +8,7 @@ ghost use Rattle.move_msg.specs.TextLines.{ended};
 use crate::comparing::{check_bytes, check_same};
 use adjudicate_core::{TellFault, Teller, tell_lines};
 use std::alloc::Global;
-use std::io::Write;
+use std::io::{BufReader, Write};
 use std::process::Abort;
 use system_io::WriteFault;
 
@@ -46,12 +46,18 @@ impl Teller for Counting {
     }
 }
 
+/// A reader of these bytes.
+fn reader_of<'a>(rt: &impl Abort, alloc: Global, bytes: &'a [u8]) -> BufReader<&'a [u8], Global> {
+    BufReader::new(alloc, bytes).expect(rt, "memory")
+}
+
 /// Whether all of a text is told, where these lines are told of it.
 fn told(rt: &impl Abort, alloc: Global, text: &str, lines: &str) -> Result<bool, WriteFault> {
     let mut out = Vec::new(alloc);
     let told = tell_lines(
+        alloc,
         &mut Counting,
-        text.as_bytes(),
+        &mut reader_of(rt, alloc, text.as_bytes()),
         &mut out,
         &mut Vec::new(alloc),
         true,
@@ -88,8 +94,9 @@ fn long_text(rt: &impl Abort, alloc: Global, lines: usize) -> Vec<u8> {
 fn check_progress(rt: &impl Abort, alloc: Global, text: &[u8], progress: bool, wanted: &str) {
     let mut errors = Vec::new(alloc);
     let told = tell_lines(
+        alloc,
         &mut Counting,
-        text,
+        &mut reader_of(rt, alloc, text),
         &mut Vec::new(alloc),
         &mut errors,
         progress,

@@ -1,2 +1,3 @@
 pub mod InputLaws
+pub mod LineLaws
 pub mod DiskLaws

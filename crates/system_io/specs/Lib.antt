@@ -1,6 +1,7 @@
 pub mod Failures
 pub mod Disks
 pub mod Inputs
+pub mod LineReaders
 pub mod Outputs
 pub mod Ports
 pub mod KeptFiles

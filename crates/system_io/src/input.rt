@@ -1,14 +1,18 @@
-//! Bytes that come in, to their end.
+//! Bytes that come in, all at once or line by line.
 
-ghost use Rattle.std.specs.Prelude.{◌≤◌, length, IfOk, IsErrOf};
+ghost use Rattle.std.specs.Prelude.{◌≤◌, length, IfOk, IfSome, IsErrOf};
 ghost use Rattle.system_io.specs.Disks.{most_bytes};
 ghost use Rattle.system_io.specs.Inputs.{InputFacts};
 
+use crate::line_reader::LineReader;
 use crate::reading::ReadFault;
-use std::alloc::Global;
+use std::alloc::{AllocError, Global};
 
 /// An input that ends.
 pub trait Input {
+    /// Its lines, as they come.
+    type Lines: LineReader + Drop;
+
     /// What it gives, and whether it can't be read.
     ghost facts: { Self → InputFacts };
 
@@ -17,4 +21,9 @@ pub trait Input {
         ensures bytes { IfOk result (λ bytes. (facts self.now).gives bytes.items) }
         ensures short { IfOk result (λ bytes. length bytes.items ≤ most_bytes) }
         ensures cause { IsErrOf result ReadFault.Unreadable → (facts self.now).fails };
+
+    /// Its lines, as they come, of which none is read yet. The error comes where memory for what is read ahead is refused.
+    fn lines(&self, alloc: Global) -> Result<Self::Lines, AllocError>
+        ensures given { IfOk result (λ lines. IfSome (Self.Lines.facts lines).left (facts self.now).gives) }
+        ensures cause { IfOk result (λ lines. (Self.Lines.facts lines).fails → (facts self.now).fails) };
 }

@@ -2,8 +2,8 @@
 
 use crate::input::Input as Source;
 use crate::reading::{MOST_BYTES, ReadFault, read_at_most};
-use std::alloc::Global;
-use std::io::Input;
+use std::alloc::{AllocError, Global};
+use std::io::{BufReader, Input};
 
 /// The standard input of the system.
 #[derive(Drop)]
@@ -19,11 +19,20 @@ impl<'a, R: Input + Drop> SystemInput<'a, R> {
 }
 
 impl<'a, R: Input + Drop> Source for SystemInput<'a, R> {
+    type Lines = BufReader<R::Reader, Global>;
+
     ghost use Rattle.system_io.specs.Premises.{system_input};
 
     ghost facts = { λ _. system_input };
 
     fn read_to_end(&self, alloc: Global) -> Result<Vec<u8>, ReadFault> {
         read_at_most(alloc, self.rt.reader(), 0, MOST_BYTES)
+    }
+
+    fn lines(&self, alloc: Global) -> Result<BufReader<R::Reader, Global>, AllocError> {
+        match BufReader::new(alloc, self.rt.reader()) {
+            Ok(lines) => Ok(lines),
+            Err(_) => Err(AllocError),
+        }
     }
 }

@@ -18,7 +18,7 @@ use Rattle.adjudicate_core.specs.Lines.{refused_move}
 use Rattle.adjudicate_core.specs.Looks.{gathered}
 use Rattle.adjudicate_core.specs.Numbers.{IsDelay}
 use Rattle.adjudicate_core.specs.Reply.{IsForText, Reply, refused}
-use Rattle.adjudicate_core.specs.declared.commands.game.Game.{Game}
+use Rattle.adjudicate_core.specs.declared.commands.game.FollowGame.{FollowGame}
 
 abbrev pub rules : List Rule
 rules =
@@ -28,7 +28,7 @@ rules =
     ∷ rule_of_form form.Word (codes "FEN") ∷ []
 
 -- the values of its arguments
-abbrev pub HasValues : (Text → Option Text) → Game → Type 0
+abbrev pub HasValues : (Text → Option Text) → FollowGame → Type 0
 HasValues value t = (option_map (λ s. s.now) t.tables ≡ value (codes "tables")) × (option_map (λ s. s.now) t.manifest ≡ value (codes "manifest")) × IsDelay (value (codes "delay")) t.delay × (Some t.fen.now ≡ value (codes "FEN"))
 
 -- an argument that it needs has no value, or the number is none that it takes
@@ -36,7 +36,7 @@ abbrev pub Lacks : (Text → Option Text) → Type 0
 Lacks value = (value (codes "FEN") ≡ None) ⊎ ((plies : ℕ) → IsDelay (value (codes "delay")) plies → ⊥)
 
 -- what is read for it
-abbrev pub named : Game → Named
+abbrev pub named : FollowGame → Named
 named t = record { folder = option_map (λ s. s.now) t.tables; manifest = option_map (λ s. s.now) t.manifest; input = true }
 
 -- 0 where all moves are legal, 1 where one isn't
@@ -54,5 +54,5 @@ pub data IsPlayed (text : List ℕ) (found : Result Tables (List ℕ)) (delay : 
   BadTables : (moves : List Move) → TellsMoves text moves → (words : List ℕ) → found ≡ Err words → r ≡ refused words → IsPlayed text found delay start r
   Played : (moves : List Move) → TellsMoves text moves → (tables : Tables) → found ≡ Ok tables → (outcome : GameOutcome) → IsOutcome (record { start = start; tables = tables; delay = delay }) moves outcome → r ≡ outcome_reply outcome moves → IsPlayed text found delay start r
 
-abbrev pub IsReply : Game → Given → Reply → Type 0
+abbrev pub IsReply : FollowGame → Given → Reply → Type 0
 IsReply t given r = IsForText t.fen.now (IsPlayed given.input (gathered given) t.delay) r

@@ -1,6 +1,6 @@
 -- `probes --tables DIR [--manifest FILE] [--progress]`: what tables tell of the positions of the input (this project's own).
-use Rattle.std.specs.Prelude.{◌≡◌, ℕ, Bool, true, false, List, [], ◌∷◌, Option, Some, None, Ok, Err, codes, option_map}
-use Rattle.std.specs.Io.KnownBytes.{Appends}
+use Rattle.std.specs.Prelude.{◌≡◌, ℕ, Bool, false, List, [], ◌∷◌, Option, Some, None, Ok, Err, IfSome, codes, option_map}
+use Rattle.system_io.specs.Inputs.{InputFacts}
 use Rattle.board_core.specs.declared.parts.Parts.{Parts}
 use Rattle.board_core.specs.Position.{IsPosition}
 use Rattle.fen_text.specs.declared.fault.FenFault.{FenFault}
@@ -10,7 +10,6 @@ use Rattle.judge_core.specs.Ruling.{ruling}
 use Rattle.judge_core.specs.Probed.{IsProbed, has_both}
 use Rattle.judge_core.specs.Words.{columns_words}
 use Rattle.judge_core.specs.Tables.{Tables}
-use Rattle.move_msg.specs.TextLines.{ended}
 use Rattle.clap.specs.Words.{Rule, Text}
 use Rattle.adjudicate_core.specs.Rules.{rule_of_form}
 use Rattle.adjudicate_core.specs.declared.commands.Form.TheVariants as form
@@ -20,7 +19,8 @@ use Rattle.adjudicate_core.specs.Lines.{refused_fen}
 use Rattle.adjudicate_core.specs.Looks.{gathered}
 use Rattle.adjudicate_core.specs.Numbers.{is_set}
 use Rattle.adjudicate_core.specs.Reply.{IsText, status_if}
-use Rattle.adjudicate_core.specs.ToldLines.{LineTold, WritesAllTold, refused_memory}
+use Rattle.adjudicate_core.specs.Telling.{TellsOne}
+use Rattle.adjudicate_core.specs.ToldLines.{LineTold, WritesRead, WritesText, refused_memory}
 use Rattle.adjudicate_core.specs.declared.commands.probes.Probes.{Probes}
 
 abbrev pub rules : List Rule
@@ -39,19 +39,28 @@ Lacks value = value (codes "tables") ≡ None
 
 -- what is read for it
 abbrev pub named : Probes → Named
-named t = record { folder = Some t.tables.now; manifest = option_map (λ s. s.now) t.manifest; input = true }
+named t = record { folder = Some t.tables.now; manifest = option_map (λ s. s.now) t.manifest; input = false }
 
 -- a line: what `probe` and `judge` tell of its position, in columns, or the refusal of the text
 pub data TellsLine (tables : Tables) (text : List ℕ) (told : LineTold) : Type 0 where
   OfPosition : (p : Parts) → SpellsPosition text p → IsPosition p → (probed : Probed) → IsProbed tables p probed → told ≡ record { words = columns_words probed.wdl probed.dtz (ruling tables p); done = has_both probed } → TellsLine tables text told
   OfNone : (fault : FenFault) → IsFirstFenFault text fault → told ≡ record { words = refused_fen fault; done = false } → TellsLine tables text told
 
--- each line was told, or the first ones until memory was refused
-abbrev pub PutsLines : Tables → List ℕ → Option (List ℕ) → Option (List ℕ) → ℕ → Type 0
-PutsLines tables text old new status = (done : Bool) × WritesAllTold (TellsLine tables) IsText text old new done × (status ≡ status_if done)
+-- of an input of which this is left, where that is known, each line that was read was told, or the first ones until memory was refused
+-- or the input failed; where it is known, these are the lines of the whole text
+pub record PutsLines (tables : Tables) (Fails : Type 0) (left old new : Option (List ℕ)) (status : ℕ) : Type 0 where
+  pub done : Bool
+  pub read : WritesRead (TellsLine tables) IsText Fails left old new done
+  pub text : IfSome left (λ text. WritesText (TellsLine tables) IsText Fails text old new done)
+  pub is : status ≡ status_if done
 
--- the tables are refused; or these lines were written, or memory was refused before them
-pub data PutsProbes (given : Given) (old new : Option (List ℕ)) (status : ℕ) : Type 0 where
-  PutsRefusal : (words : List ℕ) → gathered given ≡ Err words → Appends old new (ended words) → status ≡ 1 → PutsProbes given old new status
-  PutsLinesOf : (tables : Tables) → gathered given ≡ Ok tables → PutsLines tables given.input old new status → PutsProbes given old new status
-  PutsNoLine : Appends old new (ended refused_memory) → status ≡ 1 → PutsProbes given old new status
+-- the lines of the input were told, or memory was refused before them
+pub data PutsLinesOrNone (tables : Tables) (source : InputFacts) (old new : Option (List ℕ)) (status : ℕ) : Type 0 where
+  PutsSome : (left : Option (List ℕ)) → IfSome left source.gives → PutsLines tables source.fails left old new status → PutsLinesOrNone tables source old new status
+  PutsNone : TellsOne refused_memory old new status → PutsLinesOrNone tables source old new status
+
+-- the tables are refused; or the lines of the input were told, or memory was refused before them
+pub data PutsProbes (source : InputFacts) (given : Given) (old new : Option (List ℕ)) (status : ℕ) : Type 0 where
+  PutsRefusal : (words : List ℕ) → gathered given ≡ Err words → TellsOne words old new status → PutsProbes source given old new status
+  PutsLinesOf : (tables : Tables) → gathered given ≡ Ok tables → PutsLinesOrNone tables source old new status → PutsProbes source given old new status
+  PutsNoLine : TellsOne refused_memory old new status → PutsProbes source given old new status

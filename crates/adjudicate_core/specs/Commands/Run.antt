@@ -15,7 +15,7 @@ use Rattle.adjudicate_core.specs.Lines.{refused_line}
 use Rattle.adjudicate_core.specs.Numbers.{IsCache, IsDelay}
 use Rattle.adjudicate_core.specs.Reply.{Reply, refused}
 use Rattle.adjudicate_core.specs.Schedules.{RefusesTable, game_of, world_words}
-use Rattle.adjudicate_core.specs.declared.commands.run.Run.{Run}
+use Rattle.adjudicate_core.specs.declared.commands.run.RunSchedule.{RunSchedule}
 
 abbrev pub rules : List Rule
 rules =
@@ -24,7 +24,7 @@ rules =
     ∷ rule_of_form form.Option (codes "delay") ∷ []
 
 -- the values of its arguments
-abbrev pub HasValues : (Text → Option Text) → Run → Type 0
+abbrev pub HasValues : (Text → Option Text) → RunSchedule → Type 0
 HasValues value t = (option_map (λ s. s.now) t.tables ≡ value (codes "tables")) × IsCache (value (codes "cache")) t.cache × IsDelay (value (codes "delay")) t.delay
 
 -- a number is none that it takes
@@ -32,7 +32,7 @@ abbrev pub Lacks : (Text → Option Text) → Type 0
 Lacks value = ((blocks : ℕ) → IsCache (value (codes "cache")) blocks → ⊥) ⊎ ((plies : ℕ) → IsDelay (value (codes "delay")) plies → ⊥)
 
 -- what is read for it
-abbrev pub named : Run → Named
+abbrev pub named : RunSchedule → Named
 named t = record { folder = option_map (λ s. s.now) t.tables; manifest = None; input = true }
 
 -- the refusal of the first line at fault; or else that of the first file that is no table; or else there are worlds of the
@@ -42,5 +42,5 @@ pub data IsRun (text : List ℕ) (files : List File) (delay : ℕ) (r : Reply) :
   BadTable : (schedule : Schedule) → SpellsSchedule text schedule → (words : List ℕ) → RefusesTable files words → r ≡ refused words → IsRun text files delay r
   Ran : (schedule : Schedule) → SpellsSchedule text schedule → (told : WorldView) (runs : Runs (game_of schedule delay) files schedule.events.items told) (last : World) → slice_get runs.worlds (length schedule.events.items) ≡ Some last → r ≡ record { text = text_of (world_words last); status = 0 } → IsRun text files delay r
 
-abbrev pub IsReply : Run → Given → Reply → Type 0
+abbrev pub IsReply : RunSchedule → Given → Reply → Type 0
 IsReply t given r = IsRun given.input given.files t.delay r

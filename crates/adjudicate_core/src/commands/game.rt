@@ -25,7 +25,7 @@ use std::alloc::{AllocError, Global};
 
 /// What the game of the input comes to.
 #[derive(Clone, Copy)]
-pub struct Game<'a> {
+pub struct FollowGame<'a> {
     /// The folder of the tables, if one is named.
     pub tables: Option<&'a str>,
     /// The file of the manifest that the tables are held to, if one is named.
@@ -105,13 +105,13 @@ fn answer_from(
     }
 }
 
-impl<'a> Game<'a> {
+impl<'a> FollowGame<'a> {
     /// The task with these values; none where it lacks one, or the delay isn't one that it takes.
-    pub(crate) fn of(matches: &ArgMatches<'a>) -> Option<Game<'a>>
+    pub(crate) fn of(matches: &ArgMatches<'a>) -> Option<FollowGame<'a>>
         ensures some { IfSome result (HasValues (first_value (found_of matches.now))) }
         ensures none { IfNone result (Lacks (first_value (found_of matches.now))) }
     {
-        Some(Game {
+        Some(FollowGame {
             tables: matches.get_str("tables"),
             manifest: matches.get_str("manifest"),
             delay: Delay::of(matches.get_str("delay"))?,

@@ -4,7 +4,7 @@ ghost use Rattle.std.specs.Prelude.{◌≡◌, false, IfOk, IfNone, IfSome, OnEr
 ghost use Rattle.clap.specs.Words.{first_value, found_of};
 ghost use Rattle.board_core.specs.Position.{IsPosition};
 ghost use Rattle.fen_text.specs.Fen.{SpellsPosition};
-ghost use Rattle.adjudicate_core.specs.Commands.Probes.{HasValues, Lacks, PutsLines, PutsProbes, TellsLine, named};
+ghost use Rattle.adjudicate_core.specs.Commands.Probes.{HasValues, Lacks, PutsLines, PutsLinesOrNone, PutsProbes, TellsLine, named};
 ghost use Rattle.adjudicate_core.specs.Lines.{words_of};
 ghost use Rattle.adjudicate_core.specs.Sources.{named_by};
 ghost use Rattle.adjudicate_core.specs.Reply.{IsText};
@@ -23,7 +23,7 @@ use fen_text::read;
 use judge_core::Set;
 use std::alloc::{AllocError, Global};
 use std::io::Write;
-use system_io::WriteFault;
+use system_io::{Input, LineReader, WriteFault};
 
 /// What tables tell of the positions of the input.
 #[derive(Clone, Copy)]
@@ -108,23 +108,41 @@ impl<'a> Teller for Prober<'a> {
     }
 }
 
-/// Writes what a set tells of each line of a text as it is made, and tells the status; on the way it tells how far it is, where
+/// Writes what a set tells of each line of an input as it comes, and tells the status; on the way it tells how far it is, where
 /// that is wanted.
-fn put_probes<W: Write, E: Write>(
+fn put_probes<L: LineReader, W: Write, E: Write>(
     alloc: Global,
     set: Set<'_>,
-    text: &[u8],
+    lines: &mut L,
     out: &mut W,
     errors: &mut E,
     progress: bool,
 ) -> Result<u8, WriteFault>
-    ensures written { IfOk result (PutsLines set.entry.tables text.now (W.contents out.old) (W.contents out.new)) }
+    ensures written { IfOk result (PutsLines set.entry.tables (L.facts lines.old).fails (L.facts lines.old).left (W.contents out.old) (W.contents out.new)) }
     ensures quiet { progress ≡ false → errors.new ≡ errors.old }
 {
     let mut prober = Prober { alloc, set };
-    match tell_lines(&mut prober, text, out, errors, progress) {
+    match tell_lines(alloc, &mut prober, lines, out, errors, progress) {
         Ok(done) => Ok(status_if(done)),
         Err(fault) => Err(fault),
+    }
+}
+
+/// The same over an input.
+fn put_probes_of<I: Input, W: Write, E: Write>(
+    alloc: Global,
+    set: Set<'_>,
+    input: &I,
+    out: &mut W,
+    errors: &mut E,
+    progress: bool,
+) -> Result<u8, WriteFault>
+    ensures written { IfOk result (PutsLinesOrNone set.entry.tables (I.facts input.now) (W.contents out.old) (W.contents out.new)) }
+    ensures quiet { progress ≡ false → errors.new ≡ errors.old }
+{
+    match input.lines(alloc) {
+        Ok(mut lines) => put_probes(alloc, set, &mut lines, out, errors, progress),
+        Err(_) => put_refusal(out, Refusal::Memory),
     }
 }
 
@@ -148,28 +166,29 @@ impl<'a> Probes<'a> {
         Places {
             folder: Some(self.tables),
             manifest: self.manifest,
-            reads_input: true,
+            reads_input: false,
         }
     }
 
-    /// Writes what the tables of files tell of each line of the input, or the refusal of the tables;
-    /// tells the status, 0 where all is told, else 1.
+    /// Writes what the tables of files tell of each line of the input as it comes, or the refusal of the tables; tells the status,
+    /// 0 where all is told, else 1.
     ///
-    /// Each line goes out as it is made, so that memory doesn't grow with their number; where memory is
-    /// refused, the line `refused memory` follows the whole lines before it. With `--progress` it tells `errors` after every
-    /// 10,000 lines how many are done; without, nothing is written there.
-    pub(crate) fn answer<W: Write, E: Write>(
+    /// Each line is answered before the next one has to be there, and memory is that of the longest line. Where memory is refused,
+    /// the line `refused memory` follows the whole lines before it; where the input fails, `refused files`. With `--progress` it
+    /// tells `errors` after every 10,000 lines how many are done; without, nothing is written there.
+    pub(crate) fn answer<I: Input, W: Write, E: Write>(
         &self,
         alloc: Global,
         sources: &Sources,
+        input: &I,
         out: &mut W,
         errors: &mut E,
     ) -> Result<u8, WriteFault>
-        ensures written { IfOk result (PutsProbes sources.now (W.contents out.old) (W.contents out.new)) }
+        ensures written { IfOk result (PutsProbes (I.facts input.now) sources.now (W.contents out.old) (W.contents out.new)) }
         ensures quiet { self.now.progress ≡ false → errors.new ≡ errors.old }
     {
         match gather(alloc, sources) {
-            Ok(Ok(set)) => put_probes(alloc, set, sources.input(), out, errors, self.progress),
+            Ok(Ok(set)) => put_probes_of(alloc, set, input, out, errors, self.progress),
             Ok(Err(refusal)) => put_refusal(out, refusal),
             Err(_) => put_refusal(out, Refusal::Memory),
         }

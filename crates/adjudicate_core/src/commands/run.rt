@@ -19,7 +19,7 @@ ghost use Rattle.adjudicate_core.specs.Schedules.{RefusesTable, counted, game_of
 
 use super::{Form, Value};
 use crate::answers::Answer;
-use crate::lines::{Kept, Line};
+use crate::lines::{Line, Progress};
 use crate::numbers::{CacheSize, Delay};
 use crate::refusals::Refusal;
 use crate::sources::{Places, Sources};
@@ -34,7 +34,7 @@ use table_file::{TableFault, reads_what_is_laid_out};
 
 /// What becomes of two arbiters under the schedule of the input.
 #[derive(Clone, Copy)]
-pub struct Run<'a> {
+pub struct RunSchedule<'a> {
     /// The folder of the tables, if one is named.
     pub tables: Option<&'a str>,
     /// How many decoded blocks the cache of each arbiter may have.
@@ -133,12 +133,12 @@ fn world_of(
 }
 
 /// How many moves an arbiter keeps, and the verdict; none where nothing is kept.
-fn kept_of(world: &World, who: Who) -> Option<Kept>
+fn progress_of(world: &World, who: Who) -> Option<Progress>
     ensures { (stamp : Stamp) (delay : ℕ) (kept : Option Recorded) → KeptIs stamp delay (told_of world.now who).bytes kept → result ≡ counted kept }
 {
     match world.kept(who) {
         None => None,
-        Some((count, code)) => Some(Kept {
+        Some((count, code)) => Some(Progress {
             count,
             verdict: Verdict::from_code(code),
         }),
@@ -149,7 +149,7 @@ fn kept_of(world: &World, who: Who) -> Option<Kept>
 fn line_of(world: &World, who: Who) -> Line
     ensures { (stamp : Stamp) (delay : ℕ) (side : Side) → TellsSide stamp delay (told_of world.now who) side → words_of result ≡ side_words who side }
 {
-    Line::Arbiter(who, world.state(who), kept_of(world, who))
+    Line::Arbiter(who, world.state(who), progress_of(world, who))
 }
 
 /// What is told of a world.
@@ -207,13 +207,13 @@ fn answer_schedule(
     }
 }
 
-impl<'a> Run<'a> {
+impl<'a> RunSchedule<'a> {
     /// The task with these values; none where a number isn't one that it takes.
-    pub(crate) fn of(matches: &ArgMatches<'a>) -> Option<Run<'a>>
+    pub(crate) fn of(matches: &ArgMatches<'a>) -> Option<RunSchedule<'a>>
         ensures some { IfSome result (HasValues (first_value (found_of matches.now))) }
         ensures none { IfNone result (Lacks (first_value (found_of matches.now))) }
     {
-        Some(Run {
+        Some(RunSchedule {
             tables: matches.get_str("tables"),
             cache: CacheSize::of(matches.get_str("cache"))?,
             delay: Delay::of(matches.get_str("delay"))?,

@@ -1,8 +1,8 @@
 -- The parts of a message and of a record by their places, as the code reads them; cited by private functions alone.
 use Rattle.std.specs.Prelude.{◌≡◌, ℕ, List, take, drop, slice_index}
 use Rattle.std.specs.Int.{w16, w32, from_be_bytes}
-use Rattle.move_msg.specs.declared.coding.Kind.{Kind}
-use Rattle.move_msg.specs.declared.coding.Kind.TheVariants as kind
+use Rattle.move_msg.specs.declared.coding.MessageKind.{MessageKind}
+use Rattle.move_msg.specs.declared.coding.MessageKind.TheVariants as kind
 use Rattle.move_msg.specs.declared.coding.Fields.{Fields}
 use Rattle.move_msg.specs.declared.record_bytes.Header.{Header}
 use Rattle.move_msg.specs.declared.message.Message.{Message}
@@ -10,14 +10,14 @@ use Rattle.move_msg.specs.Messages.{IsInRange, version_of, kind_of, stamp_in, se
 use Rattle.move_msg.specs.Senders.{sender_number}
 use Rattle.move_msg.specs.Records.{body_in, count_at, delay_in, verdict_at}
 
-abbrev pub kind_number : Kind → ℕ
+abbrev pub kind_number : MessageKind → ℕ
 kind_number kind.Move = 1
 kind_number kind.Ack = 2
 kind_number kind.Verdict = 3
 kind_number kind.Relayed = 1
 kind_number kind.Fetch = 4
 
-abbrev pub version_number : Kind → ℕ
+abbrev pub version_number : MessageKind → ℕ
 version_number kind.Move = 1
 version_number kind.Ack = 1
 version_number kind.Verdict = 1
@@ -34,7 +34,7 @@ fields_at t = record {
 }
 
 -- these are the fields of the message, whose kind this is
-pub record HasFields (k : Kind) (f : Fields) (m : Message) : Type 0 where
+pub record HasFields (k : MessageKind) (f : Fields) (m : Message) : Type 0 where
   pub in_range : IsInRange m
   pub version : version_of m ≡ version_number k
   pub kind : kind_of m ≡ kind_number k

@@ -5,15 +5,15 @@ use Rattle.pair_dict.specs.Codes.{Pairing}
 use Rattle.pair_dict.specs.Blocks.{values_from, block_values}
 use Rattle.pair_dict.specs.Inside.Windows.{Shows}
 use Rattle.pair_dict.specs.declared.window.BitBuffer.{BitBuffer}
-use Rattle.pair_dict.specs.declared.runs.Run.{Run}
+use Rattle.pair_dict.specs.declared.runs.CodeRun.{CodeRun}
 use Rattle.pair_dict.specs.declared.runs.RunSum.{RunSum}
 use Rattle.pair_dict.specs.declared.places.Place.{Place}
 
 -- how many values a run stands for, and how many bits it takes
-abbrev pub run_values : Run → ℕ
+abbrev pub run_values : CodeRun → ℕ
 run_values run = run.packed / 64
 
-abbrev pub run_bits : Run → ℕ
+abbrev pub run_bits : CodeRun → ℕ
 run_bits run = run.packed % 64
 
 -- the same of runs that are taken together
@@ -39,7 +39,7 @@ pub record IsRunAt (d : Pairing) (block : List ℕ) (p values n : ℕ) : Type 0 
   pub skips : IsSkip d block p n values
 
 -- a run wherever a block shows the bits `front`, so many, and all of the run is held
-pub record IsRun (d : Pairing) (width front : ℕ) (run : Run) : Type 0 where
+pub record IsRun (d : Pairing) (width front : ℕ) (run : CodeRun) : Type 0 where
   pub short : run_bits run ≤ width
   pub few : run_values run ≤ 256 * run_bits run
   pub is :
@@ -47,13 +47,13 @@ pub record IsRun (d : Pairing) (width front : ℕ) (run : Run) : Type 0 where
       → IsRunAt d block p (run_values run) (run_bits run)
 
 -- those of all bits from 0 on
-abbrev pub AreRuns : Pairing → ℕ → List Run → Type 0
-AreRuns d width runs = (front : ℕ) (other : Run) → front < length runs → IsRun d width front (get_or runs front other)
+abbrev pub AreRuns : Pairing → ℕ → List CodeRun → Type 0
+AreRuns d width runs = (front : ℕ) (other : CodeRun) → front < length runs → IsRun d width front (get_or runs front other)
 
 -- ---- while they are found
 
 -- a run of one code, whose bits are the number `code`
-pub record IsCodeRun (d : Pairing) (code : ℕ) (run : Run) : Type 0 where
+pub record IsCodeRun (d : Pairing) (code : ℕ) (run : CodeRun) : Type 0 where
   pub some : 1 ≤ run_bits run
   pub alone : IsRun d (run_bits run) code run
 
@@ -63,13 +63,13 @@ pub record IsTop (firsts : List ℕ) (i top : ℕ) : Type 0 where
   pub below : (j : ℕ) → j < i → top ≤ slice_index firsts j
 
 -- those of n bits stand from the place 2^n on
-abbrev pub AreJoined : Pairing → List Run → Type 0
+abbrev pub AreJoined : Pairing → List CodeRun → Type 0
 AreJoined d runs =
-    (width front : ℕ) (other : Run) → front < 2 ^ width → 2 ^ width + front < length runs
+    (width front : ℕ) (other : CodeRun) → front < 2 ^ width → 2 ^ width + front < length runs
     → IsRun d width front (get_or runs (2 ^ width + front) other)
 
 -- a run of the bits that belong to a place
-abbrev pub IsRunOf : Pairing → ℕ → Run → Type 0
+abbrev pub IsRunOf : Pairing → ℕ → CodeRun → Type 0
 IsRunOf d place run = (width front : ℕ) → width ≤ 64 → front < 2 ^ width → place ≡ 2 ^ width + front → IsRun d width front run
 
 -- ---- while a block is gone through

@@ -5,7 +5,7 @@ use Rattle.adjudicate_core.proofs.program.run_program.Goals as goal
 
 pub returns-in-Ok-tail_of : goal.returns-in-Ok-tail_of
 returns-in-Ok-tail_of g c =
-    let on_tail = rw c.deref-in-Ok-tail_of.ensures.value at c.run.ensures.answered in
+    let on_tail = rw c.deref-in-Ok-tail_of.ensures.value at c.run.ensures.runs in
     let on_rest = rw c.in-Ok-tail_of.ensures at on_tail in
     let on_words = rw c.deref.ensures.value at on_rest in
     IfOk-weaker c.run.result _ _ (λ status h. OnWords _ (ap called_by c.in-Ok.is) h) on_words

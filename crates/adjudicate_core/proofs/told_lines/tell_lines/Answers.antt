@@ -1,31 +1,41 @@
-use Rattle.std.proofs.Common.{rules, ◌≡◌, ◌∙◌, false, refl, subst}
-use Rattle.std.proofs.lemmas.Result.{IfOk-weaker}
-use Rattle.std.specs.Io.KnownBytes.{Appends}
-use Rattle.move_msg.specs.GameTexts.{has_bytes}
-use Rattle.move_msg.specs.TextLines.{ended}
-use Rattle.adjudicate_core.specs.ToldLines.{refused_memory}
-use Rattle.adjudicate_core.proofs.TellLaws.{told_none, told_more, told_short, told_all, still_all, not_all}
+use Rattle.std.proofs.Common.{◌∙◌, inr, refl, rules}
+use Rattle.adjudicate_core.proofs.TellLaws.{same_if_known, told_all, told_cut, told_flushed, told_more, told_most, told_none}
 use Rattle.adjudicate_core.proofs.told_lines.tell_lines.Goals as goal
 
-pub loop-rest-init : goal.loop-rest-init
-loop-rest-init g c = (λ line told h. h, told_none _ _ _, λ unasked. refl)
+pub loop-before-init : goal.loop-before-init
+loop-before-init g c = record { told = told_none _ _ _; fails = λ fails. fails; quiet = λ unasked. refl; same = λ line told h. h }
 
-pub returns-in-Err-OutOfMemory-clause-written : goal.returns-in-Err-OutOfMemory-clause-written
-returns-in-Err-OutOfMemory-clause-written g c =
-    let cause = c.in-Err-OutOfMemory.ensures.memory (rw c.in-Err-OutOfMemory.field-0-is refl) in
-    IfOk-weaker c.put_refused_memory.result _ _ (λ done h. told_short _ _ _ _ _ _ _ done _ _ _ c.loop-rest.invariant.1 c.first_line.ensures.lines cause.0 (subst (λ o. Appends o (g.W.Write.contents c.put_refused_memory.new.out) (ended refused_memory)) cause.1 h.0) h.1) c.put_refused_memory.ensures
+pub loop-before-preserved : goal.loop-before-preserved
+loop-before-preserved g c =
+    let flushed = told_flushed _ _ _ _ _ _ _ _ c.loop-before.invariant.told c.flush_before_wait.ensures in
+    let one = rw c.in-Ok-Told.field-0-is at c.in-Ok-Told.ensures.told in
+    record {
+      told = told_more _ _ _ _ _ _ _ _ _ _ _ flushed (one.0, one.1, (one.2.0, c.loop-before.invariant.same _ _ one.2.1, one.2.2)) refl;
+      fails = λ fails. c.loop-before.invariant.fails (c.in-Ok-Told.ensures.reader fails);
+      quiet = λ unasked. c.tell_progress.ensures.quiet unasked ∙ c.loop-before.invariant.quiet unasked;
+      same = λ line told h. c.loop-before.invariant.same line told (c.in-Ok-Told.ensures.same line told h);
+    }
 
-pub loop-rest-preserved-then-done : goal.loop-rest-preserved-then-done
-loop-rest-preserved-then-done g c =
-    let wrote = c.in-Ok.ensures.told in
-    (λ line told h. c.loop-rest.invariant.0 line told (c.in-Ok.ensures.same line told h), still_all _ _ _ _ _ _ _ c.if-done.true (told_more _ _ _ _ _ _ _ _ _ _ c.loop-rest.invariant.1 c.first_line.ensures.lines (wrote.0, c.loop-rest.invariant.0 _ _ wrote.1, wrote.2)), λ unasked. c.tell_progress.ensures.quiet unasked ∙ c.loop-rest.invariant.2 unasked)
+pub returns-in-Ok-Ended-clause-written : goal.returns-in-Ok-Ended-clause-written
+returns-in-Ok-Ended-clause-written g c =
+    let flushed = told_flushed _ _ _ _ _ _ _ _ c.loop-before.invariant.told c.flush_before_wait.ensures in
+    let one = rw c.in-Ok-Ended.field-0-is at c.in-Ok-Ended.ensures.told in
+    told_all _ _ _ _ _ _ _ _ _ _ flushed one.0 one.1
 
-pub loop-rest-preserved : goal.loop-rest-preserved
-loop-rest-preserved g c =
-    let wrote = c.in-Ok.ensures.told in
-    (λ line told h. c.loop-rest.invariant.0 line told (c.in-Ok.ensures.same line told h), not_all _ _ _ _ _ _ _ c.if-done.false (told_more _ _ _ _ _ _ _ _ _ _ c.loop-rest.invariant.1 c.first_line.ensures.lines (wrote.0, c.loop-rest.invariant.0 _ _ wrote.1, wrote.2)), λ unasked. c.tell_progress.ensures.quiet unasked ∙ c.loop-rest.invariant.2 unasked)
+pub returns-in-Ok-Ended-clause-same_text : goal.returns-in-Ok-Ended-clause-same_text
+returns-in-Ok-Ended-clause-same_text g c = same_if_known _ _ _ _ _ _ _ (returns-in-Ok-Ended-clause-written g c)
 
-pub returns-clause-written : goal.returns-clause-written
-returns-clause-written g c =
-    let none : has_bytes c.loop-rest.rest.now ≡ false = search rules in
-    told_all _ _ _ _ _ _ _ c.loop-rest.invariant.1 none
+pub returns-in-Ok-Cut-clause-written : goal.returns-in-Ok-Cut-clause-written
+returns-in-Ok-Cut-clause-written g c =
+    let flushed = told_flushed _ _ _ _ _ _ _ _ c.loop-before.invariant.told c.flush_before_wait.ensures in
+    let one = rw c.in-Ok-Cut.field-0-is at c.in-Ok-Cut.ensures.told in
+    told_cut _ _ _ _ _ _ _ _ _ _ _ _ flushed c.loop-before.invariant.fails one
+
+pub returns-in-Ok-Cut-clause-same_text : goal.returns-in-Ok-Cut-clause-same_text
+returns-in-Ok-Cut-clause-same_text g c = same_if_known _ _ _ _ _ _ _ (returns-in-Ok-Cut-clause-written g c)
+
+pub returns-in-Ok-clause-written : goal.returns-in-Ok-clause-written
+returns-in-Ok-clause-written g c = told_most _ _ _ _ _ _ _ _ _ _ c.loop-before.invariant.told (search rules) c.in-Ok.ensures.1
+
+pub returns-in-Ok-clause-same_text : goal.returns-in-Ok-clause-same_text
+returns-in-Ok-clause-same_text g c = same_if_known _ _ _ _ _ _ _ (returns-in-Ok-clause-written g c)

@@ -1,10 +1,10 @@
 use Rattle.std.proofs.Common.{◌≤◌, arith}
 use Rattle.pair_dict.specs.Inside.Layouts.{pairing_in}
-use Rattle.pair_dict.specs.declared.runs.Run.{Run}
+use Rattle.pair_dict.specs.declared.runs.CodeRun.{CodeRun}
 use Rattle.pair_dict.proofs.RunLemmas.{half_place, first_place}
 use Rattle.pair_dict.proofs.runs.run_within.Goals as goal
 
-abbrev none : Run
+abbrev none : CodeRun
 none = record { packed = 0 }
 
 pub returns-then-values-most-clause-is : goal.returns-then-values-most-clause-is

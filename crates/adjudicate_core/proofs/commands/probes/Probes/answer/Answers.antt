@@ -1,15 +1,15 @@
-use Rattle.std.proofs.Common.{sym, subst, refl}
+use Rattle.std.proofs.Common.{sym, refl}
 use Rattle.std.proofs.lemmas.Result.{IfOk-weaker}
 use Rattle.adjudicate_core.specs.Lines.{refusal_words}
-use Rattle.adjudicate_core.specs.Commands.Probes.{PutsLines, PutsLinesOf, PutsRefusal}
+use Rattle.adjudicate_core.specs.Commands.Probes.{PutsLinesOf, PutsRefusal}
 use Rattle.adjudicate_core.proofs.commands.probes.Probes.answer.Goals as goal
 
 pub returns-in-Ok-Ok : goal.returns-in-Ok-Ok
 returns-in-Ok-Ok g c =
     let is = sym (rw c.in-Ok-Ok.field-0-is at c.in-Ok-Ok.ensures) in
-    record { written = IfOk-weaker c.put_probes.result _ _ (λ status h. PutsLinesOf c.in-Ok-Ok.set.tables is (subst (λ text. PutsLines c.in-Ok-Ok.set.tables text (g.W.Write.contents c.args.out.now) (g.W.Write.contents c.put_probes.new.out) status) c.input.ensures h)) c.put_probes.ensures.written; quiet = c.put_probes.ensures.quiet }
+    record { written = IfOk-weaker c.put_probes_of.result _ _ (λ status h. PutsLinesOf c.in-Ok-Ok.set.tables is h) c.put_probes_of.ensures.written; quiet = c.put_probes_of.ensures.quiet }
 
 pub returns-in-Ok-Err : goal.returns-in-Ok-Err
 returns-in-Ok-Err g c =
     let is = sym (rw c.in-Ok-Err.field-0-is at c.in-Ok-Err.ensures) in
-    record { written = IfOk-weaker c.put_refusal.result _ _ (λ status h. PutsRefusal (refusal_words c.in-Ok-Err.refusal) is h.0 h.1) c.put_refusal.ensures; quiet = λ unasked. refl }
+    record { written = IfOk-weaker c.put_refusal.result _ _ (λ status h. PutsRefusal (refusal_words c.in-Ok-Err.refusal) is h) c.put_refusal.ensures; quiet = λ unasked. refl }

@@ -1,6 +1,6 @@
 use Rattle.std.proofs.Common.{◌∙◌, sym, arith}
 use Rattle.pair_dict.proofs.WordLemmas.{length-words, words_at}
-use Rattle.pair_dict.proofs.words.word_of.Goals as goal
+use Rattle.pair_dict.proofs.two_bytes.word_of.Goals as goal
 
 pub overflow_mul-i : goal.overflow_mul-i
 overflow_mul-i c = omega (arith, length-words c.args.bytes.now, c.requires)

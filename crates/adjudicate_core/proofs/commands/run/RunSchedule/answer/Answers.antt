@@ -4,7 +4,7 @@ use Rattle.relay_world.specs.Texts.{IsFirstBadLine}
 use Rattle.adjudicate_core.specs.Lines.{refused_line}
 use Rattle.adjudicate_core.specs.Commands.Run.{BadLine, IsRun}
 use Rattle.adjudicate_core.specs.Reply.{refused}
-use Rattle.adjudicate_core.proofs.commands.run.Run.answer.Goals as goal
+use Rattle.adjudicate_core.proofs.commands.run.RunSchedule.answer.Goals as goal
 
 -- the first line at fault is refused
 refused_first : (text read words : List ℕ) (files : List File) (delay : ℕ) → read ≡ text → (number : ℕ) × IsFirstBadLine read number × (words ≡ refused_line number) → IsRun text files delay (refused words)

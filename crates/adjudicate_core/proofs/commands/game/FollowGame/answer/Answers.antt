@@ -1,6 +1,6 @@
 use Rattle.adjudicate_core.specs.Inside.Asked.{reply_of}
 use Rattle.adjudicate_core.proofs.TextLaws.{for_memory, for_none, for_position}
-use Rattle.adjudicate_core.proofs.commands.game.Game.answer.Goals as goal
+use Rattle.adjudicate_core.proofs.commands.game.FollowGame.answer.Goals as goal
 
 pub returns-in-Err-clause-ok : goal.returns-in-Err-clause-ok
 returns-in-Err-clause-ok c = for_none _ _ _ c.in-Err.fault c.as_bytes.ensures.value c.in-Err.ensures.err

@@ -1,0 +1,61 @@
+//! An input that is read line by line as it comes.
+
+ghost use Rattle.std.specs.Prelude.{◌≡◌, IfOk, IsErrOf};
+ghost use Rattle.std.specs.Io.BufRead.{strip_last};
+ghost use Rattle.system_io.specs.LineReaders.{LineFacts, ReadsIfAny};
+
+use crate::reading::ReadFault;
+use std::alloc::Global;
+use std::io::{BufRead, BufReader, Read};
+
+/// An input that is read line by line as it comes.
+pub trait LineReader {
+    /// What is left of it, where that is known, and whether it can't be read to its end.
+    ghost facts: { Self → LineFacts };
+
+    /// Reads the next line in place of what stands in the buffer, without its line feed, and tells whether there is one. The last
+    /// line may lack its line feed.
+    ///
+    /// It takes nothing after the line feed, and so waits for no more than the line. The buffer's room is that of the longest line
+    /// so far. After an error a part of a line may be lost.
+    fn next_line(&mut self, line: &mut Vec<u8>) -> Result<bool, ReadFault>
+        ensures read { IfOk result (ReadsIfAny (facts self.old).left (facts self.new).left line.new.items) }
+        ensures cause { IsErrOf result ReadFault.Unreadable → (facts self.old).fails }
+        ensures same { (facts self.new).fails → (facts self.old).fails };
+
+    /// Whether a whole line has come already, so that the next one is read without waiting. It reads nothing.
+    fn has_line(&self) -> bool;
+}
+
+/// Takes a line feed from the end, if there is one.
+fn drop_line_feed(line: &mut Vec<u8>)
+    ensures { line.new.items ≡ strip_last 10 line.old.items }
+{
+    if let Some(last) = line.as_slice().last() {
+        if *last == b'\n' {
+            line.truncate(line.len() - 1);
+        }
+    }
+}
+
+impl<R: Read + Drop> LineReader for BufReader<R, Global> {
+    ghost use Rattle.std.specs.Io.Buffered.{reader_remaining};
+
+    ghost facts = { λ r. record { left = reader_remaining R.remaining r; fails = Unit {0} } };
+
+    fn next_line(&mut self, line: &mut Vec<u8>) -> Result<bool, ReadFault> {
+        line.clear();
+        match self.read_until(b'\n', line) {
+            Ok(0) => Ok(false),
+            Ok(_) => {
+                drop_line_feed(line);
+                Ok(true)
+            }
+            Err(error) => Err(ReadFault::from(error)),
+        }
+    }
+
+    fn has_line(&self) -> bool {
+        self.buffer().contains(&b'\n')
+    }
+}
