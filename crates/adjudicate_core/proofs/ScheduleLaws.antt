@@ -8,8 +8,8 @@ use Rattle.std.proofs.lemmas.Cmp.{nat_list_cmp_total}
 use Rattle.std.proofs.lemmas.List.{get_or-set_other, length-map}
 use Rattle.std.proofs.lemmas.Option.{slice_get_cases}
 use Rattle.table_file.specs.declared.fault.TableFault.{TableFault}
-use Rattle.table_file.specs.declared.kind.Kind.{Kind}
-use Rattle.table_file.specs.declared.kind.Kind.TheVariants.{Wdl, Dtz}
+use Rattle.table_file.specs.declared.kind.TableKind.{TableKind}
+use Rattle.table_file.specs.declared.kind.TableKind.TheVariants.{Wdl, Dtz}
 use Rattle.table_file.specs.Layouts.{IsLayout, ReadsWhatIsLaidOut}
 use Rattle.table_file.specs.Names.{file_name}
 use Rattle.table_file.specs.Tables.{Contents}
@@ -70,7 +70,7 @@ named : ReadsWhatIsLaidOut → (f : File) (t : Contents) → found_in f ≡ Ok t
 named laid f t e = let l : IsLayout f.name f.bytes t = (laid f.name f.bytes t).0 e in record { known = l.head.known; name = l.head.named }
 
 -- a slot is that of one name
-one_name : (k j : Kind) (m n : ℕ) → m < 145 → n < 145 → slot k m ≡ slot j n → file_name k m ≡ file_name j n
+one_name : (k j : TableKind) (m n : ℕ) → m < 145 → n < 145 → slot k m ≡ slot j n → file_name k m ≡ file_name j n
 one_name Wdl Wdl m n lm ln e = ap (file_name Wdl) e
 one_name Wdl Dtz m n lm ln e = absurd (omega arith)
 one_name Dtz Wdl m n lm ln e = absurd (omega arith)

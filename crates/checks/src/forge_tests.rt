@@ -8,7 +8,7 @@ use std::alloc::Global;
 use std::io::{self, Write};
 use std::process::Abort;
 use table_file::{
-    Content, ForgeFault, Kind, MapsPlan, Outcome, PairsPlan, PartPlan, Plan, Table, forge,
+    Content, ForgeFault, MapsPlan, Outcome, PairsPlan, PartPlan, Plan, Table, TableKind, forge,
 };
 
 fn words_of(rt: &impl Abort, alloc: Global, words: &[u16]) -> Vec<u16> {
@@ -133,7 +133,7 @@ fn plan_of(rt: &impl Abort, alloc: Global, row: &Singles) -> Plan {
         push_sides(rt, alloc, &mut parts, row);
     }
     Plan {
-        kind: Kind::Wdl,
+        kind: TableKind::Wdl,
         material: material(rt, row.name),
         parts,
     }
@@ -183,7 +183,7 @@ fn queen_dtz(rt: &impl Abort, alloc: Global, part: PartPlan) -> Plan {
     let mut parts = Vec::new(alloc);
     push(rt, &mut parts, part);
     Plan {
-        kind: Kind::Dtz,
+        kind: TableKind::Dtz,
         material: material(rt, "KQvK"),
         parts,
     }
@@ -300,7 +300,7 @@ fn queen_of_pairs(rt: &impl Abort, alloc: Global, pairs: PairsPlan) -> Plan {
     push(rt, &mut parts, first);
     push(rt, &mut parts, second);
     Plan {
-        kind: Kind::Wdl,
+        kind: TableKind::Wdl,
         material: material(rt, "KQvK"),
         parts,
     }

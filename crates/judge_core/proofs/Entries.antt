@@ -7,7 +7,7 @@ use Rattle.place_index.specs.Index.{index_of}
 use Rattle.place_index.specs.Placed.{Placement, side_number}
 use Rattle.table_file.specs.Tables.{Contents, PartAt, part_for, shape_of, part_of, lengths_of, blocks_of}
 use Rattle.std.proofs.lemmas.Option.{slice_get_past}
-use Rattle.table_file.specs.declared.kind.Kind.{Kind}
+use Rattle.table_file.specs.declared.kind.TableKind.{TableKind}
 use Rattle.table_file.specs.declared.parts.Part.{Part}
 use Rattle.table_file.specs.declared.size_record.Coding.{Coding}
 use Rattle.table_file.specs.declared.size_record.Coding.TheVariants.{Single, Pairs}
@@ -24,7 +24,7 @@ use Rattle.judge_core.specs.Inside.Placing.{IsPartFor}
 
 -- ---- the part for placed men
 
-pub part_found : (tables : Tables) (kind : Kind) (placed : Placement) (t : Contents) (side : Side) (file : ℕ) (part : PartAt) → part ≡ part_for t side file → side ≡ placed.side → file ≡ placed.file → (has_pawns placed.material ≡ false → file ≡ 0)
+pub part_found : (tables : Tables) (kind : TableKind) (placed : Placement) (t : Contents) (side : Side) (file : ℕ) (part : PartAt) → part ≡ part_for t side file → side ≡ placed.side → file ≡ placed.file → (has_pawns placed.material ≡ false → file ≡ 0)
     → table_at tables kind placed.material ≡ Some t → t.kind ≡ kind → t.material ≡ placed.material → IsPartFor tables kind placed part
 part_found tables kind placed t side file part e es ef first on kind_is own = subst (IsPartFor tables kind placed) (sym e) (record {
   on = on;
@@ -38,7 +38,7 @@ same_side White = refl
 same_side Black = refl
 
 -- a key names the part
-pub part_named : (tables : Tables) (kind : Kind) (placed : Placement) (part : PartAt) (key : BlockKey) → IsPartFor tables kind placed part → key.slot ≡ slot kind placed.material → key.side ≡ side_number placed.side → key.file ≡ placed.file → part_at tables key ≡ Some part
+pub part_named : (tables : Tables) (kind : TableKind) (placed : Placement) (part : PartAt) (key : BlockKey) → IsPartFor tables kind placed part → key.slot ≡ slot kind placed.material → key.side ≡ side_number placed.side → key.file ≡ placed.file → part_at tables key ≡ Some part
 part_named tables kind placed part key for es side file =
     ap (option_map (λ (t : Contents). part_for t (side_of key.side) key.file)) (ap (λ (n : ℕ). get_or tables n None) es ∙ for.on)
     ∙ ap (λ (s : Side). Some (part_for part.table s key.file)) (ap side_of side ∙ same_side placed.side)

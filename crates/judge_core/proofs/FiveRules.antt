@@ -7,7 +7,7 @@ use Rattle.board_core.specs.declared.parts.Parts.{Parts}
 use Rattle.board_core.specs.Position.{IsPosition}
 use Rattle.board_core.specs.ComputedMoves.{count_of_men}
 use Rattle.place_index.specs.Covered.{FewMenHaveTables}
-use Rattle.table_file.specs.declared.kind.Kind.TheVariants.{Dtz}
+use Rattle.table_file.specs.declared.kind.TableKind.TheVariants.{Dtz}
 use Rattle.table_file.specs.declared.outcome.Outcome.{Outcome}
 use Rattle.table_file.specs.Tables.{Contents}
 use Rattle.table_file.specs.Distances.{stores}

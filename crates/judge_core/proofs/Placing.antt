@@ -3,7 +3,7 @@ use Rattle.std.proofs.Common.{◌≡◌, ◌∙◌, sym, ap, subst, refl, ℕ, O
 use Rattle.std.specs.Option.{option_and_then}
 use Rattle.board_core.specs.declared.parts.Parts.{Parts}
 use Rattle.place_index.specs.Placed.{Placement}
-use Rattle.table_file.specs.declared.kind.Kind.TheVariants.{Wdl}
+use Rattle.table_file.specs.declared.kind.TableKind.TheVariants.{Wdl}
 use Rattle.table_file.specs.Tables.{Contents}
 use Rattle.judge_core.specs.declared.wdl.Wdl.{Wdl as Value}
 use Rattle.judge_core.specs.declared.wdl.Wdl.TheVariants.{Draw}

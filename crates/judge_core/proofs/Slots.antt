@@ -3,8 +3,8 @@ use Rattle.std.proofs.Common.{◌≡◌, ◌∙◌, sym, ap, subst, refl, ℕ, z
 use Rattle.std.proofs.lemmas.Bool.{cases_eq}
 use Rattle.std.proofs.lemmas.List.{get_or_read, get_or-set_same, get_or-set_other}
 use Rattle.std.proofs.Math.ListN.{length-set, length-replicate}
-use Rattle.table_file.specs.declared.kind.Kind.{Kind}
-use Rattle.table_file.specs.declared.kind.Kind.TheVariants.{Wdl, Dtz}
+use Rattle.table_file.specs.declared.kind.TableKind.{TableKind}
+use Rattle.table_file.specs.declared.kind.TableKind.TheVariants.{Wdl, Dtz}
 use Rattle.table_file.specs.Tables.{Contents}
 use Rattle.judge_core.specs.Tables.{Tables, AreFiled, slot}
 use Rattle.judge_core.specs.declared.shelf.Shelf.TheInside.{Inside}
@@ -31,7 +31,7 @@ none_filed n kind key t lt e = absurd (let k = none_at n (slot kind key) in cc)
 -- ---- one table more
 
 -- slots are one to one
-one_slot : (a b : Kind) (j k : ℕ) → j < 145 → k < 145 → slot a j ≡ slot b k → (a ≡ b) × (j ≡ k)
+one_slot : (a b : TableKind) (j k : ℕ) → j < 145 → k < 145 → slot a j ≡ slot b k → (a ≡ b) × (j ≡ k)
 one_slot Wdl Wdl j k lj lk e = (refl, e)
 one_slot Wdl Dtz j k lj lk e = absurd (omega arith)
 one_slot Dtz Wdl j k lj lk e = absurd (omega arith)
@@ -69,5 +69,5 @@ more_kept a b t k kept is lt below e g = record {
   most = (let s = kept.most in omega arith);
 }
 
-pub at_slot : (a b : Kind) (j k n : ℕ) → n ≡ slot a j → a ≡ b → j ≡ k → n ≡ slot b k
-at_slot a b j k n e f g = e ∙ ap (λ (x : Kind). slot x j) f ∙ ap (slot b) g
+pub at_slot : (a b : TableKind) (j k n : ℕ) → n ≡ slot a j → a ≡ b → j ≡ k → n ≡ slot b k
+at_slot a b j k n e f g = e ∙ ap (λ (x : TableKind). slot x j) f ∙ ap (slot b) g

@@ -12,7 +12,7 @@ use Rattle.board_core.specs.declared.piece.Side.{Side}
 use Rattle.board_core.specs.declared.piece.Side.TheVariants.{White, Black}
 use Rattle.board_core.specs.Side.{other}
 use Rattle.place_index.specs.Placed.{men_on, side_number}
-use Rattle.table_file.specs.declared.kind.Kind.TheVariants.{Dtz}
+use Rattle.table_file.specs.declared.kind.TableKind.TheVariants.{Dtz}
 use Rattle.table_file.specs.declared.outcome.Outcome.{Outcome}
 use Rattle.table_file.specs.Files.{is_symmetric}
 use Rattle.table_file.specs.Tables.{Contents, part_for}

@@ -10,7 +10,7 @@ use Rattle.board_core.specs.ComputedMoves.{legal_moves, is_capture, is_pawn_of, 
 use Rattle.place_index.specs.Shape.{Layout}
 use Rattle.place_index.specs.Index.{index_of}
 use Rattle.place_index.specs.Placed.{Placement}
-use Rattle.table_file.specs.declared.kind.Kind.TheVariants.{Dtz}
+use Rattle.table_file.specs.declared.kind.TableKind.TheVariants.{Dtz}
 use Rattle.table_file.specs.Tables.{Contents, PartAt, shape_of}
 use Rattle.table_file.specs.declared.outcome.Outcome.{Outcome}
 use Rattle.table_file.specs.declared.outcome.Outcome.TheVariants.{Win as Won, CursedWin as WonCursed, BlessedLoss as LostBlessed, Loss as Lost}

@@ -4,8 +4,8 @@ use Rattle.board_core.specs.declared.parts.Parts.{Parts}
 use Rattle.place_index.specs.Shape.{Layout}
 use Rattle.place_index.specs.Index.{index_of}
 use Rattle.place_index.specs.Placed.{Placement}
-use Rattle.table_file.specs.declared.kind.Kind.{Kind}
-use Rattle.table_file.specs.declared.kind.Kind.TheVariants.{Wdl, Dtz}
+use Rattle.table_file.specs.declared.kind.TableKind.{TableKind}
+use Rattle.table_file.specs.declared.kind.TableKind.TheVariants.{Wdl, Dtz}
 use Rattle.table_file.specs.Tables.{Contents, PartAt, part_for, shape_of}
 use Rattle.table_file.specs.Expansion.{expansion, entry_at}
 use Rattle.judge_core.specs.declared.wdl.Wdl.{Wdl as Value}
@@ -18,17 +18,17 @@ use Rattle.judge_core.specs.LookUp.{material_of, placed_of}
 abbrev pub Tables : Type 0
 Tables = List (Option Contents)
 
-abbrev pub slot : Kind → ℕ → ℕ
+abbrev pub slot : TableKind → ℕ → ℕ
 slot Wdl key = key
 slot Dtz key = 145 + key
 
 -- the table of this kind for the material with this key
-abbrev pub table_at : Tables → Kind → ℕ → Option Contents
+abbrev pub table_at : Tables → TableKind → ℕ → Option Contents
 table_at tables kind key = slice_index_or tables (slot kind key) None
 
 -- each table is in the slot of its kind and its material
 abbrev pub AreFiled : Tables → Type 0
-AreFiled tables = (kind : Kind) (key : ℕ) (t : Contents) → key < 145 → table_at tables kind key ≡ Some t → (t.kind ≡ kind) × (t.material ≡ key)
+AreFiled tables = (kind : TableKind) (key : ℕ) (t : Contents) → key < 145 → table_at tables kind key ≡ Some t → (t.kind ≡ kind) × (t.material ≡ key)
 
 -- a set: its tables, and how many decoded blocks it may keep
 pub record Holding : Type 0 where

@@ -9,6 +9,7 @@ ghost use Rattle.judge_core.specs.Probed.{IsProbed, number_of};
 ghost use Rattle.judge_core.specs.Ruling.{end_of, is_out_of_scope, ruling, ruling_by};
 ghost use Rattle.judge_core.specs.Tables.{AreFiled};
 
+use crate::display::Columns;
 use crate::distance::Distance;
 use crate::dtz::signed_in;
 use crate::fault::{ProbeFault, ValueFault};
@@ -19,7 +20,6 @@ use crate::probed::Probed;
 use crate::set::Set;
 use crate::verdict::{by_distance, by_value, end_of, is_out_of_scope};
 use crate::wdl::Wdl;
-use crate::words::Columns;
 use board_core::{Position, Verdict};
 use std::alloc::{AllocError, Global};
 

@@ -20,7 +20,7 @@ use crate::wdl::{Wdl, turned};
 use board_core::Position;
 use place_index::Material;
 use std::alloc::{AllocError, Global};
-use table_file::{Kind, Outcome};
+use table_file::{Outcome, TableKind};
 
 /// The distance by what the table stores.
 fn stored(material: Material, outcome: Outcome, number: Option<u32>) -> Result<Distance, ValueFault>
@@ -140,7 +140,7 @@ impl<'a> Set<'a> {
             return Ok(Ok(Distance::Draw));
         };
         let material = placed.material();
-        let Some(part) = self.shelf.part(Kind::Dtz, placed) else {
+        let Some(part) = self.shelf.part(TableKind::Dtz, placed) else {
             return Ok(Err(ValueFault::NotCovered(material)));
         };
         if part.stores() {

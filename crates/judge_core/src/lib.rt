@@ -10,6 +10,7 @@
 mod answering;
 mod blocks;
 mod counts;
+mod display;
 mod distance;
 mod dtz;
 mod fault;
@@ -28,13 +29,12 @@ mod shelf;
 mod standing;
 mod verdict;
 mod wdl;
-mod words;
 
 pub use board_core::Verdict;
+pub use display::{Column, Columns, Outcome, verdict_or_open};
 pub use fault::{ProbeFault, SetFault};
 pub use game::{Followed, GameOutcome};
 pub use probed::Probed;
 pub use set::Set;
 pub use standing::Standing;
 pub use wdl::Wdl;
-pub use words::{Column, Columns, Outcome, verdict_or_open};

@@ -18,7 +18,7 @@ use crate::verdict::is_out_of_scope;
 use crate::wdl::{Wdl, turned};
 use board_core::Position;
 use std::alloc::Global;
-use table_file::Kind;
+use table_file::TableKind;
 
 /// Whether each legal move is en passant, and there is one.
 fn is_forced(position: &Position) -> bool
@@ -40,11 +40,14 @@ impl<'a> Set<'a> {
             return Ok(Wdl::Draw);
         };
         let material = placed.material();
-        let Some(part) = self.shelf.part(Kind::Wdl, placed) else {
+        let Some(part) = self.shelf.part(TableKind::Wdl, placed) else {
             return Err(ValueFault::NotCovered(material));
         };
         let blocks = &mut self.blocks;
-        let Some(points) = self.shelf.read(blocks, alloc, Kind::Wdl, &part, placed) else {
+        let Some(points) = self
+            .shelf
+            .read(blocks, alloc, TableKind::Wdl, &part, placed)
+        else {
             return Err(ValueFault::Damaged(material));
         };
         match Wdl::from_points(points) {

@@ -2,7 +2,7 @@
 
 ghost use Rattle.std.specs.Prelude.{◌≡◌, ◌<◌, ◌≤◌, Some, IfSome, IfOk, OnErr};
 ghost use Rattle.place_index.specs.Placed.{side_number};
-ghost use Rattle.table_file.specs.declared.kind.Kind.TheVariants.{Dtz};
+ghost use Rattle.table_file.specs.declared.kind.TableKind.TheVariants.{Dtz};
 ghost use Rattle.table_file.specs.Expansion.{expansion, real_blocks, IsSpot, IsRealSpot, IsPast};
 ghost use Rattle.judge_core.specs.Blocks.{AreRight, IsRight, part_at};
 ghost use Rattle.judge_core.specs.Distances.{distance_in};
@@ -16,7 +16,7 @@ use place_index::{Placed, index};
 use std::alloc::Global;
 use std::marker::Brand;
 use std::sync::ledger::{Blank, Ledger};
-use table_file::{Damaged, Kind, Outcome, Spot, Steps, TablePart};
+use table_file::{Damaged, Outcome, Spot, Steps, TableKind, TablePart};
 
 /// Where the value of an index stands, by a count of its own.
 fn spot_by<L: Ledger>(part: &TablePart<'_, '_>, index: u64, blank: Blank) -> Result<Spot, Damaged>
@@ -115,7 +115,7 @@ impl<'a> Shelf<'a> {
         &self,
         blocks: &mut Blocks,
         alloc: Global,
-        kind: Kind,
+        kind: TableKind,
         part: &TablePart<'_, 'a>,
         placed: &Placed,
     ) -> Option<u16>
@@ -155,7 +155,7 @@ impl<'a> Shelf<'a> {
         ensures within { IfSome result (λ n. n ≤ 131070) }
         ensures right { AreRight self.now blocks.new }
     {
-        let Some(value) = self.read(blocks, alloc, Kind::Dtz, part, placed) else {
+        let Some(value) = self.read(blocks, alloc, TableKind::Dtz, part, placed) else {
             return None;
         };
         match part.plies_of(value, outcome) {

@@ -9,7 +9,7 @@ use crate::fault::SetFault;
 use place_index::{Material, Placed};
 use std::alloc::{AllocError, Global};
 use std::marker::Model;
-use table_file::{Kind, Table, TablePart};
+use table_file::{Table, TableKind, TablePart};
 
 /// How many materials there are.
 const MATERIALS: usize = 145;
@@ -37,15 +37,15 @@ impl<'a> Model for Shelf<'a> {
 }
 
 /// The slot of a kind and a material.
-pub(crate) fn slot(kind: Kind, material: Material) -> usize
+pub(crate) fn slot(kind: TableKind, material: Material) -> usize
     ensures is { result ≡ slot kind material }
     ensures below { result < 290 }
     ensures known { material < 145 }
 {
     let key = material.key() as usize;
     match kind {
-        Kind::Wdl => key,
-        Kind::Dtz => MATERIALS + key,
+        TableKind::Wdl => key,
+        TableKind::Dtz => MATERIALS + key,
     }
 }
 
@@ -101,7 +101,7 @@ impl<'a> Shelf<'a> {
     }
 
     /// The part of the table of this kind for placed men: that for their side to move and the file of their leading pawn.
-    pub(crate) fn part(&self, kind: Kind, placed: &Placed) -> Option<TablePart<'_, 'a>>
+    pub(crate) fn part(&self, kind: TableKind, placed: &Placed) -> Option<TablePart<'_, 'a>>
         ensures found { IfSome result (IsPartFor self.now.tables kind placed.now) }
         ensures none { IfNone result (table_at self.now.tables kind placed.now.material ≡ None) }
     {

@@ -4,8 +4,8 @@ use Rattle.std.specs.Prelude.{◌==◌, slice_index}
 use Rattle.std.proofs.lemmas.Bool.{and_from, and_parts, or_cases, eqb-true, leb-true, ltb-true, le-leb, lt-ltb}
 use Rattle.std.proofs.lemmas.List.{length-map}
 use Rattle.place_index.specs.Material.{Men, IsInOrder, IsTable, TablesAreNumbered, letter, name_at, name_of, men_of}
-use Rattle.table_file.specs.declared.kind.Kind.{Kind}
-use Rattle.table_file.specs.declared.kind.Kind.TheVariants.{Wdl, Dtz}
+use Rattle.table_file.specs.declared.kind.TableKind.{TableKind}
+use Rattle.table_file.specs.declared.kind.TableKind.TheVariants.{Wdl, Dtz}
 use Rattle.table_file.specs.Names.{ending, file_name}
 use Rattle.move_msg.specs.TableNames.{man_place, are_men_from, are_paired, IsTableName, IsFileName}
 use Rattle.relay_world.specs.FileNames.{FileNamesAreThoseOfTables}
@@ -53,7 +53,7 @@ is_table_name m t = record {
   text = refl;
 }
 
-pub is_file_name : TablesAreNumbered → (kind : Kind) (m : ℕ) → m < 145 → IsFileName (file_name kind m)
+pub is_file_name : TablesAreNumbered → (kind : TableKind) (m : ℕ) → m < 145 → IsFileName (file_name kind m)
 unfolding file_name
 is_file_name law Wdl m l = record { table = name_at m; is_table = is_table_name (men_of m) (law.0 m l); ending = inl refl }
 is_file_name law Dtz m l = record { table = name_at m; is_table = is_table_name (men_of m) (law.0 m l); ending = inr refl }

@@ -5,8 +5,8 @@ use Rattle.std.proofs.lemmas.Bool.{cases_eq}
 use Rattle.std.proofs.lemmas.List.{get_or-set_same, get_or-set_other, length-set, length-replicate}
 use Rattle.place_index.specs.Material.{TablesAreNumbered}
 use Rattle.table_file.specs.declared.fault.TableFault.{TableFault}
-use Rattle.table_file.specs.declared.kind.Kind.{Kind}
-use Rattle.table_file.specs.declared.kind.Kind.TheVariants.{Wdl, Dtz}
+use Rattle.table_file.specs.declared.kind.TableKind.{TableKind}
+use Rattle.table_file.specs.declared.kind.TableKind.TheVariants.{Wdl, Dtz}
 use Rattle.table_file.specs.Layouts.{IsLayout, ReadsWhatIsLaidOut}
 use Rattle.table_file.specs.Names.{file_name}
 use Rattle.table_file.specs.Tables.{Contents}
@@ -29,19 +29,19 @@ named : ReadsWhatIsLaidOut → (f : File) (t : Contents) → found_in f ≡ Ok t
 named laid f t e = let l : IsLayout f.name f.bytes t = (laid f.name f.bytes t).0 e in record { known = l.head.known; name = l.head.named }
 
 -- a name of a kind and a material
-one_title : TablesAreNumbered → (name : List ℕ) (k j : Kind) (m n : ℕ) → m < 145 → n < 145 → name ≡ file_name k m → name ≡ file_name j n → (k ≡ j) × (m ≡ n)
+one_title : TablesAreNumbered → (name : List ℕ) (k j : TableKind) (m n : ℕ) → m < 145 → n < 145 → name ≡ file_name k m → name ≡ file_name j n → (k ≡ j) × (m ≡ n)
 one_title law name k j m n lm ln e f = parts (sym (title_is law k m name lm e) ∙ title_is law j n name ln f)
   where
-    ok_same : (x y : Kind × ℕ) → ◌≡◌ {A = Result (Kind × ℕ) TableFault} (Ok x) (Ok y) → x ≡ y
+    ok_same : (x y : TableKind × ℕ) → ◌≡◌ {A = Result (TableKind × ℕ) TableFault} (Ok x) (Ok y) → x ≡ y
     ok_same x y e = cc
 
-    parts : ◌≡◌ {A = Result (Kind × ℕ) TableFault} (Ok (k, m)) (Ok (j, n)) → (k ≡ j) × (m ≡ n)
-    parts e = let p : ◌≡◌ {A = Kind × ℕ} (k, m) (j, n) = ok_same (k, m) (j, n) e in (ap (λ (x : Kind × ℕ). x.0) p, ap (λ (x : Kind × ℕ). x.1) p)
+    parts : ◌≡◌ {A = Result (TableKind × ℕ) TableFault} (Ok (k, m)) (Ok (j, n)) → (k ≡ j) × (m ≡ n)
+    parts e = let p : ◌≡◌ {A = TableKind × ℕ} (k, m) (j, n) = ok_same (k, m) (j, n) e in (ap (λ (x : TableKind × ℕ). x.0) p, ap (λ (x : TableKind × ℕ). x.1) p)
 
 -- the slot of each file is free
 abbrev AreFree : Tables → List File → Type 0
 AreFree tables [] = Unit {0}
-AreFree tables (f ∷ others) = ((kind : Kind) (m : ℕ) → m < 145 → f.name ≡ file_name kind m → table_at tables kind m ≡ None) × AreFree tables others
+AreFree tables (f ∷ others) = ((kind : TableKind) (m : ℕ) → m < 145 → f.name ≡ file_name kind m → table_at tables kind m ≡ None) × AreFree tables others
 
 -- one step of the gathering
 record IsStep (tables : Tables) (place : ℕ) (f : File) (others : List File) (t : Tables) : Type 0 where
@@ -62,7 +62,7 @@ step_of tables place f others t e = by_found (found_in f) refl e
     by_found (Err fault) i e = absurd cc
     by_found (Ok c) i e = by_free c i (table_at tables c.kind c.material) refl e
 
-slot_below : (kind : Kind) (m : ℕ) → m < 145 → slot kind m < 290
+slot_below : (kind : TableKind) (m : ℕ) → m < 145 → slot kind m < 290
 slot_below Wdl m l = omega arith
 slot_below Dtz m l = omega arith
 
@@ -78,7 +78,7 @@ other_names f c tables (g ∷ others) n l h = (
   other_names f c tables others n l h.1,
 )
 
-free_before : (c : Contents) (tables : Tables) → c.material < 145 → 290 ≤ length tables → (kind : Kind) (m : ℕ) → table_at (slice_set tables (slot c.kind c.material) (Some c)) kind m ≡ None → table_at tables kind m ≡ None
+free_before : (c : Contents) (tables : Tables) → c.material < 145 → 290 ≤ length tables → (kind : TableKind) (m : ℕ) → table_at (slice_set tables (slot c.kind c.material) (Some c)) kind m ≡ None → table_at tables kind m ≡ None
 free_before c tables known l kind m e =
     ⊎_elim
     (λ (same : slot kind m ≡ slot c.kind c.material).
@@ -106,7 +106,7 @@ both law laid (f ∷ others) tables place t l e =
       ((λ kind m lm e. own kind m lm e c n s.free), all_free_before c tables n.known l others later.1),
     )
   where
-    own : (kind : Kind) (m : ℕ) → m < 145 → f.name ≡ file_name kind m → (c : Contents) → IsNamed f c → table_at tables c.kind c.material ≡ None → table_at tables kind m ≡ None
+    own : (kind : TableKind) (m : ℕ) → m < 145 → f.name ≡ file_name kind m → (c : Contents) → IsNamed f c → table_at tables c.kind c.material ≡ None → table_at tables kind m ≡ None
     own kind m lm e c n free =
         let one = one_title law f.name c.kind kind c.material m n.known lm n.name e in
         subst (λ k. table_at tables k m ≡ None) one.0 (subst (λ j. table_at tables c.kind j ≡ None) one.1 free)

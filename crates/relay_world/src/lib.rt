@@ -3,6 +3,7 @@
 
 mod event;
 mod fault;
+mod fields;
 mod file;
 mod game;
 mod gathering;
@@ -13,7 +14,6 @@ mod pair;
 mod running;
 pub mod schedule;
 mod seat;
-mod words;
 mod world;
 
 pub use event::Event;

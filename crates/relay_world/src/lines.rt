@@ -12,7 +12,7 @@ ghost use Rattle.relay_world.specs.declared.event.Event.{Event};
 ghost use Rattle.relay_world.specs.Texts.{IsEvent, IsEventLine, IsMovesLine, IsNameLine, IsStartLine, who_word, keep_word};
 
 use crate::event::Event;
-use crate::words::{is_word, read_bytes, read_keep, read_place, read_who};
+use crate::fields::{is_word, read_bytes, read_keep, read_place, read_who};
 use arbiter_core::Keep;
 use board_core::{Move, Position};
 use fen_text::{cut_first, read, read_move};

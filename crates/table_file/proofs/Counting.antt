@@ -9,7 +9,7 @@ use Rattle.pair_dict.proofs.Settling.{has_some}
 use Rattle.table_file.specs.declared.forging.codes.Code.{Code}
 use Rattle.table_file.specs.Plan.{codes_size, symbols_values, count_of, IsGoodContent, IsGoodPart, AreGoodMaps, is_wide}
 use Rattle.table_file.specs.declared.plan.PartPlan.{PartPlan}
-use Rattle.table_file.specs.declared.kind.Kind.{Kind}
+use Rattle.table_file.specs.declared.kind.TableKind.{TableKind}
 use Rattle.table_file.proofs.Views.{got}
 use Rattle.table_file.specs.PlannedFile.{Laid, laid_part, laid_parts, cut_lengths}
 use Rattle.table_file.specs.Inside.Writing.{AreCountsOf, sum_of, HasGoodValues}
@@ -116,14 +116,14 @@ same_at [] k d lt = absurd (omega (arith, lt))
 same_at (x ∷ xs) zero d lt = refl
 same_at (x ∷ xs) (suc k) d lt = same_at xs k d (omega (arith, lt))
 
-pub good_maps : (kind : Kind) (material sides : ℕ) (parts : List PartPlan) → ((k : ℕ) (p : PartPlan) → slice_get parts k ≡ Some p → IsGoodPart kind material p (k / sides)) → All (λ p. AreGoodMaps (is_wide p) p.maps) parts
+pub good_maps : (kind : TableKind) (material sides : ℕ) (parts : List PartPlan) → ((k : ℕ) (p : PartPlan) → slice_get parts k ≡ Some p → IsGoodPart kind material p (k / sides)) → All (λ p. AreGoodMaps (is_wide p) p.maps) parts
 good_maps kind material sides parts each = λ k d lt. (each k (get_or parts k d) (got parts k (get_or parts k d) lt (same_at parts k d lt))).good_maps
 
-good_values : (kind : Kind) (content : Content) (flags size : ℕ) → IsGoodContent kind content flags size → HasGoodValues content
+good_values : (kind : TableKind) (content : Content) (flags size : ℕ) → IsGoodContent kind content flags size → HasGoodValues content
 good_values kind (Single v) flags size h = tt
 good_values kind (Pairs q) flags size h = (h.1.values, h.1.fit)
 
-pub all_good_values : (kind : Kind) (material sides : ℕ) (parts : List PartPlan) → ((k : ℕ) (p : PartPlan) → slice_get parts k ≡ Some p → IsGoodPart kind material p (k / sides)) → All (λ p. HasGoodValues p.content) parts
+pub all_good_values : (kind : TableKind) (material sides : ℕ) (parts : List PartPlan) → ((k : ℕ) (p : PartPlan) → slice_get parts k ≡ Some p → IsGoodPart kind material p (k / sides)) → All (λ p. HasGoodValues p.content) parts
 all_good_values kind material sides parts each = λ k d lt.
     let p = get_or parts k d in
     let good = each k p (got parts k p lt (same_at parts k d lt)) in

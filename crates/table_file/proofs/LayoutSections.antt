@@ -2,8 +2,8 @@
 use Rattle.std.proofs.Common.{◌≡◌, ℕ, zero, suc, ◌+◌, ◌*◌, ◌/◌, ◌<◌, ◌≤◌, Bool, true, false, cond, eqb, leb, List, [], ◌∷◌, length, drop, Ok, refl, sym, ap, subst, ◌∙◌, arith}
 use Rattle.std.specs.Prelude.{◌%◌, ◌&&◌}
 use Rattle.std.proofs.lemmas.Bool.{and_parts, and_from, eq-eqb, le-leb}
-use Rattle.table_file.specs.declared.kind.Kind.{Kind}
-use Rattle.table_file.specs.declared.kind.Kind.TheVariants.{Wdl, Dtz}
+use Rattle.table_file.specs.declared.kind.TableKind.{TableKind}
+use Rattle.table_file.specs.declared.kind.TableKind.TheVariants.{Wdl, Dtz}
 use Rattle.table_file.specs.declared.size_record.Coding.{Coding}
 use Rattle.table_file.specs.declared.size_record.Coding.TheVariants.{Single, Pairs}
 use Rattle.table_file.specs.declared.parts.Part.{Part}
@@ -86,7 +86,7 @@ maps_agrees body part even =
     (cond_agrees body test (λ bytes. four_at wide (cond wide (risen 2 bytes) bytes)) (λ bytes. Ok (no_maps, bytes)) (Started body wide) (λ p maps q. (maps ≡ no_maps) × (q ≡ p)) (started_agrees body wide even) (done_agrees body no_maps))
     (λ p maps q h. record { mapped = h.0; others = h.1 }) (λ p maps q h. (h.mapped, h.others))
 
-pub all_maps_agrees : (body : List ℕ) (kind : Kind) (parts : List Part) → length body % 64 ≡ 0 → Agrees body (all_maps_at kind parts) (AreAllMaps kind parts body)
+pub all_maps_agrees : (body : List ℕ) (kind : TableKind) (parts : List Part) → length body % 64 ≡ 0 → Agrees body (all_maps_at kind parts) (AreAllMaps kind parts body)
 unfolding all_maps_at
 all_maps_agrees body Wdl parts even = done_agrees body []
 all_maps_agrees body Dtz parts even = record {

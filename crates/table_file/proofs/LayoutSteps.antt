@@ -10,7 +10,7 @@ use Rattle.pair_dict.specs.declared.fault.DictFault.{DictFault}
 use Rattle.place_index.specs.Material.{pieces_of}
 use Rattle.place_index.specs.Shape.{Layout, layout, both_have_pawns, HasGoodOrder}
 use Rattle.table_file.specs.declared.fault.TableFault.TheVariants.{BadExponent}
-use Rattle.table_file.specs.declared.kind.Kind.{Kind}
+use Rattle.table_file.specs.declared.kind.TableKind.{TableKind}
 use Rattle.table_file.specs.declared.size_record.Coding.{Coding}
 use Rattle.table_file.specs.declared.size_record.Coding.TheVariants.{Single, Pairs}
 use Rattle.table_file.specs.declared.size_record.SizeRecord.{SizeRecord}
@@ -94,7 +94,7 @@ codes_agrees law body = record {
       );
 }
 
-pub single_agrees : (body : List ℕ) (kind : Kind) → Agrees body (single_at kind) (IsSingle kind body)
+pub single_agrees : (body : List ℕ) (kind : TableKind) → Agrees body (single_at kind) (IsSingle kind body)
 unfolding single_at
 single_agrees body kind = record {
   reads = λ p v q le h.
@@ -107,7 +107,7 @@ single_agrees body kind = record {
       (a1.0, record { byte = a.0.0; byte_is = a1.1; is = sym (ap (λ (z : ℕ × List ℕ). z.0) same) }, a1.2, sym (ap (λ (z : ℕ × List ℕ). z.1) same) ∙ a1.3);
 }
 
-coding_reads : ReadsWhatIsSpelled → (body : List ℕ) (kind : Kind) (flags p : ℕ) (coding : Coding) (q : ℕ) → p ≤ length body → IsCoding kind flags body p coding q → (q ≤ length body) × (coding_at kind flags (drop p body) ≡ Ok (coding, drop q body))
+coding_reads : ReadsWhatIsSpelled → (body : List ℕ) (kind : TableKind) (flags p : ℕ) (coding : Coding) (q : ℕ) → p ≤ length body → IsCoding kind flags body p coding q → (q ≤ length body) × (coding_at kind flags (drop p body) ≡ Ok (coding, drop q body))
 unfolding coding_at
 coding_reads law body kind flags p (Single v) q le h =
     let a = (single_agrees body kind).reads p v q le h.1 in
@@ -116,7 +116,7 @@ coding_reads law body kind flags p (Pairs c) q le h =
     let a = (codes_agrees law body).reads p c q le h.1 in
     (a.0, rw (lt-leb 128 flags h.0, a.1) refl)
 
-coding_tells : ReadsWhatIsSpelled → (body : List ℕ) (kind : Kind) (flags p : ℕ) (coding : Coding) (rest : List ℕ) → p ≤ length body → coding_at kind flags (drop p body) ≡ Ok (coding, rest)
+coding_tells : ReadsWhatIsSpelled → (body : List ℕ) (kind : TableKind) (flags p : ℕ) (coding : Coding) (rest : List ℕ) → p ≤ length body → coding_at kind flags (drop p body) ≡ Ok (coding, rest)
     → (q : ℕ) × IsCoding kind flags body p coding q × (q ≤ length body) × (rest ≡ drop q body)
 unfolding coding_at
 coding_tells law body kind flags p coding rest le g =
@@ -133,10 +133,10 @@ coding_tells law body kind flags p coding rest le g =
           (a1.0, subst (λ (x : Coding). IsCoding kind flags body p x a1.0) (ap (λ (z : Coding × List ℕ). z.0) same) (small, a1.1), a1.2, sym (ap (λ (z : Coding × List ℕ). z.1) same) ∙ a1.3)
     ]
 
-pub coding_agrees : ReadsWhatIsSpelled → (body : List ℕ) (kind : Kind) (flags : ℕ) → Agrees body (coding_at kind flags) (IsCoding kind flags body)
+pub coding_agrees : ReadsWhatIsSpelled → (body : List ℕ) (kind : TableKind) (flags : ℕ) → Agrees body (coding_at kind flags) (IsCoding kind flags body)
 coding_agrees law body kind flags = record { reads = coding_reads law body kind flags; tells = coding_tells law body kind flags }
 
-pub size_record_agrees : ReadsWhatIsSpelled → (body : List ℕ) (kind : Kind) → Agrees body (size_record_at kind) (IsSizeRecord kind body)
+pub size_record_agrees : ReadsWhatIsSpelled → (body : List ℕ) (kind : TableKind) → Agrees body (size_record_at kind) (IsSizeRecord kind body)
 unfolding size_record_at
 size_record_agrees law body kind = record {
   reads = λ p r q le h.
@@ -156,7 +156,7 @@ size_record_agrees law body kind = record {
       );
 }
 
-pub part_agrees : ReadsWhatIsSpelled → (body : List ℕ) (kind : Kind) (shape : Layout) → Agrees body (part_at kind shape) (IsPart kind shape body)
+pub part_agrees : ReadsWhatIsSpelled → (body : List ℕ) (kind : TableKind) (shape : Layout) → Agrees body (part_at kind shape) (IsPart kind shape body)
 unfolding part_at
 part_agrees law body kind shape = record {
   reads = λ p part q le h.

@@ -9,8 +9,8 @@ use Rattle.place_index.specs.Material.{TablesAreNumbered}
 use Rattle.place_index.specs.Shape.{Layout}
 use Rattle.table_file.specs.declared.fault.TableFault.{TableFault}
 use Rattle.table_file.specs.declared.fault.TableFault.TheVariants.{BadName, BadSize, BadMagic, BadFlags, BadSparse}
-use Rattle.table_file.specs.declared.kind.Kind.{Kind}
-use Rattle.table_file.specs.declared.kind.Kind.TheVariants.{Wdl, Dtz}
+use Rattle.table_file.specs.declared.kind.TableKind.{TableKind}
+use Rattle.table_file.specs.declared.kind.TableKind.TheVariants.{Wdl, Dtz}
 use Rattle.table_file.specs.declared.parts.Section.TheVariants.{Entries, Lengths, Blocks}
 use Rattle.table_file.specs.Reading.{each_at, risen}
 use Rattle.table_file.specs.Names.{equal, file_name, title_among, title_of}
@@ -28,25 +28,25 @@ wrong x d e = cc
 
 -- ---- the head
 
-title_ok : (n : ℕ) (name : List ℕ) (x : Kind × ℕ) → title_among n name ≡ Ok x → (x.1 < n) × (name ≡ file_name x.0 x.1)
+title_ok : (n : ℕ) (name : List ℕ) (x : TableKind × ℕ) → title_among n name ≡ Ok x → (x.1 < n) × (name ≡ file_name x.0 x.1)
 unfolding title_among
 title_ok zero name x e = absurd (wrong x BadName e)
 title_ok (suc n) name x e =
     elim (cases_Bool (equal name (file_name Wdl n))) [
       | inl wdl ↦
           let same = is_ok (Wdl, n) x (rw wdl at e) in
-          subst (λ (y : Kind × ℕ). (y.1 < suc n) × (name ≡ file_name y.0 y.1)) same (omega arith, equal_true name (file_name Wdl n) wdl)
+          subst (λ (y : TableKind × ℕ). (y.1 < suc n) × (name ≡ file_name y.0 y.1)) same (omega arith, equal_true name (file_name Wdl n) wdl)
       | inr other ↦ elim (cases_Bool (equal name (file_name Dtz n))) [
         | inl dtz ↦
             let same = is_ok (Dtz, n) x (rw (other, dtz) at e) in
-            subst (λ (y : Kind × ℕ). (y.1 < suc n) × (name ≡ file_name y.0 y.1)) same (omega arith, equal_true name (file_name Dtz n) dtz)
+            subst (λ (y : TableKind × ℕ). (y.1 < suc n) × (name ≡ file_name y.0 y.1)) same (omega arith, equal_true name (file_name Dtz n) dtz)
         | inr more ↦
             let rest = title_ok n name x (rw (other, more) at e) in
             (omega (arith, rest.0), rest.1)
       ]
     ]
 
-pub title_tells : (name : List ℕ) (x : Kind × ℕ) → title_of name ≡ Ok x → (x.1 < 145) × (name ≡ file_name x.0 x.1)
+pub title_tells : (name : List ℕ) (x : TableKind × ℕ) → title_of name ≡ Ok x → (x.1 < 145) × (name ≡ file_name x.0 x.1)
 unfolding title_of
 title_tells name x e = title_ok 145 name x e
 
@@ -65,13 +65,13 @@ body_tells file body e =
       ]
     ]
 
-pub magic_reads : (kind : Kind) (body : List ℕ) → IsNumber 4 body 0 (magic_of kind) 4 → magic_at kind body ≡ Ok (drop 4 body)
+pub magic_reads : (kind : TableKind) (body : List ℕ) → IsNumber 4 body 0 (magic_of kind) 4 → magic_at kind body ≡ Ok (drop 4 body)
 unfolding magic_at
 magic_reads kind body h =
     let a = (number_agrees body).reads 0 (magic_of kind) 4 (omega arith) h in
     rw (a.1, eq-eqb (magic_of kind) (magic_of kind) refl) refl
 
-pub magic_tells : (kind : Kind) (body rest : List ℕ) → magic_at kind body ≡ Ok rest → IsNumber 4 body 0 (magic_of kind) 4 × (rest ≡ drop 4 body)
+pub magic_tells : (kind : TableKind) (body rest : List ℕ) → magic_at kind body ≡ Ok rest → IsNumber 4 body 0 (magic_of kind) 4 × (rest ≡ drop 4 body)
 unfolding magic_at
 magic_tells kind body rest e =
     let a = bind_ok _ _ rest e in
@@ -84,13 +84,13 @@ magic_tells kind body rest e =
           (record { within = a1.1.within; is = sym is ∙ a1.1.is; next = refl }, sym same ∙ a1.3 ∙ ap (λ k. drop k body) four)
     ]
 
-pub flags_reads : (kind : Kind) (m : ℕ) (body : List ℕ) (flags : ℕ) → 4 ≤ length body → IsByte body 4 flags 5 → flags_agree kind m flags ≡ true → flags_at kind m (drop 4 body) ≡ Ok (drop 5 body)
+pub flags_reads : (kind : TableKind) (m : ℕ) (body : List ℕ) (flags : ℕ) → 4 ≤ length body → IsByte body 4 flags 5 → flags_agree kind m flags ≡ true → flags_at kind m (drop 4 body) ≡ Ok (drop 5 body)
 unfolding flags_at
 flags_reads kind m body flags le h agree =
     let a = (byte_agrees body).reads 4 flags 5 le h in
     rw (a.1, agree) refl
 
-pub flags_tells : (kind : Kind) (m : ℕ) (body rest : List ℕ) → 4 ≤ length body → flags_at kind m (drop 4 body) ≡ Ok rest → (flags : ℕ) × IsByte body 4 flags 5 × (flags_agree kind m flags ≡ true) × (rest ≡ drop 5 body)
+pub flags_tells : (kind : TableKind) (m : ℕ) (body rest : List ℕ) → 4 ≤ length body → flags_at kind m (drop 4 body) ≡ Ok rest → (flags : ℕ) × IsByte body 4 flags 5 × (flags_agree kind m flags ≡ true) × (rest ≡ drop 5 body)
 unfolding flags_at
 flags_tells kind m body rest le e =
     let a = bind_ok _ _ rest e in
@@ -109,14 +109,14 @@ length_body file body long sized is =
     let n : length body ≡ length file - 16 = omega (arith, ap length is, length-take (length file - 16) file) in
     (omega (arith, n, long), omega (arith, n, long, sized))
 
-pub head_reads : TablesAreNumbered → (name file : List ℕ) (kind : Kind) (m : ℕ) (body : List ℕ) → IsHead name file kind m body → head_at name file ≡ Ok ((kind, m), drop 5 body)
+pub head_reads : TablesAreNumbered → (name file : List ℕ) (kind : TableKind) (m : ℕ) (body : List ℕ) → IsHead name file kind m body → head_at name file ≡ Ok ((kind, m), drop 5 body)
 unfolding head_at
 head_reads law name file kind m body h =
     let size = length_body file body h.long h.sized h.body_is in
     let is : body_of file ≡ Ok body = body_reads file h.long h.sized ∙ ap (λ (b : List ℕ). done b) (sym h.body_is) in
     rw (title_is law kind m name h.known h.named, is, magic_reads kind body h.magic, flags_reads kind m body h.flags (omega (arith, size.0)) h.flags_are h.flags_agree_with_name) refl
 
-pub head_tells : (name file : List ℕ) (x : (Kind × ℕ) × List ℕ) → head_at name file ≡ Ok x → (body : List ℕ) × IsHead name file x.0.0 x.0.1 body × (x.1 ≡ drop 5 body)
+pub head_tells : (name file : List ℕ) (x : (TableKind × ℕ) × List ℕ) → head_at name file ≡ Ok x → (body : List ℕ) × IsHead name file x.0.0 x.0.1 body × (x.1 ≡ drop 5 body)
 unfolding head_at
 head_tells name file x e =
     let t = bind_ok _ _ x e in
@@ -129,16 +129,16 @@ head_tells name file x e =
     let f = bind_ok _ _ x g.2 in
     let flags = flags_tells t.0.0 t.0.1 b.0 f.0 (omega (arith, size.0)) (ap (flags_at t.0.0 t.0.1) (sym magic.1) ∙ f.1) in
     let same = is_ok (t.0, f.0) x f.2 in
-    subst (λ (y : (Kind × ℕ) × List ℕ). (body : List ℕ) × IsHead name file y.0.0 y.0.1 body × (y.1 ≡ drop 5 body)) same
+    subst (λ (y : (TableKind × ℕ) × List ℕ). (body : List ℕ) × IsHead name file y.0.0 y.0.1 body × (y.1 ≡ drop 5 body)) same
     (b.0, record { known = title.0; named = title.1; long = body.0; sized = body.1; body_is = body.2; magic = magic.0; flags = flags.0; flags_are = flags.1; flags_agree_with_name = flags.2 }, flags.3)
 
 -- ---- the parts
 
-abbrev pub setups_agree : (body : List ℕ) (kind : Kind) (m : ℕ) → m < 145
+abbrev pub setups_agree : (body : List ℕ) (kind : TableKind) (m : ℕ) → m < 145
     → Agrees body (each_at (setup_at m (sides_of kind m)) (range_with_len 0 (part_count kind m))) (λ p shapes q. Each (λ k. IsSetup m (sides_of kind m) k body) (range_with_len 0 (part_count kind m)) p shapes q)
 setups_agree body kind m known = each_agrees body (setup_at m (sides_of kind m)) (λ k. IsSetup m (sides_of kind m) k body) (λ k. setup_agrees body m (sides_of kind m) k known) (range_with_len 0 (part_count kind m))
 
-abbrev pub records_agree : ReadsWhatIsSpelled → (body : List ℕ) (kind : Kind) (shapes : List Layout) → Agrees body (each_at (part_at kind) shapes) (λ p parts q. Each (λ shape. IsPart kind shape body) shapes p parts q)
+abbrev pub records_agree : ReadsWhatIsSpelled → (body : List ℕ) (kind : TableKind) (shapes : List Layout) → Agrees body (each_at (part_at kind) shapes) (λ p parts q. Each (λ shape. IsPart kind shape body) shapes p parts q)
 records_agree law body kind shapes = each_agrees body (part_at kind) (λ shape. IsPart kind shape body) (λ shape. part_agrees law body kind shape) shapes
 
 sections_read : (body : List ℕ) (t : Contents) (p a b q : ℕ) → length body % 64 ≡ 0 → p ≤ length body
@@ -161,7 +161,7 @@ parts_read law body t known long even h =
     rw (a.1, b.1, d.1, e.1) (sections_read body t h.at_entries h.at_lengths h.at_blocks h.at_end even e.0 h.entries h.lengths h.blocks (all_sparse_fit t.parts t.entries t.lengths h.sparse))
 
 -- what reading the parts told
-record Told (body : List ℕ) (kind : Kind) (m : ℕ) (t : Contents) : Type 0 where
+record Told (body : List ℕ) (kind : TableKind) (m : ℕ) (t : Contents) : Type 0 where
   kind_is : t.kind ≡ kind
   material_is : t.material ≡ m
   parts : AreParts body t
@@ -170,7 +170,7 @@ guard_ok : (b : Bool) (x y : Contents) → cond b (Ok x) (Err BadSparse) ≡ Ok 
 guard_ok true x y e = (refl, is_ok x y e)
 guard_ok false x y e = absurd (wrong y BadSparse e)
 
-parts_tell : ReadsWhatIsSpelled → (body : List ℕ) (kind : Kind) (m : ℕ) (t : Contents) → m < 145 → 64 ≤ length body → length body % 64 ≡ 0 → parts_at kind m (drop 5 body) ≡ Ok t → Told body kind m t
+parts_tell : ReadsWhatIsSpelled → (body : List ℕ) (kind : TableKind) (m : ℕ) (t : Contents) → m < 145 → 64 ≤ length body → length body % 64 ≡ 0 → parts_at kind m (drop 5 body) ≡ Ok t → Told body kind m t
 unfolding parts_at sections_at
 parts_tell law body kind m t known long even g =
     let a = bind_ok _ _ t g in
@@ -229,7 +229,7 @@ read spelled name file t e =
     let told = parts_tell spelled head.0 x.0.0.0 x.0.0.1 t head.1.known size.0 size.1 (ap (parts_at x.0.0.0 x.0.0.1) (sym head.2) ∙ x.2) in
     record {
       body = head.0;
-      head = subst (λ (m : ℕ). IsHead name file t.kind m head.0) (sym told.material_is) (subst (λ (k : Kind). IsHead name file k x.0.0.1 head.0) (sym told.kind_is) head.1);
+      head = subst (λ (m : ℕ). IsHead name file t.kind m head.0) (sym told.material_is) (subst (λ (k : TableKind). IsHead name file k x.0.0.1 head.0) (sym told.kind_is) head.1);
       parts = told.parts;
     }
 

@@ -9,8 +9,8 @@ use Rattle.place_index.specs.Material.{pieces_of}
 use Rattle.place_index.specs.Shape.{Layout, layout, both_have_pawns, HasGoodPieces, HasGoodOrder}
 use Rattle.table_file.specs.declared.fault.TableFault.{TableFault}
 use Rattle.table_file.specs.declared.fault.TableFault.TheVariants.{BadPieces, BadOrder, BadExponent}
-use Rattle.table_file.specs.declared.kind.Kind.{Kind}
-use Rattle.table_file.specs.declared.kind.Kind.TheVariants.{Wdl, Dtz}
+use Rattle.table_file.specs.declared.kind.TableKind.{TableKind}
+use Rattle.table_file.specs.declared.kind.TableKind.TheVariants.{Wdl, Dtz}
 use Rattle.table_file.specs.declared.parts.Part.{Part}
 use Rattle.table_file.specs.declared.parts.Section.{Section}
 use Rattle.table_file.specs.Reading.{each_at, byte_at, taken_at, word_at, number_at, exponent_at, risen, has_bit}
@@ -70,11 +70,11 @@ codes_misses body p le =
     then_misses body number_at _ (IsNumber 4 body) (PassEnd 4 body) _ at_blocks le_blocks (number_agrees body) (number_misses body at_blocks le_blocks) (λ blocks at_dictionary le_dictionary.
     end_misses (pairing_at (drop at_dictionary body)) _ (IsDictionaryFault body at_dictionary) (pairing_misses body at_dictionary)))))
 
-single_misses : (body : List ℕ) (kind : Kind) (p : ℕ) → p ≤ length body → Misses (single_at kind (drop p body)) (PassEnd 1 body p)
+single_misses : (body : List ℕ) (kind : TableKind) (p : ℕ) → p ≤ length body → Misses (single_at kind (drop p body)) (PassEnd 1 body p)
 unfolding single_at
 single_misses body kind p le = end_misses (byte_at (drop p body)) (λ x. (single_value kind x.0, x.1)) (PassEnd 1 body p) (byte_misses body p le)
 
-coding_misses : (body : List ℕ) (kind : Kind) (flags p : ℕ) → p ≤ length body → Misses (coding_at kind flags (drop p body)) (IsCodingFault body flags p)
+coding_misses : (body : List ℕ) (kind : TableKind) (flags p : ℕ) → p ≤ length body → Misses (coding_at kind flags (drop p body)) (IsCodingFault body flags p)
 unfolding coding_at
 coding_misses body kind flags p le =
     like_misses
@@ -95,13 +95,13 @@ coding_misses body kind flags p le =
     from e (inl h) = inl (le-leb 128 flags h.0, h.1)
     from e (inr h) = inr (lt-leb 128 flags h.0, h.1)
 
-size_record_misses : (body : List ℕ) (kind : Kind) (p : ℕ) → p ≤ length body → Misses (size_record_at kind (drop p body)) (IsSizeRecordFault body p)
+size_record_misses : (body : List ℕ) (kind : TableKind) (p : ℕ) → p ≤ length body → Misses (size_record_at kind (drop p body)) (IsSizeRecordFault body p)
 unfolding size_record_at IsSizeRecordFault
 size_record_misses body kind p le =
     then_misses body byte_at _ (IsByte body) (PassEnd 1 body) _ p le (byte_agrees body) (byte_misses body p le) (λ flags q fits.
     end_misses (coding_at kind flags (drop q body)) _ (IsCodingFault body flags q) (coding_misses body kind flags q fits))
 
-pub part_misses : (body : List ℕ) (kind : Kind) (shape : Layout) (p : ℕ) → p ≤ length body → Misses (part_at kind shape (drop p body)) (IsSizeRecordFault body p)
+pub part_misses : (body : List ℕ) (kind : TableKind) (shape : Layout) (p : ℕ) → p ≤ length body → Misses (part_at kind shape (drop p body)) (IsSizeRecordFault body p)
 unfolding part_at
 part_misses body kind shape p le = end_misses (size_record_at kind (drop p body)) _ (IsSizeRecordFault body p) (size_record_misses body kind p le)
 
@@ -183,7 +183,7 @@ maps_misses body part p even le =
     to e (inl h) = h
     to e (inr h) = absurd h.1
 
-pub all_maps_misses : (body : List ℕ) (kind : Kind) (parts : List Part) (p : ℕ) → length body % 64 ≡ 0 → p ≤ length body → Misses (all_maps_at kind parts (drop p body)) (IsAllMapsFault kind parts body p)
+pub all_maps_misses : (body : List ℕ) (kind : TableKind) (parts : List Part) (p : ℕ) → length body % 64 ≡ 0 → p ≤ length body → Misses (all_maps_at kind parts (drop p body)) (IsAllMapsFault kind parts body p)
 unfolding all_maps_at
 all_maps_misses body Wdl parts p even le = none_misses _ _ refl
 all_maps_misses body Dtz parts p even le =

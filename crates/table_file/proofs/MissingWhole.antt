@@ -8,8 +8,8 @@ use Rattle.place_index.specs.Material.{TablesAreNumbered}
 use Rattle.place_index.specs.Shape.{Layout}
 use Rattle.table_file.specs.declared.fault.TableFault.{TableFault}
 use Rattle.table_file.specs.declared.fault.TableFault.TheVariants.{BadName, BadSize, BadMagic, BadFlags, Truncated, BadSparse, OutOfMemory}
-use Rattle.table_file.specs.declared.kind.Kind.{Kind}
-use Rattle.table_file.specs.declared.kind.Kind.TheVariants.{Wdl, Dtz}
+use Rattle.table_file.specs.declared.kind.TableKind.{TableKind}
+use Rattle.table_file.specs.declared.kind.TableKind.TheVariants.{Wdl, Dtz}
 use Rattle.table_file.specs.declared.parts.Part.{Part}
 use Rattle.table_file.specs.declared.parts.Section.TheVariants.{Entries, Lengths, Blocks}
 use Rattle.table_file.specs.Reading.{◌>>=◌, Gives, Fails, each_at, byte_at, number_at, risen}
@@ -32,7 +32,7 @@ use Rattle.table_file.proofs.MissingParts.{part_misses, setup_misses, all_maps_m
 
 -- ---- the parts
 
-sections_misses : (body : List ℕ) (kind : Kind) (m : ℕ) (parts : List Part) (maps : List ValueMaps) (p : ℕ) → length body % 64 ≡ 0 → p ≤ length body → Misses (sections_at kind m parts maps (drop p body)) (IsSectionsFault body parts p)
+sections_misses : (body : List ℕ) (kind : TableKind) (m : ℕ) (parts : List Part) (maps : List ValueMaps) (p : ℕ) → length body % 64 ≡ 0 → p ≤ length body → Misses (sections_at kind m parts maps (drop p body)) (IsSectionsFault body parts p)
 unfolding sections_at IsSectionsFault
 sections_misses body kind m parts maps p even le =
     then_misses body (each_at (section_at Entries) parts) _ (λ p runs q. Each (λ part. IsSection Entries part body) parts p runs q) _ _ p le (sections_agree body Entries parts even) (sections_miss body Entries parts p even le) (λ entries at_lengths le_lengths.
@@ -40,7 +40,7 @@ sections_misses body kind m parts maps p even le =
     then_misses body (each_at (section_at Blocks) parts) _ (λ p runs q. Each (λ part. IsSection Blocks part body) parts p runs q) _ _ at_blocks le_blocks (sections_agree body Blocks parts even) (sections_miss body Blocks parts at_blocks even le_blocks) (λ blocks at_end le_end.
     guard_misses (all_fit parts entries lengths) (AllSparseEntries parts entries lengths) BadSparse _ (all_fit_sparse parts entries lengths) (all_sparse_fit parts entries lengths))))
 
-records_misses : ReadsWhatIsSpelled → (body : List ℕ) (kind : Kind) (m : ℕ) (shapes : List Layout) (p : ℕ) → length body % 64 ≡ 0 → p ≤ length body
+records_misses : ReadsWhatIsSpelled → (body : List ℕ) (kind : TableKind) (m : ℕ) (shapes : List Layout) (p : ℕ) → length body % 64 ≡ 0 → p ≤ length body
     → Misses (each_at (part_at kind) shapes (risen 2 (drop p body)) >>= λ parts. all_maps_at kind parts.0 parts.1 >>= λ maps. sections_at kind m parts.0 maps.0 maps.1) (IsRecordsFault kind body shapes p)
 unfolding IsRecordsFault
 records_misses law body kind m shapes p even le =
@@ -50,7 +50,7 @@ records_misses law body kind m shapes p even le =
     then_misses body (all_maps_at kind parts) _ (AreAllMaps kind parts body) (IsAllMapsFault kind parts body) _ at_maps le_maps (all_maps_agrees body kind parts even) (all_maps_misses body kind parts at_maps even le_maps) (λ maps at_entries le_entries.
     sections_misses body kind m parts maps at_entries even le_entries)))
 
-parts_misses : ReadsWhatIsSpelled → (body : List ℕ) (kind : Kind) (m p : ℕ) → m < 145 → length body % 64 ≡ 0 → p ≤ length body → Misses (parts_at kind m (drop p body)) (IsPartsFault kind m body p)
+parts_misses : ReadsWhatIsSpelled → (body : List ℕ) (kind : TableKind) (m p : ℕ) → m < 145 → length body % 64 ≡ 0 → p ≤ length body → Misses (parts_at kind m (drop p body)) (IsPartsFault kind m body p)
 unfolding parts_at IsPartsFault
 parts_misses law body kind m p known even le =
     let ks = range_with_len 0 (part_count kind m) in
@@ -65,7 +65,7 @@ title_fault : (n : ℕ) (name : List ℕ) (e : TableFault) → title_among n nam
 unfolding title_among
 title_fault zero name e is = same BadName e is
   where
-    same : (d e : TableFault) → (let r : Result (Kind × ℕ) TableFault = Err d in r) ≡ Err e → e ≡ d
+    same : (d e : TableFault) → (let r : Result (TableKind × ℕ) TableFault = Err d in r) ≡ Err e → e ≡ d
     same d e is = cc
 title_fault (suc n) name e is =
     elim (cases_Bool (equal name (file_name Wdl n))) [
@@ -78,7 +78,7 @@ title_fault (suc n) name e is =
 
 -- some kind and material have that name
 abbrev Named : List ℕ → Type 0
-Named name = (kind : Kind) × (m : ℕ) × IsNamed name kind m
+Named name = (kind : TableKind) × (m : ℕ) × IsNamed name kind m
 
 title_misses : TablesAreNumbered → (name : List ℕ) → Misses (title_of name) (IsNot (Named name) BadName)
 unfolding title_of
@@ -109,7 +109,7 @@ body_misses file =
     (λ h. (take (length file - 16) file, body_reads file h.1.long h.1.sized))
     (body_fault file)
 
-magic_fault : (kind : Kind) (body : List ℕ) (e : TableFault) → 4 ≤ length body → magic_at kind body ≡ Err e → e ≡ BadMagic
+magic_fault : (kind : TableKind) (body : List ℕ) (e : TableFault) → 4 ≤ length body → magic_at kind body ≡ Err e → e ≡ BadMagic
 unfolding magic_at
 magic_fault kind body e long is =
     elim (bind_err (number_at body) _ e is) [
@@ -126,16 +126,16 @@ magic_fault kind body e long is =
     same : (d e : TableFault) → (let r : Result (List ℕ) TableFault = Err d in r) ≡ Err e → e ≡ d
     same d e is = cc
 
-magic_misses : (kind : Kind) (body : List ℕ) → 4 ≤ length body → Misses (magic_at kind body) (IsNot (IsNumber 4 body 0 (magic_of kind) 4) BadMagic)
+magic_misses : (kind : TableKind) (body : List ℕ) → 4 ≤ length body → Misses (magic_at kind body) (IsNot (IsNumber 4 body 0 (magic_of kind) 4) BadMagic)
 magic_misses kind body long =
     only_misses (magic_at kind body) (IsNumber 4 body 0 (magic_of kind) 4) BadMagic
     (λ rest is. (magic_tells kind body rest is).0) (λ h. (drop 4 body, magic_reads kind body h)) (λ e is. magic_fault kind body e long is)
 
 -- the flags byte agrees with the name
-abbrev Flagged : Kind → ℕ → List ℕ → Type 0
+abbrev Flagged : TableKind → ℕ → List ℕ → Type 0
 Flagged kind m body = (flags : ℕ) × IsByte body 4 flags 5 × (flags_agree kind m flags ≡ true)
 
-flags_fault : (kind : Kind) (m : ℕ) (body : List ℕ) (e : TableFault) → 5 ≤ length body → flags_at kind m (drop 4 body) ≡ Err e → e ≡ BadFlags
+flags_fault : (kind : TableKind) (m : ℕ) (body : List ℕ) (e : TableFault) → 5 ≤ length body → flags_at kind m (drop 4 body) ≡ Err e → e ≡ BadFlags
 unfolding flags_at
 flags_fault kind m body e long is =
     elim (bind_err (byte_at (drop 4 body)) _ e is) [
@@ -152,7 +152,7 @@ flags_fault kind m body e long is =
     same : (d e : TableFault) → (let r : Result (List ℕ) TableFault = Err d in r) ≡ Err e → e ≡ d
     same d e is = cc
 
-flags_misses : (kind : Kind) (m : ℕ) (body : List ℕ) → 5 ≤ length body → Misses (flags_at kind m (drop 4 body)) (IsNot (Flagged kind m body) BadFlags)
+flags_misses : (kind : TableKind) (m : ℕ) (body : List ℕ) → 5 ≤ length body → Misses (flags_at kind m (drop 4 body)) (IsNot (Flagged kind m body) BadFlags)
 flags_misses kind m body long =
     only_misses (flags_at kind m (drop 4 body)) (Flagged kind m body) BadFlags
     (λ rest is. let t = flags_tells kind m body rest (omega (arith, long)) is in (t.0, t.1, t.2)) (λ h. (drop 5 body, flags_reads kind m body h.0 (omega (arith, long)) h.1 h.2)) (λ e is. flags_fault kind m body e long is)
@@ -198,7 +198,7 @@ head_told law name file e is =
           ]
     ]
 
-named_reads : TablesAreNumbered → (name : List ℕ) (kind : Kind) (m : ℕ) → IsNamed name kind m → title_of name ≡ Ok (kind, m)
+named_reads : TablesAreNumbered → (name : List ℕ) (kind : TableKind) (m : ℕ) → IsNamed name kind m → title_of name ≡ Ok (kind, m)
 named_reads law name kind m h = title_is law kind m name h.known h.named
 
 sized_reads : (file body : List ℕ) → IsSized file body → body_of file ≡ Ok body
@@ -208,19 +208,19 @@ no_title : (name file : List ℕ) (e : TableFault) → title_of name ≡ Err e �
 unfolding table_at head_at
 no_title name file e is = rw is refl
 
-no_body : (name file : List ℕ) (x : Kind × ℕ) (e : TableFault) → title_of name ≡ Ok x → body_of file ≡ Err e → table_at name file ≡ Err e
+no_body : (name file : List ℕ) (x : TableKind × ℕ) (e : TableFault) → title_of name ≡ Ok x → body_of file ≡ Err e → table_at name file ≡ Err e
 unfolding table_at head_at
 no_body name file x e title is = rw (title, is) refl
 
-no_magic : (name file : List ℕ) (x : Kind × ℕ) (body : List ℕ) (e : TableFault) → title_of name ≡ Ok x → body_of file ≡ Ok body → magic_at x.0 body ≡ Err e → table_at name file ≡ Err e
+no_magic : (name file : List ℕ) (x : TableKind × ℕ) (body : List ℕ) (e : TableFault) → title_of name ≡ Ok x → body_of file ≡ Ok body → magic_at x.0 body ≡ Err e → table_at name file ≡ Err e
 unfolding table_at head_at
 no_magic name file x body e title sized is = rw (title, sized, is) refl
 
-no_flags : (name file : List ℕ) (x : Kind × ℕ) (body rest : List ℕ) (e : TableFault) → title_of name ≡ Ok x → body_of file ≡ Ok body → magic_at x.0 body ≡ Ok rest → flags_at x.0 x.1 rest ≡ Err e → table_at name file ≡ Err e
+no_flags : (name file : List ℕ) (x : TableKind × ℕ) (body rest : List ℕ) (e : TableFault) → title_of name ≡ Ok x → body_of file ≡ Ok body → magic_at x.0 body ≡ Ok rest → flags_at x.0 x.1 rest ≡ Err e → table_at name file ≡ Err e
 unfolding table_at head_at
 no_flags name file x body rest e title sized magic is = rw (title, sized, magic, is) refl
 
-no_parts : (name file : List ℕ) (kind : Kind) (m : ℕ) (rest : List ℕ) (e : TableFault) → head_at name file ≡ Ok ((kind, m), rest) → parts_at kind m rest ≡ Err e → table_at name file ≡ Err e
+no_parts : (name file : List ℕ) (kind : TableKind) (m : ℕ) (rest : List ℕ) (e : TableFault) → head_at name file ≡ Ok ((kind, m), rest) → parts_at kind m rest ≡ Err e → table_at name file ≡ Err e
 unfolding table_at
 no_parts name file kind m rest e head is = rw (head, is) refl
 
@@ -264,7 +264,7 @@ first_of_head law name file e fails ne =
       | inr bad ↦ (law name file e).0 (bad_head name file e bad)
     ]
 
-pub first_of_parts : TellsFirstFault → (name file : List ℕ) (kind : Kind) (m : ℕ) (rest : List ℕ) (r : Result Contents TableFault) → head_at name file ≡ Ok ((kind, m), rest) → Gives {X = Contents} {Y = Contents} (λ x. x) r (parts_at kind m rest)
+pub first_of_parts : TellsFirstFault → (name file : List ℕ) (kind : TableKind) (m : ℕ) (rest : List ℕ) (r : Result Contents TableFault) → head_at name file ≡ Ok ((kind, m), rest) → Gives {X = Contents} {Y = Contents} (λ x. x) r (parts_at kind m rest)
     → IfErr r (λ e. e ≢ OutOfMemory → IsFirstFault name file e)
 first_of_parts law name file kind m rest (Ok x) head gives = tt
 first_of_parts law name file kind m rest (Err e) head fails = λ ne.

@@ -5,8 +5,8 @@ use Rattle.std.proofs.lemmas.Bool.{cases_Bool, cases_eq, false≢true, eqb-true,
 use Rattle.place_index.specs.Material.{TablesAreNumbered, men_of, name_at, pieces_of, count_of}
 use Rattle.place_index.specs.Shape.{both_have_pawns}
 use Rattle.table_file.specs.declared.fault.TableFault.TheVariants.{BadName}
-use Rattle.table_file.specs.declared.kind.Kind.{Kind}
-use Rattle.table_file.specs.declared.kind.Kind.TheVariants.{Wdl, Dtz}
+use Rattle.table_file.specs.declared.kind.TableKind.{TableKind}
+use Rattle.table_file.specs.declared.kind.TableKind.TheVariants.{Wdl, Dtz}
 use Rattle.table_file.specs.Names.{equal, ending, file_name, title_among, title_of}
 
 -- ---- equal lists
@@ -53,31 +53,31 @@ back_of : (xs ys : List ℕ) → drop (length xs) (xs ++ ys) ≡ ys
 back_of [] ys = refl
 back_of (x ∷ xs) ys = back_of xs ys
 
-length_ending : (kind : Kind) → length (ending kind) ≡ 5
+length_ending : (kind : TableKind) → length (ending kind) ≡ 5
 length_ending Wdl = refl
 length_ending Dtz = refl
 
-length_name : (kind : Kind) (m : ℕ) → length (file_name kind m) ≡ length (name_at m) + 5
+length_name : (kind : TableKind) (m : ℕ) → length (file_name kind m) ≡ length (name_at m) + 5
 unfolding file_name
 length_name kind m = omega (arith, length-append (name_at m) (ending kind), length_ending kind)
 
-pub long_name : (kind : Kind) (m : ℕ) (name : List ℕ) → name ≡ file_name kind m → 5 ≤ length name
+pub long_name : (kind : TableKind) (m : ℕ) (name : List ℕ) → name ≡ file_name kind m → 5 ≤ length name
 long_name kind m name e = omega (arith, ap length e, length_name kind m)
 
 -- the two pieces of a file name
-pub name_front : (kind : Kind) (m : ℕ) (name : List ℕ) → name ≡ file_name kind m → take (length name - 5) name ≡ name_at m
+pub name_front : (kind : TableKind) (m : ℕ) (name : List ℕ) → name ≡ file_name kind m → take (length name - 5) name ≡ name_at m
 unfolding file_name
 name_front kind m name e =
     let n : length name - 5 ≡ length (name_at m) = omega (arith, ap length e, length_name kind m) in
     rw (n, e) (front_of (name_at m) (ending kind))
 
-pub name_back : (kind : Kind) (m : ℕ) (name : List ℕ) → name ≡ file_name kind m → drop (length name - 5) name ≡ ending kind
+pub name_back : (kind : TableKind) (m : ℕ) (name : List ℕ) → name ≡ file_name kind m → drop (length name - 5) name ≡ ending kind
 unfolding file_name
 name_back kind m name e =
     let n : length name - 5 ≡ length (name_at m) = omega (arith, ap length e, length_name kind m) in
     rw (n, e) (back_of (name_at m) (ending kind))
 
-last_of : Kind → ℕ
+last_of : TableKind → ℕ
 last_of kind = slice_index (ending kind) 4
 
 other_ending : ending Wdl ≡ ending Dtz → ⊥
@@ -86,7 +86,7 @@ other_ending e = omega (arith, ap (λ xs. slice_index xs 4) e)
 not_dtz : (m n : ℕ) (name : List ℕ) → name ≡ file_name Wdl m → name ≡ file_name Dtz n → ⊥
 not_dtz m n name a b = other_ending (sym (name_back Wdl m name a) ∙ name_back Dtz n name b)
 
-pub same_material : TablesAreNumbered → (kind other : Kind) (m n : ℕ) (name : List ℕ) → m < 145 → n < 145 → name ≡ file_name kind m → name ≡ file_name other n → m ≡ n
+pub same_material : TablesAreNumbered → (kind other : TableKind) (m n : ℕ) (name : List ℕ) → m < 145 → n < 145 → name ≡ file_name kind m → name ≡ file_name other n → m ≡ n
 same_material law kind other m n name mm nn a b = law.2 m n mm nn (sym (name_front kind m name a) ∙ name_front other n name b)
 
 -- ---- the title of a name
@@ -99,15 +99,15 @@ here_dtz : (m : ℕ) (name : List ℕ) → name ≡ file_name Dtz m → title_am
 unfolding title_among
 here_dtz m name e = rw (equal_other name (file_name Wdl m) (λ w. not_dtz m m name w e), equal_same name (file_name Dtz m) e) refl
 
-here : (kind : Kind) (m : ℕ) (name : List ℕ) → name ≡ file_name kind m → title_among (suc m) name ≡ Ok (kind, m)
+here : (kind : TableKind) (m : ℕ) (name : List ℕ) → name ≡ file_name kind m → title_among (suc m) name ≡ Ok (kind, m)
 here Wdl m name e = here_wdl m name e
 here Dtz m name e = here_dtz m name e
 
-passed : (m : ℕ) (name : List ℕ) → ((kind : Kind) → name ≡ file_name kind m → ⊥) → title_among (suc m) name ≡ title_among m name
+passed : (m : ℕ) (name : List ℕ) → ((kind : TableKind) → name ≡ file_name kind m → ⊥) → title_among (suc m) name ≡ title_among m name
 unfolding title_among
 passed m name none = rw (equal_other name (file_name Wdl m) (none Wdl), equal_other name (file_name Dtz m) (none Dtz)) refl
 
-title_found : TablesAreNumbered → (n : ℕ) (kind : Kind) (m : ℕ) (name : List ℕ) → m < n → n ≤ 145 → name ≡ file_name kind m → title_among n name ≡ Ok (kind, m)
+title_found : TablesAreNumbered → (n : ℕ) (kind : TableKind) (m : ℕ) (name : List ℕ) → m < n → n ≤ 145 → name ≡ file_name kind m → title_among n name ≡ Ok (kind, m)
 title_found law zero kind m name lt few e = absurd (omega arith)
 title_found law (suc n) kind m name lt few e =
     elim (cases_eq n m) [
@@ -117,22 +117,22 @@ title_found law (suc n) kind m name lt few e =
           ∙ title_found law n kind m name (omega (arith, lt, ne)) (omega (arith, few)) e
     ]
 
-title_none : (n : ℕ) (name : List ℕ) → ((kind : Kind) (m : ℕ) → m < n → name ≡ file_name kind m → ⊥) → title_among n name ≡ Err BadName
+title_none : (n : ℕ) (name : List ℕ) → ((kind : TableKind) (m : ℕ) → m < n → name ≡ file_name kind m → ⊥) → title_among n name ≡ Err BadName
 unfolding title_among
 title_none zero name none = refl
 title_none (suc n) name none =
     passed n name (λ kind. none kind n (omega arith)) ∙ title_none n name (λ kind m lt. none kind m (omega (arith, lt)))
 
-pub title_is : TablesAreNumbered → (kind : Kind) (m : ℕ) (name : List ℕ) → m < 145 → name ≡ file_name kind m → title_of name ≡ Ok (kind, m)
+pub title_is : TablesAreNumbered → (kind : TableKind) (m : ℕ) (name : List ℕ) → m < 145 → name ≡ file_name kind m → title_of name ≡ Ok (kind, m)
 unfolding title_of
 title_is law kind m name lt e = title_found law 145 kind m name lt (omega arith) e
 
-pub no_title : (name : List ℕ) → ((kind : Kind) (m : ℕ) → m < 145 → name ≡ file_name kind m → ⊥) → title_of name ≡ Err BadName
+pub no_title : (name : List ℕ) → ((kind : TableKind) (m : ℕ) → m < 145 → name ≡ file_name kind m → ⊥) → title_of name ≡ Err BadName
 unfolding title_of
 no_title name none = title_none 145 name none
 
 -- a name from its two pieces
-pub joined_name : (kind : Kind) (m k : ℕ) (name : List ℕ) → take k name ≡ name_at m → drop k name ≡ ending kind → name ≡ file_name kind m
+pub joined_name : (kind : TableKind) (m k : ℕ) (name : List ℕ) → take k name ≡ name_at m → drop k name ≡ ending kind → name ≡ file_name kind m
 unfolding file_name
 joined_name kind m k name front back = sym (whole k name) ∙ ap (λ xs. xs ++ drop k name) front ∙ ap (λ ys. name_at m ++ ys) back
   where

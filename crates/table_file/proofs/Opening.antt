@@ -6,7 +6,7 @@ use Rattle.place_index.specs.Material.{pieces_of}
 use Rattle.place_index.specs.Shape.{Layout}
 use Rattle.table_file.specs.declared.fault.TableFault.{TableFault}
 use Rattle.table_file.specs.declared.fault.TableFault.TheVariants.{BadSparse}
-use Rattle.table_file.specs.declared.kind.Kind.{Kind}
+use Rattle.table_file.specs.declared.kind.TableKind.{TableKind}
 use Rattle.table_file.specs.declared.parts.Part.{Part}
 use Rattle.table_file.specs.declared.parts.Section.TheVariants.{Entries, Lengths, Blocks}
 use Rattle.table_file.specs.Reading.{◌>>=◌, each_at, byte_at, taken_at, risen, Fails, Gives}
@@ -15,7 +15,7 @@ use Rattle.table_file.specs.Shapes.{shape_at}
 use Rattle.table_file.specs.Maps.{ValueMaps, all_maps_at}
 use Rattle.table_file.specs.Sparse.{all_fit}
 use Rattle.table_file.specs.Tables.{Contents, part_count, sections_at, parts_at}
-use Rattle.table_file.specs.Inside.Opening.{Runs, runs_at, checked_at, both_setups_at, all_parts_at}
+use Rattle.table_file.specs.Inside.Opening.{SectionBytes, section_bytes_at, checked_at, both_setups_at, all_parts_at}
 use Rattle.table_file.proofs.Loops.{fails_on}
 
 -- a step after two is the third
@@ -25,77 +25,77 @@ in_turn (Err e) f g = refl
 
 -- ---- sections
 
-abbrev table : Kind → ℕ → List Part → List ValueMaps → Runs → Contents
+abbrev table : TableKind → ℕ → List Part → List ValueMaps → SectionBytes → Contents
 table kind material parts maps r = record { kind = kind; material = material; parts = parts; maps = maps; entries = r.entries; lengths = r.lengths; blocks = r.blocks }
 
-abbrev fitting : List Part → Runs → Result Runs TableFault
+abbrev fitting : List Part → SectionBytes → Result SectionBytes TableFault
 fitting parts r = cond (all_fit parts r.entries r.lengths) (Ok r) (Err BadSparse)
 
 fit : {A B : Type 0} (test : Bool) (x : A) (f : A → B) → cond test (let r : Result B TableFault = Ok (f x) in r) (Err BadSparse) ≡ (cond test (let r : Result A TableFault = Ok x in r) (Err BadSparse) >>= λ y. Ok (f y))
 fit true x f = refl
 fit false x f = refl
 
-third : (b : Result (List (List ℕ) × List ℕ) TableFault) (parts : List Part) (e l : List (List ℕ)) (f : Runs → Contents)
+third : (b : Result (List (List ℕ) × List ℕ) TableFault) (parts : List Part) (e l : List (List ℕ)) (f : SectionBytes → Contents)
     → (b >>= λ b. cond (all_fit parts e l) (Ok (f (record { entries = e; lengths = l; blocks = b.0 }))) (Err BadSparse))
     ≡ (((b >>= λ b. Ok (record { entries = e; lengths = l; blocks = b.0 })) >>= fitting parts) >>= λ r. Ok (f r))
 third (Ok b) parts e l f = fit (all_fit parts e l) (record { entries = e; lengths = l; blocks = b.0 }) f
 third (Err d) parts e l f = refl
 
-second : (l : Result (List (List ℕ) × List ℕ) TableFault) (blocks : List ℕ → Result (List (List ℕ) × List ℕ) TableFault) (parts : List Part) (e : List (List ℕ)) (f : Runs → Contents)
+second : (l : Result (List (List ℕ) × List ℕ) TableFault) (blocks : List ℕ → Result (List (List ℕ) × List ℕ) TableFault) (parts : List Part) (e : List (List ℕ)) (f : SectionBytes → Contents)
     → (l >>= λ l. blocks l.1 >>= λ b. cond (all_fit parts e l.0) (Ok (f (record { entries = e; lengths = l.0; blocks = b.0 }))) (Err BadSparse))
     ≡ (((l >>= λ l. blocks l.1 >>= λ b. Ok (record { entries = e; lengths = l.0; blocks = b.0 })) >>= fitting parts) >>= λ r. Ok (f r))
 second (Ok l) blocks parts e f = third (blocks l.1) parts e l.0 f
 second (Err d) blocks parts e f = refl
 
-first : (e : Result (List (List ℕ) × List ℕ) TableFault) (lengths blocks : List ℕ → Result (List (List ℕ) × List ℕ) TableFault) (parts : List Part) (f : Runs → Contents)
+first : (e : Result (List (List ℕ) × List ℕ) TableFault) (lengths blocks : List ℕ → Result (List (List ℕ) × List ℕ) TableFault) (parts : List Part) (f : SectionBytes → Contents)
     → (e >>= λ e. lengths e.1 >>= λ l. blocks l.1 >>= λ b. cond (all_fit parts e.0 l.0) (Ok (f (record { entries = e.0; lengths = l.0; blocks = b.0 }))) (Err BadSparse))
     ≡ (((e >>= λ e. lengths e.1 >>= λ l. blocks l.1 >>= λ b. Ok (record { entries = e.0; lengths = l.0; blocks = b.0 })) >>= fitting parts) >>= λ r. Ok (f r))
 first (Ok e) lengths blocks parts f = second (lengths e.1) blocks parts e.0 f
 first (Err d) lengths blocks parts f = refl
 
-checked_first : (kind : Kind) (material : ℕ) (parts : List Part) (maps : List ValueMaps) (bytes : List ℕ)
+checked_first : (kind : TableKind) (material : ℕ) (parts : List Part) (maps : List ValueMaps) (bytes : List ℕ)
     → sections_at kind material parts maps bytes
     ≡ (checked_at parts bytes >>= λ r. Ok (record { kind = kind; material = material; parts = parts; maps = maps; entries = r.entries; lengths = r.lengths; blocks = r.blocks }))
-unfolding sections_at checked_at runs_at
+unfolding sections_at checked_at section_bytes_at
 checked_first kind material parts maps bytes =
     first (each_at (section_at Entries) parts bytes) (each_at (section_at Lengths) parts) (each_at (section_at Blocks) parts) parts (table kind material parts maps)
 
-pub table_made : (kind : Kind) (material : ℕ) (parts : List Part) (maps : List ValueMaps) (bytes : List ℕ) (r : Runs) → checked_at parts bytes ≡ Ok r
+pub table_made : (kind : TableKind) (material : ℕ) (parts : List Part) (maps : List ValueMaps) (bytes : List ℕ) (r : SectionBytes) → checked_at parts bytes ≡ Ok r
     → sections_at kind material parts maps bytes ≡ Ok (record { kind = kind; material = material; parts = parts; maps = maps; entries = r.entries; lengths = r.lengths; blocks = r.blocks })
 table_made kind material parts maps bytes r is =
-    checked_first kind material parts maps bytes ∙ ap (λ (x : Result Runs TableFault). x >>= λ r. Ok (table kind material parts maps r)) is
+    checked_first kind material parts maps bytes ∙ ap (λ (x : Result SectionBytes TableFault). x >>= λ r. Ok (table kind material parts maps r)) is
 
-pub no_table : (kind : Kind) (material : ℕ) (parts : List Part) (maps : List ValueMaps) (bytes : List ℕ) (e : TableFault) → Fails e (checked_at parts bytes) → Fails e (sections_at kind material parts maps bytes)
+pub no_table : (kind : TableKind) (material : ℕ) (parts : List Part) (maps : List ValueMaps) (bytes : List ℕ) (e : TableFault) → Fails e (checked_at parts bytes) → Fails e (sections_at kind material parts maps bytes)
 no_table kind material parts maps bytes e h =
     fails_on e (checked_at parts bytes) (sections_at kind material parts maps bytes) h
-    (λ is. checked_first kind material parts maps bytes ∙ ap (λ (x : Result Runs TableFault). x >>= λ r. Ok (table kind material parts maps r)) is)
+    (λ is. checked_first kind material parts maps bytes ∙ ap (λ (x : Result SectionBytes TableFault). x >>= λ r. Ok (table kind material parts maps r)) is)
 
 -- ---- parts
 
-parts_first : (kind : Kind) (material : ℕ) (bytes : List ℕ)
+parts_first : (kind : TableKind) (material : ℕ) (bytes : List ℕ)
     → parts_at kind material bytes ≡ (all_parts_at kind material bytes >>= λ p. all_maps_at kind p.0 p.1 >>= λ maps. sections_at kind material p.0 maps.0 maps.1)
 unfolding parts_at all_parts_at
 parts_first kind material bytes =
     in_turn (each_at (setup_at material (sides_of kind material)) (range_with_len 0 (part_count kind material)) bytes) (λ s. each_at (part_at kind) s.0 (risen 2 s.1))
     (λ p. all_maps_at kind p.0 p.1 >>= λ maps. sections_at kind material p.0 maps.0 maps.1)
 
-pub no_parts : (kind : Kind) (material : ℕ) (bytes : List ℕ) (e : TableFault) → Fails e (all_parts_at kind material bytes) → Fails e (parts_at kind material bytes)
+pub no_parts : (kind : TableKind) (material : ℕ) (bytes : List ℕ) (e : TableFault) → Fails e (all_parts_at kind material bytes) → Fails e (parts_at kind material bytes)
 no_parts kind material bytes e h =
     fails_on e (all_parts_at kind material bytes) (parts_at kind material bytes) h
     (λ is. parts_first kind material bytes ∙ ap (λ (x : Result (List Part × List ℕ) TableFault). x >>= λ p. all_maps_at kind p.0 p.1 >>= λ maps. sections_at kind material p.0 maps.0 maps.1) is)
 
-pub with_read : (kind : Kind) (material : ℕ) (bytes : List ℕ) (p : List Part × List ℕ) → all_parts_at kind material bytes ≡ Ok p
+pub with_read : (kind : TableKind) (material : ℕ) (bytes : List ℕ) (p : List Part × List ℕ) → all_parts_at kind material bytes ≡ Ok p
     → parts_at kind material bytes ≡ (all_maps_at kind p.0 p.1 >>= λ maps. sections_at kind material p.0 maps.0 maps.1)
 with_read kind material bytes p is =
     parts_first kind material bytes ∙ ap (λ (x : Result (List Part × List ℕ) TableFault). x >>= λ p. all_maps_at kind p.0 p.1 >>= λ maps. sections_at kind material p.0 maps.0 maps.1) is
 
-pub no_maps : (kind : Kind) (material : ℕ) (bytes : List ℕ) (p : List Part × List ℕ) (e : TableFault) → all_parts_at kind material bytes ≡ Ok p → Fails e (all_maps_at kind p.0 p.1)
+pub no_maps : (kind : TableKind) (material : ℕ) (bytes : List ℕ) (p : List Part × List ℕ) (e : TableFault) → all_parts_at kind material bytes ≡ Ok p → Fails e (all_maps_at kind p.0 p.1)
     → Fails e (parts_at kind material bytes)
 no_maps kind material bytes p e is h =
     fails_on e (all_maps_at kind p.0 p.1) (parts_at kind material bytes) h
     (λ fault. with_read kind material bytes p is ∙ ap (λ (x : Result (List ValueMaps × List ℕ) TableFault). x >>= λ maps. sections_at kind material p.0 maps.0 maps.1) fault)
 
-pub with_mapped : (kind : Kind) (material : ℕ) (bytes : List ℕ) (p : List Part × List ℕ) (maps : List ValueMaps × List ℕ) → all_parts_at kind material bytes ≡ Ok p → all_maps_at kind p.0 p.1 ≡ Ok maps
+pub with_mapped : (kind : TableKind) (material : ℕ) (bytes : List ℕ) (p : List Part × List ℕ) (maps : List ValueMaps × List ℕ) → all_parts_at kind material bytes ≡ Ok p → all_maps_at kind p.0 p.1 ≡ Ok maps
     → sections_at kind material p.0 maps.0 maps.1 ≡ parts_at kind material bytes
 with_mapped kind material bytes p maps is mapped =
     sym (with_read kind material bytes p is ∙ ap (λ (x : Result (List ValueMaps × List ℕ) TableFault). x >>= λ maps. sections_at kind material p.0 maps.0 maps.1) mapped)

@@ -6,8 +6,8 @@ use Rattle.std.proofs.Math.Nat.{mul-le-mul_left, mul-suc, mul_comm}
 use Rattle.board_core.specs.declared.piece.Side.TheVariants.{White}
 use Rattle.place_index.specs.Placed.{Placement, Fits, side_number}
 use Rattle.place_index.specs.Shape.{Layout, has_pawns}
-use Rattle.table_file.specs.declared.kind.Kind.{Kind}
-use Rattle.table_file.specs.declared.kind.Kind.TheVariants.{Wdl, Dtz}
+use Rattle.table_file.specs.declared.kind.TableKind.{TableKind}
+use Rattle.table_file.specs.declared.kind.TableKind.TheVariants.{Wdl, Dtz}
 use Rattle.table_file.specs.declared.places.PartPlace.{PartPlace}
 use Rattle.table_file.specs.Inside.Places.{IsPlace}
 use Rattle.table_file.specs.Files.{files_of, sides_of, is_symmetric}
@@ -19,7 +19,7 @@ one_or_two : (b : Bool) → 1 ≤ cond b 1 2
 one_or_two true = omega arith
 one_or_two false = omega arith
 
-pub some_sides : (kind : Kind) (m : ℕ) → 1 ≤ sides_of kind m
+pub some_sides : (kind : TableKind) (m : ℕ) → 1 ≤ sides_of kind m
 unfolding sides_of
 some_sides Dtz m = omega arith
 some_sides Wdl m = one_or_two (is_symmetric m)
@@ -33,7 +33,7 @@ unfolding files_of
 few_files m = one_or_four (has_pawns m)
 
 -- part k of so many is on one of four files
-pub file_below : (kind : Kind) (m k sides n : ℕ) → sides ≡ sides_of kind m → n ≡ part_count kind m → k < n → k / sides < 4
+pub file_below : (kind : TableKind) (m k sides n : ℕ) → sides ≡ sides_of kind m → n ≡ part_count kind m → k < n → k / sides < 4
 file_below kind m k sides n sides-is n-is lt =
     let s = sides_of kind m in
     let more : files_of m * s ≤ 4 * s = omega (arith, mul-le-mul_left s (few_files m), mul_comm s (files_of m), mul_comm s 4) in
@@ -78,7 +78,7 @@ place_in_two p f n two own n-is lt =
     let s = sides_of p.table.kind p.table.material in
     in_two f n s two lt ∙ ap (λ g. g * s + n % s) own ∙ ap (λ m. part_file p.table.material p.file * s + m % s) n-is
 
-pub file_of_place : (kind : Kind) (m side file k : ℕ) → k ≡ file * sides_of kind m + side % sides_of kind m → k / sides_of kind m ≡ file
+pub file_of_place : (kind : TableKind) (m side file k : ℕ) → k ≡ file * sides_of kind m + side % sides_of kind m → k / sides_of kind m ≡ file
 file_of_place kind m side file k is =
     let s = sides_of kind m in
     ap (λ i. i / s) is ∙ div-mul-add file s (side % s) (mod_below side s (some_sides kind m))
@@ -96,7 +96,7 @@ fits_part p placed l material file asked =
     own true e = rw e asked.file
     own false e = rw e (asked.first (ap (λ m. has_pawns m) asked.material ∙ e))
 
-dtz_sides : (kind : Kind) (m : ℕ) → kind ≡ Dtz → sides_of kind m ≡ 1
+dtz_sides : (kind : TableKind) (m : ℕ) → kind ≡ Dtz → sides_of kind m ≡ 1
 unfolding sides_of
 dtz_sides Dtz m e = refl
 dtz_sides Wdl m e = absurd cc
@@ -111,7 +111,7 @@ one_side p e =
 -- ---- part k
 
 -- the part that its place gives
-pub nth_is : (t : Contents) (kind : Kind) (material k : ℕ) (place : PartPlace) → IsPlace (sides_of kind material) k place → kind ≡ t.kind → material ≡ t.material → part_for t place.side place.file ≡ nth_part t k
+pub nth_is : (t : Contents) (kind : TableKind) (material k : ℕ) (place : PartPlace) → IsPlace (sides_of kind material) k place → kind ≡ t.kind → material ≡ t.material → part_for t place.side place.file ≡ nth_part t k
 nth_is t kind material k place at kind-is material-is =
     let sides : sides_of kind material ≡ sides_of t.kind t.material = rw (kind-is, material-is) refl in
     rw (at.side, at.file, sides) refl

@@ -6,8 +6,8 @@ use Rattle.place_index.specs.Material.{pieces_of}
 use Rattle.place_index.specs.Shape.{Layout, layout}
 use Rattle.table_file.specs.declared.fault.TableFault.{TableFault}
 use Rattle.table_file.specs.declared.fault.TableFault.TheVariants.{BadPieces, BadOrder}
-use Rattle.table_file.specs.declared.kind.Kind.{Kind}
-use Rattle.table_file.specs.declared.kind.Kind.TheVariants.{Wdl, Dtz}
+use Rattle.table_file.specs.declared.kind.TableKind.{TableKind}
+use Rattle.table_file.specs.declared.kind.TableKind.TheVariants.{Wdl, Dtz}
 use Rattle.table_file.specs.declared.parts.Part.{Part}
 use Rattle.table_file.specs.Reading.{◌>>=◌, each_at, byte_at, taken_at, risen}
 use Rattle.table_file.specs.Shapes.{shape_at, are_good_pieces, are_good_orders}
@@ -70,7 +70,7 @@ setup_read m sides k bytes s after e =
     let is = shape_read m (map (nibble side) men.0.0) (nibble side order.0.0) (nibble side second.0.0) (k / sides) shape.0 shape.1 ∙ ap (λ (z : Layout × List ℕ). z.0) same in
     (ap (λ (l : Layout). l.material) (sym is), ap (λ (l : Layout). l.file) (sym is))
 
-part_read : (kind : Kind) (s : Layout) (bytes : List ℕ) (p : Part) (after : List ℕ) → part_at kind s bytes ≡ Ok (p, after) → s ≡ p.shape
+part_read : (kind : TableKind) (s : Layout) (bytes : List ℕ) (p : Part) (after : List ℕ) → part_at kind s bytes ≡ Ok (p, after) → s ≡ p.shape
 unfolding part_at
 part_read kind s bytes p after e =
     let read = bind_ok (size_record_at kind bytes) _ (p, after) e in
@@ -81,7 +81,7 @@ range_at from zero k a at = absurd cc
 range_at from (suc n) zero a at = omega (arith, some_is from a at)
 range_at from (suc n) (suc k) a at = omega (arith, range_at (from + 1) n k a at)
 
-pub are_shaped : (kind : Kind) (m sides n : ℕ) (bytes between : List ℕ) (shapes : List Layout × List ℕ) (parts : List Part × List ℕ)
+pub are_shaped : (kind : TableKind) (m sides n : ℕ) (bytes between : List ℕ) (shapes : List Layout × List ℕ) (parts : List Part × List ℕ)
     → sides ≡ sides_of kind m → each_at (setup_at m sides) (range_with_len 0 n) bytes ≡ Ok shapes → each_at (part_at kind) shapes.0 between ≡ Ok parts → AreShaped kind m parts.0
 are_shaped kind m sides n bytes between shapes parts sides-is e f k p at =
     let of-part = source (part_at kind) shapes.0 between parts f k p at in
@@ -93,7 +93,7 @@ are_shaped kind m sides n bytes between shapes parts sides-is e f k p at =
 
 -- ---- maps
 
-pub maps_for_each : (kind : Kind) (parts : List Part) (bytes : List ℕ) (maps : List ValueMaps × List ℕ) → all_maps_at kind parts bytes ≡ Ok maps → kind ≡ Dtz → length maps.0 ≡ length parts
+pub maps_for_each : (kind : TableKind) (parts : List Part) (bytes : List ℕ) (maps : List ValueMaps × List ℕ) → all_maps_at kind parts bytes ≡ Ok maps → kind ≡ Dtz → length maps.0 ≡ length parts
 unfolding all_maps_at
 maps_for_each Wdl parts bytes maps e is = absurd cc
 maps_for_each Dtz parts bytes maps e is =

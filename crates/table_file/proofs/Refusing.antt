@@ -3,7 +3,7 @@ use Rattle.std.proofs.Common.{◌≡◌, ◌≢◌, ℕ, List, Result, Ok, Err, 
 use Rattle.std.specs.Prelude.{IfErr}
 use Rattle.table_file.specs.declared.fault.TableFault.{TableFault}
 use Rattle.table_file.specs.declared.fault.TableFault.TheVariants.{OutOfMemory}
-use Rattle.table_file.specs.declared.kind.Kind.{Kind}
+use Rattle.table_file.specs.declared.kind.TableKind.{TableKind}
 use Rattle.table_file.specs.Reading.{Gives, Fails}
 use Rattle.table_file.specs.Tables.{Contents, head_at, parts_at, table_at}
 use Rattle.table_file.specs.Layouts.{IsLayout, ReadsWhatIsLaidOut}
@@ -13,7 +13,7 @@ other_result : {A : Type 0} (x : A) (e : TableFault) (r : Result A TableFault) �
 other_result x e r bad good = cc
 
 -- where the head of a file reads, its parts decide
-after_head : (name file : List ℕ) (kind : Kind) (m : ℕ) (rest : List ℕ) → head_at name file ≡ Ok ((kind, m), rest) → table_at name file ≡ parts_at kind m rest
+after_head : (name file : List ℕ) (kind : TableKind) (m : ℕ) (rest : List ℕ) → head_at name file ≡ Ok ((kind, m), rest) → table_at name file ≡ parts_at kind m rest
 unfolding table_at
 after_head name file kind m rest e = rw e refl
 
@@ -28,7 +28,7 @@ refused_head law name file e fails ne t laid =
       | inr bad ↦ other_result t e (table_at name file) (bad_head name file e bad) ((law name file t).1 laid)
     ]
 
-pub refused_parts : ReadsWhatIsLaidOut → (name file : List ℕ) (kind : Kind) (m : ℕ) (rest : List ℕ) (r : Result Contents TableFault) → head_at name file ≡ Ok ((kind, m), rest) → Gives {X = Contents} {Y = Contents} (λ x. x) r (parts_at kind m rest)
+pub refused_parts : ReadsWhatIsLaidOut → (name file : List ℕ) (kind : TableKind) (m : ℕ) (rest : List ℕ) (r : Result Contents TableFault) → head_at name file ≡ Ok ((kind, m), rest) → Gives {X = Contents} {Y = Contents} (λ x. x) r (parts_at kind m rest)
     → IfErr r (λ e. e ≢ OutOfMemory → (t : Contents) → IsLayout name file t → ⊥)
 refused_parts law name file kind m rest (Ok x) head gives = tt
 refused_parts law name file kind m rest (Err e) head fails = λ ne t laid.

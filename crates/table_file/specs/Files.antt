@@ -6,8 +6,8 @@ use Rattle.place_index.specs.Material.{men_of, pieces_of}
 use Rattle.place_index.specs.Shape.{Layout, has_pawns, both_have_pawns, size_of}
 use Rattle.table_file.specs.declared.fault.TableFault.{TableFault}
 use Rattle.table_file.specs.declared.fault.TableFault.TheVariants.{BadSize, BadMagic, BadFlags}
-use Rattle.table_file.specs.declared.kind.Kind.{Kind}
-use Rattle.table_file.specs.declared.kind.Kind.TheVariants.{Wdl, Dtz}
+use Rattle.table_file.specs.declared.kind.TableKind.{TableKind}
+use Rattle.table_file.specs.declared.kind.TableKind.TheVariants.{Wdl, Dtz}
 use Rattle.table_file.specs.declared.size_record.Coding.{Coding}
 use Rattle.table_file.specs.declared.size_record.Coding.TheVariants.{Single, Pairs}
 use Rattle.table_file.specs.declared.parts.Part.{Part}
@@ -26,7 +26,7 @@ unfoldable pub is_symmetric : ℕ → Bool
 is_symmetric m = equal (men_of m).first (men_of m).second
 
 -- WDL of unsymmetric material has two sides, all else has one
-unfoldable pub sides_of : Kind → ℕ → ℕ
+unfoldable pub sides_of : TableKind → ℕ → ℕ
 sides_of Dtz m = 1
 sides_of Wdl m = if is_symmetric m then 1 else 2
 
@@ -51,11 +51,11 @@ body_of file =
     else if length file % 64 == 16 then Ok (take (length file - 16) file) else Err BadSize
 
 -- the bytes 0x71 0xE8 0x23 0x5D or 0xD7 0x66 0x0C 0xA5 as a number, the low byte first
-abbrev pub magic_of : Kind → ℕ
+abbrev pub magic_of : TableKind → ℕ
 magic_of Wdl = 1562634353
 magic_of Dtz = 2769053399
 
-unfoldable pub magic_at : Kind → List ℕ → Result (List ℕ) TableFault
+unfoldable pub magic_at : TableKind → List ℕ → Result (List ℕ) TableFault
 magic_at kind bytes = do
   magic ← number_at bytes
   if magic.0 == magic_of kind then Ok magic.1 else Err BadMagic
@@ -65,11 +65,11 @@ same true b = b
 same false b = not b
 
 -- Bit 1 tells whether there are pawns, and in WDL bit 0 whether there are two sides.
-abbrev pub flags_agree : Kind → ℕ → ℕ → Bool
+abbrev pub flags_agree : TableKind → ℕ → ℕ → Bool
 flags_agree Wdl m flags = same (has_bit 2 flags) (has_pawns m) && same (has_bit 1 flags) (not (is_symmetric m))
 flags_agree Dtz m flags = same (has_bit 2 flags) (has_pawns m)
 
-unfoldable pub flags_at : Kind → ℕ → List ℕ → Result (List ℕ) TableFault
+unfoldable pub flags_at : TableKind → ℕ → List ℕ → Result (List ℕ) TableFault
 flags_at kind m bytes = do
   flags ← byte_at bytes
   if flags_agree kind m flags.0 then Ok flags.1 else Err BadFlags
@@ -96,7 +96,7 @@ setup_at m sides k bytes = do
 
 -- ---- size records
 
-unfoldable pub part_at : Kind → Layout → List ℕ → Result (Part × List ℕ) TableFault
+unfoldable pub part_at : TableKind → Layout → List ℕ → Result (Part × List ℕ) TableFault
 part_at kind shape bytes = do
   size_record ← size_record_at kind bytes
   Ok (record { shape = shape; size_record = size_record.0 }, size_record.1)

@@ -9,8 +9,8 @@ use Rattle.place_index.specs.Material.{pieces_of}
 use Rattle.place_index.specs.Shape.{Layout, layout, both_have_pawns, HasGoodPieces, HasGoodOrder}
 use Rattle.table_file.specs.declared.fault.TableFault.{TableFault}
 use Rattle.table_file.specs.declared.fault.TableFault.TheVariants.{BadName, BadSize, BadMagic, BadFlags, BadPieces, BadOrder, Truncated, BadExponent, BadSparse}
-use Rattle.table_file.specs.declared.kind.Kind.{Kind}
-use Rattle.table_file.specs.declared.kind.Kind.TheVariants.{Wdl, Dtz}
+use Rattle.table_file.specs.declared.kind.TableKind.{TableKind}
+use Rattle.table_file.specs.declared.kind.TableKind.TheVariants.{Wdl, Dtz}
 use Rattle.table_file.specs.declared.parts.Part.{Part}
 use Rattle.table_file.specs.declared.parts.Section.{Section}
 use Rattle.table_file.specs.declared.parts.Section.TheVariants.{Entries, Lengths, Blocks}
@@ -100,7 +100,7 @@ abbrev pub IsMapsFault : List ℕ → Part → ℕ → TableFault → Type 0
 IsMapsFault body part p e =
     (has_bit 2 part.size_record.flags ≡ true) × ((at : ℕ) × IsMapStart (has_bit 16 part.size_record.flags) p at × IsFourFault (has_bit 16 part.size_record.flags) body at e)
 
-abbrev pub IsAllMapsFault : Kind → List Part → List ℕ → ℕ → TableFault → Type 0
+abbrev pub IsAllMapsFault : TableKind → List Part → List ℕ → ℕ → TableFault → Type 0
 IsAllMapsFault Wdl parts body p e = ⊥
 IsAllMapsFault Dtz parts body p e = InEach (IsMapsFault body) (λ part. AreMaps part body) parts p e
 
@@ -123,19 +123,19 @@ IsSectionsFault body parts =
     InSection Blocks body parts (λ _ _. IsNot (AllSparseEntries parts entries lengths) BadSparse)))
 
 -- size records, from an even place on, value maps, and sections
-unfoldable pub IsRecordsFault : Kind → List ℕ → List Layout → ℕ → TableFault → Type 0
+unfoldable pub IsRecordsFault : TableKind → List ℕ → List Layout → ℕ → TableFault → Type 0
 IsRecordsFault kind body shapes p e =
     (q : ℕ) × IsRaised 2 p q × InTurn (InEach (λ _. IsSizeRecordFault body) (λ shape. IsPart kind shape body) shapes) (Each (λ shape. IsPart kind shape body) shapes) (λ parts.
     InTurn (IsAllMapsFault kind parts body) (AreAllMaps kind parts body) (λ _. IsSectionsFault body parts)) q e
 
 -- all behind the flags
-unfoldable pub IsPartsFault : Kind → ℕ → List ℕ → ℕ → TableFault → Type 0
+unfoldable pub IsPartsFault : TableKind → ℕ → List ℕ → ℕ → TableFault → Type 0
 IsPartsFault kind m body =
     InTurn (InEach (λ k. IsSetupFault m (sides_of kind m) k body) (λ k. IsSetup m (sides_of kind m) k body) (range_with_len 0 (part_count kind m)))
     (Each (λ k. IsSetup m (sides_of kind m) k body) (range_with_len 0 (part_count kind m))) (IsRecordsFault kind body)
 
 -- the name of a table file of this kind and material
-pub record IsNamed (name : List ℕ) (kind : Kind) (m : ℕ) : Type 0 where
+pub record IsNamed (name : List ℕ) (kind : TableKind) (m : ℕ) : Type 0 where
   pub known : m < 145
   pub named : name ≡ file_name kind m
 
@@ -147,12 +147,12 @@ pub record IsSized (file body : List ℕ) : Type 0 where
 
 -- The first fault of a file of this name.
 pub data IsFirstFault (name file : List ℕ) : TableFault → Type 0 where
-  bad_name : ((kind : Kind) (m : ℕ) → IsNamed name kind m → ⊥) → IsFirstFault name file BadName
-  bad_size : (kind : Kind) (m : ℕ) → IsNamed name kind m → ((body : List ℕ) → IsSized file body → ⊥) → IsFirstFault name file BadSize
-  bad_magic : (kind : Kind) (m : ℕ) (body : List ℕ) → IsNamed name kind m → IsSized file body → (IsNumber 4 body 0 (magic_of kind) 4 → ⊥) → IsFirstFault name file BadMagic
-  bad_flags : (kind : Kind) (m : ℕ) (body : List ℕ) (flags : ℕ) → IsNamed name kind m → IsSized file body → IsNumber 4 body 0 (magic_of kind) 4 → IsByte body 4 flags 5 → (flags_agree kind m flags ≡ true → ⊥)
+  bad_name : ((kind : TableKind) (m : ℕ) → IsNamed name kind m → ⊥) → IsFirstFault name file BadName
+  bad_size : (kind : TableKind) (m : ℕ) → IsNamed name kind m → ((body : List ℕ) → IsSized file body → ⊥) → IsFirstFault name file BadSize
+  bad_magic : (kind : TableKind) (m : ℕ) (body : List ℕ) → IsNamed name kind m → IsSized file body → (IsNumber 4 body 0 (magic_of kind) 4 → ⊥) → IsFirstFault name file BadMagic
+  bad_flags : (kind : TableKind) (m : ℕ) (body : List ℕ) (flags : ℕ) → IsNamed name kind m → IsSized file body → IsNumber 4 body 0 (magic_of kind) 4 → IsByte body 4 flags 5 → (flags_agree kind m flags ≡ true → ⊥)
       → IsFirstFault name file BadFlags
-  in_parts : {e : TableFault} (kind : Kind) (m : ℕ) (body : List ℕ) → IsHead name file kind m body → IsPartsFault kind m body 5 e → IsFirstFault name file e
+  in_parts : {e : TableFault} (kind : TableKind) (m : ℕ) (body : List ℕ) → IsHead name file kind m body → IsPartsFault kind m body 5 e → IsFirstFault name file e
 
 -- Reading tells a fault exactly where it is the file's first one.
 abbrev pub TellsFirstFault : Type 0

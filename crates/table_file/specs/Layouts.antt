@@ -7,8 +7,8 @@ use Rattle.pair_dict.specs.Codes.{Pairing}
 use Rattle.pair_dict.specs.Beginnings.{SpellsDictionary}
 use Rattle.place_index.specs.Material.{pieces_of}
 use Rattle.place_index.specs.Shape.{Layout, layout, both_have_pawns, HasGoodPieces, HasGoodOrder}
-use Rattle.table_file.specs.declared.kind.Kind.{Kind}
-use Rattle.table_file.specs.declared.kind.Kind.TheVariants.{Wdl, Dtz}
+use Rattle.table_file.specs.declared.kind.TableKind.{TableKind}
+use Rattle.table_file.specs.declared.kind.TableKind.TheVariants.{Wdl, Dtz}
 use Rattle.table_file.specs.declared.size_record.Coding.{Coding}
 use Rattle.table_file.specs.declared.size_record.Coding.TheVariants.{Single, Pairs}
 use Rattle.table_file.specs.declared.size_record.SizeRecord.{SizeRecord}
@@ -102,21 +102,21 @@ pub record AreCodes (body : List ℕ) (p : ℕ) (c : Figures) (q : ℕ) : Type 0
   pub dictionary : IsDictionary body at_dictionary c.dictionary q
 
 -- The byte of a single value isn't looked at in a DTZ file.
-pub record IsSingle (kind : Kind) (body : List ℕ) (p v q : ℕ) : Type 0 where
+pub record IsSingle (kind : TableKind) (body : List ℕ) (p v q : ℕ) : Type 0 where
   pub byte : ℕ
   pub byte_is : IsByte body p byte q
   pub is : v ≡ single_value kind byte
 
-abbrev pub IsCoding : Kind → ℕ → List ℕ → ℕ → Coding → ℕ → Type 0
+abbrev pub IsCoding : TableKind → ℕ → List ℕ → ℕ → Coding → ℕ → Type 0
 IsCoding kind flags body p (Single v) q = (128 ≤ flags) × IsSingle kind body p v q
 IsCoding kind flags body p (Pairs c) q = (flags < 128) × AreCodes body p c q
 
-pub record IsSizeRecord (kind : Kind) (body : List ℕ) (p : ℕ) (r : SizeRecord) (q : ℕ) : Type 0 where
+pub record IsSizeRecord (kind : TableKind) (body : List ℕ) (p : ℕ) (r : SizeRecord) (q : ℕ) : Type 0 where
   pub at_coding : ℕ
   pub flags : IsByte body p r.flags at_coding
   pub coding : IsCoding kind r.flags body at_coding r.coding q
 
-pub record IsPart (kind : Kind) (shape : Layout) (body : List ℕ) (p : ℕ) (part : Part) (q : ℕ) : Type 0 where
+pub record IsPart (kind : TableKind) (shape : Layout) (body : List ℕ) (p : ℕ) (part : Part) (q : ℕ) : Type 0 where
   pub shape_is : part.shape ≡ shape
   pub size_record : IsSizeRecord kind body p part.size_record q
 
@@ -148,7 +148,7 @@ pub record AreMaps (part : Part) (body : List ℕ) (p : ℕ) (maps : ValueMaps) 
   pub others : has_bit 2 part.size_record.flags ≡ false → (maps ≡ no_maps) × (q ≡ p)
 
 -- the maps of all files of a DTZ table, up to an even place
-abbrev pub AreAllMaps : Kind → List Part → List ℕ → ℕ → List ValueMaps → ℕ → Type 0
+abbrev pub AreAllMaps : TableKind → List Part → List ℕ → ℕ → List ValueMaps → ℕ → Type 0
 AreAllMaps Wdl parts body p maps q = (maps ≡ []) × (q ≡ p)
 AreAllMaps Dtz parts body p maps q = (at : ℕ) × Each (λ part. AreMaps part body) parts p maps at × IsRaised 2 at q
 
@@ -182,7 +182,7 @@ AllSparseEntries (p ∷ parts) (e ∷ entries) (l ∷ lengths) = AreSparseEntrie
 
 -- ---- the whole file
 
-pub record IsHead (name file : List ℕ) (kind : Kind) (material : ℕ) (body : List ℕ) : Type 0 where
+pub record IsHead (name file : List ℕ) (kind : TableKind) (material : ℕ) (body : List ℕ) : Type 0 where
   pub known : material < 145
   pub named : name ≡ file_name kind material
   pub long : 80 ≤ length file

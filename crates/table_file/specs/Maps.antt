@@ -1,8 +1,8 @@
 -- Value maps of a DTZ file (Syzygy table format, value maps).
 use Rattle.std.specs.Prelude.{ℕ, ◌*◌, Bool, false, List, [], Result, Ok, if◌then◌else◌}
 use Rattle.table_file.specs.declared.fault.TableFault.{TableFault}
-use Rattle.table_file.specs.declared.kind.Kind.{Kind}
-use Rattle.table_file.specs.declared.kind.Kind.TheVariants.{Wdl, Dtz}
+use Rattle.table_file.specs.declared.kind.TableKind.{TableKind}
+use Rattle.table_file.specs.declared.kind.TableKind.TheVariants.{Wdl, Dtz}
 use Rattle.table_file.specs.declared.parts.Part.{Part}
 use Rattle.table_file.specs.Reading.{◌>>=◌, each_at, byte_at, word_at, taken_at, risen, has_bit}
 
@@ -45,7 +45,7 @@ maps_at part bytes =
     else Ok (no_maps, bytes)
 
 -- The maps of all files, up to an even place. A WDL file has none.
-unfoldable pub all_maps_at : Kind → List Part → List ℕ → Result (List ValueMaps × List ℕ) TableFault
+unfoldable pub all_maps_at : TableKind → List Part → List ℕ → Result (List ValueMaps × List ℕ) TableFault
 all_maps_at Wdl parts bytes = Ok ([], bytes)
 all_maps_at Dtz parts bytes = do
   maps ← each_at maps_at parts bytes

@@ -8,8 +8,8 @@ use Rattle.place_index.specs.Shape.{Layout, layout, size_of, both_have_pawns, Ha
 use Rattle.table_file.specs.Files.{files_of, sides_of}
 use Rattle.table_file.specs.declared.forging.codes.Code.{Code}
 use Rattle.table_file.specs.declared.plan.MapsPlan.{MapsPlan}
-use Rattle.table_file.specs.declared.kind.Kind.{Kind}
-use Rattle.table_file.specs.declared.kind.Kind.TheVariants.{Wdl, Dtz}
+use Rattle.table_file.specs.declared.kind.TableKind.{TableKind}
+use Rattle.table_file.specs.declared.kind.TableKind.TheVariants.{Wdl, Dtz}
 use Rattle.table_file.specs.declared.plan.PartPlan.{PartPlan}
 use Rattle.table_file.specs.declared.plan.PairsPlan.{PairsPlan}
 use Rattle.table_file.specs.declared.plan.Content.{Content}
@@ -76,7 +76,7 @@ planned_maps_of p = record {
 }
 
 -- A WDL file has no maps.
-abbrev pub planned_maps : Kind → List PartPlan → List ValueMaps
+abbrev pub planned_maps : TableKind → List PartPlan → List ValueMaps
 planned_maps Wdl parts = []
 planned_maps Dtz parts = map planned_maps_of parts
 
@@ -151,12 +151,12 @@ pub record AreGoodPairs (q : PairsPlan) (size : ℕ) : Type 0 where
   pub padding : last_point (2 ^ q.span_exponent) size < size + 65536 * 255
 
 -- A single value is one that a byte holds, in a DTZ file 0.
-abbrev pub IsGoodSingle : Kind → ℕ → Type 0
+abbrev pub IsGoodSingle : TableKind → ℕ → Type 0
 IsGoodSingle Wdl v = v < 256
 IsGoodSingle Dtz v = v ≡ 0
 
 -- The single flag tells of a single value.
-abbrev pub IsGoodContent : Kind → Content → ℕ → ℕ → Type 0
+abbrev pub IsGoodContent : TableKind → Content → ℕ → ℕ → Type 0
 IsGoodContent kind (Single v) flags size = (has_bit 128 flags ≡ true) × IsGoodSingle kind v
 IsGoodContent kind (Pairs q) flags size = (has_bit 128 flags ≡ false) × AreGoodPairs q size
 
@@ -164,7 +164,7 @@ abbrev pub HasNoMaps : MapsPlan → Type 0
 HasNoMaps m = (m.win.items ≡ []) × (m.loss.items ≡ []) × (m.cursed_win.items ≡ []) × (m.blessed_loss.items ≡ [])
 
 -- whether a file tells value maps of a part
-abbrev pub has_maps : Kind → PartPlan → Bool
+abbrev pub has_maps : TableKind → PartPlan → Bool
 has_maps Wdl p = false
 has_maps Dtz p = has_bit 2 p.flags
 
@@ -180,7 +180,7 @@ pub record AreGoodMaps (wide : Bool) (m : MapsPlan) : Type 0 where
   pub blessed_loss : IsGoodMap wide m.blessed_loss.items
 
 -- Pieces and orders make a shape, and there are maps only where a DTZ file's flags tell of them.
-pub record IsGoodPart (kind : Kind) (material : ℕ) (p : PartPlan) (file : ℕ) : Type 0 where
+pub record IsGoodPart (kind : TableKind) (material : ℕ) (p : PartPlan) (file : ℕ) : Type 0 where
   pub second : IsSome p.second ↔ (both_have_pawns material ≡ true)
   pub pieces : HasGoodPieces material p.pieces.items
   pub orders : HasGoodOrder (planned_shape material p file)
@@ -189,6 +189,6 @@ pub record IsGoodPart (kind : Kind) (material : ℕ) (p : PartPlan) (file : ℕ)
   pub good_maps : AreGoodMaps (is_wide p) p.maps
 
 -- as many parts as the material has, each a good one
-pub record IsGoodPlan (kind : Kind) (material : ℕ) (parts : List PartPlan) : Type 0 where
+pub record IsGoodPlan (kind : TableKind) (material : ℕ) (parts : List PartPlan) : Type 0 where
   pub count : length parts ≡ files_of material * sides_of kind material
   pub each : (k : ℕ) (p : PartPlan) → slice_get parts k ≡ Some p → IsGoodPart kind material p (k / sides_of kind material)

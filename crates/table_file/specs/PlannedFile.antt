@@ -3,8 +3,8 @@ use Rattle.std.specs.Prelude.{ℕ, zero, suc, ◌+◌, ◌-◌, ◌*◌, ◌/◌
 use Rattle.std.specs.List.{flat_map}
 use Rattle.std.specs.Int.{w16, w32, to_le_bytes, bytes_low_first}
 use Rattle.place_index.specs.Shape.{has_pawns, size_of}
-use Rattle.table_file.specs.declared.kind.Kind.{Kind}
-use Rattle.table_file.specs.declared.kind.Kind.TheVariants.{Wdl, Dtz}
+use Rattle.table_file.specs.declared.kind.TableKind.{TableKind}
+use Rattle.table_file.specs.declared.kind.TableKind.TheVariants.{Wdl, Dtz}
 use Rattle.table_file.specs.declared.forging.codes.Code.{Code}
 use Rattle.table_file.specs.declared.plan.Plan.{Plan}
 use Rattle.table_file.specs.declared.plan.PartPlan.{PartPlan}
@@ -23,7 +23,7 @@ filled_to m bytes = bytes ++ replicate ((m - length bytes % m) % m) 0
 -- ---- head, orders and pieces
 
 -- the magic number, and whether there are two sides (bit 0) and pawns (bit 1)
-unfoldable pub head_bytes : Kind → ℕ → List ℕ
+unfoldable pub head_bytes : TableKind → ℕ → List ℕ
 head_bytes kind material = to_le_bytes w32 (magic_of kind) ++ ((if is_symmetric material then 0 else 1) + (if has_pawns material then 2 else 0)) ∷ []
 
 -- a byte of which side 0 has the low half and side 1 the high half
@@ -178,7 +178,7 @@ with_each_maps file [] = file
 with_each_maps file (p ∷ parts) = with_each_maps (with_maps file p) parts
 
 -- A WDL file has no maps; in a DTZ file an even place follows them.
-unfoldable pub with_all_maps : Kind → List ℕ → List PartPlan → List ℕ
+unfoldable pub with_all_maps : TableKind → List ℕ → List PartPlan → List ℕ
 with_all_maps Wdl file parts = file
 with_all_maps Dtz file parts = filled_to 2 (with_each_maps file parts)
 

@@ -1,12 +1,12 @@
 -- What opening a file leaves for each part: its shape, and sections of the right size.
 use Rattle.std.specs.Prelude.{◌≡◌, ℕ, ◌/◌, ◌<◌, List, length, slice_get, Some}
-use Rattle.table_file.specs.declared.kind.Kind.{Kind}
+use Rattle.table_file.specs.declared.kind.TableKind.{TableKind}
 use Rattle.table_file.specs.declared.parts.Part.{Part}
 use Rattle.table_file.specs.declared.parts.Section.{Section}
 use Rattle.table_file.specs.Files.{section_size, indices, sides_of}
 
 -- each part has a shape of the material, for its file of the leading pawn
-abbrev pub AreShaped : Kind → ℕ → List Part → Type 0
+abbrev pub AreShaped : TableKind → ℕ → List Part → Type 0
 AreShaped kind material parts = (k : ℕ) (p : Part) → slice_get parts k ≡ Some p → (p.shape.material ≡ material) × (p.shape.file ≡ k / sides_of kind material)
 
 -- a section of each part, of the size that the part gives it

@@ -1,8 +1,8 @@
 -- The size record of a file and a side (Syzygy table format, size record).
 use Rattle.std.specs.Prelude.{ℕ, List, Result, Ok, nat_le, if◌then◌else◌}
 use Rattle.table_file.specs.declared.fault.TableFault.{TableFault}
-use Rattle.table_file.specs.declared.kind.Kind.{Kind}
-use Rattle.table_file.specs.declared.kind.Kind.TheVariants.{Wdl, Dtz}
+use Rattle.table_file.specs.declared.kind.TableKind.{TableKind}
+use Rattle.table_file.specs.declared.kind.TableKind.TheVariants.{Wdl, Dtz}
 use Rattle.table_file.specs.declared.size_record.Coding.{Coding}
 use Rattle.table_file.specs.declared.size_record.Coding.TheVariants.{Single, Pairs}
 use Rattle.table_file.specs.declared.size_record.SizeRecord.{SizeRecord}
@@ -21,17 +21,17 @@ codes_at bytes = do
   Ok (record { block_exponent = block.0; span_exponent = span.0; padding = padding.0; blocks = blocks.0; dictionary = dictionary.0 }, dictionary.1)
 
 -- in a DTZ file the byte of a single value isn't looked at, and the value is 0
-abbrev pub single_value : Kind → ℕ → ℕ
+abbrev pub single_value : TableKind → ℕ → ℕ
 single_value Wdl b = b
 single_value Dtz b = 0
 
-unfoldable pub single_at : Kind → List ℕ → Result (ℕ × List ℕ) TableFault
+unfoldable pub single_at : TableKind → List ℕ → Result (ℕ × List ℕ) TableFault
 single_at kind bytes = do
   value ← byte_at bytes
   Ok (single_value kind value.0, value.1)
 
 -- one value for all where bit 7 is set, else codes
-unfoldable pub coding_at : Kind → ℕ → List ℕ → Result (Coding × List ℕ) TableFault
+unfoldable pub coding_at : TableKind → ℕ → List ℕ → Result (Coding × List ℕ) TableFault
 coding_at kind flags bytes =
     if nat_le 128 flags
     then (do
@@ -41,7 +41,7 @@ coding_at kind flags bytes =
       codes ← codes_at bytes
       Ok (Pairs codes.0, codes.1))
 
-unfoldable pub size_record_at : Kind → List ℕ → Result (SizeRecord × List ℕ) TableFault
+unfoldable pub size_record_at : TableKind → List ℕ → Result (SizeRecord × List ℕ) TableFault
 size_record_at kind bytes = do
   flags ← byte_at bytes
   coding ← coding_at kind flags.0 flags.1

@@ -6,7 +6,7 @@ use Rattle.place_index.specs.Placed.{Placement, side_number}
 use Rattle.place_index.specs.Shape.{Layout, has_pawns}
 use Rattle.table_file.specs.declared.fault.TableFault.{TableFault}
 use Rattle.table_file.specs.declared.fault.TableFault.TheVariants.{BadSparse}
-use Rattle.table_file.specs.declared.kind.Kind.{Kind}
+use Rattle.table_file.specs.declared.kind.TableKind.{TableKind}
 use Rattle.table_file.specs.declared.size_record.Coding.{Coding}
 use Rattle.table_file.specs.declared.size_record.Coding.TheVariants.{Single, Pairs}
 use Rattle.table_file.specs.declared.parts.Part.{Part}
@@ -21,7 +21,7 @@ use Rattle.table_file.specs.Sparse.{all_fit}
 -- What a file says. Part k is of file k / sides and of side k % sides, and so are its sparse entries, its block lengths and
 -- its blocks; these are bytes, and a part of a single value has none. Maps are there in DTZ files alone, four for each part.
 pub record Contents : Type 0 where
-  pub kind : Kind
+  pub kind : TableKind
   pub material : ℕ
   pub parts : List Part
   pub maps : List ValueMaps
@@ -30,7 +30,7 @@ pub record Contents : Type 0 where
   pub blocks : List (List ℕ)
 
 -- name, size, magic and flags: the kind, the material, and what is left to read
-unfoldable pub head_at : List ℕ → List ℕ → Result ((Kind × ℕ) × List ℕ) TableFault
+unfoldable pub head_at : List ℕ → List ℕ → Result ((TableKind × ℕ) × List ℕ) TableFault
 head_at name file = do
   title ← title_of name
   body ← body_of file
@@ -39,7 +39,7 @@ head_at name file = do
   Ok (title, flags)
 
 -- the sections behind the maps, and the check of the sparse entries
-unfoldable pub sections_at : Kind → ℕ → List Part → List ValueMaps → List ℕ → Result Contents TableFault
+unfoldable pub sections_at : TableKind → ℕ → List Part → List ValueMaps → List ℕ → Result Contents TableFault
 sections_at kind material parts maps bytes = do
   entries ← each_at (section_at Entries) parts bytes
   lengths ← each_at (section_at Lengths) parts entries.1
@@ -49,11 +49,11 @@ sections_at kind material parts maps bytes = do
       else Err BadSparse
 
 -- how many parts a file has
-abbrev pub part_count : Kind → ℕ → ℕ
+abbrev pub part_count : TableKind → ℕ → ℕ
 part_count kind material = files_of material * sides_of kind material
 
 -- shapes, size records and value maps, and then the sections
-unfoldable pub parts_at : Kind → ℕ → List ℕ → Result Contents TableFault
+unfoldable pub parts_at : TableKind → ℕ → List ℕ → Result Contents TableFault
 parts_at kind material bytes = do
   shapes ← each_at (setup_at material (sides_of kind material)) (range_with_len 0 (part_count kind material)) bytes
   parts ← each_at (part_at kind) shapes.0 (risen 2 shapes.1)

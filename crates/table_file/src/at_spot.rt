@@ -1,7 +1,7 @@
 //! Values at spots that were located before, and out of blocks that were unpacked before.
 
 ghost use Rattle.std.specs.Prelude.{◌≡◌, ◌<◌, ◌≤◌, ℕ, slice_get, Some, None, IfOk, OnErr};
-ghost use Rattle.table_file.specs.declared.kind.Kind.TheVariants.{Dtz};
+ghost use Rattle.table_file.specs.declared.kind.TableKind.TheVariants.{Dtz};
 ghost use Rattle.table_file.specs.declared.spots.Spot.TheVariants.{At};
 ghost use Rattle.table_file.specs.Expansion.{expansion, entry_at, real_blocks, values_of, IsSpot};
 ghost use Rattle.table_file.specs.Distances.{distance};

@@ -8,7 +8,7 @@ ghost use Rattle.table_file.specs.PlannedFile.{file_of};
 ghost use Rattle.table_file.specs.Forged.{OpensAs, CanBeForged};
 
 use crate::fault::TableFault;
-use crate::kind::Kind;
+use crate::kind::TableKind;
 use crate::plan::Plan;
 use crate::table::open;
 use place_index::{Material, tables_are_numbered};
@@ -36,18 +36,18 @@ pub enum ForgeFault {
 }
 
 /// How the file names of a kind of table end.
-fn ending(kind: Kind) -> [u8; 5]
+fn ending(kind: TableKind) -> [u8; 5]
     ensures { result ≡ ending kind }
 {
     match kind {
-        Kind::Wdl => *b".rtbw",
-        Kind::Dtz => *b".rtbz",
+        TableKind::Wdl => *b".rtbw",
+        TableKind::Dtz => *b".rtbz",
     }
 }
 
 /// The name of the file of a kind for a material.
 #[tactic(auto, unfolding(crate::specs::Names::file_name))]
-fn file_name(alloc: Global, kind: Kind, material: &Material) -> Result<Vec<u8>, AllocError>
+fn file_name(alloc: Global, kind: TableKind, material: &Material) -> Result<Vec<u8>, AllocError>
     ensures { IfOk result (λ v. v.items ≡ file_name kind material.now) }
 {
     let mut name = Vec::new(alloc);

@@ -2,7 +2,7 @@
 
 ghost use Rattle.std.specs.Prelude.{◌≡◌, ◌≢◌, IfErr, IfSome, IfNone};
 ghost use Rattle.table_file.specs.declared.fault.TableFault.TheVariants.{OutOfMemory};
-ghost use Rattle.table_file.specs.declared.kind.Kind.{Kind};
+ghost use Rattle.table_file.specs.declared.kind.TableKind.{TableKind};
 ghost use Rattle.table_file.specs.Names.{ending, title_of};
 ghost use Rattle.table_file.specs.Reading.{Gives};
 
@@ -11,7 +11,7 @@ use place_index::{Material, tables_are_numbered};
 
 /// What the values of a table file tell.
 #[derive(Clone, Copy, Debug, PartialEq, Eq)]
-pub enum Kind {
+pub enum TableKind {
     /// Win, draw or loss, with the halfmove clock at 0.
     Wdl,
     /// The distance to the next move that sets the halfmove clock to 0.
@@ -22,19 +22,19 @@ pub enum Kind {
 const ENDING: usize = 5;
 
 /// The kind of table whose file names end so: `.rtbw` or `.rtbz`.
-fn kind_of(text: &[u8]) -> Option<Kind>
+fn kind_of(text: &[u8]) -> Option<TableKind>
     ensures found { IfSome result (λ kind. text.now ≡ ending kind) }
-    ensures none { IfNone result ((kind : Kind) → text.now ≡ ending kind → ⊥) }
+    ensures none { IfNone result ((kind : TableKind) → text.now ≡ ending kind → ⊥) }
 {
     match text {
-        [b'.', b'r', b't', b'b', b'w'] => Some(Kind::Wdl),
-        [b'.', b'r', b't', b'b', b'z'] => Some(Kind::Dtz),
+        [b'.', b'r', b't', b'b', b'w'] => Some(TableKind::Wdl),
+        [b'.', b'r', b't', b'b', b'z'] => Some(TableKind::Dtz),
         _ => None,
     }
 }
 
 /// The kind and the material that a file name tells: the name of the men, and an ending.
-pub(crate) fn title(name: &[u8]) -> Result<(Kind, Material), TableFault>
+pub(crate) fn title(name: &[u8]) -> Result<(TableKind, Material), TableFault>
     ensures is { Gives (λ x. (x.0, x.1)) result (title_of name.now) }
     ensures no_memory { IfErr result (λ e. e ≢ OutOfMemory) }
 {

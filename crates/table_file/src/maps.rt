@@ -8,7 +8,7 @@ ghost use Rattle.table_file.specs.Maps.{map_at, four_at, maps_at, all_maps_at};
 ghost use Rattle.table_file.specs.Distances.{map_of as bytes_of, map_entry};
 
 use crate::fault::TableFault;
-use crate::kind::Kind;
+use crate::kind::TableKind;
 use crate::outcome::Outcome;
 use crate::parts::Part;
 use crate::reading::{byte, even, has_bit, taken, word, word_at};
@@ -198,15 +198,15 @@ fn each_map<'a>(
 #[tactic(auto, unfolding(crate::specs::Maps::all_maps_at))]
 pub(crate) fn all_maps<'a>(
     alloc: Global,
-    kind: Kind,
+    kind: TableKind,
     parts: &[Part<'_>],
     bytes: &'a [u8],
 ) -> Result<(Vec<Maps<'a>>, &'a [u8]), TableFault>
     ensures { Gives (λ x. (x.0.items, x.1.now)) result (all_maps_at kind parts.now bytes.now) }
 {
     match kind {
-        Kind::Wdl => Ok((Vec::new(alloc), bytes)),
-        Kind::Dtz => {
+        TableKind::Wdl => Ok((Vec::new(alloc), bytes)),
+        TableKind::Dtz => {
             let (maps, rest) = each_map(alloc, parts, bytes)?;
             Ok((maps, even(rest)))
         }

@@ -13,10 +13,10 @@ ghost use Rattle.table_file.specs.Shapes.{shape_at};
 ghost use Rattle.table_file.specs.Files.{indices, sides_of, body_of, magic_of, magic_at, same, flags_agree, flags_at, nibble, second_at, setup_at, part_at, section_size, section_at};
 
 use crate::fault::TableFault;
-use crate::kind::Kind;
+use crate::kind::TableKind;
 use crate::material::{both_have_pawns, has_pawns, indices, is_symmetric, men};
 use crate::places::{PartPlace, place_at};
-use crate::reading::{Run, aligned, byte, has_bit, number, taken};
+use crate::reading::{FileBytes, aligned, byte, has_bit, number, taken};
 use crate::size_record::{Coding, SizeRecord, size_record};
 use arrayvec::ArrayVec;
 use board_core::Side;
@@ -52,18 +52,18 @@ pub(crate) fn body(file: &[u8]) -> Result<&[u8], TableFault>
 }
 
 /// The first four bytes of a kind of table file as a number, the low one first.
-pub(crate) fn magic_of(kind: Kind) -> u32
+pub(crate) fn magic_of(kind: TableKind) -> u32
     ensures { result ≡ magic_of kind }
 {
     match kind {
-        Kind::Wdl => 0x5D23_E871,
-        Kind::Dtz => 0xA50C_66D7,
+        TableKind::Wdl => 0x5D23_E871,
+        TableKind::Dtz => 0xA50C_66D7,
     }
 }
 
 /// What is left after the magic number of a kind.
 #[tactic(auto, unfolding(crate::specs::Files::magic_at))]
-pub(crate) fn magic(kind: Kind, bytes: &[u8]) -> Result<&[u8], TableFault>
+pub(crate) fn magic(kind: TableKind, bytes: &[u8]) -> Result<&[u8], TableFault>
     ensures is { Gives (λ x. x.now) result (magic_at kind bytes.now) }
     ensures no_memory { IfErr result (λ e. e ≢ OutOfMemory) }
 {
@@ -81,20 +81,20 @@ fn same(a: bool, b: bool) -> bool
 }
 
 /// Whether the flags byte of a file agrees with its name.
-fn flags_agree(kind: Kind, material: &Material, flags: u8) -> bool
+fn flags_agree(kind: TableKind, material: &Material, flags: u8) -> bool
     ensures { result ≡ flags_agree kind material.now flags }
 {
     let pawns = same(has_bit(2, flags), has_pawns(material));
     match kind {
-        Kind::Wdl => pawns && same(has_bit(1, flags), !is_symmetric(material)),
-        Kind::Dtz => pawns,
+        TableKind::Wdl => pawns && same(has_bit(1, flags), !is_symmetric(material)),
+        TableKind::Dtz => pawns,
     }
 }
 
 /// What is left after the flags byte.
 #[tactic(auto, unfolding(crate::specs::Files::flags_at))]
 pub(crate) fn flags<'a>(
-    kind: Kind,
+    kind: TableKind,
     material: &Material,
     bytes: &'a [u8],
 ) -> Result<&'a [u8], TableFault>
@@ -224,7 +224,7 @@ fn setup<'a>(
 /// The shapes of all parts, and what is left.
 pub(crate) fn setups<'a>(
     alloc: Global,
-    kind: Kind,
+    kind: TableKind,
     material: &Material,
     bytes: &'a [u8],
 ) -> Result<(Vec<Shape>, &'a [u8]), TableFault>
@@ -245,7 +245,7 @@ pub(crate) fn setups<'a>(
 #[tactic(auto, unfolding(crate::specs::Files::part_at))]
 fn part_of<'a>(
     alloc: Global,
-    kind: Kind,
+    kind: TableKind,
     shape: Shape,
     bytes: &'a [u8],
 ) -> Result<(Part<'a>, &'a [u8]), TableFault>
@@ -258,7 +258,7 @@ fn part_of<'a>(
 /// All size records, and what is left.
 pub(crate) fn parts<'a>(
     alloc: Global,
-    kind: Kind,
+    kind: TableKind,
     shapes: Vec<Shape>,
     bytes: &'a [u8],
 ) -> Result<(Vec<Part<'a>>, &'a [u8]), TableFault>
@@ -315,7 +315,7 @@ pub(crate) fn sections<'a>(
     section: Section,
     parts: &[Part<'_>],
     bytes: &'a [u8],
-) -> Result<(Vec<Run<'a>>, &'a [u8]), TableFault>
+) -> Result<(Vec<FileBytes<'a>>, &'a [u8]), TableFault>
     ensures is { Gives (λ x. (x.0.items, x.1.now)) result (each_at (section_at section) parts.now bytes.now) }
     ensures sized { IfOk result (λ x. AreSized section parts.now x.0.items) }
 {
@@ -323,7 +323,7 @@ pub(crate) fn sections<'a>(
     let mut rest = bytes;
     for i in 0..parts.len() {
         let (run, after) = section_of(section, &parts[i], rest)?;
-        runs.push(Run::new(run))?;
+        runs.push(FileBytes::new(run))?;
         rest = after;
     }
     Ok((runs, rest))

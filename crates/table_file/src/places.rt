@@ -6,7 +6,7 @@ ghost use Rattle.table_file.specs.Files.{sides_of, side_of};
 ghost use Rattle.table_file.specs.Tables.{part_count};
 ghost use Rattle.table_file.specs.Inside.Places.{sides_count, IsPlace};
 
-use crate::kind::Kind;
+use crate::kind::TableKind;
 use crate::material::{files, is_symmetric};
 use board_core::Side;
 use place_index::{Material, PawnFile};
@@ -30,18 +30,18 @@ pub(crate) struct PartPlace {
 impl Sides {
     /// Those of a table file of a kind for a material.
     #[tactic(auto, unfolding(crate::specs::Files::sides_of))]
-    pub(crate) fn of(kind: Kind, material: &Material) -> Sides
+    pub(crate) fn of(kind: TableKind, material: &Material) -> Sides
         ensures { sides_count result ≡ sides_of kind material.now }
     {
         match kind {
-            Kind::Wdl => {
+            TableKind::Wdl => {
                 if is_symmetric(material) {
                     Sides::One
                 } else {
                     Sides::Two
                 }
             }
-            Kind::Dtz => Sides::One,
+            TableKind::Dtz => Sides::One,
         }
     }
 
@@ -79,7 +79,7 @@ fn side_of(number: usize) -> Side
 }
 
 /// How many parts a table file of a kind has for a material.
-pub(crate) fn part_count(kind: Kind, material: &Material) -> usize
+pub(crate) fn part_count(kind: TableKind, material: &Material) -> usize
     ensures is { result ≡ part_count kind material.now }
     ensures few { result ≤ 8 }
 {
@@ -87,7 +87,7 @@ pub(crate) fn part_count(kind: Kind, material: &Material) -> usize
 }
 
 /// The place of part k, where a table file of this kind has so many for the material.
-pub(crate) fn place_at(kind: Kind, material: &Material, k: usize) -> Option<PartPlace>
+pub(crate) fn place_at(kind: TableKind, material: &Material, k: usize) -> Option<PartPlace>
     ensures is { IfSome result (λ place. IsPlace (sides_of kind material.now) k place) }
     ensures within { IfSome result (λ _. k < part_count kind material.now) }
     ensures none { IfNone result (part_count kind material.now ≤ k) }

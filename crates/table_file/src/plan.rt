@@ -1,6 +1,6 @@
 //! Plans of table files.
 
-use crate::kind::Kind;
+use crate::kind::TableKind;
 use crate::reading::has_bit;
 use place_index::Material;
 
@@ -8,7 +8,7 @@ use place_index::Material;
 #[derive(Drop)]
 pub struct Plan {
     /// What the values tell.
-    pub kind: Kind,
+    pub kind: TableKind,
     /// The men.
     pub material: Material,
     /// Files of the leading pawn in order, a and h first, and of each file its sides in order: four files where there are
@@ -89,12 +89,12 @@ impl PartPlan {
     }
 
     /// Whether a file of a kind tells value maps of the part.
-    pub(crate) fn has_maps(&self, kind: Kind) -> bool
+    pub(crate) fn has_maps(&self, kind: TableKind) -> bool
         ensures { result ≡ has_maps kind self.now }
     {
         match kind {
-            Kind::Wdl => false,
-            Kind::Dtz => has_bit(2, self.flags),
+            TableKind::Wdl => false,
+            TableKind::Dtz => has_bit(2, self.flags),
         }
     }
 }

@@ -10,11 +10,11 @@ use std::marker::Model;
 
 /// Some bytes of the file, one after the other.
 #[derive(Drop)]
-pub(crate) struct Run<'a> {
+pub(crate) struct FileBytes<'a> {
     bytes: &'a [u8],
 }
 
-impl<'a> Model for Run<'a> {
+impl<'a> Model for FileBytes<'a> {
     ghost use Rattle.std.specs.Prelude.{ℕ, List};
 
     ghost Value = { List ℕ };
@@ -22,11 +22,11 @@ impl<'a> Model for Run<'a> {
     ghost view = { λ a. a.bytes.now };
 }
 
-impl<'a> Run<'a> {
-    pub(crate) fn new(bytes: &'a [u8]) -> Run<'a>
+impl<'a> FileBytes<'a> {
+    pub(crate) fn new(bytes: &'a [u8]) -> FileBytes<'a>
         ensures { result ≡ bytes.now }
     {
-        Run { bytes }
+        FileBytes { bytes }
     }
 
     pub(crate) fn bytes(&self) -> &'a [u8]

@@ -8,7 +8,7 @@ ghost use Rattle.table_file.specs.SizeRecords.{codes_at, single_value, single_at
 
 use crate::codes::Codes;
 use crate::fault::TableFault;
-use crate::kind::Kind;
+use crate::kind::TableKind;
 use crate::reading::{byte, exponent, number};
 use pair_dict::{DictFault, Dictionary};
 use std::alloc::Global;
@@ -71,18 +71,18 @@ fn codes_of<'a>(alloc: Global, bytes: &'a [u8]) -> Result<(Codes<'a>, &'a [u8]),
 }
 
 /// The value that a byte gives. In a DTZ file the byte isn't looked at.
-fn single_value(kind: Kind, value: u8) -> u16
+fn single_value(kind: TableKind, value: u8) -> u16
     ensures { result ≡ single_value kind value }
 {
     match kind {
-        Kind::Wdl => value as u16,
-        Kind::Dtz => 0,
+        TableKind::Wdl => value as u16,
+        TableKind::Dtz => 0,
     }
 }
 
 /// One value for all.
 #[tactic(auto, unfolding(crate::specs::SizeRecords::single_at))]
-fn single_of(kind: Kind, bytes: &[u8]) -> Result<(u16, &[u8]), TableFault>
+fn single_of(kind: TableKind, bytes: &[u8]) -> Result<(u16, &[u8]), TableFault>
     ensures is { Gives (λ x. (x.0, x.1.now)) result (single_at kind bytes.now) }
     ensures no_memory { IfErr result (λ e. e ≢ OutOfMemory) }
 {
@@ -93,7 +93,7 @@ fn single_of(kind: Kind, bytes: &[u8]) -> Result<(u16, &[u8]), TableFault>
 #[tactic(auto, unfolding(crate::specs::SizeRecords::coding_at))]
 fn coding_of<'a>(
     alloc: Global,
-    kind: Kind,
+    kind: TableKind,
     flags: u8,
     bytes: &'a [u8],
 ) -> Result<(Coding<'a>, &'a [u8]), TableFault>
@@ -112,7 +112,7 @@ fn coding_of<'a>(
 #[tactic(auto, unfolding(crate::specs::SizeRecords::size_record_at))]
 pub(crate) fn size_record<'a>(
     alloc: Global,
-    kind: Kind,
+    kind: TableKind,
     bytes: &'a [u8],
 ) -> Result<(SizeRecord<'a>, &'a [u8]), TableFault>
     ensures { Gives (λ x. (x.0, x.1.now)) result (size_record_at kind bytes.now) }

@@ -2,7 +2,7 @@
 
 ghost use Rattle.std.specs.Prelude.{◌≡◌, ◌≢◌, ◌<◌, length, IsTrue, IsOk, true, cond, IfOk, IfErr, ◌↔◌};
 ghost use Rattle.table_file.specs.declared.fault.TableFault.TheVariants.{OutOfMemory};
-ghost use Rattle.table_file.specs.declared.kind.Kind.TheVariants.{Dtz};
+ghost use Rattle.table_file.specs.declared.kind.TableKind.TheVariants.{Dtz};
 ghost use Rattle.table_file.specs.declared.parts.Section.TheVariants.{Entries, Lengths, Blocks};
 ghost use Rattle.table_file.specs.Files.{indices, section_size};
 ghost use Rattle.table_file.specs.Reading.{Gives};
@@ -10,18 +10,18 @@ ghost use Rattle.table_file.specs.Sparse.{all_fit, fits_in};
 ghost use Rattle.table_file.specs.Sections.{AreShaped, AreSized};
 ghost use Rattle.table_file.specs.Inside.OpenedParts.{plain_parts, all_entries, all_lengths, all_blocks};
 ghost use Rattle.table_file.specs.Tables.{Contents, head_at, sections_at, parts_at, table_at, part_count, part_for, place_of};
-ghost use Rattle.table_file.specs.Inside.Opening.{checked_at, runs_at, all_parts_at};
+ghost use Rattle.table_file.specs.Inside.Opening.{checked_at, section_bytes_at, all_parts_at};
 ghost use Rattle.table_file.specs.Layouts.{IsLayout};
 ghost use Rattle.table_file.specs.FirstFaults.{IsFirstFault};
 
 use crate::fault::TableFault;
-use crate::kind::{Kind, title};
+use crate::kind::{TableKind, title};
 use crate::laws::{reads_what_is_laid_out, tells_first_fault};
 use crate::maps::{Maps, all_maps};
 use crate::material::{has_pawns, indices};
 use crate::parts::{Part, Section, body, flags, magic, parts, sections, setups};
 use crate::places::{Sides, side_number};
-use crate::reading::{Run, even};
+use crate::reading::{FileBytes, even};
 use crate::sparse::fits_in;
 use crate::table_part::TablePart;
 use board_core::Side;
@@ -33,7 +33,7 @@ use std::marker::Model;
 /// name. It borrows the file's bytes.
 #[derive(Drop)]
 pub struct Table<'a> {
-    kind: Kind,
+    kind: TableKind,
     material: Material,
     has_pawns: bool,
     sides: Sides,
@@ -56,9 +56,9 @@ impl<'a> Model for Table<'a> {
 /// A part with its sections: all that a look-up in it reads, in one place.
 #[derive(Drop)]
 pub(crate) struct OpenedPart<'a> {
-    pub(crate) entries: Run<'a>,
-    pub(crate) lengths: Run<'a>,
-    pub(crate) blocks: Run<'a>,
+    pub(crate) entries: FileBytes<'a>,
+    pub(crate) lengths: FileBytes<'a>,
+    pub(crate) blocks: FileBytes<'a>,
     pub(crate) head: Part<'a>,
 }
 
@@ -66,8 +66,8 @@ pub(crate) struct OpenedPart<'a> {
 fn part_fits(
     alloc: Global,
     part: &Part<'_>,
-    entries: &Run<'_>,
-    lengths: &Run<'_>,
+    entries: &FileBytes<'_>,
+    lengths: &FileBytes<'_>,
 ) -> Result<bool, AllocError>
     requires entries { length entries.now ≡ section_size Entries (indices part.now.shape) part.now.size_record.coding }
     requires lengths { length lengths.now ≡ section_size Lengths (indices part.now.shape) part.now.size_record.coding }
@@ -86,8 +86,8 @@ fn part_fits(
 fn all_fit(
     alloc: Global,
     parts: &[Part<'_>],
-    entries: &[Run<'_>],
-    lengths: &[Run<'_>],
+    entries: &[FileBytes<'_>],
+    lengths: &[FileBytes<'_>],
 ) -> Result<bool, AllocError>
     requires entries { AreSized Entries parts.now entries.now }
     requires lengths { AreSized Lengths parts.now lengths.now }
@@ -105,7 +105,7 @@ fn all_fit(
 
 /// Name, size, magic and flags: the kind, the material, and what is left to read.
 #[tactic(auto, unfolding(crate::specs::Tables::head_at))]
-fn head<'a>(name: &[u8], file: &'a [u8]) -> Result<((Kind, Material), &'a [u8]), TableFault>
+fn head<'a>(name: &[u8], file: &'a [u8]) -> Result<((TableKind, Material), &'a [u8]), TableFault>
     ensures is { Gives (λ x. ((x.0.0, x.0.1), x.1.now)) result (head_at name.now file.now) }
     ensures no_memory { IfErr result (λ e. e ≢ OutOfMemory) }
 {
@@ -119,19 +119,19 @@ fn head<'a>(name: &[u8], file: &'a [u8]) -> Result<((Kind, Material), &'a [u8]),
 /// The sections behind the maps: of each part its sparse entries, its block lengths and its blocks.
 #[derive(Drop)]
 struct Sections<'a> {
-    entries: Vec<Run<'a>>,
-    lengths: Vec<Run<'a>>,
-    blocks: Vec<Run<'a>>,
+    entries: Vec<FileBytes<'a>>,
+    lengths: Vec<FileBytes<'a>>,
+    blocks: Vec<FileBytes<'a>>,
 }
 
 /// The sections behind the maps.
-#[tactic(auto, unfolding(crate::specs::Inside::Opening::runs_at))]
+#[tactic(auto, unfolding(crate::specs::Inside::Opening::section_bytes_at))]
 fn all_sections<'a>(
     alloc: Global,
     parts: &[Part<'_>],
     bytes: &'a [u8],
 ) -> Result<Sections<'a>, TableFault>
-    ensures is { Gives (λ x. record { entries = x.entries.items; lengths = x.lengths.items; blocks = x.blocks.items }) result (runs_at parts.now bytes.now) }
+    ensures is { Gives (λ x. record { entries = x.entries.items; lengths = x.lengths.items; blocks = x.blocks.items }) result (section_bytes_at parts.now bytes.now) }
     ensures entries { IfOk result (λ x. AreSized Entries parts.now x.entries.items) }
     ensures lengths { IfOk result (λ x. AreSized Lengths parts.now x.lengths.items) }
     ensures blocks { IfOk result (λ x. AreSized Blocks parts.now x.blocks.items) }
@@ -186,9 +186,9 @@ fn opened_parts<'a>(
     'parts: while let Some(part) = left.next() {
         let k = opened.len();
         opened.push(OpenedPart {
-            entries: Run::new(sections.entries[k].bytes()),
-            lengths: Run::new(sections.lengths[k].bytes()),
-            blocks: Run::new(sections.blocks[k].bytes()),
+            entries: FileBytes::new(sections.entries[k].bytes()),
+            lengths: FileBytes::new(sections.lengths[k].bytes()),
+            blocks: FileBytes::new(sections.blocks[k].bytes()),
             head: part,
         })?;
     }
@@ -198,7 +198,7 @@ fn opened_parts<'a>(
 /// The table of parts, maps and the sections behind them.
 fn with_sections<'a>(
     alloc: Global,
-    kind: Kind,
+    kind: TableKind,
     material: Material,
     parts: Vec<Part<'a>>,
     maps: Vec<Maps<'a>>,
@@ -232,7 +232,7 @@ fn with_sections<'a>(
 #[tactic(auto, unfolding(crate::specs::Inside::Opening::all_parts_at))]
 fn all_parts<'a>(
     alloc: Global,
-    kind: Kind,
+    kind: TableKind,
     material: &Material,
     bytes: &'a [u8],
 ) -> Result<(Vec<Part<'a>>, &'a [u8]), TableFault>
@@ -247,7 +247,7 @@ fn all_parts<'a>(
 /// Shapes, size records and value maps, and then the sections.
 fn with_parts<'a>(
     alloc: Global,
-    kind: Kind,
+    kind: TableKind,
     material: Material,
     bytes: &'a [u8],
 ) -> Result<Table<'a>, TableFault>
@@ -304,7 +304,7 @@ impl<'a> Table<'a> {
     }
 
     /// What the values tell. It takes no memory.
-    pub fn kind(&self) -> Kind
+    pub fn kind(&self) -> TableKind
         ensures { result ≡ self.now.kind }
     {
         self.kind
@@ -314,7 +314,7 @@ impl<'a> Table<'a> {
     pub fn is_dtz(&self) -> bool
         ensures { IsTrue result ↔ (self.now.kind ≡ Dtz) }
     {
-        matches!(&self.kind, Kind::Dtz)
+        matches!(&self.kind, TableKind::Dtz)
     }
 
     /// The number of the part for a side and a file.

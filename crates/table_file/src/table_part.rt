@@ -3,7 +3,7 @@
 ghost use Rattle.std.specs.Prelude.{◌≡◌, ◌+◌, ◌/◌, ◌<◌, ◌≤◌, length, Some, None, IfOk, OnErr};
 ghost use Rattle.place_index.specs.Shape.{Layout, size_of};
 ghost use Rattle.place_index.specs.Placed.{Placement, Fits};
-ghost use Rattle.table_file.specs.declared.kind.Kind.TheVariants.{Dtz};
+ghost use Rattle.table_file.specs.declared.kind.TableKind.TheVariants.{Dtz};
 ghost use Rattle.table_file.specs.Inside.Checked.{IsChecked, IsViewOf};
 ghost use Rattle.table_file.specs.Tables.{IsAskedBy, part_file, shape_of, flags_of, span_of};
 ghost use Rattle.table_file.specs.Expansion.{expansion, entry_at, real_blocks, values_of, IsSpot, IsRealSpot, IsPast};

@@ -3,7 +3,7 @@ use Rattle.std.specs.Prelude.{◌≡◌, ℕ, Option, Some, None}
 use Rattle.board_core.specs.declared.parts.Parts.{Parts}
 use Rattle.board_core.specs.Position.{IsPosition}
 use Rattle.place_index.specs.Placed.{Placement}
-use Rattle.table_file.specs.declared.kind.Kind.{Kind}
+use Rattle.table_file.specs.declared.kind.TableKind.{TableKind}
 use Rattle.table_file.specs.declared.spots.Spot.TheVariants.{At}
 use Rattle.table_file.specs.Expansion.{expansion, entry_at, IsSpot}
 use Rattle.table_file.specs.Tables.{PartAt, IsAskedBy}
@@ -32,7 +32,7 @@ pub record IsProbeOf (a : Inside) : Type 0 where
 -- ---- the part of a table
 
 -- the part that the table of this kind has for placed men
-pub record IsPartFor (tables : Tables) (kind : Kind) (placed : Placement) (part : PartAt) : Type 0 where
+pub record IsPartFor (tables : Tables) (kind : TableKind) (placed : Placement) (part : PartAt) : Type 0 where
   pub on : table_at tables kind placed.material ≡ Some part.table
   pub kind_is : part.table.kind ≡ kind
   pub is : part ≡ part_asked part.table placed

@@ -1,6 +1,6 @@
 -- A table as it is kept, and what opening it checked.
 use Rattle.std.specs.Prelude.{◌≡◌, true, length}
-use Rattle.table_file.specs.declared.kind.Kind.TheVariants.{Dtz}
+use Rattle.table_file.specs.declared.kind.TableKind.TheVariants.{Dtz}
 use Rattle.table_file.specs.declared.parts.Section.TheVariants.{Entries, Lengths, Blocks}
 use Rattle.table_file.specs.declared.table.Table.TheInside.{Inside}
 use Rattle.place_index.specs.Shape.{has_pawns}

@@ -10,7 +10,7 @@ ghost use Rattle.table_file.specs.Forged.{IsPartOf, ArePartsOf, Shows};
 
 use super::values::{map_bytes, plan_values};
 use crate::codes::Codes;
-use crate::kind::Kind;
+use crate::kind::TableKind;
 use crate::maps::Maps;
 use crate::material::indices;
 use crate::places::place_at;
@@ -28,7 +28,7 @@ fn has_shape(material: &Material, part: &PartPlan, file: PawnFile, shape: &Shape
     ensures { IsTrue result ↔ (shape.now ≡ planned_shape material.now part.now file) }
 {
     shape.material().key() == material.key()
-        && shape.pieces() == part.pieces.as_slice()
+        && shape.has_pieces(&part.pieces)
         && shape.order() == part.order
         && shape.second() == part.second.unwrap_or(0)
         && shape.file() == file
@@ -170,8 +170,8 @@ fn are_all_maps(alloc: Global, plan: &Plan, maps: &[Maps<'_>]) -> Result<bool, A
     ensures all { IfOk result (λ b. maps.now ≡ planned_maps plan.now.kind plan.now.parts.items → IsTrue b) }
 {
     match plan.kind {
-        Kind::Wdl => Ok(maps.is_empty()),
-        Kind::Dtz => are_each_maps(alloc, &plan.parts, maps),
+        TableKind::Wdl => Ok(maps.is_empty()),
+        TableKind::Dtz => are_each_maps(alloc, &plan.parts, maps),
     }
 }
 

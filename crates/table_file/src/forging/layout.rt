@@ -15,7 +15,7 @@ ghost use Rattle.table_file.specs.PlannedFile.{Laid, filled_to, head_bytes, halv
 use super::blocks::{blocks_bytes, entries_of, fit_blocks, lengths_of, padded, padding_of};
 use super::codes::are_good_codes;
 use super::values::{counts_of, put_map_bytes, symbol_bytes};
-use crate::kind::Kind;
+use crate::kind::TableKind;
 use crate::material::{both_have_pawns, has_pawns, is_symmetric};
 use crate::parts::magic_of;
 use crate::places::{Sides, part_count, place_at};
@@ -310,7 +310,7 @@ fn laid_pairs(
 /// A single value as the sections of a file hold it. There is nothing where a file can't have it.
 fn laid_single(
     alloc: Global,
-    kind: Kind,
+    kind: TableKind,
     flags: u8,
     value: u16,
 ) -> Result<Option<LaidPart>, AllocError>
@@ -318,8 +318,8 @@ fn laid_single(
     ensures bad { IfOk result (λ o. IfNone o (IsGoodSingle kind value → ⊥)) }
 {
     let most = match kind {
-        Kind::Wdl => 255,
-        Kind::Dtz => 0,
+        TableKind::Wdl => 255,
+        TableKind::Dtz => 0,
     };
     if most < value {
         return Ok(None);
@@ -339,7 +339,7 @@ fn laid_single(
 /// with them.
 fn laid_content(
     alloc: Global,
-    kind: Kind,
+    kind: TableKind,
     part: &PartPlan,
     size: u64,
 ) -> Result<Option<LaidPart>, AllocError>
@@ -406,7 +406,7 @@ fn are_bytes(entries: &[u16]) -> bool
 }
 
 /// Whether the maps of a part are ones that its file can have.
-fn are_good_maps(kind: Kind, part: &PartPlan) -> bool
+fn are_good_maps(kind: TableKind, part: &PartPlan) -> bool
     ensures { IsTrue result ↔ ((has_maps kind part.now ≡ false → HasNoMaps part.now.maps) × AreGoodMaps (is_wide part.now) part.now.maps) }
 {
     let wide = part.is_wide();
@@ -422,7 +422,7 @@ fn are_good_maps(kind: Kind, part: &PartPlan) -> bool
 #[tactic(auto, unfolding(crate::specs::PlannedFile::laid_part))]
 fn laid_part(
     alloc: Global,
-    kind: Kind,
+    kind: TableKind,
     material: &Material,
     part: &PartPlan,
     file: PawnFile,
@@ -479,7 +479,7 @@ fn fill_to(multiple: usize, file: &mut Vec<u8>) -> Result<(), AllocError>
 
 /// Magic number and flags.
 #[tactic(auto, unfolding(crate::specs::PlannedFile::head_bytes))]
-fn put_head(kind: Kind, material: &Material, file: &mut Vec<u8>) -> Result<(), AllocError>
+fn put_head(kind: TableKind, material: &Material, file: &mut Vec<u8>) -> Result<(), AllocError>
     ensures { OnOk result (file.new.items ≡ file.old.items ++ head_bytes kind material.now) }
 {
     let split = if is_symmetric(material) { 0u8 } else { 1 };
@@ -652,13 +652,13 @@ fn put_each_maps(parts: &[PartPlan], file: &mut Vec<u8>) -> Result<(), AllocErro
 
 /// Appends all value maps, in a DTZ file.
 #[tactic(auto, unfolding(crate::specs::PlannedFile::with_all_maps))]
-fn put_all_maps(kind: Kind, parts: &[PartPlan], file: &mut Vec<u8>) -> Result<(), AllocError>
+fn put_all_maps(kind: TableKind, parts: &[PartPlan], file: &mut Vec<u8>) -> Result<(), AllocError>
     requires { All (λ p. AreGoodMaps (is_wide p) p.maps) parts.now }
     ensures { OnOk result (file.new.items ≡ with_all_maps kind file.old.items parts.now) }
 {
     match kind {
-        Kind::Wdl => Ok(()),
-        Kind::Dtz => {
+        TableKind::Wdl => Ok(()),
+        TableKind::Dtz => {
             put_each_maps(parts, file)?;
             fill_to(2, file)
         }

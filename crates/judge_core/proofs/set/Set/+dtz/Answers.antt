@@ -2,7 +2,7 @@ use Rattle.std.proofs.Common.{◌∙◌, ◌-◌, sym, ap, subst, ℕ, Some, Ok}
 use Rattle.std.proofs.lemmas.List.{take_all}
 use Rattle.std.proofs.lemmas.Result.{on_err_weaker}
 use Rattle.judge_core.specs.Answers.{IsLeftOpen}
-use Rattle.table_file.specs.declared.kind.Kind.TheVariants.{Dtz}
+use Rattle.table_file.specs.declared.kind.TableKind.TheVariants.{Dtz}
 use Rattle.table_file.specs.Distances.{stores}
 use Rattle.judge_core.specs.LookUp.{placed_of}
 use Rattle.judge_core.specs.Probing.{weighed_by, wdl_of}

@@ -1,5 +1,5 @@
 use Rattle.std.proofs.Common.{◌∙◌, sym, ap}
-use Rattle.table_file.specs.declared.kind.Kind.TheVariants.{Wdl}
+use Rattle.table_file.specs.declared.kind.TableKind.TheVariants.{Wdl}
 use Rattle.judge_core.specs.Tables.{Holding, table_at}
 use Rattle.judge_core.proofs.Placing.{bare_value, missing_value, read_value, good_value, bad_value, no_value}
 use Rattle.judge_core.proofs.set.Set.table_value.Goals.{in-Some-from_points, in-None}

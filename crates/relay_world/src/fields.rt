@@ -1,4 +1,4 @@
-//! The words of a line.
+//! The fields of a line of a schedule.
 
 ghost use Rattle.std.specs.Prelude.{◌≡◌, ◌↔◌, ◌==◌, ◌<◌, ℕ, List, IsTrue, IfOk, IfSome, IfNone};
 ghost use Rattle.move_msg.specs.declared.who.Who.{Who};
