@@ -10,7 +10,7 @@ use Rattle.board_core.specs.ComputedMoves.{position_after}
 use Rattle.judge_core.specs.declared.fault.Faults.{Faults}
 use Rattle.judge_core.specs.declared.fault.ValueFault.{ValueFault}
 use Rattle.judge_core.specs.declared.fault.ValueFault.TheVariants.{NotCovered, Damaged}
-use Rattle.judge_core.specs.Asked.{asked, missing, damaged, first, faults_in, no_faults, with_answer}
+use Rattle.judge_core.specs.Asked.{asked, not_covered, damaged, first, faults_in, no_faults, with_answer}
 
 option_or-none : {T : Type 0} (o : Option T) → option_or o None ≡ o
 option_or-none None = refl
@@ -29,14 +29,14 @@ abbrev pub faults_more : {X : Type 0} → Faults → List (Result X ValueFault) 
 faults_more f [] = f
 faults_more f (r ∷ rs) = faults_more (with_answer f r) rs
 
-faults-is : {X : Type 0} (f : Faults) (rs : List (Result X ValueFault)) → record { missing = option_or f.missing (first missing rs); damaged = option_or f.damaged (first damaged rs) } ≡ faults_more f rs
-faults-is f [] = rw (option_or-none f.missing, option_or-none f.damaged) refl
+faults-is : {X : Type 0} (f : Faults) (rs : List (Result X ValueFault)) → record { not_covered = option_or f.not_covered (first not_covered rs); damaged = option_or f.damaged (first damaged rs) } ≡ faults_more f rs
+faults-is f [] = rw (option_or-none f.not_covered, option_or-none f.damaged) refl
 faults-is f (Ok x ∷ rs) = faults-is f rs
-faults-is f (Err (NotCovered key) ∷ rs) = ap (λ (o : Option ℕ). record { missing = o; damaged = option_or f.damaged (first damaged rs) }) (sym (option_or-assoc f.missing (Some key) (first missing rs))) ∙ faults-is (record { missing = option_or f.missing (Some key); damaged = f.damaged }) rs
-faults-is f (Err (Damaged key) ∷ rs) = ap (λ (o : Option ℕ). record { missing = option_or f.missing (first missing rs); damaged = o }) (sym (option_or-assoc f.damaged (Some key) (first damaged rs))) ∙ faults-is (record { missing = f.missing; damaged = option_or f.damaged (Some key) }) rs
+faults-is f (Err (NotCovered key) ∷ rs) = ap (λ (o : Option ℕ). record { not_covered = o; damaged = option_or f.damaged (first damaged rs) }) (sym (option_or-assoc f.not_covered (Some key) (first not_covered rs))) ∙ faults-is (record { not_covered = option_or f.not_covered (Some key); damaged = f.damaged }) rs
+faults-is f (Err (Damaged key) ∷ rs) = ap (λ (o : Option ℕ). record { not_covered = option_or f.not_covered (first not_covered rs); damaged = o }) (sym (option_or-assoc f.damaged (Some key) (first damaged rs))) ∙ faults-is (record { not_covered = f.not_covered; damaged = option_or f.damaged (Some key) }) rs
 
 pub faults-append : {X : Type 0} (xs ys : List (Result X ValueFault)) → faults_in (xs ++ ys) ≡ faults_more (faults_in xs) ys
-faults-append xs ys = rw (first-append missing xs ys, first-append damaged xs ys) (faults-is (faults_in xs) ys)
+faults-append xs ys = rw (first-append not_covered xs ys, first-append damaged xs ys) (faults-is (faults_in xs) ys)
 
 pub faults_in-is : {X : Type 0} (rs : List (Result X ValueFault)) → faults_in rs ≡ faults_more no_faults rs
 faults_in-is rs = faults-is no_faults rs

@@ -61,9 +61,9 @@ module _ (tables : Tables) (reach : Parts → Reach) (p : Parts) (outcome : Outc
 
   -- ---- pawn moves
 
-  pub reached_is : (v : Wdl) (told : Result Bool ValueFault) → is_won outcome ≡ true → told ≡ pawns_reach tables p v → unless_reached told outcome (by_own_table tables reach p outcome) ≡ by_moves tables reach p v outcome
+  pub reached_is : (v : Wdl) (found : Result Bool ValueFault) → is_won outcome ≡ true → found ≡ pawns_reach tables p v → unless_reached found outcome (by_own_table tables reach p outcome) ≡ by_moves tables reach p v outcome
   unfolding by_moves
-  reached_is v told w e = rw (w, ← e) refl
+  reached_is v found w e = rw (w, ← e) refl
 
   pub lost_is : (v : Wdl) → is_won outcome ≡ false → by_own_table tables reach p outcome ≡ by_moves tables reach p v outcome
   unfolding by_moves

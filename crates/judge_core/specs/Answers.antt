@@ -4,7 +4,7 @@ use Rattle.board_core.specs.declared.parts.Parts.{Parts}
 use Rattle.board_core.specs.ComputedMoves.{legal_moves, count_of_men}
 use Rattle.judge_core.specs.declared.fault.ValueFault.{ValueFault}
 use Rattle.judge_core.specs.declared.found.Weighed.{Weighed}
-use Rattle.judge_core.specs.declared.fault.ValueFault.TheVariants.{NotCovered as Missing, Damaged as Broken}
+use Rattle.judge_core.specs.declared.fault.ValueFault.TheVariants as value
 use Rattle.judge_core.specs.declared.fault.ProbeFault.{ProbeFault}
 use Rattle.judge_core.specs.declared.fault.ProbeFault.TheVariants.{OutOfScope, NotCovered, Damaged, OutOfMemory}
 use Rattle.judge_core.specs.declared.wdl.Wdl.TheVariants.{Loss, Draw, Win}
@@ -19,14 +19,14 @@ use Rattle.judge_core.specs.Ruling.{is_out_of_scope}
 abbrev pub IsProbe : {X : Type 0} → Result X ProbeFault → Bool → Result X ValueFault → Type 0
 IsProbe (Ok x) outside reading = (outside ≡ false) × (reading ≡ Ok x)
 IsProbe (Err OutOfScope) outside reading = outside ≡ true
-IsProbe (Err (NotCovered key)) outside reading = (outside ≡ false) × (reading ≡ Err (Missing key))
-IsProbe (Err (Damaged key)) outside reading = (outside ≡ false) × (reading ≡ Err (Broken key))
+IsProbe (Err (NotCovered key)) outside reading = (outside ≡ false) × (reading ≡ Err (value.NotCovered key))
+IsProbe (Err (Damaged key)) outside reading = (outside ≡ false) × (reading ≡ Err (value.Damaged key))
 IsProbe (Err OutOfMemory) outside reading = outside ≡ false
 
 -- the fault of a probe that meets this one
 abbrev pub probe_fault : ValueFault → ProbeFault
-probe_fault (Missing key) = NotCovered key
-probe_fault (Broken key) = Damaged key
+probe_fault (value.NotCovered key) = NotCovered key
+probe_fault (value.Damaged key) = Damaged key
 
 -- what a probe tells of a reading
 abbrev pub as_probe : {X Y : Type 0} → (X → Y) → Result X ValueFault → Result Y ProbeFault

@@ -12,10 +12,10 @@ use Rattle.judge_core.specs.declared.fault.ValueFault.TheVariants.{NotCovered, D
 abbrev pub asked : {X : Type 0} → (Parts → Result X ValueFault) → Parts → List Move → List (Result X ValueFault)
 asked say p moves = filter_map (λ m. option_map say (position_after p m)) moves
 
-abbrev pub missing : {X : Type 0} → Result X ValueFault → Option ℕ
-missing (Ok x) = None
-missing (Err (NotCovered key)) = Some key
-missing (Err (Damaged key)) = None
+abbrev pub not_covered : {X : Type 0} → Result X ValueFault → Option ℕ
+not_covered (Ok x) = None
+not_covered (Err (NotCovered key)) = Some key
+not_covered (Err (Damaged key)) = None
 
 abbrev pub damaged : {X : Type 0} → Result X ValueFault → Option ℕ
 damaged (Ok x) = None
@@ -29,7 +29,7 @@ first say (r ∷ rs) = option_or (say r) (first say rs)
 
 -- the first table that is missing, and the first that is damaged
 abbrev pub faults_in : {X : Type 0} → List (Result X ValueFault) → Faults
-faults_in rs = record { missing = first missing rs; damaged = first damaged rs }
+faults_in rs = record { not_covered = first not_covered rs; damaged = first damaged rs }
 
 -- a missing table comes before a damaged one
 abbrev pub fault_of : Option ℕ → Option ℕ → Option ValueFault
@@ -38,7 +38,7 @@ fault_of None (Some key) = Some (Damaged key)
 fault_of None None = None
 
 abbrev pub first_fault : Faults → Option ValueFault
-first_fault f = fault_of f.missing f.damaged
+first_fault f = fault_of f.not_covered f.damaged
 
 -- the fault of a list: the first table that is missing, or else the first that is damaged
 abbrev pub fault_in : {X : Type 0} → List (Result X ValueFault) → Option ValueFault
@@ -51,12 +51,12 @@ unless None r = r
 -- ---- as they come
 
 abbrev pub no_faults : Faults
-no_faults = record { missing = None; damaged = None }
+no_faults = record { not_covered = None; damaged = None }
 
 -- one fault more
 abbrev pub with_fault : Faults → ValueFault → Faults
-with_fault f (NotCovered key) = record { missing = option_or f.missing (Some key); damaged = f.damaged }
-with_fault f (Damaged key) = record { missing = f.missing; damaged = option_or f.damaged (Some key) }
+with_fault f (NotCovered key) = record { not_covered = option_or f.not_covered (Some key); damaged = f.damaged }
+with_fault f (Damaged key) = record { not_covered = f.not_covered; damaged = option_or f.damaged (Some key) }
 
 -- one answer more
 abbrev pub with_answer : {X : Type 0} → Faults → Result X ValueFault → Faults

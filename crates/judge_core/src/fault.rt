@@ -32,7 +32,7 @@ impl ValueFault {
 #[derive(Clone, Copy)]
 pub(crate) struct Faults {
     /// The first that is missing.
-    pub missing: Option<Material>,
+    pub not_covered: Option<Material>,
     /// The first that is damaged.
     pub damaged: Option<Material>,
 }
@@ -53,7 +53,7 @@ impl Faults {
         ensures { result ≡ no_faults }
     {
         Faults {
-            missing: None,
+            not_covered: None,
             damaged: None,
         }
     }
@@ -64,11 +64,11 @@ impl Faults {
     {
         match fault {
             ValueFault::NotCovered(material) => Faults {
-                missing: either(self.missing, *material),
+                not_covered: either(self.not_covered, *material),
                 damaged: self.damaged,
             },
             ValueFault::Damaged(material) => Faults {
-                missing: self.missing,
+                not_covered: self.not_covered,
                 damaged: either(self.damaged, *material),
             },
         }
@@ -78,7 +78,7 @@ impl Faults {
     pub fn first(&self) -> Option<ValueFault>
         ensures { result ≡ first_fault self.now }
     {
-        if let Some(material) = self.missing {
+        if let Some(material) = self.not_covered {
             return Some(ValueFault::NotCovered(material));
         }
         match self.damaged {

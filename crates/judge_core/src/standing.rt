@@ -66,6 +66,22 @@ fn plies_by(old: Option<Verdict>, new: Option<Verdict>, plies: u8) -> u8
     if plies < 8 { plies + 1 } else { 8 }
 }
 
+/// The verdict by a ruling that has stood for so many plies, where one by tables must hold for as many as the delay says.
+fn verdict_of(judged: Option<Verdict>, plies: u8, delay: u8) -> Option<Verdict>
+    ensures { result ≡ verdict_of judged plies delay }
+{
+    match judged {
+        Some(verdict) => {
+            if is_end(verdict) || delay <= plies {
+                Some(verdict)
+            } else {
+                None
+            }
+        }
+        None => None,
+    }
+}
+
 impl Standing {
     /// The position.
     pub fn position(&self) -> &Position
@@ -74,28 +90,12 @@ impl Standing {
         &self.position
     }
 
-    /// The verdict by the ruling and the plies that it has stood.
-    fn counted(&self, delay: u8) -> Option<Verdict>
-        ensures { result ≡ verdict_of self.now.judged self.now.plies delay }
-    {
-        match self.judged {
-            Some(verdict) => {
-                if is_end(verdict) || delay <= self.plies {
-                    Some(verdict)
-                } else {
-                    None
-                }
-            }
-            None => None,
-        }
-    }
-
     /// The verdict at this ply, where a verdict by tables must hold for so many further plies, 0 to 8.
     pub fn verdict(&self, delay: u8) -> Option<Verdict>
         requires { delay ≤ 8 }
         ensures { (rules : Rules) (moves : List Move) → rules.delay ≡ delay → IsAt rules moves self.now → result ≡ verdict_after rules moves }
     {
-        self.counted(delay)
+        verdict_of(self.judged, self.plies, delay)
     }
 }
 
