@@ -1,5 +1,5 @@
 -- The turning of all men of a placement (Syzygy index, mirrorings).
-use Rattle.std.specs.Prelude.{ℕ, ◌-◌, List, [], ◌∷◌, take, Bool, false, cond, nat_lt, slice_index}
+use Rattle.std.specs.Prelude.{ℕ, List, [], ◌∷◌, take, Bool, false, cond, nat_lt, slice_index}
 use Rattle.place_index.specs.Square.{file, rank, left_file, on_diagonal, left_right, bottom_top, across}
 use Rattle.place_index.specs.Men.{square_of, moved}
 use Rattle.place_index.specs.Pawns.{pawn_square, pawn_numbers_of}

@@ -1,4 +1,4 @@
-ghost use Rattle.std.specs.Prelude.{◌≡◌, ◌≤◌, ◌<◌, ◌+◌, ◌++◌, ◌∷◌, length, drop, slice_index, cond, ◌-◌};
+ghost use Rattle.std.specs.Prelude.{◌≡◌, ◌≤◌, ◌+◌, ◌++◌, ◌∷◌, length, drop, slice_index, cond, ◌-◌};
 ghost use Rattle.place_index.specs.Index.{first_square};
 ghost use Rattle.place_index.specs.Material.{count_of, pieces_of};
 ghost use Rattle.place_index.specs.Men.{squares_of};

@@ -1,6 +1,6 @@
 //! The men that lead.
 
-ghost use Rattle.std.specs.Prelude.{◌≡◌, ◌≤◌, ◌<◌, ◌++◌, ℕ, [], length, map, slice_index, true, false};
+ghost use Rattle.std.specs.Prelude.{◌≡◌, ◌≤◌, ◌<◌, ℕ, [], length, map, slice_index, true, false};
 ghost use Rattle.place_index.specs.Inside.Leading.{AreLeading, StandAsWanted, leading_number, leading_squares};
 ghost use Rattle.place_index.specs.Pawns.{pawn_square};
 ghost use Rattle.place_index.specs.Shape.{has_pawns};

@@ -2,7 +2,7 @@
 
 ghost use Rattle.std.specs.Prelude.{◌≡◌, ◌≤◌, ◌<◌, not, length, map};
 ghost use Rattle.std.specs.Option.{ForSome};
-ghost use Rattle.place_index.specs.Shape.{given, is_free, places, factor_at, product, greatest_size};
+ghost use Rattle.place_index.specs.Shape.{given, is_free, places, factor_at};
 
 use crate::sizes::Sizes;
 use arrayvec::ArrayVec;

@@ -1,6 +1,6 @@
 //! Short lists of squares and of pawn numbers.
 
-ghost use Rattle.std.specs.Prelude.{◌≡◌, ◌<◌, ◌≤◌, ◌++◌, ◌∷◌, [], length};
+ghost use Rattle.std.specs.Prelude.{◌≡◌, ◌<◌, ◌++◌, ◌∷◌, [], length};
 ghost use Rattle.place_index.specs.Inside.ShortLists.{with_number};
 ghost use Rattle.place_index.specs.Inside.ShortLists.{inserted};
 ghost use Rattle.place_index.specs.Others.{taken};

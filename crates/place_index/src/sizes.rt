@@ -1,6 +1,6 @@
 //! How many placements the groups of a shape have.
 
-ghost use Rattle.std.specs.Prelude.{◌≡◌, ◌≤◌, ◌<◌, ◌-◌, ◌+◌, ◌∷◌, cond, length, sum_by};
+ghost use Rattle.std.specs.Prelude.{◌≡◌, ◌≤◌, ◌<◌, ◌-◌, ◌+◌, ◌∷◌, length, sum_by};
 ghost use Rattle.place_index.specs.Inside.Arranged.{groups_in, sizes_in};
 ghost use Rattle.place_index.specs.Shape.{lead_size, other_sizes, product, greatest_size};
 

@@ -1,6 +1,6 @@
 //! The men of a position, and their codes.
 
-ghost use Rattle.std.specs.Prelude.{◌≡◌, ◌<◌, ◌≤◌, ◌∷◌, [], length, take};
+ghost use Rattle.std.specs.Prelude.{◌≡◌, ◌≤◌, ◌∷◌, [], length, take};
 ghost use Rattle.place_index.specs.Material.{tally_of};
 ghost use Rattle.place_index.specs.Men.{codes_of, exchanged, other_side};
 ghost use Rattle.place_index.specs.Placed.{men_on};

@@ -1,11 +1,11 @@
 -- Going through men from the last to the first, a square of each code is kept.
-use Rattle.std.proofs.Common.{◌≡◌, ◌≢◌, ℕ, zero, suc, ◌-◌, ◌<◌, ◌≤◌, true, List, [], ◌∷◌, length, drop, slice_index, slice_set, get_or, refl, sym, ap, subst, ◌∙◌, inl, inr, arith}
+use Rattle.std.proofs.Common.{◌≡◌, ◌≢◌, ℕ, zero, suc, ◌-◌, ◌<◌, ◌≤◌, List, [], ◌∷◌, length, drop, slice_index, slice_set, get_or, refl, sym, ap, subst, ◌∙◌, inl, inr, arith}
 use Rattle.std.proofs.lemmas.Bool.{cases_eq}
 use Rattle.std.proofs.lemmas.List.{get_or-set_same, get_or-set_other, length-set, drop_all}
 use Rattle.place_index.specs.Men.{stands}
 use Rattle.place_index.specs.Inside.Groups.{IsOnly, AreLoneSquares}
 use Rattle.place_index.specs.declared.man.Man.{Man}
-use Rattle.place_index.proofs.Turns.Board.{stands_nil, stands_here, stands_later, stands_other_code}
+use Rattle.place_index.proofs.Turns.Board.{stands_nil, stands_here, stands_other_code}
 use Rattle.place_index.proofs.Indices.Collecting.{drop_back}
 
 zeros : ℕ → List ℕ

@@ -1,7 +1,6 @@
 -- Colours exchanged, one man after another.
-use Rattle.std.proofs.Common.{◌≡◌, ℕ, zero, suc, ◌+◌, ◌<◌, true, eqb, List, [], ◌∷◌, ◌++◌, length, take, drop, get_or, refl, ap, ◌∙◌, arith}
-use Rattle.std.specs.Prelude.{bit_xor, slice_set}
-use Rattle.std.proofs.lemmas.Bool.{agree_below_at, eqb-true}
+use Rattle.std.proofs.Common.{◌≡◌, ℕ, zero, suc, ◌+◌, ◌<◌, List, [], ◌∷◌, ◌++◌, length, take, drop, get_or, refl, ap, ◌∙◌, arith}
+use Rattle.std.specs.Prelude.{slice_set}
 use Rattle.place_index.specs.Square.{bottom_top}
 use Rattle.place_index.specs.Men.{man, other_side, exchanged}
 use Rattle.place_index.specs.declared.man.Man.{Man}

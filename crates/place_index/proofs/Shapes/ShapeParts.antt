@@ -2,7 +2,7 @@
 use Rattle.std.proofs.Common.{◌≡◌, ℕ, ◌-◌, ◌<◌, ◌≤◌, List, ◌∷◌, length, take, drop, slice_index, ap, ◌∙◌, arith, length-drop}
 use Rattle.std.specs.Prelude.{sum_by}
 use Rattle.std.proofs.lemmas.List.{take_rest}
-use Rattle.place_index.specs.Shape.{layout, HasGoodPieces, group, groups_of, other_groups, runs, lead_men, lead_size, other_sizes, sizes_of}
+use Rattle.place_index.specs.Shape.{layout, HasGoodPieces, group, groups_of, other_groups, lead_men, lead_size, other_sizes, sizes_of}
 use Rattle.place_index.specs.declared.group.Group.{Group}
 use Rattle.place_index.proofs.Shapes.Greatest.{good_length, rest_men}
 use Rattle.place_index.proofs.Materials.MenTables.{men_most}

@@ -1,11 +1,11 @@
 -- All mirrorings of men at once.
-use Rattle.std.proofs.Common.{◌≡◌, ◌≢◌, ℕ, zero, suc, ◌+◌, ◌-◌, ◌<◌, ◌≤◌, Bool, true, false, cond, leb, ltb, List, [], ◌∷◌, ◌++◌, length, drop, map, slice_index, get_or, refl, sym, ap, ◌∙◌, subst, inl, inr, arith}
+use Rattle.std.proofs.Common.{◌≡◌, ◌≢◌, ℕ, ◌+◌, ◌-◌, ◌<◌, ◌≤◌, Bool, true, false, cond, leb, ltb, List, [], ◌∷◌, ◌++◌, length, drop, map, slice_index, get_or, refl, sym, ap, ◌∙◌, subst, inl, inr, arith}
 use Rattle.std.specs.Prelude.{not}
 use Rattle.std.specs.List.{list_all}
 use Rattle.std.proofs.lemmas.Bool.{cases_lt, cases_Bool, and_parts, ltb-true, lt-ltb, le-ltb, ne_eqb, eq-eqb, lt-leb, le-leb}
 use Rattle.std.proofs.lemmas.List.{get_or-map, length-map, drop_more, drop_all}
 use Rattle.place_index.specs.Material.{pieces_of, count_of}
-use Rattle.place_index.specs.Men.{man, stands, squares_of, square_of, moved}
+use Rattle.place_index.specs.Men.{man, squares_of, square_of, moved}
 use Rattle.place_index.specs.Square.{file, rank, on_diagonal, left_right, bottom_top, across}
 use Rattle.place_index.specs.Shape.{Layout, has_pawns, has_unique}
 use Rattle.place_index.specs.Turning.{leftward, downward, under, is_above, to_left, to_bottom, turned_pieces, turned, lead_pawn}
@@ -16,7 +16,6 @@ use Rattle.place_index.specs.declared.man.Man.{Man}
 use Rattle.place_index.specs.declared.turn.Turn.{Turn}
 use Rattle.place_index.proofs.Materials.Arranging.{count_miss, count_nil}
 use Rattle.place_index.proofs.Turns.Board.{settled, IsMirroring, left_right_mirrors, bottom_top_mirrors, across_mirrors}
-use Rattle.place_index.proofs.Turns.TurnedPieces.{stands_nowhere}
 use Rattle.place_index.proofs.Turns.Alone.{IsAlone, alone_of, alone_moved, square_of_alone, squares_of_alone}
 use Rattle.place_index.proofs.Turns.TurnedMen.{are_men, moved_men, turned_pawned, turned_plain}
 use Rattle.place_index.proofs.Indices.IndexLaw.{leads_three, lead_kings, codes_by_pieces}

@@ -1,5 +1,5 @@
 -- All mirrorings of a placement in one, and the leading pawn's square.
-use Rattle.std.specs.Prelude.{ℕ, ◌+◌, ◌*◌, ◌-◌, List, [], ◌∷◌, Bool, false, cond, nat_lt}
+use Rattle.std.specs.Prelude.{ℕ, ◌+◌, ◌*◌, List, [], ◌∷◌, Bool, false, cond, nat_lt}
 use Rattle.place_index.specs.Square.{file, rank, on_diagonal, left_right, bottom_top, across}
 use Rattle.place_index.specs.Men.{moved}
 use Rattle.place_index.specs.Turning.{lead_pawn}

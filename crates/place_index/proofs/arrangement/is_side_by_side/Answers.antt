@@ -1,4 +1,4 @@
-use Rattle.std.proofs.Common.{◌≡◌, ◌-◌, take, slice_index, true, refl, sym, subst, ◌∙◌, inl, inr, arith}
+use Rattle.std.proofs.Common.{◌≡◌, ◌-◌, take, true, refl, sym, subst, ◌∙◌, inl, inr, arith}
 use Rattle.std.proofs.lemmas.Bool.{cases_eq, false≢true}
 use Rattle.place_index.proofs.Materials.Comparing.{differs, same, read}
 use Rattle.place_index.proofs.Shapes.SideBySide.{stands, side_by_side, not_side_by_side, stands_is}

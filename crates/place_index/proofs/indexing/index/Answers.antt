@@ -1,4 +1,4 @@
-use Rattle.std.proofs.Common.{◌≡◌, ◌<◌, ◌∙◌, ℕ, true, ap, sym, subst, arith}
+use Rattle.std.proofs.Common.{◌≡◌, ◌∙◌, ap, sym, subst, arith}
 use Rattle.place_index.specs.Inside.Groups.{AreLoneSquares, IsLeadTurned}
 use Rattle.place_index.specs.Index.{IsPlacement, numbers_of, sum_of_products}
 use Rattle.place_index.specs.Shape.{factors_of}

@@ -1,13 +1,13 @@
-use Rattle.std.proofs.Common.{◌≡◌, ◌<◌, ◌∙◌, ℕ, ◌%◌, true, false, ap, sym, subst, leb, length, map, slice_index, arith}
+use Rattle.std.proofs.Common.{◌≡◌, ◌∙◌, ◌%◌, true, false, ap, sym, subst, leb, length, map, slice_index, arith}
 use Rattle.std.specs.Prelude.{not, nat_lt}
 use Rattle.std.proofs.lemmas.Bool.{false≢true}
 use Rattle.place_index.specs.Shape.{has_pawns}
 use Rattle.place_index.specs.Square.{file, rank}
 use Rattle.place_index.specs.Turning.{lead_pawn}
 use Rattle.place_index.specs.Inside.Turns.{low, turn_square, is_first_above}
-use Rattle.place_index.specs.Index.{IsPlacement, lead_codes}
+use Rattle.place_index.specs.Index.{IsPlacement}
 use Rattle.place_index.proofs.Turns.TurnedMen.{pawned_of, plain_of}
-use Rattle.place_index.proofs.Turns.Mirrorings.{pawns_turned, pieces_turned, lead_once, lead_some, at_least_four}
+use Rattle.place_index.proofs.Turns.Mirrorings.{pawns_turned, pieces_turned, lead_some, at_least_four}
 use Rattle.place_index.proofs.turning.turn_of.Goals as goal
 
 pub returns-then-has_pawns-clause-is : goal.returns-then-has_pawns-clause-is

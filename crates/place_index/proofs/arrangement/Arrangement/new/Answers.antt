@@ -1,5 +1,5 @@
-use Rattle.std.proofs.Common.{◌≡◌, ◌∷◌, ap, ◌∙◌, subst, drop, length, slice_index, arith}
-use Rattle.place_index.specs.Shape.{HasGoodPieces, group, runs}
+use Rattle.std.proofs.Common.{ap, length, arith}
+use Rattle.place_index.specs.Shape.{HasGoodPieces}
 use Rattle.place_index.proofs.Shapes.Greatest.{good_length}
 use Rattle.place_index.proofs.Materials.Coded.{uncoded}
 use Rattle.place_index.proofs.Materials.MenTables.{men_least, men_most}

@@ -1,5 +1,4 @@
-use Rattle.std.proofs.Common.{◌≡◌, ◌<◌, ap, subst, slice_set, drop, arith}
-use Rattle.place_index.specs.Inside.Groups.{AreLoneSquares}
+use Rattle.std.proofs.Common.{◌<◌, arith}
 use Rattle.place_index.proofs.Indices.LoneSquares.{squares_start, squares_set}
 use Rattle.place_index.proofs.lone_squares.LoneSquares.new.Goals as goal
 
