@@ -3,7 +3,7 @@
 ghost use Rattle.std.specs.Prelude.{◌≡◌, ◌<◌, IfOk};
 ghost use Rattle.table_file.specs.Expansion.{IsRealSpot};
 
-use crate::comparing::{check_bytes, check_same};
+use crate::comparing::check_same;
 use crate::files::{
     BISHOP, KNIGHT, PAWN, PAWN_FILES, PAWNS, QUEEN, QUEEN_PLIES, file_of, fill, push_bytes,
     queen_file,
