@@ -1,9 +1,9 @@
 //! Names and keys, sizes of shapes, and worked indices.
 
-use crate::comparing::{check_bytes, check_same, check_text};
+use crate::comparing::{check_same, check_text};
 use crate::positions::position_of;
 use board_core::Position;
-use place_index::{Material, Shape, ShapeFault, index, place};
+use place_index::{Material, PawnFile, Shape, ShapeFault, index, place};
 use std::process::Abort;
 
 /// The material of a name that is good.
@@ -65,7 +65,7 @@ fn shaped(
     places: (u8, u8),
     file: u8,
 ) -> Result<Shape, ShapeFault> {
-    assert!(rt; file < 4);
+    let file = PawnFile::new(file).expect(rt, "a file");
     Shape::new(material, pieces, places.0, places.1, file)
 }
 
@@ -159,12 +159,12 @@ fn bad_shapes_are_refused(rt: HostRuntime) {
 
 fn check_groups(rt: &impl Abort, shape: &Shape) {
     check_same(rt, shape.material().key(), 144, "key");
-    check_bytes(rt, shape.pieces(), &[9, 1, 1, 6, 14], "pieces");
+    assert!(rt; shape.has_pieces(&[9, 1, 1, 6, 14]));
     check_same(rt, shape.groups().len(), 4, "groups");
 }
 
 fn check_places(rt: &impl Abort, shape: &Shape) {
-    let places = (shape.order(), shape.second(), shape.file());
+    let places = (shape.order(), shape.second(), shape.file().number());
     check_same(rt, places, (2, 0, 3), "places");
 }
 

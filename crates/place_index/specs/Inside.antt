@@ -1,4 +1,7 @@
 -- What values keep and what functions find on the way; cited by private clauses alone.
+pub mod Arranged
+pub mod Arrangements
+pub mod GroupSizes
 pub mod Groups
 pub mod Leading
 pub mod LookUp

@@ -1,5 +1,5 @@
 -- Material of a table: the men of both sides, and the table's name.
-use Rattle.std.specs.Prelude.{◌≡◌, ℕ, zero, suc, ◌+◌, ◌*◌, ◌<◌, ◌≤◌, List, [], ◌∷◌, ◌++◌, map, filter, flat_map, length, Bool, nat_le, slice_index_or, slice_index, count_by, ◌==◌}
+use Rattle.std.specs.Prelude.{◌≡◌, ℕ, zero, suc, ◌+◌, ◌*◌, ◌<◌, ◌≤◌, ◌⊎◌, List, [], ◌∷◌, ◌++◌, map, filter, flat_map, length, Bool, nat_le, slice_index_or, slice_index, count_by, ◌==◌}
 
 -- The men of the first and of the second side beside the kings, by their codes: queen 5, rook 4, bishop 3, knight 2, pawn 1.
 pub record Men : Type 0 where
@@ -85,6 +85,10 @@ count_of xs c = count_by (λ x. x == c) xs
 -- the codes of all men as a table file writes them: 1 to 6 for the first side's P N B R Q K, 9 to 14 for the second side's
 unfoldable pub pieces_of : ℕ → List ℕ
 pieces_of key = 6 ∷ 14 ∷ (men_of key).first ++ map (λ c. 8 + c) (men_of key).second
+
+-- one of these codes
+abbrev pub IsPieceCode : ℕ → Type 0
+IsPieceCode c = ((1 ≤ c) × (c ≤ 6)) ⊎ ((9 ≤ c) × (c ≤ 14))
 
 -- pawns of the first and of the second side
 abbrev pub white_pawns : ℕ → ℕ

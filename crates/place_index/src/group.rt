@@ -1,27 +1,46 @@
-ghost use Rattle.std.specs.Prelude.{◌≡◌, ◌≤◌, ◌<◌, ◌+◌, ◌++◌, ◌∷◌, length, drop, slice_index};
+ghost use Rattle.std.specs.Prelude.{◌≡◌, ◌≤◌, ◌<◌, ◌+◌, ◌++◌, ◌∷◌, length, drop, slice_index, cond, ◌-◌};
 ghost use Rattle.place_index.specs.Index.{first_square};
 ghost use Rattle.place_index.specs.Material.{count_of, pieces_of};
 ghost use Rattle.place_index.specs.Men.{squares_of};
 ghost use Rattle.place_index.specs.Others.{free_set_number};
-ghost use Rattle.place_index.specs.Shape.{group, runs};
+ghost use Rattle.place_index.specs.Shape.{group, is_pawn, runs};
 
 use crate::indexing::Turned;
-use crate::numbers::{first_square, free_number, free_set_number};
+use crate::numbers::{free_number, free_set_number};
+use crate::piece_code::PieceCode;
 use crate::short_lists::Earlier;
 use arrayvec::ArrayVec;
 
 /// Men of a table that are numbered together: the leading group, or a run of equal men.
 #[derive(Clone, Copy, PartialEq, Eq, Default, Debug)]
 pub struct Group {
-    /// The piece code of the first man: 1 to 6 for white's pawn, knight, bishop, rook, queen and king, 9 to 14 for black's.
-    pub code: u8,
+    /// What the first man is.
+    pub code: PieceCode,
 
     /// How many men there are.
     pub men: u8,
 }
 
+impl Group {
+    /// The first square that its men may stand on: pawns begin on the second rank.
+    pub(crate) fn first_square(&self) -> u8
+        ensures { result ≡ first_square self.now.code }
+    {
+        if self.code.is_pawn() { 8 } else { 0 }
+    }
+
+    /// How many squares its men may take, after so many leading men, where so many squares are free: the pawns that don't
+    /// lead have the 48 squares of pawns less those of the leading ones.
+    pub(crate) fn squares(&self, lead: u8, free: u8) -> u8
+        requires { lead ≤ 3 }
+        ensures { result ≡ cond (is_pawn self.now.code) (48 - lead) free }
+    {
+        if self.code.is_pawn() { 48 - lead } else { free }
+    }
+}
+
 /// The leading group of so many men, then the runs of equal pieces after it.
-pub(crate) fn groups(lead: u8, pieces: &[u8]) -> ArrayVec<Group, 5>
+pub(crate) fn groups(lead: u8, pieces: &[PieceCode]) -> ArrayVec<Group, 5>
     requires some { 1 ≤ lead }
     requires lead { lead ≤ length pieces.now }
     requires few { length pieces.now ≤ 5 }
@@ -53,7 +72,7 @@ pub(crate) fn number_group(turned: &Turned, group: Group, earlier: &mut Earlier)
     ensures number { result ≡ free_set_number (first_square group.code) earlier.old (squares_of turned.now.men group.code) }
     ensures earlier { earlier.new ≡ earlier.old ++ squares_of turned.now.men group.code }
 {
-    let first = first_square(group.code);
+    let first = group.first_square();
     if group.men != 1 {
         let squares = turned.squares_of(group.code);
         return free_set_number(first, earlier, squares.as_slice());

@@ -45,6 +45,7 @@ use crate::leading::Leading;
 use crate::lone_squares::LoneSquares;
 use crate::man::Man;
 use crate::material::leading_pawn;
+use crate::piece_code::PieceCode;
 use crate::placed::Placed;
 use crate::shape::Shape;
 use crate::short_lists::{Earlier, UpToThree};
@@ -85,7 +86,7 @@ impl<'a> Turned<'a> {
     }
 
     /// The square of the man who is the only one with this code.
-    pub(crate) fn square_of(&self, code: u8) -> Square
+    pub(crate) fn square_of(&self, code: PieceCode) -> Square
         requires { count_of (pieces_of self.now.shape.material) code ≡ 1 }
         ensures { squares_of self.now.men code ≡ result ∷ [] }
     {
@@ -94,7 +95,7 @@ impl<'a> Turned<'a> {
     }
 
     /// The squares of the men with this code, the highest first.
-    pub(crate) fn squares_of(&self, code: u8) -> UpToThree
+    pub(crate) fn squares_of(&self, code: PieceCode) -> UpToThree
         ensures { result ≡ squares_of self.now.men code }
     {
         squares_of(self.men, self.turn, code)

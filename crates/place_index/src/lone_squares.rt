@@ -1,10 +1,10 @@
 //! The squares of men that are the only ones of their kind, without a search.
 
-ghost use Rattle.std.specs.Prelude.{◌≡◌, ◌<◌, ℕ, true, slice_index};
+ghost use Rattle.std.specs.Prelude.{◌≡◌, slice_index};
 ghost use Rattle.place_index.specs.Inside.Groups.{AreLoneSquares};
-ghost use Rattle.place_index.specs.Men.{stands};
 
 use crate::man::Man;
+use crate::piece_code::PieceCode;
 use board_core::Square;
 use std::marker::Model;
 
@@ -27,7 +27,6 @@ impl Model for LoneSquares {
 impl LoneSquares {
     /// The squares of these men by their codes.
     pub(crate) fn new(men: &[Man]) -> LoneSquares
-        requires { (c s : ℕ) → stands men.now c s ≡ true → c < 16 }
         ensures { AreLoneSquares men.now result }
     {
         let mut squares = [0u8; 16];
@@ -36,16 +35,15 @@ impl LoneSquares {
         'men: while i > 0 {
             i -= 1;
             let man = men[i];
-            squares[man.code as usize] = man.square.number();
+            squares[man.code.number() as usize] = man.square.number();
         }
         LoneSquares { squares }
     }
 
     /// The square of the man who is the only one with this code.
-    pub(crate) fn of(&self, code: u8) -> Square
-        requires { code < 16 }
+    pub(crate) fn of(&self, code: PieceCode) -> Square
         ensures { result ≡ slice_index self.now code }
     {
-        Square::at(self.squares[code as usize])
+        Square::at(self.squares[code.number() as usize])
     }
 }

@@ -4,7 +4,7 @@ ghost use Rattle.place_index.specs.Shape.{lead_men, lead_code, other_code, other
 ghost use Rattle.place_index.specs.Inside.Groups.{leading_code};
 ghost use Rattle.place_index.specs.Inside.NameKeys.{key_by_name, rank_of, pair_of, triple_of};
 
-use crate::man::{BLACK_PAWN, WHITE_PAWN};
+use crate::piece_code::PieceCode;
 use crate::tables::{
     COUNTS, LEADING_MEN, LEADING_PAWNS, LETTERS, PAIRS, SYMMETRIC, TALLIES, TRIPLES,
 };
@@ -84,38 +84,36 @@ fn key_by_name(text: &[u8]) -> u8
     }
 }
 
-fn name_length(key: usize) -> usize
-    requires { key < 145 }
-    ensures is { result ≡ length (name_at key) }
+fn name_length(material: Material) -> usize
+    ensures is { result ≡ length (name_at material) }
     ensures few { result ≤ 6 }
 {
-    match key {
+    match material.key() {
         0..5 => 4,
         5..35 => 5,
         _ => 6,
     }
 }
 
-fn letter(key: usize, i: usize) -> u8
-    requires key { key < 145 }
-    requires i { i < 6 }
-    ensures is { result ≡ slice_index (name_at key) i }
+fn letter(material: Material, i: usize) -> u8
+    requires { i < 6 }
+    ensures is { result ≡ slice_index (name_at material) i }
     ensures ascii { result < 128 }
 {
+    let key = material.key() as usize;
     LETTERS[key * 6 + i]
 }
 
-/// Whether the text is the name with this key.
-fn is_name(key: usize, text: &[u8]) -> bool
-    requires { key < 145 }
-    ensures { IsTrue result ↔ (name_at key ≡ text.now) }
+/// Whether the text is the material's name.
+fn is_name(material: Material, text: &[u8]) -> bool
+    ensures { IsTrue result ↔ (name_at material ≡ text.now) }
 {
-    let length = name_length(key);
+    let length = name_length(material);
     if text.len() != length {
         return false;
     }
     for i in 0..length {
-        let wanted = letter(key, i);
+        let wanted = letter(material, i);
         if text[i] != wanted {
             return false;
         }
@@ -129,9 +127,11 @@ impl Material {
         ensures found { IfSome result (λ m. name_of (men_of m) ≡ name.now) }
         ensures none { IfNone result ((m : Men) → IsTable m → name_of m ≡ name.now → ⊥) }
     {
-        let key = key_by_name(name);
-        if is_name(key as usize, name) {
-            Some(Material { key })
+        let material = Material {
+            key: key_by_name(name),
+        };
+        if is_name(material, name) {
+            Some(material)
         } else {
             None
         }
@@ -141,11 +141,10 @@ impl Material {
     pub fn name(&self) -> ArrayString<8>
         ensures { result.bytes ≡ name_of (men_of self.now) }
     {
-        let key = self.key();
-        let length = name_length(key as usize);
+        let length = name_length(*self);
         let mut text = ArrayString::<8>::new();
         for i in 0..length {
-            let next = letter(key as usize, i);
+            let next = letter(*self, i);
             text.push(next as char);
         }
         text
@@ -186,14 +185,13 @@ impl Material {
         leading_code(*self) != 0
     }
 
-    /// How many men have this code of a table file: 1 to 6 for the first side's pawns, knights, bishops, rooks, queens and
-    /// king, 9 to 14 for the second side's, and no man for other codes.
-    pub(crate) fn count(&self, code: u8) -> u8
-        requires { code < 16 }
+    /// How many men have this code.
+    pub(crate) fn count(&self, code: PieceCode) -> u8
         ensures is { result ≡ count_of (pieces_of self.now) code }
         ensures few { result ≤ 3 }
     {
         let key = self.key();
+        let code = code.number();
         COUNTS[key as usize * 16 + code as usize]
     }
 
@@ -235,8 +233,8 @@ pub(crate) fn leading_men(material: Material) -> u8
 fn black_leads(material: Material) -> bool
     ensures { result ≡ black_leads material }
 {
-    let white = material.count(WHITE_PAWN);
-    let black = material.count(BLACK_PAWN);
+    let white = material.count(PieceCode::WHITE_PAWN);
+    let black = material.count(PieceCode::BLACK_PAWN);
     black != 0 && (white == 0 || black < white)
 }
 
@@ -249,23 +247,28 @@ fn leading_code(material: Material) -> u8
     LEADING_PAWNS[key as usize]
 }
 
-/// The code of the leading pawns, white's without pawns.
-pub(crate) fn leading_pawn(material: Material) -> u8
-    ensures { result ≡ lead_code material }
+/// The leading pawns, white's without pawns.
+pub(crate) fn leading_pawn(material: Material) -> PieceCode
+    ensures is { result ≡ lead_code material }
+    ensures known { material < 145 }
 {
     let code = leading_code(material);
-    if code == 0 { WHITE_PAWN } else { code }
+    if code == 0 {
+        PieceCode::WHITE_PAWN
+    } else {
+        PieceCode::at(code)
+    }
 }
 
-/// The code of the pawns that don't lead.
+/// The pawns that don't lead.
 #[tactic(auto, unfolding(crate::specs::Shape::other_code))]
-pub(crate) fn other_pawn(material: Material) -> u8
+pub(crate) fn other_pawn(material: Material) -> PieceCode
     ensures { result ≡ other_code material }
 {
     if black_leads(material) {
-        WHITE_PAWN
+        PieceCode::WHITE_PAWN
     } else {
-        BLACK_PAWN
+        PieceCode::BLACK_PAWN
     }
 }
 
@@ -275,9 +278,9 @@ pub(crate) fn other_pawns(material: Material) -> u8
     ensures { result ≡ other_pawns material }
 {
     if black_leads(material) {
-        material.count(WHITE_PAWN)
+        material.count(PieceCode::WHITE_PAWN)
     } else {
-        material.count(BLACK_PAWN)
+        material.count(PieceCode::BLACK_PAWN)
     }
 }
 
@@ -285,8 +288,8 @@ pub(crate) fn other_pawns(material: Material) -> u8
 pub(crate) fn both_have_pawns(material: Material) -> bool
     ensures { result ≡ both_have_pawns material }
 {
-    let white = material.count(WHITE_PAWN);
-    let black = material.count(BLACK_PAWN);
+    let white = material.count(PieceCode::WHITE_PAWN);
+    let black = material.count(PieceCode::BLACK_PAWN);
     white != 0 && black != 0
 }
 

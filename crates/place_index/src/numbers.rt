@@ -3,7 +3,7 @@
 ghost use Rattle.std.specs.Prelude.{◌≡◌, ◌<◌, ◌≤◌, ◌+◌, ◌++◌, ℕ, length, slice_index};
 ghost use Rattle.place_index.specs.Choose.{set_number, IsFallingBelow};
 ghost use Rattle.place_index.specs.Inside.Groups.{ArePawnsAt};
-ghost use Rattle.place_index.specs.Index.{first_square, lead_pawns_number};
+ghost use Rattle.place_index.specs.Index.{lead_pawns_number};
 ghost use Rattle.place_index.specs.Kings.{AreTurnedKings, kings_number};
 ghost use Rattle.place_index.specs.Others.{taken, free_number, free_set_number};
 ghost use Rattle.place_index.specs.Pawns.{pawns_before};
@@ -11,7 +11,6 @@ ghost use Rattle.place_index.specs.Square.{before};
 ghost use Rattle.place_index.specs.Three.{three_number, triangle_number, lower_number};
 
 use crate::choose::choices;
-use crate::man::{BLACK_PAWN, WHITE_PAWN};
 use crate::pawn_file::PawnFile;
 use crate::short_lists::Earlier;
 use crate::squares::pawn_square;
@@ -112,8 +111,7 @@ pub(crate) fn pawns_number(file: PawnFile, numbers: &[u8]) -> u64
 }
 
 /// How many of these men stand on lower squares.
-pub(crate) fn taken(earlier: &[u8], square: u8) -> u64
-    requires { length earlier.now ≤ 8 }
+pub(crate) fn taken(earlier: &[u8; 8], square: u8) -> u64
     ensures { result ≡ taken earlier.now square }
 {
     let mut count: u64 = 0;
@@ -121,17 +119,6 @@ pub(crate) fn taken(earlier: &[u8], square: u8) -> u64
         count += before(*man, square);
     }
     count
-}
-
-/// The first square that men with this code may stand on: pawns begin on the second rank.
-pub(crate) fn first_square(code: u8) -> u8
-    ensures { result ≡ first_square code }
-{
-    if code == WHITE_PAWN || code == BLACK_PAWN {
-        8
-    } else {
-        0
-    }
 }
 
 /// The square's number among the free ones from the first square on.

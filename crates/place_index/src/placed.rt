@@ -84,8 +84,7 @@ impl Placed {
 
 /// The square of the leading pawn; 0 without pawns.
 fn lead_square(material: Material, men: &[Man]) -> Square
-    requires known { material < 145 }
-    requires placed { IsPlacement material men.now }
+    requires { IsPlacement material men.now }
     ensures { result ≡ lead_square material men.now }
 {
     if material.has_pawns() {
@@ -125,7 +124,11 @@ fn in_colours(men: &mut [Man; 5], exchanges: bool)
 fn side_after(side: Side, exchange: bool) -> Side
     ensures { result ≡ cond exchange (other side) side }
 {
-    if exchange { side.other() } else { side }
+    if (side == Side::Black) != exchange {
+        Side::Black
+    } else {
+        Side::White
+    }
 }
 
 /// The position's men, which are the first `count` of these, as their table sees them.
@@ -136,15 +139,15 @@ fn looked_up(
     count: usize,
     exchanges: bool,
 ) -> Placed
-    requires known { material < 145 }
     requires men { take count men ≡ men_on position.now.men }
     requires few { count ≤ 5 }
     requires named { IsNamed material (cond exchanges (exchanged (men_on position.now.men)) (men_on position.now.men)) }
     requires white { IsSymmetric material → cond exchanges (other position.now.side) position.now.side ≡ White }
     ensures { IsLookedUp material position.now result }
 {
-    // The proof alone reads that it is a position.
+    // The proof alone reads that it is a position, and that the key is below 145.
     let _position = position.parts();
+    let _key = material.key();
     in_colours(&mut men, exchanges);
     let lead = lead_square(material, &men[..count]);
     Placed {

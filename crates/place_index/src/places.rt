@@ -4,6 +4,7 @@ ghost use Rattle.std.specs.Prelude.{◌≡◌, ◌≤◌, ◌<◌, not, length, 
 ghost use Rattle.std.specs.Option.{ForSome};
 ghost use Rattle.place_index.specs.Shape.{given, is_free, places, factor_at, product, greatest_size};
 
+use crate::sizes::Sizes;
 use arrayvec::ArrayVec;
 
 /// Whether a nibble gives this place.
@@ -47,14 +48,13 @@ pub(crate) fn places(groups: usize, order: u8, second: Option<u8>) -> ArrayVec<u
 }
 
 /// The product of the sizes of the groups at places before this one.
-fn factor(places: &[u8], sizes: &[u64], place: u8) -> u64
-    requires groups { length places.now ≡ length sizes.now }
-    requires some { 1 ≤ product sizes.now }
-    requires fits { product sizes.now ≤ greatest_size }
+fn factor(places: &[u8], sizes: &Sizes, place: u8) -> u64
+    requires { length places.now ≡ length sizes.now }
     ensures { result ≡ factor_at places.now sizes.now place }
 {
+    let all = sizes.as_slice();
     let mut factor: u64 = 1;
-    for (i, size) in sizes.iter().enumerate() {
+    for (i, size) in all.iter().enumerate() {
         if places[i] < place {
             factor *= *size;
         }
@@ -63,13 +63,12 @@ fn factor(places: &[u8], sizes: &[u64], place: u8) -> u64
 }
 
 /// The factor of each group.
-pub(crate) fn factors(places: &[u8], sizes: &[u64]) -> ArrayVec<u64, 5>
-    requires groups { length places.now ≡ length sizes.now }
-    requires few { length places.now ≤ 5 }
-    requires some { 1 ≤ product sizes.now }
-    requires fits { product sizes.now ≤ greatest_size }
+pub(crate) fn factors(places: &[u8], sizes: &Sizes) -> ArrayVec<u64, 5>
+    requires { length places.now ≡ length sizes.now }
     ensures { result.items ≡ map (factor_at places.now sizes.now) places.now }
 {
+    // The proof alone reads that there are at most five.
+    let _sizes = sizes.as_slice();
     let mut factors = ArrayVec::<u64, 5>::new();
     for place in places {
         factors.push(factor(places, sizes, *place));

@@ -3,12 +3,13 @@ ghost use Rattle.place_index.specs.Shape.{layout, both_have_pawns, HasGoodPieces
 ghost use Rattle.place_index.specs.Index.{IsShape};
 ghost use Rattle.std.specs.Option.{ForSome};
 
-use crate::arrangement::has_good_pieces;
-use crate::group::{Group, groups};
-use crate::material::{Material, both_have_pawns, leading_men};
+use crate::arrangement::Arrangement;
+use crate::group::Group;
+use crate::material::{Material, both_have_pawns};
 use crate::pawn_file::PawnFile;
+use crate::piece_code::PieceCode;
 use crate::places::{factors, places};
-use crate::sizes::{leading_size, product, sizes};
+use crate::sizes::Sizes;
 use arrayvec::ArrayVec;
 use std::marker::Model;
 
@@ -29,12 +30,10 @@ pub enum ShapeFault {
 /// numbers times the groups' factors.
 #[derive(Drop, Debug)]
 pub struct Shape {
-    material: Material,
-    pieces: ArrayVec<u8, 5>,
+    arrangement: Arrangement,
     order: u8,
     second: u8,
     file: PawnFile,
-    groups: ArrayVec<Group, 5>,
     factors: ArrayVec<u64, 5>,
     size: u64,
 }
@@ -94,26 +93,23 @@ impl Shape {
         ensures bad_pieces { (result ≡ Err ShapeFault.BadPieces) ↔ (HasGoodPieces material.now pieces.now → ⊥) }
         ensures bad_order { result ≡ Err ShapeFault.BadOrder → HasGoodPieces material.now pieces.now × (HasGoodOrder (layout material.now pieces.now order second file) → ⊥) }
     {
-        if !has_good_pieces(*material, pieces) {
+        let Some(arrangement) = Arrangement::new(*material, pieces) else {
             return Err(ShapeFault::BadPieces);
-        }
-        let lead = leading_men(*material);
-        let groups = groups(lead, pieces);
+        };
+        let groups = arrangement.groups().len();
         let second_place = second_place(*material, second);
-        if !has_good_order(groups.len(), order, second_place) {
+        if !has_good_order(groups, order, second_place) {
             return Err(ShapeFault::BadOrder);
         }
-        let sizes = sizes(leading_size(*material, file), lead, &groups.as_slice()[1..]);
-        let places = places(groups.len(), order, second_place);
+        let sizes = Sizes::of(&arrangement, file);
+        let places = places(groups, order, second_place);
         Ok(Shape {
-            material: *material,
-            pieces: copied(pieces),
+            arrangement,
             order,
             second,
             file,
-            groups,
-            factors: factors(places.as_slice(), sizes.as_slice()),
-            size: product(sizes.as_slice()),
+            factors: factors(places.as_slice(), &sizes),
+            size: sizes.product(),
         })
     }
 
@@ -122,15 +118,31 @@ impl Shape {
         ensures is { result ≡ self.now.material }
         ensures shape { IsShape self.now }
     {
-        self.material
+        self.arrangement.material()
     }
 
-    /// The piece codes in the order of the groups.
-    pub fn pieces(&self) -> &[u8]
+    /// The pieces in the order of the groups.
+    pub fn pieces(&self) -> &[PieceCode]
         ensures is { result.now ≡ self.now.pieces }
         ensures least { 3 ≤ length result.now }
     {
-        self.pieces.as_slice()
+        self.arrangement.pieces()
+    }
+
+    /// Whether the pieces have these codes of a table file, in this order.
+    pub fn has_pieces(&self, codes: &[u8]) -> bool
+        ensures { IsTrue result ↔ (self.now.pieces ≡ codes.now) }
+    {
+        let pieces = self.pieces();
+        if pieces.len() != codes.len() {
+            return false;
+        }
+        for i in 0..pieces.len() {
+            if pieces[i].number() != codes[i] {
+                return false;
+            }
+        }
+        true
     }
 
     /// The place of the leading group among all groups.
@@ -159,7 +171,7 @@ impl Shape {
     pub fn groups(&self) -> &[Group]
         ensures { result.now ≡ groups_of self.now }
     {
-        self.groups.as_slice()
+        self.arrangement.groups()
     }
 
     /// By what each group's number is multiplied, a number for each group in their order; the lowest is 1.
@@ -177,16 +189,4 @@ impl Shape {
     {
         self.size
     }
-}
-
-/// The pieces in room of their own.
-fn copied(pieces: &[u8]) -> ArrayVec<u8, 5>
-    requires { length pieces.now ≤ 5 }
-    ensures { result.items ≡ pieces.now }
-{
-    let mut copied = ArrayVec::<u8, 5>::new();
-    for piece in pieces {
-        copied.push(*piece);
-    }
-    copied
 }

@@ -1,18 +1,78 @@
 //! How many placements the groups of a shape have.
 
 ghost use Rattle.std.specs.Prelude.{◌≡◌, ◌≤◌, ◌<◌, ◌-◌, ◌+◌, ◌∷◌, cond, length, sum_by};
-ghost use Rattle.place_index.specs.Shape.{lead_size, other_sizes, is_pawn, product, greatest_size};
+ghost use Rattle.place_index.specs.Inside.Arranged.{groups_in, sizes_in};
+ghost use Rattle.place_index.specs.Shape.{lead_size, other_sizes, product, greatest_size};
 
+use crate::arrangement::Arrangement;
 use crate::choose::choices;
 use crate::group::Group;
-use crate::man::{BLACK_PAWN, WHITE_PAWN};
 use crate::material::{Material, leading_men};
 use crate::pawn_file::PawnFile;
 use crate::tables::PAWN_PLACEMENTS;
 use arrayvec::ArrayVec;
+use std::marker::Model;
+
+/// How many placements the groups of a table have, in the order of the groups.
+#[derive(Drop)]
+pub(crate) struct Sizes {
+    sizes: ArrayVec<u64, 5>,
+}
+
+impl Model for Sizes {
+    ghost use Rattle.std.specs.Prelude.{ℕ, List};
+    ghost use Rattle.place_index.specs.Inside.GroupSizes.{AreSizes};
+
+    ghost Value = { List ℕ };
+
+    ghost view = { λ s. s.sizes.items };
+
+    ghost invariant = { AreSizes };
+}
+
+impl Sizes {
+    /// The sizes for leading pawns on this file.
+    pub(crate) fn of(arrangement: &Arrangement, file: PawnFile) -> Sizes
+        ensures is { result ≡ sizes_in arrangement.now file }
+        ensures len { length result ≡ length (groups_in arrangement.now) }
+        ensures left { file < 4 }
+    {
+        let material = arrangement.material();
+        let first = leading_size(material, file);
+        let lead = leading_men(material);
+        let groups = arrangement.groups();
+        Sizes {
+            sizes: all_sizes(first, lead, &groups[1..]),
+        }
+    }
+
+    /// The sizes.
+    pub(crate) fn as_slice(&self) -> &[u64]
+        ensures is { result.now ≡ self.now }
+        ensures few { length self.now ≤ 5 }
+        ensures some { 1 ≤ product self.now }
+        ensures fits { product self.now ≤ greatest_size }
+    {
+        self.sizes.as_slice()
+    }
+
+    /// The product of all sizes.
+    pub(crate) fn product(&self) -> u64
+        ensures is { result ≡ product self.now }
+        ensures some { 1 ≤ result }
+        ensures fits { result ≤ greatest_size }
+    {
+        let all = self.as_slice();
+        let mut product: u64 = 1;
+        for size in all {
+            product *= *size;
+        }
+        product
+    }
+}
 
 /// How many placements the leading group has, for leading pawns on this file.
-pub(crate) fn leading_size(material: Material, file: PawnFile) -> u64
+fn leading_size(material: Material, file: PawnFile) -> u64
     ensures is { result ≡ lead_size material file }
     ensures left { file < 4 }
 {
@@ -24,21 +84,8 @@ pub(crate) fn leading_size(material: Material, file: PawnFile) -> u64
     if lead == 3 { 31332 } else { 462 }
 }
 
-/// How many squares a group may stand on, where so many are left free: pawns have the 48 squares of pawns less those of the
-/// leading ones.
-fn squares(code: u8, lead: u8, free: u8) -> u8
-    requires { lead ≤ 3 }
-    ensures { result ≡ cond (is_pawn code) (48 - lead) free }
-{
-    if code == WHITE_PAWN || code == BLACK_PAWN {
-        48 - lead
-    } else {
-        free
-    }
-}
-
 /// The sizes of all groups, the first one of so many men and of this size.
-pub(crate) fn sizes(first: u64, lead: u8, groups: &[Group]) -> ArrayVec<u64, 5>
+fn all_sizes(first: u64, lead: u8, groups: &[Group]) -> ArrayVec<u64, 5>
     requires lead { lead ≤ 3 }
     requires groups { length groups.now ≤ 4 }
     requires men { sum_by (λ g. g.men) groups.now ≤ 5 }
@@ -49,22 +96,9 @@ pub(crate) fn sizes(first: u64, lead: u8, groups: &[Group]) -> ArrayVec<u64, 5>
     sizes.push(first);
     let mut free = 64 - lead;
     for group in groups {
-        let squares = squares(group.code, lead, free);
+        let squares = group.squares(lead, free);
         sizes.push(choices(squares as u64, group.men as u64));
         free -= group.men;
     }
     sizes
-}
-
-/// The product of all sizes.
-pub(crate) fn product(sizes: &[u64]) -> u64
-    requires some { 1 ≤ product sizes.now }
-    requires fits { product sizes.now ≤ greatest_size }
-    ensures { result ≡ product sizes.now }
-{
-    let mut product: u64 = 1;
-    for size in sizes {
-        product *= *size;
-    }
-    product
 }

@@ -7,13 +7,14 @@ ghost use Rattle.place_index.specs.Pawns.{pawn_number, pawn_numbers_of, pawn_squ
 ghost use Rattle.place_index.specs.Inside.Turns.{turned_by};
 
 use crate::man::Man;
+use crate::piece_code::PieceCode;
 use crate::short_lists::UpToThree;
 use crate::tables::{PAWN_NUMBERS, PAWN_SQUARES};
 use crate::turn::Turn;
 use board_core::Square;
 
 /// The squares to which the men with this code go, the highest first.
-pub(crate) fn squares_of(men: &[Man], turn: Turn, code: u8) -> UpToThree
+pub(crate) fn squares_of(men: &[Man], turn: Turn, code: PieceCode) -> UpToThree
     requires men { AreMen men.now }
     requires few { length (squares_of (turned_by turn men.now) code) ≤ 3 }
     ensures { result ≡ squares_of (turned_by turn men.now) code }
@@ -34,7 +35,7 @@ pub(crate) fn squares_of(men: &[Man], turn: Turn, code: u8) -> UpToThree
 }
 
 /// The pawn numbers of the squares to which the men with this code go, the greatest first.
-pub(crate) fn pawn_numbers_of(men: &[Man], turn: Turn, code: u8) -> UpToThree
+pub(crate) fn pawn_numbers_of(men: &[Man], turn: Turn, code: PieceCode) -> UpToThree
     requires men { AreMen men.now }
     requires few { length (pawn_numbers_of (turned_by turn men.now) code) ≤ 3 }
     requires pawns { (s : ℕ) → stands (turned_by turn men.now) code s ≡ true → (8 ≤ s) × (s < 56) }

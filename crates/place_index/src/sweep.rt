@@ -3,40 +3,20 @@
 ghost use Rattle.std.specs.Prelude.{◌≡◌, ◌<◌, ◌≤◌, ◌∷◌, [], length, take};
 ghost use Rattle.place_index.specs.Material.{tally_of};
 ghost use Rattle.place_index.specs.Men.{codes_of, exchanged, other_side};
-ghost use Rattle.place_index.specs.Placed.{code_of, men_on};
+ghost use Rattle.place_index.specs.Placed.{men_on};
 ghost use Rattle.place_index.specs.Square.{bottom_top};
 
 use crate::man::Man;
+use crate::piece_code::PieceCode;
 use crate::tables::CODE_TALLIES;
-use board_core::{Kind, Piece, Position, Side, Square};
-
-/// The piece code of a man in the table file: 1 to 6 for white's pawn, knight, bishop, rook, queen and king, 9 to 14 for
-/// black's.
-fn code_of(piece: Piece) -> u8
-    ensures is { result ≡ code_of piece }
-    ensures most { result < 16 }
-{
-    let code = match piece.kind {
-        Kind::Pawn => 1u8,
-        Kind::Knight => 2,
-        Kind::Bishop => 3,
-        Kind::Rook => 4,
-        Kind::Queen => 5,
-        Kind::King => 6,
-    };
-    match piece.side {
-        Side::White => code,
-        Side::Black => code + 8,
-    }
-}
+use board_core::{Position, Square};
 
 /// What a man with this code adds to a tally.
-fn known_tally(code: u8) -> u64
-    requires { code < 16 }
+fn known_tally(code: PieceCode) -> u64
     ensures is { result ≡ tally_of (code ∷ []) }
     ensures most { result ≤ 1152921504606846976 }
 {
-    CODE_TALLIES[code as usize]
+    CODE_TALLIES[code.number() as usize]
 }
 
 /// Puts the men of a position into the first places in order of square; how many they are, and their tally: how often each
@@ -64,8 +44,10 @@ pub(crate) fn men_on(position: &Position, men: &mut [Man; 5]) -> (usize, u64)
         let Some(piece) = position.piece_at(square) else {
             unreachable!()
         };
-        let code = code_of(piece);
-        men[count] = Man { code, square };
+        let code = PieceCode::of(piece);
+        // Written part by part: two instructions fewer than a man at once.
+        men[count].code = code;
+        men[count].square = square;
         tally += known_tally(code);
         rest = rest.without(square);
         next = number + 1;
@@ -78,7 +60,7 @@ fn exchanged(man: Man) -> Man
     ensures code { result.code ≡ other_side man.code }
     ensures square { result.square ≡ bottom_top man.square }
 {
-    let code = man.code ^ 8;
+    let code = man.code.of_other_side();
     let square = Square::at(man.square.number() ^ 56);
     Man { code, square }
 }

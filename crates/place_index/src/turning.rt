@@ -13,6 +13,7 @@ ghost use Rattle.place_index.specs.Inside.Turns.{turned_by, turn_square, low, is
 use crate::lone_squares::LoneSquares;
 use crate::man::Man;
 use crate::material::{Material, leading_men, leading_pawn};
+use crate::piece_code::PieceCode;
 use crate::placed::Placed;
 use crate::shape::Shape;
 use crate::squares::{pawn_number, pawn_square};
@@ -20,7 +21,7 @@ use crate::turn::Turn;
 use board_core::Square;
 
 /// The greater of this number and the man's pawn number, which counts for a man with this code alone.
-fn raised(greatest: u8, man: Man, code: u8) -> u8
+fn raised(greatest: u8, man: Man, code: PieceCode) -> u8
     ensures other { man.code ≢ code → result ≡ greatest }
     ensures more { man.code ≡ code → greatest < pawn_number man.square → result ≡ pawn_number man.square }
     ensures same { man.code ≡ code → pawn_number man.square ≤ greatest → result ≡ greatest }
@@ -33,7 +34,7 @@ fn raised(greatest: u8, man: Man, code: u8) -> u8
 }
 
 /// The greatest pawn number of the men with this code.
-fn greatest_number(men: &[Man], code: u8) -> u8
+fn greatest_number(men: &[Man], code: PieceCode) -> u8
     requires men { AreMen men.now }
     requires pawns { (s : ℕ) → stands men.now code s ≡ true → (8 ≤ s) × (s < 56) }
     ensures { result ≡ slice_index (pawn_numbers_of men.now code) 0 }
@@ -50,7 +51,6 @@ fn greatest_number(men: &[Man], code: u8) -> u8
 
 /// The square of the leading pawn: of the leading colour's pawns the one with the greatest pawn number.
 pub(crate) fn lead_pawn(material: Material, men: &[Man]) -> Square
-    requires known { material < 145 }
     requires placed { IsPlacement material men.now }
     requires pawned { has_pawns material ≡ true }
     ensures { result ≡ lead_pawn material men.now }
@@ -61,7 +61,7 @@ pub(crate) fn lead_pawn(material: Material, men: &[Man]) -> Square
 }
 
 /// The codes of the leading men, each once.
-pub(crate) fn lead_codes(shape: &Shape) -> &[u8]
+pub(crate) fn lead_codes(shape: &Shape) -> &[PieceCode]
     ensures { result.now ≡ lead_codes shape.now }
 {
     let material = shape.material();
@@ -74,8 +74,7 @@ pub(crate) fn lead_codes(shape: &Shape) -> &[u8]
 }
 
 /// Whether the first of the leading men off the diagonal a1-h8, if there is one, stands above it after the turn.
-fn is_above(lone_squares: &LoneSquares, turn: Turn, lead: &[u8]) -> bool
-    requires codes { (i : ℕ) → i < length lead.now → slice_index lead.now i < 16 }
+fn is_above(lone_squares: &LoneSquares, turn: Turn, lead: &[PieceCode]) -> bool
     ensures { result ≡ is_first_above (map (λ c. turn_square turn (slice_index lone_squares.now c)) lead.now) }
 {
     for code in lead {
@@ -92,9 +91,8 @@ fn is_above(lone_squares: &LoneSquares, turn: Turn, lead: &[u8]) -> bool
 
 /// The turn of pieces: the first of the leading men goes to the left and to the bottom, and then the first one off the
 /// diagonal a1-h8 to below it.
-fn turn_of_pieces(lone_squares: &LoneSquares, lead: &[u8]) -> Turn
-    requires some { 1 ≤ length lead.now }
-    requires codes { (i : ℕ) → i < length lead.now → slice_index lead.now i < 16 }
+fn turn_of_pieces(lone_squares: &LoneSquares, lead: &[PieceCode]) -> Turn
+    requires { 1 ≤ length lead.now }
     ensures left_right { result.left_right ≡ not (nat_lt (file (slice_index lone_squares.now (slice_index lead.now 0))) 4) }
     ensures bottom_top { result.bottom_top ≡ not (nat_lt (rank (slice_index lone_squares.now (slice_index lead.now 0))) 4) }
     ensures across { result.across ≡ is_first_above (map (λ c. turn_square (low result) (slice_index lone_squares.now c)) lead.now) }

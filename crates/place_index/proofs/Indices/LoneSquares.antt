@@ -55,13 +55,3 @@ pub squares_set : (men : List Man) (i s : ℕ) (m : Man) (lone_squares : List �
     → AreLoneSquares (drop (i - 1) men) (slice_set lone_squares m.code s)
 squares_set men i s m lone_squares t pos le is few square board =
     subst (λ l. AreLoneSquares l (slice_set lone_squares m.code s)) (sym (drop_back men i m pos le is)) (set_front m (drop i men) s lone_squares t few square board)
-
-stands_drop : (i : ℕ) (men : List Man) (c s : ℕ) → stands (drop i men) c s ≡ true → stands men c s ≡ true
-stands_drop zero men c s h = h
-stands_drop (suc i) [] c s h = h
-stands_drop (suc i) (m ∷ men) c s h = stands_later m men c s (stands_drop i men c s h)
-
--- the code of a man in a list of known codes
-pub code_known : (men : List Man) (i : ℕ) (m : Man) → ((c s : ℕ) → stands men c s ≡ true → c < 16) → 0 < i → i ≤ length men → m ≡ get_or men (i - 1) m → m.code < 16
-code_known men i m known pos le is =
-    known m.code m.square (stands_drop (i - 1) men m.code m.square (subst (λ l. stands l m.code m.square ≡ true) (sym (drop_back men i m pos le is)) (stands_here m (drop i men))))

@@ -169,10 +169,10 @@ is_after t n none h lt =
       );
     }
 
-pub group_at : (t : TurnedMen) (groups : List Group) (none : Group) (place : ℕ) → IsTurned t → groups ≡ groups_of t.shape → place ≢ 0 → place < length (groups_of t.shape) → IsAt t (get_or groups place none) place
-group_at t groups none zero h e ne lt = absurd (ne refl)
-group_at t groups none (suc n) h e ne lt =
-    subst (λ g. IsAt t g (suc n)) (sym (ap (λ gs. get_or gs (suc n) none) e)) (is_after t n none h (omega (arith, lt)))
+pub group_at : (t : TurnedMen) (groups : List Group) (g : Group) (place : ℕ) → IsTurned t → groups ≡ groups_of t.shape → place ≢ 0 → place < length (groups_of t.shape) → g ≡ get_or groups place g → IsAt t g place
+group_at t groups g zero h e ne lt is = absurd (ne refl)
+group_at t groups g (suc n) h e ne lt is =
+    subst (λ x. IsAt t x (suc n)) (sym (is ∙ ap (λ gs. get_or gs (suc n) g) e)) (is_after t n g h (omega (arith, lt)))
 
 -- the leading group comes first
 pub first_number : (l : Layout) (men : List Man) → lead_number l men ≡ slice_index (numbers_of l men) 0

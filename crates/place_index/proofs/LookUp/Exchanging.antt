@@ -6,9 +6,6 @@ use Rattle.place_index.specs.Square.{bottom_top}
 use Rattle.place_index.specs.Men.{man, other_side, exchanged}
 use Rattle.place_index.specs.declared.man.Man.{Man}
 
-pub other_by_bit : (c : ℕ) → c < 256 → bit_xor c 8 ≡ other_side c
-other_by_bit c lt = eqb-true _ _ (agree_below_at (λ c. eqb (bit_xor c 8) (other_side c)) (λ c. true) 256 c refl lt)
-
 -- the man of the other side
 abbrev other : Man → Man
 other m = man (other_side m.code) (bottom_top m.square)

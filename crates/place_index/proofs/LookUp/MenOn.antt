@@ -1,5 +1,5 @@
 -- The men of a position, and that they make a placement, in either colours.
-use Rattle.std.proofs.Common.{◌≡◌, ◌≢◌, ℕ, zero, suc, ◌+◌, ◌-◌, ◌/◌, ◌%◌, ◌<◌, ◌≤◌, ◌⊎◌, Bool, true, false, cond, ltb, IsTrue, Option, Some, None, List, [], ◌∷◌, ◌++◌, length, drop, refl, sym, ap, ◌∙◌, subst, inl, inr, arith, length-append}
+use Rattle.std.proofs.Common.{◌≡◌, ◌≢◌, ℕ, zero, suc, ◌+◌, ◌-◌, ◌/◌, ◌%◌, ◌<◌, ◌≤◌, ◌⊎◌, Bool, true, false, cond, ltb, IsTrue, Option, Some, None, List, [], ◌∷◌, ◌++◌, length, drop, get_or, slice_set, refl, sym, ap, ◌∙◌, subst, inl, inr, arith, length-append}
 use Rattle.std.specs.Prelude.{count_by, slice_index_or, is_some, ◌||◌, nat_lt}
 use Rattle.std.specs.Int.{bit_at}
 use Rattle.std.specs.List.{list_all}
@@ -435,3 +435,10 @@ swept_some board next set square items w lt here e = false≢true (sym (ap is_so
 pub placement_in_colours : (key : ℕ) (board : List (Option Piece)) (b : Bool) → Stood board → IsNamed key (cond b (exchanged (men_on board)) (men_on board)) → IsPlacement key (cond b (exchanged (men_on board)) (men_on board))
 placement_in_colours key board true q named = placement_of_exchanged key board q named
 placement_in_colours key board false q named = placement_of_men key board q named
+
+-- a man's code and square written one after the other
+pub man_put : (men : List Man) (i code square : ℕ) (d e : Man) → i < length men
+    → slice_set (slice_set men i (man code (get_or men i d).square)) i (man (get_or (slice_set men i (man code (get_or men i d).square)) i e).code square) ≡ slice_set men i (man code square)
+man_put [] i code square d e lt = absurd (omega (arith, lt))
+man_put (m ∷ men) zero code square d e lt = refl
+man_put (m ∷ men) (suc i) code square d e lt = ap (λ l. m ∷ l) (man_put men i code square d e (omega (arith, lt)))

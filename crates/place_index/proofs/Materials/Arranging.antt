@@ -1,5 +1,5 @@
 -- Lists with equal counts are arrangements of each other.
-use Rattle.std.proofs.Common.{◌≡◌, ◌≢◌, ℕ, zero, suc, ◌+◌, ◌<◌, ◌≤◌, true, cond, ltb, List, [], ◌∷◌, ◌++◌, length, refl, sym, ap, ◌∙◌, subst, inl, inr, arith, length-append}
+use Rattle.std.proofs.Common.{◌≡◌, ◌≢◌, ℕ, zero, suc, ◌+◌, ◌<◌, ◌≤◌, true, cond, ltb, List, [], ◌∷◌, ◌++◌, length, slice_index, refl, sym, ap, ◌∙◌, subst, inl, inr, arith, length-append}
 use Rattle.std.specs.Prelude.{◌==◌}
 use Rattle.std.specs.List.{list_all}
 use Rattle.std.specs.List.Sorted.{IsPermutation}
@@ -143,6 +143,41 @@ arranged n (x ∷ xs) ys all len same =
     (IsPermutation-trans (x ∷ xs) (x ∷ (at.front ++ at.back)) (at.front ++ x ∷ at.back)
     (IsPermutation-cons x xs (at.front ++ at.back) rest)
     (IsPermutation-sym (at.front ++ x ∷ at.back) (x ∷ (at.front ++ at.back)) (IsPermutation-middle at.front x at.back)))
+
+-- equal lengths, and equal counts of each code of the first list
+pub arranged_by_own : (xs ys : List ℕ) → length xs ≡ length ys → ((c : ℕ) → 1 ≤ count_of xs c → count_of xs c ≡ count_of ys c) → IsPermutation xs ys
+arranged_by_own [] [] len same = IsPermutation-refl []
+arranged_by_own [] (y ∷ ys) len same = absurd (omega (arith, len))
+arranged_by_own (x ∷ xs) ys len same =
+    let here : count_of (x ∷ xs) x ≡ count_of ys x = same x (omega (arith, count_hit x xs)) in
+    let at = split ys x (omega (arith, here, count_hit x xs)) in
+    let shorter : length xs ≡ length (at.front ++ at.back) =
+    omega (arith, len, ap length at.is, length-append at.front (x ∷ at.back), length-append at.front at.back) in
+    let rest = arranged_by_own xs (at.front ++ at.back) shorter
+    (λ c some. omega (
+      arith,
+      same c (omega (arith, some, count_cons x xs c)),
+      count_cons x xs c,
+      ap (λ l. count_of l c) at.is,
+      count_append at.front (x ∷ at.back) c,
+      count_cons x at.back c,
+      count_append at.front at.back c,
+    )) in
+    subst (λ l. IsPermutation (x ∷ xs) l) (sym at.is)
+    (IsPermutation-trans (x ∷ xs) (x ∷ (at.front ++ at.back)) (at.front ++ x ∷ at.back)
+    (IsPermutation-cons x xs (at.front ++ at.back) rest)
+    (IsPermutation-sym (at.front ++ x ∷ at.back) (x ∷ (at.front ++ at.back)) (IsPermutation-middle at.front x at.back)))
+
+-- where a code stands
+pub place_of_code : (xs : List ℕ) (c : ℕ) → 1 ≤ count_of xs c → (k : ℕ) × (k < length xs) × (slice_index xs k ≡ c)
+place_of_code [] c some = absurd (omega (arith, some, count_nil c))
+place_of_code (x ∷ xs) c some =
+    elim (cases_eq x c) [
+      | inl e ↦ (0, omega arith, e)
+      | inr ne ↦
+          let rest = place_of_code xs c (omega (arith, some, count_miss x xs c ne)) in
+          (suc rest.0, omega (arith, rest.1), rest.2)
+    ]
 
 -- equal lengths and equal counts of all codes below n, where the second list has no others
 pub arranged_by_counts : (n : ℕ) (xs ys : List ℕ) → list_all (λ y. ltb y n) ys ≡ true → length xs ≡ length ys → ((c : ℕ) → c < n → count_of xs c ≡ count_of ys c) → IsPermutation xs ys

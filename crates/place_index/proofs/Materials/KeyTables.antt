@@ -1,11 +1,11 @@
 -- Tables by the key of a material.
-use Rattle.std.proofs.Common.{◌≡◌, ◌≢◌, ◌↔◌, ℕ, zero, suc, ◌+◌, ◌*◌, ◌<◌, ◌≤◌, Bool, true, false, cond, IsTrue, eqb, leb, ltb, List, [], ◌∷◌, length, take, drop, slice_index, refl, ap, sym, ◌∙◌, arith}
+use Rattle.std.proofs.Common.{◌≡◌, ◌≢◌, ◌↔◌, ℕ, zero, suc, ◌+◌, ◌*◌, ◌<◌, ◌≤◌, Bool, true, false, cond, IsTrue, eqb, leb, ltb, List, [], ◌∷◌, length, take, drop, slice_index, refl, ap, sym, ◌∙◌, inl, inr, arith}
 use Rattle.std.specs.Prelude.{slice_index_or, not, ◌&&◌}
-use Rattle.std.proofs.lemmas.Bool.{eqb-true, leb-true, lt-ltb, le-ltb, eq-eqb, ne_eqb, and_parts, false≢true}
+use Rattle.std.proofs.lemmas.Bool.{eqb-true, leb-true, lt-ltb, le-ltb, eq-eqb, ne_eqb, and_parts, cases_Bool, false≢true}
 use Rattle.std.proofs.lemmas.List.{get_or-take, get_or-drop}
-use Rattle.place_index.specs.Material.{Men, tables, name_of, men_of, name_at, pieces_of, count_of, white_pawns, black_pawns}
+use Rattle.place_index.specs.Material.{Men, IsPieceCode, tables, name_of, men_of, name_at, pieces_of, count_of, white_pawns, black_pawns}
 use Rattle.place_index.specs.Inside.NameKeys.{key_by_name}
-use Rattle.place_index.specs.Shape.{lead_code}
+use Rattle.place_index.specs.Shape.{black_leads, lead_code}
 use Rattle.place_index.specs.Inside.Groups.{leading_code}
 use Rattle.place_index.specs.declared.tables.TheConstants.{LETTERS, COUNTS, SYMMETRIC, LEADING_PAWNS}
 use Rattle.place_index.proofs.Materials.KeyWalk.{agrees, agrees-true, each, each_key, each_pieces, pieces, white_in, black_in, pawns_in, black_leads_in, lead_code_in, leading_code_in}
@@ -147,6 +147,14 @@ lead_code_none k lt e = eqb-true _ _ (rw (eq-eqb (leading_code k) 0 e) at (lead_
 
 pub lead_code_some : (k : ℕ) → k < 145 → leading_code k ≢ 0 → leading_code k ≡ lead_code k
 lead_code_some k lt ne = eqb-true _ _ (rw (ne_eqb (leading_code k) 0 ne) at (lead_code_test k lt))
+
+pub lead_code_known : (k : ℕ) → IsPieceCode (lead_code k)
+unfolding lead_code
+lead_code_known k =
+    elim (cases_Bool (black_leads k)) [
+      | inl t ↦ rw t (inr (omega arith, omega arith))
+      | inr f ↦ rw f (inl (omega arith, omega arith))
+    ]
 
 pub pawned_table : (k : ℕ) → k < 145 → not (eqb (leading_code k) 0) ≡ leb 1 (white_pawns k + black_pawns k)
 unfolding each agrees pieces count_of lead_code leading_code white_in black_in pawns_in black_leads_in lead_code_in leading_code_in

@@ -1,5 +1,5 @@
 -- What the parts of a new shape are.
-use Rattle.std.proofs.Common.{◌≡◌, ℕ, ◌-◌, ◌<◌, ◌≤◌, List, ◌∷◌, length, take, drop, slice_index, ap, ◌∙◌, arith}
+use Rattle.std.proofs.Common.{◌≡◌, ℕ, ◌-◌, ◌<◌, ◌≤◌, List, ◌∷◌, length, take, drop, slice_index, ap, ◌∙◌, arith, length-drop}
 use Rattle.std.specs.Prelude.{sum_by}
 use Rattle.std.proofs.lemmas.List.{take_rest}
 use Rattle.place_index.specs.Shape.{layout, HasGoodPieces, group, groups_of, other_groups, runs, lead_men, lead_size, other_sizes, sizes_of}
@@ -8,14 +8,12 @@ use Rattle.place_index.proofs.Shapes.Greatest.{good_length, rest_men}
 use Rattle.place_index.proofs.Materials.MenTables.{men_most}
 use Rattle.place_index.proofs.Shapes.Sizing.{men}
 
--- the groups of a layout
-pub made_groups : (key lead order second file : ℕ) (pieces : List ℕ) (groups : List Group) → lead ≡ lead_men key → groups ≡ group (slice_index pieces 0) lead ∷ runs (drop lead pieces)
-    → groups ≡ groups_of (layout key pieces order second file)
-made_groups key lead order second file pieces groups lead-is is = is ∙ ap (λ l. group (slice_index pieces 0) l ∷ runs (drop l pieces)) lead-is
-
 -- the groups after the first one
 pub made_rest : (slice : List Group) (g : Group) (rest : List Group) → slice ≡ g ∷ rest → take (length slice - 1) (drop 1 slice) ≡ rest
 made_rest slice g rest is = take_rest slice 1 ∙ ap (drop 1) is
+
+pub made_length : (slice : List Group) → length (take (length slice - 1) (drop 1 slice)) ≡ length slice - 1
+made_length slice = ap length (take_rest slice 1) ∙ length-drop 1 slice
 
 pub made_sizes : (key lead order second file first : ℕ) (pieces : List ℕ) (slice : List Group) (sizes : List ℕ) → lead ≡ lead_men key → slice ≡ groups_of (layout key pieces order second file)
     → first ≡ lead_size key file → sizes ≡ first ∷ other_sizes lead (64 - lead) (take (length slice - 1) (drop 1 slice)) → sizes ≡ sizes_of (layout key pieces order second file)

@@ -218,11 +218,6 @@ lead_some l s plain =
       | inr common ↦ omega (arith, ap length (lead_kings l s plain common).codes)
     ]
 
-pub all_small : (key : ℕ) (codes : List ℕ) → key < 145 → AllOnce key codes → (i : ℕ) → i < length codes → slice_index codes i < 16
-all_small key [] lt once i few = absurd (omega (arith, few))
-all_small key (c ∷ codes) lt once zero few = once_small key c lt once.0
-all_small key (c ∷ codes) lt once (suc i) few = all_small key codes lt once.1 i (omega (arith, few))
-
 pub only_once : (key : ℕ) (men : List Man) (c : ℕ) → IsPlacement key men → count_of (pieces_of key) c ≡ 1 → IsOnly men c (square_of men c)
 only_once key men c p one = let a = lone key men c p one in (a.here, a.only)
 
@@ -249,14 +244,6 @@ pieces_turned l men lone_squares t s p at plain le be xe =
     pieces_turned_by l.material men (lead_codes l) t.left_right t.bottom_top t.across s.material p once some (le ∙ ap (λ x. not (ltb (file x) 4)) first) (be ∙ ap (λ x. not (ltb (rank x) 4)) first)
     (xe ∙ ap is_first_above (squares_turned l.material men lone_squares (low t) (lead_codes l) s.material p at once))
     ∙ ap (λ codes. turned_pieces codes men) (codes_by_pieces l plain) ∙ turned_plain l men plain
-
--- the codes of a placement's men
-pub codes_known : (key : ℕ) (men : List Man) → key < 145 → IsPlacement key men → (c s : ℕ) → stands men c s ≡ true → c < 16
-codes_known key men lt p c s h =
-    elim (cases_lt c 16) [
-      | inl small ↦ small
-      | inr le ↦ absurd (stands_nowhere key men c s (settled key men p) (count_small 16 (pieces_of key) c (codes_small key lt) le) h)
-    ]
 
 -- ---- the squares of the leading men
 

@@ -28,7 +28,7 @@ fn has_shape(material: &Material, part: &PartPlan, file: PawnFile, shape: &Shape
     ensures { IsTrue result ↔ (shape.now ≡ planned_shape material.now part.now file) }
 {
     shape.material().key() == material.key()
-        && shape.pieces() == part.pieces.as_slice()
+        && shape.has_pieces(&part.pieces)
         && shape.order() == part.order
         && shape.second() == part.second.unwrap_or(0)
         && shape.file() == file

@@ -1,4 +1,4 @@
 use Rattle.checks.proofs.table_tests.spot.Given as goal
 
 abbrev pub ghosts-spot_by : goal.ghosts-spot_by
-ghosts-spot_by g a = record { name = a.blank.name; parts = a.blank.parts }
+ghosts-spot_by a = record { name = a.blank.name; parts = a.blank.parts }

@@ -17,7 +17,7 @@ pub returns-then-are_all : goal.returns-then-are_all
 returns-then-are_all c =
     let lead : c.leading_men-lead.result ≡ lead_pawns c.args.material = c.leading_men-lead.ensures.is ∙ lead_by_pawns c.args.material c.requires.pawns in (
       λ t. (
-        λ i low lt. c.are_all.ensures.0 c.if-are_all.true i low (omega (arith, lt, lead)) ∙ c.leading_pawn.ensures,
+        λ i low lt. c.are_all.ensures.0 c.if-are_all.true i low (omega (arith, lt, lead)) ∙ c.leading_pawn.ensures.is,
         λ i low lt. c.are_all-then-are_all.ensures.0 t i (omega (arith, low, lead)) (omega (arith, lt, lead, c.other_pawns.ensures)) ∙ c.other_pawn.ensures,
       ),
       λ b. c.are_all-then-are_all.ensures.1 (λ i low lt. b.1 i (omega (arith, low, lead)) (omega (arith, lt, lead, c.other_pawns.ensures)) ∙ sym c.other_pawn.ensures),
@@ -27,5 +27,5 @@ pub returns-else-are_all : goal.returns-else-are_all
 returns-else-are_all c =
     let lead : c.leading_men-lead.result ≡ lead_pawns c.args.material = c.leading_men-lead.ensures.is ∙ lead_by_pawns c.args.material c.requires.pawns in (
       λ t. absurd (false≢true (sym c.if-are_all.false ∙ t)),
-      λ b. c.are_all.ensures.1 (λ i low lt. b.0 i low (omega (arith, lt, lead)) ∙ sym c.leading_pawn.ensures),
+      λ b. c.are_all.ensures.1 (λ i low lt. b.0 i low (omega (arith, lt, lead)) ∙ sym c.leading_pawn.ensures.is),
     )

@@ -1,8 +1,8 @@
-use Rattle.std.proofs.Common.{refl, sym, ◌∙◌, inl, inr, arith}
+use Rattle.std.proofs.Common.{◌≡◌, slice_index, refl, sym, ap, subst, ◌∙◌, inl, inr, arith}
 use Rattle.std.proofs.lemmas.Bool.{cases_eq, false≢true}
-use Rattle.place_index.specs.Material.{pieces_of}
-use Rattle.place_index.proofs.Materials.Arranging.{arranged_length, count_arranged, arranged_by_counts}
-use Rattle.place_index.proofs.Materials.MenTables.{codes_small}
+use Rattle.std.proofs.lemmas.List.{get_or_default}
+use Rattle.place_index.specs.Material.{pieces_of, count_of}
+use Rattle.place_index.proofs.Materials.Arranging.{arranged_length, count_arranged, arranged_by_own, place_of_code}
 use Rattle.place_index.proofs.arrangement.is_arrangement.Goals as goal
 
 pub returns-then-pieces-men : goal.returns-then-pieces-men
@@ -14,20 +14,23 @@ returns-then-pieces-men c = (
 pub returns-then-occurrences-count : goal.returns-then-occurrences-count
 returns-then-occurrences-count c = (
   λ f. absurd (false≢true f),
-  λ p. absurd (c.if-occurrences-count.true
-      (c.occurrences.ensures ∙ count_arranged c.args.pieces.now (pieces_of c.args.material) c.loop-code.code p ∙ sym c.count.ensures.is)),
+  λ p. absurd (c.if-occurrences-count.true (c.occurrences.ensures ∙ count_arranged c.args.pieces.now (pieces_of c.args.material) c.piece-item.result p ∙ sym c.count.ensures.is)),
 )
 
-pub loop-code-preserved : goal.loop-code-preserved
-loop-code-preserved c k lt =
-    elim (cases_eq k c.loop-code.code) [
-      | inl e ↦ rw e (sym c.occurrences.ensures ∙ c.if-occurrences-count.false ∙ c.count.ensures.is)
-      | inr ne ↦ c.loop-code.invariant k (omega (arith, lt, ne))
+pub loop-piece-preserved : goal.loop-piece-preserved
+loop-piece-preserved c k lt =
+    elim (cases_eq k c.loop-piece.piece-index) [
+      | inl e ↦ subst (λ x. count_of c.args.pieces.now x ≡ count_of (pieces_of c.args.material) x)
+          (c.piece-item.is ∙ get_or_default c.args.pieces.now c.loop-piece.piece-index c.piece-item.result 0 c.loop-piece-test.true ∙ ap (slice_index c.args.pieces.now) (sym e))
+          (sym c.occurrences.ensures ∙ c.if-occurrences-count.false ∙ c.count.ensures.is)
+      | inr ne ↦ c.loop-piece.invariant k (omega (arith, lt, ne))
     ]
 
 pub returns : goal.returns
 returns c = (
-  λ t. arranged_by_counts 16 c.args.pieces.now (pieces_of c.args.material) (codes_small c.args.material c.men.ensures.known)
-      (c.if-pieces-men.false ∙ c.men.ensures.is) (λ k lt. c.loop-code.invariant k (omega (arith, lt, c.loop-code-test.false))),
+  λ t. arranged_by_own c.args.pieces.now (pieces_of c.args.material) (c.if-pieces-men.false ∙ c.men.ensures.is)
+      (λ x some.
+      let at = place_of_code c.args.pieces.now x some in
+      subst (λ y. count_of c.args.pieces.now y ≡ count_of (pieces_of c.args.material) y) at.2 (c.loop-piece.invariant at.0 (omega (arith, at.1, c.loop-piece-test.false)))),
   λ p. refl,
 )

@@ -1,6 +1,6 @@
-use Rattle.std.proofs.Common.{◌≡◌, ℕ, ◌<◌}
+use Rattle.std.proofs.Common.{◌≡◌, ℕ, ◌<◌, slice_index}
 use Rattle.place_index.specs.Material.{pieces_of, count_of}
 use Rattle.place_index.proofs.arrangement.is_arrangement.Given as goal
 
-abbrev pub invariant-loop-code : goal.invariant-loop-code
-invariant-loop-code l = (c : ℕ) → c < l.code → count_of l.pieces c ≡ count_of (pieces_of l.material) c
+abbrev pub invariant-loop-piece : goal.invariant-loop-piece
+invariant-loop-piece l = (k : ℕ) → k < l.piece-index → count_of l.pieces (slice_index l.pieces k) ≡ count_of (pieces_of l.material) (slice_index l.pieces k)

@@ -1,5 +1,4 @@
 use Rattle.std.proofs.Common.{◌≡◌, ◌<◌, ◌∙◌, ℕ, true, ap, sym, subst, arith}
-use Rattle.place_index.specs.Men.{stands}
 use Rattle.place_index.specs.Inside.Groups.{AreLoneSquares, IsLeadTurned}
 use Rattle.place_index.specs.Index.{IsPlacement, numbers_of, sum_of_products}
 use Rattle.place_index.specs.Shape.{factors_of}
@@ -7,12 +6,7 @@ use Rattle.place_index.specs.Turning.{turned, lead_file}
 use Rattle.place_index.specs.Inside.Turns.{turned_by}
 use Rattle.place_index.proofs.Indices.IndexLaw.{index_below, turned_placement, index_products}
 use Rattle.place_index.proofs.Turns.TurnedMen.{products_fit, lead_is_turned}
-use Rattle.place_index.proofs.Turns.Mirrorings.{codes_known}
 use Rattle.place_index.proofs.indexing.index.Goals as goal
-
-pub new-lone_squares-requires : goal.new-lone_squares-requires
-new-lone_squares-requires c =
-    subst (λ men. (k s : ℕ) → stands men k s ≡ true → k < 16) (sym c.men-men.ensures.is) (codes_known c.args.placed.now.material c.args.placed.now.men c.men-men.ensures.known c.men-men.ensures.placement)
 
 pub turn_of-turn-requires : goal.turn_of-turn-requires
 turn_of-turn-requires c = subst (λ men. AreLoneSquares men c.new-lone_squares.result) c.men-men.ensures.is c.new-lone_squares.ensures

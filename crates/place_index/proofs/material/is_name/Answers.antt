@@ -19,7 +19,7 @@ loop-i-preserved c k lt =
 
 pub returns : goal.returns
 returns c = (
-  λ f. ext_get_or 0 (name_at c.args.key) c.args.text.now (sym c.name_length-length.ensures.is ∙ sym c.if-text-length.false)
+  λ f. ext_get_or 0 (name_at c.args.material) c.args.text.now (sym c.name_length-length.ensures.is ∙ sym c.if-text-length.false)
       (λ k lt. c.loop-i.invariant k (omega (arith, lt, c.name_length-length.ensures.is, c.loop-i-test.false))),
   λ e. refl,
 )

@@ -3,4 +3,4 @@ use Rattle.place_index.specs.Material.{name_at}
 use Rattle.place_index.proofs.material.is_name.Given as goal
 
 abbrev pub invariant-loop-i : goal.invariant-loop-i
-invariant-loop-i l = (k : ℕ) → k < l.i → get_or (name_at l.key) k 0 ≡ get_or l.text k 0
+invariant-loop-i l = (k : ℕ) → k < l.i → get_or (name_at l.material) k 0 ≡ get_or l.text k 0

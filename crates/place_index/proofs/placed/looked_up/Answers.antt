@@ -1,4 +1,4 @@
-use Rattle.std.proofs.Common.{◌≡◌, ◌∙◌, cond, take, ap, refl, sym, subst}
+use Rattle.std.proofs.Common.{◌≡◌, ◌∙◌, cond, take, ap, refl, sym, subst, arith}
 use Rattle.place_index.specs.Men.{exchanged}
 use Rattle.place_index.specs.Index.{IsPlacement}
 use Rattle.board_core.specs.Side.{other}
@@ -9,8 +9,8 @@ use Rattle.place_index.proofs.LookUp.MenOn.{stood, placement_in_colours}
 use Rattle.place_index.proofs.Turns.TurnedPawns.{left_is}
 use Rattle.place_index.proofs.placed.looked_up.Goals as goal
 
-pub lead_square-lead-requires-clause-placed : goal.lead_square-lead-requires-clause-placed
-lead_square-lead-requires-clause-placed c =
+pub lead_square-lead-requires : goal.lead_square-lead-requires
+lead_square-lead-requires c =
     let men : take c.args.count c.in_colours.new.men ≡ cond c.args.exchanges (exchanged (men_on c.args.position.now.men)) (men_on c.args.position.now.men) =
     taken_in_colours c.args.count c.args.men c.in_colours.new.men (men_on c.args.position.now.men) c.args.exchanges c.in_colours.ensures c.requires.men in
     subst (IsPlacement c.args.material) (sym men)
@@ -21,7 +21,7 @@ invariant_of-result c =
     let men : take c.args.count c.in_colours.new.men ≡ cond c.args.exchanges (exchanged (men_on c.args.position.now.men)) (men_on c.args.position.now.men) =
     taken_in_colours c.args.count c.args.men c.in_colours.new.men (men_on c.args.position.now.men) c.args.exchanges c.in_colours.ensures c.requires.men in
     record {
-      material = c.requires.known;
+      material = omega (arith, c.key-key.ensures.is, c.key-key.ensures.below);
       count = c.requires.few;
       men = subst (IsPlacement c.args.material) (sym men)
           (placement_in_colours c.args.material c.args.position.now.men c.args.exchanges (stood c.args.position.now c.parts-position.ensures.position) c.requires.named);

@@ -3,6 +3,7 @@ use Rattle.place_index.specs.Men.{man}
 use Rattle.place_index.specs.Inside.ShortLists.{inserted}
 use Rattle.place_index.specs.Pawns.{pawn_number, pawn_numbers_of}
 use Rattle.place_index.specs.Inside.Turns.{turn_square, turned_by}
+use Rattle.place_index.proofs.Materials.Comparing.{differs, same}
 use Rattle.place_index.proofs.Indices.Collecting.{numbers_end, numbers_pass, numbers_take, numbers_room}
 use Rattle.place_index.proofs.Turns.Mirrorings.{turned_men, turned_at, turned_within, turned_length}
 use Rattle.place_index.proofs.squares.pawn_numbers_of.Goals as goal
@@ -13,11 +14,11 @@ men-init c = record {
   within = omega arith;
 }
 
-pub men-preserved-then-man-code : goal.men-preserved-then-man-code
-men-preserved-then-man-code c = record {
+pub men-preserved-then-ne : goal.men-preserved-then-ne
+men-preserved-then-ne c = record {
   is = c.men.invariant.is
       ∙ numbers_pass (turned_by c.args.turn c.args.men.now) c.men.i c.args.code (man c.index-men-i.result.code (turn_square c.args.turn c.index-men-i.result.square)) c.men-test.true
-      (turned_within c.args.turn c.args.men.now c.men.i c.men.invariant.within) (turned_at c.args.turn c.args.men.now c.men.i c.index-men-i.result c.men-test.true c.men.invariant.within c.index-men-i.is) c.if-man-code.true;
+      (turned_within c.args.turn c.args.men.now c.men.i c.men.invariant.within) (turned_at c.args.turn c.args.men.now c.men.i c.index-men-i.result c.men-test.true c.men.invariant.within c.index-men-i.is) (differs c.index-men-i.result.code c.args.code c.ne.result c.ne.ensures c.if-ne.true);
   within = omega (arith, c.men.invariant.within);
 }
 
@@ -27,7 +28,7 @@ men-preserved c = record {
       ∙ ap (λ n. inserted n c.men.numbers) (c.pawn_number-number.ensures ∙ ap pawn_number c.square-square.ensures)
       ∙ ap (inserted (pawn_number (turn_square c.args.turn c.index-men-i.result.square))) c.men.invariant.is
       ∙ numbers_take (turned_by c.args.turn c.args.men.now) c.men.i c.args.code (man c.index-men-i.result.code (turn_square c.args.turn c.index-men-i.result.square)) (turned_men c.args.turn c.args.men.now c.requires.men) c.requires.pawns c.men-test.true
-      (turned_within c.args.turn c.args.men.now c.men.i c.men.invariant.within) (turned_at c.args.turn c.args.men.now c.men.i c.index-men-i.result c.men-test.true c.men.invariant.within c.index-men-i.is) c.if-man-code.false;
+      (turned_within c.args.turn c.args.men.now c.men.i c.men.invariant.within) (turned_at c.args.turn c.args.men.now c.men.i c.index-men-i.result c.men-test.true c.men.invariant.within c.index-men-i.is) (same c.index-men-i.result.code c.args.code c.ne.result c.ne.ensures c.if-ne.false);
   within = omega (arith, c.men.invariant.within);
 }
 
@@ -38,5 +39,5 @@ insert-requires c =
       c.requires.few,
       ap length c.men.invariant.is,
       numbers_room (turned_by c.args.turn c.args.men.now) c.men.i c.args.code (man c.index-men-i.result.code (turn_square c.args.turn c.index-men-i.result.square)) (turned_men c.args.turn c.args.men.now c.requires.men) c.requires.pawns c.men-test.true
-          (turned_within c.args.turn c.args.men.now c.men.i c.men.invariant.within) (turned_at c.args.turn c.args.men.now c.men.i c.index-men-i.result c.men-test.true c.men.invariant.within c.index-men-i.is) c.if-man-code.false,
+          (turned_within c.args.turn c.args.men.now c.men.i c.men.invariant.within) (turned_at c.args.turn c.args.men.now c.men.i c.index-men-i.result c.men-test.true c.men.invariant.within c.index-men-i.is) (same c.index-men-i.result.code c.args.code c.ne.result c.ne.ensures c.if-ne.false),
     )

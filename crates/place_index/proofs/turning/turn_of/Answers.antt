@@ -7,7 +7,7 @@ use Rattle.place_index.specs.Turning.{lead_pawn}
 use Rattle.place_index.specs.Inside.Turns.{low, turn_square, is_first_above}
 use Rattle.place_index.specs.Index.{IsPlacement, lead_codes}
 use Rattle.place_index.proofs.Turns.TurnedMen.{pawned_of, plain_of}
-use Rattle.place_index.proofs.Turns.Mirrorings.{pawns_turned, pieces_turned, lead_once, lead_some, all_small, at_least_four}
+use Rattle.place_index.proofs.Turns.Mirrorings.{pawns_turned, pieces_turned, lead_once, lead_some, at_least_four}
 use Rattle.place_index.proofs.turning.turn_of.Goals as goal
 
 pub returns-then-has_pawns-clause-is : goal.returns-then-has_pawns-clause-is
@@ -17,18 +17,11 @@ returns-then-has_pawns-clause-is c same =
     c.lead_pawn-lead.ensures (subst (λ k. has_pawns k ≡ true) (sym same) pawned) ∙ ap (λ k. lead_pawn k c.args.placed.now.men) same in
     pawns_turned c.args.shape.now c.args.placed.now.men c.lead_pawn-lead.result _ pawned lead (ap (λ f. leb 4 f) c.file.ensures.value ∙ at_least_four (c.lead_pawn-lead.result % 8))
 
-pub turn_of_pieces-requires-clause-some : goal.turn_of_pieces-requires-clause-some
-turn_of_pieces-requires-clause-some c =
+pub turn_of_pieces-requires : goal.turn_of_pieces-requires
+turn_of_pieces-requires c =
     let plain : has_pawns c.args.shape.now.material ≡ false =
     subst (λ k. has_pawns k ≡ false) c.material-material.ensures.is (plain_of c.material-material.result (λ some. false≢true (sym c.if-has_pawns.false ∙ c.has_pawns.ensures.1 some))) in
     omega (arith, lead_some c.args.shape.now c.material-material.ensures.shape plain, ap length c.lead_codes-lead.ensures)
-
-pub turn_of_pieces-requires-clause-codes : goal.turn_of_pieces-requires-clause-codes
-turn_of_pieces-requires-clause-codes c i lt =
-    let plain : has_pawns c.args.shape.now.material ≡ false =
-    subst (λ k. has_pawns k ≡ false) c.material-material.ensures.is (plain_of c.material-material.result (λ some. false≢true (sym c.if-has_pawns.false ∙ c.has_pawns.ensures.1 some))) in
-    let small = all_small c.args.shape.now.material (lead_codes c.args.shape.now) c.material-material.ensures.shape.material (lead_once c.args.shape.now c.material-material.ensures.shape plain) in
-    subst (λ codes. (i : ℕ) → i < length codes → slice_index codes i < 16) (sym c.lead_codes-lead.ensures) small i lt
 
 pub returns-clause-is : goal.returns-clause-is
 returns-clause-is c same =

@@ -2,13 +2,7 @@ use Rattle.std.proofs.Common.{◌≡◌, ◌∙◌, ap, sym, subst}
 use Rattle.place_index.specs.Material.{count_of, pieces_of}
 use Rattle.place_index.specs.Men.{squares_of}
 use Rattle.place_index.proofs.Indices.LoneGroups.{lone_found}
-use Rattle.place_index.proofs.Turns.Mirrorings.{once_small}
 use Rattle.place_index.proofs.indexing.Turned.square_of.Goals as goal
-
-pub of-from-requires : goal.of-from-requires
-of-from-requires c =
-    let one : count_of (pieces_of c.self.inside.shape.now.material) c.args.code ≡ 1 = subst (λ v. count_of (pieces_of v.shape.material) c.args.code ≡ 1) (sym c.self.view_is) c.requires in
-    once_small c.self.inside.shape.now.material c.args.code c.self.invariant.turned.shape.material one
 
 pub returns : goal.returns
 returns c =

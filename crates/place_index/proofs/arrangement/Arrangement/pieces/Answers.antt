@@ -1,7 +1,7 @@
 use Rattle.std.proofs.Common.{ap, length, arith}
 use Rattle.place_index.proofs.Shapes.Greatest.{good_length}
 use Rattle.place_index.proofs.Materials.MenTables.{men_least}
-use Rattle.place_index.proofs.shape.Shape.pieces.Goals as goal
+use Rattle.place_index.proofs.arrangement.Arrangement.pieces.Goals as goal
 
 pub returns-clause-least : goal.returns-clause-least
 returns-clause-least c =
