@@ -6,9 +6,11 @@ use Rattle.system_io.specs.declared.traced_file.Traced.{Traced}
 use Rattle.system_io.specs.declared.traced_file.Reach.TheVariants as reach
 use Rattle.system_io.specs.KeptFiles.{IsLong, KeptFacts, Stage, Written, Synced, Renamed, bytes_of}
 
+-- bytes that the file keeps
 abbrev pub Bytes : Type 0
 Bytes = Vec ℕ Global
 
+-- what may stand there is the one or the other
 abbrev pub IsOneOf : Option (List ℕ) → Option (List ℕ) → Option Bytes → Type 0
 IsOneOf a b o = (bytes_of o ≡ a) ⊎ (bytes_of o ≡ b)
 
@@ -18,6 +20,7 @@ pub record SaysOneOf {C : Type 0} (t : Traced C) (a b : Option (List ℕ)) : Typ
   pub stands : IsOneOf a b t.stands
   pub earlier : AllByRecursion (IsOneOf a b) t.earlier.items
 
+-- these bytes are there
 pub record HasBytes (o : Option Bytes) (bytes : List ℕ) : Type 0 where
   pub v : Bytes
   pub is : o ≡ Some v

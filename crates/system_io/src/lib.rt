@@ -35,5 +35,5 @@ pub use system_disk::SystemDisk;
 pub use system_file::{SystemCalls, SystemFile};
 pub use system_host::SystemHost;
 pub use system_input::SystemInput;
-pub use traced_file::{FileCalls, Reach, Traced, read_as_told};
+pub use traced_file::{FileCalls, Traced, read_as_told};
 pub use udp_port::UdpPort;
