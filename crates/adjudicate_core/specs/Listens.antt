@@ -15,7 +15,7 @@ use Rattle.arbiter_core.specs.Setups.{SetupView}
 use Rattle.arbiter_service.specs.declared.file_keeper.FileKeeper.{FileKeeper}
 use Rattle.adjudicate_core.specs.declared.commands.listen.Listen.{Listen}
 use Rattle.adjudicate_core.specs.Given.{Given}
-use Rattle.system_io.specs.KeptFiles.{KeptFacts}
+use Rattle.system_io.specs.KeptFiles.{KeptFacts, CannotStart}
 use Rattle.system_io.specs.Hosts.{HostFacts}
 use Rattle.arbiter_service.specs.ServedLines.{refused_keeper, refused_port}
 use Rattle.adjudicate_core.specs.ToldLines.{refused_memory}
@@ -24,7 +24,7 @@ use Rattle.adjudicate_core.specs.Looks.{gathered}
 use Rattle.system_io.specs.Ports.{Passed, PortFacts}
 use Rattle.arbiter_service.specs.Serving.{Scene, scene}
 use Rattle.adjudicate_core.specs.Reply.{IsText}
-use Rattle.arbiter_service.specs.StoredBytes.{IsInFile, file_of}
+use Rattle.arbiter_service.specs.StoredBytes.{StartsOver}
 use Rattle.adjudicate_core.specs.Telling.{TellsOne}
 
 -- the setup of the arbiter
@@ -56,12 +56,12 @@ pub data OpensAndServes {F : Type 0} (facts : F → KeptFacts) (l : Listen) (set
   Served : ServesOpened facts setup l.datagrams l.fetch old new (Ok status) → OpensAndServes facts l setup old new status
   Unopened : (fault : OpenFault) → IsOpened facts setup old.at new.at (Err fault) → Passed old.port new.port [] → TellsUnopened fault old.written new.written status → OpensAndServes facts l setup old new status
 
--- over the file in which the record is kept: it can't be read; or an arbiter is opened over a keeper of this file, which has
--- stored what a start finds there
+-- over the file in which the record is kept: it can't be brought to the disk or read; or an arbiter is opened over a keeper that
+-- started over this file, and so has stored one of any two that it said a start finds, and what every later start finds
 pub data KeepsAndServes {F : Type 0} (facts : F → KeptFacts) (l : Listen) (setup : SetupView) (file : F) (port port' : PortFacts) (old new : Option (List ℕ)) (status : ℕ) : Type 0 where
-  Unreadable : (facts file).unreadable → Passed port port' [] → TellsOne refused_keeper old new status → KeepsAndServes facts l setup file port port' old new status
+  Unreadable : CannotStart (facts file) → Passed port port' [] → TellsOne refused_keeper old new status → KeepsAndServes facts l setup file port port' old new status
   NoRoomToKeep : Passed port port' [] → TellsOne refused_memory old new status → KeepsAndServes facts l setup file port port' old new status
-  Kept : (keeper after : FileKeeper F) → file_of keeper ≡ file → IsInFile facts keeper → OpensAndServes facts l setup (scene keeper port old) (scene after port' new) status → KeepsAndServes facts l setup file port port' old new status
+  Kept : (keeper after : FileKeeper F) → StartsOver facts file keeper → OpensAndServes facts l setup (scene keeper port old) (scene after port' new) status → KeepsAndServes facts l setup file port port' old new status
 
 -- at a port, over the file at the path of the words
 pub data ServesAt {P F : Type 0} (host : Hosted P F) (l : Listen) (setup : SetupView) (port port' : PortFacts) (old new : Option (List ℕ)) (status : ℕ) : Type 0 where

@@ -24,15 +24,16 @@ use Rattle.arbiter_service.specs.declared.file_keeper.FileKeeper.{FileKeeper}
 use Rattle.system_io.specs.KeptFiles.{KeptFacts, FindsOldOrNew}
 use Rattle.arbiter_service.specs.Serving.{InTurn, Loss, NoLoss, KeeperLost, PortLost, loses_keeper, with_last}
 use Rattle.arbiter_service.specs.StoredBytes.{Failed, Landed, PutsInto, file_of, keeper_over, stored}
-use Rattle.arbiter_service.specs.OverFiles.{FindsAtLoss, FindsEither, FindsRecord, IsItsRecord}
+use Rattle.arbiter_service.specs.OverFiles.{GoesOn, FindsAtLoss, FindsEither, FindsRecord, IsItsRecord}
 use Rattle.arbiter_core.proofs.Growing.{Grows, IsOwn, put_grows}
+use Rattle.arbiter_service.proofs.Telling.{IsHonest, answer_honest, still_on}
 
 -- these bytes spell the arbiter's record
 abbrev pub SpellsOwn : {F : Type 0} → Moment (FileKeeper F) → List ℕ → Type 0
 SpellsOwn at bytes = SpellsRecord bytes (spelled_as at.arbiter.me.stamp at.arbiter.setup.delay at.arbiter.kept)
 
 -- a record of its own moves is whole
-own_whole : (r : Rules) (kept : Recorded) → IsOwn r kept → IsWhole r kept
+pub own_whole : (r : Rules) (kept : Recorded) → IsOwn r kept → IsWhole r kept
 own_whole r kept own = record {
   game = kept.moves;
   reached = own.reached;
@@ -55,7 +56,7 @@ safe_finds facts at s = record { bytes = s.bytes; is = (s.spelled, own_whole _ _
 safe_either : {F : Type 0} (facts : F → KeptFacts) (at : Moment (FileKeeper F)) → IsSafe facts at → FindsEither facts at
 safe_either facts at s =
     let is : IsItsRecord at.arbiter s.bytes at.arbiter.kept = (s.spelled, own_whole _ _ s.own) in
-    record { bytes = s.bytes; is = is; next = at.arbiter.kept; sent = s.bytes; is_next = is; found = inl s.found }
+    record { bytes = s.bytes; is = is; next = at.arbiter.kept; sent = s.bytes; is_next = is; goes_on = still_on at.arbiter.kept; found = inl s.found }
 
 -- what an exchange leaves
 pub record Leaves {F : Type 0} (facts : F → KeptFacts) (e : Exchange (FileKeeper F)) : Type 0 where
@@ -76,8 +77,8 @@ module _ {F : Type 0} (facts : F → KeptFacts) (old : Moment (FileKeeper F)) (s
       let safe : IsSafe facts (moment v old.keeper) = record { bytes = s.bytes; stored_is = s.stored_is; spelled = spelled; found = s.found; own = own } in
       subst (λ (w : View). IsSafe facts (moment w e.after.keeper)) (sym is) (subst (λ (k : FileKeeper F). IsSafe facts (moment v k)) (sym same) safe)
 
-  landed : (next : Recorded) (outputs : List Message) (window : Window) (p : PutsOnce (keeper_over facts) old.arbiter next outputs window old.keeper e.after.keeper e.after.arbiter e.told) → Grows (rules_at old.arbiter.setup) old.arbiter.kept next → Leaves facts e
-  landed next outputs window p grows = by_keep p.keep p.lands p.once
+  landed : (next : Recorded) (outputs : List Message) (window : Window) (p : PutsOnce (keeper_over facts) old.arbiter next outputs window old.keeper e.after.keeper e.after.arbiter e.told) → Grows (rules_at old.arbiter.setup) old.arbiter.kept next → GoesOn old.arbiter.kept next → Leaves facts e
+  landed next outputs window p grows goes = by_keep p.keep p.lands p.once
     where
       new : Moment (FileKeeper F)
       new = e.after
@@ -98,7 +99,7 @@ module _ {F : Type 0} (facts : F → KeptFacts) (old : Moment (FileKeeper F)) (s
       lost : e.told ≡ Err KeeperFailed → new.arbiter ≡ downed old.arbiter → (sent : List ℕ) → SpellsRecord sent (spelled_as old.arbiter.me.stamp old.arbiter.setup.delay next) → ((facts (file_of new.keeper)).finds (Some s.bytes) (Some s.bytes) ⊎ ((facts (file_of new.keeper)).finds (Some s.bytes) (Some sent) ⊎ (facts (file_of new.keeper)).finds (Some sent) (Some sent))) → Leaves facts e
       lost told is sent spells found = record {
         safe = λ going. absurd (let lossy : loses_keeper e.told ≡ true = ap loses_keeper told in both_ways _ going lossy);
-        either = subst (λ (v : View). FindsEither facts (moment v new.keeper)) (sym is) (record { bytes = s.bytes; is = (s.spelled, own_whole _ _ s.own); next = next; sent = sent; is_next = (spells, own_whole _ _ grows.own); found = found });
+        either = subst (λ (v : View). FindsEither facts (moment v new.keeper)) (sym is) (record { bytes = s.bytes; is = (s.spelled, own_whole _ _ s.own); next = next; sent = sent; is_next = (spells, own_whole _ _ grows.own); goes_on = goes; found = found });
       }
 
       in_doubt : ((was : Option (List ℕ)) → (facts (file_of old.keeper)).finds was was → FindsOldOrNew (facts (file_of new.keeper)) was p.sent) → (facts (file_of new.keeper)).finds (Some s.bytes) (Some s.bytes) ⊎ ((facts (file_of new.keeper)).finds (Some s.bytes) (Some p.sent) ⊎ (facts (file_of new.keeper)).finds (Some p.sent) (Some p.sent))
@@ -118,7 +119,10 @@ module _ {F : Type 0} (facts : F → KeptFacts) (old : Moment (FileKeeper F)) (s
   by_answer (Sends outputs window) is (inr h) p = let u = h.1 in still_safe facts e (unmoved old.arbiter u.arbiter u.keeper s.spelled s.own)
   by_answer (Puts next outputs window) is h (inl p) = still_safe facts e (unmoved old.arbiter p.arbiter p.keeper s.spelled s.own)
   by_answer (Puts next outputs window) is h (inr p) =
-      landed next outputs window p (put_grows (rules_at old.arbiter.setup) old.arbiter.me old.arbiter.kept old.arbiter.window s.own next outputs window old.arbiter.is_down (heard old.arbiter.me.stamp e.datagram) is)
+      let grows = put_grows (rules_at old.arbiter.setup) old.arbiter.me old.arbiter.kept old.arbiter.window s.own next outputs window old.arbiter.is_down (heard old.arbiter.me.stamp e.datagram) is in
+      let honest : IsHonest old.arbiter.kept (Puts next outputs window) = subst (IsHonest old.arbiter.kept) (sym is) (answer_honest (rules_at old.arbiter.setup) old.arbiter.me old.arbiter.kept old.arbiter.window old.arbiter.is_down (heard old.arbiter.me.stamp e.datagram)) in
+      let more = grows.more in
+      landed next outputs window p grows (honest.1 (omega arith))
 
   leaves : Delivers (keeper_over facts) old e → Leaves facts e
   leaves d = by_answer (answer_at old.arbiter e.datagram) refl d.answered d.put

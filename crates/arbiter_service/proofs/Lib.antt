@@ -3,3 +3,7 @@ pub mod ServingLaws
 pub mod StepLaws
 pub mod FoundLaws
 pub mod OpenedLaws
+pub mod Telling
+pub mod Turns
+pub mod StillThere
+pub mod RunLaws

@@ -14,7 +14,7 @@ use Rattle.arbiter_core.specs.declared.fault.OpenFault.TheVariants.{BadSetup, Ke
 use Rattle.arbiter_core.specs.Answering.{Identity}
 use Rattle.arbiter_core.specs.Recording.{Recorded, reaches}
 use Rattle.arbiter_core.specs.Opens.{FirstLands, IsWhole, Opens, OpensIfGood, OpensOver, Told, first_record, running}
-use Rattle.arbiter_core.specs.Setups.{SetupView, IsGood, IsIdentity, rules_at}
+use Rattle.arbiter_core.specs.Setups.{SetupView, IsGood, rules_at}
 use Rattle.arbiter_core.specs.Views.{View}
 use Rattle.arbiter_core.specs.Delivers.{IsSpelled, Moment, moment}
 use Rattle.arbiter_service.specs.declared.file_keeper.FileKeeper.{FileKeeper}

@@ -3,3 +3,4 @@ pub mod ServedLines
 pub mod Serving
 pub mod OverFiles
 pub mod Inside
+pub mod Lives

@@ -1,6 +1,8 @@
 -- An arbiter over a file in which its record is kept (this project's own).
-use Rattle.std.specs.Prelude.{◌≡◌, ◌⊎◌, ℕ, Bool, List, [], Some, Result, Ok, Err}
+use Rattle.std.specs.Prelude.{◌≡◌, ◌⊎◌, ◌++◌, ℕ, Bool, List, [], Some, Result, Ok, Err}
 use Rattle.std.specs.List.{AllByRecursion}
+use Rattle.board_core.specs.declared.moves.Move.{Move as Moves}
+use Rattle.board_core.specs.declared.verdict.Verdict.{Verdict}
 use Rattle.system_io.specs.declared.output.WriteFault.{WriteFault}
 use Rattle.arbiter_core.specs.declared.fault.OpenFault.{OpenFault}
 use Rattle.arbiter_core.specs.declared.fault.OpenFault.TheVariants.{BadSetup}
@@ -28,19 +30,26 @@ pub record IsOpened {F : Type 0} (facts : F → KeptFacts) (setup : SetupView) (
 abbrev pub IsItsRecord : View → List ℕ → Recorded → Type 0
 IsItsRecord v bytes kept = IsResumed (rules_at v.setup) v.me.stamp bytes kept
 
+-- the later record has the moves of the earlier one first; after a verdict there is no other
+pub record GoesOn (earlier later : Recorded) : Type 0 where
+  pub more : List Moves
+  pub moves : later.moves ≡ earlier.moves ++ more
+  pub ended : (v : Verdict) → earlier.verdict ≡ Some v → later ≡ earlier
+
 -- a start that comes now finds the arbiter's record in the file
 pub record FindsRecord {F : Type 0} (facts : F → KeptFacts) (at : Moment (FileKeeper F)) : Type 0 where
   pub bytes : List ℕ
   pub is : IsItsRecord at.arbiter bytes at.arbiter.kept
   pub found : (facts (file_of at.keeper)).finds (Some bytes) (Some bytes)
 
--- it finds the arbiter's record, or another of its game; which one, a failed put says (`PutsInto`, by what it was to keep)
+-- it finds the arbiter's record, or one that goes on from it; which one, a failed put says (`PutsInto`, by what it was to keep)
 pub record FindsEither {F : Type 0} (facts : F → KeptFacts) (at : Moment (FileKeeper F)) : Type 0 where
   pub bytes : List ℕ
   pub is : IsItsRecord at.arbiter bytes at.arbiter.kept
   pub next : Recorded
   pub sent : List ℕ
   pub is_next : IsItsRecord at.arbiter sent next
+  pub goes_on : GoesOn at.arbiter.kept next
   pub found : (facts (file_of at.keeper)).finds (Some bytes) (Some bytes) ⊎ ((facts (file_of at.keeper)).finds (Some bytes) (Some sent) ⊎ (facts (file_of at.keeper)).finds (Some sent) (Some sent))
 
 abbrev pub FindsAtLoss : {F : Type 0} → (F → KeptFacts) → Loss (FileKeeper F) → Type 0

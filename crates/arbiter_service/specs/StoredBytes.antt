@@ -3,7 +3,7 @@ use Rattle.std.specs.Prelude.{◌≡◌, ℕ, List, Option, Some, None, cond}
 use Rattle.arbiter_core.specs.Keeping.{KeeperFacts}
 use Rattle.system_io.specs.Failures.{Risen}
 use Rattle.arbiter_service.specs.declared.file_keeper.FileKeeper.{FileKeeper}
-use Rattle.system_io.specs.KeptFiles.{KeptFacts, FindsOldOrNew}
+use Rattle.system_io.specs.KeptFiles.{KeptFacts, FindsOldOrNew, IsOneOfFound}
 
 -- the bytes that it keeps, if any
 abbrev pub stored : {F : Type 0} → FileKeeper F → Option (List ℕ)
@@ -16,6 +16,12 @@ file_of k = k.file
 -- a start that comes now finds in the file what the keeper has stored
 abbrev pub IsInFile : {F : Type 0} → (F → KeptFacts) → FileKeeper F → Type 0
 IsInFile facts k = (facts (file_of k)).finds (stored k) (stored k)
+
+-- a start over the file that was left: its keeper has stored one of any two of which the file said that each start finds the one
+-- or the other, and goes on over a file in which it is
+pub record StartsOver {F : Type 0} (facts : F → KeptFacts) (left : F) (start : FileKeeper F) : Type 0 where
+  pub one : IsOneOfFound (facts left) (stored start)
+  pub in_file : IsInFile facts start
 
 -- how often its puts have failed
 abbrev pub keeper_faults : {F : Type 0} → FileKeeper F → ℕ

@@ -1,12 +1,12 @@
 //! The keeper over a file.
 
-ghost use Rattle.std.specs.Prelude.{◌≡◌, ◌≤◌, ℕ, List, Option, Some, length, vec_capacity, IfOk, IfErr, OnOk, OnErr, IsErrOf};
+ghost use Rattle.std.specs.Prelude.{◌≡◌, ◌≤◌, Some, length, vec_capacity, IfOk, IsErrOf};
 ghost use Rattle.system_io.specs.Failures.{Risen};
-ghost use Rattle.system_io.specs.KeptFiles.{FindsOldOrNew};
+ghost use Rattle.system_io.specs.KeptFiles.{CannotStart, IsOneOfFound};
 
 use arbiter_core::{KeepFault, Keeper};
 use std::alloc::{AllocError, Global};
-use system_io::{KeptFile, MOST_KEPT_BYTES, ReadFault, replace};
+use system_io::{KeptFile, MOST_KEPT_BYTES, ReadFault, begin, replace};
 
 /// Keeps bytes in a file, and stores them in room for 8217 that `new` makes. No other call takes memory but `get`, and a get
 /// never fails.
@@ -32,19 +32,18 @@ fn roomy(alloc: Global, bytes: &[u8]) -> Result<Vec<u8>, AllocError>
 impl<F: KeptFile + Drop> FileKeeper<F> {
     ghost use Rattle.arbiter_service.specs.StoredBytes.{IsInFile, file_of, stored};
 
-    /// A keeper over a file, which is read here and never again: a file that isn't there is nothing kept. Before it is read its
-    /// folder is synced, so that a loss of power can't take back what is read. `Unreadable` where the folder can't be synced, or
+    /// A keeper over a file, which is read here and never again: a file that isn't there is nothing kept. Before it is read it and
+    /// its folder are synced, so that a loss of power can't take back what is read. `Unreadable` where they can't be synced, or
     /// the file can't be read or has more than 8217 bytes.
     pub fn new(alloc: Global, file: F) -> Result<FileKeeper<F>, ReadFault>
+        // What is stored is one of any two of which the file says that each start finds the one or the other,
+        ensures one { IfOk result (λ k. IsOneOfFound (F.facts file) (stored k)) }
+        // and every later start finds it.
         ensures found { IfOk result (IsInFile F.facts) }
-        ensures file { IfOk result (λ k. file_of k ≡ file) }
-        ensures cause { IsErrOf result ReadFault.Unreadable → (F.facts file).unreadable }
+        ensures cause { IsErrOf result ReadFault.Unreadable → CannotStart (F.facts file) }
     {
-        match file.settle() {
-            Ok(()) => {}
-            Err(fault) => return Err(fault),
-        }
-        let got = match file.read(alloc) {
+        let mut file = file;
+        let got = match begin(alloc, &mut file) {
             Ok(got) => got,
             Err(fault) => return Err(fault),
         };
@@ -65,6 +64,19 @@ impl<F: KeptFile + Drop> FileKeeper<F> {
         ensures { result.now ≡ file_of self.now }
     {
         &self.file
+    }
+
+    /// The file, of a keeper that is done with.
+    pub fn into_file(self) -> F
+        ensures { result ≡ file_of self }
+    {
+        let FileKeeper {
+            file,
+            bytes: _bytes,
+            is_kept: _is_kept,
+            failures: _failures,
+        } = self;
+        file
     }
 
     /// Stores bytes that are in the file.
@@ -90,27 +102,6 @@ impl<F: KeptFile + Drop> FileKeeper<F> {
         self.failures = self.failures.saturating_add(1);
         KeepFault::Failed
     }
-
-    /// Lets bytes take the place of those in the file, and only then stores them. Where that fails the stored bytes stay, and a
-    /// start finds the old bytes or the new.
-    fn keep(&mut self, bytes: &[u8]) -> Result<(), KeepFault>
-        requires { length bytes.now ≤ 8217 }
-        ensures ok { OnOk result (stored self.new ≡ Some bytes.now) }
-        ensures found { OnOk result ((F.facts self.new.file).finds (Some bytes.now) (Some bytes.now)) }
-        ensures err { OnErr result (stored self.new ≡ stored self.old) }
-        ensures left { (old : Option (List ℕ)) → (F.facts self.old.file).finds old old → OnErr result (FindsOldOrNew (F.facts self.new.file) old bytes.now) }
-        ensures fault { IfErr result (λ e. e ≡ KeepFault.Failed) }
-        ensures cause { OnErr result (Risen self.old.failures self.new.failures) }
-        ensures count { self.old.failures ≤ self.new.failures }
-    {
-        match replace(&mut self.file, bytes) {
-            Ok(()) => {
-                self.store(bytes);
-                Ok(())
-            }
-            Err(_) => Err(self.fail()),
-        }
-    }
 }
 
 impl<F: KeptFile + Drop> Keeper for FileKeeper<F> {
@@ -119,8 +110,15 @@ impl<F: KeptFile + Drop> Keeper for FileKeeper<F> {
     // Which record a start finds after a put that failed isn't known; one that succeeds has brought the bytes into the file.
     ghost facts = { keeper_over F.facts };
 
+    // Bytes take the place of those in the file, and only then they are stored.
     fn put(&mut self, bytes: &[u8]) -> Result<(), KeepFault> {
-        self.keep(bytes)
+        match replace(&mut self.file, bytes) {
+            Ok(()) => {
+                self.store(bytes);
+                Ok(())
+            }
+            Err(_) => Err(self.fail()),
+        }
     }
 
     fn get(&mut self, alloc: Global) -> Result<Option<Vec<u8>>, KeepFault> {

@@ -7,10 +7,14 @@
 
 mod file_keeper;
 mod heard;
+mod laws;
 mod over_file;
 mod serving;
+mod stopping;
 
 pub use file_keeper::FileKeeper;
 pub use heard::verdict_or_none;
+pub use laws::keeps_what_it_told;
 pub use over_file::open_and_serve;
 pub use serving::serve;
+pub use stopping::run_after;

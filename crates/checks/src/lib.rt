@@ -34,8 +34,6 @@ mod kept_tests;
 #[cfg(test)]
 mod manifest_tests;
 #[cfg(test)]
-mod memory_file;
-#[cfg(test)]
 mod memory_port;
 #[cfg(test)]
 mod message_tests;

@@ -1,12 +1,11 @@
 //! A host in memory: a port at which datagrams wait, and a kept file.
 
-ghost use Rattle.std.specs.Prelude.{◌≡◌, ◌≤◌, length, IfOk, IfSome, IfNone};
+ghost use Rattle.std.specs.Prelude.{◌≡◌, ◌≤◌, IfNone};
 ghost use Rattle.system_io.specs.Failures.{Risen};
 
 use std::alloc::{AllocError, Global};
-use std::io;
 use std::time::Duration;
-use system_io::{BindFault, Host, KeptFile, Port, PortFault, ReadFault, read_at_most};
+use system_io::{BindFault, DiskFile, Host, Outcome, Port, PortFault};
 
 /// A port at which datagrams wait; what is sent there goes nowhere.
 #[derive(Drop)]
@@ -90,50 +89,33 @@ pub(crate) enum Stands<'a> {
     Unsettled,
 }
 
-/// What is read of a file with these bytes.
-fn read_bytes(alloc: Global, bytes: &[u8]) -> Result<Option<Vec<u8>>, ReadFault>
-    ensures { IfOk result (λ got. IfSome got (λ v. length v.items ≤ 8217)) }
-{
-    match read_at_most(alloc, bytes, 0, 8217) {
-        Ok(bytes) => Ok(Some(bytes)),
-        Err(fault) => Err(fault),
-    }
-}
-
-impl<'a> KeptFile for Stands<'a> {
-    ghost use Rattle.system_io.specs.Premises.{system_file};
-
-    ghost facts = { λ _. system_file };
-
-    fn settle(&self) -> Result<(), ReadFault> {
+impl<'a> Stands<'a> {
+    /// The bytes of a file, if there is one.
+    fn bytes(&self) -> Option<&'a [u8]> {
         match self {
-            Stands::Unsettled => Err(ReadFault::Unreadable),
-            _ => Ok(()),
+            Stands::Bytes(bytes) => Some(*bytes),
+            _ => None,
         }
     }
 
-    fn read(&self, alloc: Global) -> Result<Option<Vec<u8>>, ReadFault> {
-        match self {
-            Stands::Bytes(bytes) => read_bytes(alloc, bytes),
-            Stands::Nothing => Ok(None),
-            Stands::Unreadable | Stands::Unsettled => Err(ReadFault::Unreadable),
+    /// What comes of the calls for it: the first fails where the folder can't be synced.
+    fn outcomes(&self, alloc: Global) -> Result<Vec<Outcome>, AllocError> {
+        let mut outcomes = Vec::new(alloc);
+        if matches!(self, Stands::Unsettled) {
+            outcomes.push(Outcome::Before)?;
         }
+        Ok(outcomes)
     }
 
-    fn write_beside(&mut self, _bytes: &[u8]) -> io::Result<()> {
-        Ok(())
-    }
-
-    fn sync_beside(&mut self) -> io::Result<()> {
-        Ok(())
-    }
-
-    fn rename(&mut self) -> io::Result<()> {
-        Ok(())
-    }
-
-    fn sync_folder(&mut self) -> io::Result<()> {
-        Ok(())
+    /// The file on a disk.
+    fn on_disk(&self, alloc: Global) -> Result<DiskFile, AllocError> {
+        let stands = match self.bytes() {
+            Some(bytes) => Some(Vec::from_slice(alloc, bytes)?),
+            None => None,
+        };
+        let reads_fail = matches!(self, Stands::Unreadable);
+        let outcomes = self.outcomes(alloc)?;
+        Ok(DiskFile::new(alloc, stands, outcomes, reads_fail))
     }
 }
 
@@ -159,7 +141,7 @@ impl<'a> MemoryHost<'a> {
 impl<'a> Host for MemoryHost<'a> {
     type Port = WaitingPort<'a>;
 
-    type File = Stands<'a>;
+    type File = DiskFile;
 
     ghost use Rattle.system_io.specs.Premises.{system_host};
 
@@ -181,7 +163,7 @@ impl<'a> Host for MemoryHost<'a> {
         })
     }
 
-    fn file(&self, _alloc: Global, _path: &str) -> Result<Stands<'a>, AllocError> {
-        Ok(self.stands)
+    fn file(&self, alloc: Global, _path: &str) -> Result<DiskFile, AllocError> {
+        self.stands.on_disk(alloc)
     }
 }

@@ -1,5 +1,15 @@
 -- How bytes come to stand under a file's name (this project's own).
-use Rattle.std.specs.Prelude.{◌⊎◌, ℕ, List, Option, Some}
+use Rattle.std.specs.Prelude.{◌≡◌, ◌⊎◌, ◌<◌, ℕ, List, length, Option, Some, None, Vec, option_map}
+use Rattle.std.specs.declared.alloc.Global.{Global}
+
+-- what stands under a name: its bytes, or nothing
+abbrev pub bytes_of : Option (Vec ℕ Global) → Option (List ℕ)
+bytes_of o = option_map (λ v. v.items) o
+
+-- it has more bytes than are kept
+abbrev pub IsLong : Option (List ℕ) → Type 0
+IsLong None = ⊥
+IsLong (Some bytes) = 8217 < length bytes
 
 -- how far bytes have come on their way to the name
 pub data Stage : Type 0 where
@@ -18,9 +28,27 @@ pub record KeptFacts : Type 1 where
   pub finds : Option (List ℕ) → Option (List ℕ) → Type 0
   -- what is read under the name is what a start finds there, also after a loss of power
   pub settled : Type 0
-  -- the folder can't be synced, or what stands under the name can't be read or has more than 8217 bytes
+  -- what stands under the name can't be brought to the disk
+  pub stuck : Type 0
+  -- it can't be read or has more than 8217 bytes
   pub unreadable : Type 0
+
+-- what stands under the name can't be brought to the disk, or can't be read or has more than 8217 bytes
+abbrev pub CannotStart : KeptFacts → Type 0
+CannotStart file = file.stuck ⊎ file.unreadable
+
+-- what every start finds is one of any two of which each start finds the one or the other
+abbrev pub FindsOne : KeptFacts → Type 0
+FindsOne file = (a b c : Option (List ℕ)) → file.finds a b → file.finds c c → (c ≡ a) ⊎ (c ≡ b)
+
+-- this is one of any two of which each start finds the one or the other
+abbrev pub IsOneOfFound : KeptFacts → Option (List ℕ) → Type 0
+IsOneOfFound file c = (a b : Option (List ℕ)) → file.finds a b → (c ≡ a) ⊎ (c ≡ b)
 
 -- a start finds what was there before, or that or these bytes
 abbrev pub FindsOldOrNew : KeptFacts → Option (List ℕ) → List ℕ → Type 0
 FindsOldOrNew file old bytes = file.finds old old ⊎ file.finds old (Some bytes)
+
+-- a put of these bytes was cut off somewhere in it: a start finds what was there before, or these bytes
+abbrev pub IsCutOff : KeptFacts → List ℕ → KeptFacts → Type 0
+IsCutOff before bytes left = (old : Option (List ℕ)) → before.finds old old → FindsOldOrNew left old bytes ⊎ left.finds (Some bytes) (Some bytes)

@@ -4,5 +4,9 @@ pub mod Inputs
 pub mod Outputs
 pub mod Ports
 pub mod KeptFiles
+pub mod PowerLosses
+pub mod DiskLaws
+pub mod Traces
+pub mod TraceLaws
 pub mod Hosts
 pub mod Premises

@@ -1,11 +1,12 @@
 -- What is trusted of the system: for each of its own disks, inputs, outputs, ports, files and hosts what a proof knows of it. The
 -- standard library claims nothing of what the system's calls do, so each says only that the system is asked.
-use Rattle.std.specs.Prelude.{ℕ, None}
+use Rattle.std.specs.Prelude.{◌≡◌, ℕ, true, List, ◌∷◌, Option, None}
 use Rattle.system_io.specs.Disks.{DiskFacts}
 use Rattle.system_io.specs.Inputs.{InputFacts}
 use Rattle.system_io.specs.Outputs.{OutputFacts}
 use Rattle.system_io.specs.Ports.{PortFacts}
-use Rattle.system_io.specs.KeptFiles.{KeptFacts}
+use Rattle.system_io.specs.declared.traced_file.Traced.{Traced}
+use Rattle.system_io.specs.Traces.{IsAmong}
 use Rattle.system_io.specs.Hosts.{HostFacts}
 
 -- DISK: the names of a folder and the bytes of a file are those that the system tells, and what it refuses can't be read
@@ -25,10 +26,10 @@ system_output = record { gone = Unit {0}; stuck = Unit {0} }
 abbrev pub system_port : ℕ → ℕ → PortFacts
 system_port faults addresses = record { passed = None; faults = faults; addresses = addresses }
 
--- KEPT FILE: bytes that were written beside, synced, renamed and whose folder was synced are what a start finds under the name, and
--- until then it finds those or the old ones
-abbrev pub system_file : KeptFacts
-system_file = record { reached = λ _ _. Unit {0}; finds = λ _ _. Unit {0}; settled = Unit {0}; unreadable = Unit {0} }
+-- KEPT FILE: a start reads under the name one of those that, by the calls that the run before it made and by their answers, may
+-- stand there: what was read when that run began, or a record that was to take the name since the folder was last synced
+pub record IsAsTold {C : Type 0} (left : Traced C) (read : Option (List ℕ)) : Type 0 where
+  pub among : left.is_known ≡ true → IsAmong read (left.stands ∷ left.earlier.items)
 
 -- HOST: a port is bound where the system binds it, and a file is the one at its path
 abbrev pub system_host : {P F : Type 0} → HostFacts P F

@@ -1,7 +1,7 @@
 //! The file in which a record is kept, and how another takes its place.
 
-ghost use Rattle.std.specs.Prelude.{◌≤◌, ℕ, List, Option, Some, length, option_map, IfOk, IfSome, OnOk, OnErr, IsErrOf};
-ghost use Rattle.system_io.specs.KeptFiles.{KeptFacts, Written, Synced, Renamed, FindsOldOrNew};
+ghost use Rattle.std.specs.Prelude.{◌≤◌, ℕ, List, Option, Some, length, IsTrue, IfOk, IfSome, OnOk, OnErr, IsErrOf};
+ghost use Rattle.system_io.specs.KeptFiles.{KeptFacts, Written, Synced, Renamed, CannotStart, FindsOldOrNew, FindsOne, IsCutOff, IsOneOfFound, bytes_of};
 
 use crate::reading::ReadFault;
 use std::alloc::Global;
@@ -15,14 +15,17 @@ pub trait KeptFile {
     /// How far bytes have come on their way to the name, and what a start finds there.
     ghost facts: { Self → KeptFacts };
 
-    /// Lets what stands under the name reach the disk, as a run that stopped before may not have done.
-    fn settle(&self) -> Result<(), ReadFault>
-        ensures settled { OnOk result (facts self.now).settled }
-        ensures cause { IsErrOf result ReadFault.Unreadable → (facts self.now).unreadable };
+    /// Lets what stands under the name reach the disk, its bytes and the name itself, as a run that stopped before may not
+    /// have done.
+    fn settle(&mut self) -> Result<(), ReadFault>
+        ensures settled { OnOk result (facts self.new).settled }
+        ensures same { (a b : Option (List ℕ)) → (facts self.old).finds a b → (facts self.new).finds a b }
+        ensures cause { IsErrOf result ReadFault.Unreadable → (facts self.old).stuck }
+        ensures still { (facts self.new).unreadable → (facts self.old).unreadable };
 
     /// The bytes of the file under the name, at most 8217, or that there is none.
     fn read(&self, alloc: Global) -> Result<Option<Vec<u8>>, ReadFault>
-        ensures found { (facts self.now).settled → IfOk result (λ got. (facts self.now).finds (option_map (λ v. v.items) got) (option_map (λ v. v.items) got)) }
+        ensures found { (facts self.now).settled → IfOk result (λ got. (facts self.now).finds (bytes_of got) (bytes_of got)) }
         ensures short { IfOk result (λ got. IfSome got (λ v. length v.items ≤ 8217)) }
         ensures cause { IsErrOf result ReadFault.Unreadable → (facts self.now).unreadable };
 
@@ -46,6 +49,25 @@ pub trait KeptFile {
     fn sync_folder(&mut self) -> io::Result<()>
         ensures synced { OnOk result ((bytes : List ℕ) → (facts self.old).reached Renamed bytes → (facts self.new).finds (Some bytes) (Some bytes)) }
         ensures same { OnErr result ((a b : Option (List ℕ)) → (facts self.old).finds a b → (facts self.new).finds a b) };
+
+    /// What every start finds is one of any two of which each start finds the one or the other. So what a start finds isn't empty
+    /// of meaning: an instance that told all of everything would not pass.
+    ghost one: { (f : Self) → FindsOne (facts f) };
+}
+
+/// What a start reads: the bytes under the name, once they and the name are on the disk. They are one of any two of which the
+/// file says that each start finds the one or the other, and every later start finds them.
+pub fn begin<F: KeptFile>(alloc: Global, file: &mut F) -> Result<Option<Vec<u8>>, ReadFault>
+    ensures one { IfOk result (λ got. IsOneOfFound (F.facts file.old) (bytes_of got)) }
+    ensures lasts { IfOk result (λ got. (F.facts file.new).finds (bytes_of got) (bytes_of got)) }
+    ensures same { (a b : Option (List ℕ)) → (F.facts file.old).finds a b → (F.facts file.new).finds a b }
+    ensures short { IfOk result (λ got. IfSome got (λ v. length v.items ≤ 8217)) }
+    ensures cause { IsErrOf result ReadFault.Unreadable → CannotStart (F.facts file.old) }
+{
+    match file.settle() {
+        Ok(()) => file.read(alloc),
+        Err(fault) => Err(fault),
+    }
 }
 
 /// Lets bytes take the place of those in the file. Where this fails, or the process stops on the way, a start finds the old
@@ -58,4 +80,22 @@ pub fn replace<F: KeptFile>(file: &mut F, bytes: &[u8]) -> io::Result<()>
     file.sync_beside()?;
     file.rename()?;
     file.sync_folder()
+}
+
+/// Makes the first calls of `replace`, so many, and no more: what is left where a process stops in the middle of it. Tells
+/// whether all four were made and none failed.
+pub fn replace_in_part<F: KeptFile>(file: &mut F, bytes: &[u8], calls: usize) -> bool
+    ensures cut { IsCutOff (F.facts file.old) bytes.now (F.facts file.new) }
+    ensures done { IsTrue result → (F.facts file.new).finds (Some bytes.now) (Some bytes.now) }
+{
+    if calls == 0 || file.write_beside(bytes).is_err() {
+        return false;
+    }
+    if calls == 1 || file.sync_beside().is_err() {
+        return false;
+    }
+    if calls == 2 || file.rename().is_err() || calls == 3 {
+        return false;
+    }
+    file.sync_folder().is_ok()
 }

@@ -7,6 +7,7 @@
 #![tactic(auto)]
 
 mod disk;
+mod disk_file;
 mod host;
 mod input;
 mod kept_file;
@@ -17,17 +18,20 @@ mod system_disk;
 mod system_file;
 mod system_host;
 mod system_input;
+mod traced_file;
 mod udp_port;
 
 pub use disk::Disk;
+pub use disk_file::{Choice, DiskFile, Outcome, read_after};
 pub use host::{BindFault, Host};
 pub use input::Input;
-pub use kept_file::{KeptFile, MOST_KEPT_BYTES, replace};
+pub use kept_file::{KeptFile, MOST_KEPT_BYTES, begin, replace, replace_in_part};
 pub use output::{Output, WriteFault, end};
 pub use port::{Port, PortFault};
 pub use reading::{ReadFault, read_at_most};
 pub use system_disk::SystemDisk;
-pub use system_file::SystemFile;
+pub use system_file::{SystemCalls, SystemFile};
 pub use system_host::SystemHost;
 pub use system_input::SystemInput;
+pub use traced_file::{FileCalls, Reach, Traced, read_as_told};
 pub use udp_port::UdpPort;

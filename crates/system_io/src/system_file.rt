@@ -1,16 +1,17 @@
 //! A file of the system, and the one beside it.
 
-use crate::kept_file::{KeptFile, MOST_KEPT_BYTES};
+use crate::kept_file::MOST_KEPT_BYTES;
 use crate::reading::{ReadFault, read_at_most};
+use crate::traced_file::{FileCalls, Traced};
 use std::alloc::{AllocError, Global};
 use std::fs::OpenFile;
 use std::io::Write;
 use std::rt::Files;
 use std::{fs, io};
 
-/// A file of the system by its path. The one beside it has the same path with `.new` at its end.
+/// The calls of the system for a file by its path. The one beside it has the same path with `.new` at its end.
 #[derive(Drop)]
-pub struct SystemFile<'a, R: Files + AllocGlobal> {
+pub struct SystemCalls<'a, R: Files + AllocGlobal> {
     rt: &'a R,
     path: String,
     beside: String,
@@ -26,52 +27,40 @@ fn folder_of(path: &str) -> &str {
     }
 }
 
-impl<'a, R: Files + AllocGlobal> SystemFile<'a, R> {
-    /// The file at a path.
-    pub fn at(rt: &'a R, alloc: Global, path: &str) -> Result<SystemFile<'a, R>, AllocError> {
+impl<'a, R: Files + AllocGlobal> SystemCalls<'a, R> {
+    /// Those for the file at a path.
+    pub fn at(rt: &'a R, alloc: Global, path: &str) -> Result<SystemCalls<'a, R>, AllocError> {
         let beside = format!(in alloc; "{path}.new")?;
         let path = String::from_str(alloc, path)?;
-        Ok(SystemFile {
+        Ok(SystemCalls {
             rt,
             path,
             beside,
             open: None,
         })
     }
-
-    /// Lets the folder, and with it the names in it, reach the disk.
-    fn sync_name(&self) -> io::Result<()> {
-        fs::open(self.rt, folder_of(self.path.as_str()))?.sync_all()
-    }
 }
 
-impl<'a, R: Files + AllocGlobal> KeptFile for SystemFile<'a, R> {
-    ghost use Rattle.system_io.specs.Premises.{system_file};
-
-    ghost facts = { λ _. system_file };
-
-    fn settle(&self) -> Result<(), ReadFault> {
-        Ok(self.sync_name()?)
-    }
-
-    fn read(&self, alloc: Global) -> Result<Option<Vec<u8>>, ReadFault> {
+impl<'a, R: Files + AllocGlobal> FileCalls for SystemCalls<'a, R> {
+    fn read(&mut self, alloc: Global) -> Result<Option<Vec<u8>>, ReadFault> {
         let file = match fs::open(self.rt, self.path.as_str()) {
             Ok(file) => file,
             Err(error) if error.kind() == io::ErrorKind::NotFound => return Ok(None),
             Err(error) => return Err(ReadFault::from(error)),
         };
+        file.sync_all()?;
         let length = file.metadata()?.len();
         Ok(Some(read_at_most(alloc, file, length, MOST_KEPT_BYTES as u64)?))
     }
 
-    fn write_beside(&mut self, bytes: &[u8]) -> io::Result<()> {
+    fn write(&mut self, bytes: &[u8]) -> io::Result<()> {
         let mut file = fs::create(self.rt, self.beside.as_str())?;
         file.write_all(bytes)?;
         self.open = Some(file);
         Ok(())
     }
 
-    fn sync_beside(&mut self) -> io::Result<()> {
+    fn sync(&mut self) -> io::Result<()> {
         match self.open.take() {
             Some(file) => file.sync_all(),
             None => Err(io::Error::from(io::ErrorKind::NotFound)),
@@ -83,6 +72,16 @@ impl<'a, R: Files + AllocGlobal> KeptFile for SystemFile<'a, R> {
     }
 
     fn sync_folder(&mut self) -> io::Result<()> {
-        self.sync_name()
+        fs::open(self.rt, folder_of(self.path.as_str()))?.sync_all()
+    }
+}
+
+/// A file of the system.
+pub type SystemFile<'a, R> = Traced<SystemCalls<'a, R>>;
+
+impl<'a, R: Files + AllocGlobal> Traced<SystemCalls<'a, R>> {
+    /// The file at a path, of which nothing is known yet.
+    pub fn at(rt: &'a R, alloc: Global, path: &str) -> Result<SystemFile<'a, R>, AllocError> {
+        Ok(Traced::new(alloc, SystemCalls::at(rt, alloc, path)?))
     }
 }

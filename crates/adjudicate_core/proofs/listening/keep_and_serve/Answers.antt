@@ -5,7 +5,7 @@ use Rattle.arbiter_service.proofs.PortLaws.{Passed-nil}
 use Rattle.adjudicate_core.proofs.listening.keep_and_serve.Goals as goal
 
 pub returns-in-Ok : goal.returns-in-Ok
-returns-in-Ok g c = IfOk-weaker c.open_and_serve.result _ _ (λ status h. Kept _ _ c.in-Ok.ensures.file c.in-Ok.ensures.found h) c.open_and_serve.ensures
+returns-in-Ok g c = IfOk-weaker c.open_and_serve.result _ _ (λ status h. Kept _ _ (record { one = c.in-Ok.ensures.one; in_file = c.in-Ok.ensures.found }) h) c.open_and_serve.ensures
 
 pub returns-in-Err-Unreadable : goal.returns-in-Err-Unreadable
 returns-in-Err-Unreadable g c =

@@ -1,0 +1,89 @@
+-- A disk that loses power, and what a start then finds under a name (this project's own).
+use Rattle.std.specs.Prelude.{◌≡◌, ◌⊎◌, ◌-◌, ℕ, true, false, cond, List, [], length, Option, Some, None, slice_index_or}
+use Rattle.system_io.specs.declared.disk_file.Content.{Content}
+use Rattle.system_io.specs.declared.disk_file.DiskFile.{DiskFile}
+use Rattle.system_io.specs.declared.disk_file.Outcome.{Outcome}
+use Rattle.system_io.specs.declared.disk_file.Outcome.TheVariants.{Good}
+use Rattle.system_io.specs.KeptFiles.{IsLong, KeptFacts, Stage, Written, Synced, Renamed}
+
+-- ---- what the system shows, and what the platter holds
+
+-- the bytes of a file as the system shows them
+abbrev pub shown : Option Content → Option (List ℕ)
+shown None = None
+shown (Some c) = Some c.bytes.items
+
+-- what a loss of power leaves of a file: its bytes where they are synced, and else any bytes, here these
+abbrev pub left_of : Option Content → List ℕ → Option (List ℕ)
+left_of None bytes = None
+left_of (Some c) bytes = cond c.is_synced (Some c.bytes.items) (Some bytes)
+
+-- what stands under the name after a loss of power: what has the name now, or what had it at some time since the folder was
+-- synced (the number names it), and of that what is left
+abbrev pub after_stop : DiskFile → ℕ → List ℕ → Option (List ℕ)
+after_stop d which bytes = left_of (slice_index_or d.earlier.items which d.stands) bytes
+
+-- what is read under the name now
+abbrev pub seen : DiskFile → Option (List ℕ)
+seen d = shown d.stands
+
+-- ---- what the kept file on it tells of itself
+
+-- each loss of power that may come now leaves the one or the other under the name
+abbrev pub LeavesOneOf : DiskFile → Option (List ℕ) → Option (List ℕ) → Type 0
+LeavesOneOf d a b = (which : ℕ) (bytes : List ℕ) → (after_stop d which bytes ≡ a) ⊎ (after_stop d which bytes ≡ b)
+
+-- a file with these bytes, of which no sync has failed
+pub record HoldsBytes (held : Option Content) (bytes : List ℕ) : Type 0 where
+  pub content : Content
+  pub is : held ≡ Some content
+  pub bytes_are : content.bytes.items ≡ bytes
+  pub whole : content.is_spoiled ≡ false
+
+-- a file with these bytes, which are on the platter
+pub record HoldsSynced (held : Option Content) (bytes : List ℕ) : Type 0 where
+  pub content : Content
+  pub is : held ≡ Some content
+  pub bytes_are : content.bytes.items ≡ bytes
+  pub synced : content.is_synced ≡ true
+
+-- how far bytes have come
+abbrev pub HasReached : DiskFile → Stage → List ℕ → Type 0
+HasReached d Written bytes = HoldsBytes d.beside bytes
+HasReached d Synced bytes = HoldsSynced d.beside bytes
+HasReached d Renamed bytes = HoldsSynced d.stands bytes
+
+-- what is read under the name is what every loss of power leaves there
+abbrev pub IsLasting : DiskFile → Type 0
+IsLasting d = LeavesOneOf d (seen d) (seen d)
+
+-- all of a file is on the platter, or there is none
+abbrev pub IsOnPlatter : Option Content → Type 0
+IsOnPlatter None = Unit {0}
+IsOnPlatter (Some c) = c.is_synced ≡ true
+
+-- the folder and what stands under the name are on the platter
+pub record IsAtRest (d : DiskFile) : Type 0 where
+  pub names : d.earlier.items ≡ []
+  pub bytes : IsOnPlatter d.stands
+
+-- a sync of the file has failed, and not all of it is on the platter
+abbrev pub IsSpoilt : Option Content → Type 0
+IsSpoilt None = ⊥
+IsSpoilt (Some c) = (c.is_spoiled ≡ true) × (c.is_synced ≡ false)
+
+-- what comes of the next call
+abbrev pub next_of : List Outcome → Outcome
+next_of outcomes = slice_index_or outcomes (length outcomes - 1) Good
+
+-- what stands under the name can't be brought to the platter, or the next call fails
+abbrev pub IsStuck : DiskFile → Type 0
+IsStuck d = IsSpoilt d.stands ⊎ (next_of d.outcomes.items ≡ Good → ⊥)
+
+-- the disk gives nothing, or what stands under the name is too long
+abbrev pub CannotBeRead : DiskFile → Type 0
+CannotBeRead d = (d.reads_fail ≡ true) ⊎ IsLong (seen d)
+
+-- what the kept file on a disk tells of itself
+abbrev pub disk_facts : DiskFile → KeptFacts
+disk_facts d = record { reached = HasReached d; finds = LeavesOneOf d; settled = IsLasting d; stuck = IsStuck d; unreadable = CannotBeRead d }

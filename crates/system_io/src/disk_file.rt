@@ -1,0 +1,412 @@
+//! A file in memory, on a disk that loses power and whose calls fail as they are told to.
+
+ghost use Rattle.std.specs.Prelude.{◌≡◌, ℕ, [], List, slice_index_or, Option, Some, true, false, IsTrue, IfOk, OnOk, IsErr};
+ghost use Rattle.system_io.specs.KeptFiles.{IsOneOfFound, bytes_of};
+ghost use Rattle.system_io.specs.PowerLosses.{HoldsBytes, HoldsSynced, IsAtRest, IsOnPlatter, IsSpoilt, LeavesOneOf, after_stop, disk_facts, left_of, next_of, seen, shown};
+
+use crate::kept_file::{KeptFile, MOST_KEPT_BYTES, begin};
+use crate::reading::ReadFault;
+use std::alloc::Global;
+use std::io;
+
+/// The bytes of a file as the system shows them, whether they are on the platter, and whether a sync of them has failed, after
+/// which no later one brings them there.
+#[derive(Drop)]
+pub struct Content {
+    bytes: Vec<u8>,
+    is_synced: bool,
+    is_spoiled: bool,
+}
+
+/// What comes of a call.
+#[derive(Clone, Copy)]
+pub enum Outcome {
+    /// It is done, and says so.
+    Good,
+    /// It fails, and nothing is done.
+    Before,
+    /// It fails in the middle: so many bytes are written, or the sync has lost bytes that it was to bring to the platter.
+    Halfway(usize),
+    /// All is done, and yet it says that it failed.
+    After,
+}
+
+/// What a loss of power makes of a disk: which of the files that may have the name has it, what is left of one that isn't
+/// synced, what lies beside it, and what comes of the calls after it.
+#[derive(Drop)]
+pub struct Choice {
+    pub which: usize,
+    pub bytes: Vec<u8>,
+    pub beside: Option<Vec<u8>>,
+}
+
+/// A name on a disk, and a file beside it. What has the name as the system shows it, what had it before at some time since the
+/// folder was synced (after a loss of power each of them may have it), the file beside, and what comes of the next calls, the
+/// last of the list first; calls past its end are good.
+#[derive(Drop)]
+pub struct DiskFile {
+    alloc: Global,
+    stands: Option<Content>,
+    earlier: Vec<Option<Content>>,
+    beside: Option<Content>,
+    outcomes: Vec<Outcome>,
+    reads_fail: bool,
+}
+
+/// The error of a call that fails.
+fn failed() -> io::Error {
+    io::Error::from(io::ErrorKind::StorageFull)
+}
+
+/// A file whose bytes are on the platter.
+fn on_platter(bytes: Vec<u8>) -> Content
+    ensures bytes { result.bytes.items ≡ bytes.items }
+    ensures synced { result.is_synced ≡ true }
+{
+    Content {
+        bytes,
+        is_synced: true,
+        is_spoiled: false,
+    }
+}
+
+/// Whether no sync can bring the bytes of a file to the platter any more.
+fn is_lost(content: &Content) -> bool
+    ensures { IsTrue result → IsSpoilt (Some content.now) }
+{
+    content.is_spoiled && !content.is_synced
+}
+
+/// A file after a sync: its bytes are on the platter, unless a sync of them has failed before.
+fn synced(content: Content) -> Content
+    ensures bytes { result.bytes.items ≡ content.bytes.items }
+    ensures synced { content.is_spoiled ≡ false → result.is_synced ≡ true }
+{
+    let Content {
+        bytes,
+        is_synced,
+        is_spoiled,
+    } = content;
+    if is_spoiled {
+        Content {
+            bytes,
+            is_synced,
+            is_spoiled,
+        }
+    } else {
+        Content {
+            bytes,
+            is_synced: true,
+            is_spoiled,
+        }
+    }
+}
+
+/// What has the name after a loss of power: of what had it earlier that of this number, or what has it now.
+fn named(earlier: Vec<Option<Content>>, which: usize, stands: Option<Content>) -> Option<Content>
+    ensures { result ≡ slice_index_or earlier.items which stands }
+{
+    let mut earlier = earlier;
+    if which < earlier.len() {
+        earlier.remove(which)
+    } else {
+        stands
+    }
+}
+
+/// What a loss of power leaves of a file: its bytes where they are synced, and else these.
+fn lasting(held: Option<Content>, garbage: Vec<u8>) -> Option<Content>
+    ensures left { shown result ≡ left_of held garbage.items }
+    ensures synced { IsOnPlatter result }
+{
+    match held {
+        Some(content) => {
+            if content.is_synced {
+                Some(on_platter(content.bytes))
+            } else {
+                Some(on_platter(garbage))
+            }
+        }
+        None => None,
+    }
+}
+
+impl DiskFile {
+    /// A disk on which these bytes stand under the name, or nothing does.
+    pub fn new(
+        alloc: Global,
+        stands: Option<Vec<u8>>,
+        outcomes: Vec<Outcome>,
+        reads_fail: bool,
+    ) -> DiskFile
+        ensures seen { seen result ≡ bytes_of stands }
+        ensures rest { IsAtRest result }
+    {
+        let stands = match stands {
+            Some(bytes) => Some(on_platter(bytes)),
+            None => None,
+        };
+        DiskFile {
+            alloc,
+            stands,
+            earlier: Vec::new(alloc),
+            beside: None,
+            outcomes,
+            reads_fail,
+        }
+    }
+
+    /// What comes of the next call.
+    fn next(&mut self) -> Outcome
+        ensures stands { self.new.stands ≡ self.old.stands }
+        ensures earlier { self.new.earlier ≡ self.old.earlier }
+        ensures beside { self.new.beside ≡ self.old.beside }
+        ensures reads { self.new.reads_fail ≡ self.old.reads_fail }
+        ensures outcome { result ≡ next_of self.old.outcomes.items }
+    {
+        match self.outcomes.pop() {
+            Some(outcome) => outcome,
+            None => Outcome::Good,
+        }
+    }
+
+    /// Writes bytes to the file beside.
+    fn put_beside(&mut self, bytes: &[u8]) -> io::Result<()>
+        ensures written { OnOk result (HoldsBytes self.new.beside bytes.now) }
+        ensures stands { self.new.stands ≡ self.old.stands }
+        ensures earlier { self.new.earlier ≡ self.old.earlier }
+    {
+        match Vec::from_slice(self.alloc, bytes) {
+            Ok(copy) => {
+                self.beside = Some(Content {
+                    bytes: copy,
+                    is_synced: false,
+                    is_spoiled: false,
+                });
+                Ok(())
+            }
+            Err(_) => Err(io::Error::from(io::ErrorKind::OutOfMemory)),
+        }
+    }
+
+    /// Brings the bytes of the file beside to the platter, unless a sync of them has failed before.
+    fn sync_bytes(&mut self) -> io::Result<()>
+        ensures synced { OnOk result ((bytes : List ℕ) → HoldsBytes self.old.beside bytes → HoldsSynced self.new.beside bytes) }
+        ensures stands { self.new.stands ≡ self.old.stands }
+        ensures earlier { self.new.earlier ≡ self.old.earlier }
+    {
+        match self.beside.take() {
+            Some(content) => {
+                self.beside = Some(synced(content));
+                Ok(())
+            }
+            None => Err(io::Error::from(io::ErrorKind::NotFound)),
+        }
+    }
+
+    /// Loses bytes of the file beside on their way to the platter.
+    fn spoil(&mut self)
+        ensures stands { self.new.stands ≡ self.old.stands }
+        ensures earlier { self.new.earlier ≡ self.old.earlier }
+    {
+        if let Some(content) = self.beside.take() {
+            self.beside = Some(Content {
+                bytes: content.bytes,
+                is_synced: content.is_synced,
+                is_spoiled: true,
+            });
+        }
+    }
+
+    /// Gives the file beside the name.
+    fn give_name(&mut self) -> io::Result<()>
+        ensures renamed { OnOk result ((bytes : List ℕ) → HoldsSynced self.old.beside bytes → HoldsSynced self.new.stands bytes) }
+        ensures either { (old : Option (List ℕ)) (bytes : List ℕ) → LeavesOneOf self.old old old → HoldsSynced self.old.beside bytes → LeavesOneOf self.new old (Some bytes) }
+    {
+        match self.beside.take() {
+            Some(content) => match self.earlier.push(self.stands.take()) {
+                Ok(()) => {
+                    self.stands = Some(content);
+                    Ok(())
+                }
+                Err(refused) => {
+                    self.stands = refused.value;
+                    self.beside = Some(content);
+                    Err(io::Error::from(io::ErrorKind::OutOfMemory))
+                }
+            },
+            None => Err(io::Error::from(io::ErrorKind::NotFound)),
+        }
+    }
+
+    /// Lets the names reach the platter: what had the name before can't have it again.
+    fn sync_names(&mut self)
+        ensures names { self.new.earlier.items ≡ [] }
+        ensures stands { self.new.stands ≡ self.old.stands }
+        ensures reads { self.new.reads_fail ≡ self.old.reads_fail }
+    {
+        self.earlier.clear();
+    }
+
+    /// Brings what stands under the name, and the name, to the platter.
+    fn settle_now(&mut self) -> Result<(), ReadFault>
+        ensures rest { OnOk result (IsAtRest self.new) }
+        ensures seen { seen self.new ≡ seen self.old }
+        ensures reads { self.new.reads_fail ≡ self.old.reads_fail }
+        ensures same { (a b : Option (List ℕ)) → LeavesOneOf self.old a b → LeavesOneOf self.new a b }
+        ensures cause { IsErr result → IsSpoilt self.old.stands }
+    {
+        match self.stands.take() {
+            Some(standing) => {
+                if is_lost(&standing) {
+                    self.stands = Some(standing);
+                    return Err(ReadFault::Unreadable);
+                }
+                self.stands = Some(on_platter(standing.bytes));
+                self.sync_names();
+                Ok(())
+            }
+            None => {
+                self.sync_names();
+                Ok(())
+            }
+        }
+    }
+
+    /// The disk after a loss of power, and after it was started again.
+    pub fn stop(self, choice: Choice) -> DiskFile
+        ensures left { seen result ≡ after_stop self choice.which choice.bytes.items }
+        ensures rest { IsAtRest result }
+        ensures same { (a b : Option (List ℕ)) → (disk_facts self).finds a b → (disk_facts result).finds a b }
+    {
+        let DiskFile {
+            alloc,
+            stands,
+            earlier,
+            beside: _beside,
+            outcomes,
+            reads_fail,
+        } = self;
+        let Choice {
+            which,
+            bytes,
+            beside,
+        } = choice;
+        let stands = lasting(named(earlier, which, stands), bytes);
+        let beside = match beside {
+            Some(bytes) => Some(on_platter(bytes)),
+            None => None,
+        };
+        DiskFile {
+            alloc,
+            stands,
+            earlier: Vec::new(alloc),
+            beside,
+            outcomes,
+            reads_fail,
+        }
+    }
+}
+
+/// What a start reads after a loss of power: what that leaves under the name, and so one of any two of which the disk says that
+/// each start finds the one or the other.
+pub fn read_after(
+    alloc: Global,
+    disk: DiskFile,
+    choice: Choice,
+) -> Result<Option<Vec<u8>>, ReadFault>
+    ensures left { IfOk result (λ got. bytes_of got ≡ after_stop disk choice.which choice.bytes.items) }
+    ensures one { IfOk result (λ got. IsOneOfFound (disk_facts disk) (bytes_of got)) }
+{
+    let mut started = disk.stop(choice);
+    begin(alloc, &mut started)
+}
+
+impl KeptFile for DiskFile {
+    ghost use Rattle.system_io.specs.DiskLaws.{either_is};
+    ghost use Rattle.system_io.specs.PowerLosses.{disk_facts};
+
+    ghost facts = { disk_facts };
+
+    ghost one = { λ d a b c. either_is d a b c };
+
+    fn settle(&mut self) -> Result<(), ReadFault> {
+        match self.next() {
+            Outcome::Good => self.settle_now(),
+            Outcome::Before | Outcome::Halfway(_) | Outcome::After => Err(ReadFault::Unreadable),
+        }
+    }
+
+    fn read(&self, alloc: Global) -> Result<Option<Vec<u8>>, ReadFault> {
+        if self.reads_fail {
+            return Err(ReadFault::Unreadable);
+        }
+        match &self.stands {
+            Some(content) => {
+                if content.bytes.len() > MOST_KEPT_BYTES {
+                    return Err(ReadFault::Unreadable);
+                }
+                match Vec::from_slice(alloc, &content.bytes) {
+                    Ok(copy) => Ok(Some(copy)),
+                    Err(_) => Err(ReadFault::OutOfMemory),
+                }
+            }
+            None => Ok(None),
+        }
+    }
+
+    fn write_beside(&mut self, bytes: &[u8]) -> io::Result<()> {
+        match self.next() {
+            Outcome::Good => self.put_beside(bytes),
+            Outcome::Before => Err(failed()),
+            Outcome::Halfway(count) => {
+                self.put_beside(&bytes[..count.min(bytes.len())])?;
+                Err(failed())
+            }
+            Outcome::After => {
+                self.put_beside(bytes)?;
+                Err(failed())
+            }
+        }
+    }
+
+    fn sync_beside(&mut self) -> io::Result<()> {
+        match self.next() {
+            Outcome::Good => self.sync_bytes(),
+            Outcome::Before => Err(failed()),
+            Outcome::Halfway(_) => {
+                self.spoil();
+                Err(failed())
+            }
+            Outcome::After => {
+                self.sync_bytes()?;
+                Err(failed())
+            }
+        }
+    }
+
+    fn rename(&mut self) -> io::Result<()> {
+        match self.next() {
+            Outcome::Good => self.give_name(),
+            Outcome::Before | Outcome::Halfway(_) => Err(failed()),
+            Outcome::After => {
+                self.give_name()?;
+                Err(failed())
+            }
+        }
+    }
+
+    fn sync_folder(&mut self) -> io::Result<()> {
+        match self.next() {
+            Outcome::Good => {
+                self.sync_names();
+                Ok(())
+            }
+            Outcome::Before | Outcome::Halfway(_) => Err(failed()),
+            Outcome::After => {
+                self.sync_names();
+                Err(failed())
+            }
+        }
+    }
+}
