@@ -13,8 +13,8 @@ use Rattle.arbiter_core.specs.Memory.{Memory, memory_facts}
 use Rattle.arbiter_core.specs.Setups.{SetupView, rules_at}
 use Rattle.arbiter_core.specs.Views.{View}
 use Rattle.arbiter_core.specs.Delivers.{Answers, Told, answer_at, answer_of, heard, moment, RefusesOrSends, PutsIfAny, Unchanged, Lands, IsSpelled}
-use Rattle.relay_world.specs.Worlds.{Side, Life, Closed, Down, Running, answered, hears, hears_at}
-use Rattle.relay_world.specs.Inside.Seats.{IsDelivered, PlaceIs, PlaceView, Open, Stands, Steps}
+use Rattle.relay_world.specs.Worlds.{Side, Life, Closed, Down, Running, answer_to_datagram, answered, hears, hears_at}
+use Rattle.relay_world.specs.Inside.Seats.{IsDelivered, PlaceIs, PlaceView, SeatView, Open, Stands, Steps, seat}
 use Rattle.relay_world.specs.Runs.{KeptIs}
 
 -- what was sent, where a refusal sends nothing
@@ -103,10 +103,16 @@ delivered_steps me setup v new old k kn side keep heard told h ke e answers n = 
         rw (run.0, run.1) (running me setup v new k kn keep (answer_heard (rules_at setup) me v.kept v.window heard) told d s m e kept (subst (RefusesOrSends v k kn new told) is answers.answered) (subst (PutsIfAny memory_facts v k kn new told) is answers.put) n)
 
 -- a seat with an open arbiter
-pub delivered_seat : (keep : Keep) (datagram : List ℕ) (v new : View) (old k kn : Memory) (told : Told) → k.kept ≡ old.kept → k.keep ≡ keep → Answers memory_facts (moment v k) (answer_at v datagram) told (moment new kn) → told ≢ Err OutOfMemory → IsDelivered keep datagram (record { place = Open v; keeper = old }) (record { place = Open new; keeper = kn }) (sent_in told)
-delivered_seat keep datagram v new old k kn told ke e answers n me setup side stands =
+pub delivered_seat : (datagram : List ℕ) (v new : View) (k kn : Memory) (told : Told) → Answers memory_facts (moment v k) (answer_at v datagram) told (moment new kn) → told ≢ Err OutOfMemory → IsDelivered k.keep datagram (seat (Open v) k) (seat (Open new) kn) (sent_in told)
+delivered_seat datagram v new k kn told answers n me setup side stands =
     let same : heard v.me.stamp datagram ≡ heard me.stamp datagram = ap (λ (i : Identity). heard i.stamp datagram) stands.place_is.1 in
-    delivered_steps me setup v new old k kn side keep (heard me.stamp datagram) told stands ke e (subst (λ (s : Result Message DeliverFault). Answers memory_facts (moment v k) (answer_of v s) told (moment new kn)) same answers) n
+    delivered_steps me setup v new k k kn side k.keep (heard me.stamp datagram) told stands refl refl (subst (λ (s : Result Message DeliverFault). Answers memory_facts (moment v k) (answer_of v s) told (moment new kn)) same answers) n
+
+-- the outcome of the next put is set first
+pub set_first : (keep : Keep) (datagram : List ℕ) (place : PlaceView) (old k : Memory) (late : SeatView) (outputs : List Message) → k.kept ≡ old.kept → k.keep ≡ keep → IsDelivered k.keep datagram (seat place k) late outputs → IsDelivered keep datagram (seat place old) late outputs
+set_first keep datagram place old k late outputs kept is h me setup side stands =
+    subst (λ (x : Keep). Steps me setup late.place late.keeper outputs (hears x side (answer_to_datagram (rules_at setup) me datagram))) is
+    (h me setup side (record { place_is = stands.place_is; kept = subst (λ (x : Option (List ℕ)). KeptIs me.stamp setup.delay x side.kept) (sym kept) stands.kept }))
 
 -- a closed seat hears nothing
 pub shut_steps : (me : Identity) (setup : SetupView) (place : PlaceView) (old k : Memory) (side : Side) (keep : Keep) (respond : Recorded → Window → Answer) → Stands me setup place old side → k.kept ≡ old.kept → side.life ≡ Closed → Steps me setup place k [] (hears keep side respond)

@@ -5,7 +5,8 @@ ghost use Rattle.arbiter_core.specs.Answering.{Identity};
 ghost use Rattle.arbiter_core.specs.Setups.{SetupView, setup_view};
 ghost use Rattle.relay_world.specs.Runs.{state_of};
 ghost use Rattle.relay_world.specs.Worlds.{Side, wants, listed};
-ghost use Rattle.relay_world.specs.Inside.Seats.{IsDelivered, IsRestarted, SeatIs, Shut};
+ghost use Rattle.arbiter_core.specs.Delivers.{IsKept as IsRecordKept};
+ghost use Rattle.relay_world.specs.Inside.Seats.{IsDelivered, IsRestarted, Open, SeatIs, Shut, seat};
 ghost use Rattle.relay_world.specs.Inside.Fields.{setup_in};
 
 use crate::world::State;
@@ -53,6 +54,26 @@ fn emptied<'a>(place: Place<'a>) -> Setup<'a>
     }
 }
 
+/// Answers a datagram with the messages to be sent; a refusal sends none. The error comes only where memory is refused.
+fn answer(
+    alloc: Global,
+    arbiter: &mut Arbiter<'_>,
+    keeper: &mut MemoryKeeper,
+    bytes: &[u8],
+) -> Result<Outputs, AllocError>
+    requires { IsRecordKept keeper.old.kept arbiter.old }
+    ensures sent { IfOk result (λ outputs. IsDelivered keeper.old.keep bytes.now (seat (Open arbiter.old) keeper.old) (seat (Open arbiter.new) keeper.new) outputs.items) }
+    ensures keeps { IsRecordKept keeper.new.kept arbiter.new }
+{
+    match arbiter.deliver(alloc, keeper, bytes) {
+        Ok(outputs) => Ok(outputs),
+        Err(fault) => match fault {
+            DeliverFault::OutOfMemory => Err(AllocError),
+            _ => Ok(SmallVec::new(alloc)),
+        },
+    }
+}
+
 impl<'a> Seat<'a> {
     /// A closed arbiter and a keeper.
     pub fn closed(setup: Setup<'a>, keeper: MemoryKeeper) -> Seat<'a>
@@ -77,13 +98,7 @@ impl<'a> Seat<'a> {
         self.keeper.set(keep);
         match &mut self.place {
             Place::Shut(_) => Ok(SmallVec::new(alloc)),
-            Place::Open(arbiter) => match arbiter.deliver(alloc, &mut self.keeper, bytes) {
-                Ok(outputs) => Ok(outputs),
-                Err(fault) => match fault {
-                    DeliverFault::OutOfMemory => Err(AllocError),
-                    _ => Ok(SmallVec::new(alloc)),
-                },
-            },
+            Place::Open(arbiter) => answer(alloc, arbiter, &mut self.keeper, bytes),
         }
     }
 

@@ -19,6 +19,9 @@ pub record SeatView : Type 0 where
   pub place : PlaceView
   pub keeper : Memory
 
+abbrev pub seat : PlaceView → Memory → SeatView
+seat place keeper = record { place = place; keeper = keeper }
+
 -- an open arbiter is down, or runs over what is kept
 abbrev pub IsOpen : View → Side → Type 0
 IsOpen v side = MatchBool v.is_down (side.life ≡ Down) ((side.life ≡ Running v.window) × (side.kept ≡ Some v.kept))
