@@ -68,6 +68,7 @@ pub record RanOver {F : Type 0} (facts : F → KeptFacts) (setup : SetupView) (b
 
 -- ---- all runs
 
+-- one run: the keeper at its start, what was answered in it, and the file that it left
 pub record Life (F : Type 0) : Type 0 where
   pub start : FileKeeper F
   pub exchanges : List (Exchange (FileKeeper F))
@@ -123,3 +124,7 @@ pub record CameAfter {F : Type 0} (facts : F → KeptFacts) (setup : SetupView) 
   pub run : Life F
   pub in_turn : RunsInTurn facts setup first (runs ++ run ∷ []) after
   pub there : AllStillThere run.start runs
+
+-- after any runs that left this file one more came, and all that they told was there at its start
+abbrev pub ComesAfterAny : {F : Type 0} → (F → KeptFacts) → SetupView → F → F → Type 0
+ComesAfterAny {F} facts setup left after = (first : F) (runs : List (Life F)) → RunsInTurn facts setup first runs left → CameAfter facts setup first runs after

@@ -1,9 +1,9 @@
 //! An arbiter that runs again after a loss of power.
 
-ghost use Rattle.std.specs.Prelude.{List, IfOk};
+ghost use Rattle.std.specs.Prelude.{IfOk};
 ghost use Rattle.system_io.specs.PowerLosses.{disk_facts};
 ghost use Rattle.arbiter_core.specs.Setups.{setup_view};
-ghost use Rattle.arbiter_service.specs.Lives.{CameAfter, Life, OneMore, RunsInTurn};
+ghost use Rattle.arbiter_service.specs.Lives.{ComesAfterAny, OneMore};
 
 use crate::file_keeper::FileKeeper;
 use crate::over_file::open_and_serve;
@@ -28,7 +28,7 @@ pub fn run_after<P: Port, W: Write>(
     out: &mut W,
 ) -> Result<DiskFile, ReadFault>
     ensures one { IfOk result (λ left. OneMore disk_facts (setup_view setup.entry) disk left (P.facts port.old) (P.facts port.new)) }
-    ensures there { (first : DiskFile) (runs : List (Life DiskFile)) → RunsInTurn disk_facts (setup_view setup.entry) first runs disk → IfOk result (λ left. CameAfter disk_facts (setup_view setup.entry) first runs left) }
+    ensures there { IfOk result (λ left. ComesAfterAny disk_facts (setup_view setup.entry) disk left) }
 {
     puts_grow();
     match FileKeeper::new(alloc, disk.stop(choice)) {

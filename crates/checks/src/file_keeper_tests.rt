@@ -44,7 +44,8 @@ fn outcome_of(way: Way) -> Outcome {
 fn outcomes(rt: &impl Abort, alloc: Global, place: usize, way: Way) -> Vec<Outcome> {
     let mut all = Vec::new(alloc);
     all.push(outcome_of(way)).expect(rt, "memory");
-    all.resize(place + 1, Outcome::Good).expect(rt, "memory");
+    all.resize(place.saturating_add(1), Outcome::Good)
+        .expect(rt, "memory");
     all
 }
 
