@@ -25,7 +25,7 @@ use Rattle.system_io.specs.KeptFiles.{KeptFacts, FindsOldOrNew}
 use Rattle.arbiter_service.specs.Serving.{InTurn, Loss, NoLoss, KeeperLost, PortLost, loses_keeper, with_last}
 use Rattle.arbiter_service.specs.StoredBytes.{Failed, Landed, PutsInto, file_of, keeper_over, stored}
 use Rattle.arbiter_service.specs.OverFiles.{GoesOn, FindsAtLoss, FindsEither, FindsRecord, IsItsRecord}
-use Rattle.arbiter_core.proofs.Growing.{Grows, IsOwn, put_grows}
+use Rattle.arbiter_core.specs.Laws.{Grows, IsOwn, PutsGrow}
 use Rattle.arbiter_service.proofs.Telling.{IsHonest, answer_honest, still_on}
 
 -- these bytes spell the arbiter's record
@@ -70,7 +70,7 @@ still_safe facts e s = record { safe = λ _. s; either = safe_either facts e.aft
 one_kept : (v : View) (next : Recorded) (bytes : List ℕ) → SpellsRecord bytes (spelled_as v.me.stamp v.setup.delay v.kept) → SpellsRecord bytes (spelled_as v.me.stamp v.setup.delay next) → count_of v.kept ≡ count_of next
 one_kept v next bytes p q = ap (λ (r : Record). length r.moves) (one_record bytes _ _ p q)
 
-module _ {F : Type 0} (facts : F → KeptFacts) (old : Moment (FileKeeper F)) (s : IsSafe facts old) (e : Exchange (FileKeeper F)) where
+module _ (grow : PutsGrow) {F : Type 0} (facts : F → KeptFacts) (old : Moment (FileKeeper F)) (s : IsSafe facts old) (e : Exchange (FileKeeper F)) where
   -- the record and the keeper are as before
   unmoved : (v : View) → e.after.arbiter ≡ v → e.after.keeper ≡ old.keeper → SpellsOwn (moment v old.keeper) s.bytes → IsOwn (rules_at v.setup) v.kept → IsSafe facts e.after
   unmoved v is same spelled own =
@@ -119,7 +119,7 @@ module _ {F : Type 0} (facts : F → KeptFacts) (old : Moment (FileKeeper F)) (s
   by_answer (Sends outputs window) is (inr h) p = let u = h.1 in still_safe facts e (unmoved old.arbiter u.arbiter u.keeper s.spelled s.own)
   by_answer (Puts next outputs window) is h (inl p) = still_safe facts e (unmoved old.arbiter p.arbiter p.keeper s.spelled s.own)
   by_answer (Puts next outputs window) is h (inr p) =
-      let grows = put_grows (rules_at old.arbiter.setup) old.arbiter.me old.arbiter.kept old.arbiter.window s.own next outputs window old.arbiter.is_down (heard old.arbiter.me.stamp e.datagram) is in
+      let grows = grow old.arbiter e.datagram next outputs window s.own (sym is) in
       let honest : IsHonest old.arbiter.kept (Puts next outputs window) = subst (IsHonest old.arbiter.kept) (sym is) (answer_honest (rules_at old.arbiter.setup) old.arbiter.me old.arbiter.kept old.arbiter.window old.arbiter.is_down (heard old.arbiter.me.stamp e.datagram)) in
       let more = grows.more in
       landed next outputs window p grows (honest.1 (omega arith))
@@ -128,20 +128,20 @@ module _ {F : Type 0} (facts : F → KeptFacts) (old : Moment (FileKeeper F)) (s
   leaves d = by_answer (answer_at old.arbiter e.datagram) refl d.answered d.put
 
 -- through the exchanges of a run
-pub found_through : {F : Type 0} (facts : F → KeptFacts) (old new : Moment (FileKeeper F)) (es : List (Exchange (FileKeeper F))) (loss : Loss (FileKeeper F)) → IsSafe facts old → AllByRecursion (λ e. loses_keeper e.told ≡ false) es → InTurn (keeper_over facts) old (with_last es loss) new → AllByRecursion (λ e. FindsRecord facts e.after) es × FindsAtLoss facts loss
+pub found_through : (grow : PutsGrow) {F : Type 0} (facts : F → KeptFacts) (old new : Moment (FileKeeper F)) (es : List (Exchange (FileKeeper F))) (loss : Loss (FileKeeper F)) → IsSafe facts old → AllByRecursion (λ e. loses_keeper e.told ≡ false) es → InTurn (keeper_over facts) old (with_last es loss) new → AllByRecursion (λ e. FindsRecord facts e.after) es × FindsAtLoss facts loss
 unfolding InTurn
-found_through facts old new [] NoLoss s going turn = (tt, tt)
-found_through facts old new [] (KeeperLost last) s going turn = (tt, (leaves facts old s last turn.0).either)
-found_through facts old new [] PortLost s going turn = (tt, tt)
-found_through facts old new (e ∷ es) NoLoss s going turn =
-    let safe = (leaves facts old s e turn.0).safe going.0 in
-    let rest = found_through facts e.after new es NoLoss safe going.1 turn.1 in
+found_through grow facts old new [] NoLoss s going turn = (tt, tt)
+found_through grow facts old new [] (KeeperLost last) s going turn = (tt, (leaves grow facts old s last turn.0).either)
+found_through grow facts old new [] PortLost s going turn = (tt, tt)
+found_through grow facts old new (e ∷ es) NoLoss s going turn =
+    let safe = (leaves grow facts old s e turn.0).safe going.0 in
+    let rest = found_through grow facts e.after new es NoLoss safe going.1 turn.1 in
     ((safe_finds facts e.after safe, rest.0), rest.1)
-found_through facts old new (e ∷ es) (KeeperLost last) s going turn =
-    let safe = (leaves facts old s e turn.0).safe going.0 in
-    let rest = found_through facts e.after new es (KeeperLost last) safe going.1 turn.1 in
+found_through grow facts old new (e ∷ es) (KeeperLost last) s going turn =
+    let safe = (leaves grow facts old s e turn.0).safe going.0 in
+    let rest = found_through grow facts e.after new es (KeeperLost last) safe going.1 turn.1 in
     ((safe_finds facts e.after safe, rest.0), rest.1)
-found_through facts old new (e ∷ es) PortLost s going turn =
-    let safe = (leaves facts old s e turn.0).safe going.0 in
-    let rest = found_through facts e.after new es PortLost safe going.1 turn.1 in
+found_through grow facts old new (e ∷ es) PortLost s going turn =
+    let safe = (leaves grow facts old s e turn.0).safe going.0 in
+    let rest = found_through grow facts e.after new es PortLost safe going.1 turn.1 in
     ((safe_finds facts e.after safe, rest.0), rest.1)

@@ -23,7 +23,7 @@ use Rattle.arbiter_service.specs.OverFiles.{IsOpened, ServesOpened}
 use Rattle.arbiter_service.specs.Serving.{Scene, Serves, scene}
 use Rattle.arbiter_service.specs.StoredBytes.{Failed, IsInFile, Landed, PutsInto, file_of, keeper_over, stored}
 use Rattle.arbiter_service.proofs.FoundLaws.{IsSafe, found_through, safe_finds}
-use Rattle.arbiter_core.proofs.Growing.{IsOwn}
+use Rattle.arbiter_core.specs.Laws.{IsOwn, PutsGrow}
 
 -- ---- a setup is good or not
 
@@ -113,10 +113,10 @@ is_opened facts setup before now (Ok v) good bad = record { good = good; bad = �
 is_opened facts setup before now (Err fault) good bad = record { good = good; bad = λ g. (ap Err (bad g).0, (bad g).2) }
 
 -- what serving ensures of an arbiter that is opened so
-pub served_so : {F : Type 0} (facts : F → KeptFacts) (setup : SetupView) (n : ℕ) (fetch : Bool) (old new : Scene (FileKeeper F)) (opened now : Moment (FileKeeper F)) (ended : Result ℕ WriteFault) → IsInFile facts old.at → IsOpened facts setup old.at opened.keeper (Ok opened.arbiter) → Serves (keeper_over facts) n fetch (scene opened old.port old.written) (scene now new.port new.written) ended → now.keeper ≡ new.at → ServesOpened facts setup n fetch old new ended
-served_so facts setup n fetch old new opened now ended in_file o s left =
+pub served_so : (grow : PutsGrow) {F : Type 0} (facts : F → KeptFacts) (setup : SetupView) (n : ℕ) (fetch : Bool) (old new : Scene (FileKeeper F)) (opened now : Moment (FileKeeper F)) (ended : Result ℕ WriteFault) → IsInFile facts old.at → IsOpened facts setup old.at opened.keeper (Ok opened.arbiter) → Serves (keeper_over facts) n fetch (scene opened old.port old.written) (scene now new.port new.written) ended → now.keeper ≡ new.at → ServesOpened facts setup n fetch old new ended
+served_so grow facts setup n fetch old new opened now ended in_file o s left =
     let safe : IsSafe facts opened = opened_safe facts setup old.at opened in_file o in
-    let found = found_through facts opened now s.run.exchanges s.run.loss safe s.served.going s.served.delivered in
+    let found = found_through grow facts opened now s.run.exchanges s.run.loss safe s.served.going s.served.delivered in
     record {
       opened = opened;
       now = now;

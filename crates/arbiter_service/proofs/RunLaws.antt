@@ -16,6 +16,7 @@ use Rattle.arbiter_service.specs.Lives.{Between, CameAfter, IsQuestion, RanOver,
 use Rattle.arbiter_service.specs.OverFiles.{IsRefused, OpensAndServes, ServesOpened}
 use Rattle.arbiter_service.specs.Serving.{KeeperLost, Loss, NoLoss, PortLost, Scene, asked_first, exchanges_of, handed_if_any, missed_by}
 use Rattle.arbiter_service.specs.StoredBytes.{StartsOver, file_of}
+use Rattle.arbiter_core.specs.Laws.{PutsGrow}
 use Rattle.arbiter_service.proofs.StillThere.{keeps}
 
 asks_one : (addresses : ℕ) (me : Identity) (kept : Recorded) (no : Bool) → IsQuestion addresses (handed_if_any addresses (cond no None (Some (Fetch me.stamp me.who (count_of kept) most_wanted))))
@@ -71,10 +72,10 @@ unfolding RunsInTurn
 last_run {F = F} facts setup first left after [] run turn starts ran is = (subst (λ (f : F). StartsOver facts f run.start) turn starts, ran, sym is)
 last_run facts setup first left after (r ∷ rs) run turn starts ran is = (turn.0, turn.1, last_run facts setup r.left left after rs run turn.2 starts ran is)
 
-module _ {F : Type 0} (facts : F → KeptFacts) (setup : SetupView) (left : F) (port port' : PortFacts) (start ended : FileKeeper F) (starts : StartsOver facts left start) (o : RanOver facts setup start ended port port') where
+module _ (grow : PutsGrow) {F : Type 0} (facts : F → KeptFacts) (setup : SetupView) (left : F) (port port' : PortFacts) (start ended : FileKeeper F) (starts : StartsOver facts left start) (o : RanOver facts setup start ended port port') where
   pub came_after : (after : F) → after ≡ file_of ended → (first : F) (runs : List (Life F)) → RunsInTurn facts setup first runs left → CameAfter facts setup first runs after
   came_after after is first runs turn = record {
     run = record { start = start; exchanges = o.exchanges; left = file_of ended };
     in_turn = last_run facts setup first left after runs (record { start = start; exchanges = o.exchanges; left = file_of ended }) turn starts o.runs (sym is);
-    there = keeps facts setup first left runs start turn starts;
+    there = keeps grow facts setup first left runs start turn starts;
   }

@@ -27,6 +27,7 @@ use Rattle.arbiter_service.specs.StoredBytes.{IsInFile, StartsOver, file_of, kee
 use Rattle.arbiter_service.proofs.FoundLaws.{own_whole}
 use Rattle.arbiter_service.proofs.OpenedLaws.{good_unless, opened_safe}
 use Rattle.arbiter_service.proofs.Telling.{AllTell, on_and_on, still_on}
+use Rattle.arbiter_core.specs.Laws.{PutsGrow}
 use Rattle.arbiter_service.proofs.Turns.{Gone, GoesFrom, Passed, Sure, SureAt, cut_sure, safe_sure, through}
 
 -- ---- what was told still holds
@@ -166,9 +167,9 @@ module _ {F : Type 0} (facts : F → KeptFacts) (setup : SetupView) (start : Fil
 
 -- ---- one run
 
-module _ {F : Type 0} (facts : F → KeptFacts) (setup : SetupView) where
+module _ (grow : PutsGrow) {F : Type 0} (facts : F → KeptFacts) (setup : SetupView) where
   opened_gone : (start : FileKeeper F) (es : List (Exchange (FileKeeper F))) (now : Moment (FileKeeper F)) (a : Answered facts setup start es now) → IsInFile facts start → Gone facts a.opened es now
-  opened_gone start es now a in_file = through facts a.opened es now (safe_sure facts a.opened (opened_safe facts setup start a.opened in_file a.is_opened)) a.in_turn
+  opened_gone start es now a in_file = through grow facts a.opened es now (safe_sure facts a.opened (opened_safe facts setup start a.opened in_file a.is_opened)) a.in_turn
 
   -- the file that is left holds what the arbiter last had
   between : (now : Moment (FileKeeper F)) (left : F) → Sure facts now → left ≡ file_of now.keeper → Holds facts now.arbiter.setup now.arbiter.me.stamp now.arbiter.kept left
@@ -201,7 +202,7 @@ module _ {F : Type 0} (facts : F → KeptFacts) (setup : SetupView) where
     stays es left (Refused now fault o none e) = untouched left (e ∙ ap file_of (refused_same facts setup start stamp found.bytes found.kept found.there found.is now fault o))
     stays es left (CutAtFirst sent none cut empty) = absurd (let x : None ≡ Some found.bytes = sym none ∙ found.there in cc)
     stays es left (Between now a e) = went_on es now a left (between now left (opened_gone start es now a over.in_file).sure e)
-    stays es left (AtPut now a cut) = went_on es now a left (sure_holds facts now.arbiter.setup now.arbiter.me now.arbiter.kept left (cut_sure facts now (opened_gone start es now a over.in_file).sure left cut))
+    stays es left (AtPut now a cut) = went_on es now a left (sure_holds facts now.arbiter.setup now.arbiter.me now.arbiter.kept left (cut_sure grow facts now (opened_gone start es now a over.in_file).sure left cut))
 
   -- ---- what was told is held
 
@@ -231,7 +232,7 @@ module _ {F : Type 0} (facts : F → KeptFacts) (setup : SetupView) where
       held_so now left (gone.goes.setup ∙ setup_is facts setup start a.opened.keeper a.opened.arbiter a.is_opened) (between now left gone.sure e) es gone.each
   told_held start es left in_file (AtPut now a cut) =
       let gone = opened_gone start es now a in_file in
-      held_so now left (gone.goes.setup ∙ setup_is facts setup start a.opened.keeper a.opened.arbiter a.is_opened) (sure_holds facts now.arbiter.setup now.arbiter.me now.arbiter.kept left (cut_sure facts now gone.sure left cut)) es gone.each
+      held_so now left (gone.goes.setup ∙ setup_is facts setup start a.opened.keeper a.opened.arbiter a.is_opened) (sure_holds facts now.arbiter.setup now.arbiter.me now.arbiter.kept left (cut_sure grow facts now gone.sure left cut)) es gone.each
 
   -- ---- all runs
 
@@ -268,5 +269,5 @@ module _ {F : Type 0} (facts : F → KeptFacts) (setup : SetupView) where
       let told = told_held r.start r.exchanges r.left turn.0.in_file turn.1 in
       (all_so (IsHeld r.left) (IsStillThere start) (λ e h. found_at last start over e (still_held e r.left last rs turn.2 h)) r.exchanges told, all_runs r.left last rs start turn.2 over)
 
-pub keeps : {F : Type 0} (facts : F → KeptFacts) → KeepsWhatItTold facts
-keeps facts = λ setup first last runs start. all_runs facts setup first last runs start
+pub keeps : (grow : PutsGrow) {F : Type 0} (facts : F → KeptFacts) → KeepsWhatItTold facts
+keeps grow facts = λ setup first last runs start. all_runs grow facts setup first last runs start

@@ -15,7 +15,7 @@ use Rattle.arbiter_core.specs.Delivers.{Delivers, Exchange, IsSpelled, Lands, Mo
 use Rattle.arbiter_core.specs.Recording.{Recorded, Window, count_of}
 use Rattle.arbiter_core.specs.Setups.{SetupView, rules_at}
 use Rattle.arbiter_core.specs.Views.{View, spelled_as}
-use Rattle.arbiter_core.proofs.Growing.{Grows, IsOwn, put_grows}
+use Rattle.arbiter_core.specs.Laws.{Grows, IsOwn, PutsGrow}
 use Rattle.system_io.specs.KeptFiles.{KeptFacts, FindsOldOrNew}
 use Rattle.arbiter_service.specs.declared.file_keeper.FileKeeper.{FileKeeper}
 use Rattle.arbiter_service.specs.Lives.{IsCutAtPut}
@@ -84,11 +84,11 @@ tells_so r told outputs e h = subst (λ (t : Told). AllTell r (outputs_of t)) (s
 one_count : (setup : SetupView) (me : Identity) (kept next : Recorded) (bytes : List ℕ) → Spells setup me kept bytes → Spells setup me next bytes → count_of kept ≡ count_of next
 one_count setup me kept next bytes p q = ap (λ (r : Record). length r.moves) (one_record bytes _ _ p q)
 
-module _ {F : Type 0} (facts : F → KeptFacts) (old : Moment (FileKeeper F)) (s : Sure facts old) where
+module _ (grow : PutsGrow) {F : Type 0} (facts : F → KeptFacts) (old : Moment (FileKeeper F)) (s : Sure facts old) where
   -- the record that is put, by what the answer is
   next_goes_on : (datagram : List ℕ) (next : Recorded) (outputs : List Message) (window : Window) → Puts next outputs window ≡ answer_at old.arbiter datagram → IsSafe facts old → Grows (rules_at old.arbiter.setup) old.arbiter.kept next × GoesOn old.arbiter.kept next × AllTell next outputs
   next_goes_on datagram next outputs window is safe =
-      let grows = put_grows (rules_at old.arbiter.setup) old.arbiter.me old.arbiter.kept old.arbiter.window safe.own next outputs window old.arbiter.is_down (heard old.arbiter.me.stamp datagram) is in
+      let grows = grow old.arbiter datagram next outputs window safe.own (sym is) in
       let honest : IsHonest old.arbiter.kept (Puts next outputs window) = subst (IsHonest old.arbiter.kept) (sym is) (answer_honest (rules_at old.arbiter.setup) old.arbiter.me old.arbiter.kept old.arbiter.window old.arbiter.is_down (heard old.arbiter.me.stamp datagram)) in
       let more = grows.more in
       (grows, honest.1 (omega arith), honest.0)
@@ -214,16 +214,16 @@ pub record Gone {F : Type 0} (facts : F → KeptFacts) (old : Moment (FileKeeper
   pub goes : GoesFrom old.arbiter now.arbiter
   pub each : AllByRecursion (Passed now) es
 
-pub through : {F : Type 0} (facts : F → KeptFacts) (old : Moment (FileKeeper F)) (es : List (Exchange (FileKeeper F))) (now : Moment (FileKeeper F)) → Sure facts old → InTurn (keeper_over facts) old es now → Gone facts old es now
+pub through : (grow : PutsGrow) {F : Type 0} (facts : F → KeptFacts) (old : Moment (FileKeeper F)) (es : List (Exchange (FileKeeper F))) (now : Moment (FileKeeper F)) → Sure facts old → InTurn (keeper_over facts) old es now → Gone facts old es now
 unfolding InTurn
-through {F = F} facts old [] now s turn = record {
+through grow {F = F} facts old [] now s turn = record {
   sure = subst (Sure facts) (sym turn) s;
   goes = subst (λ (m : Moment (FileKeeper F)). GoesFrom old.arbiter m.arbiter) (sym turn) (goes_nowhere old.arbiter);
   each = tt;
 }
-through facts old (e ∷ es) now s turn =
-    let one = step facts old s e turn.0 in
-    let rest = through facts e.after es now one.sure turn.1 in
+through grow facts old (e ∷ es) now s turn =
+    let one = step grow facts old s e turn.0 in
+    let rest = through grow facts e.after es now one.sure turn.1 in
     record {
       sure = rest.sure;
       goes = goes_through _ _ _ one.goes rest.goes;

@@ -8,6 +8,7 @@ ghost use Rattle.arbiter_service.specs.StoredBytes.{IsInFile};
 
 use crate::file_keeper::FileKeeper;
 use crate::serving::serve;
+use arbiter_core::laws::puts_grow;
 use arbiter_core::{Arbiter, OpenFault, Setup};
 use std::alloc::Global;
 use std::io::Write;
@@ -31,6 +32,7 @@ pub fn open_and_serve<F: KeptFile + Drop, P: Port, W: Write>(
     ensures served { OpensAndServes F.facts (setup_view setup.entry) n fetch (scene keeper.old (P.facts port.old) (W.contents out.old)) (scene keeper.new (P.facts port.new) (W.contents out.new)) result }
     ensures unwritten { IfOk result (λ ended. IfErr ended (λ fault. out.new ≡ out.old)) }
 {
+    puts_grow();
     match Arbiter::open(alloc, keeper, setup) {
         Ok(mut arbiter) => match serve(alloc, &mut arbiter, keeper, port, n, fetch, out) {
             Ok(status) => Ok(Ok(status)),

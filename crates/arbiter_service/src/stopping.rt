@@ -8,6 +8,7 @@ ghost use Rattle.arbiter_service.specs.Lives.{ComesAfterAny, OneMore};
 use crate::file_keeper::FileKeeper;
 use crate::over_file::open_and_serve;
 use arbiter_core::Setup;
+use arbiter_core::laws::puts_grow;
 use std::alloc::Global;
 use std::io::Write;
 use system_io::{Choice, DiskFile, Port, ReadFault};
@@ -29,6 +30,7 @@ pub fn run_after<P: Port, W: Write>(
     ensures one { IfOk result (λ left. OneMore disk_facts (setup_view setup.entry) disk left (P.facts port.old) (P.facts port.new)) }
     ensures there { IfOk result (λ left. ComesAfterAny disk_facts (setup_view setup.entry) disk left) }
 {
+    puts_grow();
     match FileKeeper::new(alloc, disk.stop(choice)) {
         Ok(mut keeper) => {
             let _ended = open_and_serve(alloc, setup, &mut keeper, port, n, fetch, out);

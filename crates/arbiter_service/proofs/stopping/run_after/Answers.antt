@@ -15,6 +15,6 @@ returns-in-Ok-clause-one g c = record {
 
 pub returns-in-Ok-clause-there : goal.returns-in-Ok-clause-there
 returns-in-Ok-clause-there g c =
-    came_after disk_facts (setup_view c.args.setup) c.args.disk _ _ c.in-Ok.keeper c.open_and_serve-ended.new.keeper
+    came_after c.puts_grow.ensures disk_facts (setup_view c.args.setup) c.args.disk _ _ c.in-Ok.keeper c.open_and_serve-ended.new.keeper
     (record { one = λ a b h. c.in-Ok.ensures.one a b (c.stop.ensures.same a b h); in_file = c.in-Ok.ensures.found })
     (ran_over disk_facts (setup_view c.args.setup) _ _ (scene _ _ _) (scene _ _ _) c.open_and_serve-ended.result c.open_and_serve-ended.ensures.served) c.into_file.result c.into_file.ensures
