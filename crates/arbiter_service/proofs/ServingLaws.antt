@@ -10,7 +10,7 @@ use Rattle.move_msg.specs.TextLines.{ended, text_of}
 use Rattle.system_io.specs.Ports.{Passing, Passed, PortFacts}
 use Rattle.arbiter_core.specs.Keeping.{KeeperFacts}
 use Rattle.arbiter_core.specs.Delivers.{Moment, Exchange}
-use Rattle.arbiter_service.specs.Serving.{InTurn, Loss, NoLoss, KeeperLost, PortLost, Run, ServesRun, TellsRun, all_passing, line_by, line_of, lines_of, loses_keeper, missed_by, passing_of, with_last}
+use Rattle.arbiter_service.specs.Serving.{InTurn, Loss, NoLoss, KeeperLost, PortLost, Session, ServesSession, TellsSession, all_passing, line_by, line_of, lines_of, loses_keeper, missed_by, passing_of, with_last}
 use Rattle.arbiter_service.proofs.PortLaws.{Passed-on, Risen-later}
 
 all_join : {K : Type 0} (es fs : List (Exchange K)) → AllByRecursion (λ (e : Exchange K). loses_keeper e.told ≡ false) es → AllByRecursion (λ (e : Exchange K). loses_keeper e.told ≡ false) fs → AllByRecursion (λ (e : Exchange K). loses_keeper e.told ≡ false) (es ++ fs)
@@ -28,7 +28,7 @@ with_last_join es fs (KeeperLost last) = append_assoc es fs (last ∷ [])
 with_last_join es fs PortLost = refl
 
 -- a run that goes on into another
-abbrev pub going_on : {K : Type 0} → List (Exchange K) → Loss K → Run K
+abbrev pub going_on : {K : Type 0} → List (Exchange K) → Loss K → Session K
 going_on es loss = record { exchanges = es; loss = loss }
 
 passing_join : {K : Type 0} (n : ℕ) (first : List Passing) (es fs : List (Exchange K)) (loss : Loss K) → (first ++ (flat_map (passing_of n) es ++ [])) ++ ([] ++ (flat_map (passing_of n) (with_last fs loss) ++ missed_by loss)) ≡ first ++ (flat_map (passing_of n) (with_last (es ++ fs) loss) ++ missed_by loss)
@@ -38,9 +38,9 @@ passing_join n first es fs loss =
     rw joined (simp (append_assoc, append-nil))
 
 pub run_join : {K : Type 0} (s : KeeperFacts K) (old mid new : Moment K) (port port1 port2 : PortFacts) (first : List Passing) (es fs : List (Exchange K)) (loss : Loss K)
-    → ServesRun s old mid port port1 first (going_on es NoLoss)
-    → ServesRun s mid new port1 port2 [] (going_on fs loss)
-    → ServesRun s old new port port2 first (going_on (es ++ fs) loss)
+    → ServesSession s old mid port port1 first (going_on es NoLoss)
+    → ServesSession s mid new port1 port2 [] (going_on fs loss)
+    → ServesSession s old new port port2 first (going_on (es ++ fs) loss)
 run_join s old mid new port port1 port2 first es fs loss h k =
     record {
       going = all_join es fs h.going k.going;
@@ -64,7 +64,7 @@ text_join xs ys = flat_map-append ended xs ys
 -- so many datagrams came, were answered and have their lines, and nothing is lost
 pub record HasServed {K : Type 0} (s : KeeperFacts K) (old new : Moment K) (port port' : PortFacts) (first : List Passing) (out out' : Option (List ℕ)) (k : ℕ) : Type 0 where
   pub exchanges : List (Exchange K)
-  pub run : ServesRun s old new port port' first (going_on exchanges NoLoss)
+  pub run : ServesSession s old new port port' first (going_on exchanges NoLoss)
   pub came : length exchanges ≡ k
   pub written : Appends out out' (text_of (map line_of exchanges))
 
@@ -83,8 +83,8 @@ written_join out out1 out2 es fs loss p q =
 
 pub more_served : {K : Type 0} (s : KeeperFacts K) (old mid new : Moment K) (port port1 port2 : PortFacts) (first : List Passing) (out out1 out2 : Option (List ℕ)) (k : ℕ) (fs : List (Exchange K)) (loss : Loss K)
     → HasServed s old mid port port1 first out out1 k
-    → ServesRun s mid new port1 port2 [] (going_on fs loss)
-    → TellsRun 1 (going_on fs loss) out1 out2 (Ok 0)
+    → ServesSession s mid new port1 port2 [] (going_on fs loss)
+    → TellsSession 1 (going_on fs loss) out1 out2 (Ok 0)
     → HasServed s old new port port2 first out out2 (k + 1)
 more_served {K = K} s old mid new port port1 port2 first out out1 out2 k fs NoLoss h run told =
     let one = told.0 in
@@ -100,7 +100,7 @@ more_served s old mid new port port1 port2 first out out1 out2 k fs (KeeperLost 
 more_served s old mid new port port1 port2 first out out1 out2 k fs PortLost h run told = absurd (omega (arith, told.0.1))
 
 -- what the whole run tells
-pub stopped : {K : Type 0} (n k : ℕ) (es fs : List (Exchange K)) (loss : Loss K) (out out1 out2 : Option (List ℕ)) → length es ≡ k → k < n → Appends out out1 (text_of (map line_of es)) → TellsRun 1 (going_on fs loss) out1 out2 (Ok 1) → TellsRun n (going_on (es ++ fs) loss) out out2 (Ok 1)
+pub stopped : {K : Type 0} (n k : ℕ) (es fs : List (Exchange K)) (loss : Loss K) (out out1 out2 : Option (List ℕ)) → length es ≡ k → k < n → Appends out out1 (text_of (map line_of es)) → TellsSession 1 (going_on fs loss) out1 out2 (Ok 1) → TellsSession n (going_on (es ++ fs) loss) out out2 (Ok 1)
 stopped n k es fs NoLoss out out1 out2 len lt p told = absurd (omega (arith, told.0.1))
 stopped n k es fs (KeeperLost last) out out1 out2 len lt p told =
     let one = told.0.0 in
@@ -117,5 +117,5 @@ untold n k es fs loss len lt one =
     ap length (lines_join es fs loss) ∙ length-append (map line_of es) (lines_of (going_on fs loss)) ∙ ap (λ m. m + length (lines_of (going_on fs loss))) (length-map es line_of ∙ len) in
     (omega arith, omega arith)
 
-pub all_served : {K : Type 0} (n : ℕ) (es : List (Exchange K)) (out out1 : Option (List ℕ)) → length es ≡ n → Appends out out1 (text_of (map line_of es)) → TellsRun n (going_on es NoLoss) out out1 (Ok 0)
+pub all_served : {K : Type 0} (n : ℕ) (es : List (Exchange K)) (out out1 : Option (List ℕ)) → length es ≡ n → Appends out out1 (text_of (map line_of es)) → TellsSession n (going_on es NoLoss) out out1 (Ok 0)
 all_served n es out out1 len p = ((len, refl), subst (λ (ls : List (List ℕ)). Appends out out1 (text_of ls)) (sym (append-nil (map line_of es))) p)

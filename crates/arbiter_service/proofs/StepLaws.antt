@@ -13,7 +13,7 @@ use Rattle.arbiter_service.specs.declared.serving.Next.TheVariants.{GoesOn, Stop
 use Rattle.move_msg.specs.TextLines.{ended, text_of}
 use Rattle.arbiter_service.specs.ServedLines.{heard_line, refused_port}
 use Rattle.system_io.specs.Ports.{Came, Missed, Passed, PortFacts}
-use Rattle.arbiter_service.specs.Serving.{InTurn, Loss, NoLoss, KeeperLost, PortLost, Run, ServesRun, TellsRun, handed, lines_of, outputs_of}
+use Rattle.arbiter_service.specs.Serving.{InTurn, Loss, NoLoss, KeeperLost, PortLost, Session, ServesSession, TellsSession, handed, lines_of, outputs_of}
 use Rattle.arbiter_service.specs.Inside.Steps.{Hears, IsOneStep, status_by}
 use Rattle.arbiter_service.proofs.PortLaws.{Passed-on}
 use Rattle.arbiter_service.proofs.ServingLaws.{going_on}
@@ -22,7 +22,7 @@ use Rattle.arbiter_service.proofs.ServingLaws.{going_on}
 pub record Steps {K : Type 0} (s : KeeperFacts K) (old new : Moment K) (port port' : PortFacts) (line : Heard) (next : Next) : Type 0 where
   pub exchanges : List (Exchange K)
   pub loss : Loss K
-  pub run : ServesRun s old new port port' [] (going_on exchanges loss)
+  pub run : ServesSession s old new port port' [] (going_on exchanges loss)
   pub is : IsOneStep (going_on exchanges loss) line next
 
 came_and_sent : (n : ℕ) (d : List ℕ) (told : Told) → ((Came d ∷ []) ++ flat_map (handed n) (outputs_of told)) ≡ [] ++ (((Came d ∷ flat_map (handed n) (outputs_of told)) ++ []) ++ [])
@@ -76,10 +76,10 @@ missed s at port port' line passed risen words =
     }
 
 -- its line was written
-pub told_one : {K : Type 0} (run : Run K) (line : Heard) (next : Next) (out out1 : Option (List ℕ)) → IsOneStep run line next → Appends out out1 (ended (heard_line line)) → TellsRun 1 run out out1 (Ok (status_by next))
+pub told_one : {K : Type 0} (run : Session K) (line : Heard) (next : Next) (out out1 : Option (List ℕ)) → IsOneStep run line next → Appends out out1 (ended (heard_line line)) → TellsSession 1 run out out1 (Ok (status_by next))
 told_one run line next out out1 is p =
     (is.1, subst (λ (ls : List (List ℕ)). Appends out out1 (text_of ls)) (sym is.0) (subst (Appends out out1) (sym (append-nil (ended (heard_line line)))) p))
 
 -- or not
-pub untold_one : {K : Type 0} (run : Run K) (line : Heard) (next : Next) (out out1 : Option (List ℕ)) (fault : WriteFault) → IsOneStep run line next → TellsRun 1 run out out1 (Err fault)
+pub untold_one : {K : Type 0} (run : Session K) (line : Heard) (next : Next) (out out1 : Option (List ℕ)) (fault : WriteFault) → IsOneStep run line next → TellsSession 1 run out out1 (Err fault)
 untold_one run line next out out1 fault is = let one : length (lines_of run) ≡ 1 = ap length is.0 in (omega arith, omega arith)

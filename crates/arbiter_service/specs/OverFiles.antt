@@ -12,7 +12,7 @@ use Rattle.arbiter_core.specs.Opens.{IsResumed, OpensIfGood, Told}
 use Rattle.system_io.specs.Ports.{Passed}
 use Rattle.arbiter_core.specs.Recording.{Recorded}
 use Rattle.arbiter_core.specs.Delivers.{Moment}
-use Rattle.arbiter_service.specs.Serving.{Loss, NoLoss, KeeperLost, PortLost, Run, Scene, ServesRun, TellsRun, asked_first}
+use Rattle.arbiter_service.specs.Serving.{Loss, NoLoss, KeeperLost, PortLost, Session, Scene, ServesSession, TellsSession, asked_first}
 use Rattle.arbiter_core.specs.Setups.{SetupView, IsGood, rules_at}
 use Rattle.arbiter_service.specs.StoredBytes.{file_of, keeper_over}
 use Rattle.arbiter_core.specs.Views.{View}
@@ -59,7 +59,7 @@ FindsAtLoss facts PortLost = Unit {0}
 
 -- before the first datagram of a run and after each one a start finds the arbiter's record, and where the keeper
 -- failed that or the record that the put was to keep
-pub record FindsThroughout {F : Type 0} (facts : F → KeptFacts) (opened : Moment (FileKeeper F)) (run : Run (FileKeeper F)) : Type 0 where
+pub record FindsThroughout {F : Type 0} (facts : F → KeptFacts) (opened : Moment (FileKeeper F)) (run : Session (FileKeeper F)) : Type 0 where
   pub first : FindsRecord facts opened
   pub each : AllByRecursion (λ e. FindsRecord facts e.after) run.exchanges
   pub at_loss : FindsAtLoss facts run.loss
@@ -72,11 +72,11 @@ pub record ServesOpened {F : Type 0} (facts : F → KeptFacts) (setup : SetupVie
   pub opened : Moment (FileKeeper F)
   pub now : Moment (FileKeeper F)
   pub is_opened : IsOpened facts setup old.at opened.keeper (Ok opened.arbiter)
-  pub run : Run (FileKeeper F)
-  pub served : ServesRun (keeper_over facts) opened now old.port new.port (asked_first old.port.addresses fetch opened.arbiter) run
+  pub run : Session (FileKeeper F)
+  pub served : ServesSession (keeper_over facts) opened now old.port new.port (asked_first old.port.addresses fetch opened.arbiter) run
   pub left : now.keeper ≡ new.at
   pub found : FindsThroughout facts opened run
-  pub told : TellsRun n run old.written new.written ended
+  pub told : TellsSession n run old.written new.written ended
 
 -- no arbiter is opened, and nothing passes at the port
 pub record IsRefused {F : Type 0} (facts : F → KeptFacts) (setup : SetupView) (old new : Scene (FileKeeper F)) (fault : OpenFault) : Type 0 where

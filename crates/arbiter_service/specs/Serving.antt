@@ -72,7 +72,7 @@ pub data Loss (K : Type 0) : Type 0 where
   PortLost : Loss K
 
 -- the exchanges that nothing was lost at, and what was lost after them
-pub record Run (K : Type 0) : Type 0 where
+pub record Session (K : Type 0) : Type 0 where
   pub exchanges : List (Exchange K)
   pub loss : Loss K
 
@@ -88,7 +88,7 @@ with_last es NoLoss = es
 with_last es (KeeperLost last) = es ++ last ∷ []
 with_last es PortLost = es
 
-abbrev pub exchanges_of : {K : Type 0} → Run K → List (Exchange K)
+abbrev pub exchanges_of : {K : Type 0} → Session K → List (Exchange K)
 exchanges_of run = with_last run.exchanges run.loss
 
 -- a receive that failed comes last at the port, and its line last
@@ -103,16 +103,16 @@ line_by (KeeperLost last) = []
 line_by PortLost = refused_port ∷ []
 
 -- all that passes at a port of so many addresses
-abbrev pub all_passing : {K : Type 0} → ℕ → Run K → List Passing
+abbrev pub all_passing : {K : Type 0} → ℕ → Session K → List Passing
 all_passing addresses run = flat_map (passing_of addresses) (exchanges_of run) ++ missed_by run.loss
 
 -- a line a datagram, and one for a port that is lost
-abbrev pub lines_of : {K : Type 0} → Run K → List (List ℕ)
+abbrev pub lines_of : {K : Type 0} → Session K → List (List ℕ)
 lines_of run = map line_of (exchanges_of run) ++ line_by run.loss
 
 -- the arbiter and its keeper go through the exchanges of a run in turn, and nothing else passes at the port but what is handed
 -- over first; the keeper fails at the last exchange alone, and the port is lost only where its failures rose
-pub record ServesRun {K : Type 0} (s : KeeperFacts K) (old new : Moment K) (port port' : PortFacts) (first : List Passing) (run : Run K) : Type 0 where
+pub record ServesSession {K : Type 0} (s : KeeperFacts K) (old new : Moment K) (port port' : PortFacts) (first : List Passing) (run : Session K) : Type 0 where
   pub going : AllByRecursion (λ e. loses_keeper e.told ≡ false) run.exchanges
   pub loss : IsLoss run.loss
   pub delivered : InTurn s old (exchanges_of run) new
@@ -126,9 +126,9 @@ IsStatus (KeeperLost last) n came status = (came ≤ n) × (status ≡ 1)
 IsStatus PortLost n came status = (came < n) × (status ≡ 1)
 
 -- the lines and the status are those of the run; or its last line could not be written, which is at most the n-th
-abbrev pub TellsRun : {K : Type 0} → ℕ → Run K → Option (List ℕ) → Option (List ℕ) → Result ℕ WriteFault → Type 0
-TellsRun n run old new (Ok status) = IsStatus run.loss n (length (exchanges_of run)) status × Appends old new (text_of (lines_of run))
-TellsRun n run old new (Err fault) = (0 < length (lines_of run)) × (length (lines_of run) ≤ n)
+abbrev pub TellsSession : {K : Type 0} → ℕ → Session K → Option (List ℕ) → Option (List ℕ) → Result ℕ WriteFault → Type 0
+TellsSession n run old new (Ok status) = IsStatus run.loss n (length (exchanges_of run)) status × Appends old new (text_of (lines_of run))
+TellsSession n run old new (Err fault) = (0 < length (lines_of run)) × (length (lines_of run) ≤ n)
 
 -- the message by which a running arbiter asks the other for moves is handed over first, where that is wanted
 abbrev pub handed_if_any : ℕ → Option Message → List Passing
@@ -151,6 +151,6 @@ scene at port written = record { at = at; port = port; written = written }
 
 -- there is a run for so many datagrams, before which moves are asked for where that is wanted; the lines and the status are its own
 pub record Serves {K : Type 0} (s : KeeperFacts K) (n : ℕ) (fetch : Bool) (old new : Scene (Moment K)) (ended : Result ℕ WriteFault) : Type 0 where
-  pub run : Run K
-  pub served : ServesRun s old.at new.at old.port new.port (asked_first old.port.addresses fetch old.at.arbiter) run
-  pub told : TellsRun n run old.written new.written ended
+  pub run : Session K
+  pub served : ServesSession s old.at new.at old.port new.port (asked_first old.port.addresses fetch old.at.arbiter) run
+  pub told : TellsSession n run old.written new.written ended

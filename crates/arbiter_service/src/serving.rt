@@ -8,7 +8,7 @@ ghost use Rattle.arbiter_core.specs.Delivers.{IsKept, moment};
 ghost use Rattle.move_msg.specs.TextLines.{ended};
 ghost use Rattle.system_io.specs.Ports.{Passed};
 ghost use Rattle.arbiter_service.specs.ServedLines.{heard_line, refused_datagram, refused_keeper};
-ghost use Rattle.arbiter_service.specs.Serving.{Run, Serves, ServesRun, asked_first, handed, is_loss, scene};
+ghost use Rattle.arbiter_service.specs.Serving.{Session, Serves, ServesSession, asked_first, handed, is_loss, scene};
 ghost use Rattle.arbiter_service.specs.Inside.Steps.{Hears, IsOneStep, status_by, stops};
 
 use crate::heard::Heard;
@@ -86,7 +86,7 @@ fn receive<K: Keeper, P: Port>(
     port: &mut P,
 ) -> (Heard, Next)
     requires { IsKept (K.facts.kept keeper.old) arbiter.old }
-    ensures run { (run : Run K) × ServesRun K.facts (moment arbiter.old keeper.old) (moment arbiter.new keeper.new) (P.facts port.old) (P.facts port.new) [] run × IsOneStep run result.0 result.1 }
+    ensures run { (run : Session K) × ServesSession K.facts (moment arbiter.old keeper.old) (moment arbiter.new keeper.new) (P.facts port.old) (P.facts port.new) [] run × IsOneStep run result.0 result.1 }
     ensures keeps { IsKept (K.facts.kept keeper.new) arbiter.new }
 {
     let mut buffer = [0u8; 64];

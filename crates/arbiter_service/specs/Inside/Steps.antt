@@ -8,7 +8,7 @@ use Rattle.arbiter_service.specs.declared.serving.Next.{Next}
 use Rattle.arbiter_service.specs.declared.serving.Next.TheVariants.{GoesOn, Stops}
 use Rattle.arbiter_service.specs.ServedLines.{heard_line}
 use Rattle.system_io.specs.Ports.{Passed, PortFacts}
-use Rattle.arbiter_service.specs.Serving.{Run, IsStatus, exchanges_of, handed, lines_of, line_for, loses_keeper, outputs_of}
+use Rattle.arbiter_service.specs.Serving.{Session, IsStatus, exchanges_of, handed, lines_of, line_for, loses_keeper, outputs_of}
 
 abbrev pub stops : Next → Bool
 stops GoesOn = false
@@ -27,5 +27,5 @@ pub record Hears {K : Type 0} (s : KeeperFacts K) (old new : Moment K) (port por
   pub stop : stops next ≡ loses_keeper told
 
 -- a run of one datagram has this line, and goes on or stops so
-abbrev pub IsOneStep : {K : Type 0} → Run K → Heard → Next → Type 0
+abbrev pub IsOneStep : {K : Type 0} → Session K → Heard → Next → Type 0
 IsOneStep run line next = (lines_of run ≡ heard_line line ∷ []) × IsStatus run.loss 1 (length (exchanges_of run)) (status_by next)
