@@ -20,7 +20,7 @@ use Rattle.relay_world.specs.Texts.{who_word}
 use Rattle.arbiter_service.specs.ServedLines.{refused_keeper, refused_port, verdict_or_none}
 use Rattle.adjudicate_core.specs.declared.tables.FileFault.{FileFault}
 use Rattle.adjudicate_core.specs.declared.tables.FileFault.TheVariants.{Missing, Changed, Bad}
-use Rattle.adjudicate_core.specs.declared.lines.Progress.{Progress}
+use Rattle.adjudicate_core.specs.declared.lines.KeptCount.{KeptCount}
 use Rattle.adjudicate_core.specs.declared.lines.Line.{Line}
 use Rattle.adjudicate_core.specs.declared.lines.Line.TheVariants as line
 use Rattle.adjudicate_core.specs.declared.refusals.Refusal.{Refusal}
@@ -83,7 +83,7 @@ state_word state.Down = codes "down"
 state_word state.Closed = codes "closed"
 
 -- an arbiter: its letter, how it is, how many moves it keeps and its verdict
-unfoldable pub arbiter_words : Who → State → Option Progress → List ℕ
+unfoldable pub arbiter_words : Who → State → Option KeptCount → List ℕ
 arbiter_words who state None = who_word who ++ codes " " ++ state_word state ++ codes " - none"
 arbiter_words who state (Some kept) =
     who_word who ++ codes " " ++ state_word state ++ codes " " ++ decimal kept.count ++ codes " " ++ verdict_or_none kept.verdict

@@ -11,7 +11,7 @@ use Rattle.relay_world.specs.declared.schedule.Schedule.{Schedule}
 use Rattle.relay_world.specs.Gathering.{tables_of}
 use Rattle.relay_world.specs.Runs.{GameView, state_of}
 use Rattle.relay_world.specs.Worlds.{Side, World}
-use Rattle.adjudicate_core.specs.declared.lines.Progress.{Progress}
+use Rattle.adjudicate_core.specs.declared.lines.KeptCount.{KeptCount}
 use Rattle.adjudicate_core.specs.Lines.{arbiter_words, sent_words, refused_file}
 
 -- the game of a schedule, where a verdict by tables must hold for so many further plies
@@ -19,7 +19,7 @@ abbrev pub game_of : Schedule → ℕ → GameView
 game_of schedule delay = record { name = schedule.name.items; start = schedule.start; moves = schedule.moves.items; delay = delay }
 
 -- how many moves are kept, and the verdict
-abbrev pub counted : Option Recorded → Option Progress
+abbrev pub counted : Option Recorded → Option KeptCount
 counted None = None
 counted (Some kept) = Some (record { count = count_of kept; verdict = kept.verdict })
 

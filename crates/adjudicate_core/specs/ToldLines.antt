@@ -1,9 +1,9 @@
 -- What is told of the lines of an input, a line each, as they come (this project's own).
-use Rattle.std.specs.Prelude.{◌≡◌, ◌≤◌, ◌⊎◌, ◌++◌, ◌^◌, ◌-◌, ℕ, Bool, false, List, [], ◌∷◌, length, map, Option, codes}
+use Rattle.std.specs.Prelude.{◌≡◌, ◌≤◌, ◌⊎◌, ◌++◌, ◌^◌, ◌-◌, ℕ, Bool, false, List, [], ◌∷◌, length, map, Option, IfSome, codes}
 use Rattle.std.specs.Fmt.{decimal}
 use Rattle.std.specs.List.{list_all}
 use Rattle.std.specs.Io.KnownBytes.{Appends, IsAtEnd}
-use Rattle.system_io.specs.LineReaders.{ReadsLine}
+use Rattle.system_io.specs.LineReaders.{LineFacts, ReadsLine}
 use Rattle.move_msg.specs.TextLines.{ended, lines_in, text_of}
 use Rattle.adjudicate_core.specs.declared.told_lines.Step.{Step}
 use Rattle.adjudicate_core.specs.declared.told_lines.Step.TheVariants as step
@@ -88,3 +88,7 @@ pub data WritesText (Tells : List ℕ → LineTold → Type 0) (TakesMemory : Li
   AllTold : (told : List LineTold) → TellsLines Tells (lines_in text) told → Appends old new (text_of (words_told told)) → done ≡ all_told told → WritesText Tells TakesMemory Fails text old new done
   CutOff : (front : List (List ℕ)) (line : List ℕ) (rest : List (List ℕ)) → lines_in text ≡ front ++ line ∷ rest → TakesMemory line → (told : List LineTold) → TellsLines Tells front told → Appends old new (text_of (words_told told ++ refused_memory ∷ [])) → done ≡ false → WritesText Tells TakesMemory Fails text old new done
   TextCutShort : (front rest : List (List ℕ)) → lines_in text ≡ front ++ rest → (told : List LineTold) → TellsLines Tells front told → (words : List ℕ) → IsCut Fails told words → Appends old new (text_of (words_told told ++ words ∷ [])) → done ≡ false → WritesText Tells TakesMemory Fails text old new done
+
+-- so it is where the input tells its bytes
+abbrev pub WritesIfKnown : (List ℕ → LineTold → Type 0) → (List ℕ → Type 0) → LineFacts → Option (List ℕ) → Option (List ℕ) → Bool → Type 0
+WritesIfKnown Tells TakesMemory input old new done = IfSome input.left (λ text. WritesText Tells TakesMemory input.fails text old new done)

@@ -23,7 +23,7 @@ use system_io::WriteFault;
 
 /// What an arbiter keeps.
 #[derive(Clone, Copy)]
-pub(crate) struct Progress {
+pub(crate) struct KeptCount {
     /// How many moves.
     pub(crate) count: u32,
     /// The verdict, if there is one.
@@ -48,7 +48,7 @@ pub(crate) enum Line {
     /// A message.
     Message(Message),
     /// How an arbiter is, and what it keeps, if anything.
-    Arbiter(Who, State, Option<Progress>),
+    Arbiter(Who, State, Option<KeptCount>),
     /// How many messages were sent.
     Sent(usize),
     /// What a game comes to.
@@ -91,7 +91,7 @@ fn fmt_arbiter<W: fmt::Write>(
     f: &mut fmt::Formatter<W>,
     who: Who,
     state: State,
-    kept: Option<Progress>,
+    kept: Option<KeptCount>,
 ) -> fmt::Result
     ensures { DisplaysOnOk W.Write.write_str_gives f.old result (Some (arbiter_words who state kept)) f.new }
 {

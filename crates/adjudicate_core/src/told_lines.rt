@@ -1,10 +1,10 @@
 //! What is told of the lines of an input, a line each, as they come.
 
-ghost use Rattle.std.specs.Prelude.{◌≡◌, ◌≢◌, ◌%◌, List, ℕ, false, IfOk, IfSome, OnOk, IsErrOf};
+ghost use Rattle.std.specs.Prelude.{◌≡◌, ◌≢◌, ◌%◌, List, ℕ, false, IfOk, OnOk, IsErrOf};
 ghost use Rattle.std.specs.Io.KnownBytes.{Appends, Keeps};
 ghost use Rattle.move_msg.specs.TextLines.{ended};
 ghost use Rattle.adjudicate_core.specs.Lines.{refusal_words};
-ghost use Rattle.adjudicate_core.specs.ToldLines.{LineTells, LineTold, StepTells, TellsNoMore, WritesRead, WritesText, WritesTold, done_words};
+ghost use Rattle.adjudicate_core.specs.ToldLines.{LineTells, LineTold, StepTells, TellsNoMore, WritesIfKnown, WritesRead, WritesTold, done_words};
 
 use crate::lines::{Line, put_line};
 use crate::refusals::Refusal;
@@ -158,7 +158,7 @@ pub fn tell_lines<T: Teller, L: LineReader, W: Write, E: Write>(
     ensures written { IfOk result (WritesRead (T.tells teller.old) T.takes_memory (L.facts reader.old).fails (L.facts reader.old).left (W.contents out.old) (W.contents out.new)) }
 
     // Where the reader tells its bytes, these are the lines of the whole text, or those until it was cut short.
-    ensures same_text { IfOk result (λ done. IfSome (L.facts reader.old).left (λ text. WritesText (T.tells teller.old) T.takes_memory (L.facts reader.old).fails text (W.contents out.old) (W.contents out.new) done)) }
+    ensures same_text { IfOk result (WritesIfKnown (T.tells teller.old) T.takes_memory (L.facts reader.old) (W.contents out.old) (W.contents out.new)) }
 
     ensures quiet { progress ≡ false → errors.new ≡ errors.old }
     ensures same { TellsNoMore (T.tells teller.old) (T.tells teller.new) }

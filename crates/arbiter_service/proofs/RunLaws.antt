@@ -12,7 +12,7 @@ use Rattle.system_io.specs.declared.output.WriteFault.{WriteFault}
 use Rattle.system_io.specs.KeptFiles.{KeptFacts}
 use Rattle.system_io.specs.Ports.{Missed, PortFacts}
 use Rattle.arbiter_service.specs.declared.file_keeper.FileKeeper.{FileKeeper}
-use Rattle.arbiter_service.specs.Lives.{Between, CameAfter, IsQuestion, RanOver, Refused, Life, RunsInTurn, RunsOver}
+use Rattle.arbiter_service.specs.Lives.{Between, CameAfter, IsQuestion, RanOver, Refused, PastRun, RunsInTurn, RunsOver}
 use Rattle.arbiter_service.specs.OverFiles.{IsRefused, OpensAndServes, ServesOpened}
 use Rattle.arbiter_service.specs.Serving.{KeeperLost, Loss, NoLoss, PortLost, Scene, asked_first, exchanges_of, handed_if_any, missed_by}
 use Rattle.arbiter_service.specs.StoredBytes.{StartsOver, file_of}
@@ -67,13 +67,13 @@ module _ {F : Type 0} (facts : F → KeptFacts) (setup : SetupView) (n : ℕ) (f
 
 -- ---- one run more
 
-pub last_run : {F : Type 0} (facts : F → KeptFacts) (setup : SetupView) (first left after : F) (runs : List (Life F)) (run : Life F) → RunsInTurn facts setup first runs left → StartsOver facts left run.start → RunsOver facts setup run.start run.exchanges run.left → run.left ≡ after → RunsInTurn facts setup first (runs ++ run ∷ []) after
+pub last_run : {F : Type 0} (facts : F → KeptFacts) (setup : SetupView) (first left after : F) (runs : List (PastRun F)) (run : PastRun F) → RunsInTurn facts setup first runs left → StartsOver facts left run.start → RunsOver facts setup run.start run.exchanges run.left → run.left ≡ after → RunsInTurn facts setup first (runs ++ run ∷ []) after
 unfolding RunsInTurn
 last_run {F = F} facts setup first left after [] run turn starts ran is = (subst (λ (f : F). StartsOver facts f run.start) turn starts, ran, sym is)
 last_run facts setup first left after (r ∷ rs) run turn starts ran is = (turn.0, turn.1, last_run facts setup r.left left after rs run turn.2 starts ran is)
 
 module _ (grow : PutsGrow) {F : Type 0} (facts : F → KeptFacts) (setup : SetupView) (left : F) (port port' : PortFacts) (start ended : FileKeeper F) (starts : StartsOver facts left start) (o : RanOver facts setup start ended port port') where
-  pub came_after : (after : F) → after ≡ file_of ended → (first : F) (runs : List (Life F)) → RunsInTurn facts setup first runs left → CameAfter facts setup first runs after
+  pub came_after : (after : F) → after ≡ file_of ended → (first : F) (runs : List (PastRun F)) → RunsInTurn facts setup first runs left → CameAfter facts setup first runs after
   came_after after is first runs turn = record {
     run = record { start = start; exchanges = o.exchanges; left = file_of ended };
     in_turn = last_run facts setup first left after runs (record { start = start; exchanges = o.exchanges; left = file_of ended }) turn starts o.runs (sym is);

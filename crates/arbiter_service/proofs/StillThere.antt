@@ -20,7 +20,7 @@ use Rattle.arbiter_core.specs.Setups.{SetupView, IsGood, rules_at}
 use Rattle.arbiter_core.specs.Views.{View}
 use Rattle.system_io.specs.KeptFiles.{KeptFacts}
 use Rattle.arbiter_service.specs.declared.file_keeper.FileKeeper.{FileKeeper}
-use Rattle.arbiter_service.specs.Lives.{Answered, AtPut, Between, CutAtFirst, Early, IsStillThere, KeepsWhatItTold, Refused, Life, RunsInTurn, RunsOver, StillHolds}
+use Rattle.arbiter_service.specs.Lives.{Answered, AtPut, Between, CutAtFirst, Early, IsStillThere, KeepsWhatItTold, Refused, PastRun, RunsInTurn, RunsOver, StillHolds}
 use Rattle.arbiter_service.specs.OverFiles.{GoesOn, IsOpened}
 use Rattle.arbiter_service.specs.Serving.{outputs_of}
 use Rattle.arbiter_service.specs.StoredBytes.{IsInFile, StartsOver, file_of, keeper_over, stored}
@@ -236,7 +236,7 @@ module _ (grow : PutsGrow) {F : Type 0} (facts : F → KeptFacts) (setup : Setup
 
   -- ---- all runs
 
-  still_held : (e : Exchange (FileKeeper F)) (first last : F) (runs : List (Life F)) → RunsInTurn facts setup first runs last → IsHeld first e → IsHeld last e
+  still_held : (e : Exchange (FileKeeper F)) (first last : F) (runs : List (PastRun F)) → RunsInTurn facts setup first runs last → IsHeld first e → IsHeld last e
   unfolding RunsInTurn
   still_held e first last [] turn h = subst (λ (f : F). IsHeld f e) (sym turn) h
   still_held e first last (r ∷ rs) turn h =
@@ -262,7 +262,7 @@ module _ (grow : PutsGrow) {F : Type 0} (facts : F → KeptFacts) (setup : Setup
   all_so P Q f [] h = tt
   all_so P Q f (x ∷ xs) h = (f x h.0, all_so P Q f xs h.1)
 
-  pub all_runs : (first last : F) (runs : List (Life F)) (start : FileKeeper F) → RunsInTurn facts setup first runs last → StartsOver facts last start → AllByRecursion (λ r. AllByRecursion (IsStillThere start) r.exchanges) runs
+  pub all_runs : (first last : F) (runs : List (PastRun F)) (start : FileKeeper F) → RunsInTurn facts setup first runs last → StartsOver facts last start → AllByRecursion (λ r. AllByRecursion (IsStillThere start) r.exchanges) runs
   unfolding RunsInTurn
   all_runs first last [] start turn over = tt
   all_runs first last (r ∷ rs) start turn over =

@@ -69,13 +69,13 @@ pub record RanOver {F : Type 0} (facts : F → KeptFacts) (setup : SetupView) (b
 -- ---- all runs
 
 -- one run: the keeper at its start, what was answered in it, and the file that it left
-pub record Life (F : Type 0) : Type 0 where
+pub record PastRun (F : Type 0) : Type 0 where
   pub start : FileKeeper F
   pub exchanges : List (Exchange (FileKeeper F))
   pub left : F
 
 -- runs of one setup, each over the file that the one before it left
-unfoldable pub RunsInTurn : {F : Type 0} → (F → KeptFacts) → SetupView → F → List (Life F) → F → Type 0
+unfoldable pub RunsInTurn : {F : Type 0} → (F → KeptFacts) → SetupView → F → List (PastRun F) → F → Type 0
 RunsInTurn facts setup first [] last = last ≡ first
 RunsInTurn facts setup first (r ∷ rs) last = StartsOver facts first r.start × RunsOver facts setup r.start r.exchanges r.left × RunsInTurn facts setup r.left rs last
 
@@ -110,21 +110,21 @@ pub record IsStillThere {F : Type 0} (start : FileKeeper F) (e : Exchange (FileK
 -- After any runs a start finds what each answer of each of them told.
 abbrev pub KeepsWhatItTold : {F : Type 0} → (F → KeptFacts) → Type 0
 KeepsWhatItTold {F} facts =
-    (setup : SetupView) (first last : F) (runs : List (Life F)) (start : FileKeeper F)
+    (setup : SetupView) (first last : F) (runs : List (PastRun F)) (start : FileKeeper F)
     → RunsInTurn facts setup first runs last
     → StartsOver facts last start
     → AllByRecursion (λ r. AllByRecursion (IsStillThere start) r.exchanges) runs
 
 -- what all answers of these runs told is there at this start
-abbrev pub AllStillThere : {F : Type 0} → FileKeeper F → List (Life F) → Type 0
+abbrev pub AllStillThere : {F : Type 0} → FileKeeper F → List (PastRun F) → Type 0
 AllStillThere start runs = AllByRecursion (λ r. AllByRecursion (IsStillThere start) r.exchanges) runs
 
 -- a run came after these, one more over the file that they left; what they told was there at its start
-pub record CameAfter {F : Type 0} (facts : F → KeptFacts) (setup : SetupView) (first : F) (runs : List (Life F)) (after : F) : Type 0 where
-  pub run : Life F
+pub record CameAfter {F : Type 0} (facts : F → KeptFacts) (setup : SetupView) (first : F) (runs : List (PastRun F)) (after : F) : Type 0 where
+  pub run : PastRun F
   pub in_turn : RunsInTurn facts setup first (runs ++ run ∷ []) after
   pub there : AllStillThere run.start runs
 
 -- after any runs that left this file one more came, and all that they told was there at its start
 abbrev pub ComesAfterAny : {F : Type 0} → (F → KeptFacts) → SetupView → F → F → Type 0
-ComesAfterAny {F} facts setup left after = (first : F) (runs : List (Life F)) → RunsInTurn facts setup first runs left → CameAfter facts setup first runs after
+ComesAfterAny {F} facts setup left after = (first : F) (runs : List (PastRun F)) → RunsInTurn facts setup first runs left → CameAfter facts setup first runs after

@@ -10,8 +10,8 @@ use Rattle.arbiter_core.specs.declared.fault.DeliverFault.TheVariants as deliver
 use Rattle.arbiter_core.specs.Recording.{Recorded, count_of}
 use Rattle.arbiter_core.specs.Answering.{asked}
 use Rattle.system_io.specs.Failures.{Risen}
+use Rattle.arbiter_core.specs.Delivers.{Delivers, Exchange, Moment, Told, moment}
 use Rattle.arbiter_core.specs.Views.{View}
-use Rattle.arbiter_core.specs.Delivers.{Delivers, Exchange, Moment, Told}
 use Rattle.system_io.specs.declared.output.WriteFault.{WriteFault}
 use Rattle.move_msg.specs.TextLines.{text_of}
 use Rattle.arbiter_service.specs.ServedLines.{heard_words, refused_datagram, refused_keeper, refused_port}
@@ -148,6 +148,10 @@ pub record Scene (A : Type 0) : Type 0 where
 
 abbrev pub scene : {A : Type 0} → A → PortFacts → Option (List ℕ) → Scene A
 scene at port written = record { at = at; port = port; written = written }
+
+-- an arbiter and its keeper, the port and what was written, while it serves
+abbrev pub serving : {K : Type 0} → View → K → PortFacts → Option (List ℕ) → Scene (Moment K)
+serving arbiter keeper port written = scene (moment arbiter keeper) port written
 
 -- there is a run for so many datagrams, before which moves are asked for where that is wanted; the lines and the status are its own
 pub record Serves {K : Type 0} (s : KeeperFacts K) (n : ℕ) (fetch : Bool) (old new : Scene (Moment K)) (ended : Result ℕ WriteFault) : Type 0 where

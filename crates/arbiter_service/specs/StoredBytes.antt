@@ -1,6 +1,7 @@
 -- What a keeper over a file has stored (this project's own).
-use Rattle.std.specs.Prelude.{◌≡◌, ℕ, List, Option, Some, None, cond}
+use Rattle.std.specs.Prelude.{◌≡◌, ◌⊎◌, ℕ, List, Option, Some, None, cond}
 use Rattle.arbiter_core.specs.Keeping.{KeeperFacts}
+use Rattle.arbiter_core.specs.declared.keeper.Keep.TheVariants.{Good, FailsOld}
 use Rattle.system_io.specs.Failures.{Risen}
 use Rattle.arbiter_service.specs.declared.file_keeper.FileKeeper.{FileKeeper}
 use Rattle.system_io.specs.KeptFiles.{KeptFacts, FindsOldOrNew, IsOneOfFound}
@@ -33,12 +34,12 @@ pub data PutsInto {F : Type 0} (facts : F → KeptFacts) (before : FileKeeper F)
   Landed : stored now ≡ Some bytes → (facts (file_of now)).finds (Some bytes) (Some bytes) → PutsInto facts before bytes now
   Failed : stored now ≡ stored before → Risen (keeper_faults before) (keeper_faults now) → ((old : Option (List ℕ)) → (facts (file_of before)).finds old old → FindsOldOrNew (facts (file_of now)) old bytes) → PutsInto facts before bytes now
 
--- what keepers over files tell of themselves: any outcome of a put, and no get that fails or changes one
+-- what keepers over files tell of themselves: a put that fails leaves what was stored, and no get fails or changes one
 abbrev pub keeper_over : {F : Type 0} → (F → KeptFacts) → KeeperFacts (FileKeeper F)
 keeper_over facts = record {
   kept = stored;
   faults = keeper_faults;
-  may_be = λ k keep. Unit {0};
+  may_be = λ k keep. (keep ≡ Good) ⊎ (keep ≡ FailsOld);
   get_may_fail = λ k. ⊥;
   leaves = PutsInto facts;
   reads = λ k fault n. n ≡ k;

@@ -8,7 +8,7 @@ ghost use Rattle.arbiter_core.specs.Delivers.{IsKept, moment};
 ghost use Rattle.move_msg.specs.TextLines.{ended};
 ghost use Rattle.system_io.specs.Ports.{Passed};
 ghost use Rattle.arbiter_service.specs.ServedLines.{heard_line, refused_datagram, refused_keeper};
-ghost use Rattle.arbiter_service.specs.Serving.{Session, Serves, ServesSession, asked_first, handed, is_loss, scene};
+ghost use Rattle.arbiter_service.specs.Serving.{Session, Serves, ServesSession, asked_first, handed, is_loss, serving};
 ghost use Rattle.arbiter_service.specs.Inside.Steps.{Hears, IsOneStep, status_by, stops};
 
 use crate::heard::Heard;
@@ -118,7 +118,7 @@ fn serve_one<K: Keeper, P: Port, W: Write>(
     out: &mut W,
 ) -> Result<Next, WriteFault>
     requires { IsKept (K.facts.kept keeper.old) arbiter.old }
-    ensures run { Serves K.facts 1 false (scene (moment arbiter.old keeper.old) (P.facts port.old) (W.contents out.old)) (scene (moment arbiter.new keeper.new) (P.facts port.new) (W.contents out.new)) (result_map_both status_by (λ e. e) result) }
+    ensures run { Serves K.facts 1 false (serving arbiter.old keeper.old (P.facts port.old) (W.contents out.old)) (serving arbiter.new keeper.new (P.facts port.new) (W.contents out.new)) (result_map_both status_by (λ e. e) result) }
     ensures keeps { IsKept (K.facts.kept keeper.new) arbiter.new }
 {
     let (line, next) = receive(alloc, arbiter, keeper, port);
@@ -163,7 +163,7 @@ pub fn serve<K: Keeper, P: Port, W: Write>(
 
     // The arbiter has answered the datagrams in turn, all else at the port is what it sends to each address, and the lines and
     // the status are those of this run.
-    ensures run { Serves K.facts n fetch (scene (moment arbiter.old keeper.old) (P.facts port.old) (W.contents out.old)) (scene (moment arbiter.new keeper.new) (P.facts port.new) (W.contents out.new)) result }
+    ensures run { Serves K.facts n fetch (serving arbiter.old keeper.old (P.facts port.old) (W.contents out.old)) (serving arbiter.new keeper.new (P.facts port.new) (W.contents out.new)) result }
 
     // A running arbiter's record is still the one that the keeper keeps.
     ensures keeps { IsKept (K.facts.kept keeper.new) arbiter.new }

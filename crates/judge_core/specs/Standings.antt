@@ -1,9 +1,10 @@
 -- Where a game stands after its moves, as it is carried from ply to ply.
-use Rattle.std.specs.Prelude.{◌≡◌, ℕ, ◌+◌, ◌≤◌, nat_le, nat_lt, cond, ◌&&◌, ◌||◌, List, [], ◌∷◌, ◌++◌, length, Option, Some, None, Result, IfOk}
+use Rattle.std.specs.Prelude.{◌≡◌, ℕ, ◌+◌, ◌≤◌, nat_le, nat_lt, cond, ◌&&◌, ◌||◌, List, [], ◌∷◌, ◌++◌, length, take, Option, Some, None, Result, IfOk}
 use Rattle.board_core.specs.declared.parts.Parts.{Parts}
 use Rattle.board_core.specs.declared.moves.Move.{Move}
 use Rattle.board_core.specs.declared.verdict.Verdict.{Verdict}
 use Rattle.board_core.specs.ComputedMoves.{position_after}
+use Rattle.judge_core.specs.Answers.{ListsMovesForVerdict}
 use Rattle.judge_core.specs.Ruling.{ruling}
 use Rattle.judge_core.specs.Tables.{Tables}
 use Rattle.board_core.specs.Delays.{most_delay}
@@ -30,6 +31,10 @@ pub record IsAt (rules : Rules) (moves : List Move) (s : Reached) : Type 0 where
 abbrev pub MovesOn : {E : Type 0} → Tables → Reached → Parts → Result Reached E → Type 0
 MovesOn tables s q result =
     (rules : Rules) (moves : List Move) (m : Move) → rules.tables ≡ tables → IsAt rules moves s → position_after s.position m ≡ Some q → IfOk result (IsAt rules (moves ++ m ∷ []))
+
+-- some ply of these moves stands at a position of which a verdict lists moves
+abbrev pub ListsMovesInGame : Rules → List Move → Type 0
+ListsMovesInGame rules moves = (ply : ℕ) × (p : Parts) × (position_after_all rules.start (take ply moves) ≡ Some p) × ListsMovesForVerdict rules.tables p
 
 -- how many plies a ruling has stood, one ply later
 abbrev pub plies_by : Option Verdict → Option Verdict → ℕ → ℕ

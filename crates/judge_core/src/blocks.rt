@@ -118,7 +118,7 @@ impl Blocks {
         (Asking::Again, last.times.saturating_add(1))
     }
 
-    /// Notes that a block is asked for, and how.
+    /// Records that a block is asked for, and tells how often it was.
     pub(crate) fn ask(&mut self, key: BlockKey) -> Asking
         requires { 1 ≤ length self.old.asked.items }
         ensures kept { self.new.kept ≡ self.old.kept }

@@ -167,14 +167,13 @@ impl<'a> Set<'a> {
         ensures unchanged { self.new ≡ self.old }
     {
         if is_won(outcome) {
-            let reached = self.pawns_reach(alloc, probe.position(), value)?;
-            match &reached {
-                Ok(reached) => {
-                    if *reached {
-                        return Ok(Ok(towards(outcome, zeroing(outcome))));
-                    }
-                }
-                Err(fault) => return Ok(Err(*fault)),
+            let found = self.pawns_reach(alloc, probe.position(), value)?;
+            let reached = match found {
+                Ok(reached) => reached,
+                Err(fault) => return Ok(Err(fault)),
+            };
+            if reached {
+                return Ok(Ok(towards(outcome, zeroing(outcome))));
             }
         }
         self.by_own_table(alloc, probe, outcome, left)

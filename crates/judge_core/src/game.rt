@@ -1,11 +1,11 @@
 //! The first verdict of a game.
 
-ghost use Rattle.std.specs.Prelude.{◌≡◌, ◌<◌, ◌≤◌, length, take, IfOk};
+ghost use Rattle.std.specs.Prelude.{◌≡◌, ◌<◌, ◌≤◌, length, take, IfOk, OnErr};
 ghost use Rattle.judge_core.specs.Tables.{AreFiled};
 ghost use Rattle.board_core.specs.Delays.{most_delay};
 ghost use Rattle.judge_core.specs.Games.{Rules, IsUnruled, IsOutcome, plies_to};
 ghost use Rattle.judge_core.specs.Inside.Following.{IsFollowed};
-ghost use Rattle.judge_core.specs.Standings.{IsAt};
+ghost use Rattle.judge_core.specs.Standings.{IsAt, ListsMovesInGame};
 
 use crate::set::Set;
 use crate::standing::Standing;
@@ -70,6 +70,7 @@ impl<'a> Set<'a> {
         requires within { ply < length moves.now }
         ensures value { (rules : Rules) → rules.tables ≡ self.old.tables → rules.delay ≡ delay → IsAt rules (take ply moves.now) standing.old
             → IsUnruled rules moves.now ply → IfOk result (λ ended. IsFollowed rules moves.now ply ended standing.new) }
+        ensures memory { (rules : Rules) → rules.tables ≡ self.old.tables → IsAt rules (take ply moves.now) standing.old → OnErr result (ListsMovesInGame rules moves.now) }
         ensures unchanged { self.new ≡ self.old }
     {
         if let Some(verdict) = standing.verdict(delay) {
@@ -98,6 +99,7 @@ impl<'a> Set<'a> {
         requires { delay ≤ most_delay }
         ensures value { IfOk result (λ f. IsOutcome (record { start = start.now; tables = self.old.tables; delay = delay }) moves.now f.outcome) }
         ensures standing { IfOk result (λ f. IsAt (record { start = start.now; tables = self.old.tables; delay = delay }) (take (plies_to moves.now f.outcome) moves.now) f.standing) }
+        ensures memory { OnErr result (ListsMovesInGame (record { start = start.now; tables = self.old.tables; delay = delay }) moves.now) }
         ensures filed { AreFiled self.old.tables }
         ensures unchanged { self.new ≡ self.old }
     {
@@ -121,6 +123,7 @@ impl<'a> Set<'a> {
     ) -> Result<GameOutcome, AllocError>
         requires { delay ≤ most_delay }
         ensures value { IfOk result (λ outcome. IsOutcome (record { start = start.now; tables = self.old.tables; delay = delay }) moves.now outcome) }
+        ensures memory { OnErr result (ListsMovesInGame (record { start = start.now; tables = self.old.tables; delay = delay }) moves.now) }
         ensures filed { AreFiled self.old.tables }
         ensures unchanged { self.new ≡ self.old }
     {

@@ -36,7 +36,7 @@ impl<'a> Model for Set<'a> {
 
 impl<'a> Set<'a> {
     /// A set without tables that may keep so many decoded blocks, 1 to 4096. The error comes where memory for its slots is
-    /// refused, or for the notes of what is asked for, 16 to 32 for each block that may be kept.
+    /// refused, or for the record of what is asked for, 16 to 32 for each block that may be kept.
     pub fn new(alloc: Global, cache: usize) -> Result<Set<'a>, AllocError>
         requires some { 1 ≤ cache }
         requires most { cache ≤ 4096 }

@@ -1,7 +1,8 @@
 //! Where a game stands, carried from ply to ply.
 
-ghost use Rattle.std.specs.Prelude.{◌≡◌, ◌≤◌, List, [], IfOk};
+ghost use Rattle.std.specs.Prelude.{◌≡◌, ◌≤◌, List, [], IfOk, OnErr};
 ghost use Rattle.board_core.specs.declared.moves.Move.{Move};
+ghost use Rattle.judge_core.specs.Answers.{ListsMovesForVerdict};
 ghost use Rattle.judge_core.specs.Tables.{AreFiled};
 ghost use Rattle.judge_core.specs.Games.{Rules, verdict_after, is_end, is_judged};
 ghost use Rattle.judge_core.specs.Standings.{IsAt, MovesOn, plies_by, verdict_of};
@@ -105,6 +106,7 @@ impl<'a> Set<'a> {
     /// The error comes only where memory for a list of moves is refused. The set stays as it was but for its cache.
     pub fn begin(&mut self, alloc: Global, start: &Position) -> Result<Standing, AllocError>
         ensures at { (rules : Rules) → rules.start ≡ start.now → rules.tables ≡ self.old.tables → IfOk result (IsAt rules []) }
+        ensures memory { OnErr result (ListsMovesForVerdict self.old.tables start.now) }
         ensures filed { AreFiled self.old.tables }
         ensures unchanged { self.new ≡ self.old }
     {
@@ -126,6 +128,7 @@ impl<'a> Set<'a> {
         position: Position,
     ) -> Result<Standing, AllocError>
         ensures at { MovesOn self.old.tables standing.now position result }
+        ensures memory { OnErr result (ListsMovesForVerdict self.old.tables position) }
         ensures filed { AreFiled self.old.tables }
         ensures unchanged { self.new ≡ self.old }
     {

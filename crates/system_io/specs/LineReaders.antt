@@ -7,6 +7,8 @@ use Rattle.std.specs.Io.KnownBytes.{Consumes, IsAtEnd}
 pub record LineFacts : Type 1 where
   -- the bytes that are left, where they are known
   pub left : Option (List ℕ)
+  -- the bytes that have come already
+  pub ahead : List ℕ
   -- it can't be read to its end
   pub fails : Type 0
 

@@ -17,9 +17,9 @@ system_disk = record { lists = λ _ _. Unit {0}; holds = λ _ _. Unit {0}; fails
 abbrev pub system_input : InputFacts
 system_input = record { gives = λ _. Unit {0}; fails = Unit {0} }
 
--- OUTPUT: what a flush of standard output says has gone out
-abbrev pub system_output : OutputFacts
-system_output = record { gone = Unit {0}; stuck = Unit {0} }
+-- OUTPUT: what no longer waits in the writer's buffer was handed to the system, and so has gone out
+abbrev pub system_output : Type 0 → OutputFacts
+system_output is_empty = record { gone = is_empty; stuck = Unit {0} }
 
 -- DATAGRAMS: what the socket receives came, and what is handed to it is on its way to each address; how often a call failed and to
 -- how many addresses it sends is counted

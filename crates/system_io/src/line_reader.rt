@@ -1,6 +1,7 @@
 //! An input that is read line by line as it comes.
 
-ghost use Rattle.std.specs.Prelude.{◌≡◌, IfOk, IsErrOf};
+ghost use Rattle.std.specs.Prelude.{◌≡◌, ◌↔◌, IfOk, IsErrOf, IsTrue};
+ghost use Rattle.std.specs.List.{Contains};
 ghost use Rattle.std.specs.Io.BufRead.{strip_last};
 ghost use Rattle.system_io.specs.LineReaders.{LineFacts, ReadsIfAny};
 
@@ -24,7 +25,8 @@ pub trait LineReader {
         ensures same { (facts self.new).fails → (facts self.old).fails };
 
     /// Whether a whole line has come already, so that the next one is read without waiting. It reads nothing.
-    fn has_line(&self) -> bool;
+    fn has_line(&self) -> bool
+        ensures { IsTrue result ↔ Contains (facts self.now).ahead 10 };
 }
 
 /// Takes a line feed from the end, if there is one.
@@ -39,9 +41,9 @@ fn drop_line_feed(line: &mut Vec<u8>)
 }
 
 impl<R: Read + Drop> LineReader for BufReader<R, Global> {
-    ghost use Rattle.std.specs.Io.Buffered.{reader_remaining};
+    ghost use Rattle.std.specs.Io.Buffered.{reader_buffer, reader_remaining};
 
-    ghost facts = { λ r. record { left = reader_remaining R.remaining r; fails = Unit {0} } };
+    ghost facts = { λ r. record { left = reader_remaining R.remaining r; ahead = reader_buffer r; fails = Unit {0} } };
 
     fn next_line(&mut self, line: &mut Vec<u8>) -> Result<bool, ReadFault> {
         line.clear();

@@ -2,7 +2,6 @@
 
 ghost use Rattle.std.specs.Prelude.{OnErr, OnOk};
 ghost use Rattle.system_io.specs.Outputs.{HasEnded, OutputFacts};
-ghost use Rattle.system_io.specs.Premises.{system_output};
 
 use std::io::{BufWriter, Write};
 
@@ -25,7 +24,11 @@ pub trait Output: Write {
 }
 
 impl<W: Write + Drop> Output for BufWriter<W> {
-    ghost facts = { λ _. system_output };
+    ghost use Rattle.std.specs.Prelude.{◌≡◌, []};
+    ghost use Rattle.std.specs.Io.Buffered.{writer_buffer};
+    ghost use Rattle.system_io.specs.Premises.{system_output};
+
+    ghost facts = { λ w. system_output (writer_buffer w ≡ []) };
 
     fn finish(&mut self) -> Result<(), WriteFault> {
         match self.flush() {

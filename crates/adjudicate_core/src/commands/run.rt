@@ -19,7 +19,7 @@ ghost use Rattle.adjudicate_core.specs.Schedules.{RefusesTable, counted, game_of
 
 use super::{Form, Value};
 use crate::answers::Answer;
-use crate::lines::{Line, Progress};
+use crate::lines::{KeptCount, Line};
 use crate::numbers::{CacheSize, Delay};
 use crate::refusals::Refusal;
 use crate::sources::{Places, Sources};
@@ -133,12 +133,12 @@ fn world_of(
 }
 
 /// How many moves an arbiter keeps, and the verdict; none where nothing is kept.
-fn progress_of(world: &World, who: Who) -> Option<Progress>
+fn kept_count_of(world: &World, who: Who) -> Option<KeptCount>
     ensures { (stamp : Stamp) (delay : ℕ) (kept : Option Recorded) → KeptIs stamp delay (told_of world.now who).bytes kept → result ≡ counted kept }
 {
     match world.kept(who) {
         None => None,
-        Some((count, code)) => Some(Progress {
+        Some((count, code)) => Some(KeptCount {
             count,
             verdict: Verdict::from_code(code),
         }),
@@ -149,7 +149,7 @@ fn progress_of(world: &World, who: Who) -> Option<Progress>
 fn line_of(world: &World, who: Who) -> Line
     ensures { (stamp : Stamp) (delay : ℕ) (side : Side) → TellsSide stamp delay (told_of world.now who) side → words_of result ≡ side_words who side }
 {
-    Line::Arbiter(who, world.state(who), progress_of(world, who))
+    Line::Arbiter(who, world.state(who), kept_count_of(world, who))
 }
 
 /// What is told of a world.

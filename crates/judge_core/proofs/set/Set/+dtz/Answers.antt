@@ -13,7 +13,7 @@ use Rattle.judge_core.specs.Inside.Counts.{no_counts, with_count}
 use Rattle.judge_core.proofs.Asking.{with_all, walk-passed, walk-added}
 use Rattle.judge_core.proofs.Counting.{counts_result-is, within-count}
 use Rattle.judge_core.proofs.Reaching.{if_same, mate_counts, other_counts, bare_own, missing_own, stored_own, quiet_own, reached_by, reached_is, lost_is, none_left, few_men, some_left}
-use Rattle.judge_core.proofs.set.Set.+dtz.Goals.{by_moves-then-is_won+in_ok-reached+in-Ok+else-reached, by_moves-else-is_won, by_quiet_moves-in-Some+in_ok-count, by_quiet_moves-in_default, dtz_to-then-left-eq0-via-then-left-eq0, dtz_to-then-left-eq0-via-else-left-eq0+then-is_bare, move_counts-else-won-via-then-won+else-is_mate, move_counts-else-won-via-else-won}
+use Rattle.judge_core.proofs.set.Set.+dtz.Goals.{by_moves-then-is_won+in_ok-found+in-Ok+else-reached, by_moves-else-is_won, by_quiet_moves-in-Some+in_ok-count, by_quiet_moves-in_default, dtz_to-then-left-eq0-via-then-left-eq0, dtz_to-then-left-eq0-via-else-left-eq0+then-is_bare, move_counts-else-won-via-then-won+else-is_mate, move_counts-else-won-via-else-won}
 use Rattle.judge_core.proofs.set.Set.+dtz.Goals as goal
 
 pub move_counts-returns-then-is_mate-clause-is : goal.move_counts-returns-then-is_mate-clause-is
@@ -92,30 +92,30 @@ pub by_moves-returns-then-reached-clause-is : goal.by_moves-returns-then-reached
 by_moves-returns-then-reached-clause-is t c =
     let reach = dtz_to c.args.self.now.tables c.args.left in
     let own = by_own_table c.args.self.now.tables reach c.args.probe.now c.args.outcome in
-    let reached = c.in_ok-reached.ensures.is ∙ ap (λ (p : Parts). pawns_reach c.args.self.now.tables p c.args.value) c.position.ensures.is in
+    let reached = c.in_ok-found.ensures.is ∙ ap (λ (p : Parts). pawns_reach c.args.self.now.tables p c.args.value) c.position.ensures.is in
     reached_by c.args.outcome own c.in-Ok.reached c.zeroing.result c.towards.result c.if-reached.true c.zeroing.ensures.is c.towards.ensures.is
     ∙ ap (λ found. unless_reached found c.args.outcome own) (sym c.in-Ok.is)
-    ∙ reached_is c.args.self.now.tables reach c.args.probe.now c.args.outcome c.args.value c.in_ok-reached.reached (sym c.is_won.ensures ∙ c.if-is_won.true) reached
+    ∙ reached_is c.args.self.now.tables reach c.args.probe.now c.args.outcome c.args.value c.in_ok-found.found (sym c.is_won.ensures ∙ c.if-is_won.true) reached
 
 pub by_moves-returns-in-Err-clause-is : goal.by_moves-returns-in-Err-clause-is
 by_moves-returns-in-Err-clause-is t c =
     let reach = dtz_to c.args.self.now.tables c.args.left in
     let own = by_own_table c.args.self.now.tables reach c.args.probe.now c.args.outcome in
-    let reached = c.in_ok-reached.ensures.is ∙ ap (λ (p : Parts). pawns_reach c.args.self.now.tables p c.args.value) c.position.ensures.is in
-    ap (λ found. unless_reached found c.args.outcome own) (sym c.in-Err.is) ∙ reached_is c.args.self.now.tables reach c.args.probe.now c.args.outcome c.args.value c.in_ok-reached.reached (sym c.is_won.ensures ∙ c.if-is_won.true) reached
+    let reached = c.in_ok-found.ensures.is ∙ ap (λ (p : Parts). pawns_reach c.args.self.now.tables p c.args.value) c.position.ensures.is in
+    ap (λ found. unless_reached found c.args.outcome own) (sym c.in-Err.is) ∙ reached_is c.args.self.now.tables reach c.args.probe.now c.args.outcome c.args.value c.in_ok-found.found (sym c.is_won.ensures ∙ c.if-is_won.true) reached
 
 pub by_moves-returns-clause-is : goal.by_moves-returns-clause-is
 by_moves-returns-clause-is t c =
     let reach = dtz_to c.args.self.now.tables c.args.left in
     let own = by_own_table c.args.self.now.tables reach c.args.probe.now c.args.outcome in
     elim c.if-is_won.branch [
-      | by_moves-then-is_won+in_ok-reached+in-Ok+else-reached w ↦
+      | by_moves-then-is_won+in_ok-found+in-Ok+else-reached w ↦
           if_same c.by_own_table.result _ _
           (ap (λ (h : Holding). by_own_table h.tables (dtz_to h.tables c.args.left) c.args.probe.now c.args.outcome) (w.self-is ∙ w.pawns_reach.ensures.unchanged)
           ∙ ap (λ b. unless_reached (Ok b) c.args.outcome own) (sym w.if-reached.false)
           ∙ ap (λ found. unless_reached found c.args.outcome own) (sym w.in-Ok.is)
-          ∙ reached_is c.args.self.now.tables reach c.args.probe.now c.args.outcome c.args.value w.in_ok-reached.reached (sym c.is_won.ensures ∙ w.if-is_won.true)
-          (w.in_ok-reached.ensures.is ∙ ap (λ (p : Parts). pawns_reach c.args.self.now.tables p c.args.value) w.position.ensures.is))
+          ∙ reached_is c.args.self.now.tables reach c.args.probe.now c.args.outcome c.args.value w.in_ok-found.found (sym c.is_won.ensures ∙ w.if-is_won.true)
+          (w.in_ok-found.ensures.is ∙ ap (λ (p : Parts). pawns_reach c.args.self.now.tables p c.args.value) w.position.ensures.is))
           c.by_own_table.ensures.is
       | by_moves-else-is_won w ↦
           if_same c.by_own_table.result _ _

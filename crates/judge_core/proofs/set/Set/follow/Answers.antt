@@ -6,6 +6,8 @@ use Rattle.judge_core.specs.Tables.{Holding}
 use Rattle.judge_core.specs.Games.{Rules, IsUnruled}
 use Rattle.judge_core.specs.Standings.{IsAt}
 use Rattle.judge_core.specs.Inside.Following.{IsFollowed}
+use Rattle.judge_core.proofs.Plies.{starts}
+use Rattle.judge_core.proofs.Rule.{always_err}
 use Rattle.judge_core.proofs.set.Set.follow.Goals as goal
 
 pub loop-ply-init : goal.loop-ply-init
@@ -45,3 +47,6 @@ returns-clause-standing c =
     let r : Rules = record { start = c.args.start.now; tables = c.args.self.now.tables; delay = c.args.delay } in
     let full : c.loop-ply.ply ≡ length c.args.moves.now = omega (arith, c.loop-ply-test.false, c.loop-ply.auto.ply-end) in
     subst (λ (n : ℕ). IsAt r (take n c.args.moves.now) c.loop-ply.standing) (full ∙ sym c.end_of-outcome.ensures.plies) c.loop-ply.invariant.0
+
+pub returns-in_err-standing-clause-memory : goal.returns-in_err-standing-clause-memory
+returns-in_err-standing-clause-memory c = always_err c.from_residual.result (0, c.args.start.now, starts c.args.start.now, c.in_err-standing.ensures.memory)
