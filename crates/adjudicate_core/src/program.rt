@@ -101,11 +101,13 @@ fn run_task<D: Disk, I: Input, H: Host, W: Write, E: Write>(
 /// Runs the program on the words after its own name, and tells the status: 0 done, 1 refused, 2
 /// misuse.
 ///
-/// All that a task names is read before anything is answered: its folder, of which the files of
-/// tables are looked at, its manifest, and for `show`, `run` and `game` the input, to its end. What can't be read or
-/// has more than 2^30 bytes is told as `refused files`. `probes` alone reads the input line by line, and answers each line as it
-/// comes. Only `listen` opens a port and a kept file. Answers go to `out` and the text of a
-/// misuse to `errors`, as does how far `probes --progress` is; nothing else is written there, and its failure changes nothing. The error comes only where `out` failed.
+/// All that a task names is read before anything is answered: its folder, of which the files of tables are looked at, its
+/// manifest, and for `show`, `run` and `game` the input, to its end. What can't be read or has more than 2^30 bytes is told as
+/// `refused files`. `probes` alone reads the input line by line, and answers each line as it comes. Only `listen` opens a port
+/// and a kept file.
+///
+/// Answers go to `out` and the text of a misuse to `errors`, as does how far `probes --progress` is; nothing else is written
+/// there, and its failure changes nothing. The error comes only where `out` failed.
 pub fn run<D: Disk, I: Input, H: Host, W: Write, E: Write>(
     alloc: Global,
     words: &[&str],

@@ -141,11 +141,10 @@ fn ask_if<P: Port>(arbiter: &Arbiter<'_>, port: &mut P, fetch: bool)
 
 /// Receives so many datagrams, hands each to the arbiter in turn, and sends what it answers; tells the status, 0 where all came.
 ///
-/// A line is written for each datagram, and goes out at once: `ok`, how many moves are recorded and the verdict or `none`, or else `refused` and
-/// why. Each message of an answer is handed to the port once for each
-/// address, in order, and one that isn't sent is lost, as it may be on its
-/// way. Where the keeper fails or has failed the line is `refused keeper`, and where no datagram can be received `refused
-/// port`; each ends the run with status 1. Where `fetch` is set, the arbiter's question for moves, if it has one, is sent once
+/// A line is written for each datagram, and goes out at once: `ok`, how many moves are recorded and the verdict or `none`, or
+/// else `refused` and why. Each message of an answer is handed to the port once for each address, in order, and one that isn't
+/// sent is lost, as it may be on its way. Where the keeper fails or has failed the line is `refused keeper`, and where no
+/// datagram can be received `refused port`; each ends the run with status 1. Where `fetch` is set, the arbiter's question for moves, if it has one, is sent once
 /// before the first datagram.
 ///
 /// That the keeper keeps the arbiter's record while it runs is the caller's condition. The error comes only where the writer

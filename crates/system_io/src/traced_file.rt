@@ -124,8 +124,9 @@ impl<C: FileCalls + Drop> KeptFile for Traced<C> {
             Ok(got) => got,
             Err(fault) => return Err(fault),
         };
-        if self.calls.sync_folder().is_err() {
-            return Err(ReadFault::Unreadable);
+        match self.calls.sync_folder() {
+            Ok(()) => {}
+            Err(error) => return Err(ReadFault::from(error)),
         }
         self.stands = got;
         self.earlier.clear();
@@ -150,6 +151,9 @@ impl<C: FileCalls + Drop> KeptFile for Traced<C> {
 
     fn write_beside(&mut self, bytes: &[u8]) -> io::Result<()> {
         self.reach = Reach::Nowhere;
+        if !self.is_known {
+            return Err(refused());
+        }
         let Ok(copy) = Vec::from_slice(self.alloc, bytes) else {
             return Err(io::Error::from(io::ErrorKind::OutOfMemory));
         };
