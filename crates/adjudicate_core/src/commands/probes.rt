@@ -128,7 +128,7 @@ fn put_probes<L: LineReader, W: Write, E: Write>(
     }
 }
 
-/// The same over an input.
+/// Reads an input by lines, and writes what a set tells of each; where memory for reading is refused, that alone is told.
 fn put_probes_of<I: Input, W: Write, E: Write>(
     alloc: Global,
     set: Set<'_>,
