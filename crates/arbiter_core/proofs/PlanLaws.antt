@@ -9,6 +9,7 @@ use Rattle.std.proofs.Math.ListN.{set}
 use Rattle.std.proofs.lemmas.List.{get_or-set_other}
 use Rattle.std.proofs.lemmas.Grind.{get_or-set_at}
 use Rattle.board_core.specs.declared.moves.Move.{Move}
+use Rattle.board_core.specs.declared.parts.Parts.{Parts}
 use Rattle.board_core.specs.ComputedMoves.{position_after}
 use Rattle.board_core.specs.declared.verdict.Verdict.{Verdict}
 use Rattle.judge_core.specs.Answers.{ListsMovesForVerdict}
@@ -107,12 +108,21 @@ reach_one r moves w reached unruled legal =
     }))
 
 -- at the end of a front of all moves judging lists moves
-pub lists_at : (r : Rules) (before front rest : List Move) (m : Move) (window : Window) (q : Parts) → front ++ rest ≡ before ++ m ∷ some_prefix window → length before < length front → reaches r front (length front) ≡ true → position_after_all r.start front ≡ Some q → ListsMovesForVerdict r.tables q → ListsMovesAhead r before m window
-lists_at r before front rest m window q all more reached at lists =
-    (length front, q, more,
-      subst (λ (xs : List Move). reaches r xs (length front) ≡ true) all (reach_more r front rest (length front) reached),
-      subst (λ (xs : List Move). position_after_all r.start (take (length front) xs) ≡ Some q) all (ap (position_after_all r.start) (take_whole front rest) ∙ at),
-      lists)
+lists_at : (r : Rules) (before front rest : List Move) (m : Move) (window : Window) (q : Parts) → front ++ rest ≡ before ++ m ∷ some_prefix window → length before < length front → reaches r front (length front) ≡ true → position_after_all r.start front ≡ Some q → ListsMovesForVerdict r.tables q → ListsMovesAhead r before m window
+lists_at r before front rest m window q all more reached at lists = (
+  length front,
+  q,
+  more,
+  subst (λ (xs : List Move). reaches r xs (length front) ≡ true) all (reach_more r front rest (length front) reached),
+  subst (λ (xs : List Move). position_after_all r.start (take (length front) xs) ≡ Some q) all (ap (position_after_all r.start) (take_whole front rest) ∙ at),
+  lists,
+)
+
+pub lists_first : (r : Rules) (before : List Move) (m : Move) (window : Window) (q : Parts) → reaches r (before ++ m ∷ []) (length before + 1) ≡ true → position_after_all r.start (before ++ m ∷ []) ≡ Some q → ListsMovesForVerdict r.tables q → ListsMovesAhead r before m window
+lists_first r before m window q reached at lists =
+    let size : length (before ++ m ∷ []) ≡ length before + 1 = simp length-append (omega arith) in
+    lists_at r before (before ++ m ∷ []) (some_prefix window) m window q (append_assoc before (m ∷ []) (some_prefix window)) (omega arith)
+    (subst (λ k. reaches r (before ++ m ∷ []) k ≡ true) (sym size) reached) at lists
 
 pub none_of : (o : Option Verdict) → is_some o ≡ false → o ≡ None
 none_of None q = refl

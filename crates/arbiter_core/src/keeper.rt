@@ -69,8 +69,8 @@ pub trait Keeper {
 
 /// A copy of kept bytes, as a get answers it. `OutOfMemory` comes where memory for it is refused, which no bytes don't take.
 pub fn copy_of(alloc: Global, kept: Option<&[u8]>) -> Result<Option<Vec<u8>>, KeepFault>
-    ensures value { IfOk result (λ got. option_map (λ v. v.items) got ≡ option_map (λ b. b.now) kept) }
-    ensures memory { IfErr result (λ fault. (fault ≡ KeepFault.OutOfMemory) × HasBytes (option_map (λ b. b.now) kept)) }
+    ensures value { IfOk result (λ got. option_map (λ v. v.items) got ≡ option_map (λ b. b.now) kept.entry) }
+    ensures memory { IfErr result (λ fault. (fault ≡ KeepFault.OutOfMemory) × HasBytes (option_map (λ b. b.now) kept.entry)) }
 {
     let Some(bytes) = kept else {
         return Ok(None);

@@ -115,8 +115,10 @@ fn resume(
 {
     match Record::decode(alloc, bytes) {
         Ok(record) => go_on_from(alloc, setup, stamp, record),
-        Err(RecordFault::OutOfMemory) => Err(OpenFault::OutOfMemory),
-        Err(_) => Err(OpenFault::BadRecord),
+        Err(fault) => match fault {
+            RecordFault::OutOfMemory => Err(OpenFault::OutOfMemory),
+            _ => Err(OpenFault::BadRecord),
+        },
     }
 }
 
