@@ -13,7 +13,7 @@ use arbiter_service::serve;
 use std::alloc::Global;
 use std::io::Write;
 use std::process::Abort;
-use system_io::WriteFault;
+use system_io::{Output, WriteFault};
 
 /// How a port is served at which the game's moves wait: the call of it that fails, how many datagrams are to come, whether the
 /// other arbiter is asked first, the outcome of each put, the lines and the status, and what passes, a letter for each: `c` for
@@ -30,7 +30,7 @@ struct Row {
 }
 
 /// How a run over a keeper ends, and how many moves the arbiter has recorded then.
-fn serve_row<W: Write>(
+fn serve_row<W: Output>(
     alloc: Global,
     arbiter: &mut Arbiter<'_>,
     keeper: &mut MemoryKeeper,
@@ -46,7 +46,7 @@ fn serve_row<W: Write>(
 }
 
 /// What a new arbiter of the game over a keeper does with the datagrams of a row.
-fn served_over<W: Write>(
+fn served_over<W: Output>(
     rt: &impl Abort,
     alloc: Global,
     keeper: &mut MemoryKeeper,
@@ -59,7 +59,7 @@ fn served_over<W: Write>(
 }
 
 /// What an arbiter over a keeper that keeps nothing so far does with them.
-fn served<W: Write>(
+fn served<W: Output>(
     rt: &impl Abort,
     alloc: Global,
     port: &mut MemoryPort<'_>,
@@ -283,6 +283,26 @@ const FAILED_PUTS: [Row; 2] = [
 #[test]
 fn a_failed_put_is_the_end(rt: HostRuntime) {
     check_rows(&rt, rt.alloc(), &FAILED_PUTS);
+}
+
+impl Output for Failing {
+    ghost use Rattle.std.specs.Prelude.{Result, Ok, Err};
+    ghost use Rattle.system_io.specs.Outputs.{holds_nothing_back};
+
+    ghost facts = { λ _. holds_nothing_back };
+
+    ghost one = { λ _ gone stuck. stuck };
+
+    fn put(&mut self, bytes: &[u8]) -> Result<(), WriteFault> {
+        match self.write_all(bytes) {
+            Ok(()) => Ok(()),
+            Err(_) => Err(WriteFault::Io),
+        }
+    }
+
+    fn flush_all(&mut self) -> Result<(), WriteFault> {
+        Ok(())
+    }
 }
 
 /// How a run of three datagrams ends whose output fails, and how many moves it has recorded.

@@ -1,5 +1,5 @@
 use Rattle.std.proofs.Common.{◌++◌}
-use Rattle.arbiter_service.proofs.ServingLaws.{all_served, cut_on, going_on, more_served, nothing_served, run_join, stopped, untold, went_all, went_on}
+use Rattle.arbiter_service.proofs.ServingLaws.{cut_on, going_on, more_served, nothing_served, run_join, stopped, untold, went_on}
 use Rattle.arbiter_service.proofs.serving.serve.Goals as goal
 
 pub loop-init : goal.loop-init
