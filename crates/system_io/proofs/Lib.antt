@@ -2,3 +2,5 @@ pub mod InputLaws
 pub mod LineLaws
 pub mod DiskLaws
 pub mod CallSteps
+pub mod HistoryLaws
+pub mod RowLaws

@@ -81,6 +81,18 @@ fn on_platter(bytes: Vec<u8>) -> Content
     }
 }
 
+/// A file whose bytes are written, and not on the platter yet.
+fn written(bytes: Vec<u8>) -> Content
+    ensures bytes { result.bytes.items ≡ bytes.items }
+    ensures whole { result.is_spoiled ≡ false }
+{
+    Content {
+        bytes,
+        is_synced: false,
+        is_spoiled: false,
+    }
+}
+
 /// Whether no sync can bring the bytes of a file to the platter any more.
 fn is_lost(content: &Content) -> bool
     ensures { IsTrue result → IsSpoilt (Some content.now) }
@@ -206,11 +218,7 @@ impl DiskFile {
     {
         match Vec::from_slice(self.alloc, bytes) {
             Ok(copy) => {
-                self.beside = Some(Content {
-                    bytes: copy,
-                    is_synced: false,
-                    is_spoiled: false,
-                });
+                self.beside = Some(written(copy));
                 Ok(())
             }
             Err(_) => Err(self.fail(io::Error::from(io::ErrorKind::OutOfMemory))),

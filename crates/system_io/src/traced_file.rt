@@ -248,7 +248,8 @@ impl<C: FileCalls + Drop> KeptFile for Traced<C> {
 
     // After a sync that failed a later one may be good though the name isn't on the disk.
     fn sync_folder(&mut self) -> io::Result<()> {
-        match self.calls.sync_folder() {
+        let synced = self.calls.sync_folder();
+        match synced {
             Ok(()) => {}
             Err(error) => {
                 self.reach = Reach::Nowhere;

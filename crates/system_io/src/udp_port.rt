@@ -5,6 +5,7 @@ ghost use Rattle.system_io.specs.Failures.{Risen};
 ghost use Rattle.system_io.specs.Places.{IsBound};
 
 use crate::port::{Port, PortFault};
+use crate::texts::owned;
 use std::alloc::Global;
 use std::io;
 use std::net::{Net, UdpSocket};
@@ -19,17 +20,6 @@ pub struct UdpPort {
     /// How long the socket waits for a datagram, if not for ever.
     wait: Option<Duration>,
     failures: u64,
-}
-
-/// Addresses as texts of their own.
-fn owned(alloc: Global, addresses: &[&str]) -> io::Result<Vec<String>>
-    ensures { IfOk result (λ all. map string_bytes all.items ≡ map (λ s. s.now) addresses.now) }
-{
-    let mut all = Vec::new(alloc);
-    for address in addresses {
-        all.push(String::from_str(alloc, address)?)?;
-    }
-    Ok(all)
 }
 
 /// Whether a receive failed for no other reason than that nothing came in time.
