@@ -58,6 +58,8 @@ mod seeded_world_tests;
 #[cfg(test)]
 mod serving_tests;
 #[cfg(test)]
+mod stopping_tests;
+#[cfg(test)]
 mod table_tests;
 #[cfg(test)]
 mod udp_tests;
