@@ -4,13 +4,14 @@ ghost use Rattle.std.specs.Prelude.{◌≡◌, ℕ, List, ◌++◌, slice_get, l
 ghost use Rattle.relay_world.specs.declared.event.Event.{Event};
 ghost use Rattle.relay_world.specs.Worlds.{Judged, World, after, worlds, first_world, AreStamped};
 ghost use Rattle.relay_world.specs.Headline.{IsFaithful};
-ghost use Rattle.relay_world.specs.Laws.{AcksAreKept, CountsGrow, MovesAreTheGames, ReachedPlies, RisingOrder, VerdictsAreFirst, VerdictsStay};
+ghost use Rattle.relay_world.specs.Laws.{AcksAreKept, CountsGrow, InOrderKeepsAll, InOrderKeepsOne, LastPlyIsOutcome, MovesAreTheGames, NoDelayIsLeastRuling, NoTablesIsTheBoard, ReachedPlies, RisingOrder, SourceSendsTheGame, VerdictsAreFirst, VerdictsStay, WholeRecordsAreOne};
 ghost use Rattle.relay_world.specs.Runs.{AreWorlds};
 ghost use Rattle.relay_world.specs.declared.schedule.Schedule.{Schedule};
 ghost use Rattle.relay_world.specs.Texts.{IsFirstBadLine, IsSameSchedule, SpellsSchedule};
 ghost use Rattle.relay_world.specs.FileNames.{FileNamesAreThoseOfTables};
 
 use fen_text::laws::{one_move, one_position};
+use judge_core::laws::no_delay_is_the_ruling;
 use place_index::tables_are_numbered;
 
 /// In each world of each schedule each kept record is that of the game's first so many moves, with the first verdict exactly at
@@ -56,6 +57,35 @@ pub fn verdicts_stay()
 /// as many as the game reaches.
 pub fn rising_order()
     ensures { RisingOrder }
+{}
+
+/// Whatever happened before, an arbiter that runs and is then handed the moves of the game in order, with puts that succeed, keeps
+/// the record of the game up to its first verdict, its first illegal move or its end; and so two keep one record. In another order
+/// it need not: a move 32 ahead of the count is refused.
+pub fn progress()
+    ensures all { InOrderKeepsAll }
+    ensures one { InOrderKeepsOne }
+    ensures last { LastPlyIsOutcome }
+{}
+
+/// Two records that have all moves of the game, or its verdict, are equal, whichever arbiter keeps them and whatever happened.
+pub fn whole_records_are_one()
+    ensures { WholeRecordsAreOne }
+{}
+
+/// With a delay of 0 a record has a verdict exactly where its ply is the least of the game whose position has a ruling, and the
+/// verdict is that ruling.
+pub fn no_delay_is_least_ruling()
+    ensures { NoDelayIsLeastRuling }
+{
+    no_delay_is_the_ruling();
+}
+
+/// A list of messages is what the source of a game sends, with which the log begins, exactly where message n is the `Move` with
+/// number n and the game's move n, and there are no others. So where each datagram of a sender spells that message, its game is the
+/// one of these worlds.
+pub fn source_sends_the_game()
+    ensures { SourceSendsTheGame }
 {}
 
 /// Each move in the log is the game's at its number, whoever sent it.
