@@ -17,3 +17,4 @@ pub mod Progress
 pub mod Reading
 pub mod BadLines
 pub mod OneSchedule
+pub mod OnBoard

@@ -1,5 +1,5 @@
 -- Laws over the worlds of a schedule. The functions of src/laws.rt carry these.
-use Rattle.std.specs.Prelude.{◌≡◌, ◌≤◌, ◌<◌, ◌↔◌, ◌⊎◌, ℕ, true, List, ◌++◌, length, min, slice_get, take, Some, None, IsSome, IsTrue, option_map}
+use Rattle.std.specs.Prelude.{◌≡◌, ◌≤◌, ◌<◌, ◌↔◌, ◌⊎◌, ℕ, true, List, [], ◌++◌, length, min, slice_get, take, Some, None, Ok, IsSome, IsTrue, option_map}
 use Rattle.board_core.specs.declared.moves.Move.{Move as Moves}
 use Rattle.board_core.specs.declared.verdict.Verdict.{Verdict as Ruling}
 use Rattle.move_msg.specs.Numbers.{most_moves}
@@ -11,12 +11,14 @@ use Rattle.move_msg.specs.declared.message.Message.{Message}
 use Rattle.move_msg.specs.declared.who.Sender.TheVariants.{Source}
 use Rattle.move_msg.specs.declared.who.Who.TheVariants.{A, B}
 use Rattle.board_core.specs.Position.{IsPosition}
+use Rattle.judge_core.specs.Tables.{Tables}
 use Rattle.judge_core.specs.declared.game.GameOutcome.{GameOutcome}
 use Rattle.judge_core.specs.Games.{IsFirst, IsOutcome, IsUnruled, Rules, judged_after, plies_to, position_after_all}
 use Rattle.arbiter_core.specs.Answering.{sent_by}
 use Rattle.arbiter_core.specs.Recording.{Recorded, count_of, last_ply, reaches, record_at}
 use Rattle.relay_world.specs.declared.event.Event.{Event}
 use Rattle.relay_world.specs.Worlds.{Judged, World, after, first_world, side_of}
+use Rattle.relay_world.specs.Gathering.{tables_of}
 use Rattle.relay_world.specs.Headline.{kept_count}
 use Rattle.relay_world.specs.InOrder.{RunsThrough, all_in_order, brought, is_running}
 use Rattle.relay_world.specs.NoTables.{HasNoTable, IsFirstEnd}
@@ -101,6 +103,10 @@ abbrev pub NoTablesIsTheBoard : Type 0
 NoTablesIsTheBoard =
     (game : Judged) (events : List Event) (who : Who) (kept : Recorded) (v : Ruling) → IsPosition game.rules.start → HasNoTable game.rules.tables
     → Keeps game events who kept → (kept.verdict ≡ Some v) ↔ IsFirstEnd game.rules game.moves (count_of kept) v
+
+-- No files give no table.
+abbrev pub NoFilesAreNoTables : Type 0
+NoFilesAreNoTables = (tables : Tables) → tables_of [] ≡ Ok tables → HasNoTable tables
 
 -- The last ply that a game reaches is that of its first verdict, the one before its first illegal move, or that of its end.
 abbrev pub LastPlyIsOutcome : Type 0

@@ -4,15 +4,15 @@ ghost use Rattle.std.specs.Prelude.{◌≡◌, ℕ, List, ◌++◌, slice_get, l
 ghost use Rattle.relay_world.specs.declared.event.Event.{Event};
 ghost use Rattle.relay_world.specs.Worlds.{Judged, World, after, worlds, first_world, AreStamped};
 ghost use Rattle.relay_world.specs.Headline.{IsFaithful};
-ghost use Rattle.relay_world.specs.Laws.{AcksAreKept, CountsGrow, InOrderKeepsAll, InOrderKeepsOne, LastPlyIsOutcome, MovesAreTheGames, NoDelayIsLeastRuling, NoTablesIsTheBoard, ReachedPlies, RisingOrder, SourceSendsTheGame, VerdictsAreFirst, VerdictsStay, WholeRecordsAreOne};
+ghost use Rattle.relay_world.specs.Laws.{AcksAreKept, CountsGrow, InOrderKeepsAll, InOrderKeepsOne, LastPlyIsOutcome, MovesAreTheGames, NoDelayIsLeastRuling, NoFilesAreNoTables, NoTablesIsTheBoard, ReachedPlies, RisingOrder, SourceSendsTheGame, VerdictsAreFirst, VerdictsStay, WholeRecordsAreOne};
 ghost use Rattle.relay_world.specs.Runs.{AreWorlds};
 ghost use Rattle.relay_world.specs.declared.schedule.Schedule.{Schedule};
 ghost use Rattle.relay_world.specs.Texts.{IsFirstBadLine, IsSameSchedule, SpellsSchedule};
 ghost use Rattle.relay_world.specs.FileNames.{FileNamesAreThoseOfTables};
 
 use fen_text::laws::{one_move, one_position};
-use judge_core::laws::no_delay_is_the_ruling;
-use place_index::tables_are_numbered;
+use judge_core::laws::{first_verdict_in_words, no_delay_is_the_ruling};
+use place_index::{few_men_have_tables, tables_are_numbered};
 
 /// In each world of each schedule each kept record is that of the game's first so many moves, with the first verdict exactly at
 /// its ply, and two kept verdicts are one.
@@ -79,6 +79,16 @@ pub fn no_delay_is_least_ruling()
     ensures { NoDelayIsLeastRuling }
 {
     no_delay_is_the_ruling();
+}
+
+/// Without tables a record has a verdict exactly where its ply is the first at which the game ends on the board: by checkmate, by
+/// stalemate, or by bare kings, which are a draw once they have stood for as many plies as the delay says. No files give no table.
+pub fn no_tables_is_the_board()
+    ensures board { NoTablesIsTheBoard }
+    ensures files { NoFilesAreNoTables }
+{
+    first_verdict_in_words();
+    few_men_have_tables();
 }
 
 /// A list of messages is what the source of a game sends, with which the log begins, exactly where message n is the `Move` with
