@@ -18,3 +18,4 @@ pub mod Reading
 pub mod BadLines
 pub mod OneSchedule
 pub mod OnBoard
+pub mod OneAnswer

@@ -22,6 +22,8 @@ use Rattle.relay_world.specs.Gathering.{tables_of}
 use Rattle.relay_world.specs.Headline.{kept_count}
 use Rattle.relay_world.specs.InOrder.{RunsThrough, all_in_order, brought, is_running}
 use Rattle.relay_world.specs.NoTables.{HasNoTable, IsFirstEnd}
+use Rattle.move_msg.specs.Files.{File}
+use Rattle.relay_world.specs.Runs.{GameView, Runs, WorldView}
 
 -- the world after these events
 abbrev pub world_after : Judged → List Event → World
@@ -133,3 +135,7 @@ IsSentGame stamp moves log = (n : ℕ) → slice_get log n ≡ option_map (Move 
 -- The log of a first world is that list, so that the messages that a sender of the game sends are it.
 abbrev pub SourceSendsTheGame : Type 0
 SourceSendsTheGame = (stamp : Stamp) (moves : List Moves) (log : List Message) → (log ≡ sent_by stamp Source 0 moves) ↔ IsSentGame stamp moves log
+
+-- A run of a game tells one thing, by its files and its events alone, whatever the number of blocks that the caches hold.
+abbrev pub RunsTellOne : Type 0
+RunsTellOne = (given : GameView) (files : List File) (events : List Event) (told other : WorldView) → Runs given files events told → Runs given files events other → told ≡ other

@@ -4,7 +4,7 @@ ghost use Rattle.std.specs.Prelude.{◌≡◌, ℕ, List, ◌++◌, slice_get, l
 ghost use Rattle.relay_world.specs.declared.event.Event.{Event};
 ghost use Rattle.relay_world.specs.Worlds.{Judged, World, after, worlds, first_world, AreStamped};
 ghost use Rattle.relay_world.specs.Headline.{IsFaithful};
-ghost use Rattle.relay_world.specs.Laws.{AcksAreKept, CountsGrow, InOrderKeepsAll, InOrderKeepsOne, LastPlyIsOutcome, MovesAreTheGames, NoDelayIsLeastRuling, NoFilesAreNoTables, NoTablesIsTheBoard, ReachedPlies, RisingOrder, SourceSendsTheGame, VerdictsAreFirst, VerdictsStay, WholeRecordsAreOne};
+ghost use Rattle.relay_world.specs.Laws.{AcksAreKept, CountsGrow, InOrderKeepsAll, InOrderKeepsOne, LastPlyIsOutcome, MovesAreTheGames, NoDelayIsLeastRuling, NoFilesAreNoTables, NoTablesIsTheBoard, ReachedPlies, RisingOrder, RunsTellOne, SourceSendsTheGame, VerdictsAreFirst, VerdictsStay, WholeRecordsAreOne};
 ghost use Rattle.relay_world.specs.Runs.{AreWorlds};
 ghost use Rattle.relay_world.specs.declared.schedule.Schedule.{Schedule};
 ghost use Rattle.relay_world.specs.Texts.{IsFirstBadLine, IsSameSchedule, SpellsSchedule};
@@ -26,6 +26,12 @@ pub fn one_list_of_worlds()
     ensures list { (game : Judged) (events : List Event) (ws : List World) → AreWorlds game events ws → ws ≡ worlds game (first_world game) events }
     ensures each { (game : Judged) (early late : List Event) → slice_get (worlds game (first_world game) (early ++ late)) (length early) ≡ Some (after game (first_world game) early) }
     ensures last { (game : Judged) (events : List Event) → slice_get (worlds game (first_world game) events) (length events) ≡ Some (after game (first_world game) events) }
+{}
+
+/// A run of a game tells one thing, by its files and its events alone: two that meet the contract of `run`, at whatever numbers of
+/// blocks, tell the same.
+pub fn runs_tell_one()
+    ensures { RunsTellOne }
 {}
 
 /// A game reaches a ply exactly where its moves up to it are there and legal in turn, and no earlier ply has a verdict.
