@@ -11,6 +11,11 @@ pub mod FileNames
 pub mod Naming
 pub mod Placing
 pub mod Told
+pub mod Sending
+pub mod Whole
+pub mod Progress
 pub mod Reading
 pub mod BadLines
 pub mod OneSchedule
+pub mod OnBoard
+pub mod OneAnswer

@@ -1,6 +1,6 @@
 -- An opening over what is kept is the restart of its side.
 use Rattle.std.proofs.Common.{◌≡◌, ◌≢◌, ℕ, List, Option, Some, None, Ok, Err, sym, refl, ap, ◌∙◌, subst, inl, inr}
-use Rattle.std.specs.Prelude.{IfSome}
+use Rattle.std.specs.Prelude.{IfSome, ◌⊎◌}
 use Rattle.board_core.specs.declared.moves.Move.{Move}
 use Rattle.board_core.specs.declared.verdict.Verdict.{Verdict}
 use Rattle.move_msg.specs.declared.stamp.Stamp.{Stamp}
@@ -8,7 +8,8 @@ use Rattle.move_msg.specs.declared.who.Who.{Who}
 use Rattle.move_msg.specs.declared.who.Who.TheVariants.{A, B}
 use Rattle.move_msg.specs.declared.record_bytes.Record.{Record}
 use Rattle.move_msg.specs.Senders.{who_number}
-use Rattle.move_msg.proofs.RecordLaws.{one_record}
+use Rattle.move_msg.specs.Records.{WritesRecord}
+use Rattle.move_msg.proofs.RecordLaws.{is_spelled, one_record}
 use Rattle.judge_core.specs.Games.{Rules, verdict_after}
 use Rattle.arbiter_core.specs.declared.fault.OpenFault.TheVariants.{BadSetup, KeeperFailed, BadRecord, OtherStamp, OutOfMemory}
 use Rattle.arbiter_core.specs.declared.keeper.Keep.{Keep}
@@ -18,7 +19,7 @@ use Rattle.arbiter_core.specs.Answering.{Identity}
 use Rattle.arbiter_core.specs.Memory.{Memory, memory_facts}
 use Rattle.arbiter_core.specs.Setups.{SetupView, rules_at, IsIdentity}
 use Rattle.arbiter_core.specs.Views.{View, spelled_as}
-use Rattle.arbiter_core.specs.Delivers.{IsSpelled}
+use Rattle.arbiter_core.specs.Delivers.{IsSpelled, IsWritten}
 use Rattle.arbiter_core.specs.Opens.{Told, Opens, OpensOver, FirstLands, Resumes, IsResumed, IsWhole, running, first_record}
 use Rattle.arbiter_core.proofs.Opened.{from_whole}
 use Rattle.relay_world.specs.declared.seat.Place.{Place}
@@ -65,32 +66,37 @@ Reopens me setup kn late (Ok v) = Stands me setup (Open v) kn late
 Reopens me setup kn late (Err fault) = (s : SetupView) → s ≡ setup → Stands me setup (Shut s) kn late
 
 module _ (me : Identity) (setup : SetupView) (kn : Memory) where
-  runs : (kept : Recorded) → IsSpelled me.stamp setup.delay kept kn.kept → Stands me setup (Open (running setup me kept)) kn (restarted (rules_at setup) Good (Some kept))
+  runs : (kept : Recorded) → IsWritten me.stamp setup.delay kept kn.kept → Stands me setup (Open (running setup me kept)) kn (restarted (rules_at setup) Good (Some kept))
   runs kept h =
       let v : View = running setup me kept in
       let late : Side = restarted (rules_at setup) Good (Some kept) in
       let at : IsOpen v late = (refl, refl) in
       record { place_is = (refl, refl, at); kept = h }
 
-  first_put : (keep : Keep) (before : Option (List ℕ)) (told : Told) → before ≡ None → FirstLands keep setup me before kn.kept told → Reopens me setup kn (opened keep (first_record (rules_at setup))) told
-  first_put Good before told e l = subst (Reopens me setup kn (opened Good (first_record (rules_at setup)))) (sym l.0) (runs (first_record (rules_at setup)) l.1)
-  first_put FailsOld before told e l = subst (Reopens me setup kn (opened FailsOld (first_record (rules_at setup)))) (sym l.0) (λ s is. record { place_is = (is, refl); kept = l.1 ∙ e })
-  first_put FailsNew before told e l = subst (Reopens me setup kn (opened FailsNew (first_record (rules_at setup)))) (sym l.0) (λ s is. record { place_is = (is, refl); kept = l.1 })
+  -- the first record is put over nothing
+  written : (before : Option (List ℕ)) → before ≡ None → (kn.kept ≡ before) ⊎ IsWritten me.stamp setup.delay (first_record (rules_at setup)) kn.kept → IsSpelled me.stamp setup.delay (first_record (rules_at setup)) kn.kept → IsWritten me.stamp setup.delay (first_record (rules_at setup)) kn.kept
+  written before e (inl same) h = absurd (subst (IsSpelled me.stamp setup.delay (first_record (rules_at setup))) (same ∙ e) h)
+  written before e (inr w) h = w
 
-  over_bytes : (keep : Keep) (bytes : List ℕ) (old : Recorded) (told : Told) → IsResumed (rules_at setup) me.stamp bytes old → kn.kept ≡ Some bytes → told ≢ Err OutOfMemory → Resumes setup me bytes told → Reopens me setup kn (restarted (rules_at setup) keep (Some old)) told
-  over_bytes keep bytes old (Ok v) h still n r =
+  first_put : (keep : Keep) (before : Option (List ℕ)) (told : Told) → before ≡ None → (kn.kept ≡ before) ⊎ IsWritten me.stamp setup.delay (first_record (rules_at setup)) kn.kept → FirstLands keep setup me before kn.kept told → Reopens me setup kn (opened keep (first_record (rules_at setup))) told
+  first_put Good before told e w l = subst (Reopens me setup kn (opened Good (first_record (rules_at setup)))) (sym l.0) (runs (first_record (rules_at setup)) (written before e w l.1))
+  first_put FailsOld before told e w l = subst (Reopens me setup kn (opened FailsOld (first_record (rules_at setup)))) (sym l.0) (λ s is. record { place_is = (is, refl); kept = l.1 ∙ e })
+  first_put FailsNew before told e w l = subst (Reopens me setup kn (opened FailsNew (first_record (rules_at setup)))) (sym l.0) (λ s is. record { place_is = (is, refl); kept = written before e w l.1 })
+
+  over_bytes : (keep : Keep) (bytes : List ℕ) (old : Recorded) (told : Told) → WritesRecord bytes (spelled_as me.stamp setup.delay old) → IsResumed (rules_at setup) me.stamp bytes old → kn.kept ≡ Some bytes → told ≢ Err OutOfMemory → Resumes setup me bytes told → Reopens me setup kn (restarted (rules_at setup) keep (Some old)) told
+  over_bytes keep bytes old (Ok v) w h still n r =
       let same : v.kept ≡ old = one_whole (rules_at setup) me.stamp bytes v.kept old r.1 h in
       let is : v ≡ running setup me old = r.0 ∙ ap (running setup me) same in
-      let spelled : IsSpelled me.stamp setup.delay old kn.kept = subst (IsSpelled me.stamp setup.delay old) (sym still) h.0 in
+      let spelled : IsWritten me.stamp setup.delay old kn.kept = subst (IsWritten me.stamp setup.delay old) (sym still) w in
       subst (λ (x : View). Stands me setup (Open x) kn (restarted (rules_at setup) Good (Some old))) (sym is) (runs old spelled)
-  over_bytes keep bytes old (Err BadRecord) h still n (inl r) = absurd (r (spelled_as me.stamp setup.delay old) h.0)
-  over_bytes keep bytes old (Err BadRecord) h still n (inr r) = absurd (r.3 old h)
-  over_bytes keep bytes old (Err OtherStamp) h still n r =
+  over_bytes keep bytes old (Err BadRecord) w h still n (inl r) = absurd (r (spelled_as me.stamp setup.delay old) h.0)
+  over_bytes keep bytes old (Err BadRecord) w h still n (inr r) = absurd (r.3 old h)
+  over_bytes keep bytes old (Err OtherStamp) w h still n r =
       let same : r.0 ≡ spelled_as me.stamp setup.delay old = one_record bytes r.0 (spelled_as me.stamp setup.delay old) r.1 h.0 in
       absurd (r.2 (ap (λ (x : Record). x.stamp) same, ap (λ (x : Record). x.delay) same))
-  over_bytes keep bytes old (Err OutOfMemory) h still n r = absurd (n refl)
-  over_bytes keep bytes old (Err BadSetup) h still n r = absurd r
-  over_bytes keep bytes old (Err KeeperFailed) h still n r = absurd r
+  over_bytes keep bytes old (Err OutOfMemory) w h still n r = absurd (n refl)
+  over_bytes keep bytes old (Err BadSetup) w h still n r = absurd r
+  over_bytes keep bytes old (Err KeeperFailed) w h still n r = absurd r
 
 pub reopened : (me : Identity) (setup : SetupView) (place : PlaceView) (old k kn : Memory) (side : Side) (keep : Keep) (told : Told) → IsIdentity setup me → IfSome side.kept (IsWhole (rules_at setup)) → Stands me setup place old side → k.kept ≡ old.kept → k.keep ≡ keep → (i : Identity) × IsIdentity setup i × Opens memory_facts setup i k kn told → told ≢ Err OutOfMemory → Reopens me setup kn (restarted (rules_at setup) keep side.kept) told
 reopened me setup place old k kn side keep told is whole h ke kk o n =
@@ -99,10 +105,10 @@ reopened me setup place old k kn side keep told is whole h ke kk o n =
     by_kept : (kept : Option Recorded) (bytes : Option (List ℕ)) → k.kept ≡ bytes → KeptIs me.stamp setup.delay bytes kept → IfSome kept (IsWhole (rules_at setup)) → OpensOver memory_facts setup me bytes k kn told → Reopens me setup kn (restarted (rules_at setup) keep kept) told
     by_kept None None e f w q =
         let same : q.keep ≡ keep = sym q.stated ∙ kk in
-        subst (λ (x : Keep). Reopens me setup kn (opened x (first_record (rules_at setup))) told) same (first_put me setup kn q.keep k.kept told e q.lands)
+        subst (λ (x : Keep). Reopens me setup kn (opened x (first_record (rules_at setup))) told) same (first_put me setup kn q.keep k.kept told e q.written q.lands)
     by_kept None (Some bytes) e f w q = absurd cc
     by_kept (Some kept) None e f w q = absurd f
-    by_kept (Some kept) (Some bytes) e f w q = over_bytes me setup kn keep bytes kept told (f, w) (q.0 ∙ e) n q.1
+    by_kept (Some kept) (Some bytes) e f w q = over_bytes me setup kn keep bytes kept told f (is_spelled bytes (spelled_as me.stamp setup.delay kept) f, w) (q.0 ∙ e) n q.1
 
     by_opens : Opens memory_facts setup me k kn told → Reopens me setup kn (restarted (rules_at setup) keep side.kept) told
     by_opens (inl g) = absurd g.stated

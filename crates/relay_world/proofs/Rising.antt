@@ -123,7 +123,7 @@ side_at : (game : Judged) (world : World) (who : Who) → Holds game world → S
 side_at game world A h = h.a
 side_at game world B h = h.b
 
-rises : (game : Judged) (world : World) (who : Who) (event : Event) (n : ℕ) → Holds game world → length game.moves ≤ 4096 → brings world who n event ≡ true
+pub rises : (game : Judged) (world : World) (who : Who) (event : Event) (n : ℕ) → Holds game world → length game.moves ≤ 4096 → brings world who n event ≡ true
     → is_running (side_of world who).life ≡ true → is_running (side_of (happens game world event) who).life ≡ true
     → min n (last_ply game.rules game.moves) ≤ kept_count (side_of world who).kept → min (n + 1) (last_ply game.rules game.moves) ≤ kept_count (side_of (happens game world event) who).kept
 unfolding happens

@@ -16,7 +16,7 @@ use Rattle.relay_world.specs.Worlds.{World, Judged, side_of, happens, first_worl
 use Rattle.relay_world.specs.Headline.{IsRight, kept_count}
 use Rattle.relay_world.proofs.Steps.{Grows, all_at, Holds, Goes, happens_goes, first_holds, run_goes, right_of}
 
-after_append : (game : Judged) (world : World) (early late : List Event) → after game world (early ++ late) ≡ after game (after game world early) late
+pub after_append : (game : Judged) (world : World) (early late : List Event) → after game world (early ++ late) ≡ after game (after game world early) late
 after_append game world [] late = refl
 after_append game world (e ∷ early) late = after_append game (happens game world e) early late
 

@@ -1,5 +1,5 @@
 -- Laws over the worlds of a schedule. The functions of src/laws.rt carry these.
-use Rattle.std.specs.Prelude.{◌≡◌, ◌≤◌, ◌↔◌, ℕ, true, List, ◌++◌, length, min, slice_get, take, Some, IsSome}
+use Rattle.std.specs.Prelude.{◌≡◌, ◌≤◌, ◌<◌, ◌↔◌, ◌⊎◌, ℕ, true, List, [], ◌++◌, length, min, slice_get, take, Some, None, Ok, IsSome, IsTrue, option_map}
 use Rattle.board_core.specs.declared.moves.Move.{Move as Moves}
 use Rattle.board_core.specs.declared.verdict.Verdict.{Verdict as Ruling}
 use Rattle.move_msg.specs.Numbers.{most_moves}
@@ -7,12 +7,23 @@ use Rattle.move_msg.specs.declared.message.Message.TheVariants.{Ack, Verdict, Mo
 use Rattle.move_msg.specs.declared.stamp.Stamp.{Stamp}
 use Rattle.move_msg.specs.declared.who.Sender.{Sender}
 use Rattle.move_msg.specs.declared.who.Who.{Who}
-use Rattle.judge_core.specs.Games.{IsFirst, IsUnruled, Rules, position_after_all}
-use Rattle.arbiter_core.specs.Recording.{Recorded, last_ply, reaches}
+use Rattle.move_msg.specs.declared.message.Message.{Message}
+use Rattle.move_msg.specs.declared.who.Sender.TheVariants.{Source}
+use Rattle.move_msg.specs.declared.who.Who.TheVariants.{A, B}
+use Rattle.board_core.specs.Position.{IsPosition}
+use Rattle.judge_core.specs.Tables.{Tables}
+use Rattle.judge_core.specs.declared.game.GameOutcome.{GameOutcome}
+use Rattle.judge_core.specs.Games.{IsFirst, IsOutcome, IsUnruled, Rules, judged_after, plies_to, position_after_all}
+use Rattle.arbiter_core.specs.Answering.{sent_by}
+use Rattle.arbiter_core.specs.Recording.{Recorded, count_of, last_ply, reaches, record_at}
 use Rattle.relay_world.specs.declared.event.Event.{Event}
 use Rattle.relay_world.specs.Worlds.{Judged, World, after, first_world, side_of}
+use Rattle.relay_world.specs.Gathering.{tables_of}
 use Rattle.relay_world.specs.Headline.{kept_count}
-use Rattle.relay_world.specs.InOrder.{RunsThrough, brought}
+use Rattle.relay_world.specs.InOrder.{RunsThrough, all_in_order, brought, is_running}
+use Rattle.relay_world.specs.NoTables.{HasNoTable, IsFirstEnd}
+use Rattle.move_msg.specs.Files.{File}
+use Rattle.relay_world.specs.Runs.{GameView, Runs, WorldView}
 
 -- the world after these events
 abbrev pub world_after : Judged → List Event → World
@@ -61,3 +72,70 @@ abbrev pub MovesAreTheGames : Type 0
 MovesAreTheGames =
     (game : Judged) (events : List Event) (i : ℕ) (stamp : Stamp) (sender : Sender) (n : ℕ) (m : Moves) → slice_get (world_after game events).log i ≡ Some (Move stamp sender n m)
     → slice_get game.moves n ≡ Some m
+
+-- what one of the two keeps after these events
+abbrev pub Keeps : Judged → List Event → Who → Recorded → Type 0
+Keeps game events who kept = (side_of (world_after game events) who).kept ≡ Some kept
+
+-- the record has all moves of the game, or its verdict
+abbrev pub IsAll : Judged → Recorded → Type 0
+IsAll game kept = (kept.moves ≡ game.moves) ⊎ IsSome kept.verdict
+
+-- Two records of a game that have all of its moves or its verdict are equal, whichever arbiter keeps them and whatever happened.
+abbrev pub WholeRecordsAreOne : Type 0
+WholeRecordsAreOne =
+    (game : Judged) (events others : List Event) (who other : Who) (one two : Recorded) → Keeps game events who one → Keeps game others other two
+    → IsAll game one → IsAll game two → one ≡ two
+
+-- the position at this ply has this ruling, and no position before it has one
+pub record IsLeastRuling (rules : Rules) (moves : List Moves) (ply : ℕ) (v : Ruling) : Type 0 where
+  pub ruled : judged_after rules.tables rules.start (take ply moves) ≡ Some v
+  pub earlier : (j : ℕ) → j < ply → judged_after rules.tables rules.start (take j moves) ≡ None
+
+-- With a delay of 0 a record has a verdict exactly where its ply is the least of the game whose position has a ruling, and the
+-- verdict is that ruling.
+abbrev pub NoDelayIsLeastRuling : Type 0
+NoDelayIsLeastRuling =
+    (game : Judged) (events : List Event) (who : Who) (kept : Recorded) (v : Ruling) → game.rules.delay ≡ 0 → Keeps game events who kept
+    → (kept.verdict ≡ Some v) ↔ IsLeastRuling game.rules game.moves (count_of kept) v
+
+-- Without tables a record has a verdict exactly where its ply is the first at which the game ends on the board: by checkmate, by
+-- stalemate, or by bare kings.
+abbrev pub NoTablesIsTheBoard : Type 0
+NoTablesIsTheBoard =
+    (game : Judged) (events : List Event) (who : Who) (kept : Recorded) (v : Ruling) → IsPosition game.rules.start → HasNoTable game.rules.tables
+    → Keeps game events who kept → (kept.verdict ≡ Some v) ↔ IsFirstEnd game.rules game.moves (count_of kept) v
+
+-- No files give no table.
+abbrev pub NoFilesAreNoTables : Type 0
+NoFilesAreNoTables = (tables : Tables) → tables_of [] ≡ Ok tables → HasNoTable tables
+
+-- The last ply that a game reaches is that of its first verdict, the one before its first illegal move, or that of its end.
+abbrev pub LastPlyIsOutcome : Type 0
+LastPlyIsOutcome = (rules : Rules) (game : List Moves) (outcome : GameOutcome) → IsOutcome rules game outcome → last_ply rules game ≡ plies_to game outcome
+
+-- Whatever happened before, an arbiter that runs and is then handed the moves of the game in order, with puts that succeed, keeps
+-- the record of the last ply that the game reaches. In another order it need not: a move 32 ahead of the count is refused.
+abbrev pub InOrderKeepsAll : Type 0
+InOrderKeepsAll =
+    (game : Judged) (early : List Event) (who : Who) → length game.moves ≤ most_moves → IsTrue (is_running (side_of (world_after game early) who).life)
+    → Keeps game (early ++ all_in_order who game) who (record_at game.rules game.moves (last_ply game.rules game.moves))
+
+-- So two that run and are each handed them keep one record.
+abbrev pub InOrderKeepsOne : Type 0
+InOrderKeepsOne =
+    (game : Judged) (early : List Event) → length game.moves ≤ most_moves
+    → IsTrue (is_running (world_after game early).a.life) → IsTrue (is_running (world_after game early).b.life)
+    → let late = world_after game (early ++ all_in_order A game ++ all_in_order B game) in late.a.kept ≡ late.b.kept
+
+-- Message n of a source is the Move with number n and the game's move n, and there are no others.
+abbrev pub IsSentGame : Stamp → List Moves → List Message → Type 0
+IsSentGame stamp moves log = (n : ℕ) → slice_get log n ≡ option_map (Move stamp Source n) (slice_get moves n)
+
+-- The log of a first world is that list, so that the messages that a sender of the game sends are it.
+abbrev pub SourceSendsTheGame : Type 0
+SourceSendsTheGame = (stamp : Stamp) (moves : List Moves) (log : List Message) → (log ≡ sent_by stamp Source 0 moves) ↔ IsSentGame stamp moves log
+
+-- A run of a game tells one thing, by its files and its events alone, whatever the number of blocks that the caches hold.
+abbrev pub RunsTellOne : Type 0
+RunsTellOne = (given : GameView) (files : List File) (events : List Event) (told other : WorldView) → Runs given files events told → Runs given files events other → told ≡ other

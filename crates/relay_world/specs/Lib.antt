@@ -1,6 +1,7 @@
 pub mod Worlds
 pub mod Headline
 pub mod InOrder
+pub mod NoTables
 pub mod Laws
 pub mod Gathering
 pub mod Runs

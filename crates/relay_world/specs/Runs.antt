@@ -14,7 +14,7 @@ use Rattle.move_msg.specs.Records.{SpellsRecord, code_or_none}
 use Rattle.move_msg.specs.declared.record_bytes.Record.{Record}
 use Rattle.move_msg.specs.Stamps.{IsGameName, stamp_of}
 use Rattle.arbiter_core.specs.Recording.{Recorded}
-use Rattle.arbiter_core.specs.Delivers.{IsSpelled}
+use Rattle.arbiter_core.specs.Delivers.{IsWritten}
 use Rattle.relay_world.specs.declared.event.Event.{Event}
 use Rattle.relay_world.specs.declared.world.State.{State}
 use Rattle.relay_world.specs.declared.world.State.TheVariants as state
@@ -75,12 +75,12 @@ pub record SpellsCounted (told : SideView) (found : ℕ × ℕ) : Type 0 where
   pub spells : SpellsRecord bytes spelled
   pub counts : found ≡ (length spelled.moves, code_or_none spelled.verdict)
 
--- the bytes that are kept spell the record that is kept
+-- the bytes that are kept are those that are written of the record that is kept
 abbrev pub KeptIs : Stamp → ℕ → Option (List ℕ) → Option Recorded → Type 0
 KeptIs stamp delay bytes None = bytes ≡ None
-KeptIs stamp delay bytes (Some kept) = IsSpelled stamp delay kept bytes
+KeptIs stamp delay bytes (Some kept) = IsWritten stamp delay kept bytes
 
--- the bytes that are told spell the record that is kept
+-- the bytes that are told are those of the record that is kept
 pub record TellsSide (stamp : Stamp) (delay : ℕ) (told : SideView) (side : Side) : Type 0 where
   pub state : told.state ≡ state_of side.life
   pub bytes : KeptIs stamp delay told.bytes side.kept

@@ -39,7 +39,7 @@ impl Model for Game {
 impl Game {
     /// The game with this name, start, moves and delay. The first that applies is told: `BadName` unless the name has 1 to 64
     /// bytes, all from 0x20 (the space) to 0x7E (the tilde); `TooManyMoves` above 4096 moves; `BadDelay` above 8; and
-    /// `OutOfMemory` where memory for name and moves is refused.
+    /// `OutOfMemory` where memory for name and moves is refused, which each game takes.
     pub fn new(
         alloc: Global,
         name: &[u8],
@@ -51,6 +51,7 @@ impl Game {
         ensures good { IfOk result IsGame }
         ensures name { IsErrOf result GameFault.BadName ↔ (IsGameName name.now → ⊥) }
         ensures moves { IsErrOf result GameFault.TooManyMoves ↔ (IsGameName name.now × (most_moves < length moves.now)) }
+        ensures memory { IsErrOf result GameFault.OutOfMemory → IsGame (record { name = name.now; start = start; moves = moves.now; delay = delay }) }
         ensures delay { IsErrOf result GameFault.BadDelay ↔ (IsGameName name.now × (length moves.now ≤ most_moves) × (most_delay < delay)) }
     {
         if !is_game_name(name) {

@@ -4,14 +4,15 @@ ghost use Rattle.std.specs.Prelude.{◌≡◌, ℕ, List, ◌++◌, slice_get, l
 ghost use Rattle.relay_world.specs.declared.event.Event.{Event};
 ghost use Rattle.relay_world.specs.Worlds.{Judged, World, after, worlds, first_world, AreStamped};
 ghost use Rattle.relay_world.specs.Headline.{IsFaithful};
-ghost use Rattle.relay_world.specs.Laws.{AcksAreKept, CountsGrow, MovesAreTheGames, ReachedPlies, RisingOrder, VerdictsAreFirst, VerdictsStay};
+ghost use Rattle.relay_world.specs.Laws.{AcksAreKept, CountsGrow, InOrderKeepsAll, InOrderKeepsOne, LastPlyIsOutcome, MovesAreTheGames, NoDelayIsLeastRuling, NoFilesAreNoTables, NoTablesIsTheBoard, ReachedPlies, RisingOrder, RunsTellOne, SourceSendsTheGame, VerdictsAreFirst, VerdictsStay, WholeRecordsAreOne};
 ghost use Rattle.relay_world.specs.Runs.{AreWorlds};
 ghost use Rattle.relay_world.specs.declared.schedule.Schedule.{Schedule};
 ghost use Rattle.relay_world.specs.Texts.{IsFirstBadLine, IsSameSchedule, SpellsSchedule};
 ghost use Rattle.relay_world.specs.FileNames.{FileNamesAreThoseOfTables};
 
 use fen_text::laws::{one_move, one_position};
-use place_index::tables_are_numbered;
+use judge_core::laws::{first_verdict_in_words, no_delay_is_the_ruling};
+use place_index::{few_men_have_tables, tables_are_numbered};
 
 /// In each world of each schedule each kept record is that of the game's first so many moves, with the first verdict exactly at
 /// its ply, and two kept verdicts are one.
@@ -25,6 +26,12 @@ pub fn one_list_of_worlds()
     ensures list { (game : Judged) (events : List Event) (ws : List World) → AreWorlds game events ws → ws ≡ worlds game (first_world game) events }
     ensures each { (game : Judged) (early late : List Event) → slice_get (worlds game (first_world game) (early ++ late)) (length early) ≡ Some (after game (first_world game) early) }
     ensures last { (game : Judged) (events : List Event) → slice_get (worlds game (first_world game) events) (length events) ≡ Some (after game (first_world game) events) }
+{}
+
+/// A run of a game tells one thing, by its files and its events alone: two that meet the contract of `run`, at whatever numbers of
+/// blocks, tell the same.
+pub fn runs_tell_one()
+    ensures { RunsTellOne }
 {}
 
 /// A game reaches a ply exactly where its moves up to it are there and legal in turn, and no earlier ply has a verdict.
@@ -56,6 +63,45 @@ pub fn verdicts_stay()
 /// as many as the game reaches.
 pub fn rising_order()
     ensures { RisingOrder }
+{}
+
+/// Whatever happened before, an arbiter that runs and is then handed the moves of the game in order, with puts that succeed, keeps
+/// the record of the game up to its first verdict, its first illegal move or its end; and so two keep one record. In another order
+/// it need not: a move 32 ahead of the count is refused.
+pub fn progress()
+    ensures all { InOrderKeepsAll }
+    ensures one { InOrderKeepsOne }
+    ensures last { LastPlyIsOutcome }
+{}
+
+/// Two records that have all moves of the game, or its verdict, are equal, whichever arbiter keeps them and whatever happened.
+pub fn whole_records_are_one()
+    ensures { WholeRecordsAreOne }
+{}
+
+/// With a delay of 0 a record has a verdict exactly where its ply is the least of the game whose position has a ruling, and the
+/// verdict is that ruling.
+pub fn no_delay_is_least_ruling()
+    ensures { NoDelayIsLeastRuling }
+{
+    no_delay_is_the_ruling();
+}
+
+/// Without tables a record has a verdict exactly where its ply is the first at which the game ends on the board: by checkmate, by
+/// stalemate, or by bare kings, which are a draw once they have stood for as many plies as the delay says. No files give no table.
+pub fn no_tables_is_the_board()
+    ensures board { NoTablesIsTheBoard }
+    ensures files { NoFilesAreNoTables }
+{
+    first_verdict_in_words();
+    few_men_have_tables();
+}
+
+/// A list of messages is what the source of a game sends, with which the log begins, exactly where message n is the `Move` with
+/// number n and the game's move n, and there are no others. So where each datagram of a sender spells that message, its game is the
+/// one of these worlds.
+pub fn source_sends_the_game()
+    ensures { SourceSendsTheGame }
 {}
 
 /// Each move in the log is the game's at its number, whoever sent it.

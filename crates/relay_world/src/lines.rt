@@ -20,20 +20,12 @@ use move_msg::{Who, is_game_name};
 use std::alloc::{AllocError, Global};
 use std::vec::Vec;
 
-/// What follows this beginning of a line.
-fn after<'t>(line: &'t [u8], front: &[u8]) -> Option<&'t [u8]>
-    ensures some { IfSome result (λ rest. line.now ≡ front.now ++ rest.now) }
-    ensures none { IfNone result ((rest : List ℕ) → line.now ≡ front.now ++ rest → ⊥) }
-{
-    line.strip_prefix(front)
-}
-
 /// The name that a line tells.
 pub(crate) fn read_name(line: &[u8]) -> Option<&[u8]>
     ensures some { IfSome result (λ name. IsNameLine line.now name.now) }
     ensures none { IfNone result ((name : List ℕ) → IsNameLine line.now name → ⊥) }
 {
-    let Some(name) = after(line, b"name ") else {
+    let Some(name) = line.strip_prefix(b"name ") else {
         return None;
     };
     if !is_game_name(name) {
@@ -47,7 +39,7 @@ pub(crate) fn read_start(line: &[u8]) -> Option<Position>
     ensures some { IfSome result (IsStartLine line.now) }
     ensures none { IfNone result ((start : Parts) → IsStartLine line.now start → ⊥) }
 {
-    let Some(fen) = after(line, b"start ") else {
+    let Some(fen) = line.strip_prefix(b"start ") else {
         return None;
     };
     match read(fen) {

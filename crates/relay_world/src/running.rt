@@ -10,7 +10,7 @@ ghost use Rattle.judge_core.specs.Tables.{Tables};
 ghost use Rattle.relay_world.specs.declared.fault.WorldFault.TheVariants.{OutOfMemory};
 ghost use Rattle.relay_world.specs.Gathering.{tables_of};
 ghost use Rattle.relay_world.specs.Inside.Pairs.{IsBegunFor, PairIs};
-ghost use Rattle.relay_world.specs.Runs.{Runs, Tells, judged_by};
+ghost use Rattle.relay_world.specs.Runs.{Runs, Tells, WorldView, judged_by};
 ghost use Rattle.relay_world.specs.Worlds.{Judged, World as Worlds};
 
 use crate::event::Event;
@@ -50,16 +50,6 @@ fn sent(alloc: Global, stamp: Stamp, moves: &[Move]) -> Result<Vec<Message>, All
     Ok(log)
 }
 
-/// A keeper that keeps nothing.
-fn empty_keeper(alloc: Global) -> Result<MemoryKeeper, AllocError>
-    ensures { IfOk result (λ keeper. keeper.kept ≡ None) }
-{
-    match MemoryKeeper::new(alloc) {
-        Ok(keeper) => Ok(keeper),
-        Err(_) => Err(AllocError),
-    }
-}
-
 /// Both arbiters closed, nothing kept, and the moves sent.
 fn begin<'a>(
     alloc: Global,
@@ -71,8 +61,8 @@ fn begin<'a>(
     ensures { (tables : Tables) → first.entry.tables ≡ tables → second.entry.tables ≡ tables → IfOk result (IsBegunFor (judged_by game.now tables manifest.now)) }
 {
     let stamp = game.stamp(manifest);
-    let first_keeper = empty_keeper(alloc)?;
-    let second_keeper = empty_keeper(alloc)?;
+    let first_keeper = MemoryKeeper::new(alloc)?;
+    let second_keeper = MemoryKeeper::new(alloc)?;
     let log = sent(alloc, stamp, game.moves())?;
     let a = game.setup(manifest, 1, first);
     let b = game.setup(manifest, 2, second);
@@ -117,7 +107,9 @@ fn world_of(pair: Pair<'_>) -> World
 ///
 /// `tables` are files by name, in any order. Each arbiter has all of them, with a cache of so many blocks, 1 to 4096; their
 /// manifest is by rising name. `BadTable` and `DuplicateTable` tell the first file at fault, place by place. `OutOfMemory` comes
-/// where memory is refused before or in any event, but not where the cache of a probe finds none; no world is told then.
+/// where memory is refused before or in any event, but not where the cache of a probe finds none; no world is told then. Each run
+/// takes memory, for two sets and two keepers, so that it may come at any game and any files. The number of blocks changes nothing
+/// in what is told.
 pub fn run<'a>(
     alloc: Global,
     game: &'a Game,
@@ -132,6 +124,9 @@ pub fn run<'a>(
     // each next one is the step of its event, and the last is the one that is told. In each of them each kept record is that of
     // the game's first so many moves, with the first verdict exactly at its ply, and two kept verdicts are one.
     ensures worlds { IfOk result (Runs game.now (map (λ f. record { name = f.0.now; bytes = f.1.now }) tables.now) events.now) }
+
+    // It is told by the game, the files and the events alone: another run of them, at whatever number of blocks, tells the same.
+    ensures one { IfOk result (λ told. (other : WorldView) → Runs game.now (map (λ f. record { name = f.0.now; bytes = f.1.now }) tables.now) events.now other → other ≡ told) }
 
     // The first file at fault is told.
     ensures faults { IfErr result (λ fault. (fault ≡ OutOfMemory) ⊎ (tables_of (map (λ f. record { name = f.0.now; bytes = f.1.now }) tables.now) ≡ Err fault)) }

@@ -1,12 +1,12 @@
 //! Where an arbiter sits, beside its keeper.
 
-ghost use Rattle.std.specs.Prelude.{◌≡◌, IfOk};
+ghost use Rattle.std.specs.Prelude.{◌≡◌, IfOk, OnErr};
 ghost use Rattle.arbiter_core.specs.Answering.{Identity};
 ghost use Rattle.arbiter_core.specs.Setups.{SetupView, setup_view};
 ghost use Rattle.relay_world.specs.Runs.{state_of};
 ghost use Rattle.relay_world.specs.Worlds.{Side, wants, listed};
 ghost use Rattle.arbiter_core.specs.Delivers.{IsKept as IsRecordKept};
-ghost use Rattle.relay_world.specs.Inside.Seats.{IsDelivered, IsRestarted, Open, SeatIs, Shut, seat};
+ghost use Rattle.relay_world.specs.Inside.Seats.{IsDelivered, IsRestarted, IsStarved, Open, SeatIs, Shut, seat};
 ghost use Rattle.relay_world.specs.Inside.Fields.{setup_in};
 
 use crate::world::State;
@@ -54,7 +54,8 @@ fn emptied<'a>(place: Place<'a>) -> Setup<'a>
     }
 }
 
-/// Answers a datagram with the messages to be sent; a refusal sends none. The error comes only where memory is refused.
+/// Answers a datagram with the messages to be sent; a refusal sends none. The error comes only where the answer takes memory, for
+/// a record to be put or more than four messages, and leaves all but the cache as before.
 fn answer(
     alloc: Global,
     arbiter: &mut Arbiter<'_>,
@@ -63,6 +64,7 @@ fn answer(
 ) -> Result<Outputs, AllocError>
     requires { IsRecordKept keeper.old.kept arbiter.old }
     ensures sent { IfOk result (λ outputs. IsDelivered keeper.old.keep bytes.now (seat (Open arbiter.old) keeper.old) (seat (Open arbiter.new) keeper.new) outputs.items) }
+    ensures memory { OnErr result (IsStarved bytes.now (seat (Open arbiter.old) keeper.old) (seat (Open arbiter.new) keeper.new)) }
     ensures keeps { IsRecordKept keeper.new.kept arbiter.new }
 {
     match arbiter.deliver(alloc, keeper, bytes) {
@@ -86,14 +88,16 @@ impl<'a> Seat<'a> {
     }
 
     /// Delivers a datagram, where the put that follows, if any, has this outcome. A closed arbiter hears nothing, and a refusal
-    /// sends nothing; the error comes only where memory is refused.
+    /// sends nothing. The error comes only where the answer of a running arbiter takes memory, for a record to be put or more than
+    /// four messages, and leaves the arbiter and what is kept as before.
     pub fn deliver(
         &mut self,
         alloc: Global,
         keep: Keep,
         bytes: &[u8],
     ) -> Result<Outputs, AllocError>
-        ensures { IfOk result (λ outputs. IsDelivered keep bytes.now self.old self.new outputs.items) }
+        ensures sent { IfOk result (λ outputs. IsDelivered keep bytes.now self.old self.new outputs.items) }
+        ensures memory { OnErr result (IsStarved bytes.now self.old self.new) }
     {
         self.keeper.set(keep);
         match &mut self.place {
@@ -103,7 +107,7 @@ impl<'a> Seat<'a> {
     }
 
     /// Closes the arbiter, unless it is closed already, and opens it over what is kept. The error comes only where memory is
-    /// refused.
+    /// refused; each opening takes some, for a copy of the kept record or for the first one.
     pub fn restart(self, alloc: Global, keep: Keep) -> Result<Seat<'a>, AllocError>
         ensures { IfOk result (IsRestarted keep self.entry) }
     {

@@ -1,13 +1,14 @@
 -- A seat stands for a side of a world.
-use Rattle.std.specs.Prelude.{◌≡◌, ℕ, MatchBool, List, IfSome, Some}
+use Rattle.std.specs.Prelude.{◌≡◌, ◌<◌, ℕ, MatchBool, List, length, IfSome, Option, Some, None}
 use Rattle.move_msg.specs.declared.message.Message.{Message}
 use Rattle.arbiter_core.specs.declared.keeper.Keep.{Keep}
-use Rattle.arbiter_core.specs.Answering.{Identity}
+use Rattle.arbiter_core.specs.Answering.{Answer, Identity, Puts, Refuses, Sends}
+use Rattle.arbiter_core.specs.Recording.{Recorded, Window}
 use Rattle.arbiter_core.specs.Setups.{SetupView, IsGood, IsIdentity, rules_at}
 use Rattle.arbiter_core.specs.Views.{View}
 use Rattle.arbiter_core.specs.Memory.{Memory}
 use Rattle.arbiter_core.specs.Opens.{IsWhole}
-use Rattle.relay_world.specs.Worlds.{Side, Closed, Down, Running, answer_to_datagram, hears, restarted}
+use Rattle.relay_world.specs.Worlds.{Side, Life, Closed, Down, Running, answer_to_datagram, hears, restarted}
 use Rattle.relay_world.specs.Runs.{KeptIs}
 
 -- an arbiter, or what one is opened from
@@ -53,3 +54,24 @@ abbrev pub IsRestarted : Keep → SeatView → SeatView → Type 0
 IsRestarted keep old new =
     (me : Identity) (setup : SetupView) (side : Side) → IsGood setup → IsIdentity setup me → IfSome side.kept (IsWhole (rules_at setup)) → SeatIs me setup old side
     → SeatIs me setup new (restarted (rules_at setup) keep side.kept)
+
+-- ---- want of memory
+
+-- an answer takes memory where a record is put, and for more than four messages
+abbrev pub TakesMemory : Answer → Type 0
+TakesMemory (Refuses fault) = ⊥
+TakesMemory (Sends outputs window) = 4 < length outputs
+TakesMemory (Puts next outputs window) = Unit {0}
+
+-- that of a side that runs; a closed one and one that is down take none
+abbrev pub TakesAt : Option Recorded → Life → (Recorded → Window → Answer) → Type 0
+TakesAt (Some old) (Running window) respond = TakesMemory (respond old window)
+TakesAt (Some old) Closed respond = ⊥
+TakesAt (Some old) Down respond = ⊥
+TakesAt None life respond = ⊥
+
+-- whatever side the seat stood for, the answer to the datagram takes memory, and the seat stands for that side still
+abbrev pub IsStarved : List ℕ → SeatView → SeatView → Type 0
+IsStarved datagram old new =
+    (me : Identity) (setup : SetupView) (side : Side) → SeatIs me setup old side
+    → TakesAt side.kept side.life (answer_to_datagram (rules_at setup) me datagram) × SeatIs me setup new side

@@ -11,5 +11,5 @@ pub returns : goal.returns
 returns c =
     on_ok_weaker c.append.result (λ more game a b world stands.
     let step = subst (λ (r : Rules). Steps (identity game A) a c.deliver.new.self.place c.deliver.new.self.keeper c.in_ok-outputs.outputs.items (hears c.args.keep world.a (answer_to_datagram r (identity game A) c.args.bytes.now))) stands.setups.rules_a
-    (c.in_ok-outputs.ensures (identity game A) a world.a stands.is.a_stands) in
+    (c.in_ok-outputs.ensures.sent (identity game A) a world.a stands.is.a_stands) in
     turned_a game a b _ _ _ _ _ _ _ _ _ _ world _ stands.is step more) c.append.ensures

@@ -11,5 +11,5 @@ pub returns : goal.returns
 returns c =
     on_ok_weaker c.append.result (λ more game a b world stands.
     let step = subst (λ (r : Rules). Steps (identity game B) b c.deliver.new.self.place c.deliver.new.self.keeper c.in_ok-outputs.outputs.items (hears c.args.keep world.b (answer_to_datagram r (identity game B) c.args.bytes.now))) stands.setups.rules_b
-    (c.in_ok-outputs.ensures (identity game B) b world.b stands.is.b_stands) in
+    (c.in_ok-outputs.ensures.sent (identity game B) b world.b stands.is.b_stands) in
     turned_b game a b _ _ _ _ _ _ _ _ _ _ world _ stands.is step more) c.append.ensures

@@ -5,6 +5,7 @@ use Rattle.move_msg.specs.declared.stamp.Stamp.{Stamp}
 use Rattle.move_msg.specs.declared.who.Sender.TheVariants.{Source}
 use Rattle.move_msg.specs.declared.who.Who.TheVariants.{A, B}
 use Rattle.arbiter_core.specs.Answering.{sent_by}
+use Rattle.arbiter_core.specs.Memory.{Memory}
 use Rattle.arbiter_core.specs.Setups.{SetupView, setup_view, rules_at, IsIdentity}
 use Rattle.relay_world.specs.Runs.{judged_by}
 use Rattle.relay_world.specs.Worlds.{Judged, identity}
@@ -26,8 +27,8 @@ returns c tables e f =
       };
       is = record {
         stamp_is = c.stamp-stamp.ensures tables;
-        a_stands = rw c.closed.ensures (record { place_is = (refl, refl); kept = c.in_ok-first_keeper.ensures });
-        b_stands = rw c.closed-2.ensures (record { place_is = (refl, refl); kept = c.in_ok-second_keeper.ensures });
+        a_stands = rw c.closed.ensures (record { place_is = (refl, refl); kept = ap (λ (m : Memory). m.kept) c.in_ok-first_keeper.ensures });
+        b_stands = rw c.closed-2.ensures (record { place_is = (refl, refl); kept = ap (λ (m : Memory). m.kept) c.in_ok-second_keeper.ensures });
         log_is = c.in_ok-log.ensures ∙ ap (λ (s : Stamp). sent_by s Source 0 c.moves.result.now) (c.stamp-stamp.ensures tables) ∙ ap (λ (ms : List Move). sent_by game.stamp Source 0 ms) c.moves.ensures.is;
       };
     }

@@ -7,6 +7,7 @@ use Rattle.relay_world.specs.Gathering.{IsManifestOf}
 use Rattle.relay_world.specs.Runs.{Tells, judged_by}
 use Rattle.relay_world.specs.Worlds.{Judged, after, first_world}
 use Rattle.relay_world.proofs.Naming.{are_all_tables}
+use Rattle.relay_world.proofs.OneAnswer.{runs_tell_one}
 use Rattle.relay_world.proofs.Told.{runs_of}
 use Rattle.relay_world.proofs.running.run.Goals as goal
 
@@ -26,3 +27,7 @@ returns-clause-worlds c =
     let told : Tells game c.world_of.result (after game (first_world game) c.args.events.now) =
     c.world_of.ensures game begun.a begun.b (after game (first_world game) c.args.events.now) (ap (λ (r : Rules). r.delay) begun.setups.rules_a) (ap (λ (r : Rules). r.delay) begun.setups.rules_b) (c.in-Ok-run_from.ensures game begun.a begun.b begun.setups begun.is) in
     runs_of c.args.game.now files c.args.events.now c.world_of.result t c.deref.result.now c.in_ok-first.ensures.ok (subst (IsManifestOf files) (sym c.deref.ensures.value) c.in-Ok.ensures) told
+
+pub returns-clause-one : goal.returns-clause-one
+returns-clause-one c other h =
+    runs_tell_one c.args.game.now (map (λ f. record { name = f.0.now; bytes = f.1.now }) c.args.tables.now) c.args.events.now other c.world_of.result h (returns-clause-worlds c)
