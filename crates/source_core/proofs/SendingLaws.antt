@@ -1,9 +1,9 @@
 -- A run, one turn after the other.
 use Rattle.std.proofs.Common.{◌≡◌, ◌⊎◌, true, false, ℕ, zero, suc, ◌+◌, ◌≤◌, List, [], ◌∷◌, ◌++◌, length, map, Option, Some, None, refl, sym, ap, subst, ◌∙◌, append-nil, length-append, arith, inl, inr}
-use Rattle.std.specs.Prelude.{slice_get, Result, Ok, Err, IfOk}
+use Rattle.std.specs.Prelude.{slice_get, Result, Ok, Err, IfOk, OnErr}
 use Rattle.std.specs.List.{AllByRecursion, Contains}
 use Rattle.std.specs.Io.KnownBytes.{Appends, IsAtEnd}
-use Rattle.std.proofs.KnownBytes.{Appends-nil}
+use Rattle.std.proofs.KnownBytes.{Appends-nil, Appends-trans}
 use Rattle.std.proofs.lemmas.List.{map-append}
 use Rattle.std.proofs.lemmas.List.Elements.{All-contains, All-from_recursion, Contains-append_cases}
 use Rattle.board_core.specs.declared.moves.Move.{Move as Moves}
@@ -29,8 +29,8 @@ use Rattle.system_io.specs.LineReaders.{ReadsLine}
 use Rattle.system_io.specs.Ports.{Passing, Came, Quiet, Missed, Handed, PortFacts, Passed, to_each}
 use Rattle.source_core.specs.Reports.{Knows, StandsSo}
 use Rattle.source_core.specs.Turns.{HasSpelling, HasWaited, IsReceived, IsTurn, move_message, one_try, tries_of}
-use Rattle.source_core.specs.Lines.{acked_words, end_words, status_by}
-use Rattle.source_core.specs.Sendings.{At, AckedMove, ClosesSo, EndsWith, Unread, Refused, Closed, Sent, Game, InTurn, IsAckedTurn, IsClosed, IsLastMove, IsRefusedLine, IsSending, IsUnread, OnlyHands, Sending, WritesLines, line_of, sent_in}
+use Rattle.source_core.specs.Lines.{IsCut, WritesFront, acked_words, end_words, status_by}
+use Rattle.source_core.specs.Sendings.{At, AckedMove, ClosesSo, EndsWith, Unread, Refused, Closed, Sent, Game, InTurn, IsAckedTurn, IsClosed, IsLastMove, IsRefusedLine, IsSending, IsUnread, OnlyHands, Sending, WritesLines, last_lines, line_of, lines_of, sent_in}
 use Rattle.source_core.specs.Inside.Steps.{Closes, EndsAt, EndsIf, HasEnded, IsPlayed, Steps, StepsOn, StepsSo, end_by, is_ruled}
 use Rattle.source_core.proofs.PortLaws.{Passed-nil, Passed-trans}
 use Rattle.source_core.proofs.ReportLaws.{all_agreed, is_acked, is_ruled_so, is_unsettled, knows_nothing, not_both}
@@ -264,7 +264,7 @@ sent_more unreadable g start input0 input1 input2 p1 p2 known1 known2 port0 port
     )
 
 -- the writer failed
-pub run_cut : (unreadable : Type 0) (g : Game) (start : Parts) (input0 input : Option (List ℕ)) (position : Parts) (known : Known) (port0 port : PortFacts) (k : ℕ) (h : HasSent g start input0 input position known port0 port k) → (s : Sending) × IsSending unreadable g start input0 input port0 port s × (s.turns ≡ h.turns)
+pub run_cut : (unreadable : Type 0) (g : Game) (start : Parts) (input0 input : Option (List ℕ)) (position : Parts) (known : Known) (port0 port : PortFacts) (k : ℕ) (h : HasSent g start input0 input position known port0 port k) → (s : Sending) × IsSending unreadable g start input0 input port0 port s × (s.turns ≡ h.turns) × (s.end ≡ None)
 run_cut unreadable g start input0 input position known port0 port k h = (
   record { turns = h.turns; at = record { input = input; position = position; moves = h.moves; passed = h.passed }; sent = []; more = []; end = None },
   record {
@@ -273,6 +273,7 @@ run_cut unreadable g start input0 input position known port0 port k h = (
     passed = subst (Passed port0 port) (sym (append-nil h.passed)) h.at_port;
     source = subst (λ l. OnlyHands g.stamp l (h.passed ++ [])) (sym (append-nil h.moves)) (subst (OnlyHands g.stamp h.moves) (sym (append-nil h.passed)) h.source);
   },
+  refl,
   refl,
 )
 
@@ -317,8 +318,18 @@ run_ended unreadable g start input0 input1 input2 p1 p2 known1 known2 port0 port
 pub written_more : (old mid new : Option (List ℕ)) (first all : List (List ℕ)) (one : List ℕ) → all ≡ first ++ one ∷ [] → Appends old mid (text_of first) → Appends mid new (ended one) → Appends old new (text_of all)
 written_more old mid new first all one e p q = subst (λ (l : List (List ℕ)). Appends old new (text_of l)) (sym e) (more_lines old mid new first one p q)
 
+last_line : (s : Sending) (turns : List AckedMove) (end : End) → s.turns ≡ turns → s.end ≡ Some end → lines_of s ≡ map line_of turns ++ end_words end ∷ []
+last_line s turns end same is = ap (λ ts. map line_of ts ++ last_lines s.end) same ∙ ap (λ o. map line_of turns ++ last_lines o) is
+
+-- a run that the writer cut short has no last line
+pub no_last : (s : Sending) (turns : List AckedMove) (lines : List (List ℕ)) → s.turns ≡ turns → s.end ≡ None → map line_of turns ≡ lines → lines_of s ≡ lines
+no_last s turns lines same is e = ap (λ ts. map line_of ts ++ last_lines s.end) same ∙ ap (λ o. map line_of turns ++ last_lines o) is ∙ append-nil (map line_of turns) ∙ e
+
+-- at one more line the writer failed
+pub cut_at : (old mid new : Option (List ℕ)) (first all : List (List ℕ)) (one : List ℕ) → all ≡ first ++ one ∷ [] → Appends old mid (text_of first) → WritesFront mid new (ended one) → IsCut all old new
+cut_at old mid new first all one e p (front, rest, is, q) = record { earlier = first; last = one; front = front; rest = rest; all = e; cut = is; written = Appends-trans old mid new (text_of first) front p q }
+
 -- the line of a run that ends was written, or not
-pub wrote_last : (s : Sending) (turns : List AckedMove) (end : End) (old mid new : Option (List ℕ)) (r : Result ℕ WriteFault) → s.turns ≡ turns → s.end ≡ Some end → Appends old mid (text_of (map line_of turns)) → IfOk r (λ status. (status ≡ status_by end) × Appends mid new (ended (end_words end))) → WritesLines s old new r
-wrote_last s turns end old mid new (Ok status) same is p (ok, q) =
-    (end, is, ok, written_more old mid new (map line_of turns) (map line_of s.turns ++ end_words end ∷ []) (end_words end) (ap (λ ts. map line_of ts ++ end_words end ∷ []) same) p q)
-wrote_last s turns end old mid new (Err fault) same is p h = tt
+pub wrote_last : (s : Sending) (turns : List AckedMove) (end : End) (old mid new : Option (List ℕ)) (r : Result ℕ WriteFault) → s.turns ≡ turns → s.end ≡ Some end → Appends old mid (text_of (map line_of turns)) → IfOk r (λ status. (status ≡ status_by end) × Appends mid new (ended (end_words end))) → OnErr r (WritesFront mid new (ended (end_words end))) → WritesLines s old new r
+wrote_last s turns end old mid new (Ok status) same is p (ok, q) none = (end, is, ok, written_more old mid new (map line_of turns) (lines_of s) (end_words end) (last_line s turns end same is) p q)
+wrote_last s turns end old mid new (Err fault) same is p h cut = cut_at old mid new (map line_of turns) (lines_of s) (end_words end) (last_line s turns end same is) p cut

@@ -18,7 +18,7 @@ use Rattle.source_core.specs.declared.lines.End.{End}
 use Rattle.source_core.specs.declared.lines.End.TheVariants as at_end
 use Rattle.source_core.specs.Reports.{IsAcked, IsAgreed, IsRuled, IsClash, IsUnsettled}
 use Rattle.source_core.specs.Turns.{HasSpelling, HasWaited, IsReceived, move_message, tries_of}
-use Rattle.source_core.specs.Lines.{acked_words, end_words, status_by}
+use Rattle.source_core.specs.Lines.{IsCut, acked_words, end_words, status_by}
 
 -- the stamp of a game, to how many addresses its moves go, and how often each is sent at most
 pub record Game : Type 0 where
@@ -162,7 +162,7 @@ abbrev pub OnlyHands : Stamp → List Moves → List Passing → Type 0
 OnlyHands stamp moves all = (to : ℕ) (bytes : List ℕ) → Contains all (Handed to bytes) → (n : ℕ) × (m : Moves) × (slice_get moves n ≡ Some m) × SpellsMessage bytes (move_message stamp n m)
 
 -- a run: the acknowledged moves, where it stands then, what was sent and what passed after that, and with what it ends; no end
--- where the writer failed before
+-- where the writer failed before it
 pub record Sending : Type 0 where
   pub turns : List AckedMove
   pub at : At
@@ -186,7 +186,15 @@ pub record IsSending (unreadable : Type 0) (g : Game) (start : Parts) (input inp
 abbrev pub line_of : AckedMove → List ℕ
 line_of t = acked_words (length t.after.moves)
 
--- a line for each acknowledged move, and the last line; or the writer failed
+abbrev pub last_lines : Option End → List (List ℕ)
+last_lines None = []
+last_lines (Some end) = end_words end ∷ []
+
+-- a line for each acknowledged move, and the last line
+abbrev pub lines_of : Sending → List (List ℕ)
+lines_of s = map line_of s.turns ++ last_lines s.end
+
+-- all of them are written, and the status is that of the end; or the writer fails at the last of those that it was given
 abbrev pub WritesLines : Sending → Option (List ℕ) → Option (List ℕ) → Result ℕ WriteFault → Type 0
-WritesLines s old new (Ok status) = (end : End) × (s.end ≡ Some end) × (status ≡ status_by end) × Appends old new (text_of (map line_of s.turns ++ end_words end ∷ []))
-WritesLines s old new (Err fault) = Unit {0}
+WritesLines s old new (Ok status) = (end : End) × (s.end ≡ Some end) × (status ≡ status_by end) × Appends old new (text_of (lines_of s))
+WritesLines s old new (Err fault) = IsCut (lines_of s) old new

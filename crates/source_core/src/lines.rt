@@ -1,14 +1,15 @@
 //! The lines of a run.
 
-ghost use Rattle.std.specs.Prelude.{◌≡◌, Some, OnOk};
+ghost use Rattle.std.specs.Prelude.{◌≡◌, Some, IfSome, OnErr, OnOk};
 ghost use Rattle.std.specs.Fmt.{DisplaysOnOk};
 ghost use Rattle.std.specs.Io.KnownBytes.{Appends};
 ghost use Rattle.move_msg.specs.TextLines.{ended};
-ghost use Rattle.source_core.specs.Lines.{clash_words, end_words, line_words, ruling_words, status_by};
+ghost use Rattle.source_core.specs.Lines.{WritesFront, clash_words, end_words, line_words, ruling_words, status_by};
 
 use crate::known::Clash;
 use crate::report::Ruling;
-use std::fmt;
+use arrayvec::ArrayString;
+use std::fmt::{self, Write as _};
 use std::io::Write;
 use system_io::WriteFault;
 
@@ -116,11 +117,42 @@ impl fmt::Display for Line {
     }
 }
 
-/// Writes a line, and lets it go out at once.
-pub(crate) fn put_now<W: Write>(out: &mut W, line: &Line) -> Result<(), WriteFault>
-    ensures { OnOk result (Appends (W.contents out.old) (W.contents out.new) (ended (line_words line.now))) }
+/// The text of a line with its line feed; none where it has more than 64 bytes, as no line has.
+fn text_of(line: &Line) -> Option<ArrayString<64>>
+    ensures { IfSome result (λ t. t.bytes ≡ ended (line_words line.now)) }
 {
-    let Ok(()) = writeln!(out, "{line}") else {
+    let mut text = ArrayString::new();
+    match writeln!(text, "{line}") {
+        Ok(()) => Some(text),
+        Err(_) => None,
+    }
+}
+
+/// Writes bytes. The error comes where the writer takes no more of them.
+fn put_bytes<W: Write>(out: &mut W, bytes: &[u8]) -> Result<(), WriteFault>
+    ensures written { OnOk result (Appends (W.contents out.old) (W.contents out.new) bytes.now) }
+    ensures cut { OnErr result (WritesFront (W.contents out.old) (W.contents out.new) bytes.now) }
+{
+    let mut taken = 0;
+    while taken < bytes.len() {
+        let (_, rest) = bytes.split_at(taken);
+        match out.write(rest) {
+            Ok(0) | Err(_) => return Err(WriteFault::Io),
+            Ok(n) => taken += n,
+        }
+    }
+    Ok(())
+}
+
+/// Writes a line, and flushes it.
+pub(crate) fn put_now<W: Write>(out: &mut W, line: &Line) -> Result<(), WriteFault>
+    ensures written { OnOk result (Appends (W.contents out.old) (W.contents out.new) (ended (line_words line.now))) }
+    ensures cut { OnErr result (WritesFront (W.contents out.old) (W.contents out.new) (ended (line_words line.now))) }
+{
+    let Some(text) = text_of(line) else {
+        return Err(WriteFault::Io);
+    };
+    let Ok(()) = put_bytes(out, text.as_bytes()) else {
         return Err(WriteFault::Io);
     };
     match out.flush() {
