@@ -1,5 +1,6 @@
 -- What values keep and what functions find on the way; cited by private clauses alone.
 pub mod Asked
+pub mod Auditing
 pub mod Fronts
 pub mod ListeningParts
 pub mod Placing

@@ -1,7 +1,10 @@
 //! The program's words, its output and its status.
 
-ghost use Rattle.std.specs.Prelude.{◌≡◌, ◌≢◌, ◌⊎◌, drop, map, string_bytes, true, false, Ok, IfOk};
+ghost use Rattle.std.specs.Prelude.{◌≡◌, ◌≢◌, ◌⊎◌, ◌++◌, List, ℕ, drop, map, string_bytes, true, false, Ok, IfOk, IfSome, OnOk};
+ghost use Rattle.std.specs.Io.KnownBytes.{Appends};
+ghost use Rattle.move_msg.specs.TextLines.{ended};
 ghost use Rattle.adjudicate_core.specs.declared.commands.Task.{Task};
+ghost use Rattle.adjudicate_core.specs.Misuses.{misuse_words};
 ghost use Rattle.adjudicate_core.specs.ToldLines.{refused_memory};
 ghost use Rattle.adjudicate_core.specs.Listens.{hosted};
 ghost use Rattle.adjudicate_core.specs.Running.{AnswersFrom, AnswersTask, Called, Performs, called_by, outside, texts};
@@ -14,12 +17,12 @@ use crate::lines::put_refusal;
 use crate::listening::listen;
 use crate::refusals::Refusal;
 use crate::sources::Sources;
-use crate::usage::Usage;
+use crate::usage::{Misuse, Usage, WordsFault};
 use std::alloc::{AllocError, Global};
-use std::io::Write;
+use std::io::{self, Write};
 use system_io::{Disk, Host, Input, ReadFault, WriteFault};
 
-/// What a misuse is told.
+/// The command lines that there are.
 const USAGE: &str = "usage: adjudicate judge [--tables DIR] [--manifest FILE] FEN
        adjudicate moves FEN
        adjudicate probe --tables DIR [--manifest FILE] FEN
@@ -30,14 +33,45 @@ const USAGE: &str = "usage: adjudicate judge [--tables DIR] [--manifest FILE] FE
        adjudicate game [--tables DIR] [--manifest FILE] [--delay N] FEN
        adjudicate run [--tables DIR] [--cache N] [--delay N]
        adjudicate listen --name N --start FEN --tables DIR --me M --bind ADDR --to ADDR --kept FILE
-                         --datagrams N [--delay N] [--fetch]";
+                         --datagrams N [--delay N] [--fetch]
+       adjudicate record FILE
+       adjudicate audit --name N --start FEN --tables DIR [--manifest FILE] [--delay N] FILE [FILE]
+       adjudicate version";
 
-/// Writes what a misuse is told; a failure changes nothing.
-fn put_usage<E: Write>(errors: &mut E) {
-    match writeln!(errors, "{USAGE}") {
-        Ok(()) => {}
-        Err(_) => {}
+/// The first line of what the parser of command lines says of words that it refuses; none where they ask for help.
+fn first_line(text: &str) -> Option<&str> {
+    text.strip_prefix("error: ")?.lines().next()
+}
+
+/// Writes a line on words that the parser of command lines refuses, where memory for it is there.
+fn put_refused<E: Write>(alloc: Global, errors: &mut E, error: &clap::Error) -> io::Result<()> {
+    let Ok(text) = format!(in alloc; "{error}") else {
+        return Ok(());
+    };
+    match first_line(text.as_str()) {
+        Some(line) => writeln!(errors, "{line}"),
+        None => Ok(()),
     }
+}
+
+/// Writes what is wrong with the words, in one line.
+fn put_line_on<E: Write>(alloc: Global, errors: &mut E, misuse: &Misuse<'_>) -> io::Result<()>
+    ensures { OnOk result (IfSome (misuse_words misuse.now) (λ words. Appends (E.contents errors.old) (E.contents errors.new) (ended words))) }
+{
+    match misuse {
+        Misuse::NoCommand => writeln!(errors, "no command"),
+        Misuse::UnknownCommand(word) => writeln!(errors, "no command {word}"),
+        Misuse::Refused(error) => put_refused(alloc, errors, error),
+        Misuse::Value(fault) => writeln!(errors, "{fault}"),
+    }
+}
+
+/// Writes what a misuse is told: what is wrong with the words, and the command lines that there are.
+fn put_misuse<E: Write>(alloc: Global, errors: &mut E, misuse: &Misuse<'_>) -> io::Result<()>
+    ensures { OnOk result (IfSome (misuse_words misuse.now) (λ words. (rest : List ℕ) × Appends (E.contents errors.old) (E.contents errors.new) (ended words ++ rest))) }
+{
+    put_line_on(alloc, errors, misuse)?;
+    writeln!(errors, "{USAGE}")
 }
 
 /// Answers a task from what was read for it, and tells the status, 0 done or 1 refused.
@@ -74,6 +108,9 @@ fn answer_given<I: Input, H: Host, W: Write, E: Write>(
         Task::Listen(task) => listen(alloc, task, sources, host, out),
         Task::Probes(task) => task.answer(alloc, sources, input, out, errors),
         Task::Game(task) => put_answered(out, task.answer(alloc, sources)),
+        Task::Record(task) => task.answer(alloc, sources, out),
+        Task::Audit(task) => put_answered(out, task.answer(alloc, sources)),
+        Task::Version(task) => task.answer(out),
     }
 }
 
@@ -123,8 +160,8 @@ pub fn run<D: Disk, I: Input, H: Host, W: Write, E: Write>(
     match parse(alloc, words) {
         Ok(task) => run_task(alloc, &task, disk, input, host, out, errors),
         Err(Usage::OutOfMemory) => put_refusal(out, Refusal::Memory),
-        Err(Usage::Misuse) => {
-            put_usage(errors);
+        Err(Usage::Misuse(misuse)) => {
+            put_misuse(alloc, errors, &misuse).ok();
             Ok(2)
         }
     }
@@ -162,7 +199,7 @@ pub fn refuse_memory<W: Write>(out: &mut W) -> Result<u8, WriteFault>
 /// where memory was refused for them, that is told.
 pub fn run_program<D: Disk, I: Input, H: Host, W: Write, E: Write>(
     alloc: Global,
-    called: &Result<Vec<String>, Usage>,
+    called: &Result<Vec<String>, WordsFault>,
     disk: &D,
     input: &I,
     host: &H,
@@ -176,7 +213,7 @@ pub fn run_program<D: Disk, I: Input, H: Host, W: Write, E: Write>(
             Ok(tail) => run(alloc, &tail, disk, input, host, out, errors),
             Err(_) => refuse_memory(out),
         },
-        Err(Usage::Misuse) => run(alloc, &[], disk, input, host, out, errors),
-        Err(Usage::OutOfMemory) => refuse_memory(out),
+        Err(WordsFault::NoText) => run(alloc, &[], disk, input, host, out, errors),
+        Err(WordsFault::OutOfMemory) => refuse_memory(out),
     }
 }

@@ -6,6 +6,7 @@ use Rattle.move_msg.specs.ToldManifests.{Told}
 use Rattle.clap.specs.Words.{Rule, Text}
 use Rattle.adjudicate_core.specs.Rules.{rule_of_form}
 use Rattle.adjudicate_core.specs.declared.commands.Form.TheVariants as form
+use Rattle.adjudicate_core.specs.Misuses.{Fault, NoOption, NoWord}
 use Rattle.adjudicate_core.specs.Sources.{Named}
 use Rattle.adjudicate_core.specs.Given.{Given}
 use Rattle.adjudicate_core.specs.Lines.{refused_manifest}
@@ -15,20 +16,20 @@ use Rattle.adjudicate_core.specs.declared.commands.check.Check.{Check}
 
 abbrev pub rules : List Rule
 rules =
-    rule_of_form form.NeededOption (codes "manifest")
+    rule_of_form form.Option (codes "manifest")
     ∷ rule_of_form form.Word (codes "DIR") ∷ []
 
 -- the values of its arguments
 abbrev pub HasValues : (Text → Option Text) → Check → Type 0
 HasValues value t = (Some t.manifest.now ≡ value (codes "manifest")) × (Some t.folder.now ≡ value (codes "DIR"))
 
--- an argument that it needs has no value
-abbrev pub Lacks : (Text → Option Text) → Type 0
-Lacks value = (value (codes "manifest") ≡ None) ⊎ (value (codes "DIR") ≡ None)
+-- what may be wrong with its values, in the order in which it is told
+abbrev pub faults : List Fault
+faults = NoOption (codes "manifest") ∷ NoWord (codes "DIR") ∷ []
 
 -- what is read for it
 abbrev pub named : Check → Named
-named t = record { folder = Some t.folder.now; manifest = Some t.manifest.now; input = false }
+named t = record { folder = Some t.folder.now; manifest = Some t.manifest.now; input = false; kept = None; other_kept = None }
 
 -- a line for each line of the manifest, in its order, and whether all files are there and as they should be
 abbrev pub checked : List Look → Reply

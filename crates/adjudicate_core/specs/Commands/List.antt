@@ -5,6 +5,7 @@ use Rattle.move_msg.specs.Manifests.{SpellsManifest}
 use Rattle.clap.specs.Words.{Rule, Text}
 use Rattle.adjudicate_core.specs.Rules.{rule_of_form}
 use Rattle.adjudicate_core.specs.declared.commands.Form.TheVariants as form
+use Rattle.adjudicate_core.specs.Misuses.{Fault, NoWord}
 use Rattle.adjudicate_core.specs.Sources.{Named}
 use Rattle.adjudicate_core.specs.Given.{Given}
 use Rattle.adjudicate_core.specs.Reply.{Reply}
@@ -18,13 +19,13 @@ rules =
 abbrev pub HasValues : (Text → Option Text) → ListTask → Type 0
 HasValues value t = Some t.folder.now ≡ value (codes "DIR")
 
--- an argument that it needs has no value
-abbrev pub Lacks : (Text → Option Text) → Type 0
-Lacks value = value (codes "DIR") ≡ None
+-- what may be wrong with its values, in the order in which it is told
+abbrev pub faults : List Fault
+faults = NoWord (codes "DIR") ∷ []
 
 -- what is read for it
 abbrev pub named : ListTask → Named
-named t = record { folder = Some t.folder.now; manifest = None; input = false }
+named t = record { folder = Some t.folder.now; manifest = None; input = false; kept = None; other_kept = None }
 
 -- the manifest of the files
 abbrev pub IsListed : List File → Reply → Type 0

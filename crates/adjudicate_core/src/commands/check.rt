@@ -1,14 +1,15 @@
 //! `check`: whether the tables in a folder are those of a manifest.
 
-ghost use Rattle.std.specs.Prelude.{◌≡◌, map, IfOk, IfNone, IfSome};
+ghost use Rattle.std.specs.Prelude.{◌≡◌, map, IfOk, IfErr};
 ghost use Rattle.std.specs.Result.{is_ok};
 ghost use Rattle.clap.specs.Words.{first_value, found_of};
 ghost use Rattle.move_msg.specs.Files.{file_of};
 ghost use Rattle.move_msg.specs.Manifests.{entry_of};
-ghost use Rattle.adjudicate_core.specs.Commands.Check.{HasValues, IsReply, Lacks, checked, named};
+ghost use Rattle.adjudicate_core.specs.Commands.Check.{HasValues, IsReply, checked, faults, named};
 ghost use Rattle.adjudicate_core.specs.Inside.Asked.{reply_of};
 ghost use Rattle.adjudicate_core.specs.Lines.{words_of};
 ghost use Rattle.adjudicate_core.specs.Looks.{look_for, look_line};
+ghost use Rattle.adjudicate_core.specs.Misuses.{IsFirst, fault_words};
 ghost use Rattle.adjudicate_core.specs.Sources.{named_by};
 
 use super::{Form, Value};
@@ -17,6 +18,8 @@ use crate::lines::Line;
 use crate::refusals::Refusal;
 use crate::sources::{Places, Sources};
 use crate::tables::open_line;
+use crate::usage::ValueFault;
+use crate::values::{option_in, word_in};
 use clap::ArgMatches;
 use move_msg::{Line as Entry, Manifest, NamedFile};
 use std::alloc::{AllocError, Global};
@@ -34,7 +37,7 @@ pub struct Check<'a> {
 pub(crate) const VALUES: [Value; 2] = [
     Value {
         name: "manifest",
-        form: Form::NeededOption,
+        form: Form::Option,
     },
     Value {
         name: "DIR",
@@ -69,14 +72,14 @@ fn check_lines(alloc: Global, files: &[NamedFile], entries: &[Entry]) -> Result<
 }
 
 impl<'a> Check<'a> {
-    /// The task with these values; none where it lacks one that it needs.
-    pub(crate) fn of(matches: &ArgMatches<'a>) -> Option<Check<'a>>
-        ensures some { IfSome result (HasValues (first_value (found_of matches.now))) }
-        ensures none { IfNone result (Lacks (first_value (found_of matches.now))) }
+    /// The task with these values, or the first thing that is wrong with them.
+    pub(crate) fn of(matches: &ArgMatches<'a>) -> Result<Check<'a>, ValueFault<'a>>
+        ensures ok { IfOk result (HasValues (first_value (found_of matches.now))) }
+        ensures err { IfErr result (λ fault. IsFirst (first_value (found_of matches.now)) faults (fault_words fault)) }
     {
-        Some(Check {
-            manifest: matches.get_str("manifest")?,
-            folder: matches.get_str("DIR")?,
+        Ok(Check {
+            manifest: option_in(matches, "manifest")?,
+            folder: word_in(matches, "DIR")?,
         })
     }
 
@@ -88,6 +91,8 @@ impl<'a> Check<'a> {
             folder: Some(self.folder),
             manifest: Some(self.manifest),
             reads_input: false,
+            kept: None,
+            other_kept: None,
         }
     }
 

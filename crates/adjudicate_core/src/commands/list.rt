@@ -1,14 +1,17 @@
 //! `list`: the manifest of the tables in a folder.
 
-ghost use Rattle.std.specs.Prelude.{◌≡◌, IfOk, IfNone, IfSome};
+ghost use Rattle.std.specs.Prelude.{◌≡◌, IfOk, IfErr};
 ghost use Rattle.clap.specs.Words.{first_value, found_of};
-ghost use Rattle.adjudicate_core.specs.Commands.List.{HasValues, IsReply, Lacks, named};
+ghost use Rattle.adjudicate_core.specs.Commands.List.{HasValues, IsReply, faults, named};
 ghost use Rattle.adjudicate_core.specs.Inside.Asked.{reply_of};
+ghost use Rattle.adjudicate_core.specs.Misuses.{IsFirst, fault_words};
 ghost use Rattle.adjudicate_core.specs.Sources.{named_by};
 
 use super::{Form, Value};
 use crate::answers::Answer;
 use crate::sources::{Places, Sources};
+use crate::usage::ValueFault;
+use crate::values::word_in;
 use clap::ArgMatches;
 use move_msg::manifest_of;
 use std::alloc::{AllocError, Global};
@@ -27,13 +30,13 @@ pub(crate) const VALUES: [Value; 1] = [Value {
 }];
 
 impl<'a> List<'a> {
-    /// The task with these values; none where it lacks one that it needs.
-    pub(crate) fn of(matches: &ArgMatches<'a>) -> Option<List<'a>>
-        ensures some { IfSome result (HasValues (first_value (found_of matches.now))) }
-        ensures none { IfNone result (Lacks (first_value (found_of matches.now))) }
+    /// The task with these values, or the first thing that is wrong with them.
+    pub(crate) fn of(matches: &ArgMatches<'a>) -> Result<List<'a>, ValueFault<'a>>
+        ensures ok { IfOk result (HasValues (first_value (found_of matches.now))) }
+        ensures err { IfErr result (λ fault. IsFirst (first_value (found_of matches.now)) faults (fault_words fault)) }
     {
-        Some(List {
-            folder: matches.get_str("DIR")?,
+        Ok(List {
+            folder: word_in(matches, "DIR")?,
         })
     }
 
@@ -45,6 +48,8 @@ impl<'a> List<'a> {
             folder: Some(self.folder),
             manifest: None,
             reads_input: false,
+            kept: None,
+            other_kept: None,
         }
     }
 
