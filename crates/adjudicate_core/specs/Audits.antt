@@ -63,7 +63,7 @@ AreCompared r s (Some ply) = ((before : ℕ) → before < ply → AreSameAt r s 
 
 -- where both spell records they are compared
 abbrev pub IsComparison : List ℕ → List ℕ → Option (Option ℕ) → Type 0
-IsComparison one other (Some compared) = (r s : Records) × SpellsRecord one r × SpellsRecord other s × AreCompared r s compared
+IsComparison one other (Some compared) = (r : Records) × (s : Records) × SpellsRecord one r × SpellsRecord other s × AreCompared r s compared
 IsComparison one other None = ((r : Records) → SpellsRecord one r → ⊥) ⊎ ((s : Records) → SpellsRecord other s → ⊥)
 
 abbrev pub agree : Option (Option ℕ) → Bool

@@ -3,5 +3,6 @@ pub mod Asked
 pub mod Auditing
 pub mod Fronts
 pub mod ListeningParts
+pub mod Looking
 pub mod Placing
 pub mod Refusals

@@ -113,8 +113,8 @@ abbrev pub named_in : Task → Named
 named_in (task.Judge t) = judges.named t
 named_in (task.Probe t) = probes.named t
 named_in (task.Moves t) = of_moves.named t
-named_in (task.List t) = lists.named t
-named_in (task.Check t) = checks.named t
+named_in (task.List t) = lists.named
+named_in (task.Check t) = checks.named
 named_in (task.Show t) = shows.named
 named_in (task.Run t) = runs.named t
 named_in (task.Listen t) = listens.named t
@@ -129,8 +129,8 @@ abbrev pub tells_progress : Task → Bool
 tells_progress (task.Judge t) = false
 tells_progress (task.Probe t) = false
 tells_progress (task.Moves t) = false
-tells_progress (task.List t) = false
-tells_progress (task.Check t) = false
+tells_progress (task.List t) = t.progress
+tells_progress (task.Check t) = t.progress
 tells_progress (task.Show t) = false
 tells_progress (task.Run t) = false
 tells_progress (task.Listen t) = false

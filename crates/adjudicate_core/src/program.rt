@@ -11,7 +11,7 @@ ghost use Rattle.adjudicate_core.specs.Running.{AnswersFrom, AnswersTask, Called
 ghost use Rattle.adjudicate_core.specs.Tasks.{IsTask, tells_progress};
 ghost use Rattle.adjudicate_core.specs.Telling.{TellsOne};
 
-use crate::answers::put_answered;
+use crate::answers::{put_answered, put_read};
 use crate::commands::{Task, parse};
 use crate::lines::put_refusal;
 use crate::listening::listen;
@@ -26,8 +26,8 @@ use system_io::{Disk, Host, Input, ReadFault, WriteFault};
 const USAGE: &str = "usage: adjudicate judge [--tables DIR] [--manifest FILE] FEN
        adjudicate moves FEN
        adjudicate probe --tables DIR [--manifest FILE] FEN
-       adjudicate list DIR
-       adjudicate check --manifest FILE DIR
+       adjudicate list [--progress] DIR
+       adjudicate check --manifest FILE [--progress] DIR
        adjudicate show
        adjudicate probes --tables DIR [--manifest FILE] [--progress]
        adjudicate game [--tables DIR] [--manifest FILE] [--delay N] FEN
@@ -84,25 +84,27 @@ fn put_misuse<E: Write>(alloc: Global, errors: &mut E, misuse: &Misuse<'_>) -> i
 /// Where memory is refused, the line `refused memory` comes in place of all else, for `probes` after the whole lines before it,
 /// with status 1; a
 /// text that is no position takes none, and `show` takes none. The error comes only where the writer
-/// failed. With `--progress`, `probes` tells `errors` after every 10,000 lines how many are done; no other task writes there.
-fn answer_given<I: Input, H: Host, W: Write, E: Write>(
+/// failed. `list` and `check` read their folder here, and hold one file at a time. With `--progress`, `probes` tells `errors` after
+/// every 10,000 lines how many are done, `list` and `check` after each hundred million bytes; no other task writes there.
+fn answer_given<D: Disk, I: Input, H: Host, W: Write, E: Write>(
     alloc: Global,
     task: &Task,
     sources: &Sources,
+    disk: &D,
     input: &I,
     host: &H,
     out: &mut W,
     errors: &mut E,
 ) -> Result<u8, WriteFault>
     ensures quiet { tells_progress task.now ≡ false → errors.new ≡ errors.old }
-    ensures answered { IfOk result (AnswersFrom (I.facts input.now) (hosted (H.facts host.now) H.Port.facts H.File.facts) task.now sources.now (W.contents out.old) (W.contents out.new)) }
+    ensures answered { IfOk result (AnswersFrom (D.facts disk.now) (I.facts input.now) (hosted (H.facts host.now) H.Port.facts H.File.facts) task.now sources.now (W.contents out.old) (W.contents out.new)) }
 {
     match task {
         Task::Judge(task) => put_answered(out, task.answer(alloc, sources)),
         Task::Probe(task) => put_answered(out, task.answer(alloc, sources)),
         Task::Moves(task) => put_answered(out, task.answer(alloc)),
-        Task::List(task) => put_answered(out, task.answer(alloc, sources)),
-        Task::Check(task) => put_answered(out, task.answer(alloc, sources)),
+        Task::List(task) => put_read(out, task.answer(alloc, disk, errors)),
+        Task::Check(task) => put_read(out, task.answer(alloc, disk, errors)),
         Task::Show(task) => task.answer(sources, out),
         Task::Run(task) => put_answered(out, task.answer(alloc, sources)),
         Task::Listen(task) => listen(alloc, task, sources, host, out),
@@ -129,7 +131,7 @@ fn run_task<D: Disk, I: Input, H: Host, W: Write, E: Write>(
 {
     let places = task.places();
     match Sources::read(alloc, disk, input, &places) {
-        Ok(sources) => answer_given(alloc, task, &sources, input, host, out, errors),
+        Ok(sources) => answer_given(alloc, task, &sources, disk, input, host, out, errors),
         Err(ReadFault::Unreadable) => put_refusal(out, Refusal::Files),
         Err(ReadFault::OutOfMemory) => put_refusal(out, Refusal::Memory),
     }
@@ -139,12 +141,12 @@ fn run_task<D: Disk, I: Input, H: Host, W: Write, E: Write>(
 /// misuse.
 ///
 /// All that a task names is read before anything is answered: its folder, of which the files of tables are looked at, its
-/// manifest, and for `show`, `run` and `game` the input, to its end. What can't be read or has more than 2^30 bytes is told as
-/// `refused files`. `probes` alone reads the input line by line, and answers each line as it comes. Only `listen` opens a port
-/// and a kept file.
+/// manifest, for `show`, `run` and `game` the input, to its end, and for `record` and `audit` kept files. What can't be read or has
+/// more than 2^30 bytes is told as `refused files`. `list` and `check` hold one file at a time. `probes` alone reads the input line
+/// by line, and answers each line as it comes. Only `listen` opens a port, and writes a kept file.
 ///
-/// Answers go to `out` and the text of a misuse to `errors`, as does how far `probes --progress` is; nothing else is written
-/// there, and its failure changes nothing. The error comes only where `out` failed.
+/// Answers go to `out` and what is wrong with the words to `errors`, as does how far a task with `--progress` is; nothing else is
+/// written there, and its failure changes nothing. The error comes only where `out` failed.
 pub fn run<D: Disk, I: Input, H: Host, W: Write, E: Write>(
     alloc: Global,
     words: &[&str],

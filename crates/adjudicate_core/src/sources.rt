@@ -52,7 +52,7 @@ impl Model for Sources {
 }
 
 /// The manifest at a path, if there is one.
-fn read_manifest<D: Disk>(
+pub(crate) fn read_manifest<D: Disk>(
     alloc: Global,
     disk: &D,
     path: Option<&str>,
