@@ -7,6 +7,7 @@ pub mod Numbers
 pub mod Rules
 pub mod Commands
 pub mod Tasks
+pub mod Misuses
 pub mod Usage
 pub mod Lines
 pub mod Looks
@@ -15,4 +16,5 @@ pub mod Reply
 pub mod Telling
 pub mod Running
 pub mod Listens
+pub mod Audits
 pub mod Inside

@@ -131,7 +131,7 @@ fn lists_the_moves_of_the_start_in_order(rt: HostRuntime) {
 }
 
 /// What words are read as, without its contract.
-fn parsed<'a>(alloc: Global, words: &'a [&'a str]) -> Result<Task<'a>, Usage> {
+fn parsed<'a>(alloc: Global, words: &'a [&'a str]) -> Result<Task<'a>, Usage<'a>> {
     parse(alloc, words)
 }
 
@@ -149,7 +149,7 @@ fn name_of(task: &Task<'_>, wanted: &str) -> &'static str {
 fn task_of(alloc: Global, words: &[&str], wanted: &str) -> &'static str {
     match parsed(alloc, words) {
         Ok(task) => name_of(&task, wanted),
-        Err(Usage::Misuse) => "misuse",
+        Err(Usage::Misuse(_)) => "misuse",
         Err(Usage::OutOfMemory) => "another",
     }
 }
