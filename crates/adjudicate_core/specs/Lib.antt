@@ -15,6 +15,8 @@ pub mod Schedules
 pub mod Reply
 pub mod Telling
 pub mod Running
+pub mod Addresses
 pub mod Listens
+pub mod Sends
 pub mod Audits
 pub mod Inside

@@ -13,6 +13,7 @@
 //! Its tests stand in `rows`.
 #![tactic(auto)]
 
+mod addresses;
 mod answers;
 mod auditing;
 mod commands;
@@ -24,6 +25,7 @@ mod numbers;
 mod program;
 mod reading;
 mod refusals;
+mod sending;
 mod sources;
 mod tables;
 mod told_lines;
@@ -33,7 +35,7 @@ mod values;
 pub use auditing::Finding;
 pub use commands::{
     Audit, Check, FollowGame, Form, Judge, List, Listen, Moves, Name, Probe, Probes, RunSchedule,
-    Show, ShowRecord, Task, Value, Version, parse,
+    Send, Show, ShowRecord, Task, Value, Version, parse,
 };
 pub use game_name::GameName;
 pub use numbers::{CacheSize, Delay};

@@ -16,6 +16,7 @@ use crate::commands::{Task, parse};
 use crate::lines::put_refusal;
 use crate::listening::listen;
 use crate::refusals::Refusal;
+use crate::sending::send;
 use crate::sources::Sources;
 use crate::usage::{Misuse, Usage, WordsFault};
 use std::alloc::{AllocError, Global};
@@ -32,10 +33,12 @@ const USAGE: &str = "usage: adjudicate judge [--tables DIR] [--manifest FILE] FE
        adjudicate probes --tables DIR [--manifest FILE] [--progress]
        adjudicate game [--tables DIR] [--manifest FILE] [--delay N] FEN
        adjudicate run [--tables DIR] [--cache N] [--delay N]
-       adjudicate listen --name N --start FEN --tables DIR --me M --bind ADDR --to ADDR --kept FILE
+       adjudicate listen --name N --start FEN --tables DIR --me M --bind ADDR --to ADDR[,ADDR] --kept FILE
                          --datagrams N [--delay N] [--fetch]
        adjudicate record FILE
        adjudicate audit --name N --start FEN --tables DIR [--manifest FILE] [--delay N] FILE [FILE]
+       adjudicate send --name N --start FEN --tables DIR [--manifest FILE] [--delay N] --bind ADDR --to ADDR[,ADDR]
+                       [--wait MS] [--tries N]
        adjudicate version";
 
 /// The first line of what the parser of command lines says of words that it refuses; none where they ask for help.
@@ -113,6 +116,7 @@ fn answer_given<D: Disk, I: Input, H: Host, W: Write, E: Write>(
         Task::Record(task) => task.answer(alloc, sources, out),
         Task::Audit(task) => put_answered(out, task.answer(alloc, sources)),
         Task::Version(task) => task.answer(out),
+        Task::Send(task) => send(alloc, task, disk, input, host, out),
     }
 }
 
