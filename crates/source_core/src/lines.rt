@@ -11,7 +11,7 @@ use crate::report::Ruling;
 use arrayvec::ArrayString;
 use std::fmt::{self, Write as _};
 use std::io::Write;
-use system_io::WriteFault;
+use system_io::{Output, WriteFault};
 
 /// With what a run ends.
 #[derive(Clone, Copy)]
@@ -145,18 +145,16 @@ fn put_bytes<W: Write>(out: &mut W, bytes: &[u8]) -> Result<(), WriteFault>
 }
 
 /// Writes a line, and flushes it.
-pub(crate) fn put_now<W: Write>(out: &mut W, line: &Line) -> Result<(), WriteFault>
+pub(crate) fn put_now<W: Output>(out: &mut W, line: &Line) -> Result<(), WriteFault>
     ensures written { OnOk result (Appends (W.contents out.old) (W.contents out.new) (ended (line_words line.now))) }
     ensures cut { OnErr result (WritesFront (W.contents out.old) (W.contents out.new) (ended (line_words line.now))) }
+    ensures gone { OnOk result (W.facts out.new).gone }
 {
     let Some(text) = text_of(line) else {
         return Err(WriteFault::Io);
     };
-    let Ok(()) = put_bytes(out, text.as_bytes()) else {
-        return Err(WriteFault::Io);
-    };
-    match out.flush() {
-        Ok(()) => Ok(()),
-        Err(_) => Err(WriteFault::Io),
+    match put_bytes(out, text.as_bytes()) {
+        Ok(()) => out.flush_all(),
+        Err(fault) => Err(fault),
     }
 }

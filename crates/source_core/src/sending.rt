@@ -1,6 +1,6 @@
 //! A run of a source.
 
-ghost use Rattle.std.specs.Prelude.{◌≡◌, ◌≤◌, IfOk, IfErr, IfSome, OnErr, Some};
+ghost use Rattle.std.specs.Prelude.{◌≡◌, ◌≤◌, IfOk, IfErr, IfSome, OnErr, OnOk, Some};
 ghost use Rattle.std.specs.Io.KnownBytes.{Appends};
 ghost use Rattle.board_core.specs.Moves.{Legal};
 ghost use Rattle.board_core.specs.declared.parts.Parts.{Parts};
@@ -17,8 +17,7 @@ use board_core::{Move, Position};
 use fen_text::read_move;
 use move_msg::MOST_MOVES;
 use std::alloc::Global;
-use std::io::Write;
-use system_io::{LineReader, Port, ReadFault, WriteFault};
+use system_io::{LineReader, Output, Port, ReadFault, WriteFault};
 
 /// The position after a move, if it is legal.
 fn played(position: &Position, m: &Move) -> Option<Position>
@@ -129,9 +128,10 @@ fn step<L: LineReader, P: Port>(
 }
 
 /// Writes the last line, and tells the status.
-fn finish<W: Write>(out: &mut W, end: End) -> Result<u8, WriteFault>
+fn finish<W: Output>(out: &mut W, end: End) -> Result<u8, WriteFault>
     ensures written { IfOk result (λ status. (status ≡ status_by end) × Appends (W.contents out.old) (W.contents out.new) (ended (end_words end))) }
     ensures cut { OnErr result (WritesFront (W.contents out.old) (W.contents out.new) (ended (end_words end))) }
+    ensures gone { OnOk result (W.facts out.new).gone }
 {
     match put_now(out, &Line::Ends(end)) {
         Ok(()) => Ok(end.status()),
@@ -148,7 +148,7 @@ fn finish<W: Write>(out: &mut W, end: End) -> Result<u8, WriteFault>
 /// legal, which isn't sent; `refused TooLong`, a 4097th move; `refused lost`, an arbiter that doesn't answer; `refused port`;
 /// `refused files`, an input that can't be read; `refused memory`; and `disagree 2 BlackMates 2 Stalemate`, two verdicts that
 /// differ. The error comes only where the writer failed.
-pub fn send_game<L: LineReader, P: Port, W: Write>(
+pub fn send_game<L: LineReader, P: Port, W: Output>(
     alloc: Global,
     terms: Terms,
     start: Position,
@@ -156,7 +156,11 @@ pub fn send_game<L: LineReader, P: Port, W: Write>(
     port: &mut P,
     out: &mut W,
 ) -> Result<u8, WriteFault>
-    ensures { (s : Sending) × IsSending (L.facts reader.old).fails (record { stamp = terms.stamp; addresses = (P.facts port.old).addresses; most = terms.tries }) start (L.facts reader.old).left (L.facts reader.new).left (P.facts port.old) (P.facts port.new) s × WritesLines s (W.contents out.old) (W.contents out.new) result }
+    // There is such a run, whose lines are written.
+    ensures sends { (s : Sending) × IsSending (L.facts reader.old).fails (record { stamp = terms.stamp; addresses = (P.facts port.old).addresses; most = terms.tries }) start (L.facts reader.old).left (L.facts reader.new).left (P.facts port.old) (P.facts port.new) s × WritesLines s (W.contents out.old) (W.contents out.new) result }
+
+    // All of them have gone out.
+    ensures gone { OnOk result (W.facts out.new).gone }
 {
     let mut line = Vec::new(alloc);
     let mut position = start;
