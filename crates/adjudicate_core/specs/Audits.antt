@@ -9,7 +9,7 @@ use Rattle.move_msg.specs.declared.record_bytes.Record.{Record as Records}
 use Rattle.move_msg.specs.declared.stamp.Stamp.{Stamp}
 use Rattle.move_msg.specs.Records.{IsFirstRecordFault, SpellsRecord}
 use Rattle.move_msg.specs.TextLines.{text_of}
-use Rattle.arbiter_core.specs.declared.fault.OpenFault.TheVariants as open
+use Rattle.arbiter_core.specs.declared.fault.OpenFault.TheVariants as opening
 use Rattle.arbiter_core.specs.Opens.{IsBadKept, IsOfGame, IsResumed, at_end}
 use Rattle.arbiter_core.specs.Recording.{Recorded, count_of}
 use Rattle.adjudicate_core.specs.declared.auditing.Finding.{Finding}
@@ -31,12 +31,12 @@ EndsWith rules moves verdict = (outcome : GameOutcome) × IsOutcome rules moves 
 abbrev pub IsFound : Rules → Stamp → List ℕ → Finding → Type 0
 IsFound rules stamp bytes (found.Whole count verdict) =
     (kept : Recorded) × IsResumed rules stamp bytes kept × (count ≡ count_of kept) × (verdict ≡ kept.verdict)
-IsFound rules stamp bytes (found.BadRecord fault) = IsBadKept rules stamp bytes open.BadRecord × IsFirstRecordFault bytes fault
-IsFound rules stamp bytes found.OtherStamp = IsBadKept rules stamp bytes open.OtherStamp
+IsFound rules stamp bytes (found.BadRecord fault) = IsBadKept rules stamp bytes opening.BadRecord × IsFirstRecordFault bytes fault
+IsFound rules stamp bytes found.OtherStamp = IsBadKept rules stamp bytes opening.OtherStamp
 IsFound rules stamp bytes (found.BadMoves place) =
-    IsBadKept rules stamp bytes open.BadRecord × ((r : Records) × SpellsRecord bytes r × IsOfGame rules stamp r × StopsAt rules r.moves place)
+    IsBadKept rules stamp bytes opening.BadRecord × ((r : Records) × SpellsRecord bytes r × IsOfGame rules stamp r × StopsAt rules r.moves place)
 IsFound rules stamp bytes (found.BadVerdict verdict) =
-    IsBadKept rules stamp bytes open.BadRecord
+    IsBadKept rules stamp bytes opening.BadRecord
     × ((r : Records) × SpellsRecord bytes r × IsOfGame rules stamp r × EndsWith rules r.moves verdict × (r.verdict ≢ verdict))
 
 abbrev pub is_whole : Finding → Bool
