@@ -1,6 +1,5 @@
 -- Kept files held to the rules of a game: each is judged as an opening judges it (this project's own).
-use Rattle.std.specs.Prelude.{◌≡◌, ◌≢◌, ◌<◌, ◌⊎◌, ◌==◌, ◌&&◌, ◌++◌, ℕ, Bool, true, false, List, [], ◌∷◌, length, take, Option, Some, None, if◌then◌else◌, codes}
-use Rattle.std.specs.Fmt.{decimal}
+use Rattle.std.specs.Prelude.{◌≡◌, ◌≢◌, ◌<◌, ◌⊎◌, ◌==◌, ◌&&◌, ℕ, Bool, true, false, List, [], ◌∷◌, length, take, Option, Some, None, cond}
 use Rattle.board_core.specs.declared.moves.Move.{Move}
 use Rattle.board_core.specs.declared.verdict.Verdict.{Verdict}
 use Rattle.judge_core.specs.declared.game.GameOutcome.{GameOutcome}
@@ -50,7 +49,7 @@ is_whole (found.BadVerdict verdict) = false
 
 -- the verdict that a record has at a ply
 abbrev pub verdict_at : Records → ℕ → Option Verdict
-verdict_at r ply = if ply == length r.moves then r.verdict else None
+verdict_at r ply = cond (ply == length r.moves) r.verdict None
 
 -- up to this ply the records have the same moves, and at it the same verdict
 abbrev pub AreSameAt : Records → Records → ℕ → Type 0
