@@ -6,3 +6,5 @@ pub mod TableLaws
 pub mod TextLaws
 pub mod ShowLaws
 pub mod ScheduleLaws
+pub mod LookLaws
+pub mod AuditLaws

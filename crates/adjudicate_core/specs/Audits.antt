@@ -1,6 +1,5 @@
 -- Kept files held to the rules of a game: each is judged as an opening judges it (this project's own).
-use Rattle.std.specs.Prelude.{◌≡◌, ◌≢◌, ◌<◌, ◌⊎◌, ◌==◌, ◌&&◌, ◌++◌, ℕ, Bool, true, false, List, [], ◌∷◌, length, take, Option, Some, None, if◌then◌else◌, codes}
-use Rattle.std.specs.Fmt.{decimal}
+use Rattle.std.specs.Prelude.{◌≡◌, ◌≢◌, ◌<◌, ◌⊎◌, ◌==◌, ◌&&◌, ℕ, Bool, true, false, List, [], ◌∷◌, length, take, Option, Some, None, cond}
 use Rattle.board_core.specs.declared.moves.Move.{Move}
 use Rattle.board_core.specs.declared.verdict.Verdict.{Verdict}
 use Rattle.judge_core.specs.declared.game.GameOutcome.{GameOutcome}
@@ -9,7 +8,7 @@ use Rattle.move_msg.specs.declared.record_bytes.Record.{Record as Records}
 use Rattle.move_msg.specs.declared.stamp.Stamp.{Stamp}
 use Rattle.move_msg.specs.Records.{IsFirstRecordFault, SpellsRecord}
 use Rattle.move_msg.specs.TextLines.{text_of}
-use Rattle.arbiter_core.specs.declared.fault.OpenFault.TheVariants as open
+use Rattle.arbiter_core.specs.declared.fault.OpenFault.TheVariants as opening
 use Rattle.arbiter_core.specs.Opens.{IsBadKept, IsOfGame, IsResumed, at_end}
 use Rattle.arbiter_core.specs.Recording.{Recorded, count_of}
 use Rattle.adjudicate_core.specs.declared.auditing.Finding.{Finding}
@@ -31,12 +30,12 @@ EndsWith rules moves verdict = (outcome : GameOutcome) × IsOutcome rules moves 
 abbrev pub IsFound : Rules → Stamp → List ℕ → Finding → Type 0
 IsFound rules stamp bytes (found.Whole count verdict) =
     (kept : Recorded) × IsResumed rules stamp bytes kept × (count ≡ count_of kept) × (verdict ≡ kept.verdict)
-IsFound rules stamp bytes (found.BadRecord fault) = IsBadKept rules stamp bytes open.BadRecord × IsFirstRecordFault bytes fault
-IsFound rules stamp bytes found.OtherStamp = IsBadKept rules stamp bytes open.OtherStamp
+IsFound rules stamp bytes (found.BadRecord fault) = IsBadKept rules stamp bytes opening.BadRecord × IsFirstRecordFault bytes fault
+IsFound rules stamp bytes found.OtherStamp = IsBadKept rules stamp bytes opening.OtherStamp
 IsFound rules stamp bytes (found.BadMoves place) =
-    IsBadKept rules stamp bytes open.BadRecord × ((r : Records) × SpellsRecord bytes r × IsOfGame rules stamp r × StopsAt rules r.moves place)
+    IsBadKept rules stamp bytes opening.BadRecord × ((r : Records) × SpellsRecord bytes r × IsOfGame rules stamp r × StopsAt rules r.moves place)
 IsFound rules stamp bytes (found.BadVerdict verdict) =
-    IsBadKept rules stamp bytes open.BadRecord
+    IsBadKept rules stamp bytes opening.BadRecord
     × ((r : Records) × SpellsRecord bytes r × IsOfGame rules stamp r × EndsWith rules r.moves verdict × (r.verdict ≢ verdict))
 
 abbrev pub is_whole : Finding → Bool
@@ -50,7 +49,7 @@ is_whole (found.BadVerdict verdict) = false
 
 -- the verdict that a record has at a ply
 abbrev pub verdict_at : Records → ℕ → Option Verdict
-verdict_at r ply = if ply == length r.moves then r.verdict else None
+verdict_at r ply = cond (ply == length r.moves) r.verdict None
 
 -- up to this ply the records have the same moves, and at it the same verdict
 abbrev pub AreSameAt : Records → Records → ℕ → Type 0

@@ -1,13 +1,11 @@
 //! Kept files held to the rules of a game, and two of them to one another.
 
-ghost use Rattle.std.specs.Prelude.{◌≡◌, ◌≤◌, ◌<◌, IfOk, IfSome, IfNone, List, ℕ, Option, Some, None, length, take};
+ghost use Rattle.std.specs.Prelude.{◌≡◌, ◌≤◌, ◌<◌, ◌^◌, IfOk, IfSome, IfNone, List, ℕ, length, min, take};
 ghost use Rattle.board_core.specs.Delays.{most_delay};
-ghost use Rattle.judge_core.specs.Games.{IsOutcome};
 ghost use Rattle.move_msg.specs.declared.record_bytes.Record.{Record as Records};
 ghost use Rattle.move_msg.specs.Records.{SpellsRecord};
-ghost use Rattle.arbiter_core.specs.Opens.{IsOfGame};
 ghost use Rattle.adjudicate_core.specs.Audits.{AreCompared, IsComparison, IsFound, is_whole};
-ghost use Rattle.adjudicate_core.specs.Inside.Auditing.{ArePartedAt, IsFoundBy, rules_of};
+ghost use Rattle.adjudicate_core.specs.Inside.Auditing.{ArePartedAt, EndsPart, IsAuditedAs, IsFoundBy, IsHeldTo, PartsAfter, rules_of};
 
 use arbiter_service::verdict_or_none;
 use board_core::{Move, Position, Verdict};
@@ -83,7 +81,7 @@ fn found_by(outcome: GameOutcome, count: usize, told: Option<Verdict>) -> Findin
 {
     match outcome {
         GameOutcome::Illegal { place } => Finding::BadMoves(place),
-        GameOutcome::Ruled { ply, .. } if ply < count => Finding::BadMoves(ply),
+        GameOutcome::Ruled { ply, .. } if ply != count => Finding::BadMoves(ply),
         GameOutcome::Ruled { verdict, .. } => held_to(count, told, Some(verdict)),
         GameOutcome::Going => held_to(count, told, None),
     }
@@ -161,8 +159,8 @@ pub(crate) fn audit(
 
 /// How many moves stand at the front of both lists, where they part before one of them ends.
 fn parting(one: &[Move], other: &[Move]) -> Option<usize>
-    ensures some { IfSome result (λ count. ArePartedAt one.now other.now count) }
-    ensures none { IfNone result (take (length other.now) one.now ≡ take (length one.now) other.now) }
+    ensures some { IfSome result (ArePartedAt one.now other.now) }
+    ensures none { IfNone result (take (min (length one.now) (length other.now)) one.now ≡ take (min (length one.now) (length other.now)) other.now) }
 {
     let shorter = one.len().min(other.len());
     for count in 0..shorter {
@@ -173,41 +171,46 @@ fn parting(one: &[Move], other: &[Move]) -> Option<usize>
     None
 }
 
-/// The first ply at which records of which one begins by the moves of the other part: where the shorter one has a verdict, its last.
-fn parting_of_fronts(
-    shorter: usize,
-    longer: usize,
-    its: Option<Verdict>,
-    other: Option<Verdict>,
-) -> Option<usize> {
-    if shorter < longer {
-        if its.is_some() {
-            Some(shorter)
-        } else {
-            Some(shorter + 1)
-        }
-    } else if its == other {
+/// The ply at which a longer record parts from one that ends so, and whose moves it has first: at the verdict or at the next move.
+fn parting_after(count: usize, verdict: Option<Verdict>) -> usize
+    requires { count < 2 ^ 32 }
+    ensures { PartsAfter count verdict result }
+{
+    if verdict.is_some() { count } else { count + 1 }
+}
+
+/// The first ply at which records part of which one begins by the moves of the other, by how many moves they have and their
+/// verdicts; none where all is the same.
+fn parting_of_ends(
+    count: usize,
+    verdict: Option<Verdict>,
+    other_count: usize,
+    other_verdict: Option<Verdict>,
+) -> Option<usize>
+    requires few { count < 2 ^ 32 }
+    requires other_few { other_count < 2 ^ 32 }
+    ensures { EndsPart count verdict other_count other_verdict result }
+{
+    if count < other_count {
+        Some(parting_after(count, verdict))
+    } else if other_count < count {
+        Some(parting_after(other_count, other_verdict))
+    } else if verdict == other_verdict {
         None
     } else {
-        Some(shorter)
+        Some(count)
     }
 }
 
 /// The first ply at which two records part: their moves up to it differ, or their verdicts at it. None where all is the same.
-pub(crate) fn compare(one: &Record, other: &Record) -> Option<usize>
+fn compare(one: &Record, other: &Record) -> Option<usize>
     ensures { AreCompared one.now other.now result }
 {
     let its = one.moves.as_slice();
     let others = other.moves.as_slice();
     match parting(its, others) {
         Some(count) => Some(count + 1),
-        None if its.len() <= others.len() => parting_of_fronts(
-            its.len(),
-            others.len(),
-            one.verdict,
-            other.verdict,
-        ),
-        None => parting_of_fronts(others.len(), its.len(), other.verdict, one.verdict),
+        None => parting_of_ends(its.len(), one.verdict, others.len(), other.verdict),
     }
 }
 
