@@ -18,5 +18,6 @@ pub mod Running
 pub mod Addresses
 pub mod Listens
 pub mod Sends
+pub mod Laws
 pub mod Audits
 pub mod Inside

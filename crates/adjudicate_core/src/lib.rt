@@ -19,6 +19,7 @@ mod auditing;
 mod commands;
 mod file_name;
 mod game_name;
+pub mod laws;
 mod lines;
 mod listening;
 mod numbers;

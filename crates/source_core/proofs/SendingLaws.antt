@@ -30,7 +30,7 @@ use Rattle.system_io.specs.Ports.{Passing, Came, Quiet, Missed, Handed, PortFact
 use Rattle.source_core.specs.Reports.{Knows, StandsSo}
 use Rattle.source_core.specs.Turns.{HasSpelling, HasWaited, IsReceived, IsTurn, move_message, one_try, tries_of}
 use Rattle.source_core.specs.Lines.{IsCut, WritesFront, acked_words, end_words, status_by}
-use Rattle.source_core.specs.Sendings.{At, AckedMove, ClosesSo, EndsWith, Unread, Refused, Closed, Sent, Game, InTurn, IsAckedTurn, IsClosed, IsLastMove, IsRefusedLine, IsSending, IsUnread, OnlyHands, Sending, WritesLines, last_lines, line_of, lines_of, sent_in}
+use Rattle.source_core.specs.Sendings.{At, AckedMove, ClosesSo, EndsIfAny, EndsWith, Unread, Refused, Closed, Sent, Game, InTurn, IsAckedTurn, IsClosed, IsLastMove, IsRefusedLine, IsSending, IsUnread, OnlyHands, Sending, WritesLines, last_lines, line_of, lines_of, sent_in}
 use Rattle.source_core.specs.Inside.Steps.{Closes, EndsAt, EndsIf, HasEnded, IsPlayed, Steps, StepsOn, StepsSo, end_by, is_ruled}
 use Rattle.source_core.proofs.PortLaws.{Passed-nil, Passed-trans}
 use Rattle.source_core.proofs.ReportLaws.{all_agreed, is_acked, is_ruled_so, is_unsettled, knows_nothing, not_both}
@@ -312,6 +312,14 @@ run_ended unreadable g start input0 input1 input2 p1 p2 known1 known2 port0 port
       refl,
       refl,
     )
+
+-- what can't be read here can't be read there
+still_last : (U V : Type 0) (g : Game) (at : At) (input : Option (List ℕ)) (sent : List Moves) (more : List Passing) (o : Option End) → (U → V) → EndsIfAny U g at input sent more o → EndsIfAny V g at input sent more o
+still_last U V g at input sent more None f h = h
+still_last U V g at input sent more (Some end) f h = still_ends U V g at input sent more end f h
+
+pub still_sending : (U V : Type 0) (g : Game) (start : Parts) (input input' : Option (List ℕ)) (port port' : PortFacts) (s : Sending) → (U → V) → IsSending U g start input input' port port' s → IsSending V g start input input' port port' s
+still_sending U V g start input input' port port' s f h = record { turns = h.turns; last = still_last U V g s.at input' s.sent s.more s.end f h.last; passed = h.passed; source = h.source }
 
 -- ---- what is written
 
