@@ -26,9 +26,9 @@ system_input = record { is_told = false; gives = λ _. Unit {0}; fails = Unit {0
 abbrev pub system_lines : Option (List ℕ) → List ℕ → LineFacts
 system_lines left ahead = record { left = left; ahead = ahead; fails = Unit {0} }
 
--- OUTPUT: what no longer waits in the buffer was given to the system, and so has gone out
+-- OUTPUT: what no longer waits in the buffer was given to the system, and so has gone out; any write may be refused
 abbrev pub system_output : List ℕ → Bool → OutputFacts
-system_output waiting is_stuck = record { gone = (waiting ≡ []) × (is_stuck ≡ false); stuck = is_stuck ≡ true }
+system_output waiting is_stuck = record { gone = (waiting ≡ []) × (is_stuck ≡ false); stuck = is_stuck ≡ true; refuses = Unit {0} }
 
 -- DATAGRAMS: what the socket receives came, and what is handed to it is on its way to each address; how often a call failed and to
 -- how many addresses it sends is counted

@@ -2,7 +2,7 @@
 
 ghost use Rattle.std.specs.Prelude.{IfOk, OnErr, OnOk};
 ghost use Rattle.std.specs.Io.KnownBytes.{Keeps};
-ghost use Rattle.system_io.specs.Outputs.{HasEnded, OutputFacts, StartsEmpty, NotBoth};
+ghost use Rattle.system_io.specs.Outputs.{HasEnded, OutputFacts, StartsEmpty, NotBoth, WritesFront};
 
 use std::alloc::{AllocError, Global};
 use std::io::{self, BufWriter, Write};
@@ -19,6 +19,11 @@ pub trait Output: Write {
     /// Whether what was written has gone out, or some of it can't go out.
     ghost facts: { Self → OutputFacts };
 
+    /// Writes bytes to their end. The error comes only where a write was refused; then a front of them was written.
+    fn put(&mut self, bytes: &[u8]) -> Result<(), WriteFault>
+        ensures front { WritesFront (Self.contents self.old) (Self.contents self.new) bytes.now result }
+        ensures cause { OnErr result (facts self.old).refuses };
+
     /// Lets all that was written go out; the error comes where some of it can't.
     fn flush_all(&mut self) -> Result<(), WriteFault>
         ensures kept { Keeps (Self.contents self.old) (Self.contents self.new) }
@@ -27,6 +32,28 @@ pub trait Output: Write {
 
     /// What has gone out isn't stuck. So neither says nothing: an instance that told both of everything would not pass.
     ghost one: { (o : Self) → NotBoth (facts o) };
+}
+
+/// Writes bytes to their end. Where a write is refused, or takes none of them, a front of them was written.
+fn write_front<W: Write>(out: &mut W, bytes: &[u8]) -> Result<(), WriteFault>
+    ensures { WritesFront (W.contents out.old) (W.contents out.new) bytes.now result }
+{
+    let mut written = 0;
+    for _ in 0..u64::MAX {
+        if written == bytes.len() {
+            return Ok(());
+        }
+        match out.write(&bytes[written..]) {
+            Ok(0) => return Err(WriteFault::Io),
+            Ok(n) => written += n,
+            Err(error) => {
+                if error.kind() != io::ErrorKind::Interrupted {
+                    return Err(WriteFault::Io);
+                }
+            }
+        }
+    }
+    Err(WriteFault::Io)
 }
 
 /// An output that is written in blocks, and knows whether its last flush has failed.
@@ -78,6 +105,10 @@ impl<W: Write + Drop> Output for BufferedOutput<W> {
 
     ghost one = { λ o gone stuck. not_both o.is_stuck gone.1 stuck };
 
+    fn put(&mut self, bytes: &[u8]) -> Result<(), WriteFault> {
+        write_front(&mut self.buffer, bytes)
+    }
+
     fn flush_all(&mut self) -> Result<(), WriteFault> {
         match self.buffer.flush() {
             Ok(()) => {
@@ -98,6 +129,10 @@ impl Output for Vec<u8> {
     ghost facts = { λ _. holds_nothing_back };
 
     ghost one = { λ _ gone stuck. stuck };
+
+    fn put(&mut self, bytes: &[u8]) -> Result<(), WriteFault> {
+        write_front(self, bytes)
+    }
 
     fn flush_all(&mut self) -> Result<(), WriteFault> {
         Ok(())
