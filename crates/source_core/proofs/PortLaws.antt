@@ -1,5 +1,5 @@
 -- What passes at a port, one thing after another.
-use Rattle.std.proofs.Common.{◌≡◌, ℕ, ◌≤◌, List, [], ◌++◌, Option, Some, None, sym, ap, ◌∙◌, append_assoc, append-nil, arith, le_refl, refl}
+use Rattle.std.proofs.Common.{List, [], ◌++◌, Option, Some, None, sym, ap, ◌∙◌, append_assoc, append-nil, arith, le_refl, refl}
 use Rattle.system_io.specs.Ports.{Passing, Passes, Passed, PortFacts}
 
 Passes-nil : (a : Option (List Passing)) → Passes a a []

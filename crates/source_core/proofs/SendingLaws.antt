@@ -1,6 +1,6 @@
 -- A run, one turn after the other.
-use Rattle.std.proofs.Common.{◌≡◌, ◌⊎◌, true, false, ℕ, zero, suc, ◌+◌, ◌≤◌, List, [], ◌∷◌, ◌++◌, length, map, Option, Some, None, refl, sym, ap, subst, ◌∙◌, append-nil, length-append, arith, inl, inr}
-use Rattle.std.specs.Prelude.{slice_get, Result, Ok, Err, IfOk, OnErr}
+use Rattle.std.proofs.Common.{take, ◌≡◌, ◌⊎◌, true, false, ℕ, zero, suc, ◌+◌, ◌≤◌, List, [], ◌∷◌, ◌++◌, length, map, Option, Some, None, refl, sym, ap, subst, ◌∙◌, append-nil, length-append, arith, inl, inr}
+use Rattle.std.specs.Prelude.{slice_get, Result, Ok, Err, IfOk}
 use Rattle.std.specs.List.{AllByRecursion, Contains}
 use Rattle.std.specs.Io.KnownBytes.{Appends, IsAtEnd}
 use Rattle.std.proofs.KnownBytes.{Appends-nil, Appends-trans}
@@ -25,13 +25,14 @@ use Rattle.source_core.specs.declared.turn.Next.{Next}
 use Rattle.source_core.specs.declared.turn.Next.TheVariants as next
 use Rattle.source_core.specs.declared.turn.Turn.{Turn}
 use Rattle.source_core.specs.declared.turn.Turn.TheVariants as at_turn
+use Rattle.system_io.specs.Outputs.{WritesFront}
 use Rattle.system_io.specs.LineReaders.{ReadsLine}
 use Rattle.system_io.specs.Ports.{Passing, Came, Quiet, Missed, Handed, PortFacts, Passed, to_each}
 use Rattle.source_core.specs.Reports.{Knows, StandsSo}
 use Rattle.source_core.specs.Turns.{HasSpelling, HasWaited, IsReceived, IsTurn, move_message, one_try, tries_of}
-use Rattle.source_core.specs.Lines.{IsCut, WritesFront, acked_words, end_words, status_by}
+use Rattle.source_core.specs.Lines.{IsCut, acked_words, end_words, status_by}
 use Rattle.source_core.specs.Sendings.{At, AckedMove, ClosesSo, EndsIfAny, EndsWith, Unread, Refused, Closed, Sent, Game, InTurn, IsAckedTurn, IsClosed, IsLastMove, IsRefusedLine, IsSending, IsUnread, OnlyHands, Sending, WritesLines, last_lines, line_of, lines_of, sent_in}
-use Rattle.source_core.specs.Inside.Steps.{Closes, EndsAt, EndsIf, HasEnded, IsPlayed, Steps, StepsOn, StepsSo, end_by, is_ruled}
+use Rattle.source_core.specs.Inside.Steps.{Closes, EndsAt, HasEnded, IsPlayed, Steps, StepsOn, StepsSo, end_by, is_ruled}
 use Rattle.source_core.proofs.PortLaws.{Passed-nil, Passed-trans}
 use Rattle.source_core.proofs.ReportLaws.{all_agreed, is_acked, is_ruled_so, is_unsettled, knows_nothing, not_both}
 use Rattle.source_core.proofs.TurnLaws.{all_more}
@@ -334,10 +335,10 @@ pub no_last : (s : Sending) (turns : List AckedMove) (lines : List (List ℕ)) �
 no_last s turns lines same is e = ap (λ ts. map line_of ts ++ last_lines s.end) same ∙ ap (λ o. map line_of turns ++ last_lines o) is ∙ append-nil (map line_of turns) ∙ e
 
 -- at one more line the writer failed
-pub cut_at : (old mid new : Option (List ℕ)) (first all : List (List ℕ)) (one : List ℕ) → all ≡ first ++ one ∷ [] → Appends old mid (text_of first) → WritesFront mid new (ended one) → IsCut all old new
-cut_at old mid new first all one e p (front, rest, is, q) = record { earlier = first; last = one; front = front; rest = rest; all = e; cut = is; written = Appends-trans old mid new (text_of first) front p q }
+pub cut_at : {E : Type 0} (old mid new : Option (List ℕ)) (first all : List (List ℕ)) (one : List ℕ) (fault : E) → all ≡ first ++ one ∷ [] → Appends old mid (text_of first) → WritesFront {T = Unit {0}} mid new (ended one) (Err fault) → IsCut all old new
+cut_at old mid new first all one fault e p (n, q) = record { earlier = first; last = one; front = n; all = e; written = Appends-trans old mid new (text_of first) (take n (ended one)) p q }
 
 -- the line of a run that ends was written, or not
-pub wrote_last : (s : Sending) (turns : List AckedMove) (end : End) (old mid new : Option (List ℕ)) (r : Result ℕ WriteFault) → s.turns ≡ turns → s.end ≡ Some end → Appends old mid (text_of (map line_of turns)) → IfOk r (λ status. (status ≡ status_by end) × Appends mid new (ended (end_words end))) → OnErr r (WritesFront mid new (ended (end_words end))) → WritesLines s old new r
-wrote_last s turns end old mid new (Ok status) same is p (ok, q) none = (end, is, ok, written_more old mid new (map line_of turns) (lines_of s) (end_words end) (last_line s turns end same is) p q)
-wrote_last s turns end old mid new (Err fault) same is p h cut = cut_at old mid new (map line_of turns) (lines_of s) (end_words end) (last_line s turns end same is) p cut
+pub wrote_last : (s : Sending) (turns : List AckedMove) (end : End) (old mid new : Option (List ℕ)) (r : Result ℕ WriteFault) → s.turns ≡ turns → s.end ≡ Some end → Appends old mid (text_of (map line_of turns)) → IfOk r (λ status. status ≡ status_by end) → WritesFront mid new (ended (end_words end)) r → WritesLines s old new r
+wrote_last s turns end old mid new (Ok status) same is p ok q = (end, is, ok, written_more old mid new (map line_of turns) (lines_of s) (end_words end) (last_line s turns end same is) p q)
+wrote_last s turns end old mid new (Err fault) same is p ok q = cut_at old mid new (map line_of turns) (lines_of s) (end_words end) fault (last_line s turns end same is) p q

@@ -1,5 +1,5 @@
 -- The lines of a run (this project's own).
-use Rattle.std.specs.Prelude.{◌≡◌, ℕ, List, [], ◌∷◌, ◌++◌, Option, Some, None, codes}
+use Rattle.std.specs.Prelude.{◌≡◌, ℕ, List, [], ◌∷◌, ◌++◌, Option, take, codes}
 use Rattle.std.specs.Fmt.{decimal}
 use Rattle.std.specs.Io.KnownBytes.{Appends}
 use Rattle.move_msg.specs.TextLines.{ended, text_of}
@@ -53,16 +53,10 @@ status_by at_end.OutOfMemory = 1
 
 -- ---- a writer that fails
 
--- a front of the bytes was written
-abbrev pub WritesFront : Option (List ℕ) → Option (List ℕ) → List ℕ → Type 0
-WritesFront old new bytes = (front : List ℕ) × (rest : List ℕ) × (bytes ≡ front ++ rest) × Appends old new front
-
 -- all lines but the last one were written whole, and a front of that one
 pub record IsCut (lines : List (List ℕ)) (old new : Option (List ℕ)) : Type 0 where
   pub earlier : List (List ℕ)
   pub last : List ℕ
-  pub front : List ℕ
-  pub rest : List ℕ
+  pub front : ℕ
   pub all : lines ≡ earlier ++ last ∷ []
-  pub cut : ended last ≡ front ++ rest
-  pub written : Appends old new (text_of earlier ++ front)
+  pub written : Appends old new (text_of earlier ++ take front (ended last))

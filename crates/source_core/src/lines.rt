@@ -1,16 +1,15 @@
 //! The lines of a run.
 
-ghost use Rattle.std.specs.Prelude.{◌≡◌, Some, IfSome, OnErr, OnOk};
+ghost use Rattle.std.specs.Prelude.{◌≡◌, Some, IfSome, OnOk};
 ghost use Rattle.std.specs.Fmt.{DisplaysOnOk};
-ghost use Rattle.std.specs.Io.KnownBytes.{Appends};
 ghost use Rattle.move_msg.specs.TextLines.{ended};
-ghost use Rattle.source_core.specs.Lines.{WritesFront, clash_words, end_words, line_words, ruling_words, status_by};
+ghost use Rattle.system_io.specs.Outputs.{WritesFront};
+ghost use Rattle.source_core.specs.Lines.{clash_words, end_words, line_words, ruling_words, status_by};
 
 use crate::known::Clash;
 use crate::report::Ruling;
 use arrayvec::ArrayString;
 use std::fmt::{self, Write as _};
-use std::io::Write;
 use system_io::{Output, WriteFault};
 
 /// With what a run ends.
@@ -61,6 +60,7 @@ impl End {
 
 impl fmt::Display for Ruling {
     ghost use Rattle.std.specs.Prelude.{Some};
+    ghost use Rattle.system_io.specs.Outputs.{WritesFront};
     ghost use Rattle.source_core.specs.Lines.{ruling_words};
 
     ghost output = { λ r. Some (ruling_words r) };
@@ -83,6 +83,7 @@ fn fmt_clash<W: fmt::Write>(f: &mut fmt::Formatter<W>, clash: &Clash) -> fmt::Re
 
 impl fmt::Display for End {
     ghost use Rattle.std.specs.Prelude.{Some};
+    ghost use Rattle.system_io.specs.Outputs.{WritesFront};
     ghost use Rattle.source_core.specs.Lines.{end_words};
 
     ghost output = { λ e. Some (end_words e) };
@@ -105,6 +106,7 @@ impl fmt::Display for End {
 
 impl fmt::Display for Line {
     ghost use Rattle.std.specs.Prelude.{Some};
+    ghost use Rattle.system_io.specs.Outputs.{WritesFront};
     ghost use Rattle.source_core.specs.Lines.{line_words};
 
     ghost output = { λ l. Some (line_words l) };
@@ -128,32 +130,15 @@ fn text_of(line: &Line) -> Option<ArrayString<64>>
     }
 }
 
-/// Writes bytes. The error comes where the writer takes no more of them.
-fn put_bytes<W: Write>(out: &mut W, bytes: &[u8]) -> Result<(), WriteFault>
-    ensures written { OnOk result (Appends (W.contents out.old) (W.contents out.new) bytes.now) }
-    ensures cut { OnErr result (WritesFront (W.contents out.old) (W.contents out.new) bytes.now) }
-{
-    let mut taken = 0;
-    while taken < bytes.len() {
-        let (_, rest) = bytes.split_at(taken);
-        match out.write(rest) {
-            Ok(0) | Err(_) => return Err(WriteFault::Io),
-            Ok(n) => taken += n,
-        }
-    }
-    Ok(())
-}
-
 /// Writes a line, and flushes it.
 pub(crate) fn put_now<W: Output>(out: &mut W, line: &Line) -> Result<(), WriteFault>
-    ensures written { OnOk result (Appends (W.contents out.old) (W.contents out.new) (ended (line_words line.now))) }
-    ensures cut { OnErr result (WritesFront (W.contents out.old) (W.contents out.new) (ended (line_words line.now))) }
+    ensures front { WritesFront (W.contents out.old) (W.contents out.new) (ended (line_words line.now)) result }
     ensures gone { OnOk result (W.facts out.new).gone }
 {
     let Some(text) = text_of(line) else {
         return Err(WriteFault::Io);
     };
-    match put_bytes(out, text.as_bytes()) {
+    match out.put(text.as_bytes()) {
         Ok(()) => out.flush_all(),
         Err(fault) => Err(fault),
     }

@@ -1,12 +1,12 @@
 //! A run of a source.
 
-ghost use Rattle.std.specs.Prelude.{◌≡◌, ◌≤◌, IfOk, IfErr, IfSome, OnErr, OnOk, Some};
-ghost use Rattle.std.specs.Io.KnownBytes.{Appends};
+ghost use Rattle.std.specs.Prelude.{◌≡◌, ◌≤◌, IfOk, IfErr, IfSome, OnOk, Some};
 ghost use Rattle.board_core.specs.Moves.{Legal};
 ghost use Rattle.board_core.specs.declared.parts.Parts.{Parts};
 ghost use Rattle.source_core.specs.Sendings.{IsRefusedLine, IsSending, Sending, WritesLines};
 ghost use Rattle.source_core.specs.Inside.Steps.{Closes, EndsAt, IsPlayed, Steps, StepsOn, end_by};
-ghost use Rattle.source_core.specs.Lines.{WritesFront, end_words, status_by};
+ghost use Rattle.system_io.specs.Outputs.{WritesFront};
+ghost use Rattle.source_core.specs.Lines.{end_words, status_by};
 ghost use Rattle.move_msg.specs.Numbers.{most_moves};
 ghost use Rattle.move_msg.specs.TextLines.{ended};
 
@@ -129,8 +129,8 @@ fn step<L: LineReader, P: Port>(
 
 /// Writes the last line, and tells the status.
 fn finish<W: Output>(out: &mut W, end: End) -> Result<u8, WriteFault>
-    ensures written { IfOk result (λ status. (status ≡ status_by end) × Appends (W.contents out.old) (W.contents out.new) (ended (end_words end))) }
-    ensures cut { OnErr result (WritesFront (W.contents out.old) (W.contents out.new) (ended (end_words end))) }
+    ensures status { IfOk result (λ status. status ≡ status_by end) }
+    ensures front { WritesFront (W.contents out.old) (W.contents out.new) (ended (end_words end)) result }
     ensures gone { OnOk result (W.facts out.new).gone }
 {
     match put_now(out, &Line::Ends(end)) {
