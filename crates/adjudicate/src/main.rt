@@ -1,14 +1,14 @@
 //! The adjudicator's program: it hands the system to `adjudicate_core`, and ends with the status.
 #![tactic(auto)]
 
-use adjudicate_core::{Usage, refuse_memory, run_program};
+use adjudicate_core::{WordsFault, refuse_memory, run_program};
 use std::env;
 use std::io::{self, BufWriter};
 use std::process::ExitCode;
 use system_io::{SystemDisk, SystemHost, SystemInput, end};
 
 /// The words that the program was called with, its own name first.
-fn words_of(rt: &HostRuntime) -> Result<Vec<String>, Usage> {
+fn words_of(rt: &HostRuntime) -> Result<Vec<String>, WordsFault> {
     Ok(env::args(rt)?.collect(rt.alloc())?)
 }
 

@@ -11,6 +11,7 @@ ghost use Rattle.adjudicate_core.specs.Looks.{gathered};
 ghost use Rattle.arbiter_service.specs.Serving.{scene};
 ghost use Rattle.arbiter_service.specs.StoredBytes.{IsInFile};
 
+use crate::addresses::addresses_in;
 use crate::commands::Listen;
 use crate::lines::put_refusal;
 use crate::refusals::Refusal;
@@ -99,7 +100,7 @@ fn serve_at<H: Host, W: Write>(
     }
 }
 
-/// The same at the address and over the file that the words name. An address that can't be bound is told as `refused port`.
+/// The same at the addresses and over the file that the words name. An address that can't be bound is told as `refused port`.
 fn bind_and_serve<H: Host, W: Write>(
     alloc: Global,
     listening: &Listen<'_>,
@@ -109,7 +110,10 @@ fn bind_and_serve<H: Host, W: Write>(
 ) -> Result<u8, WriteFault>
     ensures { IfOk result (BindsAndServes (hosted (H.facts host.now) H.Port.facts H.File.facts) listening.now (setup_view setup.entry) (W.contents out.old) (W.contents out.new)) }
 {
-    match host.bind(alloc, listening.bind, &[listening.to]) {
+    let Ok(addresses) = addresses_in(alloc, listening.to) else {
+        return put_refusal(out, Refusal::Memory);
+    };
+    match host.bind(alloc, listening.bind, &addresses) {
         Ok(mut port) => serve_at(alloc, listening, setup, host, &mut port, out),
         Err(BindFault::Unbound) => put_refusal(out, Refusal::Port),
         Err(BindFault::OutOfMemory) => put_refusal(out, Refusal::Memory),

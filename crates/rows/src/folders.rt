@@ -3,6 +3,7 @@
 ghost use Rattle.std.specs.Prelude.{◌≤◌, length, IfOk};
 ghost use Rattle.system_io.specs.Disks.{most_bytes};
 
+use crate::kept_files::KEPT;
 use std::alloc::{AllocError, Global};
 use std::io::{self, BufReader, Read};
 use system_io::{Disk, Input as Source, ReadFault, read_at_most};
@@ -95,7 +96,7 @@ const QUEEN_ALONE: [File; 2] = [
 ];
 
 /// The folders by their names.
-const ALL_FOLDERS: [(&str, &[File]); 7] = [
+const ALL_FOLDERS: [(&str, &[File]); 8] = [
     ("abc", &ABC),
     ("knight", &KNIGHT_ALONE),
     ("queen", &QUEEN_ALONE),
@@ -103,6 +104,7 @@ const ALL_FOLDERS: [(&str, &[File]); 7] = [
     ("damaged", &DAMAGED),
     ("at_fault", &AT_FAULT),
     ("nothing", &[]),
+    ("kept", &KEPT),
 ];
 
 /// The files beside this name.

@@ -119,7 +119,13 @@ impl<'a> Stands<'a> {
     }
 }
 
-/// A host whose address can be bound if it is so said, at which these datagrams wait, and under whose paths this stands.
+/// The address that can be bound, and the one to which messages go.
+const BIND: &str = "b";
+
+const TO: &str = "t";
+
+/// A host whose address can be bound if it is so said, at which these datagrams wait, and under whose paths this stands. Another
+/// address can't be bound, and to no other one is anything sent.
 #[derive(Clone, Copy)]
 pub(crate) struct MemoryHost<'a> {
     pub(crate) is_bound: bool,
@@ -138,6 +144,14 @@ impl<'a> MemoryHost<'a> {
     }
 }
 
+/// Whether this is the only address.
+fn is_only(addresses: &[&str], address: &str) -> bool {
+    match addresses {
+        [only] => *only == address,
+        _ => false,
+    }
+}
+
 impl<'a> Host for MemoryHost<'a> {
     type Port = WaitingPort<'a>;
 
@@ -150,10 +164,10 @@ impl<'a> Host for MemoryHost<'a> {
     fn bind(
         &self,
         _alloc: Global,
-        _address: &str,
+        address: &str,
         to: &[&str],
     ) -> Result<WaitingPort<'a>, BindFault> {
-        if !self.is_bound {
+        if !self.is_bound || address != BIND || !is_only(to, TO) {
             return Err(BindFault::Unbound);
         }
         Ok(WaitingPort {

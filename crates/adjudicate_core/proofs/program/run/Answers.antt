@@ -12,9 +12,3 @@ returns-in-Ok g c = record {
   runs = IfOk-weaker c.run_task.result _ _ (λ status h. ToTask c.in-Ok.task c.in-Ok.ensures.ok h) c.run_task.ensures.answered;
   quiet = λ differ. inr (c.in-Ok.task, c.in-Ok.ensures.ok, not_quiet _ c.run_task.ensures.quiet differ);
 }
-
-pub returns-in-Err-Misuse : goal.returns-in-Err-Misuse
-returns-in-Err-Misuse g c = record {
-  runs = ToMisuse (c.in-Err-Misuse.ensures.misuse c.in-Err-Misuse.field-0-is) refl refl;
-  quiet = λ differ. inl refl;
-}

@@ -1,0 +1,1 @@
+use Rattle.adjudicate_core.proofs.reading.looks_in.Goals as goal
