@@ -8,3 +8,4 @@ pub mod ShowLaws
 pub mod ScheduleLaws
 pub mod LookLaws
 pub mod AuditLaws
+pub mod MisuseLaws
