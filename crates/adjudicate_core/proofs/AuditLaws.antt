@@ -130,13 +130,15 @@ ends_so r s (Some ply) h p = elim p [
   | inl less ↦ (
       let short : min (length r.moves) (length s.moves) ≡ length r.moves = let lt = less.0 in omega arith in
       shorter_so r s less.0 (subst (λ n. take n r.moves ≡ take n s.moves) short h) ply less.1)
-  | inr inl more ↦ (
-      let short : min (length r.moves) (length s.moves) ≡ length s.moves = let lt = more.0 in omega arith in
-      turned s r ply (shorter_so s r more.0 (sym (subst (λ n. take n r.moves ≡ take n s.moves) short h)) ply more.1))
-  | inr inr level ↦ (
-      let short : min (length r.moves) (length s.moves) ≡ length r.moves = let e = level.0 in omega arith in
-      let same = subst (λ n. take n r.moves ≡ take n s.moves) short h in (
-        (λ j lt. same_inside r s (length r.moves) j same (let e = level.2 in omega arith) (let e = level.2 in omega arith) (let e = (level.0, level.2) in omega (arith, e.0, e.1))),
-        (λ at. level.1 (sym (at_last r ply level.2) ∙ at.1 ∙ at_last s ply (level.2 ∙ level.0))),
-      ))
+  | inr rest ↦ elim rest [
+    | inl more ↦ (
+        let short : min (length r.moves) (length s.moves) ≡ length s.moves = let lt = more.0 in omega arith in
+        turned s r ply (shorter_so s r more.0 (sym (subst (λ n. take n r.moves ≡ take n s.moves) short h)) ply more.1))
+    | inr level ↦ (
+        let short : min (length r.moves) (length s.moves) ≡ length r.moves = let e = level.0 in omega arith in
+        let same = subst (λ n. take n r.moves ≡ take n s.moves) short h in (
+          (λ j lt. same_inside r s (length r.moves) j same (let e = level.1.1 in omega arith) (let e = level.1.1 in omega arith) (let e = level.0 in let f = level.1.1 in omega arith)),
+          (λ at. level.1.0 (sym (at_last r ply level.1.1) ∙ at.1 ∙ at_last s ply (level.1.1 ∙ level.0))),
+        ))
+  ]
 ]

@@ -9,3 +9,4 @@ pub mod ShowLaws
 pub mod ScheduleLaws
 pub mod LookLaws
 pub mod AuditLaws
+pub mod MisuseLaws

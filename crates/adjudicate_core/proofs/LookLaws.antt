@@ -16,6 +16,7 @@ use Rattle.move_msg.specs.TextLines.{text_of}
 use Rattle.move_msg.specs.ToldManifests.{Told}
 use Rattle.adjudicate_core.specs.declared.commands.check.Seen.{Seen}
 use Rattle.adjudicate_core.specs.Commands.Check.{checked}
+use Rattle.adjudicate_core.specs.declared.tables.FileFault.TheVariants.{Changed}
 use Rattle.adjudicate_core.specs.FileNames.{file_named, names_of}
 use Rattle.adjudicate_core.specs.Inside.Looking.{AreLooksAt, AreMadeOf, IsSeenOf, Sight, fault_by, fault_seen, reply_seen, sight_at, sight_of}
 use Rattle.adjudicate_core.specs.Lines.{look_words}
@@ -91,17 +92,17 @@ same_sights (s ∷ seen) (f ∷ files) h = ap (λ (x : Sight). x ∷ map sight_o
 
 find_seen : (name : List ℕ) (files : List File) → find (λ s. bytes_eq s.entry.name name) (map sight_at files) ≡ option_map sight_at (file_named name files)
 find_seen name [] = refl
-find_seen name (f ∷ files) = by_name (bytes_eq f.name name)
+find_seen name (f ∷ files) = by_name (find_seen name files) (bytes_eq f.name name)
   where
-    by_name : (b : Bool) → (if b then Some (sight_at f) else find (λ s. bytes_eq s.entry.name name) (map sight_at files)) ≡ option_map sight_at (if b then Some f else file_named name files)
-    by_name true = refl
-    by_name false = find_seen name files
+    by_name : find (λ s. bytes_eq s.entry.name name) (map sight_at files) ≡ option_map sight_at (file_named name files) → (b : Bool) → (if b then Some (sight_at f) else find (λ s. bytes_eq s.entry.name name) (map sight_at files)) ≡ option_map sight_at (if b then Some f else file_named name files)
+    by_name rest true = refl
+    by_name rest false = rest
 
 held_so : (digest : List ℕ) (o : Option File) → fault_by digest (option_map sight_at o) ≡ fault_in (held digest o)
 held_so digest None = refl
 held_so digest (Some f) = by_digest (bytes_eq (sha256 f.bytes) digest)
   where
-    by_digest : (b : Bool) → (if b then fault_in (found_in f) else fault_in (held digest None)) ≡ fault_in (if b then found_in f else held digest None)
+    by_digest : (b : Bool) → (if b then fault_in (found_in f) else Some Changed) ≡ fault_in (if b then found_in f else Err Changed)
     by_digest true = refl
     by_digest false = refl
 

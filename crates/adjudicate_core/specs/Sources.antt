@@ -38,10 +38,10 @@ IsKeptAt disk None bytes = bytes ≡ []
 IsKeptAt disk (Some path) bytes = disk.holds path bytes × (length bytes ≤ most_bytes)
 
 -- this is what is read beside tables: the input and the kept files
-pub record AreTexts (disk : DiskFacts) (source : InputFacts) (n : Named) (text kept other_kept : List ℕ) : Type 0 where
+pub record AreTexts (disk : DiskFacts) (source : InputFacts) (n : Named) (text first second : List ℕ) : Type 0 where
   pub input : IsInputAt source n.input text
-  pub kept : IsKeptAt disk n.kept kept
-  pub other_kept : IsKeptAt disk n.other_kept other_kept
+  pub kept : IsKeptAt disk n.kept first
+  pub other_kept : IsKeptAt disk n.other_kept second
 
 -- this is what is read: what the manifest tells, the wanted files of the folder, the input, the kept files
 pub record IsGiven (disk : DiskFacts) (source : InputFacts) (n : Named) (given : Given) : Type 0 where

@@ -106,27 +106,27 @@ pub(crate) struct Audited {
     /// What is found.
     pub(crate) finding: Finding,
     /// The record.
-    pub(crate) record: Option<Record>,
+    pub(crate) kept: Option<Record>,
 }
 
 /// What is found of a record.
 fn judge_record(
     alloc: Global,
     auditor: &mut Auditor<'_>,
-    record: &Record,
+    kept: &Record,
 ) -> Result<Finding, AllocError>
     requires { auditor.old.delay ≤ most_delay }
-    ensures found { IfOk result (λ finding. (bytes : List ℕ) → SpellsRecord bytes record.now → IsFound (rules_of auditor.old) auditor.old.stamp bytes finding) }
+    ensures found { IfOk result (λ finding. (bytes : List ℕ) → SpellsRecord bytes kept.now → IsFound (rules_of auditor.old) auditor.old.stamp bytes finding) }
     ensures same { auditor.new ≡ auditor.old }
 {
-    if record.stamp != auditor.stamp || record.delay != auditor.delay {
+    if kept.stamp != auditor.stamp || kept.delay != auditor.delay {
         return Ok(Finding::OtherStamp);
     }
-    let moves = record.moves.as_slice();
+    let moves = kept.moves.as_slice();
     let outcome = auditor
         .set
         .judge_game(alloc, &auditor.start, moves, auditor.delay)?;
-    Ok(found_by(outcome, moves.len(), record.verdict))
+    Ok(found_by(outcome, moves.len(), kept.verdict))
 }
 
 /// What is found of a file's bytes, and their record.
@@ -137,8 +137,8 @@ pub(crate) fn audit(
 ) -> Result<Audited, AllocError>
     requires { auditor.old.delay ≤ most_delay }
     ensures found { IfOk result (λ a. IsFound (rules_of auditor.old) auditor.old.stamp bytes.now a.finding) }
-    ensures spelled { IfOk result (λ a. IfSome a.record (SpellsRecord bytes.now)) }
-    ensures none { IfOk result (λ a. IfNone a.record ((r : Records) → SpellsRecord bytes.now r → ⊥)) }
+    ensures spelled { IfOk result (λ a. IfSome a.kept (SpellsRecord bytes.now)) }
+    ensures none { IfOk result (λ a. IfNone a.kept ((r : Records) → SpellsRecord bytes.now r → ⊥)) }
     ensures same { auditor.new ≡ auditor.old }
 {
     match Record::decode(alloc, bytes) {
@@ -146,13 +146,13 @@ pub(crate) fn audit(
             let finding = judge_record(alloc, auditor, &record)?;
             Ok(Audited {
                 finding,
-                record: Some(record),
+                kept: Some(record),
             })
         }
         Err(RecordFault::OutOfMemory) => Err(AllocError),
         Err(fault) => Ok(Audited {
             finding: Finding::BadRecord(fault),
-            record: None,
+            kept: None,
         }),
     }
 }
@@ -218,7 +218,7 @@ fn compare(one: &Record, other: &Record) -> Option<usize>
 pub(crate) fn compare_files(one: &Audited, other: &Audited) -> Option<Option<usize>>
     ensures { (bytes its : List ℕ) → IsAuditedAs bytes one.now → IsAuditedAs its other.now → IsComparison bytes its result }
 {
-    match (&one.record, &other.record) {
+    match (&one.kept, &other.kept) {
         (Some(one), Some(other)) => Some(compare(one, other)),
         _ => None,
     }

@@ -245,18 +245,51 @@ fn task_of<'a>(name: Name, matches: &ArgMatches<'a>) -> Result<Task<'a>, ValueFa
     ensures { IsReadAs name (first_value (found_of matches.now)) result }
 {
     match name {
-        Name::Judge => Ok(Task::Judge(Judge::of(matches)?)),
-        Name::Probe => Ok(Task::Probe(Probe::of(matches)?)),
-        Name::Moves => Ok(Task::Moves(Moves::of(matches)?)),
-        Name::List => Ok(Task::List(List::of(matches)?)),
-        Name::Check => Ok(Task::Check(Check::of(matches)?)),
+        Name::Judge => match Judge::of(matches) {
+            Ok(task) => Ok(Task::Judge(task)),
+            Err(fault) => Err(fault),
+        },
+        Name::Probe => match Probe::of(matches) {
+            Ok(task) => Ok(Task::Probe(task)),
+            Err(fault) => Err(fault),
+        },
+        Name::Moves => match Moves::of(matches) {
+            Ok(task) => Ok(Task::Moves(task)),
+            Err(fault) => Err(fault),
+        },
+        Name::List => match List::of(matches) {
+            Ok(task) => Ok(Task::List(task)),
+            Err(fault) => Err(fault),
+        },
+        Name::Check => match Check::of(matches) {
+            Ok(task) => Ok(Task::Check(task)),
+            Err(fault) => Err(fault),
+        },
         Name::Show => Ok(Task::Show(Show)),
-        Name::Run => Ok(Task::Run(RunSchedule::of(matches)?)),
-        Name::Listen => Ok(Task::Listen(Listen::of(matches)?)),
-        Name::Probes => Ok(Task::Probes(Probes::of(matches)?)),
-        Name::Game => Ok(Task::Game(FollowGame::of(matches)?)),
-        Name::Record => Ok(Task::Record(ShowRecord::of(matches)?)),
-        Name::Audit => Ok(Task::Audit(Audit::of(matches)?)),
+        Name::Run => match RunSchedule::of(matches) {
+            Ok(task) => Ok(Task::Run(task)),
+            Err(fault) => Err(fault),
+        },
+        Name::Listen => match Listen::of(matches) {
+            Ok(task) => Ok(Task::Listen(task)),
+            Err(fault) => Err(fault),
+        },
+        Name::Probes => match Probes::of(matches) {
+            Ok(task) => Ok(Task::Probes(task)),
+            Err(fault) => Err(fault),
+        },
+        Name::Game => match FollowGame::of(matches) {
+            Ok(task) => Ok(Task::Game(task)),
+            Err(fault) => Err(fault),
+        },
+        Name::Record => match ShowRecord::of(matches) {
+            Ok(task) => Ok(Task::Record(task)),
+            Err(fault) => Err(fault),
+        },
+        Name::Audit => match Audit::of(matches) {
+            Ok(task) => Ok(Task::Audit(task)),
+            Err(fault) => Err(fault),
+        },
         Name::Version => Ok(Task::Version(Version)),
         Name::Send => Ok(Task::Send(Send::of(matches)?)),
     }
@@ -303,7 +336,7 @@ fn name_in<'a>(words: &'a [&'a str]) -> Result<Name, Misuse<'a>>
 
 /// The task of a command that the words name.
 fn task_by<'a>(alloc: Global, name: Name, words: &'a [&'a str]) -> Result<Task<'a>, Usage<'a>>
-    requires { Names (map (λ w. w.now) words.entry.now) name }
+    requires { Names (map (λ w. w.now) words.now) name }
     ensures ok { IfOk result (IsTask (map (λ w. w.now) words.entry.now)) }
     ensures misuse { IfErr result (λ e. (misuse : Misuse) → e ≡ Usage.Misuse misuse → IsMisuse (map (λ w. w.now) words.entry.now) misuse) }
 {

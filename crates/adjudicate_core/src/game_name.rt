@@ -40,7 +40,7 @@ impl<'a> GameName<'a> {
 
     /// The name as a text.
     pub fn into_text(self) -> &'a str
-        ensures text { result.now ≡ self }
+        ensures text { result.now ≡ self.entry }
         ensures name { IsGameName result.now }
     {
         self.text

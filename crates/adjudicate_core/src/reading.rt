@@ -116,7 +116,7 @@ pub(crate) trait Look: Drop {
 
     /// What is kept of a file. The error comes only where memory is refused.
     fn of(alloc: Global, file: NamedFile) -> Result<Self, AllocError>
-        ensures { IfOk result (λ look. made_of look (file_of file.entry)) };
+        ensures { IfOk result (λ look. made_of look (file_of file)) };
 }
 
 impl Look for NamedFile {

@@ -291,6 +291,19 @@ fn tells_each_status_where_its_use_cannot_be_written(rt: HostRuntime) {
     }
 }
 
+/// The program's version, and the line of `rt version`.
+const VERSION: [Row; 1] = [(
+    "version",
+    "",
+    "adjudicate 1.0.0\nrattle-kit-13f logic dac8208d650f15bf\n",
+    0,
+)];
+
+#[test]
+fn tells_its_version(rt: HostRuntime) {
+    expect_answers(&rt, rt.alloc(), &VERSION);
+}
+
 /// The writes of the moves of the start, of a verdict, and of a refusal.
 const WRITES: [Writes; 3] = [
     ("moves FEN", START, 20),

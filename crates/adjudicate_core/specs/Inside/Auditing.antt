@@ -59,4 +59,4 @@ EndsPart count verdict other_count other_verdict (Some ply) =
 
 -- its record is that of the bytes, if they have one
 abbrev pub IsAuditedAs : List ℕ → Audited → Type 0
-IsAuditedAs bytes a = IfSome a.record (SpellsRecord bytes) × IfNone a.record ((r : Records) → SpellsRecord bytes r → ⊥)
+IsAuditedAs bytes a = IfSome a.kept (SpellsRecord bytes) × IfNone a.kept ((r : Records) → SpellsRecord bytes r → ⊥)

@@ -1,10 +1,10 @@
 //! `audit`: whether kept files are records of a game as an arbiter of it keeps them, and whether two of them agree.
 
-ghost use Rattle.std.specs.Prelude.{◌≡◌, List, ℕ, Option, option_map, IfErr, IfOk, OnErr};
+ghost use Rattle.std.specs.Prelude.{◌≡◌, ◌≤◌, Ok, option_map, IfErr, IfOk, OnErr};
 ghost use Rattle.clap.specs.Words.{first_value, found_of};
 ghost use Rattle.board_core.specs.Delays.{most_delay};
-ghost use Rattle.adjudicate_core.specs.Audits.{IsAudited};
-ghost use Rattle.adjudicate_core.specs.Commands.Audit.{HasValues, IsHeld, IsReply, faults, named, other_in};
+ghost use Rattle.adjudicate_core.specs.Audits.{IsAudited, audited_one, audited_two};
+ghost use Rattle.adjudicate_core.specs.Commands.Audit.{HasValues, IsHeld, IsReply, faults, named};
 ghost use Rattle.adjudicate_core.specs.Inside.Asked.{reply_of};
 ghost use Rattle.adjudicate_core.specs.Inside.Auditing.{rules_of};
 ghost use Rattle.adjudicate_core.specs.Looks.{gathered};
@@ -168,7 +168,7 @@ impl<'a> Audit<'a> {
         start: &Position,
         set: Set<'_>,
     ) -> Result<Answer, AllocError>
-        requires { Ok set.entry.tables ≡ gathered sources.now }
+        requires { Ok set.tables ≡ gathered sources.now }
         ensures { IfOk result (λ a. IsHeld self.now sources.now start.now (reply_of a)) }
     {
         let manifest = manifest_of(alloc, sources.files())?;

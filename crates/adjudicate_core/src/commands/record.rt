@@ -1,6 +1,7 @@
 //! `record`: what a kept record says.
 
-ghost use Rattle.std.specs.Prelude.{◌≡◌, IfErr, IfOk, OnOk};
+ghost use Rattle.std.specs.Prelude.{◌≡◌, ◌++◌, IfErr, IfOk, OnOk, codes};
+ghost use Rattle.fen_text.specs.Coordinates.{move_text};
 ghost use Rattle.std.specs.Io.KnownBytes.{Appends};
 ghost use Rattle.clap.specs.Words.{first_value, found_of};
 ghost use Rattle.move_msg.specs.TextLines.{ended, text_of};
@@ -76,14 +77,25 @@ fn put_move<W: Write>(out: &mut W, m: &Move) -> Result<(), WriteFault>
     put(out, write_move(m).as_str().as_bytes())
 }
 
-/// Writes moves in coordinates.
+/// Writes moves in coordinates, each after a space.
+fn put_spaced<W: Write>(out: &mut W, moves: &[Move]) -> Result<(), WriteFault>
+    ensures { OnOk result (Appends (W.contents out.old) (W.contents out.new) (spaced moves.now)) }
+{
+    for m in moves {
+        match put_move(out, m) {
+            Ok(()) => {}
+            Err(fault) => return Err(fault),
+        }
+    }
+    Ok(())
+}
+
+/// Writes the line of moves.
 fn put_moves<W: Write>(out: &mut W, moves: &[Move]) -> Result<(), WriteFault>
     ensures { OnOk result (Appends (W.contents out.old) (W.contents out.new) (ended (moves_words moves.now))) }
 {
     put(out, b"moves")?;
-    for m in moves {
-        put_move(out, m)?;
-    }
+    put_spaced(out, moves)?;
     put(out, b"\n")
 }
 
@@ -100,13 +112,13 @@ fn put_verdict<W: Write>(out: &mut W, verdict: Option<Verdict>) -> Result<(), Wr
 
 /// Writes the lines of a record.
 #[tactic(auto, unfolding(crate::specs::Commands::Record::record_lines))]
-fn put_record<W: Write>(out: &mut W, record: &Record) -> Result<(), WriteFault>
-    ensures { OnOk result (Appends (W.contents out.old) (W.contents out.new) (text_of (record_lines record.now))) }
+fn put_record<W: Write>(out: &mut W, kept: &Record) -> Result<(), WriteFault>
+    ensures { OnOk result (Appends (W.contents out.old) (W.contents out.new) (text_of (record_lines kept.now))) }
 {
-    put_stamp(out, record.stamp)?;
-    put_delay(out, record.delay)?;
-    put_moves(out, record.moves.as_slice())?;
-    put_verdict(out, record.verdict)
+    put_stamp(out, kept.stamp)?;
+    put_delay(out, kept.delay)?;
+    put_moves(out, kept.moves.as_slice())?;
+    put_verdict(out, kept.verdict)
 }
 
 impl<'a> ShowRecord<'a> {

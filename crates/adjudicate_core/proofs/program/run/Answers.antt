@@ -12,3 +12,6 @@ returns-in-Ok g c = record {
   runs = IfOk-weaker c.run_task.result _ _ (λ status h. ToTask c.in-Ok.task c.in-Ok.ensures.ok h) c.run_task.ensures.answered;
   quiet = λ differ. inr (c.in-Ok.task, c.in-Ok.ensures.ok, not_quiet _ c.run_task.ensures.quiet differ);
 }
+
+pub returns-in-Err-Misuse-clause-runs : goal.returns-in-Err-Misuse-clause-runs
+returns-in-Err-Misuse-clause-runs g c = ?

@@ -9,3 +9,6 @@ returns-in-Ok-tail_of g c =
     let on_rest = rw c.in-Ok-tail_of.ensures at on_tail in
     let on_words = rw c.deref.ensures.value at on_rest in
     IfOk-weaker c.run.result _ _ (λ status h. OnWords _ (ap called_by c.in-Ok.is) h) on_words
+
+pub returns-in-Err-NoText : goal.returns-in-Err-NoText
+returns-in-Err-NoText g c = ?
