@@ -14,14 +14,6 @@ use Rattle.relay_world.specs.declared.event.Event.{Event}
 use Rattle.relay_world.specs.declared.event.Event.TheVariants.{Deliver, Noise, Restart, Ask}
 use Rattle.relay_world.specs.Texts.{AreEvents, BeginsByMove, IsBadEvent, IsEvent, IsEventLine, IsFirstBadLine, IsMovesLine, IsNameLine, IsStartLine, NeedsLine, SpellsBytes, SpellsPlace, TakesForFirst, TakesForLine, keep_word, who_word}
 
-pub some_of : {A : Type 0} (P : Type 0) (Q : A → Type 0) (r : Option A) → MatchOption r P Q → IfSome r Q
-some_of P Q None m = tt
-some_of P Q (Some x) m = m
-
-pub none_of : {A : Type 0} (P : Type 0) (Q : A → Type 0) (r : Option A) → MatchOption r P Q → IfNone r P
-none_of P Q None m = m
-none_of P Q (Some x) m = tt
-
 pub has_piece : (byte : ℕ) (t : List ℕ) → 1 ≤ length (cut_at byte t)
 has_piece byte t = is_cut (λ b. b == byte) t
 
