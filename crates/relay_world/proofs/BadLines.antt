@@ -1,11 +1,12 @@
 -- A text with a line at fault is no schedule, and one line is the first at fault.
-use Rattle.std.proofs.Common.{◌≡◌, ◌≤◌, ℕ, suc, List, [], ◌∷◌, length, sym, ◌∙◌, subst, arith, inl, inr}
+use Rattle.std.proofs.Common.{◌≡◌, ◌≤◌, ℕ, suc, List, [], ◌∷◌, length, sym, ap, ◌∙◌, subst, arith, inl, inr}
+use Rattle.std.specs.Prelude.{◌⊎◌}
 use Rattle.board_core.specs.declared.parts.Parts.{Parts}
 use Rattle.board_core.specs.declared.moves.Move.{Move as Moves}
 use Rattle.fen_text.specs.Cuts.{cut_at}
 use Rattle.relay_world.specs.declared.event.Event.{Event}
 use Rattle.relay_world.specs.declared.schedule.Schedule.{Schedule}
-use Rattle.relay_world.specs.Texts.{IsNameLine, IsStartLine, IsMovesLine, AreEvents, SpellsSchedule, NeedsLine, IsBadEvent, IsFirstBadLine}
+use Rattle.relay_world.specs.Texts.{IsNameLine, IsStartLine, IsMovesLine, AreEvents, SpellsSchedule, NeedsLine, IsBadEvent, IsFirstBadLine, HasMoves, TakesForFirst, TakesMemory}
 use Rattle.relay_world.proofs.Reading.{has_piece}
 
 -- ---- none in a schedule
@@ -133,3 +134,17 @@ third_or_later text one rest two more name start a n b s k bad =
     (λ bad. late_line AreMoves 3 k (IsBadEvent 4 k) (cut_at 10 more) (λ later bad. let l = late_event 4 k later bad in omega (arith, l)) bad)
     (subst (FromStart k) b bad))
     (subst (NeedsLine IsName 1 k (FromStart k)) a bad)
+
+-- where the first two lines are good, and what is told next takes memory
+pub takes_memory : (text one rest two more three last name : List ℕ) (start : Parts) → cut_at 10 text ≡ one ∷ cut_at 10 rest → IsNameLine one name → cut_at 10 rest ≡ two ∷ cut_at 10 more → IsStartLine two start → cut_at 10 more ≡ three ∷ cut_at 10 last
+    → HasMoves three ⊎ (((tells : List Moves) × IsMovesLine three tells) × (TakesForFirst (cut_at 10 last) ⊎ ((tells : List Event) × AreEvents (cut_at 10 last) tells))) → TakesMemory text
+takes_memory text one rest two more three last name start a n b s d takes = record {
+  name = one;
+  start = two;
+  moves = three;
+  events = cut_at 10 last;
+  lines = a ∙ ap (λ (ls : List (List ℕ)). one ∷ ls) (b ∙ ap (λ (ls : List (List ℕ)). two ∷ ls) d);
+  name_is = (name, n);
+  start_is = (start, s);
+  takes = takes;
+}

@@ -250,13 +250,13 @@ first_end words few game events who kept v position none e =
         first = λ k other lt end. l.least k other lt (from_end few r none position game.moves k other end);
       })),
       (λ f.
-      let l : IsLeastRuled r game.moves (count_of kept) v = record {
-        within = subst (λ n. n ≤ length game.moves) (sym c) (reach_within r game.moves h.ply h.reached);
-        legal = subst (λ n. IsSome (position_after_all r.start (take n game.moves))) (sym c) (start_legal r game.moves h.ply h.reached);
-        ruled = from_end few r none position game.moves (count_of kept) v f.ends;
-        least = λ k other lt ruled. f.first k other lt (to_end few r none position game.moves k other ruled);
-      } in
-      ap (λ (k : Recorded). k.verdict) h.is ∙ ap (λ n. verdict_after r (take n game.moves)) (sym c) ∙ ((words r game.moves (count_of kept) v).1 l).ruled),
+          let l : IsLeastRuled r game.moves (count_of kept) v = record {
+            within = subst (λ n. n ≤ length game.moves) (sym c) (reach_within r game.moves h.ply h.reached);
+            legal = subst (λ n. IsSome (position_after_all r.start (take n game.moves))) (sym c) (start_legal r game.moves h.ply h.reached);
+            ruled = from_end few r none position game.moves (count_of kept) v f.ends;
+            least = λ k other lt ruled. f.first k other lt (to_end few r none position game.moves k other ruled);
+          } in
+          ap (λ (k : Recorded). k.verdict) h.is ∙ ap (λ n. verdict_after r (take n game.moves)) (sym c) ∙ ((words r game.moves (count_of kept) v).1 l).ruled),
     )
 
 -- ---- no files are no table

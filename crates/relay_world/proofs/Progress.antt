@@ -21,9 +21,9 @@ use Rattle.relay_world.specs.Headline.{IsRecordOf, kept_count}
 use Rattle.relay_world.specs.InOrder.{is_running, is_same, brings, all_in_order}
 use Rattle.relay_world.specs.Laws.{IsSentGame, Keeps, world_after}
 use Rattle.arbiter_core.proofs.Reach.{reach_within, last_reached}
-use Rattle.relay_world.proofs.Steps.{Holds, SideHolds, Goes, happens_goes, run_goes, first_holds}
+use Rattle.relay_world.proofs.Steps.{Holds, SideHolds, Goes, happens_goes, run_goes, first_holds, side_at}
 use Rattle.relay_world.proofs.Schedules.{after_append, holds_after}
-use Rattle.relay_world.proofs.Rising.{rises}
+use Rattle.relay_world.proofs.Rising.{rises, turned_side}
 use Rattle.relay_world.proofs.Whole.{at_last, kept_is}
 use Rattle.relay_world.proofs.Sending.{is_sent}
 
@@ -51,10 +51,6 @@ runs_heard None life respond h = h
 runs_heard (Some old) Closed respond h = cc
 runs_heard (Some old) Down respond h = cc
 runs_heard (Some old) (Running window) respond h = runs_answered old window (respond old window)
-
-turned_side : (world : World) (who : Who) (late : Side × List Message) → side_of (turned world who late) who ≡ late.0
-turned_side world A late = refl
-turned_side world B late = refl
 
 runs_on : (game : Judged) (world : World) (who : Who) (o : Option Message) → is_running (side_of world who).life ≡ true → is_running (side_of (delivered game world who Good o) who).life ≡ true
 runs_on game world who None h = h
@@ -133,10 +129,6 @@ runs_over r game (Some one) life h e = (one, refl)
 runs_over r game None Closed h e = cc
 runs_over r game None Down h e = cc
 runs_over r game None (Running window) h e = absurd h.waits
-
-side_at : (game : Judged) (world : World) (who : Who) → Holds game world → SideHolds game.rules game.moves (side_of world who)
-side_at game world A h = h.a
-side_at game world B h = h.b
 
 pub keeps_all : (game : Judged) (early : List Event) (who : Who) → length game.moves ≤ 4096 → is_running (side_of (world_after game early) who).life ≡ true → Keeps game (early ++ all_in_order who game) who (record_at game.rules game.moves (last_ply game.rules game.moves))
 keeps_all game early who short runs =

@@ -12,15 +12,7 @@ use Rattle.move_msg.specs.Numbers.{most_moves}
 use Rattle.arbiter_core.specs.declared.keeper.Keep.{Keep}
 use Rattle.relay_world.specs.declared.event.Event.{Event}
 use Rattle.relay_world.specs.declared.event.Event.TheVariants.{Deliver, Noise, Restart, Ask}
-use Rattle.relay_world.specs.Texts.{AreEvents, IsBadEvent, IsEvent, IsEventLine, IsFirstBadLine, IsMovesLine, IsNameLine, IsStartLine, NeedsLine, SpellsBytes, SpellsPlace, keep_word, who_word}
-
-pub some_of : {A : Type 0} (P : Type 0) (Q : A → Type 0) (r : Option A) → MatchOption r P Q → IfSome r Q
-some_of P Q None m = tt
-some_of P Q (Some x) m = m
-
-pub none_of : {A : Type 0} (P : Type 0) (Q : A → Type 0) (r : Option A) → MatchOption r P Q → IfNone r P
-none_of P Q None m = m
-none_of P Q (Some x) m = tt
+use Rattle.relay_world.specs.Texts.{AreEvents, BeginsByMove, IsBadEvent, IsEvent, IsEventLine, IsFirstBadLine, IsMovesLine, IsNameLine, IsStartLine, NeedsLine, SpellsBytes, SpellsPlace, TakesForFirst, TakesForLine, keep_word, who_word}
 
 pub has_piece : (byte : ℕ) (t : List ℕ) → 1 ≤ length (cut_at byte t)
 has_piece byte t = is_cut (λ b. b == byte) t
@@ -98,12 +90,18 @@ pub record AreLeft (text rest : List ℕ) (moves : List Moves) : Type 0 where
   pub some : (ms : List Moves) → AreMoves (cut_at 32 rest) ms → AreMoves (cut_at 32 text) (moves ++ ms)
   pub none : (ms : List Moves) → AreMoves (cut_at 32 text) ms → (left : List Moves) × AreMoves (cut_at 32 rest) left
   pub words : length (cut_at 32 text) ≡ length moves + length (cut_at 32 rest)
+  pub first : BeginsByMove (cut_at 32 rest) → BeginsByMove (cut_at 32 text)
+
+-- a word that is a move
+pub begins_here : (text rest word : List ℕ) (words : List (List ℕ)) (moves : List Moves) (m : Moves) → AreLeft text rest moves → cut_at 32 rest ≡ word ∷ words → SpellsMove word m → BeginsByMove (cut_at 32 text)
+begins_here text rest word words moves m h e s = h.first (subst BeginsByMove (sym e) (m, s))
 
 pub left_first : (text : List ℕ) (moves : List Moves) → moves ≡ [] → AreLeft text text moves
 left_first text moves e = record {
   some = λ ms h. subst (λ (xs : List Moves). AreMoves (cut_at 32 text) (xs ++ ms)) (sym e) h;
   none = λ ms h. (ms, h);
   words = let held : length moves ≡ 0 = ap length e in omega (arith, held);
+  first = λ b. b;
 }
 
 pub left_more : (text rest tail word : List ℕ) (moves more : List Moves) (m : Moves) → AreLeft text rest moves → cut_at 32 rest ≡ word ∷ cut_at 32 tail → SpellsMove word m → more ≡ moves ++ m ∷ [] → AreLeft text tail more
@@ -117,6 +115,7 @@ left_more text rest tail word moves more m h e s is = record {
       let one : length (cut_at 32 rest) ≡ length (word ∷ cut_at 32 tail) = ap length e in
       let longer : length more ≡ length moves + length (m ∷ []) = ap length is ∙ length-append moves (m ∷ []) in
       omega (arith, all, one, longer);
+  first = λ _. begins_here text rest word (cut_at 32 tail) moves m h e s;
 }
 
 pub no_move : (text rest word : List ℕ) (ws : List (List ℕ)) (moves : List Moves) → AreLeft text rest moves → cut_at 32 rest ≡ word ∷ ws → ((m : Moves) → SpellsMove word m → ⊥) → (ms : List Moves) → AreMoves (cut_at 32 text) ms → ⊥
@@ -146,11 +145,21 @@ bad_here n line (next ∷ lines) l never = inl (refl, never)
 pub record AreWaiting (text rest : List ℕ) (events : List Event) : Type 0 where
   pub ok : (es : List Event) → AreEvents (cut_at 10 rest) es → AreEvents (cut_at 10 text) (events ++ es)
   pub bad : (k : ℕ) → IsBadEvent (4 + length events) k (cut_at 10 rest) → IsBadEvent 4 k (cut_at 10 text)
+  pub first : TakesForFirst (cut_at 10 rest) → TakesForFirst (cut_at 10 text)
+
+takes_first : (line : List ℕ) (lines : List (List ℕ)) → 1 ≤ length lines → TakesForLine line → TakesForFirst (line ∷ lines)
+takes_first line [] l h = absurd (omega arith)
+takes_first line (next ∷ lines) l h = h
+
+-- a line that takes memory
+pub takes_here : (text rest tail line : List ℕ) (events : List Event) → AreWaiting text rest events → cut_at 10 rest ≡ line ∷ cut_at 10 tail → TakesForLine line → TakesForFirst (cut_at 10 text)
+takes_here text rest tail line events h e t = h.first (subst TakesForFirst (sym e) (takes_first line (cut_at 10 tail) (has_piece 10 tail) t))
 
 pub waiting_first : (text : List ℕ) (events : List Event) → events ≡ [] → AreWaiting text text events
 waiting_first text events e = record {
   ok = λ es h. subst (λ (xs : List Event). AreEvents (cut_at 10 text) (xs ++ es)) (sym e) h;
   bad = λ k h. subst (λ (n : ℕ). IsBadEvent n k (cut_at 10 text)) (ap (λ (xs : List Event). 4 + length xs) e) h;
+  first = λ t. t;
 }
 
 pub waiting_more : (text rest tail line : List ℕ) (events more : List Event) (e : Event) → AreWaiting text rest events → cut_at 10 rest ≡ line ∷ cut_at 10 tail → IsEventLine line e → more ≡ events ++ e ∷ [] → AreWaiting text tail more
@@ -161,6 +170,7 @@ waiting_more text rest tail line events more e h cut is m = record {
   bad = λ k g.
       let long : 4 + length more ≡ suc (4 + length events) = ap (λ (xs : List Event). 4 + length xs) m ∙ ends events in
       h.bad k (subst (λ ls. IsBadEvent (4 + length events) k ls) (sym cut) (bad_more (4 + length events) k line (cut_at 10 tail) e (has_piece 10 tail) is (subst (λ (n : ℕ). IsBadEvent n k (cut_at 10 tail)) long g)));
+  first = λ _. takes_here text rest tail line events h cut (inl (e, is));
 }
   where
     one_longer : (xs : List Event) → length (xs ++ e ∷ []) ≡ suc (length xs)

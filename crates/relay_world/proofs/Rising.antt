@@ -26,7 +26,7 @@ use Rattle.relay_world.specs.declared.event.Event.TheVariants.{Deliver, Noise, R
 use Rattle.relay_world.specs.Worlds.{Life, Closed, Down, Running, Side, World, Judged, identity, side_of, turned, answered, hears_at, delivered, happens, first_world, after}
 use Rattle.relay_world.specs.Headline.{IsRecordOf, kept_count}
 use Rattle.relay_world.specs.InOrder.{is_running, is_same, is_move, brings, brought, RunsThrough}
-use Rattle.relay_world.proofs.Steps.{SideHolds, all_at, moved, count_at, Holds, Goes, happens_goes}
+use Rattle.relay_world.proofs.Steps.{SideHolds, all_at, moved, count_at, Holds, Goes, happens_goes, side_at}
 use Rattle.relay_world.proofs.Schedules.{grows_at, holds_after}
 
 none_is_some : (o : Option Ruling) → o ≡ None → is_some o ≡ false
@@ -102,7 +102,7 @@ one_more r game me keep (Some old) (Running window) stamp sender n word h e shor
     (cases_lt n k)
 
 -- the side that a turn is of
-turned_side : (world : World) (who : Who) (late : Side × List Message) → side_of (turned world who late) who ≡ late.0
+pub turned_side : (world : World) (who : Who) (late : Side × List Message) → side_of (turned world who late) who ≡ late.0
 turned_side world A late = refl
 turned_side world B late = refl
 
@@ -118,10 +118,6 @@ move_is n (Some (Ack stamp who count)) e = cc
 move_is n (Some (Verdict stamp who ply v)) e = cc
 move_is n (Some (Fetch stamp who number wanted)) e = cc
 move_is n None e = cc
-
-side_at : (game : Judged) (world : World) (who : Who) → Holds game world → SideHolds game.rules game.moves (side_of world who)
-side_at game world A h = h.a
-side_at game world B h = h.b
 
 pub rises : (game : Judged) (world : World) (who : Who) (event : Event) (n : ℕ) → Holds game world → length game.moves ≤ 4096 → brings world who n event ≡ true
     → is_running (side_of world who).life ≡ true → is_running (side_of (happens game world event) who).life ≡ true

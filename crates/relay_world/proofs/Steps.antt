@@ -347,19 +347,15 @@ turned_goes game world B late h t =
       log = slice_get_more world.log late.1;
     }
 
+pub side_at : (game : Judged) (world : World) (who : Who) → Holds game world → SideHolds game.rules game.moves (side_of world who)
+side_at game world A h = h.a
+side_at game world B h = h.b
+
 delivered_goes : (game : Judged) (world : World) (who : Who) (keep : Keep) (o : Option Message) → Holds game world → ((m : Message) → o ≡ Some m → IsSound game.rules game.moves (kept_count world.a.kept) (kept_count world.b.kept) m) → Goes game world (delivered game world who keep o)
 delivered_goes game world who keep None h q = record { holds = h; a = grows_not world.a.kept; b = grows_not world.b.kept; log = λ i m e. e }
 delivered_goes game world who keep (Some m) h q =
-    turned_goes game world who _ h (hears_turn game.rules game.moves (identity game who) keep _ _ _ (side_holds game world who h)
+    turned_goes game world who _ h (hears_turn game.rules game.moves (identity game who) keep _ _ _ (side_at game world who h)
     (λ old window i f. answer_holds game.rules game.moves (identity game who) (kept_count world.a.kept) (kept_count world.b.kept) old window m i f (q m refl)))
-  where
-    side_holds : (game : Judged) (world : World) (who : Who) → Holds game world → SideHolds game.rules game.moves (side_of world who)
-    side_holds game world A h = h.a
-    side_holds game world B h = h.b
-
-side_at : (game : Judged) (world : World) (who : Who) → Holds game world → SideHolds game.rules game.moves (side_of world who)
-side_at game world A h = h.a
-side_at game world B h = h.b
 
 -- noise says nothing that an arbiter takes for a message of this game
 refused_holds : (game : Judged) (me : Identity) (old : Recorded) (window : Window) (bytes : List ℕ) → is_ok (heard game.stamp bytes) ≡ false → AnswerHolds game.rules game.moves me old (answer_heard game.rules me old window (heard game.stamp bytes))

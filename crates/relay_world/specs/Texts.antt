@@ -5,7 +5,7 @@ use Rattle.hex.specs.Hex.{decode_of}
 use Rattle.board_core.specs.declared.parts.Parts.{Parts}
 use Rattle.board_core.specs.declared.moves.Move.{Move as Moves}
 use Rattle.board_core.specs.Position.{IsPosition}
-use Rattle.fen_text.specs.Coordinates.{AreMoves}
+use Rattle.fen_text.specs.Coordinates.{AreMoves, SpellsMove}
 use Rattle.fen_text.specs.Cuts.{cut_at}
 use Rattle.fen_text.specs.Fen.{SpellsPosition}
 use Rattle.fen_text.specs.Numbers.{SpellsNumber}
@@ -81,6 +81,43 @@ pub record SpellsSchedule (text : List ℕ) (schedule : Schedule) : Type 0 where
   pub start_is : IsStartLine start schedule.start
   pub moves_are : IsMovesLine moves schedule.moves.items
   pub events_are : AreEvents events schedule.events.items
+
+-- ---- where memory is taken
+
+-- the first of these words spells a move
+abbrev pub BeginsByMove : List (List ℕ) → Type 0
+BeginsByMove [] = ⊥
+BeginsByMove (word ∷ words) = (m : Moves) × SpellsMove word m
+
+-- the line of moves has one
+abbrev pub HasMoves : List ℕ → Type 0
+HasMoves line = (words : List (List ℕ)) × (cut_at 32 line ≡ codes "moves" ∷ words) × BeginsByMove words
+
+-- the words of noise whose bytes are told by more than a hyphen
+abbrev pub TellsBytes : List (List ℕ) → Type 0
+TellsBytes words = (who : Who) × (word : List ℕ) × (keep : Keep) × (words ≡ codes "noise" ∷ who_word who ∷ word ∷ keep_word keep ∷ []) × (word ≢ codes "-")
+
+-- an event takes memory, and so do the bytes of noise
+abbrev pub TakesForLine : List ℕ → Type 0
+TakesForLine line = ((event : Event) × IsEventLine line event) ⊎ TellsBytes (cut_at 32 line)
+
+-- the first line of events does
+abbrev pub TakesForFirst : List (List ℕ) → Type 0
+TakesForFirst [] = ⊥
+TakesForFirst (last ∷ []) = ⊥
+TakesForFirst (line ∷ next ∷ lines) = TakesForLine line
+
+-- Memory is taken for the moves, for what the first event tells, and, where there are none, for the name: so only where the first
+-- two lines are good, and the third has a move, or is good and the next takes memory or nothing follows.
+pub record TakesMemory (text : List ℕ) : Type 0 where
+  pub name : List ℕ
+  pub start : List ℕ
+  pub moves : List ℕ
+  pub events : List (List ℕ)
+  pub lines : cut_at 10 text ≡ name ∷ start ∷ moves ∷ events
+  pub name_is : (tells : List ℕ) × IsNameLine name tells
+  pub start_is : (tells : Parts) × IsStartLine start tells
+  pub takes : HasMoves moves ⊎ (((tells : List Moves) × IsMovesLine moves tells) × (TakesForFirst events ⊎ ((tells : List Event) × AreEvents events tells)))
 
 -- ---- schedules that are one
 

@@ -1,6 +1,6 @@
 //! The fields of a line of a schedule.
 
-ghost use Rattle.std.specs.Prelude.{◌≡◌, ◌↔◌, ◌==◌, ◌<◌, ℕ, List, IsTrue, IfOk, IfSome, IfNone};
+ghost use Rattle.std.specs.Prelude.{◌≡◌, ◌≢◌, ◌↔◌, ◌==◌, ◌<◌, ℕ, List, codes, IsTrue, IfOk, IfSome, IfNone, OnErr};
 ghost use Rattle.move_msg.specs.declared.who.Who.{Who};
 ghost use Rattle.arbiter_core.specs.declared.keeper.Keep.{Keep};
 ghost use Rattle.relay_world.specs.Texts.{SpellsBytes, SpellsPlace, who_word, keep_word};
@@ -64,6 +64,7 @@ pub(crate) fn read_place(text: &[u8]) -> Option<usize>
 pub(crate) fn read_bytes(alloc: Global, word: &[u8]) -> Result<Option<Vec<u8>>, AllocError>
     ensures some { IfOk result (λ read. IfSome read (λ bytes. SpellsBytes word.now bytes.items)) }
     ensures none { IfOk result (λ read. IfNone read ((bytes : List ℕ) → SpellsBytes word.now bytes → ⊥)) }
+    ensures memory { OnErr result (word.now ≢ codes "-") }
 {
     if is_word(word, b"-") {
         return Ok(Some(Vec::new(alloc)));

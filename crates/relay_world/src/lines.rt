@@ -1,6 +1,6 @@
 //! The lines of a schedule.
 
-ghost use Rattle.std.specs.Prelude.{◌≡◌, ◌≤◌, ◌<◌, ◌++◌, ◌∷◌, [], ℕ, List, length, codes, IfOk, IfSome, IfNone};
+ghost use Rattle.std.specs.Prelude.{◌≡◌, ◌≤◌, ◌<◌, ◌++◌, ◌∷◌, [], ℕ, List, length, codes, IfOk, IfSome, IfNone, OnErr};
 ghost use Rattle.board_core.specs.declared.moves.Move.{Move as Moves};
 ghost use Rattle.board_core.specs.declared.parts.Parts.{Parts};
 ghost use Rattle.fen_text.specs.Coordinates.{AreMoves};
@@ -9,7 +9,7 @@ ghost use Rattle.move_msg.specs.declared.who.Who.{Who};
 ghost use Rattle.move_msg.specs.Numbers.{most_moves};
 ghost use Rattle.arbiter_core.specs.declared.keeper.Keep.{Keep};
 ghost use Rattle.relay_world.specs.declared.event.Event.{Event};
-ghost use Rattle.relay_world.specs.Texts.{IsEvent, IsEventLine, IsMovesLine, IsNameLine, IsStartLine, who_word, keep_word};
+ghost use Rattle.relay_world.specs.Texts.{BeginsByMove, HasMoves, IsEvent, IsEventLine, IsMovesLine, IsNameLine, IsStartLine, TellsBytes, who_word, keep_word};
 
 use crate::event::Event;
 use crate::fields::{is_word, read_bytes, read_keep, read_place, read_who};
@@ -53,6 +53,7 @@ fn read_words(alloc: Global, text: &[u8]) -> Result<Option<Vec<Move>>, AllocErro
     ensures some { IfOk result (λ read. IfSome read (λ moves. AreMoves (cut_at 32 text.now) moves.items)) }
     ensures few { IfOk result (λ read. IfSome read (λ moves. length moves.items ≤ most_moves)) }
     ensures none { IfOk result (λ read. IfNone read ((moves : List Moves) → AreMoves (cut_at 32 text.now) moves → length moves ≤ most_moves → ⊥)) }
+    ensures memory { OnErr result (BeginsByMove (cut_at 32 text.now)) }
 {
     let mut moves = Vec::new(alloc);
     let mut rest = text;
@@ -78,6 +79,7 @@ fn read_words(alloc: Global, text: &[u8]) -> Result<Option<Vec<Move>>, AllocErro
 pub(crate) fn read_moves(alloc: Global, line: &[u8]) -> Result<Option<Vec<Move>>, AllocError>
     ensures some { IfOk result (λ read. IfSome read (λ moves. IsMovesLine line.now moves.items)) }
     ensures none { IfOk result (λ read. IfNone read ((moves : List Moves) → IsMovesLine line.now moves → ⊥)) }
+    ensures memory { OnErr result (HasMoves line.now) }
 {
     let Some((verb, text)) = cut_first(line, b' ') else {
         if is_word(line, b"moves") {
@@ -179,6 +181,7 @@ fn read_deliver(text: &[u8]) -> Option<Event>
 fn read_noise(alloc: Global, text: &[u8]) -> Result<Option<Event>, AllocError>
     ensures some { IfOk result (λ read. IfSome read (IsEvent (codes "noise" ∷ cut_at 32 text.now))) }
     ensures none { IfOk result (λ read. IfNone read ((event : Event) → IsEvent (codes "noise" ∷ cut_at 32 text.now) event → ⊥)) }
+    ensures memory { OnErr result (TellsBytes (codes "noise" ∷ cut_at 32 text.now)) }
 {
     let Some((who, rest)) = split_who(text) else {
         return Ok(None);
@@ -196,6 +199,7 @@ fn read_noise(alloc: Global, text: &[u8]) -> Result<Option<Event>, AllocError>
 pub(crate) fn read_event(alloc: Global, line: &[u8]) -> Result<Option<Event>, AllocError>
     ensures some { IfOk result (λ read. IfSome read (IsEventLine line.now)) }
     ensures none { IfOk result (λ read. IfNone read ((event : Event) → IsEventLine line.now event → ⊥)) }
+    ensures memory { OnErr result (TellsBytes (cut_at 32 line.now)) }
 {
     let Some((verb, rest)) = cut_first(line, b' ') else {
         return Ok(None);

@@ -1,10 +1,10 @@
 //! The text of a schedule.
 
-ghost use Rattle.std.specs.Prelude.{◌≡◌, ◌⊎◌, ◌≤◌, ℕ, IfOk, IfErr, IsErrOf};
+ghost use Rattle.std.specs.Prelude.{◌≡◌, ◌⊎◌, ◌≤◌, ℕ, IfOk, IfErr, IsErrOf, OnErr};
 ghost use Rattle.fen_text.specs.Cuts.{cut_at};
 ghost use Rattle.relay_world.specs.declared.event.Event.{Event};
 ghost use Rattle.relay_world.specs.declared.schedule.ScheduleFault.TheVariants.{BadLine, OutOfMemory};
-ghost use Rattle.relay_world.specs.Texts.{AreEvents, IsBadEvent, IsFirstBadLine, SpellsSchedule};
+ghost use Rattle.relay_world.specs.Texts.{AreEvents, IsBadEvent, IsFirstBadLine, SpellsSchedule, TakesForFirst, TakesMemory};
 
 use crate::event::Event;
 use crate::lines::{read_event, read_moves, read_name, read_start};
@@ -39,6 +39,7 @@ pub enum ScheduleFault {
 fn read_events(alloc: Global, text: &[u8]) -> Result<Result<Vec<Event>, usize>, AllocError>
     ensures ok { IfOk result (λ read. IfOk read (λ events. AreEvents (cut_at 10 text.now) events.items)) }
     ensures err { IfOk result (λ read. IfErr read (λ k. IsBadEvent 4 k (cut_at 10 text.now))) }
+    ensures memory { OnErr result (TakesForFirst (cut_at 10 text.now)) }
 {
     let mut events = Vec::new(alloc);
     let mut rest = text;
@@ -63,11 +64,13 @@ fn read_events(alloc: Global, text: &[u8]) -> Result<Result<Vec<Event>, usize>, 
 /// further line is an event: `restart WHO KEEP`, `deliver WHO INDEX KEEP`, `noise WHO HEX KEEP` or `ask WHO`. WHO is `A` or `B`;
 /// KEEP is `good`, `old` or `new`; INDEX is 0 to 999999 in digits without needless zeros; HEX is two digits of either case for
 /// each byte, and `-` for no bytes. A missing line counts as the one after the last. `OutOfMemory` comes where memory is
-/// refused, and no memory is taken where one of the first two lines is at fault.
+/// refused: for the moves, for what an event tells, and for the name. None is taken where one of the first two lines is at fault,
+/// nor where the third begins with no move and is at fault, or the fourth is and tells no bytes.
 pub fn read(alloc: Global, text: &[u8]) -> Result<Schedule, ScheduleFault>
     ensures ok { IfOk result (SpellsSchedule text.now) }
     ensures err { IfErr result (λ fault. (fault ≡ OutOfMemory) ⊎ ((k : ℕ) × (fault ≡ BadLine k) × IsFirstBadLine text.now k)) }
     ensures memory { IsErrOf result OutOfMemory → (k : ℕ) → IsFirstBadLine text.now k → 3 ≤ k }
+    ensures taken { IsErrOf result OutOfMemory → TakesMemory text.now }
 {
     let Some((line, rest)) = cut_first(text, b'\n') else {
         return Err(ScheduleFault::BadLine(1));

@@ -1,8 +1,8 @@
-use Rattle.std.proofs.Common.{List, refl, inr}
+use Rattle.std.proofs.Common.{List, refl, inl, inr}
 use Rattle.board_core.specs.declared.moves.Move.{Move as Moves}
 use Rattle.fen_text.specs.Cuts.{cut_at}
-use Rattle.relay_world.specs.Texts.{IsBadEvent, IsMovesLine}
-use Rattle.relay_world.proofs.BadLines.{third_or_later}
+use Rattle.relay_world.specs.Texts.{AreEvents, IsBadEvent, IsMovesLine}
+use Rattle.relay_world.proofs.BadLines.{takes_memory, third_or_later}
 use Rattle.relay_world.proofs.Reading.{bad_second, bad_third, bad_later}
 use Rattle.relay_world.proofs.schedule.read.Goals as goal
 
@@ -50,3 +50,21 @@ pub returns-in_default-from_slice-clause-memory : goal.returns-in_default-from_s
 returns-in_default-from_slice-clause-memory c = λ _.
     third_or_later c.args.text.now c.in-Some.line.now c.in-Some.rest.now c.in-Some-cut_first.line.now c.in-Some-cut_first.rest.now c.in-Some-read_name.name.now c.in-Some-read_start.start
     c.in-Some.ensures.some c.in-Some-read_name.ensures.some c.in-Some-cut_first.ensures.some c.in-Some-read_start.ensures.some
+
+pub returns-in-Err-clause-taken : goal.returns-in-Err-clause-taken
+returns-in-Err-clause-taken c = λ _.
+    takes_memory c.args.text.now c.in-Some.line.now c.in-Some.rest.now c.in-Some-cut_first.line.now c.in-Some-cut_first.rest.now c.in-Some-cut_first-2.line.now c.in-Some-cut_first-2.rest.now c.in-Some-read_name.name.now c.in-Some-read_start.start
+    c.in-Some.ensures.some c.in-Some-read_name.ensures.some c.in-Some-cut_first.ensures.some c.in-Some-read_start.ensures.some c.in-Some-cut_first-2.ensures.some (inl c.in-Err.ensures.memory)
+
+pub returns-in-Err-read_events-clause-taken : goal.returns-in-Err-read_events-clause-taken
+returns-in-Err-read_events-clause-taken c = λ _.
+    let moves : IsMovesLine c.in-Some-cut_first-2.line.now c.in-Ok-Some.moves.items = rw c.in-Ok-Some.field-0-is at c.in-Ok-Some.ensures.some in
+    takes_memory c.args.text.now c.in-Some.line.now c.in-Some.rest.now c.in-Some-cut_first.line.now c.in-Some-cut_first.rest.now c.in-Some-cut_first-2.line.now c.in-Some-cut_first-2.rest.now c.in-Some-read_name.name.now c.in-Some-read_start.start
+    c.in-Some.ensures.some c.in-Some-read_name.ensures.some c.in-Some-cut_first.ensures.some c.in-Some-read_start.ensures.some c.in-Some-cut_first-2.ensures.some (inr ((c.in-Ok-Some.moves.items, moves), inl c.in-Err-read_events.ensures.memory))
+
+pub returns-in_default-from_slice-clause-taken : goal.returns-in_default-from_slice-clause-taken
+returns-in_default-from_slice-clause-taken c = λ _.
+    let moves : IsMovesLine c.in-Some-cut_first-2.line.now c.in-Ok-Some.moves.items = rw c.in-Ok-Some.field-0-is at c.in-Ok-Some.ensures.some in
+    let events : AreEvents (cut_at 10 c.in-Some-cut_first-2.rest.now) c.in-Ok-Ok.events.items = rw c.in-Ok-Ok.field-0-is at c.in-Ok-Ok.ensures.ok in
+    takes_memory c.args.text.now c.in-Some.line.now c.in-Some.rest.now c.in-Some-cut_first.line.now c.in-Some-cut_first.rest.now c.in-Some-cut_first-2.line.now c.in-Some-cut_first-2.rest.now c.in-Some-read_name.name.now c.in-Some-read_start.start
+    c.in-Some.ensures.some c.in-Some-read_name.ensures.some c.in-Some-cut_first.ensures.some c.in-Some-read_start.ensures.some c.in-Some-cut_first-2.ensures.some (inr ((c.in-Ok-Some.moves.items, moves), inr (c.in-Ok-Ok.events.items, events)))

@@ -12,16 +12,16 @@ refused f n e = n cc
 pub returns-in_default-clause-sent : goal.returns-in_default-clause-sent
 returns-in_default-clause-sent c =
     rw c.new.ensures.items
-    (delivered_seat c.args.bytes.now c.args.arbiter.now c.deliver.new.self c.args.keeper.now c.deliver.new.keeper (Err c.in-Err.fault) c.in-Err.ensures.delivered (refused c.in-Err.fault c.in_default.not-OutOfMemory))
+    (delivered_seat c.args.bytes.now _ _ _ _ (Err c.in-Err.fault) c.in-Err.ensures.delivered (refused c.in-Err.fault c.in_default.not-OutOfMemory))
 
 wanted : (f : DeliverFault) → f ≡ OutOfMemory → ◌≡◌ {A = Told} (Err f) (Err OutOfMemory)
 wanted f e = cc
 
 pub returns-in-OutOfMemory-clause-memory : goal.returns-in-OutOfMemory-clause-memory
-returns-in-OutOfMemory-clause-memory c = starved_seat c.args.bytes.now c.args.arbiter.now c.deliver.new.self c.args.keeper.now c.deliver.new.keeper (Err c.in-Err.fault) c.in-Err.ensures.delivered (wanted c.in-Err.fault c.in-OutOfMemory.is)
+returns-in-OutOfMemory-clause-memory c = starved_seat c.args.bytes.now _ _ _ _ (Err c.in-Err.fault) c.in-Err.ensures.delivered (wanted c.in-Err.fault c.in-OutOfMemory.is)
 
 kept_on : (outputs : List Message) → ◌≢◌ {A = Told} (Ok outputs) (Err OutOfMemory)
 kept_on outputs e = cc
 
 pub returns-in-Ok-clause-sent : goal.returns-in-Ok-clause-sent
-returns-in-Ok-clause-sent c = delivered_seat c.args.bytes.now c.args.arbiter.now c.deliver.new.self c.args.keeper.now c.deliver.new.keeper (Ok c.in-Ok.outputs.items) c.in-Ok.ensures.delivered (kept_on c.in-Ok.outputs.items)
+returns-in-Ok-clause-sent c = delivered_seat c.args.bytes.now _ _ _ _ (Ok c.in-Ok.outputs.items) c.in-Ok.ensures.delivered (kept_on c.in-Ok.outputs.items)
