@@ -137,8 +137,8 @@ ends_so r s (Some ply) h p = elim p [
     | inr level ↦ (
         let short : min (length r.moves) (length s.moves) ≡ length r.moves = let e = level.0 in omega arith in
         let same = subst (λ n. take n r.moves ≡ take n s.moves) short h in (
-          (λ j lt. same_inside r s (length r.moves) j same (let e = level.1.1 in omega arith) (let e = level.1.1 in omega arith) (let e = level.0 in let f = level.1.1 in omega arith)),
-          (λ at. level.1.0 (sym (at_last r ply level.1.1) ∙ at.1 ∙ at_last s ply (level.1.1 ∙ level.0))),
+          (λ j lt. same_inside r s (length r.moves) j same (let e = level.2 in omega arith) (let e = level.2 in omega arith) (let e = level.0 in let f = level.2 in omega arith)),
+          (λ at. level.1 (sym (at_last r ply level.2) ∙ at.1 ∙ at_last s ply (level.2 ∙ level.0))),
         ))
   ]
 ]
