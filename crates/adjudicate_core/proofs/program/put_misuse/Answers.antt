@@ -15,4 +15,4 @@ more (Err e) ok f = tt
 
 pub returns : goal.returns
 returns g c =
-    more c.writeln.result c.writeln.ensures (λ written. then_more _ _ _ _ _ c.in_ok-put_line_on.ensures written)
+    more c.writeln.result c.writeln.ensures.bytes (λ written. then_more _ _ _ _ _ c.in_ok-put_line_on.ensures written)

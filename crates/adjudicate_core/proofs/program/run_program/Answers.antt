@@ -1,5 +1,6 @@
-use Rattle.std.proofs.Common.{◌∙◌, Err, ap}
+use Rattle.std.proofs.Common.{◌≡◌, Err, ap, rules}
 use Rattle.std.proofs.lemmas.Result.{IfOk-weaker}
+use Rattle.adjudicate_core.specs.declared.usage.WordsFault.TheVariants.{NoText}
 use Rattle.adjudicate_core.specs.Running.{OnNone, OnWords, called_by}
 use Rattle.adjudicate_core.proofs.program.run_program.Goals as goal
 
@@ -11,4 +12,6 @@ returns-in-Ok-tail_of g c =
     IfOk-weaker c.run.result _ _ (λ status h. OnWords _ (ap called_by c.in-Ok.is) h) on_words
 
 pub returns-in-Err-NoText : goal.returns-in-Err-NoText
-returns-in-Err-NoText g c = IfOk-weaker c.run-in-Err-NoText.result _ _ (λ status h. OnNone (ap called_by c.in-Err-NoText.is ∙ ap Err c.in-Err-NoText.field-0-is) h) c.run-in-Err-NoText.ensures.runs
+returns-in-Err-NoText g c =
+    let is : called_by c.args.called.now ≡ Err NoText = search rules in
+    IfOk-weaker c.run-in-Err-NoText.result _ _ (λ status h. OnNone is h) c.run-in-Err-NoText.ensures.runs
