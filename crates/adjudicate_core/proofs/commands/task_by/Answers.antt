@@ -1,4 +1,4 @@
-use Rattle.std.proofs.Common.{◌≡◌, ◌∙◌, ap, subst}
+use Rattle.std.proofs.Common.{◌∙◌, ap, subst}
 use Rattle.std.specs.Prelude.{map}
 use Rattle.clap.specs.Words.{App, first_value, found_of, is_simple_and_free}
 use Rattle.adjudicate_core.specs.Rules.{value_in}

@@ -1,4 +1,4 @@
-use Rattle.std.proofs.Common.{◌≡◌, Bool, true, false, refl, inl, inr}
+use Rattle.std.proofs.Common.{◌≡◌, Bool, true, false, refl, inr}
 use Rattle.std.proofs.lemmas.Result.{IfOk-weaker}
 use Rattle.adjudicate_core.specs.Running.{ToTask, ToMisuse}
 use Rattle.adjudicate_core.proofs.program.run.Goals as goal

@@ -1,9 +1,7 @@
-use Rattle.std.proofs.Common.{◌∙◌, ap}
+use Rattle.std.proofs.Common.{◌∙◌}
 use Rattle.std.specs.Prelude.{map}
 use Rattle.std.proofs.lemmas.Result.{IfOk-weaker}
 use Rattle.move_msg.specs.Manifests.{entry_of}
-use Rattle.move_msg.specs.ToldBy.{told_by}
-use Rattle.adjudicate_core.specs.Commands.Check.{checked_by}
 use Rattle.adjudicate_core.proofs.LookLaws.{same_reply}
 use Rattle.adjudicate_core.proofs.commands.check.check_manifest.Goals as goal
 

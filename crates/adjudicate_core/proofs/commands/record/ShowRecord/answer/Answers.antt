@@ -1,6 +1,5 @@
-use Rattle.std.proofs.Common.{refl, subst}
+use Rattle.std.proofs.Common.{refl}
 use Rattle.std.proofs.lemmas.Result.{IfOk-weaker}
-use Rattle.move_msg.specs.Records.{IsFirstRecordFault, SpellsRecord}
 use Rattle.adjudicate_core.specs.Commands.Record.{OfNone, OfRecord}
 use Rattle.adjudicate_core.specs.Reply.{Replied}
 use Rattle.adjudicate_core.proofs.commands.record.ShowRecord.answer.Goals as goal
