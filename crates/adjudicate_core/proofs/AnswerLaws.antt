@@ -1,5 +1,5 @@
 -- Answers that are written all at once.
-use Rattle.std.proofs.Common.{◌≡◌, ℕ, List, Option, refl}
+use Rattle.std.proofs.Common.{ℕ, List, Option, refl}
 use Rattle.std.specs.Prelude.{Result, Ok, Err, IfOk, IsErrOf, OnErr}
 use Rattle.adjudicate_core.specs.declared.answers.Answer.{Answer}
 use Rattle.adjudicate_core.specs.Inside.Asked.{PutsAnswered, PutsRead, reply_of}

@@ -1,10 +1,9 @@
 -- Kept files that are audited.
-use Rattle.std.proofs.Common.{◌≡◌, ◌≢◌, ◌∙◌, sym, ap, subst, refl, ℕ, ◌+◌, ◌<◌, ◌≤◌, Bool, true, false, cond, ◌==◌, List, [], ◌∷◌, length, take, Option, Some, None, inl, inr, ◌⊎◌, arith}
-use Rattle.std.specs.Prelude.{IsSome, is_some, min}
-use Rattle.std.proofs.lemmas.Bool.{cases_lt, cond-true, cond-false, eqb-true, eqb-false, eq-eqb, ne_eqb, cases_Bool}
+use Rattle.std.proofs.Common.{◌≡◌, ◌≢◌, ◌∙◌, sym, ap, subst, refl, ℕ, ◌+◌, ◌<◌, ◌≤◌, Bool, true, false, ◌==◌, List, length, take, Option, Some, None, inl, inr, arith}
+use Rattle.std.specs.Prelude.{is_some, min}
+use Rattle.std.proofs.lemmas.Bool.{cases_lt, cond-true, cond-false, eqb-false, eq-eqb, ne_eqb}
 use Rattle.std.proofs.lemmas.List.{take-take, take_all, length-take-le}
 use Rattle.board_core.specs.declared.moves.Move.{Move}
-use Rattle.board_core.specs.declared.verdict.Verdict.{Verdict}
 use Rattle.judge_core.specs.declared.game.GameOutcome.{GameOutcome}
 use Rattle.judge_core.specs.declared.game.GameOutcome.TheVariants.{Ruled, Illegal, Going}
 use Rattle.judge_core.specs.Games.{IsOutcome, Rules}
@@ -137,8 +136,8 @@ ends_so r s (Some ply) h p = elim p [
     | inr level ↦ (
         let short : min (length r.moves) (length s.moves) ≡ length r.moves = let e = level.0 in omega arith in
         let same = subst (λ n. take n r.moves ≡ take n s.moves) short h in (
-          (λ j lt. same_inside r s (length r.moves) j same (let e = level.1.1 in omega arith) (let e = level.1.1 in omega arith) (let e = level.0 in let f = level.1.1 in omega arith)),
-          (λ at. level.1.0 (sym (at_last r ply level.1.1) ∙ at.1 ∙ at_last s ply (level.1.1 ∙ level.0))),
+          (λ j lt. same_inside r s (length r.moves) j same (let e = level.2 in omega arith) (let e = level.2 in omega arith) (let e = level.0 in let f = level.2 in omega arith)),
+          (λ at. level.1 (sym (at_last r ply level.2) ∙ at.1 ∙ at_last s ply (level.2 ∙ level.0))),
         ))
   ]
 ]

@@ -1,6 +1,6 @@
 -- Files that are read one by one, and what is made of each.
 use Rattle.std.proofs.Common.{◌≡◌, ◌<◌, ◌+◌, ◌++◌, ◌&&◌, ℕ, Bool, true, false, List, [], ◌∷◌, length, map, take, get_or, Option, Some, None, refl, sym, ap, ◌∙◌, subst}
-use Rattle.std.specs.Prelude.{Ok, Err, cond, find, is_none, option_map, if◌then◌else◌}
+use Rattle.std.specs.Prelude.{Ok, Err, find, is_none, option_map, if◌then◌else◌}
 use Rattle.std.specs.List.{AllByRecursion, list_all}
 use Rattle.std.specs.Result.{is_ok}
 use Rattle.std.specs.Str.{bytes_eq}
@@ -13,16 +13,15 @@ use Rattle.move_msg.specs.Files.{AreFiles, AreNamed, AreSorted, File, entries_of
 use Rattle.move_msg.specs.Manifests.{AreEntries, AreOfFiles, AreRising, Entry, IsEntry, entry_of}
 use Rattle.move_msg.specs.TableNames.{IsFileName}
 use Rattle.move_msg.specs.TextLines.{text_of}
-use Rattle.move_msg.specs.ToldManifests.{Told}
 use Rattle.adjudicate_core.specs.declared.commands.check.Seen.{Seen}
 use Rattle.adjudicate_core.specs.Commands.Check.{checked}
 use Rattle.adjudicate_core.specs.declared.tables.FileFault.TheVariants.{Changed}
-use Rattle.adjudicate_core.specs.FileNames.{file_named, names_of}
+use Rattle.adjudicate_core.specs.FileNames.{file_named}
 use Rattle.adjudicate_core.specs.Inside.Looking.{AreLooksAt, AreMadeOf, IsSeenOf, Sight, fault_by, fault_seen, reply_seen, sight_at, sight_of}
 use Rattle.adjudicate_core.specs.Lines.{look_words}
-use Rattle.adjudicate_core.specs.Looks.{Found, Look, are_tables, fault_in, found_in, held, look_for, look_line}
+use Rattle.adjudicate_core.specs.Looks.{Found, are_tables, fault_in, found_in, held, look_for, look_line}
 use Rattle.adjudicate_core.specs.Outside.{IsAtItsPath}
-use Rattle.adjudicate_core.specs.Reply.{Reply, status_if}
+use Rattle.adjudicate_core.specs.Reply.{status_if}
 
 -- ---- one more
 

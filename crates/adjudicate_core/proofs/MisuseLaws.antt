@@ -1,14 +1,13 @@
 -- What is told of words that are misused.
-use Rattle.std.proofs.Common.{◌≡◌, ◌++◌, ◌∙◌, List, [], ◌∷◌, Option, sym, ap, subst, inl, inr, refl}
+use Rattle.std.proofs.Common.{◌≡◌, ◌++◌, ◌∙◌, List, [], ◌∷◌, Option, sym, ap, subst, inl, inr}
 use Rattle.std.specs.Prelude.{ℕ}
-use Rattle.clap.specs.Words.{HasKind, IsAmong, Text, kind_of}
+use Rattle.clap.specs.Words.{HasKind, Text, kind_of}
 use Rattle.clap.specs.declared.error.Error.{Error}
 use Rattle.clap.specs.declared.error.kind.ErrorKind.{ErrorKind}
 use Rattle.clap.specs.declared.error.kind.ErrorKind.TheVariants as kind
 use Rattle.adjudicate_core.specs.declared.commands.Name.{Name}
 use Rattle.adjudicate_core.specs.declared.usage.Misuse.{Misuse as Misuses}
 use Rattle.adjudicate_core.specs.declared.usage.Misuse.TheVariants.{Refused, Value}
-use Rattle.adjudicate_core.specs.declared.usage.Usage.{Usage}
 use Rattle.adjudicate_core.specs.declared.usage.Usage.TheVariants.{Misuse, OutOfMemory}
 use Rattle.adjudicate_core.specs.declared.usage.ValueFault.{ValueFault}
 use Rattle.adjudicate_core.specs.Misuses.{AreWell, Fault, IsFirst, fault_words}

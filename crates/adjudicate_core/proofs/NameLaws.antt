@@ -15,9 +15,7 @@ use Rattle.std.specs.Prelude.{String, string_bytes}
 use Rattle.std.specs.Global.{Global}
 use Rattle.move_msg.specs.declared.manifest.Line.{Line}
 use Rattle.move_msg.specs.Manifests.{Entry, entry_of}
-use Rattle.move_msg.specs.declared.files.NamedFile.{NamedFile}
-use Rattle.move_msg.specs.Files.{File, file_of, AreFiles, AreNamed, AreSorted}
-use Rattle.std.specs.List.{AllByRecursion}
+use Rattle.move_msg.specs.Files.{File, AreFiles, AreNamed, AreSorted}
 use Rattle.adjudicate_core.specs.FileNames.{AreRisingNames, IsNameBefore, names_of}
 use Rattle.std.specs.Str.{bytes_eq}
 use Rattle.std.proofs.lemmas.Slice.Eq.{bytes_eq-Decides}

@@ -149,11 +149,13 @@ pub(crate) fn audit(
                 kept: Some(record),
             })
         }
-        Err(RecordFault::OutOfMemory) => Err(AllocError),
-        Err(fault) => Ok(Audited {
-            finding: Finding::BadRecord(fault),
-            kept: None,
-        }),
+        Err(fault) => match fault {
+            RecordFault::OutOfMemory => Err(AllocError),
+            _ => Ok(Audited {
+                finding: Finding::BadRecord(fault),
+                kept: None,
+            }),
+        },
     }
 }
 

@@ -1,6 +1,6 @@
 -- `audit --name N --start FEN --tables DIR [--manifest FILE] [--delay N] FILE [FILE]`: whether kept files are records of a game
 -- as an arbiter of it keeps them, and whether two of them agree; specs/Audits.antt has what is found (this project's own).
-use Rattle.std.specs.Prelude.{◌≡◌, ◌++◌, ℕ, false, List, [], ◌∷◌, Option, Some, None, Ok, Err, codes, option_map}
+use Rattle.std.specs.Prelude.{◌≡◌, ◌++◌, ℕ, false, List, [], ◌∷◌, Option, Some, Ok, Err, codes, option_map}
 use Rattle.board_core.specs.declared.parts.Parts.{Parts}
 use Rattle.fen_text.specs.Written.{fen_of}
 use Rattle.judge_core.specs.Tables.{Tables}

@@ -1,5 +1,5 @@
 -- `run [--tables DIR] [--cache N] [--delay N]`: two arbiters under the schedule of the input (this project's own).
-use Rattle.std.specs.Prelude.{◌≡◌, ◌⊎◌, ℕ, true, List, [], ◌∷◌, length, Option, Some, None, codes, option_map, slice_get}
+use Rattle.std.specs.Prelude.{◌≡◌, ℕ, true, List, [], ◌∷◌, length, Option, Some, None, codes, option_map, slice_get}
 use Rattle.move_msg.specs.Files.{File}
 use Rattle.move_msg.specs.TextLines.{text_of}
 use Rattle.relay_world.specs.declared.schedule.Schedule.{Schedule}

@@ -5,7 +5,7 @@ use Rattle.move_msg.specs.declared.message.Message.{Message}
 use Rattle.move_msg.specs.Messages.{fault_name as message_fault_name}
 use Rattle.move_msg.specs.Streams.{End, AfterMessage, Cut, AtFault, SpellsStream}
 use Rattle.move_msg.specs.TextLines.{text_of}
-use Rattle.clap.specs.Words.{Rule, Text}
+use Rattle.clap.specs.Words.{Rule}
 use Rattle.adjudicate_core.specs.Misuses.{Fault}
 use Rattle.adjudicate_core.specs.Sources.{Named}
 use Rattle.adjudicate_core.specs.Given.{Given}

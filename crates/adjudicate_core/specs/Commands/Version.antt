@@ -1,8 +1,7 @@
 -- `version`: the program's version, and that of the toolchain that it was proved with (this project's own).
-use Rattle.std.specs.Prelude.{◌≡◌, ℕ, false, List, [], ◌∷◌, Option, None, codes}
+use Rattle.std.specs.Prelude.{◌≡◌, ℕ, false, List, [], Option, None, codes}
 use Rattle.std.specs.Io.KnownBytes.{Appends}
 use Rattle.clap.specs.Words.{Rule}
-use Rattle.move_msg.specs.TextLines.{ended}
 use Rattle.adjudicate_core.specs.Misuses.{Fault}
 use Rattle.adjudicate_core.specs.Sources.{Named}
 

@@ -4,7 +4,7 @@ ghost use Rattle.std.specs.Prelude.{◌≡◌, ◌≤◌, Ok, option_map, IfErr,
 ghost use Rattle.clap.specs.Words.{first_value, found_of};
 ghost use Rattle.board_core.specs.Delays.{most_delay};
 ghost use Rattle.adjudicate_core.specs.Audits.{IsAudited, audited_one, audited_two};
-ghost use Rattle.adjudicate_core.specs.Commands.Audit.{HasValues, IsHeld, IsReply, faults, named};
+ghost use Rattle.adjudicate_core.specs.Commands.Audit.{HasValues, IsHeld, IsReply, faults, named, other_in};
 ghost use Rattle.adjudicate_core.specs.Inside.Asked.{reply_of};
 ghost use Rattle.adjudicate_core.specs.Inside.Auditing.{rules_of};
 ghost use Rattle.adjudicate_core.specs.Looks.{gathered};
@@ -160,6 +160,16 @@ impl<'a> Audit<'a> {
         }
     }
 
+    /// The bytes of the second kept file, if it is named.
+    fn other_in<'s>(&self, sources: &'s Sources) -> Option<&'s [u8]>
+        ensures { option_map (λ s. s.now) result ≡ other_in self.now sources.now }
+    {
+        match self.other {
+            Some(_) => Some(sources.other_kept()),
+            None => None,
+        }
+    }
+
     /// What is found of the kept files by these tables.
     fn answer_by(
         &self,
@@ -179,11 +189,7 @@ impl<'a> Audit<'a> {
             delay,
             set,
         };
-        let other = match self.other {
-            Some(_) => Some(sources.other_kept()),
-            None => None,
-        };
-        answer_files(alloc, &mut auditor, sources.kept(), other)
+        answer_files(alloc, &mut auditor, sources.kept(), self.other_in(sources))
     }
 
     /// The same by the tables of the files, or their refusal.

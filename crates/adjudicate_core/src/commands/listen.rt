@@ -138,9 +138,18 @@ impl<'a> Listen<'a> {
         ensures ok { IfOk result (IsListening (first_value (found_of matches.now))) }
         ensures err { IfErr result (λ fault. IsFirst (first_value (found_of matches.now)) faults (fault_words fault)) }
     {
-        let game = game_words_in(matches)?;
-        let ends = ends_in(matches)?;
-        let terms = terms_in(matches)?;
+        let game = match game_words_in(matches) {
+            Ok(game) => game,
+            Err(fault) => return Err(fault),
+        };
+        let ends = match ends_in(matches) {
+            Ok(ends) => ends,
+            Err(fault) => return Err(fault),
+        };
+        let terms = match terms_in(matches) {
+            Ok(terms) => terms,
+            Err(fault) => return Err(fault),
+        };
         Ok(Listen {
             name: game.name.into_text(),
             start: game.start,

@@ -159,8 +159,10 @@ impl<'a> ShowRecord<'a> {
                 Ok(()) => Ok(0),
                 Err(fault) => Err(fault),
             },
-            Err(RecordFault::OutOfMemory) => put_refusal(out, Refusal::Memory),
-            Err(fault) => put_refusal(out, Refusal::Record(fault)),
+            Err(fault) => match fault {
+                RecordFault::OutOfMemory => put_refusal(out, Refusal::Memory),
+                _ => put_refusal(out, Refusal::Record(fault)),
+            },
         }
     }
 }

@@ -1,5 +1,3 @@
-use Rattle.std.proofs.Common.{subst}
-use Rattle.adjudicate_core.specs.Inside.Auditing.{ArePartedAt}
 use Rattle.adjudicate_core.proofs.AuditLaws.{parted_so}
 use Rattle.adjudicate_core.proofs.auditing.compare.Goals as goal
 

@@ -1,4 +1,4 @@
-use Rattle.std.proofs.Common.{◌∙◌, inr, refl, rules}
+use Rattle.std.proofs.Common.{◌∙◌, refl, rules}
 use Rattle.adjudicate_core.proofs.TellLaws.{same_if_known, told_all, told_cut, told_flushed, told_more, told_most, told_none}
 use Rattle.adjudicate_core.proofs.told_lines.tell_lines.Goals as goal
 
