@@ -17,6 +17,7 @@ use Rattle.adjudicate_core.specs.Addresses.{addresses_of}
 use Rattle.adjudicate_core.specs.declared.commands.listen.Listen.{Listen}
 use Rattle.adjudicate_core.specs.Given.{Given}
 use Rattle.system_io.specs.KeptFiles.{KeptFacts, CannotStart}
+use Rattle.system_io.specs.declared.host.BindFault.TheVariants as bind
 use Rattle.system_io.specs.Hosts.{HostFacts}
 use Rattle.arbiter_service.specs.ServedLines.{refused_keeper, refused_port}
 use Rattle.adjudicate_core.specs.ToldLines.{refused_memory}
@@ -71,7 +72,7 @@ pub data ServesAt {P F : Type 0} (host : Hosted P F) (l : Listen) (setup : Setup
 
 -- with these tables: the port can't be bound; or it is, sends to each of the addresses, and the record is kept in the file at the path
 pub data BindsAndServes {P F : Type 0} (host : Hosted P F) (l : Listen) (setup : SetupView) (old new : Option (List ℕ)) (status : ℕ) : Type 0 where
-  Unbound : host.host.unbound l.bind.now → TellsOne refused_port old new status → BindsAndServes host l setup old new status
+  Unbound : host.host.refuses l.bind.now bind.Unbound → TellsOne refused_port old new status → BindsAndServes host l setup old new status
   NoRoomToBind : TellsOne refused_memory old new status → BindsAndServes host l setup old new status
   Bound : (port port' : P) → host.host.binds l.bind.now (addresses_of l.to.now) port → (host.port port).addresses ≡ length (addresses_of l.to.now) → ServesAt host l setup (host.port port) (host.port port') old new status → BindsAndServes host l setup old new status
 

@@ -11,6 +11,7 @@ use Rattle.move_msg.specs.Manifests.{Entry, IsFirstBadLine, SpellsManifest}
 use Rattle.move_msg.specs.Stamps.{stamp_of}
 use Rattle.system_io.specs.declared.output.WriteFault.{WriteFault}
 use Rattle.system_io.specs.Disks.{AtFile, DiskFacts}
+use Rattle.system_io.specs.declared.host.BindFault.TheVariants as bind
 use Rattle.system_io.specs.Inputs.{InputFacts}
 use Rattle.system_io.specs.Ports.{Passed, PortFacts}
 use Rattle.source_core.specs.Sendings.{IsSending, Sending, WritesLines}
@@ -50,7 +51,7 @@ pub data SendsOver (source : InputFacts) (stamp : Stamp) (most : ℕ) (start : P
 
 -- the port can't be bound; or it is, and sends to each of the addresses
 pub data BindsAndSends {P F : Type 0} (host : Hosted P F) (source : InputFacts) (t : Send) (stamp : Stamp) (start : Parts) (old new : Option (List ℕ)) (r : Result ℕ WriteFault) : Type 0 where
-  Unbound : host.host.unbound t.bind.now → TellsIf refused_port old new r → BindsAndSends host source t stamp start old new r
+  Unbound : host.host.refuses t.bind.now bind.Unbound → TellsIf refused_port old new r → BindsAndSends host source t stamp start old new r
   NoRoomToBind : TellsIf refused_memory old new r → BindsAndSends host source t stamp start old new r
   Bound : (port port' : P) → host.host.binds t.bind.now (addresses_of t.to.now) port → (host.port port).addresses ≡ length (addresses_of t.to.now) → SendsOver source stamp t.tries start (host.port port) (host.port port') old new r → BindsAndSends host source t stamp start old new r
 

@@ -21,7 +21,7 @@ use crate::sources::Sources;
 use crate::usage::{Misuse, Usage, WordsFault};
 use std::alloc::{AllocError, Global};
 use std::io::{self, Write};
-use system_io::{Disk, Host, Input, ReadFault, WriteFault};
+use system_io::{Disk, Host, Input, Output, ReadFault, WriteFault};
 
 /// The command lines that there are.
 const USAGE: &str = "usage: adjudicate judge [--tables DIR] [--manifest FILE] FEN
@@ -89,7 +89,7 @@ fn put_misuse<E: Write>(alloc: Global, errors: &mut E, misuse: &Misuse<'_>) -> i
 /// text that is no position takes none, and `show` takes none. The error comes only where the writer
 /// failed. `list` and `check` read their folder here, and hold one file at a time. With `--progress`, `probes` tells `errors` after
 /// every 10,000 lines how many are done, `list` and `check` after each hundred million bytes; no other task writes there.
-fn answer_given<D: Disk, I: Input, H: Host, W: Write, E: Write>(
+fn answer_given<D: Disk, I: Input, H: Host, W: Output, E: Write>(
     alloc: Global,
     task: &Task,
     sources: &Sources,
@@ -121,7 +121,7 @@ fn answer_given<D: Disk, I: Input, H: Host, W: Write, E: Write>(
 }
 
 /// Answers a task from what it reads.
-fn run_task<D: Disk, I: Input, H: Host, W: Write, E: Write>(
+fn run_task<D: Disk, I: Input, H: Host, W: Output, E: Write>(
     alloc: Global,
     task: &Task,
     disk: &D,
@@ -151,7 +151,7 @@ fn run_task<D: Disk, I: Input, H: Host, W: Write, E: Write>(
 ///
 /// Answers go to `out` and what is wrong with the words to `errors`, as does how far a task with `--progress` is; nothing else is
 /// written there, and its failure changes nothing. The error comes only where `out` failed.
-pub fn run<D: Disk, I: Input, H: Host, W: Write, E: Write>(
+pub fn run<D: Disk, I: Input, H: Host, W: Output, E: Write>(
     alloc: Global,
     words: &[&str],
     disk: &D,
@@ -203,7 +203,7 @@ pub fn refuse_memory<W: Write>(out: &mut W) -> Result<u8, WriteFault>
 
 /// Runs the program on all words that it was called with, its own name first. Where they are no texts it runs on none, and
 /// where memory was refused for them, that is told.
-pub fn run_program<D: Disk, I: Input, H: Host, W: Write, E: Write>(
+pub fn run_program<D: Disk, I: Input, H: Host, W: Output, E: Write>(
     alloc: Global,
     called: &Result<Vec<String>, WordsFault>,
     disk: &D,

@@ -20,9 +20,9 @@ use fen_text::read;
 use move_msg::{Line, Manifest, ManifestFault, manifest_read, manifest_write};
 use source_core::{Terms, send_game};
 use std::alloc::Global;
-use std::io::{self, Write};
+use std::io;
 use std::time::Duration;
-use system_io::{BindFault, Disk, Host, Input, Port, ReadFault, WriteFault};
+use system_io::{BindFault, Disk, Host, Input, Output, Port, ReadFault, WriteFault};
 
 /// The manifest at a path.
 fn manifest_at<D: Disk>(alloc: Global, disk: &D, path: &str) -> Result<Vec<u8>, Refusal>
@@ -88,7 +88,7 @@ fn terms_of(task: &Send<'_>, start: &Position, manifest: &[u8]) -> Terms
 }
 
 /// Sends the moves of an input at a port; where memory for reading it is refused, that alone is told.
-fn send_over<I: Input, P: Port, W: Write>(
+fn send_over<I: Input, P: Port, W: Output>(
     alloc: Global,
     terms: Terms,
     start: Position,
@@ -105,7 +105,7 @@ fn send_over<I: Input, P: Port, W: Write>(
 }
 
 /// The same at the addresses that the words name. An address that can't be bound is told as `refused port`.
-fn bind_and_send<I: Input, H: Host, W: Write>(
+fn bind_and_send<I: Input, H: Host, W: Output>(
     alloc: Global,
     task: &Send<'_>,
     terms: Terms,
@@ -128,7 +128,7 @@ fn bind_and_send<I: Input, H: Host, W: Write>(
 }
 
 /// The same by the text of the start.
-fn send_from<D: Disk, I: Input, H: Host, W: Write>(
+fn send_from<D: Disk, I: Input, H: Host, W: Output>(
     alloc: Global,
     task: &Send<'_>,
     start: Position,
@@ -156,7 +156,7 @@ fn send_from<D: Disk, I: Input, H: Host, W: Write>(
 /// the tables, and the address. Where memory is refused the line is `refused memory`. Tables are read for the stamp alone, and
 /// none where a manifest is named. What follows is told as `source_core::send_game` says. The error comes only where the writer
 /// failed.
-pub fn send<D: Disk, I: Input, H: Host, W: Write>(
+pub fn send<D: Disk, I: Input, H: Host, W: Output>(
     alloc: Global,
     task: &Send<'_>,
     disk: &D,

@@ -10,7 +10,7 @@ use std::alloc::Global;
 use std::io::{self, BufReader, Read, Write};
 use std::process::Abort;
 use std::time::Duration;
-use system_io::WriteFault;
+use system_io::{Output, WriteFault};
 
 /// A game to mate at ply 4.
 const MATE: &str = "f2f3\ne7e5\ng2g4\nd8h4\n";
@@ -41,7 +41,7 @@ fn reader_of<R: Read + Drop>(rt: &impl Abort, alloc: Global, input: R) -> BufRea
 }
 
 /// The end of a run over an input.
-fn sent<R: Read + Drop, W: Write>(
+fn sent<R: Read + Drop, W: Output>(
     rt: &impl Abort,
     alloc: Global,
     input: R,
@@ -353,6 +353,25 @@ impl Write for Narrow {
     }
 
     fn flush(&mut self) -> io::Result<()> {
+        Ok(())
+    }
+}
+
+impl Output for Narrow {
+    ghost use Rattle.system_io.specs.Outputs.{holds_nothing_back};
+
+    ghost facts = { λ _. holds_nothing_back };
+
+    ghost one = { λ _ gone stuck. stuck };
+
+    fn put(&mut self, bytes: &[u8]) -> Result<(), WriteFault> {
+        match self.write(bytes) {
+            Ok(n) if n == bytes.len() => Ok(()),
+            _ => Err(WriteFault::Io),
+        }
+    }
+
+    fn flush_all(&mut self) -> Result<(), WriteFault> {
         Ok(())
     }
 }

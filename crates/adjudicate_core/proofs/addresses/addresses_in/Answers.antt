@@ -15,7 +15,7 @@ loop-first-preserved c =
     let cut = c.in-Some.ensures.byte (omega arith) (λ w o h. h) in (
       search rules,
       one_found c.args.word.now c.loop-first.rest.now c.in-Some.first.now c.in-Some.more.now (map (λ s. s.now) c.loop-first.addresses.items) c.loop-first.invariant.1 cut.0 cut.1 cut.2
-      ∙ ap (λ l. l ++ addresses_of c.in-Some.more.now) (sym (ap (map (λ s. s.now)) c.in_ok-push.ensures.items ∙ map-append (λ s. s.now) c.loop-first.addresses.items (c.in-Some.first ∷ []))),
+          ∙ ap (λ l. l ++ addresses_of c.in-Some.more.now) (sym (ap (map (λ s. s.now)) c.in_ok-push.ensures.items ∙ map-append (λ s. s.now) c.loop-first.addresses.items (c.in-Some.first ∷ []))),
     )
 
 pub returns : goal.returns
