@@ -41,3 +41,6 @@ returns-in-Audit g c = record { answered = rw c.in-Audit.is (once c.answer-in-Au
 
 pub returns-in-Version : goal.returns-in-Version
 returns-in-Version g c = record { answered = rw c.in-Version.is c.answer-in-Version.ensures; quiet = λ unasked. refl }
+
+pub returns-in-Send : goal.returns-in-Send
+returns-in-Send g c = record { answered = rw c.in-Send.is c.send.ensures; quiet = λ unasked. refl }
