@@ -1,3 +1,4 @@
+pub mod AddressLaws
 pub mod NameLaws
 pub mod TellLaws
 pub mod AnswerLaws

@@ -10,5 +10,6 @@ pub mod Probe
 pub mod Probes
 pub mod Record
 pub mod Run
+pub mod Send
 pub mod Show
 pub mod Version

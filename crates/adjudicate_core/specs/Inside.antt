@@ -6,3 +6,4 @@ pub mod ListeningParts
 pub mod Looking
 pub mod Placing
 pub mod Refusals
+pub mod SendingParts

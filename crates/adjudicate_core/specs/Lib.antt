@@ -15,6 +15,9 @@ pub mod Schedules
 pub mod Reply
 pub mod Telling
 pub mod Running
+pub mod Addresses
 pub mod Listens
+pub mod Sends
+pub mod Laws
 pub mod Audits
 pub mod Inside

@@ -4,7 +4,7 @@ use Rattle.std.specs.List.{AllByRecursion}
 use Rattle.clap.specs.Words.{Text}
 use Rattle.move_msg.specs.declared.who.Who.{Who}
 use Rattle.move_msg.specs.Stamps.{IsGameName}
-use Rattle.adjudicate_core.specs.Numbers.{IsCache, IsDatagrams, IsDelay, IsMe}
+use Rattle.adjudicate_core.specs.Numbers.{IsCache, IsDatagrams, IsDelay, IsHundredOr, IsMe}
 use Rattle.adjudicate_core.specs.declared.usage.Wanted.{Wanted}
 use Rattle.adjudicate_core.specs.declared.usage.Wanted.TheVariants as wanted
 use Rattle.adjudicate_core.specs.declared.usage.Misuse.{Misuse}
@@ -21,6 +21,8 @@ name_of wanted.Cache = codes "cache"
 name_of wanted.Delay = codes "delay"
 name_of wanted.Datagrams = codes "datagrams"
 name_of wanted.Me = codes "me"
+name_of wanted.Wait = codes "wait"
+name_of wanted.Tries = codes "tries"
 
 -- what it takes
 abbrev pub range_of : Wanted → List ℕ
@@ -29,6 +31,8 @@ range_of wanted.Cache = codes "1 to 4096"
 range_of wanted.Delay = codes "0 to 8"
 range_of wanted.Datagrams = codes "0 to 4294967295"
 range_of wanted.Me = codes "1 or 2"
+range_of wanted.Wait = codes "1 to 65535"
+range_of wanted.Tries = codes "1 to 65535"
 
 abbrev pub unfit_words : Wanted → List ℕ → List ℕ
 unfit_words wanted text = codes "--" ++ name_of wanted ++ codes " " ++ text ++ codes ": " ++ range_of wanted
@@ -66,6 +70,8 @@ IsUnfit value wanted.Cache = (n : ℕ) → IsCache (value (codes "cache")) n →
 IsUnfit value wanted.Delay = (n : ℕ) → IsDelay (value (codes "delay")) n → ⊥
 IsUnfit value wanted.Datagrams = (n : ℕ) → IsDatagrams (value (codes "datagrams")) n → ⊥
 IsUnfit value wanted.Me = (who : Who) → IsMe (value (codes "me")) who → ⊥
+IsUnfit value wanted.Wait = (n : ℕ) → IsHundredOr (value (codes "wait")) n → ⊥
+IsUnfit value wanted.Tries = (n : ℕ) → IsHundredOr (value (codes "tries")) n → ⊥
 
 abbrev pub Holds : (Text → Option Text) → Fault → Type 0
 Holds value (NoOption name) = value name ≡ None

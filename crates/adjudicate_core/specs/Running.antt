@@ -15,6 +15,7 @@ use Rattle.system_io.specs.Hosts.{HostFacts}
 use Rattle.system_io.specs.KeptFiles.{KeptFacts}
 use Rattle.system_io.specs.Ports.{PortFacts}
 use Rattle.adjudicate_core.specs.Listens.{Hosted, Listens, hosted}
+use Rattle.adjudicate_core.specs.Sends.{Sends}
 use Rattle.adjudicate_core.specs.Sources.{CannotRead, IsGiven, reads_some}
 use Rattle.adjudicate_core.specs.Commands.Judge as judges
 use Rattle.adjudicate_core.specs.Commands.Probe as probes
@@ -61,6 +62,7 @@ AnswersFrom disk source host (task.Game t) given old new status = AnswersOnce (g
 AnswersFrom disk source host (task.Record t) given old new status = AnswersOnce (records.IsReply given.kept) (records.TakesMemory given.kept) old new status
 AnswersFrom disk source host (task.Audit t) given old new status = AnswersOnce (audits.IsReply t given) (IsText t.start.now) old new status
 AnswersFrom disk source host (task.Version t) given old new status = versions.Answers old new status
+AnswersFrom disk source host (task.Send t) given old new status = Sends disk source host t old new (Ok status)
 
 -- to a task the program answers from what it reads; or something that it reads for it can't be read; or memory was refused while
 -- it read

@@ -13,6 +13,7 @@ use Rattle.adjudicate_core.specs.Commands.Run as runs
 use Rattle.adjudicate_core.specs.Commands.Listen as listens
 use Rattle.adjudicate_core.specs.Commands.Probes as of_probes
 use Rattle.adjudicate_core.specs.Commands.Game as games
+use Rattle.adjudicate_core.specs.Commands.Send as sends
 use Rattle.adjudicate_core.specs.Commands.Record as records
 use Rattle.adjudicate_core.specs.Commands.Audit as audits
 use Rattle.adjudicate_core.specs.Commands.Version as versions
@@ -42,6 +43,7 @@ word_of name.Game = codes "game"
 word_of name.Record = codes "record"
 word_of name.Audit = codes "audit"
 word_of name.Version = codes "version"
+word_of name.Send = codes "send"
 
 -- what it is given
 abbrev pub rules_of : Name → List Rule
@@ -58,6 +60,7 @@ rules_of name.Game = games.rules
 rules_of name.Record = records.rules
 rules_of name.Audit = audits.rules
 rules_of name.Version = versions.rules
+rules_of name.Send = sends.rules
 
 -- what may be wrong with its values, in the order in which it is told
 abbrev pub faults_of : Name → List Fault
@@ -74,6 +77,7 @@ faults_of name.Game = games.faults
 faults_of name.Record = records.faults
 faults_of name.Audit = audits.faults
 faults_of name.Version = versions.faults
+faults_of name.Send = sends.faults
 
 -- ---- by the task
 
@@ -91,6 +95,7 @@ name_of (task.Game t) = name.Game
 name_of (task.Record t) = name.Record
 name_of (task.Audit t) = name.Audit
 name_of (task.Version t) = name.Version
+name_of (task.Send t) = name.Send
 
 -- it has these values of its command's arguments
 abbrev pub HasValues : (Text → Option Text) → Task → Type 0
@@ -107,6 +112,7 @@ HasValues value (task.Game t) = games.HasValues value t
 HasValues value (task.Record t) = records.HasValues value t
 HasValues value (task.Audit t) = audits.HasValues value t
 HasValues value (task.Version t) = Unit {0}
+HasValues value (task.Send t) = sends.HasValues value t
 
 -- what is read for it
 abbrev pub named_in : Task → Named
@@ -123,6 +129,7 @@ named_in (task.Game t) = games.named t
 named_in (task.Record t) = records.named t
 named_in (task.Audit t) = audits.named t
 named_in (task.Version t) = versions.named
+named_in (task.Send t) = sends.named
 
 -- how far it is, is told on the way
 abbrev pub tells_progress : Task → Bool
@@ -139,6 +146,7 @@ tells_progress (task.Game t) = false
 tells_progress (task.Record t) = false
 tells_progress (task.Audit t) = false
 tells_progress (task.Version t) = false
+tells_progress (task.Send t) = false
 
 -- ---- words
 

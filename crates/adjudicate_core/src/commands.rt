@@ -18,6 +18,7 @@ mod probe;
 mod probes;
 mod record;
 mod run;
+mod send;
 mod show;
 mod version;
 
@@ -35,6 +36,7 @@ pub use probe::Probe;
 pub use probes::Probes;
 pub use record::ShowRecord;
 pub use run::RunSchedule;
+pub use send::Send;
 pub use show::Show;
 use std::alloc::{AllocError, Global};
 pub use version::Version;
@@ -68,6 +70,8 @@ pub enum Task<'a> {
     Audit(Audit<'a>),
     /// The program's version.
     Version(Version),
+    /// The moves of the input, sent to the arbiters of a game.
+    Send(Send<'a>),
 }
 
 /// The commands.
@@ -99,6 +103,8 @@ pub enum Name {
     Audit,
     /// Tells the program's version.
     Version,
+    /// Sends the moves of a game.
+    Send,
 }
 
 /// How a command is given a value. Whether the value has to be there isn't told here: the command asks for it.
@@ -139,6 +145,7 @@ impl Name {
             "record" => Some(Name::Record),
             "audit" => Some(Name::Audit),
             "version" => Some(Name::Version),
+            "send" => Some(Name::Send),
             _ => None,
         }
     }
@@ -161,6 +168,7 @@ impl Name {
             Name::Record => "record",
             Name::Audit => "audit",
             Name::Version => "version",
+            Name::Send => "send",
         }
     }
 
@@ -182,6 +190,7 @@ impl Name {
             Name::Record => &record::VALUES,
             Name::Audit => &audit::VALUES,
             Name::Version => &[],
+            Name::Send => &send::VALUES,
         }
     }
 }
@@ -282,6 +291,7 @@ fn task_of<'a>(name: Name, matches: &ArgMatches<'a>) -> Result<Task<'a>, ValueFa
             Err(fault) => Err(fault),
         },
         Name::Version => Ok(Task::Version(Version)),
+        Name::Send => Ok(Task::Send(Send::of(matches)?)),
     }
 }
 
@@ -304,6 +314,7 @@ impl<'a> Task<'a> {
             Task::Record(task) => task.places(),
             Task::Audit(task) => task.places(),
             Task::Version(task) => task.places(),
+            Task::Send(task) => task.places(),
         }
     }
 }

@@ -13,17 +13,20 @@
 //! Its tests stand in `rows`.
 #![tactic(auto)]
 
+mod addresses;
 mod answers;
 mod auditing;
 mod commands;
 mod file_name;
 mod game_name;
+pub mod laws;
 mod lines;
 mod listening;
 mod numbers;
 mod program;
 mod reading;
 mod refusals;
+mod sending;
 mod sources;
 mod tables;
 mod told_lines;
@@ -33,7 +36,7 @@ mod values;
 pub use auditing::Finding;
 pub use commands::{
     Audit, Check, FollowGame, Form, Judge, List, Listen, Moves, Name, Probe, Probes, RunSchedule,
-    Show, ShowRecord, Task, Value, Version, parse,
+    Send, Show, ShowRecord, Task, Value, Version, parse,
 };
 pub use game_name::GameName;
 pub use numbers::{CacheSize, Delay};

@@ -3,7 +3,7 @@
 ghost use Rattle.std.specs.Prelude.{◌≡◌, ◌≤◌, ℕ, option_map, IfSome, IfNone, Some};
 ghost use Rattle.move_msg.specs.declared.who.Who.{Who};
 ghost use Rattle.board_core.specs.Delays.{most_delay};
-ghost use Rattle.adjudicate_core.specs.Numbers.{IsCache, IsDatagrams, IsDelay, IsMe, is_set};
+ghost use Rattle.adjudicate_core.specs.Numbers.{IsCache, IsDatagrams, IsDelay, IsHundredOr, IsMe, is_set};
 
 use move_msg::Who;
 use std::marker::Model;
@@ -95,6 +95,20 @@ impl Delay {
         ensures most { result ≤ most_delay }
     {
         self.plies
+    }
+}
+
+/// The number from 1 to 65535 that a text tells, and 100 where there is no text; none where it tells another.
+pub fn hundred_or(text: Option<&str>) -> Option<u16>
+    ensures some { IfSome result (IsHundredOr (option_map (λ s. s.now) text.entry)) }
+    ensures none { IfNone result ((n : ℕ) → IsHundredOr (option_map (λ s. s.now) text.entry) n → ⊥) }
+{
+    let Some(text) = text else {
+        return Some(100);
+    };
+    match text.parse::<u16>() {
+        Ok(number) if 1 <= number => Some(number),
+        _ => None,
     }
 }
 

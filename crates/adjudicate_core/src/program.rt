@@ -16,11 +16,12 @@ use crate::commands::{Task, parse};
 use crate::lines::put_refusal;
 use crate::listening::listen;
 use crate::refusals::Refusal;
+use crate::sending::send;
 use crate::sources::Sources;
 use crate::usage::{Misuse, Usage, WordsFault};
 use std::alloc::{AllocError, Global};
 use std::io::{self, Write};
-use system_io::{Disk, Host, Input, ReadFault, WriteFault};
+use system_io::{Disk, Host, Input, Output, ReadFault, WriteFault};
 
 /// The command lines that there are.
 const USAGE: &str = "usage: adjudicate judge [--tables DIR] [--manifest FILE] FEN
@@ -32,10 +33,12 @@ const USAGE: &str = "usage: adjudicate judge [--tables DIR] [--manifest FILE] FE
        adjudicate probes --tables DIR [--manifest FILE] [--progress]
        adjudicate game [--tables DIR] [--manifest FILE] [--delay N] FEN
        adjudicate run [--tables DIR] [--cache N] [--delay N]
-       adjudicate listen --name N --start FEN --tables DIR --me M --bind ADDR --to ADDR --kept FILE
+       adjudicate listen --name N --start FEN --tables DIR --me M --bind ADDR --to ADDR[,ADDR] --kept FILE
                          --datagrams N [--delay N] [--fetch]
        adjudicate record FILE
        adjudicate audit --name N --start FEN --tables DIR [--manifest FILE] [--delay N] FILE [FILE]
+       adjudicate send --name N --start FEN --tables DIR [--manifest FILE] [--delay N] --bind ADDR --to ADDR[,ADDR]
+                       [--wait MS] [--tries N]
        adjudicate version";
 
 /// The first line of what the parser of command lines says of words that it refuses; none where they ask for help.
@@ -86,7 +89,7 @@ fn put_misuse<E: Write>(alloc: Global, errors: &mut E, misuse: &Misuse<'_>) -> i
 /// text that is no position takes none, and `show` takes none. The error comes only where the writer
 /// failed. `list` and `check` read their folder here, and hold one file at a time. With `--progress`, `probes` tells `errors` after
 /// every 10,000 lines how many are done, `list` and `check` after each hundred million bytes; no other task writes there.
-fn answer_given<D: Disk, I: Input, H: Host, W: Write, E: Write>(
+fn answer_given<D: Disk, I: Input, H: Host, W: Output, E: Write>(
     alloc: Global,
     task: &Task,
     sources: &Sources,
@@ -113,11 +116,12 @@ fn answer_given<D: Disk, I: Input, H: Host, W: Write, E: Write>(
         Task::Record(task) => task.answer(alloc, sources, out),
         Task::Audit(task) => put_answered(out, task.answer(alloc, sources)),
         Task::Version(task) => task.answer(out),
+        Task::Send(task) => send(alloc, task, disk, input, host, out),
     }
 }
 
 /// Answers a task from what it reads.
-fn run_task<D: Disk, I: Input, H: Host, W: Write, E: Write>(
+fn run_task<D: Disk, I: Input, H: Host, W: Output, E: Write>(
     alloc: Global,
     task: &Task,
     disk: &D,
@@ -147,7 +151,7 @@ fn run_task<D: Disk, I: Input, H: Host, W: Write, E: Write>(
 ///
 /// Answers go to `out` and what is wrong with the words to `errors`, as does how far a task with `--progress` is; nothing else is
 /// written there, and its failure changes nothing. The error comes only where `out` failed.
-pub fn run<D: Disk, I: Input, H: Host, W: Write, E: Write>(
+pub fn run<D: Disk, I: Input, H: Host, W: Output, E: Write>(
     alloc: Global,
     words: &[&str],
     disk: &D,
@@ -199,7 +203,7 @@ pub fn refuse_memory<W: Write>(out: &mut W) -> Result<u8, WriteFault>
 
 /// Runs the program on all words that it was called with, its own name first. Where they are no texts it runs on none, and
 /// where memory was refused for them, that is told.
-pub fn run_program<D: Disk, I: Input, H: Host, W: Write, E: Write>(
+pub fn run_program<D: Disk, I: Input, H: Host, W: Output, E: Write>(
     alloc: Global,
     called: &Result<Vec<String>, WordsFault>,
     disk: &D,

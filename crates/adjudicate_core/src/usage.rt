@@ -24,6 +24,10 @@ pub enum Wanted {
     Datagrams,
     /// Which of the two arbiters it is.
     Me,
+    /// How many milliseconds a datagram is awaited.
+    Wait,
+    /// How often a move is sent.
+    Tries,
 }
 
 impl Wanted {
@@ -37,6 +41,8 @@ impl Wanted {
             Wanted::Delay => "delay",
             Wanted::Datagrams => "datagrams",
             Wanted::Me => "me",
+            Wanted::Wait => "wait",
+            Wanted::Tries => "tries",
         }
     }
 
@@ -50,6 +56,7 @@ impl Wanted {
             Wanted::Delay => "0 to 8",
             Wanted::Datagrams => "0 to 4294967295",
             Wanted::Me => "1 or 2",
+            Wanted::Wait | Wanted::Tries => "1 to 65535",
         }
     }
 }

@@ -4,10 +4,10 @@ ghost use Rattle.std.specs.Prelude.{◌≡◌, IfOk, IfErr, Some, codes};
 ghost use Rattle.clap.specs.Words.{first_value, found_of};
 ghost use Rattle.move_msg.specs.Stamps.{IsGameName};
 ghost use Rattle.adjudicate_core.specs.Misuses.{AreGameWords, AreWell, IsFirst, IsTold, NoOption, NoWord, Unfit, datagrams_faults, fault_words, game_faults, me_faults, name_faults};
-ghost use Rattle.adjudicate_core.specs.Numbers.{IsCache, IsDatagrams, IsDelay, IsMe};
+ghost use Rattle.adjudicate_core.specs.Numbers.{IsCache, IsDatagrams, IsDelay, IsHundredOr, IsMe};
 
 use crate::game_name::GameName;
-use crate::numbers::{CacheSize, Delay, datagrams_of, me_of};
+use crate::numbers::{CacheSize, Delay, datagrams_of, hundred_or, me_of};
 use crate::usage::{ValueFault, Wanted};
 use clap::ArgMatches;
 use move_msg::Who;
@@ -98,6 +98,30 @@ pub(crate) fn delay_in<'a>(matches: &ArgMatches<'a>) -> Result<Delay, ValueFault
     match Delay::of(text) {
         Some(delay) => Ok(delay),
         None => Err(ValueFault::Unfit(Wanted::Delay, text.unwrap_or(""))),
+    }
+}
+
+/// How many milliseconds a datagram is awaited.
+pub(crate) fn wait_in<'a>(matches: &ArgMatches<'a>) -> Result<u16, ValueFault<'a>>
+    ensures ok { IfOk result (IsHundredOr (first_value (found_of matches.now) (codes "wait"))) }
+    ensures err { IfErr result (λ fault. IsTold (first_value (found_of matches.now)) (Unfit Wanted.Wait) (fault_words fault)) }
+{
+    let text = matches.get_str("wait");
+    match hundred_or(text) {
+        Some(wait) => Ok(wait),
+        None => Err(ValueFault::Unfit(Wanted::Wait, text.unwrap_or(""))),
+    }
+}
+
+/// How often a move is sent at most.
+pub(crate) fn tries_in<'a>(matches: &ArgMatches<'a>) -> Result<u16, ValueFault<'a>>
+    ensures ok { IfOk result (IsHundredOr (first_value (found_of matches.now) (codes "tries"))) }
+    ensures err { IfErr result (λ fault. IsTold (first_value (found_of matches.now)) (Unfit Wanted.Tries) (fault_words fault)) }
+{
+    let text = matches.get_str("tries");
+    match hundred_or(text) {
+        Some(tries) => Ok(tries),
+        None => Err(ValueFault::Unfit(Wanted::Tries, text.unwrap_or(""))),
     }
 }
 

@@ -1,1 +1,2 @@
 pub mod MemoryPorts
+pub mod SourcePorts

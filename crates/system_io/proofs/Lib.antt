@@ -1,3 +1,4 @@
 pub mod InputLaws
 pub mod LineLaws
 pub mod DiskLaws
+pub mod CallSteps

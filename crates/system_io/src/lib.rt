@@ -28,7 +28,7 @@ pub use host::{BindFault, Host};
 pub use input::Input;
 pub use kept_file::{KeptFile, MOST_KEPT_BYTES, begin, replace, replace_in_part};
 pub use line_reader::LineReader;
-pub use output::{Output, WriteFault, end};
+pub use output::{BufferedOutput, Output, WriteFault, end};
 pub use port::{Port, PortFault};
 pub use reading::{ReadFault, read_at_most};
 pub use system_disk::SystemDisk;

@@ -1,4 +1,4 @@
--- `listen --name N --start FEN --tables DIR --me M --bind ADDR --to ADDR --kept FILE --datagrams N [--delay N] [--fetch]`: an
+-- `listen --name N --start FEN --tables DIR --me M --bind ADDR --to ADDR[,ADDR] --kept FILE --datagrams N [--delay N] [--fetch]`: an
 -- arbiter that answers datagrams; specs/Listens.antt has what it makes of them (this project's own).
 use Rattle.std.specs.Prelude.{◌≡◌, ◌++◌, false, List, [], ◌∷◌, Option, Some, None, codes}
 use Rattle.move_msg.specs.Stamps.{IsGameName}

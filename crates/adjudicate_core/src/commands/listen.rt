@@ -27,7 +27,7 @@ pub struct Listen<'a> {
     pub me: Who,
     /// The address at which datagrams come.
     pub bind: &'a str,
-    /// The address to which messages are sent.
+    /// The addresses to which messages are sent, which commas part.
     pub to: &'a str,
     /// The file in which the record is kept.
     pub kept: &'a str,
