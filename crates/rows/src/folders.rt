@@ -197,9 +197,12 @@ fn file_in(path: &str) -> Option<File> {
 pub(crate) struct Folders;
 
 impl Disk for Folders {
+    ghost use Rattle.system_io.specs.OutputLaws.{untold};
     ghost use Rattle.system_io.specs.Premises.{system_disk};
 
     ghost facts = { λ _. system_disk };
+
+    ghost one = { λ _ told. untold told };
 
     fn names(&self, alloc: Global, folder: &str) -> Result<Vec<String>, ReadFault> {
         match files_in(folder) {
@@ -222,9 +225,12 @@ impl Disk for Folders {
 impl Source for Folders {
     type Lines = BufReader<Given<'static>, Global>;
 
+    ghost use Rattle.system_io.specs.OutputLaws.{untold};
     ghost use Rattle.system_io.specs.Premises.{system_input};
 
     ghost facts = { λ _. system_input };
+
+    ghost one = { λ _ told. untold told };
 
     fn read_to_end(&self, _alloc: Global) -> Result<Vec<u8>, ReadFault> {
         Err(ReadFault::Unreadable)
@@ -310,9 +316,12 @@ impl<'a> Input<'a> {
 }
 
 impl<'a> Disk for Input<'a> {
+    ghost use Rattle.system_io.specs.OutputLaws.{untold};
     ghost use Rattle.system_io.specs.Premises.{system_disk};
 
     ghost facts = { λ _. system_disk };
+
+    ghost one = { λ _ told. untold told };
 
     fn names(&self, alloc: Global, folder: &str) -> Result<Vec<String>, ReadFault> {
         Folders.names(alloc, folder)
@@ -326,9 +335,12 @@ impl<'a> Disk for Input<'a> {
 impl<'a> Source for Input<'a> {
     type Lines = BufReader<Given<'a>, Global>;
 
+    ghost use Rattle.system_io.specs.OutputLaws.{untold};
     ghost use Rattle.system_io.specs.Premises.{system_input};
 
     ghost facts = { λ _. system_input };
+
+    ghost one = { λ _ told. untold told };
 
     fn read_to_end(&self, alloc: Global) -> Result<Vec<u8>, ReadFault> {
         read_all(alloc, self.reader(), 0)

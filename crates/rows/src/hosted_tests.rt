@@ -166,8 +166,8 @@ fn expect_told_over(rt: &impl Abort, alloc: Global, stands: Stands<'_>, row: Wri
     expect_told_at(rt, alloc, &Folders, &host, row);
 }
 
-/// Each write of the lines of a run that fails is told; there are at least eight.
+/// Each write of the lines of a run that fails is told; there is one a line, and two lines.
 #[test]
 fn tells_each_failed_write_of_a_run(rt: HostRuntime) {
-    expect_told_over(&rt, rt.alloc(), Stands::Nothing, (LISTEN, START, 8));
+    expect_told_over(&rt, rt.alloc(), Stands::Nothing, (LISTEN, START, 2));
 }

@@ -26,7 +26,7 @@ use fen_text::read;
 use judge_core::Set;
 use std::alloc::{AllocError, Global};
 use std::io::Write;
-use system_io::{Input, LineReader, WriteFault};
+use system_io::{Input, LineReader, Output, WriteFault};
 
 /// What tables tell of the positions of the input.
 #[derive(Clone, Copy)]
@@ -113,7 +113,7 @@ impl<'a> Teller for Prober<'a> {
 
 /// Writes what a set tells of each line of an input as it comes, and tells the status; on the way it tells how far it is, where
 /// that is wanted.
-fn put_probes<L: LineReader, W: Write, E: Write>(
+fn put_probes<L: LineReader, W: Output, E: Write>(
     alloc: Global,
     set: Set<'_>,
     lines: &mut L,
@@ -132,7 +132,7 @@ fn put_probes<L: LineReader, W: Write, E: Write>(
 }
 
 /// Reads an input by lines, and writes what a set tells of each; where memory for reading is refused, that alone is told.
-fn put_probes_of<I: Input, W: Write, E: Write>(
+fn put_probes_of<I: Input, W: Output, E: Write>(
     alloc: Global,
     set: Set<'_>,
     input: &I,
@@ -181,7 +181,7 @@ impl<'a> Probes<'a> {
     /// Each line is answered before the next one has to be there, and memory is that of the longest line. Where memory is refused,
     /// the line `refused memory` follows the whole lines before it; where the input fails, `refused files`. With `--progress` it
     /// tells `errors` after every 10,000 lines how many are done; without, nothing is written there.
-    pub(crate) fn answer<I: Input, W: Write, E: Write>(
+    pub(crate) fn answer<I: Input, W: Output, E: Write>(
         &self,
         alloc: Global,
         sources: &Sources,
