@@ -4,13 +4,13 @@ use crate::comparing::{check_bytes, check_same};
 use crate::files::push_bytes;
 use crate::message_tests::STAMP;
 use crate::positions::{START, position_of};
-use crate::source_port::{Passage, SourcePort};
+use crate::source_port::Coming;
 use source_core::{Terms, send_game};
 use std::alloc::Global;
 use std::io::{self, BufReader, Read, Write};
 use std::process::Abort;
 use std::time::Duration;
-use system_io::{Output, WriteFault};
+use system_io::{MemoryPort, Output, Passage, WriteFault};
 
 /// A game to mate at ply 4.
 const MATE: &str = "f2f3\ne7e5\ng2g4\nd8h4\n";
@@ -46,7 +46,7 @@ fn sent<R: Read + Drop, W: Output>(
     alloc: Global,
     input: R,
     tries: u32,
-    port: &mut SourcePort<'_>,
+    port: &mut MemoryPort<'_>,
     out: &mut W,
 ) -> Result<u8, WriteFault> {
     let mut reader = reader_of(rt, alloc, input);
@@ -66,12 +66,12 @@ fn letter_of(passage: &Passage) -> u8 {
         Passage::Came(_) => b'c',
         Passage::Quiet => b'q',
         Passage::Missed => b'm',
-        Passage::Handed(_, bytes) => b'0' + bytes[24],
+        Passage::Handed { bytes, .. } => b'0' + bytes[24],
     }
 }
 
 /// All that passed at a port has these letters.
-fn check_passed(rt: &impl Abort, alloc: Global, port: &SourcePort<'_>, passed: &str) {
+fn check_passed(rt: &impl Abort, alloc: Global, port: &MemoryPort<'_>, passed: &str) {
     let mut letters = Vec::new(alloc);
     for passage in port.passages().expect(rt, "memory") {
         push_bytes(rt, &mut letters, &[letter_of(passage)]);
@@ -81,7 +81,9 @@ fn check_passed(rt: &impl Abort, alloc: Global, port: &SourcePort<'_>, passed: &
 
 /// A run of a row.
 fn check_row(rt: &impl Abort, alloc: Global, row: &Row) {
-    let mut port = SourcePort::new(alloc, STAMP, row.words);
+    let coming = Coming::of(rt, alloc, STAMP, row.words);
+    let datagrams = coming.datagrams(rt, alloc);
+    let mut port = coming.port(alloc, &datagrams);
     let mut lines = Vec::new(alloc);
     let ended = sent(
         rt,
@@ -294,7 +296,9 @@ fn from(bytes: &[u8], place: usize) -> &[u8] {
 #[test]
 fn refuses_a_move_too_many(rt: HostRuntime) {
     let input = long_input(&rt, rt.alloc());
-    let mut port = SourcePort::new(rt.alloc(), STAMP, "a*b*");
+    let coming = Coming::of(&rt, rt.alloc(), STAMP, "a*b*");
+    let datagrams = coming.datagrams(&rt, rt.alloc());
+    let mut port = coming.port(rt.alloc(), &datagrams);
     let mut lines = Vec::new(rt.alloc());
     let ended = sent(&rt, rt.alloc(), input.as_slice(), 1, &mut port, &mut lines);
     check_same(&rt, ended, Ok(1), "status");
@@ -327,7 +331,9 @@ impl Read for Broken {
 
 #[test]
 fn tells_an_input_that_fails(rt: HostRuntime) {
-    let mut port = SourcePort::new(rt.alloc(), STAMP, "a1b1");
+    let coming = Coming::of(&rt, rt.alloc(), STAMP, "a1b1");
+    let datagrams = coming.datagrams(&rt, rt.alloc());
+    let mut port = coming.port(rt.alloc(), &datagrams);
     let mut lines = Vec::new(rt.alloc());
     let input = Broken { is_read: false };
     let ended = sent(&rt, rt.alloc(), input, 9, &mut port, &mut lines);
@@ -379,7 +385,9 @@ impl Output for Narrow {
 /// A run whose writer has no room for all lines: a front of them is written, and no move is sent after the line at which it
 /// failed.
 fn check_narrow(rt: &impl Abort, alloc: Global, room: usize, passed: &str) {
-    let mut port = SourcePort::new(alloc, STAMP, "a1b1--a2b2--a3b3--a4A4b4B4");
+    let coming = Coming::of(rt, alloc, STAMP, "a1b1--a2b2--a3b3--a4A4b4B4");
+    let datagrams = coming.datagrams(rt, alloc);
+    let mut port = coming.port(alloc, &datagrams);
     let mut out = Narrow {
         bytes: Vec::new(alloc),
         room,

@@ -7,13 +7,12 @@ use arbiter_core::MemoryKeeper;
 use arbiter_service::serve;
 use move_msg::Message;
 use std::alloc::Global;
-use std::io::Write;
 use std::net::{Net, SocketAddr, UdpSocket};
 use std::process::Abort;
-use system_io::{UdpPort, WriteFault};
+use system_io::{Output, UdpPort, WriteFault};
 
 /// How a port is served for six datagrams by the first arbiter of the game over a keeper.
-fn serve_six<W: Write>(
+fn serve_six<W: Output>(
     rt: &impl Abort,
     alloc: Global,
     keeper: &mut MemoryKeeper,
@@ -25,7 +24,7 @@ fn serve_six<W: Write>(
 }
 
 /// What an arbiter over a keeper that keeps nothing so far does with the datagrams.
-fn served<W: Write>(
+fn served<W: Output>(
     rt: &impl Abort,
     alloc: Global,
     port: &mut UdpPort,
