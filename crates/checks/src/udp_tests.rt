@@ -66,11 +66,17 @@ fn send_others(rt: &impl Abort, client: &UdpSocket, to: SocketAddr) {
     }
 }
 
+/// The address of a socket as a text.
+fn text_at(rt: &impl Abort, alloc: Global, socket: &UdpSocket) -> String {
+    let address = address_of(rt, socket);
+    format!(in alloc; "{address}").expect(rt, "memory")
+}
+
 /// A port over a socket, which sends to another.
 fn port_over(rt: &impl Abort, alloc: Global, socket: UdpSocket, client: &UdpSocket) -> UdpPort {
-    let address = address_of(rt, client);
-    let to = format!(in alloc; "{address}").expect(rt, "memory");
-    UdpPort::over(alloc, socket, &[to.as_str()]).expect(rt, "memory")
+    let address = text_at(rt, alloc, &socket);
+    let to = text_at(rt, alloc, client);
+    UdpPort::over(alloc, socket, address.as_str(), &[to.as_str()]).expect(rt, "memory")
 }
 
 /// A port at which the game's moves wait, and what is no message.

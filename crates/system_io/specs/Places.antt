@@ -9,6 +9,10 @@ pub record IsBound (address : List ℕ) (to : List (List ℕ)) (port : UdpPort) 
   pub at : string_bytes port.address ≡ address
   pub sends : map string_bytes port.to.items ≡ to
 
+-- the calls are those for the file at this path
+abbrev pub AreFor : {X Y Z : Type 0} → List ℕ → SystemCalls X Y Z → Type 0
+AreFor path calls = string_bytes calls.path ≡ path
+
 -- the file is the one at this path
 abbrev pub IsAtPath : {X Y Z : Type 0} → List ℕ → Traced (SystemCalls X Y Z) → Type 0
-IsAtPath path file = string_bytes file.calls.path ≡ path
+IsAtPath path file = AreFor path file.calls

@@ -15,6 +15,10 @@ use Rattle.system_io.specs.KeptFiles.{IsLong, KeptFacts, Stage, Written, Synced,
 abbrev pub Bytes : Type 0
 Bytes = Vec ℕ Global
 
+-- the calls that a file makes
+abbrev pub calls_in : {C : Type 0} → Traced C → C
+calls_in t = t.calls
+
 -- what may stand there is the one or the other
 abbrev pub IsOneOf : Option (List ℕ) → Option (List ℕ) → Option Bytes → Type 0
 IsOneOf a b o = IsEither a b (bytes_of o)

@@ -1,7 +1,7 @@
 //! A file of the system, and the one beside it.
 
-ghost use Rattle.std.specs.Prelude.{◌≡◌, string_bytes, IfOk};
-ghost use Rattle.system_io.specs.Places.{IsAtPath};
+ghost use Rattle.std.specs.Prelude.{IfOk};
+ghost use Rattle.system_io.specs.Places.{AreFor, IsAtPath};
 
 use crate::kept_file::MOST_KEPT_BYTES;
 use crate::reading::{ReadFault, read_at_most};
@@ -33,7 +33,7 @@ fn folder_of(path: &str) -> &str {
 impl<'a, R: Files + AllocGlobal> SystemCalls<'a, R> {
     /// Those for the file at a path.
     pub fn at(rt: &'a R, alloc: Global, path: &str) -> Result<SystemCalls<'a, R>, AllocError>
-        ensures { IfOk result (λ calls. string_bytes calls.path ≡ path.now) }
+        ensures { IfOk result (AreFor path.now) }
     {
         let beside = format!(in alloc; "{path}.new")?;
         let path = String::from_str(alloc, path)?;

@@ -8,7 +8,7 @@ ghost use Rattle.system_io.specs.Histories.{Passes};
 ghost use Rattle.system_io.specs.KeptFiles.{KeptFacts, IsOneOfFound, bytes_of};
 ghost use Rattle.system_io.specs.Premises.{IsAsTold};
 ghost use Rattle.system_io.specs.Reading.{fault_of};
-ghost use Rattle.system_io.specs.Traces.{AreOneOf, HasBytes, told_of};
+ghost use Rattle.system_io.specs.Traces.{AreOneOf, HasBytes, calls_in, told_of};
 ghost use Rattle.system_io.specs.declared.reading.ReadFault.{ReadFault};
 
 use crate::kept_file::{KeptFile, MOST_KEPT_BYTES};
@@ -89,7 +89,7 @@ fn are_same(got: &Option<Vec<u8>>, known: &Option<Vec<u8>>) -> bool
 impl<C: FileCalls + Drop> Traced<C> {
     /// A file of which nothing is known.
     pub fn new(alloc: Global, calls: C) -> Traced<C>
-        ensures { result.calls ≡ calls }
+        ensures { calls_in result ≡ calls }
     {
         Traced {
             alloc,
@@ -101,6 +101,13 @@ impl<C: FileCalls + Drop> Traced<C> {
             reach: Reach::Nowhere,
             failures: 0,
         }
+    }
+
+    /// The calls.
+    pub fn calls(&self) -> &C
+        ensures { result.now ≡ calls_in self.now }
+    {
+        &self.calls
     }
 
     /// Counts a failure, and gives back why a call failed.
