@@ -290,7 +290,6 @@ fn a_failed_put_is_the_end(rt: HostRuntime) {
 }
 
 impl Output for Failing {
-    ghost use Rattle.std.specs.Prelude.{Result, Ok, Err};
     ghost use Rattle.system_io.specs.Outputs.{holds_nothing_back};
 
     ghost facts = { λ _. holds_nothing_back };

@@ -7,7 +7,9 @@ use arbiter_service::run_after;
 use move_msg::{Message, Record};
 use std::alloc::Global;
 use std::process::Abort;
-use system_io::{Choice, DiskFile, MemoryPort, Outcome, Passage, Turn, read_after, replace_in_part};
+use system_io::{
+    Choice, DiskFile, MemoryPort, Outcome, Passage, Turn, read_after, replace_in_part,
+};
 
 /// The moves of a game, four letters each.
 const GAME: &str = "e2e4 e7e5 g1f3 b8c6 f1b5 a7a6 b5a4 g8f6 d2d3 f8e7 a2a3 b7b5";
@@ -30,7 +32,7 @@ fn below(seed: &mut u64, limit: usize) -> usize {
 
 /// The first moves of the game, so many.
 fn first_moves(count: usize) -> &'static str {
-    match GAME.get(..(5 * count).saturating_sub(1)) {
+    match GAME.get(..count.saturating_mul(5).saturating_sub(1)) {
         Some(front) => front,
         None => GAME,
     }
@@ -38,7 +40,10 @@ fn first_moves(count: usize) -> &'static str {
 
 /// The message of the move with this number.
 fn message_at(rt: &impl Abort, number: usize) -> [u8; 27] {
-    let text = GAME.get(5 * number..5 * number + 4).expect(rt, "a move");
+    let start = number.saturating_mul(5);
+    let text = GAME
+        .get(start..start.saturating_add(4))
+        .expect(rt, "a move");
     message_of(rt, stamp_of(rt, START, 0), Sent::Move, number as u32, text).encode()
 }
 
@@ -85,7 +90,7 @@ fn choice(rt: &impl Abort, alloc: Global, seed: &mut u64) -> Choice {
 fn turns(seed: &mut u64, count: usize) -> [Turn; 5] {
     let mut all = [Turn::Fails; 5];
     for i in 0..5 {
-        let near = (count + below(seed, 3)).min(MOVES - 1);
+        let near = count.saturating_add(below(seed, 3)).min(MOVES - 1);
         let any = below(seed, MOVES);
         all[i] = Turn::Comes(if below(seed, 4) == 0 { any } else { near });
     }
@@ -156,7 +161,8 @@ fn run_and_hear(
     let turns = turns(seed, count as usize);
     let choice = choice(rt, alloc, seed);
     let mut port = MemoryPort::new(alloc, 1, &datagrams, &turns, None);
-    let (left, is_lost) = run(rt, alloc, disk, choice, &mut port, below(seed, 6) as u32);
+    let came = below(seed, 6).min(5) as u32;
+    let (left, is_lost) = run(rt, alloc, disk, choice, &mut port, came);
     (left, is_lost, told_at(rt, &port))
 }
 
@@ -265,8 +271,8 @@ fn loses_no_acknowledged_move(rt: HostRuntime) {
     for _ in 0..RUNS {
         if runs < RUNS {
             let tally = run_over_one(&rt, rt.alloc(), &mut seed);
-            runs += tally.runs;
-            acknowledged += tally.acknowledged;
+            runs = tally.runs.saturating_add(runs);
+            acknowledged = tally.acknowledged.saturating_add(acknowledged);
         }
     }
     check_same(&rt, acknowledged > RUNS / 4, true, "acknowledged moves");
