@@ -16,7 +16,8 @@ use Rattle.arbiter_service.specs.declared.file_keeper.FileKeeper.{FileKeeper}
 use Rattle.adjudicate_core.specs.Addresses.{addresses_of}
 use Rattle.adjudicate_core.specs.declared.commands.listen.Listen.{Listen}
 use Rattle.adjudicate_core.specs.Given.{Given}
-use Rattle.system_io.specs.KeptFiles.{KeptFacts, CannotStart}
+use Rattle.system_io.specs.KeptFiles.{KeptFacts}
+use Rattle.system_io.specs.declared.reading.ReadFault.TheVariants as read
 use Rattle.system_io.specs.declared.host.BindFault.TheVariants as bind
 use Rattle.system_io.specs.Hosts.{HostFacts}
 use Rattle.arbiter_service.specs.ServedLines.{refused_keeper, refused_port}
@@ -26,7 +27,7 @@ use Rattle.adjudicate_core.specs.Looks.{gathered}
 use Rattle.system_io.specs.Ports.{Passed, PortFacts}
 use Rattle.arbiter_service.specs.Serving.{Scene, scene}
 use Rattle.adjudicate_core.specs.Reply.{IsText}
-use Rattle.arbiter_service.specs.StoredBytes.{StartsOver}
+use Rattle.arbiter_service.specs.StoredBytes.{CannotKeep, StartsOver}
 use Rattle.adjudicate_core.specs.Telling.{TellsOne}
 
 -- the setup of the arbiter
@@ -61,8 +62,8 @@ pub data OpensAndServes {F : Type 0} (facts : F → KeptFacts) (l : Listen) (set
 -- over the file in which the record is kept: it can't be brought to the disk or read; or an arbiter is opened over a keeper that
 -- started over this file, and so has stored one of any two that it said a start finds, and what every later start finds
 pub data KeepsAndServes {F : Type 0} (facts : F → KeptFacts) (l : Listen) (setup : SetupView) (file : F) (port port' : PortFacts) (old new : Option (List ℕ)) (status : ℕ) : Type 0 where
-  Unreadable : CannotStart (facts file) → Passed port port' [] → TellsOne refused_keeper old new status → KeepsAndServes facts l setup file port port' old new status
-  NoRoomToKeep : Passed port port' [] → TellsOne refused_memory old new status → KeepsAndServes facts l setup file port port' old new status
+  Unreadable : CannotKeep (facts file) read.Unreadable → Passed port port' [] → TellsOne refused_keeper old new status → KeepsAndServes facts l setup file port port' old new status
+  NoRoomToKeep : CannotKeep (facts file) read.OutOfMemory → Passed port port' [] → TellsOne refused_memory old new status → KeepsAndServes facts l setup file port port' old new status
   Kept : (keeper after : FileKeeper F) → StartsOver facts file keeper → OpensAndServes facts l setup (scene keeper port old) (scene after port' new) status → KeepsAndServes facts l setup file port port' old new status
 
 -- at a port, over the file at the path of the words

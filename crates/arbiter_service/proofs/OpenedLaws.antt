@@ -19,7 +19,7 @@ use Rattle.arbiter_core.specs.Views.{View}
 use Rattle.arbiter_core.specs.Delivers.{IsSpelled, Moment, moment}
 use Rattle.arbiter_service.specs.declared.file_keeper.FileKeeper.{FileKeeper}
 use Rattle.system_io.specs.KeptFiles.{KeptFacts}
-use Rattle.arbiter_service.specs.OverFiles.{IsOpened, ServesOpened}
+use Rattle.arbiter_service.specs.OverFiles.{IsOpened, ServesAndWrites}
 use Rattle.arbiter_service.specs.GoingOut.{Writers}
 use Rattle.arbiter_service.specs.Serving.{Scene, Serves, scene}
 use Rattle.arbiter_service.specs.StoredBytes.{Failed, IsInFile, Landed, PutsInto, file_of, keeper_over, stored}
@@ -114,18 +114,20 @@ is_opened facts setup before now (Ok v) good bad = record { good = good; bad = �
 is_opened facts setup before now (Err fault) good bad = record { good = good; bad = λ g. (ap Err (bad g).0, (bad g).2) }
 
 -- what serving ensures of an arbiter that is opened so
-pub served_so : (grow : PutsGrow) {F W : Type 0} (facts : F → KeptFacts) (w : Writers W) (setup : SetupView) (n : ℕ) (fetch : Bool) (old new : Scene (FileKeeper F)) (out out' : W) (opened now : Moment (FileKeeper F)) (ended : Result ℕ WriteFault) → IsInFile facts old.at → IsOpened facts setup old.at opened.keeper (Ok opened.arbiter) → Serves (keeper_over facts) w n fetch (scene opened old.port old.written) (scene now new.port new.written) out out' ended → now.keeper ≡ new.at → ServesOpened facts w setup n fetch old new out out' ended
+pub served_so : (grow : PutsGrow) {F W : Type 0} (facts : F → KeptFacts) (w : Writers W) (setup : SetupView) (n : ℕ) (fetch : Bool) (old new : Scene (FileKeeper F)) (out out' : W) (opened now : Moment (FileKeeper F)) (ended : Result ℕ WriteFault) → IsInFile facts old.at → IsOpened facts setup old.at opened.keeper (Ok opened.arbiter) → Serves (keeper_over facts) w n fetch (scene opened old.port old.written) (scene now new.port new.written) out out' ended → now.keeper ≡ new.at → ServesAndWrites facts w setup n fetch old new out out' ended
 served_so grow facts w setup n fetch old new out out' opened now ended in_file o s left =
     let safe : IsSafe facts opened = opened_safe facts setup old.at opened in_file o in
     let found = found_through grow facts opened now s.run.exchanges s.run.loss safe s.served.going s.served.delivered in
     record {
-      opened = opened;
-      now = now;
-      is_opened = o;
-      run = s.run;
-      served = s.served;
-      left = left;
-      found = record { first = safe_finds facts opened safe; each = found.0; at_loss = found.1 };
-      told = s.told;
+      serves = record {
+        opened = opened;
+        now = now;
+        is_opened = o;
+        run = s.run;
+        served = s.served;
+        left = left;
+        found = record { first = safe_finds facts opened safe; each = found.0; at_loss = found.1 };
+        told = s.told;
+      };
       lines = s.lines;
     }

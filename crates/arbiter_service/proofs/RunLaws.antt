@@ -38,7 +38,7 @@ one_missed (KeeperLost last) = inl refl
 one_missed PortLost = inr refl
 
 module _ {F W : Type 0} (facts : F → KeptFacts) (w : Writers W) (setup : SetupView) (n : ℕ) (fetch : Bool) (old new : Scene (FileKeeper F)) (out out' : W) where
-  ran_served : (ended : Result ℕ WriteFault) → ServesOpened facts w setup n fetch old new out out' ended → RanOver facts setup old.at new.at old.port new.port
+  ran_served : (ended : Result ℕ WriteFault) → ServesOpened facts setup n fetch old new ended → RanOver facts setup old.at new.at old.port new.port
   ran_served ended s = record {
     exchanges = exchanges_of s.run;
     runs = Between s.now (record { opened = s.opened; is_opened = s.is_opened; in_turn = s.served.delivered }) (ap file_of (sym s.left));
@@ -62,9 +62,9 @@ module _ {F W : Type 0} (facts : F → KeptFacts) (w : Writers W) (setup : Setup
 
   -- what was opened and served, or refused, is a run
   pub ran_over : (ended : Result (Result ℕ OpenFault) WriteFault) → OpensAndServes facts w setup n fetch old new out out' ended → RanOver facts setup old.at new.at old.port new.port
-  ran_over (Ok (Ok status)) s = ran_served (Ok status) s
+  ran_over (Ok (Ok status)) s = ran_served (Ok status) s.serves
   ran_over (Ok (Err fault)) s = ran_refused fault s
-  ran_over (Err fault) s = ran_served (Err fault) s
+  ran_over (Err fault) s = ran_served (Err fault) s.serves
 
 -- ---- one run more
 

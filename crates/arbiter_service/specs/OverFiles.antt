@@ -69,7 +69,7 @@ pub record FindsThroughout {F : Type 0} (facts : F → KeptFacts) (opened : Mome
 
 -- an arbiter is opened over the keeper and serves so many datagrams, and between any two of them its record is in the file; the
 -- keeper is left so; the run ends with its status, or where a line could not be written
-pub record ServesOpened {F W : Type 0} (facts : F → KeptFacts) (w : Writers W) (setup : SetupView) (n : ℕ) (fetch : Bool) (old new : Scene (FileKeeper F)) (out out' : W) (ended : Result ℕ WriteFault) : Type 0 where
+pub record ServesOpened {F : Type 0} (facts : F → KeptFacts) (setup : SetupView) (n : ℕ) (fetch : Bool) (old new : Scene (FileKeeper F)) (ended : Result ℕ WriteFault) : Type 0 where
   pub opened : Moment (FileKeeper F)
   pub now : Moment (FileKeeper F)
   pub is_opened : IsOpened facts setup old.at opened.keeper (Ok opened.arbiter)
@@ -78,7 +78,11 @@ pub record ServesOpened {F W : Type 0} (facts : F → KeptFacts) (w : Writers W)
   pub left : now.keeper ≡ new.at
   pub found : FindsThroughout facts opened run
   pub told : TellsSession n run old.written new.written ended
-  pub lines : LinesEnd w out (lines_of run) out' ended
+
+-- it serves so, and each of its lines has gone out before the next comes
+pub record ServesAndWrites {F W : Type 0} (facts : F → KeptFacts) (w : Writers W) (setup : SetupView) (n : ℕ) (fetch : Bool) (old new : Scene (FileKeeper F)) (out out' : W) (ended : Result ℕ WriteFault) : Type 0 where
+  pub serves : ServesOpened facts setup n fetch old new ended
+  pub lines : LinesEnd w out (lines_of serves.run) out' ended
 
 -- no arbiter is opened, nothing passes at the port, and nothing is written
 pub record IsRefused {F W : Type 0} (facts : F → KeptFacts) (setup : SetupView) (old new : Scene (FileKeeper F)) (out out' : W) (fault : OpenFault) : Type 0 where
@@ -88,6 +92,6 @@ pub record IsRefused {F W : Type 0} (facts : F → KeptFacts) (setup : SetupView
 
 -- one is opened and serves, or it is refused; the outer error comes where a line could not be written
 abbrev pub OpensAndServes : {F W : Type 0} → (F → KeptFacts) → Writers W → SetupView → ℕ → Bool → Scene (FileKeeper F) → Scene (FileKeeper F) → W → W → Result (Result ℕ OpenFault) WriteFault → Type 0
-OpensAndServes facts w setup n fetch old new out out' (Ok (Ok status)) = ServesOpened facts w setup n fetch old new out out' (Ok status)
+OpensAndServes facts w setup n fetch old new out out' (Ok (Ok status)) = ServesAndWrites facts w setup n fetch old new out out' (Ok status)
 OpensAndServes facts w setup n fetch old new out out' (Ok (Err fault)) = IsRefused facts setup old new out out' fault
-OpensAndServes facts w setup n fetch old new out out' (Err fault) = ServesOpened facts w setup n fetch old new out out' (Err fault)
+OpensAndServes facts w setup n fetch old new out out' (Err fault) = ServesAndWrites facts w setup n fetch old new out out' (Err fault)

@@ -14,4 +14,4 @@ returns-in-Ok-bind g c =
 
 pub returns-in-Err-Unbound : goal.returns-in-Err-Unbound
 returns-in-Err-Unbound g c =
-    IfOk-weaker c.put_refusal-in-Err-Unbound.result _ _ (λ status h. Unbound (c.in-Err-Unbound.ensures.cause (ap Err c.in-Err-Unbound.field-0-is)) h) c.put_refusal-in-Err-Unbound.ensures
+    IfOk-weaker c.put_refusal-in-Err-Unbound.result _ _ (λ status h. Unbound (rw c.in-Err-Unbound.field-0-is at c.in-Err-Unbound.ensures.cause) h) c.put_refusal-in-Err-Unbound.ensures
