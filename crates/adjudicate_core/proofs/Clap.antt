@@ -21,3 +21,4 @@ is_simple name.Game = refl
 is_simple name.Record = refl
 is_simple name.Audit = refl
 is_simple name.Version = refl
+is_simple name.Send = refl
