@@ -4,14 +4,18 @@ use Rattle.std.specs.Prelude.{is_some, min}
 use Rattle.std.proofs.lemmas.Bool.{cases_lt, cond-true, cond-false, eqb-false, eq-eqb, ne_eqb}
 use Rattle.std.proofs.lemmas.List.{take-take, take_all, length-take-le}
 use Rattle.board_core.specs.declared.moves.Move.{Move}
+use Rattle.board_core.specs.declared.verdict.Verdict.{Verdict}
 use Rattle.judge_core.specs.declared.game.GameOutcome.{GameOutcome}
 use Rattle.judge_core.specs.declared.game.GameOutcome.TheVariants.{Ruled, Illegal, Going}
 use Rattle.judge_core.specs.Games.{IsOutcome, Rules}
 use Rattle.move_msg.specs.declared.stamp.Stamp.{Stamp}
 use Rattle.move_msg.specs.declared.record_bytes.Record.{Record}
 use Rattle.move_msg.specs.Records.{SpellsRecord}
-use Rattle.arbiter_core.specs.Opens.{IsOfGame, at_end}
-use Rattle.arbiter_core.proofs.Opened.{cut_short, other_verdict, resumed}
+use Rattle.arbiter_core.specs.Opens.{IsOfGame, IsResumed, IsWhole, at_end}
+use Rattle.arbiter_core.proofs.Opened.{Ends, ends, from_whole, never, whole}
+use Rattle.arbiter_core.specs.Recording.{Recorded}
+use Rattle.arbiter_core.specs.Views.{spelled_as}
+use Rattle.move_msg.proofs.RecordLaws.{one_record}
 use Rattle.adjudicate_core.specs.declared.auditing.Finding.{Finding}
 use Rattle.adjudicate_core.specs.declared.auditing.Finding.TheVariants as found
 use Rattle.adjudicate_core.specs.Audits.{AreCompared, AreSameAt, IsFound, StopsAt, verdict_at}
@@ -39,17 +43,42 @@ stops_early r ms (Ruled ply verdict) place h e = by_cases (ply == length ms) ref
 stops_early r ms (Illegal at) place h e = (refl, inl (let same : at ≡ place = cc in subst (λ p. IsOutcome r ms (Illegal p)) same h))
 stops_early r ms Going place h e = absurd (some_not_none place (sym e))
 
+made : (s t : Stamp) (n k : ℕ) (v : Option Verdict) (ms : List Move) → s ≡ t → n ≡ k → ◌≡◌ {A = Record} (record { stamp = s; delay = n; verdict = v; moves = ms }) (record { stamp = t; delay = k; verdict = v; moves = ms })
+made s t n k v ms es en = cc
+
+-- over bytes that spell a record of the game
+module _ (r : Rules) (stamp : Stamp) (bytes : List ℕ) (q : Record) (o : GameOutcome) (spelled : SpellsRecord bytes q) (out : IsOutcome r q.moves o) where
+  same_kept : (kept : Recorded) → IsResumed r stamp bytes kept → Ends r q.moves q.verdict
+  same_kept kept h =
+      let same : kept ≡ record { moves = q.moves; verdict = q.verdict } = ap (λ (x : Record). record { moves = x.moves; verdict = x.verdict }) (sym (one_record bytes q (spelled_as stamp r.delay kept) spelled h.0)) in
+      from_whole r (record { moves = q.moves; verdict = q.verdict }) (subst (IsWhole r) same h.1)
+
+  -- its moves get to their end, and it has the verdict there
+  resumed : IsOfGame r stamp q → at_end o (length q.moves) ≡ Some q.verdict → IsResumed r stamp bytes (record { moves = q.moves; verdict = q.verdict })
+  resumed same e = (
+    subst (SpellsRecord bytes) (made q.stamp stamp q.delay r.delay q.verdict q.moves same.0 same.1) spelled,
+    whole r q.moves q.verdict (ends r q.moves o q.verdict out e),
+  )
+
+  -- they don't get there
+  cut_short : at_end o (length q.moves) ≡ None → (kept : Recorded) → IsResumed r stamp bytes kept → ⊥
+  cut_short e kept k = never r q.moves o out e (same_kept kept k).reached
+
+  -- there is another verdict there
+  other_verdict : (v : Option Verdict) → at_end o (length q.moves) ≡ Some v → q.verdict ≢ v → (kept : Recorded) → IsResumed r stamp bytes kept → ⊥
+  other_verdict v e other kept k = other (sym (same_kept kept k).ruled ∙ (ends r q.moves o v out e).ruled)
+
 -- what is found by what the moves come to
 pub found_so : (r : Rules) (stamp : Stamp) (bytes : List ℕ) (q : Record) (o : GameOutcome) (finding : Finding) → SpellsRecord bytes q → IsOfGame r stamp q → IsOutcome r q.moves o → IsFoundBy o (length q.moves) q.verdict finding → IsFound r stamp bytes finding
 found_so r stamp bytes q o (found.Whole count verdict) spelled same out h =
-    (record { moves = q.moves; verdict = q.verdict }, resumed r stamp bytes q o q.verdict spelled same out h.2 refl, h.0, h.1)
+    (record { moves = q.moves; verdict = q.verdict }, resumed r stamp bytes q o spelled out same h.2, h.0, h.1)
 found_so r stamp bytes q o (found.BadVerdict verdict) spelled same out h = (
-  inr (q, spelled, same, other_verdict r stamp bytes q spelled o verdict out h.0 h.1),
+  inr (q, spelled, same, other_verdict r stamp bytes q o spelled out verdict h.0 h.1),
   (q, spelled, same, (o, out, h.0), h.1),
 )
 found_so r stamp bytes q o (found.BadMoves place) spelled same out h =
     let stops = stops_early r q.moves o place out h in
-    (inr (q, spelled, same, cut_short r stamp bytes q spelled o out stops.0), (q, spelled, same, stops.1))
+    (inr (q, spelled, same, cut_short r stamp bytes q o spelled out stops.0), (q, spelled, same, stops.1))
 found_so r stamp bytes q o (found.BadRecord fault) spelled same out h = absurd h
 found_so r stamp bytes q o found.OtherStamp spelled same out h = absurd h
 
