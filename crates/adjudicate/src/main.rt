@@ -1,21 +1,21 @@
 //! The adjudicator's program: it hands the system to `adjudicate_core`, and ends with the status.
 #![tactic(auto)]
 
-use adjudicate_core::{Usage, refuse_memory, run_program};
+use adjudicate_core::{WordsFault, refuse_memory, run_program};
 use std::env;
-use std::io::{self, BufWriter};
+use std::io;
 use std::process::ExitCode;
-use system_io::{SystemDisk, SystemHost, SystemInput, end};
+use system_io::{BufferedOutput, SystemDisk, SystemHost, SystemInput, end};
 
 /// The words that the program was called with, its own name first.
-fn words_of(rt: &HostRuntime) -> Result<Vec<String>, Usage> {
+fn words_of(rt: &HostRuntime) -> Result<Vec<String>, WordsFault> {
     Ok(env::args(rt)?.collect(rt.alloc())?)
 }
 
 /// Runs the program, and ends with its status, 1 where the output can't be written. Its lines are gathered before they are
 /// written.
 fn main(rt: HostRuntime) -> ExitCode {
-    let Ok(mut out) = BufWriter::new(rt.alloc(), io::writer(&rt)) else {
+    let Ok(mut out) = BufferedOutput::new(rt.alloc(), io::writer(&rt)) else {
         return ExitCode::from(refuse_memory(&mut io::writer(&rt)).unwrap_or(1));
     };
     let answered = run_program(

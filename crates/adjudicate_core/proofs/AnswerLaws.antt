@@ -1,9 +1,11 @@
 -- Answers that are written all at once.
-use Rattle.std.proofs.Common.{◌≡◌, ℕ, List, Option}
-use Rattle.std.specs.Prelude.{Result, Ok, Err, IfOk, OnErr}
+use Rattle.std.proofs.Common.{ℕ, List, Option, refl}
+use Rattle.std.specs.Prelude.{Result, Ok, Err, IfOk, IsErrOf, OnErr}
 use Rattle.adjudicate_core.specs.declared.answers.Answer.{Answer}
-use Rattle.adjudicate_core.specs.Inside.Asked.{PutsAnswered, reply_of}
-use Rattle.adjudicate_core.specs.Reply.{AnswersOnce, Refused, Replied, Reply}
+use Rattle.adjudicate_core.specs.Inside.Asked.{PutsAnswered, PutsRead, reply_of}
+use Rattle.adjudicate_core.specs.Reply.{AnswersOnce, AnswersRead, NoRoomToRead, ReadAll, Refused, Replied, Reply, Unread}
+use Rattle.system_io.specs.declared.reading.ReadFault.{ReadFault}
+use Rattle.system_io.specs.declared.reading.ReadFault.TheVariants.{OutOfMemory, Unreadable}
 
 module _ {E F : Type 0} (answered : Result Answer E) (IsReply : Reply → Type 0) (is : IfOk answered (λ a. IsReply (reply_of a))) (result : Result ℕ F) (old new : Option (List ℕ)) (puts : IfOk result (PutsAnswered answered old new)) where
   -- by a command that may take memory
@@ -25,3 +27,10 @@ always (Err e) = tt
 -- by one that takes memory for every reply
 pub once_always : {E F : Type 0} (answered : Result Answer E) (IsReply : Reply → Type 0) → IfOk answered (λ a. IsReply (reply_of a)) → (result : Result ℕ F) (old new : Option (List ℕ)) → IfOk result (PutsAnswered answered old new) → IfOk result (AnswersOnce IsReply (Unit {0}) old new)
 once_always answered IsReply is result old new puts = once answered IsReply is result old new puts (Unit {0}) (always answered)
+
+-- by one that reads files on the way
+pub after_reading : {F : Type 0} (answered : Result Answer ReadFault) (IsReply : Reply → Type 0) (CannotRead : Type 0) → IfOk answered (λ a. IsReply (reply_of a)) → (IsErrOf answered Unreadable → CannotRead) → (result : Result ℕ F) (old new : Option (List ℕ)) → IfOk result (PutsRead answered old new) → IfOk result (AnswersRead IsReply CannotRead old new)
+after_reading answered IsReply CannotRead is cause (Err f) old new puts = tt
+after_reading (Ok a) IsReply CannotRead is cause (Ok status) old new puts = ReadAll (reply_of a) is puts
+after_reading (Err Unreadable) IsReply CannotRead is cause (Ok status) old new puts = Unread (cause refl) puts
+after_reading (Err OutOfMemory) IsReply CannotRead is cause (Ok status) old new puts = NoRoomToRead puts

@@ -1,3 +1,4 @@
+pub mod AddressLaws
 pub mod NameLaws
 pub mod TellLaws
 pub mod AnswerLaws
@@ -6,3 +7,6 @@ pub mod TableLaws
 pub mod TextLaws
 pub mod ShowLaws
 pub mod ScheduleLaws
+pub mod LookLaws
+pub mod AuditLaws
+pub mod MisuseLaws

@@ -15,9 +15,7 @@ use Rattle.std.specs.Prelude.{String, string_bytes}
 use Rattle.std.specs.Global.{Global}
 use Rattle.move_msg.specs.declared.manifest.Line.{Line}
 use Rattle.move_msg.specs.Manifests.{Entry, entry_of}
-use Rattle.move_msg.specs.declared.files.NamedFile.{NamedFile}
-use Rattle.move_msg.specs.Files.{File, file_of, AreFiles, AreNamed, AreSorted}
-use Rattle.std.specs.List.{AllByRecursion}
+use Rattle.move_msg.specs.Files.{File, AreFiles, AreNamed, AreSorted}
 use Rattle.adjudicate_core.specs.FileNames.{AreRisingNames, IsNameBefore, names_of}
 use Rattle.std.specs.Str.{bytes_eq}
 use Rattle.std.proofs.lemmas.Slice.Eq.{bytes_eq-Decides}
@@ -203,20 +201,6 @@ pub any_default : {X : Type 0} (xs : List X) (i : ℕ) (d e : X) → i < length 
 any_default [] i d e within = absurd (omega arith)
 any_default (x ∷ xs) zero d e within = refl
 any_default (x ∷ xs) (suc i) d e within = any_default xs i d e (omega arith)
-
-pub one_file_more : (P : File → Type 0) (old new : List NamedFile) (f : NamedFile) (names : List (List ℕ)) (i : ℕ) (name : List ℕ) → new ≡ old ++ f ∷ [] → i < length names → name ≡ get_or names i name → f.name.bytes ≡ name → P (file_of f) → names_of (map file_of old) ≡ take i names → AllByRecursion P (map file_of old) → (names_of (map file_of new) ≡ take (i + 1) names) × AllByRecursion P (map file_of new)
-one_file_more P old new f names i name is within at same here read all =
-    let joined : map file_of new ≡ map file_of old ++ file_of f ∷ [] = ap (map file_of) is ∙ map-append file_of old (f ∷ []) in (
-      ap names_of joined ∙ map-append (λ (g : File). g.name) (map file_of old) (file_of f ∷ [])
-          ∙ ap (λ ns. ns ++ f.name.bytes ∷ []) read
-          ∙ ap (λ (n : List ℕ). take i names ++ n ∷ []) (same ∙ at)
-          ∙ sym (take_more names i name within),
-      subst (AllByRecursion P) (sym joined) (all_more (map file_of old) all),
-    )
-  where
-    all_more : (fs : List File) → AllByRecursion P fs → AllByRecursion P (fs ++ file_of f ∷ [])
-    all_more [] h = (here, tt)
-    all_more (g ∷ fs) h = (h.0, all_more fs h.1)
 
 -- the wanted files of a folder are files that a manifest may have
 all_named : (files : List File) → ((name : List ℕ) → Contains (names_of files) name → IsFileName name) → AreNamed files

@@ -1,4 +1,5 @@
 -- The commands, one by one.
+pub mod Audit
 pub mod Check
 pub mod Game
 pub mod Judge
@@ -7,5 +8,8 @@ pub mod Listen
 pub mod Moves
 pub mod Probe
 pub mod Probes
+pub mod Record
 pub mod Run
+pub mod Send
 pub mod Show
+pub mod Version

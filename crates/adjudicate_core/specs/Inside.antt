@@ -1,6 +1,9 @@
 -- What values keep and what functions find on the way; cited by private clauses alone.
 pub mod Asked
+pub mod Auditing
 pub mod Fronts
 pub mod ListeningParts
+pub mod Looking
 pub mod Placing
 pub mod Refusals
+pub mod SendingParts

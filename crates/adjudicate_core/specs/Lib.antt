@@ -7,6 +7,7 @@ pub mod Numbers
 pub mod Rules
 pub mod Commands
 pub mod Tasks
+pub mod Misuses
 pub mod Usage
 pub mod Lines
 pub mod Looks
@@ -14,5 +15,9 @@ pub mod Schedules
 pub mod Reply
 pub mod Telling
 pub mod Running
+pub mod Addresses
 pub mod Listens
+pub mod Sends
+pub mod Laws
+pub mod Audits
 pub mod Inside

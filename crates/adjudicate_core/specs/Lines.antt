@@ -12,12 +12,16 @@ use Rattle.judge_core.specs.Words.{column_words, columns_words, outcome_words, v
 use Rattle.move_msg.specs.declared.message.MessageFault.{MessageFault}
 use Rattle.move_msg.specs.Messages.{fault_name as message_fault_name}
 use Rattle.move_msg.specs.MessageWords.{message_words}
+use Rattle.move_msg.specs.declared.record_bytes.RecordFault.{RecordFault}
+use Rattle.move_msg.specs.Records.{record_fault_name}
+use Rattle.adjudicate_core.specs.declared.auditing.Finding.{Finding}
+use Rattle.adjudicate_core.specs.declared.auditing.Finding.TheVariants as found
 use Rattle.adjudicate_core.specs.ToldLines.{refused_files, refused_memory}
 use Rattle.move_msg.specs.declared.who.Who.{Who}
 use Rattle.relay_world.specs.declared.world.State.{State}
 use Rattle.relay_world.specs.declared.world.State.TheVariants as state
 use Rattle.relay_world.specs.Texts.{who_word}
-use Rattle.arbiter_service.specs.ServedLines.{refused_keeper, refused_port, verdict_or_none}
+use Rattle.arbiter_service.specs.ServedLines.{heard_words, refused_keeper, refused_port, verdict_or_none}
 use Rattle.adjudicate_core.specs.declared.tables.FileFault.{FileFault}
 use Rattle.adjudicate_core.specs.declared.tables.FileFault.TheVariants.{Missing, Changed, Bad}
 use Rattle.adjudicate_core.specs.declared.lines.KeptCount.{KeptCount}
@@ -100,6 +104,10 @@ refused_move place = codes "refused move " ++ decimal place
 abbrev pub refused_line : ℕ → List ℕ
 refused_line number = codes "refused line " ++ decimal number
 
+-- the refusal of bytes that are no record
+abbrev pub refused_record : RecordFault → List ℕ
+refused_record fault = codes "refused record " ++ record_fault_name fault
+
 -- why something is refused
 abbrev pub refusal_words : Refusal → List ℕ
 refusal_words (refusal.Fen fault) = refused_fen fault
@@ -108,10 +116,24 @@ refusal_words (refusal.File name fault) = refused_file name.bytes (file_fault_na
 refusal_words (refusal.Message number fault) = refused_message number (message_fault fault)
 refusal_words (refusal.Line number) = refused_line number
 refusal_words (refusal.Move place) = refused_move place
+refusal_words (refusal.Record fault) = refused_record fault
 refusal_words refusal.Port = refused_port
 refusal_words refusal.Keeper = refused_keeper
 refusal_words refusal.Files = refused_files
 refusal_words refusal.Memory = refused_memory
+
+-- what is found of a kept file: how many moves its record has and the verdict, or why it is refused
+abbrev pub finding_words : Finding → List ℕ
+finding_words (found.Whole count verdict) = heard_words count verdict
+finding_words (found.BadRecord fault) = refused_record fault
+finding_words found.OtherStamp = codes "refused stamp"
+finding_words (found.BadMoves place) = codes "refused moves " ++ decimal place
+finding_words (found.BadVerdict verdict) = codes "refused verdict " ++ verdict_or_none verdict
+
+-- two records are the same, or part at a ply
+abbrev pub compared_words : Option ℕ → List ℕ
+compared_words None = codes "agree"
+compared_words (Some ply) = codes "differ " ++ decimal ply
 
 abbrev pub words_of : Line → List ℕ
 words_of (line.Ruling verdict) = verdict_words verdict
@@ -123,5 +145,7 @@ words_of (line.Dtz told) = told_words (codes "dtz") told.0
 words_of (line.Message m) = message_words m
 words_of (line.Arbiter who state kept) = arbiter_words who state kept
 words_of (line.Sent number) = sent_words number
+words_of (line.Finding finding) = finding_words finding
+words_of (line.Compared compared) = compared_words compared
 words_of (line.Outcome o) = outcome_words o.outcome o.plies
 words_of (line.Columns c) = columns_words c.probed.wdl c.probed.dtz c.verdict

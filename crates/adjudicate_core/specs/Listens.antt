@@ -1,5 +1,5 @@
 -- What `listen` makes of its words and of what it reads (this project's own).
-use Rattle.std.specs.Prelude.{◌≡◌, ℕ, List, [], ◌∷◌, Option, Ok, Err}
+use Rattle.std.specs.Prelude.{◌≡◌, ℕ, List, [], length, Option, Ok, Err}
 use Rattle.board_core.specs.declared.parts.Parts.{Parts}
 use Rattle.board_core.specs.Position.{IsPosition}
 use Rattle.fen_text.specs.declared.fault.FenFault.{FenFault}
@@ -13,9 +13,12 @@ use Rattle.arbiter_core.specs.declared.fault.OpenFault.TheVariants.{BadSetup, Ke
 use Rattle.arbiter_service.specs.OverFiles.{IsOpened, ServesOpened}
 use Rattle.arbiter_core.specs.Setups.{SetupView}
 use Rattle.arbiter_service.specs.declared.file_keeper.FileKeeper.{FileKeeper}
+use Rattle.adjudicate_core.specs.Addresses.{addresses_of}
 use Rattle.adjudicate_core.specs.declared.commands.listen.Listen.{Listen}
 use Rattle.adjudicate_core.specs.Given.{Given}
-use Rattle.system_io.specs.KeptFiles.{KeptFacts, CannotStart}
+use Rattle.system_io.specs.KeptFiles.{KeptFacts}
+use Rattle.system_io.specs.declared.reading.ReadFault.TheVariants as read
+use Rattle.system_io.specs.declared.host.BindFault.TheVariants as bind
 use Rattle.system_io.specs.Hosts.{HostFacts}
 use Rattle.arbiter_service.specs.ServedLines.{refused_keeper, refused_port}
 use Rattle.adjudicate_core.specs.ToldLines.{refused_memory}
@@ -24,7 +27,7 @@ use Rattle.adjudicate_core.specs.Looks.{gathered}
 use Rattle.system_io.specs.Ports.{Passed, PortFacts}
 use Rattle.arbiter_service.specs.Serving.{Scene, scene}
 use Rattle.adjudicate_core.specs.Reply.{IsText}
-use Rattle.arbiter_service.specs.StoredBytes.{StartsOver}
+use Rattle.arbiter_service.specs.StoredBytes.{CannotKeep, StartsOver}
 use Rattle.adjudicate_core.specs.Telling.{TellsOne}
 
 -- the setup of the arbiter
@@ -59,8 +62,8 @@ pub data OpensAndServes {F : Type 0} (facts : F → KeptFacts) (l : Listen) (set
 -- over the file in which the record is kept: it can't be brought to the disk or read; or an arbiter is opened over a keeper that
 -- started over this file, and so has stored one of any two that it said a start finds, and what every later start finds
 pub data KeepsAndServes {F : Type 0} (facts : F → KeptFacts) (l : Listen) (setup : SetupView) (file : F) (port port' : PortFacts) (old new : Option (List ℕ)) (status : ℕ) : Type 0 where
-  Unreadable : CannotStart (facts file) → Passed port port' [] → TellsOne refused_keeper old new status → KeepsAndServes facts l setup file port port' old new status
-  NoRoomToKeep : Passed port port' [] → TellsOne refused_memory old new status → KeepsAndServes facts l setup file port port' old new status
+  Unreadable : CannotKeep (facts file) read.Unreadable → Passed port port' [] → TellsOne refused_keeper old new status → KeepsAndServes facts l setup file port port' old new status
+  NoRoomToKeep : CannotKeep (facts file) read.OutOfMemory → Passed port port' [] → TellsOne refused_memory old new status → KeepsAndServes facts l setup file port port' old new status
   Kept : (keeper after : FileKeeper F) → StartsOver facts file keeper → OpensAndServes facts l setup (scene keeper port old) (scene after port' new) status → KeepsAndServes facts l setup file port port' old new status
 
 -- at a port, over the file at the path of the words
@@ -68,11 +71,11 @@ pub data ServesAt {P F : Type 0} (host : Hosted P F) (l : Listen) (setup : Setup
   AtFile : (file : F) → host.host.is_at l.kept.now file → KeepsAndServes host.file l setup file port port' old new status → ServesAt host l setup port port' old new status
   NoRoomForFile : Passed port port' [] → TellsOne refused_memory old new status → ServesAt host l setup port port' old new status
 
--- with these tables: the port can't be bound; or it is, sends to the other address, and the record is kept in the file at the path
+-- with these tables: the port can't be bound; or it is, sends to each of the addresses, and the record is kept in the file at the path
 pub data BindsAndServes {P F : Type 0} (host : Hosted P F) (l : Listen) (setup : SetupView) (old new : Option (List ℕ)) (status : ℕ) : Type 0 where
-  Unbound : host.host.unbound l.bind.now → TellsOne refused_port old new status → BindsAndServes host l setup old new status
+  Unbound : host.host.refuses l.bind.now bind.Unbound → TellsOne refused_port old new status → BindsAndServes host l setup old new status
   NoRoomToBind : TellsOne refused_memory old new status → BindsAndServes host l setup old new status
-  Bound : (port port' : P) → host.host.binds l.bind.now (l.to.now ∷ []) port → (host.port port).addresses ≡ 1 → ServesAt host l setup (host.port port) (host.port port') old new status → BindsAndServes host l setup old new status
+  Bound : (port port' : P) → host.host.binds l.bind.now (addresses_of l.to.now) port → (host.port port).addresses ≡ length (addresses_of l.to.now) → ServesAt host l setup (host.port port) (host.port port') old new status → BindsAndServes host l setup old new status
 
 -- listening: the text of the start is no position; or else a table is refused; or else what follows, with the manifest of the
 -- tables' files

@@ -25,6 +25,11 @@ abbrev pub IsDatagrams : Option (List ℕ) → ℕ → Type 0
 IsDatagrams None n = ⊥
 IsDatagrams (Some text) n = IsNumber text n × (n < 2 ^ 32)
 
+-- 1 to 65535, and 100 where no number is given
+abbrev pub IsHundredOr : Option (List ℕ) → ℕ → Type 0
+IsHundredOr None n = n ≡ 100
+IsHundredOr (Some text) n = IsNumber text n × (1 ≤ n) × (n < 2 ^ 16)
+
 -- the number of an arbiter has to be given, 1 or 2
 abbrev pub IsMe : Option (List ℕ) → Who → Type 0
 IsMe None who = ⊥

@@ -9,7 +9,7 @@ use Rattle.judge_core.specs.Tables.{Tables}
 use Rattle.move_msg.specs.TextLines.{ended}
 use Rattle.adjudicate_core.specs.Lines.{refused_fen}
 use Rattle.adjudicate_core.specs.Telling.{TellsOne}
-use Rattle.adjudicate_core.specs.ToldLines.{refused_memory}
+use Rattle.adjudicate_core.specs.ToldLines.{refused_files, refused_memory}
 
 pub record Reply : Type 0 where
   pub text : List ℕ
@@ -45,3 +45,9 @@ WritesReply old new r status = Appends old new r.text × (status ≡ r.status)
 pub data AnswersOnce (IsReply : Reply → Type 0) (TakesMemory : Type 0) (old new : Option (List ℕ)) (status : ℕ) : Type 0 where
   Replied : (r : Reply) → IsReply r → WritesReply old new r status → AnswersOnce IsReply TakesMemory old new status
   Refused : TakesMemory → TellsOne refused_memory old new status → AnswersOnce IsReply TakesMemory old new status
+
+-- what a command answers that reads files on the way: its reply; or something that it reads can't be read; or memory was refused
+pub data AnswersRead (IsReply : Reply → Type 0) (CannotRead : Type 0) (old new : Option (List ℕ)) (status : ℕ) : Type 0 where
+  ReadAll : (r : Reply) → IsReply r → WritesReply old new r status → AnswersRead IsReply CannotRead old new status
+  Unread : CannotRead → TellsOne refused_files old new status → AnswersRead IsReply CannotRead old new status
+  NoRoomToRead : TellsOne refused_memory old new status → AnswersRead IsReply CannotRead old new status

@@ -1,5 +1,5 @@
 -- What commands are given, as the parser of command lines reads it.
-use Rattle.std.specs.Prelude.{List, [], ◌∷◌, Option, Some, true}
+use Rattle.std.specs.Prelude.{List, [], ◌∷◌, Option, Some}
 use Rattle.clap.specs.Words.{App, Rule, Text, fault_of, first_of, matches_of, new_rule, with_rule}
 use Rattle.clap.specs.Kinds.{Kinds}
 use Rattle.clap.specs.declared.builder.action.ArgAction.TheVariants.{SetTrue}
@@ -7,12 +7,10 @@ use Rattle.adjudicate_core.specs.declared.commands.Form.{Form}
 use Rattle.adjudicate_core.specs.declared.commands.Form.TheVariants as form
 use Rattle.adjudicate_core.specs.declared.commands.Value.{Value}
 
--- a value of this name: a word that has to be there, an option as `--tables DIR`, an option that has to be there, or a flag
--- as `--fetch`
+-- a value of this name: a word, an option as `--tables DIR`, or a flag as `--fetch`
 abbrev pub rule_of_form : Form → Text → Rule
-rule_of_form form.Word id = record (new_rule id) { required = true }
+rule_of_form form.Word id = new_rule id
 rule_of_form form.Option id = record (new_rule id) { long = Some id }
-rule_of_form form.NeededOption id = record (new_rule id) { long = Some id; required = true }
 rule_of_form form.Flag id = record (new_rule id) { long = Some id; action = Some SetTrue }
 
 abbrev pub rule_of_value : Value → Rule

@@ -6,14 +6,16 @@ use Rattle.system_io.specs.Disks.{DiskFacts}
 use Rattle.system_io.specs.Inputs.{InputFacts}
 use Rattle.adjudicate_core.specs.declared.commands.Task.{Task}
 use Rattle.adjudicate_core.specs.declared.commands.Task.TheVariants as task
-use Rattle.adjudicate_core.specs.declared.usage.Usage.{Usage}
-use Rattle.adjudicate_core.specs.declared.usage.Usage.TheVariants.{Misuse}
+use Rattle.adjudicate_core.specs.declared.usage.Misuse.{Misuse}
+use Rattle.adjudicate_core.specs.declared.usage.WordsFault.{WordsFault}
+use Rattle.adjudicate_core.specs.declared.usage.WordsFault.TheVariants.{NoText}
 use Rattle.adjudicate_core.specs.Given.{Given}
 use Rattle.adjudicate_core.specs.ToldLines.{refused_files, refused_memory}
 use Rattle.system_io.specs.Hosts.{HostFacts}
 use Rattle.system_io.specs.KeptFiles.{KeptFacts}
 use Rattle.system_io.specs.Ports.{PortFacts}
 use Rattle.adjudicate_core.specs.Listens.{Hosted, Listens, hosted}
+use Rattle.adjudicate_core.specs.Sends.{Sends}
 use Rattle.adjudicate_core.specs.Sources.{CannotRead, IsGiven, reads_some}
 use Rattle.adjudicate_core.specs.Commands.Judge as judges
 use Rattle.adjudicate_core.specs.Commands.Probe as probes
@@ -23,8 +25,11 @@ use Rattle.adjudicate_core.specs.Commands.Check as checks
 use Rattle.adjudicate_core.specs.Commands.Show as shows
 use Rattle.adjudicate_core.specs.Commands.Run as runs
 use Rattle.adjudicate_core.specs.Commands.Game as games
+use Rattle.adjudicate_core.specs.Commands.Record as records
+use Rattle.adjudicate_core.specs.Commands.Audit as audits
+use Rattle.adjudicate_core.specs.Commands.Version as versions
 use Rattle.adjudicate_core.specs.Commands.Probes.{PutsProbes}
-use Rattle.adjudicate_core.specs.Reply.{AnswersOnce, IsText}
+use Rattle.adjudicate_core.specs.Reply.{AnswersOnce, AnswersRead, IsText}
 use Rattle.adjudicate_core.specs.Telling.{TellsOne}
 use Rattle.adjudicate_core.specs.Tasks.{IsTask, IsMisuse, NamesNone, named_in}
 
@@ -41,24 +46,28 @@ outside disk source host port file = record { disk = disk; source = source; host
 abbrev pub texts : List (Bor (List ℕ)) → List (List ℕ)
 texts words = map (λ w. w.now) words
 
--- what the program answers to a task from what was read for it: `judge`, `probe`, `moves`, `game` take memory for a text that
--- is a position, `list`, `check` and `run` always, and `show` never
-abbrev pub AnswersFrom : {P F : Type 0} → InputFacts → Hosted P F → Task → Given → Option (List ℕ) → Option (List ℕ) → ℕ → Type 0
-AnswersFrom source host (task.Judge t) given old new status = AnswersOnce (judges.IsReply t given) (IsText t.fen.now) old new status
-AnswersFrom source host (task.Probe t) given old new status = AnswersOnce (probes.IsReply t given) (IsText t.fen.now) old new status
-AnswersFrom source host (task.Moves t) given old new status = AnswersOnce (of_moves.IsReply t) (IsText t.fen.now) old new status
-AnswersFrom source host (task.List t) given old new status = AnswersOnce (lists.IsReply given) (Unit {0}) old new status
-AnswersFrom source host (task.Check t) given old new status = AnswersOnce (checks.IsReply given) (Unit {0}) old new status
-AnswersFrom source host (task.Show t) given old new status = shows.Answers given old new status
-AnswersFrom source host (task.Run t) given old new status = AnswersOnce (runs.IsReply t given) (Unit {0}) old new status
-AnswersFrom source host (task.Listen t) given old new status = Listens host t given old new status
-AnswersFrom source host (task.Probes t) given old new status = PutsProbes source given old new status
-AnswersFrom source host (task.Game t) given old new status = AnswersOnce (games.IsReply t given) (IsText t.fen.now) old new status
+-- what the program answers to a task from what was read for it: `judge`, `probe`, `moves`, `game` and `audit` take memory for a
+-- text that is a position, `record` for what is laid out as a record, `list`, `check` and `run` always, `show` and `version` never
+abbrev pub AnswersFrom : {P F : Type 0} → DiskFacts → InputFacts → Hosted P F → Task → Given → Option (List ℕ) → Option (List ℕ) → ℕ → Type 0
+AnswersFrom disk source host (task.Judge t) given old new status = AnswersOnce (judges.IsReply t given) (IsText t.fen.now) old new status
+AnswersFrom disk source host (task.Probe t) given old new status = AnswersOnce (probes.IsReply t given) (IsText t.fen.now) old new status
+AnswersFrom disk source host (task.Moves t) given old new status = AnswersOnce (of_moves.IsReply t) (IsText t.fen.now) old new status
+AnswersFrom disk source host (task.List t) given old new status = AnswersRead (lists.IsReply disk t) (lists.IsUnread disk t) old new status
+AnswersFrom disk source host (task.Check t) given old new status = AnswersRead (checks.IsReply disk t) (checks.IsUnread disk t) old new status
+AnswersFrom disk source host (task.Show t) given old new status = shows.Answers given old new status
+AnswersFrom disk source host (task.Run t) given old new status = AnswersOnce (runs.IsReply t given) (Unit {0}) old new status
+AnswersFrom disk source host (task.Listen t) given old new status = Listens host t given old new status
+AnswersFrom disk source host (task.Probes t) given old new status = PutsProbes source given old new status
+AnswersFrom disk source host (task.Game t) given old new status = AnswersOnce (games.IsReply t given) (IsText t.fen.now) old new status
+AnswersFrom disk source host (task.Record t) given old new status = AnswersOnce (records.IsReply given.kept) (records.TakesMemory given.kept) old new status
+AnswersFrom disk source host (task.Audit t) given old new status = AnswersOnce (audits.IsReply t given) (IsText t.start.now) old new status
+AnswersFrom disk source host (task.Version t) given old new status = versions.Answers old new status
+AnswersFrom disk source host (task.Send t) given old new status = Sends disk source host t old new (Ok status)
 
 -- to a task the program answers from what it reads; or something that it reads for it can't be read; or memory was refused while
 -- it read
 pub data AnswersTask {P F : Type 0} (out : Outside P F) (t : Task) (old new : Option (List ℕ)) (status : ℕ) : Type 0 where
-  FromGiven : (given : Given) → IsGiven out.disk out.source (named_in t) given → AnswersFrom out.source out.host t given old new status → AnswersTask out t old new status
+  FromGiven : (given : Given) → IsGiven out.disk out.source (named_in t) given → AnswersFrom out.disk out.source out.host t given old new status → AnswersTask out t old new status
   Unread : CannotRead out.disk out.source (named_in t) → TellsOne refused_files old new status → AnswersTask out t old new status
   NoMemory : reads_some (named_in t) ≡ true → TellsOne refused_memory old new status → AnswersTask out t old new status
 
@@ -66,17 +75,17 @@ pub data AnswersTask {P F : Type 0} (out : Outside P F) (t : Task) (old new : Op
 -- written; or memory was refused before there was a task, where they name a command
 pub data Performs {P F : Type 0} (out : Outside P F) (words : List (List ℕ)) (old new : Option (List ℕ)) (status : ℕ) : Type 0 where
   ToTask : (t : Task) → IsTask words t → AnswersTask out t old new status → Performs out words old new status
-  ToMisuse : IsMisuse words → new ≡ old → status ≡ 2 → Performs out words old new status
+  ToMisuse : (misuse : Misuse) → IsMisuse words misuse → new ≡ old → status ≡ 2 → Performs out words old new status
   ToNone : (NamesNone words → ⊥) → TellsOne refused_memory old new status → Performs out words old new status
 
 -- the words that a program is called with, or why there are none
-abbrev pub called_by : Result (Vec (String Global) Global) Usage → Result (List (List ℕ)) Usage
+abbrev pub called_by : Result (Vec (String Global) Global) WordsFault → Result (List (List ℕ)) WordsFault
 called_by (Ok words) = Ok (map string_bytes words.items)
-called_by (Err usage) = Err usage
+called_by (Err fault) = Err fault
 
 -- what it makes of all words that it was called with, of which the first is its own name; words that are no texts are none; or
 -- memory was refused for them
-pub data Called {P F : Type 0} (out : Outside P F) (called : Result (List (List ℕ)) Usage) (old new : Option (List ℕ)) (status : ℕ) : Type 0 where
+pub data Called {P F : Type 0} (out : Outside P F) (called : Result (List (List ℕ)) WordsFault) (old new : Option (List ℕ)) (status : ℕ) : Type 0 where
   OnWords : (words : List (List ℕ)) → called ≡ Ok words → Performs out (drop 1 words) old new status → Called out called old new status
-  OnNone : called ≡ Err Misuse → Performs out [] old new status → Called out called old new status
+  OnNone : called ≡ Err NoText → Performs out [] old new status → Called out called old new status
   NoRoomForWords : TellsOne refused_memory old new status → Called out called old new status

@@ -1,5 +1,5 @@
 -- What is read for a task (this project's own).
-use Rattle.std.specs.Prelude.{◌≡◌, ◌≤◌, ◌||◌, ℕ, Bool, true, false, List, [], length, Option, Some, is_some, option_map}
+use Rattle.std.specs.Prelude.{◌≡◌, ◌≤◌, ◌⊎◌, ◌||◌, ℕ, Bool, true, false, List, [], length, Option, Some, None, is_some, option_map}
 use Rattle.adjudicate_core.specs.declared.sources.Places.{Places}
 use Rattle.move_msg.specs.ToldManifests.{Told}
 use Rattle.adjudicate_core.specs.Given.{Given}
@@ -7,36 +7,52 @@ use Rattle.system_io.specs.Disks.{DiskFacts, AtFile, most_bytes}
 use Rattle.system_io.specs.Inputs.{InputFacts}
 use Rattle.adjudicate_core.specs.Outside.{AreFilesAt, FolderFails, IsToldAt}
 
--- the paths of the folder and of the manifest, where one is named, and whether the input is read
+-- the paths of the folder, of the manifest and of kept files, where one is named, and whether the input is read
 pub record Named : Type 0 where
   pub folder : Option (List ℕ)
   pub manifest : Option (List ℕ)
   pub input : Bool
+  pub kept : Option (List ℕ)
+  pub other_kept : Option (List ℕ)
 
 abbrev pub named_by : Places → Named
 named_by places = record {
   folder = option_map (λ s. s.now) places.folder;
   manifest = option_map (λ s. s.now) places.manifest;
   input = places.reads_input;
+  kept = option_map (λ s. s.now) places.kept;
+  other_kept = option_map (λ s. s.now) places.other_kept;
 }
 
 -- some folder, file or input is read
 abbrev pub reads_some : Named → Bool
-reads_some n = is_some n.folder || (is_some n.manifest || n.input)
+reads_some n = is_some n.folder || (is_some n.manifest || (n.input || (is_some n.kept || is_some n.other_kept)))
 
 abbrev pub IsInputAt : InputFacts → Bool → List ℕ → Type 0
 IsInputAt source false input = input ≡ []
 IsInputAt source true input = source.gives input × (length input ≤ most_bytes)
 
--- this is what is read: what the manifest tells, the wanted files of the folder, the input
+-- the bytes of the file at a path, where one is named
+abbrev pub IsKeptAt : DiskFacts → Option (List ℕ) → List ℕ → Type 0
+IsKeptAt disk None bytes = bytes ≡ []
+IsKeptAt disk (Some path) bytes = disk.holds path bytes × (length bytes ≤ most_bytes)
+
+-- this is what is read beside tables: the input and the kept files
+pub record AreTexts (disk : DiskFacts) (source : InputFacts) (n : Named) (text first second : List ℕ) : Type 0 where
+  pub input : IsInputAt source n.input text
+  pub kept : IsKeptAt disk n.kept first
+  pub other_kept : IsKeptAt disk n.other_kept second
+
+-- this is what is read: what the manifest tells, the wanted files of the folder, the input, the kept files
 pub record IsGiven (disk : DiskFacts) (source : InputFacts) (n : Named) (given : Given) : Type 0 where
   pub told : IsToldAt disk n.manifest given.told
   pub files : AreFilesAt disk n.folder given.told given.files
-  pub input : IsInputAt source n.input given.input
+  pub texts : AreTexts disk source n given.input given.kept given.other_kept
 
--- something that is read can't be read: the manifest, the folder or a wanted file of that, or the input; or the folder lists a
--- wanted file twice
+-- something that is read can't be read: the manifest, the folder or a wanted file of that, the input, or a kept file; or the
+-- folder lists a wanted file twice
 pub data CannotRead (disk : DiskFacts) (source : InputFacts) (n : Named) : Type 0 where
   Manifest : (path : List ℕ) → n.manifest ≡ Some path → disk.fails (AtFile path) → CannotRead disk source n
   Folder : (folder : List ℕ) (told : Option Told) → n.folder ≡ Some folder → IsToldAt disk n.manifest told → FolderFails disk folder told → CannotRead disk source n
   Input : n.input ≡ true → source.fails → CannotRead disk source n
+  Kept : (path : List ℕ) → (n.kept ≡ Some path) ⊎ (n.other_kept ≡ Some path) → disk.fails (AtFile path) → CannotRead disk source n

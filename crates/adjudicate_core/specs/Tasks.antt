@@ -1,6 +1,6 @@
 -- Commands and tasks: a list for each thing that the program asks of a command (this project's own).
-use Rattle.std.specs.Prelude.{◌≡◌, ◌⊎◌, Bool, false, List, [], Option, Some, None, codes, slice_get}
-use Rattle.clap.specs.Words.{App, Rule, Text, new_app}
+use Rattle.std.specs.Prelude.{◌≡◌, Bool, false, List, [], Option, Some, Result, Ok, Err, codes, slice_get}
+use Rattle.clap.specs.Words.{App, IsAmong, Rule, Text, kind_of, new_app}
 use Rattle.adjudicate_core.specs.Rules.{fault_in, value_in, with_rules}
 use Rattle.adjudicate_core.specs.Sources.{Named}
 use Rattle.adjudicate_core.specs.Commands.Judge as judges
@@ -13,6 +13,14 @@ use Rattle.adjudicate_core.specs.Commands.Run as runs
 use Rattle.adjudicate_core.specs.Commands.Listen as listens
 use Rattle.adjudicate_core.specs.Commands.Probes as of_probes
 use Rattle.adjudicate_core.specs.Commands.Game as games
+use Rattle.adjudicate_core.specs.Commands.Send as sends
+use Rattle.adjudicate_core.specs.Commands.Record as records
+use Rattle.adjudicate_core.specs.Commands.Audit as audits
+use Rattle.adjudicate_core.specs.Commands.Version as versions
+use Rattle.adjudicate_core.specs.Misuses.{Fault, IsFirst, fault_words}
+use Rattle.adjudicate_core.specs.declared.usage.Misuse.{Misuse}
+use Rattle.adjudicate_core.specs.declared.usage.Misuse.TheVariants as misuse
+use Rattle.adjudicate_core.specs.declared.usage.ValueFault.{ValueFault}
 use Rattle.adjudicate_core.specs.declared.commands.Name.{Name}
 use Rattle.adjudicate_core.specs.declared.commands.Name.TheVariants as name
 use Rattle.adjudicate_core.specs.declared.commands.Task.{Task}
@@ -32,6 +40,10 @@ word_of name.Run = codes "run"
 word_of name.Listen = codes "listen"
 word_of name.Probes = codes "probes"
 word_of name.Game = codes "game"
+word_of name.Record = codes "record"
+word_of name.Audit = codes "audit"
+word_of name.Version = codes "version"
+word_of name.Send = codes "send"
 
 -- what it is given
 abbrev pub rules_of : Name → List Rule
@@ -45,19 +57,27 @@ rules_of name.Run = runs.rules
 rules_of name.Listen = listens.rules
 rules_of name.Probes = of_probes.rules
 rules_of name.Game = games.rules
+rules_of name.Record = records.rules
+rules_of name.Audit = audits.rules
+rules_of name.Version = versions.rules
+rules_of name.Send = sends.rules
 
--- an argument that it needs has no value, or a number is none that it takes
-abbrev pub Lacks : (Text → Option Text) → Name → Type 0
-Lacks value name.Judge = judges.Lacks value
-Lacks value name.Probe = probes.Lacks value
-Lacks value name.Moves = of_moves.Lacks value
-Lacks value name.List = lists.Lacks value
-Lacks value name.Check = checks.Lacks value
-Lacks value name.Show = shows.Lacks value
-Lacks value name.Run = runs.Lacks value
-Lacks value name.Listen = listens.Lacks value
-Lacks value name.Probes = of_probes.Lacks value
-Lacks value name.Game = games.Lacks value
+-- what may be wrong with its values, in the order in which it is told
+abbrev pub faults_of : Name → List Fault
+faults_of name.Judge = judges.faults
+faults_of name.Probe = probes.faults
+faults_of name.Moves = of_moves.faults
+faults_of name.List = lists.faults
+faults_of name.Check = checks.faults
+faults_of name.Show = shows.faults
+faults_of name.Run = runs.faults
+faults_of name.Listen = listens.faults
+faults_of name.Probes = of_probes.faults
+faults_of name.Game = games.faults
+faults_of name.Record = records.faults
+faults_of name.Audit = audits.faults
+faults_of name.Version = versions.faults
+faults_of name.Send = sends.faults
 
 -- ---- by the task
 
@@ -72,6 +92,10 @@ name_of (task.Run t) = name.Run
 name_of (task.Listen t) = name.Listen
 name_of (task.Probes t) = name.Probes
 name_of (task.Game t) = name.Game
+name_of (task.Record t) = name.Record
+name_of (task.Audit t) = name.Audit
+name_of (task.Version t) = name.Version
+name_of (task.Send t) = name.Send
 
 -- it has these values of its command's arguments
 abbrev pub HasValues : (Text → Option Text) → Task → Type 0
@@ -85,32 +109,44 @@ HasValues value (task.Run t) = runs.HasValues value t
 HasValues value (task.Listen t) = listens.IsListening value t
 HasValues value (task.Probes t) = of_probes.HasValues value t
 HasValues value (task.Game t) = games.HasValues value t
+HasValues value (task.Record t) = records.HasValues value t
+HasValues value (task.Audit t) = audits.HasValues value t
+HasValues value (task.Version t) = Unit {0}
+HasValues value (task.Send t) = sends.HasValues value t
 
 -- what is read for it
 abbrev pub named_in : Task → Named
 named_in (task.Judge t) = judges.named t
 named_in (task.Probe t) = probes.named t
 named_in (task.Moves t) = of_moves.named t
-named_in (task.List t) = lists.named t
-named_in (task.Check t) = checks.named t
+named_in (task.List t) = lists.named
+named_in (task.Check t) = checks.named
 named_in (task.Show t) = shows.named
 named_in (task.Run t) = runs.named t
 named_in (task.Listen t) = listens.named t
 named_in (task.Probes t) = of_probes.named t
 named_in (task.Game t) = games.named t
+named_in (task.Record t) = records.named t
+named_in (task.Audit t) = audits.named t
+named_in (task.Version t) = versions.named
+named_in (task.Send t) = sends.named
 
 -- how far it is, is told on the way
 abbrev pub tells_progress : Task → Bool
 tells_progress (task.Judge t) = false
 tells_progress (task.Probe t) = false
 tells_progress (task.Moves t) = false
-tells_progress (task.List t) = false
-tells_progress (task.Check t) = false
+tells_progress (task.List t) = t.progress
+tells_progress (task.Check t) = t.progress
 tells_progress (task.Show t) = false
 tells_progress (task.Run t) = false
 tells_progress (task.Listen t) = false
 tells_progress (task.Probes t) = t.progress
 tells_progress (task.Game t) = false
+tells_progress (task.Record t) = false
+tells_progress (task.Audit t) = false
+tells_progress (task.Version t) = false
+tells_progress (task.Send t) = false
 
 -- ---- words
 
@@ -136,15 +172,16 @@ pub record IsTask (words : List Text) (t : Task) : Type 0 where
   pub taken : IsTaken (app_for (name_of t)) words
   pub values : HasValues (value_in (app_for (name_of t)) words) t
 
--- the values are read as this task of the command, or as none where they lack one that it needs, or a number that it takes
-abbrev pub IsReadAs : Name → (Text → Option Text) → Option Task → Type 0
-IsReadAs name value (Some t) = (name_of t ≡ name) × HasValues value t
-IsReadAs name value None = Lacks value name
+-- the values are read as this task of the command; or this is the first thing that is wrong with them
+abbrev pub IsReadAs : Name → (Text → Option Text) → Result Task ValueFault → Type 0
+IsReadAs name value (Ok t) = (name_of t ≡ name) × HasValues value t
+IsReadAs name value (Err fault) = IsFirst value (faults_of name) (fault_words fault)
 
--- the command refuses the words or their numbers, or they lack the value of a needed argument
-abbrev pub IsMisused : Name → List Text → Type 0
-IsMisused name words = (IsTaken (app_for name) words → ⊥) ⊎ Lacks (value_in (app_for name) words) name
-
--- no command is named, or the one that is named refuses the words
-abbrev pub IsMisuse : List Text → Type 0
-IsMisuse words = (name : Name) → Names words name → IsMisused name words
+-- what is wrong with the words, the first of these: there is none; the first names no command; the command that it names finds
+-- them wrong, in this way, at the first of them where it does; the command's values, of which this is the first that is wrong
+abbrev pub IsMisuse : List Text → Misuse → Type 0
+IsMisuse words misuse.NoCommand = words ≡ []
+IsMisuse words (misuse.UnknownCommand word) = NamesNone words × (slice_get words 0 ≡ Some word.now)
+IsMisuse words (misuse.Refused e) = (name : Name) × Names words name × IsAmong (kind_of e) (fault_in (app_for name) words)
+IsMisuse words (misuse.Value fault) =
+    (name : Name) × Names words name × IsTaken (app_for name) words × IsFirst (value_in (app_for name) words) (faults_of name) (fault_words fault)

@@ -1,8 +1,9 @@
 -- What is told of the lines of an input, a line each, as they come (this project's own).
 use Rattle.std.specs.Prelude.{◌≡◌, ◌≤◌, ◌⊎◌, ◌++◌, ◌^◌, ◌-◌, ℕ, Bool, false, List, [], ◌∷◌, length, map, Option, IfSome, codes}
 use Rattle.std.specs.Fmt.{decimal}
-use Rattle.std.specs.List.{list_all}
+use Rattle.std.specs.List.{Contains, list_all}
 use Rattle.std.specs.Io.KnownBytes.{Appends, IsAtEnd}
+use Rattle.system_io.specs.Outputs.{OutputFacts}
 use Rattle.system_io.specs.LineReaders.{LineFacts, ReadsLine}
 use Rattle.move_msg.specs.TextLines.{ended, lines_in, text_of}
 use Rattle.adjudicate_core.specs.declared.told_lines.Step.{Step}
@@ -45,6 +46,10 @@ abbrev pub refused_files : List ℕ
 refused_files = codes "refused files"
 
 -- ---- lines as they come
+
+-- a line may be waited for: a whole one has come already, or what was written has gone out
+abbrev pub MayWait : LineFacts → OutputFacts → Type 0
+MayWait input out = Contains input.ahead 10 ⊎ out.gone
 
 -- these lines were read, one after the other
 unfoldable pub AreRead : Option (List ℕ) → List (List ℕ) → Option (List ℕ) → Type 0

@@ -3,7 +3,7 @@
 ghost use Rattle.std.specs.Prelude.{◌≡◌, map, IfOk, OnOk};
 ghost use Rattle.std.specs.Io.KnownBytes.{Appends};
 ghost use Rattle.move_msg.specs.TextLines.{text_of};
-ghost use Rattle.adjudicate_core.specs.Inside.Asked.{PutsAnswered, reply_of};
+ghost use Rattle.adjudicate_core.specs.Inside.Asked.{PutsAnswered, PutsRead, reply_of};
 ghost use Rattle.adjudicate_core.specs.Lines.{words_of};
 ghost use Rattle.adjudicate_core.specs.Reply.{WritesReply, status_if};
 
@@ -11,7 +11,7 @@ use crate::lines::{Line, put_line, put_refusal};
 use crate::refusals::Refusal;
 use std::alloc::AllocError;
 use std::io::Write;
-use system_io::WriteFault;
+use system_io::{ReadFault, WriteFault};
 
 /// An answer before it is written.
 #[derive(Drop)]
@@ -77,5 +77,19 @@ pub(crate) fn put_answered<W: Write>(
     match answered {
         Ok(answer) => put_answer(out, &answer),
         Err(_) => put_refusal(out, Refusal::Memory),
+    }
+}
+
+/// Writes an answer, or why something for it wasn't read, and tells the status.
+pub(crate) fn put_read<W: Write>(
+    out: &mut W,
+    answered: Result<Answer, ReadFault>,
+) -> Result<u8, WriteFault>
+    ensures { IfOk result (PutsRead answered (W.contents out.old) (W.contents out.new)) }
+{
+    match answered {
+        Ok(answer) => put_answer(out, &answer),
+        Err(ReadFault::Unreadable) => put_refusal(out, Refusal::Files),
+        Err(ReadFault::OutOfMemory) => put_refusal(out, Refusal::Memory),
     }
 }

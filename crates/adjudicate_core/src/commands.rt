@@ -1,11 +1,13 @@
 //! The commands: their names, and command lines as tasks. Each command has a file of its own in `commands/`.
 
-ghost use Rattle.std.specs.Prelude.{◌≡◌, [], map, true, false, IfOk, IfErr, IfSome, IfNone, Err, Option};
-ghost use Rattle.clap.specs.Words.{Text, app_of, is_simple_and_free, found_of, first_value, rule_of, with_rule};
-ghost use Rattle.adjudicate_core.specs.Rules.{rule_of_value, value_in};
+ghost use Rattle.std.specs.Prelude.{◌≡◌, map, true, false, IfOk, IfErr, IfSome, IfNone, OnErr, IsErrOf};
+ghost use Rattle.clap.specs.Words.{HasKind, Text, app_of, is_simple_and_free, found_of, first_value, rule_of, with_rule};
+ghost use Rattle.adjudicate_core.specs.declared.usage.Misuse.{Misuse};
+ghost use Rattle.adjudicate_core.specs.Rules.{fault_in, rule_of_value, value_in};
 ghost use Rattle.adjudicate_core.specs.Sources.{named_by};
 ghost use Rattle.adjudicate_core.specs.Tasks.{IsReadAs, IsTask, IsMisuse, IsTaken, Names, NamesNone, app_for, named_in, rules_of, word_of};
 
+mod audit;
 mod check;
 mod game;
 mod judge;
@@ -14,11 +16,15 @@ mod listen;
 mod moves;
 mod probe;
 mod probes;
+mod record;
 mod run;
+mod send;
 mod show;
+mod version;
 
 use crate::sources::Places;
-use crate::usage::Usage;
+use crate::usage::{Misuse, Usage, ValueFault};
+pub use audit::Audit;
 pub use check::Check;
 use clap::{Arg, ArgAction, ArgMatches, Command};
 pub use game::FollowGame;
@@ -28,9 +34,12 @@ pub use listen::Listen;
 pub use moves::Moves;
 pub use probe::Probe;
 pub use probes::Probes;
+pub use record::ShowRecord;
 pub use run::RunSchedule;
+pub use send::Send;
 pub use show::Show;
 use std::alloc::{AllocError, Global};
+pub use version::Version;
 
 /// What a command line asks for.
 #[derive(Drop)]
@@ -55,6 +64,14 @@ pub enum Task<'a> {
     Probes(Probes<'a>),
     /// What the game of the input comes to.
     Game(FollowGame<'a>),
+    /// What a kept record says.
+    Record(ShowRecord<'a>),
+    /// Whether kept files are records of a game.
+    Audit(Audit<'a>),
+    /// The program's version.
+    Version(Version),
+    /// The moves of the input, sent to the arbiters of a game.
+    Send(Send<'a>),
 }
 
 /// The commands.
@@ -80,18 +97,24 @@ pub enum Name {
     Probes,
     /// Judges a game.
     Game,
+    /// Shows a kept record.
+    Record,
+    /// Audits kept files.
+    Audit,
+    /// Tells the program's version.
+    Version,
+    /// Sends the moves of a game.
+    Send,
 }
 
-/// How a command is given a value.
+/// How a command is given a value. Whether the value has to be there isn't told here: the command asks for it.
 #[derive(Clone, Copy)]
 pub enum Form {
-    /// As a word that has to be there.
+    /// As a word.
     Word,
-    /// After `--` and its name, or not at all.
-    Option,
     /// After `--` and its name.
-    NeededOption,
-    /// As `--` and its name alone, or not at all.
+    Option,
+    /// As `--` and its name alone.
     Flag,
 }
 
@@ -119,6 +142,10 @@ impl Name {
             "listen" => Some(Name::Listen),
             "probes" => Some(Name::Probes),
             "game" => Some(Name::Game),
+            "record" => Some(Name::Record),
+            "audit" => Some(Name::Audit),
+            "version" => Some(Name::Version),
+            "send" => Some(Name::Send),
             _ => None,
         }
     }
@@ -138,6 +165,10 @@ impl Name {
             Name::Listen => "listen",
             Name::Probes => "probes",
             Name::Game => "game",
+            Name::Record => "record",
+            Name::Audit => "audit",
+            Name::Version => "version",
+            Name::Send => "send",
         }
     }
 
@@ -156,6 +187,10 @@ impl Name {
             Name::Listen => &listen::VALUES,
             Name::Probes => &probes::VALUES,
             Name::Game => &game::VALUES,
+            Name::Record => &record::VALUES,
+            Name::Audit => &audit::VALUES,
+            Name::Version => &[],
+            Name::Send => &send::VALUES,
         }
     }
 }
@@ -167,9 +202,8 @@ fn arg_of<'a>(alloc: Global, value: &Value) -> Arg<'a>
 {
     let arg = Arg::new(alloc, value.name);
     match value.form {
-        Form::Word => arg.required(true),
+        Form::Word => arg,
         Form::Option => arg.long(value.name),
-        Form::NeededOption => arg.long(value.name).required(true),
         Form::Flag => arg.long(value.name).action(ArgAction::SetTrue),
     }
 }
@@ -197,61 +231,67 @@ fn command_of<'a>(alloc: Global, name: Name) -> Result<Command<'a>, AllocError>
 }
 
 /// The matches of a simple command at the words, of which the first is the command's name.
-fn matches_at<'a>(command: Command<'a>, words: &'a [&'a str]) -> Result<ArgMatches<'a>, Usage>
+fn matches_at<'a>(command: Command<'a>, words: &'a [&'a str]) -> Result<ArgMatches<'a>, clap::Error>
     requires { is_simple_and_free (app_of command) ≡ true }
     ensures taken { IfOk result (λ m. IsTaken (app_of command.entry) (map (λ w. w.now) words.entry.now)) }
     ensures values { IfOk result (λ m. (id : Text) → first_value (found_of m) id ≡ value_in (app_of command.entry) (map (λ w. w.now) words.entry.now) id) }
-    ensures misuse { IfErr result (λ e. e ≡ Usage.Misuse → IsTaken (app_of command.entry) (map (λ w. w.now) words.entry.now) → ⊥) }
+    ensures refused { IfErr result (HasKind (fault_in (app_of command.entry) (map (λ w. w.now) words.entry.now))) }
 {
-    match command.try_get_matches_from(words) {
-        Ok(matches) => Ok(matches),
-        Err(error) => Err(Usage::from(error)),
-    }
+    command.try_get_matches_from(words)
 }
 
-/// The task of a command with these values; none where it lacks one that it needs, or a number isn't one
-/// that the command takes.
-fn task_of<'a>(name: Name, matches: &ArgMatches<'a>) -> Option<Task<'a>>
+/// The task of a command with these values, or the first thing that is wrong with them.
+fn task_of<'a>(name: Name, matches: &ArgMatches<'a>) -> Result<Task<'a>, ValueFault<'a>>
     ensures { IsReadAs name (first_value (found_of matches.now)) result }
 {
     match name {
         Name::Judge => match Judge::of(matches) {
-            Some(task) => Some(Task::Judge(task)),
-            None => None,
+            Ok(task) => Ok(Task::Judge(task)),
+            Err(fault) => Err(fault),
         },
         Name::Probe => match Probe::of(matches) {
-            Some(task) => Some(Task::Probe(task)),
-            None => None,
+            Ok(task) => Ok(Task::Probe(task)),
+            Err(fault) => Err(fault),
         },
         Name::Moves => match Moves::of(matches) {
-            Some(task) => Some(Task::Moves(task)),
-            None => None,
+            Ok(task) => Ok(Task::Moves(task)),
+            Err(fault) => Err(fault),
         },
         Name::List => match List::of(matches) {
-            Some(task) => Some(Task::List(task)),
-            None => None,
+            Ok(task) => Ok(Task::List(task)),
+            Err(fault) => Err(fault),
         },
         Name::Check => match Check::of(matches) {
-            Some(task) => Some(Task::Check(task)),
-            None => None,
+            Ok(task) => Ok(Task::Check(task)),
+            Err(fault) => Err(fault),
         },
-        Name::Show => Some(Task::Show(Show)),
+        Name::Show => Ok(Task::Show(Show)),
         Name::Run => match RunSchedule::of(matches) {
-            Some(task) => Some(Task::Run(task)),
-            None => None,
+            Ok(task) => Ok(Task::Run(task)),
+            Err(fault) => Err(fault),
         },
         Name::Listen => match Listen::of(matches) {
-            Some(task) => Some(Task::Listen(task)),
-            None => None,
+            Ok(task) => Ok(Task::Listen(task)),
+            Err(fault) => Err(fault),
         },
         Name::Probes => match Probes::of(matches) {
-            Some(task) => Some(Task::Probes(task)),
-            None => None,
+            Ok(task) => Ok(Task::Probes(task)),
+            Err(fault) => Err(fault),
         },
         Name::Game => match FollowGame::of(matches) {
-            Some(task) => Some(Task::Game(task)),
-            None => None,
+            Ok(task) => Ok(Task::Game(task)),
+            Err(fault) => Err(fault),
         },
+        Name::Record => match ShowRecord::of(matches) {
+            Ok(task) => Ok(Task::Record(task)),
+            Err(fault) => Err(fault),
+        },
+        Name::Audit => match Audit::of(matches) {
+            Ok(task) => Ok(Task::Audit(task)),
+            Err(fault) => Err(fault),
+        },
+        Name::Version => Ok(Task::Version(Version)),
+        Name::Send => Ok(Task::Send(Send::of(matches)?)),
     }
 }
 
@@ -271,42 +311,54 @@ impl<'a> Task<'a> {
             Task::Listen(task) => task.places(),
             Task::Probes(task) => task.places(),
             Task::Game(task) => task.places(),
+            Task::Record(task) => task.places(),
+            Task::Audit(task) => task.places(),
+            Task::Version(task) => task.places(),
+            Task::Send(task) => task.places(),
         }
     }
 }
 
-/// The command that the first word names.
-fn name_in(words: &[&str]) -> Option<Name>
-    ensures some { IfSome result (Names (map (λ w. w.now) words.now)) }
-    ensures none { IfNone result (NamesNone (map (λ w. w.now) words.now)) }
+/// The command that the first word names, or that there is none.
+fn name_in<'a>(words: &'a [&'a str]) -> Result<Name, Misuse<'a>>
+    ensures ok { IfOk result (Names (map (λ w. w.now) words.entry.now)) }
+    ensures none { OnErr result (NamesNone (map (λ w. w.now) words.entry.now)) }
+    ensures err { IfErr result (IsMisuse (map (λ w. w.now) words.entry.now)) }
 {
     match words {
-        [] => None,
-        [word, ..] => Name::of(word),
+        [] => Err(Misuse::NoCommand),
+        [word, ..] => match Name::of(word) {
+            Some(name) => Ok(name),
+            None => Err(Misuse::UnknownCommand(word)),
+        },
+    }
+}
+
+/// The task of a command that the words name.
+fn task_by<'a>(alloc: Global, name: Name, words: &'a [&'a str]) -> Result<Task<'a>, Usage<'a>>
+    requires { Names (map (λ w. w.now) words.now) name }
+    ensures ok { IfOk result (IsTask (map (λ w. w.now) words.entry.now)) }
+    ensures misuse { IfErr result (λ e. (misuse : Misuse) → e ≡ Usage.Misuse misuse → IsMisuse (map (λ w. w.now) words.entry.now) misuse) }
+{
+    let command = command_of(alloc, name)?;
+    let matches = matches_at(command, words)?;
+    match task_of(name, &matches) {
+        Ok(task) => Ok(task),
+        Err(fault) => Err(Usage::Misuse(Misuse::Value(fault))),
     }
 }
 
 /// The task that the words name: the first word is the command, and the others are its own.
 ///
-/// Words that name no command, or that the command refuses (a wish for help among them), are a
-/// misuse; want of memory is told where a growth is refused.
-pub fn parse<'a>(alloc: Global, words: &'a [&'a str]) -> Result<Task<'a>, Usage>
+/// Else they are a misuse, of which the first is told: no word, or a first one that names no command; words that the command
+/// doesn't have, or a wish for help; the command's values in its own order. Want of memory is told where a growth is refused.
+pub fn parse<'a>(alloc: Global, words: &'a [&'a str]) -> Result<Task<'a>, Usage<'a>>
     ensures ok { IfOk result (IsTask (map (λ w. w.now) words.entry.now)) }
-    ensures misuse { IfErr result (λ e. e ≡ Usage.Misuse → IsMisuse (map (λ w. w.now) words.entry.now)) }
-    ensures unnamed { NamesNone (map (λ w. w.now) words.entry.now) → result ≡ Err Usage.Misuse }
+    ensures misuse { IfErr result (λ e. (misuse : Misuse) → e ≡ Usage.Misuse misuse → IsMisuse (map (λ w. w.now) words.entry.now) misuse) }
+    ensures named { IsErrOf result Usage.OutOfMemory → NamesNone (map (λ w. w.now) words.entry.now) → ⊥ }
 {
-    let Some(name) = name_in(words) else {
-        return Err(Usage::Misuse);
-    };
-    let matches = match command_of(alloc, name) {
-        Ok(command) => match matches_at(command, words) {
-            Ok(matches) => matches,
-            Err(usage) => return Err(usage),
-        },
-        Err(_) => return Err(Usage::OutOfMemory),
-    };
-    match task_of(name, &matches) {
-        Some(task) => Ok(task),
-        None => Err(Usage::Misuse),
+    match name_in(words) {
+        Ok(name) => task_by(alloc, name, words),
+        Err(misuse) => Err(Usage::Misuse(misuse)),
     }
 }

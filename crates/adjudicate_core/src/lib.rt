@@ -6,33 +6,42 @@
 //! prints what tables say of each line of standard input, and `game FEN` what the game of the moves there
 //! comes to; `show` prints the
 //! messages on standard input; `run` runs the schedule on standard input, and prints what becomes of its
-//! two arbiters; `listen` is an arbiter that answers the datagrams of a socket and keeps its record in a file.
+//! two arbiters; `listen` is an arbiter that answers the datagrams of a socket and keeps its record in a file; `record` prints
+//! what such a file says, and `audit` whether it is by the rules of the game; `version` prints the program's version.
 //! Statuses: 0 done, 1 refused, 2 misuse.
 //!
 //! Its tests stand in `rows`.
 #![tactic(auto)]
 
+mod addresses;
 mod answers;
+mod auditing;
 mod commands;
 mod file_name;
+mod game_name;
+pub mod laws;
 mod lines;
 mod listening;
 mod numbers;
 mod program;
 mod reading;
 mod refusals;
+mod sending;
 mod sources;
 mod tables;
 mod told_lines;
 mod usage;
+mod values;
 
+pub use auditing::Finding;
 pub use commands::{
-    Check, FollowGame, Form, Judge, List, Listen, Moves, Name, Probe, Probes, RunSchedule, Show,
-    Task, Value, parse,
+    Audit, Check, FollowGame, Form, Judge, List, Listen, Moves, Name, Probe, Probes, RunSchedule,
+    Send, Show, ShowRecord, Task, Value, Version, parse,
 };
+pub use game_name::GameName;
 pub use numbers::{CacheSize, Delay};
 pub use program::{refuse_memory, run, run_program};
 pub use reading::files_in;
 pub use sources::{Places, Sources};
 pub use told_lines::{TellFault, Teller, tell_lines};
-pub use usage::Usage;
+pub use usage::{Misuse, Usage, ValueFault, Wanted, WordsFault};

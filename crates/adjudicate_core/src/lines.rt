@@ -8,6 +8,7 @@ ghost use Rattle.arbiter_service.specs.ServedLines.{verdict_or_none};
 ghost use Rattle.adjudicate_core.specs.Lines.{arbiter_words, refusal_words, state_word, told_words, words_of};
 ghost use Rattle.relay_world.specs.Texts.{who_word};
 
+use crate::auditing::Finding;
 use crate::refusals::Refusal;
 use crate::tables::FileFault;
 use arbiter_service::verdict_or_none;
@@ -51,6 +52,10 @@ pub(crate) enum Line {
     Arbiter(Who, State, Option<KeptCount>),
     /// How many messages were sent.
     Sent(usize),
+    /// What is found of a kept file.
+    Finding(Finding),
+    /// At which ply two records part first, if they do.
+    Compared(Option<usize>),
     /// What a game comes to.
     Outcome(Outcome),
     /// What both probes tell of a position, and the verdict on it.
@@ -131,6 +136,9 @@ impl fmt::Display for Line {
             Line::Message(message) => fmt::Display::fmt(message, f),
             Line::Arbiter(who, state, kept) => fmt_arbiter(f, *who, *state, *kept),
             Line::Sent(number) => write!(f, "sent {number}"),
+            Line::Finding(finding) => fmt::Display::fmt(finding, f),
+            Line::Compared(None) => f.write_str("agree"),
+            Line::Compared(Some(ply)) => write!(f, "differ {ply}"),
             Line::Outcome(outcome) => fmt::Display::fmt(outcome, f),
             Line::Columns(columns) => fmt::Display::fmt(columns, f),
         }

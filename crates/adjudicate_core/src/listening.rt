@@ -11,6 +11,7 @@ ghost use Rattle.adjudicate_core.specs.Looks.{gathered};
 ghost use Rattle.arbiter_service.specs.Serving.{scene};
 ghost use Rattle.arbiter_service.specs.StoredBytes.{IsInFile};
 
+use crate::addresses::addresses_in;
 use crate::commands::Listen;
 use crate::lines::put_refusal;
 use crate::refusals::Refusal;
@@ -23,11 +24,10 @@ use fen_text::read;
 use judge_core::Set;
 use move_msg::manifest_of;
 use std::alloc::{AllocError, Global};
-use std::io::Write;
-use system_io::{BindFault, Host, KeptFile, Port, ReadFault, WriteFault};
+use system_io::{BindFault, Host, KeptFile, Output, Port, ReadFault, WriteFault};
 
 /// Tells that no arbiter is opened: `refused keeper`, or `refused memory` where memory was refused.
-fn put_unopened<W: Write>(fault: OpenFault, out: &mut W) -> Result<u8, WriteFault>
+fn put_unopened<W: Output>(fault: OpenFault, out: &mut W) -> Result<u8, WriteFault>
     ensures { IfOk result (TellsUnopened fault (W.contents out.old) (W.contents out.new)) }
 {
     match fault {
@@ -38,7 +38,7 @@ fn put_unopened<W: Write>(fault: OpenFault, out: &mut W) -> Result<u8, WriteFaul
 
 /// Opens an arbiter over a keeper, and lets it answer the datagrams of a port. An arbiter that can't be opened is told as
 /// `refused keeper`.
-fn open_and_serve<F: KeptFile + Drop, P: Port, W: Write>(
+fn open_and_serve<F: KeptFile + Drop, P: Port, W: Output>(
     alloc: Global,
     listening: &Listen<'_>,
     setup: Setup<'_>,
@@ -65,7 +65,7 @@ fn open_and_serve<F: KeptFile + Drop, P: Port, W: Write>(
 }
 
 /// The same over a file in which the record is kept. A file that can't be read is told as `refused keeper`.
-fn keep_and_serve<F: KeptFile + Drop, P: Port, W: Write>(
+fn keep_and_serve<F: KeptFile + Drop, P: Port, W: Output>(
     alloc: Global,
     listening: &Listen<'_>,
     setup: Setup<'_>,
@@ -83,7 +83,7 @@ fn keep_and_serve<F: KeptFile + Drop, P: Port, W: Write>(
 }
 
 /// The same over the file that the words name.
-fn serve_at<H: Host, W: Write>(
+fn serve_at<H: Host, W: Output>(
     alloc: Global,
     listening: &Listen<'_>,
     setup: Setup<'_>,
@@ -99,8 +99,8 @@ fn serve_at<H: Host, W: Write>(
     }
 }
 
-/// The same at the address and over the file that the words name. An address that can't be bound is told as `refused port`.
-fn bind_and_serve<H: Host, W: Write>(
+/// The same at the addresses and over the file that the words name. An address that can't be bound is told as `refused port`.
+fn bind_and_serve<H: Host, W: Output>(
     alloc: Global,
     listening: &Listen<'_>,
     setup: Setup<'_>,
@@ -109,7 +109,10 @@ fn bind_and_serve<H: Host, W: Write>(
 ) -> Result<u8, WriteFault>
     ensures { IfOk result (BindsAndServes (hosted (H.facts host.now) H.Port.facts H.File.facts) listening.now (setup_view setup.entry) (W.contents out.old) (W.contents out.new)) }
 {
-    match host.bind(alloc, listening.bind, &[listening.to]) {
+    let Ok(addresses) = addresses_in(alloc, listening.to) else {
+        return put_refusal(out, Refusal::Memory);
+    };
+    match host.bind(alloc, listening.bind, &addresses) {
         Ok(mut port) => serve_at(alloc, listening, setup, host, &mut port, out),
         Err(BindFault::Unbound) => put_refusal(out, Refusal::Port),
         Err(BindFault::OutOfMemory) => put_refusal(out, Refusal::Memory),
@@ -124,7 +127,7 @@ fn manifest_for(alloc: Global, sources: &Sources) -> Result<Vec<u8>, AllocError>
 }
 
 /// The same with the tables of a set and their manifest.
-fn listen_with<'a, H: Host, W: Write>(
+fn listen_with<'a, H: Host, W: Output>(
     alloc: Global,
     listening: &Listen<'_>,
     name: &'a [u8],
@@ -149,7 +152,7 @@ fn listen_with<'a, H: Host, W: Write>(
 }
 
 /// The same with the tables of a set.
-fn listen_by<'a, H: Host, W: Write>(
+fn listen_by<'a, H: Host, W: Output>(
     alloc: Global,
     listening: &Listen<'a>,
     sources: &Sources,
@@ -173,7 +176,7 @@ fn listen_by<'a, H: Host, W: Write>(
 /// What is refused is told in one line, in this order: the text of its start, the tables, the address, and the file in which the
 /// record is kept or what stands there. Where memory is refused the line is `refused memory`. The error comes only where the
 /// writer failed.
-pub fn listen<'a, H: Host, W: Write>(
+pub fn listen<'a, H: Host, W: Output>(
     alloc: Global,
     listening: &Listen<'a>,
     sources: &'a Sources,

@@ -1,9 +1,9 @@
 //! Numbers of the command line.
 
-ghost use Rattle.std.specs.Prelude.{◌≡◌, ◌≤◌, ℕ, option_map, IfSome, IfNone};
+ghost use Rattle.std.specs.Prelude.{◌≡◌, ◌≤◌, ℕ, option_map, IfSome, IfNone, Some};
 ghost use Rattle.move_msg.specs.declared.who.Who.{Who};
 ghost use Rattle.board_core.specs.Delays.{most_delay};
-ghost use Rattle.adjudicate_core.specs.Numbers.{IsCache, IsDatagrams, IsDelay, IsMe, is_set};
+ghost use Rattle.adjudicate_core.specs.Numbers.{IsCache, IsDatagrams, IsDelay, IsHundredOr, IsMe, is_set};
 
 use move_msg::Who;
 use std::marker::Model;
@@ -98,23 +98,37 @@ impl Delay {
     }
 }
 
-/// How many datagrams a text tells, 0 to 2^32 - 1; none where there is no text, or it tells no such number.
-pub fn datagrams_of(text: Option<&str>) -> Option<u32>
-    ensures some { IfSome result (IsDatagrams (option_map (λ s. s.now) text.entry)) }
-    ensures none { IfNone result ((n : ℕ) → IsDatagrams (option_map (λ s. s.now) text.entry) n → ⊥) }
+/// The number from 1 to 65535 that a text tells, and 100 where there is no text; none where it tells another.
+pub fn hundred_or(text: Option<&str>) -> Option<u16>
+    ensures some { IfSome result (IsHundredOr (option_map (λ s. s.now) text.entry)) }
+    ensures none { IfNone result ((n : ℕ) → IsHundredOr (option_map (λ s. s.now) text.entry) n → ⊥) }
 {
-    match text?.parse::<u32>() {
+    let Some(text) = text else {
+        return Some(100);
+    };
+    match text.parse::<u16>() {
+        Ok(number) if 1 <= number => Some(number),
+        _ => None,
+    }
+}
+
+/// How many datagrams a text tells, 0 to 2^32 - 1; none where it tells no such number.
+pub fn datagrams_of(text: &str) -> Option<u32>
+    ensures some { IfSome result (IsDatagrams (Some text.now)) }
+    ensures none { IfNone result ((n : ℕ) → IsDatagrams (Some text.now) n → ⊥) }
+{
+    match text.parse::<u32>() {
         Ok(datagrams) => Some(datagrams),
         Err(_) => None,
     }
 }
 
-/// Which of the two arbiters a text tells, 1 or 2; none where there is no text, or it tells another number.
-pub fn me_of(text: Option<&str>) -> Option<Who>
-    ensures some { IfSome result (IsMe (option_map (λ s. s.now) text.entry)) }
-    ensures none { IfNone result ((who : Who) → IsMe (option_map (λ s. s.now) text.entry) who → ⊥) }
+/// Which of the two arbiters a text tells, 1 or 2; none where it tells another number.
+pub fn me_of(text: &str) -> Option<Who>
+    ensures some { IfSome result (IsMe (Some text.now)) }
+    ensures none { IfNone result ((who : Who) → IsMe (Some text.now) who → ⊥) }
 {
-    match text?.parse::<u8>() {
+    match text.parse::<u8>() {
         Ok(number) => Who::of_number(number),
         Err(_) => None,
     }

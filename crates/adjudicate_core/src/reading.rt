@@ -1,21 +1,25 @@
 //! The files of tables in a folder.
 
-ghost use Rattle.std.specs.Prelude.{◌≡◌, ◌↔◌, ◌≤◌, ℕ, List, length, map, string_bytes, IfOk, IfSome, IfNone, OnOk, IsErrOf, IsTrue};
-ghost use Rattle.std.specs.List.{AllByRecursion, Contains};
+ghost use Rattle.std.specs.Prelude.{◌≡◌, ◌↔◌, ℕ, List, false, map, string_bytes, IfOk, IfSome, IfNone, OnOk, IsErrOf, IsTrue};
+ghost use Rattle.std.specs.Io.KnownBytes.{Appends};
+ghost use Rattle.std.specs.List.{Contains};
 ghost use Rattle.move_msg.specs.Manifests.{entry_of};
 ghost use Rattle.move_msg.specs.TableNames.{IsFileName};
-ghost use Rattle.move_msg.specs.Files.{AreFiles, file_of};
-ghost use Rattle.adjudicate_core.specs.FileNames.{AreRisingNames, names_of};
+ghost use Rattle.move_msg.specs.Files.{AreFiles, File, file_of};
+ghost use Rattle.move_msg.specs.TextLines.{ended};
+ghost use Rattle.adjudicate_core.specs.FileNames.{AreRisingNames};
 ghost use Rattle.move_msg.specs.ToldBy.{told_by};
-ghost use Rattle.system_io.specs.Disks.{AtFile, most_bytes};
+ghost use Rattle.system_io.specs.Disks.{AtFile};
 ghost use Rattle.adjudicate_core.specs.Outside.{AreFilesIn, AreWantedOf, FolderFails, IsAtItsPath, IsWanted, ListsTwice, path_in};
+ghost use Rattle.adjudicate_core.specs.Inside.Looking.{AreLooksAt, AreMadeOf, read_words};
 ghost use Rattle.adjudicate_core.specs.Inside.Placing.{IsPlace, Adds};
 
 use crate::file_name::FileName;
 use move_msg::{Line, Manifest, NamedFile};
-use std::alloc::Global;
+use std::alloc::{AllocError, Global};
 use std::cmp::Ordering;
-use system_io::{Disk, ReadFault};
+use std::io::{self, Write};
+use system_io::{Disk, ReadFault, WriteFault};
 
 /// Whether one of the lines has this name.
 fn is_named(lines: &[Line], name: &str) -> bool
@@ -105,45 +109,138 @@ fn wanted_names(
     Ok(wanted)
 }
 
-/// The bytes of a folder's file.
+/// What is kept of a table's file that is read.
+pub(crate) trait Look: Drop {
+    /// It is made of the file.
+    ghost made_of: { Self → File → Type 0 };
+
+    /// What is kept of a file. The error comes only where memory is refused.
+    fn of(alloc: Global, file: NamedFile) -> Result<Self, AllocError>
+        ensures { IfOk result (λ look. made_of look (file_of file)) };
+}
+
+impl Look for NamedFile {
+    ghost use Rattle.std.specs.Prelude.{◌≡◌};
+    ghost use Rattle.move_msg.specs.Files.{file_of};
+
+    ghost made_of = { λ look f. file_of look ≡ f };
+
+    fn of(_alloc: Global, file: NamedFile) -> Result<NamedFile, AllocError> {
+        Ok(file)
+    }
+}
+
+/// A folder's file.
 fn read_file<D: Disk>(
     alloc: Global,
     disk: &D,
     folder: &str,
-    name: &str,
-) -> Result<Vec<u8>, ReadFault>
-    ensures bytes { IfOk result (λ bytes. (D.facts disk.now).holds (path_in folder.now name.now) bytes.items × (length bytes.items ≤ most_bytes)) }
+    name: &FileName,
+) -> Result<NamedFile, ReadFault>
+    ensures name { IfOk result (λ file. file.name.bytes ≡ name.now) }
+    ensures file { IfOk result (λ file. IsAtItsPath (D.facts disk.now) folder.now (file_of file)) }
     ensures cause { IsErrOf result ReadFault.Unreadable → (D.facts disk.now).fails (AtFile (path_in folder.now name.now)) }
 {
-    let Ok(path) = format!(in alloc; "{folder}/{name}") else {
+    let text = name.as_str();
+    let Ok(path) = format!(in alloc; "{folder}/{text}") else {
         return Err(ReadFault::OutOfMemory);
     };
-    disk.read(alloc, path.as_str())
+    match disk.read(alloc, path.as_str()) {
+        Ok(bytes) => Ok(NamedFile {
+            name: name.text(),
+            bytes,
+        }),
+        Err(fault) => Err(fault),
+    }
 }
 
-/// The files of these names in a folder.
-fn read_files<D: Disk>(
+/// After how many bytes it is told how many are read.
+const PROGRESS_BYTES: u64 = 100_000_000;
+
+/// Writes how many times a hundred million bytes are read.
+fn put_read<E: Write>(errors: &mut E, hundreds: u64) -> Result<(), WriteFault>
+    ensures { OnOk result (Appends (E.contents errors.old) (E.contents errors.new) (ended (read_words hundreds))) }
+{
+    match writeln!(errors, "{hundreds}00 MB done") {
+        Ok(()) => Ok(()),
+        Err(_) => Err(WriteFault::Io),
+    }
+}
+
+/// Tells how many bytes are read, where that is wanted and another hundred million are; a failure changes nothing.
+fn tell_read<E: Write>(errors: &mut E, progress: bool, before: u64, now: u64)
+    ensures quiet { progress ≡ false → errors.new ≡ errors.old }
+{
+    let hundreds = now / PROGRESS_BYTES;
+    if !progress || before / PROGRESS_BYTES == hundreds {
+        return;
+    }
+    match put_read(errors, hundreds) {
+        Ok(()) => {}
+        Err(_) => {}
+    }
+}
+
+/// Reads the files of these names in a folder one by one, and keeps of each what is made of it.
+fn look_at_files<D: Disk, L: Look, E: Write>(
     alloc: Global,
     disk: &D,
     folder: &str,
     names: &[FileName],
-) -> Result<Vec<NamedFile>, ReadFault>
-    ensures names { IfOk result (λ files. names_of (map file_of files.items) ≡ names.now) }
-    ensures bytes { IfOk result (λ files. AllByRecursion (IsAtItsPath (D.facts disk.now) folder.now) (map file_of files.items)) }
+    errors: &mut E,
+    progress: bool,
+) -> Result<Vec<L>, ReadFault>
+    ensures looks { IfOk result (λ looks. AreLooksAt (D.facts disk.now) folder.now L.made_of names.now looks.items) }
     ensures cause { IsErrOf result ReadFault.Unreadable → (name : List ℕ) × Contains names.now name × (D.facts disk.now).fails (AtFile (path_in folder.now name)) }
+    ensures quiet { progress ≡ false → errors.new ≡ errors.old }
 {
-    let mut files = Vec::new(alloc);
+    let mut looks = Vec::new(alloc);
+    let mut read: u64 = 0;
     for name in names {
-        let bytes = match read_file(alloc, disk, folder, name.as_str()) {
-            Ok(bytes) => bytes,
+        let file = match read_file(alloc, disk, folder, name) {
+            Ok(file) => file,
             Err(fault) => return Err(fault),
         };
-        let name = name.text();
-        let Ok(()) = files.push(NamedFile { name, bytes }) else {
+        let before = read;
+        read = read.saturating_add(file.bytes.len() as u64);
+        tell_read(errors, progress, before, read);
+        let Ok(look) = L::of(alloc, file) else {
+            return Err(ReadFault::OutOfMemory);
+        };
+        let Ok(()) = looks.push(look) else {
             return Err(ReadFault::OutOfMemory);
         };
     }
-    Ok(files)
+    Ok(looks)
+}
+
+/// What is made of the wanted files of tables that a folder has, in rising order of names: those whose names are of tables'
+/// files, and with a manifest only those that its lines name. One file at a time is held.
+///
+/// `Unreadable` where the folder or one of these files can't be read or has more than 2^30 bytes, or the folder lists one of
+/// them twice. With `progress` it tells `errors` after each hundred million bytes how many are read, as `300 MB done`; without,
+/// nothing is written there, and a failure there changes nothing.
+pub(crate) fn looks_in<D: Disk, L: Look, E: Write>(
+    alloc: Global,
+    disk: &D,
+    folder: &str,
+    manifest: &Manifest,
+    errors: &mut E,
+    progress: bool,
+) -> Result<Vec<L>, ReadFault>
+    ensures ok { IfOk result (λ looks. (files : List File) × AreFilesIn (D.facts disk.now) folder.now (told_by manifest.now) files × AreFiles files × AreMadeOf L.made_of looks.items files) }
+    ensures cause { IsErrOf result ReadFault.Unreadable → FolderFails (D.facts disk.now) folder.now (told_by manifest.now) }
+    ensures quiet { progress ≡ false → errors.new ≡ errors.old }
+{
+    let names = match disk.names(alloc, folder) {
+        Ok(names) => names,
+        Err(fault) => return Err(fault),
+    };
+    let wanted = match wanted_names(alloc, &names, manifest) {
+        Ok(wanted) => wanted,
+        Err(fault) => return Err(fault),
+    };
+    look_at_files(alloc, disk, folder, &wanted, errors, progress)
 }
 
 /// The wanted files of tables that a folder has, in rising order of names: those whose names are of tables' files, and with a
@@ -161,13 +258,5 @@ pub fn files_in<D: Disk>(
     ensures files { IfOk result (λ files. AreFiles (map file_of files.items)) }
     ensures cause { IsErrOf result ReadFault.Unreadable → FolderFails (D.facts disk.now) folder.now (told_by manifest.now) }
 {
-    let names = match disk.names(alloc, folder) {
-        Ok(names) => names,
-        Err(fault) => return Err(fault),
-    };
-    let wanted = match wanted_names(alloc, &names, manifest) {
-        Ok(wanted) => wanted,
-        Err(fault) => return Err(fault),
-    };
-    read_files(alloc, disk, folder, &wanted)
+    looks_in(alloc, disk, folder, manifest, &mut io::sink(), false)
 }

@@ -7,7 +7,7 @@ ghost use Rattle.adjudicate_core.specs.Lines.{refused_fen, refused_file, refused
 use crate::tables::FileFault;
 use arrayvec::ArrayString;
 use fen_text::FenFault;
-use move_msg::MessageFault;
+use move_msg::{MessageFault, RecordFault};
 use std::fmt;
 
 /// Why something is refused.
@@ -25,6 +25,8 @@ pub(crate) enum Refusal {
     Line(usize),
     /// A word that is no move, by its place, the first being 0.
     Move(usize),
+    /// The bytes of a kept file are no record.
+    Record(RecordFault),
     /// The port can't be bound.
     Port,
     /// What is kept can't be read or isn't that of the game, or the keeper failed at the start.
@@ -81,6 +83,7 @@ impl fmt::Display for Refusal {
             Refusal::Message(number, Some(fault)) => fmt_message(f, *number, fault.name()),
             Refusal::Line(number) => fmt_number(f, "refused line ", *number),
             Refusal::Move(place) => fmt_number(f, "refused move ", *place),
+            Refusal::Record(fault) => write!(f, "refused record {}", fault.name()),
             Refusal::Port => f.write_str("refused port"),
             Refusal::Keeper => f.write_str("refused keeper"),
             Refusal::Files => f.write_str("refused files"),

@@ -5,7 +5,7 @@ ghost use Rattle.move_msg.specs.Files.{AreFiles, file_of};
 ghost use Rattle.move_msg.specs.ToldBy.{told_by};
 ghost use Rattle.system_io.specs.Disks.{AtFile};
 ghost use Rattle.adjudicate_core.specs.Outside.{AreFilesAt, FolderFails, IsToldAt};
-ghost use Rattle.adjudicate_core.specs.Sources.{CannotRead, IsGiven, IsInputAt, named_by, reads_some};
+ghost use Rattle.adjudicate_core.specs.Sources.{AreTexts, CannotRead, IsGiven, IsInputAt, IsKeptAt, named_by, reads_some};
 
 use crate::reading::files_in;
 use move_msg::{Manifest, NamedFile};
@@ -13,7 +13,7 @@ use std::alloc::Global;
 use std::marker::Model;
 use system_io::{Disk, Input, ReadFault};
 
-/// What is read for a task: the folder of its tables, the file of its manifest, and whether the input is.
+/// What is read for a task: the folder of its tables, the file of its manifest, whether the input is, and kept files.
 #[derive(Clone, Copy)]
 pub struct Places<'a> {
     /// The path of the folder, if one is read.
@@ -22,14 +22,20 @@ pub struct Places<'a> {
     pub manifest: Option<&'a str>,
     /// Whether the input is read, to its end.
     pub reads_input: bool,
+    /// The path of a kept file, if one is read.
+    pub kept: Option<&'a str>,
+    /// The path of a second kept file, if one is read.
+    pub other_kept: Option<&'a str>,
 }
 
-/// What a task is answered from. Contracts see the files, what the manifest tells, and the input.
+/// What a task is answered from. Contracts see the files, what the manifest tells, the input, and the bytes of the kept files.
 #[derive(Drop)]
 pub struct Sources {
     files: Vec<NamedFile>,
     manifest: Manifest,
     input: Vec<u8>,
+    kept: Vec<u8>,
+    other_kept: Vec<u8>,
 }
 
 impl Model for Sources {
@@ -40,13 +46,13 @@ impl Model for Sources {
 
     ghost Value = { Given };
 
-    ghost view = { λ s. record { files = map file_of s.files.items; told = told_by s.manifest; input = s.input.items } };
+    ghost view = { λ s. record { files = map file_of s.files.items; told = told_by s.manifest; input = s.input.items; kept = s.kept.items; other_kept = s.other_kept.items } };
 
     ghost invariant = { λ s. AreFiles (map file_of s.files.items) };
 }
 
 /// The manifest at a path, if there is one.
-fn read_manifest<D: Disk>(
+pub(crate) fn read_manifest<D: Disk>(
     alloc: Global,
     disk: &D,
     path: Option<&str>,
@@ -99,12 +105,61 @@ fn read_input<I: Input>(alloc: Global, input: &I, is_wanted: bool) -> Result<Vec
     }
 }
 
+/// The bytes of the file at a path, if there is one.
+fn read_kept<D: Disk>(alloc: Global, disk: &D, path: Option<&str>) -> Result<Vec<u8>, ReadFault>
+    ensures ok { IfOk result (λ bytes. IsKeptAt (D.facts disk.now) (option_map (λ s. s.now) path.entry) bytes.items) }
+    ensures cause { IsErrOf result ReadFault.Unreadable → (p : List ℕ) × (option_map (λ s. s.now) path.entry ≡ Some p) × (D.facts disk.now).fails (AtFile p) }
+    ensures some { OnErr result (is_some path.entry ≡ true) }
+{
+    match path {
+        None => Ok(Vec::new(alloc)),
+        Some(path) => disk.read(alloc, path),
+    }
+}
+
+/// What is read beside tables: the input, and two kept files.
+#[derive(Drop)]
+struct Texts {
+    input: Vec<u8>,
+    kept: Vec<u8>,
+    other_kept: Vec<u8>,
+}
+
+/// Reads what these places name beside tables.
+fn read_texts<D: Disk, I: Input>(
+    alloc: Global,
+    disk: &D,
+    input: &I,
+    places: &Places,
+) -> Result<Texts, ReadFault>
+    ensures ok { IfOk result (λ texts. AreTexts (D.facts disk.now) (I.facts input.now) (named_by places.now) texts.input.items texts.kept.items texts.other_kept.items) }
+    ensures cause { IsErrOf result ReadFault.Unreadable → CannotRead (D.facts disk.now) (I.facts input.now) (named_by places.now) }
+    ensures some { OnErr result (reads_some (named_by places.now) ≡ true) }
+{
+    let input = match read_input(alloc, input, places.reads_input) {
+        Ok(input) => input,
+        Err(fault) => return Err(fault),
+    };
+    let kept = match read_kept(alloc, disk, places.kept) {
+        Ok(kept) => kept,
+        Err(fault) => return Err(fault),
+    };
+    match read_kept(alloc, disk, places.other_kept) {
+        Ok(other_kept) => Ok(Texts {
+            input,
+            kept,
+            other_kept,
+        }),
+        Err(fault) => Err(fault),
+    }
+}
+
 impl Sources {
-    /// Reads what these places name: the manifest, the wanted files of the folder, and the input where it is wanted.
+    /// Reads what these places name: the manifest, the wanted files of the folder, the input where it is wanted, and kept files.
     ///
     /// Files whose names are not those of tables are passed over, and with a manifest those that it doesn't name.
-    /// `Unreadable` where the folder, one of these files, the manifest or the input can't be read or has more than 2^30 bytes, or
-    /// the folder lists one of these files twice; `OutOfMemory` where memory is refused. Nothing fails where nothing is named.
+    /// `Unreadable` where the folder, one of these files, the manifest, the input or a kept file can't be read or has more than
+    /// 2^30 bytes, or the folder lists one of these files twice; `OutOfMemory` where memory is refused. Nothing fails where nothing is named.
     pub fn read<D: Disk, I: Input>(
         alloc: Global,
         disk: &D,
@@ -123,11 +178,13 @@ impl Sources {
             Ok(files) => files,
             Err(fault) => return Err(fault),
         };
-        match read_input(alloc, input, places.reads_input) {
-            Ok(input) => Ok(Sources {
+        match read_texts(alloc, disk, input, places) {
+            Ok(texts) => Ok(Sources {
                 files,
                 manifest,
-                input,
+                input: texts.input,
+                kept: texts.kept,
+                other_kept: texts.other_kept,
             }),
             Err(fault) => Err(fault),
         }
@@ -153,5 +210,19 @@ impl Sources {
         ensures { result.now ≡ self.now.input }
     {
         &self.input
+    }
+
+    /// The bytes of the kept file; empty where none is read.
+    pub fn kept(&self) -> &[u8]
+        ensures { result.now ≡ self.now.kept }
+    {
+        &self.kept
+    }
+
+    /// The bytes of the second kept file; empty where none is read.
+    pub fn other_kept(&self) -> &[u8]
+        ensures { result.now ≡ self.now.other_kept }
+    {
+        &self.other_kept
     }
 }

@@ -44,7 +44,7 @@ impl FileFault {
 }
 
 /// The table that a file is.
-fn open_file<'f>(
+pub(crate) fn open_file<'f>(
     alloc: Global,
     file: &'f NamedFile,
 ) -> Result<Result<Table<'f>, FileFault>, AllocError>
@@ -70,7 +70,7 @@ fn file_named<'f>(files: &'f [NamedFile], name: &str) -> Option<&'f NamedFile>
 }
 
 /// The table of a manifest's line: its file has to be there and to have its digest.
-pub(crate) fn open_line<'f>(
+fn open_line<'f>(
     alloc: Global,
     files: &'f [NamedFile],
     line: &Entry,

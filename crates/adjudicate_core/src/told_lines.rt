@@ -4,13 +4,13 @@ ghost use Rattle.std.specs.Prelude.{◌≡◌, ◌≢◌, ◌%◌, List, ℕ, fa
 ghost use Rattle.std.specs.Io.KnownBytes.{Appends, Keeps};
 ghost use Rattle.move_msg.specs.TextLines.{ended};
 ghost use Rattle.adjudicate_core.specs.Lines.{refusal_words};
-ghost use Rattle.adjudicate_core.specs.ToldLines.{LineTells, LineTold, StepTells, TellsNoMore, WritesIfKnown, WritesRead, WritesTold, done_words};
+ghost use Rattle.adjudicate_core.specs.ToldLines.{LineTells, LineTold, MayWait, StepTells, TellsNoMore, WritesIfKnown, WritesRead, WritesTold, done_words};
 
 use crate::lines::{Line, put_line};
 use crate::refusals::Refusal;
 use std::alloc::Global;
 use std::io::Write;
-use system_io::{LineReader, ReadFault, WriteFault};
+use system_io::{LineReader, Output, ReadFault, WriteFault};
 
 /// After how many lines it is told how many are done.
 const PROGRESS_STEP: u64 = 10_000;
@@ -105,12 +105,14 @@ fn tell_line<T: Teller, W: Write>(
 }
 
 /// Reads the next line of an input, and tells something of it.
-fn tell_next<T: Teller, L: LineReader, W: Write>(
+fn tell_next<T: Teller, L: LineReader, W: Output>(
     teller: &mut T,
     reader: &mut L,
     line: &mut Vec<u8>,
     out: &mut W,
 ) -> Result<Step, WriteFault>
+    // No line is waited for before what was written has gone out.
+    requires { MayWait (L.facts reader.old) (W.facts out.old) }
     ensures told { IfOk result (StepTells (T.tells teller.old) T.takes_memory (L.facts reader.old).fails (L.facts reader.old).left (L.facts reader.new).left (W.contents out.old) (W.contents out.new)) }
     ensures reader { (L.facts reader.new).fails → (L.facts reader.old).fails }
     ensures same { TellsNoMore (T.tells teller.old) (T.tells teller.new) }
@@ -124,16 +126,14 @@ fn tell_next<T: Teller, L: LineReader, W: Write>(
 }
 
 /// Lets what was written go out before a line is waited for: nothing is done where the next line has come already.
-fn flush_before_wait<L: LineReader, W: Write>(reader: &L, out: &mut W) -> Result<(), WriteFault>
-    ensures { Keeps (W.contents out.old) (W.contents out.new) }
+fn flush_before_wait<L: LineReader, W: Output>(reader: &L, out: &mut W) -> Result<(), WriteFault>
+    ensures kept { Keeps (W.contents out.old) (W.contents out.new) }
+    ensures may_wait { OnOk result (MayWait (L.facts reader.now) (W.facts out.new)) }
 {
     if reader.has_line() {
         return Ok(());
     }
-    match out.flush() {
-        Ok(()) => Ok(()),
-        Err(_) => Err(WriteFault::Io),
-    }
+    out.flush_all()
 }
 
 /// Writes what is told of each line of an input as it comes, and tells whether all of it is told. The last line may lack its line
@@ -146,7 +146,7 @@ fn flush_before_wait<L: LineReader, W: Write>(reader: &L, out: &mut W) -> Result
 /// With `progress` it tells `errors` after every 10,000 lines how many are done, as `20000 done`; without, nothing is written
 /// there, and a failure there changes nothing. The error comes where the writer of the lines fails, or the teller tells that it
 /// did; what it has then isn't told.
-pub fn tell_lines<T: Teller, L: LineReader, W: Write, E: Write>(
+pub fn tell_lines<T: Teller, L: LineReader, W: Output, E: Write>(
     alloc: Global,
     teller: &mut T,
     reader: &mut L,

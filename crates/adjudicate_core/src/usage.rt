@@ -1,57 +1,164 @@
 //! Why a command line is no task.
 
-ghost use Rattle.std.specs.Prelude.{◌≡◌};
-ghost use Rattle.clap.specs.Words.{kind_of};
+ghost use Rattle.std.specs.Prelude.{◌≡◌, Some};
+ghost use Rattle.std.specs.Fmt.{DisplaysOnOk};
 ghost use Rattle.adjudicate_core.specs.declared.usage.Usage.TheVariants.{OutOfMemory};
+ghost use Rattle.adjudicate_core.specs.declared.usage.WordsFault.TheVariants.{OutOfMemory as NoRoom};
+ghost use Rattle.adjudicate_core.specs.Misuses.{name_of, range_of, unfit_words};
 ghost use Rattle.adjudicate_core.specs.Usage.{usage_of};
 
 use clap::error::ErrorKind;
 use std::alloc::AllocError;
-use std::io;
-use thiserror::Error;
+use std::{fmt, io};
 
-/// Why words are no task.
-#[derive(Clone, Copy, Debug, Error)]
-pub enum Usage {
-    /// The words name no command, or the command refuses them.
-    #[error("the words are no task")]
-    Misuse,
-    /// Memory was refused.
-    #[error("refused memory")]
-    OutOfMemory,
+/// A value of which an option takes only some.
+#[derive(Clone, Copy)]
+pub enum Wanted {
+    /// The name of a game.
+    GameName,
+    /// How many decoded blocks a cache may have.
+    Cache,
+    /// For how many further plies a verdict by tables must hold.
+    Delay,
+    /// How many datagrams are answered.
+    Datagrams,
+    /// Which of the two arbiters it is.
+    Me,
+    /// How many milliseconds a datagram is awaited.
+    Wait,
+    /// How often a move is sent.
+    Tries,
 }
 
-impl From<AllocError> for Usage {
-    ghost from_gives = { λ _ e. e ≡ OutOfMemory };
-
-    fn from(_e: AllocError) -> Usage {
-        Usage::OutOfMemory
+impl Wanted {
+    /// The option's name.
+    fn name(self) -> &'static str
+        ensures { result.now ≡ name_of self }
+    {
+        match self {
+            Wanted::GameName => "name",
+            Wanted::Cache => "cache",
+            Wanted::Delay => "delay",
+            Wanted::Datagrams => "datagrams",
+            Wanted::Me => "me",
+            Wanted::Wait => "wait",
+            Wanted::Tries => "tries",
+        }
     }
-}
 
-impl From<clap::Error> for Usage {
-    ghost from_gives = { λ e u. u ≡ usage_of (kind_of e) };
-
-    fn from(e: clap::Error) -> Usage {
-        usage_of(e.kind())
-    }
-}
-
-impl From<io::Error> for Usage {
-    fn from(error: io::Error) -> Usage {
-        match error.kind() {
-            io::ErrorKind::OutOfMemory => Usage::OutOfMemory,
-            _ => Usage::Misuse,
+    /// What it takes, in words.
+    fn range(self) -> &'static str
+        ensures { result.now ≡ range_of self }
+    {
+        match self {
+            Wanted::GameName => "1 to 64 bytes from the space to the tilde",
+            Wanted::Cache => "1 to 4096",
+            Wanted::Delay => "0 to 8",
+            Wanted::Datagrams => "0 to 4294967295",
+            Wanted::Me => "1 or 2",
+            Wanted::Wait | Wanted::Tries => "1 to 65535",
         }
     }
 }
 
-/// Why words are no task, by the kind of their fault.
-fn usage_of(kind: ErrorKind) -> Usage
-    ensures { result ≡ usage_of kind }
+/// What is wrong with the values of a command.
+#[derive(Clone, Copy)]
+pub enum ValueFault<'a> {
+    /// An option that has to be there isn't.
+    NoOption(&'a str),
+    /// A word that has to be there isn't.
+    NoWord(&'a str),
+    /// An option has a value that it doesn't take.
+    Unfit(Wanted, &'a str),
+}
+
+/// Tells that an option's value is none that it takes.
+fn fmt_unfit<W: fmt::Write>(f: &mut fmt::Formatter<W>, wanted: Wanted, text: &str) -> fmt::Result
+    ensures { DisplaysOnOk W.Write.write_str_gives f.old result (Some (unfit_words wanted text.now)) f.new }
 {
-    match kind {
-        ErrorKind::OutOfMemory => Usage::OutOfMemory,
-        _ => Usage::Misuse,
+    let name = wanted.name();
+    let range = wanted.range();
+    write!(f, "--{name} {text}: {range}")
+}
+
+impl<'a> fmt::Display for ValueFault<'a> {
+    ghost use Rattle.std.specs.Prelude.{Some};
+    ghost use Rattle.adjudicate_core.specs.Misuses.{fault_words};
+
+    ghost output = { λ fault. Some (fault_words fault) };
+
+    fn fmt<W: fmt::Write>(&self, f: &mut fmt::Formatter<W>) -> fmt::Result {
+        match self {
+            ValueFault::NoOption(name) => write!(f, "--{name} is missing"),
+            ValueFault::NoWord(name) => write!(f, "{name} is missing"),
+            ValueFault::Unfit(wanted, text) => fmt_unfit(f, *wanted, text),
+        }
+    }
+}
+
+/// What is wrong with the words of a command line.
+#[derive(Drop)]
+pub enum Misuse<'a> {
+    /// There is no word.
+    NoCommand,
+    /// The first word names no command.
+    UnknownCommand(&'a str),
+    /// The words aren't those that the command has, or ask for help.
+    Refused(clap::Error),
+    /// The command lacks a value, or doesn't take one.
+    Value(ValueFault<'a>),
+}
+
+/// Why words are no task.
+#[derive(Drop)]
+pub enum Usage<'a> {
+    /// The words name no command, or the command refuses them.
+    Misuse(Misuse<'a>),
+    /// Memory was refused.
+    OutOfMemory,
+}
+
+impl<'a> From<AllocError> for Usage<'a> {
+    ghost from_gives = { λ _ e. e ≡ OutOfMemory };
+
+    fn from(_e: AllocError) -> Usage<'a> {
+        Usage::OutOfMemory
+    }
+}
+
+impl<'a> From<clap::Error> for Usage<'a> {
+    ghost from_gives = { λ e u. u ≡ usage_of e };
+
+    fn from(e: clap::Error) -> Usage<'a> {
+        match e.kind() {
+            ErrorKind::OutOfMemory => Usage::OutOfMemory,
+            _ => Usage::Misuse(Misuse::Refused(e)),
+        }
+    }
+}
+
+/// Why the words that a program was called with can't be read.
+#[derive(Clone, Copy, Debug)]
+pub enum WordsFault {
+    /// One of them is no text.
+    NoText,
+    /// Memory was refused.
+    OutOfMemory,
+}
+
+impl From<AllocError> for WordsFault {
+    ghost from_gives = { λ _ e. e ≡ NoRoom };
+
+    fn from(_e: AllocError) -> WordsFault {
+        WordsFault::OutOfMemory
+    }
+}
+
+impl From<io::Error> for WordsFault {
+    fn from(error: io::Error) -> WordsFault {
+        match error.kind() {
+            io::ErrorKind::OutOfMemory => WordsFault::OutOfMemory,
+            _ => WordsFault::NoText,
+        }
     }
 }

@@ -29,7 +29,7 @@ use Rattle.arbiter_core.specs.declared.keeper.Keep.TheVariants.{Good, FailsOld, 
 use Rattle.arbiter_core.specs.declared.keeper.KeepFault.{KeepFault}
 use Rattle.arbiter_core.specs.declared.keeper.KeepFault.TheVariants.{Failed}
 use Rattle.arbiter_core.specs.declared.fault.OpenFault.{OpenFault}
-use Rattle.arbiter_core.specs.declared.fault.OpenFault.TheVariants.{KeeperFailed, OutOfMemory as Memory}
+use Rattle.arbiter_core.specs.declared.fault.OpenFault.TheVariants.{BadSetup, KeeperFailed, BadRecord, OtherStamp, OutOfMemory as Memory}
 use Rattle.system_io.specs.Failures.{Risen}
 use Rattle.arbiter_core.specs.Keeping.{KeeperFacts, PutIs, PutLeaves}
 use Rattle.arbiter_core.specs.Delivers.{IsSpelled, IsWritten, Keeps}
@@ -38,7 +38,7 @@ use Rattle.arbiter_core.specs.Setups.{SetupView, rules_at}
 use Rattle.move_msg.specs.declared.who.Who.{Who}
 use Rattle.arbiter_core.specs.Views.{View, spelled_as}
 use Rattle.arbiter_core.specs.Inside.Playing.{IsInOrder, IsPlayed, recorded_in}
-use Rattle.arbiter_core.specs.Inside.Starting.{IsPutSo, IsPutFirst, told_from}
+use Rattle.arbiter_core.specs.Inside.Starting.{IsNotResumed, IsPutSo, IsPutFirst, recorded_by, told_from}
 use Rattle.arbiter_core.specs.Opens.{IsWhole, IsResumed, IsBadKept, at_end, first_record, running, Told, FirstLands, OpensOver, Opens}
 use Rattle.arbiter_core.proofs.Settling.{near_nothing}
 use Rattle.arbiter_core.proofs.Reach.{step_to, step_of, reach_below, unruled_below}
@@ -143,31 +143,50 @@ from_whole r kept h =
       ruled = ap (verdict_after r) moves ∙ sym verdict;
     }
 
-module _ (r : Rules) (stamp : Stamp) (bytes : List ℕ) (q : Record) (spelled : SpellsRecord bytes q) where
-  is_spelled : (kept : Recorded) → IsResumed r stamp bytes kept → q ≡ spelled_as stamp r.delay kept
-  is_spelled kept h = one_record bytes q (spelled_as stamp r.delay kept) spelled h.0
+record_is : (s t : Stamp) (n k : ℕ) (o : Option Verdict) (ms : List Move) → s ≡ t → n ≡ k → ◌≡◌ {A = Record} (record { stamp = s; delay = n; verdict = o; moves = ms }) (record { stamp = t; delay = k; verdict = o; moves = ms })
+record_is s t n k o ms es en = cc
 
-  -- a kept record whose moves don't get to their last ply, or have another verdict there
-  pub cut_short : (o : GameOutcome) → IsOutcome r q.moves o → at_end o (length q.moves) ≡ None → (kept : Recorded) → IsResumed r stamp bytes kept → ⊥
-  cut_short o h e kept k =
-      let moves : kept.moves ≡ q.moves = ap (λ (x : Record). x.moves) (sym (is_spelled kept k)) in
-      never r q.moves o h e (subst (λ (xs : List Move). reaches r xs (length xs) ≡ true) moves (from_whole r kept k.1).reached)
+module _ (r : Rules) (q : Record) (o : GameOutcome) (h : IsOutcome r q.moves o) where
+  -- a record whose moves don't get to their last ply, or have another verdict there, is whole in no way
+  pub cut_short : at_end o (length q.moves) ≡ None → IsWhole r (recorded_by q) → ⊥
+  cut_short e w = never r q.moves o h e (from_whole r (recorded_by q) w).reached
 
-  pub other_verdict : (o : GameOutcome) (v : Option Verdict) → IsOutcome r q.moves o → at_end o (length q.moves) ≡ Some v → q.verdict ≢ v → (kept : Recorded) → IsResumed r stamp bytes kept → ⊥
-  other_verdict o v h e other kept k =
-      let moves : kept.moves ≡ q.moves = ap (λ (x : Record). x.moves) (sym (is_spelled kept k)) in
-      let ruled : kept.verdict ≡ v = sym (from_whole r kept k.1).ruled ∙ ap (verdict_after r) moves ∙ (ends r q.moves o v h e).ruled in
-      other (ap (λ (x : Record). x.verdict) (is_spelled kept k) ∙ ruled)
+  pub other_verdict : (v : Option Verdict) → at_end o (length q.moves) ≡ Some v → q.verdict ≢ v → IsWhole r (recorded_by q) → ⊥
+  other_verdict v e other w = other (sym (from_whole r (recorded_by q) w).ruled ∙ (ends r q.moves o v h e).ruled)
 
--- a record that is read, with the verdict that its moves have at their end
-pub resumed : (r : Rules) (stamp : Stamp) (bytes : List ℕ) (q : Record) (o : GameOutcome) (v : Option Verdict) → SpellsRecord bytes q → (q.stamp ≡ stamp) × (q.delay ≡ r.delay) → IsOutcome r q.moves o → at_end o (length q.moves) ≡ Some v → q.verdict ≡ v → IsResumed r stamp bytes (record { moves = q.moves; verdict = q.verdict })
-resumed r stamp bytes q o v spelled same h e ruled = (
-  subst (SpellsRecord bytes) (made q.stamp stamp q.delay r.delay q.verdict q.moves same.0 same.1) spelled,
-  subst (λ (w : Option Verdict). IsWhole r (record { moves = q.moves; verdict = w })) (sym ruled) (whole r q.moves v (ends r q.moves o v h e)),
-)
-  where
-    made : (s t : Stamp) (n k : ℕ) (o : Option Verdict) (ms : List Move) → s ≡ t → n ≡ k → ◌≡◌ {A = Record} (record { stamp = s; delay = n; verdict = o; moves = ms }) (record { stamp = t; delay = k; verdict = o; moves = ms })
-    made s t n k o ms es en = cc
+  -- with the verdict that its moves have at their end it is whole
+  pub is_whole : (v : Option Verdict) → at_end o (length q.moves) ≡ Some v → q.verdict ≡ v → IsWhole r (recorded_by q)
+  is_whole v e ruled = subst (λ (w : Option Verdict). IsWhole r (record { moves = q.moves; verdict = w })) (sym ruled) (whole r q.moves v (ends r q.moves o v h e))
+
+module _ (setup : SetupView) (stamp : Stamp) (bytes : List ℕ) (q : Record) (spelled : SpellsRecord bytes q) where
+  -- what bytes are resumed as is what they spell
+  same_kept : (kept : Recorded) → IsResumed (rules_at setup) stamp bytes kept → IsWhole (rules_at setup) (recorded_by q)
+  same_kept kept h =
+      let same : kept ≡ recorded_by q = ap recorded_by (sym (one_record bytes q (spelled_as stamp setup.delay kept) spelled h.0)) in
+      subst (IsWhole (rules_at setup)) same h.1
+
+  -- a record that is read and can be run from
+  resumed : (p : Played) → IsPlayed setup stamp p → p.record ≡ q → IsWhole (rules_at setup) (recorded_by q) → IsResumed (rules_at setup) stamp bytes (recorded_in p)
+  resumed p played e w = (
+    subst (SpellsRecord bytes) (sym e ∙ record_is p.record.stamp stamp p.record.delay setup.delay p.record.verdict p.record.moves played.stamp_is played.delay_is) spelled,
+    subst (λ (x : Record). IsWhole (rules_at setup) (recorded_by x)) (sym e) w,
+  )
+
+  -- what is answered for a record is answered for the bytes that spell it
+  pub read_ok : (result : Result Played OpenFault) → IfOk result (λ p. IsPlayed setup stamp p × (p.record ≡ q) × IsWhole (rules_at setup) (recorded_by q)) → IfOk result (λ p. IsPlayed setup stamp p × IsResumed (rules_at setup) stamp bytes (recorded_in p))
+  read_ok (Ok p) h = (h.0, resumed p h.0 h.1 h.2)
+  read_ok (Err f) h = tt
+
+  not_read : (fault : OpenFault) → IsNotResumed (rules_at setup) stamp q fault → IsBadKept (rules_at setup) stamp bytes fault
+  not_read BadSetup h = h
+  not_read KeeperFailed h = h
+  not_read BadRecord h = inr (q, spelled, h.0, λ kept k. h.1 (same_kept kept k))
+  not_read OtherStamp h = (q, spelled, h)
+  not_read Memory h = inr (q, spelled, h.0, h.1)
+
+  pub read_err : (result : Result Played OpenFault) → IfErr result (IsNotResumed (rules_at setup) stamp q) → IfErr result (IsBadKept (rules_at setup) stamp bytes)
+  read_err (Ok p) h = tt
+  read_err (Err f) h = not_read f h
 
 -- what is recorded before the first move
 pub first_is : (setup : SetupView) (stamp : Stamp) (p : Played) → p.record.stamp ≡ stamp → p.record.moves ≡ [] → IsAt (rules_at setup) [] p.standing → p.record.verdict ≡ verdict_after (rules_at setup) [] → p.record.delay ≡ setup.delay → IsPlayed setup stamp p × (recorded_in p ≡ first_record (rules_at setup))
@@ -211,9 +230,6 @@ no_record t d fault e other only r h = elim (only r h) [
 ]
 
 -- ---- the first put
-
-record_is : (s t : Stamp) (n k : ℕ) (o : Option Verdict) (ms : List Move) → s ≡ t → n ≡ k → ◌≡◌ {A = Record} (record { stamp = s; delay = n; verdict = o; moves = ms }) (record { stamp = t; delay = k; verdict = o; moves = ms })
-record_is s t n k o ms es en = cc
 
 -- bytes that spell what is recorded are what an arbiter keeps
 pub kept_so : (stamp : Stamp) (delay : ℕ) (p : Played) (kept : Recorded) (sent : List ℕ) (now : Option (List ℕ)) → p.record.stamp ≡ stamp → p.record.delay ≡ delay → recorded_in p ≡ kept → SpellsRecord sent p.record → now ≡ Some sent → IsSpelled stamp delay kept now

@@ -9,15 +9,17 @@ use Rattle.std.proofs.Math.ListN.{set}
 use Rattle.std.proofs.lemmas.List.{get_or-set_other}
 use Rattle.std.proofs.lemmas.Grind.{get_or-set_at}
 use Rattle.board_core.specs.declared.moves.Move.{Move}
+use Rattle.board_core.specs.declared.parts.Parts.{Parts}
 use Rattle.board_core.specs.ComputedMoves.{position_after}
 use Rattle.board_core.specs.declared.verdict.Verdict.{Verdict}
+use Rattle.judge_core.specs.Answers.{ListsMovesForVerdict}
 use Rattle.judge_core.specs.Games.{position_after_all, Rules, verdict_after}
 use Rattle.judge_core.specs.Standings.{Reached, IsAt}
 use Rattle.judge_core.proofs.Plies.{goes_on as after_one}
 use Rattle.move_msg.specs.Numbers.{most_moves}
 use Rattle.arbiter_core.specs.declared.planning.Plan.{Plan}
 use Rattle.arbiter_core.specs.Recording.{Recorded, Window, reaches, record_at, last_ply, advance}
-use Rattle.arbiter_core.specs.Inside.Playing.{IsPlan}
+use Rattle.arbiter_core.specs.Inside.Playing.{IsPlan, ListsMovesAhead}
 use Rattle.arbiter_core.specs.Answering.{still_waits, nothing_waits}
 use Rattle.arbiter_core.proofs.Reach.{Step, step_of, step_to, reach_more, last_is}
 
@@ -92,6 +94,36 @@ ends_illegal r before m window n moves standing verdict w h l e illegal =
     let t : is_some (position_after_all r.start (moves ++ w ∷ [])) ≡ true = subst (λ (xs : List Move). is_some (position_after_all r.start xs) ≡ true) one s.legal in
     let f : is_some (position_after_all r.start (moves ++ w ∷ [])) ≡ false = ap is_some p in cc))
 
+size_one : (moves : List Move) (w : Move) → length (moves ++ w ∷ []) ≡ suc (length moves)
+size_one moves w = simp length-append (omega arith)
+
+-- one legal move more is reached where there is no verdict before it
+pub reach_one : (r : Rules) (moves : List Move) (w : Move) → reaches r moves (length moves) ≡ true → verdict_after r moves ≡ None → is_some (position_after_all r.start (moves ++ w ∷ [])) ≡ true → reaches r (moves ++ w ∷ []) (length (moves ++ w ∷ [])) ≡ true
+reach_one r moves w reached unruled legal =
+    subst (λ k. reaches r (moves ++ w ∷ []) k ≡ true) (sym (size_one moves w)) (step_to r (moves ++ w ∷ []) (length moves) (record {
+      before = reach_more r moves (w ∷ []) (length moves) reached;
+      unruled = ap (verdict_after r) (take_whole moves (w ∷ [])) ∙ unruled;
+      within = omega (arith, size_one moves w);
+      legal = ap (λ (xs : List Move). is_some (position_after_all r.start xs)) (take_one moves [] w) ∙ legal;
+    }))
+
+-- at the end of a front of all moves judging lists moves
+lists_at : (r : Rules) (before front rest : List Move) (m : Move) (window : Window) (q : Parts) → front ++ rest ≡ before ++ m ∷ some_prefix window → length before < length front → reaches r front (length front) ≡ true → position_after_all r.start front ≡ Some q → ListsMovesForVerdict r.tables q → ListsMovesAhead r before m window
+lists_at r before front rest m window q all more reached at lists = (
+  length front,
+  q,
+  more,
+  subst (λ (xs : List Move). reaches r xs (length front) ≡ true) all (reach_more r front rest (length front) reached),
+  subst (λ (xs : List Move). position_after_all r.start (take (length front) xs) ≡ Some q) all (ap (position_after_all r.start) (take_whole front rest) ∙ at),
+  lists,
+)
+
+pub lists_first : (r : Rules) (before : List Move) (m : Move) (window : Window) (q : Parts) → reaches r (before ++ m ∷ []) (length before + 1) ≡ true → position_after_all r.start (before ++ m ∷ []) ≡ Some q → ListsMovesForVerdict r.tables q → ListsMovesAhead r before m window
+lists_first r before m window q reached at lists =
+    let size : length (before ++ m ∷ []) ≡ length before + 1 = simp length-append (omega arith) in
+    lists_at r before (before ++ m ∷ []) (some_prefix window) m window q (append_assoc before (m ∷ []) (some_prefix window)) (omega arith)
+    (subst (λ k. reaches r (before ++ m ∷ []) k ≡ true) (sym size) reached) at lists
+
 pub none_of : (o : Option Verdict) → is_some o ≡ false → o ≡ None
 none_of None q = refl
 none_of (Some x) q = cc
@@ -99,20 +131,22 @@ none_of (Some x) q = cc
 -- one more move
 pub goes_on : (r : Rules) (before : List Move) (m : Move) (window : Window) (n : ℕ) (moves : List Move) (standing : Reached) (verdict : Option Verdict) (w : Move) (next : Reached) (v : Option Verdict) → PlansTo r before m window n moves standing verdict → is_some verdict ≡ false → n < length window → get_or window n None ≡ Some w → IsAt r (moves ++ w ∷ []) next → v ≡ verdict_after r (moves ++ w ∷ []) → PlansTo r before m window (n + 1) (moves ++ w ∷ []) next v
 goes_on r before m window n moves standing verdict w next v h unruled l e at ruled =
-    let size : length (moves ++ w ∷ []) ≡ suc (length moves) = simp length-append (omega arith) in
-    let step : reaches r (moves ++ w ∷ []) (suc (length moves)) ≡ true = step_to r (moves ++ w ∷ []) (length moves) (record {
-      before = reach_more r moves (w ∷ []) (length moves) h.reached;
-      unruled = ap (verdict_after r) (take_whole moves (w ∷ [])) ∙ sym h.ruled ∙ none_of verdict unruled;
-      within = omega (arith, size);
-      legal = ap (λ (xs : List Move). is_some (position_after_all r.start xs)) (take_one moves [] w) ∙ ap is_some at.position;
-    }) in
     record {
       all = append_assoc moves (w ∷ []) (some_prefix (drop (n + 1) window)) ∙ ap (λ (xs : List Move). moves ++ xs) (sym (prefix_is window n w l e)) ∙ h.all;
       at = at;
       ruled = ruled;
-      reached = subst (λ k. reaches r (moves ++ w ∷ []) k ≡ true) (sym size) step;
-      count = omega (arith, size, h.count);
+      reached = reach_one r moves w h.reached (sym h.ruled ∙ none_of verdict unruled) (ap is_some at.position);
+      count = omega (arith, size_one moves w, h.count);
     }
+
+-- the position after one move more, where judging it lists moves
+pub lists_next : (r : Rules) (before : List Move) (m : Move) (window : Window) (n : ℕ) (moves : List Move) (standing : Reached) (verdict : Option Verdict) (w : Move) (q : Parts) → PlansTo r before m window n moves standing verdict → is_some verdict ≡ false → n < length window → get_or window n None ≡ Some w → position_after standing.position w ≡ Some q → ListsMovesForVerdict r.tables q → ListsMovesAhead r before m window
+lists_next r before m window n moves standing verdict w q h unruled l e legal lists =
+    let rest : List Move = some_prefix (drop (n + 1) window) in
+    let all : (moves ++ w ∷ []) ++ rest ≡ before ++ m ∷ some_prefix window =
+    append_assoc moves (w ∷ []) rest ∙ ap (λ (xs : List Move). moves ++ xs) (sym (prefix_is window n w l e)) ∙ h.all in
+    let at : position_after_all r.start (moves ++ w ∷ []) ≡ Some q = next_position r moves standing w h.at ∙ legal in
+    lists_at r before (moves ++ w ∷ []) rest m window q all (omega (arith, h.count, size_one moves w)) (reach_one r moves w h.reached (sym h.ruled ∙ none_of verdict unruled) (ap is_some at)) at lists
 
 pub plan_starts : (r : Rules) (before : List Move) (m : Move) (window : Window) (moves : List Move) (standing : Reached) (verdict : Option Verdict) → moves ≡ before ++ m ∷ [] → IsAt r (before ++ m ∷ []) standing → verdict ≡ verdict_after r (before ++ m ∷ []) → reaches r (before ++ m ∷ []) (length before + 1) ≡ true → PlansTo r before m window 0 moves standing verdict
 plan_starts r before m window moves standing verdict e at ruled reached =

@@ -15,25 +15,13 @@ use Rattle.arbiter_core.specs.Answering.{still_waits, nothing_waits, waits_too}
 use Rattle.arbiter_core.specs.Views.{IsNear}
 use Rattle.arbiter_core.proofs.Reach.{step_to, reach_within, reach_more, reach_front, last_reached}
 use Rattle.arbiter_core.proofs.Waiting.{each_nothing, each_still, each_too}
-use Rattle.arbiter_core.proofs.PlanLaws.{next_position}
+use Rattle.arbiter_core.proofs.PlanLaws.{next_position, reach_one}
 
 -- after a legal move the next ply is reached
 pub reach_next : (r : Rules) (moves : List Move) (m : Move) (s : Reached) (q : Parts) (v : Option Verdict) → IsAt r moves s → v ≡ verdict_after r moves → v ≡ None → reaches r moves (length moves) ≡ true → position_after s.position m ≡ Some q → reaches r (moves ++ m ∷ []) (length moves + 1) ≡ true
 reach_next r moves m s q v at ruled none reached legal =
-    let whole : take (length moves) (moves ++ m ∷ []) ≡ moves = take_at moves (m ∷ []) (length moves) refl in
-    let size : length (moves ++ m ∷ []) ≡ suc (length moves) = simp length-append (omega arith) in
-    let all : take (suc (length moves)) (moves ++ m ∷ []) ≡ moves ++ m ∷ [] = ap (λ k. take k (moves ++ m ∷ [])) (sym size) ∙ take_self (moves ++ m ∷ []) in
-    subst (λ k. reaches r (moves ++ m ∷ []) k ≡ true) (sym (add-one (length moves)))
-    (step_to r (moves ++ m ∷ []) (length moves) (record {
-      before = reach_more r moves (m ∷ []) (length moves) reached;
-      unruled = ap (verdict_after r) whole ∙ sym ruled ∙ none;
-      within = omega (arith, size);
-      legal = ap (λ (xs : List Move). is_some (position_after_all r.start xs)) all ∙ ap is_some (next_position r moves s m at ∙ legal);
-    }))
-  where
-    take_self : (xs : List Move) → take (length xs) xs ≡ xs
-    take_self [] = refl
-    take_self (x ∷ xs) = ap (λ (ys : List Move). x ∷ ys) (take_self xs)
+    let size : length (moves ++ m ∷ []) ≡ length moves + 1 = simp length-append (omega arith) in
+    subst (λ k. reaches r (moves ++ m ∷ []) k ≡ true) size (reach_one r moves m reached (sym ruled ∙ none) (ap is_some (next_position r moves s m at ∙ legal)))
 
 pub record Advanced (r : Rules) (moves : List Move) (verdict : Option Verdict) : Type 0 where
   pub ruled : verdict ≡ verdict_after r moves

@@ -8,7 +8,8 @@ use Rattle.move_msg.specs.declared.stamp.Stamp.{Stamp}
 use Rattle.move_msg.specs.declared.record_bytes.Record.{Record}
 use Rattle.move_msg.specs.Records.{SpellsRecord, WritesRecord, HasRecordLayout}
 use Rattle.judge_core.specs.Games.{Rules}
-use Rattle.arbiter_core.specs.Keeping.{KeeperFacts}
+use Rattle.judge_core.specs.Standings.{ListsMovesInGame}
+use Rattle.arbiter_core.specs.Keeping.{KeeperFacts, HasBytes}
 use Rattle.arbiter_core.specs.declared.keeper.Keep.{Keep}
 use Rattle.arbiter_core.specs.declared.keeper.Keep.TheVariants.{Good, FailsOld, FailsNew}
 use Rattle.arbiter_core.specs.declared.keeper.KeepFault.TheVariants.{Failed}
@@ -36,13 +37,14 @@ IsResumed rules stamp bytes kept = SpellsRecord bytes (spelled_as stamp rules.de
 abbrev pub IsOfGame : Rules → Stamp → Record → Type 0
 IsOfGame rules stamp r = (r.stamp ≡ stamp) × (r.delay ≡ rules.delay)
 
--- why bytes are none; memory is wanted only for what is laid out as a record
+-- why bytes are none; memory is wanted only for the moves of what is laid out as a record, and for a list of moves where a
+-- record of this game is judged
 abbrev pub IsBadKept : Rules → Stamp → List ℕ → OpenFault → Type 0
 IsBadKept rules stamp bytes BadRecord =
     ((r : Record) → SpellsRecord bytes r → ⊥)
     ⊎ ((r : Record) × SpellsRecord bytes r × IsOfGame rules stamp r × ((kept : Recorded) → IsResumed rules stamp bytes kept → ⊥))
 IsBadKept rules stamp bytes OtherStamp = (r : Record) × SpellsRecord bytes r × (IsOfGame rules stamp r → ⊥)
-IsBadKept rules stamp bytes OutOfMemory = HasRecordLayout bytes ⊎ ((r : Record) × SpellsRecord bytes r)
+IsBadKept rules stamp bytes OutOfMemory = HasRecordLayout bytes ⊎ ((r : Record) × SpellsRecord bytes r × IsOfGame rules stamp r × ListsMovesInGame rules r.moves)
 IsBadKept rules stamp bytes BadSetup = ⊥
 IsBadKept rules stamp bytes KeeperFailed = ⊥
 
@@ -100,11 +102,11 @@ pub record GetFails {K : Type 0} (facts : KeeperFacts K) (before now : K) (told 
   pub got : facts.reads before (Some Failed) now
   pub cause : Risen (facts.faults before) (facts.faults now)
 
--- memory was refused, to the get or, where nothing was kept, for the first record; nothing was put
+-- memory was refused, to the get for a copy of what was kept or, where nothing was kept, for the first record; nothing was put
 pub record NoMemory {K : Type 0} (facts : KeeperFacts K) (before now : K) (told : Told) : Type 0 where
   pub answer : told ≡ Err OutOfMemory
   pub still : facts.kept now ≡ facts.kept before
-  pub cause : facts.reads before (Some keep_fault.OutOfMemory) now ⊎ ((facts.kept before ≡ None) × facts.reads before None now)
+  pub cause : (facts.reads before (Some keep_fault.OutOfMemory) now × HasBytes (facts.kept before)) ⊎ ((facts.kept before ≡ None) × facts.reads before None now)
 
 -- what opening a good setup leaves
 abbrev pub Opens : {K : Type 0} → KeeperFacts K → SetupView → Identity → K → K → Told → Type 0

@@ -3,7 +3,7 @@
 ghost use Rattle.std.specs.Prelude.{◌≡◌, ℕ, ◌<◌, ◌≤◌, ◌↔◌, List, length, IfOk, IfErr, Option, Some, None, Result, Ok, Err};
 ghost use Rattle.std.specs.Option.{option_map};
 ghost use Rattle.std.specs.Result.{IsErrOf};
-ghost use Rattle.arbiter_core.specs.Keeping.{KeeperFacts, PutLeaves};
+ghost use Rattle.arbiter_core.specs.Keeping.{HasBytes, KeeperFacts, PutLeaves};
 ghost use Rattle.system_io.specs.Failures.{Risen};
 ghost use Rattle.arbiter_core.specs.declared.keeper.Keep.{Keep};
 ghost use Rattle.arbiter_core.specs.declared.keeper.KeepFault.{KeepFault};
@@ -50,7 +50,7 @@ pub trait Keeper {
         ensures once { facts.leaves self.old bytes.now self.new };
 
     /// A copy of what is kept, which stays kept. `Failed` comes only where the failures rose in this call and the keeper states
-    /// that a get may fail, `OutOfMemory` where memory for the copy is refused.
+    /// that a get may fail, `OutOfMemory` where memory for the copy is refused, which no bytes don't take.
     fn get(&mut self, alloc: Global) -> Result<Option<Vec<u8>>, KeepFault>
         ensures value { IfOk result (λ got. option_map (λ v. v.items) got ≡ facts.kept self.old) }
         ensures kept { facts.kept self.new ≡ facts.kept self.old }
@@ -58,12 +58,30 @@ pub trait Keeper {
         ensures outcomes { (keep : Keep) → facts.may_be self.new keep ↔ facts.may_be self.old keep }
         ensures cause { IsErrOf result KeepFault.Failed → Risen (facts.faults self.old) (facts.faults self.new) }
         ensures stated { IsErrOf result KeepFault.Failed → facts.get_may_fail self.old }
+        ensures memory { IsErrOf result KeepFault.OutOfMemory → HasBytes (facts.kept self.old) }
         ensures once { IfOk result (λ got. facts.reads self.old None self.new) }
         ensures told { IfErr result (λ fault. facts.reads self.old (Some fault) self.new) };
 
     /// How often the keeper has failed; at its greatest value the count stays.
     fn failures(&self) -> u64
         ensures { result ≡ facts.faults self.now };
+}
+
+/// A copy of kept bytes, as a get answers it. `OutOfMemory` comes where memory for it is refused, which no bytes don't take.
+pub fn copy_of(alloc: Global, kept: Option<&[u8]>) -> Result<Option<Vec<u8>>, KeepFault>
+    ensures value { IfOk result (λ got. option_map (λ v. v.items) got ≡ option_map (λ b. b.now) kept.entry) }
+    ensures memory { IfErr result (λ fault. (fault ≡ KeepFault.OutOfMemory) × HasBytes (option_map (λ b. b.now) kept.entry)) }
+{
+    let Some(bytes) = kept else {
+        return Ok(None);
+    };
+    if bytes.is_empty() {
+        return Ok(Some(Vec::new(alloc)));
+    }
+    match Vec::from_slice(alloc, bytes) {
+        Ok(copy) => Ok(Some(copy)),
+        Err(_) => Err(KeepFault::OutOfMemory),
+    }
 }
 
 /// Keeps bytes in memory, in room for 8217 that `new` makes; no other call takes memory but `get`. The outcome of each put is
@@ -165,14 +183,7 @@ impl Keeper for MemoryKeeper {
     }
 
     fn get(&mut self, alloc: Global) -> Result<Option<Vec<u8>>, KeepFault> {
-        if !self.is_kept {
-            return Ok(None);
-        }
-        let mut copy = Vec::new(alloc);
-        match copy.extend_from_slice(&self.bytes) {
-            Ok(()) => Ok(Some(copy)),
-            Err(_) => Err(KeepFault::OutOfMemory),
-        }
+        copy_of(alloc, self.kept())
     }
 
     fn failures(&self) -> u64 {

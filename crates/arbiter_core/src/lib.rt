@@ -20,6 +20,6 @@ mod window;
 
 pub use arbiter::{Arbiter, Outputs};
 pub use fault::{DeliverFault, OpenFault};
-pub use keeper::{Keep, KeepFault, Keeper, MemoryKeeper};
+pub use keeper::{Keep, KeepFault, Keeper, MemoryKeeper, copy_of};
 pub use opening::Refused;
 pub use setup::Setup;

@@ -1,13 +1,14 @@
 //! How an arbiter is opened.
 
-ghost use Rattle.std.specs.Prelude.{◌≡◌, ◌≤◌, IfOk, IfErr, IsErr, IsTrue, ◌↔◌, IfSome, IfNone, Option, Some, None, Result, Ok, Err};
+ghost use Rattle.std.specs.Prelude.{◌≡◌, ◌≤◌, IfOk, IfErr, IsErr, OnErr, IsTrue, ◌↔◌, IfSome, IfNone, Option, Some, None, Result, Ok, Err};
 ghost use Rattle.arbiter_core.specs.Setups.{setup_view, rules_at, IsGood, IsIdentity};
 ghost use Rattle.std.specs.Result.{result_map_both};
 ghost use Rattle.move_msg.specs.declared.who.Who.{Who};
-ghost use Rattle.arbiter_core.specs.Opens.{OpensIfGood, IsResumed, IsBadKept, at_end, first_record};
+ghost use Rattle.judge_core.specs.Answers.{ListsMovesForVerdict};
+ghost use Rattle.arbiter_core.specs.Opens.{OpensIfGood, IsResumed, IsBadKept, IsWhole, at_end, first_record};
 ghost use Rattle.arbiter_core.specs.Delivers.{IsKept};
 ghost use Rattle.arbiter_core.specs.Inside.Playing.{IsPlayed, recorded_in};
-ghost use Rattle.arbiter_core.specs.Inside.Starting.{IsPutFirst, OpensAsEither};
+ghost use Rattle.arbiter_core.specs.Inside.Starting.{IsNotResumed, IsPutFirst, OpensAsEither, recorded_by};
 
 use crate::arbiter::Arbiter;
 use crate::fault::OpenFault;
@@ -68,6 +69,38 @@ fn is_of_game(kept: &Record, stamp: Stamp, delay: u8) -> bool
     kept.stamp == stamp && kept.delay == delay
 }
 
+/// What is recorded by a record, if it is one of this game that an arbiter can run from. `OutOfMemory` comes only where memory
+/// for a list of moves is refused, while a record of this game is judged.
+fn go_on_from(
+    alloc: Global,
+    setup: &mut Setup<'_>,
+    stamp: Stamp,
+    kept: Record,
+) -> Result<Played, OpenFault>
+    requires { setup.old.delay ≤ 8 }
+    ensures same { setup.new ≡ setup.old }
+    ensures ok { IfOk result (λ p. IsPlayed (setup_view setup.old) stamp p × (p.record ≡ kept) × IsWhole (rules_at (setup_view setup.old)) (recorded_by kept)) }
+    ensures err { IfErr result (IsNotResumed (rules_at (setup_view setup.old)) stamp kept) }
+{
+    if !is_of_game(&kept, stamp, setup.delay) {
+        return Err(OpenFault::OtherStamp);
+    }
+    let moves = kept.moves.as_slice();
+    let Ok(followed) = setup.set.follow(alloc, &setup.start, moves, setup.delay) else {
+        return Err(OpenFault::OutOfMemory);
+    };
+    let Some(verdict) = at_end(followed.outcome, moves.len()) else {
+        return Err(OpenFault::BadRecord);
+    };
+    if kept.verdict != verdict {
+        return Err(OpenFault::BadRecord);
+    }
+    Ok(Played {
+        record: kept,
+        standing: followed.standing,
+    })
+}
+
 /// What is recorded by kept bytes, if they are a record of this game.
 fn resume(
     alloc: Global,
@@ -80,39 +113,22 @@ fn resume(
     ensures ok { IfOk result (λ p. IsPlayed (setup_view setup.old) stamp p × IsResumed (rules_at (setup_view setup.old)) stamp bytes.now (recorded_in p)) }
     ensures err { IfErr result (IsBadKept (rules_at (setup_view setup.old)) stamp bytes.now) }
 {
-    let record = match Record::decode(alloc, bytes) {
-        Ok(record) => record,
-        Err(fault) => {
-            return match fault {
-                RecordFault::OutOfMemory => Err(OpenFault::OutOfMemory),
-                _ => Err(OpenFault::BadRecord),
-            };
-        }
-    };
-    if !is_of_game(&record, stamp, setup.delay) {
-        return Err(OpenFault::OtherStamp);
+    match Record::decode(alloc, bytes) {
+        Ok(record) => go_on_from(alloc, setup, stamp, record),
+        Err(fault) => match fault {
+            RecordFault::OutOfMemory => Err(OpenFault::OutOfMemory),
+            _ => Err(OpenFault::BadRecord),
+        },
     }
-    let moves = record.moves.as_slice();
-    let Ok(followed) = setup.set.follow(alloc, &setup.start, moves, setup.delay) else {
-        return Err(OpenFault::OutOfMemory);
-    };
-    let Some(verdict) = at_end(followed.outcome, moves.len()) else {
-        return Err(OpenFault::BadRecord);
-    };
-    if record.verdict != verdict {
-        return Err(OpenFault::BadRecord);
-    }
-    Ok(Played {
-        record,
-        standing: followed.standing,
-    })
 }
 
-/// What is recorded before the first move.
+/// What is recorded before the first move. The error comes only where memory for a list of moves is refused, while the start is
+/// judged.
 fn first(alloc: Global, setup: &mut Setup<'_>, stamp: Stamp) -> Result<Played, AllocError>
     requires { setup.old.delay ≤ 8 }
     ensures same { setup.new ≡ setup.old }
     ensures ok { IfOk result (λ p. IsPlayed (setup_view setup.old) stamp p × (recorded_in p ≡ first_record (rules_at (setup_view setup.old)))) }
+    ensures memory { OnErr result (ListsMovesForVerdict setup.old.set.tables setup.old.start) }
 {
     let standing = setup.set.begin(alloc, &setup.start)?;
     let verdict = standing.verdict(setup.delay);

@@ -1,8 +1,8 @@
 //! A legal move and the moves that wait behind it.
 
-ghost use Rattle.std.specs.Prelude.{◌≡◌, IfOk};
+ghost use Rattle.std.specs.Prelude.{◌≡◌, ◌+◌, ◌≤◌, length, vec_capacity, IfOk, OnErr};
 ghost use Rattle.arbiter_core.specs.Setups.{rules_at, setup_view};
-ghost use Rattle.arbiter_core.specs.Inside.Playing.{IsInOrder, IsNext, IsPlan, IsPlayedOn, recorded_in};
+ghost use Rattle.arbiter_core.specs.Inside.Playing.{IsInOrder, IsNext, IsPlan, IsPlayedOn, ListsMovesAhead, recorded_in};
 
 use crate::played::Played;
 use crate::setup::Setup;
@@ -20,29 +20,41 @@ struct Plan {
     verdict: Option<Verdict>,
 }
 
+/// A copy of recorded moves, with room for one more and for those that may wait behind it.
+fn copy_with_room(alloc: Global, before: &[Move]) -> Result<Vec<Move>, AllocError>
+    ensures items { IfOk result (λ moves. moves.items ≡ before.now) }
+    ensures room { IfOk result (λ moves. length before.now + 32 ≤ vec_capacity moves) }
+{
+    let mut moves = Vec::with_capacity(alloc, before.len() + 32)?;
+    moves.extend_from_slice(before)?;
+    Ok(moves)
+}
+
 /// Plans a legal move that leads to this position, and then those that wait behind it: as long as there is no verdict, the next
-/// move waits and it is legal. Each new position is judged once.
+/// move waits and it is legal. They follow the recorded moves in a copy that has room for them. Each new position is judged once.
 ///
-/// The error comes only where memory for the moves, or for a list of moves while judging, is refused. The setup stays as it
-/// was but for the set's cache.
+/// The error comes only where memory for a list of moves is refused, while one of the new positions is judged. The setup stays
+/// as it was but for the set's cache.
 fn make_plan(
     alloc: Global,
     setup: &mut Setup<'_>,
     played: &Played,
+    moves: Vec<Move>,
     m: Move,
     position: Position,
     window: &Window,
 ) -> Result<Plan, AllocError>
+    requires copied { moves.items ≡ played.now.record.moves }
+    requires room { length moves.items + 32 ≤ vec_capacity moves }
     requires in_order { IsInOrder (setup_view setup.old) played.now window.now }
     requires next { IsNext (rules_at (setup_view setup.old)) (recorded_in played.now) m position }
     ensures same { setup.new ≡ setup.old }
     ensures planned { IfOk result (IsPlan (rules_at (setup_view setup.old)) (recorded_in played.now) m window.now) }
+    ensures memory { OnErr result (ListsMovesAhead (rules_at (setup_view setup.old)) played.now.record.moves m window.now) }
 {
     let delay = setup.delay;
-    let before = played.record.moves.as_slice();
-    let mut moves = Vec::with_capacity(alloc, before.len() + 32)?;
-    moves.extend_from_slice(before)?;
-    moves.push(m)?;
+    let mut moves = moves;
+    moves.push_reserved(m);
     let standing = setup.set.move_on(alloc, &played.standing, position)?;
     let verdict = standing.verdict(delay);
     let mut plan = Plan {
@@ -62,13 +74,13 @@ fn make_plan(
         };
         plan.standing = setup.set.move_on(alloc, &plan.standing, position)?;
         plan.verdict = plan.standing.verdict(delay);
-        plan.moves.push(*m)?;
+        plan.moves.push_reserved(*m);
     }
     Ok(plan)
 }
 
-/// What is recorded once a legal move that leads to this position is played, and those that wait behind it. The error and the
-/// setup are as in `make_plan`.
+/// What is recorded once a legal move that leads to this position is played, and those that wait behind it. The error comes
+/// where memory for the copy of the moves is refused, or for a list of moves; the setup is as in `make_plan`.
 pub(crate) fn play_on(
     alloc: Global,
     setup: &mut Setup<'_>,
@@ -82,7 +94,8 @@ pub(crate) fn play_on(
     ensures same { setup.new ≡ setup.old }
     ensures played_on { IfOk result (IsPlayedOn (setup_view setup.old) played.now m window.now) }
 {
-    let plan = make_plan(alloc, setup, played, m, position, window)?;
+    let moves = copy_with_room(alloc, played.record.moves.as_slice())?;
+    let plan = make_plan(alloc, setup, played, moves, m, position, window)?;
     Ok(Played {
         record: Record {
             stamp: played.record.stamp,

@@ -1,6 +1,6 @@
 //! Moves that wait for their turn.
 
-ghost use Rattle.std.specs.Prelude.{◌≡◌, ◌<◌};
+ghost use Rattle.std.specs.Prelude.{◌≡◌, ◌<◌, length};
 ghost use Rattle.arbiter_core.specs.Answering.{nothing_waits, still_waits, waits_too};
 
 use board_core::Move;
@@ -54,7 +54,8 @@ impl Window {
 
     /// The places in turn.
     pub fn places(&self) -> &[Option<Move>]
-        ensures { result.now ≡ self.now }
+        ensures places { result.now ≡ self.now }
+        ensures all { length self.now ≡ 31 }
     {
         &self.places
     }

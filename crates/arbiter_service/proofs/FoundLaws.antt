@@ -106,12 +106,12 @@ module _ (grow : PutsGrow) {F : Type 0} (facts : F → KeptFacts) (old : Moment 
       in_doubt h = elim (h (Some s.bytes) s.found) [ inl old_one ↦ inl old_one | inr new_one ↦ inr (inl new_one) ]
 
       by_keep : (keep : Keep) → Lands keep old.arbiter next outputs window (stored old.keeper) (stored new.keeper) new.arbiter e.told → PutsInto facts old.keeper p.sent new.keeper → Leaves facts e
-      by_keep Good lands (Landed there found) = still_safe facts e (safe_after p.sent lands.1 there found lands.2)
-      by_keep Good lands (Failed same risen left) = absurd (not_grown same lands.2)
-      by_keep FailsOld lands (Landed there found) = lost lands.0 lands.1 p.sent (is_spelled _ _ p.spells) (inr (inr found))
-      by_keep FailsOld lands (Failed same risen left) = lost lands.0 lands.1 p.sent (is_spelled _ _ p.spells) (in_doubt left)
-      by_keep FailsNew lands (Landed there found) = lost lands.0 lands.1 p.sent (is_spelled _ _ p.spells) (inr (inr found))
-      by_keep FailsNew lands (Failed same risen left) = lost lands.0 lands.1 p.sent (is_spelled _ _ p.spells) (in_doubt left)
+      by_keep Good lands (Landed good there found) = still_safe facts e (safe_after p.sent lands.1 there found lands.2)
+      by_keep Good lands (Failed cause same risen left) = absurd (not_grown same lands.2)
+      by_keep FailsOld lands (Landed good there found) = lost lands.0 lands.1 p.sent (is_spelled _ _ p.spells) (inr (inr found))
+      by_keep FailsOld lands (Failed cause same risen left) = lost lands.0 lands.1 p.sent (is_spelled _ _ p.spells) (in_doubt left)
+      by_keep FailsNew lands (Landed good there found) = lost lands.0 lands.1 p.sent (is_spelled _ _ p.spells) (inr (inr found))
+      by_keep FailsNew lands (Failed cause same risen left) = lost lands.0 lands.1 p.sent (is_spelled _ _ p.spells) (in_doubt left)
 
   by_answer : (a : Answer) → a ≡ answer_at old.arbiter e.datagram → RefusesOrSends old.arbiter old.keeper e.after.keeper e.after.arbiter e.told a → PutsIfAny (keeper_over facts) old.arbiter old.keeper e.after.keeper e.after.arbiter e.told a → Leaves facts e
   by_answer (Refuses fault) is h p = still_safe facts e (unmoved old.arbiter h.arbiter h.keeper s.spelled s.own)

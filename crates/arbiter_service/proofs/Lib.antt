@@ -1,4 +1,5 @@
 pub mod PortLaws
+pub mod GoingLaws
 pub mod ServingLaws
 pub mod StepLaws
 pub mod FoundLaws

@@ -19,7 +19,8 @@ use Rattle.arbiter_core.specs.Views.{View}
 use Rattle.arbiter_core.specs.Delivers.{IsSpelled, Moment, moment}
 use Rattle.arbiter_service.specs.declared.file_keeper.FileKeeper.{FileKeeper}
 use Rattle.system_io.specs.KeptFiles.{KeptFacts}
-use Rattle.arbiter_service.specs.OverFiles.{IsOpened, ServesOpened}
+use Rattle.arbiter_service.specs.OverFiles.{IsOpened, ServesAndWrites}
+use Rattle.arbiter_service.specs.GoingOut.{Writers}
 use Rattle.arbiter_service.specs.Serving.{Scene, Serves, scene}
 use Rattle.arbiter_service.specs.StoredBytes.{Failed, IsInFile, Landed, PutsInto, file_of, keeper_over, stored}
 use Rattle.arbiter_service.proofs.FoundLaws.{IsSafe, found_through, safe_finds}
@@ -79,11 +80,11 @@ module _ {F : Type 0} (facts : F → KeptFacts) (setup : SetupView) (before : Fi
       take_whole xs = take_all (length xs) xs (omega arith)
 
   first_safe : (me : Identity) (keep : Keep) (mid : FileKeeper F) (sent : List ℕ) → stored before ≡ None → mid ≡ before → FirstLands keep setup me (stored before) (stored opened.keeper) (Ok opened.arbiter) → PutsInto facts mid sent opened.keeper → IsSafe facts opened
-  first_safe me Good mid sent none same lands (Landed there found) =
+  first_safe me Good mid sent none same lands (Landed good there found) =
       let e : ◌≡◌ {A = Told} (Ok opened.arbiter) (Ok (running setup me (first_record (rules_at setup)))) = lands.0 in
       let is : opened.arbiter ≡ running setup me (first_record (rules_at setup)) = cc in
       runs_from me (first_record (rules_at setup)) sent is there found (subst (IsSpelled me.stamp setup.delay (first_record (rules_at setup))) there lands.1) (record { ruled = refl; reached = refl })
-  first_safe me Good mid sent none same lands (Failed stays risen left) =
+  first_safe me Good mid sent none same lands (Failed cause stays risen left) =
       absurd (subst (IsSpelled me.stamp setup.delay (first_record (rules_at setup))) (stays ∙ ap stored same ∙ none) lands.1)
   first_safe me FailsOld mid sent none same lands once = absurd (not_failed KeeperFailed lands.0)
   first_safe me FailsNew mid sent none same lands once = absurd (not_failed KeeperFailed lands.0)
@@ -113,17 +114,20 @@ is_opened facts setup before now (Ok v) good bad = record { good = good; bad = �
 is_opened facts setup before now (Err fault) good bad = record { good = good; bad = λ g. (ap Err (bad g).0, (bad g).2) }
 
 -- what serving ensures of an arbiter that is opened so
-pub served_so : (grow : PutsGrow) {F : Type 0} (facts : F → KeptFacts) (setup : SetupView) (n : ℕ) (fetch : Bool) (old new : Scene (FileKeeper F)) (opened now : Moment (FileKeeper F)) (ended : Result ℕ WriteFault) → IsInFile facts old.at → IsOpened facts setup old.at opened.keeper (Ok opened.arbiter) → Serves (keeper_over facts) n fetch (scene opened old.port old.written) (scene now new.port new.written) ended → now.keeper ≡ new.at → ServesOpened facts setup n fetch old new ended
-served_so grow facts setup n fetch old new opened now ended in_file o s left =
+pub served_so : (grow : PutsGrow) {F W : Type 0} (facts : F → KeptFacts) (w : Writers W) (setup : SetupView) (n : ℕ) (fetch : Bool) (old new : Scene (FileKeeper F)) (out out' : W) (opened now : Moment (FileKeeper F)) (ended : Result ℕ WriteFault) → IsInFile facts old.at → IsOpened facts setup old.at opened.keeper (Ok opened.arbiter) → Serves (keeper_over facts) w n fetch (scene opened old.port old.written) (scene now new.port new.written) out out' ended → now.keeper ≡ new.at → ServesAndWrites facts w setup n fetch old new out out' ended
+served_so grow facts w setup n fetch old new out out' opened now ended in_file o s left =
     let safe : IsSafe facts opened = opened_safe facts setup old.at opened in_file o in
     let found = found_through grow facts opened now s.run.exchanges s.run.loss safe s.served.going s.served.delivered in
     record {
-      opened = opened;
-      now = now;
-      is_opened = o;
-      run = s.run;
-      served = s.served;
-      left = left;
-      found = record { first = safe_finds facts opened safe; each = found.0; at_loss = found.1 };
-      told = s.told;
+      serves = record {
+        opened = opened;
+        now = now;
+        is_opened = o;
+        run = s.run;
+        served = s.served;
+        left = left;
+        found = record { first = safe_finds facts opened safe; each = found.0; at_loss = found.1 };
+        told = s.told;
+      };
+      lines = s.lines;
     }

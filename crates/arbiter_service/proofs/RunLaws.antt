@@ -13,6 +13,7 @@ use Rattle.system_io.specs.KeptFiles.{KeptFacts}
 use Rattle.system_io.specs.Ports.{Missed, PortFacts}
 use Rattle.arbiter_service.specs.declared.file_keeper.FileKeeper.{FileKeeper}
 use Rattle.arbiter_service.specs.Lives.{Between, CameAfter, IsQuestion, RanOver, Refused, PastRun, RunsInTurn, RunsOver}
+use Rattle.arbiter_service.specs.GoingOut.{Writers}
 use Rattle.arbiter_service.specs.OverFiles.{IsRefused, OpensAndServes, ServesOpened}
 use Rattle.arbiter_service.specs.Serving.{KeeperLost, Loss, NoLoss, PortLost, Scene, asked_first, exchanges_of, handed_if_any, missed_by}
 use Rattle.arbiter_service.specs.StoredBytes.{StartsOver, file_of}
@@ -36,7 +37,7 @@ one_missed NoLoss = inl refl
 one_missed (KeeperLost last) = inl refl
 one_missed PortLost = inr refl
 
-module _ {F : Type 0} (facts : F → KeptFacts) (setup : SetupView) (n : ℕ) (fetch : Bool) (old new : Scene (FileKeeper F)) where
+module _ {F W : Type 0} (facts : F → KeptFacts) (w : Writers W) (setup : SetupView) (n : ℕ) (fetch : Bool) (old new : Scene (FileKeeper F)) (out out' : W) where
   ran_served : (ended : Result ℕ WriteFault) → ServesOpened facts setup n fetch old new ended → RanOver facts setup old.at new.at old.port new.port
   ran_served ended s = record {
     exchanges = exchanges_of s.run;
@@ -48,7 +49,7 @@ module _ {F : Type 0} (facts : F → KeptFacts) (setup : SetupView) (n : ℕ) (f
     passed = s.served.passed;
   }
 
-  ran_refused : (fault : OpenFault) → IsRefused facts setup old new fault → RanOver facts setup old.at new.at old.port new.port
+  ran_refused : (fault : OpenFault) → IsRefused facts setup old new out out' fault → RanOver facts setup old.at new.at old.port new.port
   ran_refused fault o = record {
     exchanges = [];
     runs = Refused new.at fault o.is_refused refl refl;
@@ -60,10 +61,10 @@ module _ {F : Type 0} (facts : F → KeptFacts) (setup : SetupView) (n : ℕ) (f
   }
 
   -- what was opened and served, or refused, is a run
-  pub ran_over : (ended : Result (Result ℕ OpenFault) WriteFault) → OpensAndServes facts setup n fetch old new ended → RanOver facts setup old.at new.at old.port new.port
-  ran_over (Ok (Ok status)) s = ran_served (Ok status) s
+  pub ran_over : (ended : Result (Result ℕ OpenFault) WriteFault) → OpensAndServes facts w setup n fetch old new out out' ended → RanOver facts setup old.at new.at old.port new.port
+  ran_over (Ok (Ok status)) s = ran_served (Ok status) s.serves
   ran_over (Ok (Err fault)) s = ran_refused fault s
-  ran_over (Err fault) s = ran_served (Err fault) s
+  ran_over (Err fault) s = ran_served (Err fault) s.serves
 
 -- ---- one run more
 

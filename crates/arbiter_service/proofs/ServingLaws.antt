@@ -11,6 +11,8 @@ use Rattle.system_io.specs.Ports.{Passing, Passed, PortFacts}
 use Rattle.arbiter_core.specs.Keeping.{KeeperFacts}
 use Rattle.arbiter_core.specs.Delivers.{Moment, Exchange}
 use Rattle.arbiter_service.specs.Serving.{InTurn, Loss, NoLoss, KeeperLost, PortLost, Session, ServesSession, TellsSession, all_passing, line_by, line_of, lines_of, loses_keeper, missed_by, passing_of, with_last}
+use Rattle.arbiter_service.specs.GoingOut.{GoOut, LastIsCut, Writers}
+use Rattle.arbiter_service.proofs.GoingLaws.{cut_later, go_join, none_out}
 use Rattle.arbiter_service.proofs.PortLaws.{Passed-on, Risen-later}
 
 all_join : {K : Type 0} (es fs : List (Exchange K)) → AllByRecursion (λ (e : Exchange K). loses_keeper e.told ≡ false) es → AllByRecursion (λ (e : Exchange K). loses_keeper e.told ≡ false) fs → AllByRecursion (λ (e : Exchange K). loses_keeper e.told ≡ false) (es ++ fs)
@@ -62,31 +64,46 @@ text_join : (xs ys : List (List ℕ)) → text_of (xs ++ ys) ≡ text_of xs ++ t
 text_join xs ys = flat_map-append ended xs ys
 
 -- so many datagrams came, were answered and have their lines, and nothing is lost
-pub record HasServed {K : Type 0} (s : KeeperFacts K) (old new : Moment K) (port port' : PortFacts) (first : List Passing) (out out' : Option (List ℕ)) (k : ℕ) : Type 0 where
+pub record HasServed {K W : Type 0} (s : KeeperFacts K) (w : Writers W) (old new : Moment K) (port port' : PortFacts) (first : List Passing) (out out' : Option (List ℕ)) (o o' : W) (k : ℕ) : Type 0 where
   pub exchanges : List (Exchange K)
   pub run : ServesSession s old new port port' first (going_on exchanges NoLoss)
   pub came : length exchanges ≡ k
   pub written : Appends out out' (text_of (map line_of exchanges))
+  pub went : GoOut w o (map line_of exchanges) o'
 
-pub nothing_served : {K : Type 0} (s : KeeperFacts K) (at : Moment K) (port port' : PortFacts) (first : List Passing) (out : Option (List ℕ)) → Passed port port' first → HasServed s at at port port' first out out 0
+pub nothing_served : {K W : Type 0} (s : KeeperFacts K) (w : Writers W) (at : Moment K) (port port' : PortFacts) (first : List Passing) (out : Option (List ℕ)) (o : W) → Passed port port' first → HasServed s w at at port port' first out out o o 0
 unfolding InTurn
-nothing_served s at port port' first out passed = record {
+nothing_served s w at port port' first out o passed = record {
   exchanges = [];
   run = record { going = tt; loss = tt; delivered = refl; passed = subst (Passed port port') (sym (append-nil first)) passed; cause = λ is. absurd (cc) };
   came = refl;
   written = Appends-nil out;
+  went = none_out w o;
 }
 
 written_join : {K : Type 0} (out out1 out2 : Option (List ℕ)) (es fs : List (Exchange K)) (loss : Loss K) → Appends out out1 (text_of (map line_of es)) → Appends out1 out2 (text_of (lines_of (going_on fs loss))) → Appends out out2 (text_of (lines_of (going_on (es ++ fs) loss)))
 written_join out out1 out2 es fs loss p q =
     subst (Appends out out2) (sym (ap text_of (lines_join es fs loss) ∙ text_join (map line_of es) (lines_of (going_on fs loss)))) (Appends-trans out out1 out2 _ _ p q)
 
-pub more_served : {K : Type 0} (s : KeeperFacts K) (old mid new : Moment K) (port port1 port2 : PortFacts) (first : List Passing) (out out1 out2 : Option (List ℕ)) (k : ℕ) (fs : List (Exchange K)) (loss : Loss K)
-    → HasServed s old mid port port1 first out out1 k
+-- lines that went out before others did, or before one was cut short
+pub went_on : {K W : Type 0} (w : Writers W) (o o1 o2 : W) (es fs : List (Exchange K)) (loss : Loss K) → GoOut w o (map line_of es) o1 → GoOut w o1 (lines_of (going_on fs loss)) o2 → GoOut w o (lines_of (going_on (es ++ fs) loss)) o2
+went_on w o o1 o2 es fs loss p q =
+    subst (λ (ls : List (List ℕ)). GoOut w o ls o2) (sym (lines_join es fs loss)) (go_join w o o1 o2 (map line_of es) (lines_of (going_on fs loss)) p q)
+
+pub cut_on : {K W : Type 0} (w : Writers W) (o o1 o2 : W) (es fs : List (Exchange K)) (loss : Loss K) → GoOut w o (map line_of es) o1 → LastIsCut w o1 (lines_of (going_on fs loss)) o2 → LastIsCut w o (lines_of (going_on (es ++ fs) loss)) o2
+cut_on w o o1 o2 es fs loss p q =
+    subst (λ (ls : List (List ℕ)). LastIsCut w o ls o2) (sym (lines_join es fs loss)) (cut_later w o o1 o2 (map line_of es) (lines_of (going_on fs loss)) p q)
+
+pub went_all : {K W : Type 0} (w : Writers W) (o o1 : W) (es : List (Exchange K)) → GoOut w o (map line_of es) o1 → GoOut w o (lines_of (going_on es NoLoss)) o1
+went_all w o o1 es p = subst (λ (ls : List (List ℕ)). GoOut w o ls o1) (sym (append-nil (map line_of es))) p
+
+pub more_served : {K W : Type 0} (s : KeeperFacts K) (w : Writers W) (old mid new : Moment K) (port port1 port2 : PortFacts) (first : List Passing) (out out1 out2 : Option (List ℕ)) (o o1 o2 : W) (k : ℕ) (fs : List (Exchange K)) (loss : Loss K)
+    → HasServed s w old mid port port1 first out out1 o o1 k
     → ServesSession s mid new port1 port2 [] (going_on fs loss)
     → TellsSession 1 (going_on fs loss) out1 out2 (Ok 0)
-    → HasServed s old new port port2 first out out2 (k + 1)
-more_served {K = K} s old mid new port port1 port2 first out out1 out2 k fs NoLoss h run told =
+    → GoOut w o1 (lines_of (going_on fs loss)) o2
+    → HasServed s w old new port port2 first out out2 o o2 (k + 1)
+more_served {K = K} {W = W} s w old mid new port port1 port2 first out out1 out2 o o1 o2 k fs NoLoss h run told went =
     let one = told.0 in
     let had = h.came in
     let joined : List (Exchange K) = h.exchanges ++ fs in
@@ -95,9 +112,10 @@ more_served {K = K} s old mid new port port1 port2 first out out1 out2 k fs NoLo
       run = run_join s old mid new port port1 port2 first h.exchanges fs NoLoss h.run run;
       came = omega (arith, length-append h.exchanges fs);
       written = subst (λ (ls : List (List ℕ)). Appends out out2 (text_of ls)) (append-nil (map line_of joined)) (written_join out out1 out2 h.exchanges fs NoLoss h.written told.1);
+      went = subst (λ (ls : List (List ℕ)). GoOut w o ls o2) (append-nil (map line_of joined)) (went_on w o o1 o2 h.exchanges fs NoLoss h.went went);
     }
-more_served s old mid new port port1 port2 first out out1 out2 k fs (KeeperLost last) h run told = absurd (omega (arith, told.0.1))
-more_served s old mid new port port1 port2 first out out1 out2 k fs PortLost h run told = absurd (omega (arith, told.0.1))
+more_served s w old mid new port port1 port2 first out out1 out2 o o1 o2 k fs (KeeperLost last) h run told went = absurd (omega (arith, told.0.1))
+more_served s w old mid new port port1 port2 first out out1 out2 o o1 o2 k fs PortLost h run told went = absurd (omega (arith, told.0.1))
 
 -- what the whole run tells
 pub stopped : {K : Type 0} (n k : ℕ) (es fs : List (Exchange K)) (loss : Loss K) (out out1 out2 : Option (List ℕ)) → length es ≡ k → k < n → Appends out out1 (text_of (map line_of es)) → TellsSession 1 (going_on fs loss) out1 out2 (Ok 1) → TellsSession n (going_on (es ++ fs) loss) out out2 (Ok 1)

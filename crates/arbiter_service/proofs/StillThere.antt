@@ -144,7 +144,7 @@ module _ {F : Type 0} (facts : F → KeptFacts) (setup : SetupView) (start : Fil
     module _ (now : FileKeeper F) where
       reads_none : (fault : OpenFault) (me : Identity) → Opens (keeper_over facts) setup me start now (Err fault) → now ≡ start
       reads_none fault me (inl h) = absurd h.stated
-      reads_none fault me (inr (inl h)) = ⊎_elim (λ same. same) (λ none. absurd (let x : None ≡ Some bytes = sym none.0 ∙ there in cc)) h.cause
+      reads_none fault me (inr (inl h)) = ⊎_elim (λ same. same.0) (λ none. absurd (let x : None ≡ Some bytes = sym none.0 ∙ there in cc)) h.cause
       reads_none fault me (inr (inr h)) = (subst (λ (o : Option (List ℕ)). OpensOver (keeper_over facts) setup me o start now (Err fault)) there h).2
 
       unopened : (fault : OpenFault) → (◌≡◌ {A = Told} (Err fault) (Err BadSetup) → ⊥) → IsOpened facts setup start now (Err fault) → now ≡ start

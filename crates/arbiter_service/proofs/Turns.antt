@@ -184,12 +184,12 @@ module _ (grow : PutsGrow) {F : Type 0} (facts : F → KeptFacts) (old : Moment 
       once p = by_keep p.keep p.lands p.once
         where
           by_keep : (keep : Keep) → Lands keep old.arbiter next outputs window (stored old.keeper) (stored e.after.keeper) e.after.arbiter e.told → PutsInto facts old.keeper p.sent e.after.keeper → Stepped facts old e
-          by_keep Good lands (Landed there found) = landed p.sent lands.0 lands.1 there found lands.2
-          by_keep Good lands (Failed same risen left) = absurd (not_grown same lands.2)
-          by_keep FailsOld lands (Landed there found) = lost lands.0 lands.1 p.sent (is_spelled _ _ p.spells) (inr (inr found))
-          by_keep FailsOld lands (Failed same risen left) = lost lands.0 lands.1 p.sent (is_spelled _ _ p.spells) (in_doubt p.sent left)
-          by_keep FailsNew lands (Landed there found) = lost lands.0 lands.1 p.sent (is_spelled _ _ p.spells) (inr (inr found))
-          by_keep FailsNew lands (Failed same risen left) = lost lands.0 lands.1 p.sent (is_spelled _ _ p.spells) (in_doubt p.sent left)
+          by_keep Good lands (Landed good there found) = landed p.sent lands.0 lands.1 there found lands.2
+          by_keep Good lands (Failed cause same risen left) = absurd (not_grown same lands.2)
+          by_keep FailsOld lands (Landed good there found) = lost lands.0 lands.1 p.sent (is_spelled _ _ p.spells) (inr (inr found))
+          by_keep FailsOld lands (Failed cause same risen left) = lost lands.0 lands.1 p.sent (is_spelled _ _ p.spells) (in_doubt p.sent left)
+          by_keep FailsNew lands (Landed good there found) = lost lands.0 lands.1 p.sent (is_spelled _ _ p.spells) (inr (inr found))
+          by_keep FailsNew lands (Failed cause same risen left) = lost lands.0 lands.1 p.sent (is_spelled _ _ p.spells) (in_doubt p.sent left)
 
     by_answer : (a : Answer) → a ≡ answer_at old.arbiter e.datagram → IsHonest old.arbiter.kept a → RefusesOrSends old.arbiter old.keeper e.after.keeper e.after.arbiter e.told a → PutsIfAny (keeper_over facts) old.arbiter old.keeper e.after.keeper e.after.arbiter e.told a → Stepped facts old e
     by_answer (Refuses fault) is honest h p = stays fault h.answer h.arbiter h.keeper

@@ -12,7 +12,8 @@ use Rattle.arbiter_core.specs.Opens.{IsResumed, OpensIfGood, Told}
 use Rattle.system_io.specs.Ports.{Passed}
 use Rattle.arbiter_core.specs.Recording.{Recorded}
 use Rattle.arbiter_core.specs.Delivers.{Moment}
-use Rattle.arbiter_service.specs.Serving.{Loss, NoLoss, KeeperLost, PortLost, Session, Scene, ServesSession, TellsSession, asked_first}
+use Rattle.arbiter_service.specs.GoingOut.{LinesEnd, Writers}
+use Rattle.arbiter_service.specs.Serving.{Loss, NoLoss, KeeperLost, PortLost, Session, Scene, ServesSession, TellsSession, asked_first, lines_of}
 use Rattle.arbiter_core.specs.Setups.{SetupView, IsGood, rules_at}
 use Rattle.arbiter_service.specs.StoredBytes.{file_of, keeper_over}
 use Rattle.arbiter_core.specs.Views.{View}
@@ -78,13 +79,19 @@ pub record ServesOpened {F : Type 0} (facts : F → KeptFacts) (setup : SetupVie
   pub found : FindsThroughout facts opened run
   pub told : TellsSession n run old.written new.written ended
 
--- no arbiter is opened, and nothing passes at the port
-pub record IsRefused {F : Type 0} (facts : F → KeptFacts) (setup : SetupView) (old new : Scene (FileKeeper F)) (fault : OpenFault) : Type 0 where
+-- it serves so, and each of its lines has gone out before the next comes
+pub record ServesAndWrites {F W : Type 0} (facts : F → KeptFacts) (w : Writers W) (setup : SetupView) (n : ℕ) (fetch : Bool) (old new : Scene (FileKeeper F)) (out out' : W) (ended : Result ℕ WriteFault) : Type 0 where
+  pub serves : ServesOpened facts setup n fetch old new ended
+  pub lines : LinesEnd w out (lines_of serves.run) out' ended
+
+-- no arbiter is opened, nothing passes at the port, and nothing is written
+pub record IsRefused {F W : Type 0} (facts : F → KeptFacts) (setup : SetupView) (old new : Scene (FileKeeper F)) (out out' : W) (fault : OpenFault) : Type 0 where
   pub is_refused : IsOpened facts setup old.at new.at (Err fault)
   pub nothing : Passed old.port new.port []
+  pub unwritten : out' ≡ out
 
 -- one is opened and serves, or it is refused; the outer error comes where a line could not be written
-abbrev pub OpensAndServes : {F : Type 0} → (F → KeptFacts) → SetupView → ℕ → Bool → Scene (FileKeeper F) → Scene (FileKeeper F) → Result (Result ℕ OpenFault) WriteFault → Type 0
-OpensAndServes facts setup n fetch old new (Ok (Ok status)) = ServesOpened facts setup n fetch old new (Ok status)
-OpensAndServes facts setup n fetch old new (Ok (Err fault)) = IsRefused facts setup old new fault
-OpensAndServes facts setup n fetch old new (Err fault) = ServesOpened facts setup n fetch old new (Err fault)
+abbrev pub OpensAndServes : {F W : Type 0} → (F → KeptFacts) → Writers W → SetupView → ℕ → Bool → Scene (FileKeeper F) → Scene (FileKeeper F) → W → W → Result (Result ℕ OpenFault) WriteFault → Type 0
+OpensAndServes facts w setup n fetch old new out out' (Ok (Ok status)) = ServesAndWrites facts w setup n fetch old new out out' (Ok status)
+OpensAndServes facts w setup n fetch old new out out' (Ok (Err fault)) = IsRefused facts setup old new out out' fault
+OpensAndServes facts w setup n fetch old new out out' (Err fault) = ServesAndWrites facts w setup n fetch old new out out' (Err fault)

@@ -14,6 +14,7 @@ use Rattle.arbiter_core.specs.Delivers.{Delivers, Exchange, Moment, Told, moment
 use Rattle.arbiter_core.specs.Views.{View}
 use Rattle.system_io.specs.declared.output.WriteFault.{WriteFault}
 use Rattle.move_msg.specs.TextLines.{text_of}
+use Rattle.arbiter_service.specs.GoingOut.{LinesEnd, Writers}
 use Rattle.arbiter_service.specs.ServedLines.{heard_words, refused_datagram, refused_keeper, refused_port}
 use Rattle.system_io.specs.Ports.{Passing, Came, Missed, Passed, PortFacts, to_each}
 
@@ -153,8 +154,10 @@ scene at port written = record { at = at; port = port; written = written }
 abbrev pub serving : {K : Type 0} → View → K → PortFacts → Option (List ℕ) → Scene (Moment K)
 serving arbiter keeper port written = scene (moment arbiter keeper) port written
 
--- there is a run for so many datagrams, before which moves are asked for where that is wanted; the lines and the status are its own
-pub record Serves {K : Type 0} (s : KeeperFacts K) (n : ℕ) (fetch : Bool) (old new : Scene (Moment K)) (ended : Result ℕ WriteFault) : Type 0 where
+-- there is a run for so many datagrams, before which moves are asked for where that is wanted; the lines and the status are its
+-- own, and each line has gone out before the next comes
+pub record Serves {K W : Type 0} (s : KeeperFacts K) (w : Writers W) (n : ℕ) (fetch : Bool) (old new : Scene (Moment K)) (out out' : W) (ended : Result ℕ WriteFault) : Type 0 where
   pub run : Session K
   pub served : ServesSession s old.at new.at old.port new.port (asked_first old.port.addresses fetch old.at.arbiter) run
   pub told : TellsSession n run old.written new.written ended
+  pub lines : LinesEnd w out (lines_of run) out' ended

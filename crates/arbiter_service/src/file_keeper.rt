@@ -1,10 +1,10 @@
 //! The keeper over a file.
 
-ghost use Rattle.std.specs.Prelude.{◌≡◌, ◌≤◌, Some, length, vec_capacity, IfOk, IsErrOf};
+ghost use Rattle.std.specs.Prelude.{◌≡◌, ◌≤◌, Some, length, vec_capacity, IfOk, IfErr};
 ghost use Rattle.system_io.specs.Failures.{Risen};
-ghost use Rattle.system_io.specs.KeptFiles.{CannotStart, IsOneOfFound};
+ghost use Rattle.system_io.specs.KeptFiles.{IsOneOfFound};
 
-use arbiter_core::{KeepFault, Keeper};
+use arbiter_core::{KeepFault, Keeper, copy_of};
 use std::alloc::{AllocError, Global};
 use system_io::{KeptFile, MOST_KEPT_BYTES, ReadFault, begin, replace};
 
@@ -30,17 +30,18 @@ fn roomy(alloc: Global, bytes: &[u8]) -> Result<Vec<u8>, AllocError>
 }
 
 impl<F: KeptFile + Drop> FileKeeper<F> {
-    ghost use Rattle.arbiter_service.specs.StoredBytes.{IsInFile, file_of, stored};
+    ghost use Rattle.arbiter_service.specs.StoredBytes.{CannotKeep, IsInFile, file_of, stored};
 
     /// A keeper over a file, which is read here and never again: a file that isn't there is nothing kept. Before it is read it and
     /// its folder are synced, so that a loss of power can't take back what is read. `Unreadable` where they can't be synced, or
-    /// the file can't be read or has more than 8217 bytes.
+    /// the file can't be read or has more than 8217 bytes; `OutOfMemory` where memory to read it is refused, or, once it is read,
+    /// memory for the room.
     pub fn new(alloc: Global, file: F) -> Result<FileKeeper<F>, ReadFault>
         // What is stored is one of any two of which the file says that each start finds the one or the other,
         ensures one { IfOk result (λ k. IsOneOfFound (F.facts file) (stored k)) }
         // and every later start finds it.
         ensures found { IfOk result (IsInFile F.facts) }
-        ensures cause { IsErrOf result ReadFault.Unreadable → CannotStart (F.facts file) }
+        ensures cause { IfErr result (CannotKeep (F.facts file)) }
     {
         let mut file = file;
         let got = match begin(alloc, &mut file) {
@@ -125,10 +126,7 @@ impl<F: KeptFile + Drop> Keeper for FileKeeper<F> {
         if !self.is_kept {
             return Ok(None);
         }
-        match Vec::from_slice(alloc, &self.bytes) {
-            Ok(copy) => Ok(Some(copy)),
-            Err(_) => Err(KeepFault::OutOfMemory),
-        }
+        copy_of(alloc, Some(&self.bytes))
     }
 
     fn failures(&self) -> u64 {

@@ -1,12 +1,13 @@
 //! What is told of each datagram.
 
-ghost use Rattle.std.specs.Prelude.{◌≡◌, Some};
-ghost use Rattle.std.specs.Fmt.{DisplaysOnOk};
-ghost use Rattle.arbiter_service.specs.ServedLines.{heard_words, refused_datagram, verdict_or_none};
+ghost use Rattle.std.specs.Prelude.{◌≡◌, ◌≤◌, ◌+◌, ◌++◌, length};
+ghost use Rattle.move_msg.specs.TextLines.{ended};
+ghost use Rattle.arbiter_service.specs.ServedLines.{heard_line, heard_words, refused_datagram, verdict_or_none};
 
 use arbiter_core::DeliverFault;
+use arrayvec::ArrayString;
 use board_core::Verdict;
-use std::fmt;
+use itoa::Buffer;
 
 /// What is told of a datagram; its text has no line feed.
 #[derive(Clone, Copy)]
@@ -21,9 +22,13 @@ pub(crate) enum Heard {
     PortLost,
 }
 
+/// The text of a line, with its line feed. It takes no memory, so that no line is lost for want of it.
+pub(crate) type LineText = ArrayString<64>;
+
 /// The name of a verdict, or `none`.
 pub fn verdict_or_none(verdict: Option<Verdict>) -> &'static str
-    ensures { result.now ≡ verdict_or_none verdict }
+    ensures value { result.now ≡ verdict_or_none verdict }
+    ensures short { length result.now ≤ 10 }
 {
     match verdict {
         None => "none",
@@ -31,40 +36,52 @@ pub fn verdict_or_none(verdict: Option<Verdict>) -> &'static str
     }
 }
 
-/// Tells what is recorded.
-fn fmt_recorded<W: fmt::Write>(
-    f: &mut fmt::Formatter<W>,
-    count: u32,
-    verdict: Option<Verdict>,
-) -> fmt::Result
-    ensures { DisplaysOnOk W.Write.write_str_gives f.old result (Some (heard_words count verdict)) f.new }
+/// The line of two words, one behind the other.
+fn line_of(first: &str, second: &str) -> LineText
+    requires { length first.now + length second.now ≤ 40 }
+    ensures { result.bytes ≡ ended (first.now ++ second.now) }
 {
-    let verdict = verdict_or_none(verdict);
-    write!(f, "ok {count} {verdict}")
+    let mut line = ArrayString::new();
+    line.push_str(first);
+    line.push_str(second);
+    line.push_str("\n");
+    line
 }
 
-/// Tells why a datagram is refused.
-fn fmt_refused<W: fmt::Write>(f: &mut fmt::Formatter<W>, fault: DeliverFault) -> fmt::Result
-    ensures { DisplaysOnOk W.Write.write_str_gives f.old result (Some (refused_datagram fault)) f.new }
+/// The line for what is recorded.
+fn recorded_line(count: u32, verdict: Option<Verdict>) -> LineText
+    ensures { result.bytes ≡ ended (heard_words count verdict) }
+{
+    let mut digits = Buffer::new();
+    let mut line = ArrayString::new();
+    line.push_str("ok ");
+    line.push_str(digits.format(count));
+    line.push_str(" ");
+    line.push_str(verdict_or_none(verdict));
+    line.push_str("\n");
+    line
+}
+
+/// The line for why a datagram is refused.
+fn refused_line(fault: DeliverFault) -> LineText
+    ensures { result.bytes ≡ ended (refused_datagram fault) }
 {
     match fault {
-        DeliverFault::NotAMessage(fault) => write!(f, "refused NotAMessage {}", fault.name()),
-        _ => write!(f, "refused {}", fault.name()),
+        DeliverFault::NotAMessage(fault) => line_of("refused NotAMessage ", fault.name()),
+        _ => line_of("refused ", fault.name()),
     }
 }
 
-impl fmt::Display for Heard {
-    ghost use Rattle.std.specs.Prelude.{Some};
-    ghost use Rattle.arbiter_service.specs.ServedLines.{heard_line};
-
-    ghost output = { λ h. Some (heard_line h) };
-
-    fn fmt<W: fmt::Write>(&self, f: &mut fmt::Formatter<W>) -> fmt::Result {
+impl Heard {
+    /// The line.
+    pub(crate) fn line(self) -> LineText
+        ensures { result.bytes ≡ ended (heard_line self) }
+    {
         match self {
-            Heard::Recorded(count, verdict) => fmt_recorded(f, *count, *verdict),
-            Heard::Refused(fault) => fmt_refused(f, *fault),
-            Heard::KeeperLost => f.write_str("refused keeper"),
-            Heard::PortLost => f.write_str("refused port"),
+            Heard::Recorded(count, verdict) => recorded_line(count, verdict),
+            Heard::Refused(fault) => refused_line(fault),
+            Heard::KeeperLost => line_of("refused ", "keeper"),
+            Heard::PortLost => line_of("refused ", "port"),
         }
     }
 }

@@ -1,6 +1,6 @@
 //! An arbiter over a file in which its record is kept.
 
-ghost use Rattle.std.specs.Prelude.{◌≡◌, IfOk, IfErr};
+ghost use Rattle.arbiter_service.specs.GoingOut.{writers};
 ghost use Rattle.arbiter_service.specs.OverFiles.{OpensAndServes};
 ghost use Rattle.arbiter_core.specs.Setups.{setup_view};
 ghost use Rattle.arbiter_service.specs.Serving.{scene};
@@ -11,15 +11,14 @@ use crate::serving::serve;
 use arbiter_core::laws::puts_grow;
 use arbiter_core::{Arbiter, OpenFault, Setup};
 use std::alloc::Global;
-use std::io::Write;
-use system_io::{KeptFile, Port, WriteFault};
+use system_io::{KeptFile, Output, Port, WriteFault};
 
 /// Opens an arbiter over a keeper, and lets it answer so many datagrams of a port, as `serve` does; tells the status, or why no
 /// arbiter is opened. Before the first datagram and after each one a start finds the arbiter's record in the file.
 ///
 /// Where none is opened, nothing passes at the port and nothing is written. The outer error comes where a line could not be
-/// written, at most the n-th: what was served before it is the same.
-pub fn open_and_serve<F: KeptFile + Drop, P: Port, W: Write>(
+/// written whole or can't go out, at most the n-th: what was served before it is the same.
+pub fn open_and_serve<F: KeptFile + Drop, P: Port, W: Output>(
     alloc: Global,
     setup: Setup<'_>,
     keeper: &mut FileKeeper<F>,
@@ -29,8 +28,7 @@ pub fn open_and_serve<F: KeptFile + Drop, P: Port, W: Write>(
     out: &mut W,
 ) -> Result<Result<u8, OpenFault>, WriteFault>
     requires { IsInFile F.facts keeper.old }
-    ensures served { OpensAndServes F.facts (setup_view setup.entry) n fetch (scene keeper.old (P.facts port.old) (W.contents out.old)) (scene keeper.new (P.facts port.new) (W.contents out.new)) result }
-    ensures unwritten { IfOk result (λ ended. IfErr ended (λ fault. out.new ≡ out.old)) }
+    ensures served { OpensAndServes F.facts (writers W.Write.contents W.facts) (setup_view setup.entry) n fetch (scene keeper.old (P.facts port.old) (W.Write.contents out.old)) (scene keeper.new (P.facts port.new) (W.Write.contents out.new)) out.old out.new result }
 {
     puts_grow();
     match Arbiter::open(alloc, keeper, setup) {

@@ -1,12 +1,11 @@
 //! An arbiter that answers the datagrams of a port.
 
-ghost use Rattle.std.specs.Prelude.{◌≡◌, [], cond, false, OnOk};
+ghost use Rattle.std.specs.Prelude.{◌≡◌, ◌∷◌, [], cond, false};
 ghost use Rattle.std.specs.List.{flat_map};
 ghost use Rattle.std.specs.Result.{result_map_both};
-ghost use Rattle.std.specs.Io.KnownBytes.{Appends};
 ghost use Rattle.arbiter_core.specs.Delivers.{IsKept, moment};
-ghost use Rattle.move_msg.specs.TextLines.{ended};
 ghost use Rattle.system_io.specs.Ports.{Passed};
+ghost use Rattle.arbiter_service.specs.GoingOut.{LinesEnd, writers};
 ghost use Rattle.arbiter_service.specs.ServedLines.{heard_line, refused_datagram, refused_keeper};
 ghost use Rattle.arbiter_service.specs.Serving.{Session, Serves, ServesSession, asked_first, handed, is_loss, serving};
 ghost use Rattle.arbiter_service.specs.Inside.Steps.{Hears, IsOneStep, status_by, stops};
@@ -15,8 +14,7 @@ use crate::heard::Heard;
 use arbiter_core::{Arbiter, DeliverFault, Keeper};
 use move_msg::Message;
 use std::alloc::Global;
-use std::io::Write;
-use system_io::{Port, WriteFault};
+use system_io::{Output, Port, WriteFault};
 
 /// Whether a run goes on.
 #[derive(Clone, Copy)]
@@ -97,20 +95,17 @@ fn receive<K: Keeper, P: Port>(
 }
 
 /// Writes a line, and lets it go out at once.
-fn put_now<W: Write>(out: &mut W, line: &Heard) -> Result<(), WriteFault>
-    ensures { OnOk result (Appends (W.contents out.old) (W.contents out.new) (ended (heard_line line.now))) }
+fn put_now<W: Output>(out: &mut W, line: Heard) -> Result<(), WriteFault>
+    ensures { LinesEnd (writers W.Write.contents W.facts) out.old (heard_line line ∷ []) out.new result }
 {
-    let Ok(()) = writeln!(out, "{line}") else {
-        return Err(WriteFault::Io);
-    };
-    match out.flush() {
-        Ok(()) => Ok(()),
-        Err(_) => Err(WriteFault::Io),
+    match out.put(line.line().as_str().as_bytes()) {
+        Ok(()) => out.flush_all(),
+        Err(fault) => Err(fault),
     }
 }
 
 /// Receives a datagram, answers it and writes the line for it; tells whether the run goes on.
-fn serve_one<K: Keeper, P: Port, W: Write>(
+fn serve_one<K: Keeper, P: Port, W: Output>(
     alloc: Global,
     arbiter: &mut Arbiter<'_>,
     keeper: &mut K,
@@ -118,11 +113,11 @@ fn serve_one<K: Keeper, P: Port, W: Write>(
     out: &mut W,
 ) -> Result<Next, WriteFault>
     requires { IsKept (K.facts.kept keeper.old) arbiter.old }
-    ensures run { Serves K.facts 1 false (serving arbiter.old keeper.old (P.facts port.old) (W.contents out.old)) (serving arbiter.new keeper.new (P.facts port.new) (W.contents out.new)) (result_map_both status_by (λ e. e) result) }
+    ensures run { Serves K.facts (writers W.Write.contents W.facts) 1 false (serving arbiter.old keeper.old (P.facts port.old) (W.Write.contents out.old)) (serving arbiter.new keeper.new (P.facts port.new) (W.Write.contents out.new)) out.old out.new (result_map_both status_by (λ e. e) result) }
     ensures keeps { IsKept (K.facts.kept keeper.new) arbiter.new }
 {
     let (line, next) = receive(alloc, arbiter, keeper, port);
-    match put_now(out, &line) {
+    match put_now(out, line) {
         Ok(()) => Ok(next),
         Err(fault) => Err(fault),
     }
@@ -148,8 +143,9 @@ fn ask_if<P: Port>(arbiter: &Arbiter<'_>, port: &mut P, fetch: bool)
 /// before the first datagram.
 ///
 /// That the keeper keeps the arbiter's record while it runs is the caller's condition. The error comes only where the writer
-/// failed; what was delivered stays. It returns if each `receive` does.
-pub fn serve<K: Keeper, P: Port, W: Write>(
+/// failed: each line before has gone out whole, of the last one a front may be written, and what was delivered, sent and kept is
+/// as if nothing had failed. It returns if each `receive` does.
+pub fn serve<K: Keeper, P: Port, W: Output>(
     alloc: Global,
     arbiter: &mut Arbiter<'_>,
     keeper: &mut K,
@@ -160,9 +156,9 @@ pub fn serve<K: Keeper, P: Port, W: Write>(
 ) -> Result<u8, WriteFault>
     requires { IsKept (K.facts.kept keeper.old) arbiter.old }
 
-    // The arbiter has answered the datagrams in turn, all else at the port is what it sends to each address, and the lines and
-    // the status are those of this run.
-    ensures run { Serves K.facts n fetch (serving arbiter.old keeper.old (P.facts port.old) (W.contents out.old)) (serving arbiter.new keeper.new (P.facts port.new) (W.contents out.new)) result }
+    // The arbiter has answered the datagrams in turn, all else at the port is what it sends to each address, the lines and the
+    // status are those of this run, and each line has gone out before the next.
+    ensures run { Serves K.facts (writers W.Write.contents W.facts) n fetch (serving arbiter.old keeper.old (P.facts port.old) (W.Write.contents out.old)) (serving arbiter.new keeper.new (P.facts port.new) (W.Write.contents out.new)) out.old out.new result }
 
     // A running arbiter's record is still the one that the keeper keeps.
     ensures keeps { IsKept (K.facts.kept keeper.new) arbiter.new }

@@ -1,8 +1,10 @@
-//! An arbiter that runs again after a loss of power.
+//! An arbiter that runs again after a stop.
 
-ghost use Rattle.std.specs.Prelude.{IfOk};
+ghost use Rattle.std.specs.Prelude.{IfErr, IfOk};
 ghost use Rattle.system_io.specs.PowerLosses.{disk_facts};
 ghost use Rattle.arbiter_core.specs.Setups.{setup_view};
+ghost use Rattle.arbiter_service.specs.AfterStops.{IsUnkeptAfter, RunsAfter};
+ghost use Rattle.arbiter_service.specs.GoingOut.{writers};
 ghost use Rattle.arbiter_service.specs.Lives.{ComesAfterAny, OneMore};
 
 use crate::file_keeper::FileKeeper;
@@ -10,14 +12,13 @@ use crate::over_file::open_and_serve;
 use arbiter_core::Setup;
 use arbiter_core::laws::puts_grow;
 use std::alloc::Global;
-use std::io::Write;
-use system_io::{Choice, DiskFile, Port, ReadFault};
+use system_io::{Choice, DiskFile, Output, Port, ReadFault};
 
-/// One more run over a disk after a loss of power: an arbiter is opened from what is left and answers so many datagrams. Gives the
-/// disk that is left, or why the file could not be read.
+/// One more run over a disk after a stop, with a loss of power or without: an arbiter is opened from what is left and answers so
+/// many datagrams. Gives the disk that is left, or why no keeper is made.
 ///
 /// After any runs of the setup over the disk it is one more, and at its start all that they told is there.
-pub fn run_after<P: Port, W: Write>(
+pub fn run_after<P: Port, W: Output>(
     alloc: Global,
     disk: DiskFile,
     choice: Choice,
@@ -27,8 +28,11 @@ pub fn run_after<P: Port, W: Write>(
     fetch: bool,
     out: &mut W,
 ) -> Result<DiskFile, ReadFault>
+    // It is a run over what the stop left, for so many datagrams, and moves are asked for first where that is wanted.
+    ensures run { IfOk result (RunsAfter (writers W.Write.contents W.facts) disk choice (setup_view setup.entry) n fetch (P.facts port.old) (P.facts port.new) out.old out.new) }
     ensures one { IfOk result (λ left. OneMore disk_facts (setup_view setup.entry) disk left (P.facts port.old) (P.facts port.new)) }
     ensures there { IfOk result (λ left. ComesAfterAny disk_facts (setup_view setup.entry) disk left) }
+    ensures cause { IfErr result (IsUnkeptAfter disk choice) }
 {
     puts_grow();
     match FileKeeper::new(alloc, disk.stop(choice)) {

@@ -90,7 +90,7 @@ fn check_kept(
 /// A loss of power after which the file of this number has the name, the earliest being 0, and these bytes stand where nothing
 /// was synced.
 fn loss(rt: &impl Abort, alloc: Global, which: usize) -> Choice {
-    Choice {
+    Choice::PowerLost {
         which,
         bytes: copy(rt, alloc, b"garbage"),
         beside: None,

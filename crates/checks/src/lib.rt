@@ -10,6 +10,8 @@ mod board_tests;
 #[cfg(test)]
 mod cache_tests;
 #[cfg(test)]
+mod calls_tests;
+#[cfg(test)]
 mod comparing;
 #[cfg(test)]
 mod delivery_tests;
@@ -34,13 +36,13 @@ mod kept_tests;
 #[cfg(test)]
 mod manifest_tests;
 #[cfg(test)]
-mod memory_port;
-#[cfg(test)]
 mod message_tests;
 #[cfg(test)]
 mod opening_tests;
 #[cfg(test)]
 mod output_tests;
+#[cfg(test)]
+mod port_tests;
 #[cfg(test)]
 mod positions;
 #[cfg(test)]
@@ -55,6 +57,12 @@ mod seeded_tests;
 mod seeded_world_tests;
 #[cfg(test)]
 mod serving_tests;
+#[cfg(test)]
+mod source_port;
+#[cfg(test)]
+mod source_tests;
+#[cfg(test)]
+mod stopping_tests;
 #[cfg(test)]
 mod table_tests;
 #[cfg(test)]

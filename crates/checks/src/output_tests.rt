@@ -3,15 +3,13 @@
 use crate::comparing::check_same;
 use crate::forge_tests::Failing;
 use std::alloc::Global;
-use std::io::{BufWriter, Write};
+use std::io::Write;
 use std::process::Abort;
-use system_io::{WriteFault, end};
+use system_io::{BufferedOutput, WriteFault, end};
 
 /// A buffer that holds three bytes, over a writer that fails at the call of this number, the first being 0.
-fn buffer(rt: &impl Abort, alloc: Global, fails_at: u32) -> BufWriter<Failing> {
-    let mut out = BufWriter::new(alloc, Failing::at(fails_at))
-        .ok()
-        .expect(rt, "memory");
+fn buffer(rt: &impl Abort, alloc: Global, fails_at: u32) -> BufferedOutput<Failing> {
+    let mut out = BufferedOutput::new(alloc, Failing::at(fails_at)).expect(rt, "memory");
     out.write_all(b"abc").expect(rt, "room in the buffer");
     out
 }

@@ -6,14 +6,13 @@ use crate::arbiters::{empty_keeper, game, open_first};
 use crate::comparing::{check_bytes, check_same};
 use crate::files::push_bytes;
 use crate::forge_tests::Failing;
-use crate::memory_port::{MemoryPort, Passage};
 use crate::positions::START;
 use arbiter_core::{Arbiter, Keep, MemoryKeeper};
 use arbiter_service::serve;
 use std::alloc::Global;
 use std::io::Write;
 use std::process::Abort;
-use system_io::WriteFault;
+use system_io::{MemoryPort, Output, Passage, Turn, WriteFault};
 
 /// How a port is served at which the game's moves wait: the call of it that fails, how many datagrams are to come, whether the
 /// other arbiter is asked first, the outcome of each put, the lines and the status, and what passes, a letter for each: `c` for
@@ -30,7 +29,7 @@ struct Row {
 }
 
 /// How a run over a keeper ends, and how many moves the arbiter has recorded then.
-fn serve_row<W: Write>(
+fn serve_row<W: Output>(
     alloc: Global,
     arbiter: &mut Arbiter<'_>,
     keeper: &mut MemoryKeeper,
@@ -46,7 +45,7 @@ fn serve_row<W: Write>(
 }
 
 /// What a new arbiter of the game over a keeper does with the datagrams of a row.
-fn served_over<W: Write>(
+fn served_over<W: Output>(
     rt: &impl Abort,
     alloc: Global,
     keeper: &mut MemoryKeeper,
@@ -59,7 +58,7 @@ fn served_over<W: Write>(
 }
 
 /// What an arbiter over a keeper that keeps nothing so far does with them.
-fn served<W: Write>(
+fn served<W: Output>(
     rt: &impl Abort,
     alloc: Global,
     port: &mut MemoryPort<'_>,
@@ -80,14 +79,11 @@ fn check_lines(rt: &impl Abort, alloc: Global, port: &mut MemoryPort<'_>, row: &
 
 /// The letter of what passed.
 fn letter_of(passage: &Passage) -> u8 {
-    if passage.is_missed {
-        b'm'
-    } else if !passage.is_handed {
-        b'c'
-    } else if passage.to == 0 {
-        b'h'
-    } else {
-        b'i'
+    match passage {
+        Passage::Came(_) => b'c',
+        Passage::Quiet => b'q',
+        Passage::Missed => b'm',
+        Passage::Handed { to, .. } => { if *to == 0 { b'h' } else { b'i' } }
     }
 }
 
@@ -107,9 +103,17 @@ fn check_passed(rt: &impl Abort, alloc: Global, port: &MemoryPort<'_>, letters: 
     check_bytes(rt, &told, letters.as_bytes(), letters);
 }
 
+/// Three datagrams come in their order.
+const IN_ORDER: [Turn; 3] = [Turn::Comes(0), Turn::Comes(1), Turn::Comes(2)];
+
+/// A port that sends to two addresses, at which these datagrams wait, and whose call of this number fails.
+fn port_with<'a>(alloc: Global, waiting: &'a [&'a [u8]], fails_at: usize) -> MemoryPort<'a> {
+    MemoryPort::new(alloc, 2, waiting, &IN_ORDER, Some(fails_at))
+}
+
 /// A port at which these datagrams wait is served so.
 fn check_row(rt: &impl Abort, alloc: Global, waiting: &[&[u8]], row: &Row) {
-    let mut port = MemoryPort::new(alloc, waiting, row.fails_at);
+    let mut port = port_with(alloc, waiting, row.fails_at);
     check_lines(rt, alloc, &mut port, row);
     check_passed(rt, alloc, &port, row.letters);
 }
@@ -285,13 +289,32 @@ fn a_failed_put_is_the_end(rt: HostRuntime) {
     check_rows(&rt, rt.alloc(), &FAILED_PUTS);
 }
 
+impl Output for Failing {
+    ghost use Rattle.system_io.specs.Outputs.{holds_nothing_back};
+
+    ghost facts = { λ _. holds_nothing_back };
+
+    ghost one = { λ _ gone stuck. stuck };
+
+    fn put(&mut self, bytes: &[u8]) -> Result<(), WriteFault> {
+        match self.write_all(bytes) {
+            Ok(()) => Ok(()),
+            Err(_) => Err(WriteFault::Io),
+        }
+    }
+
+    fn flush_all(&mut self) -> Result<(), WriteFault> {
+        Ok(())
+    }
+}
+
 /// How a run of three datagrams ends whose output fails, and how many moves it has recorded.
 fn served_in_vain(
     rt: &impl Abort,
     alloc: Global,
     waiting: &[&[u8]],
 ) -> (Result<u8, WriteFault>, u32) {
-    let mut port = MemoryPort::new(alloc, waiting, NEVER);
+    let mut port = port_with(alloc, waiting, NEVER);
     served(rt, alloc, &mut port, &FAILED_SENDS[3], &mut Failing::at(0))
 }
 

@@ -7,13 +7,12 @@ use arbiter_core::MemoryKeeper;
 use arbiter_service::serve;
 use move_msg::Message;
 use std::alloc::Global;
-use std::io::Write;
 use std::net::{Net, SocketAddr, UdpSocket};
 use std::process::Abort;
-use system_io::{UdpPort, WriteFault};
+use system_io::{Output, UdpPort, WriteFault};
 
 /// How a port is served for six datagrams by the first arbiter of the game over a keeper.
-fn serve_six<W: Write>(
+fn serve_six<W: Output>(
     rt: &impl Abort,
     alloc: Global,
     keeper: &mut MemoryKeeper,
@@ -25,7 +24,7 @@ fn serve_six<W: Write>(
 }
 
 /// What an arbiter over a keeper that keeps nothing so far does with the datagrams.
-fn served<W: Write>(
+fn served<W: Output>(
     rt: &impl Abort,
     alloc: Global,
     port: &mut UdpPort,
@@ -66,11 +65,17 @@ fn send_others(rt: &impl Abort, client: &UdpSocket, to: SocketAddr) {
     }
 }
 
+/// The address of a socket as a text.
+fn text_at(rt: &impl Abort, alloc: Global, socket: &UdpSocket) -> String {
+    let address = address_of(rt, socket);
+    format!(in alloc; "{address}").expect(rt, "memory")
+}
+
 /// A port over a socket, which sends to another.
 fn port_over(rt: &impl Abort, alloc: Global, socket: UdpSocket, client: &UdpSocket) -> UdpPort {
-    let address = address_of(rt, client);
-    let to = format!(in alloc; "{address}").expect(rt, "memory");
-    UdpPort::over(alloc, socket, &[to.as_str()]).expect(rt, "memory")
+    let address = text_at(rt, alloc, &socket);
+    let to = text_at(rt, alloc, client);
+    UdpPort::over(alloc, socket, address.as_str(), &[to.as_str()]).expect(rt, "memory")
 }
 
 /// A port at which the game's moves wait, and what is no message.

@@ -81,6 +81,8 @@ fn sources_at<R: Files + Input + AllocGlobal + Clone + Drop>(
         folder,
         manifest,
         reads_input: false,
+        kept: None,
+        other_kept: None,
     };
     let (disk, input) = (SystemDisk::new(rt), SystemInput::new(rt));
     Sources::read(rt.alloc(), &disk, &input, &places)

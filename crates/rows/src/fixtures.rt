@@ -9,7 +9,7 @@ use move_msg::{Message, Sender, Stamp};
 use std::alloc::{AllocError, Global};
 use std::io::{self, Write};
 use std::process::Abort;
-use system_io::{Disk, Input as Source, WriteFault};
+use system_io::{Disk, Input as Source, Output, WriteFault};
 
 /// The usual start of a game.
 pub(crate) const START: &str = "rnbqkbnr/pppppppp/8/8/8/8/PPPPPPPP/RNBQKBNR w KQkq - 0 1";
@@ -49,7 +49,7 @@ pub(crate) fn words_of(rt: &impl Abort, alloc: Global, words: Words) -> Vec<&'st
 }
 
 /// How the program ends on words, without its contract.
-fn ended<D: Disk + Source, W: Write, E: Write>(
+fn ended<D: Disk + Source, W: Output, E: Write>(
     alloc: Global,
     words: &[&str],
     disk: &D,
@@ -61,7 +61,7 @@ fn ended<D: Disk + Source, W: Write, E: Write>(
 }
 
 /// How the program ends on the words of a text.
-pub(crate) fn ended_on<D: Disk + Source, W: Write, E: Write>(
+pub(crate) fn ended_on<D: Disk + Source, W: Output, E: Write>(
     rt: &impl Abort,
     alloc: Global,
     words: Words,
@@ -75,7 +75,7 @@ pub(crate) fn ended_on<D: Disk + Source, W: Write, E: Write>(
 }
 
 /// The same where nobody looks at what a misuse is told.
-pub(crate) fn ended_at<D: Disk + Source, W: Write>(
+pub(crate) fn ended_at<D: Disk + Source, W: Output>(
     rt: &impl Abort,
     alloc: Global,
     words: Words,
@@ -171,6 +171,25 @@ impl Failing {
     /// One that fails after so many calls.
     pub(crate) fn after(fails_at: u32) -> Failing {
         Failing { calls: 0, fails_at }
+    }
+}
+
+impl Output for Failing {
+    ghost use Rattle.system_io.specs.Outputs.{holds_nothing_back};
+
+    ghost facts = { λ _. holds_nothing_back };
+
+    ghost one = { λ _ gone stuck. stuck };
+
+    fn put(&mut self, bytes: &[u8]) -> Result<(), WriteFault> {
+        match self.write(bytes) {
+            Ok(n) if n == bytes.len() => Ok(()),
+            _ => Err(WriteFault::Io),
+        }
+    }
+
+    fn flush_all(&mut self) -> Result<(), WriteFault> {
+        Ok(())
     }
 }
 

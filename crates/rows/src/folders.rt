@@ -3,6 +3,7 @@
 ghost use Rattle.std.specs.Prelude.{◌≤◌, length, IfOk};
 ghost use Rattle.system_io.specs.Disks.{most_bytes};
 
+use crate::kept_files::KEPT;
 use std::alloc::{AllocError, Global};
 use std::io::{self, BufReader, Read};
 use system_io::{Disk, Input as Source, ReadFault, read_at_most};
@@ -95,7 +96,7 @@ const QUEEN_ALONE: [File; 2] = [
 ];
 
 /// The folders by their names.
-const ALL_FOLDERS: [(&str, &[File]); 7] = [
+const ALL_FOLDERS: [(&str, &[File]); 8] = [
     ("abc", &ABC),
     ("knight", &KNIGHT_ALONE),
     ("queen", &QUEEN_ALONE),
@@ -103,6 +104,7 @@ const ALL_FOLDERS: [(&str, &[File]); 7] = [
     ("damaged", &DAMAGED),
     ("at_fault", &AT_FAULT),
     ("nothing", &[]),
+    ("kept", &KEPT),
 ];
 
 /// The files beside this name.
@@ -195,9 +197,12 @@ fn file_in(path: &str) -> Option<File> {
 pub(crate) struct Folders;
 
 impl Disk for Folders {
+    ghost use Rattle.system_io.specs.OutputLaws.{untold};
     ghost use Rattle.system_io.specs.Premises.{system_disk};
 
     ghost facts = { λ _. system_disk };
+
+    ghost one = { λ _ told. untold told };
 
     fn names(&self, alloc: Global, folder: &str) -> Result<Vec<String>, ReadFault> {
         match files_in(folder) {
@@ -220,9 +225,12 @@ impl Disk for Folders {
 impl Source for Folders {
     type Lines = BufReader<Given<'static>, Global>;
 
+    ghost use Rattle.system_io.specs.OutputLaws.{untold};
     ghost use Rattle.system_io.specs.Premises.{system_input};
 
     ghost facts = { λ _. system_input };
+
+    ghost one = { λ _ told. untold told };
 
     fn read_to_end(&self, _alloc: Global) -> Result<Vec<u8>, ReadFault> {
         Err(ReadFault::Unreadable)
@@ -308,9 +316,12 @@ impl<'a> Input<'a> {
 }
 
 impl<'a> Disk for Input<'a> {
+    ghost use Rattle.system_io.specs.OutputLaws.{untold};
     ghost use Rattle.system_io.specs.Premises.{system_disk};
 
     ghost facts = { λ _. system_disk };
+
+    ghost one = { λ _ told. untold told };
 
     fn names(&self, alloc: Global, folder: &str) -> Result<Vec<String>, ReadFault> {
         Folders.names(alloc, folder)
@@ -324,9 +335,12 @@ impl<'a> Disk for Input<'a> {
 impl<'a> Source for Input<'a> {
     type Lines = BufReader<Given<'a>, Global>;
 
+    ghost use Rattle.system_io.specs.OutputLaws.{untold};
     ghost use Rattle.system_io.specs.Premises.{system_input};
 
     ghost facts = { λ _. system_input };
+
+    ghost one = { λ _ told. untold told };
 
     fn read_to_end(&self, alloc: Global) -> Result<Vec<u8>, ReadFault> {
         read_all(alloc, self.reader(), 0)

@@ -61,6 +61,13 @@ const UNBOUND: [Row; 4] = [
     (LISTEN, START, "refused port\n", 1),
 ];
 
+/// The same with the two addresses exchanged, and with one for both.
+const EXCHANGED: [&str; 3] = [
+    "listen --name Test --start FEN --tables nothing --me 1 --bind t --to b --kept k --datagrams 2",
+    "listen --name Test --start FEN --tables nothing --me 1 --bind t --to t --kept k --datagrams 2",
+    "listen --name Test --start FEN --tables nothing --me 1 --bind b --to b --kept k --datagrams 2",
+];
+
 /// What is refused where the address can be bound: the kept file, or what it holds.
 const NO_RECORDS: [Stands<'static>; 5] = [
     Stands::Unreadable,
@@ -110,6 +117,17 @@ fn refuses_in_order_and_listens(rt: HostRuntime) {
     expect_case(&rt, rt.alloc(), true, Stands::Nothing, row);
 }
 
+/// The host has an address to bind and one to send to: no other ones are asked for, nor these two exchanged.
+#[test]
+fn binds_one_address_and_sends_to_the_other(rt: HostRuntime) {
+    for words in &EXCHANGED {
+        let row = (*words, START, "refused port\n", 1);
+        expect_case(&rt, rt.alloc(), true, Stands::Nothing, row);
+    }
+    let row = (LISTEN, START, "ok 1 none\nok 2 none\n", 0);
+    expect_case(&rt, rt.alloc(), true, Stands::Nothing, row);
+}
+
 /// That the program tells so over a record.
 fn expect_over(rt: &impl Abort, alloc: Global, bytes: &[u8], lines: &'static str, status: u8) {
     let row = (LISTEN, START, lines, status);
@@ -148,8 +166,8 @@ fn expect_told_over(rt: &impl Abort, alloc: Global, stands: Stands<'_>, row: Wri
     expect_told_at(rt, alloc, &Folders, &host, row);
 }
 
-/// Each write of the lines of a run that fails is told; there are at least eight.
+/// Each write of the lines of a run that fails is told; there is one a line, and two lines.
 #[test]
 fn tells_each_failed_write_of_a_run(rt: HostRuntime) {
-    expect_told_over(&rt, rt.alloc(), Stands::Nothing, (LISTEN, START, 8));
+    expect_told_over(&rt, rt.alloc(), Stands::Nothing, (LISTEN, START, 2));
 }

@@ -14,11 +14,15 @@ mod folders;
 #[cfg(test)]
 mod hosted_tests;
 #[cfg(test)]
+mod kept_files;
+#[cfg(test)]
 mod many_tests;
 #[cfg(test)]
 mod memory_host;
 #[cfg(test)]
 mod message_tests;
+#[cfg(test)]
+mod record_tests;
 #[cfg(test)]
 mod run_tests;
 #[cfg(test)]

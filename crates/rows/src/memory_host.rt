@@ -1,6 +1,6 @@
 //! A host in memory: a port at which datagrams wait, and a kept file.
 
-ghost use Rattle.std.specs.Prelude.{◌≡◌, ◌≤◌, IfNone};
+ghost use Rattle.std.specs.Prelude.{◌≡◌, ◌≤◌, ◌∷◌, [], map, IfNone, IsTrue};
 ghost use Rattle.system_io.specs.Failures.{Risen};
 
 use std::alloc::{AllocError, Global};
@@ -119,7 +119,13 @@ impl<'a> Stands<'a> {
     }
 }
 
-/// A host whose address can be bound if it is so said, at which these datagrams wait, and under whose paths this stands.
+/// The address that can be bound, and the one to which messages go.
+const BIND: &str = "b";
+
+const TO: &str = "t";
+
+/// A host whose address can be bound if it is so said, at which these datagrams wait, and under whose paths this stands. Another
+/// address can't be bound, and to no other one is anything sent.
 #[derive(Clone, Copy)]
 pub(crate) struct MemoryHost<'a> {
     pub(crate) is_bound: bool,
@@ -138,22 +144,36 @@ impl<'a> MemoryHost<'a> {
     }
 }
 
+/// Whether this is the only address.
+fn is_only(addresses: &[&str], address: &str) -> bool
+    ensures { IsTrue result → map (λ s. s.now) addresses.now ≡ address.now ∷ [] }
+{
+    match addresses {
+        [only] => *only == address,
+        _ => false,
+    }
+}
+
 impl<'a> Host for MemoryHost<'a> {
     type Port = WaitingPort<'a>;
 
     type File = DiskFile;
 
-    ghost use Rattle.system_io.specs.Premises.{system_host};
+    ghost use Rattle.std.specs.Prelude.{◌≡◌, ◌∷◌, [], codes, false};
+    ghost use Rattle.system_io.specs.OutputLaws.{untold};
 
-    ghost facts = { λ _. system_host };
+    // Each port that it gives is bound to the one address, and sends to the other alone.
+    ghost facts = { λ _. record { is_told = false; binds = λ address to _. (address ≡ codes "b") × (to ≡ codes "t" ∷ []); refuses = λ _ _. Unit {0}; is_at = λ _ _. Unit {0} } };
+
+    ghost one = { λ _ told. untold told };
 
     fn bind(
         &self,
         _alloc: Global,
-        _address: &str,
+        address: &str,
         to: &[&str],
     ) -> Result<WaitingPort<'a>, BindFault> {
-        if !self.is_bound {
+        if !self.is_bound || address != BIND || !is_only(to, TO) {
             return Err(BindFault::Unbound);
         }
         Ok(WaitingPort {

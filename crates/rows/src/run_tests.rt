@@ -23,9 +23,12 @@ fn names_of(alloc: Global, text: &str) -> Result<Vec<String>, AllocError> {
 }
 
 impl Disk for Memory {
+    ghost use Rattle.system_io.specs.OutputLaws.{untold};
     ghost use Rattle.system_io.specs.Premises.{system_disk};
 
     ghost facts = { λ _. system_disk };
+
+    ghost one = { λ _ told. untold told };
 
     fn names(&self, alloc: Global, folder: &str) -> Result<Vec<String>, ReadFault> {
         if folder != "tables" {
@@ -45,9 +48,12 @@ impl Disk for Memory {
 impl Source for Memory {
     type Lines = BufReader<Given<'static>, Global>;
 
+    ghost use Rattle.system_io.specs.OutputLaws.{untold};
     ghost use Rattle.system_io.specs.Premises.{system_input};
 
     ghost facts = { λ _. system_input };
+
+    ghost one = { λ _ told. untold told };
 
     fn read_to_end(&self, _alloc: Global) -> Result<Vec<u8>, ReadFault> {
         Err(ReadFault::Unreadable)

@@ -131,7 +131,7 @@ fn lists_the_moves_of_the_start_in_order(rt: HostRuntime) {
 }
 
 /// What words are read as, without its contract.
-fn parsed<'a>(alloc: Global, words: &'a [&'a str]) -> Result<Task<'a>, Usage> {
+fn parsed<'a>(alloc: Global, words: &'a [&'a str]) -> Result<Task<'a>, Usage<'a>> {
     parse(alloc, words)
 }
 
@@ -149,7 +149,7 @@ fn name_of(task: &Task<'_>, wanted: &str) -> &'static str {
 fn task_of(alloc: Global, words: &[&str], wanted: &str) -> &'static str {
     match parsed(alloc, words) {
         Ok(task) => name_of(&task, wanted),
-        Err(Usage::Misuse) => "misuse",
+        Err(Usage::Misuse(_)) => "misuse",
         Err(Usage::OutOfMemory) => "another",
     }
 }
@@ -200,15 +200,81 @@ const STATUSES: [Row; 4] = [
     ("", "", "", 2),
 ];
 
-/// That the program tells so, and its use where it ends with status 2.
+/// Words that are misused, and the line that is told of them, before the usage; nothing where they ask for help.
+const MISUSES: [(&str, &str); 24] = [
+    ("", "no command\n"),
+    ("judgge x", "no command judgge\n"),
+    ("judge", "FEN is missing\n"),
+    ("judge --help", ""),
+    ("judge x y", "unexpected argument 'y' found\n"),
+    (
+        "judge --table here x",
+        "unexpected argument '--table' found\n",
+    ),
+    ("probes", "--tables is missing\n"),
+    ("check", "--manifest is missing\n"),
+    ("check --manifest m", "DIR is missing\n"),
+    ("run --cache 5000", "--cache 5000: 1 to 4096\n"),
+    ("run --cache x --delay y", "--cache x: 1 to 4096\n"),
+    ("run --cache 1 --delay 9", "--delay 9: 0 to 8\n"),
+    (
+        "run --cache",
+        "a value is required for '--cache <cache>' but none was supplied\n",
+    ),
+    (
+        "run --delay 1 --delay 1",
+        "the argument '--delay <delay>' cannot be used multiple times\n",
+    ),
+    ("game --delay 9", "--delay 9: 0 to 8\n"),
+    ("listen --start s", "--name is missing\n"),
+    (
+        "listen --name \u{e9}",
+        "--name \u{e9}: 1 to 64 bytes from the space to the tilde\n",
+    ),
+    (
+        "listen --name n --start s --tables t --to b --kept k --me 3",
+        "--bind is missing\n",
+    ),
+    (
+        "listen --name n --start s --tables t --bind a --to b --kept k --me 3",
+        "--me 3: 1 or 2\n",
+    ),
+    (
+        "listen --name n --start s --tables t --bind a --to b --kept k --me 1",
+        "--datagrams is missing\n",
+    ),
+    (
+        "listen --name n --start s --tables t --bind a --to b --kept k --me 1 --datagrams 4294967296",
+        "--datagrams 4294967296: 0 to 4294967295\n",
+    ),
+    ("record", "FILE is missing\n"),
+    (
+        "audit --name n --start s --tables t --delay 1",
+        "FILE is missing\n",
+    ),
+    ("version now", "unexpected argument 'now' found\n"),
+];
+
+/// That words are misused, and what is told begins by this line and the usage.
+fn expect_misuse(rt: &impl Abort, alloc: Global, words: &'static str, line: &str) {
+    let mut errors = Vec::new(alloc);
+    expect_run(rt, alloc, &Folders, &mut errors, (words, "", "", 2));
+    let told = format!(in alloc; "{line}usage: adjudicate judge").expect(rt, "memory");
+    check(rt, errors.starts_with(told.as_bytes()), words);
+}
+
+#[test]
+fn tells_what_is_misused(rt: HostRuntime) {
+    for row in &MISUSES {
+        expect_misuse(&rt, rt.alloc(), row.0, row.1);
+    }
+}
+
+/// That the program tells so, and writes what is misused where it ends with status 2 alone.
 fn expect_status(rt: &impl Abort, alloc: Global, row: Row) {
     let mut errors = Vec::new(alloc);
     expect_run(rt, alloc, &Folders, &mut errors, row);
-    check(
-        rt,
-        errors.starts_with(b"usage: ") == (row.3 == 2),
-        "its use",
-    );
+    check(rt, errors.is_empty() == (row.3 != 2), "its use");
 }
 
 #[test]
@@ -223,6 +289,19 @@ fn tells_each_status_where_its_use_cannot_be_written(rt: HostRuntime) {
     for row in &STATUSES {
         expect_run(&rt, rt.alloc(), &Folders, &mut Failing::after(0), *row);
     }
+}
+
+/// The program's version, and the line of `rt version`.
+const VERSION: [Row; 1] = [(
+    "version",
+    "",
+    "adjudicate 1.0.0\nrattle-kit-13f logic dac8208d650f15bf\n",
+    0,
+)];
+
+#[test]
+fn tells_its_version(rt: HostRuntime) {
+    expect_answers(&rt, rt.alloc(), &VERSION);
 }
 
 /// The writes of the moves of the start, of a verdict, and of a refusal.

@@ -1,12 +1,15 @@
 -- What a loss of power leaves under a name, call by call.
 use Rattle.std.proofs.Common.{◌≡◌, ◌⊎◌, inl, inr, ⊎_elim, ◌++◌, ◌∷◌, ◌<◌, ◌≤◌, ℕ, [], List, Option, Some, None, Bool, true, false, cond, length, length-append, get_or, zero, suc, ◌∙◌, sym, ap, refl, subst, arith}
+use Rattle.std.specs.Prelude.{OnOk, Result, Ok, Err}
 use Rattle.std.proofs.lemmas.Bool.{cases_lt}
 use Rattle.std.proofs.lemmas.List.{get_or_past, get_or_append_left}
 use Rattle.std.proofs.Math.Seq.{get_or-append_seam}
+use Rattle.system_io.specs.declared.disk_file.Choice.{Choice}
+use Rattle.system_io.specs.declared.disk_file.Choice.TheVariants.{StaysUp, PowerLost}
 use Rattle.system_io.specs.declared.disk_file.Content.{Content}
 use Rattle.system_io.specs.declared.disk_file.DiskFile.{DiskFile}
-use Rattle.system_io.specs.KeptFiles.{IsOneOfFound}
-use Rattle.system_io.specs.PowerLosses.{HoldsBytes, HoldsSynced, IsAtRest, IsOnPlatter, LeavesOneOf, after_stop, disk_facts, left_of, seen, shown}
+use Rattle.system_io.specs.KeptFiles.{IsOneOfFound, Renamed}
+use Rattle.system_io.specs.PowerLosses.{HasReached, HoldsBytes, HoldsSynced, IsAtRest, IsLeftBy, IsOnPlatter, IsReadAfter, LeavesOneOf, RestsAfter, after_stop, disk_facts, left_of, seen, shown}
 
 abbrev pub Held : Type 0
 Held = Option Content
@@ -121,12 +124,22 @@ at_rest d rest = λ which garbage. inl (rest_left d which garbage rest)
 pub left_so : (d : DiskFile) (got : Option (List ℕ)) → IsOneOfFound (disk_facts d) got → IsAtRest d → got ≡ seen d
 left_so d got one rest = ⊎_elim (λ e. e) (λ e. e) (one (seen d) (seen d) (at_rest d rest))
 
--- what a loss of power left is one of any two of which each leaves the one or the other
-pub so_one : (d : DiskFile) (which : ℕ) (garbage : List ℕ) (got : Option (List ℕ)) → got ≡ after_stop d which garbage → IsOneOfFound (disk_facts d) got
-so_one d which garbage got is = λ a b h. subst (λ (o : Option (List ℕ)). (o ≡ a) ⊎ (o ≡ b)) (sym is) (h which garbage)
-
 -- what was to be found before a loss of power is to be found after it
 pub stopped : (d : DiskFile) (earlier : List Held) (now : Held) (which : ℕ) (bytes : List ℕ) (a b : Option (List ℕ)) → earlier ≡ [] → IsOnPlatter now → shown now ≡ after_stop d which bytes → LeavesOneOf d a b → Each earlier now a b
 stopped d earlier now which bytes a b none on left h = λ w garbage.
     let is : left_of (get_or earlier w now) garbage ≡ after_stop d which bytes = ap (λ (xs : List Held). left_of (get_or xs w now) garbage) none ∙ on_left now garbage on ∙ left in
     subst (λ (o : Option (List ℕ)). (o ≡ a) ⊎ (o ≡ b)) (sym is) (h which bytes)
+
+-- a file that was synced beside has got the name
+pub renamed_so : {E : Type 0} (result : Result (Unit {0}) E) (beside mid : Held) (e : DiskFile) → mid ≡ beside → OnOk result ((bytes : List ℕ) → HoldsSynced mid bytes → HoldsSynced e.stands bytes) → OnOk result (e.is_name_lost ≡ false) → OnOk result ((bytes : List ℕ) → HoldsSynced beside bytes → HasReached e Renamed bytes)
+renamed_so (Err fault) beside mid e same named name = tt
+renamed_so (Ok x) beside mid e same named name = λ bytes s. (named bytes (subst (λ (h : Held). HoldsSynced h bytes) (sym same) s), name)
+
+-- what is read after a loss of power is what it left
+pub read_so : (d e : DiskFile) (choice : Choice) (got : Option (List ℕ)) → IsOneOfFound (disk_facts e) got → RestsAfter choice e → IsLeftBy d choice (seen e) → IsReadAfter d choice got
+read_so d e StaysUp got one rest left = tt
+read_so d e (PowerLost which bytes beside) got one rest left = left_so e got one rest ∙ left
+
+-- one of any two that a disk leaves after a stop is one of any two that it left before
+pub kept_one : (d e : DiskFile) (got : Option (List ℕ)) → ((a b : Option (List ℕ)) → LeavesOneOf d a b → LeavesOneOf e a b) → IsOneOfFound (disk_facts e) got → IsOneOfFound (disk_facts d) got
+kept_one d e got same one = λ a b h. one a b (same a b h)

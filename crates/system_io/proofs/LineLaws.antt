@@ -35,3 +35,8 @@ line_read a c part taken stops some e = at (ends_with_byte 10 part) refl
         let within : length part - 1 < length part = omega arith in
         let none : All (λ b. b ≢ 10) part = All-of_StopsAt part 10 (length part) (get_or part (length part - 1) 0) refl (omega arith) (get_or_default part (length part - 1) 0 (get_or part (length part - 1) 0) within) other stops in
         record { piece = part; taken = taken; one = none; is = inr (refl, some, at_end a c part taken none e) }
+
+-- what is read of a known input is read too where no more is told of it
+pub if_known : (hidden : Bool) (old new line : List ℕ) → ReadsLine (Some old) (Some new) line → ReadsLine (cond hidden None (Some old)) (cond hidden None (Some new)) line
+if_known false old new line h = h
+if_known true old new line h = record { piece = h.piece; taken = tt; one = h.one; is = elim h.is [ inl p ↦ inl p | inr p ↦ inr (p.0, p.1, tt) ] }

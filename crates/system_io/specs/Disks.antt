@@ -1,5 +1,5 @@
 -- Folders and files, as they are read (this project's own).
-use Rattle.std.specs.Prelude.{ℕ, List}
+use Rattle.std.specs.Prelude.{◌≡◌, ℕ, Bool, List, IsPermutation}
 
 -- where names or bytes come from: the folder or the file at a path
 pub data Source : Type 0 where
@@ -8,12 +8,21 @@ pub data Source : Type 0 where
 
 -- what is known of a disk
 pub record DiskFacts : Type 1 where
+  -- whether it tells what stands on it
+  pub is_told : Bool
   -- the folder at this path lists these names, those apart that are no text
   pub lists : List ℕ → List (List ℕ) → Type 0
   -- the file at this path has these bytes
   pub holds : List ℕ → List ℕ → Type 0
   -- what stands there can't be read, or has more than 2^30 bytes
   pub fails : Source → Type 0
+
+-- in each folder it lists one list of names, in any order, and in each file it holds one list of bytes, where it doesn't fail
+pub record HoldsOne (disk : DiskFacts) : Type 0 where
+  pub names : (folder : List ℕ) (a b : List (List ℕ)) → disk.lists folder a → disk.lists folder b → IsPermutation a b
+  pub bytes : (path a b : List ℕ) → disk.holds path a → disk.holds path b → a ≡ b
+  pub listed : (folder : List ℕ) (names : List (List ℕ)) → disk.lists folder names → disk.fails (AtFolder folder) → ⊥
+  pub held : (path bytes : List ℕ) → disk.holds path bytes → disk.fails (AtFile path) → ⊥
 
 -- a file and the input have at most 2^30 bytes
 abbrev pub most_bytes : ℕ

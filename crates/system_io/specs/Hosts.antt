@@ -1,11 +1,20 @@
 -- Where ports and kept files are opened (this project's own).
-use Rattle.std.specs.Prelude.{ℕ, List}
+use Rattle.std.specs.Prelude.{◌≡◌, ℕ, Bool, List}
+use Rattle.system_io.specs.declared.host.BindFault.{BindFault}
 
 -- what is known of a host of such ports and files
 pub record HostFacts (P F : Type 0) : Type 1 where
+  -- whether it tells where its ports and files are
+  pub is_told : Bool
   -- the port is bound to this address and sends to those
   pub binds : List ℕ → List (List ℕ) → P → Type 0
-  -- this address can't be bound
-  pub unbound : List ℕ → Type 0
+  -- no port is bound to this address, for this reason
+  pub refuses : List ℕ → BindFault → Type 0
   -- the file is the one at this path
   pub is_at : List ℕ → F → Type 0
+
+-- a port is bound to one address and sends to one list of addresses, and a file is at one path
+pub record PlacesOne {P F : Type 0} (host : HostFacts P F) : Type 0 where
+  pub address : (port : P) (a b : List ℕ) (to others : List (List ℕ)) → host.binds a to port → host.binds b others port → a ≡ b
+  pub to : (port : P) (a b : List ℕ) (to others : List (List ℕ)) → host.binds a to port → host.binds b others port → to ≡ others
+  pub path : (file : F) (a b : List ℕ) → host.is_at a file → host.is_at b file → a ≡ b

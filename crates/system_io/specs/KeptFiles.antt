@@ -1,6 +1,7 @@
 -- How bytes come to stand under a file's name (this project's own).
 use Rattle.std.specs.Prelude.{◌≡◌, ◌⊎◌, ◌<◌, ℕ, List, length, Option, Some, None, Vec, option_map}
 use Rattle.std.specs.declared.alloc.Global.{Global}
+use Rattle.system_io.specs.declared.reading.ReadFault.{ReadFault}
 
 -- what stands under a name: its bytes, or nothing
 abbrev pub bytes_of : Option (Vec ℕ Global) → Option (List ℕ)
@@ -28,14 +29,16 @@ pub record KeptFacts : Type 1 where
   pub finds : Option (List ℕ) → Option (List ℕ) → Type 0
   -- what is read under the name is what a start finds there, also after a loss of power
   pub settled : Type 0
-  -- what stands under the name can't be brought to the disk
-  pub stuck : Type 0
-  -- it can't be read or has more than 8217 bytes
-  pub unreadable : Type 0
+  -- what stands under the name can't be brought to the disk, for this reason
+  pub cannot_settle : ReadFault → Type 0
+  -- it can't be read, or has more than 8217 bytes; or memory for a copy may be refused
+  pub cannot_read : ReadFault → Type 0
+  -- how often a call has failed; a read, which changes nothing, isn't counted
+  pub faults : ℕ
 
--- what stands under the name can't be brought to the disk, or can't be read or has more than 8217 bytes
-abbrev pub CannotStart : KeptFacts → Type 0
-CannotStart file = file.stuck ⊎ file.unreadable
+-- what stands under the name can't be brought to the disk or read, for this reason
+abbrev pub CannotStart : KeptFacts → ReadFault → Type 0
+CannotStart file fault = file.cannot_settle fault ⊎ file.cannot_read fault
 
 -- what every start finds is one of any two of which each start finds the one or the other
 abbrev pub FindsOne : KeptFacts → Type 0

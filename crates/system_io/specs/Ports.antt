@@ -1,5 +1,6 @@
 -- What passes at a port (this project's own).
-use Rattle.std.specs.Prelude.{◌≡◌, ◌++◌, ◌≤◌, ℕ, zero, suc, List, [], ◌∷◌, Option, Some, None}
+use Rattle.std.specs.Prelude.{◌≡◌, ◌++◌, ◌≤◌, ℕ, zero, suc, List, [], ◌∷◌, Option}
+pub use Rattle.system_io.specs.Histories.{Passes}
 
 pub data Passing : Type 0 where
   -- a datagram came; these are its first 64 bytes
@@ -17,13 +18,6 @@ pub record PortFacts : Type 0 where
   pub passed : Option (List Passing)
   pub faults : ℕ
   pub addresses : ℕ
-
--- where a port tells what has passed, this came after all that it told before
-abbrev pub Passes : Option (List Passing) → Option (List Passing) → List Passing → Type 0
-Passes None None more = Unit {0}
-Passes (Some old) None more = Unit {0}
-Passes None (Some new) more = ⊥
-Passes (Some old) (Some new) more = new ≡ old ++ more
 
 -- a datagram is handed over for each of so many addresses, once and in their order
 unfoldable pub to_each : ℕ → List ℕ → List Passing

@@ -1,9 +1,13 @@
 -- A disk that loses power, and what a start then finds under a name (this project's own).
-use Rattle.std.specs.Prelude.{◌≡◌, ◌⊎◌, ◌-◌, ℕ, true, false, cond, List, [], length, Option, Some, None, slice_index_or}
+use Rattle.std.specs.Prelude.{◌≡◌, ◌⊎◌, ◌-◌, ℕ, true, false, cond, List, [], length, Option, Some, None, IsSome, slice_index_or}
+use Rattle.system_io.specs.declared.disk_file.Choice.{Choice}
+use Rattle.system_io.specs.declared.disk_file.Choice.TheVariants.{StaysUp, PowerLost}
 use Rattle.system_io.specs.declared.disk_file.Content.{Content}
 use Rattle.system_io.specs.declared.disk_file.DiskFile.{DiskFile}
 use Rattle.system_io.specs.declared.disk_file.Outcome.{Outcome}
 use Rattle.system_io.specs.declared.disk_file.Outcome.TheVariants.{Good}
+use Rattle.system_io.specs.declared.reading.ReadFault.{ReadFault}
+use Rattle.system_io.specs.declared.reading.ReadFault.TheVariants.{Unreadable, OutOfMemory}
 use Rattle.system_io.specs.KeptFiles.{IsLong, KeptFacts, Stage, Written, Synced, Renamed}
 
 -- ---- what the system shows, and what the platter holds
@@ -47,11 +51,11 @@ pub record HoldsSynced (held : Option Content) (bytes : List ℕ) : Type 0 where
   pub bytes_are : content.bytes.items ≡ bytes
   pub synced : content.is_synced ≡ true
 
--- how far bytes have come
+-- how far bytes have come; a file whose name a sync of the folder has lost counts as one that has not got it
 abbrev pub HasReached : DiskFile → Stage → List ℕ → Type 0
 HasReached d Written bytes = HoldsBytes d.beside bytes
 HasReached d Synced bytes = HoldsSynced d.beside bytes
-HasReached d Renamed bytes = HoldsSynced d.stands bytes
+HasReached d Renamed bytes = HoldsSynced d.stands bytes × (d.is_name_lost ≡ false)
 
 -- what is read under the name is what every loss of power leaves there
 abbrev pub IsLasting : DiskFile → Type 0
@@ -76,14 +80,37 @@ IsSpoilt (Some c) = (c.is_spoiled ≡ true) × (c.is_synced ≡ false)
 abbrev pub next_of : List Outcome → Outcome
 next_of outcomes = slice_index_or outcomes (length outcomes - 1) Good
 
--- what stands under the name can't be brought to the platter, or the next call fails
-abbrev pub IsStuck : DiskFile → Type 0
-IsStuck d = IsSpoilt d.stands ⊎ (next_of d.outcomes.items ≡ Good → ⊥)
+-- what stands under the name, or the name, can't be brought to the platter any more
+abbrev pub IsLost : DiskFile → Type 0
+IsLost d = IsSpoilt d.stands ⊎ (d.is_name_lost ≡ true)
 
--- the disk gives nothing, or what stands under the name is too long
-abbrev pub CannotBeRead : DiskFile → Type 0
-CannotBeRead d = (d.reads_fail ≡ true) ⊎ IsLong (seen d)
+-- it can't be brought to the platter any more, or the next call fails; no memory is taken
+abbrev pub IsStuck : DiskFile → ReadFault → Type 0
+IsStuck d Unreadable = IsLost d ⊎ (next_of d.outcomes.items ≡ Good → ⊥)
+IsStuck d OutOfMemory = ⊥
+
+-- the disk gives nothing, or what stands under the name is too long; memory is taken where a file stands there
+abbrev pub CannotBeRead : DiskFile → ReadFault → Type 0
+CannotBeRead d Unreadable = (d.reads_fail ≡ true) ⊎ IsLong (seen d)
+CannotBeRead d OutOfMemory = IsSome (seen d)
 
 -- what the kept file on a disk tells of itself
 abbrev pub disk_facts : DiskFile → KeptFacts
-disk_facts d = record { reached = HasReached d; finds = LeavesOneOf d; settled = IsLasting d; stuck = IsStuck d; unreadable = CannotBeRead d }
+disk_facts d = record { reached = HasReached d; finds = LeavesOneOf d; settled = IsLasting d; cannot_settle = IsStuck d; cannot_read = CannotBeRead d; faults = d.failures }
+
+-- ---- how a run ends
+
+-- this stands under the name after a stop
+abbrev pub IsLeftBy : DiskFile → Choice → Option (List ℕ) → Type 0
+IsLeftBy d StaysUp left = left ≡ seen d
+IsLeftBy d (PowerLost which bytes beside) left = left ≡ after_stop d which bytes.items
+
+-- after a loss of power the folder and what stands under the name are on the platter
+abbrev pub RestsAfter : Choice → DiskFile → Type 0
+RestsAfter StaysUp d = Unit {0}
+RestsAfter (PowerLost which bytes beside) d = IsAtRest d
+
+-- after a loss of power what it left is read
+abbrev pub IsReadAfter : DiskFile → Choice → Option (List ℕ) → Type 0
+IsReadAfter d StaysUp got = Unit {0}
+IsReadAfter d (PowerLost which bytes beside) got = got ≡ after_stop d which bytes.items

@@ -1,36 +1,50 @@
 -- What is trusted of the system: for each of its own disks, inputs, outputs, ports, files and hosts what a proof knows of it. The
 -- standard library claims nothing of what the system's calls do, so each says only that the system is asked.
-use Rattle.std.specs.Prelude.{◌≡◌, ℕ, true, List, ◌∷◌, Option, None}
+use Rattle.std.specs.Prelude.{◌≡◌, ℕ, Bool, true, false, List, [], ◌∷◌, Option, None}
 use Rattle.system_io.specs.Disks.{DiskFacts}
+use Rattle.system_io.specs.FileCalls.{CallFacts}
 use Rattle.system_io.specs.Inputs.{InputFacts}
+use Rattle.system_io.specs.LineReaders.{LineFacts}
 use Rattle.system_io.specs.Outputs.{OutputFacts}
 use Rattle.system_io.specs.Ports.{PortFacts}
+use Rattle.system_io.specs.declared.system_file.SystemCalls.{SystemCalls}
 use Rattle.system_io.specs.declared.traced_file.Traced.{Traced}
+use Rattle.system_io.specs.declared.udp_port.UdpPort.{UdpPort}
 use Rattle.system_io.specs.Traces.{IsAmong}
 use Rattle.system_io.specs.Hosts.{HostFacts}
+use Rattle.system_io.specs.Places.{IsAtPath, IsBound}
 
 -- DISK: the names of a folder and the bytes of a file are those that the system tells, and what it refuses can't be read
 abbrev pub system_disk : DiskFacts
-system_disk = record { lists = λ _ _. Unit {0}; holds = λ _ _. Unit {0}; fails = λ _. Unit {0} }
+system_disk = record { is_told = false; lists = λ _ _. Unit {0}; holds = λ _ _. Unit {0}; fails = λ _. Unit {0} }
 
--- INPUT: the bytes of standard input are those that the system tells
+-- INPUT: the bytes of standard input are those that the system tells, and an input that it refuses can't be read
 abbrev pub system_input : InputFacts
-system_input = record { gives = λ _. Unit {0}; fails = Unit {0} }
+system_input = record { is_told = false; gives = λ _. Unit {0}; fails = Unit {0} }
 
--- OUTPUT: what no longer waits in the writer's buffer was handed to the system, and so has gone out
-abbrev pub system_output : Type 0 → OutputFacts
-system_output is_empty = record { gone = is_empty; stuck = Unit {0} }
+-- LINES: an input of which a read was refused can't be read to its end
+abbrev pub system_lines : Option (List ℕ) → List ℕ → LineFacts
+system_lines left ahead = record { left = left; ahead = ahead; fails = Unit {0} }
+
+-- OUTPUT: what no longer waits in the buffer was given to the system, and so has gone out; any write may be refused
+abbrev pub system_output : List ℕ → Bool → OutputFacts
+system_output waiting is_stuck = record { gone = (waiting ≡ []) × (is_stuck ≡ false); stuck = is_stuck ≡ true; refuses = Unit {0} }
 
 -- DATAGRAMS: what the socket receives came, and what is handed to it is on its way to each address; how often a call failed and to
 -- how many addresses it sends is counted
 abbrev pub system_port : ℕ → ℕ → PortFacts
 system_port faults addresses = record { passed = None; faults = faults; addresses = addresses }
 
+-- CALLS: a read or a sync that the system refuses can't be done, and where it tells that memory was refused, memory was refused
+abbrev pub system_calls : CallFacts
+system_calls = record { made = None; fails = λ _. Unit {0} }
+
 -- KEPT FILE: a start reads under the name one of those that, by the calls that the run before it made and by their answers, may
 -- stand there: what was read when that run began, or a record that was to take the name since the folder was last synced
 pub record IsAsTold {C : Type 0} (left : Traced C) (read : Option (List ℕ)) : Type 0 where
   pub among : left.is_known ≡ true → IsAmong read (left.stands ∷ left.earlier.items)
 
--- HOST: a port is bound where the system binds it, and a file is the one at its path
-abbrev pub system_host : {P F : Type 0} → HostFacts P F
-system_host = record { binds = λ _ _ _. Unit {0}; unbound = λ _. Unit {0}; is_at = λ _ _. Unit {0} }
+-- HOST: a socket that was made for an address is bound to it, and the calls for a path are made at that path; an address that the
+-- system refuses can't be bound, and where it tells that memory was refused, memory was refused
+abbrev pub system_host : {X Y Z : Type 0} → HostFacts UdpPort (Traced (SystemCalls X Y Z))
+system_host = record { is_told = true; binds = IsBound; refuses = λ _ _. Unit {0}; is_at = IsAtPath }

@@ -1,24 +1,38 @@
 -- What the calls that were made of a file, and their answers, say of it (this project's own). Nothing is claimed of the file.
-use Rattle.std.specs.Prelude.{◌≡◌, ◌⊎◌, ℕ, true, List, [], ◌∷◌, Option, Some, Vec}
+use Rattle.std.specs.Prelude.{◌≡◌, ◌⊎◌, ℕ, true, false, List, [], ◌∷◌, Option, Some, IfSome, IsSome, Vec}
 use Rattle.std.specs.List.{AllByRecursion}
 use Rattle.std.specs.declared.alloc.Global.{Global}
+use Rattle.system_io.specs.declared.reading.ReadFault.{ReadFault}
+use Rattle.system_io.specs.declared.reading.ReadFault.TheVariants.{Unreadable, OutOfMemory}
 use Rattle.system_io.specs.declared.traced_file.Traced.{Traced}
 use Rattle.system_io.specs.declared.traced_file.Reach.TheVariants as reach
+use Rattle.system_io.specs.FileCalls.{CallFacts, FindsBy, IsEither, Wrote, SyncedFile}
+use Rattle.system_io.specs.FileCalls as made
+use Rattle.system_io.specs.Histories.{EndsWith}
 use Rattle.system_io.specs.KeptFiles.{IsLong, KeptFacts, Stage, Written, Synced, Renamed, bytes_of}
 
 -- bytes that the file keeps
 abbrev pub Bytes : Type 0
 Bytes = Vec ℕ Global
 
+-- the calls that a file makes
+abbrev pub calls_in : {C : Type 0} → Traced C → C
+calls_in t = t.calls
+
 -- what may stand there is the one or the other
 abbrev pub IsOneOf : Option (List ℕ) → Option (List ℕ) → Option Bytes → Type 0
-IsOneOf a b o = (bytes_of o ≡ a) ⊎ (bytes_of o ≡ b)
+IsOneOf a b o = IsEither a b (bytes_of o)
+
+-- all that may stand there is the one or the other
+pub record AreOneOf (a b : Option (List ℕ)) (stands : Option Bytes) (earlier : List (Option Bytes)) : Type 0 where
+  pub now : IsOneOf a b stands
+  pub before : AllByRecursion (IsOneOf a b) earlier
 
 -- by the calls and their answers it is known what may stand under the name, and that is the one or the other
-pub record SaysOneOf {C : Type 0} (t : Traced C) (a b : Option (List ℕ)) : Type 0 where
+pub record SaysOneOf {C : Type 0} (facts : C → CallFacts) (t : Traced C) (a b : Option (List ℕ)) : Type 0 where
   pub known : t.is_known ≡ true
-  pub stands : IsOneOf a b t.stands
-  pub earlier : AllByRecursion (IsOneOf a b) t.earlier.items
+  pub names : AreOneOf a b t.stands t.earlier.items
+  pub by_calls : IfSome (facts t.calls).made (FindsBy a b)
 
 -- these bytes are there
 pub record HasBytes (o : Option Bytes) (bytes : List ℕ) : Type 0 where
@@ -26,22 +40,31 @@ pub record HasBytes (o : Option Bytes) (bytes : List ℕ) : Type 0 where
   pub is : o ≡ Some v
   pub items : v.items ≡ bytes
 
--- by the calls and their answers these bytes have come so far
-abbrev pub SaysReached : {C : Type 0} → Traced C → Stage → List ℕ → Type 0
-SaysReached t Written bytes = HasBytes t.written bytes × (t.reach ≡ reach.Written)
-SaysReached t Synced bytes = HasBytes t.written bytes × (t.reach ≡ reach.Synced)
-SaysReached t Renamed bytes = HasBytes t.stands bytes × (t.reach ≡ reach.Renamed) × (t.is_known ≡ true)
+-- by the calls and their answers these bytes have come so far; where the calls are told, the last of them brought them there
+abbrev pub SaysReached : {C : Type 0} → (C → CallFacts) → Traced C → Stage → List ℕ → Type 0
+SaysReached facts t Written bytes = HasBytes t.written bytes × (t.reach ≡ reach.Written) × EndsWith (facts t.calls).made (Wrote bytes ∷ [])
+SaysReached facts t Synced bytes = HasBytes t.written bytes × (t.reach ≡ reach.Synced) × EndsWith (facts t.calls).made (Wrote bytes ∷ SyncedFile ∷ [])
+SaysReached facts t Renamed bytes = HasBytes t.stands bytes × (t.reach ≡ reach.Renamed) × (t.is_known ≡ true) × EndsWith (facts t.calls).made (Wrote bytes ∷ SyncedFile ∷ made.Renamed ∷ [])
 
 -- by the calls and their answers nothing but what was read may stand under the name
-pub record SaysSettled {C : Type 0} (t : Traced C) : Type 0 where
-  pub known : t.is_known ≡ true
-  pub alone : t.earlier.items ≡ []
+abbrev pub SaysSettled : {C : Type 0} → (C → CallFacts) → Traced C → Type 0
+SaysSettled facts t = SaysOneOf facts t (bytes_of t.stands) (bytes_of t.stands)
+
+-- a file that took the name may not have it for good; or what stands there is another than what is known; or a call fails
+abbrev pub CannotSettle : {C : Type 0} → (C → CallFacts) → Traced C → ReadFault → Type 0
+CannotSettle facts t Unreadable = ((t.earlier.items ≡ [] → ⊥) ⊎ (t.is_known ≡ true)) ⊎ (facts t.calls).fails Unreadable
+CannotSettle facts t OutOfMemory = (facts t.calls).fails OutOfMemory
+
+-- it has more bytes than are kept; memory is taken where a file stands there, or may stand there
+abbrev pub CannotCopy : {C : Type 0} → Traced C → ReadFault → Type 0
+CannotCopy t Unreadable = IsLong (bytes_of t.stands)
+CannotCopy t OutOfMemory = IsSome t.stands ⊎ (t.is_known ≡ false)
 
 -- this was read, and it is one of these
 abbrev pub IsAmong : Option (List ℕ) → List (Option Bytes) → Type 0
 IsAmong read [] = ⊥
 IsAmong read (o ∷ os) = (read ≡ bytes_of o) ⊎ IsAmong read os
 
--- what a file tells of itself by the calls and their answers; why the system refuses a call is not known
-abbrev pub told_of : {C : Type 0} → Traced C → KeptFacts
-told_of t = record { reached = SaysReached t; finds = SaysOneOf t; settled = SaysSettled t; stuck = Unit {0}; unreadable = IsLong (bytes_of t.stands) }
+-- what a file tells of itself by the calls and their answers
+abbrev pub told_of : {C : Type 0} → (C → CallFacts) → Traced C → KeptFacts
+told_of facts t = record { reached = SaysReached facts t; finds = SaysOneOf facts t; settled = SaysSettled facts t; cannot_settle = CannotSettle facts t; cannot_read = CannotCopy t; faults = t.failures }

@@ -1,7 +1,7 @@
 //! Folders and files, as they are read.
 
-ghost use Rattle.std.specs.Prelude.{◌≤◌, length, map, string_bytes, IfOk, IsErrOf};
-ghost use Rattle.system_io.specs.Disks.{DiskFacts, AtFile, AtFolder, most_bytes};
+ghost use Rattle.std.specs.Prelude.{◌≡◌, ◌≤◌, true, length, map, string_bytes, IfOk, IsErrOf};
+ghost use Rattle.system_io.specs.Disks.{DiskFacts, AtFile, AtFolder, HoldsOne, most_bytes};
 
 use crate::reading::ReadFault;
 use std::alloc::Global;
@@ -21,4 +21,7 @@ pub trait Disk {
         ensures bytes { IfOk result (λ bytes. (facts self.now).holds path.now bytes.items) }
         ensures short { IfOk result (λ bytes. length bytes.items ≤ most_bytes) }
         ensures cause { IsErrOf result ReadFault.Unreadable → (facts self.now).fails (AtFile path.now) };
+
+    /// A disk that tells what stands on it tells one thing of each folder and of each file.
+    ghost one: { (d : Self) → (facts d).is_told ≡ true → HoldsOne (facts d) };
 }

@@ -1,8 +1,10 @@
 //! A file in memory, on a disk that loses power and whose calls fail as they are told to.
 
-ghost use Rattle.std.specs.Prelude.{◌≡◌, ℕ, [], List, slice_index_or, Option, Some, true, false, IsTrue, IfOk, OnOk, IsErr};
+ghost use Rattle.std.specs.Prelude.{◌≡◌, ℕ, [], List, slice_index_or, Option, Some, true, false, IsTrue, IfOk, IfErr, OnOk};
+ghost use Rattle.system_io.specs.Failures.{Counts, Risen};
 ghost use Rattle.system_io.specs.KeptFiles.{IsOneOfFound, bytes_of};
-ghost use Rattle.system_io.specs.PowerLosses.{HoldsBytes, HoldsSynced, IsAtRest, IsOnPlatter, IsSpoilt, LeavesOneOf, after_stop, disk_facts, left_of, next_of, seen, shown};
+ghost use Rattle.system_io.specs.declared.reading.ReadFault.TheVariants.{Unreadable};
+ghost use Rattle.system_io.specs.PowerLosses.{HoldsBytes, HoldsSynced, IsAtRest, IsLeftBy, IsLost, IsOnPlatter, IsReadAfter, IsSpoilt, LeavesOneOf, RestsAfter, after_stop, disk_facts, left_of, next_of, seen, shown};
 
 use crate::kept_file::{KeptFile, MOST_KEPT_BYTES, begin};
 use crate::reading::ReadFault;
@@ -25,32 +27,41 @@ pub enum Outcome {
     Good,
     /// It fails, and nothing is done.
     Before,
-    /// It fails in the middle: so many bytes are written, or the sync has lost bytes that it was to bring to the platter.
+    /// It fails in the middle: so many bytes are written, or the sync has lost bytes, or a name, that it was to bring to the
+    /// platter.
     Halfway(usize),
     /// All is done, and yet it says that it failed.
     After,
 }
 
-/// What a loss of power makes of a disk: which of the files that may have the name has it, what is left of one that isn't
-/// synced, what lies beside it, and what comes of the calls after it.
+/// How a run ends, and what that makes of the disk.
 #[derive(Drop)]
-pub struct Choice {
-    pub which: usize,
-    pub bytes: Vec<u8>,
-    pub beside: Option<Vec<u8>>,
+pub enum Choice {
+    /// The process stops, and the system goes on.
+    StaysUp,
+    /// The power is lost: which of the files that may have the name has it, what is left of one that isn't synced, and what lies
+    /// beside it.
+    PowerLost {
+        which: usize,
+        bytes: Vec<u8>,
+        beside: Option<Vec<u8>>,
+    },
 }
 
 /// A name on a disk, and a file beside it. What has the name as the system shows it, what had it before at some time since the
-/// folder was synced (after a loss of power each of them may have it), the file beside, and what comes of the next calls, the
-/// last of the list first; calls past its end are good.
+/// folder was synced (after a loss of power each of them may have it), whether a sync of the folder has failed since the name was
+/// last given, after which no later one brings it to the platter, the file beside, and what comes of the next calls, the last of
+/// the list first; calls past its end are good. How often a call has failed is counted.
 #[derive(Drop)]
 pub struct DiskFile {
     alloc: Global,
     stands: Option<Content>,
     earlier: Vec<Option<Content>>,
+    is_name_lost: bool,
     beside: Option<Content>,
     outcomes: Vec<Outcome>,
     reads_fail: bool,
+    failures: u64,
 }
 
 /// The error of a call that fails.
@@ -66,6 +77,18 @@ fn on_platter(bytes: Vec<u8>) -> Content
     Content {
         bytes,
         is_synced: true,
+        is_spoiled: false,
+    }
+}
+
+/// A file whose bytes are written, and not on the platter yet.
+fn written(bytes: Vec<u8>) -> Content
+    ensures bytes { result.bytes.items ≡ bytes.items }
+    ensures whole { result.is_spoiled ≡ false }
+{
+    Content {
+        bytes,
+        is_synced: false,
         is_spoiled: false,
     }
 }
@@ -150,18 +173,34 @@ impl DiskFile {
             alloc,
             stands,
             earlier: Vec::new(alloc),
+            is_name_lost: false,
             beside: None,
             outcomes,
             reads_fail,
+            failures: 0,
         }
+    }
+
+    /// Counts a failure, and gives back why a call failed.
+    fn fail<E>(&mut self, why: E) -> E
+        ensures why { result ≡ why }
+        ensures risen { Risen self.old.failures self.new.failures }
+        ensures stands { self.new.stands ≡ self.old.stands }
+        ensures earlier { self.new.earlier ≡ self.old.earlier }
+        ensures reads { self.new.reads_fail ≡ self.old.reads_fail }
+    {
+        self.failures = self.failures.saturating_add(1);
+        why
     }
 
     /// What comes of the next call.
     fn next(&mut self) -> Outcome
         ensures stands { self.new.stands ≡ self.old.stands }
         ensures earlier { self.new.earlier ≡ self.old.earlier }
+        ensures name { self.new.is_name_lost ≡ self.old.is_name_lost }
         ensures beside { self.new.beside ≡ self.old.beside }
         ensures reads { self.new.reads_fail ≡ self.old.reads_fail }
+        ensures failures { self.new.failures ≡ self.old.failures }
         ensures outcome { result ≡ next_of self.old.outcomes.items }
     {
         match self.outcomes.pop() {
@@ -175,17 +214,14 @@ impl DiskFile {
         ensures written { OnOk result (HoldsBytes self.new.beside bytes.now) }
         ensures stands { self.new.stands ≡ self.old.stands }
         ensures earlier { self.new.earlier ≡ self.old.earlier }
+        ensures count { Counts result self.old.failures self.new.failures }
     {
         match Vec::from_slice(self.alloc, bytes) {
             Ok(copy) => {
-                self.beside = Some(Content {
-                    bytes: copy,
-                    is_synced: false,
-                    is_spoiled: false,
-                });
+                self.beside = Some(written(copy));
                 Ok(())
             }
-            Err(_) => Err(io::Error::from(io::ErrorKind::OutOfMemory)),
+            Err(_) => Err(self.fail(io::Error::from(io::ErrorKind::OutOfMemory))),
         }
     }
 
@@ -194,13 +230,14 @@ impl DiskFile {
         ensures synced { OnOk result ((bytes : List ℕ) → HoldsBytes self.old.beside bytes → HoldsSynced self.new.beside bytes) }
         ensures stands { self.new.stands ≡ self.old.stands }
         ensures earlier { self.new.earlier ≡ self.old.earlier }
+        ensures count { Counts result self.old.failures self.new.failures }
     {
         match self.beside.take() {
             Some(content) => {
                 self.beside = Some(synced(content));
                 Ok(())
             }
-            None => Err(io::Error::from(io::ErrorKind::NotFound)),
+            None => Err(self.fail(io::Error::from(io::ErrorKind::NotFound))),
         }
     }
 
@@ -208,6 +245,7 @@ impl DiskFile {
     fn spoil(&mut self)
         ensures stands { self.new.stands ≡ self.old.stands }
         ensures earlier { self.new.earlier ≡ self.old.earlier }
+        ensures failures { self.new.failures ≡ self.old.failures }
     {
         if let Some(content) = self.beside.take() {
             self.beside = Some(Content {
@@ -221,31 +259,38 @@ impl DiskFile {
     /// Gives the file beside the name.
     fn give_name(&mut self) -> io::Result<()>
         ensures renamed { OnOk result ((bytes : List ℕ) → HoldsSynced self.old.beside bytes → HoldsSynced self.new.stands bytes) }
+        ensures name { OnOk result (self.new.is_name_lost ≡ false) }
         ensures either { (old : Option (List ℕ)) (bytes : List ℕ) → LeavesOneOf self.old old old → HoldsSynced self.old.beside bytes → LeavesOneOf self.new old (Some bytes) }
+        ensures count { Counts result self.old.failures self.new.failures }
     {
         match self.beside.take() {
             Some(content) => match self.earlier.push(self.stands.take()) {
                 Ok(()) => {
                     self.stands = Some(content);
+                    self.is_name_lost = false;
                     Ok(())
                 }
                 Err(refused) => {
                     self.stands = refused.value;
                     self.beside = Some(content);
-                    Err(io::Error::from(io::ErrorKind::OutOfMemory))
+                    Err(self.fail(io::Error::from(io::ErrorKind::OutOfMemory)))
                 }
             },
-            None => Err(io::Error::from(io::ErrorKind::NotFound)),
+            None => Err(self.fail(io::Error::from(io::ErrorKind::NotFound))),
         }
     }
 
-    /// Lets the names reach the platter: what had the name before can't have it again.
+    /// Lets the names reach the platter: what had the name before can't have it again. Where a sync has lost the name, none does.
     fn sync_names(&mut self)
-        ensures names { self.new.earlier.items ≡ [] }
+        ensures names { self.old.is_name_lost ≡ false → self.new.earlier.items ≡ [] }
         ensures stands { self.new.stands ≡ self.old.stands }
         ensures reads { self.new.reads_fail ≡ self.old.reads_fail }
+        ensures failures { self.new.failures ≡ self.old.failures }
+        ensures same { (a b : Option (List ℕ)) → LeavesOneOf self.old a b → LeavesOneOf self.new a b }
     {
-        self.earlier.clear();
+        if !self.is_name_lost {
+            self.earlier.clear();
+        }
     }
 
     /// Brings what stands under the name, and the name, to the platter.
@@ -254,13 +299,17 @@ impl DiskFile {
         ensures seen { seen self.new ≡ seen self.old }
         ensures reads { self.new.reads_fail ≡ self.old.reads_fail }
         ensures same { (a b : Option (List ℕ)) → LeavesOneOf self.old a b → LeavesOneOf self.new a b }
-        ensures cause { IsErr result → IsSpoilt self.old.stands }
+        ensures cause { IfErr result (λ fault. (fault ≡ Unreadable) × IsLost self.old) }
+        ensures count { Counts result self.old.failures self.new.failures }
     {
+        if self.is_name_lost {
+            return Err(self.fail(ReadFault::Unreadable));
+        }
         match self.stands.take() {
             Some(standing) => {
                 if is_lost(&standing) {
                     self.stands = Some(standing);
-                    return Err(ReadFault::Unreadable);
+                    return Err(self.fail(ReadFault::Unreadable));
                 }
                 self.stands = Some(on_platter(standing.bytes));
                 self.sync_names();
@@ -274,24 +323,21 @@ impl DiskFile {
     }
 
     /// The disk after a loss of power, and after it was started again.
-    pub fn stop(self, choice: Choice) -> DiskFile
-        ensures left { seen result ≡ after_stop self choice.which choice.bytes.items }
+    fn lose_power(self, which: usize, bytes: Vec<u8>, beside: Option<Vec<u8>>) -> DiskFile
+        ensures left { seen result ≡ after_stop self which bytes.items }
         ensures rest { IsAtRest result }
-        ensures same { (a b : Option (List ℕ)) → (disk_facts self).finds a b → (disk_facts result).finds a b }
+        ensures same { (a b : Option (List ℕ)) → LeavesOneOf self a b → LeavesOneOf result a b }
     {
         let DiskFile {
             alloc,
             stands,
             earlier,
+            is_name_lost: _is_name_lost,
             beside: _beside,
             outcomes,
             reads_fail,
+            failures,
         } = self;
-        let Choice {
-            which,
-            bytes,
-            beside,
-        } = choice;
         let stands = lasting(named(earlier, which, stands), bytes);
         let beside = match beside {
             Some(bytes) => Some(on_platter(bytes)),
@@ -301,21 +347,39 @@ impl DiskFile {
             alloc,
             stands,
             earlier: Vec::new(alloc),
+            is_name_lost: false,
             beside,
             outcomes,
             reads_fail,
+            failures,
+        }
+    }
+
+    /// The disk as the next run finds it.
+    pub fn stop(self, choice: Choice) -> DiskFile
+        ensures left { IsLeftBy self choice (seen result) }
+        ensures rest { RestsAfter choice result }
+        ensures same { (a b : Option (List ℕ)) → (disk_facts self).finds a b → (disk_facts result).finds a b }
+    {
+        match choice {
+            Choice::StaysUp => self,
+            Choice::PowerLost {
+                which,
+                bytes,
+                beside,
+            } => self.lose_power(which, bytes, beside),
         }
     }
 }
 
-/// What a start reads after a loss of power: what that leaves under the name, and so one of any two of which the disk says that
-/// each start finds the one or the other.
+/// What a start reads after a stop: after a loss of power what that leaves under the name. It is one of any two of which the disk
+/// says that each start finds the one or the other.
 pub fn read_after(
     alloc: Global,
     disk: DiskFile,
     choice: Choice,
 ) -> Result<Option<Vec<u8>>, ReadFault>
-    ensures left { IfOk result (λ got. bytes_of got ≡ after_stop disk choice.which choice.bytes.items) }
+    ensures left { IfOk result (λ got. IsReadAfter disk choice (bytes_of got)) }
     ensures one { IfOk result (λ got. IsOneOfFound (disk_facts disk) (bytes_of got)) }
 {
     let mut started = disk.stop(choice);
@@ -333,7 +397,9 @@ impl KeptFile for DiskFile {
     fn settle(&mut self) -> Result<(), ReadFault> {
         match self.next() {
             Outcome::Good => self.settle_now(),
-            Outcome::Before | Outcome::Halfway(_) | Outcome::After => Err(ReadFault::Unreadable),
+            Outcome::Before | Outcome::Halfway(_) | Outcome::After => {
+                Err(self.fail(ReadFault::Unreadable))
+            }
         }
     }
 
@@ -358,14 +424,14 @@ impl KeptFile for DiskFile {
     fn write_beside(&mut self, bytes: &[u8]) -> io::Result<()> {
         match self.next() {
             Outcome::Good => self.put_beside(bytes),
-            Outcome::Before => Err(failed()),
+            Outcome::Before => Err(self.fail(failed())),
             Outcome::Halfway(count) => {
                 self.put_beside(&bytes[..count.min(bytes.len())])?;
-                Err(failed())
+                Err(self.fail(failed()))
             }
             Outcome::After => {
                 self.put_beside(bytes)?;
-                Err(failed())
+                Err(self.fail(failed()))
             }
         }
     }
@@ -373,14 +439,14 @@ impl KeptFile for DiskFile {
     fn sync_beside(&mut self) -> io::Result<()> {
         match self.next() {
             Outcome::Good => self.sync_bytes(),
-            Outcome::Before => Err(failed()),
+            Outcome::Before => Err(self.fail(failed())),
             Outcome::Halfway(_) => {
                 self.spoil();
-                Err(failed())
+                Err(self.fail(failed()))
             }
             Outcome::After => {
                 self.sync_bytes()?;
-                Err(failed())
+                Err(self.fail(failed()))
             }
         }
     }
@@ -388,10 +454,10 @@ impl KeptFile for DiskFile {
     fn rename(&mut self) -> io::Result<()> {
         match self.next() {
             Outcome::Good => self.give_name(),
-            Outcome::Before | Outcome::Halfway(_) => Err(failed()),
+            Outcome::Before | Outcome::Halfway(_) => Err(self.fail(failed())),
             Outcome::After => {
                 self.give_name()?;
-                Err(failed())
+                Err(self.fail(failed()))
             }
         }
     }
@@ -402,10 +468,14 @@ impl KeptFile for DiskFile {
                 self.sync_names();
                 Ok(())
             }
-            Outcome::Before | Outcome::Halfway(_) => Err(failed()),
+            Outcome::Before => Err(self.fail(failed())),
+            Outcome::Halfway(_) => {
+                self.is_name_lost = true;
+                Err(self.fail(failed()))
+            }
             Outcome::After => {
                 self.sync_names();
-                Err(failed())
+                Err(self.fail(failed()))
             }
         }
     }

@@ -1,7 +1,7 @@
 //! Where ports and kept files are opened.
 
-ghost use Rattle.std.specs.Prelude.{◌≡◌, length, map, IfOk, IsErrOf};
-ghost use Rattle.system_io.specs.Hosts.{HostFacts};
+ghost use Rattle.std.specs.Prelude.{◌≡◌, true, length, map, IfErr, IfOk};
+ghost use Rattle.system_io.specs.Hosts.{HostFacts, PlacesOne};
 
 use crate::kept_file::KeptFile;
 use crate::port::Port;
@@ -47,9 +47,12 @@ pub trait Host {
     fn bind(&self, alloc: Global, address: &str, to: &[&str]) -> Result<Self::Port, BindFault>
         ensures bound { IfOk result ((facts self.now).binds address.now (map (λ s. s.now) to.now)) }
         ensures each { IfOk result (λ port. (Self.Port.facts port).addresses ≡ length to.now) }
-        ensures cause { IsErrOf result BindFault.Unbound → (facts self.now).unbound address.now };
+        ensures cause { IfErr result ((facts self.now).refuses address.now) };
 
     /// The file at a path, which may not be there yet.
     fn file(&self, alloc: Global, path: &str) -> Result<Self::File, AllocError>
         ensures { IfOk result ((facts self.now).is_at path.now) };
+
+    /// A host that tells where its ports and files are tells one place of each.
+    ghost one: { (h : Self) → (facts h).is_told ≡ true → PlacesOne (facts h) };
 }

@@ -1,8 +1,8 @@
 //! Bytes that come in, all at once or line by line.
 
-ghost use Rattle.std.specs.Prelude.{◌≤◌, length, IfOk, IfSome, IsErrOf};
+ghost use Rattle.std.specs.Prelude.{◌≡◌, ◌≤◌, true, length, IfOk, IfSome, IsErrOf};
 ghost use Rattle.system_io.specs.Disks.{most_bytes};
-ghost use Rattle.system_io.specs.Inputs.{InputFacts};
+ghost use Rattle.system_io.specs.Inputs.{GivesOne, InputFacts};
 
 use crate::line_reader::LineReader;
 use crate::reading::ReadFault;
@@ -26,4 +26,7 @@ pub trait Input {
     fn lines(&self, alloc: Global) -> Result<Self::Lines, AllocError>
         ensures given { IfOk result (λ lines. IfSome (Self.Lines.facts lines).left (facts self.now).gives) }
         ensures cause { IfOk result (λ lines. (Self.Lines.facts lines).fails → (facts self.now).fails) };
+
+    /// An input that tells what it has tells one thing.
+    ghost one: { (i : Self) → (facts i).is_told ≡ true → GivesOne (facts i) };
 }

@@ -30,7 +30,7 @@ pub trait LineReader {
 }
 
 /// Takes a line feed from the end, if there is one.
-fn drop_line_feed(line: &mut Vec<u8>)
+pub(crate) fn drop_line_feed(line: &mut Vec<u8>)
     ensures { line.new.items ≡ strip_last 10 line.old.items }
 {
     if let Some(last) = line.as_slice().last() {
@@ -42,8 +42,9 @@ fn drop_line_feed(line: &mut Vec<u8>)
 
 impl<R: Read + Drop> LineReader for BufReader<R, Global> {
     ghost use Rattle.std.specs.Io.Buffered.{reader_buffer, reader_remaining};
+    ghost use Rattle.system_io.specs.Premises.{system_lines};
 
-    ghost facts = { λ r. record { left = reader_remaining R.remaining r; ahead = reader_buffer r; fails = Unit {0} } };
+    ghost facts = { λ r. system_lines (reader_remaining R.remaining r) (reader_buffer r) };
 
     fn next_line(&mut self, line: &mut Vec<u8>) -> Result<bool, ReadFault> {
         line.clear();

@@ -1,9 +1,11 @@
 //! Where a program's output goes, and how the program ends.
 
-ghost use Rattle.std.specs.Prelude.{OnErr, OnOk};
-ghost use Rattle.system_io.specs.Outputs.{HasEnded, OutputFacts};
+ghost use Rattle.std.specs.Prelude.{IfOk, OnErr, OnOk};
+ghost use Rattle.std.specs.Io.KnownBytes.{Keeps};
+ghost use Rattle.system_io.specs.Outputs.{HasEnded, OutputFacts, StartsEmpty, NotBoth, WritesFront};
 
-use std::io::{BufWriter, Write};
+use std::alloc::{AllocError, Global};
+use std::io::{self, BufWriter, Write};
 
 /// Why output was not written to its end.
 #[derive(Clone, Copy, PartialEq, Eq, Debug)]
@@ -14,27 +16,126 @@ pub enum WriteFault {
 
 /// Where a program's output goes.
 pub trait Output: Write {
-    /// Whether what was written has gone out.
+    /// Whether what was written has gone out, or some of it can't go out.
     ghost facts: { Self → OutputFacts };
 
+    /// Writes bytes to their end. The error comes only where a write was refused; then a front of them was written.
+    fn put(&mut self, bytes: &[u8]) -> Result<(), WriteFault>
+        ensures front { WritesFront (Self.contents self.old) (Self.contents self.new) bytes.now result }
+        ensures cause { OnErr result (facts self.old).refuses };
+
     /// Lets all that was written go out; the error comes where some of it can't.
-    fn finish(&mut self) -> Result<(), WriteFault>
+    fn flush_all(&mut self) -> Result<(), WriteFault>
+        ensures kept { Keeps (Self.contents self.old) (Self.contents self.new) }
         ensures gone { OnOk result (facts self.new).gone }
         ensures stuck { OnErr result (facts self.new).stuck };
+
+    /// What has gone out isn't stuck. So neither says nothing: an instance that told both of everything would not pass.
+    ghost one: { (o : Self) → NotBoth (facts o) };
 }
 
-impl<W: Write + Drop> Output for BufWriter<W> {
-    ghost use Rattle.std.specs.Prelude.{◌≡◌, []};
+/// Writes bytes to their end. Where a write is refused, or takes none of them, a front of them was written.
+fn write_front<W: Write>(out: &mut W, bytes: &[u8]) -> Result<(), WriteFault>
+    ensures { WritesFront (W.contents out.old) (W.contents out.new) bytes.now result }
+{
+    let mut written = 0;
+    for _ in 0..u64::MAX {
+        if written == bytes.len() {
+            return Ok(());
+        }
+        match out.write(&bytes[written..]) {
+            Ok(0) => return Err(WriteFault::Io),
+            Ok(n) => written += n,
+            Err(error) => {
+                if error.kind() != io::ErrorKind::Interrupted {
+                    return Err(WriteFault::Io);
+                }
+            }
+        }
+    }
+    Err(WriteFault::Io)
+}
+
+/// An output that is written in blocks, and knows whether its last flush has failed.
+#[derive(Drop)]
+pub struct BufferedOutput<W: Write + Drop> {
+    buffer: BufWriter<W>,
+    is_stuck: bool,
+}
+
+impl<W: Write + Drop> BufferedOutput<W> {
+    /// One over a writer, of which nothing is written yet. The error comes where memory for the buffer is refused.
+    pub fn new(alloc: Global, writer: W) -> Result<BufferedOutput<W>, AllocError>
+        ensures { IfOk result (StartsEmpty writer) }
+    {
+        match BufWriter::new(alloc, writer) {
+            Ok(buffer) => Ok(BufferedOutput {
+                buffer,
+                is_stuck: false,
+            }),
+            Err(_) => Err(AllocError),
+        }
+    }
+}
+
+impl<W: Write + Drop> Write for BufferedOutput<W> {
+    ghost use Rattle.std.specs.Io.Buffered.{writer_contents};
+
+    ghost contents = { λ o. writer_contents W.contents o.buffer };
+
+    fn write(&mut self, bytes: &[u8]) -> io::Result<usize> {
+        self.buffer.write(bytes)
+    }
+
+    fn flush(&mut self) -> io::Result<()> {
+        self.buffer.flush()
+    }
+
+    fn write_all(&mut self, bytes: &[u8]) -> io::Result<()> {
+        self.buffer.write_all(bytes)
+    }
+}
+
+impl<W: Write + Drop> Output for BufferedOutput<W> {
     ghost use Rattle.std.specs.Io.Buffered.{writer_buffer};
+    ghost use Rattle.system_io.specs.OutputLaws.{not_both};
     ghost use Rattle.system_io.specs.Premises.{system_output};
 
-    ghost facts = { λ w. system_output (writer_buffer w ≡ []) };
+    ghost facts = { λ o. system_output (writer_buffer o.buffer) o.is_stuck };
 
-    fn finish(&mut self) -> Result<(), WriteFault> {
-        match self.flush() {
-            Ok(()) => Ok(()),
-            Err(_) => Err(WriteFault::Io),
+    ghost one = { λ o gone stuck. not_both o.is_stuck gone.1 stuck };
+
+    fn put(&mut self, bytes: &[u8]) -> Result<(), WriteFault> {
+        write_front(&mut self.buffer, bytes)
+    }
+
+    fn flush_all(&mut self) -> Result<(), WriteFault> {
+        match self.buffer.flush() {
+            Ok(()) => {
+                self.is_stuck = false;
+                Ok(())
+            }
+            Err(_) => {
+                self.is_stuck = true;
+                Err(WriteFault::Io)
+            }
         }
+    }
+}
+
+impl Output for Vec<u8> {
+    ghost use Rattle.system_io.specs.Outputs.{holds_nothing_back};
+
+    ghost facts = { λ _. holds_nothing_back };
+
+    ghost one = { λ _ gone stuck. stuck };
+
+    fn put(&mut self, bytes: &[u8]) -> Result<(), WriteFault> {
+        write_front(self, bytes)
+    }
+
+    fn flush_all(&mut self) -> Result<(), WriteFault> {
+        Ok(())
     }
 }
 
@@ -43,7 +144,7 @@ impl<W: Write + Drop> Output for BufWriter<W> {
 pub fn end<O: Output>(out: &mut O, answered: Result<u8, WriteFault>) -> u8
     ensures { HasEnded (O.facts out.new) answered result }
 {
-    match (answered, out.finish()) {
+    match (answered, out.flush_all()) {
         (Ok(status), Ok(())) => status,
         _ => 1,
     }

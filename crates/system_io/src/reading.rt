@@ -1,7 +1,9 @@
 //! Bytes that are read to their end.
 
 ghost use Rattle.std.specs.Prelude.{◌≡◌, ◌≤◌, length, IfOk, IfSome};
+ghost use Rattle.std.specs.IoError.{error_kind};
 ghost use Rattle.system_io.specs.Disks.{most_bytes};
+ghost use Rattle.system_io.specs.Reading.{fault_of};
 ghost use Rattle.system_io.specs.declared.reading.ReadFault.TheVariants.{OutOfMemory};
 
 use std::alloc::{AllocError, Global};
@@ -28,6 +30,8 @@ impl From<AllocError> for ReadFault {
 }
 
 impl From<io::Error> for ReadFault {
+    ghost from_gives = { λ error fault. fault ≡ fault_of (error_kind error) };
+
     fn from(error: io::Error) -> ReadFault {
         match error.kind() {
             io::ErrorKind::OutOfMemory => ReadFault::OutOfMemory,

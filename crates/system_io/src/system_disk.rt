@@ -47,9 +47,12 @@ fn names_in<R: Files + AllocGlobal + Clone + Drop>(
 }
 
 impl<'a, R: Files + AllocGlobal + Clone + Drop> Disk for SystemDisk<'a, R> {
+    ghost use Rattle.system_io.specs.OutputLaws.{untold};
     ghost use Rattle.system_io.specs.Premises.{system_disk};
 
     ghost facts = { λ _. system_disk };
+
+    ghost one = { λ _ told. untold told };
 
     fn names(&self, _alloc: Global, folder: &str) -> Result<Vec<String>, ReadFault> {
         Ok(names_in(self.rt, folder)?)

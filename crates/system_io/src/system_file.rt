@@ -1,5 +1,8 @@
 //! A file of the system, and the one beside it.
 
+ghost use Rattle.std.specs.Prelude.{IfOk};
+ghost use Rattle.system_io.specs.Places.{AreFor, IsAtPath};
+
 use crate::kept_file::MOST_KEPT_BYTES;
 use crate::reading::{ReadFault, read_at_most};
 use crate::traced_file::{FileCalls, Traced};
@@ -29,7 +32,9 @@ fn folder_of(path: &str) -> &str {
 
 impl<'a, R: Files + AllocGlobal> SystemCalls<'a, R> {
     /// Those for the file at a path.
-    pub fn at(rt: &'a R, alloc: Global, path: &str) -> Result<SystemCalls<'a, R>, AllocError> {
+    pub fn at(rt: &'a R, alloc: Global, path: &str) -> Result<SystemCalls<'a, R>, AllocError>
+        ensures { IfOk result (AreFor path.now) }
+    {
         let beside = format!(in alloc; "{path}.new")?;
         let path = String::from_str(alloc, path)?;
         Ok(SystemCalls {
@@ -42,6 +47,10 @@ impl<'a, R: Files + AllocGlobal> SystemCalls<'a, R> {
 }
 
 impl<'a, R: Files + AllocGlobal> FileCalls for SystemCalls<'a, R> {
+    ghost use Rattle.system_io.specs.Premises.{system_calls};
+
+    ghost facts = { λ _. system_calls };
+
     fn read(&mut self, alloc: Global) -> Result<Option<Vec<u8>>, ReadFault> {
         let file = match fs::open(self.rt, self.path.as_str()) {
             Ok(file) => file,
@@ -81,7 +90,9 @@ pub type SystemFile<'a, R> = Traced<SystemCalls<'a, R>>;
 
 impl<'a, R: Files + AllocGlobal> Traced<SystemCalls<'a, R>> {
     /// The file at a path, of which nothing is known yet.
-    pub fn at(rt: &'a R, alloc: Global, path: &str) -> Result<SystemFile<'a, R>, AllocError> {
+    pub fn at(rt: &'a R, alloc: Global, path: &str) -> Result<SystemFile<'a, R>, AllocError>
+        ensures { IfOk result (IsAtPath path.now) }
+    {
         Ok(Traced::new(alloc, SystemCalls::at(rt, alloc, path)?))
     }
 }

@@ -21,6 +21,7 @@ impl<'a, R: Files + Net + AllocGlobal> SystemHost<'a, R> {
 }
 
 impl<'a, R: Files + Net + AllocGlobal> Host for SystemHost<'a, R> {
+    ghost use Rattle.system_io.specs.HostLaws.{places_one};
     ghost use Rattle.system_io.specs.Premises.{system_host};
 
     type Port = UdpPort;
@@ -28,6 +29,8 @@ impl<'a, R: Files + Net + AllocGlobal> Host for SystemHost<'a, R> {
     type File = SystemFile<'a, R>;
 
     ghost facts = { λ _. system_host };
+
+    ghost one = { λ _ _. places_one };
 
     fn bind(&self, alloc: Global, address: &str, to: &[&str]) -> Result<UdpPort, BindFault> {
         Ok(UdpPort::bind(self.rt, alloc, address, to)?)

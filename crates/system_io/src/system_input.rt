@@ -21,9 +21,12 @@ impl<'a, R: Input + Drop> SystemInput<'a, R> {
 impl<'a, R: Input + Drop> Source for SystemInput<'a, R> {
     type Lines = BufReader<R::Reader, Global>;
 
+    ghost use Rattle.system_io.specs.OutputLaws.{untold};
     ghost use Rattle.system_io.specs.Premises.{system_input};
 
     ghost facts = { λ _. system_input };
+
+    ghost one = { λ _ told. untold told };
 
     fn read_to_end(&self, alloc: Global) -> Result<Vec<u8>, ReadFault> {
         read_at_most(alloc, self.rt.reader(), 0, MOST_BYTES)

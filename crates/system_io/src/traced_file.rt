@@ -1,32 +1,50 @@
 //! A kept file over the calls of a system, of which nothing is claimed: it tells what those calls and their answers say.
 
-ghost use Rattle.std.specs.Prelude.{◌≡◌, ◌≤◌, ◌⊎◌, ℕ, List, Option, Some, IfOk, IfSome, OnOk, length};
-ghost use Rattle.system_io.specs.KeptFiles.{KeptFacts, IsOneOfFound};
+ghost use Rattle.std.specs.Prelude.{◌≡◌, ◌≤◌, [], ◌∷◌, ℕ, List, Option, Some, IfOk, IfErr, IfSome, IsTrue, OnOk, length};
+ghost use Rattle.std.specs.IoError.{error_kind};
+ghost use Rattle.system_io.specs.Failures.{Counts, Risen};
+ghost use Rattle.system_io.specs.FileCalls.{CallFacts, Failed, RenameFailed, Renamed, SyncedFile, SyncedFolder, Wrote, answered, read_call};
+ghost use Rattle.system_io.specs.Histories.{Passes};
+ghost use Rattle.system_io.specs.KeptFiles.{KeptFacts, IsOneOfFound, bytes_of};
 ghost use Rattle.system_io.specs.Premises.{IsAsTold};
-ghost use Rattle.system_io.specs.Traces.{HasBytes, SaysOneOf, told_of};
+ghost use Rattle.system_io.specs.Reading.{fault_of};
+ghost use Rattle.system_io.specs.Traces.{AreOneOf, HasBytes, calls_in, told_of};
+ghost use Rattle.system_io.specs.declared.reading.ReadFault.{ReadFault};
 
 use crate::kept_file::{KeptFile, MOST_KEPT_BYTES};
 use crate::reading::ReadFault;
 use std::alloc::Global;
 use std::io;
 
-/// The calls of a system for a file under a name and one beside it. Nothing is claimed of what they do.
+/// The calls of a system for a file under a name and one beside it. Nothing is claimed of what they do; which of them were made
+/// may be told.
 pub trait FileCalls {
+    /// Which calls were made, where that is told, and why a read or a sync of the folder may fail.
+    ghost facts: { Self → CallFacts };
+
     /// The bytes under the name, at most 8217, or that there are none; before they are read they are to reach the disk.
     fn read(&mut self, alloc: Global) -> Result<Option<Vec<u8>>, ReadFault>
-        ensures short { IfOk result (λ got. IfSome got (λ v. length v.items ≤ 8217)) };
+        ensures short { IfOk result (λ got. IfSome got (λ v. length v.items ≤ 8217)) }
+        ensures made { Passes (facts self.old).made (facts self.new).made (read_call result ∷ []) }
+        ensures cause { IfErr result (facts self.old).fails }
+        ensures still { (fault : ReadFault) → (facts self.new).fails fault → (facts self.old).fails fault };
 
     /// Writes the file beside, in place of what stands there.
-    fn write(&mut self, bytes: &[u8]) -> io::Result<()>;
+    fn write(&mut self, bytes: &[u8]) -> io::Result<()>
+        ensures { Passes (facts self.old).made (facts self.new).made (answered result (Wrote bytes.now) Failed ∷ []) };
 
     /// Lets the file beside reach the disk.
-    fn sync(&mut self) -> io::Result<()>;
+    fn sync(&mut self) -> io::Result<()>
+        ensures { Passes (facts self.old).made (facts self.new).made (answered result SyncedFile Failed ∷ []) };
 
     /// Gives the file beside the name.
-    fn rename(&mut self) -> io::Result<()>;
+    fn rename(&mut self) -> io::Result<()>
+        ensures { Passes (facts self.old).made (facts self.new).made (answered result Renamed RenameFailed ∷ []) };
 
     /// Lets the folder, and with it the names in it, reach the disk.
-    fn sync_folder(&mut self) -> io::Result<()>;
+    fn sync_folder(&mut self) -> io::Result<()>
+        ensures made { Passes (facts self.old).made (facts self.new).made (answered result SyncedFolder Failed ∷ []) }
+        ensures cause { IfErr result (λ e. (facts self.old).fails (fault_of (error_kind e))) };
 }
 
 /// How far the bytes of the last write have come, by the answers.
@@ -44,7 +62,7 @@ pub enum Reach {
 
 /// What was told of a file by the calls that were made and their answers: whether it is known what may stand under its name;
 /// what is to stand there, and what else may, since it did when the folder was last synced or later; what was written beside it,
-/// and how far that has come.
+/// and how far that has come; and how often a call has failed.
 #[derive(Drop)]
 pub struct Traced<C: Drop> {
     alloc: Global,
@@ -54,11 +72,25 @@ pub struct Traced<C: Drop> {
     earlier: Vec<Option<Vec<u8>>>,
     written: Option<Vec<u8>>,
     reach: Reach,
+    failures: u64,
+}
+
+/// Whether the same bytes stand in both, or none do.
+fn are_same(got: &Option<Vec<u8>>, known: &Option<Vec<u8>>) -> bool
+    ensures { IsTrue result → bytes_of got.now ≡ bytes_of known.now }
+{
+    match (got, known) {
+        (Some(got), Some(known)) => got.as_slice() == known.as_slice(),
+        (None, None) => true,
+        _ => false,
+    }
 }
 
 impl<C: FileCalls + Drop> Traced<C> {
     /// A file of which nothing is known.
-    pub fn new(alloc: Global, calls: C) -> Traced<C> {
+    pub fn new(alloc: Global, calls: C) -> Traced<C>
+        ensures { calls_in result ≡ calls }
+    {
         Traced {
             alloc,
             calls,
@@ -67,14 +99,37 @@ impl<C: FileCalls + Drop> Traced<C> {
             earlier: Vec::new(alloc),
             written: None,
             reach: Reach::Nowhere,
+            failures: 0,
         }
+    }
+
+    /// The calls.
+    pub fn calls(&self) -> &C
+        ensures { result.now ≡ calls_in self.now }
+    {
+        &self.calls
+    }
+
+    /// Counts a failure, and gives back why a call failed.
+    fn fail<E>(&mut self, why: E) -> E
+        ensures why { result ≡ why }
+        ensures risen { Risen self.old.failures self.new.failures }
+        ensures calls { self.new.calls ≡ self.old.calls }
+        ensures known { self.new.is_known ≡ self.old.is_known }
+        ensures stands { self.new.stands ≡ self.old.stands }
+        ensures earlier { self.new.earlier ≡ self.old.earlier }
+    {
+        self.failures = self.failures.saturating_add(1);
+        why
     }
 
     /// Notes that what was written may have the name from now on.
     fn note_name(&mut self) -> io::Result<()>
         ensures named { OnOk result ((bytes : List ℕ) → HasBytes self.old.written bytes → HasBytes self.new.stands bytes) }
+        ensures calls { self.new.calls ≡ self.old.calls }
         ensures known { self.new.is_known ≡ self.old.is_known }
-        ensures either { (old : Option (List ℕ)) (bytes : List ℕ) → SaysOneOf self.old old old → HasBytes self.old.written bytes → SaysOneOf self.new old (Some bytes) }
+        ensures count { Counts result self.old.failures self.new.failures }
+        ensures either { (old : Option (List ℕ)) (bytes : List ℕ) → AreOneOf old old self.old.stands self.old.earlier.items → HasBytes self.old.written bytes → AreOneOf old (Some bytes) self.new.stands self.new.earlier.items }
     {
         match self.written.take() {
             Some(bytes) => match self.earlier.push(self.stands.take()) {
@@ -85,10 +140,10 @@ impl<C: FileCalls + Drop> Traced<C> {
                 Err(refused) => {
                     self.stands = refused.value;
                     self.written = Some(bytes);
-                    Err(io::Error::from(io::ErrorKind::OutOfMemory))
+                    Err(self.fail(io::Error::from(io::ErrorKind::OutOfMemory)))
                 }
             },
-            None => Err(io::Error::from(io::ErrorKind::NotFound)),
+            None => Err(self.fail(io::Error::from(io::ErrorKind::NotFound))),
         }
     }
 }
@@ -96,7 +151,7 @@ impl<C: FileCalls + Drop> Traced<C> {
 /// Under the premise on a system's file a start reads one of any two of which the file that was left says that each start finds
 /// the one or the other.
 pub fn read_as_told<C: FileCalls + Drop>(left: &Traced<C>)
-    ensures { (read : Option (List ℕ)) → IsAsTold left.now read → IsOneOfFound (told_of left.now) read }
+    ensures { (read : Option (List ℕ)) → IsAsTold left.now read → IsOneOfFound (told_of C.facts left.now) read }
 {}
 
 /// A call that is refused, since what came before it doesn't lead to it.
@@ -108,28 +163,27 @@ impl<C: FileCalls + Drop> KeptFile for Traced<C> {
     ghost use Rattle.system_io.specs.TraceLaws.{says_one};
     ghost use Rattle.system_io.specs.Traces.{told_of};
 
-    ghost facts = { told_of };
+    ghost facts = { told_of C.facts };
 
-    ghost one = { λ t a b c. says_one t a b c };
+    ghost one = { λ t a b c. says_one C.facts t a b c };
 
-    // What was settled once is known from then on, and isn't read again.
+    // Of a file that is known already the same bytes must be read again.
     fn settle(&mut self) -> Result<(), ReadFault> {
-        if self.is_known {
-            if self.earlier.is_empty() {
-                return Ok(());
-            }
-            return Err(ReadFault::Unreadable);
+        if !self.earlier.is_empty() {
+            return Err(self.fail(ReadFault::Unreadable));
         }
         let got = match self.calls.read(self.alloc) {
             Ok(got) => got,
-            Err(fault) => return Err(fault),
+            Err(fault) => return Err(self.fail(fault)),
         };
         match self.calls.sync_folder() {
             Ok(()) => {}
-            Err(error) => return Err(ReadFault::from(error)),
+            Err(error) => return Err(self.fail(ReadFault::from(error))),
+        }
+        if self.is_known && !are_same(&got, &self.stands) {
+            return Err(self.fail(ReadFault::Unreadable));
         }
         self.stands = got;
-        self.earlier.clear();
         self.is_known = true;
         Ok(())
     }
@@ -152,47 +206,63 @@ impl<C: FileCalls + Drop> KeptFile for Traced<C> {
     fn write_beside(&mut self, bytes: &[u8]) -> io::Result<()> {
         self.reach = Reach::Nowhere;
         if !self.is_known {
-            return Err(refused());
+            return Err(self.fail(refused()));
         }
         let Ok(copy) = Vec::from_slice(self.alloc, bytes) else {
-            return Err(io::Error::from(io::ErrorKind::OutOfMemory));
+            return Err(self.fail(io::Error::from(io::ErrorKind::OutOfMemory)));
         };
-        self.calls.write(bytes)?;
-        self.written = Some(copy);
-        self.reach = Reach::Written;
-        Ok(())
+        match self.calls.write(bytes) {
+            Ok(()) => {
+                self.written = Some(copy);
+                self.reach = Reach::Written;
+                Ok(())
+            }
+            Err(error) => Err(self.fail(error)),
+        }
     }
 
     fn sync_beside(&mut self) -> io::Result<()> {
-        match self.reach {
-            Reach::Written => {
-                self.reach = Reach::Nowhere;
-                self.calls.sync()?;
+        let Reach::Written = self.reach else {
+            return Err(self.fail(refused()));
+        };
+        self.reach = Reach::Nowhere;
+        match self.calls.sync() {
+            Ok(()) => {
                 self.reach = Reach::Synced;
                 Ok(())
             }
-            Reach::Nowhere | Reach::Synced | Reach::Renamed => Err(refused()),
+            Err(error) => Err(self.fail(error)),
         }
     }
 
     fn rename(&mut self) -> io::Result<()> {
-        match self.reach {
-            Reach::Synced => {
-                if !self.is_known {
-                    return Err(refused());
-                }
-                self.reach = Reach::Nowhere;
-                self.note_name()?;
-                self.calls.rename()?;
+        let Reach::Synced = self.reach else {
+            return Err(self.fail(refused()));
+        };
+        self.reach = Reach::Nowhere;
+        if !self.is_known {
+            return Err(self.fail(refused()));
+        }
+        self.note_name()?;
+        match self.calls.rename() {
+            Ok(()) => {
                 self.reach = Reach::Renamed;
                 Ok(())
             }
-            Reach::Nowhere | Reach::Written | Reach::Renamed => Err(refused()),
+            Err(error) => Err(self.fail(error)),
         }
     }
 
+    // After a sync that failed a later one may be good though the name isn't on the disk.
     fn sync_folder(&mut self) -> io::Result<()> {
-        self.calls.sync_folder()?;
+        let synced = self.calls.sync_folder();
+        match synced {
+            Ok(()) => {}
+            Err(error) => {
+                self.reach = Reach::Nowhere;
+                return Err(self.fail(error));
+            }
+        }
         match self.reach {
             Reach::Renamed => {
                 self.earlier.clear();

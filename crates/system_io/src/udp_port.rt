@@ -1,33 +1,25 @@
 //! Datagrams of the system.
 
-ghost use Rattle.std.specs.Prelude.{◌≡◌, ◌≤◌, length, IfOk, OnErr};
+ghost use Rattle.std.specs.Prelude.{◌≡◌, ◌≤◌, map, string_bytes, IfOk};
 ghost use Rattle.system_io.specs.Failures.{Risen};
+ghost use Rattle.system_io.specs.Places.{IsBound};
 
 use crate::port::{Port, PortFault};
+use crate::texts::owned;
 use std::alloc::Global;
 use std::io;
 use std::net::{Net, UdpSocket};
 use std::time::Duration;
 
-/// A socket, and the addresses to which it sends.
+/// A socket, the address to which it was bound, and those to which it sends.
 #[derive(Drop)]
 pub struct UdpPort {
     socket: UdpSocket,
+    address: String,
     to: Vec<String>,
     /// How long the socket waits for a datagram, if not for ever.
     wait: Option<Duration>,
     failures: u64,
-}
-
-/// Addresses as texts of their own.
-fn owned(alloc: Global, addresses: &[&str]) -> io::Result<Vec<String>>
-    ensures { IfOk result (λ all. length all.items ≡ length addresses.now) }
-{
-    let mut all = Vec::new(alloc);
-    for address in addresses {
-        all.push(String::from_str(alloc, address)?)?;
-    }
-    Ok(all)
 }
 
 /// Whether a receive failed for no other reason than that nothing came in time.
@@ -42,17 +34,18 @@ impl UdpPort {
     /// One that is bound to an address and sends to others, each an IP address or a host's name, a colon and a port. The
     /// error comes where the first can't be bound, or memory is refused; where another can't be sent to, each send to it fails.
     pub fn bind<R: Net>(rt: &R, alloc: Global, address: &str, to: &[&str]) -> io::Result<UdpPort>
-        ensures { IfOk result (λ port. length port.to.items ≡ length to.now) }
+        ensures { IfOk result (IsBound address.now (map (λ s. s.now) to.now)) }
     {
-        UdpPort::over(alloc, UdpSocket::bind(rt, address)?, to)
+        UdpPort::over(alloc, UdpSocket::bind(rt, address)?, address, to)
     }
 
-    /// One over a socket that is bound already.
-    pub fn over(alloc: Global, socket: UdpSocket, to: &[&str]) -> io::Result<UdpPort>
-        ensures { IfOk result (λ port. length port.to.items ≡ length to.now) }
+    /// One over a socket that is bound to this address already.
+    pub fn over(alloc: Global, socket: UdpSocket, address: &str, to: &[&str]) -> io::Result<UdpPort>
+        ensures { IfOk result (IsBound address.now (map (λ s. s.now) to.now)) }
     {
         Ok(UdpPort {
             socket,
+            address: String::from_str(alloc, address)?,
             to: owned(alloc, to)?,
             wait: None,
             failures: 0,

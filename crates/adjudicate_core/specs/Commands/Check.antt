@@ -1,4 +1,4 @@
--- `check --manifest FILE DIR`: whether the tables in a folder are those of a manifest (this project's own).
+-- `check --manifest FILE [--progress] DIR`: whether the tables in a folder are those of a manifest (this project's own).
 use Rattle.std.specs.Prelude.{◌≡◌, ◌⊎◌, false, List, [], ◌∷◌, map, Option, Some, None, Ok, Err, codes}
 use Rattle.move_msg.specs.Files.{File}
 use Rattle.move_msg.specs.TextLines.{text_of}
@@ -6,29 +6,33 @@ use Rattle.move_msg.specs.ToldManifests.{Told}
 use Rattle.clap.specs.Words.{Rule, Text}
 use Rattle.adjudicate_core.specs.Rules.{rule_of_form}
 use Rattle.adjudicate_core.specs.declared.commands.Form.TheVariants as form
+use Rattle.adjudicate_core.specs.Misuses.{Fault, NoOption, NoWord}
 use Rattle.adjudicate_core.specs.Sources.{Named}
-use Rattle.adjudicate_core.specs.Given.{Given}
 use Rattle.adjudicate_core.specs.Lines.{refused_manifest}
 use Rattle.adjudicate_core.specs.Looks.{Look, are_tables, look_for, look_line}
+use Rattle.system_io.specs.Disks.{AtFile, DiskFacts}
+use Rattle.adjudicate_core.specs.Numbers.{is_set}
+use Rattle.adjudicate_core.specs.Outside.{AreFilesIn, FolderFails, IsToldAt}
 use Rattle.adjudicate_core.specs.Reply.{Reply, refused, status_if}
 use Rattle.adjudicate_core.specs.declared.commands.check.Check.{Check}
 
 abbrev pub rules : List Rule
 rules =
-    rule_of_form form.NeededOption (codes "manifest")
+    rule_of_form form.Option (codes "manifest")
+    ∷ rule_of_form form.Flag (codes "progress")
     ∷ rule_of_form form.Word (codes "DIR") ∷ []
 
 -- the values of its arguments
 abbrev pub HasValues : (Text → Option Text) → Check → Type 0
-HasValues value t = (Some t.manifest.now ≡ value (codes "manifest")) × (Some t.folder.now ≡ value (codes "DIR"))
+HasValues value t = (Some t.manifest.now ≡ value (codes "manifest")) × (t.progress ≡ is_set (value (codes "progress"))) × (Some t.folder.now ≡ value (codes "DIR"))
 
--- an argument that it needs has no value
-abbrev pub Lacks : (Text → Option Text) → Type 0
-Lacks value = (value (codes "manifest") ≡ None) ⊎ (value (codes "DIR") ≡ None)
+-- what may be wrong with its values, in the order in which it is told
+abbrev pub faults : List Fault
+faults = NoOption (codes "manifest") ∷ NoWord (codes "DIR") ∷ []
 
--- what is read for it
-abbrev pub named : Check → Named
-named t = record { folder = Some t.folder.now; manifest = Some t.manifest.now; input = false }
+-- nothing is read for it before it answers: it reads its manifest and its folder itself
+abbrev pub named : Named
+named = record { folder = None; manifest = None; input = false; kept = None; other_kept = None }
 
 -- a line for each line of the manifest, in its order, and whether all files are there and as they should be
 abbrev pub checked : List Look → Reply
@@ -39,5 +43,11 @@ checked_by files None = checked []
 checked_by files (Some (Ok es)) = checked (map (look_for files) es)
 checked_by files (Some (Err number)) = refused (refused_manifest number)
 
-abbrev pub IsReply : Given → Reply → Type 0
-IsReply given r = r ≡ checked_by given.files given.told
+-- the reply by the manifest and the files of the folder that it names
+abbrev pub IsReply : DiskFacts → Check → Reply → Type 0
+IsReply disk t r =
+    (files : List File) × (told : Option Told) × IsToldAt disk (Some t.manifest.now) told × AreFilesIn disk t.folder.now told files × (r ≡ checked_by files told)
+
+-- the manifest can't be read, or the folder or one of its wanted files
+abbrev pub IsUnread : DiskFacts → Check → Type 0
+IsUnread disk t = disk.fails (AtFile t.manifest.now) ⊎ ((told : Option Told) × IsToldAt disk (Some t.manifest.now) told × FolderFails disk t.folder.now told)

@@ -1,5 +1,5 @@
 -- `game [--tables DIR] [--manifest FILE] [--delay N] FEN`: what the game of the input comes to (this project's own).
-use Rattle.std.specs.Prelude.{◌≡◌, ◌⊎◌, ℕ, true, List, [], ◌∷◌, length, Option, Some, None, Result, Ok, Err, codes, option_map}
+use Rattle.std.specs.Prelude.{◌≡◌, ℕ, true, List, [], ◌∷◌, length, Option, Some, None, Result, Ok, Err, codes, option_map}
 use Rattle.board_core.specs.declared.parts.Parts.{Parts}
 use Rattle.board_core.specs.declared.moves.Move.{Move}
 use Rattle.move_msg.specs.GameTexts.{IsBadWordAt, TellsMoves, words_in}
@@ -12,6 +12,8 @@ use Rattle.judge_core.specs.Tables.{Tables}
 use Rattle.clap.specs.Words.{Rule, Text}
 use Rattle.adjudicate_core.specs.Rules.{rule_of_form}
 use Rattle.adjudicate_core.specs.declared.commands.Form.TheVariants as form
+use Rattle.adjudicate_core.specs.Misuses.{Fault, NoWord, Unfit}
+use Rattle.adjudicate_core.specs.declared.usage.Wanted.TheVariants as wanted
 use Rattle.adjudicate_core.specs.Sources.{Named}
 use Rattle.adjudicate_core.specs.Given.{Given}
 use Rattle.adjudicate_core.specs.Lines.{refused_move}
@@ -31,13 +33,13 @@ rules =
 abbrev pub HasValues : (Text → Option Text) → FollowGame → Type 0
 HasValues value t = (option_map (λ s. s.now) t.tables ≡ value (codes "tables")) × (option_map (λ s. s.now) t.manifest ≡ value (codes "manifest")) × IsDelay (value (codes "delay")) t.delay × (Some t.fen.now ≡ value (codes "FEN"))
 
--- an argument that it needs has no value, or the number is none that it takes
-abbrev pub Lacks : (Text → Option Text) → Type 0
-Lacks value = (value (codes "FEN") ≡ None) ⊎ ((plies : ℕ) → IsDelay (value (codes "delay")) plies → ⊥)
+-- what may be wrong with its values, in the order in which it is told
+abbrev pub faults : List Fault
+faults = Unfit wanted.Delay ∷ NoWord (codes "FEN") ∷ []
 
 -- what is read for it
 abbrev pub named : FollowGame → Named
-named t = record { folder = option_map (λ s. s.now) t.tables; manifest = option_map (λ s. s.now) t.manifest; input = true }
+named t = record { folder = option_map (λ s. s.now) t.tables; manifest = option_map (λ s. s.now) t.manifest; input = true; kept = None; other_kept = None }
 
 -- 0 where all moves are legal, 1 where one isn't
 abbrev pub outcome_status : GameOutcome → ℕ

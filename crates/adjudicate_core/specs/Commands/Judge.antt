@@ -8,6 +8,7 @@ use Rattle.move_msg.specs.TextLines.{ended}
 use Rattle.clap.specs.Words.{Rule, Text}
 use Rattle.adjudicate_core.specs.Rules.{rule_of_form}
 use Rattle.adjudicate_core.specs.declared.commands.Form.TheVariants as form
+use Rattle.adjudicate_core.specs.Misuses.{Fault, NoWord}
 use Rattle.adjudicate_core.specs.Sources.{Named}
 use Rattle.adjudicate_core.specs.Given.{Given}
 use Rattle.adjudicate_core.specs.Looks.{gathered}
@@ -24,13 +25,13 @@ rules =
 abbrev pub HasValues : (Text → Option Text) → Judge → Type 0
 HasValues value t = (option_map (λ s. s.now) t.tables ≡ value (codes "tables")) × (option_map (λ s. s.now) t.manifest ≡ value (codes "manifest")) × (Some t.fen.now ≡ value (codes "FEN"))
 
--- an argument that it needs has no value
-abbrev pub Lacks : (Text → Option Text) → Type 0
-Lacks value = value (codes "FEN") ≡ None
+-- what may be wrong with its values, in the order in which it is told
+abbrev pub faults : List Fault
+faults = NoWord (codes "FEN") ∷ []
 
 -- what is read for it
 abbrev pub named : Judge → Named
-named t = record { folder = option_map (λ s. s.now) t.tables; manifest = option_map (λ s. s.now) t.manifest; input = false }
+named t = record { folder = option_map (λ s. s.now) t.tables; manifest = option_map (λ s. s.now) t.manifest; input = false; kept = None; other_kept = None }
 
 -- the verdict's name, or that the game goes on
 unfoldable pub judged : Tables → Parts → Reply

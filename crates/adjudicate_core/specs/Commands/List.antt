@@ -1,34 +1,43 @@
--- `list DIR`: the manifest of the tables in a folder (this project's own).
+-- `list [--progress] DIR`: the manifest of the tables in a folder (this project's own).
 use Rattle.std.specs.Prelude.{◌≡◌, false, List, [], ◌∷◌, Option, Some, None, codes}
 use Rattle.move_msg.specs.Files.{File, entries_of}
 use Rattle.move_msg.specs.Manifests.{SpellsManifest}
 use Rattle.clap.specs.Words.{Rule, Text}
 use Rattle.adjudicate_core.specs.Rules.{rule_of_form}
 use Rattle.adjudicate_core.specs.declared.commands.Form.TheVariants as form
+use Rattle.adjudicate_core.specs.Misuses.{Fault, NoWord}
 use Rattle.adjudicate_core.specs.Sources.{Named}
-use Rattle.adjudicate_core.specs.Given.{Given}
+use Rattle.system_io.specs.Disks.{DiskFacts}
+use Rattle.adjudicate_core.specs.Outside.{AreFilesIn, FolderFails}
+use Rattle.adjudicate_core.specs.Numbers.{is_set}
 use Rattle.adjudicate_core.specs.Reply.{Reply}
 use Rattle.adjudicate_core.specs.declared.commands.list.List.{List as ListTask}
 
 abbrev pub rules : List Rule
 rules =
-    rule_of_form form.Word (codes "DIR") ∷ []
+    rule_of_form form.Flag (codes "progress")
+    ∷ rule_of_form form.Word (codes "DIR") ∷ []
 
 -- the values of its arguments
 abbrev pub HasValues : (Text → Option Text) → ListTask → Type 0
-HasValues value t = Some t.folder.now ≡ value (codes "DIR")
+HasValues value t = (t.progress ≡ is_set (value (codes "progress"))) × (Some t.folder.now ≡ value (codes "DIR"))
 
--- an argument that it needs has no value
-abbrev pub Lacks : (Text → Option Text) → Type 0
-Lacks value = value (codes "DIR") ≡ None
+-- what may be wrong with its values, in the order in which it is told
+abbrev pub faults : List Fault
+faults = NoWord (codes "DIR") ∷ []
 
--- what is read for it
-abbrev pub named : ListTask → Named
-named t = record { folder = Some t.folder.now; manifest = None; input = false }
+-- nothing is read for it before it answers: it reads its folder itself
+abbrev pub named : Named
+named = record { folder = None; manifest = None; input = false; kept = None; other_kept = None }
 
 -- the manifest of the files
 abbrev pub IsListed : List File → Reply → Type 0
 IsListed files r = SpellsManifest r.text (entries_of files) × (r.status ≡ 0)
 
-abbrev pub IsReply : Given → Reply → Type 0
-IsReply given r = IsListed given.files r
+-- the reply by the files of the folder
+abbrev pub IsReply : DiskFacts → ListTask → Reply → Type 0
+IsReply disk t r = (files : List File) × AreFilesIn disk t.folder.now None files × IsListed files r
+
+-- the folder or one of its files can't be read, or it lists one twice
+abbrev pub IsUnread : DiskFacts → ListTask → Type 0
+IsUnread disk t = FolderFails disk t.folder.now None

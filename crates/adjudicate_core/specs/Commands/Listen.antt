@@ -1,24 +1,26 @@
--- `listen --name N --start FEN --tables DIR --me M --bind ADDR --to ADDR --kept FILE --datagrams N [--delay N] [--fetch]`: an
+-- `listen --name N --start FEN --tables DIR --me M --bind ADDR --to ADDR[,ADDR] --kept FILE --datagrams N [--delay N] [--fetch]`: an
 -- arbiter that answers datagrams; specs/Listens.antt has what it makes of them (this project's own).
-use Rattle.std.specs.Prelude.{◌≡◌, false, List, [], ◌∷◌, Option, Some, None, codes}
+use Rattle.std.specs.Prelude.{◌≡◌, ◌++◌, false, List, [], ◌∷◌, Option, Some, None, codes}
 use Rattle.move_msg.specs.Stamps.{IsGameName}
 use Rattle.clap.specs.Words.{Rule, Text}
 use Rattle.adjudicate_core.specs.Rules.{rule_of_form}
 use Rattle.adjudicate_core.specs.declared.commands.Form.TheVariants as form
+use Rattle.adjudicate_core.specs.Misuses.{Fault, NoOption, Unfit, datagrams_faults, game_faults, me_faults}
+use Rattle.adjudicate_core.specs.declared.usage.Wanted.TheVariants as wanted
 use Rattle.adjudicate_core.specs.Sources.{Named}
 use Rattle.adjudicate_core.specs.Numbers.{IsDatagrams, IsDelay, IsMe, is_set}
 use Rattle.adjudicate_core.specs.declared.commands.listen.Listen.{Listen}
 
 abbrev pub rules : List Rule
 rules =
-    rule_of_form form.NeededOption (codes "name")
-    ∷ rule_of_form form.NeededOption (codes "start")
-    ∷ rule_of_form form.NeededOption (codes "tables")
-    ∷ rule_of_form form.NeededOption (codes "me")
-    ∷ rule_of_form form.NeededOption (codes "bind")
-    ∷ rule_of_form form.NeededOption (codes "to")
-    ∷ rule_of_form form.NeededOption (codes "kept")
-    ∷ rule_of_form form.NeededOption (codes "datagrams")
+    rule_of_form form.Option (codes "name")
+    ∷ rule_of_form form.Option (codes "start")
+    ∷ rule_of_form form.Option (codes "tables")
+    ∷ rule_of_form form.Option (codes "me")
+    ∷ rule_of_form form.Option (codes "bind")
+    ∷ rule_of_form form.Option (codes "to")
+    ∷ rule_of_form form.Option (codes "kept")
+    ∷ rule_of_form form.Option (codes "datagrams")
     ∷ rule_of_form form.Option (codes "delay")
     ∷ rule_of_form form.Flag (codes "fetch") ∷ []
 
@@ -36,10 +38,17 @@ pub record IsListening (value : Text → Option Text) (l : Listen) : Type 0 wher
   pub delay : IsDelay (value (codes "delay")) l.delay
   pub fetch : l.fetch ≡ is_set (value (codes "fetch"))
 
--- they have none of the kind
-abbrev pub Lacks : (Text → Option Text) → Type 0
-Lacks value = (t : Listen) → IsListening value t → ⊥
+-- what may be wrong with its values, in the order in which it is told: with the words on the game, the addresses and the kept
+-- file, the numbers
+abbrev pub end_faults : List Fault
+end_faults = NoOption (codes "bind") ∷ NoOption (codes "to") ∷ NoOption (codes "kept") ∷ []
+
+abbrev pub term_faults : List Fault
+term_faults = me_faults ++ datagrams_faults ++ Unfit wanted.Delay ∷ []
+
+abbrev pub faults : List Fault
+faults = game_faults ++ end_faults ++ term_faults
 
 -- what is read for it
 abbrev pub named : Listen → Named
-named t = record { folder = Some t.tables.now; manifest = None; input = false }
+named t = record { folder = Some t.tables.now; manifest = None; input = false; kept = None; other_kept = None }

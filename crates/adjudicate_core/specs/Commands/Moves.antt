@@ -7,6 +7,7 @@ use Rattle.move_msg.specs.TextLines.{text_of}
 use Rattle.clap.specs.Words.{Rule, Text}
 use Rattle.adjudicate_core.specs.Rules.{rule_of_form}
 use Rattle.adjudicate_core.specs.declared.commands.Form.TheVariants as form
+use Rattle.adjudicate_core.specs.Misuses.{Fault, NoWord}
 use Rattle.adjudicate_core.specs.Sources.{Named}
 use Rattle.adjudicate_core.specs.Reply.{IsForText, Reply}
 use Rattle.adjudicate_core.specs.declared.commands.moves.Moves.{Moves}
@@ -19,13 +20,13 @@ rules =
 abbrev pub HasValues : (Text → Option Text) → Moves → Type 0
 HasValues value t = Some t.fen.now ≡ value (codes "FEN")
 
--- an argument that it needs has no value
-abbrev pub Lacks : (Text → Option Text) → Type 0
-Lacks value = value (codes "FEN") ≡ None
+-- what may be wrong with its values, in the order in which it is told
+abbrev pub faults : List Fault
+faults = NoWord (codes "FEN") ∷ []
 
 -- what is read for it
 abbrev pub named : Moves → Named
-named t = record { folder = None; manifest = None; input = false }
+named t = record { folder = None; manifest = None; input = false; kept = None; other_kept = None }
 
 -- the legal moves in coordinates, one a line
 unfoldable pub moves_at : Parts → Reply

@@ -1,5 +1,5 @@
 -- `probe --tables DIR [--manifest FILE] FEN`: what tables tell of a position (this project's own).
-use Rattle.std.specs.Prelude.{◌≡◌, ◌⊎◌, false, List, [], ◌∷◌, Option, Some, None, codes, option_map}
+use Rattle.std.specs.Prelude.{◌≡◌, false, List, [], ◌∷◌, Option, Some, None, codes, option_map}
 use Rattle.board_core.specs.declared.parts.Parts.{Parts}
 use Rattle.judge_core.specs.declared.probed.Probed.{Probed}
 use Rattle.judge_core.specs.Probed.{IsProbed, has_both}
@@ -8,6 +8,7 @@ use Rattle.move_msg.specs.TextLines.{text_of}
 use Rattle.clap.specs.Words.{Rule, Text}
 use Rattle.adjudicate_core.specs.Rules.{rule_of_form}
 use Rattle.adjudicate_core.specs.declared.commands.Form.TheVariants as form
+use Rattle.adjudicate_core.specs.Misuses.{Fault, NoOption, NoWord}
 use Rattle.adjudicate_core.specs.Sources.{Named}
 use Rattle.adjudicate_core.specs.Given.{Given}
 use Rattle.adjudicate_core.specs.Lines.{told_words}
@@ -17,7 +18,7 @@ use Rattle.adjudicate_core.specs.declared.commands.probe.Probe.{Probe}
 
 abbrev pub rules : List Rule
 rules =
-    rule_of_form form.NeededOption (codes "tables")
+    rule_of_form form.Option (codes "tables")
     ∷ rule_of_form form.Option (codes "manifest")
     ∷ rule_of_form form.Word (codes "FEN") ∷ []
 
@@ -25,13 +26,13 @@ rules =
 abbrev pub HasValues : (Text → Option Text) → Probe → Type 0
 HasValues value t = (Some t.tables.now ≡ value (codes "tables")) × (option_map (λ s. s.now) t.manifest ≡ value (codes "manifest")) × (Some t.fen.now ≡ value (codes "FEN"))
 
--- an argument that it needs has no value
-abbrev pub Lacks : (Text → Option Text) → Type 0
-Lacks value = (value (codes "tables") ≡ None) ⊎ (value (codes "FEN") ≡ None)
+-- what may be wrong with its values, in the order in which it is told
+abbrev pub faults : List Fault
+faults = NoOption (codes "tables") ∷ NoWord (codes "FEN") ∷ []
 
 -- what is read for it
 abbrev pub named : Probe → Named
-named t = record { folder = Some t.tables.now; manifest = option_map (λ s. s.now) t.manifest; input = false }
+named t = record { folder = Some t.tables.now; manifest = option_map (λ s. s.now) t.manifest; input = false; kept = None; other_kept = None }
 
 -- a line a question, the value and then the distance
 abbrev pub told : Probed → Reply

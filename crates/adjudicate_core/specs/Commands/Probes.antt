@@ -13,6 +13,7 @@ use Rattle.judge_core.specs.Tables.{Tables}
 use Rattle.clap.specs.Words.{Rule, Text}
 use Rattle.adjudicate_core.specs.Rules.{rule_of_form}
 use Rattle.adjudicate_core.specs.declared.commands.Form.TheVariants as form
+use Rattle.adjudicate_core.specs.Misuses.{Fault, NoOption}
 use Rattle.adjudicate_core.specs.Sources.{Named}
 use Rattle.adjudicate_core.specs.Given.{Given}
 use Rattle.adjudicate_core.specs.Lines.{refused_fen}
@@ -25,7 +26,7 @@ use Rattle.adjudicate_core.specs.declared.commands.probes.Probes.{Probes}
 
 abbrev pub rules : List Rule
 rules =
-    rule_of_form form.NeededOption (codes "tables")
+    rule_of_form form.Option (codes "tables")
     ∷ rule_of_form form.Option (codes "manifest")
     ∷ rule_of_form form.Flag (codes "progress") ∷ []
 
@@ -33,13 +34,13 @@ rules =
 abbrev pub HasValues : (Text → Option Text) → Probes → Type 0
 HasValues value t = (Some t.tables.now ≡ value (codes "tables")) × (option_map (λ s. s.now) t.manifest ≡ value (codes "manifest")) × (t.progress ≡ is_set (value (codes "progress")))
 
--- an argument that it needs has no value
-abbrev pub Lacks : (Text → Option Text) → Type 0
-Lacks value = value (codes "tables") ≡ None
+-- what may be wrong with its values, in the order in which it is told
+abbrev pub faults : List Fault
+faults = NoOption (codes "tables") ∷ []
 
 -- what is read for it
 abbrev pub named : Probes → Named
-named t = record { folder = Some t.tables.now; manifest = option_map (λ s. s.now) t.manifest; input = false }
+named t = record { folder = Some t.tables.now; manifest = option_map (λ s. s.now) t.manifest; input = false; kept = None; other_kept = None }
 
 -- a line: what `probe` and `judge` tell of its position, in columns, or the refusal of the text
 pub data TellsLine (tables : Tables) (text : List ℕ) (told : LineTold) : Type 0 where

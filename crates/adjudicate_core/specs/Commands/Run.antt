@@ -1,5 +1,5 @@
 -- `run [--tables DIR] [--cache N] [--delay N]`: two arbiters under the schedule of the input (this project's own).
-use Rattle.std.specs.Prelude.{◌≡◌, ◌⊎◌, ℕ, true, List, [], ◌∷◌, length, Option, Some, None, codes, option_map, slice_get}
+use Rattle.std.specs.Prelude.{◌≡◌, ℕ, true, List, [], ◌∷◌, length, Option, Some, None, codes, option_map, slice_get}
 use Rattle.move_msg.specs.Files.{File}
 use Rattle.move_msg.specs.TextLines.{text_of}
 use Rattle.relay_world.specs.declared.schedule.Schedule.{Schedule}
@@ -9,6 +9,8 @@ use Rattle.relay_world.specs.Worlds.{World}
 use Rattle.clap.specs.Words.{Rule, Text}
 use Rattle.adjudicate_core.specs.Rules.{rule_of_form}
 use Rattle.adjudicate_core.specs.declared.commands.Form.TheVariants as form
+use Rattle.adjudicate_core.specs.Misuses.{Fault, Unfit}
+use Rattle.adjudicate_core.specs.declared.usage.Wanted.TheVariants as wanted
 use Rattle.adjudicate_core.specs.Sources.{Named}
 use Rattle.adjudicate_core.specs.Given.{Given}
 use Rattle.adjudicate_core.specs.Lines.{refused_line}
@@ -27,13 +29,13 @@ rules =
 abbrev pub HasValues : (Text → Option Text) → RunSchedule → Type 0
 HasValues value t = (option_map (λ s. s.now) t.tables ≡ value (codes "tables")) × IsCache (value (codes "cache")) t.cache × IsDelay (value (codes "delay")) t.delay
 
--- a number is none that it takes
-abbrev pub Lacks : (Text → Option Text) → Type 0
-Lacks value = ((blocks : ℕ) → IsCache (value (codes "cache")) blocks → ⊥) ⊎ ((plies : ℕ) → IsDelay (value (codes "delay")) plies → ⊥)
+-- what may be wrong with its values, in the order in which it is told
+abbrev pub faults : List Fault
+faults = Unfit wanted.Cache ∷ Unfit wanted.Delay ∷ []
 
 -- what is read for it
 abbrev pub named : RunSchedule → Named
-named t = record { folder = option_map (λ s. s.now) t.tables; manifest = None; input = true }
+named t = record { folder = option_map (λ s. s.now) t.tables; manifest = None; input = true; kept = None; other_kept = None }
 
 -- the refusal of the first line at fault; or else that of the first file that is no table; or else there are worlds of the
 -- schedule, in each of which what both arbiters keep is true to the game, and the last of them is told

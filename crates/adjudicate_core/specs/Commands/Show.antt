@@ -5,7 +5,8 @@ use Rattle.move_msg.specs.declared.message.Message.{Message}
 use Rattle.move_msg.specs.Messages.{fault_name as message_fault_name}
 use Rattle.move_msg.specs.Streams.{End, AfterMessage, Cut, AtFault, SpellsStream}
 use Rattle.move_msg.specs.TextLines.{text_of}
-use Rattle.clap.specs.Words.{Rule, Text}
+use Rattle.clap.specs.Words.{Rule}
+use Rattle.adjudicate_core.specs.Misuses.{Fault}
 use Rattle.adjudicate_core.specs.Sources.{Named}
 use Rattle.adjudicate_core.specs.Given.{Given}
 use Rattle.adjudicate_core.specs.Lines.{refused_message}
@@ -14,13 +15,13 @@ use Rattle.adjudicate_core.specs.Reply.{Reply, WritesReply}
 abbrev pub rules : List Rule
 rules = []
 
--- it has no argument that could lack
-abbrev pub Lacks : (Text → Option Text) → Type 0
-Lacks value = ⊥
+-- what may be wrong with its values, in the order in which it is told
+abbrev pub faults : List Fault
+faults = []
 
 -- what is read for it
 abbrev pub named : Named
-named = record { folder = None; manifest = None; input = true }
+named = record { folder = None; manifest = None; input = true; kept = None; other_kept = None }
 
 -- a line a message, and a refusal where the stream doesn't end after one
 abbrev pub shown : List Message → End → Reply

@@ -6,7 +6,9 @@ use Rattle.move_msg.specs.TextLines.{ended, text_of}
 use Rattle.adjudicate_core.specs.Lines.{refusal_words, words_of}
 use Rattle.adjudicate_core.specs.Reply.{Reply, WritesReply, refused, status_if}
 use Rattle.adjudicate_core.specs.Telling.{TellsOne}
-use Rattle.adjudicate_core.specs.ToldLines.{refused_memory}
+use Rattle.adjudicate_core.specs.ToldLines.{refused_files, refused_memory}
+use Rattle.system_io.specs.declared.reading.ReadFault.{ReadFault}
+use Rattle.system_io.specs.declared.reading.ReadFault.TheVariants.{OutOfMemory, Unreadable}
 
 -- the reply that an answer is
 abbrev pub reply_of : Answer → Reply
@@ -19,3 +21,9 @@ reply_of (Text bytes) = record { text = bytes.items; status = 0 }
 abbrev pub PutsAnswered : {E : Type 0} → Result Answer E → Option (List ℕ) → Option (List ℕ) → ℕ → Type 0
 PutsAnswered (Ok answer) old new status = WritesReply old new (reply_of answer) status
 PutsAnswered (Err e) old new status = TellsOne refused_memory old new status
+
+-- the same where something may not have been read
+abbrev pub PutsRead : Result Answer ReadFault → Option (List ℕ) → Option (List ℕ) → ℕ → Type 0
+PutsRead (Ok answer) old new status = WritesReply old new (reply_of answer) status
+PutsRead (Err Unreadable) old new status = TellsOne refused_files old new status
+PutsRead (Err OutOfMemory) old new status = TellsOne refused_memory old new status

@@ -1,25 +1,31 @@
 //! `check`: whether the tables in a folder are those of a manifest.
 
-ghost use Rattle.std.specs.Prelude.{◌≡◌, map, IfOk, IfNone, IfSome};
-ghost use Rattle.std.specs.Result.{is_ok};
+ghost use Rattle.std.specs.Prelude.{◌≡◌, List, map, false, IfErr, IfOk, IsErrOf};
 ghost use Rattle.clap.specs.Words.{first_value, found_of};
-ghost use Rattle.move_msg.specs.Files.{file_of};
+ghost use Rattle.move_msg.specs.Files.{File};
 ghost use Rattle.move_msg.specs.Manifests.{entry_of};
-ghost use Rattle.adjudicate_core.specs.Commands.Check.{HasValues, IsReply, Lacks, checked, named};
+ghost use Rattle.move_msg.specs.ToldBy.{told_by};
+ghost use Rattle.adjudicate_core.specs.Commands.Check.{HasValues, IsReply, IsUnread, checked_by, faults, named};
 ghost use Rattle.adjudicate_core.specs.Inside.Asked.{reply_of};
-ghost use Rattle.adjudicate_core.specs.Lines.{words_of};
-ghost use Rattle.adjudicate_core.specs.Looks.{look_for, look_line};
+ghost use Rattle.adjudicate_core.specs.Inside.Looking.{AreMadeOf, IsSeenOf, fault_seen, reply_seen, sight_of};
+ghost use Rattle.adjudicate_core.specs.Misuses.{IsFirst, fault_words};
 ghost use Rattle.adjudicate_core.specs.Sources.{named_by};
 
 use super::{Form, Value};
 use crate::answers::Answer;
 use crate::lines::Line;
+use crate::numbers::is_set;
+use crate::reading::{Look, looks_in};
 use crate::refusals::Refusal;
-use crate::sources::{Places, Sources};
-use crate::tables::open_line;
+use crate::sources::{Places, read_manifest};
+use crate::tables::{FileFault, open_file};
+use crate::usage::ValueFault;
+use crate::values::{option_in, word_in};
 use clap::ArgMatches;
 use move_msg::{Line as Entry, Manifest, NamedFile};
 use std::alloc::{AllocError, Global};
+use std::io::Write;
+use system_io::{Disk, ReadFault};
 
 /// Whether the tables in a folder are those of a manifest.
 #[derive(Clone, Copy)]
@@ -28,13 +34,19 @@ pub struct Check<'a> {
     pub manifest: &'a str,
     /// The folder.
     pub folder: &'a str,
+    /// Whether it is told on the way how much is read.
+    pub progress: bool,
 }
 
 /// The values of `check`.
-pub(crate) const VALUES: [Value; 2] = [
+pub(crate) const VALUES: [Value; 3] = [
     Value {
         name: "manifest",
-        form: Form::NeededOption,
+        form: Form::Option,
+    },
+    Value {
+        name: "progress",
+        form: Form::Flag,
     },
     Value {
         name: "DIR",
@@ -42,63 +54,119 @@ pub(crate) const VALUES: [Value; 2] = [
     },
 ];
 
-/// A line of a manifest with what is found for it, and whether that is the table that it should be.
-fn look_for(alloc: Global, files: &[NamedFile], entry: &Entry) -> Result<(Line, bool), AllocError>
-    ensures line { IfOk result (λ look. words_of look.0 ≡ look_line (look_for (map file_of files.now) (entry_of entry.now))) }
-    ensures is { IfOk result (λ look. look.1 ≡ is_ok (look_for (map file_of files.now) (entry_of entry.now)).found) }
-{
-    match open_line(alloc, files, entry) {
-        Ok(Ok(_)) => Ok((Line::Look(entry.name, None), true)),
-        Ok(Err(fault)) => Ok((Line::Look(entry.name, Some(fault)), false)),
-        Err(_) => Err(AllocError),
+/// What is seen of a file: its line in a manifest, and why it is no table, if it isn't one.
+#[derive(Clone, Copy)]
+pub(crate) struct Seen {
+    /// Its line.
+    pub(crate) entry: Entry,
+    /// Why it is no table.
+    pub(crate) fault: Option<FileFault>,
+}
+
+impl Look for Seen {
+    ghost use Rattle.adjudicate_core.specs.Inside.Looking.{IsSeenOf};
+
+    ghost made_of = { IsSeenOf };
+
+    fn of(alloc: Global, file: NamedFile) -> Result<Seen, AllocError> {
+        let found = open_file(alloc, &file)?;
+        Ok(Seen {
+            entry: Entry::of(file.name, &file.bytes),
+            fault: found.err(),
+        })
     }
 }
 
+/// Why a line of a manifest isn't met by what was seen; none where it is.
+fn fault_in(seen: &[Seen], line: &Entry) -> Option<FileFault>
+    ensures { result ≡ fault_seen (map sight_of seen.now) (entry_of line.now) }
+{
+    for file in seen {
+        if file.entry.name.as_str() == line.name.as_str() {
+            return if file.entry.digest == line.digest {
+                file.fault
+            } else {
+                Some(FileFault::Changed)
+            };
+        }
+    }
+    Some(FileFault::Missing)
+}
+
 /// What is found for the lines of a manifest, a line each, and whether all is as it should be.
-fn check_lines(alloc: Global, files: &[NamedFile], entries: &[Entry]) -> Result<Answer, AllocError>
-    ensures { IfOk result (λ a. reply_of a ≡ checked (map (look_for (map file_of files.now)) (map entry_of entries.now))) }
+fn check_lines(alloc: Global, seen: &[Seen], entries: &[Entry]) -> Result<Answer, AllocError>
+    ensures { IfOk result (λ a. reply_of a ≡ reply_seen (map sight_of seen.now) (map entry_of entries.now)) }
 {
     let mut lines = Vec::new(alloc);
     let mut done = true;
     for entry in entries {
-        let (line, is_table) = look_for(alloc, files, entry)?;
-        lines.push(line)?;
-        done &= is_table;
+        let fault = fault_in(seen, entry);
+        lines.push(Line::Look(entry.name, fault))?;
+        done &= fault.is_none();
     }
     Ok(Answer::Lines(lines, done))
 }
 
+/// What is found for a manifest, or its refusal.
+fn check_manifest(alloc: Global, seen: &[Seen], manifest: &Manifest) -> Result<Answer, AllocError>
+    ensures { IfOk result (λ a. (files : List File) → AreMadeOf IsSeenOf seen.now files → reply_of a ≡ checked_by files (told_by manifest.now)) }
+{
+    match manifest {
+        Manifest::Unnamed => Ok(Answer::Lines(Vec::new(alloc), true)),
+        Manifest::Lines(lines) => check_lines(alloc, seen, lines),
+        Manifest::BadLine(number) => Ok(Answer::Refused(Refusal::Manifest(*number))),
+    }
+}
+
 impl<'a> Check<'a> {
-    /// The task with these values; none where it lacks one that it needs.
-    pub(crate) fn of(matches: &ArgMatches<'a>) -> Option<Check<'a>>
-        ensures some { IfSome result (HasValues (first_value (found_of matches.now))) }
-        ensures none { IfNone result (Lacks (first_value (found_of matches.now))) }
+    /// The task with these values, or the first thing that is wrong with them.
+    pub(crate) fn of(matches: &ArgMatches<'a>) -> Result<Check<'a>, ValueFault<'a>>
+        ensures ok { IfOk result (HasValues (first_value (found_of matches.now))) }
+        ensures err { IfErr result (λ fault. IsFirst (first_value (found_of matches.now)) faults (fault_words fault)) }
     {
-        Some(Check {
-            manifest: matches.get_str("manifest")?,
-            folder: matches.get_str("DIR")?,
+        Ok(Check {
+            manifest: option_in(matches, "manifest")?,
+            progress: is_set(matches.get_str("progress")),
+            folder: word_in(matches, "DIR")?,
         })
     }
 
-    /// What is read for it.
+    /// What is read for it before it answers: nothing, since it reads its folder itself.
     pub(crate) fn places(&self) -> Places<'a>
-        ensures { named_by result ≡ named self.now }
+        ensures { named_by result ≡ named }
     {
         Places {
-            folder: Some(self.folder),
-            manifest: Some(self.manifest),
+            folder: None,
+            manifest: None,
             reads_input: false,
+            kept: None,
+            other_kept: None,
         }
     }
 
-    /// Files held to a manifest: a line for each of its lines, or its refusal.
-    pub(crate) fn answer(&self, alloc: Global, sources: &Sources) -> Result<Answer, AllocError>
-        ensures { IfOk result (λ a. IsReply sources.now (reply_of a)) }
+    /// Files held to a manifest: a line for each of its lines, or its refusal. One file at a time is held; how much is read is
+    /// told on the way where that is wanted.
+    pub(crate) fn answer<D: Disk, E: Write>(
+        &self,
+        alloc: Global,
+        disk: &D,
+        errors: &mut E,
+    ) -> Result<Answer, ReadFault>
+        ensures ok { IfOk result (λ a. IsReply (D.facts disk.now) self.now (reply_of a)) }
+        ensures cause { IsErrOf result ReadFault.Unreadable → IsUnread (D.facts disk.now) self.now }
+        ensures quiet { self.now.progress ≡ false → errors.new ≡ errors.old }
     {
-        match sources.manifest() {
-            Manifest::Unnamed => Ok(Answer::Lines(Vec::new(alloc), true)),
-            Manifest::Lines(lines) => check_lines(alloc, sources.files(), lines),
-            Manifest::BadLine(number) => Ok(Answer::Refused(Refusal::Manifest(*number))),
+        let manifest = match read_manifest(alloc, disk, Some(self.manifest)) {
+            Ok(manifest) => manifest,
+            Err(fault) => return Err(fault),
+        };
+        let seen = match looks_in(alloc, disk, self.folder, &manifest, errors, self.progress) {
+            Ok(seen) => seen,
+            Err(fault) => return Err(fault),
+        };
+        match check_manifest(alloc, &seen, &manifest) {
+            Ok(answer) => Ok(answer),
+            Err(_) => Err(ReadFault::OutOfMemory),
         }
     }
 }

@@ -1,12 +1,13 @@
 //! `game`: a game that is told by the moves of the input, and what it comes to.
 
-ghost use Rattle.std.specs.Prelude.{◌≡◌, IfOk, IfNone, IfSome, OnErr};
+ghost use Rattle.std.specs.Prelude.{◌≡◌, IfOk, OnErr, IfErr};
 ghost use Rattle.clap.specs.Words.{first_value, found_of};
 ghost use Rattle.move_msg.specs.GameTexts.{TellsMoves};
 ghost use Rattle.adjudicate_core.specs.Inside.Asked.{reply_of};
 ghost use Rattle.adjudicate_core.specs.Looks.{gathered};
 ghost use Rattle.adjudicate_core.specs.Reply.{IsText, status_if};
-ghost use Rattle.adjudicate_core.specs.Commands.Game.{HasValues, IsPlayed, IsReply, Lacks, named, outcome_status};
+ghost use Rattle.adjudicate_core.specs.Commands.Game.{HasValues, IsPlayed, IsReply, faults, named, outcome_status};
+ghost use Rattle.adjudicate_core.specs.Misuses.{IsFirst, fault_words};
 ghost use Rattle.adjudicate_core.specs.Sources.{named_by};
 
 use super::{Form, Value};
@@ -16,6 +17,8 @@ use crate::numbers::Delay;
 use crate::refusals::Refusal;
 use crate::sources::{Places, Sources};
 use crate::tables::gather;
+use crate::usage::ValueFault;
+use crate::values::{delay_in, word_in};
 use board_core::{Move, Position};
 use clap::ArgMatches;
 use fen_text::read;
@@ -106,16 +109,16 @@ fn answer_from(
 }
 
 impl<'a> FollowGame<'a> {
-    /// The task with these values; none where it lacks one, or the delay isn't one that it takes.
-    pub(crate) fn of(matches: &ArgMatches<'a>) -> Option<FollowGame<'a>>
-        ensures some { IfSome result (HasValues (first_value (found_of matches.now))) }
-        ensures none { IfNone result (Lacks (first_value (found_of matches.now))) }
+    /// The task with these values, or the first thing that is wrong with them.
+    pub(crate) fn of(matches: &ArgMatches<'a>) -> Result<FollowGame<'a>, ValueFault<'a>>
+        ensures ok { IfOk result (HasValues (first_value (found_of matches.now))) }
+        ensures err { IfErr result (λ fault. IsFirst (first_value (found_of matches.now)) faults (fault_words fault)) }
     {
-        Some(FollowGame {
+        Ok(FollowGame {
             tables: matches.get_str("tables"),
             manifest: matches.get_str("manifest"),
-            delay: Delay::of(matches.get_str("delay"))?,
-            fen: matches.get_str("FEN")?,
+            delay: delay_in(matches)?,
+            fen: word_in(matches, "FEN")?,
         })
     }
 
@@ -127,6 +130,8 @@ impl<'a> FollowGame<'a> {
             folder: self.tables,
             manifest: self.manifest,
             reads_input: true,
+            kept: None,
+            other_kept: None,
         }
     }
 

@@ -1,11 +1,12 @@
 //! `judge`: the verdict on a position.
 
-ghost use Rattle.std.specs.Prelude.{◌≡◌, IfOk, IfNone, IfSome, OnErr};
+ghost use Rattle.std.specs.Prelude.{◌≡◌, IfOk, OnErr, IfErr};
 ghost use Rattle.clap.specs.Words.{first_value, found_of};
-ghost use Rattle.adjudicate_core.specs.Commands.Judge.{HasValues, IsJudged, IsReply, Lacks, named};
+ghost use Rattle.adjudicate_core.specs.Commands.Judge.{HasValues, IsJudged, IsReply, faults, named};
 ghost use Rattle.adjudicate_core.specs.Inside.Asked.{reply_of};
 ghost use Rattle.adjudicate_core.specs.Looks.{gathered};
 ghost use Rattle.adjudicate_core.specs.Reply.{ByTables, IsText};
+ghost use Rattle.adjudicate_core.specs.Misuses.{IsFirst, fault_words};
 ghost use Rattle.adjudicate_core.specs.Sources.{named_by};
 
 use super::{Form, Value};
@@ -14,6 +15,8 @@ use crate::lines::Line;
 use crate::refusals::Refusal;
 use crate::sources::{Places, Sources};
 use crate::tables::gather;
+use crate::usage::ValueFault;
+use crate::values::word_in;
 use board_core::Position;
 use clap::ArgMatches;
 use fen_text::read;
@@ -63,15 +66,15 @@ fn verdict_of(alloc: Global, sources: &Sources, position: &Position) -> Result<A
 }
 
 impl<'a> Judge<'a> {
-    /// The task with these values; none where it lacks one that it needs.
-    pub(crate) fn of(matches: &ArgMatches<'a>) -> Option<Judge<'a>>
-        ensures some { IfSome result (HasValues (first_value (found_of matches.now))) }
-        ensures none { IfNone result (Lacks (first_value (found_of matches.now))) }
+    /// The task with these values, or the first thing that is wrong with them.
+    pub(crate) fn of(matches: &ArgMatches<'a>) -> Result<Judge<'a>, ValueFault<'a>>
+        ensures ok { IfOk result (HasValues (first_value (found_of matches.now))) }
+        ensures err { IfErr result (λ fault. IsFirst (first_value (found_of matches.now)) faults (fault_words fault)) }
     {
-        Some(Judge {
+        Ok(Judge {
             tables: matches.get_str("tables"),
             manifest: matches.get_str("manifest"),
-            fen: matches.get_str("FEN")?,
+            fen: word_in(matches, "FEN")?,
         })
     }
 
@@ -83,6 +86,8 @@ impl<'a> Judge<'a> {
             folder: self.tables,
             manifest: self.manifest,
             reads_input: false,
+            kept: None,
+            other_kept: None,
         }
     }
 

@@ -1,58 +1,103 @@
 //! `list`: the manifest of the tables in a folder.
 
-ghost use Rattle.std.specs.Prelude.{◌≡◌, IfOk, IfNone, IfSome};
+ghost use Rattle.std.specs.Prelude.{◌≡◌, false, IfErr, IfOk, IsErrOf};
 ghost use Rattle.clap.specs.Words.{first_value, found_of};
-ghost use Rattle.adjudicate_core.specs.Commands.List.{HasValues, IsReply, Lacks, named};
+ghost use Rattle.adjudicate_core.specs.Commands.List.{HasValues, IsReply, IsUnread, faults, named};
 ghost use Rattle.adjudicate_core.specs.Inside.Asked.{reply_of};
+ghost use Rattle.adjudicate_core.specs.Misuses.{IsFirst, fault_words};
 ghost use Rattle.adjudicate_core.specs.Sources.{named_by};
 
 use super::{Form, Value};
 use crate::answers::Answer;
-use crate::sources::{Places, Sources};
+use crate::numbers::is_set;
+use crate::reading::{Look, looks_in};
+use crate::sources::Places;
+use crate::usage::ValueFault;
+use crate::values::word_in;
 use clap::ArgMatches;
-use move_msg::manifest_of;
+use move_msg::{Line as Entry, Manifest, NamedFile, manifest_write};
 use std::alloc::{AllocError, Global};
+use std::io::Write;
+use system_io::{Disk, ReadFault};
 
 /// The manifest of the tables in a folder.
 #[derive(Clone, Copy)]
 pub struct List<'a> {
     /// The folder.
     pub folder: &'a str,
+    /// Whether it is told on the way how much is read.
+    pub progress: bool,
 }
 
 /// The values of `list`.
-pub(crate) const VALUES: [Value; 1] = [Value {
-    name: "DIR",
-    form: Form::Word,
-}];
+pub(crate) const VALUES: [Value; 2] = [
+    Value {
+        name: "progress",
+        form: Form::Flag,
+    },
+    Value {
+        name: "DIR",
+        form: Form::Word,
+    },
+];
+
+impl Look for Entry {
+    ghost use Rattle.std.specs.Prelude.{◌≡◌};
+    ghost use Rattle.move_msg.specs.Files.{entry_for};
+    ghost use Rattle.move_msg.specs.Manifests.{IsEntry, entry_of};
+    ghost use Rattle.move_msg.specs.TableNames.{IsFileName};
+
+    ghost made_of = { λ line f. (entry_of line ≡ entry_for f) × (IsFileName f.name → IsEntry (entry_of line)) };
+
+    fn of(_alloc: Global, file: NamedFile) -> Result<Entry, AllocError> {
+        Ok(Entry::of(file.name, &file.bytes))
+    }
+}
 
 impl<'a> List<'a> {
-    /// The task with these values; none where it lacks one that it needs.
-    pub(crate) fn of(matches: &ArgMatches<'a>) -> Option<List<'a>>
-        ensures some { IfSome result (HasValues (first_value (found_of matches.now))) }
-        ensures none { IfNone result (Lacks (first_value (found_of matches.now))) }
+    /// The task with these values, or the first thing that is wrong with them.
+    pub(crate) fn of(matches: &ArgMatches<'a>) -> Result<List<'a>, ValueFault<'a>>
+        ensures ok { IfOk result (HasValues (first_value (found_of matches.now))) }
+        ensures err { IfErr result (λ fault. IsFirst (first_value (found_of matches.now)) faults (fault_words fault)) }
     {
-        Some(List {
-            folder: matches.get_str("DIR")?,
+        Ok(List {
+            progress: is_set(matches.get_str("progress")),
+            folder: word_in(matches, "DIR")?,
         })
     }
 
-    /// What is read for it.
+    /// What is read for it before it answers: nothing, since it reads its folder itself.
     pub(crate) fn places(&self) -> Places<'a>
-        ensures { named_by result ≡ named self.now }
+        ensures { named_by result ≡ named }
     {
         Places {
-            folder: Some(self.folder),
+            folder: None,
             manifest: None,
             reads_input: false,
+            kept: None,
+            other_kept: None,
         }
     }
 
-    /// The manifest of the files.
-    pub(crate) fn answer(&self, alloc: Global, sources: &Sources) -> Result<Answer, AllocError>
-        ensures { IfOk result (λ a. IsReply sources.now (reply_of a)) }
+    /// The manifest of the files, of which one at a time is held; how much is read is told on the way where that is wanted.
+    pub(crate) fn answer<D: Disk, E: Write>(
+        &self,
+        alloc: Global,
+        disk: &D,
+        errors: &mut E,
+    ) -> Result<Answer, ReadFault>
+        ensures ok { IfOk result (λ a. IsReply (D.facts disk.now) self.now (reply_of a)) }
+        ensures cause { IsErrOf result ReadFault.Unreadable → IsUnread (D.facts disk.now) self.now }
+        ensures quiet { self.now.progress ≡ false → errors.new ≡ errors.old }
     {
-        let text = manifest_of(alloc, sources.files())?;
-        Ok(Answer::Text(text))
+        let unnamed = Manifest::Unnamed;
+        let lines = match looks_in(alloc, disk, self.folder, &unnamed, errors, self.progress) {
+            Ok(lines) => lines,
+            Err(fault) => return Err(fault),
+        };
+        match manifest_write(alloc, &lines) {
+            Ok(text) => Ok(Answer::Text(text)),
+            Err(_) => Err(ReadFault::OutOfMemory),
+        }
     }
 }

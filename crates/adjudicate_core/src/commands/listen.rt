@@ -1,15 +1,18 @@
 //! `listen`: an arbiter that answers datagrams; these are its words, and `listening` serves them.
 
-ghost use Rattle.std.specs.Prelude.{ℕ, Bool, List, IfSome, IfNone};
+ghost use Rattle.std.specs.Prelude.{IfOk, IfErr};
 ghost use Rattle.clap.specs.Words.{found_of, first_value};
-ghost use Rattle.move_msg.specs.declared.who.Who.{Who};
-ghost use Rattle.adjudicate_core.specs.Inside.ListeningParts.{AreEnds, AreGameWords, AreTerms, IsName};
+ghost use Rattle.adjudicate_core.specs.Inside.ListeningParts.{AreEnds, AreTerms};
+ghost use Rattle.adjudicate_core.specs.Commands.Listen.{end_faults, term_faults};
+ghost use Rattle.adjudicate_core.specs.Misuses.{AreWell, IsFirst, fault_words};
 
 use super::{Form, Value};
-use crate::numbers::{Delay, datagrams_of, is_set, me_of};
+use crate::numbers::{Delay, is_set};
 use crate::sources::Places;
+use crate::usage::ValueFault;
+use crate::values::{datagrams_in, delay_in, game_words_in, me_in, option_in};
 use clap::ArgMatches;
-use move_msg::{Who, is_game_name};
+use move_msg::Who;
 
 /// What an arbiter that answers datagrams is opened from.
 #[derive(Clone, Copy)]
@@ -24,7 +27,7 @@ pub struct Listen<'a> {
     pub me: Who,
     /// The address at which datagrams come.
     pub bind: &'a str,
-    /// The address to which messages are sent.
+    /// The addresses to which messages are sent, which commas part.
     pub to: &'a str,
     /// The file in which the record is kept.
     pub kept: &'a str,
@@ -40,35 +43,35 @@ pub struct Listen<'a> {
 pub(crate) const VALUES: [Value; 10] = [
     Value {
         name: "name",
-        form: Form::NeededOption,
+        form: Form::Option,
     },
     Value {
         name: "start",
-        form: Form::NeededOption,
+        form: Form::Option,
     },
     Value {
         name: "tables",
-        form: Form::NeededOption,
+        form: Form::Option,
     },
     Value {
         name: "me",
-        form: Form::NeededOption,
+        form: Form::Option,
     },
     Value {
         name: "bind",
-        form: Form::NeededOption,
+        form: Form::Option,
     },
     Value {
         name: "to",
-        form: Form::NeededOption,
+        form: Form::Option,
     },
     Value {
         name: "kept",
-        form: Form::NeededOption,
+        form: Form::Option,
     },
     Value {
         name: "datagrams",
-        form: Form::NeededOption,
+        form: Form::Option,
     },
     Value {
         name: "delay",
@@ -79,14 +82,6 @@ pub(crate) const VALUES: [Value; 10] = [
         form: Form::Flag,
     },
 ];
-
-/// The words on the game.
-#[derive(Clone, Copy)]
-struct GameWords<'a> {
-    name: &'a str,
-    start: &'a str,
-    tables: &'a str,
-}
 
 /// The addresses and the kept file.
 #[derive(Clone, Copy)]
@@ -105,71 +100,58 @@ struct Terms {
     fetch: bool,
 }
 
-/// The name of a game.
-fn game_name_in<'a>(matches: &ArgMatches<'a>) -> Option<&'a str>
-    ensures some { IfSome result (λ name. IsName (first_value (found_of matches.now)) name.now) }
-    ensures none { IfNone result ((name : List ℕ) → IsName (first_value (found_of matches.now)) name → ⊥) }
+/// The addresses and the kept file, of options that have to be there.
+fn ends_in<'a>(matches: &ArgMatches<'a>) -> Result<Ends<'a>, ValueFault<'a>>
+    ensures ok { IfOk result (λ e. AreEnds (first_value (found_of matches.now)) e.bind.now e.to.now e.kept.now) }
+    ensures well { IfOk result (λ e. AreWell (first_value (found_of matches.now)) end_faults) }
+    ensures err { IfErr result (λ fault. IsFirst (first_value (found_of matches.now)) end_faults (fault_words fault)) }
 {
-    match matches.get_str("name") {
-        Some(name) if is_game_name(name.as_bytes()) => Some(name),
-        _ => None,
-    }
-}
-
-/// The words on the game; none where one of them isn't there, or no game may have the name.
-fn game_words_of<'a>(matches: &ArgMatches<'a>) -> Option<GameWords<'a>>
-    ensures some { IfSome result (λ w. AreGameWords (first_value (found_of matches.now)) w.name.now w.start.now w.tables.now) }
-    ensures none { IfNone result ((name start tables : List ℕ) → AreGameWords (first_value (found_of matches.now)) name start tables → ⊥) }
-{
-    Some(GameWords {
-        name: game_name_in(matches)?,
-        start: matches.get_str("start")?,
-        tables: matches.get_str("tables")?,
+    Ok(Ends {
+        bind: option_in(matches, "bind")?,
+        to: option_in(matches, "to")?,
+        kept: option_in(matches, "kept")?,
     })
 }
 
-/// The addresses and the kept file; none where one of them isn't there.
-fn ends_of<'a>(matches: &ArgMatches<'a>) -> Option<Ends<'a>>
-    ensures some { IfSome result (λ e. AreEnds (first_value (found_of matches.now)) e.bind.now e.to.now e.kept.now) }
-    ensures none { IfNone result ((bind to kept : List ℕ) → AreEnds (first_value (found_of matches.now)) bind to kept → ⊥) }
+/// The numbers, and whether it asks first.
+fn terms_in<'a>(matches: &ArgMatches<'a>) -> Result<Terms, ValueFault<'a>>
+    ensures ok { IfOk result (λ t. AreTerms (first_value (found_of matches.now)) t.me t.datagrams t.delay t.fetch) }
+    ensures err { IfErr result (λ fault. IsFirst (first_value (found_of matches.now)) term_faults (fault_words fault)) }
 {
-    Some(Ends {
-        bind: matches.get_str("bind")?,
-        to: matches.get_str("to")?,
-        kept: matches.get_str("kept")?,
-    })
-}
-
-/// The numbers; none where one of them isn't one that the command takes.
-fn terms_of(matches: &ArgMatches<'_>) -> Option<Terms>
-    ensures some { IfSome result (λ t. AreTerms (first_value (found_of matches.now)) t.me t.datagrams t.delay t.fetch) }
-    ensures none { IfNone result ((me : Who) (datagrams delay : ℕ) (fetch : Bool) → AreTerms (first_value (found_of matches.now)) me datagrams delay fetch → ⊥) }
-{
-    Some(Terms {
-        me: me_of(matches.get_str("me"))?,
-        datagrams: datagrams_of(matches.get_str("datagrams"))?,
-        delay: Delay::of(matches.get_str("delay"))?,
+    Ok(Terms {
+        me: me_in(matches)?,
+        datagrams: datagrams_in(matches)?,
+        delay: delay_in(matches)?,
         fetch: is_set(matches.get_str("fetch")),
     })
 }
 
 impl<'a> Listen<'a> {
-    ghost use Rattle.std.specs.Prelude.{◌≡◌, IfSome, IfNone};
+    ghost use Rattle.std.specs.Prelude.{◌≡◌, IfOk, IfErr};
     ghost use Rattle.clap.specs.Words.{found_of, first_value};
     ghost use Rattle.adjudicate_core.specs.Sources.{named_by};
-    ghost use Rattle.adjudicate_core.specs.Commands.Listen.{IsListening, Lacks, named};
+    ghost use Rattle.adjudicate_core.specs.Misuses.{IsFirst, fault_words};
+    ghost use Rattle.adjudicate_core.specs.Commands.Listen.{IsListening, faults, named};
 
-    /// What these values tell; none where one that is needed has none, a number isn't one that the command takes, or no game
-    /// may have the name.
-    pub(crate) fn of(matches: &ArgMatches<'a>) -> Option<Listen<'a>>
-        ensures some { IfSome result (IsListening (first_value (found_of matches.now))) }
-        ensures none { IfNone result (Lacks (first_value (found_of matches.now))) }
+    /// The task with these values, or the first thing that is wrong with them.
+    pub(crate) fn of(matches: &ArgMatches<'a>) -> Result<Listen<'a>, ValueFault<'a>>
+        ensures ok { IfOk result (IsListening (first_value (found_of matches.now))) }
+        ensures err { IfErr result (λ fault. IsFirst (first_value (found_of matches.now)) faults (fault_words fault)) }
     {
-        let game = game_words_of(matches)?;
-        let ends = ends_of(matches)?;
-        let terms = terms_of(matches)?;
-        Some(Listen {
-            name: game.name,
+        let game = match game_words_in(matches) {
+            Ok(game) => game,
+            Err(fault) => return Err(fault),
+        };
+        let ends = match ends_in(matches) {
+            Ok(ends) => ends,
+            Err(fault) => return Err(fault),
+        };
+        let terms = match terms_in(matches) {
+            Ok(terms) => terms,
+            Err(fault) => return Err(fault),
+        };
+        Ok(Listen {
+            name: game.name.into_text(),
             start: game.start,
             tables: game.tables,
             me: terms.me,
@@ -190,6 +172,8 @@ impl<'a> Listen<'a> {
             folder: Some(self.tables),
             manifest: None,
             reads_input: false,
+            kept: None,
+            other_kept: None,
         }
     }
 }

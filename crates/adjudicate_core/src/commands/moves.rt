@@ -1,10 +1,11 @@
 //! `moves`: the legal moves of a position.
 
-ghost use Rattle.std.specs.Prelude.{◌≡◌, IfOk, IfNone, IfSome, OnErr};
+ghost use Rattle.std.specs.Prelude.{◌≡◌, IfOk, OnErr, IfErr};
 ghost use Rattle.clap.specs.Words.{first_value, found_of};
-ghost use Rattle.adjudicate_core.specs.Commands.Moves.{HasValues, IsMoves, IsReply, Lacks, named};
+ghost use Rattle.adjudicate_core.specs.Commands.Moves.{HasValues, IsMoves, IsReply, faults, named};
 ghost use Rattle.adjudicate_core.specs.Inside.Asked.{reply_of};
 ghost use Rattle.adjudicate_core.specs.Reply.{IsText};
+ghost use Rattle.adjudicate_core.specs.Misuses.{IsFirst, fault_words};
 ghost use Rattle.adjudicate_core.specs.Sources.{named_by};
 
 use super::{Form, Value};
@@ -12,6 +13,8 @@ use crate::answers::Answer;
 use crate::lines::Line;
 use crate::refusals::Refusal;
 use crate::sources::Places;
+use crate::usage::ValueFault;
+use crate::values::word_in;
 use board_core::Position;
 use clap::ArgMatches;
 use fen_text::read;
@@ -44,13 +47,13 @@ fn answer_moves(alloc: Global, position: &Position) -> Result<Answer, AllocError
 }
 
 impl<'a> Moves<'a> {
-    /// The task with these values; none where it lacks one that it needs.
-    pub(crate) fn of(matches: &ArgMatches<'a>) -> Option<Moves<'a>>
-        ensures some { IfSome result (HasValues (first_value (found_of matches.now))) }
-        ensures none { IfNone result (Lacks (first_value (found_of matches.now))) }
+    /// The task with these values, or the first thing that is wrong with them.
+    pub(crate) fn of(matches: &ArgMatches<'a>) -> Result<Moves<'a>, ValueFault<'a>>
+        ensures ok { IfOk result (HasValues (first_value (found_of matches.now))) }
+        ensures err { IfErr result (λ fault. IsFirst (first_value (found_of matches.now)) faults (fault_words fault)) }
     {
-        Some(Moves {
-            fen: matches.get_str("FEN")?,
+        Ok(Moves {
+            fen: word_in(matches, "FEN")?,
         })
     }
 
@@ -62,6 +65,8 @@ impl<'a> Moves<'a> {
             folder: None,
             manifest: None,
             reads_input: false,
+            kept: None,
+            other_kept: None,
         }
     }
 

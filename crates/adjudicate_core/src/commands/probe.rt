@@ -1,11 +1,12 @@
 //! `probe`: what tables tell of a position.
 
-ghost use Rattle.std.specs.Prelude.{◌≡◌, IfOk, IfNone, IfSome, OnErr};
+ghost use Rattle.std.specs.Prelude.{◌≡◌, IfOk, OnErr, IfErr};
 ghost use Rattle.clap.specs.Words.{first_value, found_of};
-ghost use Rattle.adjudicate_core.specs.Commands.Probe.{HasValues, IsReply, IsTold, Lacks, named, told};
+ghost use Rattle.adjudicate_core.specs.Commands.Probe.{HasValues, IsReply, IsTold, faults, named, told};
 ghost use Rattle.adjudicate_core.specs.Inside.Asked.{reply_of};
 ghost use Rattle.adjudicate_core.specs.Looks.{gathered};
 ghost use Rattle.adjudicate_core.specs.Reply.{ByTables, IsText};
+ghost use Rattle.adjudicate_core.specs.Misuses.{IsFirst, fault_words};
 ghost use Rattle.adjudicate_core.specs.Sources.{named_by};
 
 use super::{Form, Value};
@@ -14,6 +15,8 @@ use crate::lines::Line;
 use crate::refusals::Refusal;
 use crate::sources::{Places, Sources};
 use crate::tables::gather;
+use crate::usage::ValueFault;
+use crate::values::{option_in, word_in};
 use board_core::Position;
 use clap::ArgMatches;
 use fen_text::read;
@@ -35,7 +38,7 @@ pub struct Probe<'a> {
 pub(crate) const VALUES: [Value; 3] = [
     Value {
         name: "tables",
-        form: Form::NeededOption,
+        form: Form::Option,
     },
     Value {
         name: "manifest",
@@ -78,15 +81,15 @@ fn told_of(alloc: Global, sources: &Sources, position: &Position) -> Result<Answ
 }
 
 impl<'a> Probe<'a> {
-    /// The task with these values; none where it lacks one that it needs.
-    pub(crate) fn of(matches: &ArgMatches<'a>) -> Option<Probe<'a>>
-        ensures some { IfSome result (HasValues (first_value (found_of matches.now))) }
-        ensures none { IfNone result (Lacks (first_value (found_of matches.now))) }
+    /// The task with these values, or the first thing that is wrong with them.
+    pub(crate) fn of(matches: &ArgMatches<'a>) -> Result<Probe<'a>, ValueFault<'a>>
+        ensures ok { IfOk result (HasValues (first_value (found_of matches.now))) }
+        ensures err { IfErr result (λ fault. IsFirst (first_value (found_of matches.now)) faults (fault_words fault)) }
     {
-        Some(Probe {
-            tables: matches.get_str("tables")?,
+        Ok(Probe {
+            tables: option_in(matches, "tables")?,
             manifest: matches.get_str("manifest"),
-            fen: matches.get_str("FEN")?,
+            fen: word_in(matches, "FEN")?,
         })
     }
 
@@ -98,6 +101,8 @@ impl<'a> Probe<'a> {
             folder: Some(self.tables),
             manifest: self.manifest,
             reads_input: false,
+            kept: None,
+            other_kept: None,
         }
     }
 

@@ -1,11 +1,12 @@
 //! `probes`: what tables tell of the positions of the input, a line each.
 
-ghost use Rattle.std.specs.Prelude.{◌≡◌, false, IfOk, IfNone, IfSome, OnErr};
+ghost use Rattle.std.specs.Prelude.{◌≡◌, false, IfOk, OnErr, IfErr};
 ghost use Rattle.clap.specs.Words.{first_value, found_of};
 ghost use Rattle.board_core.specs.Position.{IsPosition};
 ghost use Rattle.fen_text.specs.Fen.{SpellsPosition};
-ghost use Rattle.adjudicate_core.specs.Commands.Probes.{HasValues, Lacks, PutsLines, PutsLinesOrNone, PutsProbes, TellsLine, named};
+ghost use Rattle.adjudicate_core.specs.Commands.Probes.{HasValues, PutsLines, PutsLinesOrNone, PutsProbes, TellsLine, faults, named};
 ghost use Rattle.adjudicate_core.specs.Lines.{words_of};
+ghost use Rattle.adjudicate_core.specs.Misuses.{IsFirst, fault_words};
 ghost use Rattle.adjudicate_core.specs.Sources.{named_by};
 ghost use Rattle.adjudicate_core.specs.Reply.{IsText};
 
@@ -17,13 +18,15 @@ use crate::refusals::Refusal;
 use crate::sources::{Places, Sources};
 use crate::tables::gather;
 use crate::told_lines::{TellFault, Teller, tell_lines};
+use crate::usage::ValueFault;
+use crate::values::option_in;
 use board_core::Position;
 use clap::ArgMatches;
 use fen_text::read;
 use judge_core::Set;
 use std::alloc::{AllocError, Global};
 use std::io::Write;
-use system_io::{Input, LineReader, WriteFault};
+use system_io::{Input, LineReader, Output, WriteFault};
 
 /// What tables tell of the positions of the input.
 #[derive(Clone, Copy)]
@@ -40,7 +43,7 @@ pub struct Probes<'a> {
 pub(crate) const VALUES: [Value; 3] = [
     Value {
         name: "tables",
-        form: Form::NeededOption,
+        form: Form::Option,
     },
     Value {
         name: "manifest",
@@ -110,7 +113,7 @@ impl<'a> Teller for Prober<'a> {
 
 /// Writes what a set tells of each line of an input as it comes, and tells the status; on the way it tells how far it is, where
 /// that is wanted.
-fn put_probes<L: LineReader, W: Write, E: Write>(
+fn put_probes<L: LineReader, W: Output, E: Write>(
     alloc: Global,
     set: Set<'_>,
     lines: &mut L,
@@ -129,7 +132,7 @@ fn put_probes<L: LineReader, W: Write, E: Write>(
 }
 
 /// Reads an input by lines, and writes what a set tells of each; where memory for reading is refused, that alone is told.
-fn put_probes_of<I: Input, W: Write, E: Write>(
+fn put_probes_of<I: Input, W: Output, E: Write>(
     alloc: Global,
     set: Set<'_>,
     input: &I,
@@ -147,13 +150,13 @@ fn put_probes_of<I: Input, W: Write, E: Write>(
 }
 
 impl<'a> Probes<'a> {
-    /// The task with these values; none where it lacks one that it needs.
-    pub(crate) fn of(matches: &ArgMatches<'a>) -> Option<Probes<'a>>
-        ensures some { IfSome result (HasValues (first_value (found_of matches.now))) }
-        ensures none { IfNone result (Lacks (first_value (found_of matches.now))) }
+    /// The task with these values, or the first thing that is wrong with them.
+    pub(crate) fn of(matches: &ArgMatches<'a>) -> Result<Probes<'a>, ValueFault<'a>>
+        ensures ok { IfOk result (HasValues (first_value (found_of matches.now))) }
+        ensures err { IfErr result (λ fault. IsFirst (first_value (found_of matches.now)) faults (fault_words fault)) }
     {
-        Some(Probes {
-            tables: matches.get_str("tables")?,
+        Ok(Probes {
+            tables: option_in(matches, "tables")?,
             manifest: matches.get_str("manifest"),
             progress: is_set(matches.get_str("progress")),
         })
@@ -167,6 +170,8 @@ impl<'a> Probes<'a> {
             folder: Some(self.tables),
             manifest: self.manifest,
             reads_input: false,
+            kept: None,
+            other_kept: None,
         }
     }
 
@@ -176,7 +181,7 @@ impl<'a> Probes<'a> {
     /// Each line is answered before the next one has to be there, and memory is that of the longest line. Where memory is refused,
     /// the line `refused memory` follows the whole lines before it; where the input fails, `refused files`. With `--progress` it
     /// tells `errors` after every 10,000 lines how many are done; without, nothing is written there.
-    pub(crate) fn answer<I: Input, W: Write, E: Write>(
+    pub(crate) fn answer<I: Input, W: Output, E: Write>(
         &self,
         alloc: Global,
         sources: &Sources,

@@ -1,6 +1,6 @@
 //! `run`: two arbiters under the schedule of the input.
 
-ghost use Rattle.std.specs.Prelude.{◌≡◌, ◌<◌, ℕ, Option, length, map, Err, IfOk, IfErr, IfNone, IfSome};
+ghost use Rattle.std.specs.Prelude.{◌≡◌, ◌<◌, ℕ, Option, length, map, Err, IfOk, IfErr};
 ghost use Rattle.clap.specs.Words.{first_value, found_of};
 ghost use Rattle.move_msg.specs.declared.stamp.Stamp.{Stamp};
 ghost use Rattle.move_msg.specs.Files.{AreFiles, file_of};
@@ -13,7 +13,8 @@ ghost use Rattle.relay_world.specs.Worlds.{Judged, Side, World as Worlds};
 ghost use Rattle.move_msg.specs.TextLines.{text_of};
 ghost use Rattle.adjudicate_core.specs.Inside.Asked.{reply_of};
 ghost use Rattle.adjudicate_core.specs.Lines.{refused_line, refusal_words, words_of};
-ghost use Rattle.adjudicate_core.specs.Commands.Run.{HasValues, IsReply, IsRun, Lacks, named};
+ghost use Rattle.adjudicate_core.specs.Commands.Run.{HasValues, IsReply, IsRun, faults, named};
+ghost use Rattle.adjudicate_core.specs.Misuses.{IsFirst, fault_words};
 ghost use Rattle.adjudicate_core.specs.Sources.{named_by};
 ghost use Rattle.adjudicate_core.specs.Schedules.{RefusesTable, counted, game_of, side_words, world_words};
 
@@ -24,6 +25,8 @@ use crate::numbers::{CacheSize, Delay};
 use crate::refusals::Refusal;
 use crate::sources::{Places, Sources};
 use crate::tables::FileFault;
+use crate::usage::ValueFault;
+use crate::values::{cache_in, delay_in};
 use board_core::Verdict;
 use clap::ArgMatches;
 use move_msg::{NamedFile, Who};
@@ -208,15 +211,15 @@ fn answer_schedule(
 }
 
 impl<'a> RunSchedule<'a> {
-    /// The task with these values; none where a number isn't one that it takes.
-    pub(crate) fn of(matches: &ArgMatches<'a>) -> Option<RunSchedule<'a>>
-        ensures some { IfSome result (HasValues (first_value (found_of matches.now))) }
-        ensures none { IfNone result (Lacks (first_value (found_of matches.now))) }
+    /// The task with these values, or the first thing that is wrong with them.
+    pub(crate) fn of(matches: &ArgMatches<'a>) -> Result<RunSchedule<'a>, ValueFault<'a>>
+        ensures ok { IfOk result (HasValues (first_value (found_of matches.now))) }
+        ensures err { IfErr result (λ fault. IsFirst (first_value (found_of matches.now)) faults (fault_words fault)) }
     {
-        Some(RunSchedule {
+        Ok(RunSchedule {
             tables: matches.get_str("tables"),
-            cache: CacheSize::of(matches.get_str("cache"))?,
-            delay: Delay::of(matches.get_str("delay"))?,
+            cache: cache_in(matches)?,
+            delay: delay_in(matches)?,
         })
     }
 
@@ -228,6 +231,8 @@ impl<'a> RunSchedule<'a> {
             folder: self.tables,
             manifest: None,
             reads_input: true,
+            kept: None,
+            other_kept: None,
         }
     }
 

@@ -80,6 +80,8 @@ impl Show {
             folder: None,
             manifest: None,
             reads_input: true,
+            kept: None,
+            other_kept: None,
         }
     }
 

@@ -1,8 +1,10 @@
 -- What is recorded of a game and where it stands, by the rules of its setup; cited by private clauses alone.
-use Rattle.std.specs.Prelude.{◌≡◌, ◌+◌, ◌<◌, ◌≤◌, true, [], ◌∷◌, ◌++◌, length, Some, None}
+use Rattle.std.specs.Prelude.{◌≡◌, ℕ, ◌+◌, ◌<◌, ◌≤◌, true, List, [], ◌∷◌, ◌++◌, length, take, Some, None}
+use Rattle.std.specs.Option.{some_prefix}
 use Rattle.board_core.specs.Delays.{most_delay}
 use Rattle.board_core.specs.declared.moves.Move.{Move}
 use Rattle.board_core.specs.declared.parts.Parts.{Parts}
+use Rattle.judge_core.specs.Answers.{ListsMovesForVerdict}
 use Rattle.judge_core.specs.Games.{Rules, position_after_all, verdict_after}
 use Rattle.judge_core.specs.Standings.{IsAt}
 use Rattle.move_msg.specs.Numbers.{most_moves}
@@ -43,6 +45,12 @@ pub record IsPlan (rules : Rules) (old : Recorded) (m : Move) (window : Window) 
   pub at : IsAt rules p.moves.items p.standing
   pub short : length p.moves.items ≤ most_moves
   pub more : length old.moves < length p.moves.items
+
+-- after this move, or one of those that wait behind it, the game stands at a position of which a verdict lists moves
+abbrev pub ListsMovesAhead : Rules → List Move → Move → Window → Type 0
+ListsMovesAhead rules moves m window =
+    let all = moves ++ m ∷ some_prefix window in
+    (ply : ℕ) × (p : Parts) × (length moves < ply) × (reaches rules all ply ≡ true) × (position_after_all rules.start (take ply all) ≡ Some p) × ListsMovesForVerdict rules.tables p
 
 -- this is recorded after this move and those that wait behind it
 pub record IsPlayedOn (setup : SetupView) (old : Played) (m : Move) (window : Window) (new : Played) : Type 0 where

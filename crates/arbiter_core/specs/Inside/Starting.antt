@@ -6,16 +6,32 @@ use Rattle.arbiter_core.specs.Keeping.{KeeperFacts}
 use Rattle.arbiter_core.specs.declared.keeper.Keep.{Keep}
 use Rattle.arbiter_core.specs.declared.keeper.Keep.TheVariants.{Good, FailsOld, FailsNew}
 use Rattle.arbiter_core.specs.declared.fault.OpenFault.{OpenFault}
-use Rattle.arbiter_core.specs.declared.fault.OpenFault.TheVariants.{KeeperFailed, OutOfMemory}
+use Rattle.arbiter_core.specs.declared.fault.OpenFault.TheVariants.{BadSetup, KeeperFailed, BadRecord, OtherStamp, OutOfMemory}
 use Rattle.arbiter_core.specs.declared.played.Played.{Played}
 use Rattle.arbiter_core.specs.Answering.{Identity}
 use Rattle.system_io.specs.Failures.{Risen}
 use Rattle.arbiter_core.specs.Setups.{SetupView, rules_at}
 use Rattle.move_msg.specs.Records.{WritesRecord}
+use Rattle.move_msg.specs.declared.record_bytes.Record.{Record}
+use Rattle.judge_core.specs.Games.{Rules}
+use Rattle.judge_core.specs.Standings.{ListsMovesInGame}
+use Rattle.arbiter_core.specs.Recording.{Recorded}
 use Rattle.arbiter_core.specs.Views.{spelled_as}
 use Rattle.arbiter_core.specs.Delivers.{IsSpelled, IsWritten}
-use Rattle.arbiter_core.specs.Opens.{first_record, Opens, Told, running}
+use Rattle.arbiter_core.specs.Opens.{first_record, IsOfGame, IsWhole, Opens, Told, running}
 use Rattle.arbiter_core.specs.Inside.Playing.{IsPlayed, recorded_in}
+
+-- what a record says of its game
+abbrev pub recorded_by : Record → Recorded
+recorded_by r = record { moves = r.moves; verdict = r.verdict }
+
+-- why an arbiter can't run from a record; memory is wanted only for a list of moves while it is judged
+abbrev pub IsNotResumed : Rules → Stamp → Record → OpenFault → Type 0
+IsNotResumed rules stamp r OtherStamp = IsOfGame rules stamp r → ⊥
+IsNotResumed rules stamp r BadRecord = IsOfGame rules stamp r × (IsWhole rules (recorded_by r) → ⊥)
+IsNotResumed rules stamp r OutOfMemory = IsOfGame rules stamp r × ListsMovesInGame rules r.moves
+IsNotResumed rules stamp r BadSetup = ⊥
+IsNotResumed rules stamp r KeeperFailed = ⊥
 
 -- a put of the first record with this outcome
 abbrev pub IsPutSo : Keep → SetupView → Identity → Option (List ℕ) → Option (List ℕ) → Result Played OpenFault → Type 0

@@ -1,5 +1,5 @@
 use Rattle.std.proofs.Common.{◌∙◌, ap, sym}
-use Rattle.std.specs.Prelude.{Some, true}
+use Rattle.std.specs.Prelude.{Some}
 use Rattle.clap.specs.Words.{Rule, rule_of}
 use Rattle.clap.specs.declared.builder.action.ArgAction.TheVariants.{SetTrue}
 use Rattle.clap.specs.declared.builder.arg.Arg.{Arg}
@@ -8,13 +8,10 @@ use Rattle.adjudicate_core.specs.declared.commands.Form.{Form}
 use Rattle.adjudicate_core.proofs.commands.arg_of.Goals as goal
 
 pub returns-in-Word-clause-rule : goal.returns-in-Word-clause-rule
-returns-in-Word-clause-rule c =
-    ap rule_of c.required.ensures
-    ∙ ap (λ (r : Rule). record r { required = true }) c.new-arg.ensures.rule
-    ∙ ap (λ (form : Form). rule_of_form form c.args.value.now.name.now) (sym c.in-Word.is)
+returns-in-Word-clause-rule c = c.new-arg.ensures.rule ∙ ap (λ (form : Form). rule_of_form form c.args.value.now.name.now) (sym c.in-Word.is)
 
 pub returns-in-Word-clause-own : goal.returns-in-Word-clause-own
-returns-in-Word-clause-own c = ap (λ (a : Arg). a.global) c.required.ensures ∙ c.new-arg.ensures.optional.1
+returns-in-Word-clause-own c = c.new-arg.ensures.optional.1
 
 pub returns-in-Option-clause-rule : goal.returns-in-Option-clause-rule
 returns-in-Option-clause-rule c =
@@ -24,18 +21,6 @@ returns-in-Option-clause-rule c =
 
 pub returns-in-Option-clause-own : goal.returns-in-Option-clause-own
 returns-in-Option-clause-own c = ap (λ (a : Arg). a.global) c.long.ensures ∙ c.new-arg.ensures.optional.1
-
-pub returns-in-NeededOption-clause-rule : goal.returns-in-NeededOption-clause-rule
-returns-in-NeededOption-clause-rule c =
-    ap rule_of c.required-in-NeededOption.ensures
-    ∙ ap (λ (a : Arg). record (rule_of a) { required = true }) c.long-in-NeededOption.ensures
-    ∙ ap (λ (r : Rule). record r { long = Some c.args.value.now.name.now; required = true }) c.new-arg.ensures.rule
-    ∙ ap (λ (form : Form). rule_of_form form c.args.value.now.name.now) (sym c.in-NeededOption.is)
-
-pub returns-in-NeededOption-clause-own : goal.returns-in-NeededOption-clause-own
-returns-in-NeededOption-clause-own c =
-    ap (λ (a : Arg). a.global) c.required-in-NeededOption.ensures ∙ ap (λ (a : Arg). a.global) c.long-in-NeededOption.ensures
-    ∙ c.new-arg.ensures.optional.1
 
 pub returns-in-Flag-clause-rule : goal.returns-in-Flag-clause-rule
 returns-in-Flag-clause-rule c =

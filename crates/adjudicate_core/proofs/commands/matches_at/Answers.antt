@@ -1,19 +1,30 @@
-use Rattle.std.proofs.Common.{◌∙◌, ap, sym}
+use Rattle.std.proofs.Common.{◌≡◌, ◌∙◌, [], ap}
+use Rattle.std.specs.Prelude.{Result, Ok, Err, IfErr, IfOk}
+use Rattle.std.proofs.lemmas.Result.{IfOk-weaker}
+use Rattle.clap.specs.Kinds.{FailsBy, HasKind, Kinds}
 use Rattle.clap.specs.Words.{found_of, first_of}
+use Rattle.clap.specs.declared.error.Error.{Error}
 use Rattle.clap.proofs.WalkLemmas.{both, first_value-rows}
 use Rattle.adjudicate_core.specs.Rules.{value_in, fault_in}
-use Rattle.adjudicate_core.proofs.Clap.{is_taken_for_memory}
 use Rattle.adjudicate_core.proofs.commands.matches_at.Goals as goal
 
-pub returns-in-Ok-clause-taken : goal.returns-in-Ok-clause-taken
-unfolding fault_in
-returns-in-Ok-clause-taken c = c.in-Ok.ensures.kinds c.requires
+taken_by : {T : Type 0} (kinds : Kinds) (r : Result T Error) → FailsBy kinds r → IfOk r (λ m. kinds ≡ [])
+taken_by kinds (Ok m) h = h
+taken_by kinds (Err e) h = tt
 
-pub returns-in-Ok-clause-values : goal.returns-in-Ok-clause-values
+refused_by : {T : Type 0} (kinds : Kinds) (r : Result T Error) → FailsBy kinds r → IfErr r (HasKind kinds)
+refused_by kinds (Ok m) h = tt
+refused_by kinds (Err e) h = h
+
+pub returns-clause-taken : goal.returns-clause-taken
+unfolding fault_in
+returns-clause-taken c = taken_by _ c.try_get_matches_from.result (c.try_get_matches_from.ensures.kinds c.requires)
+
+pub returns-clause-values : goal.returns-clause-values
 unfolding value_in
-returns-in-Ok-clause-values c = λ id.
-    first_value-rows (found_of c.in-Ok.matches) id ∙ ap (first_of id) (c.in-Ok.ensures.matches (both _ _ c.requires).0).0
+returns-clause-values c =
+    IfOk-weaker c.try_get_matches_from.result _ _ (λ m h. λ id. first_value-rows (found_of m) id ∙ ap (first_of id) (h (both _ _ c.requires).0).0) c.try_get_matches_from.ensures.matches
 
-pub returns-in-Err-clause-misuse : goal.returns-in-Err-clause-misuse
+pub returns-clause-refused : goal.returns-clause-refused
 unfolding fault_in
-returns-in-Err-clause-misuse c = λ is taken. is_taken_for_memory _ c.in-Err.error (c.in-Err.ensures.kinds c.requires) taken (sym c.from.ensures ∙ is)
+returns-clause-refused c = refused_by _ c.try_get_matches_from.result (c.try_get_matches_from.ensures.kinds c.requires)

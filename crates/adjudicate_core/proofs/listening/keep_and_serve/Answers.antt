@@ -1,4 +1,3 @@
-use Rattle.std.proofs.Common.{Err, ap}
 use Rattle.std.proofs.lemmas.Result.{IfOk-weaker}
 use Rattle.adjudicate_core.specs.Listens.{Kept, NoRoomToKeep, Unreadable}
 use Rattle.arbiter_service.proofs.PortLaws.{Passed-nil}
@@ -9,7 +8,7 @@ returns-in-Ok g c = IfOk-weaker c.open_and_serve.result _ _ (λ status h. Kept _
 
 pub returns-in-Err-Unreadable : goal.returns-in-Err-Unreadable
 returns-in-Err-Unreadable g c =
-    IfOk-weaker c.put_refusal.result _ _ (λ status h. Unreadable (c.in-Err-Unreadable.ensures.cause (ap Err c.in-Err-Unreadable.field-0-is)) (Passed-nil _) h) c.put_refusal.ensures
+    IfOk-weaker c.put_refusal.result _ _ (λ status h. Unreadable (rw c.in-Err-Unreadable.field-0-is at c.in-Err-Unreadable.ensures.cause) (Passed-nil _) h) c.put_refusal.ensures
 
 pub returns : goal.returns
-returns g c = IfOk-weaker c.put_refusal-in-Err-OutOfMemory.result _ _ (λ status h. NoRoomToKeep (Passed-nil _) h) c.put_refusal-in-Err-OutOfMemory.ensures
+returns g c = IfOk-weaker c.put_refusal-in-Err-OutOfMemory.result _ _ (λ status h. NoRoomToKeep (rw c.in-Err-OutOfMemory.field-0-is at c.in-Err-OutOfMemory.ensures.cause) (Passed-nil _) h) c.put_refusal-in-Err-OutOfMemory.ensures

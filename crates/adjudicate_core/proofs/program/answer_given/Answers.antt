@@ -1,6 +1,6 @@
 use Rattle.std.proofs.Common.{◌∙◌, refl, sym, ap}
 use Rattle.adjudicate_core.specs.Tasks.{tells_progress}
-use Rattle.adjudicate_core.proofs.AnswerLaws.{once, once_always}
+use Rattle.adjudicate_core.proofs.AnswerLaws.{after_reading, once, once_always}
 use Rattle.adjudicate_core.proofs.program.answer_given.Goals as goal
 
 pub returns-in-Judge : goal.returns-in-Judge
@@ -11,12 +11,6 @@ returns-in-Probe g c = record { answered = rw c.in-Probe.is (once c.answer-in-Pr
 
 pub returns-in-Moves : goal.returns-in-Moves
 returns-in-Moves g c = record { answered = rw c.in-Moves.is (once c.answer-in-Moves.result _ c.answer-in-Moves.ensures.ok c.put_answered-in-Moves.result _ _ c.put_answered-in-Moves.ensures _ c.answer-in-Moves.ensures.memory); quiet = λ unasked. refl }
-
-pub returns-in-List : goal.returns-in-List
-returns-in-List g c = record { answered = rw c.in-List.is (once_always c.answer-in-List.result _ c.answer-in-List.ensures c.put_answered-in-List.result _ _ c.put_answered-in-List.ensures); quiet = λ unasked. refl }
-
-pub returns-in-Check : goal.returns-in-Check
-returns-in-Check g c = record { answered = rw c.in-Check.is (once_always c.answer-in-Check.result _ c.answer-in-Check.ensures c.put_answered-in-Check.result _ _ c.put_answered-in-Check.ensures); quiet = λ unasked. refl }
 
 pub returns-in-Show : goal.returns-in-Show
 returns-in-Show g c = record { answered = rw c.in-Show.is c.answer-in-Show.ensures; quiet = λ unasked. refl }
@@ -32,3 +26,21 @@ returns-in-Probes g c = record { answered = rw c.in-Probes.is c.answer-in-Probes
 
 pub returns-in-Game : goal.returns-in-Game
 returns-in-Game g c = record { answered = rw c.in-Game.is (once c.answer-in-Game.result _ c.answer-in-Game.ensures.ok c.put_answered-in-Game.result _ _ c.put_answered-in-Game.ensures _ c.answer-in-Game.ensures.memory); quiet = λ unasked. refl }
+
+pub returns-in-List : goal.returns-in-List
+returns-in-List g c = record { answered = rw c.in-List.is (after_reading c.answer-in-List.result _ _ c.answer-in-List.ensures.ok c.answer-in-List.ensures.cause c.put_read.result _ _ c.put_read.ensures); quiet = λ unasked. c.answer-in-List.ensures.quiet (ap tells_progress (sym c.in-List.is) ∙ unasked) }
+
+pub returns-in-Check : goal.returns-in-Check
+returns-in-Check g c = record { answered = rw c.in-Check.is (after_reading c.answer-in-Check.result _ _ c.answer-in-Check.ensures.ok c.answer-in-Check.ensures.cause c.put_read-in-Check.result _ _ c.put_read-in-Check.ensures); quiet = λ unasked. c.answer-in-Check.ensures.quiet (ap tells_progress (sym c.in-Check.is) ∙ unasked) }
+
+pub returns-in-Record : goal.returns-in-Record
+returns-in-Record g c = record { answered = rw c.in-Record.is c.answer-in-Record.ensures; quiet = λ unasked. refl }
+
+pub returns-in-Audit : goal.returns-in-Audit
+returns-in-Audit g c = record { answered = rw c.in-Audit.is (once c.answer-in-Audit.result _ c.answer-in-Audit.ensures.ok c.put_answered-in-Audit.result _ _ c.put_answered-in-Audit.ensures _ c.answer-in-Audit.ensures.memory); quiet = λ unasked. refl }
+
+pub returns-in-Version : goal.returns-in-Version
+returns-in-Version g c = record { answered = rw c.in-Version.is c.answer-in-Version.ensures; quiet = λ unasked. refl }
+
+pub returns-in-Send : goal.returns-in-Send
+returns-in-Send g c = record { answered = rw c.in-Send.is c.send.ensures; quiet = λ unasked. refl }

@@ -1,4 +1,4 @@
-use Rattle.std.proofs.Common.{◌≡◌, Bool, true, false, refl, inl, inr}
+use Rattle.std.proofs.Common.{◌≡◌, Bool, true, false, refl, inr}
 use Rattle.std.proofs.lemmas.Result.{IfOk-weaker}
 use Rattle.adjudicate_core.specs.Running.{ToTask, ToMisuse}
 use Rattle.adjudicate_core.proofs.program.run.Goals as goal
@@ -13,8 +13,5 @@ returns-in-Ok g c = record {
   quiet = λ differ. inr (c.in-Ok.task, c.in-Ok.ensures.ok, not_quiet _ c.run_task.ensures.quiet differ);
 }
 
-pub returns-in-Err-Misuse : goal.returns-in-Err-Misuse
-returns-in-Err-Misuse g c = record {
-  runs = ToMisuse (c.in-Err-Misuse.ensures.misuse c.in-Err-Misuse.field-0-is) refl refl;
-  quiet = λ differ. inl refl;
-}
+pub returns-in-Err-Misuse-clause-runs : goal.returns-in-Err-Misuse-clause-runs
+returns-in-Err-Misuse-clause-runs g c = ToMisuse c.in-Err-Misuse.misuse (c.in-Err-Misuse.ensures.misuse c.in-Err-Misuse.misuse c.in-Err-Misuse.field-0-is) refl refl

@@ -1,6 +1,7 @@
-use Rattle.std.proofs.Common.{ap}
+use Rattle.std.proofs.Common.{◌≡◌, Err, ap, rules}
 use Rattle.std.proofs.lemmas.Result.{IfOk-weaker}
-use Rattle.adjudicate_core.specs.Running.{OnWords, called_by}
+use Rattle.adjudicate_core.specs.declared.usage.WordsFault.TheVariants.{NoText}
+use Rattle.adjudicate_core.specs.Running.{OnNone, OnWords, called_by}
 use Rattle.adjudicate_core.proofs.program.run_program.Goals as goal
 
 pub returns-in-Ok-tail_of : goal.returns-in-Ok-tail_of
@@ -9,3 +10,8 @@ returns-in-Ok-tail_of g c =
     let on_rest = rw c.in-Ok-tail_of.ensures at on_tail in
     let on_words = rw c.deref.ensures.value at on_rest in
     IfOk-weaker c.run.result _ _ (λ status h. OnWords _ (ap called_by c.in-Ok.is) h) on_words
+
+pub returns-in-Err-NoText : goal.returns-in-Err-NoText
+returns-in-Err-NoText g c =
+    let is : called_by c.args.called.now ≡ Err NoText = search rules in
+    IfOk-weaker c.run-in-Err-NoText.result _ _ (λ status h. OnNone is h) c.run-in-Err-NoText.ensures.runs

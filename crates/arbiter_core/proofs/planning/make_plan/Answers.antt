@@ -1,15 +1,17 @@
-use Rattle.std.proofs.Common.{◌≡◌, ℕ, ◌+◌, ◌<◌, ◌≤◌, List, [], ◌∷◌, ◌++◌, length, length-append, get_or, Option, Some, None, arith, refl, sym, ◌∙◌, ap, subst}
+use Rattle.std.proofs.Common.{◌≡◌, ℕ, ◌+◌, ◌<◌, ◌≤◌, List, [], ◌∷◌, ◌++◌, length, length-append, get_or, Option, Some, None, Result, Ok, Err, arith, refl, sym, ◌∙◌, ap, subst}
+use Rattle.std.specs.Prelude.{OnErr}
 use Rattle.board_core.specs.declared.parts.Parts.{Parts}
 use Rattle.board_core.specs.declared.moves.Move.{Move}
 use Rattle.board_core.specs.ComputedMoves.{position_after}
-use Rattle.judge_core.specs.Tables.{Holding}
+use Rattle.judge_core.specs.Answers.{ListsMovesForVerdict}
+use Rattle.judge_core.specs.Tables.{Holding, Tables}
 use Rattle.move_msg.specs.Numbers.{most_moves}
 use Rattle.judge_core.specs.Games.{Rules}
 use Rattle.judge_core.specs.Standings.{IsAt}
 use Rattle.arbiter_core.specs.declared.setup.Setup.{Setup}
 use Rattle.arbiter_core.specs.Recording.{Window}
 use Rattle.arbiter_core.specs.Setups.{rules_at, setup_view}
-use Rattle.arbiter_core.proofs.PlanLaws.{plan_starts, planned, ends_ruled, ends_none, ends_past, ends_illegal, goes_on, default_free, next_position}
+use Rattle.arbiter_core.proofs.PlanLaws.{plan_starts, planned, ends_ruled, ends_none, ends_past, ends_illegal, goes_on, default_free, lists_first, lists_next, next_position}
 use Rattle.arbiter_core.proofs.Settling.{reach_next}
 use Rattle.arbiter_core.proofs.planning.make_plan.Goals as goal
 
@@ -25,13 +27,16 @@ loop-slot-init c =
     let next = c.requires.next in
     let legal : position_after c.args.played.now.standing.position m ≡ Some c.args.position = sym (next_position r before c.args.played.now.standing m own.at) ∙ next.legal in
     let reached = reach_next r before m c.args.played.now.standing c.args.position c.args.played.now.record.verdict own.at own.ruled next.unruled own.reached legal in
-    let pushed : c.push.new.self.items ≡ before ++ m ∷ [] =
-    c.in_ok-push.ensures.items ∙ ap (λ (xs : List Move). xs ++ m ∷ []) (c.in_ok-extend_from_slice.ensures.items ∙ ap (λ (xs : List Move). xs ++ c.as_slice-before.result.now) c.in_ok-moves.ensures.items ∙ c.as_slice-before.ensures.moves) in
-    let size : length c.push.new.self.items ≡ length before + 1 = ap length pushed ∙ simp length-append in
+    let pushed : c.push_reserved.new.self.items ≡ before ++ m ∷ [] = c.push_reserved.ensures.items ∙ ap (λ (xs : List Move). xs ++ m ∷ []) c.requires.copied in
+    let room = c.requires.room in
+    let capacity = c.push_reserved.ensures.capacity in
+    let copied = ap length c.requires.copied in
+    let size : length c.push_reserved.new.self.items ≡ length before + 1 = ap length pushed ∙ simp length-append in
     let short = next.short in
     let at : IsAt r (before ++ m ∷ []) c.in_ok-standing.standing = c.in_ok-standing.ensures.at r before m refl own.at legal in
     record {
       same = same_setup c.args.setup.now c.args.setup.now _ c.in_ok-standing.ensures.unchanged refl;
+      room = omega arith;
       short = omega arith;
       plan = plan_starts r before m c.args.window.now _ _ _ pushed at (c.verdict-verdict.ensures r (before ++ m ∷ []) refl at) reached;
     }
@@ -47,19 +52,19 @@ slot_is w v i o p e l is here = subst (λ (x : Window). (i < length x) × (get_o
 
 pub returns-in_default-clause-planned : goal.returns-in_default-clause-planned
 returns-in_default-clause-planned c =
-    let slot = slot_is c.args.window.now _ _ _ None c.places-slot-items.ensures c.loop-slot-test.true c.slot-item.is c.in_default.is in
+    let slot = slot_is c.args.window.now _ _ _ None c.places-slot-items.ensures.places c.loop-slot-test.true c.slot-item.is c.in_default.is in
     planned _ _ _ _ _ _ c.loop-slot.invariant.plan c.loop-slot.invariant.short (ends_none _ _ _ _ _ _ _ _ c.loop-slot.invariant.plan slot.0 slot.1)
 
 pub returns-in_default-play-clause-planned : goal.returns-in_default-play-clause-planned
 returns-in_default-play-clause-planned c =
-    let slot = slot_is c.args.window.now _ _ _ (Some c.in-Some.m) c.places-slot-items.ensures c.loop-slot-test.true c.slot-item.is c.in-Some.is in
+    let slot = slot_is c.args.window.now _ _ _ (Some c.in-Some.m) c.places-slot-items.ensures.places c.loop-slot-test.true c.slot-item.is c.in-Some.is in
     planned _ _ _ _ _ _ c.loop-slot.invariant.plan c.loop-slot.invariant.short
     (ends_illegal _ _ _ _ _ _ _ _ _ c.loop-slot.invariant.plan slot.0 slot.1
     (ap (λ (p : Parts). position_after p c.in-Some.m) (sym c.position.ensures) ∙ sym c.play.ensures.computed ∙ c.in_default-play.is))
 
 pub returns-clause-planned : goal.returns-clause-planned
 returns-clause-planned c =
-    let end : length c.args.window.now ≤ c.loop-slot.slot-index = subst (λ (w : Window). length w ≤ c.loop-slot.slot-index) c.places-slot-items.ensures c.loop-slot-test.false in
+    let end : length c.args.window.now ≤ c.loop-slot.slot-index = subst (λ (w : Window). length w ≤ c.loop-slot.slot-index) c.places-slot-items.ensures.places c.loop-slot-test.false in
     planned _ _ _ _ _ _ c.loop-slot.invariant.plan c.loop-slot.invariant.short (ends_past _ _ _ _ _ _ _ _ c.loop-slot.invariant.plan end)
 
 pub loop-slot-preserved : goal.loop-slot-preserved
@@ -67,17 +72,44 @@ loop-slot-preserved c =
     let r : Rules = rules_at (setup_view c.args.setup.now) in
     let m : Move = c.in-Some.m in
     let moves : List Move = c.loop-slot.plan.moves.items in
-    let slot = slot_is c.args.window.now _ _ _ (Some m) c.places-slot-items.ensures c.loop-slot-test.true c.slot-item.is c.in-Some.is in
+    let slot = slot_is c.args.window.now _ _ _ (Some m) c.places-slot-items.ensures.places c.loop-slot-test.true c.slot-item.is c.in-Some.is in
     let tables = sym (ap (λ (s : Setup). s.set.tables) c.loop-slot.invariant.same) in
     let legal : position_after c.loop-slot.plan.standing.position m ≡ Some c.in-Some-play.position =
     ap (λ (p : Parts). position_after p m) (sym c.position.ensures) ∙ sym c.play.ensures.computed ∙ c.in-Some-play.is in
     let at : IsAt r (moves ++ m ∷ []) c.in_ok-plan.field-0 = c.in_ok-plan.ensures.at r moves m tables c.loop-slot.invariant.plan.at legal in
     let near : length c.args.played.now.record.moves + 1 + c.loop-slot.slot-index < most_moves = c.requires.in_order.near c.loop-slot.slot-index m slot.1 in
     let count = c.loop-slot.invariant.plan.count in
-    let pushed = c.in_ok-push-2.ensures.items in
-    let size : length c.push-in-loop-slot.new.self.items ≡ length c.loop-slot.plan.moves.items + 1 = ap length pushed ∙ simp length-append in
+    let pushed = c.push_reserved-in-loop-slot.ensures.items in
+    let room = c.loop-slot.invariant.room in
+    let capacity = c.push_reserved-in-loop-slot.ensures.capacity in
+    let size : length c.push_reserved-in-loop-slot.new.self.items ≡ length c.loop-slot.plan.moves.items + 1 = ap length pushed ∙ simp length-append in
     record {
       same = same_setup c.loop-slot.setup c.args.setup.now _ c.in_ok-plan.ensures.unchanged c.loop-slot.invariant.same;
+      room = omega arith;
       short = omega arith;
       plan = rw pushed (goes_on _ _ _ _ _ _ _ _ m _ _ c.loop-slot.invariant.plan (sym c.is_some.ensures ∙ c.if-is_some.false) slot.0 slot.1 at (c.verdict-plan.ensures r (moves ++ m ∷ []) refl at));
     }
+
+owed : {P T E : Type 0} (r : Result T E) → P → OnErr r P
+owed (Ok x) p = tt
+owed (Err e) p = p
+
+-- memory is wanted where the position after the move lists moves
+pub returns-in_err-standing-clause-memory : goal.returns-in_err-standing-clause-memory
+returns-in_err-standing-clause-memory c =
+    let r : Rules = rules_at (setup_view c.args.setup.now) in
+    let before : List Move = c.args.played.now.record.moves in
+    let m : Move = c.args.m in
+    let own = c.requires.in_order.played in
+    let next = c.requires.next in
+    let legal : position_after c.args.played.now.standing.position m ≡ Some c.args.position = sym (next_position r before c.args.played.now.standing m own.at) ∙ next.legal in
+    owed c.from_residual.result (lists_first r before m c.args.window.now c.args.position (reach_next r before m c.args.played.now.standing c.args.position c.args.played.now.record.verdict own.at own.ruled next.unruled own.reached legal) next.legal c.in_err-standing.ensures.memory)
+
+-- or that after one that waited
+pub returns-in_err-plan-clause-memory : goal.returns-in_err-plan-clause-memory
+returns-in_err-plan-clause-memory c =
+    let slot = slot_is c.args.window.now _ _ _ (Some c.in-Some.m) c.places-slot-items.ensures.places c.loop-slot-test.true c.slot-item.is c.in-Some.is in
+    let legal : position_after c.loop-slot.plan.standing.position c.in-Some.m ≡ Some c.in-Some-play.position =
+    ap (λ (p : Parts). position_after p c.in-Some.m) (sym c.position.ensures) ∙ sym c.play.ensures.computed ∙ c.in-Some-play.is in
+    owed c.from_residual-in_err-plan.result (lists_next _ _ _ _ _ _ _ _ c.in-Some.m c.in-Some-play.position c.loop-slot.invariant.plan (sym c.is_some.ensures ∙ c.if-is_some.false) slot.0 slot.1 legal
+    (subst (λ (t : Tables). ListsMovesForVerdict t c.in-Some-play.position) (ap (λ (s : Setup). s.set.tables) c.loop-slot.invariant.same) c.in_err-plan.ensures.memory))

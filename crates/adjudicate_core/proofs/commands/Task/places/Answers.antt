@@ -29,3 +29,12 @@ returns-in-Probes c = rw c.in-Probes.is c.places-in-Probes.ensures
 
 pub returns-in-Game : goal.returns-in-Game
 returns-in-Game c = rw c.in-Game.is c.places-in-Game.ensures
+
+pub returns-in-Record : goal.returns-in-Record
+returns-in-Record c = rw c.in-Record.is c.places-in-Record.ensures
+
+pub returns-in-Audit : goal.returns-in-Audit
+returns-in-Audit c = rw c.in-Audit.is c.places-in-Audit.ensures
+
+pub returns-in-Version : goal.returns-in-Version
+returns-in-Version c = rw c.in-Version.is c.places-in-Version.ensures

@@ -1,4 +1,4 @@
-use Rattle.std.proofs.Common.{◌≡◌, refl}
+use Rattle.std.proofs.Common.{refl}
 use Rattle.adjudicate_core.specs.Commands.Probes.{OfPosition}
 use Rattle.adjudicate_core.proofs.commands.probes.columns.Goals as goal
 

@@ -14,3 +14,8 @@ returns-in-Err-read_folder-clause-cause g c = λ is.
     let same : c.in-Err-read_folder.fault ≡ Unreadable = let i = is in cc in
     let h = c.in-Err-read_folder.ensures.cause (ap Err same) in
     Folder h.0 _ h.1 c.in-Ok.ensures.ok h.2
+
+pub returns-in-Err-read_texts-clause-cause : goal.returns-in-Err-read_texts-clause-cause
+returns-in-Err-read_texts-clause-cause g c = λ is.
+    let same : c.in-Err-read_texts.fault ≡ Unreadable = let i = is in cc in
+    c.in-Err-read_texts.ensures.cause (ap Err same)

@@ -1,10 +1,19 @@
+use Rattle.std.proofs.Common.{◌++◌}
+use Rattle.clap.specs.Words.{first_value, found_of}
+use Rattle.adjudicate_core.specs.Commands.Listen.{end_faults, term_faults}
+use Rattle.adjudicate_core.specs.Misuses.{game_faults}
+use Rattle.adjudicate_core.proofs.MisuseLaws.{first_behind, first_in_front}
 use Rattle.adjudicate_core.proofs.commands.listen.Listen.of.Goals as goal
 
-pub returns-in_err-game-clause-none : goal.returns-in_err-game-clause-none
-returns-in_err-game-clause-none c = rw c.from_residual.ensures (λ l is. c.in_err-game.ensures.none _ _ _ ((is.name, is.is_name), is.start, is.tables))
+pub returns-in-Err-clause-err : goal.returns-in-Err-clause-err
+returns-in-Err-clause-err c = first_in_front (first_value (found_of c.args.matches.now)) game_faults (end_faults ++ term_faults) _ c.in-Err.ensures.err
 
-pub returns-in_err-ends-clause-none : goal.returns-in_err-ends-clause-none
-returns-in_err-ends-clause-none c = rw c.from_residual-in_err-ends.ensures (λ l is. c.in_err-ends.ensures.none _ _ _ (is.bind, is.to, is.kept))
+pub returns-in-Err-ends_in-clause-err : goal.returns-in-Err-ends_in-clause-err
+returns-in-Err-ends_in-clause-err c =
+    let value = first_value (found_of c.args.matches.now) in
+    first_behind value game_faults (end_faults ++ term_faults) _ c.in-Ok.ensures.well (first_in_front value end_faults term_faults _ c.in-Err-ends_in.ensures.err)
 
-pub returns-in_err-terms-clause-none : goal.returns-in_err-terms-clause-none
-returns-in_err-terms-clause-none c = rw c.from_residual-in_err-terms.ensures (λ l is. c.in_err-terms.ensures.none _ _ _ _ (is.me, is.datagrams, is.delay, is.fetch))
+pub returns-in-Err-terms_in-clause-err : goal.returns-in-Err-terms_in-clause-err
+returns-in-Err-terms_in-clause-err c =
+    let value = first_value (found_of c.args.matches.now) in
+    first_behind value game_faults (end_faults ++ term_faults) _ c.in-Ok.ensures.well (first_behind value end_faults term_faults _ c.in-Ok-ends_in.ensures.well c.in-Err-terms_in.ensures.err)

@@ -1,0 +1,132 @@
+-- Files that are read one by one, and what is made of each.
+use Rattle.std.proofs.Common.{◌≡◌, ◌<◌, ◌+◌, ◌++◌, ◌&&◌, ℕ, Bool, true, false, List, [], ◌∷◌, length, map, take, get_or, Option, Some, None, refl, sym, ap, ◌∙◌, subst}
+use Rattle.std.specs.Prelude.{Ok, Err, find, is_none, option_map, if◌then◌else◌}
+use Rattle.std.specs.List.{AllByRecursion, list_all}
+use Rattle.std.specs.Result.{is_ok}
+use Rattle.std.specs.Str.{bytes_eq}
+use Rattle.std.proofs.lemmas.List.{map-append, take_more}
+use Rattle.system_io.specs.Disks.{DiskFacts}
+use Rattle.sha2.specs.Sha256.{sha256}
+use Rattle.move_msg.specs.declared.files.NamedFile.{NamedFile}
+use Rattle.move_msg.specs.declared.manifest.Line.{Line}
+use Rattle.move_msg.specs.Files.{AreFiles, AreNamed, AreSorted, File, entries_of, entry_for, file_of}
+use Rattle.move_msg.specs.Manifests.{AreEntries, AreOfFiles, AreRising, Entry, IsEntry, entry_of}
+use Rattle.move_msg.specs.TableNames.{IsFileName}
+use Rattle.move_msg.specs.TextLines.{text_of}
+use Rattle.adjudicate_core.specs.declared.commands.check.Seen.{Seen}
+use Rattle.adjudicate_core.specs.Commands.Check.{checked}
+use Rattle.adjudicate_core.specs.declared.tables.FileFault.TheVariants.{Changed}
+use Rattle.adjudicate_core.specs.FileNames.{file_named}
+use Rattle.adjudicate_core.specs.Inside.Looking.{AreLooksAt, AreMadeOf, IsSeenOf, Sight, fault_by, fault_seen, reply_seen, sight_at, sight_of}
+use Rattle.adjudicate_core.specs.Lines.{look_words}
+use Rattle.adjudicate_core.specs.Looks.{Found, are_tables, fault_in, found_in, held, look_for, look_line}
+use Rattle.adjudicate_core.specs.Outside.{IsAtItsPath}
+use Rattle.adjudicate_core.specs.Reply.{status_if}
+
+-- ---- one more
+
+made_more : {L : Type 0} (P : L → File → Type 0) (looks : List L) (files : List File) (look : L) (f : File) → AreMadeOf P looks files → P look f → AreMadeOf P (looks ++ look ∷ []) (files ++ f ∷ [])
+made_more P [] [] look f h p = (p, tt)
+made_more P [] (g ∷ files) look f h p = absurd h
+made_more P (l ∷ looks) [] look f h p = absurd h
+made_more P (l ∷ looks) (g ∷ files) look f h p = (h.0, made_more P looks files look f h.1 p)
+
+all_more : (P : File → Type 0) (f : File) → P f → (fs : List File) → AllByRecursion P fs → AllByRecursion P (fs ++ f ∷ [])
+all_more P f here [] h = (here, tt)
+all_more P f here (g ∷ fs) h = (h.0, all_more P f here fs h.1)
+
+pub one_look_more : {L : Type 0} (P : L → File → Type 0) (disk : DiskFacts) (folder : List ℕ) (names : List (List ℕ)) (i : ℕ) (name : List ℕ) (old new : List L) (look : L) (f : File) → new ≡ old ++ look ∷ [] → i < length names → name ≡ get_or names i name → f.name ≡ name → IsAtItsPath disk folder f → P look f → AreLooksAt disk folder P (take i names) old → AreLooksAt disk folder P (take (i + 1) names) new
+one_look_more P disk folder names i name old new look f is within at same here made h = record {
+  files = h.files ++ f ∷ [];
+  named =
+      map-append (λ (g : File). g.name) h.files (f ∷ [])
+      ∙ ap (λ ns. ns ++ f.name ∷ []) h.named
+      ∙ ap (λ (n : List ℕ). take i names ++ n ∷ []) (same ∙ at)
+      ∙ sym (take_more names i name within);
+  bytes = all_more (IsAtItsPath disk folder) f here h.files h.bytes;
+  made = subst (λ ls. AreMadeOf P ls (h.files ++ f ∷ [])) (sym is) (made_more P old h.files look f h.made made);
+}
+
+-- ---- all of them
+
+-- files that are kept whole
+pub same_files : (looks : List NamedFile) (files : List File) → AreMadeOf (λ look f. file_of look ≡ f) looks files → map file_of looks ≡ files
+same_files [] [] h = refl
+same_files [] (f ∷ files) h = absurd h
+same_files (look ∷ looks) [] h = absurd h
+same_files (look ∷ looks) (f ∷ files) h = ap (λ (g : File). g ∷ map file_of looks) h.0 ∙ ap (λ gs. f ∷ gs) (same_files looks files h.1)
+
+abbrev IsLineOf : Line → File → Type 0
+IsLineOf line f = (entry_of line ≡ entry_for f) × (IsFileName f.name → IsEntry (entry_of line))
+
+-- their lines in a manifest
+pub same_entries : (lines : List Line) (files : List File) → AreMadeOf IsLineOf lines files → map entry_of lines ≡ entries_of files
+same_entries [] [] h = refl
+same_entries [] (f ∷ files) h = absurd h
+same_entries (line ∷ lines) [] h = absurd h
+same_entries (line ∷ lines) (f ∷ files) h = ap (λ (e : Entry). e ∷ map entry_of lines) h.0.0 ∙ ap (λ es. entry_for f ∷ es) (same_entries lines files h.1)
+
+each_entry : (lines : List Line) (files : List File) → AreMadeOf IsLineOf lines files → AreNamed files → AreOfFiles (map entry_of lines)
+each_entry [] [] h named = tt
+each_entry [] (f ∷ files) h named = absurd h
+each_entry (line ∷ lines) [] h named = absurd h
+each_entry (line ∷ lines) (f ∷ files) h named = (h.0.1 named.0, each_entry lines files h.1 named.1)
+
+rising : (files : List File) → AreSorted files → AreRising (map entry_for files)
+rising [] h = tt
+rising (f ∷ []) h = tt
+rising (f ∷ g ∷ files) h = (h.0, rising (g ∷ files) h.1)
+
+pub are_entries : (lines : List Line) (files : List File) → AreMadeOf IsLineOf lines files → AreFiles files → AreEntries (map entry_of lines)
+are_entries lines files h are = (each_entry lines files h are.0, subst AreRising (sym (same_entries lines files h)) (rising files are.1))
+
+-- what is seen of them
+pub same_sights : (seen : List Seen) (files : List File) → AreMadeOf IsSeenOf seen files → map sight_of seen ≡ map sight_at files
+same_sights [] [] h = refl
+same_sights [] (f ∷ files) h = absurd h
+same_sights (s ∷ seen) [] h = absurd h
+same_sights (s ∷ seen) (f ∷ files) h = ap (λ (x : Sight). x ∷ map sight_of seen) h.0 ∙ ap (λ xs. sight_at f ∷ xs) (same_sights seen files h.1)
+
+-- ---- what is seen of them under a manifest
+
+find_seen : (name : List ℕ) (files : List File) → find (λ s. bytes_eq s.entry.name name) (map sight_at files) ≡ option_map sight_at (file_named name files)
+find_seen name [] = refl
+find_seen name (f ∷ files) = by_name (find_seen name files) (bytes_eq f.name name)
+  where
+    by_name : find (λ s. bytes_eq s.entry.name name) (map sight_at files) ≡ option_map sight_at (file_named name files) → (b : Bool) → (if b then Some (sight_at f) else find (λ s. bytes_eq s.entry.name name) (map sight_at files)) ≡ option_map sight_at (if b then Some f else file_named name files)
+    by_name rest true = refl
+    by_name rest false = rest
+
+held_so : (digest : List ℕ) (o : Option File) → fault_by digest (option_map sight_at o) ≡ fault_in (held digest o)
+held_so digest None = refl
+held_so digest (Some f) = by_digest (bytes_eq (sha256 f.bytes) digest)
+  where
+    by_digest : (b : Bool) → (if b then fault_in (found_in f) else Some Changed) ≡ fault_in (if b then found_in f else Err Changed)
+    by_digest true = refl
+    by_digest false = refl
+
+seen_so : (files : List File) (e : Entry) → fault_seen (map sight_at files) e ≡ fault_in (look_for files e).found
+seen_so files e = ap (fault_by e.digest) (find_seen e.name files) ∙ held_so e.digest (file_named e.name files)
+
+none_is_ok : (found : Found) → is_none (fault_in found) ≡ is_ok found
+none_is_ok (Ok t) = refl
+none_is_ok (Err fault) = refl
+
+same_lines : (files : List File) (es : List Entry) → map (λ e. look_words e.name (fault_seen (map sight_at files) e)) es ≡ map look_line (map (look_for files) es)
+same_lines files [] = refl
+same_lines files (e ∷ es) =
+    ap (λ fault. look_words e.name fault ∷ map (λ e. look_words e.name (fault_seen (map sight_at files) e)) es) (seen_so files e)
+    ∙ ap (λ ls. look_line (look_for files e) ∷ ls) (same_lines files es)
+
+same_done : (files : List File) (es : List Entry) → list_all (λ e. is_none (fault_seen (map sight_at files) e)) es ≡ are_tables (map (look_for files) es)
+same_done files [] = refl
+same_done files (e ∷ es) =
+    ap (λ fault. is_none fault && list_all (λ e. is_none (fault_seen (map sight_at files) e)) es) (seen_so files e)
+    ∙ ap (λ b. b && list_all (λ e. is_none (fault_seen (map sight_at files) e)) es) (none_is_ok (look_for files e).found)
+    ∙ ap (λ b. is_ok (look_for files e).found && b) (same_done files es)
+
+pub same_reply : (seen : List Seen) (files : List File) (es : List Entry) → AreMadeOf IsSeenOf seen files → reply_seen (map sight_of seen) es ≡ checked (map (look_for files) es)
+same_reply seen files es h =
+    ap (λ sights. reply_seen sights es) (same_sights seen files h)
+    ∙ ap (λ ls. record { text = text_of ls; status = status_if (list_all (λ e. is_none (fault_seen (map sight_at files) e)) es) }) (same_lines files es)
+    ∙ ap (λ b. record { text = text_of (map look_line (map (look_for files) es)); status = status_if b }) (same_done files es)

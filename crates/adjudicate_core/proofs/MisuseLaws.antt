@@ -1,0 +1,64 @@
+-- What is told of words that are misused.
+use Rattle.std.proofs.Common.{◌≡◌, ◌++◌, ◌∙◌, List, [], ◌∷◌, Option, sym, ap, subst, inl, inr}
+use Rattle.std.specs.Prelude.{ℕ}
+use Rattle.clap.specs.Words.{HasKind, Text, kind_of}
+use Rattle.clap.specs.declared.error.Error.{Error}
+use Rattle.clap.specs.declared.error.kind.ErrorKind.{ErrorKind}
+use Rattle.clap.specs.declared.error.kind.ErrorKind.TheVariants as kind
+use Rattle.adjudicate_core.specs.declared.commands.Name.{Name}
+use Rattle.adjudicate_core.specs.declared.usage.Misuse.{Misuse as Misuses}
+use Rattle.adjudicate_core.specs.declared.usage.Misuse.TheVariants.{Refused, Value}
+use Rattle.adjudicate_core.specs.declared.usage.Usage.TheVariants.{Misuse, OutOfMemory}
+use Rattle.adjudicate_core.specs.declared.usage.ValueFault.{ValueFault}
+use Rattle.adjudicate_core.specs.Misuses.{AreWell, Fault, IsFirst, fault_words}
+use Rattle.adjudicate_core.specs.Rules.{fault_in, value_in}
+use Rattle.adjudicate_core.specs.Tasks.{IsMisuse, IsTaken, Names, app_for, faults_of}
+use Rattle.adjudicate_core.specs.Usage.{usage_by, usage_of}
+
+-- ---- by the parser of command lines
+
+refused_by : (k : ErrorKind) (e : Error) (m : Misuses) → usage_by k e ≡ Misuse m → Refused e ≡ m
+refused_by kind.OutOfMemory e m is = absurd (let f : OutOfMemory ≡ Misuse m = is in cc)
+refused_by kind.InvalidValue e m is = let f : Misuse (Refused e) ≡ Misuse m = is in cc
+refused_by kind.UnknownArgument e m is = let f : Misuse (Refused e) ≡ Misuse m = is in cc
+refused_by kind.InvalidSubcommand e m is = let f : Misuse (Refused e) ≡ Misuse m = is in cc
+refused_by kind.NoEquals e m is = let f : Misuse (Refused e) ≡ Misuse m = is in cc
+refused_by kind.ValueValidation e m is = let f : Misuse (Refused e) ≡ Misuse m = is in cc
+refused_by kind.TooManyValues e m is = let f : Misuse (Refused e) ≡ Misuse m = is in cc
+refused_by kind.TooFewValues e m is = let f : Misuse (Refused e) ≡ Misuse m = is in cc
+refused_by kind.WrongNumberOfValues e m is = let f : Misuse (Refused e) ≡ Misuse m = is in cc
+refused_by kind.ArgumentConflict e m is = let f : Misuse (Refused e) ≡ Misuse m = is in cc
+refused_by kind.MissingRequiredArgument e m is = let f : Misuse (Refused e) ≡ Misuse m = is in cc
+refused_by kind.MissingSubcommand e m is = let f : Misuse (Refused e) ≡ Misuse m = is in cc
+refused_by kind.DisplayHelp e m is = let f : Misuse (Refused e) ≡ Misuse m = is in cc
+refused_by kind.DisplayHelpOnMissingArgumentOrSubcommand e m is = let f : Misuse (Refused e) ≡ Misuse m = is in cc
+refused_by kind.DisplayVersion e m is = let f : Misuse (Refused e) ≡ Misuse m = is in cc
+refused_by kind.Io e m is = let f : Misuse (Refused e) ≡ Misuse m = is in cc
+refused_by kind.Format e m is = let f : Misuse (Refused e) ≡ Misuse m = is in cc
+
+pub refused_so : (words : List Text) (name : Name) (e : Error) (m : Misuses) → Names words name → HasKind (fault_in (app_for name) words) e → usage_of e ≡ Misuse m → IsMisuse words m
+refused_so words name e m named h is = elim h [
+  | inl memory ↦ absurd (let f : OutOfMemory ≡ Misuse m = sym (ap (λ k. usage_by k e) memory) ∙ is in cc)
+  | inr among ↦ subst (IsMisuse words) (refused_by (kind_of e) e m is) (name, named, among)
+]
+
+-- ---- by the command's values
+
+pub value_so : (words : List Text) (name : Name) (value : Text → Option Text) (fault : ValueFault) (m : Misuses) → Names words name → IsTaken (app_for name) words → ((id : Text) → value id ≡ value_in (app_for name) words id) → IsFirst value (faults_of name) (fault_words fault) → Misuse (Value fault) ≡ Misuse m → IsMisuse words m
+value_so words name value fault m named taken same first is =
+    let one : value ≡ value_in (app_for name) words = (λ i id. same id i) in
+    let at : Value fault ≡ m = cc in
+    subst (IsMisuse words) at (name, named, taken, subst (λ (v : Text → Option Text). IsFirst v (faults_of name) (fault_words fault)) one first)
+
+-- ---- the first of several
+
+pub first_in_front : (value : Text → Option Text) (front rest : List Fault) (line : List ℕ) → IsFirst value front line → IsFirst value (front ++ rest) line
+first_in_front value [] rest line h = absurd h
+first_in_front value (fault ∷ front) rest line h = elim h [
+  | inl here ↦ inl here
+  | inr later ↦ inr (later.0, first_in_front value front rest line later.1)
+]
+
+pub first_behind : (value : Text → Option Text) (front rest : List Fault) (line : List ℕ) → AreWell value front → IsFirst value rest line → IsFirst value (front ++ rest) line
+first_behind value [] rest line well h = h
+first_behind value (fault ∷ front) rest line well h = inr (well.0, first_behind value front rest line well.1 h)

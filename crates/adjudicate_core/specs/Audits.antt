@@ -1,0 +1,92 @@
+-- Kept files held to the rules of a game: each is judged as an opening judges it (this project's own).
+use Rattle.std.specs.Prelude.{◌≡◌, ◌≢◌, ◌<◌, ◌⊎◌, ◌==◌, ◌&&◌, ℕ, Bool, true, false, List, [], ◌∷◌, length, take, Option, Some, None, cond}
+use Rattle.board_core.specs.declared.moves.Move.{Move}
+use Rattle.board_core.specs.declared.verdict.Verdict.{Verdict}
+use Rattle.judge_core.specs.declared.game.GameOutcome.{GameOutcome}
+use Rattle.judge_core.specs.Games.{IsFirst, IsIllegalAt, IsOutcome, Rules}
+use Rattle.move_msg.specs.declared.record_bytes.Record.{Record as Records}
+use Rattle.move_msg.specs.declared.stamp.Stamp.{Stamp}
+use Rattle.move_msg.specs.Records.{IsFirstRecordFault, SpellsRecord}
+use Rattle.move_msg.specs.TextLines.{text_of}
+use Rattle.arbiter_core.specs.declared.fault.OpenFault.TheVariants as opening
+use Rattle.arbiter_core.specs.Opens.{IsBadKept, IsOfGame, IsResumed, at_end}
+use Rattle.arbiter_core.specs.Recording.{Recorded, count_of}
+use Rattle.adjudicate_core.specs.declared.auditing.Finding.{Finding}
+use Rattle.adjudicate_core.specs.declared.auditing.Finding.TheVariants as found
+use Rattle.adjudicate_core.specs.Lines.{compared_words, finding_words}
+use Rattle.adjudicate_core.specs.Reply.{Reply, status_if}
+
+-- ---- one file
+
+-- the move at this place, counted from 0, isn't legal in its turn, or an earlier ply or the one before it has a verdict
+abbrev pub StopsAt : Rules → List Move → ℕ → Type 0
+StopsAt rules moves place = IsIllegalAt rules moves place ⊎ ((verdict : Verdict) × IsFirst rules moves place verdict × (place < length moves))
+
+-- all moves are legal in turn, no ply before the last has a verdict, and the last has this one
+abbrev pub EndsWith : Rules → List Move → Option Verdict → Type 0
+EndsWith rules moves verdict = (outcome : GameOutcome) × IsOutcome rules moves outcome × (at_end outcome (length moves) ≡ Some verdict)
+
+-- what is found: an arbiter of the game resumes from the bytes; or why it refuses them at its opening
+abbrev pub IsFound : Rules → Stamp → List ℕ → Finding → Type 0
+IsFound rules stamp bytes (found.Whole count verdict) =
+    (kept : Recorded) × IsResumed rules stamp bytes kept × (count ≡ count_of kept) × (verdict ≡ kept.verdict)
+IsFound rules stamp bytes (found.BadRecord fault) = IsBadKept rules stamp bytes opening.BadRecord × IsFirstRecordFault bytes fault
+IsFound rules stamp bytes found.OtherStamp = IsBadKept rules stamp bytes opening.OtherStamp
+IsFound rules stamp bytes (found.BadMoves place) =
+    IsBadKept rules stamp bytes opening.BadRecord × ((r : Records) × SpellsRecord bytes r × IsOfGame rules stamp r × StopsAt rules r.moves place)
+IsFound rules stamp bytes (found.BadVerdict verdict) =
+    IsBadKept rules stamp bytes opening.BadRecord
+    × ((r : Records) × SpellsRecord bytes r × IsOfGame rules stamp r × EndsWith rules r.moves verdict × (r.verdict ≢ verdict))
+
+abbrev pub is_whole : Finding → Bool
+is_whole (found.Whole count verdict) = true
+is_whole (found.BadRecord fault) = false
+is_whole found.OtherStamp = false
+is_whole (found.BadMoves place) = false
+is_whole (found.BadVerdict verdict) = false
+
+-- ---- two files
+
+-- the verdict that a record has at a ply
+abbrev pub verdict_at : Records → ℕ → Option Verdict
+verdict_at r ply = cond (ply == length r.moves) r.verdict None
+
+-- up to this ply the records have the same moves, and at it the same verdict
+abbrev pub AreSameAt : Records → Records → ℕ → Type 0
+AreSameAt r s ply = (take ply r.moves ≡ take ply s.moves) × (verdict_at r ply ≡ verdict_at s ply)
+
+-- all moves and the verdict are the same; or this is the first ply at which they part
+abbrev pub AreCompared : Records → Records → Option ℕ → Type 0
+AreCompared r s None = (r.moves ≡ s.moves) × (r.verdict ≡ s.verdict)
+AreCompared r s (Some ply) = ((before : ℕ) → before < ply → AreSameAt r s before) × (AreSameAt r s ply → ⊥)
+
+-- where both spell records they are compared
+abbrev pub IsComparison : List ℕ → List ℕ → Option (Option ℕ) → Type 0
+IsComparison one other (Some compared) = (r : Records) × (s : Records) × SpellsRecord one r × SpellsRecord other s × AreCompared r s compared
+IsComparison one other None = ((r : Records) → SpellsRecord one r → ⊥) ⊎ ((s : Records) → SpellsRecord other s → ⊥)
+
+abbrev pub agree : Option (Option ℕ) → Bool
+agree (Some None) = true
+agree (Some (Some ply)) = false
+agree None = false
+
+abbrev pub comparison_lines : Option (Option ℕ) → List (List ℕ)
+comparison_lines None = []
+comparison_lines (Some compared) = compared_words compared ∷ []
+
+-- ---- all of it
+
+-- a line for one file; all is done where it is whole
+abbrev pub audited_one : Finding → Reply
+audited_one finding = record { text = text_of (finding_words finding ∷ []); status = status_if (is_whole finding) }
+
+-- a line for each of two files, and what comes of comparing them; all is done where both are whole and agree
+abbrev pub audited_two : Finding → Finding → Option (Option ℕ) → Reply
+audited_two one other compared = record {
+  text = text_of (finding_words one ∷ finding_words other ∷ comparison_lines compared);
+  status = status_if (is_whole one && (is_whole other && agree compared));
+}
+
+pub data IsAudited (rules : Rules) (stamp : Stamp) (one : List ℕ) (other : Option (List ℕ)) (r : Reply) : Type 0 where
+  One : (finding : Finding) → other ≡ None → IsFound rules stamp one finding → r ≡ audited_one finding → IsAudited rules stamp one other r
+  Two : (second : List ℕ) (finding its : Finding) (compared : Option (Option ℕ)) → other ≡ Some second → IsFound rules stamp one finding → IsFound rules stamp second its → IsComparison one second compared → r ≡ audited_two finding its compared → IsAudited rules stamp one other r

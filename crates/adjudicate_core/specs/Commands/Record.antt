@@ -1,0 +1,66 @@
+-- `record FILE`: what a kept record says (this project's own).
+use Rattle.std.specs.Prelude.{◌≡◌, ◌++◌, ℕ, false, List, [], ◌∷◌, Option, Some, None, codes}
+use Rattle.std.specs.Fmt.{decimal}
+use Rattle.std.specs.List.{flat_map}
+use Rattle.hex.specs.Hex.{encode_lower}
+use Rattle.board_core.specs.declared.moves.Move.{Move}
+use Rattle.board_core.specs.declared.verdict.Verdict.{Verdict}
+use Rattle.fen_text.specs.Coordinates.{move_text}
+use Rattle.move_msg.specs.declared.stamp.Stamp.{Stamp}
+use Rattle.move_msg.specs.declared.record_bytes.Record.{Record as Records}
+use Rattle.move_msg.specs.declared.record_bytes.RecordFault.{RecordFault}
+use Rattle.move_msg.specs.Records.{HasRecordLayout, IsFirstRecordFault, SpellsRecord}
+use Rattle.move_msg.specs.TextLines.{text_of}
+use Rattle.arbiter_service.specs.ServedLines.{verdict_or_none}
+use Rattle.clap.specs.Words.{Rule, Text}
+use Rattle.adjudicate_core.specs.Rules.{rule_of_form}
+use Rattle.adjudicate_core.specs.declared.commands.Form.TheVariants as form
+use Rattle.adjudicate_core.specs.Misuses.{Fault, NoWord}
+use Rattle.adjudicate_core.specs.Sources.{Named}
+use Rattle.adjudicate_core.specs.Lines.{refused_record}
+use Rattle.adjudicate_core.specs.Reply.{Reply, refused}
+use Rattle.adjudicate_core.specs.declared.commands.record.ShowRecord.{ShowRecord}
+
+abbrev pub rules : List Rule
+rules =
+    rule_of_form form.Word (codes "FILE") ∷ []
+
+-- the values of its arguments
+abbrev pub HasValues : (Text → Option Text) → ShowRecord → Type 0
+HasValues value t = Some t.file.now ≡ value (codes "FILE")
+
+-- what may be wrong with its values, in the order in which it is told
+abbrev pub faults : List Fault
+faults = NoWord (codes "FILE") ∷ []
+
+-- what is read for it
+abbrev pub named : ShowRecord → Named
+named t = record { folder = None; manifest = None; input = false; kept = Some t.file.now; other_kept = None }
+
+-- the lines of a record: its stamp in lower-case hexadecimal digits, its delay, its moves in coordinates, its verdict
+abbrev pub stamp_words : Stamp → List ℕ
+stamp_words stamp = codes "stamp " ++ encode_lower stamp.0
+
+abbrev pub delay_words : ℕ → List ℕ
+delay_words delay = codes "delay " ++ decimal delay
+
+abbrev pub spaced : List Move → List ℕ
+spaced = flat_map (λ m. codes " " ++ move_text m)
+
+abbrev pub moves_words : List Move → List ℕ
+moves_words moves = codes "moves" ++ spaced moves
+
+abbrev pub ruling_words : Option Verdict → List ℕ
+ruling_words verdict = codes "verdict " ++ verdict_or_none verdict
+
+unfoldable pub record_lines : Records → List (List ℕ)
+record_lines r = stamp_words r.stamp ∷ delay_words r.delay ∷ moves_words r.moves ∷ ruling_words r.verdict ∷ []
+
+-- the record that the bytes spell, a line for each of its parts; or the first fault of bytes that spell none
+pub data IsReply (bytes : List ℕ) (r : Reply) : Type 0 where
+  OfRecord : (q : Records) → SpellsRecord bytes q → r ≡ record { text = text_of (record_lines q); status = 0 } → IsReply bytes r
+  OfNone : (fault : RecordFault) → IsFirstRecordFault bytes fault → r ≡ refused (refused_record fault) → IsReply bytes r
+
+-- only what is laid out as a record takes memory
+abbrev pub TakesMemory : List ℕ → Type 0
+TakesMemory = HasRecordLayout

@@ -1,0 +1,24 @@
+-- `version`: the program's version, and that of the toolchain that it was proved with (this project's own).
+use Rattle.std.specs.Prelude.{◌≡◌, ℕ, false, List, [], Option, None, codes}
+use Rattle.std.specs.Io.KnownBytes.{Appends}
+use Rattle.clap.specs.Words.{Rule}
+use Rattle.adjudicate_core.specs.Misuses.{Fault}
+use Rattle.adjudicate_core.specs.Sources.{Named}
+
+abbrev pub rules : List Rule
+rules = []
+
+-- nothing can be wrong with its values
+abbrev pub faults : List Fault
+faults = []
+
+-- nothing is read for it
+abbrev pub named : Named
+named = record { folder = None; manifest = None; input = false; kept = None; other_kept = None }
+
+-- two lines
+abbrev pub version_text : List ℕ
+version_text = codes "adjudicate 1.0.0\nrattle-kit-13f logic dac8208d650f15bf\n"
+
+abbrev pub Answers : Option (List ℕ) → Option (List ℕ) → ℕ → Type 0
+Answers old new status = Appends old new version_text × (status ≡ 0)

@@ -1,0 +1,123 @@
+-- What can be wrong with the values of a command, and which of it is told (this project's own).
+use Rattle.std.specs.Prelude.{◌≡◌, ◌⊎◌, ◌++◌, ℕ, List, [], ◌∷◌, Option, Some, None, codes}
+use Rattle.std.specs.List.{AllByRecursion}
+use Rattle.clap.specs.Words.{Text}
+use Rattle.move_msg.specs.declared.who.Who.{Who}
+use Rattle.move_msg.specs.Stamps.{IsGameName}
+use Rattle.adjudicate_core.specs.Numbers.{IsCache, IsDatagrams, IsDelay, IsHundredOr, IsMe}
+use Rattle.adjudicate_core.specs.declared.usage.Wanted.{Wanted}
+use Rattle.adjudicate_core.specs.declared.usage.Wanted.TheVariants as wanted
+use Rattle.adjudicate_core.specs.declared.usage.Misuse.{Misuse}
+use Rattle.adjudicate_core.specs.declared.usage.Misuse.TheVariants as misuse
+use Rattle.adjudicate_core.specs.declared.usage.ValueFault.{ValueFault}
+use Rattle.adjudicate_core.specs.declared.usage.ValueFault.TheVariants as told
+
+-- ---- in words
+
+-- the option that has the value
+abbrev pub name_of : Wanted → Text
+name_of wanted.GameName = codes "name"
+name_of wanted.Cache = codes "cache"
+name_of wanted.Delay = codes "delay"
+name_of wanted.Datagrams = codes "datagrams"
+name_of wanted.Me = codes "me"
+name_of wanted.Wait = codes "wait"
+name_of wanted.Tries = codes "tries"
+
+-- what it takes
+abbrev pub range_of : Wanted → List ℕ
+range_of wanted.GameName = codes "1 to 64 bytes from the space to the tilde"
+range_of wanted.Cache = codes "1 to 4096"
+range_of wanted.Delay = codes "0 to 8"
+range_of wanted.Datagrams = codes "0 to 4294967295"
+range_of wanted.Me = codes "1 or 2"
+range_of wanted.Wait = codes "1 to 65535"
+range_of wanted.Tries = codes "1 to 65535"
+
+abbrev pub unfit_words : Wanted → List ℕ → List ℕ
+unfit_words wanted text = codes "--" ++ name_of wanted ++ codes " " ++ text ++ codes ": " ++ range_of wanted
+
+abbrev pub no_option_words : Text → List ℕ
+no_option_words name = codes "--" ++ name ++ codes " is missing"
+
+abbrev pub no_word_words : Text → List ℕ
+no_word_words name = name ++ codes " is missing"
+
+abbrev pub fault_words : ValueFault → List ℕ
+fault_words (told.NoOption name) = no_option_words name.now
+fault_words (told.NoWord name) = no_word_words name.now
+fault_words (told.Unfit wanted text) = unfit_words wanted text.now
+
+-- what is told of words that are misused; the line on those that the parser of command lines refuses is its own
+abbrev pub misuse_words : Misuse → Option (List ℕ)
+misuse_words misuse.NoCommand = Some (codes "no command")
+misuse_words (misuse.UnknownCommand word) = Some (codes "no command " ++ word.now)
+misuse_words (misuse.Refused e) = None
+misuse_words (misuse.Value fault) = Some (fault_words fault)
+
+-- ---- the first that is wrong
+
+-- what may be wrong: an option or a word that has to be there has no value, or the value is none that the option takes
+pub data Fault : Type 0 where
+  NoOption : Text → Fault
+  NoWord : Text → Fault
+  Unfit : Wanted → Fault
+
+-- the value of the option is none that it takes
+abbrev pub IsUnfit : (Text → Option Text) → Wanted → Type 0
+IsUnfit value wanted.GameName = (name : List ℕ) → Some name ≡ value (codes "name") → IsGameName name → ⊥
+IsUnfit value wanted.Cache = (n : ℕ) → IsCache (value (codes "cache")) n → ⊥
+IsUnfit value wanted.Delay = (n : ℕ) → IsDelay (value (codes "delay")) n → ⊥
+IsUnfit value wanted.Datagrams = (n : ℕ) → IsDatagrams (value (codes "datagrams")) n → ⊥
+IsUnfit value wanted.Me = (who : Who) → IsMe (value (codes "me")) who → ⊥
+IsUnfit value wanted.Wait = (n : ℕ) → IsHundredOr (value (codes "wait")) n → ⊥
+IsUnfit value wanted.Tries = (n : ℕ) → IsHundredOr (value (codes "tries")) n → ⊥
+
+abbrev pub Holds : (Text → Option Text) → Fault → Type 0
+Holds value (NoOption name) = value name ≡ None
+Holds value (NoWord name) = value name ≡ None
+Holds value (Unfit wanted) = IsUnfit value wanted
+
+abbrev pub text_or_empty : Option Text → Text
+text_or_empty None = []
+text_or_empty (Some text) = text
+
+-- the line that tells it
+abbrev pub line_of : (Text → Option Text) → Fault → List ℕ
+line_of value (NoOption name) = no_option_words name
+line_of value (NoWord name) = no_word_words name
+line_of value (Unfit wanted) = unfit_words wanted (text_or_empty (value (name_of wanted)))
+
+-- it is wrong, and the line tells it
+abbrev pub IsTold : (Text → Option Text) → Fault → List ℕ → Type 0
+IsTold value fault line = Holds value fault × (line ≡ line_of value fault)
+
+-- the line tells the first of these that is wrong
+abbrev pub IsFirst : (Text → Option Text) → List Fault → List ℕ → Type 0
+IsFirst value [] line = ⊥
+IsFirst value (fault ∷ faults) line = IsTold value fault line ⊎ ((Holds value fault → ⊥) × IsFirst value faults line)
+
+-- none of these is wrong
+abbrev pub AreWell : (Text → Option Text) → List Fault → Type 0
+AreWell value = AllByRecursion (λ fault. Holds value fault → ⊥)
+
+-- ---- options that have to be there and take only some values
+
+abbrev pub name_faults : List Fault
+name_faults = NoOption (codes "name") ∷ Unfit wanted.GameName ∷ []
+
+abbrev pub me_faults : List Fault
+me_faults = NoOption (codes "me") ∷ Unfit wanted.Me ∷ []
+
+abbrev pub datagrams_faults : List Fault
+datagrams_faults = NoOption (codes "datagrams") ∷ Unfit wanted.Datagrams ∷ []
+
+-- ---- the words on a game
+
+abbrev pub game_faults : List Fault
+game_faults = name_faults ++ NoOption (codes "start") ∷ NoOption (codes "tables") ∷ []
+
+-- its name, the text of its start and the folder of its tables
+abbrev pub AreGameWords : (Text → Option Text) → List ℕ → List ℕ → List ℕ → Type 0
+AreGameWords value name start tables =
+    (Some name ≡ value (codes "name")) × IsGameName name × (Some start ≡ value (codes "start")) × (Some tables ≡ value (codes "tables"))

@@ -1,0 +1,221 @@
+//! `audit`: whether kept files are records of a game as an arbiter of it keeps them, and whether two of them agree.
+
+ghost use Rattle.std.specs.Prelude.{◌≡◌, ◌≤◌, Ok, option_map, IfErr, IfOk, OnErr};
+ghost use Rattle.clap.specs.Words.{first_value, found_of};
+ghost use Rattle.board_core.specs.Delays.{most_delay};
+ghost use Rattle.adjudicate_core.specs.Audits.{IsAudited, audited_one, audited_two};
+ghost use Rattle.adjudicate_core.specs.Commands.Audit.{HasValues, IsHeld, IsReply, faults, named, other_in};
+ghost use Rattle.adjudicate_core.specs.Inside.Asked.{reply_of};
+ghost use Rattle.adjudicate_core.specs.Inside.Auditing.{rules_of};
+ghost use Rattle.adjudicate_core.specs.Looks.{gathered};
+ghost use Rattle.adjudicate_core.specs.Misuses.{IsFirst, fault_words};
+ghost use Rattle.adjudicate_core.specs.Reply.{IsText};
+ghost use Rattle.adjudicate_core.specs.Sources.{named_by};
+
+use super::{Form, Value};
+use crate::answers::Answer;
+use crate::auditing::{Audited, Auditor, audit, compare_files};
+use crate::game_name::GameName;
+use crate::lines::Line;
+use crate::numbers::Delay;
+use crate::refusals::Refusal;
+use crate::sources::{Places, Sources};
+use crate::tables::gather;
+use crate::usage::ValueFault;
+use crate::values::{delay_in, game_words_in, word_in};
+use board_core::Position;
+use clap::ArgMatches;
+use fen_text::read;
+use judge_core::Set;
+use move_msg::manifest_of;
+use std::alloc::{AllocError, Global};
+
+/// Whether kept files are records of a game as an arbiter of it keeps them.
+#[derive(Drop)]
+pub struct Audit<'a> {
+    /// The name of the game.
+    pub name: GameName<'a>,
+    /// The FEN text of its start.
+    pub start: &'a str,
+    /// The folder of the tables.
+    pub tables: &'a str,
+    /// The file of the manifest that the tables are held to, if one is named.
+    pub manifest: Option<&'a str>,
+    /// For how many further plies a verdict by tables must hold.
+    pub delay: Delay,
+    /// The kept file.
+    pub file: &'a str,
+    /// A second one, if it is named.
+    pub other: Option<&'a str>,
+}
+
+/// The values of `audit`.
+pub(crate) const VALUES: [Value; 7] = [
+    Value {
+        name: "name",
+        form: Form::Option,
+    },
+    Value {
+        name: "start",
+        form: Form::Option,
+    },
+    Value {
+        name: "tables",
+        form: Form::Option,
+    },
+    Value {
+        name: "manifest",
+        form: Form::Option,
+    },
+    Value {
+        name: "delay",
+        form: Form::Option,
+    },
+    Value {
+        name: "FILE",
+        form: Form::Word,
+    },
+    Value {
+        name: "OTHER",
+        form: Form::Word,
+    },
+];
+
+/// What is found of one file, as an answer.
+fn answer_one(alloc: Global, one: &Audited) -> Result<Answer, AllocError>
+    ensures { IfOk result (λ a. reply_of a ≡ audited_one one.now.finding) }
+{
+    let lines = [Line::Finding(one.finding)];
+    let lines = Vec::from_slice(alloc, &lines)?;
+    Ok(Answer::Lines(lines, one.finding.is_whole()))
+}
+
+/// What is found of two files and of comparing them, as an answer.
+fn answer_two(
+    alloc: Global,
+    one: &Audited,
+    other: &Audited,
+    compared: Option<Option<usize>>,
+) -> Result<Answer, AllocError>
+    ensures { IfOk result (λ a. reply_of a ≡ audited_two one.now.finding other.now.finding compared) }
+{
+    let lines = [Line::Finding(one.finding), Line::Finding(other.finding)];
+    let mut lines = Vec::from_slice(alloc, &lines)?;
+    if let Some(compared) = compared {
+        lines.push(Line::Compared(compared))?;
+    }
+    let agree = matches!(compared, Some(None));
+    let done = one.finding.is_whole() && other.finding.is_whole() && agree;
+    Ok(Answer::Lines(lines, done))
+}
+
+/// What is found of kept files by the rules of a game.
+fn answer_files(
+    alloc: Global,
+    auditor: &mut Auditor<'_>,
+    one: &[u8],
+    other: Option<&[u8]>,
+) -> Result<Answer, AllocError>
+    requires { auditor.old.delay ≤ most_delay }
+    ensures { IfOk result (λ a. IsAudited (rules_of auditor.old) auditor.old.stamp one.now (option_map (λ s. s.now) other.entry) (reply_of a)) }
+{
+    let one = audit(alloc, auditor, one)?;
+    match other {
+        None => answer_one(alloc, &one),
+        Some(other) => {
+            let other = audit(alloc, auditor, other)?;
+            answer_two(alloc, &one, &other, compare_files(&one, &other))
+        }
+    }
+}
+
+impl<'a> Audit<'a> {
+    /// The task with these values, or the first thing that is wrong with them.
+    pub(crate) fn of(matches: &ArgMatches<'a>) -> Result<Audit<'a>, ValueFault<'a>>
+        ensures ok { IfOk result (HasValues (first_value (found_of matches.now))) }
+        ensures err { IfErr result (λ fault. IsFirst (first_value (found_of matches.now)) faults (fault_words fault)) }
+    {
+        let game = game_words_in(matches)?;
+        Ok(Audit {
+            name: game.name,
+            start: game.start,
+            tables: game.tables,
+            manifest: matches.get_str("manifest"),
+            delay: delay_in(matches)?,
+            file: word_in(matches, "FILE")?,
+            other: matches.get_str("OTHER"),
+        })
+    }
+
+    /// What is read for it.
+    pub(crate) fn places(&self) -> Places<'a>
+        ensures { named_by result ≡ named self.now }
+    {
+        Places {
+            folder: Some(self.tables),
+            manifest: self.manifest,
+            reads_input: false,
+            kept: Some(self.file),
+            other_kept: self.other,
+        }
+    }
+
+    /// The bytes of the second kept file, if it is named.
+    fn other_in<'s>(&self, sources: &'s Sources) -> Option<&'s [u8]>
+        ensures { option_map (λ s. s.now) result ≡ other_in self.now sources.now }
+    {
+        match self.other {
+            Some(_) => Some(sources.other_kept()),
+            None => None,
+        }
+    }
+
+    /// What is found of the kept files by these tables.
+    fn answer_by(
+        &self,
+        alloc: Global,
+        sources: &Sources,
+        start: &Position,
+        set: Set<'_>,
+    ) -> Result<Answer, AllocError>
+        requires { Ok set.tables ≡ gathered sources.now }
+        ensures { IfOk result (λ a. IsHeld self.now sources.now start.now (reply_of a)) }
+    {
+        let manifest = manifest_of(alloc, sources.files())?;
+        let delay = self.delay.plies();
+        let mut auditor = Auditor {
+            stamp: self.name.stamp(start, &manifest, delay),
+            start: *start,
+            delay,
+            set,
+        };
+        answer_files(alloc, &mut auditor, sources.kept(), self.other_in(sources))
+    }
+
+    /// The same by the tables of the files, or their refusal.
+    fn answer_from(
+        &self,
+        alloc: Global,
+        sources: &Sources,
+        start: &Position,
+    ) -> Result<Answer, AllocError>
+        ensures { IfOk result (λ a. IsHeld self.now sources.now start.now (reply_of a)) }
+    {
+        match gather(alloc, sources)? {
+            Ok(set) => self.answer_by(alloc, sources, start, set),
+            Err(refusal) => Ok(Answer::Refused(refusal)),
+        }
+    }
+
+    /// What is found of the kept files: each is judged as an arbiter of the game judges it when it is opened, and is only read. Of
+    /// two that are records it is told at which ply they part. A text that is no position is refused first, then the tables.
+    pub(crate) fn answer(&self, alloc: Global, sources: &Sources) -> Result<Answer, AllocError>
+        ensures ok { IfOk result (λ a. IsReply self.now sources.now (reply_of a)) }
+        ensures memory { OnErr result (IsText self.now.start.now) }
+    {
+        match read(self.start.as_bytes()) {
+            Err(fault) => Ok(Answer::Refused(Refusal::Fen(fault))),
+            Ok(start) => self.answer_from(alloc, sources, &start),
+        }
+    }
+}

@@ -1,0 +1,168 @@
+//! `record`: what a kept record says.
+
+ghost use Rattle.std.specs.Prelude.{◌≡◌, ◌++◌, IfErr, IfOk, OnOk, codes};
+ghost use Rattle.fen_text.specs.Coordinates.{move_text};
+ghost use Rattle.std.specs.Io.KnownBytes.{Appends};
+ghost use Rattle.clap.specs.Words.{first_value, found_of};
+ghost use Rattle.move_msg.specs.TextLines.{ended, text_of};
+ghost use Rattle.adjudicate_core.specs.Commands.Record.{HasValues, IsReply, TakesMemory, delay_words, faults, moves_words, named, record_lines, ruling_words, spaced, stamp_words};
+ghost use Rattle.adjudicate_core.specs.Misuses.{IsFirst, fault_words};
+ghost use Rattle.adjudicate_core.specs.Reply.{AnswersOnce};
+ghost use Rattle.adjudicate_core.specs.Sources.{named_by};
+
+use super::{Form, Value};
+use crate::lines::put_refusal;
+use crate::refusals::Refusal;
+use crate::sources::{Places, Sources};
+use crate::usage::ValueFault;
+use crate::values::word_in;
+use arbiter_service::verdict_or_none;
+use board_core::{Move, Verdict};
+use clap::ArgMatches;
+use fen_text::write_move;
+use move_msg::{Record, RecordFault, Stamp};
+use std::alloc::Global;
+use std::io::Write;
+use system_io::WriteFault;
+
+/// What a kept record says.
+#[derive(Clone, Copy)]
+pub struct ShowRecord<'a> {
+    /// The kept file.
+    pub file: &'a str,
+}
+
+/// The values of `record`.
+pub(crate) const VALUES: [Value; 1] = [Value {
+    name: "FILE",
+    form: Form::Word,
+}];
+
+/// Writes bytes.
+fn put<W: Write>(out: &mut W, bytes: &[u8]) -> Result<(), WriteFault>
+    ensures { OnOk result (Appends (W.contents out.old) (W.contents out.new) bytes.now) }
+{
+    match out.write_all(bytes) {
+        Ok(()) => Ok(()),
+        Err(_) => Err(WriteFault::Io),
+    }
+}
+
+/// Writes a stamp in hexadecimal digits.
+fn put_stamp<W: Write>(out: &mut W, stamp: Stamp) -> Result<(), WriteFault>
+    ensures { OnOk result (Appends (W.contents out.old) (W.contents out.new) (ended (stamp_words stamp))) }
+{
+    let mut digits = [0; 32];
+    hex::encode_to_slice(&stamp.0, &mut digits).unwrap();
+    put(out, b"stamp ")?;
+    put(out, &digits)?;
+    put(out, b"\n")
+}
+
+/// Writes a delay.
+fn put_delay<W: Write>(out: &mut W, delay: u8) -> Result<(), WriteFault>
+    ensures { OnOk result (Appends (W.contents out.old) (W.contents out.new) (ended (delay_words delay))) }
+{
+    match writeln!(out, "delay {delay}") {
+        Ok(()) => Ok(()),
+        Err(_) => Err(WriteFault::Io),
+    }
+}
+
+/// Writes a move in coordinates, after a space.
+fn put_move<W: Write>(out: &mut W, m: &Move) -> Result<(), WriteFault>
+    ensures { OnOk result (Appends (W.contents out.old) (W.contents out.new) (codes " " ++ move_text m.now)) }
+{
+    put(out, b" ")?;
+    put(out, write_move(m).as_str().as_bytes())
+}
+
+/// Writes moves in coordinates, each after a space.
+fn put_spaced<W: Write>(out: &mut W, moves: &[Move]) -> Result<(), WriteFault>
+    ensures { OnOk result (Appends (W.contents out.old) (W.contents out.new) (spaced moves.now)) }
+{
+    for m in moves {
+        match put_move(out, m) {
+            Ok(()) => {}
+            Err(fault) => return Err(fault),
+        }
+    }
+    Ok(())
+}
+
+/// Writes the line of moves.
+fn put_moves<W: Write>(out: &mut W, moves: &[Move]) -> Result<(), WriteFault>
+    ensures { OnOk result (Appends (W.contents out.old) (W.contents out.new) (ended (moves_words moves.now))) }
+{
+    put(out, b"moves")?;
+    put_spaced(out, moves)?;
+    put(out, b"\n")
+}
+
+/// Writes a verdict, or that there is none.
+fn put_verdict<W: Write>(out: &mut W, verdict: Option<Verdict>) -> Result<(), WriteFault>
+    ensures { OnOk result (Appends (W.contents out.old) (W.contents out.new) (ended (ruling_words verdict))) }
+{
+    let verdict = verdict_or_none(verdict);
+    match writeln!(out, "verdict {verdict}") {
+        Ok(()) => Ok(()),
+        Err(_) => Err(WriteFault::Io),
+    }
+}
+
+/// Writes the lines of a record.
+#[tactic(auto, unfolding(crate::specs::Commands::Record::record_lines))]
+fn put_record<W: Write>(out: &mut W, kept: &Record) -> Result<(), WriteFault>
+    ensures { OnOk result (Appends (W.contents out.old) (W.contents out.new) (text_of (record_lines kept.now))) }
+{
+    put_stamp(out, kept.stamp)?;
+    put_delay(out, kept.delay)?;
+    put_moves(out, kept.moves.as_slice())?;
+    put_verdict(out, kept.verdict)
+}
+
+impl<'a> ShowRecord<'a> {
+    /// The task with these values, or the first thing that is wrong with them.
+    pub(crate) fn of(matches: &ArgMatches<'a>) -> Result<ShowRecord<'a>, ValueFault<'a>>
+        ensures ok { IfOk result (HasValues (first_value (found_of matches.now))) }
+        ensures err { IfErr result (λ fault. IsFirst (first_value (found_of matches.now)) faults (fault_words fault)) }
+    {
+        Ok(ShowRecord {
+            file: word_in(matches, "FILE")?,
+        })
+    }
+
+    /// What is read for it.
+    pub(crate) fn places(&self) -> Places<'a>
+        ensures { named_by result ≡ named self.now }
+    {
+        Places {
+            folder: None,
+            manifest: None,
+            reads_input: false,
+            kept: Some(self.file),
+            other_kept: None,
+        }
+    }
+
+    /// Writes a line for each part of the record that the kept file is, or why it is none; tells the status, 0 or 1.
+    pub(crate) fn answer<W: Write>(
+        &self,
+        alloc: Global,
+        sources: &Sources,
+        out: &mut W,
+    ) -> Result<u8, WriteFault>
+        ensures { IfOk result (AnswersOnce (IsReply sources.now.kept) (TakesMemory sources.now.kept) (W.contents out.old) (W.contents out.new)) }
+    {
+        match Record::decode(alloc, sources.kept()) {
+            Ok(record) => match put_record(out, &record) {
+                Ok(()) => Ok(0),
+                Err(fault) => Err(fault),
+            },
+            Err(fault) => match fault {
+                RecordFault::OutOfMemory => put_refusal(out, Refusal::Memory),
+                _ => put_refusal(out, Refusal::Record(fault)),
+            },
+        }
+    }
+}

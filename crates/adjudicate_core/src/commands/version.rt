@@ -1,0 +1,43 @@
+//! `version`: the program's version, and that of the toolchain that it was proved with.
+
+ghost use Rattle.std.specs.Prelude.{◌≡◌, IfOk};
+ghost use Rattle.adjudicate_core.specs.Commands.Version.{Answers, named};
+ghost use Rattle.adjudicate_core.specs.Sources.{named_by};
+
+use crate::sources::Places;
+use std::io::Write;
+use system_io::WriteFault;
+
+/// The program's version.
+#[derive(Clone, Copy)]
+pub struct Version;
+
+/// The program's version, and the line that `rt version` prints of the toolchain.
+const TEXT: &str = "adjudicate 1.0.0
+rattle-kit-13f logic dac8208d650f15bf
+";
+
+impl Version {
+    /// What is read for it.
+    pub(crate) fn places<'a>(&self) -> Places<'a>
+        ensures { named_by result ≡ named }
+    {
+        Places {
+            folder: None,
+            manifest: None,
+            reads_input: false,
+            kept: None,
+            other_kept: None,
+        }
+    }
+
+    /// Writes both versions, a line each, and tells the status 0.
+    pub(crate) fn answer<W: Write>(&self, out: &mut W) -> Result<u8, WriteFault>
+        ensures { IfOk result (Answers (W.contents out.old) (W.contents out.new)) }
+    {
+        match out.write_all(TEXT.as_bytes()) {
+            Ok(()) => Ok(0),
+            Err(_) => Err(WriteFault::Io),
+        }
+    }
+}

@@ -1,0 +1,58 @@
+//! The name of a game, as a value.
+
+ghost use Rattle.std.specs.Prelude.{◌≡◌, IfSome, IfNone};
+ghost use Rattle.fen_text.specs.Written.{fen_of};
+ghost use Rattle.move_msg.specs.Stamps.{IsGameName, stamp_of};
+
+use board_core::Position;
+use move_msg::{Stamp, is_game_name};
+use std::marker::Model;
+
+/// The name of a game, 1 to 64 bytes from the space to the tilde. Contracts see its bytes.
+#[derive(Drop)]
+pub struct GameName<'a> {
+    text: &'a str,
+}
+
+impl<'a> Model for GameName<'a> {
+    ghost use Rattle.std.specs.Prelude.{ℕ, List};
+    ghost use Rattle.move_msg.specs.Stamps.{IsGameName};
+
+    ghost Value = { List ℕ };
+
+    ghost view = { λ n. n.text.now };
+
+    ghost invariant = { λ n. IsGameName n.text.now };
+}
+
+impl<'a> GameName<'a> {
+    /// The name that a text is; none where no game may have it.
+    pub fn of(text: &'a str) -> Option<GameName<'a>>
+        ensures some { IfSome result (λ name. name ≡ text.entry.now) }
+        ensures none { IfNone result (IsGameName text.entry.now → ⊥) }
+    {
+        if is_game_name(text.as_bytes()) {
+            Some(GameName { text })
+        } else {
+            None
+        }
+    }
+
+    /// The name as a text.
+    pub fn into_text(self) -> &'a str
+        ensures text { result.now ≡ self.entry }
+        ensures name { IsGameName result.now }
+    {
+        self.text
+    }
+
+    /// The stamp of the game of this name with this start, manifest of tables and delay.
+    pub fn stamp(&self, start: &Position, manifest: &[u8], delay: u8) -> Stamp
+        ensures { result.0 ≡ stamp_of self.now (fen_of start.now) manifest.now delay }
+    {
+        match Stamp::of(self.text.as_bytes(), start, manifest, delay) {
+            Some(stamp) => stamp,
+            None => unreachable!(),
+        }
+    }
+}

@@ -1,0 +1,150 @@
+//! The values of a command, as they are taken from its words, or what is wrong with one.
+
+ghost use Rattle.std.specs.Prelude.{◌≡◌, IfOk, IfErr, Some, codes};
+ghost use Rattle.clap.specs.Words.{first_value, found_of};
+ghost use Rattle.move_msg.specs.Stamps.{IsGameName};
+ghost use Rattle.adjudicate_core.specs.Misuses.{AreGameWords, AreWell, IsFirst, IsTold, NoOption, NoWord, Unfit, datagrams_faults, fault_words, game_faults, me_faults, name_faults};
+ghost use Rattle.adjudicate_core.specs.Numbers.{IsCache, IsDatagrams, IsDelay, IsHundredOr, IsMe};
+
+use crate::game_name::GameName;
+use crate::numbers::{CacheSize, Delay, datagrams_of, hundred_or, me_of};
+use crate::usage::{ValueFault, Wanted};
+use clap::ArgMatches;
+use move_msg::Who;
+
+/// The value of an option that has to be there.
+pub(crate) fn option_in<'a>(
+    matches: &ArgMatches<'a>,
+    name: &'static str,
+) -> Result<&'a str, ValueFault<'a>>
+    ensures ok { IfOk result (λ text. Some text.now ≡ first_value (found_of matches.now) name.now) }
+    ensures err { IfErr result (λ fault. IsTold (first_value (found_of matches.now)) (NoOption name.now) (fault_words fault)) }
+{
+    match matches.get_str(name) {
+        Some(text) => Ok(text),
+        None => Err(ValueFault::NoOption(name)),
+    }
+}
+
+/// A word that has to be there.
+pub(crate) fn word_in<'a>(
+    matches: &ArgMatches<'a>,
+    name: &'static str,
+) -> Result<&'a str, ValueFault<'a>>
+    ensures ok { IfOk result (λ text. Some text.now ≡ first_value (found_of matches.now) name.now) }
+    ensures err { IfErr result (λ fault. IsTold (first_value (found_of matches.now)) (NoWord name.now) (fault_words fault)) }
+{
+    match matches.get_str(name) {
+        Some(text) => Ok(text),
+        None => Err(ValueFault::NoWord(name)),
+    }
+}
+
+/// The name of a game, of an option that has to be there.
+fn game_name_in<'a>(matches: &ArgMatches<'a>) -> Result<GameName<'a>, ValueFault<'a>>
+    ensures ok { IfOk result (λ name. (Some name ≡ first_value (found_of matches.now) (codes "name")) × IsGameName name) }
+    ensures well { IfOk result (λ name. AreWell (first_value (found_of matches.now)) name_faults) }
+    ensures err { IfErr result (λ fault. IsFirst (first_value (found_of matches.now)) name_faults (fault_words fault)) }
+{
+    let text = option_in(matches, "name")?;
+    match GameName::of(text) {
+        Some(name) => Ok(name),
+        None => Err(ValueFault::Unfit(Wanted::GameName, text)),
+    }
+}
+
+/// The words on a game.
+#[derive(Drop)]
+pub(crate) struct GameWords<'a> {
+    /// Its name.
+    pub(crate) name: GameName<'a>,
+    /// The FEN text of its start.
+    pub(crate) start: &'a str,
+    /// The folder of its tables.
+    pub(crate) tables: &'a str,
+}
+
+/// The words on a game, of options that have to be there.
+pub(crate) fn game_words_in<'a>(matches: &ArgMatches<'a>) -> Result<GameWords<'a>, ValueFault<'a>>
+    ensures ok { IfOk result (λ w. AreGameWords (first_value (found_of matches.now)) w.name w.start.now w.tables.now) }
+    ensures well { IfOk result (λ w. AreWell (first_value (found_of matches.now)) game_faults) }
+    ensures err { IfErr result (λ fault. IsFirst (first_value (found_of matches.now)) game_faults (fault_words fault)) }
+{
+    Ok(GameWords {
+        name: game_name_in(matches)?,
+        start: option_in(matches, "start")?,
+        tables: option_in(matches, "tables")?,
+    })
+}
+
+/// The size of a cache.
+pub(crate) fn cache_in<'a>(matches: &ArgMatches<'a>) -> Result<CacheSize, ValueFault<'a>>
+    ensures ok { IfOk result (IsCache (first_value (found_of matches.now) (codes "cache"))) }
+    ensures err { IfErr result (λ fault. IsTold (first_value (found_of matches.now)) (Unfit Wanted.Cache) (fault_words fault)) }
+{
+    let text = matches.get_str("cache");
+    match CacheSize::of(text) {
+        Some(cache) => Ok(cache),
+        None => Err(ValueFault::Unfit(Wanted::Cache, text.unwrap_or(""))),
+    }
+}
+
+/// The delay of a verdict.
+pub(crate) fn delay_in<'a>(matches: &ArgMatches<'a>) -> Result<Delay, ValueFault<'a>>
+    ensures ok { IfOk result (IsDelay (first_value (found_of matches.now) (codes "delay"))) }
+    ensures err { IfErr result (λ fault. IsTold (first_value (found_of matches.now)) (Unfit Wanted.Delay) (fault_words fault)) }
+{
+    let text = matches.get_str("delay");
+    match Delay::of(text) {
+        Some(delay) => Ok(delay),
+        None => Err(ValueFault::Unfit(Wanted::Delay, text.unwrap_or(""))),
+    }
+}
+
+/// How many milliseconds a datagram is awaited.
+pub(crate) fn wait_in<'a>(matches: &ArgMatches<'a>) -> Result<u16, ValueFault<'a>>
+    ensures ok { IfOk result (IsHundredOr (first_value (found_of matches.now) (codes "wait"))) }
+    ensures err { IfErr result (λ fault. IsTold (first_value (found_of matches.now)) (Unfit Wanted.Wait) (fault_words fault)) }
+{
+    let text = matches.get_str("wait");
+    match hundred_or(text) {
+        Some(wait) => Ok(wait),
+        None => Err(ValueFault::Unfit(Wanted::Wait, text.unwrap_or(""))),
+    }
+}
+
+/// How often a move is sent at most.
+pub(crate) fn tries_in<'a>(matches: &ArgMatches<'a>) -> Result<u16, ValueFault<'a>>
+    ensures ok { IfOk result (IsHundredOr (first_value (found_of matches.now) (codes "tries"))) }
+    ensures err { IfErr result (λ fault. IsTold (first_value (found_of matches.now)) (Unfit Wanted.Tries) (fault_words fault)) }
+{
+    let text = matches.get_str("tries");
+    match hundred_or(text) {
+        Some(tries) => Ok(tries),
+        None => Err(ValueFault::Unfit(Wanted::Tries, text.unwrap_or(""))),
+    }
+}
+
+/// A number of datagrams, of an option that has to be there.
+pub(crate) fn datagrams_in<'a>(matches: &ArgMatches<'a>) -> Result<u32, ValueFault<'a>>
+    ensures ok { IfOk result (IsDatagrams (first_value (found_of matches.now) (codes "datagrams"))) }
+    ensures err { IfErr result (λ fault. IsFirst (first_value (found_of matches.now)) datagrams_faults (fault_words fault)) }
+{
+    let text = option_in(matches, "datagrams")?;
+    match datagrams_of(text) {
+        Some(datagrams) => Ok(datagrams),
+        None => Err(ValueFault::Unfit(Wanted::Datagrams, text)),
+    }
+}
+
+/// Which of the two arbiters it is, of an option that has to be there.
+pub(crate) fn me_in<'a>(matches: &ArgMatches<'a>) -> Result<Who, ValueFault<'a>>
+    ensures ok { IfOk result (IsMe (first_value (found_of matches.now) (codes "me"))) }
+    ensures err { IfErr result (λ fault. IsFirst (first_value (found_of matches.now)) me_faults (fault_words fault)) }
+{
+    let text = option_in(matches, "me")?;
+    match me_of(text) {
+        Some(who) => Ok(who),
+        None => Err(ValueFault::Unfit(Wanted::Me, text)),
+    }
+}

@@ -1,0 +1,46 @@
+use Rattle.std.proofs.Common.{rules, ◌≡◌, ◌∙◌, sym, ap, subst, refl, List, length, Some, None, take}
+use Rattle.board_core.specs.declared.moves.Move.{Move}
+use Rattle.judge_core.specs.Games.{IsOutcome, plies_to}
+use Rattle.judge_core.specs.Standings.{IsAt, ListsMovesInGame}
+use Rattle.arbiter_core.specs.Opens.{at_end}
+use Rattle.arbiter_core.specs.Setups.{rules_at, setup_view}
+use Rattle.arbiter_core.proofs.Opened.{cut_short, is_whole, other_verdict, played_is}
+use Rattle.arbiter_core.proofs.opening.go_on_from.Goals as goal
+
+pub returns-in_default-clause-err : goal.returns-in_default-clause-err
+returns-in_default-clause-err c = (
+  c.if-not-is_of_game.ensures.0 refl,
+  subst (ListsMovesInGame (rules_at (setup_view c.args.setup.now))) c.as_slice-moves.ensures.moves c.in_default.ensures.memory,
+)
+
+pub returns-in_default-at_end-clause-err : goal.returns-in_default-at_end-clause-err
+returns-in_default-at_end-clause-err c =
+    let moves = c.as_slice-moves.ensures.moves in
+    let r = rules_at (setup_view c.args.setup.now) in
+    let outcome = subst (λ (ms : List Move). IsOutcome r ms c.in-Ok.followed.outcome) moves c.in-Ok.ensures.value in
+    let ends : at_end c.in-Ok.followed.outcome (length c.args.kept.moves) ≡ None =
+    ap (λ (ms : List Move). at_end c.in-Ok.followed.outcome (length ms)) (sym moves) ∙ sym c.at_end.ensures ∙ c.in_default-at_end.is in
+    (c.if-not-is_of_game.ensures.0 refl, cut_short r c.args.kept c.in-Ok.followed.outcome outcome ends)
+
+pub returns-then-ne-clause-err : goal.returns-then-ne-clause-err
+returns-then-ne-clause-err c =
+    let moves = c.as_slice-moves.ensures.moves in
+    let r = rules_at (setup_view c.args.setup.now) in
+    let outcome = subst (λ (ms : List Move). IsOutcome r ms c.in-Ok.followed.outcome) moves c.in-Ok.ensures.value in
+    let ends : at_end c.in-Ok.followed.outcome (length c.args.kept.moves) ≡ Some c.in-Some.verdict =
+    ap (λ (ms : List Move). at_end c.in-Ok.followed.outcome (length ms)) (sym moves) ∙ sym c.at_end.ensures ∙ c.in-Some.is in
+    (c.if-not-is_of_game.ensures.0 refl, other_verdict r c.args.kept c.in-Ok.followed.outcome outcome c.in-Some.verdict ends (λ same. search rules))
+
+pub returns-clause-ok : goal.returns-clause-ok
+returns-clause-ok c =
+    let moves = c.as_slice-moves.ensures.moves in
+    let r = rules_at (setup_view c.args.setup.now) in
+    let outcome = subst (λ (ms : List Move). IsOutcome r ms c.in-Ok.followed.outcome) moves c.in-Ok.ensures.value in
+    let standing = subst (λ (ms : List Move). IsAt r (take (plies_to ms c.in-Ok.followed.outcome) ms) c.in-Ok.followed.standing) moves c.in-Ok.ensures.standing in
+    let ends : at_end c.in-Ok.followed.outcome (length c.args.kept.moves) ≡ Some c.in-Some.verdict =
+    ap (λ (ms : List Move). at_end c.in-Ok.followed.outcome (length ms)) (sym moves) ∙ sym c.at_end.ensures ∙ c.in-Some.is in
+    let ruled : c.args.kept.verdict ≡ c.in-Some.verdict = search rules in (
+      played_is (setup_view c.args.setup.now) c.args.stamp _ c.in-Ok.followed.outcome c.in-Some.verdict (c.if-not-is_of_game.ensures.0 refl).0 outcome ends ruled (c.if-not-is_of_game.ensures.0 refl).1 standing c.as_slice-moves.ensures.few,
+      refl,
+      is_whole r c.args.kept c.in-Ok.followed.outcome outcome c.in-Some.verdict ends ruled,
+    )

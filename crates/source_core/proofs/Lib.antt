@@ -1,0 +1,4 @@
+pub mod PortLaws
+pub mod ReportLaws
+pub mod TurnLaws
+pub mod SendingLaws

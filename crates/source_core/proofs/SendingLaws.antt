@@ -1,0 +1,344 @@
+-- A run, one turn after the other.
+use Rattle.std.proofs.Common.{take, ◌≡◌, ◌⊎◌, true, false, ℕ, zero, suc, ◌+◌, ◌≤◌, List, [], ◌∷◌, ◌++◌, length, map, Option, Some, None, refl, sym, ap, subst, ◌∙◌, append-nil, length-append, arith, inl, inr}
+use Rattle.std.specs.Prelude.{slice_get, Result, Ok, Err, IfOk}
+use Rattle.std.specs.List.{AllByRecursion, Contains}
+use Rattle.std.specs.Io.KnownBytes.{Appends, IsAtEnd}
+use Rattle.std.proofs.KnownBytes.{Appends-nil, Appends-trans}
+use Rattle.std.proofs.lemmas.List.{map-append}
+use Rattle.std.proofs.lemmas.List.Elements.{All-contains, All-from_recursion, Contains-append_cases}
+use Rattle.board_core.specs.declared.moves.Move.{Move as Moves}
+use Rattle.board_core.specs.declared.parts.Parts.{Parts}
+use Rattle.move_msg.specs.declared.stamp.Stamp.{Stamp}
+use Rattle.system_io.specs.declared.output.WriteFault.{WriteFault}
+use Rattle.move_msg.specs.Messages.{SpellsMessage, message_text}
+use Rattle.move_msg.specs.Numbers.{most_moves}
+use Rattle.move_msg.specs.TextLines.{ended, text_of}
+use Rattle.move_msg.proofs.LineLaws.{more_lines}
+use Rattle.source_core.specs.declared.known.Known.{Known}
+use Rattle.source_core.specs.declared.lines.End.{End}
+use Rattle.source_core.specs.declared.known.Clash.{Clash}
+use Rattle.source_core.specs.declared.known.Standing.TheVariants as standing
+use Rattle.source_core.specs.declared.report.Ruling.{Ruling}
+use Rattle.move_msg.specs.declared.who.Who.TheVariants.{A}
+use Rattle.source_core.specs.declared.lines.End.TheVariants as at_end
+use Rattle.source_core.specs.declared.turn.Next.{Next}
+use Rattle.source_core.specs.declared.turn.Next.TheVariants as next
+use Rattle.source_core.specs.declared.turn.Turn.{Turn}
+use Rattle.source_core.specs.declared.turn.Turn.TheVariants as at_turn
+use Rattle.system_io.specs.Outputs.{WritesFront}
+use Rattle.system_io.specs.LineReaders.{ReadsLine}
+use Rattle.system_io.specs.Ports.{Passing, Came, Quiet, Missed, Handed, PortFacts, Passed, to_each}
+use Rattle.source_core.specs.Reports.{Knows, StandsSo}
+use Rattle.source_core.specs.Turns.{HasSpelling, HasWaited, IsReceived, IsTurn, move_message, one_try, tries_of}
+use Rattle.source_core.specs.Lines.{IsCut, acked_words, end_words, status_by}
+use Rattle.source_core.specs.Sendings.{At, AckedMove, ClosesSo, EndsIfAny, EndsWith, Unread, Refused, Closed, Sent, Game, InTurn, IsAckedTurn, IsClosed, IsLastMove, IsRefusedLine, IsSending, IsUnread, OnlyHands, Sending, WritesLines, last_lines, line_of, lines_of, sent_in}
+use Rattle.source_core.specs.Inside.Steps.{Closes, EndsAt, HasEnded, IsPlayed, Steps, StepsOn, StepsSo, end_by, is_ruled}
+use Rattle.source_core.proofs.PortLaws.{Passed-nil, Passed-trans}
+use Rattle.source_core.proofs.ReportLaws.{all_agreed, is_acked, is_ruled_so, is_unsettled, knows_nothing, not_both}
+use Rattle.source_core.proofs.TurnLaws.{all_more}
+
+-- ---- one step
+
+-- where the number is that of the moves before it
+last_move : (g : Game) (at : At) (input : Option (List ℕ)) (line : List ℕ) (after : Parts) (m : Moves) (known known' : Known) (port port' : PortFacts) (turn : Turn) (tries : List (List Passing)) → ReadsLine at.input input line → IsPlayed at.position (length at.moves) line m after → IsTurn g.stamp g.most (length at.moves) m port port' known known' turn tries → IsLastMove g at input (m ∷ []) (sent_in g at.moves m tries)
+last_move g at input line after m known known' port port' turn tries read r t = record { line = line; move = m; tries = tries; read = read; spelled = r.spelled; legal = (after, r.legal); room = r.room; spelling = t.spelling; are = (t.few, t.received); only = refl; passed = refl }
+
+-- a turn ends the run, or the run goes on
+turned : (unreadable : Type 0) (stamp : Stamp) (most : ℕ) (input input' : Option (List ℕ)) (line : List ℕ) (position after : Parts) (m : Moves) (known known' : Known) (port port' : PortFacts) (turn : Turn) (tries : List (List Passing)) (before : List Passing) (moves : List Moves)
+    → ReadsLine input input' line → IsPlayed position (length moves) line m after → IsTurn stamp most (length moves) m port port' known known' turn tries → Knows stamp before known
+    → StepsSo unreadable (record { stamp = stamp; addresses = port.addresses; most = most }) (record { input = input; position = position; moves = moves; passed = before }) input' after known' port port' (end_by turn)
+unfolding StepsSo
+turned unreadable stamp most input input' line position after m known known' port port' at_turn.Acked tries before moves read r t k =
+    let done = t.ends before k in
+    let sent : List Passing = tries_of port.addresses (message_text (move_message stamp (length moves) m)) tries in (
+      record { line = line; move = m; tries = tries; after = record { input = input'; position = after; moves = moves ++ m ∷ []; passed = before ++ sent } },
+      record { read = read; spelled = r.spelled; legal = r.legal; room = r.room; spelling = t.spelling; tries = (t.few, t.received); moves = refl; passed = refl; acked = done.0 },
+      refl,
+      refl,
+      t.passed,
+      done.1,
+    )
+turned unreadable stamp most input input' line position after m known known' port port' (at_turn.Ruled r') tries before moves read r t k =
+    (m ∷ [], _, Sent (last_move _ _ input' line after m known known' port port' (at_turn.Ruled r') tries read r t) (t.ends before k), t.passed)
+turned unreadable stamp most input input' line position after m known known' port port' (at_turn.Clashed c) tries before moves read r t k =
+    (m ∷ [], _, Sent (last_move _ _ input' line after m known known' port port' (at_turn.Clashed c) tries read r t) (t.ends before k), t.passed)
+turned unreadable stamp most input input' line position after m known known' port port' at_turn.Lost tries before moves read r t k =
+    (m ∷ [], _, Sent (last_move _ _ input' line after m known known' port port' at_turn.Lost tries read r t) (t.ends before k), t.passed)
+turned unreadable stamp most input input' line position after m known known' port port' at_turn.PortLost tries before moves read r t k =
+    (m ∷ [], _, Sent (last_move _ _ input' line after m known known' port port' at_turn.PortLost tries read r t) (t.ends before k), t.passed)
+
+pub steps_on : (stamp : Stamp) (most number : ℕ) (line : List ℕ) (position after : Parts) (m : Moves) (known known' : Known) (port port' : PortFacts) (turn : Turn) (o : Option End)
+    → IsPlayed position number line m after → (tries : List (List Passing)) × IsTurn stamp most number m port port' known known' turn tries → o ≡ end_by turn
+    → StepsOn stamp most number line position after known known' port port' o
+steps_on stamp most number line position after m known known' port port' turn o r (tries, t) is input input' read before moves k e =
+    let g : Game = record { stamp = stamp; addresses = port.addresses; most = most } in
+    let at : At = record { input = input; position = position; moves = moves; passed = before } in
+    subst (StepsSo ⊥ g at input' after known' port port') (sym is)
+    (turned ⊥ stamp most input input' line position after m known known' port port' turn tries before moves read (subst (λ n. IsPlayed position n line m after) e r) (subst (λ n. IsTurn stamp most n m port port' known known' turn tries) e t) k)
+
+pub steps_refused : (stamp : Stamp) (most number : ℕ) (line : List ℕ) (position : Parts) (known : Known) (port : PortFacts) (end : End) → IsRefusedLine position number line end → StepsOn stamp most number line position position known known port port (Some end)
+unfolding StepsSo
+steps_refused stamp most number line position known port end h input input' read before moves k e =
+    ([], [], Refused line refl refl read (subst (λ n. IsRefusedLine position n line end) e h), Passed-nil port)
+
+pub steps_unread : (unreadable : Type 0) (stamp : Stamp) (most number : ℕ) (input input' : Option (List ℕ)) (position : Parts) (known : Known) (port : PortFacts) (end : End) → IsUnread unreadable end → Steps unreadable stamp most number input input' position position known known port port (Some end)
+unfolding StepsSo
+steps_unread unreadable stamp most number input input' position known port end h before moves k e = ([], [], Unread refl refl h, Passed-nil port)
+
+pub steps_closed : (unreadable : Type 0) (stamp : Stamp) (most number : ℕ) (input input' : Option (List ℕ)) (position : Parts) (known known' : Known) (port port' : PortFacts) (end : End) → IsAtEnd input → Closes stamp number known port port' end → Steps unreadable stamp most number input input' position position known known' port port' (Some end)
+unfolding StepsSo
+steps_closed unreadable stamp most number input input' position known known' port port' end done (more, passed, closed) before moves k e =
+    ([], more, Closed refl done (subst (λ n. IsClosed stamp n before more end) e (closed before k)), passed)
+
+-- ---- the input can't be read
+
+still_unread : (U V : Type 0) (end : End) → (U → V) → IsUnread U end → IsUnread V end
+still_unread U V (at_end.Open count) f h = h
+still_unread U V (at_end.Ruled r) f h = h
+still_unread U V (at_end.Clashed c) f h = h
+still_unread U V (at_end.NotAMove place) f h = h
+still_unread U V (at_end.Illegal place) f h = h
+still_unread U V at_end.TooLong f h = h
+still_unread U V at_end.Lost f h = h
+still_unread U V at_end.PortLost f h = h
+still_unread U V at_end.Unread f h = f h
+still_unread U V at_end.OutOfMemory f h = h
+
+still_ends : (U V : Type 0) (g : Game) (at : At) (input : Option (List ℕ)) (sent : List Moves) (more : List Passing) (end : End) → (U → V) → EndsWith U g at input sent more end → EndsWith V g at input sent more end
+still_ends U V g at input sent more end f (Unread none nothing why) = Unread none nothing (still_unread U V end f why)
+still_ends U V g at input sent more end f (Refused line none nothing read why) = Refused line none nothing read why
+still_ends U V g at input sent more end f (Closed none done closed) = Closed none done closed
+still_ends U V g at input sent more end f (Sent one is) = Sent one is
+
+pub still_steps : (U V : Type 0) (g : Game) (at : At) (input : Option (List ℕ)) (position : Parts) (known : Known) (port port' : PortFacts) (o : Option End) → (U → V) → StepsSo U g at input position known port port' o → StepsSo V g at input position known port port' o
+unfolding StepsSo
+still_steps U V g at input position known port port' None f h = h
+still_steps U V g at input position known port port' (Some end) f (sent, more, ends, passed) = (sent, more, still_ends U V g at input sent more end f ends, passed)
+
+pub steps_read : (unreadable : Type 0) (stamp : Stamp) (most number : ℕ) (line : List ℕ) (input input' : Option (List ℕ)) (position position' : Parts) (known known' : Known) (port port' : PortFacts) (o : Option End) → ReadsLine input input' line → StepsOn stamp most number line position position' known known' port port' o → Steps unreadable stamp most number input input' position position' known known' port port' o
+steps_read unreadable stamp most number line input input' position position' known known' port port' o read h before moves k e =
+    still_steps ⊥ unreadable _ _ _ _ _ _ _ o (λ none. absurd none) (h input input' read before moves k e)
+
+-- ---- after the input's end
+
+closes_so : (stamp : Stamp) (number : ℕ) (old new : Known) (port port' : PortFacts) (end : Next) (h : HasEnded stamp old new port port' end) → (so_ends : End) → ((count : ℕ) → so_ends ≡ at_end.Open count → HasWaited h.came) → ((before : List Passing) → Knows stamp before old → ClosesSo stamp number (before ++ h.came) so_ends) → Closes stamp number old port port' so_ends
+closes_so stamp number old new port port' end h so_ends waits so = (h.came, h.passed, λ before k. record { received = h.received; waited = waits; stands = so before k })
+
+has_waited : (came : List Passing) (known : Known) → is_ruled known ≡ false → HasWaited came ⊎ (is_ruled known ≡ true) → HasWaited came
+has_waited came known open_yet (inl w) = w
+has_waited came known open_yet (inr ruled) = absurd cc
+
+pub closes_waited : (stamp : Stamp) (number : ℕ) (old new : Known) (port port' : PortFacts) (end : End) → HasEnded stamp old new port port' next.Waited → EndsAt number new end → Closes stamp number old port port' end
+closes_waited stamp number old new port port' end h ends =
+    closes_so stamp number old new port port' next.Waited h end (λ count is. has_waited h.came new (ends.0 count is) h.waits) (λ before k. ends.1 stamp (before ++ h.came) (h.learns before k))
+
+pub closes_clashed : (stamp : Stamp) (number : ℕ) (old new : Known) (port port' : PortFacts) (c : Clash) → HasEnded stamp old new port port' (next.Clashed c) → Closes stamp number old port port' (at_end.Clashed c)
+closes_clashed stamp number old new port port' c h = closes_so stamp number old new port port' (next.Clashed c) h (at_end.Clashed c) (λ count is. cc) h.learns
+
+pub closes_missed : (stamp : Stamp) (number : ℕ) (old new : Known) (port port' : PortFacts) → HasEnded stamp old new port port' next.PortLost → Closes stamp number old port port' at_end.PortLost
+closes_missed stamp number old new port port' h = closes_so stamp number old new port port' next.PortLost h at_end.PortLost (λ count is. cc) h.learns
+
+-- ---- how a game stands at the input's end
+
+pub open_acked : (number : ℕ) (known : Known) → StandsSo known number standing.Acked → EndsAt number known (at_end.Open number)
+open_acked number known (lt_a, lt_b, none_a, none_b) =
+    (λ count is. not_both known.a.ruling known.b.ruling (λ r s e f. absurd cc), λ stamp all k. let acked = is_acked stamp number all known k (lt_a, lt_b, none_a, none_b) in (refl, λ r ruled. acked.open_yet A r ruled.a, all_agreed stamp all known k))
+
+pub open_yet : (number : ℕ) (known : Known) → StandsSo known number standing.Open → EndsAt number known (at_end.Open number)
+open_yet number known h = (λ count is. not_both known.a.ruling known.b.ruling h.1, λ stamp all k. let u = is_unsettled stamp number all known k h in (refl, u.not_ruled, u.agreed))
+
+pub ruled_at : (number : ℕ) (known : Known) (r : Ruling) → StandsSo known number (standing.Ruled r) → EndsAt number known (at_end.Ruled r)
+ruled_at number known r h = (λ count is. cc, λ stamp all k. is_ruled_so stamp number all known r k h)
+
+-- ---- one list of moves
+
+HandsOnly : List ℕ → Passing → Type 0
+HandsOnly bytes p = (to : ℕ) (its : List ℕ) → p ≡ Handed to its → its ≡ bytes
+
+all_join : {A : Type 0} (P : A → Type 0) (xs ys : List A) → AllByRecursion P xs → AllByRecursion P ys → AllByRecursion P (xs ++ ys)
+all_join P [] ys h k = k
+all_join P (x ∷ xs) ys h k = (h.0, all_join P xs ys h.1 k)
+
+each_hands : (n : ℕ) (bytes : List ℕ) → AllByRecursion (HandsOnly bytes) (to_each n bytes)
+unfolding HandsOnly to_each
+each_hands zero bytes = tt
+each_hands (suc n) bytes = all_more (HandsOnly bytes) (to_each n bytes) (Handed n bytes) (each_hands n bytes) (λ to its is. sym (same to its is))
+  where
+    same : (to : ℕ) (its : List ℕ) → Handed n bytes ≡ Handed to its → bytes ≡ its
+    same to its is = cc
+
+heard_hands : (bytes : List ℕ) (came : List Passing) → AllByRecursion IsReceived came → AllByRecursion (HandsOnly bytes) came
+unfolding HandsOnly
+heard_hands bytes [] h = tt
+heard_hands bytes (Came x ∷ came) h = (λ to its is. absurd cc, heard_hands bytes came h.1)
+heard_hands bytes (Quiet ∷ came) h = (λ to its is. absurd cc, heard_hands bytes came h.1)
+heard_hands bytes (Missed ∷ came) h = (λ to its is. absurd cc, heard_hands bytes came h.1)
+heard_hands bytes (Handed n x ∷ came) h = absurd h.0
+
+tries_hand : (addresses : ℕ) (bytes : List ℕ) (tries : List (List Passing)) → AllByRecursion (AllByRecursion IsReceived) tries → AllByRecursion (HandsOnly bytes) (tries_of addresses bytes tries)
+tries_hand addresses bytes [] h = tt
+tries_hand addresses bytes (came ∷ tries) h = all_join (HandsOnly bytes) (one_try addresses bytes came) (tries_of addresses bytes tries) (all_join (HandsOnly bytes) (to_each addresses bytes) came (each_hands addresses bytes) (heard_hands bytes came h.0)) (tries_hand addresses bytes tries h.1)
+
+hands_bytes : (bytes : List ℕ) (all : List Passing) (to : ℕ) (its : List ℕ) → AllByRecursion (HandsOnly bytes) all → Contains all (Handed to its) → its ≡ bytes
+unfolding HandsOnly
+hands_bytes bytes all to its h in' = All-contains (HandsOnly bytes) all (Handed to its) (All-from_recursion (HandsOnly bytes) all h) in' to its refl
+
+get_front : (xs ys : List Moves) (n : ℕ) (m : Moves) → slice_get xs n ≡ Some m → slice_get (xs ++ ys) n ≡ Some m
+get_front [] ys n m e = absurd cc
+get_front (x ∷ xs) ys zero m e = e
+get_front (x ∷ xs) ys (suc n) m e = get_front xs ys n m e
+
+get_last : (xs : List Moves) (m : Moves) → slice_get (xs ++ m ∷ []) (length xs) ≡ Some m
+get_last [] m = refl
+get_last (x ∷ xs) m = get_last xs m
+
+pub hands_more : (stamp : Stamp) (addresses : ℕ) (moves : List Moves) (m : Moves) (all : List Passing) (tries : List (List Passing)) → OnlyHands stamp moves all → HasSpelling stamp (length moves) m → AllByRecursion (AllByRecursion IsReceived) tries → OnlyHands stamp (moves ++ m ∷ []) (all ++ tries_of addresses (message_text (move_message stamp (length moves) m)) tries)
+hands_more stamp addresses moves m all tries h say received to its in' =
+    let bytes : List ℕ = message_text (move_message stamp (length moves) m) in
+    elim (Contains-append_cases all (tries_of addresses bytes tries) (Handed to its) in') [
+      | inl before ↦ let old = h to its before in (old.0, old.1, get_front moves (m ∷ []) old.0 old.1 old.2, old.3)
+      | inr now ↦ (length moves, m, get_last moves m, subst (λ b. SpellsMessage b (move_message stamp (length moves) m)) (sym (hands_bytes bytes (tries_of addresses bytes tries) to its (tries_hand addresses bytes tries received) now)) say)
+    ]
+
+-- ---- all turns
+
+pub in_turn_more : (g : Game) (a b : At) (ts : List AckedMove) (t : AckedMove) → InTurn g a ts b → IsAckedTurn g b t → InTurn g a (ts ++ t ∷ []) t.after
+unfolding InTurn
+in_turn_more g a b [] t h k = (subst (λ at. IsAckedTurn g at t) h k, refl)
+in_turn_more g a b (s ∷ ts) t h k = (h.0, in_turn_more g s.after b ts t h.1 k)
+
+-- so many moves are acknowledged, and the run goes on
+pub record HasSent (g : Game) (start : Parts) (input0 input : Option (List ℕ)) (position : Parts) (known : Known) (port0 port : PortFacts) (k : ℕ) : Type 0 where
+  pub turns : List AckedMove
+  pub moves : List Moves
+  pub passed : List Passing
+  pub in_turn : InTurn g (record { input = input0; position = start; moves = []; passed = [] }) turns (record { input = input; position = position; moves = moves; passed = passed })
+  pub knows : Knows g.stamp passed known
+  pub count : k ≡ length moves
+  pub room : k ≤ most_moves
+  pub at_port : Passed port0 port passed
+  pub source : OnlyHands g.stamp moves passed
+
+pub sent_none : (g : Game) (start : Parts) (input out : Option (List ℕ)) (known : Known) (port : PortFacts) → known ≡ record { a = record { count = 0; ruling = None }; b = record { count = 0; ruling = None } } → (h : HasSent g start input input start known port port 0) × Appends out out (text_of (map line_of h.turns))
+unfolding InTurn
+sent_none g start input out known port is = (
+  record {
+    turns = [];
+    moves = [];
+    passed = [];
+    in_turn = refl;
+    knows = subst (Knows g.stamp []) (sym is) (knows_nothing g.stamp);
+    count = refl;
+    room = omega arith;
+    at_port = Passed-nil port;
+    source = λ to bytes in'. let lt = in'.1 in absurd (omega arith);
+  },
+  Appends-nil out,
+)
+
+pub same_game : (unreadable : Type 0) (g : Game) (n : ℕ) (at : At) (input : Option (List ℕ)) (position : Parts) (known : Known) (port port' : PortFacts) (o : Option End) → n ≡ g.addresses → StepsSo unreadable (record { stamp = g.stamp; addresses = n; most = g.most }) at input position known port port' o → StepsSo unreadable g at input position known port port' o
+same_game unreadable g n at input position known port port' o e h = subst (λ k. StepsSo unreadable (record { stamp = g.stamp; addresses = k; most = g.most }) at input position known port port' o) e h
+
+-- one more
+pub sent_more : (unreadable : Type 0) (g : Game) (start : Parts) (input0 input1 input2 : Option (List ℕ)) (p1 p2 : Parts) (known1 known2 : Known) (port0 port1 port2 : PortFacts) (k : ℕ) (h : HasSent g start input0 input1 p1 known1 port0 port1 k) → StepsSo unreadable g (record { input = input1; position = p1; moves = h.moves; passed = h.passed }) input2 p2 known2 port1 port2 None → (n : HasSent g start input0 input2 p2 known2 port0 port2 (k + 1)) × (map line_of n.turns ≡ map line_of h.turns ++ acked_words (k + 1) ∷ [])
+unfolding StepsSo
+sent_more unreadable g start input0 input1 input2 p1 p2 known1 known2 port0 port1 port2 k h (t, acked, is_input, is_position, passed, knows) =
+    let at : At = record { input = input1; position = p1; moves = h.moves; passed = h.passed } in
+    let counted = h.count in
+    let room = acked.room in
+    let longer : length t.after.moves ≡ k + 1 = ap length acked.moves ∙ length-append h.moves (t.move ∷ []) ∙ ap (λ n. n + 1) (sym h.count) in
+    let sent = sent_in g h.moves t.move t.tries in (
+      record {
+        turns = h.turns ++ t ∷ [];
+        moves = t.after.moves;
+        passed = t.after.passed;
+        in_turn = subst (λ i. InTurn g (record { input = input0; position = start; moves = []; passed = [] }) (h.turns ++ t ∷ []) (record { input = i; position = p2; moves = t.after.moves; passed = t.after.passed })) is_input
+            (subst (λ p. InTurn g (record { input = input0; position = start; moves = []; passed = [] }) (h.turns ++ t ∷ []) (record { input = t.after.input; position = p; moves = t.after.moves; passed = t.after.passed })) is_position
+            (in_turn_more g (record { input = input0; position = start; moves = []; passed = [] }) at h.turns t h.in_turn acked));
+        knows = knows;
+        count = sym longer;
+        room = omega arith;
+        at_port = subst (Passed port0 port2) (sym acked.passed) (Passed-trans port0 port1 port2 h.passed sent h.at_port passed);
+        source = subst (λ l. OnlyHands g.stamp l t.after.passed) (sym acked.moves) (subst (OnlyHands g.stamp (h.moves ++ t.move ∷ [])) (sym acked.passed) (hands_more g.stamp g.addresses h.moves t.move h.passed t.tries h.source acked.spelling acked.tries.1));
+      },
+      map-append line_of h.turns (t ∷ []) ∙ ap (λ n. map line_of h.turns ++ acked_words n ∷ []) longer,
+    )
+
+-- the writer failed
+pub run_cut : (unreadable : Type 0) (g : Game) (start : Parts) (input0 input : Option (List ℕ)) (position : Parts) (known : Known) (port0 port : PortFacts) (k : ℕ) (h : HasSent g start input0 input position known port0 port k) → (s : Sending) × IsSending unreadable g start input0 input port0 port s × (s.turns ≡ h.turns) × (s.end ≡ None)
+run_cut unreadable g start input0 input position known port0 port k h = (
+  record { turns = h.turns; at = record { input = input; position = position; moves = h.moves; passed = h.passed }; sent = []; more = []; end = None },
+  record {
+    turns = h.in_turn;
+    last = (refl, refl);
+    passed = subst (Passed port0 port) (sym (append-nil h.passed)) h.at_port;
+    source = subst (λ l. OnlyHands g.stamp l (h.passed ++ [])) (sym (append-nil h.moves)) (subst (OnlyHands g.stamp h.moves) (sym (append-nil h.passed)) h.source);
+  },
+  refl,
+  refl,
+)
+
+-- the run ends
+nothing_hands : (stamp : Stamp) (moves sent : List Moves) (all more : List Passing) → sent ≡ [] → more ≡ [] → OnlyHands stamp moves all → OnlyHands stamp (moves ++ sent) (all ++ more)
+nothing_hands stamp moves sent all more no_moves none h =
+    subst (λ l. OnlyHands stamp (moves ++ l) (all ++ more)) (sym no_moves) (subst (λ l. OnlyHands stamp (moves ++ []) (all ++ l)) (sym none) (subst (λ l. OnlyHands stamp l (all ++ [])) (sym (append-nil moves)) (subst (OnlyHands stamp moves) (sym (append-nil all)) h)))
+
+none_handed : (came : List Passing) (to : ℕ) (bytes : List ℕ) → AllByRecursion IsReceived came → Contains came (Handed to bytes) → ⊥
+none_handed came to bytes h in' = All-contains IsReceived came (Handed to bytes) (All-from_recursion IsReceived came h) in'
+
+received_hands : (stamp : Stamp) (moves sent : List Moves) (all more : List Passing) → sent ≡ [] → AllByRecursion IsReceived more → OnlyHands stamp moves all → OnlyHands stamp (moves ++ sent) (all ++ more)
+received_hands stamp moves sent all more no_moves received h = subst (λ l. OnlyHands stamp (moves ++ l) (all ++ more)) (sym no_moves) (subst (λ l. OnlyHands stamp l (all ++ more)) (sym (append-nil moves)) still)
+  where
+    still : OnlyHands stamp moves (all ++ more)
+    still to bytes in' = elim (Contains-append_cases all more (Handed to bytes) in') [ inl before ↦ h to bytes before | inr now ↦ absurd (none_handed more to bytes received now) ]
+
+ended_hands : (unreadable : Type 0) (g : Game) (at : At) (input : Option (List ℕ)) (sent : List Moves) (more : List Passing) (end : End) → EndsWith unreadable g at input sent more end → OnlyHands g.stamp at.moves at.passed → OnlyHands g.stamp (at.moves ++ sent) (at.passed ++ more)
+ended_hands unreadable g at input sent more end (Unread no_moves none why) h = nothing_hands g.stamp at.moves sent at.passed more no_moves none h
+ended_hands unreadable g at input sent more end (Refused line no_moves none read why) h = nothing_hands g.stamp at.moves sent at.passed more no_moves none h
+ended_hands unreadable g at input sent more end (Closed no_moves done closed) h = received_hands g.stamp at.moves sent at.passed more no_moves closed.received h
+ended_hands unreadable g at input sent more end (Sent t is) h =
+    subst (λ l. OnlyHands g.stamp (at.moves ++ l) (at.passed ++ more)) (sym t.only) (subst (λ l. OnlyHands g.stamp (at.moves ++ t.move ∷ []) (at.passed ++ l)) (sym t.passed) (hands_more g.stamp g.addresses at.moves t.move at.passed t.tries h t.spelling t.are.1))
+
+pub run_ended : (unreadable : Type 0) (g : Game) (start : Parts) (input0 input1 input2 : Option (List ℕ)) (p1 p2 : Parts) (known1 known2 : Known) (port0 port1 port2 : PortFacts) (k : ℕ) (end : End) (h : HasSent g start input0 input1 p1 known1 port0 port1 k) → StepsSo unreadable g (record { input = input1; position = p1; moves = h.moves; passed = h.passed }) input2 p2 known2 port1 port2 (Some end) → (s : Sending) × IsSending unreadable g start input0 input2 port0 port2 s × (s.turns ≡ h.turns) × (s.end ≡ Some end)
+unfolding StepsSo
+run_ended unreadable g start input0 input1 input2 p1 p2 known1 known2 port0 port1 port2 k end h (sent, more, ends, passed) =
+    let at : At = record { input = input1; position = p1; moves = h.moves; passed = h.passed } in (
+      record { turns = h.turns; at = at; sent = sent; more = more; end = Some end },
+      record {
+        turns = h.in_turn;
+        last = ends;
+        passed = Passed-trans port0 port1 port2 h.passed more h.at_port passed;
+        source = ended_hands unreadable g at input2 sent more end ends h.source;
+      },
+      refl,
+      refl,
+    )
+
+-- what can't be read here can't be read there
+still_last : (U V : Type 0) (g : Game) (at : At) (input : Option (List ℕ)) (sent : List Moves) (more : List Passing) (o : Option End) → (U → V) → EndsIfAny U g at input sent more o → EndsIfAny V g at input sent more o
+still_last U V g at input sent more None f h = h
+still_last U V g at input sent more (Some end) f h = still_ends U V g at input sent more end f h
+
+pub still_sending : (U V : Type 0) (g : Game) (start : Parts) (input input' : Option (List ℕ)) (port port' : PortFacts) (s : Sending) → (U → V) → IsSending U g start input input' port port' s → IsSending V g start input input' port port' s
+still_sending U V g start input input' port port' s f h = record { turns = h.turns; last = still_last U V g s.at input' s.sent s.more s.end f h.last; passed = h.passed; source = h.source }
+
+-- ---- what is written
+
+pub written_more : (old mid new : Option (List ℕ)) (first all : List (List ℕ)) (one : List ℕ) → all ≡ first ++ one ∷ [] → Appends old mid (text_of first) → Appends mid new (ended one) → Appends old new (text_of all)
+written_more old mid new first all one e p q = subst (λ (l : List (List ℕ)). Appends old new (text_of l)) (sym e) (more_lines old mid new first one p q)
+
+last_line : (s : Sending) (turns : List AckedMove) (end : End) → s.turns ≡ turns → s.end ≡ Some end → lines_of s ≡ map line_of turns ++ end_words end ∷ []
+last_line s turns end same is = ap (λ ts. map line_of ts ++ last_lines s.end) same ∙ ap (λ o. map line_of turns ++ last_lines o) is
+
+-- a run that the writer cut short has no last line
+pub no_last : (s : Sending) (turns : List AckedMove) (lines : List (List ℕ)) → s.turns ≡ turns → s.end ≡ None → map line_of turns ≡ lines → lines_of s ≡ lines
+no_last s turns lines same is e = ap (λ ts. map line_of ts ++ last_lines s.end) same ∙ ap (λ o. map line_of turns ++ last_lines o) is ∙ append-nil (map line_of turns) ∙ e
+
+-- at one more line the writer failed
+pub cut_at : {E : Type 0} (old mid new : Option (List ℕ)) (first all : List (List ℕ)) (one : List ℕ) (fault : E) → all ≡ first ++ one ∷ [] → Appends old mid (text_of first) → WritesFront {T = Unit {0}} mid new (ended one) (Err fault) → IsCut all old new
+cut_at old mid new first all one fault e p (n, q) = record { earlier = first; last = one; front = n; all = e; written = Appends-trans old mid new (text_of first) (take n (ended one)) p q }
+
+-- the line of a run that ends was written, or not
+pub wrote_last : (s : Sending) (turns : List AckedMove) (end : End) (old mid new : Option (List ℕ)) (r : Result ℕ WriteFault) → s.turns ≡ turns → s.end ≡ Some end → Appends old mid (text_of (map line_of turns)) → IfOk r (λ status. status ≡ status_by end) → WritesFront mid new (ended (end_words end)) r → WritesLines s old new r
+wrote_last s turns end old mid new (Ok status) same is p ok q = (end, is, ok, written_more old mid new (map line_of turns) (lines_of s) (end_words end) (last_line s turns end same is) p q)
+wrote_last s turns end old mid new (Err fault) same is p ok q = cut_at old mid new (map line_of turns) (lines_of s) (end_words end) fault (last_line s turns end same is) p q

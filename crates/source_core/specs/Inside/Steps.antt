@@ -1,0 +1,115 @@
+-- One step of a turn and of a run; cited by private functions alone.
+use Rattle.std.specs.Prelude.{◌≡◌, ◌++◌, ◌⊎◌, ◌&&◌, ◌<◌, ℕ, Bool, true, false, List, length, Option, Some, None, is_some}
+use Rattle.move_msg.specs.declared.stamp.Stamp.{Stamp}
+use Rattle.source_core.specs.declared.known.Known.{Known}
+use Rattle.source_core.specs.declared.turn.Next.{Next}
+use Rattle.source_core.specs.declared.turn.Next.TheVariants as next
+use Rattle.source_core.specs.declared.turn.Turn.{Turn}
+use Rattle.source_core.specs.declared.turn.Turn.TheVariants as at_turn
+use Rattle.board_core.specs.declared.moves.Move.{Move as Moves}
+use Rattle.board_core.specs.declared.parts.Parts.{Parts}
+use Rattle.board_core.specs.Moves.{Legal}
+use Rattle.fen_text.specs.Coordinates.{SpellsMove}
+use Rattle.move_msg.specs.Numbers.{most_moves}
+use Rattle.source_core.specs.declared.lines.End.{End}
+use Rattle.source_core.specs.declared.lines.End.TheVariants as at_end
+use Rattle.system_io.specs.Ports.{Passing, Came, Quiet, Missed, PortFacts, Passed}
+use Rattle.system_io.specs.LineReaders.{ReadsLine}
+use Rattle.source_core.specs.Sendings.{Game, At, AckedMove, IsAckedTurn, IsClosed, ClosesSo, EndsWith, sent_in}
+use Rattle.source_core.specs.Reports.{Knows, IsUnsettled}
+use Rattle.source_core.specs.Turns.{EndsSo, HasWaited, IsReceived, Learns, one_try}
+use Rattle.std.specs.List.{AllByRecursion}
+
+-- what came last
+abbrev pub IsLast : Passing → Next → Type 0
+IsLast came next.GoesOn = (bytes : List ℕ) × (came ≡ Came bytes)
+IsLast came next.Waited = came ≡ Quiet
+IsLast came (next.Clashed c) = (bytes : List ℕ) × (came ≡ Came bytes)
+IsLast came next.PortLost = came ≡ Missed
+
+-- both have reported a verdict
+abbrev pub is_ruled : Known → Bool
+is_ruled known = is_some known.a.ruling && is_some known.b.ruling
+
+-- a try that goes on has waited, unless both have reported a verdict
+abbrev pub Waits : List Passing → Known → Next → Type 0
+Waits came known next.GoesOn = ⊥
+Waits came known next.Waited = HasWaited came ⊎ (is_ruled known ≡ true)
+Waits came known (next.Clashed c) = Unit {0}
+Waits came known next.PortLost = Unit {0}
+
+-- a try has come to its end
+pub record HasEnded (stamp : Stamp) (old new : Known) (port port' : PortFacts) (end : Next) : Type 0 where
+  pub came : List Passing
+  pub received : AllByRecursion IsReceived came
+  pub passed : Passed port port' came
+  pub waits : Waits came new end
+  pub learns : Learns stamp old new came end
+
+-- how what came ends a turn
+abbrev pub loss_by : Next → Option Turn
+loss_by next.GoesOn = None
+loss_by next.Waited = None
+loss_by (next.Clashed c) = Some (at_turn.Clashed c)
+loss_by next.PortLost = Some at_turn.PortLost
+
+abbrev pub TryWaits : List Passing → Known → Option Turn → Type 0
+TryWaits came known None = HasWaited came ⊎ (is_ruled known ≡ true)
+TryWaits came known (Some end) = end ≡ at_turn.Lost → ⊥
+
+abbrev pub TryLearns : Stamp → List Passing → Known → Option Turn → Type 0
+TryLearns stamp all known None = Knows stamp all known
+TryLearns stamp all known (Some end) = (number : ℕ) → EndsSo stamp number all known end
+
+-- one try: it has waited, unless both have reported a verdict, or it ends the turn, whichever move it was
+pub record HasTriedOnce (stamp : Stamp) (addresses : ℕ) (bytes : List ℕ) (old new : Known) (port port' : PortFacts) (end : Option Turn) : Type 0 where
+  pub came : List Passing
+  pub received : AllByRecursion IsReceived came
+  pub passed : Passed port port' (one_try addresses bytes came)
+  pub waits : TryWaits came new end
+  pub learns : (before : List Passing) → Knows stamp before old → TryLearns stamp (before ++ one_try addresses bytes came) new end
+
+-- how a move stands, by all that has passed: the end of its turn other than a loss, or none where it is unsettled
+abbrev pub EndsIf : ℕ → Known → Option Turn → Type 0
+EndsIf number known None = (is_ruled known ≡ false) × ((stamp : Stamp) (all : List Passing) → Knows stamp all known → IsUnsettled stamp number all)
+EndsIf number known (Some end) = (end ≡ at_turn.Lost → ⊥) × ((stamp : Stamp) (all : List Passing) → Knows stamp all known → EndsSo stamp number all known end)
+
+-- with what a run ends after a turn; none where it goes on
+abbrev pub end_by : Turn → Option End
+end_by at_turn.Acked = None
+end_by (at_turn.Ruled r) = Some (at_end.Ruled r)
+end_by (at_turn.Clashed c) = Some (at_end.Clashed c)
+end_by at_turn.Lost = Some at_end.Lost
+end_by at_turn.PortLost = Some at_end.PortLost
+
+-- a line spells a legal move, after which the position is so, and there is room for it
+pub record IsPlayed (position : Parts) (number : ℕ) (line : List ℕ) (m : Moves) (after : Parts) : Type 0 where
+  pub spelled : SpellsMove line m
+  pub legal : Legal position m after
+  pub room : number < most_moves
+
+-- how a game stands at the input's end, whatever has passed by which so much is known
+abbrev pub EndsAt : ℕ → Known → End → Type 0
+EndsAt number known end = ((count : ℕ) → end ≡ at_end.Open count → is_ruled known ≡ false) × ((stamp : Stamp) (all : List Passing) → Knows stamp all known → ClosesSo stamp number all end)
+
+-- what still comes in time after the input's end is received
+abbrev pub Closes : Stamp → ℕ → Known → PortFacts → PortFacts → End → Type 0
+Closes stamp number known port port' end = (more : List Passing) × Passed port port' more × ((before : List Passing) → Knows stamp before known → IsClosed stamp number before more end)
+
+-- one more turn: a move was acknowledged, or the run ends
+unfoldable pub StepsSo : Type 0 → Game → At → Option (List ℕ) → Parts → Known → PortFacts → PortFacts → Option End → Type 0
+StepsSo unreadable g at input position known port port' None =
+    (t : AckedMove) × IsAckedTurn g at t × (t.after.input ≡ input) × (t.after.position ≡ position) × Passed port port' (sent_in g at.moves t.move t.tries) × Knows g.stamp t.after.passed known
+StepsSo unreadable g at input position known port port' (Some end) =
+    (sent : List Moves) × (more : List Passing) × EndsWith unreadable g at input sent more end × Passed port port' more
+
+-- whatever has passed before, by which so much is known, and whichever moves are acknowledged
+abbrev pub Steps : Type 0 → Stamp → ℕ → ℕ → Option (List ℕ) → Option (List ℕ) → Parts → Parts → Known → Known → PortFacts → PortFacts → Option End → Type 0
+Steps unreadable stamp most number input input' position position' known known' port port' end =
+    (before : List Passing) (moves : List Moves) → Knows stamp before known → number ≡ length moves →
+    StepsSo unreadable (record { stamp = stamp; addresses = port.addresses; most = most }) (record { input = input; position = position; moves = moves; passed = before }) input' position' known' port port' end
+
+-- the same after a line was read, whatever it was read from
+abbrev pub StepsOn : Stamp → ℕ → ℕ → List ℕ → Parts → Parts → Known → Known → PortFacts → PortFacts → Option End → Type 0
+StepsOn stamp most number line position position' known known' port port' end =
+    (input input' : Option (List ℕ)) → ReadsLine input input' line → Steps ⊥ stamp most number input input' position position' known known' port port' end

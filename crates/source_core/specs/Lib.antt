@@ -1,0 +1,6 @@
+pub mod Reports
+pub mod Turns
+pub mod Lines
+pub mod Sendings
+pub mod Laws
+pub mod Inside

@@ -1,0 +1,62 @@
+-- The lines of a run (this project's own).
+use Rattle.std.specs.Prelude.{◌≡◌, ℕ, List, [], ◌∷◌, ◌++◌, Option, take, codes}
+use Rattle.std.specs.Fmt.{decimal}
+use Rattle.std.specs.Io.KnownBytes.{Appends}
+use Rattle.move_msg.specs.TextLines.{ended, text_of}
+use Rattle.board_core.specs.Verdicts.{verdict_name}
+use Rattle.source_core.specs.declared.report.Ruling.{Ruling}
+use Rattle.source_core.specs.declared.known.Clash.{Clash}
+use Rattle.source_core.specs.declared.lines.End.{End}
+use Rattle.source_core.specs.declared.lines.End.TheVariants as at_end
+use Rattle.source_core.specs.declared.lines.Line.{Line}
+use Rattle.source_core.specs.declared.lines.Line.TheVariants as line
+
+-- so many moves are acknowledged by both
+abbrev pub acked_words : ℕ → List ℕ
+acked_words count = decimal count ++ codes " acked"
+
+abbrev pub ruling_words : Ruling → List ℕ
+ruling_words r = decimal r.ply ++ codes " " ++ verdict_name r.verdict
+
+abbrev pub clash_words : Clash → List ℕ
+clash_words c = codes "disagree " ++ ruling_words c.first ++ codes " " ++ ruling_words c.second
+
+-- the line with which a run ends
+abbrev pub end_words : End → List ℕ
+end_words (at_end.Open count) = codes "open " ++ decimal count
+end_words (at_end.Ruled r) = codes "verdict " ++ ruling_words r
+end_words (at_end.Clashed c) = clash_words c
+end_words (at_end.NotAMove number) = codes "refused move " ++ decimal number
+end_words (at_end.Illegal number) = codes "illegal " ++ decimal number
+end_words at_end.TooLong = codes "refused TooLong"
+end_words at_end.Lost = codes "refused lost"
+end_words at_end.PortLost = codes "refused port"
+end_words at_end.Unread = codes "refused files"
+end_words at_end.OutOfMemory = codes "refused memory"
+
+abbrev pub line_words : Line → List ℕ
+line_words (line.Acked count) = acked_words count
+line_words (line.Ends end) = end_words end
+
+-- 0 where the game goes on at the input's end, or has its verdict
+abbrev pub status_by : End → ℕ
+status_by (at_end.Open count) = 0
+status_by (at_end.Ruled r) = 0
+status_by (at_end.Clashed c) = 1
+status_by (at_end.NotAMove number) = 1
+status_by (at_end.Illegal number) = 1
+status_by at_end.TooLong = 1
+status_by at_end.Lost = 1
+status_by at_end.PortLost = 1
+status_by at_end.Unread = 1
+status_by at_end.OutOfMemory = 1
+
+-- ---- a writer that fails
+
+-- all lines but the last one were written whole, and a front of that one
+pub record IsCut (lines : List (List ℕ)) (old new : Option (List ℕ)) : Type 0 where
+  pub earlier : List (List ℕ)
+  pub last : List ℕ
+  pub front : ℕ
+  pub all : lines ≡ earlier ++ last ∷ []
+  pub written : Appends old new (text_of earlier ++ take front (ended last))

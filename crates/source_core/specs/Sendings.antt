@@ -1,0 +1,200 @@
+-- A run of a source: the moves of its input, one after the other (this project's own).
+use Rattle.std.specs.Prelude.{◌≡◌, ◌≤◌, ◌<◌, ◌++◌, ℕ, List, [], ◌∷◌, length, map, slice_get, Option, Some, None, Result, Ok, Err}
+use Rattle.std.specs.List.{AllByRecursion, Contains}
+use Rattle.std.specs.Io.KnownBytes.{Appends, IsAtEnd}
+use Rattle.board_core.specs.declared.moves.Move.{Move as Moves}
+use Rattle.board_core.specs.declared.parts.Parts.{Parts}
+use Rattle.board_core.specs.Moves.{Legal, IsLegal}
+use Rattle.fen_text.specs.Coordinates.{SpellsMove}
+use Rattle.move_msg.specs.declared.stamp.Stamp.{Stamp}
+use Rattle.move_msg.specs.Messages.{SpellsMessage, message_text}
+use Rattle.move_msg.specs.Numbers.{most_moves}
+use Rattle.move_msg.specs.TextLines.{text_of}
+use Rattle.system_io.specs.declared.output.WriteFault.{WriteFault}
+use Rattle.system_io.specs.LineReaders.{ReadsLine}
+use Rattle.system_io.specs.Ports.{Passing, Handed, Missed, PortFacts, Passed}
+use Rattle.source_core.specs.declared.report.Ruling.{Ruling}
+use Rattle.source_core.specs.declared.lines.End.{End}
+use Rattle.source_core.specs.declared.lines.End.TheVariants as at_end
+use Rattle.source_core.specs.Reports.{IsAcked, IsAgreed, IsRuled, IsClash, IsUnsettled}
+use Rattle.source_core.specs.Turns.{HasSpelling, HasWaited, IsReceived, move_message, tries_of}
+use Rattle.source_core.specs.Lines.{IsCut, acked_words, end_words, status_by}
+
+-- the stamp of a game, to how many addresses its moves go, and how often each is sent at most
+pub record Game : Type 0 where
+  pub stamp : Stamp
+  pub addresses : ℕ
+  pub most : ℕ
+
+-- where a run stands: what is left of the input, the position, the moves that are acknowledged, and all that has passed
+pub record At : Type 0 where
+  pub input : Option (List ℕ)
+  pub position : Parts
+  pub moves : List Moves
+  pub passed : List Passing
+
+-- ---- a move that is acknowledged
+
+-- a move of the input, its tries, and where the run stands after it
+pub record AckedMove : Type 0 where
+  pub line : List ℕ
+  pub move : Moves
+  pub tries : List (List Passing)
+  pub after : At
+
+abbrev pub sent_in : Game → List Moves → Moves → List (List Passing) → List Passing
+sent_in g moves m tries = tries_of g.addresses (message_text (move_message g.stamp (length moves) m)) tries
+
+abbrev pub AreTries : Game → List (List Passing) → Type 0
+AreTries g tries = (length tries ≤ g.most) × AllByRecursion (AllByRecursion IsReceived) tries
+
+-- the next line spells a legal move, which is sent as the move with its number until both have acknowledged it
+pub record IsAckedTurn (g : Game) (old : At) (t : AckedMove) : Type 0 where
+  pub read : ReadsLine old.input t.after.input t.line
+  pub spelled : SpellsMove t.line t.move
+  pub legal : Legal old.position t.move t.after.position
+  pub room : length old.moves < most_moves
+  pub spelling : HasSpelling g.stamp (length old.moves) t.move
+  pub tries : AreTries g t.tries
+  pub moves : t.after.moves ≡ old.moves ++ t.move ∷ []
+  pub passed : t.after.passed ≡ old.passed ++ sent_in g old.moves t.move t.tries
+  pub acked : IsAcked g.stamp (length old.moves) t.after.passed
+
+-- each turn begins where the one before it left the run
+unfoldable pub InTurn : Game → At → List AckedMove → At → Type 0
+InTurn g old [] new = new ≡ old
+InTurn g old (t ∷ ts) new = IsAckedTurn g old t × InTurn g t.after ts new
+
+-- ---- the end of a run
+
+-- the last move that is sent, which isn't acknowledged, or on which a verdict came
+pub record IsLastMove (g : Game) (at : At) (input : Option (List ℕ)) (sent : List Moves) (more : List Passing) : Type 0 where
+  pub line : List ℕ
+  pub move : Moves
+  pub tries : List (List Passing)
+  pub read : ReadsLine at.input input line
+  pub spelled : SpellsMove line move
+  pub legal : IsLegal at.position move
+  pub room : length at.moves < most_moves
+  pub spelling : HasSpelling g.stamp (length at.moves) move
+  pub are : AreTries g tries
+  pub only : sent ≡ move ∷ []
+  pub passed : more ≡ sent_in g at.moves move tries
+
+-- how the last move stands, by all that has passed
+abbrev pub IsSentLast : Stamp → ℕ → List Passing → End → Type 0
+IsSentLast stamp number all (at_end.Open count) = ⊥
+IsSentLast stamp number all (at_end.Ruled r) = IsRuled stamp r all
+IsSentLast stamp number all (at_end.Clashed c) = IsClash stamp c all
+IsSentLast stamp number all (at_end.NotAMove place) = ⊥
+IsSentLast stamp number all (at_end.Illegal place) = ⊥
+IsSentLast stamp number all at_end.TooLong = ⊥
+IsSentLast stamp number all at_end.Lost = IsUnsettled stamp number all
+IsSentLast stamp number all at_end.PortLost = Contains all Missed
+IsSentLast stamp number all at_end.Unread = ⊥
+IsSentLast stamp number all at_end.OutOfMemory = ⊥
+
+-- why the move of a line isn't sent: the line is none, or no legal one, or there are as many as a game may have
+abbrev pub IsRefusedLine : Parts → ℕ → List ℕ → End → Type 0
+IsRefusedLine position number line (at_end.Open count) = ⊥
+IsRefusedLine position number line (at_end.Ruled r) = ⊥
+IsRefusedLine position number line (at_end.Clashed c) = ⊥
+IsRefusedLine position number line (at_end.NotAMove place) = (place ≡ number) × (number < most_moves) × ((m : Moves) → SpellsMove line m → ⊥)
+IsRefusedLine position number line (at_end.Illegal place) = (place ≡ number) × (number < most_moves) × ((m : Moves) × SpellsMove line m × (IsLegal position m → ⊥))
+IsRefusedLine position number line at_end.TooLong = number ≡ most_moves
+IsRefusedLine position number line at_end.Lost = ⊥
+IsRefusedLine position number line at_end.PortLost = ⊥
+IsRefusedLine position number line at_end.Unread = ⊥
+IsRefusedLine position number line at_end.OutOfMemory = ⊥
+
+-- why no line is read: the input can't be read to its end, or memory for the line was refused
+abbrev pub IsUnread : Type 0 → End → Type 0
+IsUnread unreadable (at_end.Open count) = ⊥
+IsUnread unreadable (at_end.Ruled r) = ⊥
+IsUnread unreadable (at_end.Clashed c) = ⊥
+IsUnread unreadable (at_end.NotAMove place) = ⊥
+IsUnread unreadable (at_end.Illegal place) = ⊥
+IsUnread unreadable at_end.TooLong = ⊥
+IsUnread unreadable at_end.Lost = ⊥
+IsUnread unreadable at_end.PortLost = ⊥
+IsUnread unreadable at_end.Unread = unreadable
+IsUnread unreadable at_end.OutOfMemory = Unit {0}
+
+-- how a game stands at the input's end, by all that has passed: open after so many moves, where no verdict was reported by both
+abbrev pub ClosesSo : Stamp → ℕ → List Passing → End → Type 0
+ClosesSo stamp number all (at_end.Open count) = (count ≡ number) × ((r : Ruling) → IsRuled stamp r all → ⊥) × IsAgreed stamp all
+ClosesSo stamp number all (at_end.Ruled r) = IsRuled stamp r all
+ClosesSo stamp number all (at_end.Clashed c) = IsClash stamp c all
+ClosesSo stamp number all (at_end.NotAMove place) = ⊥
+ClosesSo stamp number all (at_end.Illegal place) = ⊥
+ClosesSo stamp number all at_end.TooLong = ⊥
+ClosesSo stamp number all at_end.Lost = ⊥
+ClosesSo stamp number all at_end.PortLost = Contains all Missed
+ClosesSo stamp number all at_end.Unread = ⊥
+ClosesSo stamp number all at_end.OutOfMemory = ⊥
+
+-- after the input's end nothing more is sent, and what comes in time is received
+pub record IsClosed (stamp : Stamp) (number : ℕ) (before more : List Passing) (end : End) : Type 0 where
+  pub received : AllByRecursion IsReceived more
+  pub waited : (count : ℕ) → end ≡ at_end.Open count → HasWaited more
+  pub stands : ClosesSo stamp number (before ++ more) end
+
+-- with what a run ends, and what was sent and passed after the acknowledged moves
+pub data EndsWith (unreadable : Type 0) (g : Game) (at : At) (input : Option (List ℕ)) (sent : List Moves) (more : List Passing) (end : End) : Type 0 where
+  -- no further line is read
+  Unread : sent ≡ [] → more ≡ [] → IsUnread unreadable end → EndsWith unreadable g at input sent more end
+  -- a line is read, and its move isn't sent
+  Refused : (line : List ℕ) → sent ≡ [] → more ≡ [] → ReadsLine at.input input line → IsRefusedLine at.position (length at.moves) line end → EndsWith unreadable g at input sent more end
+  -- the input has ended
+  Closed : sent ≡ [] → IsAtEnd at.input → IsClosed g.stamp (length at.moves) at.passed more end → EndsWith unreadable g at input sent more end
+  -- one more move is sent
+  Sent : IsLastMove g at input sent more → IsSentLast g.stamp (length at.moves) (at.passed ++ more) end → EndsWith unreadable g at input sent more end
+
+abbrev pub EndsIfAny : Type 0 → Game → At → Option (List ℕ) → List Moves → List Passing → Option End → Type 0
+EndsIfAny unreadable g at input sent more None = (sent ≡ []) × (more ≡ [])
+EndsIfAny unreadable g at input sent more (Some end) = EndsWith unreadable g at input sent more end
+
+-- ---- all of it
+
+-- Each datagram that is handed over spells a move of this one list with its number: the message that stands at that place of the
+-- log with which the worlds of two arbiters begin.
+abbrev pub OnlyHands : Stamp → List Moves → List Passing → Type 0
+OnlyHands stamp moves all = (to : ℕ) (bytes : List ℕ) → Contains all (Handed to bytes) → (n : ℕ) × (m : Moves) × (slice_get moves n ≡ Some m) × SpellsMessage bytes (move_message stamp n m)
+
+-- a run: the acknowledged moves, where it stands then, what was sent and what passed after that, and with what it ends; no end
+-- where the writer failed before it
+pub record Sending : Type 0 where
+  pub turns : List AckedMove
+  pub at : At
+  pub sent : List Moves
+  pub more : List Passing
+  pub end : Option End
+
+abbrev pub all_passed : Sending → List Passing
+all_passed s = s.at.passed ++ s.more
+
+abbrev pub all_moves : Sending → List Moves
+all_moves s = s.at.moves ++ s.sent
+
+pub record IsSending (unreadable : Type 0) (g : Game) (start : Parts) (input input' : Option (List ℕ)) (port port' : PortFacts) (s : Sending) : Type 0 where
+  pub turns : InTurn g (record { input = input; position = start; moves = []; passed = [] }) s.turns s.at
+  pub last : EndsIfAny unreadable g s.at input' s.sent s.more s.end
+  pub passed : Passed port port' (all_passed s)
+  -- one number never has two moves: this is what an arbiter's guarantee asks of a source
+  pub source : OnlyHands g.stamp (all_moves s) (all_passed s)
+
+abbrev pub line_of : AckedMove → List ℕ
+line_of t = acked_words (length t.after.moves)
+
+abbrev pub last_lines : Option End → List (List ℕ)
+last_lines None = []
+last_lines (Some end) = end_words end ∷ []
+
+-- a line for each acknowledged move, and the last line
+abbrev pub lines_of : Sending → List (List ℕ)
+lines_of s = map line_of s.turns ++ last_lines s.end
+
+-- all of them are written, and the status is that of the end; or the writer fails at the last of those that it was given
+abbrev pub WritesLines : Sending → Option (List ℕ) → Option (List ℕ) → Result ℕ WriteFault → Type 0
+WritesLines s old new (Ok status) = (end : End) × (s.end ≡ Some end) × (status ≡ status_by end) × Appends old new (text_of (lines_of s))
+WritesLines s old new (Err fault) = IsCut (lines_of s) old new

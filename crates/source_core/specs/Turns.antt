@@ -1,0 +1,74 @@
+-- One move that is sent until the arbiters have acknowledged it (this project's own).
+use Rattle.std.specs.Prelude.{◌≡◌, ◌≤◌, ◌++◌, ◌⊎◌, ℕ, List, [], ◌∷◌, length}
+use Rattle.std.specs.List.{AllByRecursion, flat_map, Contains}
+use Rattle.board_core.specs.declared.moves.Move.{Move as Moves}
+use Rattle.move_msg.specs.declared.stamp.Stamp.{Stamp}
+use Rattle.move_msg.specs.declared.who.Sender.TheVariants.{Source}
+use Rattle.move_msg.specs.declared.message.Message.{Message}
+use Rattle.move_msg.specs.declared.message.Message.TheVariants.{Move}
+use Rattle.move_msg.specs.Messages.{SpellsMessage, message_text}
+use Rattle.source_core.specs.declared.known.Known.{Known}
+use Rattle.source_core.specs.declared.turn.Next.{Next}
+use Rattle.source_core.specs.declared.turn.Next.TheVariants as next
+use Rattle.source_core.specs.declared.turn.Turn.{Turn}
+use Rattle.source_core.specs.declared.turn.Turn.TheVariants as at_turn
+use Rattle.system_io.specs.Ports.{Passing, Came, Quiet, Missed, Handed, PortFacts, Passed, to_each}
+use Rattle.source_core.specs.Reports.{Knows, IsAcked, IsRuled, IsClash, IsUnsettled}
+
+-- the message by which the source sends the move with this number
+abbrev pub move_message : Stamp → ℕ → Moves → Message
+move_message stamp number m = Move stamp Source number m
+
+-- that message has a spelling: its number and its word fit
+abbrev pub HasSpelling : Stamp → ℕ → Moves → Type 0
+HasSpelling stamp number m = SpellsMessage (message_text (move_message stamp number m)) (move_message stamp number m)
+
+-- nothing is sent there
+abbrev pub IsReceived : Passing → Type 0
+IsReceived (Came bytes) = Unit {0}
+IsReceived Quiet = Unit {0}
+IsReceived Missed = Unit {0}
+IsReceived (Handed to bytes) = ⊥
+
+-- how many datagrams one try receives at most
+abbrev pub most_answers : ℕ
+most_answers = 256
+
+-- a try has waited until nothing came in time, or has received as many datagrams as it may
+abbrev pub HasWaited : List Passing → Type 0
+HasWaited came = ((before : List Passing) × (came ≡ before ++ Quiet ∷ [])) ⊎ (length came ≡ most_answers)
+
+-- one try: the move is handed over for each address, and then this came
+abbrev pub one_try : ℕ → List ℕ → List Passing → List Passing
+one_try addresses bytes came = to_each addresses bytes ++ came
+
+abbrev pub tries_of : ℕ → List ℕ → List (List Passing) → List Passing
+tries_of addresses bytes tries = flat_map (one_try addresses bytes) tries
+
+-- what is known after something came, or what clashes in it
+abbrev pub ComesTo : Stamp → List Passing → Known → Next → Type 0
+ComesTo stamp all known next.GoesOn = Knows stamp all known
+ComesTo stamp all known next.Waited = Knows stamp all known
+ComesTo stamp all known (next.Clashed c) = IsClash stamp c all
+ComesTo stamp all known next.PortLost = Contains all Missed
+
+-- whatever was known of what passed before
+abbrev pub Learns : Stamp → Known → Known → List Passing → Next → Type 0
+Learns stamp old new came then' = (before : List Passing) → Knows stamp before old → ComesTo stamp (before ++ came) new then'
+
+-- how a turn ended, by all that has passed
+abbrev pub EndsSo : Stamp → ℕ → List Passing → Known → Turn → Type 0
+EndsSo stamp number all known at_turn.Acked = IsAcked stamp number all × Knows stamp all known
+EndsSo stamp number all known (at_turn.Ruled r) = IsRuled stamp r all
+EndsSo stamp number all known (at_turn.Clashed c) = IsClash stamp c all
+EndsSo stamp number all known at_turn.Lost = IsUnsettled stamp number all
+EndsSo stamp number all known at_turn.PortLost = Contains all Missed
+
+-- a turn: tries of the one move, at most so many, each of which waited where it was of no use
+pub record IsTurn (stamp : Stamp) (most number : ℕ) (m : Moves) (old new : PortFacts) (known known' : Known) (end : Turn) (tries : List (List Passing)) : Type 0 where
+  pub spelling : HasSpelling stamp number m
+  pub few : length tries ≤ most
+  pub received : AllByRecursion (AllByRecursion IsReceived) tries
+  pub lost : end ≡ at_turn.Lost → (length tries ≡ most) × AllByRecursion HasWaited tries
+  pub passed : Passed old new (tries_of old.addresses (message_text (move_message stamp number m)) tries)
+  pub ends : (before : List Passing) → Knows stamp before known → EndsSo stamp number (before ++ tries_of old.addresses (message_text (move_message stamp number m)) tries) known' end

@@ -1,0 +1,173 @@
+//! What a source knows of the arbiters' records.
+
+ghost use Rattle.std.specs.Prelude.{◌≡◌, ◌≢◌, ◌↔◌, ◌⊎◌, None, Some, IfSome, IfNone, IfErr, OnOk, IsTrue, max};
+ghost use Rattle.source_core.specs.Reports.{Adds, Clashes, Fits, StandsSo, reported_by, with_reported};
+
+use crate::report::{Report, Ruling};
+use move_msg::Who;
+
+/// What one arbiter has reported.
+#[derive(Clone, Copy)]
+pub struct Reported {
+    /// The greatest number of moves that it has acknowledged.
+    pub count: u32,
+    /// Its verdict.
+    pub ruling: Option<Ruling>,
+}
+
+/// What both arbiters have reported.
+#[derive(Clone, Copy)]
+pub struct Known {
+    /// The arbiter with the number 1.
+    pub a: Reported,
+    /// The arbiter with the number 2.
+    pub b: Reported,
+}
+
+/// Two verdicts that were reported and differ.
+#[derive(Clone, Copy, PartialEq, Eq, Debug)]
+pub struct Clash {
+    /// The one that came first.
+    pub first: Ruling,
+    /// The other.
+    pub second: Ruling,
+}
+
+/// How a move stands.
+#[derive(Clone, Copy)]
+pub enum Standing {
+    /// Both arbiters have acknowledged it, and neither has reported a verdict.
+    Acked,
+    /// Both have reported the verdict.
+    Ruled(Ruling),
+    /// Neither is so.
+    Open,
+}
+
+/// Whether two verdicts are one.
+fn is_same(a: Ruling, b: Ruling) -> bool
+    ensures { IsTrue result ↔ (a ≡ b) }
+{
+    a == b
+}
+
+/// The verdict that is known, where it is another one.
+fn other_than(known: Option<Ruling>, ruling: Ruling) -> Option<Ruling>
+    ensures some { IfSome result (λ first. (known ≡ Some first) × (first ≢ ruling)) }
+    ensures none { IfNone result (Fits known ruling) }
+{
+    match known {
+        Some(first) if !is_same(first, ruling) => Some(first),
+        _ => None,
+    }
+}
+
+/// The greater of two numbers.
+fn greater(a: u32, b: u32) -> u32
+    ensures { result ≡ max a b }
+{
+    a.max(b)
+}
+
+impl Known {
+    /// Nothing was reported.
+    pub fn nothing() -> Known
+        ensures { result ≡ record { a = record { count = 0; ruling = None }; b = record { count = 0; ruling = None } } }
+    {
+        let reported = Reported {
+            count: 0,
+            ruling: None,
+        };
+        Known {
+            a: reported,
+            b: reported,
+        }
+    }
+
+    /// What an arbiter has reported.
+    fn reported_by(&self, who: Who) -> Reported
+        ensures { result ≡ reported_by self.now who }
+    {
+        match who {
+            Who::A => self.a,
+            Who::B => self.b,
+        }
+    }
+
+    /// The same, with this for an arbiter.
+    fn with_reported(&self, who: Who, reported: Reported) -> Known
+        ensures { result ≡ with_reported self.now who reported }
+    {
+        match who {
+            Who::A => Known {
+                a: reported,
+                b: self.b,
+            },
+            Who::B => Known {
+                a: self.a,
+                b: reported,
+            },
+        }
+    }
+
+    /// A verdict that was reported and is another one than this.
+    fn clash_with(&self, ruling: Ruling) -> Option<Ruling>
+        ensures some { IfSome result (λ first. (first ≢ ruling) × ((self.now.a.ruling ≡ Some first) ⊎ (self.now.b.ruling ≡ Some first))) }
+        ensures none { IfNone result (Fits self.now.a.ruling ruling × Fits self.now.b.ruling ruling) }
+    {
+        match other_than(self.a.ruling, ruling) {
+            Some(first) => Some(first),
+            None => other_than(self.b.ruling, ruling),
+        }
+    }
+
+    /// Adds a report. The error comes where it is a verdict that differs from one that was reported; then nothing is added.
+    pub fn add(&mut self, report: Report) -> Result<(), Clash>
+        ensures added { OnOk result (Adds self.old report self.new) }
+        ensures clash { IfErr result (Clashes self.old report) }
+        ensures same { IfErr result (λ c. self.new ≡ self.old) }
+    {
+        match report {
+            Report::Acknowledges { who, count } => {
+                let before = self.reported_by(who);
+                let count = greater(before.count, count);
+                *self = self.with_reported(
+                    who,
+                    Reported {
+                        count,
+                        ruling: before.ruling,
+                    },
+                );
+                Ok(())
+            }
+            Report::Rules { who, ruling } => {
+                if let Some(first) = self.clash_with(ruling) {
+                    return Err(Clash {
+                        first,
+                        second: ruling,
+                    });
+                }
+                let before = self.reported_by(who);
+                *self = self.with_reported(
+                    who,
+                    Reported {
+                        count: before.count,
+                        ruling: Some(ruling),
+                    },
+                );
+                Ok(())
+            }
+        }
+    }
+
+    /// How the move with this number stands.
+    pub fn standing(&self, number: u32) -> Standing
+        ensures { StandsSo self.now number result }
+    {
+        match (self.a.ruling, self.b.ruling) {
+            (Some(ruling), Some(_)) => Standing::Ruled(ruling),
+            (None, None) if number < self.a.count && number < self.b.count => Standing::Acked,
+            _ => Standing::Open,
+        }
+    }
+}

@@ -1,0 +1,187 @@
+//! A run of a source.
+
+ghost use Rattle.std.specs.Prelude.{◌≡◌, ◌≤◌, IfOk, IfErr, IfSome, OnOk, Some};
+ghost use Rattle.board_core.specs.Moves.{Legal};
+ghost use Rattle.board_core.specs.declared.parts.Parts.{Parts};
+ghost use Rattle.source_core.specs.Sendings.{IsRefusedLine, IsSending, Sending, WritesLines};
+ghost use Rattle.source_core.specs.Inside.Steps.{Closes, EndsAt, IsPlayed, Steps, StepsOn, end_by};
+ghost use Rattle.system_io.specs.Outputs.{WritesFront};
+ghost use Rattle.source_core.specs.Lines.{end_words, status_by};
+ghost use Rattle.move_msg.specs.Numbers.{most_moves};
+ghost use Rattle.move_msg.specs.TextLines.{ended};
+
+use crate::known::{Known, Standing};
+use crate::lines::{End, Line, put_now};
+use crate::turn::{Next, Terms, Turn, receive_all, take_turn};
+use board_core::{Move, Position};
+use fen_text::read_move;
+use move_msg::MOST_MOVES;
+use std::alloc::Global;
+use system_io::{LineReader, Output, Port, ReadFault, WriteFault};
+
+/// The position after a move, if it is legal.
+fn played(position: &Position, m: &Move) -> Option<Position>
+    ensures legal { IfSome result (λ q. Legal position.now m.now q) }
+    ensures only { (q : Parts) → Legal position.now m.now q → result ≡ Some q }
+{
+    position.play(*m)
+}
+
+/// A line as a legal move of a position, and the position after it; the other answer is with what the run ends.
+fn move_of(line: &[u8], position: &Position, number: u32) -> Result<(Move, Position), End>
+    requires { number ≤ most_moves }
+    ensures ok { IfOk result (λ t. IsPlayed position.now number line.now t.0 t.1) }
+    ensures err { IfErr result (IsRefusedLine position.now number line.now) }
+{
+    if number >= MOST_MOVES {
+        return Err(End::TooLong);
+    }
+    let Some(m) = read_move(line) else {
+        return Err(End::NotAMove(number));
+    };
+    match played(position, &m) {
+        Some(next) => Ok((m, next)),
+        None => Err(End::Illegal(number)),
+    }
+}
+
+/// With what a run ends after a turn; none where it goes on.
+fn end_of(turn: Turn) -> Option<End>
+    ensures { result ≡ end_by turn }
+{
+    match turn {
+        Turn::Acked => None,
+        Turn::Ruled(ruling) => Some(End::Ruled(ruling)),
+        Turn::Clashed(clash) => Some(End::Clashed(clash)),
+        Turn::Lost => Some(End::Lost),
+        Turn::PortLost => Some(End::PortLost),
+    }
+}
+
+/// Sends the move of a line that was read; tells with what the run ends, if it does.
+fn send_line<P: Port>(
+    terms: Terms,
+    number: u32,
+    line: &[u8],
+    position: &mut Position,
+    known: &mut Known,
+    port: &mut P,
+) -> Option<End>
+    requires { number ≤ most_moves }
+    ensures { StepsOn terms.stamp terms.tries number line.now position.old position.new known.old known.new (P.facts port.old) (P.facts port.new) result }
+{
+    match move_of(line, position, number) {
+        Err(end) => Some(end),
+        Ok((m, next)) => {
+            *position = next;
+            end_of(take_turn(terms, number, m, known, port))
+        }
+    }
+}
+
+/// The verdict that both have reported, as the end of a run; or else that the game is open after so many moves.
+fn end_at(known: &Known, number: u32) -> End
+    ensures { EndsAt number known.now result }
+{
+    match known.standing(number) {
+        Standing::Ruled(ruling) => End::Ruled(ruling),
+        Standing::Acked | Standing::Open => End::Open(number),
+    }
+}
+
+/// Receives what still comes in time after the input's end, and tells with what the run ends.
+fn close<P: Port>(terms: Terms, number: u32, known: &mut Known, port: &mut P) -> End
+    ensures { Closes terms.stamp number known.old (P.facts port.old) (P.facts port.new) result }
+{
+    match receive_all(terms, number, known, port) {
+        Next::GoesOn | Next::Waited => end_at(known, number),
+        Next::Clashed(clash) => End::Clashed(clash),
+        Next::PortLost => End::PortLost,
+    }
+}
+
+/// Reads the next line and sends its move; tells with what the run ends, if it does.
+fn step<L: LineReader, P: Port>(
+    terms: Terms,
+    number: u32,
+    reader: &mut L,
+    line: &mut Vec<u8>,
+    position: &mut Position,
+    known: &mut Known,
+    port: &mut P,
+) -> Option<End>
+    requires { number ≤ most_moves }
+    ensures steps { Steps (L.facts reader.old).fails terms.stamp terms.tries number (L.facts reader.old).left (L.facts reader.new).left position.old position.new known.old known.new (P.facts port.old) (P.facts port.new) result }
+    ensures same { (L.facts reader.new).fails → (L.facts reader.old).fails }
+{
+    match reader.next_line(line) {
+        Ok(read) => {
+            if read {
+                send_line(terms, number, line, position, known, port)
+            } else {
+                Some(close(terms, number, known, port))
+            }
+        }
+        Err(ReadFault::Unreadable) => Some(End::Unread),
+        Err(ReadFault::OutOfMemory) => Some(End::OutOfMemory),
+    }
+}
+
+/// Writes the last line, and tells the status.
+fn finish<W: Output>(out: &mut W, end: End) -> Result<u8, WriteFault>
+    ensures status { IfOk result (λ status. status ≡ status_by end) }
+    ensures front { WritesFront (W.contents out.old) (W.contents out.new) (ended (end_words end)) result }
+    ensures gone { OnOk result (W.facts out.new).gone }
+{
+    match put_now(out, &Line::Ends(end)) {
+        Ok(()) => Ok(end.status()),
+        Err(fault) => Err(fault),
+    }
+}
+
+/// Sends the moves of an input, a line each, to the arbiters of a game as they come, and tells the status.
+///
+/// Each legal move is sent to each address, at most as often as the terms say, until both arbiters have acknowledged it. Then the
+/// line `2 acked` follows, with how many moves are acknowledged, and the next line is read. Once both have reported the verdict
+/// the last line is `verdict 4 BlackMates`, with status 0. At the input's end it is `open 2`, with status 0, unless the verdict
+/// comes in time. With status 1 it is `refused move 2`, a line that is no move, counted from 0; `illegal 2`, a move that isn't
+/// legal, which isn't sent; `refused TooLong`, a 4097th move; `refused lost`, an arbiter that doesn't answer; `refused port`;
+/// `refused files`, an input that can't be read; `refused memory`; and `disagree 2 BlackMates 2 Stalemate`, two verdicts that
+/// differ. The error comes only where the writer failed.
+pub fn send_game<L: LineReader, P: Port, W: Output>(
+    alloc: Global,
+    terms: Terms,
+    start: Position,
+    reader: &mut L,
+    port: &mut P,
+    out: &mut W,
+) -> Result<u8, WriteFault>
+    // There is such a run, whose lines are written.
+    ensures sends { (s : Sending) × IsSending (L.facts reader.old).fails (record { stamp = terms.stamp; addresses = (P.facts port.old).addresses; most = terms.tries }) start (L.facts reader.old).left (L.facts reader.new).left (P.facts port.old) (P.facts port.new) s × WritesLines s (W.contents out.old) (W.contents out.new) result }
+
+    // All of them have gone out.
+    ensures gone { OnOk result (W.facts out.new).gone }
+{
+    let mut line = Vec::new(alloc);
+    let mut position = start;
+    let mut known = Known::nothing();
+    for number in 0..MOST_MOVES + 1 {
+        let end = step(
+            terms,
+            number,
+            reader,
+            &mut line,
+            &mut position,
+            &mut known,
+            port,
+        );
+        match end {
+            None => match put_now(out, &Line::Acked(number + 1)) {
+                Ok(()) => {}
+                Err(fault) => return Err(fault),
+            },
+            Some(end) => return finish(out, end),
+        }
+    }
+    unreachable!()
+}

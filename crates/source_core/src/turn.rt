@@ -1,0 +1,198 @@
+//! One move that is sent until both arbiters have acknowledged it.
+
+ghost use Rattle.std.specs.Prelude.{◌≡◌, ◌∷◌, [], List};
+ghost use Rattle.std.specs.List.{AllByRecursion};
+ghost use Rattle.system_io.specs.Ports.{Passing, Came, Passed, to_each};
+ghost use Rattle.source_core.specs.Turns.{IsReceived, IsTurn, Learns};
+ghost use Rattle.source_core.specs.Inside.Steps.{EndsIf, HasEnded, HasTriedOnce, IsLast, is_ruled, loss_by};
+
+use crate::known::{Clash, Known, Standing};
+use crate::report::{Ruling, report_of};
+use board_core::Move;
+use move_msg::{Message, Sender, Stamp};
+use std::time::Duration;
+use system_io::Port;
+
+/// How many datagrams one try receives at most.
+const MOST_ANSWERS: u32 = 256;
+
+/// On what terms the moves of a game are sent.
+#[derive(Clone, Copy)]
+pub struct Terms {
+    /// The game.
+    pub stamp: Stamp,
+    /// How often a move is sent at most.
+    pub tries: u32,
+    /// How long a datagram is awaited, more than nothing.
+    pub wait: Duration,
+}
+
+/// How a move's turn ends.
+#[derive(Clone, Copy)]
+pub enum Turn {
+    /// Both arbiters have acknowledged the move, and neither has reported a verdict.
+    Acked,
+    /// Both have reported this verdict.
+    Ruled(Ruling),
+    /// Two verdicts were reported that differ.
+    Clashed(Clash),
+    /// The move was sent as often as it may be, and neither is so.
+    Lost,
+    /// No datagram can be received.
+    PortLost,
+}
+
+/// Whether more is awaited.
+#[derive(Clone, Copy)]
+pub(crate) enum Next {
+    /// More may come.
+    GoesOn,
+    /// Nothing came in time, or nothing more is awaited.
+    Waited,
+    /// Two verdicts were reported that differ.
+    Clashed(Clash),
+    /// No datagram can be received.
+    PortLost,
+}
+
+/// Sends a datagram to each address. What can't be sent is lost, as on its way.
+fn send<P: Port>(port: &mut P, bytes: &[u8])
+    ensures { Passed (P.facts port.old) (P.facts port.new) (to_each (P.facts port.old).addresses bytes.now) }
+{
+    let _sent = port.send(bytes);
+}
+
+/// Adds what a datagram reports, if anything.
+fn take_in(stamp: Stamp, known: &mut Known, datagram: &[u8]) -> Next
+    ensures learns { Learns stamp known.old known.new (Came datagram.now ∷ []) result }
+    ensures last { IsLast (Came datagram.now) result }
+{
+    let Some(report) = report_of(stamp, datagram) else {
+        return Next::GoesOn;
+    };
+    match known.add(report) {
+        Ok(()) => Next::GoesOn,
+        Err(clash) => Next::Clashed(clash),
+    }
+}
+
+/// Receives a datagram, if one comes in time, and adds what it reports.
+fn receive_one<P: Port>(stamp: Stamp, wait: Duration, known: &mut Known, port: &mut P) -> Next
+    ensures { (came : Passing) × IsReceived came × Passed (P.facts port.old) (P.facts port.new) (came ∷ []) × IsLast came result × Learns stamp known.old known.new (came ∷ []) result }
+{
+    let mut buffer = [0u8; 64];
+    match port.receive_in_time(wait, &mut buffer) {
+        Ok(Some(length)) => take_in(stamp, known, &buffer[..length]),
+        Ok(None) => Next::Waited,
+        Err(_) => Next::PortLost,
+    }
+}
+
+/// Whether both have reported a verdict.
+fn is_ruled(known: &Known) -> bool
+    ensures { result ≡ is_ruled known.now }
+{
+    known.a.ruling.is_some() && known.b.ruling.is_some()
+}
+
+/// How long the next datagram is awaited: where both have acknowledged the move, two milliseconds for the verdicts that may
+/// follow.
+fn wait_at(terms: Terms, number: u32, known: &Known) -> Duration {
+    match known.standing(number) {
+        Standing::Acked => Duration::from_millis(2),
+        Standing::Ruled(_) | Standing::Open => terms.wait,
+    }
+}
+
+/// Receives what comes in time, and adds what it reports, until nothing came, both have reported a verdict, or as many datagrams
+/// came as one try receives.
+pub(crate) fn receive_all<P: Port>(
+    terms: Terms,
+    number: u32,
+    known: &mut Known,
+    port: &mut P,
+) -> Next
+    ensures { HasEnded terms.stamp known.old known.new (P.facts port.old) (P.facts port.new) result }
+{
+    for _ in 0..MOST_ANSWERS {
+        if is_ruled(known) {
+            return Next::Waited;
+        }
+        let wait = wait_at(terms, number, known);
+        match receive_one(terms.stamp, wait, known, port) {
+            Next::GoesOn => {}
+            next => return next,
+        }
+    }
+    Next::Waited
+}
+
+/// How a move stands, as the end of its turn; none where it is open.
+fn turn_of(known: &Known, number: u32) -> Option<Turn>
+    ensures { EndsIf number known.now result }
+{
+    match known.standing(number) {
+        Standing::Acked => Some(Turn::Acked),
+        Standing::Ruled(ruling) => Some(Turn::Ruled(ruling)),
+        Standing::Open => None,
+    }
+}
+
+/// How what came ends a turn, if it does.
+fn loss_of(next: Next) -> Option<Turn>
+    ensures { result ≡ loss_by next }
+{
+    match next {
+        Next::GoesOn | Next::Waited => None,
+        Next::Clashed(clash) => Some(Turn::Clashed(clash)),
+        Next::PortLost => Some(Turn::PortLost),
+    }
+}
+
+/// Sends a datagram to each address, and receives what comes then; tells how that ends the turn, if it does.
+fn try_once<P: Port>(
+    terms: Terms,
+    number: u32,
+    known: &mut Known,
+    port: &mut P,
+    bytes: &[u8],
+) -> Option<Turn>
+    ensures { HasTriedOnce terms.stamp (P.facts port.old).addresses bytes.now known.old known.new (P.facts port.old) (P.facts port.new) result }
+{
+    send(port, bytes);
+    loss_of(receive_all(terms, number, known, port))
+}
+
+/// Sends a move to each address until both arbiters have acknowledged it and reported what they have to report, at most as often
+/// as the terms say.
+///
+/// A move that is acknowledged already isn't sent. Nothing else is sent.
+pub fn take_turn<P: Port>(
+    terms: Terms,
+    number: u32,
+    m: Move,
+    known: &mut Known,
+    port: &mut P,
+) -> Turn
+    ensures { (tries : List (List Passing)) × IsTurn terms.stamp terms.tries number m (P.facts port.old) (P.facts port.new) known.old known.new result tries }
+{
+    let message = Message::Move {
+        stamp: terms.stamp,
+        sender: Sender::Source,
+        number,
+        m,
+    };
+    let bytes = message.encode();
+    for _ in 0..terms.tries {
+        if let Some(turn) = turn_of(known, number) {
+            return turn;
+        }
+        if let Some(turn) = try_once(terms, number, known, port, &bytes) {
+            return turn;
+        }
+    }
+    match turn_of(known, number) {
+        Some(turn) => turn,
+        None => Turn::Lost,
+    }
+}

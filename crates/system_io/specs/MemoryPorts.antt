@@ -1,0 +1,19 @@
+-- What a port in memory tells of itself (this project's own).
+use Rattle.std.specs.Prelude.{List, Option, Some, None, cond, map}
+use Rattle.system_io.specs.declared.memory_port.MemoryPort.{MemoryPort}
+use Rattle.system_io.specs.declared.memory_port.Passage.{Passage}
+use Rattle.system_io.specs.declared.memory_port.Passage.TheVariants as passage
+use Rattle.system_io.specs.Ports.{PortFacts, Passing, Came, Quiet, Missed, Handed}
+
+abbrev pub passing : Passage → Passing
+passing (passage.Came bytes) = Came bytes.items
+passing passage.Quiet = Quiet
+passing passage.Missed = Missed
+passing (passage.Handed to bytes) = Handed to bytes.items
+
+-- all that has passed, where memory for it was never refused
+abbrev pub passed_at : MemoryPort → Option (List Passing)
+passed_at p = cond p.is_whole (Some (map passing p.passages.items)) None
+
+abbrev pub port_facts : MemoryPort → PortFacts
+port_facts p = record { passed = passed_at p; faults = p.failures; addresses = p.addresses }

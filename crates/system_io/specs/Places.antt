@@ -1,0 +1,18 @@
+-- Where the system's ports and kept files are (this project's own).
+use Rattle.std.specs.Prelude.{◌≡◌, ℕ, List, map, string_bytes}
+use Rattle.system_io.specs.declared.system_file.SystemCalls.{SystemCalls}
+use Rattle.system_io.specs.declared.traced_file.Traced.{Traced}
+use Rattle.system_io.specs.declared.udp_port.UdpPort.{UdpPort}
+
+-- the port was bound to this address, and sends to those
+pub record IsBound (address : List ℕ) (to : List (List ℕ)) (port : UdpPort) : Type 0 where
+  pub at : string_bytes port.address ≡ address
+  pub sends : map string_bytes port.to.items ≡ to
+
+-- the calls are those for the file at this path
+abbrev pub AreFor : {X Y Z : Type 0} → List ℕ → SystemCalls X Y Z → Type 0
+AreFor path calls = string_bytes calls.path ≡ path
+
+-- the file is the one at this path
+abbrev pub IsAtPath : {X Y Z : Type 0} → List ℕ → Traced (SystemCalls X Y Z) → Type 0
+IsAtPath path file = AreFor path file.calls

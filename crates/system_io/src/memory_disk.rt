@@ -1,0 +1,92 @@
+//! Folders and files in memory, of which some can't be read.
+
+ghost use Rattle.std.specs.Prelude.{◌↔◌, IfNone, IfSome, IsTrue};
+ghost use Rattle.system_io.specs.MemoryDisks.{IsFoundAt, IsNowhere};
+
+use crate::disk::Disk;
+use crate::reading::{MOST_BYTES, ReadFault};
+use crate::texts::owned;
+use std::alloc::Global;
+
+/// What stands at a path: the bytes of a file, or the names in a folder.
+#[derive(Clone, Copy)]
+pub struct AtPath<'a, T: Copy> {
+    pub path: &'a str,
+    pub holds: T,
+}
+
+/// What stands first at a path.
+fn found<'a, T: Copy>(all: &[AtPath<'a, T>], path: &str) -> Option<T>
+    ensures found { IfSome result (IsFoundAt (λ e. e.path.now) (λ e. e.holds) all.now path.now) }
+    ensures nowhere { IfNone result (IsNowhere (λ e. e.path.now) all.now path.now) }
+{
+    match all {
+        [] => None,
+        [first, others @ ..] => {
+            if first.path == path {
+                Some(first.holds)
+            } else {
+                found(others, path)
+            }
+        }
+    }
+}
+
+/// Whether a path is none of these.
+fn is_other(paths: &[&str], path: &str) -> bool
+    ensures { IsTrue result ↔ IsNowhere (λ p. p.now) paths.now path.now }
+{
+    match paths {
+        [] => true,
+        [first, others @ ..] => {
+            if *first == path {
+                false
+            } else {
+                is_other(others, path)
+            }
+        }
+    }
+}
+
+/// Files and folders by their paths, and the paths at which nothing can be read. Of two rows for one path the first counts. A
+/// folder may list a name at whose path no file stands: that one can't be read.
+#[derive(Clone, Copy)]
+pub struct MemoryDisk<'a> {
+    pub files: &'a [AtPath<'a, &'a [u8]>],
+    pub folders: &'a [AtPath<'a, &'a [&'a str]>],
+    pub failing: &'a [&'a str],
+}
+
+impl<'a> Disk for MemoryDisk<'a> {
+    ghost use Rattle.system_io.specs.MemoryDiskLaws.{holds_one};
+    ghost use Rattle.system_io.specs.MemoryDisks.{disk_of};
+
+    ghost facts = { disk_of };
+
+    ghost one = { λ d _. holds_one d };
+
+    fn names(&self, alloc: Global, folder: &str) -> Result<Vec<String>, ReadFault> {
+        if !is_other(self.failing, folder) {
+            return Err(ReadFault::Unreadable);
+        }
+        match found(self.folders, folder) {
+            Some(names) => Ok(owned(alloc, names)?),
+            None => Err(ReadFault::Unreadable),
+        }
+    }
+
+    fn read(&self, alloc: Global, path: &str) -> Result<Vec<u8>, ReadFault> {
+        if !is_other(self.failing, path) {
+            return Err(ReadFault::Unreadable);
+        }
+        match found(self.files, path) {
+            Some(bytes) => {
+                if bytes.len() as u64 > MOST_BYTES {
+                    return Err(ReadFault::Unreadable);
+                }
+                Ok(Vec::from_slice(alloc, bytes)?)
+            }
+            None => Err(ReadFault::Unreadable),
+        }
+    }
+}

@@ -1,0 +1,83 @@
+//! An input in memory, which may fail at its end.
+
+ghost use Rattle.std.specs.Prelude.{◌↔◌, IsTrue};
+ghost use Rattle.system_io.specs.MemoryInputs.{HasNoEnd};
+
+use crate::input::Input;
+use crate::line_reader::{LineReader, drop_line_feed};
+use crate::reading::{MOST_BYTES, ReadFault};
+use std::alloc::{AllocError, Global};
+use std::io::BufRead;
+
+/// An input of these bytes, which is read to its end or fails there.
+#[derive(Clone, Copy)]
+pub struct MemoryInput<'a> {
+    pub bytes: &'a [u8],
+    pub fails: bool,
+}
+
+impl<'a> MemoryInput<'a> {
+    /// Whether it can't be read to its end, since it fails there or has more than 2^30 bytes.
+    fn has_no_end(&self) -> bool
+        ensures { IsTrue result ↔ HasNoEnd self.now }
+    {
+        self.fails || self.bytes.len() as u64 > MOST_BYTES
+    }
+}
+
+/// Its lines, all of which have come already.
+#[derive(Drop)]
+pub struct MemoryLines<'a> {
+    left: &'a [u8],
+    fails: bool,
+}
+
+impl<'a> LineReader for MemoryLines<'a> {
+    ghost use Rattle.system_io.specs.MemoryInputs.{lines_of};
+
+    ghost facts = { lines_of };
+
+    fn next_line(&mut self, line: &mut Vec<u8>) -> Result<bool, ReadFault> {
+        line.clear();
+        match self.left.read_until(b'\n', line) {
+            Ok(0) if self.fails => Err(ReadFault::Unreadable),
+            Ok(0) => Ok(false),
+            Ok(_) => {
+                if self.fails && !line.ends_with(b"\n") {
+                    return Err(ReadFault::Unreadable);
+                }
+                drop_line_feed(line);
+                Ok(true)
+            }
+            Err(_) => Err(ReadFault::OutOfMemory),
+        }
+    }
+
+    fn has_line(&self) -> bool {
+        self.left.contains(&b'\n')
+    }
+}
+
+impl<'a> Input for MemoryInput<'a> {
+    type Lines = MemoryLines<'a>;
+
+    ghost use Rattle.system_io.specs.MemoryInputs.{gives_one, input_of};
+
+    ghost facts = { input_of };
+
+    ghost one = { λ i _. gives_one i };
+
+    fn read_to_end(&self, alloc: Global) -> Result<Vec<u8>, ReadFault> {
+        if self.has_no_end() {
+            return Err(ReadFault::Unreadable);
+        }
+        Ok(Vec::from_slice(alloc, self.bytes)?)
+    }
+
+    fn lines(&self, _alloc: Global) -> Result<MemoryLines<'a>, AllocError> {
+        Ok(MemoryLines {
+            left: self.bytes,
+            fails: self.has_no_end(),
+        })
+    }
+}
