@@ -1,6 +1,6 @@
 -- What a game comes to that is judged without tables.
-use Rattle.std.proofs.Common.{◌≡◌, ℕ, ◌+◌, ◌-◌, ◌<◌, ◌≤◌, Bool, true, false, cond, ◌||◌, List, [], ◌∷◌, ◌++◌, length, take, replicate, Option, Some, None, Result, Ok, Err, suc, zero, sym, refl, ap, ◌∙◌, subst, arith, ⊎_elim, inl, inr, true≢false}
-use Rattle.std.specs.Prelude.{IfSome, IsSome, IsTrue, IsFalse, ◌⊎◌, fold, option_and_then, nat_lt, slice_index_or}
+use Rattle.std.proofs.Common.{◌≡◌, ℕ, ◌-◌, ◌<◌, ◌≤◌, Bool, true, false, ◌||◌, List, [], ◌∷◌, ◌++◌, length, take, replicate, Option, Some, None, Result, Ok, sym, refl, ap, ◌∙◌, subst, arith, ⊎_elim, inl, inr, true≢false}
+use Rattle.std.specs.Prelude.{IfSome, IsSome, IsTrue, ◌⊎◌, fold, option_and_then, nat_lt, slice_index_or}
 use Rattle.std.specs.Option.{option_or}
 use Rattle.std.proofs.lemmas.Bool.{cases_lt, le-ltb, ltb-false}
 use Rattle.std.proofs.lemmas.List.{get_or-replicate, get_or_past, length-replicate}
@@ -9,13 +9,12 @@ use Rattle.board_core.specs.declared.moves.Move.{Move as Moves}
 use Rattle.board_core.specs.declared.piece.Side.{Side}
 use Rattle.board_core.specs.declared.piece.Side.TheVariants.{White, Black}
 use Rattle.board_core.specs.declared.verdict.Verdict.{Verdict as Ruling}
-use Rattle.board_core.specs.declared.verdict.Verdict.TheVariants.{WhiteMates, BlackMates, Stalemate, TableDraw}
+use Rattle.board_core.specs.declared.verdict.Verdict.TheVariants.{Stalemate, TableDraw}
 use Rattle.board_core.specs.Castling.{has_any_right}
 use Rattle.board_core.specs.Computed.{is_in_check}
 use Rattle.board_core.specs.ComputedMoves.{position_after, legal_moves, legal_captures, count_of_men}
 use Rattle.board_core.specs.Position.{IsPosition}
 use Rattle.place_index.specs.Covered.{FewMenHaveTables}
-use Rattle.table_file.specs.declared.kind.TableKind.{TableKind}
 use Rattle.table_file.specs.declared.kind.TableKind.TheVariants.{Wdl}
 use Rattle.table_file.specs.Tables.{Contents}
 use Rattle.judge_core.specs.Asked.{fault_in, fault_of, first, not_covered, unless}
@@ -24,7 +23,7 @@ use Rattle.judge_core.specs.Ends.{has_no_move}
 use Rattle.judge_core.specs.Games.{Rules, is_end, judged_after, position_after_all, verdict_after}
 use Rattle.judge_core.specs.Laws.{FirstVerdictInWords, IsLeastRuled, IsRuledAt}
 use Rattle.judge_core.specs.LookUp.{material_of}
-use Rattle.judge_core.specs.Probing.{after, weighed_by, wdl_of, worth_in}
+use Rattle.judge_core.specs.Probing.{after, weighed_by, wdl_of}
 use Rattle.judge_core.specs.Ruling.{end_of, is_out_of_scope, mate_of, ruling, ruling_by}
 use Rattle.judge_core.specs.Tables.{Tables, slot, table_at, table_value, value_in, value_of}
 use Rattle.judge_core.specs.Values.{Reading}

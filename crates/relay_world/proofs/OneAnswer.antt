@@ -1,12 +1,9 @@
 -- A run tells one thing.
-use Rattle.std.proofs.Common.{◌≡◌, ◌<◌, ℕ, zero, suc, List, [], ◌∷◌, ◌++◌, length, Option, Some, None, Result, Ok, Err, sym, refl, ap, ◌∙◌, subst, arith, inl, inr}
-use Rattle.std.specs.Prelude.{◌⊎◌, slice_get, slice_index, slice_index_or}
+use Rattle.std.proofs.Common.{◌≡◌, ℕ, zero, suc, List, [], ◌∷◌, length, Option, Some, None, Result, Ok, sym, refl, ap, ◌∙◌, subst, arith, inl, inr}
+use Rattle.std.specs.Prelude.{◌⊎◌, slice_get, slice_index}
 use Rattle.std.specs.List.{Contains}
-use Rattle.std.specs.List.Sorted.{IsPermutation}
 use Rattle.std.specs.Ordering.{nat_cmp, ordering_reverse}
 use Rattle.std.specs.Cmp.Lexicographic.{slice_cmp}
-use Rattle.std.specs.declared.cmp.Ordering.{Ordering}
-use Rattle.std.specs.declared.cmp.Ordering.TheVariants.{Less}
 use Rattle.std.proofs.lemmas.Cmp.{nat_list_cmp_total}
 use Rattle.std.proofs.lemmas.List.Sorted.{Contains-permutation, IsPermutation-sym, IsPermutation-trans}
 use Rattle.move_msg.specs.declared.message.Message.{Message}
@@ -22,9 +19,9 @@ use Rattle.arbiter_core.specs.Views.{spelled_as}
 use Rattle.relay_world.specs.declared.event.Event.{Event}
 use Rattle.relay_world.specs.declared.fault.WorldFault.{WorldFault}
 use Rattle.relay_world.specs.declared.world.State.{State}
-use Rattle.relay_world.specs.Gathering.{IsManifestOf, tables_of}
+use Rattle.relay_world.specs.Gathering.{IsManifestOf}
 use Rattle.relay_world.specs.Runs.{GameView, KeptIs, Runs, SideView, Tells, TellsSide, WorldView, judged_by}
-use Rattle.relay_world.specs.Worlds.{Judged, Side, World, after, first_world, worlds}
+use Rattle.relay_world.specs.Worlds.{Judged, Side, World, after, first_world}
 use Rattle.relay_world.proofs.Faithful.{last_of, one_list}
 
 -- ---- one manifest

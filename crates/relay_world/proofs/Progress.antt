@@ -4,7 +4,6 @@ use Rattle.std.specs.Prelude.{slice_get, option_map}
 use Rattle.std.specs.List.{range_with_len}
 use Rattle.std.proofs.lemmas.Bool.{eq-eqb, and_from}
 use Rattle.board_core.specs.declared.moves.Move.{Move as Moves}
-use Rattle.move_msg.specs.declared.stamp.Stamp.{Stamp}
 use Rattle.move_msg.specs.declared.who.Who.{Who}
 use Rattle.move_msg.specs.declared.who.Who.TheVariants.{A, B}
 use Rattle.move_msg.specs.declared.who.Sender.TheVariants.{Source}
@@ -13,16 +12,16 @@ use Rattle.move_msg.specs.declared.message.Message.TheVariants.{Move}
 use Rattle.judge_core.specs.Games.{Rules}
 use Rattle.arbiter_core.specs.declared.keeper.Keep.TheVariants.{Good}
 use Rattle.arbiter_core.specs.Recording.{Recorded, Window, count_of, last_ply, record_at}
-use Rattle.arbiter_core.specs.Answering.{Answer, Refuses, Sends, Puts, answer_to, sent_by}
+use Rattle.arbiter_core.specs.Answering.{Answer, Refuses, Sends, Puts, answer_to}
 use Rattle.relay_world.specs.declared.event.Event.{Event}
 use Rattle.relay_world.specs.declared.event.Event.TheVariants.{Deliver}
-use Rattle.relay_world.specs.Worlds.{Life, Closed, Down, Running, Side, World, Judged, identity, side_of, turned, answered, hears_at, hears, delivered, happens, first_world, after}
-use Rattle.relay_world.specs.Headline.{IsRecordOf, kept_count}
+use Rattle.relay_world.specs.Worlds.{Life, Closed, Down, Running, Side, World, Judged, identity, side_of, answered, hears_at, hears, delivered, happens, first_world, after}
+use Rattle.relay_world.specs.Headline.{kept_count}
 use Rattle.relay_world.specs.InOrder.{is_running, is_same, brings, all_in_order}
-use Rattle.relay_world.specs.Laws.{IsSentGame, Keeps, world_after}
+use Rattle.relay_world.specs.Laws.{Keeps, world_after}
 use Rattle.arbiter_core.proofs.Reach.{reach_within, last_reached}
 use Rattle.relay_world.proofs.Steps.{Holds, SideHolds, Goes, happens_goes, run_goes, first_holds, side_at}
-use Rattle.relay_world.proofs.Schedules.{after_append, holds_after}
+use Rattle.relay_world.proofs.Schedules.{after_append}
 use Rattle.relay_world.proofs.Rising.{rises, turned_side}
 use Rattle.relay_world.proofs.Whole.{at_last, kept_is}
 use Rattle.relay_world.proofs.Sending.{is_sent}

@@ -1,11 +1,18 @@
 -- What is told of a run.
-use Rattle.std.proofs.Common.{◌≡◌, ℕ, List, length, Some, Ok, sym, ◌∙◌, subst}
-use Rattle.std.specs.Prelude.{slice_get}
+use Rattle.std.proofs.Common.{◌≡◌, ℕ, List, length, Option, Some, None, Ok, sym, ◌∙◌, subst}
+use Rattle.std.specs.Prelude.{slice_get, option_map}
+use Rattle.move_msg.specs.declared.record_bytes.Record.{Record}
+use Rattle.move_msg.specs.declared.stamp.Stamp.{Stamp}
+use Rattle.move_msg.specs.Records.{SpellsRecord, code_or_none}
+use Rattle.move_msg.proofs.RecordLaws.{is_spelled}
+use Rattle.arbiter_core.specs.Recording.{Recorded}
+use Rattle.arbiter_core.specs.Delivers.{IsWritten}
+use Rattle.arbiter_core.specs.Views.{spelled_as}
 use Rattle.judge_core.specs.Tables.{Tables}
 use Rattle.move_msg.specs.Files.{File}
 use Rattle.relay_world.specs.declared.event.Event.{Event}
 use Rattle.relay_world.specs.Gathering.{tables_of, IsManifestOf}
-use Rattle.relay_world.specs.Runs.{GameView, WorldView, Runs, Tells, judged_by}
+use Rattle.relay_world.specs.Runs.{GameView, KeptIs, WorldView, Runs, Tells, counted, judged_by}
 use Rattle.relay_world.specs.Worlds.{Judged, World, after, first_world, worlds}
 use Rattle.relay_world.proofs.Faithful.{are_worlds, last_of, faithful_at}
 
@@ -28,3 +35,12 @@ runs_of given files events told tables manifest g l h =
       last = tells_last game events told h;
       faithful = faithful_at game events;
     }
+
+-- what is counted of kept bytes is counted of the record that is kept
+pub counted_is : (stamp : Stamp) (delay : ℕ) (bytes : Option (List ℕ)) (t : List ℕ) (found : Option (ℕ × ℕ)) → bytes ≡ Some t → ((r : Record) → SpellsRecord t r → found ≡ Some (length r.moves, code_or_none r.verdict))
+    → (kept : Option Recorded) → KeptIs stamp delay bytes kept → found ≡ option_map counted kept
+counted_is stamp delay bytes t found e is None h = absurd (not_none bytes t h e)
+  where
+    not_none : (o : Option (List ℕ)) (x : List ℕ) → o ≡ None → o ≡ Some x → ⊥
+    not_none o x a b = cc
+counted_is stamp delay bytes t found e is (Some kept) h = is (spelled_as stamp delay kept) (is_spelled t (spelled_as stamp delay kept) (subst (IsWritten stamp delay kept) e h))

@@ -7,17 +7,17 @@ use Rattle.board_core.specs.declared.moves.Move.{Move as Moves}
 use Rattle.board_core.specs.declared.verdict.Verdict.{Verdict as Ruling}
 use Rattle.judge_core.specs.declared.game.GameOutcome.{GameOutcome}
 use Rattle.judge_core.specs.declared.game.GameOutcome.TheVariants.{Ruled, Illegal, Going}
-use Rattle.judge_core.specs.Games.{Rules, IsFirst, IsOutcome, judged_after, plies_to, verdict_after, position_after_all}
+use Rattle.judge_core.specs.Games.{Rules, IsOutcome, plies_to, verdict_after, position_after_all}
 use Rattle.judge_core.specs.Laws.{NoDelayIsTheRuling}
 use Rattle.move_msg.specs.declared.who.Who.{Who}
 use Rattle.move_msg.specs.declared.who.Who.TheVariants.{A, B}
-use Rattle.arbiter_core.specs.Recording.{Recorded, count_of, reaches, record_at, last_ply}
+use Rattle.arbiter_core.specs.Recording.{Recorded, count_of, record_at, last_ply}
 use Rattle.arbiter_core.proofs.Reach.{step_of, reach_below, reach_within, unruled_below, last_reached, last_bound}
 use Rattle.relay_world.specs.declared.event.Event.{Event}
-use Rattle.relay_world.specs.Worlds.{Judged, World, after, first_world, side_of}
+use Rattle.relay_world.specs.Worlds.{Judged}
 use Rattle.relay_world.specs.Headline.{IsRecordOf}
-use Rattle.relay_world.specs.Laws.{IsAll, IsLeastRuling, Keeps, world_after}
-use Rattle.relay_world.proofs.Steps.{Holds, count_at, first_from}
+use Rattle.relay_world.specs.Laws.{IsAll, IsLeastRuling, Keeps}
+use Rattle.relay_world.proofs.Steps.{count_at, first_from}
 use Rattle.relay_world.proofs.Schedules.{holds_after}
 use Rattle.relay_world.proofs.Faithful.{reached_from}
 

@@ -13,7 +13,7 @@ use Rattle.move_msg.specs.Numbers.{most_moves}
 use Rattle.move_msg.specs.Records.{SpellsRecord, code_or_none}
 use Rattle.move_msg.specs.declared.record_bytes.Record.{Record}
 use Rattle.move_msg.specs.Stamps.{IsGameName, stamp_of}
-use Rattle.arbiter_core.specs.Recording.{Recorded}
+use Rattle.arbiter_core.specs.Recording.{Recorded, count_of}
 use Rattle.arbiter_core.specs.Delivers.{IsWritten}
 use Rattle.relay_world.specs.declared.event.Event.{Event}
 use Rattle.relay_world.specs.declared.world.State.{State}
@@ -79,6 +79,10 @@ pub record SpellsCounted (told : SideView) (found : ℕ × ℕ) : Type 0 where
 abbrev pub KeptIs : Stamp → ℕ → Option (List ℕ) → Option Recorded → Type 0
 KeptIs stamp delay bytes None = bytes ≡ None
 KeptIs stamp delay bytes (Some kept) = IsWritten stamp delay kept bytes
+
+-- how many moves a record has, and the code of its verdict
+abbrev pub counted : Recorded → ℕ × ℕ
+counted kept = (count_of kept, code_or_none kept.verdict)
 
 -- the bytes that are told are those of the record that is kept
 pub record TellsSide (stamp : Stamp) (delay : ℕ) (told : SideView) (side : Side) : Type 0 where

@@ -1,9 +1,11 @@
 //! What is told of two arbiters after a schedule.
 
-ghost use Rattle.std.specs.Prelude.{◌≡◌, option_map, length, Option, Some, None, List, IfSome};
+ghost use Rattle.std.specs.Prelude.{◌≡◌, ℕ, option_map, length, Option, Some, None, List, IfSome};
+ghost use Rattle.move_msg.specs.declared.stamp.Stamp.{Stamp};
+ghost use Rattle.arbiter_core.specs.Recording.{Recorded};
 ghost use Rattle.move_msg.specs.declared.record_bytes.Record.{Record};
 ghost use Rattle.move_msg.specs.Records.{SpellsRecord, code_or_none};
-ghost use Rattle.relay_world.specs.Runs.{SpellsCounted, told_of};
+ghost use Rattle.relay_world.specs.Runs.{KeptIs, SpellsCounted, counted, told_of};
 
 use arbiter_core::MemoryKeeper;
 use move_msg::{Message, Record, Who};
@@ -66,6 +68,7 @@ impl World {
         ensures nothing { (told_of self.now who).bytes ≡ None → result ≡ None }
         ensures record { (bytes : List _) (r : Record) → (told_of self.now who).bytes ≡ Some bytes → SpellsRecord bytes r → result ≡ Some (length r.moves, code_or_none r.verdict) }
         ensures some { IfSome result (SpellsCounted (told_of self.now who)) }
+        ensures is { (stamp : Stamp) (delay : ℕ) (kept : Option Recorded) → KeptIs stamp delay (told_of self.now who).bytes kept → result ≡ option_map counted kept }
     {
         match self.bytes(who) {
             Some(bytes) => Record::summary(bytes),
