@@ -4,6 +4,12 @@ use Rattle.std.specs.Prelude.{Result, Ok, Err, IfOk, IsErrOf, OnErr}
 use Rattle.adjudicate_core.specs.declared.answers.Answer.{Answer}
 use Rattle.adjudicate_core.specs.Inside.Asked.{PutsAnswered, PutsRead, reply_of}
 use Rattle.adjudicate_core.specs.Reply.{AnswersOnce, AnswersRead, NoRoomToRead, ReadAll, Refused, Replied, Reply, Unread}
+use Rattle.adjudicate_core.specs.Listens.{Hosted}
+use Rattle.adjudicate_core.specs.Sends.{Sends}
+use Rattle.adjudicate_core.specs.declared.commands.send.Send.{Send}
+use Rattle.system_io.specs.Disks.{DiskFacts}
+use Rattle.system_io.specs.Inputs.{InputFacts}
+use Rattle.system_io.specs.declared.output.WriteFault.{WriteFault}
 use Rattle.system_io.specs.declared.reading.ReadFault.{ReadFault}
 use Rattle.system_io.specs.declared.reading.ReadFault.TheVariants.{OutOfMemory, Unreadable}
 
@@ -34,3 +40,8 @@ after_reading answered IsReply CannotRead is cause (Err f) old new puts = tt
 after_reading (Ok a) IsReply CannotRead is cause (Ok status) old new puts = ReadAll (reply_of a) is puts
 after_reading (Err Unreadable) IsReply CannotRead is cause (Ok status) old new puts = Unread (cause refl) puts
 after_reading (Err OutOfMemory) IsReply CannotRead is cause (Ok status) old new puts = NoRoomToRead puts
+
+-- by a source: what holds of how it ends holds of its status, where there is one
+pub sent : {P F : Type 0} (disk : DiskFacts) (source : InputFacts) (host : Hosted P F) (t : Send) (old new : Option (List ℕ)) (r : Result ℕ WriteFault) → Sends disk source host t old new r → IfOk r (λ status. Sends disk source host t old new (Ok status))
+sent disk source host t old new (Ok status) h = h
+sent disk source host t old new (Err fault) h = tt

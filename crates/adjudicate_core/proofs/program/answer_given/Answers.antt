@@ -1,6 +1,6 @@
 use Rattle.std.proofs.Common.{◌∙◌, refl, sym, ap}
 use Rattle.adjudicate_core.specs.Tasks.{tells_progress}
-use Rattle.adjudicate_core.proofs.AnswerLaws.{after_reading, once, once_always}
+use Rattle.adjudicate_core.proofs.AnswerLaws.{after_reading, once, once_always, sent}
 use Rattle.adjudicate_core.proofs.program.answer_given.Goals as goal
 
 pub returns-in-Judge : goal.returns-in-Judge
@@ -43,4 +43,4 @@ pub returns-in-Version : goal.returns-in-Version
 returns-in-Version g c = record { answered = rw c.in-Version.is c.answer-in-Version.ensures; quiet = λ unasked. refl }
 
 pub returns-in-Send : goal.returns-in-Send
-returns-in-Send g c = record { answered = rw c.in-Send.is c.send.ensures; quiet = λ unasked. refl }
+returns-in-Send g c = record { answered = rw c.in-Send.is (sent _ _ _ _ _ _ c.send.result c.send.ensures); quiet = λ unasked. refl }
