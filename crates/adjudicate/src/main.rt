@@ -2,9 +2,8 @@
 #![tactic(auto)]
 
 use adjudicate_core::{WordsFault, refuse_memory, run_program};
-use std::env;
-use std::io;
 use std::process::ExitCode;
+use std::{env, io};
 use system_io::{BufferedOutput, SystemDisk, SystemHost, SystemInput, end};
 
 /// The words that the program was called with, its own name first.

@@ -72,10 +72,10 @@ fn make_folder<R: Files + AllocGlobal + Abort>(rt: &R) {
 }
 
 /// What is read at a folder and a manifest of the system, or why nothing is.
-fn sources_at<R: Files + Input + AllocGlobal + Clone + Drop>(
+fn sources_at<'a, R: Files + Input + AllocGlobal + Clone + Drop>(
     rt: &R,
-    folder: Option<&str>,
-    manifest: Option<&str>,
+    folder: Option<&'a str>,
+    manifest: Option<&'a str>,
 ) -> Result<Sources, ReadFault> {
     let places = Places {
         folder,

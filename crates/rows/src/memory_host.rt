@@ -1,6 +1,6 @@
 //! A host in memory: a port at which datagrams wait, and a kept file.
 
-ghost use Rattle.std.specs.Prelude.{◌≡◌, ◌≤◌, ◌∷◌, [], map, IfNone, IsTrue};
+ghost use Rattle.std.specs.Prelude.{◌≤◌, IfNone};
 ghost use Rattle.system_io.specs.Failures.{Risen};
 
 use std::alloc::{AllocError, Global};
@@ -145,9 +145,7 @@ impl<'a> MemoryHost<'a> {
 }
 
 /// Whether this is the only address.
-fn is_only(addresses: &[&str], address: &str) -> bool
-    ensures { IsTrue result → map (λ s. s.now) addresses.now ≡ address.now ∷ [] }
-{
+fn is_only(addresses: &[&str], address: &str) -> bool {
     match addresses {
         [only] => *only == address,
         _ => false,
@@ -159,11 +157,10 @@ impl<'a> Host for MemoryHost<'a> {
 
     type File = DiskFile;
 
-    ghost use Rattle.std.specs.Prelude.{◌≡◌, ◌∷◌, [], codes, false};
+    ghost use Rattle.std.specs.Prelude.{false};
     ghost use Rattle.system_io.specs.OutputLaws.{untold};
 
-    // Each port that it gives is bound to the one address, and sends to the other alone.
-    ghost facts = { λ _. record { is_told = false; binds = λ address to _. (address ≡ codes "b") × (to ≡ codes "t" ∷ []); refuses = λ _ _. Unit {0}; is_at = λ _ _. Unit {0} } };
+    ghost facts = { λ _. record { is_told = false; binds = λ _ _ _. Unit {0}; refuses = λ _ _. Unit {0}; is_at = λ _ _. Unit {0} } };
 
     ghost one = { λ _ told. untold told };
 
