@@ -1,6 +1,6 @@
 //! A host in memory: a port at which datagrams wait, and a kept file.
 
-ghost use Rattle.std.specs.Prelude.{◌≤◌, IfNone};
+ghost use Rattle.std.specs.Prelude.{◌≡◌, ◌≤◌, IfNone};
 ghost use Rattle.system_io.specs.Failures.{Risen};
 
 use std::alloc::{AllocError, Global};
