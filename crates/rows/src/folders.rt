@@ -1,6 +1,6 @@
 //! Folders of tables in memory and manifests, by names that the words of tests have, and inputs.
 
-ghost use Rattle.std.specs.Prelude.{◌≤◌, length, IfOk};
+ghost use Rattle.std.specs.Prelude.{◌≡◌, ◌≤◌, length, IfOk};
 ghost use Rattle.system_io.specs.Disks.{most_bytes};
 
 use crate::kept_files::KEPT;
@@ -193,6 +193,17 @@ fn file_in(path: &str) -> Option<File> {
     file_at(files_in(folder)?, name)
 }
 
+/// Bytes that may be so many.
+pub(crate) fn within(bytes: Vec<u8>, most: u64) -> Result<Vec<u8>, ReadFault>
+    ensures same { IfOk result (λ r. r.items ≡ bytes.items) }
+    ensures short { IfOk result (λ r. length r.items ≤ most) }
+{
+    if bytes.len() as u64 > most {
+        return Err(ReadFault::Unreadable);
+    }
+    Ok(bytes)
+}
+
 /// These folders and manifests, and no input.
 pub(crate) struct Folders;
 
@@ -219,6 +230,10 @@ impl Disk for Folders {
             Some(file) => read_file(alloc, file, 0),
             None => Err(ReadFault::Unreadable),
         }
+    }
+
+    fn read_within(&self, alloc: Global, path: &str, most: u64) -> Result<Vec<u8>, ReadFault> {
+        within(self.read(alloc, path)?, most)
     }
 }
 
@@ -329,6 +344,10 @@ impl<'a> Disk for Input<'a> {
 
     fn read(&self, alloc: Global, path: &str) -> Result<Vec<u8>, ReadFault> {
         Folders.read(alloc, path)
+    }
+
+    fn read_within(&self, alloc: Global, path: &str, most: u64) -> Result<Vec<u8>, ReadFault> {
+        Folders.read_within(alloc, path, most)
     }
 }
 

@@ -160,7 +160,7 @@ impl<'a> Host for MemoryHost<'a> {
     ghost use Rattle.std.specs.Prelude.{false};
     ghost use Rattle.system_io.specs.OutputLaws.{untold};
 
-    ghost facts = { λ _. record { is_told = false; binds = λ _ _ _. Unit {0}; refuses = λ _ _. Unit {0}; is_at = λ _ _. Unit {0} } };
+    ghost facts = { λ _. record { is_told = false; binds = λ _ _ _. Unit {0}; refuses = λ _ _. Unit {0}; is_at = λ _ _. Unit {0}; takes_memory = λ _. Unit {0} } };
 
     ghost one = { λ _ told. untold told };
 

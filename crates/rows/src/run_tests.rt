@@ -43,6 +43,10 @@ impl Disk for Memory {
             None => Err(ReadFault::Unreadable),
         }
     }
+
+    fn read_within(&self, alloc: Global, path: &str, most: u64) -> Result<Vec<u8>, ReadFault> {
+        within(self.read(alloc, path)?, most)
+    }
 }
 
 impl Source for Memory {

@@ -1,5 +1,5 @@
 -- Folders and files, as they are read (this project's own).
-use Rattle.std.specs.Prelude.{◌≡◌, ℕ, Bool, List, IsPermutation}
+use Rattle.std.specs.Prelude.{◌≡◌, ◌<◌, ℕ, Bool, List, length, IsPermutation}
 
 -- where names or bytes come from: the folder or the file at a path
 pub data Source : Type 0 where
@@ -23,6 +23,10 @@ pub record HoldsOne (disk : DiskFacts) : Type 0 where
   pub bytes : (path a b : List ℕ) → disk.holds path a → disk.holds path b → a ≡ b
   pub listed : (folder : List ℕ) (names : List (List ℕ)) → disk.lists folder names → disk.fails (AtFolder folder) → ⊥
   pub held : (path bytes : List ℕ) → disk.holds path bytes → disk.fails (AtFile path) → ⊥
+
+-- the file at this path has more bytes than so many
+abbrev pub HasMore : DiskFacts → List ℕ → ℕ → Type 0
+HasMore disk path most = (bytes : List ℕ) × disk.holds path bytes × (most < length bytes)
 
 -- a file and the input have at most 2^30 bytes
 abbrev pub most_bytes : ℕ

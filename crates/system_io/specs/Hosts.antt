@@ -12,6 +12,8 @@ pub record HostFacts (P F : Type 0) : Type 1 where
   pub refuses : List ℕ → BindFault → Type 0
   -- the file is the one at this path
   pub is_at : List ℕ → F → Type 0
+  -- the file at this path may take memory, which may be refused
+  pub takes_memory : List ℕ → Type 0
 
 -- a port is bound to one address and sends to one list of addresses, and a file is at one path
 pub record PlacesOne {P F : Type 0} (host : HostFacts P F) : Type 0 where

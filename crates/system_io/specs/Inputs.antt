@@ -9,6 +9,8 @@ pub record InputFacts : Type 1 where
   pub gives : List ℕ → Type 0
   -- it can't be read to its end, or has more than 2^30 bytes
   pub fails : Type 0
+  -- reading it may take memory, which may be refused
+  pub takes_memory : Type 0
 
 -- it has one list of bytes, where it doesn't fail
 pub record GivesOne (input : InputFacts) : Type 0 where

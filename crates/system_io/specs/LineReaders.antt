@@ -11,6 +11,8 @@ pub record LineFacts : Type 1 where
   pub ahead : List ℕ
   -- it can't be read to its end
   pub fails : Type 0
+  -- reading on may take memory, which may be refused
+  pub takes_memory : Type 0
 
 -- One more line was read. It has no line feed. It stood before the first line feed; or it was all that was left, and the input ended
 -- without one. Nothing after the line feed was taken.

@@ -18,13 +18,15 @@ use Rattle.system_io.specs.Places.{IsAtPath, IsBound}
 abbrev pub system_disk : DiskFacts
 system_disk = record { is_told = false; lists = λ _ _. Unit {0}; holds = λ _ _. Unit {0}; fails = λ _. Unit {0} }
 
--- INPUT: the bytes of standard input are those that the system tells, and an input that it refuses can't be read
+-- INPUT: the bytes of standard input are those that the system tells, an input that it refuses can't be read, and where it tells
+-- that memory was refused, memory was refused
 abbrev pub system_input : InputFacts
-system_input = record { is_told = false; gives = λ _. Unit {0}; fails = Unit {0} }
+system_input = record { is_told = false; gives = λ _. Unit {0}; fails = Unit {0}; takes_memory = Unit {0} }
 
--- LINES: an input of which a read was refused can't be read to its end
+-- LINES: an input of which a read was refused can't be read to its end, and where the system tells that memory was refused,
+-- memory was refused
 abbrev pub system_lines : Option (List ℕ) → List ℕ → LineFacts
-system_lines left ahead = record { left = left; ahead = ahead; fails = Unit {0} }
+system_lines left ahead = record { left = left; ahead = ahead; fails = Unit {0}; takes_memory = Unit {0} }
 
 -- OUTPUT: what no longer waits in the buffer was given to the system, and so has gone out; any write may be refused
 abbrev pub system_output : List ℕ → Bool → OutputFacts
@@ -47,4 +49,4 @@ pub record IsAsTold {C : Type 0} (left : Traced C) (read : Option (List ℕ)) : 
 -- HOST: a socket that was made for an address is bound to it, and the calls for a path are made at that path; an address that the
 -- system refuses can't be bound, and where it tells that memory was refused, memory was refused
 abbrev pub system_host : {X Y Z : Type 0} → HostFacts UdpPort (Traced (SystemCalls X Y Z))
-system_host = record { is_told = true; binds = IsBound; refuses = λ _ _. Unit {0}; is_at = IsAtPath }
+system_host = record { is_told = true; binds = IsBound; refuses = λ _ _. Unit {0}; is_at = IsAtPath; takes_memory = λ _. Unit {0} }

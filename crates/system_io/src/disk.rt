@@ -1,7 +1,7 @@
 //! Folders and files, as they are read.
 
-ghost use Rattle.std.specs.Prelude.{◌≡◌, ◌≤◌, true, length, map, string_bytes, IfOk, IsErrOf};
-ghost use Rattle.system_io.specs.Disks.{DiskFacts, AtFile, AtFolder, HoldsOne, most_bytes};
+ghost use Rattle.std.specs.Prelude.{◌≡◌, ◌≤◌, ◌⊎◌, true, length, map, string_bytes, IfOk, IsErrOf};
+ghost use Rattle.system_io.specs.Disks.{DiskFacts, AtFile, AtFolder, HasMore, HoldsOne, most_bytes};
 
 use crate::reading::ReadFault;
 use std::alloc::Global;
@@ -21,6 +21,12 @@ pub trait Disk {
         ensures bytes { IfOk result (λ bytes. (facts self.now).holds path.now bytes.items) }
         ensures short { IfOk result (λ bytes. length bytes.items ≤ most_bytes) }
         ensures cause { IsErrOf result ReadFault.Unreadable → (facts self.now).fails (AtFile path.now) };
+
+    /// All bytes of a file that may have so many; of one with more only the count is looked at, or one byte more is read.
+    fn read_within(&self, alloc: Global, path: &str, most: u64) -> Result<Vec<u8>, ReadFault>
+        ensures bytes { IfOk result (λ bytes. (facts self.now).holds path.now bytes.items) }
+        ensures short { IfOk result (λ bytes. length bytes.items ≤ most) }
+        ensures cause { IsErrOf result ReadFault.Unreadable → (facts self.now).fails (AtFile path.now) ⊎ HasMore (facts self.now) path.now most };
 
     /// A disk that tells what stands on it tells one thing of each folder and of each file.
     ghost one: { (d : Self) → (facts d).is_told ≡ true → HoldsOne (facts d) };

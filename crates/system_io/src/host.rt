@@ -1,6 +1,6 @@
 //! Where ports and kept files are opened.
 
-ghost use Rattle.std.specs.Prelude.{◌≡◌, true, length, map, IfErr, IfOk};
+ghost use Rattle.std.specs.Prelude.{◌≡◌, true, length, map, IfErr, IfOk, OnErr};
 ghost use Rattle.system_io.specs.Hosts.{HostFacts, PlacesOne};
 
 use crate::kept_file::KeptFile;
@@ -51,7 +51,8 @@ pub trait Host {
 
     /// The file at a path, which may not be there yet.
     fn file(&self, alloc: Global, path: &str) -> Result<Self::File, AllocError>
-        ensures { IfOk result ((facts self.now).is_at path.now) };
+        ensures at { IfOk result ((facts self.now).is_at path.now) }
+        ensures memory { OnErr result ((facts self.now).takes_memory path.now) };
 
     /// A host that tells where its ports and files are tells one place of each.
     ghost one: { (h : Self) → (facts h).is_told ≡ true → PlacesOne (facts h) };

@@ -1,6 +1,6 @@
 //! Bytes that come in, all at once or line by line.
 
-ghost use Rattle.std.specs.Prelude.{◌≡◌, ◌≤◌, true, length, IfOk, IfSome, IsErrOf};
+ghost use Rattle.std.specs.Prelude.{◌≡◌, ◌≤◌, true, length, IfOk, IfSome, IsErrOf, OnErr};
 ghost use Rattle.system_io.specs.Disks.{most_bytes};
 ghost use Rattle.system_io.specs.Inputs.{GivesOne, InputFacts};
 
@@ -20,12 +20,15 @@ pub trait Input {
     fn read_to_end(&self, alloc: Global) -> Result<Vec<u8>, ReadFault>
         ensures bytes { IfOk result (λ bytes. (facts self.now).gives bytes.items) }
         ensures short { IfOk result (λ bytes. length bytes.items ≤ most_bytes) }
-        ensures cause { IsErrOf result ReadFault.Unreadable → (facts self.now).fails };
+        ensures cause { IsErrOf result ReadFault.Unreadable → (facts self.now).fails }
+        ensures memory { IsErrOf result ReadFault.OutOfMemory → (facts self.now).takes_memory };
 
     /// Its lines, as they come, of which none is read yet. The error comes where memory for what is read ahead is refused.
     fn lines(&self, alloc: Global) -> Result<Self::Lines, AllocError>
         ensures given { IfOk result (λ lines. IfSome (Self.Lines.facts lines).left (facts self.now).gives) }
-        ensures cause { IfOk result (λ lines. (Self.Lines.facts lines).fails → (facts self.now).fails) };
+        ensures cause { IfOk result (λ lines. (Self.Lines.facts lines).fails → (facts self.now).fails) }
+        ensures room { IfOk result (λ lines. (Self.Lines.facts lines).takes_memory → (facts self.now).takes_memory) }
+        ensures memory { OnErr result (facts self.now).takes_memory };
 
     /// An input that tells what it has tells one thing.
     ghost one: { (i : Self) → (facts i).is_told ≡ true → GivesOne (facts i) };

@@ -22,7 +22,9 @@ pub trait LineReader {
     fn next_line(&mut self, line: &mut Vec<u8>) -> Result<bool, ReadFault>
         ensures read { IfOk result (ReadsIfAny (facts self.old).left (facts self.new).left line.new.items) }
         ensures cause { IsErrOf result ReadFault.Unreadable → (facts self.old).fails }
-        ensures same { (facts self.new).fails → (facts self.old).fails };
+        ensures memory { IsErrOf result ReadFault.OutOfMemory → (facts self.old).takes_memory }
+        ensures same { (facts self.new).fails → (facts self.old).fails }
+        ensures room { (facts self.new).takes_memory → (facts self.old).takes_memory };
 
     /// Whether a whole line has come already, so that the next one is read without waiting. It reads nothing.
     fn has_line(&self) -> bool

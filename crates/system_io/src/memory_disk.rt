@@ -1,7 +1,8 @@
 //! Folders and files in memory, of which some can't be read.
 
 ghost use Rattle.std.specs.Prelude.{◌↔◌, IfNone, IfSome, IsTrue};
-ghost use Rattle.system_io.specs.MemoryDisks.{IsFoundAt, IsNowhere};
+ghost use Rattle.system_io.specs.Disks.{AtFile};
+ghost use Rattle.system_io.specs.MemoryDisks.{IsFoundAt, IsNowhere, disk_of};
 
 use crate::disk::Disk;
 use crate::reading::{MOST_BYTES, ReadFault};
@@ -57,6 +58,23 @@ pub struct MemoryDisk<'a> {
     pub failing: &'a [&'a str],
 }
 
+impl<'a> MemoryDisk<'a> {
+    /// The bytes of the file at a path, at most 2^30; none where it can't be read.
+    fn file_at(&self, path: &str) -> Option<&'a [u8]>
+        ensures some { IfSome result (λ bytes. (disk_of self.now).holds path.now bytes.now) }
+        ensures none { IfNone result ((disk_of self.now).fails (AtFile path.now)) }
+    {
+        if !is_other(self.failing, path) {
+            return None;
+        }
+        let bytes = found(self.files, path)?;
+        if bytes.len() as u64 > MOST_BYTES {
+            return None;
+        }
+        Some(bytes)
+    }
+}
+
 impl<'a> Disk for MemoryDisk<'a> {
     ghost use Rattle.system_io.specs.MemoryDiskLaws.{holds_one};
     ghost use Rattle.system_io.specs.MemoryDisks.{disk_of};
@@ -76,17 +94,16 @@ impl<'a> Disk for MemoryDisk<'a> {
     }
 
     fn read(&self, alloc: Global, path: &str) -> Result<Vec<u8>, ReadFault> {
-        if !is_other(self.failing, path) {
-            return Err(ReadFault::Unreadable);
-        }
-        match found(self.files, path) {
-            Some(bytes) => {
-                if bytes.len() as u64 > MOST_BYTES {
-                    return Err(ReadFault::Unreadable);
-                }
-                Ok(Vec::from_slice(alloc, bytes)?)
-            }
+        match self.file_at(path) {
+            Some(bytes) => Ok(Vec::from_slice(alloc, bytes)?),
             None => Err(ReadFault::Unreadable),
+        }
+    }
+
+    fn read_within(&self, alloc: Global, path: &str, most: u64) -> Result<Vec<u8>, ReadFault> {
+        match self.file_at(path) {
+            Some(bytes) if bytes.len() as u64 <= most => Ok(Vec::from_slice(alloc, bytes)?),
+            _ => Err(ReadFault::Unreadable),
         }
     }
 }

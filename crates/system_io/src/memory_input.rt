@@ -39,9 +39,14 @@ impl<'a> LineReader for MemoryLines<'a> {
 
     fn next_line(&mut self, line: &mut Vec<u8>) -> Result<bool, ReadFault> {
         line.clear();
+        if self.left.is_empty() {
+            return if self.fails {
+                Err(ReadFault::Unreadable)
+            } else {
+                Ok(false)
+            };
+        }
         match self.left.read_until(b'\n', line) {
-            Ok(0) if self.fails => Err(ReadFault::Unreadable),
-            Ok(0) => Ok(false),
             Ok(_) => {
                 if self.fails && !line.ends_with(b"\n") {
                     return Err(ReadFault::Unreadable);
@@ -70,6 +75,9 @@ impl<'a> Input for MemoryInput<'a> {
     fn read_to_end(&self, alloc: Global) -> Result<Vec<u8>, ReadFault> {
         if self.has_no_end() {
             return Err(ReadFault::Unreadable);
+        }
+        if self.bytes.is_empty() {
+            return Ok(Vec::new(alloc));
         }
         Ok(Vec::from_slice(alloc, self.bytes)?)
     }

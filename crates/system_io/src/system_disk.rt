@@ -63,4 +63,10 @@ impl<'a, R: Files + AllocGlobal + Clone + Drop> Disk for SystemDisk<'a, R> {
         let length = file.metadata()?.len();
         read_at_most(alloc, file, length, MOST_BYTES)
     }
+
+    fn read_within(&self, alloc: Global, path: &str, most: u64) -> Result<Vec<u8>, ReadFault> {
+        let file = fs::open(self.rt, path)?;
+        let length = file.metadata()?.len();
+        read_at_most(alloc, file, length, most.min(MOST_BYTES))
+    }
 }
