@@ -2,17 +2,17 @@
 
 ghost use Rattle.arbiter_core.specs.Delivers.{IsKept};
 
-use crate::arbiters::{empty_keeper, game, open_first};
+use crate::arbiters::{empty_keeper, game, open_first, setup_of};
 use crate::comparing::{check_bytes, check_same};
 use crate::files::push_bytes;
 use crate::forge_tests::Failing;
 use crate::positions::START;
 use arbiter_core::{Arbiter, Keep, MemoryKeeper};
-use arbiter_service::serve;
+use arbiter_service::{FileKeeper, open_and_serve, serve};
 use std::alloc::Global;
 use std::io::Write;
 use std::process::Abort;
-use system_io::{MemoryPort, Output, Passage, Turn, WriteFault};
+use system_io::{MemoryCalls, MemoryPort, Output, Passage, Traced, Turn, WriteFault};
 
 /// How a port is served at which the game's moves wait: the call of it that fails, how many datagrams are to come, whether the
 /// other arbiter is asked first, the outcome of each put, the lines and the status, and what passes, a letter for each: `c` for
@@ -325,4 +325,53 @@ fn tells_that_a_line_is_not_written(rt: HostRuntime) {
     let waiting: [&[u8]; 3] = [&game[0], &game[1], &game[2]];
     let told = served_in_vain(&rt, rt.alloc(), &waiting);
     check_same(&rt, told, (Err(WriteFault::Io), 1), "an output that fails");
+}
+
+/// The call of the file that fails, the lines of a run of three datagrams over it, and what passes. The calls are two of the
+/// start, four of the first record, and four of each datagram.
+const FAILED_CALLS: [(usize, &str, &str); 6] = [
+    (1, "", ""),
+    (5, "", ""),
+    (6, "refused keeper\n", "c"),
+    (13, "ok 1 none\nrefused keeper\n", "chic"),
+    (17, "ok 1 none\nok 2 none\nrefused keeper\n", "chichic"),
+    (18, ALL, "chichichi"),
+];
+
+/// Lets an arbiter answer the datagrams of a port, over a file of whose calls that of this number fails.
+fn serve_over_calls(
+    rt: &impl Abort,
+    alloc: Global,
+    fails_at: usize,
+    port: &mut MemoryPort<'_>,
+    out: &mut Vec<u8>,
+) {
+    let file = Traced::new(alloc, MemoryCalls::new(alloc, None, Some(fails_at)));
+    if let Ok(mut keeper) = FileKeeper::new(alloc, file) {
+        let setup = setup_of(rt, alloc, START, 0);
+        let _ended = open_and_serve(alloc, setup, &mut keeper, port, 3, false, out);
+    }
+}
+
+fn check_calls(
+    rt: &impl Abort,
+    alloc: Global,
+    waiting: &[&[u8]],
+    row: &(usize, &'static str, &'static str),
+) {
+    let mut port = port_with(alloc, waiting, NEVER);
+    let mut lines = Vec::new(alloc);
+    serve_over_calls(rt, alloc, row.0, &mut port, &mut lines);
+    check_bytes(rt, &lines, row.1.as_bytes(), row.1);
+    check_passed(rt, alloc, &port, row.2);
+}
+
+/// Nothing is sent for a datagram whose record didn't come into the file, whichever call failed.
+#[test]
+fn a_failed_call_of_the_file_acknowledges_nothing(rt: HostRuntime) {
+    let game = game(&rt);
+    let waiting: [&[u8]; 3] = [&game[0], &game[1], &game[2]];
+    for row in &FAILED_CALLS {
+        check_calls(&rt, rt.alloc(), &waiting, row);
+    }
 }
