@@ -1,5 +1,5 @@
 -- A run of a source: the moves of its input, one after the other (this project's own).
-use Rattle.std.specs.Prelude.{◌≡◌, ◌≤◌, ◌<◌, ◌++◌, ℕ, List, [], ◌∷◌, length, map, slice_get, Option, Some, None, Result, Ok, Err}
+use Rattle.std.specs.Prelude.{◌≡◌, ◌≤◌, ◌<◌, ◌-◌, ◌++◌, ℕ, List, [], ◌∷◌, length, map, slice_get, Option, Some, None, IfSome, Result, Ok, Err}
 use Rattle.std.specs.List.{AllByRecursion, Contains}
 use Rattle.std.specs.Io.KnownBytes.{Appends, IsAtEnd}
 use Rattle.board_core.specs.declared.moves.Move.{Move as Moves}
@@ -12,7 +12,7 @@ use Rattle.move_msg.specs.Numbers.{most_moves}
 use Rattle.move_msg.specs.TextLines.{text_of}
 use Rattle.system_io.specs.declared.output.WriteFault.{WriteFault}
 use Rattle.system_io.specs.LineReaders.{ReadsLine}
-use Rattle.system_io.specs.Ports.{Passing, Handed, Missed, PortFacts, Passed}
+use Rattle.system_io.specs.Ports.{Passing, Handed, Missed, PortFacts, Passed, to_each}
 use Rattle.source_core.specs.declared.report.Ruling.{Ruling}
 use Rattle.source_core.specs.declared.lines.End.{End}
 use Rattle.source_core.specs.declared.lines.End.TheVariants as at_end
@@ -133,11 +133,24 @@ ClosesSo stamp number all at_end.PortLost = Contains all Missed
 ClosesSo stamp number all at_end.Unread = ⊥
 ClosesSo stamp number all at_end.OutOfMemory = ⊥
 
--- after the input's end nothing more is sent, and what comes in time is received
-pub record IsClosed (stamp : Stamp) (number : ℕ) (before more : List Passing) (end : End) : Type 0 where
-  pub received : AllByRecursion IsReceived more
-  pub waited : (count : ℕ) → end ≡ at_end.Open count → HasWaited more
-  pub stands : ClosesSo stamp number (before ++ more) end
+-- the last of the moves
+abbrev pub last_of : List Moves → Option Moves
+last_of moves = slice_get moves (length moves - 1)
+
+-- the move with this number, if there is one, is handed over for each address
+abbrev pub again : Stamp → ℕ → ℕ → Option Moves → List Passing
+again stamp addresses number None = []
+again stamp addresses number (Some m) = to_each addresses (message_text (move_message stamp number m))
+
+-- After the input's end the last acknowledged move is handed over once more: an arbiter answers it with its count and its verdict,
+-- if it has one. Then what comes in time is received, and nothing more is sent.
+pub record IsClosed (g : Game) (moves : List Moves) (before more : List Passing) (end : End) : Type 0 where
+  pub came : List Passing
+  pub spelling : IfSome (last_of moves) (HasSpelling g.stamp (length moves - 1))
+  pub passed : more ≡ again g.stamp g.addresses (length moves - 1) (last_of moves) ++ came
+  pub received : AllByRecursion IsReceived came
+  pub waited : (count : ℕ) → end ≡ at_end.Open count → HasWaited came
+  pub stands : ClosesSo g.stamp (length moves) (before ++ more) end
 
 -- with what a run ends, and what was sent and passed after the acknowledged moves
 pub data EndsWith (unreadable : Type 0) (g : Game) (at : At) (input : Option (List ℕ)) (sent : List Moves) (more : List Passing) (end : End) : Type 0 where
@@ -146,7 +159,7 @@ pub data EndsWith (unreadable : Type 0) (g : Game) (at : At) (input : Option (Li
   -- a line is read, and its move isn't sent
   Refused : (line : List ℕ) → sent ≡ [] → more ≡ [] → ReadsLine at.input input line → IsRefusedLine at.position (length at.moves) line end → EndsWith unreadable g at input sent more end
   -- the input has ended
-  Closed : sent ≡ [] → IsAtEnd at.input → IsClosed g.stamp (length at.moves) at.passed more end → EndsWith unreadable g at input sent more end
+  Closed : sent ≡ [] → IsAtEnd at.input → IsClosed g at.moves at.passed more end → EndsWith unreadable g at input sent more end
   -- one more move is sent
   Sent : IsLastMove g at input sent more → IsSentLast g.stamp (length at.moves) (at.passed ++ more) end → EndsWith unreadable g at input sent more end
 
