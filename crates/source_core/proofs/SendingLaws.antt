@@ -10,6 +10,8 @@ use Rattle.board_core.specs.declared.moves.Move.{Move as Moves}
 use Rattle.board_core.specs.declared.parts.Parts.{Parts}
 use Rattle.move_msg.specs.declared.stamp.Stamp.{Stamp}
 use Rattle.system_io.specs.declared.output.WriteFault.{WriteFault}
+use Rattle.system_io.specs.declared.reading.ReadFault.{ReadFault}
+use Rattle.system_io.specs.declared.reading.ReadFault.TheVariants as fault
 use Rattle.move_msg.specs.Messages.{SpellsMessage, message_text}
 use Rattle.move_msg.specs.Numbers.{most_moves}
 use Rattle.move_msg.specs.TextLines.{ended, text_of}
@@ -32,8 +34,8 @@ use Rattle.system_io.specs.Ports.{Passing, Came, Quiet, Missed, Handed, PortFact
 use Rattle.source_core.specs.Reports.{Knows, StandsSo}
 use Rattle.source_core.specs.Turns.{ComesTo, HasSpelling, HasWaited, IsReceived, IsTurn, move_message, one_try, tries_of}
 use Rattle.source_core.specs.Lines.{IsCut, acked_words, end_words, status_by}
-use Rattle.source_core.specs.Sendings.{At, AckedMove, ClosesSo, again, EndsIfAny, EndsWith, Unread, Refused, Closed, Sent, Game, InTurn, IsAckedTurn, IsClosed, IsLastMove, IsRefusedLine, IsSending, IsUnread, OnlyHands, Sending, WritesLines, last_lines, last_of, line_of, lines_of, sent_in}
-use Rattle.source_core.specs.Inside.Steps.{Closes, EndsAt, HasEnded, IsPlayed, Steps, StepsOn, StepsSo, begun_at, end_by, is_ruled}
+use Rattle.source_core.specs.Sendings.{At, AckedMove, ClosesSo, again, EndsIfAny, EndsWith, Unread, Refused, Closed, Sent, Game, InTurn, IsAckedTurn, IsClosed, IsLastMove, IsRefusedLine, IsSending, IsUnread, OnlyHands, Sending, WritesLines, causes, last_lines, last_of, line_of, lines_of, sent_in}
+use Rattle.source_core.specs.Inside.Steps.{Closes, EndsAt, HasEnded, IsPlayed, Steps, StepsOn, StepsSo, begun_at, end_by, is_ruled, no_cause}
 use Rattle.source_core.proofs.PortLaws.{Passed-nil, Passed-trans}
 use Rattle.source_core.proofs.ReportLaws.{all_agreed, is_acked, is_ruled_so, is_unsettled, knows_nothing, knows_past, not_both}
 use Rattle.source_core.proofs.TurnLaws.{again_reports_nothing, all_more}
@@ -49,11 +51,11 @@ abbrev pub course_at : Parts → Known → Moves → Course
 course_at after known m = record { position = after; known = known; last = Some m }
 
 -- a turn ends the run, or the run goes on
-turned : (unreadable : Type 0) (stamp : Stamp) (most : ℕ) (input input' : Option (List ℕ)) (line : List ℕ) (position after : Parts) (m : Moves) (known known' : Known) (port port' : PortFacts) (turn : Turn) (tries : List (List Passing)) (before : List Passing) (moves : List Moves)
+turned : (cause : ReadFault → Type 0) (stamp : Stamp) (most : ℕ) (input input' : Option (List ℕ)) (line : List ℕ) (position after : Parts) (m : Moves) (known known' : Known) (port port' : PortFacts) (turn : Turn) (tries : List (List Passing)) (before : List Passing) (moves : List Moves)
     → ReadsLine input input' line → IsPlayed position (length moves) line m after → IsTurn stamp most (length moves) m port port' known known' turn tries → Knows stamp before known
-    → StepsSo unreadable (record { stamp = stamp; addresses = port.addresses; most = most }) (record { input = input; position = position; moves = moves; passed = before }) input' (course_at after known' m) port port' (end_by turn)
+    → StepsSo cause (record { stamp = stamp; addresses = port.addresses; most = most }) (record { input = input; position = position; moves = moves; passed = before }) input' (course_at after known' m) port port' (end_by turn)
 unfolding StepsSo
-turned unreadable stamp most input input' line position after m known known' port port' at_turn.Acked tries before moves read r t k =
+turned cause stamp most input input' line position after m known known' port port' at_turn.Acked tries before moves read r t k =
     let done = t.ends before k in
     let sent : List Passing = tries_of port.addresses (message_text (move_message stamp (length moves) m)) tries in (
       record { line = line; move = m; tries = tries; after = record { input = input'; position = after; moves = moves ++ m ∷ []; passed = before ++ sent } },
@@ -64,13 +66,13 @@ turned unreadable stamp most input input' line position after m known known' por
       t.passed,
       done.1,
     )
-turned unreadable stamp most input input' line position after m known known' port port' (at_turn.Ruled r') tries before moves read r t k =
+turned cause stamp most input input' line position after m known known' port port' (at_turn.Ruled r') tries before moves read r t k =
     (m ∷ [], _, Sent (last_move _ _ input' line after m known known' port port' (at_turn.Ruled r') tries read r t) (t.ends before k), t.passed)
-turned unreadable stamp most input input' line position after m known known' port port' (at_turn.Clashed c) tries before moves read r t k =
+turned cause stamp most input input' line position after m known known' port port' (at_turn.Clashed c) tries before moves read r t k =
     (m ∷ [], _, Sent (last_move _ _ input' line after m known known' port port' (at_turn.Clashed c) tries read r t) (t.ends before k), t.passed)
-turned unreadable stamp most input input' line position after m known known' port port' at_turn.Lost tries before moves read r t k =
+turned cause stamp most input input' line position after m known known' port port' at_turn.Lost tries before moves read r t k =
     (m ∷ [], _, Sent (last_move _ _ input' line after m known known' port port' at_turn.Lost tries read r t) (t.ends before k), t.passed)
-turned unreadable stamp most input input' line position after m known known' port port' at_turn.PortLost tries before moves read r t k =
+turned cause stamp most input input' line position after m known known' port port' at_turn.PortLost tries before moves read r t k =
     (m ∷ [], _, Sent (last_move _ _ input' line after m known known' port port' at_turn.PortLost tries read r t) (t.ends before k), t.passed)
 
 pub steps_on : (stamp : Stamp) (most number : ℕ) (line : List ℕ) (course course' : Course) (after : Parts) (m : Moves) (known' : Known) (port port' : PortFacts) (turn : Turn) (o : Option End)
@@ -79,25 +81,25 @@ pub steps_on : (stamp : Stamp) (most number : ℕ) (line : List ℕ) (course cou
 steps_on stamp most number line course course' after m known' port port' turn o at_new r (tries, t) is input input' read before moves k e last =
     let g : Game = record { stamp = stamp; addresses = port.addresses; most = most } in
     let at : At = record { input = input; position = course.position; moves = moves; passed = before } in
-    subst (λ c. StepsSo ⊥ g at input' c port port' o) (sym at_new)
-    (subst (StepsSo ⊥ g at input' (course_at after known' m) port port') (sym is)
-    (turned ⊥ stamp most input input' line course.position after m course.known known' port port' turn tries before moves read (subst (λ n. IsPlayed course.position n line m after) e r) (subst (λ n. IsTurn stamp most n m port port' course.known known' turn tries) e t) k))
+    subst (λ c. StepsSo no_cause g at input' c port port' o) (sym at_new)
+    (subst (StepsSo no_cause g at input' (course_at after known' m) port port') (sym is)
+    (turned no_cause stamp most input input' line course.position after m course.known known' port port' turn tries before moves read (subst (λ n. IsPlayed course.position n line m after) e r) (subst (λ n. IsTurn stamp most n m port port' course.known known' turn tries) e t) k))
 
 pub steps_refused : (stamp : Stamp) (most number : ℕ) (line : List ℕ) (course : Course) (port : PortFacts) (end : End) → IsRefusedLine course.position number line end → StepsOn stamp most number line course course port port (Some end)
 unfolding StepsSo
 steps_refused stamp most number line course port end h input input' read before moves k e last =
     ([], [], Refused line refl refl read (subst (λ n. IsRefusedLine course.position n line end) e h), Passed-nil port)
 
-pub steps_unread : (unreadable : Type 0) (stamp : Stamp) (most number : ℕ) (input input' : Option (List ℕ)) (course : Course) (port : PortFacts) (end : End) → IsUnread unreadable end → Steps unreadable stamp most number input input' course course port port (Some end)
+pub steps_unread : (cause : ReadFault → Type 0) (stamp : Stamp) (most number : ℕ) (input input' : Option (List ℕ)) (course : Course) (port : PortFacts) (end : End) → IsUnread cause end → Steps cause stamp most number input input' course course port port (Some end)
 unfolding StepsSo
-steps_unread unreadable stamp most number input input' course port end h before moves k e last = ([], [], Unread refl refl h, Passed-nil port)
+steps_unread cause stamp most number input input' course port end h before moves k e last = ([], [], Unread refl refl h, Passed-nil port)
 
 closed_at : (stamp : Stamp) (number : ℕ) (moves : List Moves) (last : Option Moves) (known : Known) (port port' : PortFacts) (end : End) → number ≡ length moves → last ≡ last_of moves → Closes stamp number last known port port' end → Closes stamp (length moves) (last_of moves) known port port' end
 closed_at stamp number moves last known port port' end e f h = subst (λ l. Closes stamp (length moves) l known port port' end) f (subst (λ n. Closes stamp n last known port port' end) e h)
 
-closed_with : (unreadable : Type 0) (g : Game) (input input' : Option (List ℕ)) (course : Course) (port port' : PortFacts) (before : List Passing) (moves : List Moves) (end : End) → IsAtEnd input → Knows g.stamp before course.known → Closes g.stamp (length moves) (last_of moves) course.known port port' end → port.addresses ≡ g.addresses
-    → (sent : List Moves) × (more : List Passing) × EndsWith unreadable g (record { input = input; position = course.position; moves = moves; passed = before }) input' sent more end × Passed port port' more
-closed_with unreadable g input input' course port port' before moves end done k h e =
+closed_with : (cause : ReadFault → Type 0) (g : Game) (input input' : Option (List ℕ)) (course : Course) (port port' : PortFacts) (before : List Passing) (moves : List Moves) (end : End) → IsAtEnd input → Knows g.stamp before course.known → Closes g.stamp (length moves) (last_of moves) course.known port port' end → port.addresses ≡ g.addresses
+    → (sent : List Moves) × (more : List Passing) × EndsWith cause g (record { input = input; position = course.position; moves = moves; passed = before }) input' sent more end × Passed port port' more
+closed_with cause g input input' course port port' before moves end done k h e =
     let handed : ℕ → List Passing = λ n. again g.stamp n (length moves - 1) (last_of moves) in (
       [],
       handed g.addresses ++ h.came,
@@ -105,15 +107,19 @@ closed_with unreadable g input input' course port port' before moves end done k 
       subst (λ n. Passed port port' (handed n ++ h.came)) e h.passed,
     )
 
-pub steps_closed : (unreadable : Type 0) (stamp : Stamp) (most number : ℕ) (input input' : Option (List ℕ)) (course course' : Course) (port port' : PortFacts) (end : End) → IsAtEnd input → Closes stamp number course.last course.known port port' end → Steps unreadable stamp most number input input' course course' port port' (Some end)
+pub steps_closed : (cause : ReadFault → Type 0) (stamp : Stamp) (most number : ℕ) (input input' : Option (List ℕ)) (course course' : Course) (port port' : PortFacts) (end : End) → IsAtEnd input → Closes stamp number course.last course.known port port' end → Steps cause stamp most number input input' course course' port port' (Some end)
 unfolding StepsSo
-steps_closed unreadable stamp most number input input' course course' port port' end done closes before moves k e last =
+steps_closed cause stamp most number input input' course course' port port' end done closes before moves k e last =
     let g : Game = record { stamp = stamp; addresses = port.addresses; most = most } in
-    closed_with unreadable g input input' course port port' before moves end done k (closed_at stamp number moves course.last course.known port port' end e last closes) refl
+    closed_with cause g input input' course port port' before moves end done k (closed_at stamp number moves course.last course.known port port' end e last closes) refl
 
 -- ---- the input can't be read
 
-still_unread : (U V : Type 0) (end : End) → (U → V) → IsUnread U end → IsUnread V end
+pub still_causes : (F G M N : Type 0) → (F → G) → (M → N) → (fault : ReadFault) → causes F M fault → causes G N fault
+still_causes F G M N f m fault.Unreadable h = f h
+still_causes F G M N f m fault.OutOfMemory h = m h
+
+still_unread : (U V : ReadFault → Type 0) (end : End) → ((fault : ReadFault) → U fault → V fault) → IsUnread U end → IsUnread V end
 still_unread U V (at_end.Open count) f h = h
 still_unread U V (at_end.Ruled r) f h = h
 still_unread U V (at_end.Clashed c) f h = h
@@ -122,23 +128,23 @@ still_unread U V (at_end.Illegal place) f h = h
 still_unread U V at_end.TooLong f h = h
 still_unread U V at_end.Lost f h = h
 still_unread U V at_end.PortLost f h = h
-still_unread U V at_end.Unread f h = f h
-still_unread U V at_end.OutOfMemory f h = h
+still_unread U V at_end.Unread f h = f fault.Unreadable h
+still_unread U V at_end.OutOfMemory f h = f fault.OutOfMemory h
 
-still_ends : (U V : Type 0) (g : Game) (at : At) (input : Option (List ℕ)) (sent : List Moves) (more : List Passing) (end : End) → (U → V) → EndsWith U g at input sent more end → EndsWith V g at input sent more end
+still_ends : (U V : ReadFault → Type 0) (g : Game) (at : At) (input : Option (List ℕ)) (sent : List Moves) (more : List Passing) (end : End) → ((fault : ReadFault) → U fault → V fault) → EndsWith U g at input sent more end → EndsWith V g at input sent more end
 still_ends U V g at input sent more end f (Unread none nothing why) = Unread none nothing (still_unread U V end f why)
 still_ends U V g at input sent more end f (Refused line none nothing read why) = Refused line none nothing read why
 still_ends U V g at input sent more end f (Closed none done closed) = Closed none done closed
 still_ends U V g at input sent more end f (Sent one is) = Sent one is
 
-pub still_steps : (U V : Type 0) (g : Game) (at : At) (input : Option (List ℕ)) (course : Course) (port port' : PortFacts) (o : Option End) → (U → V) → StepsSo U g at input course port port' o → StepsSo V g at input course port port' o
+pub still_steps : (U V : ReadFault → Type 0) (g : Game) (at : At) (input : Option (List ℕ)) (course : Course) (port port' : PortFacts) (o : Option End) → ((fault : ReadFault) → U fault → V fault) → StepsSo U g at input course port port' o → StepsSo V g at input course port port' o
 unfolding StepsSo
 still_steps U V g at input course port port' None f h = h
 still_steps U V g at input course port port' (Some end) f (sent, more, ends, passed) = (sent, more, still_ends U V g at input sent more end f ends, passed)
 
-pub steps_read : (unreadable : Type 0) (stamp : Stamp) (most number : ℕ) (line : List ℕ) (input input' : Option (List ℕ)) (course course' : Course) (port port' : PortFacts) (o : Option End) → ReadsLine input input' line → StepsOn stamp most number line course course' port port' o → Steps unreadable stamp most number input input' course course' port port' o
-steps_read unreadable stamp most number line input input' course course' port port' o read h before moves k e last =
-    still_steps ⊥ unreadable _ _ _ _ _ _ o (λ none. absurd none) (h input input' read before moves k e last)
+pub steps_read : (cause : ReadFault → Type 0) (stamp : Stamp) (most number : ℕ) (line : List ℕ) (input input' : Option (List ℕ)) (course course' : Course) (port port' : PortFacts) (o : Option End) → ReadsLine input input' line → StepsOn stamp most number line course course' port port' o → Steps cause stamp most number input input' course course' port port' o
+steps_read cause stamp most number line input input' course course' port port' o read h before moves k e last =
+    still_steps no_cause cause _ _ _ _ _ _ o (λ fault none. absurd none) (h input input' read before moves k e last)
 
 -- ---- after the input's end
 
@@ -285,8 +291,8 @@ sent_nothing g start input out port = (
 pub sent_none : (g : Game) (start : Parts) (input out : Option (List ℕ)) (course : Course) (port : PortFacts) → course ≡ begun_at start → (h : HasSent g start input input course port port 0) × Appends out out (text_of (map line_of h.turns))
 sent_none g start input out course port is = subst (λ c. (h : HasSent g start input input c port port 0) × Appends out out (text_of (map line_of h.turns))) (sym is) (sent_nothing g start input out port)
 
-pub same_game : (unreadable : Type 0) (g : Game) (n : ℕ) (at : At) (input : Option (List ℕ)) (course : Course) (port port' : PortFacts) (o : Option End) → n ≡ g.addresses → StepsSo unreadable (record { stamp = g.stamp; addresses = n; most = g.most }) at input course port port' o → StepsSo unreadable g at input course port port' o
-same_game unreadable g n at input course port port' o e h = subst (λ k. StepsSo unreadable (record { stamp = g.stamp; addresses = k; most = g.most }) at input course port port' o) e h
+pub same_game : (cause : ReadFault → Type 0) (g : Game) (n : ℕ) (at : At) (input : Option (List ℕ)) (course : Course) (port port' : PortFacts) (o : Option End) → n ≡ g.addresses → StepsSo cause (record { stamp = g.stamp; addresses = n; most = g.most }) at input course port port' o → StepsSo cause g at input course port port' o
+same_game cause g n at input course port port' o e h = subst (λ k. StepsSo cause (record { stamp = g.stamp; addresses = k; most = g.most }) at input course port port' o) e h
 
 last_now : (moves : List Moves) (m : Moves) → Some m ≡ last_of (moves ++ m ∷ [])
 last_now moves m =
@@ -294,9 +300,9 @@ last_now moves m =
     sym (ap (slice_get (moves ++ m ∷ [])) counted ∙ get_last moves m)
 
 -- one more
-pub sent_more : (unreadable : Type 0) (g : Game) (start : Parts) (input0 input1 input2 : Option (List ℕ)) (c1 c2 : Course) (port0 port1 port2 : PortFacts) (k : ℕ) (h : HasSent g start input0 input1 c1 port0 port1 k) → StepsSo unreadable g (record { input = input1; position = c1.position; moves = h.moves; passed = h.passed }) input2 c2 port1 port2 None → (n : HasSent g start input0 input2 c2 port0 port2 (k + 1)) × (map line_of n.turns ≡ map line_of h.turns ++ acked_words (k + 1) ∷ [])
+pub sent_more : (cause : ReadFault → Type 0) (g : Game) (start : Parts) (input0 input1 input2 : Option (List ℕ)) (c1 c2 : Course) (port0 port1 port2 : PortFacts) (k : ℕ) (h : HasSent g start input0 input1 c1 port0 port1 k) → StepsSo cause g (record { input = input1; position = c1.position; moves = h.moves; passed = h.passed }) input2 c2 port1 port2 None → (n : HasSent g start input0 input2 c2 port0 port2 (k + 1)) × (map line_of n.turns ≡ map line_of h.turns ++ acked_words (k + 1) ∷ [])
 unfolding StepsSo
-sent_more unreadable g start input0 input1 input2 c1 c2 port0 port1 port2 k h (t, acked, is_input, is_position, is_last, passed, knows) =
+sent_more cause g start input0 input1 input2 c1 c2 port0 port1 port2 k h (t, acked, is_input, is_position, is_last, passed, knows) =
     let at : At = record { input = input1; position = c1.position; moves = h.moves; passed = h.passed } in
     let counted = h.count in
     let room = acked.room in
@@ -320,8 +326,8 @@ sent_more unreadable g start input0 input1 input2 c1 c2 port0 port1 port2 k h (t
     )
 
 -- the writer failed
-pub run_cut : (unreadable : Type 0) (g : Game) (start : Parts) (input0 input : Option (List ℕ)) (course : Course) (port0 port : PortFacts) (k : ℕ) (h : HasSent g start input0 input course port0 port k) → (s : Sending) × IsSending unreadable g start input0 input port0 port s × (s.turns ≡ h.turns) × (s.end ≡ None)
-run_cut unreadable g start input0 input course port0 port k h = (
+pub run_cut : (cause : ReadFault → Type 0) (g : Game) (start : Parts) (input0 input : Option (List ℕ)) (course : Course) (port0 port : PortFacts) (k : ℕ) (h : HasSent g start input0 input course port0 port k) → (s : Sending) × IsSending cause g start input0 input port0 port s × (s.turns ≡ h.turns) × (s.end ≡ None)
+run_cut cause g start input0 input course port0 port k h = (
   record { turns = h.turns; at = record { input = input; position = course.position; moves = h.moves; passed = h.passed }; sent = []; more = []; end = None },
   record {
     turns = h.in_turn;
@@ -361,34 +367,34 @@ closed_hands g moves sent all more end no_moves closed h =
     (subst (λ l. OnlyHands g.stamp moves (all ++ l)) (sym closed.passed)
     (hands_join g.stamp moves all (handed ++ closed.came) h now)))
 
-ended_hands : (unreadable : Type 0) (g : Game) (at : At) (input : Option (List ℕ)) (sent : List Moves) (more : List Passing) (end : End) → EndsWith unreadable g at input sent more end → OnlyHands g.stamp at.moves at.passed → OnlyHands g.stamp (at.moves ++ sent) (at.passed ++ more)
-ended_hands unreadable g at input sent more end (Unread no_moves none why) h = nothing_hands g.stamp at.moves sent at.passed more no_moves none h
-ended_hands unreadable g at input sent more end (Refused line no_moves none read why) h = nothing_hands g.stamp at.moves sent at.passed more no_moves none h
-ended_hands unreadable g at input sent more end (Closed no_moves done closed) h = closed_hands g at.moves sent at.passed more end no_moves closed h
-ended_hands unreadable g at input sent more end (Sent t is) h =
+ended_hands : (cause : ReadFault → Type 0) (g : Game) (at : At) (input : Option (List ℕ)) (sent : List Moves) (more : List Passing) (end : End) → EndsWith cause g at input sent more end → OnlyHands g.stamp at.moves at.passed → OnlyHands g.stamp (at.moves ++ sent) (at.passed ++ more)
+ended_hands cause g at input sent more end (Unread no_moves none why) h = nothing_hands g.stamp at.moves sent at.passed more no_moves none h
+ended_hands cause g at input sent more end (Refused line no_moves none read why) h = nothing_hands g.stamp at.moves sent at.passed more no_moves none h
+ended_hands cause g at input sent more end (Closed no_moves done closed) h = closed_hands g at.moves sent at.passed more end no_moves closed h
+ended_hands cause g at input sent more end (Sent t is) h =
     subst (λ l. OnlyHands g.stamp (at.moves ++ l) (at.passed ++ more)) (sym t.only) (subst (λ l. OnlyHands g.stamp (at.moves ++ t.move ∷ []) (at.passed ++ l)) (sym t.passed) (hands_more g.stamp g.addresses at.moves t.move at.passed t.tries h t.spelling t.are.1))
 
-pub run_ended : (unreadable : Type 0) (g : Game) (start : Parts) (input0 input1 input2 : Option (List ℕ)) (c1 c2 : Course) (port0 port1 port2 : PortFacts) (k : ℕ) (end : End) (h : HasSent g start input0 input1 c1 port0 port1 k) → StepsSo unreadable g (record { input = input1; position = c1.position; moves = h.moves; passed = h.passed }) input2 c2 port1 port2 (Some end) → (s : Sending) × IsSending unreadable g start input0 input2 port0 port2 s × (s.turns ≡ h.turns) × (s.end ≡ Some end)
+pub run_ended : (cause : ReadFault → Type 0) (g : Game) (start : Parts) (input0 input1 input2 : Option (List ℕ)) (c1 c2 : Course) (port0 port1 port2 : PortFacts) (k : ℕ) (end : End) (h : HasSent g start input0 input1 c1 port0 port1 k) → StepsSo cause g (record { input = input1; position = c1.position; moves = h.moves; passed = h.passed }) input2 c2 port1 port2 (Some end) → (s : Sending) × IsSending cause g start input0 input2 port0 port2 s × (s.turns ≡ h.turns) × (s.end ≡ Some end)
 unfolding StepsSo
-run_ended unreadable g start input0 input1 input2 c1 c2 port0 port1 port2 k end h (sent, more, ends, passed) =
+run_ended cause g start input0 input1 input2 c1 c2 port0 port1 port2 k end h (sent, more, ends, passed) =
     let at : At = record { input = input1; position = c1.position; moves = h.moves; passed = h.passed } in (
       record { turns = h.turns; at = at; sent = sent; more = more; end = Some end },
       record {
         turns = h.in_turn;
         last = ends;
         passed = Passed-trans port0 port1 port2 h.passed more h.at_port passed;
-        source = ended_hands unreadable g at input2 sent more end ends h.source;
+        source = ended_hands cause g at input2 sent more end ends h.source;
       },
       refl,
       refl,
     )
 
 -- what can't be read here can't be read there
-still_last : (U V : Type 0) (g : Game) (at : At) (input : Option (List ℕ)) (sent : List Moves) (more : List Passing) (o : Option End) → (U → V) → EndsIfAny U g at input sent more o → EndsIfAny V g at input sent more o
+still_last : (U V : ReadFault → Type 0) (g : Game) (at : At) (input : Option (List ℕ)) (sent : List Moves) (more : List Passing) (o : Option End) → ((fault : ReadFault) → U fault → V fault) → EndsIfAny U g at input sent more o → EndsIfAny V g at input sent more o
 still_last U V g at input sent more None f h = h
 still_last U V g at input sent more (Some end) f h = still_ends U V g at input sent more end f h
 
-pub still_sending : (U V : Type 0) (g : Game) (start : Parts) (input input' : Option (List ℕ)) (port port' : PortFacts) (s : Sending) → (U → V) → IsSending U g start input input' port port' s → IsSending V g start input input' port port' s
+pub still_sending : (U V : ReadFault → Type 0) (g : Game) (start : Parts) (input input' : Option (List ℕ)) (port port' : PortFacts) (s : Sending) → ((fault : ReadFault) → U fault → V fault) → IsSending U g start input input' port port' s → IsSending V g start input input' port port' s
 still_sending U V g start input input' port port' s f h = record { turns = h.turns; last = still_last U V g s.at input' s.sent s.more s.end f h.last; passed = h.passed; source = h.source }
 
 -- ---- what is written

@@ -1,7 +1,7 @@
 //! A run of a source.
 
 ghost use Rattle.std.specs.Prelude.{◌≡◌, ◌≤◌, IfOk, IfErr, OnOk};
-ghost use Rattle.source_core.specs.Sendings.{IsRefusedLine, IsSending, Sending, WritesLines};
+ghost use Rattle.source_core.specs.Sendings.{IsRefusedLine, IsSending, Sending, WritesLines, causes};
 ghost use Rattle.source_core.specs.Inside.Steps.{Closes, EndsAt, IsPlayed, Steps, StepsOn, begun_at, end_by};
 ghost use Rattle.system_io.specs.Outputs.{WritesFront};
 ghost use Rattle.source_core.specs.Lines.{end_words, status_by};
@@ -125,8 +125,9 @@ fn step<L: LineReader, P: Port>(
     port: &mut P,
 ) -> Option<End>
     requires { number ≤ most_moves }
-    ensures steps { Steps (L.facts reader.old).fails terms.stamp terms.tries number (L.facts reader.old).left (L.facts reader.new).left course.old course.new (P.facts port.old) (P.facts port.new) result }
+    ensures steps { Steps (causes (L.facts reader.old).fails (L.facts reader.old).takes_memory) terms.stamp terms.tries number (L.facts reader.old).left (L.facts reader.new).left course.old course.new (P.facts port.old) (P.facts port.new) result }
     ensures same { (L.facts reader.new).fails → (L.facts reader.old).fails }
+    ensures room { (L.facts reader.new).takes_memory → (L.facts reader.old).takes_memory }
 {
     match reader.next_line(line) {
         Ok(read) => {
@@ -171,7 +172,7 @@ pub fn send_game<L: LineReader, P: Port, W: Output>(
     out: &mut W,
 ) -> Result<u8, WriteFault>
     // There is such a run, whose lines are written.
-    ensures sends { (s : Sending) × IsSending (L.facts reader.old).fails (record { stamp = terms.stamp; addresses = (P.facts port.old).addresses; most = terms.tries }) start (L.facts reader.old).left (L.facts reader.new).left (P.facts port.old) (P.facts port.new) s × WritesLines s (W.contents out.old) (W.contents out.new) result }
+    ensures sends { (s : Sending) × IsSending (causes (L.facts reader.old).fails (L.facts reader.old).takes_memory) (record { stamp = terms.stamp; addresses = (P.facts port.old).addresses; most = terms.tries }) start (L.facts reader.old).left (L.facts reader.new).left (P.facts port.old) (P.facts port.new) s × WritesLines s (W.contents out.old) (W.contents out.new) result }
 
     // All of them have gone out.
     ensures gone { OnOk result (W.facts out.new).gone }

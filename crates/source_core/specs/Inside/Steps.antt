@@ -14,6 +14,7 @@ use Rattle.fen_text.specs.Coordinates.{SpellsMove}
 use Rattle.move_msg.specs.Numbers.{most_moves}
 use Rattle.source_core.specs.declared.lines.End.{End}
 use Rattle.source_core.specs.declared.lines.End.TheVariants as at_end
+use Rattle.system_io.specs.declared.reading.ReadFault.{ReadFault}
 use Rattle.system_io.specs.Ports.{Passing, Came, Quiet, Missed, PortFacts, Passed}
 use Rattle.system_io.specs.LineReaders.{ReadsLine}
 use Rattle.source_core.specs.Sendings.{Game, At, AckedMove, IsAckedTurn, ClosesSo, EndsWith, again, last_of, sent_in}
@@ -103,22 +104,26 @@ pub record Closes (stamp : Stamp) (number : ℕ) (last : Option Moves) (known : 
   pub stands : (before : List Passing) → Knows stamp before known → ClosesSo stamp number (before ++ (again stamp port.addresses (number - 1) last ++ came)) end
 
 -- one more turn: a move was acknowledged, or the run ends
-unfoldable pub StepsSo : Type 0 → Game → At → Option (List ℕ) → Course → PortFacts → PortFacts → Option End → Type 0
-StepsSo unreadable g at input course port port' None =
+unfoldable pub StepsSo : (ReadFault → Type 0) → Game → At → Option (List ℕ) → Course → PortFacts → PortFacts → Option End → Type 0
+StepsSo cause g at input course port port' None =
     (t : AckedMove) × IsAckedTurn g at t × (t.after.input ≡ input) × (t.after.position ≡ course.position) × (Some t.move ≡ course.last) × Passed port port' (sent_in g at.moves t.move t.tries) × Knows g.stamp t.after.passed course.known
-StepsSo unreadable g at input course port port' (Some end) =
-    (sent : List Moves) × (more : List Passing) × EndsWith unreadable g at input sent more end × Passed port port' more
+StepsSo cause g at input course port port' (Some end) =
+    (sent : List Moves) × (more : List Passing) × EndsWith cause g at input sent more end × Passed port port' more
 
 -- whatever has passed before, by which so much is known, and whichever moves are acknowledged
-abbrev pub Steps : Type 0 → Stamp → ℕ → ℕ → Option (List ℕ) → Option (List ℕ) → Course → Course → PortFacts → PortFacts → Option End → Type 0
-Steps unreadable stamp most number input input' course course' port port' end =
+abbrev pub Steps : (ReadFault → Type 0) → Stamp → ℕ → ℕ → Option (List ℕ) → Option (List ℕ) → Course → Course → PortFacts → PortFacts → Option End → Type 0
+Steps cause stamp most number input input' course course' port port' end =
     (before : List Passing) (moves : List Moves) → Knows stamp before course.known → number ≡ length moves → course.last ≡ last_of moves →
-    StepsSo unreadable (record { stamp = stamp; addresses = port.addresses; most = most }) (record { input = input; position = course.position; moves = moves; passed = before }) input' course' port port' end
+    StepsSo cause (record { stamp = stamp; addresses = port.addresses; most = most }) (record { input = input; position = course.position; moves = moves; passed = before }) input' course' port port' end
+
+-- nothing is the cause of a failed read
+abbrev pub no_cause : ReadFault → Type 0
+no_cause fault = ⊥
 
 -- the same after a line was read, whatever it was read from
 abbrev pub StepsOn : Stamp → ℕ → ℕ → List ℕ → Course → Course → PortFacts → PortFacts → Option End → Type 0
 StepsOn stamp most number line course course' port port' end =
-    (input input' : Option (List ℕ)) → ReadsLine input input' line → Steps ⊥ stamp most number input input' course course' port port' end
+    (input input' : Option (List ℕ)) → ReadsLine input input' line → Steps no_cause stamp most number input input' course course' port port' end
 
 -- a game of which nothing is sent yet
 abbrev pub begun_at : Parts → Course

@@ -18,4 +18,4 @@ pub returns-in-Err-Unreadable-clause-steps : goal.returns-in-Err-Unreadable-clau
 returns-in-Err-Unreadable-clause-steps g c = steps_unread _ c.args.terms.stamp c.args.terms.tries c.args.number _ _ c.args.course.now _ at_end.Unread (c.in-Err-Unreadable.ensures.cause (ap Err c.in-Err-Unreadable.field-0-is))
 
 pub returns-in-Err-OutOfMemory-clause-steps : goal.returns-in-Err-OutOfMemory-clause-steps
-returns-in-Err-OutOfMemory-clause-steps g c = steps_unread _ c.args.terms.stamp c.args.terms.tries c.args.number _ _ c.args.course.now _ at_end.OutOfMemory tt
+returns-in-Err-OutOfMemory-clause-steps g c = steps_unread _ c.args.terms.stamp c.args.terms.tries c.args.number _ _ c.args.course.now _ at_end.OutOfMemory (c.in-Err-OutOfMemory.ensures.memory (ap Err c.in-Err-OutOfMemory.field-0-is))
