@@ -137,7 +137,7 @@ still_ends U V g at input sent more end f (Refused line none nothing read why) =
 still_ends U V g at input sent more end f (Closed none done closed) = Closed none done closed
 still_ends U V g at input sent more end f (Sent one is) = Sent one is
 
-pub still_steps : (U V : ReadFault → Type 0) (g : Game) (at : At) (input : Option (List ℕ)) (course : Course) (port port' : PortFacts) (o : Option End) → ((fault : ReadFault) → U fault → V fault) → StepsSo U g at input course port port' o → StepsSo V g at input course port port' o
+still_steps : (U V : ReadFault → Type 0) (g : Game) (at : At) (input : Option (List ℕ)) (course : Course) (port port' : PortFacts) (o : Option End) → ((fault : ReadFault) → U fault → V fault) → StepsSo U g at input course port port' o → StepsSo V g at input course port port' o
 unfolding StepsSo
 still_steps U V g at input course port port' None f h = h
 still_steps U V g at input course port port' (Some end) f (sent, more, ends, passed) = (sent, more, still_ends U V g at input sent more end f ends, passed)
@@ -288,10 +288,10 @@ sent_nothing g start input out port = (
   Appends-nil out,
 )
 
-pub sent_none : (g : Game) (start : Parts) (input out : Option (List ℕ)) (course : Course) (port : PortFacts) → course ≡ begun_at start → (h : HasSent g start input input course port port 0) × Appends out out (text_of (map line_of h.turns))
+sent_none : (g : Game) (start : Parts) (input out : Option (List ℕ)) (course : Course) (port : PortFacts) → course ≡ begun_at start → (h : HasSent g start input input course port port 0) × Appends out out (text_of (map line_of h.turns))
 sent_none g start input out course port is = subst (λ c. (h : HasSent g start input input c port port 0) × Appends out out (text_of (map line_of h.turns))) (sym is) (sent_nothing g start input out port)
 
-pub same_game : (cause : ReadFault → Type 0) (g : Game) (n : ℕ) (at : At) (input : Option (List ℕ)) (course : Course) (port port' : PortFacts) (o : Option End) → n ≡ g.addresses → StepsSo cause (record { stamp = g.stamp; addresses = n; most = g.most }) at input course port port' o → StepsSo cause g at input course port port' o
+same_game : (cause : ReadFault → Type 0) (g : Game) (n : ℕ) (at : At) (input : Option (List ℕ)) (course : Course) (port port' : PortFacts) (o : Option End) → n ≡ g.addresses → StepsSo cause (record { stamp = g.stamp; addresses = n; most = g.most }) at input course port port' o → StepsSo cause g at input course port port' o
 same_game cause g n at input course port port' o e h = subst (λ k. StepsSo cause (record { stamp = g.stamp; addresses = k; most = g.most }) at input course port port' o) e h
 
 last_now : (moves : List Moves) (m : Moves) → Some m ≡ last_of (moves ++ m ∷ [])
@@ -300,7 +300,7 @@ last_now moves m =
     sym (ap (slice_get (moves ++ m ∷ [])) counted ∙ get_last moves m)
 
 -- one more
-pub sent_more : (cause : ReadFault → Type 0) (g : Game) (start : Parts) (input0 input1 input2 : Option (List ℕ)) (c1 c2 : Course) (port0 port1 port2 : PortFacts) (k : ℕ) (h : HasSent g start input0 input1 c1 port0 port1 k) → StepsSo cause g (record { input = input1; position = c1.position; moves = h.moves; passed = h.passed }) input2 c2 port1 port2 None → (n : HasSent g start input0 input2 c2 port0 port2 (k + 1)) × (map line_of n.turns ≡ map line_of h.turns ++ acked_words (k + 1) ∷ [])
+sent_more : (cause : ReadFault → Type 0) (g : Game) (start : Parts) (input0 input1 input2 : Option (List ℕ)) (c1 c2 : Course) (port0 port1 port2 : PortFacts) (k : ℕ) (h : HasSent g start input0 input1 c1 port0 port1 k) → StepsSo cause g (record { input = input1; position = c1.position; moves = h.moves; passed = h.passed }) input2 c2 port1 port2 None → (n : HasSent g start input0 input2 c2 port0 port2 (k + 1)) × (map line_of n.turns ≡ map line_of h.turns ++ acked_words (k + 1) ∷ [])
 unfolding StepsSo
 sent_more cause g start input0 input1 input2 c1 c2 port0 port1 port2 k h (t, acked, is_input, is_position, is_last, passed, knows) =
     let at : At = record { input = input1; position = c1.position; moves = h.moves; passed = h.passed } in
@@ -326,7 +326,7 @@ sent_more cause g start input0 input1 input2 c1 c2 port0 port1 port2 k h (t, ack
     )
 
 -- the writer failed
-pub run_cut : (cause : ReadFault → Type 0) (g : Game) (start : Parts) (input0 input : Option (List ℕ)) (course : Course) (port0 port : PortFacts) (k : ℕ) (h : HasSent g start input0 input course port0 port k) → (s : Sending) × IsSending cause g start input0 input port0 port s × (s.turns ≡ h.turns) × (s.end ≡ None)
+run_cut : (cause : ReadFault → Type 0) (g : Game) (start : Parts) (input0 input : Option (List ℕ)) (course : Course) (port0 port : PortFacts) (k : ℕ) (h : HasSent g start input0 input course port0 port k) → (s : Sending) × IsSending cause g start input0 input port0 port s × (s.turns ≡ h.turns) × (s.end ≡ None)
 run_cut cause g start input0 input course port0 port k h = (
   record { turns = h.turns; at = record { input = input; position = course.position; moves = h.moves; passed = h.passed }; sent = []; more = []; end = None },
   record {
@@ -374,7 +374,7 @@ ended_hands cause g at input sent more end (Closed no_moves done closed) h = clo
 ended_hands cause g at input sent more end (Sent t is) h =
     subst (λ l. OnlyHands g.stamp (at.moves ++ l) (at.passed ++ more)) (sym t.only) (subst (λ l. OnlyHands g.stamp (at.moves ++ t.move ∷ []) (at.passed ++ l)) (sym t.passed) (hands_more g.stamp g.addresses at.moves t.move at.passed t.tries h t.spelling t.are.1))
 
-pub run_ended : (cause : ReadFault → Type 0) (g : Game) (start : Parts) (input0 input1 input2 : Option (List ℕ)) (c1 c2 : Course) (port0 port1 port2 : PortFacts) (k : ℕ) (end : End) (h : HasSent g start input0 input1 c1 port0 port1 k) → StepsSo cause g (record { input = input1; position = c1.position; moves = h.moves; passed = h.passed }) input2 c2 port1 port2 (Some end) → (s : Sending) × IsSending cause g start input0 input2 port0 port2 s × (s.turns ≡ h.turns) × (s.end ≡ Some end)
+run_ended : (cause : ReadFault → Type 0) (g : Game) (start : Parts) (input0 input1 input2 : Option (List ℕ)) (c1 c2 : Course) (port0 port1 port2 : PortFacts) (k : ℕ) (end : End) (h : HasSent g start input0 input1 c1 port0 port1 k) → StepsSo cause g (record { input = input1; position = c1.position; moves = h.moves; passed = h.passed }) input2 c2 port1 port2 (Some end) → (s : Sending) × IsSending cause g start input0 input2 port0 port2 s × (s.turns ≡ h.turns) × (s.end ≡ Some end)
 unfolding StepsSo
 run_ended cause g start input0 input1 input2 c1 c2 port0 port1 port2 k end h (sent, more, ends, passed) =
     let at : At = record { input = input1; position = c1.position; moves = h.moves; passed = h.passed } in (
@@ -399,21 +399,70 @@ still_sending U V g start input input' port port' s f h = record { turns = h.tur
 
 -- ---- what is written
 
-pub written_more : (old mid new : Option (List ℕ)) (first all : List (List ℕ)) (one : List ℕ) → all ≡ first ++ one ∷ [] → Appends old mid (text_of first) → Appends mid new (ended one) → Appends old new (text_of all)
+written_more : (old mid new : Option (List ℕ)) (first all : List (List ℕ)) (one : List ℕ) → all ≡ first ++ one ∷ [] → Appends old mid (text_of first) → Appends mid new (ended one) → Appends old new (text_of all)
 written_more old mid new first all one e p q = subst (λ (l : List (List ℕ)). Appends old new (text_of l)) (sym e) (more_lines old mid new first one p q)
 
 last_line : (s : Sending) (turns : List AckedMove) (end : End) → s.turns ≡ turns → s.end ≡ Some end → lines_of s ≡ map line_of turns ++ end_words end ∷ []
 last_line s turns end same is = ap (λ ts. map line_of ts ++ last_lines s.end) same ∙ ap (λ o. map line_of turns ++ last_lines o) is
 
 -- a run that the writer cut short has no last line
-pub no_last : (s : Sending) (turns : List AckedMove) (lines : List (List ℕ)) → s.turns ≡ turns → s.end ≡ None → map line_of turns ≡ lines → lines_of s ≡ lines
+no_last : (s : Sending) (turns : List AckedMove) (lines : List (List ℕ)) → s.turns ≡ turns → s.end ≡ None → map line_of turns ≡ lines → lines_of s ≡ lines
 no_last s turns lines same is e = ap (λ ts. map line_of ts ++ last_lines s.end) same ∙ ap (λ o. map line_of turns ++ last_lines o) is ∙ append-nil (map line_of turns) ∙ e
 
 -- at one more line the writer failed
-pub cut_at : {E : Type 0} (old mid new : Option (List ℕ)) (first all : List (List ℕ)) (one : List ℕ) (fault : E) → all ≡ first ++ one ∷ [] → Appends old mid (text_of first) → WritesFront {T = Unit {0}} mid new (ended one) (Err fault) → IsCut all old new
+cut_at : {E : Type 0} (old mid new : Option (List ℕ)) (first all : List (List ℕ)) (one : List ℕ) (fault : E) → all ≡ first ++ one ∷ [] → Appends old mid (text_of first) → WritesFront {T = Unit {0}} mid new (ended one) (Err fault) → IsCut all old new
 cut_at old mid new first all one fault e p (n, q) = record { earlier = first; last = one; front = n; all = e; written = Appends-trans old mid new (text_of first) (take n (ended one)) p q }
 
 -- the line of a run that ends was written, or not
-pub wrote_last : (s : Sending) (turns : List AckedMove) (end : End) (old mid new : Option (List ℕ)) (r : Result ℕ WriteFault) → s.turns ≡ turns → s.end ≡ Some end → Appends old mid (text_of (map line_of turns)) → IfOk r (λ status. status ≡ status_by end) → WritesFront mid new (ended (end_words end)) r → WritesLines s old new r
+wrote_last : (s : Sending) (turns : List AckedMove) (end : End) (old mid new : Option (List ℕ)) (r : Result ℕ WriteFault) → s.turns ≡ turns → s.end ≡ Some end → Appends old mid (text_of (map line_of turns)) → IfOk r (λ status. status ≡ status_by end) → WritesFront mid new (ended (end_words end)) r → WritesLines s old new r
 wrote_last s turns end old mid new (Ok status) same is p ok q = (end, is, ok, written_more old mid new (map line_of turns) (lines_of s) (end_words end) (last_line s turns end same is) p q)
 wrote_last s turns end old mid new (Err fault) same is p ok q = cut_at old mid new (map line_of turns) (lines_of s) (end_words end) fault (last_line s turns end same is) p q
+
+-- ---- the loop of a run
+
+abbrev pub game_at : Stamp → ℕ → PortFacts → Game
+game_at stamp most port = record { stamp = stamp; addresses = port.addresses; most = most }
+
+-- so many moves are acknowledged and their lines are written; what the reader tells of its faults now, it told at the beginning
+pub record Runs (F0 F M0 M : Type 0) (g : Game) (start : Parts) (input0 input : Option (List ℕ)) (course : Course) (port0 port : PortFacts) (out0 out : Option (List ℕ)) (k : ℕ) : Type 0 where
+  pub sent : HasSent g start input0 input course port0 port k
+  pub fails : F → F0
+  pub memory : M → M0
+  pub written : Appends out0 out (text_of (map line_of sent.turns))
+
+pub runs_none : (F M : Type 0) (g : Game) (start : Parts) (input out : Option (List ℕ)) (course : Course) (port : PortFacts) → course ≡ begun_at start → Runs F F M M g start input input course port port out out 0
+runs_none F M g start input out course port is = let n = sent_none g start input out course port is in record { sent = n.0; fails = λ f. f; memory = λ m. m; written = n.1 }
+
+-- how a step goes on from there
+stepped : (F0 F M0 M : Type 0) (stamp : Stamp) (most : ℕ) (start : Parts) (input0 input1 input2 : Option (List ℕ)) (c1 c2 : Course) (port0 port1 port2 : PortFacts) (out0 out : Option (List ℕ)) (k : ℕ) (o : Option End)
+    → (h : Runs F0 F M0 M (game_at stamp most port0) start input0 input1 c1 port0 port1 out0 out k) → Steps (causes F M) stamp most k input1 input2 c1 c2 port1 port2 o
+    → StepsSo (causes F0 M0) (game_at stamp most port0) (record { input = input1; position = c1.position; moves = h.sent.moves; passed = h.sent.passed }) input2 c2 port1 port2 o
+stepped F0 F M0 M stamp most start input0 input1 input2 c1 c2 port0 port1 port2 out0 out k o h steps =
+    let g = game_at stamp most port0 in
+    let at : At = record { input = input1; position = c1.position; moves = h.sent.moves; passed = h.sent.passed } in
+    still_steps (causes F M) (causes F0 M0) g at input2 c2 port1 port2 o (still_causes F F0 M M0 h.fails h.memory)
+    (same_game (causes F M) g port1.addresses at input2 c2 port1 port2 o h.sent.at_port.addresses (steps h.sent.passed h.sent.moves h.sent.knows h.sent.count h.sent.last))
+
+pub runs_more : (F0 F1 F2 M0 M1 M2 : Type 0) (stamp : Stamp) (most : ℕ) (start : Parts) (input0 input1 input2 : Option (List ℕ)) (c1 c2 : Course) (port0 port1 port2 : PortFacts) (out0 out1 out2 : Option (List ℕ)) (k : ℕ)
+    → Runs F0 F1 M0 M1 (game_at stamp most port0) start input0 input1 c1 port0 port1 out0 out1 k → Steps (causes F1 M1) stamp most k input1 input2 c1 c2 port1 port2 None → (F2 → F1) → (M2 → M1) → Appends out1 out2 (ended (acked_words (k + 1)))
+    → Runs F0 F2 M0 M2 (game_at stamp most port0) start input0 input2 c2 port0 port2 out0 out2 (k + 1)
+runs_more F0 F1 F2 M0 M1 M2 stamp most start input0 input1 input2 c1 c2 port0 port1 port2 out0 out1 out2 k h steps same room put =
+    let n = sent_more (causes F0 M0) (game_at stamp most port0) start input0 input1 input2 c1 c2 port0 port1 port2 k h.sent (stepped F0 F1 M0 M1 stamp most start input0 input1 input2 c1 c2 port0 port1 port2 out0 out1 k None h steps) in
+    record { sent = n.0; fails = λ f. h.fails (same f); memory = λ m. h.memory (room m); written = written_more out0 out1 out2 (map line_of h.sent.turns) (map line_of n.0.turns) (acked_words (k + 1)) n.1 h.written put }
+
+-- the line of a move couldn't be written
+pub runs_cut : (F0 F M0 M : Type 0) (stamp : Stamp) (most : ℕ) (start : Parts) (input0 input1 input2 : Option (List ℕ)) (c1 c2 : Course) (port0 port1 port2 : PortFacts) (out0 out1 out2 : Option (List ℕ)) (k : ℕ) (fault : WriteFault)
+    → Runs F0 F M0 M (game_at stamp most port0) start input0 input1 c1 port0 port1 out0 out1 k → Steps (causes F M) stamp most k input1 input2 c1 c2 port1 port2 None → WritesFront {T = Unit {0}} out1 out2 (ended (acked_words (k + 1))) (Err fault)
+    → (s : Sending) × IsSending (causes F0 M0) (game_at stamp most port0) start input0 input2 port0 port2 s × WritesLines s out0 out2 (Err fault)
+runs_cut F0 F M0 M stamp most start input0 input1 input2 c1 c2 port0 port1 port2 out0 out1 out2 k fault h steps put =
+    let n = sent_more (causes F0 M0) (game_at stamp most port0) start input0 input1 input2 c1 c2 port0 port1 port2 k h.sent (stepped F0 F M0 M stamp most start input0 input1 input2 c1 c2 port0 port1 port2 out0 out1 k None h steps) in
+    let s = run_cut (causes F0 M0) (game_at stamp most port0) start input0 input2 c2 port0 port2 (k + 1) n.0 in
+    (s.0, s.1, cut_at out0 out1 out2 (map line_of h.sent.turns) (lines_of s.0) (acked_words (k + 1)) fault (no_last s.0 n.0.turns (map line_of h.sent.turns ++ acked_words (k + 1) ∷ []) s.2 s.3 n.1) h.written put)
+
+-- the run ended, and its line was written or not
+pub runs_ended : (F0 F M0 M : Type 0) (stamp : Stamp) (most : ℕ) (start : Parts) (input0 input1 input2 : Option (List ℕ)) (c1 c2 : Course) (port0 port1 port2 : PortFacts) (out0 out1 out2 : Option (List ℕ)) (k : ℕ) (end : End) (r : Result ℕ WriteFault)
+    → Runs F0 F M0 M (game_at stamp most port0) start input0 input1 c1 port0 port1 out0 out1 k → Steps (causes F M) stamp most k input1 input2 c1 c2 port1 port2 (Some end) → IfOk r (λ status. status ≡ status_by end) → WritesFront out1 out2 (ended (end_words end)) r
+    → (s : Sending) × IsSending (causes F0 M0) (game_at stamp most port0) start input0 input2 port0 port2 s × WritesLines s out0 out2 r
+runs_ended F0 F M0 M stamp most start input0 input1 input2 c1 c2 port0 port1 port2 out0 out1 out2 k end r h steps ok put =
+    let s = run_ended (causes F0 M0) (game_at stamp most port0) start input0 input1 input2 c1 c2 port0 port1 port2 k end h.sent (stepped F0 F M0 M stamp most start input0 input1 input2 c1 c2 port0 port1 port2 out0 out1 k (Some end) h steps) in
+    (s.0, s.1, wrote_last s.0 h.sent.turns end out0 out1 out2 r s.2 s.3 h.written ok put)
