@@ -21,14 +21,14 @@ const MOST_ANSWERS: u32 = 256;
 /// On what terms the moves of a game are sent.
 #[derive(Clone, Copy)]
 pub struct Terms {
-    /// The game: the SHA-256 digest of its name, start, tables and delay, cut to 16 bytes.
+    /// The mark of the game, which each message of it carries.
     pub stamp: Stamp,
-    /// How often a move is sent at most, to all addresses each time: 1 to 2^32 - 1 times. With 0 nothing is sent, and each move is
-    /// lost.
+    /// How often a move is sent at most, each time to all addresses: 1 to 2^32 - 1 times. With 0 nothing is sent, and a move that
+    /// isn't acknowledged already is lost.
     pub tries: u32,
-    /// How long a datagram is awaited: more than nothing, in steps of a nanosecond; a port may round it to what its system can.
-    /// Where both arbiters have acknowledged a move, a verdict is awaited for two milliseconds, whatever stands here. A try so
-    /// takes at most 256 times as long.
+    /// How long a datagram is awaited: more than nothing, by the nanosecond as far as the port's clock tells it. Where both arbiters
+    /// have acknowledged the move, a verdict is awaited for two milliseconds, whatever stands here. A try awaits up to 256
+    /// datagrams one after the other, so that it may take so many times as long.
     pub wait: Duration,
 }
 
@@ -201,7 +201,7 @@ pub(crate) fn send_again<P: Port>(stamp: Stamp, number: u32, last: &Option<Move>
 }
 
 /// Sends a move to each address until both arbiters have acknowledged it and reported what they have to report, at most as often
-/// as the terms say.
+/// as the terms say. Its number is how many moves stand before it, 0 to 4095.
 ///
 /// A move that is acknowledged already isn't sent. Nothing else is sent.
 pub fn take_turn<P: Port>(
