@@ -81,7 +81,7 @@ fn take_in(stamp: Stamp, known: &mut Known, datagram: &[u8]) -> Next
     }
 }
 
-/// Receives a datagram, if one comes in time, and adds what it reports.
+/// Receives a datagram, if one comes in so long a time, and adds what it reports.
 fn receive_one<P: Port>(
     terms: Terms,
     number: u32,
