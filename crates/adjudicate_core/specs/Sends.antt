@@ -14,7 +14,7 @@ use Rattle.system_io.specs.Disks.{AtFile, DiskFacts}
 use Rattle.system_io.specs.declared.host.BindFault.TheVariants as bind
 use Rattle.system_io.specs.Inputs.{InputFacts}
 use Rattle.system_io.specs.Ports.{Passed, PortFacts}
-use Rattle.source_core.specs.Sendings.{IsSending, Sending, WritesLines}
+use Rattle.source_core.specs.Sendings.{IsSending, Sending, WritesLines, causes}
 use Rattle.arbiter_service.specs.ServedLines.{refused_port}
 use Rattle.adjudicate_core.specs.Addresses.{addresses_of}
 use Rattle.adjudicate_core.specs.declared.commands.send.Send.{Send}
@@ -46,7 +46,7 @@ pub data LacksManifest (disk : DiskFacts) (t : Send) (words : List ℕ) : Type 0
 
 -- over the port the moves of the input are sent; or memory for reading it was refused
 pub data SendsOver (source : InputFacts) (stamp : Stamp) (most : ℕ) (start : Parts) (port port' : PortFacts) (old new : Option (List ℕ)) (r : Result ℕ WriteFault) : Type 0 where
-  Over : (left left' : Option (List ℕ)) → IfSome left source.gives → (s : Sending) → IsSending source.fails (record { stamp = stamp; addresses = port.addresses; most = most }) start left left' port port' s → WritesLines s old new r → SendsOver source stamp most start port port' old new r
+  Over : (left left' : Option (List ℕ)) → IfSome left source.gives → (s : Sending) → IsSending (causes source.fails source.takes_memory) (record { stamp = stamp; addresses = port.addresses; most = most }) start left left' port port' s → WritesLines s old new r → SendsOver source stamp most start port port' old new r
   NoRoomForLines : Passed port port' [] → TellsIf refused_memory old new r → SendsOver source stamp most start port port' old new r
 
 -- the port can't be bound; or it is, and sends to each of the addresses

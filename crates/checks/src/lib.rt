@@ -58,6 +58,10 @@ mod seeded_world_tests;
 #[cfg(test)]
 mod serving_tests;
 #[cfg(test)]
+mod source_port;
+#[cfg(test)]
+mod source_tests;
+#[cfg(test)]
 mod stopping_tests;
 #[cfg(test)]
 mod table_tests;

@@ -1,6 +1,6 @@
 -- A run, one turn after the other.
-use Rattle.std.proofs.Common.{take, ◌≡◌, ◌⊎◌, true, false, ℕ, zero, suc, ◌+◌, ◌≤◌, List, [], ◌∷◌, ◌++◌, length, map, Option, Some, None, refl, sym, ap, subst, ◌∙◌, append-nil, length-append, arith, inl, inr}
-use Rattle.std.specs.Prelude.{slice_get, Result, Ok, Err, IfOk}
+use Rattle.std.proofs.Common.{take, ◌≡◌, ◌⊎◌, true, false, ℕ, zero, suc, ◌+◌, ◌-◌, ◌≤◌, List, [], ◌∷◌, ◌++◌, length, map, Option, Some, None, refl, sym, ap, subst, ◌∙◌, append_assoc, append-nil, length-append, arith, inl, inr}
+use Rattle.std.specs.Prelude.{slice_get, Result, Ok, Err, IfOk, IfSome}
 use Rattle.std.specs.List.{AllByRecursion, Contains}
 use Rattle.std.specs.Io.KnownBytes.{Appends, IsAtEnd}
 use Rattle.std.proofs.KnownBytes.{Appends-nil, Appends-trans}
@@ -10,12 +10,15 @@ use Rattle.board_core.specs.declared.moves.Move.{Move as Moves}
 use Rattle.board_core.specs.declared.parts.Parts.{Parts}
 use Rattle.move_msg.specs.declared.stamp.Stamp.{Stamp}
 use Rattle.system_io.specs.declared.output.WriteFault.{WriteFault}
+use Rattle.system_io.specs.declared.reading.ReadFault.{ReadFault}
+use Rattle.system_io.specs.declared.reading.ReadFault.TheVariants as fault
 use Rattle.move_msg.specs.Messages.{SpellsMessage, message_text}
 use Rattle.move_msg.specs.Numbers.{most_moves}
 use Rattle.move_msg.specs.TextLines.{ended, text_of}
 use Rattle.move_msg.proofs.LineLaws.{more_lines}
 use Rattle.source_core.specs.declared.known.Known.{Known}
 use Rattle.source_core.specs.declared.lines.End.{End}
+use Rattle.source_core.specs.declared.sending.Course.{Course}
 use Rattle.source_core.specs.declared.known.Clash.{Clash}
 use Rattle.source_core.specs.declared.known.Standing.TheVariants as standing
 use Rattle.source_core.specs.declared.report.Ruling.{Ruling}
@@ -29,13 +32,13 @@ use Rattle.system_io.specs.Outputs.{WritesFront}
 use Rattle.system_io.specs.LineReaders.{ReadsLine}
 use Rattle.system_io.specs.Ports.{Passing, Came, Quiet, Missed, Handed, PortFacts, Passed, to_each}
 use Rattle.source_core.specs.Reports.{Knows, StandsSo}
-use Rattle.source_core.specs.Turns.{HasSpelling, HasWaited, IsReceived, IsTurn, move_message, one_try, tries_of}
+use Rattle.source_core.specs.Turns.{ComesTo, HasSpelling, HasWaited, IsReceived, IsTurn, move_message, one_try, tries_of}
 use Rattle.source_core.specs.Lines.{IsCut, acked_words, end_words, status_by}
-use Rattle.source_core.specs.Sendings.{At, AckedMove, ClosesSo, EndsIfAny, EndsWith, Unread, Refused, Closed, Sent, Game, InTurn, IsAckedTurn, IsClosed, IsLastMove, IsRefusedLine, IsSending, IsUnread, OnlyHands, Sending, WritesLines, last_lines, line_of, lines_of, sent_in}
-use Rattle.source_core.specs.Inside.Steps.{Closes, EndsAt, HasEnded, IsPlayed, Steps, StepsOn, StepsSo, end_by, is_ruled}
+use Rattle.source_core.specs.Sendings.{At, AckedMove, ClosesSo, again, EndsIfAny, EndsWith, Unread, Refused, Closed, Sent, Game, InTurn, IsAckedTurn, IsClosed, IsLastMove, IsRefusedLine, IsSending, IsUnread, OnlyHands, Sending, WritesLines, causes, last_lines, last_of, line_of, lines_of, sent_in}
+use Rattle.source_core.specs.Inside.Steps.{Closes, EndsAt, HasEnded, IsPlayed, Steps, StepsOn, StepsSo, begun_at, end_by, is_ruled, no_cause}
 use Rattle.source_core.proofs.PortLaws.{Passed-nil, Passed-trans}
-use Rattle.source_core.proofs.ReportLaws.{all_agreed, is_acked, is_ruled_so, is_unsettled, knows_nothing, not_both}
-use Rattle.source_core.proofs.TurnLaws.{all_more}
+use Rattle.source_core.proofs.ReportLaws.{all_agreed, is_acked, is_ruled_so, is_unsettled, knows_nothing, knows_past, not_both}
+use Rattle.source_core.proofs.TurnLaws.{again_reports_nothing, all_more}
 
 -- ---- one step
 
@@ -43,56 +46,80 @@ use Rattle.source_core.proofs.TurnLaws.{all_more}
 last_move : (g : Game) (at : At) (input : Option (List ℕ)) (line : List ℕ) (after : Parts) (m : Moves) (known known' : Known) (port port' : PortFacts) (turn : Turn) (tries : List (List Passing)) → ReadsLine at.input input line → IsPlayed at.position (length at.moves) line m after → IsTurn g.stamp g.most (length at.moves) m port port' known known' turn tries → IsLastMove g at input (m ∷ []) (sent_in g at.moves m tries)
 last_move g at input line after m known known' port port' turn tries read r t = record { line = line; move = m; tries = tries; read = read; spelled = r.spelled; legal = (after, r.legal); room = r.room; spelling = t.spelling; are = (t.few, t.received); only = refl; passed = refl }
 
+-- the course after the move was played
+abbrev pub course_at : Parts → Known → Moves → Course
+course_at after known m = record { position = after; known = known; last = Some m }
+
 -- a turn ends the run, or the run goes on
-turned : (unreadable : Type 0) (stamp : Stamp) (most : ℕ) (input input' : Option (List ℕ)) (line : List ℕ) (position after : Parts) (m : Moves) (known known' : Known) (port port' : PortFacts) (turn : Turn) (tries : List (List Passing)) (before : List Passing) (moves : List Moves)
+turned : (cause : ReadFault → Type 0) (stamp : Stamp) (most : ℕ) (input input' : Option (List ℕ)) (line : List ℕ) (position after : Parts) (m : Moves) (known known' : Known) (port port' : PortFacts) (turn : Turn) (tries : List (List Passing)) (before : List Passing) (moves : List Moves)
     → ReadsLine input input' line → IsPlayed position (length moves) line m after → IsTurn stamp most (length moves) m port port' known known' turn tries → Knows stamp before known
-    → StepsSo unreadable (record { stamp = stamp; addresses = port.addresses; most = most }) (record { input = input; position = position; moves = moves; passed = before }) input' after known' port port' (end_by turn)
+    → StepsSo cause (record { stamp = stamp; addresses = port.addresses; most = most }) (record { input = input; position = position; moves = moves; passed = before }) input' (course_at after known' m) port port' (end_by turn)
 unfolding StepsSo
-turned unreadable stamp most input input' line position after m known known' port port' at_turn.Acked tries before moves read r t k =
+turned cause stamp most input input' line position after m known known' port port' at_turn.Acked tries before moves read r t k =
     let done = t.ends before k in
     let sent : List Passing = tries_of port.addresses (message_text (move_message stamp (length moves) m)) tries in (
       record { line = line; move = m; tries = tries; after = record { input = input'; position = after; moves = moves ++ m ∷ []; passed = before ++ sent } },
       record { read = read; spelled = r.spelled; legal = r.legal; room = r.room; spelling = t.spelling; tries = (t.few, t.received); moves = refl; passed = refl; acked = done.0 },
       refl,
       refl,
+      refl,
       t.passed,
       done.1,
     )
-turned unreadable stamp most input input' line position after m known known' port port' (at_turn.Ruled r') tries before moves read r t k =
+turned cause stamp most input input' line position after m known known' port port' (at_turn.Ruled r') tries before moves read r t k =
     (m ∷ [], _, Sent (last_move _ _ input' line after m known known' port port' (at_turn.Ruled r') tries read r t) (t.ends before k), t.passed)
-turned unreadable stamp most input input' line position after m known known' port port' (at_turn.Clashed c) tries before moves read r t k =
+turned cause stamp most input input' line position after m known known' port port' (at_turn.Clashed c) tries before moves read r t k =
     (m ∷ [], _, Sent (last_move _ _ input' line after m known known' port port' (at_turn.Clashed c) tries read r t) (t.ends before k), t.passed)
-turned unreadable stamp most input input' line position after m known known' port port' at_turn.Lost tries before moves read r t k =
+turned cause stamp most input input' line position after m known known' port port' at_turn.Lost tries before moves read r t k =
     (m ∷ [], _, Sent (last_move _ _ input' line after m known known' port port' at_turn.Lost tries read r t) (t.ends before k), t.passed)
-turned unreadable stamp most input input' line position after m known known' port port' at_turn.PortLost tries before moves read r t k =
+turned cause stamp most input input' line position after m known known' port port' at_turn.PortLost tries before moves read r t k =
     (m ∷ [], _, Sent (last_move _ _ input' line after m known known' port port' at_turn.PortLost tries read r t) (t.ends before k), t.passed)
 
-pub steps_on : (stamp : Stamp) (most number : ℕ) (line : List ℕ) (position after : Parts) (m : Moves) (known known' : Known) (port port' : PortFacts) (turn : Turn) (o : Option End)
-    → IsPlayed position number line m after → (tries : List (List Passing)) × IsTurn stamp most number m port port' known known' turn tries → o ≡ end_by turn
-    → StepsOn stamp most number line position after known known' port port' o
-steps_on stamp most number line position after m known known' port port' turn o r (tries, t) is input input' read before moves k e =
+pub steps_on : (stamp : Stamp) (most number : ℕ) (line : List ℕ) (course course' : Course) (after : Parts) (m : Moves) (known' : Known) (port port' : PortFacts) (turn : Turn) (o : Option End)
+    → course' ≡ course_at after known' m → IsPlayed course.position number line m after → (tries : List (List Passing)) × IsTurn stamp most number m port port' course.known known' turn tries → o ≡ end_by turn
+    → StepsOn stamp most number line course course' port port' o
+steps_on stamp most number line course course' after m known' port port' turn o at_new r (tries, t) is input input' read before moves k e last =
     let g : Game = record { stamp = stamp; addresses = port.addresses; most = most } in
-    let at : At = record { input = input; position = position; moves = moves; passed = before } in
-    subst (StepsSo ⊥ g at input' after known' port port') (sym is)
-    (turned ⊥ stamp most input input' line position after m known known' port port' turn tries before moves read (subst (λ n. IsPlayed position n line m after) e r) (subst (λ n. IsTurn stamp most n m port port' known known' turn tries) e t) k)
+    let at : At = record { input = input; position = course.position; moves = moves; passed = before } in
+    subst (λ c. StepsSo no_cause g at input' c port port' o) (sym at_new)
+    (subst (StepsSo no_cause g at input' (course_at after known' m) port port') (sym is)
+    (turned no_cause stamp most input input' line course.position after m course.known known' port port' turn tries before moves read (subst (λ n. IsPlayed course.position n line m after) e r) (subst (λ n. IsTurn stamp most n m port port' course.known known' turn tries) e t) k))
 
-pub steps_refused : (stamp : Stamp) (most number : ℕ) (line : List ℕ) (position : Parts) (known : Known) (port : PortFacts) (end : End) → IsRefusedLine position number line end → StepsOn stamp most number line position position known known port port (Some end)
+pub steps_refused : (stamp : Stamp) (most number : ℕ) (line : List ℕ) (course : Course) (port : PortFacts) (end : End) → IsRefusedLine course.position number line end → StepsOn stamp most number line course course port port (Some end)
 unfolding StepsSo
-steps_refused stamp most number line position known port end h input input' read before moves k e =
-    ([], [], Refused line refl refl read (subst (λ n. IsRefusedLine position n line end) e h), Passed-nil port)
+steps_refused stamp most number line course port end h input input' read before moves k e last =
+    ([], [], Refused line refl refl read (subst (λ n. IsRefusedLine course.position n line end) e h), Passed-nil port)
 
-pub steps_unread : (unreadable : Type 0) (stamp : Stamp) (most number : ℕ) (input input' : Option (List ℕ)) (position : Parts) (known : Known) (port : PortFacts) (end : End) → IsUnread unreadable end → Steps unreadable stamp most number input input' position position known known port port (Some end)
+pub steps_unread : (cause : ReadFault → Type 0) (stamp : Stamp) (most number : ℕ) (input input' : Option (List ℕ)) (course : Course) (port : PortFacts) (end : End) → IsUnread cause end → Steps cause stamp most number input input' course course port port (Some end)
 unfolding StepsSo
-steps_unread unreadable stamp most number input input' position known port end h before moves k e = ([], [], Unread refl refl h, Passed-nil port)
+steps_unread cause stamp most number input input' course port end h before moves k e last = ([], [], Unread refl refl h, Passed-nil port)
 
-pub steps_closed : (unreadable : Type 0) (stamp : Stamp) (most number : ℕ) (input input' : Option (List ℕ)) (position : Parts) (known known' : Known) (port port' : PortFacts) (end : End) → IsAtEnd input → Closes stamp number known port port' end → Steps unreadable stamp most number input input' position position known known' port port' (Some end)
+closed_at : (stamp : Stamp) (number : ℕ) (moves : List Moves) (last : Option Moves) (known : Known) (port port' : PortFacts) (end : End) → number ≡ length moves → last ≡ last_of moves → Closes stamp number last known port port' end → Closes stamp (length moves) (last_of moves) known port port' end
+closed_at stamp number moves last known port port' end e f h = subst (λ l. Closes stamp (length moves) l known port port' end) f (subst (λ n. Closes stamp n last known port port' end) e h)
+
+closed_with : (cause : ReadFault → Type 0) (g : Game) (input input' : Option (List ℕ)) (course : Course) (port port' : PortFacts) (before : List Passing) (moves : List Moves) (end : End) → IsAtEnd input → Knows g.stamp before course.known → Closes g.stamp (length moves) (last_of moves) course.known port port' end → port.addresses ≡ g.addresses
+    → (sent : List Moves) × (more : List Passing) × EndsWith cause g (record { input = input; position = course.position; moves = moves; passed = before }) input' sent more end × Passed port port' more
+closed_with cause g input input' course port port' before moves end done k h e =
+    let handed : ℕ → List Passing = λ n. again g.stamp n (length moves - 1) (last_of moves) in (
+      [],
+      handed g.addresses ++ h.came,
+      Closed refl done (record { came = h.came; spelling = h.spelling; passed = refl; received = h.received; waited = h.waited; stands = subst (λ n. ClosesSo g.stamp (length moves) (before ++ (handed n ++ h.came)) end) e (h.stands before k) }),
+      subst (λ n. Passed port port' (handed n ++ h.came)) e h.passed,
+    )
+
+pub steps_closed : (cause : ReadFault → Type 0) (stamp : Stamp) (most number : ℕ) (input input' : Option (List ℕ)) (course course' : Course) (port port' : PortFacts) (end : End) → IsAtEnd input → Closes stamp number course.last course.known port port' end → Steps cause stamp most number input input' course course' port port' (Some end)
 unfolding StepsSo
-steps_closed unreadable stamp most number input input' position known known' port port' end done (more, passed, closed) before moves k e =
-    ([], more, Closed refl done (subst (λ n. IsClosed stamp n before more end) e (closed before k)), passed)
+steps_closed cause stamp most number input input' course course' port port' end done closes before moves k e last =
+    let g : Game = record { stamp = stamp; addresses = port.addresses; most = most } in
+    closed_with cause g input input' course port port' before moves end done k (closed_at stamp number moves course.last course.known port port' end e last closes) refl
 
 -- ---- the input can't be read
 
-still_unread : (U V : Type 0) (end : End) → (U → V) → IsUnread U end → IsUnread V end
+pub still_causes : (F G M N : Type 0) → (F → G) → (M → N) → (fault : ReadFault) → causes F M fault → causes G N fault
+still_causes F G M N f m fault.Unreadable h = f h
+still_causes F G M N f m fault.OutOfMemory h = m h
+
+still_unread : (U V : ReadFault → Type 0) (end : End) → ((fault : ReadFault) → U fault → V fault) → IsUnread U end → IsUnread V end
 still_unread U V (at_end.Open count) f h = h
 still_unread U V (at_end.Ruled r) f h = h
 still_unread U V (at_end.Clashed c) f h = h
@@ -101,42 +128,65 @@ still_unread U V (at_end.Illegal place) f h = h
 still_unread U V at_end.TooLong f h = h
 still_unread U V at_end.Lost f h = h
 still_unread U V at_end.PortLost f h = h
-still_unread U V at_end.Unread f h = f h
-still_unread U V at_end.OutOfMemory f h = h
+still_unread U V at_end.Unread f h = f fault.Unreadable h
+still_unread U V at_end.OutOfMemory f h = f fault.OutOfMemory h
 
-still_ends : (U V : Type 0) (g : Game) (at : At) (input : Option (List ℕ)) (sent : List Moves) (more : List Passing) (end : End) → (U → V) → EndsWith U g at input sent more end → EndsWith V g at input sent more end
+still_ends : (U V : ReadFault → Type 0) (g : Game) (at : At) (input : Option (List ℕ)) (sent : List Moves) (more : List Passing) (end : End) → ((fault : ReadFault) → U fault → V fault) → EndsWith U g at input sent more end → EndsWith V g at input sent more end
 still_ends U V g at input sent more end f (Unread none nothing why) = Unread none nothing (still_unread U V end f why)
 still_ends U V g at input sent more end f (Refused line none nothing read why) = Refused line none nothing read why
 still_ends U V g at input sent more end f (Closed none done closed) = Closed none done closed
 still_ends U V g at input sent more end f (Sent one is) = Sent one is
 
-pub still_steps : (U V : Type 0) (g : Game) (at : At) (input : Option (List ℕ)) (position : Parts) (known : Known) (port port' : PortFacts) (o : Option End) → (U → V) → StepsSo U g at input position known port port' o → StepsSo V g at input position known port port' o
+still_steps : (U V : ReadFault → Type 0) (g : Game) (at : At) (input : Option (List ℕ)) (course : Course) (port port' : PortFacts) (o : Option End) → ((fault : ReadFault) → U fault → V fault) → StepsSo U g at input course port port' o → StepsSo V g at input course port port' o
 unfolding StepsSo
-still_steps U V g at input position known port port' None f h = h
-still_steps U V g at input position known port port' (Some end) f (sent, more, ends, passed) = (sent, more, still_ends U V g at input sent more end f ends, passed)
+still_steps U V g at input course port port' None f h = h
+still_steps U V g at input course port port' (Some end) f (sent, more, ends, passed) = (sent, more, still_ends U V g at input sent more end f ends, passed)
 
-pub steps_read : (unreadable : Type 0) (stamp : Stamp) (most number : ℕ) (line : List ℕ) (input input' : Option (List ℕ)) (position position' : Parts) (known known' : Known) (port port' : PortFacts) (o : Option End) → ReadsLine input input' line → StepsOn stamp most number line position position' known known' port port' o → Steps unreadable stamp most number input input' position position' known known' port port' o
-steps_read unreadable stamp most number line input input' position position' known known' port port' o read h before moves k e =
-    still_steps ⊥ unreadable _ _ _ _ _ _ _ o (λ none. absurd none) (h input input' read before moves k e)
+pub steps_read : (cause : ReadFault → Type 0) (stamp : Stamp) (most number : ℕ) (line : List ℕ) (input input' : Option (List ℕ)) (course course' : Course) (port port' : PortFacts) (o : Option End) → ReadsLine input input' line → StepsOn stamp most number line course course' port port' o → Steps cause stamp most number input input' course course' port port' o
+steps_read cause stamp most number line input input' course course' port port' o read h before moves k e last =
+    still_steps no_cause cause _ _ _ _ _ _ o (λ fault none. absurd none) (h input input' read before moves k e last)
 
 -- ---- after the input's end
 
-closes_so : (stamp : Stamp) (number : ℕ) (old new : Known) (port port' : PortFacts) (end : Next) (h : HasEnded stamp old new port port' end) → (so_ends : End) → ((count : ℕ) → so_ends ≡ at_end.Open count → HasWaited h.came) → ((before : List Passing) → Knows stamp before old → ClosesSo stamp number (before ++ h.came) so_ends) → Closes stamp number old port port' so_ends
-closes_so stamp number old new port port' end h so_ends waits so = (h.came, h.passed, λ before k. record { received = h.received; waited = waits; stands = so before k })
+-- the last move was handed over once more
+record HasAgain (stamp : Stamp) (number : ℕ) (last : Option Moves) (port port' : PortFacts) : Type 0 where
+  pub spelling : IfSome last (HasSpelling stamp number)
+  pub passed : Passed port port' (again stamp port.addresses number last)
+
+has_again : (stamp : Stamp) (n number : ℕ) (last : Option Moves) (port port' : PortFacts) → n ≡ number → IfSome last (HasSpelling stamp n) → Passed port port' (again stamp port.addresses n last) → HasAgain stamp number last port port'
+has_again stamp n number last port port' e spelling passed = subst (λ k. HasAgain stamp k last port port') e (record { spelling = spelling; passed = passed })
+
+closes_so : (stamp : Stamp) (number : ℕ) (last : Option Moves) (old new : Known) (port mid port' : PortFacts) (end : Next) (h : HasEnded stamp old new mid port' end)
+    → HasAgain stamp (number - 1) last port mid
+    → (so_ends : End) → ((count : ℕ) → so_ends ≡ at_end.Open count → HasWaited h.came) → ((all : List Passing) → ComesTo stamp all new end → ClosesSo stamp number all so_ends) → Closes stamp number last old port port' so_ends
+closes_so stamp number last old new port mid port' end h sent so_ends waits so =
+    let handed : List Passing = again stamp port.addresses (number - 1) last in record {
+      came = h.came;
+      spelling = sent.spelling;
+      received = h.received;
+      waited = waits;
+      passed = Passed-trans port mid port' handed h.came sent.passed h.passed;
+      stands = λ before k. so (before ++ (handed ++ h.came)) (subst (λ l. ComesTo stamp l new end) (append_assoc before handed h.came) (h.learns (before ++ handed) (knows_past stamp before handed old (again_reports_nothing stamp port.addresses (number - 1) last) k)));
+    }
 
 has_waited : (came : List Passing) (known : Known) → is_ruled known ≡ false → HasWaited came ⊎ (is_ruled known ≡ true) → HasWaited came
 has_waited came known open_yet (inl w) = w
 has_waited came known open_yet (inr ruled) = absurd cc
 
-pub closes_waited : (stamp : Stamp) (number : ℕ) (old new : Known) (port port' : PortFacts) (end : End) → HasEnded stamp old new port port' next.Waited → EndsAt number new end → Closes stamp number old port port' end
-closes_waited stamp number old new port port' end h ends =
-    closes_so stamp number old new port port' next.Waited h end (λ count is. has_waited h.came new (ends.0 count is) h.waits) (λ before k. ends.1 stamp (before ++ h.came) (h.learns before k))
+ended_waiting : (stamp : Stamp) (old new : Known) (port port' : PortFacts) (end : Next) → (end ≡ next.GoesOn) ⊎ (end ≡ next.Waited) → HasEnded stamp old new port port' end → HasEnded stamp old new port port' next.Waited
+ended_waiting stamp old new port port' end (inl e) h = let never = subst (HasEnded stamp old new port port') e h in absurd never.waits
+ended_waiting stamp old new port port' end (inr e) h = subst (HasEnded stamp old new port port') e h
 
-pub closes_clashed : (stamp : Stamp) (number : ℕ) (old new : Known) (port port' : PortFacts) (c : Clash) → HasEnded stamp old new port port' (next.Clashed c) → Closes stamp number old port port' (at_end.Clashed c)
-closes_clashed stamp number old new port port' c h = closes_so stamp number old new port port' (next.Clashed c) h (at_end.Clashed c) (λ count is. cc) h.learns
+pub closes_waited : (stamp : Stamp) (n number : ℕ) (last : Option Moves) (old new : Known) (port mid port' : PortFacts) (next' : Next) (end : End) → n ≡ number - 1 → IfSome last (HasSpelling stamp n) → Passed port mid (again stamp port.addresses n last) → (next' ≡ next.GoesOn) ⊎ (next' ≡ next.Waited) → HasEnded stamp old new mid port' next' → EndsAt number new end → Closes stamp number last old port port' end
+closes_waited stamp n number last old new port mid port' next' end e spelling sent is ended ends =
+    let h = ended_waiting stamp old new mid port' next' is ended in
+    closes_so stamp number last old new port mid port' next.Waited h (has_again stamp n (number - 1) last port mid e spelling sent) end (λ count is_open. has_waited h.came new (ends.0 count is_open) h.waits) (λ all k. ends.1 stamp all k)
 
-pub closes_missed : (stamp : Stamp) (number : ℕ) (old new : Known) (port port' : PortFacts) → HasEnded stamp old new port port' next.PortLost → Closes stamp number old port port' at_end.PortLost
-closes_missed stamp number old new port port' h = closes_so stamp number old new port port' next.PortLost h at_end.PortLost (λ count is. cc) h.learns
+pub closes_clashed : (stamp : Stamp) (n number : ℕ) (last : Option Moves) (old new : Known) (port mid port' : PortFacts) (c : Clash) → n ≡ number - 1 → IfSome last (HasSpelling stamp n) → Passed port mid (again stamp port.addresses n last) → HasEnded stamp old new mid port' (next.Clashed c) → Closes stamp number last old port port' (at_end.Clashed c)
+closes_clashed stamp n number last old new port mid port' c e spelling sent h = closes_so stamp number last old new port mid port' (next.Clashed c) h (has_again stamp n (number - 1) last port mid e spelling sent) (at_end.Clashed c) (λ count is. cc) (λ all k. k)
+
+pub closes_missed : (stamp : Stamp) (n number : ℕ) (last : Option Moves) (old new : Known) (port mid port' : PortFacts) → n ≡ number - 1 → IfSome last (HasSpelling stamp n) → Passed port mid (again stamp port.addresses n last) → HasEnded stamp old new mid port' next.PortLost → Closes stamp number last old port port' at_end.PortLost
+closes_missed stamp n number last old new port mid port' e spelling sent h = closes_so stamp number last old new port mid port' next.PortLost h (has_again stamp n (number - 1) last port mid e spelling sent) at_end.PortLost (λ count is. cc) (λ all k. k)
 
 -- ---- how a game stands at the input's end
 
@@ -208,26 +258,28 @@ in_turn_more g a b [] t h k = (subst (λ at. IsAckedTurn g at t) h k, refl)
 in_turn_more g a b (s ∷ ts) t h k = (h.0, in_turn_more g s.after b ts t h.1 k)
 
 -- so many moves are acknowledged, and the run goes on
-pub record HasSent (g : Game) (start : Parts) (input0 input : Option (List ℕ)) (position : Parts) (known : Known) (port0 port : PortFacts) (k : ℕ) : Type 0 where
+pub record HasSent (g : Game) (start : Parts) (input0 input : Option (List ℕ)) (course : Course) (port0 port : PortFacts) (k : ℕ) : Type 0 where
   pub turns : List AckedMove
   pub moves : List Moves
   pub passed : List Passing
-  pub in_turn : InTurn g (record { input = input0; position = start; moves = []; passed = [] }) turns (record { input = input; position = position; moves = moves; passed = passed })
-  pub knows : Knows g.stamp passed known
+  pub in_turn : InTurn g (record { input = input0; position = start; moves = []; passed = [] }) turns (record { input = input; position = course.position; moves = moves; passed = passed })
+  pub knows : Knows g.stamp passed course.known
+  pub last : course.last ≡ last_of moves
   pub count : k ≡ length moves
   pub room : k ≤ most_moves
   pub at_port : Passed port0 port passed
   pub source : OnlyHands g.stamp moves passed
 
-pub sent_none : (g : Game) (start : Parts) (input out : Option (List ℕ)) (known : Known) (port : PortFacts) → known ≡ record { a = record { count = 0; ruling = None }; b = record { count = 0; ruling = None } } → (h : HasSent g start input input start known port port 0) × Appends out out (text_of (map line_of h.turns))
+sent_nothing : (g : Game) (start : Parts) (input out : Option (List ℕ)) (port : PortFacts) → (h : HasSent g start input input (begun_at start) port port 0) × Appends out out (text_of (map line_of h.turns))
 unfolding InTurn
-sent_none g start input out known port is = (
+sent_nothing g start input out port = (
   record {
     turns = [];
     moves = [];
     passed = [];
     in_turn = refl;
-    knows = subst (Knows g.stamp []) (sym is) (knows_nothing g.stamp);
+    knows = knows_nothing g.stamp;
+    last = refl;
     count = refl;
     room = omega arith;
     at_port = Passed-nil port;
@@ -236,14 +288,22 @@ sent_none g start input out known port is = (
   Appends-nil out,
 )
 
-pub same_game : (unreadable : Type 0) (g : Game) (n : ℕ) (at : At) (input : Option (List ℕ)) (position : Parts) (known : Known) (port port' : PortFacts) (o : Option End) → n ≡ g.addresses → StepsSo unreadable (record { stamp = g.stamp; addresses = n; most = g.most }) at input position known port port' o → StepsSo unreadable g at input position known port port' o
-same_game unreadable g n at input position known port port' o e h = subst (λ k. StepsSo unreadable (record { stamp = g.stamp; addresses = k; most = g.most }) at input position known port port' o) e h
+sent_none : (g : Game) (start : Parts) (input out : Option (List ℕ)) (course : Course) (port : PortFacts) → course ≡ begun_at start → (h : HasSent g start input input course port port 0) × Appends out out (text_of (map line_of h.turns))
+sent_none g start input out course port is = subst (λ c. (h : HasSent g start input input c port port 0) × Appends out out (text_of (map line_of h.turns))) (sym is) (sent_nothing g start input out port)
+
+same_game : (cause : ReadFault → Type 0) (g : Game) (n : ℕ) (at : At) (input : Option (List ℕ)) (course : Course) (port port' : PortFacts) (o : Option End) → n ≡ g.addresses → StepsSo cause (record { stamp = g.stamp; addresses = n; most = g.most }) at input course port port' o → StepsSo cause g at input course port port' o
+same_game cause g n at input course port port' o e h = subst (λ k. StepsSo cause (record { stamp = g.stamp; addresses = k; most = g.most }) at input course port port' o) e h
+
+last_now : (moves : List Moves) (m : Moves) → Some m ≡ last_of (moves ++ m ∷ [])
+last_now moves m =
+    let counted : length (moves ++ m ∷ []) - 1 ≡ length moves = omega (arith, length-append moves (m ∷ [])) in
+    sym (ap (slice_get (moves ++ m ∷ [])) counted ∙ get_last moves m)
 
 -- one more
-pub sent_more : (unreadable : Type 0) (g : Game) (start : Parts) (input0 input1 input2 : Option (List ℕ)) (p1 p2 : Parts) (known1 known2 : Known) (port0 port1 port2 : PortFacts) (k : ℕ) (h : HasSent g start input0 input1 p1 known1 port0 port1 k) → StepsSo unreadable g (record { input = input1; position = p1; moves = h.moves; passed = h.passed }) input2 p2 known2 port1 port2 None → (n : HasSent g start input0 input2 p2 known2 port0 port2 (k + 1)) × (map line_of n.turns ≡ map line_of h.turns ++ acked_words (k + 1) ∷ [])
+sent_more : (cause : ReadFault → Type 0) (g : Game) (start : Parts) (input0 input1 input2 : Option (List ℕ)) (c1 c2 : Course) (port0 port1 port2 : PortFacts) (k : ℕ) (h : HasSent g start input0 input1 c1 port0 port1 k) → StepsSo cause g (record { input = input1; position = c1.position; moves = h.moves; passed = h.passed }) input2 c2 port1 port2 None → (n : HasSent g start input0 input2 c2 port0 port2 (k + 1)) × (map line_of n.turns ≡ map line_of h.turns ++ acked_words (k + 1) ∷ [])
 unfolding StepsSo
-sent_more unreadable g start input0 input1 input2 p1 p2 known1 known2 port0 port1 port2 k h (t, acked, is_input, is_position, passed, knows) =
-    let at : At = record { input = input1; position = p1; moves = h.moves; passed = h.passed } in
+sent_more cause g start input0 input1 input2 c1 c2 port0 port1 port2 k h (t, acked, is_input, is_position, is_last, passed, knows) =
+    let at : At = record { input = input1; position = c1.position; moves = h.moves; passed = h.passed } in
     let counted = h.count in
     let room = acked.room in
     let longer : length t.after.moves ≡ k + 1 = ap length acked.moves ∙ length-append h.moves (t.move ∷ []) ∙ ap (λ n. n + 1) (sym h.count) in
@@ -252,10 +312,11 @@ sent_more unreadable g start input0 input1 input2 p1 p2 known1 known2 port0 port
         turns = h.turns ++ t ∷ [];
         moves = t.after.moves;
         passed = t.after.passed;
-        in_turn = subst (λ i. InTurn g (record { input = input0; position = start; moves = []; passed = [] }) (h.turns ++ t ∷ []) (record { input = i; position = p2; moves = t.after.moves; passed = t.after.passed })) is_input
+        in_turn = subst (λ i. InTurn g (record { input = input0; position = start; moves = []; passed = [] }) (h.turns ++ t ∷ []) (record { input = i; position = c2.position; moves = t.after.moves; passed = t.after.passed })) is_input
             (subst (λ p. InTurn g (record { input = input0; position = start; moves = []; passed = [] }) (h.turns ++ t ∷ []) (record { input = t.after.input; position = p; moves = t.after.moves; passed = t.after.passed })) is_position
             (in_turn_more g (record { input = input0; position = start; moves = []; passed = [] }) at h.turns t h.in_turn acked));
         knows = knows;
+        last = sym is_last ∙ last_now h.moves t.move ∙ ap last_of (sym acked.moves);
         count = sym longer;
         room = omega arith;
         at_port = subst (Passed port0 port2) (sym acked.passed) (Passed-trans port0 port1 port2 h.passed sent h.at_port passed);
@@ -265,9 +326,9 @@ sent_more unreadable g start input0 input1 input2 p1 p2 known1 known2 port0 port
     )
 
 -- the writer failed
-pub run_cut : (unreadable : Type 0) (g : Game) (start : Parts) (input0 input : Option (List ℕ)) (position : Parts) (known : Known) (port0 port : PortFacts) (k : ℕ) (h : HasSent g start input0 input position known port0 port k) → (s : Sending) × IsSending unreadable g start input0 input port0 port s × (s.turns ≡ h.turns) × (s.end ≡ None)
-run_cut unreadable g start input0 input position known port0 port k h = (
-  record { turns = h.turns; at = record { input = input; position = position; moves = h.moves; passed = h.passed }; sent = []; more = []; end = None },
+run_cut : (cause : ReadFault → Type 0) (g : Game) (start : Parts) (input0 input : Option (List ℕ)) (course : Course) (port0 port : PortFacts) (k : ℕ) (h : HasSent g start input0 input course port0 port k) → (s : Sending) × IsSending cause g start input0 input port0 port s × (s.turns ≡ h.turns) × (s.end ≡ None)
+run_cut cause g start input0 input course port0 port k h = (
+  record { turns = h.turns; at = record { input = input; position = course.position; moves = h.moves; passed = h.passed }; sent = []; more = []; end = None },
   record {
     turns = h.in_turn;
     last = (refl, refl);
@@ -286,59 +347,122 @@ nothing_hands stamp moves sent all more no_moves none h =
 none_handed : (came : List Passing) (to : ℕ) (bytes : List ℕ) → AllByRecursion IsReceived came → Contains came (Handed to bytes) → ⊥
 none_handed came to bytes h in' = All-contains IsReceived came (Handed to bytes) (All-from_recursion IsReceived came h) in'
 
-received_hands : (stamp : Stamp) (moves sent : List Moves) (all more : List Passing) → sent ≡ [] → AllByRecursion IsReceived more → OnlyHands stamp moves all → OnlyHands stamp (moves ++ sent) (all ++ more)
-received_hands stamp moves sent all more no_moves received h = subst (λ l. OnlyHands stamp (moves ++ l) (all ++ more)) (sym no_moves) (subst (λ l. OnlyHands stamp l (all ++ more)) (sym (append-nil moves)) still)
-  where
-    still : OnlyHands stamp moves (all ++ more)
-    still to bytes in' = elim (Contains-append_cases all more (Handed to bytes) in') [ inl before ↦ h to bytes before | inr now ↦ absurd (none_handed more to bytes received now) ]
+-- the last move, handed over once more, and what is received
+again_hands : (stamp : Stamp) (addresses : ℕ) (moves : List Moves) (last : Option Moves) → last_of moves ≡ last → IfSome last (HasSpelling stamp (length moves - 1)) → OnlyHands stamp moves (again stamp addresses (length moves - 1) last)
+again_hands stamp addresses moves None is say to bytes in' = let lt = in'.1 in absurd (omega arith)
+again_hands stamp addresses moves (Some m) is say to bytes in' =
+    let its : List ℕ = message_text (move_message stamp (length moves - 1) m) in
+    (length moves - 1, m, is, subst (λ b. SpellsMessage b (move_message stamp (length moves - 1) m)) (sym (hands_bytes its (to_each addresses its) to bytes (each_hands addresses its) in')) say)
 
-ended_hands : (unreadable : Type 0) (g : Game) (at : At) (input : Option (List ℕ)) (sent : List Moves) (more : List Passing) (end : End) → EndsWith unreadable g at input sent more end → OnlyHands g.stamp at.moves at.passed → OnlyHands g.stamp (at.moves ++ sent) (at.passed ++ more)
-ended_hands unreadable g at input sent more end (Unread no_moves none why) h = nothing_hands g.stamp at.moves sent at.passed more no_moves none h
-ended_hands unreadable g at input sent more end (Refused line no_moves none read why) h = nothing_hands g.stamp at.moves sent at.passed more no_moves none h
-ended_hands unreadable g at input sent more end (Closed no_moves done closed) h = received_hands g.stamp at.moves sent at.passed more no_moves closed.received h
-ended_hands unreadable g at input sent more end (Sent t is) h =
+hands_join : (stamp : Stamp) (moves : List Moves) (xs ys : List Passing) → OnlyHands stamp moves xs → OnlyHands stamp moves ys → OnlyHands stamp moves (xs ++ ys)
+hands_join stamp moves xs ys h k to bytes in' = elim (Contains-append_cases xs ys (Handed to bytes) in') [ inl first ↦ h to bytes first | inr second ↦ k to bytes second ]
+
+closed_hands : (g : Game) (moves sent : List Moves) (all more : List Passing) (end : End) → sent ≡ [] → IsClosed g moves all more end → OnlyHands g.stamp moves all → OnlyHands g.stamp (moves ++ sent) (all ++ more)
+closed_hands g moves sent all more end no_moves closed h =
+    let handed : List Passing = again g.stamp g.addresses (length moves - 1) (last_of moves) in
+    let heard : OnlyHands g.stamp moves closed.came = λ to bytes in'. absurd (none_handed closed.came to bytes closed.received in') in
+    let now : OnlyHands g.stamp moves (handed ++ closed.came) = hands_join g.stamp moves handed closed.came (again_hands g.stamp g.addresses moves (last_of moves) refl closed.spelling) heard in
+    subst (λ l. OnlyHands g.stamp (moves ++ l) (all ++ more)) (sym no_moves)
+    (subst (λ l. OnlyHands g.stamp l (all ++ more)) (sym (append-nil moves))
+    (subst (λ l. OnlyHands g.stamp moves (all ++ l)) (sym closed.passed)
+    (hands_join g.stamp moves all (handed ++ closed.came) h now)))
+
+ended_hands : (cause : ReadFault → Type 0) (g : Game) (at : At) (input : Option (List ℕ)) (sent : List Moves) (more : List Passing) (end : End) → EndsWith cause g at input sent more end → OnlyHands g.stamp at.moves at.passed → OnlyHands g.stamp (at.moves ++ sent) (at.passed ++ more)
+ended_hands cause g at input sent more end (Unread no_moves none why) h = nothing_hands g.stamp at.moves sent at.passed more no_moves none h
+ended_hands cause g at input sent more end (Refused line no_moves none read why) h = nothing_hands g.stamp at.moves sent at.passed more no_moves none h
+ended_hands cause g at input sent more end (Closed no_moves done closed) h = closed_hands g at.moves sent at.passed more end no_moves closed h
+ended_hands cause g at input sent more end (Sent t is) h =
     subst (λ l. OnlyHands g.stamp (at.moves ++ l) (at.passed ++ more)) (sym t.only) (subst (λ l. OnlyHands g.stamp (at.moves ++ t.move ∷ []) (at.passed ++ l)) (sym t.passed) (hands_more g.stamp g.addresses at.moves t.move at.passed t.tries h t.spelling t.are.1))
 
-pub run_ended : (unreadable : Type 0) (g : Game) (start : Parts) (input0 input1 input2 : Option (List ℕ)) (p1 p2 : Parts) (known1 known2 : Known) (port0 port1 port2 : PortFacts) (k : ℕ) (end : End) (h : HasSent g start input0 input1 p1 known1 port0 port1 k) → StepsSo unreadable g (record { input = input1; position = p1; moves = h.moves; passed = h.passed }) input2 p2 known2 port1 port2 (Some end) → (s : Sending) × IsSending unreadable g start input0 input2 port0 port2 s × (s.turns ≡ h.turns) × (s.end ≡ Some end)
+run_ended : (cause : ReadFault → Type 0) (g : Game) (start : Parts) (input0 input1 input2 : Option (List ℕ)) (c1 c2 : Course) (port0 port1 port2 : PortFacts) (k : ℕ) (end : End) (h : HasSent g start input0 input1 c1 port0 port1 k) → StepsSo cause g (record { input = input1; position = c1.position; moves = h.moves; passed = h.passed }) input2 c2 port1 port2 (Some end) → (s : Sending) × IsSending cause g start input0 input2 port0 port2 s × (s.turns ≡ h.turns) × (s.end ≡ Some end)
 unfolding StepsSo
-run_ended unreadable g start input0 input1 input2 p1 p2 known1 known2 port0 port1 port2 k end h (sent, more, ends, passed) =
-    let at : At = record { input = input1; position = p1; moves = h.moves; passed = h.passed } in (
+run_ended cause g start input0 input1 input2 c1 c2 port0 port1 port2 k end h (sent, more, ends, passed) =
+    let at : At = record { input = input1; position = c1.position; moves = h.moves; passed = h.passed } in (
       record { turns = h.turns; at = at; sent = sent; more = more; end = Some end },
       record {
         turns = h.in_turn;
         last = ends;
         passed = Passed-trans port0 port1 port2 h.passed more h.at_port passed;
-        source = ended_hands unreadable g at input2 sent more end ends h.source;
+        source = ended_hands cause g at input2 sent more end ends h.source;
       },
       refl,
       refl,
     )
 
 -- what can't be read here can't be read there
-still_last : (U V : Type 0) (g : Game) (at : At) (input : Option (List ℕ)) (sent : List Moves) (more : List Passing) (o : Option End) → (U → V) → EndsIfAny U g at input sent more o → EndsIfAny V g at input sent more o
+still_last : (U V : ReadFault → Type 0) (g : Game) (at : At) (input : Option (List ℕ)) (sent : List Moves) (more : List Passing) (o : Option End) → ((fault : ReadFault) → U fault → V fault) → EndsIfAny U g at input sent more o → EndsIfAny V g at input sent more o
 still_last U V g at input sent more None f h = h
 still_last U V g at input sent more (Some end) f h = still_ends U V g at input sent more end f h
 
-pub still_sending : (U V : Type 0) (g : Game) (start : Parts) (input input' : Option (List ℕ)) (port port' : PortFacts) (s : Sending) → (U → V) → IsSending U g start input input' port port' s → IsSending V g start input input' port port' s
+pub still_sending : (U V : ReadFault → Type 0) (g : Game) (start : Parts) (input input' : Option (List ℕ)) (port port' : PortFacts) (s : Sending) → ((fault : ReadFault) → U fault → V fault) → IsSending U g start input input' port port' s → IsSending V g start input input' port port' s
 still_sending U V g start input input' port port' s f h = record { turns = h.turns; last = still_last U V g s.at input' s.sent s.more s.end f h.last; passed = h.passed; source = h.source }
 
 -- ---- what is written
 
-pub written_more : (old mid new : Option (List ℕ)) (first all : List (List ℕ)) (one : List ℕ) → all ≡ first ++ one ∷ [] → Appends old mid (text_of first) → Appends mid new (ended one) → Appends old new (text_of all)
+written_more : (old mid new : Option (List ℕ)) (first all : List (List ℕ)) (one : List ℕ) → all ≡ first ++ one ∷ [] → Appends old mid (text_of first) → Appends mid new (ended one) → Appends old new (text_of all)
 written_more old mid new first all one e p q = subst (λ (l : List (List ℕ)). Appends old new (text_of l)) (sym e) (more_lines old mid new first one p q)
 
 last_line : (s : Sending) (turns : List AckedMove) (end : End) → s.turns ≡ turns → s.end ≡ Some end → lines_of s ≡ map line_of turns ++ end_words end ∷ []
 last_line s turns end same is = ap (λ ts. map line_of ts ++ last_lines s.end) same ∙ ap (λ o. map line_of turns ++ last_lines o) is
 
 -- a run that the writer cut short has no last line
-pub no_last : (s : Sending) (turns : List AckedMove) (lines : List (List ℕ)) → s.turns ≡ turns → s.end ≡ None → map line_of turns ≡ lines → lines_of s ≡ lines
+no_last : (s : Sending) (turns : List AckedMove) (lines : List (List ℕ)) → s.turns ≡ turns → s.end ≡ None → map line_of turns ≡ lines → lines_of s ≡ lines
 no_last s turns lines same is e = ap (λ ts. map line_of ts ++ last_lines s.end) same ∙ ap (λ o. map line_of turns ++ last_lines o) is ∙ append-nil (map line_of turns) ∙ e
 
 -- at one more line the writer failed
-pub cut_at : {E : Type 0} (old mid new : Option (List ℕ)) (first all : List (List ℕ)) (one : List ℕ) (fault : E) → all ≡ first ++ one ∷ [] → Appends old mid (text_of first) → WritesFront {T = Unit {0}} mid new (ended one) (Err fault) → IsCut all old new
+cut_at : {E : Type 0} (old mid new : Option (List ℕ)) (first all : List (List ℕ)) (one : List ℕ) (fault : E) → all ≡ first ++ one ∷ [] → Appends old mid (text_of first) → WritesFront {T = Unit {0}} mid new (ended one) (Err fault) → IsCut all old new
 cut_at old mid new first all one fault e p (n, q) = record { earlier = first; last = one; front = n; all = e; written = Appends-trans old mid new (text_of first) (take n (ended one)) p q }
 
 -- the line of a run that ends was written, or not
-pub wrote_last : (s : Sending) (turns : List AckedMove) (end : End) (old mid new : Option (List ℕ)) (r : Result ℕ WriteFault) → s.turns ≡ turns → s.end ≡ Some end → Appends old mid (text_of (map line_of turns)) → IfOk r (λ status. status ≡ status_by end) → WritesFront mid new (ended (end_words end)) r → WritesLines s old new r
+wrote_last : (s : Sending) (turns : List AckedMove) (end : End) (old mid new : Option (List ℕ)) (r : Result ℕ WriteFault) → s.turns ≡ turns → s.end ≡ Some end → Appends old mid (text_of (map line_of turns)) → IfOk r (λ status. status ≡ status_by end) → WritesFront mid new (ended (end_words end)) r → WritesLines s old new r
 wrote_last s turns end old mid new (Ok status) same is p ok q = (end, is, ok, written_more old mid new (map line_of turns) (lines_of s) (end_words end) (last_line s turns end same is) p q)
 wrote_last s turns end old mid new (Err fault) same is p ok q = cut_at old mid new (map line_of turns) (lines_of s) (end_words end) fault (last_line s turns end same is) p q
+
+-- ---- the loop of a run
+
+abbrev pub game_at : Stamp → ℕ → PortFacts → Game
+game_at stamp most port = record { stamp = stamp; addresses = port.addresses; most = most }
+
+-- so many moves are acknowledged and their lines are written; what the reader tells of its faults now, it told at the beginning
+pub record Runs (F0 F M0 M : Type 0) (g : Game) (start : Parts) (input0 input : Option (List ℕ)) (course : Course) (port0 port : PortFacts) (out0 out : Option (List ℕ)) (k : ℕ) : Type 0 where
+  pub sent : HasSent g start input0 input course port0 port k
+  pub fails : F → F0
+  pub memory : M → M0
+  pub written : Appends out0 out (text_of (map line_of sent.turns))
+
+pub runs_none : (F M : Type 0) (g : Game) (start : Parts) (input out : Option (List ℕ)) (course : Course) (port : PortFacts) → course ≡ begun_at start → Runs F F M M g start input input course port port out out 0
+runs_none F M g start input out course port is = let n = sent_none g start input out course port is in record { sent = n.0; fails = λ f. f; memory = λ m. m; written = n.1 }
+
+-- how a step goes on from there
+stepped : (F0 F M0 M : Type 0) (stamp : Stamp) (most : ℕ) (start : Parts) (input0 input1 input2 : Option (List ℕ)) (c1 c2 : Course) (port0 port1 port2 : PortFacts) (out0 out : Option (List ℕ)) (k : ℕ) (o : Option End)
+    → (h : Runs F0 F M0 M (game_at stamp most port0) start input0 input1 c1 port0 port1 out0 out k) → Steps (causes F M) stamp most k input1 input2 c1 c2 port1 port2 o
+    → StepsSo (causes F0 M0) (game_at stamp most port0) (record { input = input1; position = c1.position; moves = h.sent.moves; passed = h.sent.passed }) input2 c2 port1 port2 o
+stepped F0 F M0 M stamp most start input0 input1 input2 c1 c2 port0 port1 port2 out0 out k o h steps =
+    let g = game_at stamp most port0 in
+    let at : At = record { input = input1; position = c1.position; moves = h.sent.moves; passed = h.sent.passed } in
+    still_steps (causes F M) (causes F0 M0) g at input2 c2 port1 port2 o (still_causes F F0 M M0 h.fails h.memory)
+    (same_game (causes F M) g port1.addresses at input2 c2 port1 port2 o h.sent.at_port.addresses (steps h.sent.passed h.sent.moves h.sent.knows h.sent.count h.sent.last))
+
+pub runs_more : (F0 F1 F2 M0 M1 M2 : Type 0) (stamp : Stamp) (most : ℕ) (start : Parts) (input0 input1 input2 : Option (List ℕ)) (c1 c2 : Course) (port0 port1 port2 : PortFacts) (out0 out1 out2 : Option (List ℕ)) (k : ℕ)
+    → Runs F0 F1 M0 M1 (game_at stamp most port0) start input0 input1 c1 port0 port1 out0 out1 k → Steps (causes F1 M1) stamp most k input1 input2 c1 c2 port1 port2 None → (F2 → F1) → (M2 → M1) → Appends out1 out2 (ended (acked_words (k + 1)))
+    → Runs F0 F2 M0 M2 (game_at stamp most port0) start input0 input2 c2 port0 port2 out0 out2 (k + 1)
+runs_more F0 F1 F2 M0 M1 M2 stamp most start input0 input1 input2 c1 c2 port0 port1 port2 out0 out1 out2 k h steps same room put =
+    let n = sent_more (causes F0 M0) (game_at stamp most port0) start input0 input1 input2 c1 c2 port0 port1 port2 k h.sent (stepped F0 F1 M0 M1 stamp most start input0 input1 input2 c1 c2 port0 port1 port2 out0 out1 k None h steps) in
+    record { sent = n.0; fails = λ f. h.fails (same f); memory = λ m. h.memory (room m); written = written_more out0 out1 out2 (map line_of h.sent.turns) (map line_of n.0.turns) (acked_words (k + 1)) n.1 h.written put }
+
+-- the line of a move couldn't be written
+pub runs_cut : (F0 F M0 M : Type 0) (stamp : Stamp) (most : ℕ) (start : Parts) (input0 input1 input2 : Option (List ℕ)) (c1 c2 : Course) (port0 port1 port2 : PortFacts) (out0 out1 out2 : Option (List ℕ)) (k : ℕ) (fault : WriteFault)
+    → Runs F0 F M0 M (game_at stamp most port0) start input0 input1 c1 port0 port1 out0 out1 k → Steps (causes F M) stamp most k input1 input2 c1 c2 port1 port2 None → WritesFront {T = Unit {0}} out1 out2 (ended (acked_words (k + 1))) (Err fault)
+    → (s : Sending) × IsSending (causes F0 M0) (game_at stamp most port0) start input0 input2 port0 port2 s × WritesLines s out0 out2 (Err fault)
+runs_cut F0 F M0 M stamp most start input0 input1 input2 c1 c2 port0 port1 port2 out0 out1 out2 k fault h steps put =
+    let n = sent_more (causes F0 M0) (game_at stamp most port0) start input0 input1 input2 c1 c2 port0 port1 port2 k h.sent (stepped F0 F M0 M stamp most start input0 input1 input2 c1 c2 port0 port1 port2 out0 out1 k None h steps) in
+    let s = run_cut (causes F0 M0) (game_at stamp most port0) start input0 input2 c2 port0 port2 (k + 1) n.0 in
+    (s.0, s.1, cut_at out0 out1 out2 (map line_of h.sent.turns) (lines_of s.0) (acked_words (k + 1)) fault (no_last s.0 n.0.turns (map line_of h.sent.turns ++ acked_words (k + 1) ∷ []) s.2 s.3 n.1) h.written put)
+
+-- the run ended, and its line was written or not
+pub runs_ended : (F0 F M0 M : Type 0) (stamp : Stamp) (most : ℕ) (start : Parts) (input0 input1 input2 : Option (List ℕ)) (c1 c2 : Course) (port0 port1 port2 : PortFacts) (out0 out1 out2 : Option (List ℕ)) (k : ℕ) (end : End) (r : Result ℕ WriteFault)
+    → Runs F0 F M0 M (game_at stamp most port0) start input0 input1 c1 port0 port1 out0 out1 k → Steps (causes F M) stamp most k input1 input2 c1 c2 port1 port2 (Some end) → IfOk r (λ status. status ≡ status_by end) → WritesFront out1 out2 (ended (end_words end)) r
+    → (s : Sending) × IsSending (causes F0 M0) (game_at stamp most port0) start input0 input2 port0 port2 s × WritesLines s out0 out2 r
+runs_ended F0 F M0 M stamp most start input0 input1 input2 c1 c2 port0 port1 port2 out0 out1 out2 k end r h steps ok put =
+    let s = run_ended (causes F0 M0) (game_at stamp most port0) start input0 input1 input2 c1 c2 port0 port1 port2 k end h.sent (stepped F0 F M0 M stamp most start input0 input1 input2 c1 c2 port0 port1 port2 out0 out1 k (Some end) h steps) in
+    (s.0, s.1, wrote_last s.0 h.sent.turns end out0 out1 out2 r s.2 s.3 h.written ok put)

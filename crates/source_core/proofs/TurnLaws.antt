@@ -12,6 +12,7 @@ use Rattle.source_core.specs.declared.turn.Turn.{Turn}
 use Rattle.source_core.specs.declared.turn.Turn.TheVariants as at_turn
 use Rattle.system_io.specs.Ports.{Passing, Handed, PortFacts, Passed, to_each}
 use Rattle.source_core.specs.Reports.{Knows}
+use Rattle.source_core.specs.Sendings.{again}
 use Rattle.source_core.specs.Turns.{ComesTo, HasWaited, IsReceived, HasSpelling, IsTurn, Learns, most_answers, one_try, move_message, tries_of}
 use Rattle.source_core.specs.Inside.Steps.{EndsIf, HasEnded, HasTriedOnce, IsLast, TryLearns, TryWaits, Waits, is_ruled, loss_by}
 use Rattle.source_core.proofs.PortLaws.{Passed-nil, Passed-trans}
@@ -65,10 +66,14 @@ pub ended_full : (stamp : Stamp) (old new : Known) (port port' : PortFacts) (k :
 ended_full stamp old new port port' k h full = record { came = h.came; received = h.received; passed = h.passed; waits = inl (inr (h.count ∙ full)); learns = h.learned }
 
 -- what is handed over reports nothing
-handed_reports_nothing : (stamp : Stamp) (n : ℕ) (bytes : List ℕ) → AllByRecursion (ReportsNothing stamp) (to_each n bytes)
+pub handed_reports_nothing : (stamp : Stamp) (n : ℕ) (bytes : List ℕ) → AllByRecursion (ReportsNothing stamp) (to_each n bytes)
 unfolding to_each
 handed_reports_nothing stamp zero bytes = tt
 handed_reports_nothing stamp (suc n) bytes = all_more (ReportsNothing stamp) (to_each n bytes) (Handed n bytes) (handed_reports_nothing stamp n bytes) (λ its s is spells. cc)
+
+pub again_reports_nothing : (stamp : Stamp) (addresses number : ℕ) (last : Option Moves) → AllByRecursion (ReportsNothing stamp) (again stamp addresses number last)
+again_reports_nothing stamp addresses number None = tt
+again_reports_nothing stamp addresses number (Some m) = handed_reports_nothing stamp addresses (message_text (move_message stamp number m))
 
 -- a try: the datagram is handed over for each address, and then this comes
 pub tried_once : (stamp : Stamp) (addresses : ℕ) (bytes : List ℕ) (old new : Known) (port mid port' : PortFacts) (end : Next) → Passed port mid (to_each addresses bytes) → HasEnded stamp old new mid port' end → HasTriedOnce stamp addresses bytes old new port port' (loss_by end)

@@ -1,5 +1,5 @@
 -- A run of a source: the moves of its input, one after the other (this project's own).
-use Rattle.std.specs.Prelude.{◌≡◌, ◌≤◌, ◌<◌, ◌++◌, ℕ, List, [], ◌∷◌, length, map, slice_get, Option, Some, None, Result, Ok, Err}
+use Rattle.std.specs.Prelude.{◌≡◌, ◌≤◌, ◌<◌, ◌-◌, ◌++◌, ℕ, List, [], ◌∷◌, length, map, slice_get, Option, Some, None, IfSome, Result, Ok, Err}
 use Rattle.std.specs.List.{AllByRecursion, Contains}
 use Rattle.std.specs.Io.KnownBytes.{Appends, IsAtEnd}
 use Rattle.board_core.specs.declared.moves.Move.{Move as Moves}
@@ -11,8 +11,10 @@ use Rattle.move_msg.specs.Messages.{SpellsMessage, message_text}
 use Rattle.move_msg.specs.Numbers.{most_moves}
 use Rattle.move_msg.specs.TextLines.{text_of}
 use Rattle.system_io.specs.declared.output.WriteFault.{WriteFault}
+use Rattle.system_io.specs.declared.reading.ReadFault.{ReadFault}
+use Rattle.system_io.specs.declared.reading.ReadFault.TheVariants as fault
 use Rattle.system_io.specs.LineReaders.{ReadsLine}
-use Rattle.system_io.specs.Ports.{Passing, Handed, Missed, PortFacts, Passed}
+use Rattle.system_io.specs.Ports.{Passing, Handed, Missed, PortFacts, Passed, to_each}
 use Rattle.source_core.specs.declared.report.Ruling.{Ruling}
 use Rattle.source_core.specs.declared.lines.End.{End}
 use Rattle.source_core.specs.declared.lines.End.TheVariants as at_end
@@ -107,18 +109,23 @@ IsRefusedLine position number line at_end.PortLost = ⊥
 IsRefusedLine position number line at_end.Unread = ⊥
 IsRefusedLine position number line at_end.OutOfMemory = ⊥
 
+-- what an input tells of why a read fails: it can't be read to its end; or reading on takes memory, which may be refused
+abbrev pub causes : Type 0 → Type 0 → ReadFault → Type 0
+causes fails takes_memory fault.Unreadable = fails
+causes fails takes_memory fault.OutOfMemory = takes_memory
+
 -- why no line is read: the input can't be read to its end, or memory for the line was refused
-abbrev pub IsUnread : Type 0 → End → Type 0
-IsUnread unreadable (at_end.Open count) = ⊥
-IsUnread unreadable (at_end.Ruled r) = ⊥
-IsUnread unreadable (at_end.Clashed c) = ⊥
-IsUnread unreadable (at_end.NotAMove place) = ⊥
-IsUnread unreadable (at_end.Illegal place) = ⊥
-IsUnread unreadable at_end.TooLong = ⊥
-IsUnread unreadable at_end.Lost = ⊥
-IsUnread unreadable at_end.PortLost = ⊥
-IsUnread unreadable at_end.Unread = unreadable
-IsUnread unreadable at_end.OutOfMemory = Unit {0}
+abbrev pub IsUnread : (ReadFault → Type 0) → End → Type 0
+IsUnread cause (at_end.Open count) = ⊥
+IsUnread cause (at_end.Ruled r) = ⊥
+IsUnread cause (at_end.Clashed c) = ⊥
+IsUnread cause (at_end.NotAMove place) = ⊥
+IsUnread cause (at_end.Illegal place) = ⊥
+IsUnread cause at_end.TooLong = ⊥
+IsUnread cause at_end.Lost = ⊥
+IsUnread cause at_end.PortLost = ⊥
+IsUnread cause at_end.Unread = cause fault.Unreadable
+IsUnread cause at_end.OutOfMemory = cause fault.OutOfMemory
 
 -- how a game stands at the input's end, by all that has passed: open after so many moves, where no verdict was reported by both
 abbrev pub ClosesSo : Stamp → ℕ → List Passing → End → Type 0
@@ -133,26 +140,39 @@ ClosesSo stamp number all at_end.PortLost = Contains all Missed
 ClosesSo stamp number all at_end.Unread = ⊥
 ClosesSo stamp number all at_end.OutOfMemory = ⊥
 
--- after the input's end nothing more is sent, and what comes in time is received
-pub record IsClosed (stamp : Stamp) (number : ℕ) (before more : List Passing) (end : End) : Type 0 where
-  pub received : AllByRecursion IsReceived more
-  pub waited : (count : ℕ) → end ≡ at_end.Open count → HasWaited more
-  pub stands : ClosesSo stamp number (before ++ more) end
+-- the last of the moves
+abbrev pub last_of : List Moves → Option Moves
+last_of moves = slice_get moves (length moves - 1)
+
+-- the move with this number, if there is one, is handed over for each address
+abbrev pub again : Stamp → ℕ → ℕ → Option Moves → List Passing
+again stamp addresses number None = []
+again stamp addresses number (Some m) = to_each addresses (message_text (move_message stamp number m))
+
+-- After the input's end the last acknowledged move is handed over once more: an arbiter answers it with its count and its verdict,
+-- if it has one. Then what comes in time is received, and nothing more is sent.
+pub record IsClosed (g : Game) (moves : List Moves) (before more : List Passing) (end : End) : Type 0 where
+  pub came : List Passing
+  pub spelling : IfSome (last_of moves) (HasSpelling g.stamp (length moves - 1))
+  pub passed : more ≡ again g.stamp g.addresses (length moves - 1) (last_of moves) ++ came
+  pub received : AllByRecursion IsReceived came
+  pub waited : (count : ℕ) → end ≡ at_end.Open count → HasWaited came
+  pub stands : ClosesSo g.stamp (length moves) (before ++ more) end
 
 -- with what a run ends, and what was sent and passed after the acknowledged moves
-pub data EndsWith (unreadable : Type 0) (g : Game) (at : At) (input : Option (List ℕ)) (sent : List Moves) (more : List Passing) (end : End) : Type 0 where
+pub data EndsWith (cause : ReadFault → Type 0) (g : Game) (at : At) (input : Option (List ℕ)) (sent : List Moves) (more : List Passing) (end : End) : Type 0 where
   -- no further line is read
-  Unread : sent ≡ [] → more ≡ [] → IsUnread unreadable end → EndsWith unreadable g at input sent more end
+  Unread : sent ≡ [] → more ≡ [] → IsUnread cause end → EndsWith cause g at input sent more end
   -- a line is read, and its move isn't sent
-  Refused : (line : List ℕ) → sent ≡ [] → more ≡ [] → ReadsLine at.input input line → IsRefusedLine at.position (length at.moves) line end → EndsWith unreadable g at input sent more end
+  Refused : (line : List ℕ) → sent ≡ [] → more ≡ [] → ReadsLine at.input input line → IsRefusedLine at.position (length at.moves) line end → EndsWith cause g at input sent more end
   -- the input has ended
-  Closed : sent ≡ [] → IsAtEnd at.input → IsClosed g.stamp (length at.moves) at.passed more end → EndsWith unreadable g at input sent more end
+  Closed : sent ≡ [] → IsAtEnd at.input → IsClosed g at.moves at.passed more end → EndsWith cause g at input sent more end
   -- one more move is sent
-  Sent : IsLastMove g at input sent more → IsSentLast g.stamp (length at.moves) (at.passed ++ more) end → EndsWith unreadable g at input sent more end
+  Sent : IsLastMove g at input sent more → IsSentLast g.stamp (length at.moves) (at.passed ++ more) end → EndsWith cause g at input sent more end
 
-abbrev pub EndsIfAny : Type 0 → Game → At → Option (List ℕ) → List Moves → List Passing → Option End → Type 0
-EndsIfAny unreadable g at input sent more None = (sent ≡ []) × (more ≡ [])
-EndsIfAny unreadable g at input sent more (Some end) = EndsWith unreadable g at input sent more end
+abbrev pub EndsIfAny : (ReadFault → Type 0) → Game → At → Option (List ℕ) → List Moves → List Passing → Option End → Type 0
+EndsIfAny cause g at input sent more None = (sent ≡ []) × (more ≡ [])
+EndsIfAny cause g at input sent more (Some end) = EndsWith cause g at input sent more end
 
 -- ---- all of it
 
@@ -176,9 +196,9 @@ all_passed s = s.at.passed ++ s.more
 abbrev pub all_moves : Sending → List Moves
 all_moves s = s.at.moves ++ s.sent
 
-pub record IsSending (unreadable : Type 0) (g : Game) (start : Parts) (input input' : Option (List ℕ)) (port port' : PortFacts) (s : Sending) : Type 0 where
+pub record IsSending (cause : ReadFault → Type 0) (g : Game) (start : Parts) (input input' : Option (List ℕ)) (port port' : PortFacts) (s : Sending) : Type 0 where
   pub turns : InTurn g (record { input = input; position = start; moves = []; passed = [] }) s.turns s.at
-  pub last : EndsIfAny unreadable g s.at input' s.sent s.more s.end
+  pub last : EndsIfAny cause g s.at input' s.sent s.more s.end
   pub passed : Passed port port' (all_passed s)
   -- one number never has two moves: this is what an arbiter's guarantee asks of a source
   pub source : OnlyHands g.stamp (all_moves s) (all_passed s)

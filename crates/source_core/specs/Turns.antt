@@ -1,6 +1,8 @@
 -- One move that is sent until the arbiters have acknowledged it (this project's own).
 use Rattle.std.specs.Prelude.{◌≡◌, ◌≤◌, ◌++◌, ◌⊎◌, ℕ, List, [], ◌∷◌, length}
 use Rattle.std.specs.List.{AllByRecursion, flat_map, Contains}
+use Rattle.std.specs.Duration.{as_nanos}
+use Rattle.std.specs.declared.time.Duration.{Duration}
 use Rattle.board_core.specs.declared.moves.Move.{Move as Moves}
 use Rattle.move_msg.specs.declared.stamp.Stamp.{Stamp}
 use Rattle.move_msg.specs.declared.who.Sender.TheVariants.{Source}
@@ -8,12 +10,14 @@ use Rattle.move_msg.specs.declared.message.Message.{Message}
 use Rattle.move_msg.specs.declared.message.Message.TheVariants.{Move}
 use Rattle.move_msg.specs.Messages.{SpellsMessage, message_text}
 use Rattle.source_core.specs.declared.known.Known.{Known}
+use Rattle.source_core.specs.declared.known.Standing.{Standing}
+use Rattle.source_core.specs.declared.known.Standing.TheVariants as standing
 use Rattle.source_core.specs.declared.turn.Next.{Next}
 use Rattle.source_core.specs.declared.turn.Next.TheVariants as next
 use Rattle.source_core.specs.declared.turn.Turn.{Turn}
 use Rattle.source_core.specs.declared.turn.Turn.TheVariants as at_turn
 use Rattle.system_io.specs.Ports.{Passing, Came, Quiet, Missed, Handed, PortFacts, Passed, to_each}
-use Rattle.source_core.specs.Reports.{Knows, IsAcked, IsRuled, IsClash, IsUnsettled}
+use Rattle.source_core.specs.Reports.{Knows, StandsSo, IsAcked, IsRuled, IsClash, IsUnsettled}
 
 -- the message by which the source sends the move with this number
 abbrev pub move_message : Stamp → ℕ → Moves → Message
@@ -37,6 +41,17 @@ most_answers = 256
 -- a try has waited until nothing came in time, or has received as many datagrams as it may
 abbrev pub HasWaited : List Passing → Type 0
 HasWaited came = ((before : List Passing) × (came ≡ before ++ Quiet ∷ [])) ⊎ (length came ≡ most_answers)
+
+-- how many nanoseconds a datagram is awaited, by how the move stands: as long as the terms say; where both have acknowledged the
+-- move, two milliseconds for the verdicts that may follow
+abbrev pub wait_by : Duration → Standing → ℕ
+wait_by wait standing.Acked = 2_000_000
+wait_by wait (standing.Ruled r) = as_nanos wait
+wait_by wait standing.Open = as_nanos wait
+
+-- so long the next datagram is awaited
+abbrev pub IsWait : Duration → ℕ → Known → Duration → Type 0
+IsWait wait number known result = (s : Standing) × StandsSo known number s × (as_nanos result ≡ wait_by wait s)
 
 -- one try: the move is handed over for each address, and then this came
 abbrev pub one_try : ℕ → List ℕ → List Passing → List Passing

@@ -1,6 +1,6 @@
 //! What a source knows of the arbiters' records.
 
-ghost use Rattle.std.specs.Prelude.{◌≡◌, ◌≢◌, ◌↔◌, ◌⊎◌, None, Some, IfSome, IfNone, IfErr, OnOk, IsTrue, max};
+ghost use Rattle.std.specs.Prelude.{◌≡◌, ◌≢◌, ◌⊎◌, None, Some, IfSome, IfNone, IfErr, OnOk};
 ghost use Rattle.source_core.specs.Reports.{Adds, Clashes, Fits, StandsSo, reported_by, with_reported};
 
 use crate::report::{Report, Ruling};
@@ -44,29 +44,15 @@ pub enum Standing {
     Open,
 }
 
-/// Whether two verdicts are one.
-fn is_same(a: Ruling, b: Ruling) -> bool
-    ensures { IsTrue result ↔ (a ≡ b) }
-{
-    a == b
-}
-
 /// The verdict that is known, where it is another one.
 fn other_than(known: Option<Ruling>, ruling: Ruling) -> Option<Ruling>
     ensures some { IfSome result (λ first. (known ≡ Some first) × (first ≢ ruling)) }
     ensures none { IfNone result (Fits known ruling) }
 {
     match known {
-        Some(first) if !is_same(first, ruling) => Some(first),
+        Some(first) if first != ruling => Some(first),
         _ => None,
     }
-}
-
-/// The greater of two numbers.
-fn greater(a: u32, b: u32) -> u32
-    ensures { result ≡ max a b }
-{
-    a.max(b)
 }
 
 impl Known {
@@ -130,11 +116,10 @@ impl Known {
         match report {
             Report::Acknowledges { who, count } => {
                 let before = self.reported_by(who);
-                let count = greater(before.count, count);
                 *self = self.with_reported(
                     who,
                     Reported {
-                        count,
+                        count: before.count.max(count),
                         ruling: before.ruling,
                     },
                 );

@@ -1,6 +1,6 @@
 //! What an arbiter of a game reports.
 
-ghost use Rattle.std.specs.Prelude.{◌≡◌, ◌↔◌, Some, IfSome, IsTrue};
+ghost use Rattle.std.specs.Prelude.{◌≡◌, Some, IfSome};
 ghost use Rattle.source_core.specs.Reports.{message_of};
 ghost use Rattle.move_msg.specs.Messages.{SpellsMessage};
 ghost use Rattle.move_msg.specs.declared.stamp.Stamp.{Stamp};
@@ -35,13 +35,6 @@ pub enum Report {
         /// The verdict.
         ruling: Ruling,
     },
-}
-
-/// Whether two stamps are one.
-fn is_same(a: Stamp, b: Stamp) -> bool
-    ensures { IsTrue result ↔ (a ≡ b) }
-{
-    a == b
 }
 
 /// What a message reports of a record, and the stamp of the game.
@@ -87,7 +80,7 @@ pub fn report_of(stamp: Stamp, datagram: &[u8]) -> Option<Report>
         Err(_) => return None,
     };
     match report_in(&message) {
-        Some((its, report)) if is_same(its, stamp) => Some(report),
+        Some((its, report)) if its == stamp => Some(report),
         _ => None,
     }
 }

@@ -1,10 +1,8 @@
 //! A run of a source.
 
-ghost use Rattle.std.specs.Prelude.{◌≡◌, ◌≤◌, IfOk, IfErr, IfSome, OnOk, Some};
-ghost use Rattle.board_core.specs.Moves.{Legal};
-ghost use Rattle.board_core.specs.declared.parts.Parts.{Parts};
-ghost use Rattle.source_core.specs.Sendings.{IsRefusedLine, IsSending, Sending, WritesLines};
-ghost use Rattle.source_core.specs.Inside.Steps.{Closes, EndsAt, IsPlayed, Steps, StepsOn, end_by};
+ghost use Rattle.std.specs.Prelude.{◌≡◌, ◌≤◌, IfOk, IfErr, OnOk};
+ghost use Rattle.source_core.specs.Sendings.{IsRefusedLine, IsSending, Sending, WritesLines, causes};
+ghost use Rattle.source_core.specs.Inside.Steps.{Closes, EndsAt, IsPlayed, Steps, StepsOn, begun_at, end_by};
 ghost use Rattle.system_io.specs.Outputs.{WritesFront};
 ghost use Rattle.source_core.specs.Lines.{end_words, status_by};
 ghost use Rattle.move_msg.specs.Numbers.{most_moves};
@@ -12,19 +10,33 @@ ghost use Rattle.move_msg.specs.TextLines.{ended};
 
 use crate::known::{Known, Standing};
 use crate::lines::{End, Line, put_now};
-use crate::turn::{Next, Terms, Turn, receive_all, take_turn};
+use crate::turn::{Next, Terms, Turn, receive_all, send_again, take_turn};
 use board_core::{Move, Position};
 use fen_text::read_move;
 use move_msg::MOST_MOVES;
 use std::alloc::Global;
 use system_io::{LineReader, Output, Port, ReadFault, WriteFault};
 
-/// The position after a move, if it is legal.
-fn played(position: &Position, m: &Move) -> Option<Position>
-    ensures legal { IfSome result (λ q. Legal position.now m.now q) }
-    ensures only { (q : Parts) → Legal position.now m.now q → result ≡ Some q }
+/// How far a game has come.
+#[derive(Drop)]
+struct Course {
+    /// The position after the acknowledged moves.
+    position: Position,
+    /// What the arbiters have reported.
+    known: Known,
+    /// The last of the acknowledged moves.
+    last: Option<Move>,
+}
+
+/// A game of which nothing is sent yet.
+fn begun_at(start: Position) -> Course
+    ensures { result ≡ begun_at start }
 {
-    position.play(*m)
+    Course {
+        position: start,
+        known: Known::nothing(),
+        last: None,
+    }
 }
 
 /// A line as a legal move of a position, and the position after it; the other answer is with what the run ends.
@@ -36,11 +48,12 @@ fn move_of(line: &[u8], position: &Position, number: u32) -> Result<(Move, Posit
     if number >= MOST_MOVES {
         return Err(End::TooLong);
     }
-    let Some(m) = read_move(line) else {
+    let read = read_move(line);
+    let Some(m) = &read else {
         return Err(End::NotAMove(number));
     };
-    match played(position, &m) {
-        Some(next) => Ok((m, next)),
+    match position.play(*m) {
+        Some(next) => Ok((*m, next)),
         None => Err(End::Illegal(number)),
     }
 }
@@ -63,18 +76,18 @@ fn send_line<P: Port>(
     terms: Terms,
     number: u32,
     line: &[u8],
-    position: &mut Position,
-    known: &mut Known,
+    course: &mut Course,
     port: &mut P,
 ) -> Option<End>
     requires { number ≤ most_moves }
-    ensures { StepsOn terms.stamp terms.tries number line.now position.old position.new known.old known.new (P.facts port.old) (P.facts port.new) result }
+    ensures { StepsOn terms.stamp terms.tries number line.now course.old course.new (P.facts port.old) (P.facts port.new) result }
 {
-    match move_of(line, position, number) {
-        Err(end) => Some(end),
+    match &move_of(line, &course.position, number) {
+        Err(end) => Some(*end),
         Ok((m, next)) => {
-            *position = next;
-            end_of(take_turn(terms, number, m, known, port))
+            course.position = *next;
+            course.last = Some(*m);
+            end_of(take_turn(terms, number, *m, &mut course.known, port))
         }
     }
 }
@@ -89,12 +102,14 @@ fn end_at(known: &Known, number: u32) -> End
     }
 }
 
-/// Receives what still comes in time after the input's end, and tells with what the run ends.
-fn close<P: Port>(terms: Terms, number: u32, known: &mut Known, port: &mut P) -> End
-    ensures { Closes terms.stamp number known.old (P.facts port.old) (P.facts port.new) result }
+/// Sends the last acknowledged move once more, which an arbiter answers with its count and its verdict; receives what still comes
+/// in time, and tells with what the run ends.
+fn close<P: Port>(terms: Terms, number: u32, course: &mut Course, port: &mut P) -> End
+    ensures { Closes terms.stamp number course.old.last course.old.known (P.facts port.old) (P.facts port.new) result }
 {
-    match receive_all(terms, number, known, port) {
-        Next::GoesOn | Next::Waited => end_at(known, number),
+    send_again(terms.stamp, number.saturating_sub(1), &course.last, port);
+    match receive_all(terms, number, &mut course.known, port) {
+        Next::GoesOn | Next::Waited => end_at(&course.known, number),
         Next::Clashed(clash) => End::Clashed(clash),
         Next::PortLost => End::PortLost,
     }
@@ -106,20 +121,20 @@ fn step<L: LineReader, P: Port>(
     number: u32,
     reader: &mut L,
     line: &mut Vec<u8>,
-    position: &mut Position,
-    known: &mut Known,
+    course: &mut Course,
     port: &mut P,
 ) -> Option<End>
     requires { number ≤ most_moves }
-    ensures steps { Steps (L.facts reader.old).fails terms.stamp terms.tries number (L.facts reader.old).left (L.facts reader.new).left position.old position.new known.old known.new (P.facts port.old) (P.facts port.new) result }
+    ensures steps { Steps (causes (L.facts reader.old).fails (L.facts reader.old).takes_memory) terms.stamp terms.tries number (L.facts reader.old).left (L.facts reader.new).left course.old course.new (P.facts port.old) (P.facts port.new) result }
     ensures same { (L.facts reader.new).fails → (L.facts reader.old).fails }
+    ensures room { (L.facts reader.new).takes_memory → (L.facts reader.old).takes_memory }
 {
     match reader.next_line(line) {
         Ok(read) => {
             if read {
-                send_line(terms, number, line, position, known, port)
+                send_line(terms, number, line, course, port)
             } else {
-                Some(close(terms, number, known, port))
+                Some(close(terms, number, course, port))
             }
         }
         Err(ReadFault::Unreadable) => Some(End::Unread),
@@ -143,11 +158,11 @@ fn finish<W: Output>(out: &mut W, end: End) -> Result<u8, WriteFault>
 ///
 /// Each legal move is sent to each address, at most as often as the terms say, until both arbiters have acknowledged it. Then the
 /// line `2 acked` follows, with how many moves are acknowledged, and the next line is read. Once both have reported the verdict
-/// the last line is `verdict 4 BlackMates`, with status 0. At the input's end it is `open 2`, with status 0, unless the verdict
-/// comes in time. With status 1 it is `refused move 2`, a line that is no move, counted from 0; `illegal 2`, a move that isn't
-/// legal, which isn't sent; `refused TooLong`, a 4097th move; `refused lost`, an arbiter that doesn't answer; `refused port`;
-/// `refused files`, an input that can't be read; `refused memory`; and `disagree 2 BlackMates 2 Stalemate`, two verdicts that
-/// differ. The error comes only where the writer failed.
+/// the last line is `verdict 4 BlackMates`, with status 0. At the input's end the last acknowledged move is sent once more, and
+/// the last line is `open 2`, with status 0, unless the verdict comes in time. With status 1 it is `refused move 2`, a line that is
+/// no move, counted from 0; `illegal 2`, a move that isn't legal, which isn't sent; `refused TooLong`, a 4097th move;
+/// `refused lost`, an arbiter that doesn't answer; `refused port`; `refused files`, an input that can't be read; `refused memory`;
+/// and `disagree 2 BlackMates 2 Stalemate`, two verdicts that differ. The error comes only where the writer failed.
 pub fn send_game<L: LineReader, P: Port, W: Output>(
     alloc: Global,
     terms: Terms,
@@ -157,25 +172,15 @@ pub fn send_game<L: LineReader, P: Port, W: Output>(
     out: &mut W,
 ) -> Result<u8, WriteFault>
     // There is such a run, whose lines are written.
-    ensures sends { (s : Sending) × IsSending (L.facts reader.old).fails (record { stamp = terms.stamp; addresses = (P.facts port.old).addresses; most = terms.tries }) start (L.facts reader.old).left (L.facts reader.new).left (P.facts port.old) (P.facts port.new) s × WritesLines s (W.contents out.old) (W.contents out.new) result }
+    ensures sends { (s : Sending) × IsSending (causes (L.facts reader.old).fails (L.facts reader.old).takes_memory) (record { stamp = terms.stamp; addresses = (P.facts port.old).addresses; most = terms.tries }) start (L.facts reader.old).left (L.facts reader.new).left (P.facts port.old) (P.facts port.new) s × WritesLines s (W.contents out.old) (W.contents out.new) result }
 
     // All of them have gone out.
     ensures gone { OnOk result (W.facts out.new).gone }
 {
     let mut line = Vec::new(alloc);
-    let mut position = start;
-    let mut known = Known::nothing();
+    let mut course = begun_at(start);
     for number in 0..MOST_MOVES + 1 {
-        let end = step(
-            terms,
-            number,
-            reader,
-            &mut line,
-            &mut position,
-            &mut known,
-            port,
-        );
-        match end {
+        match step(terms, number, reader, &mut line, &mut course, port) {
             None => match put_now(out, &Line::Acked(number + 1)) {
                 Ok(()) => {}
                 Err(fault) => return Err(fault),

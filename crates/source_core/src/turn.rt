@@ -1,9 +1,11 @@
 //! One move that is sent until both arbiters have acknowledged it.
 
-ghost use Rattle.std.specs.Prelude.{◌≡◌, ◌∷◌, [], List};
+ghost use Rattle.std.specs.Prelude.{◌≡◌, ◌∷◌, [], List, IfSome};
 ghost use Rattle.std.specs.List.{AllByRecursion};
 ghost use Rattle.system_io.specs.Ports.{Passing, Came, Passed, to_each};
-ghost use Rattle.source_core.specs.Turns.{IsReceived, IsTurn, Learns};
+ghost use Rattle.move_msg.specs.Messages.{SpellsMessage};
+ghost use Rattle.source_core.specs.Sendings.{again};
+ghost use Rattle.source_core.specs.Turns.{HasSpelling, IsReceived, IsTurn, IsWait, Learns, move_message};
 ghost use Rattle.source_core.specs.Inside.Steps.{EndsIf, HasEnded, HasTriedOnce, IsLast, is_ruled, loss_by};
 
 use crate::known::{Clash, Known, Standing};
@@ -19,11 +21,14 @@ const MOST_ANSWERS: u32 = 256;
 /// On what terms the moves of a game are sent.
 #[derive(Clone, Copy)]
 pub struct Terms {
-    /// The game.
+    /// The mark of the game, which each message of it carries.
     pub stamp: Stamp,
-    /// How often a move is sent at most.
+    /// How often a move is sent at most, each time to all addresses: 1 to 2^32 - 1 times. With 0 nothing is sent, and a move that
+    /// isn't acknowledged already is lost.
     pub tries: u32,
-    /// How long a datagram is awaited, more than nothing.
+    /// How long a datagram is awaited: more than nothing, by the nanosecond as far as the port's clock tells it. Where both arbiters
+    /// have acknowledged the move, a verdict is awaited for two milliseconds, whatever stands here. A try awaits up to 256
+    /// datagrams one after the other, so that it may take so many times as long.
     pub wait: Duration,
 }
 
@@ -76,13 +81,20 @@ fn take_in(stamp: Stamp, known: &mut Known, datagram: &[u8]) -> Next
     }
 }
 
-/// Receives a datagram, if one comes in time, and adds what it reports.
-fn receive_one<P: Port>(stamp: Stamp, wait: Duration, known: &mut Known, port: &mut P) -> Next
-    ensures { (came : Passing) × IsReceived came × Passed (P.facts port.old) (P.facts port.new) (came ∷ []) × IsLast came result × Learns stamp known.old known.new (came ∷ []) result }
+/// Receives a datagram, if one comes in so long a time, and adds what it reports.
+fn receive_one<P: Port>(
+    terms: Terms,
+    number: u32,
+    wait: Duration,
+    known: &mut Known,
+    port: &mut P,
+) -> Next
+    requires { IsWait terms.wait number known.old wait }
+    ensures { (came : Passing) × IsReceived came × Passed (P.facts port.old) (P.facts port.new) (came ∷ []) × IsLast came result × Learns terms.stamp known.old known.new (came ∷ []) result }
 {
     let mut buffer = [0u8; 64];
     match port.receive_in_time(wait, &mut buffer) {
-        Ok(Some(length)) => take_in(stamp, known, &buffer[..length]),
+        Ok(Some(length)) => take_in(terms.stamp, known, &buffer[..length]),
         Ok(None) => Next::Waited,
         Err(_) => Next::PortLost,
     }
@@ -97,7 +109,9 @@ fn is_ruled(known: &Known) -> bool
 
 /// How long the next datagram is awaited: where both have acknowledged the move, two milliseconds for the verdicts that may
 /// follow.
-fn wait_at(terms: Terms, number: u32, known: &Known) -> Duration {
+fn wait_at(terms: Terms, number: u32, known: &Known) -> Duration
+    ensures { IsWait terms.wait number known.now result }
+{
     match known.standing(number) {
         Standing::Acked => Duration::from_millis(2),
         Standing::Ruled(_) | Standing::Open => terms.wait,
@@ -119,7 +133,7 @@ pub(crate) fn receive_all<P: Port>(
             return Next::Waited;
         }
         let wait = wait_at(terms, number, known);
-        match receive_one(terms.stamp, wait, known, port) {
+        match receive_one(terms, number, wait, known, port) {
             Next::GoesOn => {}
             next => return next,
         }
@@ -163,8 +177,31 @@ fn try_once<P: Port>(
     loss_of(receive_all(terms, number, known, port))
 }
 
+/// The datagram of a move.
+fn datagram_of(stamp: Stamp, number: u32, m: Move) -> [u8; 27]
+    ensures { SpellsMessage result (move_message stamp number m) }
+{
+    let message = Message::Move {
+        stamp,
+        sender: Sender::Source,
+        number,
+        m,
+    };
+    message.encode()
+}
+
+/// Sends the move with this number to each address once, if there is one.
+pub(crate) fn send_again<P: Port>(stamp: Stamp, number: u32, last: &Option<Move>, port: &mut P)
+    ensures spelling { IfSome last.now (HasSpelling stamp number) }
+    ensures passed { Passed (P.facts port.old) (P.facts port.new) (again stamp (P.facts port.old).addresses number last.now) }
+{
+    if let Some(m) = last {
+        send(port, &datagram_of(stamp, number, *m));
+    }
+}
+
 /// Sends a move to each address until both arbiters have acknowledged it and reported what they have to report, at most as often
-/// as the terms say.
+/// as the terms say. Its number is how many moves stand before it, 0 to 4095.
 ///
 /// A move that is acknowledged already isn't sent. Nothing else is sent.
 pub fn take_turn<P: Port>(
@@ -176,13 +213,7 @@ pub fn take_turn<P: Port>(
 ) -> Turn
     ensures { (tries : List (List Passing)) × IsTurn terms.stamp terms.tries number m (P.facts port.old) (P.facts port.new) known.old known.new result tries }
 {
-    let message = Message::Move {
-        stamp: terms.stamp,
-        sender: Sender::Source,
-        number,
-        m,
-    };
-    let bytes = message.encode();
+    let bytes = datagram_of(terms.stamp, number, m);
     for _ in 0..terms.tries {
         if let Some(turn) = turn_of(known, number) {
             return turn;

@@ -1,7 +1,8 @@
 -- One step of a turn and of a run; cited by private functions alone.
-use Rattle.std.specs.Prelude.{◌≡◌, ◌++◌, ◌⊎◌, ◌&&◌, ◌<◌, ℕ, Bool, true, false, List, length, Option, Some, None, is_some}
+use Rattle.std.specs.Prelude.{◌≡◌, ◌++◌, ◌⊎◌, ◌&&◌, ◌<◌, ◌-◌, ℕ, Bool, true, false, List, length, Option, Some, None, IfSome, is_some}
 use Rattle.move_msg.specs.declared.stamp.Stamp.{Stamp}
 use Rattle.source_core.specs.declared.known.Known.{Known}
+use Rattle.source_core.specs.declared.sending.Course.{Course}
 use Rattle.source_core.specs.declared.turn.Next.{Next}
 use Rattle.source_core.specs.declared.turn.Next.TheVariants as next
 use Rattle.source_core.specs.declared.turn.Turn.{Turn}
@@ -13,11 +14,12 @@ use Rattle.fen_text.specs.Coordinates.{SpellsMove}
 use Rattle.move_msg.specs.Numbers.{most_moves}
 use Rattle.source_core.specs.declared.lines.End.{End}
 use Rattle.source_core.specs.declared.lines.End.TheVariants as at_end
+use Rattle.system_io.specs.declared.reading.ReadFault.{ReadFault}
 use Rattle.system_io.specs.Ports.{Passing, Came, Quiet, Missed, PortFacts, Passed}
 use Rattle.system_io.specs.LineReaders.{ReadsLine}
-use Rattle.source_core.specs.Sendings.{Game, At, AckedMove, IsAckedTurn, IsClosed, ClosesSo, EndsWith, sent_in}
+use Rattle.source_core.specs.Sendings.{Game, At, AckedMove, IsAckedTurn, ClosesSo, EndsWith, again, last_of, sent_in}
 use Rattle.source_core.specs.Reports.{Knows, IsUnsettled}
-use Rattle.source_core.specs.Turns.{EndsSo, HasWaited, IsReceived, Learns, one_try}
+use Rattle.source_core.specs.Turns.{EndsSo, HasSpelling, HasWaited, IsReceived, Learns, one_try}
 use Rattle.std.specs.List.{AllByRecursion}
 
 -- what came last
@@ -92,24 +94,37 @@ pub record IsPlayed (position : Parts) (number : ℕ) (line : List ℕ) (m : Mov
 abbrev pub EndsAt : ℕ → Known → End → Type 0
 EndsAt number known end = ((count : ℕ) → end ≡ at_end.Open count → is_ruled known ≡ false) × ((stamp : Stamp) (all : List Passing) → Knows stamp all known → ClosesSo stamp number all end)
 
--- what still comes in time after the input's end is received
-abbrev pub Closes : Stamp → ℕ → Known → PortFacts → PortFacts → End → Type 0
-Closes stamp number known port port' end = (more : List Passing) × Passed port port' more × ((before : List Passing) → Knows stamp before known → IsClosed stamp number before more end)
+-- after the input's end the last move is handed over once more, and what still comes in time is received
+pub record Closes (stamp : Stamp) (number : ℕ) (last : Option Moves) (known : Known) (port port' : PortFacts) (end : End) : Type 0 where
+  pub came : List Passing
+  pub spelling : IfSome last (HasSpelling stamp (number - 1))
+  pub received : AllByRecursion IsReceived came
+  pub waited : (count : ℕ) → end ≡ at_end.Open count → HasWaited came
+  pub passed : Passed port port' (again stamp port.addresses (number - 1) last ++ came)
+  pub stands : (before : List Passing) → Knows stamp before known → ClosesSo stamp number (before ++ (again stamp port.addresses (number - 1) last ++ came)) end
 
 -- one more turn: a move was acknowledged, or the run ends
-unfoldable pub StepsSo : Type 0 → Game → At → Option (List ℕ) → Parts → Known → PortFacts → PortFacts → Option End → Type 0
-StepsSo unreadable g at input position known port port' None =
-    (t : AckedMove) × IsAckedTurn g at t × (t.after.input ≡ input) × (t.after.position ≡ position) × Passed port port' (sent_in g at.moves t.move t.tries) × Knows g.stamp t.after.passed known
-StepsSo unreadable g at input position known port port' (Some end) =
-    (sent : List Moves) × (more : List Passing) × EndsWith unreadable g at input sent more end × Passed port port' more
+unfoldable pub StepsSo : (ReadFault → Type 0) → Game → At → Option (List ℕ) → Course → PortFacts → PortFacts → Option End → Type 0
+StepsSo cause g at input course port port' None =
+    (t : AckedMove) × IsAckedTurn g at t × (t.after.input ≡ input) × (t.after.position ≡ course.position) × (Some t.move ≡ course.last) × Passed port port' (sent_in g at.moves t.move t.tries) × Knows g.stamp t.after.passed course.known
+StepsSo cause g at input course port port' (Some end) =
+    (sent : List Moves) × (more : List Passing) × EndsWith cause g at input sent more end × Passed port port' more
 
 -- whatever has passed before, by which so much is known, and whichever moves are acknowledged
-abbrev pub Steps : Type 0 → Stamp → ℕ → ℕ → Option (List ℕ) → Option (List ℕ) → Parts → Parts → Known → Known → PortFacts → PortFacts → Option End → Type 0
-Steps unreadable stamp most number input input' position position' known known' port port' end =
-    (before : List Passing) (moves : List Moves) → Knows stamp before known → number ≡ length moves →
-    StepsSo unreadable (record { stamp = stamp; addresses = port.addresses; most = most }) (record { input = input; position = position; moves = moves; passed = before }) input' position' known' port port' end
+abbrev pub Steps : (ReadFault → Type 0) → Stamp → ℕ → ℕ → Option (List ℕ) → Option (List ℕ) → Course → Course → PortFacts → PortFacts → Option End → Type 0
+Steps cause stamp most number input input' course course' port port' end =
+    (before : List Passing) (moves : List Moves) → Knows stamp before course.known → number ≡ length moves → course.last ≡ last_of moves →
+    StepsSo cause (record { stamp = stamp; addresses = port.addresses; most = most }) (record { input = input; position = course.position; moves = moves; passed = before }) input' course' port port' end
+
+-- nothing is the cause of a failed read
+abbrev pub no_cause : ReadFault → Type 0
+no_cause fault = ⊥
 
 -- the same after a line was read, whatever it was read from
-abbrev pub StepsOn : Stamp → ℕ → ℕ → List ℕ → Parts → Parts → Known → Known → PortFacts → PortFacts → Option End → Type 0
-StepsOn stamp most number line position position' known known' port port' end =
-    (input input' : Option (List ℕ)) → ReadsLine input input' line → Steps ⊥ stamp most number input input' position position' known known' port port' end
+abbrev pub StepsOn : Stamp → ℕ → ℕ → List ℕ → Course → Course → PortFacts → PortFacts → Option End → Type 0
+StepsOn stamp most number line course course' port port' end =
+    (input input' : Option (List ℕ)) → ReadsLine input input' line → Steps no_cause stamp most number input input' course course' port port' end
+
+-- a game of which nothing is sent yet
+abbrev pub begun_at : Parts → Course
+begun_at start = record { position = start; known = record { a = record { count = 0; ruling = None }; b = record { count = 0; ruling = None } }; last = None }

@@ -1,12 +1,12 @@
 use Rattle.source_core.proofs.PortLaws.{Passed-nil}
-use Rattle.source_core.proofs.SendingLaws.{still_sending}
+use Rattle.source_core.proofs.SendingLaws.{still_causes, still_sending}
 use Rattle.adjudicate_core.specs.Sends.{NoRoomForLines, Over}
 use Rattle.adjudicate_core.proofs.sending.send_over.Goals as goal
 
 pub returns-in-Ok : goal.returns-in-Ok
 returns-in-Ok g c =
     let run = c.send_game.ensures.sends in
-    Over _ _ c.in-Ok.ensures.given run.0 (still_sending _ _ _ _ _ _ _ _ run.0 c.in-Ok.ensures.cause run.1) run.2
+    Over _ _ c.in-Ok.ensures.given run.0 (still_sending _ _ _ _ _ _ _ _ run.0 (still_causes _ _ _ _ c.in-Ok.ensures.cause c.in-Ok.ensures.room) run.1) run.2
 
 pub returns-in-Err : goal.returns-in-Err
 returns-in-Err g c = NoRoomForLines (Passed-nil _) c.put_refusal.ensures
