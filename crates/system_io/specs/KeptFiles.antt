@@ -12,6 +12,11 @@ abbrev pub IsLong : Option (List ℕ) → Type 0
 IsLong None = ⊥
 IsLong (Some bytes) = 8217 < length bytes
 
+-- at least one byte stands there: only then a copy takes memory
+abbrev pub HasAny : Option (List ℕ) → Type 0
+HasAny None = ⊥
+HasAny (Some bytes) = 0 < length bytes
+
 -- how far bytes have come on their way to the name
 pub data Stage : Type 0 where
   -- they stand in the file beside

@@ -1,12 +1,12 @@
 -- What the calls for a kept file in memory tell of themselves (this project's own).
-use Rattle.std.specs.Prelude.{◌⊎◌, ◌≤◌, ℕ, List, Option, Some, None, IsSome, cond, map}
+use Rattle.std.specs.Prelude.{◌⊎◌, ◌≤◌, ℕ, List, Option, Some, None, cond, map}
 use Rattle.system_io.specs.declared.memory_calls.MadeCall.{MadeCall}
 use Rattle.system_io.specs.declared.memory_calls.MadeCall.TheVariants as made
 use Rattle.system_io.specs.declared.memory_calls.MemoryCalls.{MemoryCalls}
 use Rattle.system_io.specs.declared.reading.ReadFault.{ReadFault}
 use Rattle.system_io.specs.declared.reading.ReadFault.TheVariants.{Unreadable, OutOfMemory}
 use Rattle.system_io.specs.FileCalls.{Call, CallFacts, Read, Wrote, SyncedFile, Renamed, SyncedFolder, RenameFailed, Failed}
-use Rattle.system_io.specs.KeptFiles.{IsLong, bytes_of}
+use Rattle.system_io.specs.KeptFiles.{HasAny, IsLong, bytes_of}
 
 abbrev pub call_of : MadeCall → Call
 call_of (made.Read got) = Read (bytes_of got)
@@ -30,10 +30,10 @@ IsToCome calls (Some number) = calls ≤ number
 abbrev pub WillFail : MemoryCalls → Type 0
 WillFail c = IsToCome c.calls c.fails_at
 
--- a call that is to come fails, or what stands under the name is too long; memory is taken where a file stands there
+-- a call that is to come fails, or what stands under the name is too long; memory is taken where bytes stand there
 abbrev pub MayFail : MemoryCalls → ReadFault → Type 0
 MayFail c Unreadable = WillFail c ⊎ IsLong (bytes_of c.stands)
-MayFail c OutOfMemory = IsSome c.stands
+MayFail c OutOfMemory = HasAny (bytes_of c.stands)
 
 abbrev pub calls_of : MemoryCalls → CallFacts
 calls_of c = record { made = made_by c; fails = MayFail c }

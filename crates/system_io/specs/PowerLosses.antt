@@ -1,5 +1,5 @@
 -- A disk that loses power, and what a start then finds under a name (this project's own).
-use Rattle.std.specs.Prelude.{◌≡◌, ◌⊎◌, ◌-◌, ℕ, true, false, cond, List, [], length, Option, Some, None, IsSome, slice_index_or}
+use Rattle.std.specs.Prelude.{◌≡◌, ◌⊎◌, ◌-◌, ℕ, Bool, true, false, cond, List, [], length, Option, Some, None, slice_index_or}
 use Rattle.system_io.specs.declared.disk_file.Choice.{Choice}
 use Rattle.system_io.specs.declared.disk_file.Choice.TheVariants.{StaysUp, PowerLost}
 use Rattle.system_io.specs.declared.disk_file.Content.{Content}
@@ -8,7 +8,7 @@ use Rattle.system_io.specs.declared.disk_file.Outcome.{Outcome}
 use Rattle.system_io.specs.declared.disk_file.Outcome.TheVariants.{Good}
 use Rattle.system_io.specs.declared.reading.ReadFault.{ReadFault}
 use Rattle.system_io.specs.declared.reading.ReadFault.TheVariants.{Unreadable, OutOfMemory}
-use Rattle.system_io.specs.KeptFiles.{IsLong, KeptFacts, Stage, Written, Synced, Renamed}
+use Rattle.system_io.specs.KeptFiles.{HasAny, IsLong, KeptFacts, Stage, Written, Synced, Renamed}
 
 -- ---- what the system shows, and what the platter holds
 
@@ -89,10 +89,17 @@ abbrev pub IsStuck : DiskFile → ReadFault → Type 0
 IsStuck d Unreadable = IsLost d ⊎ (next_of d.outcomes.items ≡ Good → ⊥)
 IsStuck d OutOfMemory = ⊥
 
--- the disk gives nothing, or what stands under the name is too long; memory is taken where a file stands there
+-- what comes of its calls, the last of the list first, and whether it gives what stands there
+abbrev pub calls_to_come : DiskFile → List Outcome
+calls_to_come d = d.outcomes.items
+
+abbrev pub gives_nothing : DiskFile → Bool
+gives_nothing d = d.reads_fail
+
+-- the disk gives nothing, or what stands under the name is too long; memory is taken where bytes stand there
 abbrev pub CannotBeRead : DiskFile → ReadFault → Type 0
 CannotBeRead d Unreadable = (d.reads_fail ≡ true) ⊎ IsLong (seen d)
-CannotBeRead d OutOfMemory = IsSome (seen d)
+CannotBeRead d OutOfMemory = HasAny (seen d)
 
 -- what the kept file on a disk tells of itself
 abbrev pub disk_facts : DiskFile → KeptFacts

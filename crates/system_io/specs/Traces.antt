@@ -1,5 +1,5 @@
 -- What the calls that were made of a file, and their answers, say of it (this project's own). Nothing is claimed of the file.
-use Rattle.std.specs.Prelude.{◌≡◌, ◌⊎◌, ℕ, true, false, List, [], ◌∷◌, Option, Some, IfSome, IsSome, Vec}
+use Rattle.std.specs.Prelude.{◌≡◌, ◌⊎◌, ℕ, true, false, List, [], ◌∷◌, Option, Some, IfSome, Vec}
 use Rattle.std.specs.List.{AllByRecursion}
 use Rattle.std.specs.declared.alloc.Global.{Global}
 use Rattle.system_io.specs.declared.reading.ReadFault.{ReadFault}
@@ -9,7 +9,7 @@ use Rattle.system_io.specs.declared.traced_file.Reach.TheVariants as reach
 use Rattle.system_io.specs.FileCalls.{CallFacts, FindsBy, IsEither, Wrote, SyncedFile}
 use Rattle.system_io.specs.FileCalls as made
 use Rattle.system_io.specs.Histories.{EndsWith}
-use Rattle.system_io.specs.KeptFiles.{IsLong, KeptFacts, Stage, Written, Synced, Renamed, bytes_of}
+use Rattle.system_io.specs.KeptFiles.{HasAny, IsLong, KeptFacts, Stage, Written, Synced, Renamed, bytes_of}
 
 -- bytes that the file keeps
 abbrev pub Bytes : Type 0
@@ -18,6 +18,12 @@ Bytes = Vec ℕ Global
 -- the calls that a file makes
 abbrev pub calls_in : {C : Type 0} → Traced C → C
 calls_in t = t.calls
+
+-- nothing is known of it yet, and no call has failed
+pub record IsFresh {C : Type 0} (t : Traced C) : Type 0 where
+  pub unknown : t.is_known ≡ false
+  pub names : t.earlier.items ≡ []
+  pub count : t.failures ≡ 0
 
 -- what may stand there is the one or the other
 abbrev pub IsOneOf : Option (List ℕ) → Option (List ℕ) → Option Bytes → Type 0
@@ -55,10 +61,10 @@ abbrev pub CannotSettle : {C : Type 0} → (C → CallFacts) → Traced C → Re
 CannotSettle facts t Unreadable = ((t.earlier.items ≡ [] → ⊥) ⊎ (t.is_known ≡ true)) ⊎ (facts t.calls).fails Unreadable
 CannotSettle facts t OutOfMemory = (facts t.calls).fails OutOfMemory
 
--- it has more bytes than are kept; memory is taken where a file stands there, or may stand there
+-- it has more bytes than are kept; memory is taken where bytes stand there, or may stand there
 abbrev pub CannotCopy : {C : Type 0} → Traced C → ReadFault → Type 0
 CannotCopy t Unreadable = IsLong (bytes_of t.stands)
-CannotCopy t OutOfMemory = IsSome t.stands ⊎ (t.is_known ≡ false)
+CannotCopy t OutOfMemory = HasAny (bytes_of t.stands) ⊎ (t.is_known ≡ false)
 
 -- this was read, and it is one of these
 abbrev pub IsAmong : Option (List ℕ) → List (Option Bytes) → Type 0

@@ -4,7 +4,7 @@ ghost use Rattle.std.specs.Prelude.{◌≡◌, ℕ, [], List, slice_index_or, Op
 ghost use Rattle.system_io.specs.Failures.{Counts, Risen};
 ghost use Rattle.system_io.specs.KeptFiles.{IsOneOfFound, bytes_of};
 ghost use Rattle.system_io.specs.declared.reading.ReadFault.TheVariants.{Unreadable};
-ghost use Rattle.system_io.specs.PowerLosses.{HoldsBytes, HoldsSynced, IsAtRest, IsLeftBy, IsLost, IsOnPlatter, IsReadAfter, IsSpoilt, LeavesOneOf, RestsAfter, after_stop, disk_facts, left_of, next_of, seen, shown};
+ghost use Rattle.system_io.specs.PowerLosses.{HoldsBytes, HoldsSynced, IsAtRest, IsLeftBy, IsLost, IsOnPlatter, IsReadAfter, IsSpoilt, LeavesOneOf, RestsAfter, after_stop, calls_to_come, disk_facts, gives_nothing, left_of, next_of, seen, shown};
 
 use crate::kept_file::{KeptFile, MOST_KEPT_BYTES, begin};
 use crate::reading::ReadFault;
@@ -164,6 +164,7 @@ impl DiskFile {
     ) -> DiskFile
         ensures seen { seen result ≡ bytes_of stands }
         ensures rest { IsAtRest result }
+        ensures told { (calls_to_come result ≡ outcomes.items) × (gives_nothing result ≡ reads_fail) }
     {
         let stands = match stands {
             Some(bytes) => Some(on_platter(bytes)),
@@ -411,6 +412,9 @@ impl KeptFile for DiskFile {
             Some(content) => {
                 if content.bytes.len() > MOST_KEPT_BYTES {
                     return Err(ReadFault::Unreadable);
+                }
+                if content.bytes.is_empty() {
+                    return Ok(Some(Vec::new(alloc)));
                 }
                 match Vec::from_slice(alloc, &content.bytes) {
                     Ok(copy) => Ok(Some(copy)),

@@ -2,15 +2,32 @@
 
 ghost use Rattle.std.specs.Prelude.{◌≡◌, ◌≤◌, ◌<◌, ◌⊎◌, ℕ, List, Option, Some, false, length, IsTrue, IfOk, IfErr, IfSome, OnOk, OnErr};
 ghost use Rattle.system_io.specs.Failures.{Counts, Risen};
-ghost use Rattle.system_io.specs.KeptFiles.{KeptFacts, Written, Synced, Renamed, CannotStart, FindsOldOrNew, FindsOne, IsCutOff, IsOneOfFound, bytes_of};
+ghost use Rattle.system_io.specs.KeptFiles.{KeptFacts, Written, Synced, Renamed, CannotStart, FindsOldOrNew, FindsOne, HasAny, IsCutOff, IsOneOfFound, bytes_of};
 ghost use Rattle.system_io.specs.declared.reading.ReadFault.{ReadFault};
 
 use crate::reading::ReadFault;
-use std::alloc::Global;
+use std::alloc::{AllocError, Global};
 use std::io;
 
 /// How many bytes are kept at most: as many as a record of 4096 moves has, 25 and two for each (record format).
 pub const MOST_KEPT_BYTES: usize = 8217;
+
+/// A copy of what stands under a name. The error comes where memory for it is refused, which no bytes don't take.
+pub(crate) fn copied(alloc: Global, bytes: &Option<Vec<u8>>) -> Result<Option<Vec<u8>>, AllocError>
+    ensures same { IfOk result (λ copy. bytes_of copy ≡ bytes_of bytes.now) }
+    ensures cause { OnErr result (HasAny (bytes_of bytes.now)) }
+{
+    let Some(bytes) = bytes else {
+        return Ok(None);
+    };
+    if bytes.is_empty() {
+        return Ok(Some(Vec::new(alloc)));
+    }
+    match Vec::from_slice(alloc, bytes) {
+        Ok(copy) => Ok(Some(copy)),
+        Err(refused) => Err(refused),
+    }
+}
 
 /// A file under a name, and one beside it that is to take its name.
 ///

@@ -1,6 +1,6 @@
 //! The calls for a kept file in memory, which tell what was made, and of which one fails if it is so said.
 
-ghost use Rattle.std.specs.Prelude.{◌≡◌, ◌↔◌, ◌∷◌, [], Some, IsTrue, IsSome, IfOk, OnErr};
+ghost use Rattle.std.specs.Prelude.{◌≡◌, ◌↔◌, ◌∷◌, [], Some, IsTrue};
 ghost use Rattle.std.specs.IoError.{error_kind};
 ghost use Rattle.std.specs.declared.io.ErrorKind.TheVariants.{StorageFull};
 ghost use Rattle.system_io.specs.FileCalls.{Failed, Read, Wrote};
@@ -8,10 +8,10 @@ ghost use Rattle.system_io.specs.Histories.{Passes};
 ghost use Rattle.system_io.specs.KeptFiles.{IsLong, bytes_of};
 ghost use Rattle.system_io.specs.MemoryCalls.{WillFail, call_of, made_by};
 
-use crate::kept_file::MOST_KEPT_BYTES;
+use crate::kept_file::{MOST_KEPT_BYTES, copied};
 use crate::reading::ReadFault;
 use crate::traced_file::FileCalls;
-use std::alloc::{AllocError, Global};
+use std::alloc::Global;
 use std::io;
 
 /// A call that was made.
@@ -43,20 +43,6 @@ pub struct MemoryCalls {
     is_whole: bool,
     calls: usize,
     fails_at: Option<usize>,
-}
-
-/// A copy of what stands there.
-fn copied(alloc: Global, bytes: &Option<Vec<u8>>) -> Result<Option<Vec<u8>>, AllocError>
-    ensures same { IfOk result (λ copy. bytes_of copy ≡ bytes_of bytes.now) }
-    ensures cause { OnErr result (IsSome bytes.now) }
-{
-    match bytes {
-        Some(bytes) => match Vec::from_slice(alloc, bytes) {
-            Ok(copy) => Ok(Some(copy)),
-            Err(refused) => Err(refused),
-        },
-        None => Ok(None),
-    }
 }
 
 /// The error of a call that fails.

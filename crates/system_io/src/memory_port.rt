@@ -1,9 +1,9 @@
 //! A port in memory, which tells what has passed there, and loses, repeats, reorders and fails as it is told to.
 
-ghost use Rattle.std.specs.Prelude.{◌≡◌, ◌≤◌, ◌∷◌, [], Some, take, IfOk, OnErr};
+ghost use Rattle.std.specs.Prelude.{◌≡◌, ◌≤◌, ◌∷◌, [], Some, map, take, IfOk, OnErr};
 ghost use Rattle.system_io.specs.Failures.{Risen};
 ghost use Rattle.system_io.specs.Histories.{Passes};
-ghost use Rattle.system_io.specs.MemoryPorts.{passed_at, passing, port_facts};
+ghost use Rattle.system_io.specs.MemoryPorts.{passed_at, passing, port_facts, turns_of, waiting_at};
 ghost use Rattle.system_io.specs.Ports.{Came, Handed, Missed, Passed};
 
 use crate::port::{Port, PortFault};
@@ -68,7 +68,9 @@ impl<'a> MemoryPort<'a> {
         turns: &'a [Turn],
         fails_at: Option<usize>,
     ) -> MemoryPort<'a>
-        ensures { (port_facts result).passed ≡ Some [] }
+        ensures passed { (port_facts result).passed ≡ Some [] }
+        ensures addresses { (port_facts result).addresses ≡ addresses }
+        ensures turns { (turns_of result ≡ turns.now) × (waiting_at result ≡ map (λ d. d.now) datagrams.now) }
     {
         MemoryPort {
             alloc,

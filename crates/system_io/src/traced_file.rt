@@ -1,6 +1,6 @@
 //! A kept file over the calls of a system, of which nothing is claimed: it tells what those calls and their answers say.
 
-ghost use Rattle.std.specs.Prelude.{◌≡◌, ◌≤◌, [], ◌∷◌, ℕ, List, Option, Some, IfOk, IfErr, IfSome, IsTrue, OnOk, length};
+ghost use Rattle.std.specs.Prelude.{◌≡◌, ◌≤◌, ◌↔◌, [], ◌∷◌, ℕ, List, Option, Some, IfOk, IfErr, IfSome, IsTrue, OnOk, length};
 ghost use Rattle.std.specs.IoError.{error_kind};
 ghost use Rattle.system_io.specs.Failures.{Counts, Risen};
 ghost use Rattle.system_io.specs.FileCalls.{CallFacts, Failed, RenameFailed, Renamed, SyncedFile, SyncedFolder, Wrote, answered, read_call};
@@ -8,10 +8,10 @@ ghost use Rattle.system_io.specs.Histories.{Passes};
 ghost use Rattle.system_io.specs.KeptFiles.{KeptFacts, IsOneOfFound, bytes_of};
 ghost use Rattle.system_io.specs.Premises.{IsAsTold};
 ghost use Rattle.system_io.specs.Reading.{fault_of};
-ghost use Rattle.system_io.specs.Traces.{AreOneOf, HasBytes, calls_in, told_of};
+ghost use Rattle.system_io.specs.Traces.{AreOneOf, HasBytes, IsFresh, calls_in, told_of};
 ghost use Rattle.system_io.specs.declared.reading.ReadFault.{ReadFault};
 
-use crate::kept_file::{KeptFile, MOST_KEPT_BYTES};
+use crate::kept_file::{KeptFile, MOST_KEPT_BYTES, copied};
 use crate::reading::ReadFault;
 use std::alloc::Global;
 use std::io;
@@ -77,7 +77,7 @@ pub struct Traced<C: Drop> {
 
 /// Whether the same bytes stand in both, or none do.
 fn are_same(got: &Option<Vec<u8>>, known: &Option<Vec<u8>>) -> bool
-    ensures { IsTrue result → bytes_of got.now ≡ bytes_of known.now }
+    ensures { IsTrue result ↔ (bytes_of got.now ≡ bytes_of known.now) }
 {
     match (got, known) {
         (Some(got), Some(known)) => got.as_slice() == known.as_slice(),
@@ -89,7 +89,8 @@ fn are_same(got: &Option<Vec<u8>>, known: &Option<Vec<u8>>) -> bool
 impl<C: FileCalls + Drop> Traced<C> {
     /// A file of which nothing is known.
     pub fn new(alloc: Global, calls: C) -> Traced<C>
-        ensures { calls_in result ≡ calls }
+        ensures calls { calls_in result ≡ calls }
+        ensures fresh { IsFresh result }
     {
         Traced {
             alloc,
@@ -189,17 +190,14 @@ impl<C: FileCalls + Drop> KeptFile for Traced<C> {
     }
 
     fn read(&self, alloc: Global) -> Result<Option<Vec<u8>>, ReadFault> {
-        match &self.stands {
-            Some(bytes) => {
-                if bytes.len() > MOST_KEPT_BYTES {
-                    return Err(ReadFault::Unreadable);
-                }
-                match Vec::from_slice(alloc, bytes) {
-                    Ok(copy) => Ok(Some(copy)),
-                    Err(_) => Err(ReadFault::OutOfMemory),
-                }
+        if let Some(bytes) = &self.stands {
+            if bytes.len() > MOST_KEPT_BYTES {
+                return Err(ReadFault::Unreadable);
             }
-            None => Ok(None),
+        }
+        match copied(alloc, &self.stands) {
+            Ok(copy) => Ok(copy),
+            Err(_) => Err(ReadFault::OutOfMemory),
         }
     }
 

@@ -29,7 +29,7 @@ pub returns-clause-same : goal.returns-clause-same
 returns-clause-same g c = λ a b h.
     elim c.else-self.branch [
       | else-self-via-then-self+else-not-are_same w ↦
-          let names : AreOneOf a b c.in-Ok.got c.args.self.now.earlier.items = read_again a b c.in-Ok.got c.args.self.now.stands c.args.self.now.earlier.items (w.if-not-are_same.ensures refl) h.names in
+          let names : AreOneOf a b c.in-Ok.got c.args.self.now.earlier.items = read_again a b c.in-Ok.got c.args.self.now.stands c.args.self.now.earlier.items (w.if-not-are_same.ensures.0 refl) h.names in
           record { known = refl; names = names; by_calls = at_start a b (bytes_of c.in-Ok.got) _ _ _ c.in-Ok.ensures.made c.in-Ok-sync_folder.ensures.made names.now }
       | else-self-via-else-self w ↦ absurd (false≢true (sym w.if-self.false ∙ h.known))
     ]
