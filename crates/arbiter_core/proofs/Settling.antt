@@ -1,19 +1,19 @@
 -- An arbiter stays settled.
-use Rattle.std.proofs.Common.{◌≡◌, ℕ, ◌+◌, ◌-◌, ◌<◌, ◌≤◌, true, List, [], ◌∷◌, ◌++◌, length, length-append, take, drop, Option, Some, None, suc, sym, refl, ap, ◌∙◌, subst, arith, take-append-drop, add-one}
+use Rattle.std.proofs.Common.{◌≡◌, ℕ, ◌+◌, ◌-◌, ◌<◌, ◌≤◌, true, List, [], ◌∷◌, ◌++◌, length, length-append, take, drop, Option, Some, None, sym, ap, ◌∙◌, subst, arith, take-append-drop}
 use Rattle.std.specs.Prelude.{is_some}
 use Rattle.std.specs.Option.{some_prefix}
-use Rattle.std.proofs.lemmas.List.{take_at, length-take-le}
+use Rattle.std.proofs.lemmas.List.{length-take-le}
 use Rattle.board_core.specs.declared.parts.Parts.{Parts}
 use Rattle.board_core.specs.declared.moves.Move.{Move}
 use Rattle.board_core.specs.ComputedMoves.{position_after}
 use Rattle.board_core.specs.declared.verdict.Verdict.{Verdict}
-use Rattle.judge_core.specs.Games.{position_after_all, Rules, verdict_after}
+use Rattle.judge_core.specs.Games.{Rules, verdict_after}
 use Rattle.move_msg.specs.Numbers.{most_moves}
 use Rattle.judge_core.specs.Standings.{Reached, IsAt}
 use Rattle.arbiter_core.specs.Recording.{Recorded, Window, reaches, last_ply, advance}
 use Rattle.arbiter_core.specs.Answering.{still_waits, nothing_waits, waits_too}
 use Rattle.arbiter_core.specs.Views.{IsNear}
-use Rattle.arbiter_core.proofs.Reach.{step_to, reach_within, reach_more, reach_front, last_reached}
+use Rattle.arbiter_core.proofs.Reach.{reach_within, reach_front, last_reached}
 use Rattle.arbiter_core.proofs.Waiting.{each_nothing, each_still, each_too}
 use Rattle.arbiter_core.proofs.PlanLaws.{next_position, reach_one}
 

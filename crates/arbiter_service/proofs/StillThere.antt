@@ -18,9 +18,13 @@ use Rattle.arbiter_core.specs.Opens.{FirstLands, IsResumed, Opens, OpensOver, To
 use Rattle.arbiter_core.specs.Recording.{Recorded, count_of}
 use Rattle.arbiter_core.specs.Setups.{SetupView, IsGood, rules_at}
 use Rattle.arbiter_core.specs.Views.{View}
+use Rattle.system_io.specs.FileCalls.{CallFacts}
 use Rattle.system_io.specs.KeptFiles.{KeptFacts}
+use Rattle.system_io.specs.TraceLaws.{as_told}
+use Rattle.system_io.specs.Traces.{told_of}
+use Rattle.system_io.specs.declared.traced_file.Traced.{Traced}
 use Rattle.arbiter_service.specs.declared.file_keeper.FileKeeper.{FileKeeper}
-use Rattle.arbiter_service.specs.Lives.{Answered, AtPut, Between, CutAtFirst, Early, IsStillThere, KeepsWhatItTold, Refused, PastRun, RunsInTurn, RunsOver, StillHolds}
+use Rattle.arbiter_service.specs.Lives.{Answered, AsToldInTurn, AtPut, Between, CutAtFirst, Early, IsStillThere, KeepsAsTold, KeepsWhatItTold, Refused, PastRun, RunsInTurn, RunsOver, StartsAsTold, StillHolds}
 use Rattle.arbiter_service.specs.OverFiles.{GoesOn, IsOpened}
 use Rattle.arbiter_service.specs.Serving.{outputs_of}
 use Rattle.arbiter_service.specs.StoredBytes.{IsInFile, StartsOver, file_of, keeper_over, stored}
@@ -45,7 +49,8 @@ still_tells : (a b : Recorded) → GoesOn a b → (outputs : List Message) → A
 still_tells a b g [] h = tt
 still_tells a b g (Move stamp sender number m ∷ ms) h = (tt, still_tells a b g ms h.1)
 still_tells a b g (Ack stamp who n ∷ ms) h = (first_ones a b g n h.0, still_tells a b g ms h.1)
-still_tells a b g (Verdict stamp who ply v ∷ ms) h = (ap (λ (x : Recorded). x.verdict) (g.ended v h.0) ∙ h.0, still_tells a b g ms h.1)
+still_tells a b g (Verdict stamp who ply v ∷ ms) h =
+    let same : b ≡ a = g.ended v h.0.0 in ((ap (λ (x : Recorded). x.verdict) same ∙ h.0.0, ap count_of same ∙ sym h.0.1), still_tells a b g ms h.1)
 still_tells a b g (Fetch stamp who number wanted ∷ ms) h = (tt, still_tells a b g ms h.1)
 
 -- ---- what a start finds
@@ -271,3 +276,18 @@ module _ (grow : PutsGrow) {F : Type 0} (facts : F → KeptFacts) (setup : Setup
 
 pub keeps : (grow : PutsGrow) {F : Type 0} (facts : F → KeptFacts) → KeepsWhatItTold facts
 keeps grow facts = λ setup first last runs start. all_runs grow facts setup first last runs start
+
+-- ---- over a file of the system
+
+module _ {C : Type 0} (facts : C → CallFacts) where
+  over_it : (left : Traced C) (start : FileKeeper (Traced C)) → StartsAsTold facts left start → StartsOver (told_of facts) left start
+  over_it left start h = record { one = λ a b finds. as_told facts left (stored start) a b h.told finds; in_file = h.in_file }
+
+  in_turn : (setup : SetupView) (first last : Traced C) (runs : List (PastRun (Traced C))) → AsToldInTurn facts setup first runs last → RunsInTurn (told_of facts) setup first runs last
+  unfolding RunsInTurn AsToldInTurn
+  in_turn setup first last [] turn = turn
+  in_turn setup first last (r ∷ rs) turn = (over_it first r.start turn.0, turn.1, in_turn setup r.left last rs turn.2)
+
+  pub keeps_as_told : (grow : PutsGrow) → KeepsAsTold facts
+  keeps_as_told grow = λ setup first last runs start turn told.
+      all_runs grow (told_of facts) setup first last runs start (in_turn setup first last runs turn) (over_it last start told)

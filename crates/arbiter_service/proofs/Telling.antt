@@ -37,7 +37,7 @@ on_and_on a b c p q = record {
 abbrev pub Tells : Recorded → Message → Type 0
 Tells r (Move stamp sender number m) = Unit {0}
 Tells r (Ack stamp who n) = n ≡ count_of r
-Tells r (Verdict stamp who ply v) = r.verdict ≡ Some v
+Tells r (Verdict stamp who ply v) = (r.verdict ≡ Some v) × (ply ≡ count_of r)
 Tells r (Fetch stamp who number wanted) = Unit {0}
 
 abbrev pub AllTell : Recorded → List Message → Type 0
@@ -45,7 +45,7 @@ AllTell r outputs = AllByRecursion (Tells r) outputs
 
 told_tells : (me : Identity) (r : Recorded) (o : Option Verdicts) → r.verdict ≡ o → AllTell r (told_of me (count_of r) o)
 told_tells me r None e = (refl, tt)
-told_tells me r (Some v) e = (refl, (e, tt))
+told_tells me r (Some v) e = (refl, ((e, refl), tt))
 
 sent_tells : (r : Recorded) (stamp : Stamp) (sender : Sender) (number : ℕ) (ms : List Moves) → AllTell r (sent_by stamp sender number ms)
 sent_tells r stamp sender number [] = tt

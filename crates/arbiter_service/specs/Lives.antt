@@ -12,12 +12,16 @@ use Rattle.arbiter_core.specs.Delivers.{Exchange, Moment, answer_at}
 use Rattle.arbiter_core.specs.Recording.{Recorded, Window, count_of}
 use Rattle.arbiter_core.specs.Setups.{SetupView}
 use Rattle.arbiter_core.specs.Views.{spelled_as}
+use Rattle.system_io.specs.FileCalls.{CallFacts}
 use Rattle.system_io.specs.KeptFiles.{KeptFacts, IsCutOff}
 use Rattle.system_io.specs.Ports.{Missed, Passed, Passing, PortFacts}
+use Rattle.system_io.specs.Premises.{IsAsTold}
+use Rattle.system_io.specs.Traces.{told_of}
+use Rattle.system_io.specs.declared.traced_file.Traced.{Traced}
 use Rattle.arbiter_service.specs.declared.file_keeper.FileKeeper.{FileKeeper}
 use Rattle.arbiter_service.specs.OverFiles.{GoesOn, IsItsRecord, IsOpened}
 use Rattle.arbiter_service.specs.Serving.{InTurn, handed, outputs_of, passing_of}
-use Rattle.arbiter_service.specs.StoredBytes.{StartsOver, file_of, keeper_over, stored}
+use Rattle.arbiter_service.specs.StoredBytes.{IsInFile, StartsOver, file_of, keeper_over, stored}
 
 -- ---- one run
 
@@ -74,7 +78,8 @@ pub record PastRun (F : Type 0) : Type 0 where
   pub exchanges : List (Exchange (FileKeeper F))
   pub left : F
 
--- runs of one setup, each over the file that the one before it left
+-- Runs of one setup, each over the file that the one before it left. A start that failed between the two is no run of its own: it
+-- leaves what every later start finds, and so the next one is a start over the same file (`begin`).
 unfoldable pub RunsInTurn : {F : Type 0} → (F → KeptFacts) → SetupView → F → List (PastRun F) → F → Type 0
 RunsInTurn facts setup first [] last = last ≡ first
 RunsInTurn facts setup first (r ∷ rs) last = StartsOver facts first r.start × RunsOver facts setup r.start r.exchanges r.left × RunsInTurn facts setup r.left rs last
@@ -90,11 +95,11 @@ pub record OneMore {F : Type 0} (facts : F → KeptFacts) (setup : SetupView) (l
 -- ---- what is still there
 
 -- what a message told still holds of a record: as many moves as were acknowledged, the same first ones as when the message was
--- told; and the verdict
+-- told; and the verdict at its ply
 abbrev pub StillHolds : Recorded → Recorded → Message → Type 0
 StillHolds then now (Move stamp sender number m) = Unit {0}
 StillHolds then now (Ack stamp who n) = (n ≤ count_of now) × (take n now.moves ≡ take n then.moves)
-StillHolds then now (Verdict stamp who ply v) = now.verdict ≡ Some v
+StillHolds then now (Verdict stamp who ply v) = (now.verdict ≡ Some v) × (count_of now ≡ ply)
 StillHolds then now (Fetch stamp who number wanted) = Unit {0}
 
 -- a start finds a record of the game that goes on from what the arbiter had recorded when it gave this answer, and in it what
@@ -114,6 +119,29 @@ KeepsWhatItTold {F} facts =
     → RunsInTurn facts setup first runs last
     → StartsOver facts last start
     → AllByRecursion (λ r. AllByRecursion (IsStillThere start) r.exchanges) runs
+
+-- ---- over a file of the system
+
+-- a start over the file that was left, under the premise on a system's file: it reads what may stand there by the calls of the
+-- last run that had a keeper and by their answers
+pub record StartsAsTold {C : Type 0} (facts : C → CallFacts) (left : Traced C) (start : FileKeeper (Traced C)) : Type 0 where
+  pub told : IsAsTold left (stored start)
+  pub in_file : IsInFile (told_of facts) start
+
+-- runs of one setup, each over the file that the one before it left, under that premise
+unfoldable pub AsToldInTurn : {C : Type 0} → (C → CallFacts) → SetupView → Traced C → List (PastRun (Traced C)) → Traced C → Type 0
+AsToldInTurn facts setup first [] last = last ≡ first
+AsToldInTurn facts setup first (r ∷ rs) last = StartsAsTold facts first r.start × RunsOver (told_of facts) setup r.start r.exchanges r.left × AsToldInTurn facts setup r.left rs last
+
+-- After any runs a start finds what each answer of each of them told, under that premise at each start.
+abbrev pub KeepsAsTold : {C : Type 0} → (C → CallFacts) → Type 0
+KeepsAsTold {C} facts =
+    (setup : SetupView) (first last : Traced C) (runs : List (PastRun (Traced C))) (start : FileKeeper (Traced C))
+    → AsToldInTurn facts setup first runs last
+    → StartsAsTold facts last start
+    → AllByRecursion (λ r. AllByRecursion (IsStillThere start) r.exchanges) runs
+
+-- ---- one more run
 
 -- what all answers of these runs told is there at this start
 abbrev pub AllStillThere : {F : Type 0} → FileKeeper F → List (PastRun F) → Type 0

@@ -1,8 +1,7 @@
 //! What an arbiter told is in its file at each later start.
 
-ghost use Rattle.arbiter_service.specs.Lives.{KeepsWhatItTold};
+ghost use Rattle.arbiter_service.specs.Lives.{KeepsAsTold, KeepsWhatItTold};
 ghost use Rattle.system_io.specs.PowerLosses.{disk_facts};
-ghost use Rattle.system_io.specs.Traces.{told_of};
 
 use arbiter_core::laws::puts_grow;
 use system_io::{DiskFile, FileCalls, KeptFile, Traced};
@@ -22,9 +21,10 @@ pub fn disk_keeps_what_it_told(disk: &DiskFile)
     keeps_what_it_told(disk);
 }
 
-/// So it is over a file of the system, by the calls that are made for it and their answers.
-pub fn traced_file_keeps_what_it_told<C: FileCalls + Drop>(file: &Traced<C>)
-    ensures { KeepsWhatItTold (told_of C.facts) }
+/// So it is over a file of the system, by the calls that are made for it and their answers, where each start reads what may stand
+/// there by those of the last run that had a keeper.
+pub fn traced_file_keeps_what_it_told<C: FileCalls + Drop>(_file: &Traced<C>)
+    ensures { KeepsAsTold C.facts }
 {
-    keeps_what_it_told(file);
+    puts_grow();
 }

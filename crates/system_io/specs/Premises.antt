@@ -41,8 +41,9 @@ system_port faults addresses = record { passed = None; faults = faults; addresse
 abbrev pub system_calls : CallFacts
 system_calls = record { made = None; fails = λ _. Unit {0} }
 
--- KEPT FILE: a start reads under the name one of those that, by the calls that the run before it made and by their answers, may
--- stand there: what was read when that run began, or a record that was to take the name since the folder was last synced
+-- KEPT FILE: a start reads under the name one of those that, by the calls of the last run that had a keeper and by their answers,
+-- may stand there: what was read when that run began, or a record that was to take the name since the folder was last synced. A
+-- start that failed since then changed nothing there.
 pub record IsAsTold {C : Type 0} (left : Traced C) (read : Option (List ℕ)) : Type 0 where
   pub among : left.is_known ≡ true → IsAmong read (left.stands ∷ left.earlier.items)
 
