@@ -4,18 +4,20 @@ use crate::arbiters::{Sent, message_of, record_of, setup_of, stamp_of};
 use crate::comparing::{check_bytes, check_same};
 use crate::positions::START;
 use arbiter_service::run_after;
+use board_core::Verdict;
 use move_msg::{Message, Record};
 use std::alloc::Global;
 use std::process::Abort;
 use system_io::{
-    Choice, DiskFile, MemoryPort, Outcome, Passage, Turn, read_after, replace_in_part,
+    Choice, DiskFile, KeptFile, MemoryPort, Outcome, Passage, ReadFault, Turn, read_after,
+    replace_in_part,
 };
 
-/// The moves of a game, four letters each.
-const GAME: &str = "e2e4 e7e5 g1f3 b8c6 f1b5 a7a6 b5a4 g8f6 d2d3 f8e7 a2a3 b7b5";
+/// The moves of a game, four letters each. The last one mates.
+const GAME: &str = "e2e4 e7e5 f1c4 b8c6 a2a3 a7a6 b2b3 b7b6 d1h5 g8f6 h5f7";
 
 /// How many they are.
-const MOVES: usize = 12;
+const MOVES: usize = 11;
 
 /// How many runs are made, and how many of them over one disk at most.
 const RUNS: u32 = 200;
@@ -53,6 +55,17 @@ fn messages(rt: &impl Abort) -> [[u8; 27]; MOVES] {
         all[number] = message_at(rt, number);
     }
     all
+}
+
+/// The record of the first moves of the game, so many.
+fn record_at(rt: &impl Abort, alloc: Global, count: usize) -> Vec<u8> {
+    let verdict = if count < MOVES {
+        None
+    } else {
+        Some(Verdict::WhiteMates)
+    };
+    let stamp = stamp_of(rt, START, 0);
+    record_of(rt, alloc, stamp, 0, first_moves(count), verdict)
 }
 
 /// What comes of a call: one in six fails, before, in the middle or after all is done.
@@ -156,8 +169,8 @@ fn run_and_hear(
     count: u32,
     seed: &mut u64,
 ) -> (Option<DiskFile>, bool, Told) {
-    let [a, b, c, d, e, f, g, h, i, j, k, l] = messages(rt);
-    let datagrams: [&[u8]; MOVES] = [&a, &b, &c, &d, &e, &f, &g, &h, &i, &j, &k, &l];
+    let [a, b, c, d, e, f, g, h, i, j, k] = messages(rt);
+    let datagrams: [&[u8]; MOVES] = [&a, &b, &c, &d, &e, &f, &g, &h, &i, &j, &k];
     let turns = turns(seed, count as usize);
     let choice = choice(rt, alloc, seed);
     let mut port = MemoryPort::new(alloc, 1, &datagrams, &turns, None);
@@ -168,15 +181,15 @@ fn run_and_hear(
 
 /// Stops in the middle of a put of the record with one move more than so many, after some of its calls.
 fn cut_put(rt: &impl Abort, alloc: Global, disk: &mut DiskFile, count: u32, seed: &mut u64) {
-    let moves = first_moves((count as usize + 1).min(MOVES));
-    let bytes = record_of(rt, alloc, stamp_of(rt, START, 0), 0, moves, None);
+    let bytes = record_at(rt, alloc, (count as usize + 1).min(MOVES));
     let _done = replace_in_part(disk, &bytes, below(seed, 5));
 }
 
-/// A start has at least so many moves; one of an arbiter that was not opened has none.
+/// A start has at least so many moves, if it told how many it has: without a verdict it asks for more.
 fn check_start(rt: &impl Abort, told: &Told, acknowledged: u32) {
-    let start = told.start.unwrap_or(0);
-    check_same(rt, start.max(acknowledged), start, "moves at a start");
+    if let Some(start) = told.start {
+        check_same(rt, start.max(acknowledged), start, "moves at a start");
+    }
 }
 
 /// Where an arbiter ran to the end of a run, one run in two stops in the middle of its next put.
@@ -195,28 +208,32 @@ fn stop(
     }
 }
 
-/// A record has at least so many moves, and they are the first of the game.
+/// A record has at least so many moves, and is that of the first of the game, with the verdict at its end.
 fn check_record(rt: &impl Abort, alloc: Global, bytes: &[u8], acknowledged: u32) {
     let count = Record::summary(bytes).expect(rt, "a record").0;
     check_same(rt, count.max(acknowledged), count, "moves at the end");
-    let wanted = record_of(
-        rt,
-        alloc,
-        stamp_of(rt, START, 0),
-        0,
-        first_moves(count as usize),
-        None,
-    );
+    let wanted = record_at(rt, alloc, count as usize);
     check_bytes(rt, bytes, &wanted, "the record");
+}
+
+/// What was read, where it could be.
+fn check_read(
+    rt: &impl Abort,
+    alloc: Global,
+    read: &Result<Option<Vec<u8>>, ReadFault>,
+    acknowledged: u32,
+) {
+    match read {
+        Ok(Some(bytes)) => check_record(rt, alloc, bytes, acknowledged),
+        Ok(None) => check_same(rt, acknowledged, 0, "moves at the end"),
+        Err(_) => {}
+    }
 }
 
 /// What a start reads after all runs over a disk.
 fn check_end(rt: &impl Abort, alloc: Global, disk: DiskFile, acknowledged: u32, seed: &mut u64) {
-    match read_after(alloc, disk, choice(rt, alloc, seed)) {
-        Ok(Some(bytes)) => check_record(rt, alloc, &bytes, acknowledged),
-        Ok(None) => check_same(rt, acknowledged, 0, "moves at the end"),
-        Err(_) => {}
-    }
+    let read = read_after(alloc, disk, choice(rt, alloc, seed));
+    check_read(rt, alloc, &read, acknowledged);
 }
 
 /// What the runs over one disk have acknowledged, and how many they are.
@@ -239,6 +256,7 @@ fn run_more(
     let mut left = left?;
     check_start(rt, &told, tally.acknowledged);
     tally.acknowledged = tally.acknowledged.max(told.acknowledged);
+    check_read(rt, alloc, &left.read(alloc), tally.acknowledged);
     stop(rt, alloc, &mut left, is_lost, &told, seed);
     Some(left)
 }
