@@ -7,7 +7,8 @@ use move_msg::{Count, MOST_MOVES, Message, Stamp, Who};
 use std::alloc::Global;
 use std::io::{self, Read};
 use std::process::Abort;
-use system_io::{MemoryPort, Turn};
+use std::time::Duration;
+use system_io::{MemoryPort, Port, PortFault, Turn};
 
 /// A count of moves by its digit; a star is as many as a game may have.
 fn count_of(digit: u8) -> Count {
@@ -111,6 +112,50 @@ impl Coming {
     /// A port at which they come, and which sends to two addresses.
     pub(crate) fn port<'a>(&'a self, alloc: Global, datagrams: &'a [&'a [u8]]) -> MemoryPort<'a> {
         MemoryPort::new(alloc, 2, datagrams, &self.turns, None)
+    }
+}
+
+/// A port in memory, and for each receive how many milliseconds it may wait.
+#[derive(Drop)]
+pub(crate) struct Timed<'a> {
+    pub(crate) port: MemoryPort<'a>,
+    pub(crate) waits: Vec<u8>,
+}
+
+impl<'a> Timed<'a> {
+    /// Keeps how long a receive may wait; above 255 milliseconds it is 255.
+    fn keep(&mut self, wait: Duration)
+        ensures { self.new.port ≡ self.old.port }
+    {
+        let millis = u8::try_from(wait.as_millis()).unwrap_or(255);
+        let _kept = self.waits.push(millis);
+    }
+}
+
+impl<'a> Port for Timed<'a> {
+    ghost use Rattle.system_io.specs.MemoryPorts.{port_facts};
+
+    ghost facts = { λ t. port_facts t.port };
+
+    fn receive(&mut self, buffer: &mut [u8; 64]) -> Result<usize, PortFault> {
+        self.port.receive(buffer)
+    }
+
+    fn receive_in_time(
+        &mut self,
+        wait: Duration,
+        buffer: &mut [u8; 64],
+    ) -> Result<Option<usize>, PortFault> {
+        self.keep(wait);
+        self.port.receive_in_time(wait, buffer)
+    }
+
+    fn send(&mut self, bytes: &[u8]) -> Result<(), PortFault> {
+        self.port.send(bytes)
+    }
+
+    fn failures(&self) -> u64 {
+        self.port.failures()
     }
 }
 

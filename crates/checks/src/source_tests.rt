@@ -5,13 +5,13 @@ use crate::files::push_bytes;
 use crate::forge_tests::Failing;
 use crate::message_tests::STAMP;
 use crate::positions::{START, position_of};
-use crate::source_port::{After, Coming, Given};
+use crate::source_port::{After, Coming, Given, Timed};
 use source_core::{Terms, send_game};
 use std::alloc::Global;
 use std::io::BufReader;
 use std::process::Abort;
 use std::time::Duration;
-use system_io::{MemoryPort, Output, Passage, WriteFault};
+use system_io::{MemoryPort, Output, Passage, Port, WriteFault};
 
 /// A game to mate at ply 4.
 const MATE: &str = "f2f3\ne7e5\ng2g4\nd8h4\n";
@@ -52,12 +52,12 @@ fn reader_of<'a>(
 }
 
 /// The end of a run over an input.
-fn sent<W: Output>(
+fn sent<P: Port, W: Output>(
     rt: &impl Abort,
     alloc: Global,
     reader: &mut BufReader<Given<'_>, Global>,
     tries: u32,
-    port: &mut MemoryPort<'_>,
+    port: &mut P,
     out: &mut W,
 ) -> Result<u8, WriteFault> {
     let start = position_of(rt, START);
@@ -377,4 +377,25 @@ fn stops_where_the_writer_fails(rt: HostRuntime) {
     check_stopped(&rt, rt.alloc(), 0, "00ccq");
     check_stopped(&rt, rt.alloc(), 2, "00ccq11ccq22ccq");
     check_stopped(&rt, rt.alloc(), 3, "00ccq11ccq22ccq33cccc");
+}
+
+/// For how many milliseconds each datagram is awaited in a run over one move.
+fn check_waits(rt: &impl Abort, alloc: Global, port: MemoryPort<'_>, waits: &[u8]) {
+    let mut timed = Timed {
+        port,
+        waits: Vec::new(alloc),
+    };
+    let mut reader = reader_of(rt, alloc, "f2f3\n", After::End);
+    let ended = sent(rt, alloc, &mut reader, 9, &mut timed, &mut Vec::new(alloc));
+    check_same(rt, ended, Ok(0), "status");
+    check_bytes(rt, &timed.waits, waits, "waits");
+}
+
+/// As long as the terms say, one millisecond here, and two for the verdicts once both have acknowledged the move.
+#[test]
+fn awaits_as_long_as_it_is_to(rt: HostRuntime) {
+    let coming = Coming::of(&rt, rt.alloc(), STAMP, "a1b1----");
+    let datagrams = coming.datagrams(&rt, rt.alloc());
+    let port = coming.port(rt.alloc(), &datagrams);
+    check_waits(&rt, rt.alloc(), port, &[1, 1, 2, 1]);
 }
