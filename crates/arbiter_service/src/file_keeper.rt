@@ -8,8 +8,8 @@ use arbiter_core::{KeepFault, Keeper, copy_of};
 use std::alloc::{AllocError, Global};
 use system_io::{KeptFile, MOST_KEPT_BYTES, ReadFault, begin, replace};
 
-/// Keeps bytes in a file, and stores them in room for 8217 that `new` makes. No other call takes memory but `get`, and a get
-/// never fails.
+/// Keeps bytes in a file, and stores them in room for 8217 that `new` makes. Besides, a get takes memory for its copy, and a put
+/// where the file does. A get fails for want of memory alone.
 #[derive(Drop)]
 pub struct FileKeeper<F: Drop> {
     file: F,
