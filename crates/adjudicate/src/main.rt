@@ -2,19 +2,58 @@
 #![tactic(auto)]
 
 use adjudicate_core::{WordsFault, refuse_memory, run_program};
+use std::env::{Env, FillError};
 use std::process::ExitCode;
 use std::{env, io};
 use system_io::{BufferedOutput, SystemDisk, SystemHost, SystemInput, end};
 
+/// The bytes of the word at a place, its own name being at 0; none where there are fewer words.
+fn bytes_of(rt: &HostRuntime, place: usize) -> Result<Option<Vec<u8>>, WordsFault> {
+    let mut bytes = vec![in rt.alloc(); 0u8; 4096]?;
+    for _ in 0..64 {
+        match rt.arg(place, &mut bytes) {
+            Ok(length) => {
+                bytes.truncate(length);
+                return Ok(Some(bytes));
+            }
+            Err(FillError::NotPresent) => return Ok(None),
+            Err(FillError::TooLong) => {
+                let more = bytes.len();
+                bytes.resize(more.saturating_mul(2), 0)?;
+            }
+        }
+    }
+    Ok(None)
+}
+
+/// The first word that is no text.
+fn no_text(rt: &HostRuntime) -> Result<Vec<u8>, WordsFault> {
+    for place in 0..usize::MAX {
+        match bytes_of(rt, place)? {
+            Some(bytes) if str::from_utf8(&bytes).is_ok() => {}
+            Some(bytes) => return Ok(bytes),
+            None => break,
+        }
+    }
+    Ok(Vec::new(rt.alloc()))
+}
+
 /// The words that the program was called with, its own name first.
 fn words_of(rt: &HostRuntime) -> Result<Vec<String>, WordsFault> {
-    Ok(env::args(rt)?.collect(rt.alloc())?)
+    match env::args(rt) {
+        Ok(words) => Ok(words.collect(rt.alloc())?),
+        Err(error) if error.kind() == io::ErrorKind::OutOfMemory => Err(WordsFault::OutOfMemory),
+        Err(_) => Err(WordsFault::NoText(no_text(rt)?)),
+    }
 }
 
 /// Runs the program, and ends with its status, 1 where the output can't be written. Its lines are gathered before they are
 /// written.
 fn main(rt: HostRuntime) -> ExitCode {
     let Ok(mut out) = BufferedOutput::new(rt.alloc(), io::writer(&rt)) else {
+        return ExitCode::from(refuse_memory(&mut io::writer(&rt)).unwrap_or(1));
+    };
+    let Ok(mut errors) = BufferedOutput::new(rt.alloc(), rt.stderr()) else {
         return ExitCode::from(refuse_memory(&mut io::writer(&rt)).unwrap_or(1));
     };
     let answered = run_program(
@@ -24,7 +63,7 @@ fn main(rt: HostRuntime) -> ExitCode {
         &SystemInput::new(&rt),
         &SystemHost::new(&rt),
         &mut out,
-        &mut rt.stderr(),
+        &mut errors,
     );
     ExitCode::from(end(&mut out, answered))
 }

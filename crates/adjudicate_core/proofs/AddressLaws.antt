@@ -1,10 +1,13 @@
 -- A word that commas part, piece by piece.
-use Rattle.std.proofs.Common.{◌≡◌, ◌<◌, ◌≤◌, ◌+◌, ℕ, suc, cond, Bool, true, false, not, List, [], ◌∷◌, ◌++◌, length, arith, refl, sym, ap, ◌∙◌, append_assoc}
+use Rattle.std.proofs.Common.{◌≡◌, ◌<◌, ◌≤◌, ◌+◌, ◌-◌, ◌^◌, ℕ, suc, cond, Bool, true, false, not, List, [], ◌∷◌, ◌++◌, length, arith, refl, sym, ap, subst, inl, inr, ◌∙◌, append_assoc}
 use Rattle.std.specs.Prelude.{◌==◌}
-use Rattle.std.proofs.lemmas.List.{length-drop}
-use Rattle.std.specs.List.{after_first, before_first, onto_first, position_or_len, slice_split}
-use Rattle.std.proofs.lemmas.List.Splits.{slice_split_first, slice_split-cons_no}
-use Rattle.adjudicate_core.specs.Addresses.{addresses_of}
+use Rattle.std.proofs.lemmas.List.{length-append, length-drop}
+use Rattle.std.specs.List.{AllByRecursion, after_first, before_first, onto_first, position_or_len, slice_split}
+use Rattle.std.proofs.lemmas.List.Splits.{length-slice_split, slice_split_first, slice_split-cons_no}
+use Rattle.fen_text.specs.Cuts.{cut_at}
+use Rattle.adjudicate_core.specs.Addresses.{AreAddresses, IsAddress, addresses_of}
+use Rattle.adjudicate_core.specs.Numbers.{IsNumber}
+use Rattle.adjudicate_core.specs.Inside.Behind.{IsBehindColon}
 
 -- the first comma is later than here
 by_cond : (b : Bool) (n m : ℕ) → cond (not b) (1 + n) 0 ≡ suc m → b ≡ false → n ≡ m
@@ -20,15 +23,91 @@ split_none p [] e = refl
 split_none p (x ∷ xs) e = split_by p x xs (p x) refl e (split_none p xs)
 
 -- the last piece
-pub all_found : (word rest : List ℕ) (found : List (List ℕ)) → addresses_of word ≡ found ++ addresses_of rest → position_or_len (λ b. b == 44) rest ≡ length rest → found ++ rest ∷ [] ≡ addresses_of word
-all_found word rest found e none = sym (e ∙ ap (λ l. found ++ l) (split_none (λ b. b == 44) rest none))
+pub all_found : (mark : ℕ) (word rest : List ℕ) (found : List (List ℕ)) → cut_at mark word ≡ found ++ cut_at mark rest → position_or_len (λ b. b == mark) rest ≡ length rest → found ++ rest ∷ [] ≡ cut_at mark word
+all_found mark word rest found e none = sym (e ∙ ap (λ l. found ++ l) (split_none (λ b. b == mark) rest none))
 
 -- one more piece
-pub one_found : (word rest first more : List ℕ) (found : List (List ℕ)) → addresses_of word ≡ found ++ addresses_of rest → first ≡ before_first (λ b. b == 44) rest → more ≡ after_first (λ b. b == 44) rest → position_or_len (λ b. b == 44) rest < length rest → addresses_of word ≡ (found ++ first ∷ []) ++ addresses_of more
-one_found word rest first more found e is_first is_more some =
-    e ∙ ap (λ l. found ++ l) (slice_split_first (λ b. b == 44) rest 0 some ∙ ap (λ f. f ∷ addresses_of (after_first (λ b. b == 44) rest)) (sym is_first) ∙ ap (λ m. first ∷ addresses_of m) (sym is_more))
-    ∙ sym (append_assoc found (first ∷ []) (addresses_of more))
+pub one_found : (mark : ℕ) (word rest first more : List ℕ) (found : List (List ℕ)) → cut_at mark word ≡ found ++ cut_at mark rest → first ≡ before_first (λ b. b == mark) rest → more ≡ after_first (λ b. b == mark) rest → position_or_len (λ b. b == mark) rest < length rest → cut_at mark word ≡ (found ++ first ∷ []) ++ cut_at mark more
+one_found mark word rest first more found e is_first is_more some =
+    e ∙ ap (λ l. found ++ l) (slice_split_first (λ b. b == mark) rest 0 some ∙ ap (λ f. f ∷ cut_at mark (after_first (λ b. b == mark) rest)) (sym is_first) ∙ ap (λ m. first ∷ cut_at mark m) (sym is_more))
+    ∙ sym (append_assoc found (first ∷ []) (cut_at mark more))
+
+-- where there is a comma, there are two pieces and more
+pub two_pieces : (word first more : List ℕ) → first ≡ before_first (λ b. b == 44) word → more ≡ after_first (λ b. b == 44) word → position_or_len (λ b. b == 44) word < length word → 1 < length (addresses_of word)
+two_pieces word first more is_first is_more some =
+    let all : length (addresses_of word) ≡ length (first ∷ cut_at 44 more) = ap length (one_found 44 word word first more [] refl is_first is_more some) in
+    let rest = length-slice_split (λ b. b == 44) more in
+    omega (arith, all, rest)
 
 -- what comes after a comma is shorter
 pub after_less : (p : ℕ → Bool) (xs : List ℕ) → position_or_len p xs < length xs → length (after_first p xs) < length xs
 after_less p xs lt = let left = length-drop (position_or_len p xs + 1) xs in omega (arith, left, lt)
+
+-- ---- what stands behind the last colon
+
+last_same : {A : Type 0} (xs ys : List A) (x y : A) → xs ++ x ∷ [] ≡ ys ++ y ∷ [] → x ≡ y
+last_same [] [] x y e = cc
+last_same [] (z ∷ ys) x y e = let none : length (x ∷ []) ≡ length (z ∷ (ys ++ y ∷ [])) = ap length e in let more = length-append ys (y ∷ []) in absurd (omega (arith, none, more))
+last_same (z ∷ xs) [] x y e = let none : length (z ∷ (xs ++ x ∷ [])) ≡ length (y ∷ []) = ap length e in let more = length-append xs (x ∷ []) in absurd (omega (arith, none, more))
+last_same (z ∷ xs) (w ∷ ys) x y e = let rest : xs ++ x ∷ [] ≡ ys ++ y ∷ [] = cc in last_same xs ys x y rest
+
+-- a text is cut so far
+pub record CutTo (text rest : List ℕ) : Type 0 where
+  pub front : List (List ℕ)
+  pub parts : cut_at 58 text ≡ front ++ cut_at 58 rest
+
+pub cut_more : (text rest more : List ℕ) → CutTo text rest → more ≡ after_first (λ b. b == 58) rest → position_or_len (λ b. b == 58) rest < length rest → CutTo text more
+cut_more text rest more h is_more some = record { front = h.front ++ before_first (λ b. b == 58) rest ∷ []; parts = one_found 58 text rest (before_first (λ b. b == 58) rest) more h.front h.parts refl is_more some }
+
+-- the port of an address is what stands there
+same_port : (text rest : List ℕ) → IsBehindColon text rest → (a : IsAddress text) → a.port ≡ rest
+same_port text rest h a = last_same a.front h.front a.port rest (sym a.parts ∙ h.parts)
+
+pub address_so : (text rest : List ℕ) (n : ℕ) → IsBehindColon text rest → 2 ≤ length text - length rest → IsNumber rest n → n < 2 ^ 16 → IsAddress text
+address_so text rest n h more is within = record { front = h.front; port = rest; number = n; parts = h.parts; host = (let w = h.within in omega (arith, more, w)); is = is; within = within }
+
+pub not_long : (text rest : List ℕ) → IsBehindColon text rest → length text - length rest < 2 → IsAddress text → ⊥
+not_long text rest h short a = let host = a.host in let same : length a.port ≡ length rest = ap length (same_port text rest h a) in absurd (omega (arith, host, same, short))
+
+pub no_port : (text rest : List ℕ) → IsBehindColon text rest → ((n : ℕ) → IsNumber rest n → n < 2 ^ 16 → ⊥) → IsAddress text → ⊥
+no_port text rest h none a = none a.number (subst (λ p. IsNumber p a.number) (same_port text rest h a) a.is) a.within
+
+-- ---- addresses one by one
+
+all_append : {A : Type 0} (P : A → Type 0) (xs : List A) (x : A) → AllByRecursion P xs → P x → AllByRecursion P (xs ++ x ∷ [])
+all_append P [] x h p = (p, tt)
+all_append P (y ∷ xs) x h p = (h.0, all_append P xs x h.1 p)
+
+all_behind : {A : Type 0} (P : A → Type 0) (xs ys : List A) → AllByRecursion P (xs ++ ys) → AllByRecursion P ys
+all_behind P [] ys h = h
+all_behind P (x ∷ xs) ys h = all_behind P xs ys h.1
+
+-- these are done, and each is an address
+pub record DoneTo (word rest : List ℕ) : Type 0 where
+  pub done : List (List ℕ)
+  pub parts : addresses_of word ≡ done ++ addresses_of rest
+  pub all : AllByRecursion IsAddress done
+
+pub done_none : (word : List ℕ) → DoneTo word word
+done_none word = record { done = []; parts = refl; all = tt }
+
+pub done_more : (word rest first more : List ℕ) → DoneTo word rest → first ≡ before_first (λ b. b == 44) rest → more ≡ after_first (λ b. b == 44) rest → position_or_len (λ b. b == 44) rest < length rest → IsAddress first → DoneTo word more
+done_more word rest first more h is_first is_more some good =
+    record { done = h.done ++ first ∷ []; parts = one_found 44 word rest first more h.done h.parts is_first is_more some; all = all_append IsAddress h.done first h.all good }
+
+pub done_bad : (word rest first more : List ℕ) → DoneTo word rest → first ≡ before_first (λ b. b == 44) rest → more ≡ after_first (λ b. b == 44) rest → position_or_len (λ b. b == 44) rest < length rest → (IsAddress first → ⊥) → AreAddresses word → ⊥
+done_bad word rest first more h is_first is_more some bad all =
+    let parts = h.parts ∙ ap (λ l. h.done ++ l) (one_found 44 rest rest first more [] refl is_first is_more some) in
+    bad (all_behind IsAddress h.done (first ∷ addresses_of more) (subst (AllByRecursion IsAddress) parts all)).0
+
+last_parts : (word rest : List ℕ) (h : DoneTo word rest) → position_or_len (λ b. b == 44) rest ≡ length rest → addresses_of word ≡ h.done ++ rest ∷ []
+last_parts word rest h none = sym (all_found 44 word rest h.done h.parts none)
+
+pub done_last : (word rest : List ℕ) → DoneTo word rest → position_or_len (λ b. b == 44) rest ≡ length rest → IsAddress rest → AreAddresses word
+done_last word rest h none good = subst (AllByRecursion IsAddress) (sym (last_parts word rest h none)) (all_append IsAddress h.done rest h.all good)
+
+pub done_not : (word rest : List ℕ) → DoneTo word rest → position_or_len (λ b. b == 44) rest ≡ length rest → (IsAddress rest → ⊥) → AreAddresses word → ⊥
+done_not word rest h none bad all = bad (all_behind IsAddress h.done (rest ∷ []) (subst (AllByRecursion IsAddress) (last_parts word rest h none) all)).0
+
+pub only_one : (word : List ℕ) → position_or_len (λ b. b == 44) word ≡ length word → addresses_of word ≡ word ∷ []
+only_one word none = sym (all_found 44 word word [] refl none)

@@ -18,7 +18,7 @@ use Rattle.arbiter_core.specs.Views.{spelled_as}
 use Rattle.move_msg.proofs.RecordLaws.{one_record}
 use Rattle.adjudicate_core.specs.declared.auditing.Finding.{Finding}
 use Rattle.adjudicate_core.specs.declared.auditing.Finding.TheVariants as found
-use Rattle.adjudicate_core.specs.Audits.{AreCompared, AreSameAt, IsFound, StopsAt, verdict_at}
+use Rattle.adjudicate_core.specs.Audits.{AreCompared, AreOfOneGame, AreSameAt, IsFound, StopsAt, verdict_at}
 use Rattle.adjudicate_core.specs.Inside.Auditing.{ArePartedAt, EndsPart, IsFoundBy, PartsAfter, stop_in}
 
 -- ---- one record
@@ -95,27 +95,28 @@ at_last : (r : Record) (j : ℕ) → j ≡ length r.moves → verdict_at r j ≡
 at_last r j same = cond-true (j == length r.moves) r.verdict None (eq-eqb j (length r.moves) same)
 
 -- before the last ply of both they are the same as long as their moves are
-same_inside : (r s : Record) (n j : ℕ) → take n r.moves ≡ take n s.moves → j ≤ n → j < length r.moves → j < length s.moves → AreSameAt r s j
-same_inside r s n j h le lt also = (
+same_inside : (r s : Record) (n j : ℕ) → AreOfOneGame r s → take n r.moves ≡ take n s.moves → j ≤ n → j < length r.moves → j < length s.moves → AreSameAt r s j
+same_inside r s n j game h le lt also = (
+  game,
   same_front n j r.moves s.moves le h,
   no_verdict r j (λ e. absurd (omega arith)) ∙ sym (no_verdict s j (λ e. absurd (omega arith))),
 )
 
 -- records whose moves part
-pub parted_so : (r s : Record) (count : ℕ) → ArePartedAt r.moves s.moves count → AreCompared r s (Some (count + 1))
-parted_so r s count h = (
-  λ j lt. same_inside r s count j h.same (omega arith) (let w = h.within in omega arith) (let w = h.also in omega arith),
-  λ same. h.differ same.0,
+pub parted_so : (r s : Record) (count : ℕ) → AreOfOneGame r s → ArePartedAt r.moves s.moves count → AreCompared r s (Some (count + 1))
+parted_so r s count game h = (
+  λ j lt. same_inside r s count j game h.same (omega arith) (let w = h.within in omega arith) (let w = h.also in omega arith),
+  λ same. h.differ same.1,
 )
 
 -- the one begins by the moves of the other, and is longer
-module _ (r s : Record) (less : length r.moves < length s.moves) (h : take (length r.moves) r.moves ≡ take (length r.moves) s.moves) where
+module _ (r s : Record) (game : AreOfOneGame r s) (less : length r.moves < length s.moves) (h : take (length r.moves) r.moves ≡ take (length r.moves) s.moves) where
   pub shorter_so : (ply : ℕ) → PartsAfter (length r.moves) r.verdict ply → ((j : ℕ) → j < ply → AreSameAt r s j) × (AreSameAt r s ply → ⊥)
   shorter_so ply p = elim p [
     | inl ends ↦ (
-      (λ j lt. same_inside r s (length r.moves) j h (let e = ends.1 in omega arith) (let e = ends.1 in omega arith) (let e = ends.1 in omega arith)),
+      (λ j lt. same_inside r s (length r.moves) j game h (let e = ends.1 in omega arith) (let e = ends.1 in omega arith) (let e = ends.1 in omega arith)),
       (λ same.
-          let none : r.verdict ≡ None = sym (at_last r ply ends.1) ∙ same.1 ∙ no_verdict s ply (λ e. let is = ends.1 in absurd (omega arith)) in
+          let none : r.verdict ≡ None = sym (at_last r ply ends.1) ∙ same.2 ∙ no_verdict s ply (λ e. let is = ends.1 in absurd (omega arith)) in
           let t : is_some r.verdict ≡ true = ends.0 in
           let f : is_some r.verdict ≡ false = ap is_some none in
           let x : true ≡ false = sym t ∙ f in cc),
@@ -123,7 +124,7 @@ module _ (r s : Record) (less : length r.moves < length s.moves) (h : take (leng
     | inr next ↦ (
       (λ j lt. by_last j (let e = next.1 in omega arith) next.0),
       (λ same.
-          let long : length (take ply r.moves) ≡ length (take ply s.moves) = ap length same.0 in
+          let long : length (take ply r.moves) ≡ length (take ply s.moves) = ap length same.1 in
           let all : take ply r.moves ≡ r.moves = take_all ply r.moves (let e = next.1 in omega arith) in
           let one : length (take ply r.moves) ≡ length r.moves = ap length all in
           let other : length (take ply s.moves) ≡ ply = length-take-le ply s.moves (let e = next.1 in omega arith) in
@@ -133,40 +134,45 @@ module _ (r s : Record) (less : length r.moves < length s.moves) (h : take (leng
     where
       by_last : (j : ℕ) → j ≤ length r.moves → r.verdict ≡ None → AreSameAt r s j
       by_last j le none = elim (cases_lt j (length r.moves)) [
-        | inl lt ↦ same_inside r s (length r.moves) j h le lt (omega arith)
+        | inl lt ↦ same_inside r s (length r.moves) j game h le lt (omega arith)
         | inr ge ↦ (
+          game,
           same_front (length r.moves) j r.moves s.moves le h,
           at_last r j (omega arith) ∙ none ∙ sym (no_verdict s j (λ e. absurd (omega arith))),
         )
       ]
 
+turned_game : (r s : Record) → AreOfOneGame r s → AreOfOneGame s r
+turned_game r s game = (sym game.0, sym game.1)
+
 turned : (r s : Record) (ply : ℕ) → ((j : ℕ) → j < ply → AreSameAt r s j) × (AreSameAt r s ply → ⊥) → ((j : ℕ) → j < ply → AreSameAt s r j) × (AreSameAt s r ply → ⊥)
 turned r s ply h = (
-  (λ j lt. let same = h.0 j lt in (sym same.0, sym same.1)),
-  (λ same. h.1 (sym same.0, sym same.1)),
+  (λ j lt. let same = h.0 j lt in (turned_game r s same.0, sym same.1, sym same.2)),
+  (λ same. h.1 (turned_game s r same.0, sym same.1, sym same.2)),
 )
 
 -- records of which one begins by the moves of the other
-pub ends_so : (r s : Record) (p : Option ℕ) → take (min (length r.moves) (length s.moves)) r.moves ≡ take (min (length r.moves) (length s.moves)) s.moves → EndsPart (length r.moves) r.verdict (length s.moves) s.verdict p → AreCompared r s p
-ends_so r s None h p =
+pub ends_so : (r s : Record) (p : Option ℕ) → AreOfOneGame r s → take (min (length r.moves) (length s.moves)) r.moves ≡ take (min (length r.moves) (length s.moves)) s.moves → EndsPart (length r.moves) r.verdict (length s.moves) s.verdict p → AreCompared r s p
+ends_so r s None game h p =
     let short : min (length r.moves) (length s.moves) ≡ length r.moves = let e = p.0 in omega arith in
     let same = subst (λ n. take n r.moves ≡ take n s.moves) short h in (
+      game,
       sym (take_all (length r.moves) r.moves (omega arith)) ∙ same ∙ take_all (length r.moves) s.moves (let e = p.0 in omega arith),
       p.1,
     )
-ends_so r s (Some ply) h p = elim p [
+ends_so r s (Some ply) game h p = elim p [
   | inl less ↦ (
       let short : min (length r.moves) (length s.moves) ≡ length r.moves = let lt = less.0 in omega arith in
-      shorter_so r s less.0 (subst (λ n. take n r.moves ≡ take n s.moves) short h) ply less.1)
+      shorter_so r s game less.0 (subst (λ n. take n r.moves ≡ take n s.moves) short h) ply less.1)
   | inr rest ↦ elim rest [
     | inl more ↦ (
         let short : min (length r.moves) (length s.moves) ≡ length s.moves = let lt = more.0 in omega arith in
-        turned s r ply (shorter_so s r more.0 (sym (subst (λ n. take n r.moves ≡ take n s.moves) short h)) ply more.1))
+        turned s r ply (shorter_so s r (turned_game r s game) more.0 (sym (subst (λ n. take n r.moves ≡ take n s.moves) short h)) ply more.1))
     | inr level ↦ (
         let short : min (length r.moves) (length s.moves) ≡ length r.moves = let e = level.0 in omega arith in
         let same = subst (λ n. take n r.moves ≡ take n s.moves) short h in (
-          (λ j lt. same_inside r s (length r.moves) j same (let e = level.2 in omega arith) (let e = level.2 in omega arith) (let e = level.0 in let f = level.2 in omega arith)),
-          (λ at. level.1 (sym (at_last r ply level.2) ∙ at.1 ∙ at_last s ply (level.2 ∙ level.0))),
+          (λ j lt. same_inside r s (length r.moves) j game same (let e = level.2 in omega arith) (let e = level.2 in omega arith) (let e = level.0 in let f = level.2 in omega arith)),
+          (λ at. level.1 (sym (at_last r ply level.2) ∙ at.2 ∙ at_last s ply (level.2 ∙ level.0))),
         ))
   ]
 ]

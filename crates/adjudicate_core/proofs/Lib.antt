@@ -10,3 +10,5 @@ pub mod ScheduleLaws
 pub mod LookLaws
 pub mod AuditLaws
 pub mod MisuseLaws
+pub mod PutLaws
+pub mod BindLaws

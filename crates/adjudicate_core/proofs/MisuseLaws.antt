@@ -1,6 +1,6 @@
 -- What is told of words that are misused.
 use Rattle.std.proofs.Common.{◌≡◌, ◌++◌, ◌∙◌, List, [], ◌∷◌, Option, sym, ap, subst, inl, inr}
-use Rattle.std.specs.Prelude.{ℕ}
+use Rattle.std.specs.Prelude.{ℕ, Some, slice_get}
 use Rattle.clap.specs.Words.{HasKind, Text, kind_of}
 use Rattle.clap.specs.declared.error.Error.{Error}
 use Rattle.clap.specs.declared.error.kind.ErrorKind.{ErrorKind}
@@ -10,9 +10,11 @@ use Rattle.adjudicate_core.specs.declared.usage.Misuse.{Misuse as Misuses}
 use Rattle.adjudicate_core.specs.declared.usage.Misuse.TheVariants.{Refused, Value}
 use Rattle.adjudicate_core.specs.declared.usage.Usage.TheVariants.{Misuse, OutOfMemory}
 use Rattle.adjudicate_core.specs.declared.usage.ValueFault.{ValueFault}
-use Rattle.adjudicate_core.specs.Misuses.{AreWell, Fault, IsFirst, fault_words}
+use Rattle.adjudicate_core.specs.declared.usage.Misuse.TheVariants as misuse
+use Rattle.adjudicate_core.specs.Inside.Putting.{IsMisuseOf}
+use Rattle.adjudicate_core.specs.Misuses.{AreWell, AsksForHelp, Fault, IsFirst, fault_words}
 use Rattle.adjudicate_core.specs.Rules.{fault_in, value_in}
-use Rattle.adjudicate_core.specs.Tasks.{IsMisuse, IsTaken, Names, app_for, faults_of}
+use Rattle.adjudicate_core.specs.Tasks.{IsMisuse, IsTaken, Names, NamesNone, app_for, faults_of}
 use Rattle.adjudicate_core.specs.Usage.{usage_by, usage_of}
 
 -- ---- by the parser of command lines
@@ -62,3 +64,13 @@ first_in_front value (fault ∷ front) rest line h = elim h [
 pub first_behind : (value : Text → Option Text) (front rest : List Fault) (line : List ℕ) → AreWell value front → IsFirst value rest line → IsFirst value (front ++ rest) line
 first_behind value [] rest line well h = h
 first_behind value (fault ∷ front) rest line well h = inr (well.0, first_behind value front rest line well.1 h)
+
+-- ---- a first word that names no command
+
+pub misuse_so : (words : List Text) (word : Text) (m : Misuses) → NamesNone words → slice_get words 0 ≡ Some word → IsMisuseOf word m → IsMisuse words m
+misuse_so words word misuse.Help none at h = (word, at, h)
+misuse_so words word (misuse.UnknownCommand told) none at h = (none, at ∙ ap Some (sym h.0), λ asks. h.1 (subst AsksForHelp h.0 asks))
+misuse_so words word misuse.NoCommand none at h = absurd h
+misuse_so words word (misuse.NoText told) none at h = absurd h
+misuse_so words word (misuse.Refused e) none at h = absurd h
+misuse_so words word (misuse.Value fault) none at h = absurd h

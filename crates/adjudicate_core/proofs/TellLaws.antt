@@ -9,10 +9,12 @@ use Rattle.std.proofs.KnownBytes.{Appends-kept, Appends-nil}
 use Rattle.std.proofs.lemmas.List.{map-append}
 use Rattle.move_msg.specs.TextLines.{ended, lines_in, text_of, whole_lines}
 use Rattle.move_msg.proofs.LineLaws.{more_lines}
-use Rattle.system_io.specs.LineReaders.{ReadsLine}
+use Rattle.system_io.specs.LineReaders.{LineFacts, ReadsLine}
+use Rattle.system_io.specs.declared.reading.ReadFault.{ReadFault}
+use Rattle.system_io.specs.declared.reading.ReadFault.TheVariants as read
 use Rattle.adjudicate_core.specs.declared.told_lines.Step.{Step}
 use Rattle.adjudicate_core.specs.declared.told_lines.Step.TheVariants as step
-use Rattle.adjudicate_core.specs.ToldLines.{AllTold, AreRead, CutOff, CutShort, HasTold, IsCut, LineTold, ReadAll, StepTells, TellsLines, TextCutShort, WantsMemory, WritesRead, WritesText, WritesTold, all_told, refused_files, refused_memory, words_told}
+use Rattle.adjudicate_core.specs.ToldLines.{AllTold, AreRead, CutOff, CutShort, HasTold, IsCut, LineTold, ReadAll, StepTells, TellsLines, TextCutShort, WantsMemory, WritesRead, WritesText, WritesTold, all_told, refused_files, refused_memory, stops_by, words_told}
 
 pub are_read_more : (a b c : Option (List ℕ)) (lines : List (List ℕ)) (line : List ℕ) → AreRead a lines b → ReadsLine b c line → AreRead a (lines ++ line ∷ []) c
 unfolding AreRead
@@ -64,39 +66,44 @@ told_more Tells count input now next old mid new done is_told both h (line, read
       count_is = length-append h.told (one ∷ []) ∙ ap (λ n. n + 1) h.count_is;
     }
 
-pub told_all : (Tells : List ℕ → LineTold → Type 0) (TakesMemory : List ℕ → Type 0) (Fails : Type 0) (count : ℕ) (input now old mid new : Option (List ℕ)) (done : Bool) → ToldSoFar Tells count input now old mid done → IsAtEnd now → new ≡ mid → WritesRead Tells TakesMemory Fails input old new done
+pub told_all : (Tells : List ℕ → LineTold → Type 0) (TakesMemory : List ℕ → Type 0) (Fails : ReadFault → Type 0) (count : ℕ) (input now old mid new : Option (List ℕ)) (done : Bool) → ToldSoFar Tells count input now old mid done → IsAtEnd now → new ≡ mid → WritesRead Tells TakesMemory Fails input old new done
 told_all Tells TakesMemory Fails count input now old mid new done h end e = ReadAll h.told now h.has end (subst (λ o. Appends old o (text_of (words_told h.told))) (sym e) h.written) h.done_is
 
--- why no more is read, with whatever was told before
-cut_after : (Now Fails : Type 0) (told : List LineTold) (words : List ℕ) → (Now → Fails) → IsCut Now [] words → IsCut Fails told words
-cut_after Now Fails told words back (inl (is, inl fails)) = inl (is, inl (back fails))
-cut_after Now Fails told words back (inl (is, inr many)) = absurd (omega (arith, many))
-cut_after Now Fails told words back (inr is) = inr is
+-- what stops an input stopped it before
+pub still_stops : (old new : LineFacts) → (new.fails → old.fails) → (new.takes_memory → old.takes_memory) → (fault : ReadFault) → stops_by new fault → stops_by old fault
+still_stops old new fails room read.Unreadable h = fails h
+still_stops old new fails room read.OutOfMemory h = room h
 
-pub told_cut : (Tells : List ℕ → LineTold → Type 0) (TakesMemory : List ℕ → Type 0) (Now Fails : Type 0) (count : ℕ) (input now next old mid new : Option (List ℕ)) (done : Bool) → ToldSoFar Tells count input now old mid done → (Now → Fails)
+-- why no more is read, with whatever was told before
+cut_after : (Now Fails : ReadFault → Type 0) (told : List LineTold) (words : List ℕ) → ((fault : ReadFault) → Now fault → Fails fault) → IsCut Now [] words → IsCut Fails told words
+cut_after Now Fails told words back (inl (is, inl fails)) = inl (is, inl (back read.Unreadable fails))
+cut_after Now Fails told words back (inl (is, inr many)) = absurd (omega (arith, many))
+cut_after Now Fails told words back (inr (is, room)) = inr (is, back read.OutOfMemory room)
+
+pub told_cut : (Tells : List ℕ → LineTold → Type 0) (TakesMemory : List ℕ → Type 0) (Now Fails : ReadFault → Type 0) (count : ℕ) (input now next old mid new : Option (List ℕ)) (done : Bool) → ToldSoFar Tells count input now old mid done → ((fault : ReadFault) → Now fault → Fails fault)
     → ((line : List ℕ) × ReadsLine now next line × TakesMemory line × Appends mid new (ended refused_memory)) ⊎ ((words : List ℕ) × IsCut Now [] words × Appends mid new (ended words)) → WritesRead Tells TakesMemory Fails input old new false
 told_cut Tells TakesMemory Now Fails count input now next old mid new done h back (inl (line, read, takes, wrote)) = WantsMemory h.told now next line h.has read takes (more_lines old mid new (words_told h.told) refused_memory h.written wrote) refl
 told_cut Tells TakesMemory Now Fails count input now next old mid new done h back (inr (words, is, wrote)) = CutShort h.told now words h.has (cut_after Now Fails h.told words back is) (more_lines old mid new (words_told h.told) words h.written wrote) refl
 
 -- the line that says why no more is read was written
-pub step_cut : (Tells : List ℕ → LineTold → Type 0) (TakesMemory : List ℕ → Type 0) (Fails : Type 0) (input left old new : Option (List ℕ)) (s : Step) (words : List ℕ) → s ≡ step.Cut → IsCut Fails [] words → Appends old new (ended words) → StepTells Tells TakesMemory Fails input left old new s
+pub step_cut : (Tells : List ℕ → LineTold → Type 0) (TakesMemory : List ℕ → Type 0) (Fails : ReadFault → Type 0) (input left old new : Option (List ℕ)) (s : Step) (words : List ℕ) → s ≡ step.Cut → IsCut Fails [] words → Appends old new (ended words) → StepTells Tells TakesMemory Fails input left old new s
 step_cut Tells TakesMemory Fails input left old new s words e is wrote = subst (StepTells Tells TakesMemory Fails input left old new) (sym e) (inr (words, is, wrote))
 
 -- so many lines were told that no more are counted
-pub told_most : (Tells : List ℕ → LineTold → Type 0) (TakesMemory : List ℕ → Type 0) (Fails : Type 0) (count : ℕ) (input now old mid new : Option (List ℕ)) (done : Bool) → ToldSoFar Tells count input now old mid done → 2 ^ 64 - 1 ≤ count → Appends mid new (ended refused_files) → WritesRead Tells TakesMemory Fails input old new false
+pub told_most : (Tells : List ℕ → LineTold → Type 0) (TakesMemory : List ℕ → Type 0) (Fails : ReadFault → Type 0) (count : ℕ) (input now old mid new : Option (List ℕ)) (done : Bool) → ToldSoFar Tells count input now old mid done → 2 ^ 64 - 1 ≤ count → Appends mid new (ended refused_files) → WritesRead Tells TakesMemory Fails input old new false
 told_most Tells TakesMemory Fails count input now old mid new done h many wrote = CutShort h.told now refused_files h.has (inl (refl, inr (subst (λ n. 2 ^ 64 - 1 ≤ n) (sym h.count_is) many))) (more_lines old mid new (words_told h.told) refused_files h.written wrote) refl
 
 -- ---- another reason for a failure
 
-pub fails_so : (Tells : List ℕ → LineTold → Type 0) (TakesMemory : List ℕ → Type 0) (Now Fails : Type 0) (input old new : Option (List ℕ)) (done : Bool) → (Now → Fails) → WritesRead Tells TakesMemory Now input old new done → WritesRead Tells TakesMemory Fails input old new done
+pub fails_so : (Tells : List ℕ → LineTold → Type 0) (TakesMemory : List ℕ → Type 0) (Now Fails : ReadFault → Type 0) (input old new : Option (List ℕ)) (done : Bool) → ((fault : ReadFault) → Now fault → Fails fault) → WritesRead Tells TakesMemory Now input old new done → WritesRead Tells TakesMemory Fails input old new done
 fails_so Tells TakesMemory Now Fails input old new done back (ReadAll told now has end wrote is) = ReadAll told now has end wrote is
 fails_so Tells TakesMemory Now Fails input old new done back (WantsMemory told now after line has read takes wrote is) = WantsMemory told now after line has read takes wrote is
 fails_so Tells TakesMemory Now Fails input old new done back (CutShort told now words has is wrote not_done) = CutShort told now words has (cut_so is) wrote not_done
   where
     cut_so : IsCut Now told words → IsCut Fails told words
-    cut_so (inl (e, inl fails)) = inl (e, inl (back fails))
+    cut_so (inl (e, inl fails)) = inl (e, inl (back read.Unreadable fails))
     cut_so (inl (e, inr many)) = inl (e, inr many)
-    cut_so (inr e) = inr e
+    cut_so (inr (e, room)) = inr (e, back read.OutOfMemory room)
 
 -- ---- over a whole text
 
@@ -161,7 +168,7 @@ reads_the_text text lines now h end =
     let front = read_front text lines now h in
     sym (front.2 ∙ ap (λ r. lines ++ lines_in r) (at_end now front.0 front.1 end) ∙ ap (λ ls. lines ++ ls) no_lines ∙ append-nil lines)
 
-same_text : (Tells : List ℕ → LineTold → Type 0) (TakesMemory : List ℕ → Type 0) (Fails : Type 0) (text : List ℕ) (old new : Option (List ℕ)) (done : Bool) → WritesRead Tells TakesMemory Fails (Some text) old new done → WritesText Tells TakesMemory Fails text old new done
+same_text : (Tells : List ℕ → LineTold → Type 0) (TakesMemory : List ℕ → Type 0) (Fails : ReadFault → Type 0) (text : List ℕ) (old new : Option (List ℕ)) (done : Bool) → WritesRead Tells TakesMemory Fails (Some text) old new done → WritesText Tells TakesMemory Fails text old new done
 same_text Tells TakesMemory Fails text old new done (ReadAll told now has end wrote is) =
     AllTold told (subst (λ ls. TellsLines Tells ls told) (reads_the_text text has.lines now has.read end) has.tells) wrote is
 same_text Tells TakesMemory Fails text old new done (WantsMemory told now after line has read takes wrote is) =
@@ -172,6 +179,6 @@ same_text Tells TakesMemory Fails text old new done (CutShort told now words has
     let front = read_front text has.lines now has.read in
     TextCutShort has.lines (lines_in front.0) front.2 told has.tells words is wrote not_done
 
-pub same_if_known : (Tells : List ℕ → LineTold → Type 0) (TakesMemory : List ℕ → Type 0) (Fails : Type 0) (input old new : Option (List ℕ)) (done : Bool) → WritesRead Tells TakesMemory Fails input old new done → IfSome input (λ text. WritesText Tells TakesMemory Fails text old new done)
+pub same_if_known : (Tells : List ℕ → LineTold → Type 0) (TakesMemory : List ℕ → Type 0) (Fails : ReadFault → Type 0) (input old new : Option (List ℕ)) (done : Bool) → WritesRead Tells TakesMemory Fails input old new done → IfSome input (λ text. WritesText Tells TakesMemory Fails text old new done)
 same_if_known Tells TakesMemory Fails None old new done h = tt
 same_if_known Tells TakesMemory Fails (Some text) old new done h = same_text Tells TakesMemory Fails text old new done h

@@ -1,7 +1,23 @@
--- A list of addresses in one word (this project's own).
-use Rattle.std.specs.Prelude.{ℕ, List}
+-- Addresses in one word (this project's own).
+use Rattle.std.specs.Prelude.{◌≡◌, ◌<◌, ◌+◌, ◌++◌, ◌^◌, ℕ, List, [], ◌∷◌, length}
+use Rattle.std.specs.List.{AllByRecursion}
 use Rattle.fen_text.specs.Cuts.{cut_at}
+use Rattle.adjudicate_core.specs.Numbers.{IsNumber}
 
 -- commas part them
 abbrev pub addresses_of : List ℕ → List (List ℕ)
 addresses_of = cut_at 44
+
+-- an address: behind its last colon is a port, a number from 0 to 65535, and before that colon something stands, the host
+pub record IsAddress (text : List ℕ) : Type 0 where
+  pub front : List (List ℕ)
+  pub port : List ℕ
+  pub number : ℕ
+  pub parts : cut_at 58 text ≡ front ++ port ∷ []
+  pub host : length port + 1 < length text
+  pub is : IsNumber port number
+  pub within : number < 2 ^ 16
+
+-- each of them is an address
+abbrev pub AreAddresses : List ℕ → Type 0
+AreAddresses word = AllByRecursion IsAddress (addresses_of word)

@@ -45,22 +45,27 @@ is_whole found.OtherStamp = false
 is_whole (found.BadMoves place) = false
 is_whole (found.BadVerdict verdict) = false
 
--- ---- two files
+-- ---- two files: whether both machines keep the same
+
+-- the records are of one game: they have the same stamp, and the same delay
+abbrev pub AreOfOneGame : Records → Records → Type 0
+AreOfOneGame r s = (r.stamp ≡ s.stamp) × (r.delay ≡ s.delay)
 
 -- the verdict that a record has at a ply
 abbrev pub verdict_at : Records → ℕ → Option Verdict
 verdict_at r ply = cond (ply == length r.moves) r.verdict None
 
--- up to this ply the records have the same moves, and at it the same verdict
+-- the records are of one game, up to this ply they have the same moves, and at it the same verdict; so records of different games
+-- part at ply 0, before any move
 abbrev pub AreSameAt : Records → Records → ℕ → Type 0
-AreSameAt r s ply = (take ply r.moves ≡ take ply s.moves) × (verdict_at r ply ≡ verdict_at s ply)
+AreSameAt r s ply = AreOfOneGame r s × (take ply r.moves ≡ take ply s.moves) × (verdict_at r ply ≡ verdict_at s ply)
 
--- all moves and the verdict are the same; or this is the first ply at which they part
+-- the game, all moves and the verdict are the same; or this is the first ply at which they part
 abbrev pub AreCompared : Records → Records → Option ℕ → Type 0
-AreCompared r s None = (r.moves ≡ s.moves) × (r.verdict ≡ s.verdict)
+AreCompared r s None = AreOfOneGame r s × (r.moves ≡ s.moves) × (r.verdict ≡ s.verdict)
 AreCompared r s (Some ply) = ((before : ℕ) → before < ply → AreSameAt r s before) × (AreSameAt r s ply → ⊥)
 
--- where both spell records they are compared
+-- where both files spell records, these are compared; a file that spells none has nothing to agree with, and nothing is told
 abbrev pub IsComparison : List ℕ → List ℕ → Option (Option ℕ) → Type 0
 IsComparison one other (Some compared) = (r : Records) × (s : Records) × SpellsRecord one r × SpellsRecord other s × AreCompared r s compared
 IsComparison one other None = ((r : Records) → SpellsRecord one r → ⊥) ⊎ ((s : Records) → SpellsRecord other s → ⊥)

@@ -9,6 +9,7 @@ pub mod Commands
 pub mod Tasks
 pub mod Misuses
 pub mod Usage
+pub mod Uses
 pub mod Lines
 pub mod Looks
 pub mod Schedules

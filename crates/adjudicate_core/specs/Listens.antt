@@ -1,5 +1,5 @@
 -- What `listen` makes of its words and of what it reads (this project's own).
-use Rattle.std.specs.Prelude.{◌≡◌, ℕ, List, [], length, Option, Ok, Err}
+use Rattle.std.specs.Prelude.{◌≡◌, ◌<◌, ◌⊎◌, ℕ, List, [], length, Option, Ok, Err}
 use Rattle.board_core.specs.declared.parts.Parts.{Parts}
 use Rattle.board_core.specs.Position.{IsPosition}
 use Rattle.fen_text.specs.declared.fault.FenFault.{FenFault}
@@ -69,12 +69,16 @@ pub data KeepsAndServes {F : Type 0} (facts : F → KeptFacts) (l : Listen) (set
 -- at a port, over the file at the path of the words
 pub data ServesAt {P F : Type 0} (host : Hosted P F) (l : Listen) (setup : SetupView) (port port' : PortFacts) (old new : Option (List ℕ)) (status : ℕ) : Type 0 where
   AtFile : (file : F) → host.host.is_at l.kept.now file → KeepsAndServes host.file l setup file port port' old new status → ServesAt host l setup port port' old new status
-  NoRoomForFile : Passed port port' [] → TellsOne refused_memory old new status → ServesAt host l setup port port' old new status
+  NoRoomForFile : host.host.takes_memory l.kept.now → Passed port port' [] → TellsOne refused_memory old new status → ServesAt host l setup port port' old new status
+
+-- memory for binding is refused: by the host, or for a list of more than one address
+abbrev pub LacksRoomToBind : {P F : Type 0} → HostFacts P F → List ℕ → List ℕ → Type 0
+LacksRoomToBind host address to = host.refuses address bind.OutOfMemory ⊎ (1 < length (addresses_of to))
 
 -- with these tables: the port can't be bound; or it is, sends to each of the addresses, and the record is kept in the file at the path
 pub data BindsAndServes {P F : Type 0} (host : Hosted P F) (l : Listen) (setup : SetupView) (old new : Option (List ℕ)) (status : ℕ) : Type 0 where
   Unbound : host.host.refuses l.bind.now bind.Unbound → TellsOne refused_port old new status → BindsAndServes host l setup old new status
-  NoRoomToBind : TellsOne refused_memory old new status → BindsAndServes host l setup old new status
+  NoRoomToBind : LacksRoomToBind host.host l.bind.now l.to.now → TellsOne refused_memory old new status → BindsAndServes host l setup old new status
   Bound : (port port' : P) → host.host.binds l.bind.now (addresses_of l.to.now) port → (host.port port).addresses ≡ length (addresses_of l.to.now) → ServesAt host l setup (host.port port) (host.port port') old new status → BindsAndServes host l setup old new status
 
 -- listening: the text of the start is no position; or else a table is refused; or else what follows, with the manifest of the

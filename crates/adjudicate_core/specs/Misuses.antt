@@ -4,11 +4,10 @@ use Rattle.std.specs.List.{AllByRecursion}
 use Rattle.clap.specs.Words.{Text}
 use Rattle.move_msg.specs.declared.who.Who.{Who}
 use Rattle.move_msg.specs.Stamps.{IsGameName}
+use Rattle.adjudicate_core.specs.Addresses.{AreAddresses}
 use Rattle.adjudicate_core.specs.Numbers.{IsCache, IsDatagrams, IsDelay, IsHundredOr, IsMe}
 use Rattle.adjudicate_core.specs.declared.usage.Wanted.{Wanted}
 use Rattle.adjudicate_core.specs.declared.usage.Wanted.TheVariants as wanted
-use Rattle.adjudicate_core.specs.declared.usage.Misuse.{Misuse}
-use Rattle.adjudicate_core.specs.declared.usage.Misuse.TheVariants as misuse
 use Rattle.adjudicate_core.specs.declared.usage.ValueFault.{ValueFault}
 use Rattle.adjudicate_core.specs.declared.usage.ValueFault.TheVariants as told
 
@@ -23,6 +22,7 @@ name_of wanted.Datagrams = codes "datagrams"
 name_of wanted.Me = codes "me"
 name_of wanted.Wait = codes "wait"
 name_of wanted.Tries = codes "tries"
+name_of wanted.Addresses = codes "to"
 
 -- what it takes
 abbrev pub range_of : Wanted → List ℕ
@@ -33,6 +33,7 @@ range_of wanted.Datagrams = codes "0 to 4294967295"
 range_of wanted.Me = codes "1 or 2"
 range_of wanted.Wait = codes "1 to 65535"
 range_of wanted.Tries = codes "1 to 65535"
+range_of wanted.Addresses = codes "ADDR[,ADDR], each a host, a colon and a port"
 
 abbrev pub unfit_words : Wanted → List ℕ → List ℕ
 unfit_words wanted text = codes "--" ++ name_of wanted ++ codes " " ++ text ++ codes ": " ++ range_of wanted
@@ -48,12 +49,10 @@ fault_words (told.NoOption name) = no_option_words name.now
 fault_words (told.NoWord name) = no_word_words name.now
 fault_words (told.Unfit wanted text) = unfit_words wanted text.now
 
--- what is told of words that are misused; the line on those that the parser of command lines refuses is its own
-abbrev pub misuse_words : Misuse → Option (List ℕ)
-misuse_words misuse.NoCommand = Some (codes "no command")
-misuse_words (misuse.UnknownCommand word) = Some (codes "no command " ++ word.now)
-misuse_words (misuse.Refused e) = None
-misuse_words (misuse.Value fault) = Some (fault_words fault)
+-- ---- a wish for help
+
+abbrev pub AsksForHelp : Text → Type 0
+AsksForHelp word = (word ≡ codes "help") ⊎ ((word ≡ codes "--help") ⊎ (word ≡ codes "-h"))
 
 -- ---- the first that is wrong
 
@@ -72,6 +71,7 @@ IsUnfit value wanted.Datagrams = (n : ℕ) → IsDatagrams (value (codes "datagr
 IsUnfit value wanted.Me = (who : Who) → IsMe (value (codes "me")) who → ⊥
 IsUnfit value wanted.Wait = (n : ℕ) → IsHundredOr (value (codes "wait")) n → ⊥
 IsUnfit value wanted.Tries = (n : ℕ) → IsHundredOr (value (codes "tries")) n → ⊥
+IsUnfit value wanted.Addresses = (to : List ℕ) → Some to ≡ value (codes "to") → AreAddresses to → ⊥
 
 abbrev pub Holds : (Text → Option Text) → Fault → Type 0
 Holds value (NoOption name) = value name ≡ None
@@ -105,6 +105,9 @@ AreWell value = AllByRecursion (λ fault. Holds value fault → ⊥)
 
 abbrev pub name_faults : List Fault
 name_faults = NoOption (codes "name") ∷ Unfit wanted.GameName ∷ []
+
+abbrev pub to_faults : List Fault
+to_faults = NoOption (codes "to") ∷ Unfit wanted.Addresses ∷ []
 
 abbrev pub me_faults : List Fault
 me_faults = NoOption (codes "me") ∷ Unfit wanted.Me ∷ []

@@ -9,6 +9,7 @@ use Rattle.adjudicate_core.specs.declared.commands.Task.TheVariants as task
 use Rattle.adjudicate_core.specs.declared.usage.Misuse.{Misuse}
 use Rattle.adjudicate_core.specs.declared.usage.WordsFault.{WordsFault}
 use Rattle.adjudicate_core.specs.declared.usage.WordsFault.TheVariants.{NoText}
+use Rattle.adjudicate_core.specs.declared.usage.Misuse.TheVariants as misuse
 use Rattle.adjudicate_core.specs.Given.{Given}
 use Rattle.adjudicate_core.specs.ToldLines.{refused_files, refused_memory}
 use Rattle.system_io.specs.Hosts.{HostFacts}
@@ -16,7 +17,7 @@ use Rattle.system_io.specs.KeptFiles.{KeptFacts}
 use Rattle.system_io.specs.Ports.{PortFacts}
 use Rattle.adjudicate_core.specs.Listens.{Hosted, Listens, hosted}
 use Rattle.adjudicate_core.specs.Sends.{Sends}
-use Rattle.adjudicate_core.specs.Sources.{CannotRead, IsGiven, reads_some}
+use Rattle.adjudicate_core.specs.Sources.{CannotRead, IsGiven, TakesMemory}
 use Rattle.adjudicate_core.specs.Commands.Judge as judges
 use Rattle.adjudicate_core.specs.Commands.Probe as probes
 use Rattle.adjudicate_core.specs.Commands.Moves as of_moves
@@ -69,23 +70,23 @@ AnswersFrom disk source host (task.Send t) given old new status = Sends disk sou
 pub data AnswersTask {P F : Type 0} (out : Outside P F) (t : Task) (old new : Option (List ℕ)) (status : ℕ) : Type 0 where
   FromGiven : (given : Given) → IsGiven out.disk out.source (named_in t) given → AnswersFrom out.disk out.source out.host t given old new status → AnswersTask out t old new status
   Unread : CannotRead out.disk out.source (named_in t) → TellsOne refused_files old new status → AnswersTask out t old new status
-  NoMemory : reads_some (named_in t) ≡ true → TellsOne refused_memory old new status → AnswersTask out t old new status
+  NoMemory : TakesMemory out.source (named_in t) → TellsOne refused_memory old new status → AnswersTask out t old new status
 
--- what the program makes of its words: the answer to the task that they name; or they are misused, and nothing is
+-- what the program makes of its words: the answer to the task that they name; or they are misused, which is told, and nothing is
 -- written; or memory was refused before there was a task, where they name a command
-pub data Performs {P F : Type 0} (out : Outside P F) (words : List (List ℕ)) (old new : Option (List ℕ)) (status : ℕ) : Type 0 where
-  ToTask : (t : Task) → IsTask words t → AnswersTask out t old new status → Performs out words old new status
-  ToMisuse : (misuse : Misuse) → IsMisuse words misuse → new ≡ old → status ≡ 2 → Performs out words old new status
-  ToNone : (NamesNone words → ⊥) → TellsOne refused_memory old new status → Performs out words old new status
+pub data Performs {P F : Type 0} (out : Outside P F) (IsTold : Misuse → Type 0) (words : List (List ℕ)) (old new : Option (List ℕ)) (status : ℕ) : Type 0 where
+  ToTask : (t : Task) → IsTask words t → AnswersTask out t old new status → Performs out IsTold words old new status
+  ToMisuse : (misuse : Misuse) → IsMisuse words misuse → IsTold misuse → new ≡ old → status ≡ 2 → Performs out IsTold words old new status
+  ToNone : (NamesNone words → ⊥) → TellsOne refused_memory old new status → Performs out IsTold words old new status
 
 -- the words that a program is called with, or why there are none
 abbrev pub called_by : Result (Vec (String Global) Global) WordsFault → Result (List (List ℕ)) WordsFault
 called_by (Ok words) = Ok (map string_bytes words.items)
 called_by (Err fault) = Err fault
 
--- what it makes of all words that it was called with, of which the first is its own name; words that are no texts are none; or
--- memory was refused for them
-pub data Called {P F : Type 0} (out : Outside P F) (called : Result (List (List ℕ)) WordsFault) (old new : Option (List ℕ)) (status : ℕ) : Type 0 where
-  OnWords : (words : List (List ℕ)) → called ≡ Ok words → Performs out (drop 1 words) old new status → Called out called old new status
-  OnNone : called ≡ Err NoText → Performs out [] old new status → Called out called old new status
-  NoRoomForWords : TellsOne refused_memory old new status → Called out called old new status
+-- what it makes of all words that it was called with, of which the first is its own name; one that is no text is told as a misuse;
+-- or memory was refused for them
+pub data Called {P F : Type 0} (out : Outside P F) (IsTold : Misuse → Type 0) (called : Result (List (List ℕ)) WordsFault) (old new : Option (List ℕ)) (status : ℕ) : Type 0 where
+  OnWords : (words : List (List ℕ)) → called ≡ Ok words → Performs out IsTold (drop 1 words) old new status → Called out IsTold called old new status
+  OnNoText : (word : Vec ℕ Global) (bytes : Bor (List ℕ)) → called ≡ Err (NoText word) → bytes.now ≡ word.items → IsTold (misuse.NoText bytes) → new ≡ old → status ≡ 2 → Called out IsTold called old new status
+  NoRoomForWords : TellsOne refused_memory old new status → Called out IsTold called old new status

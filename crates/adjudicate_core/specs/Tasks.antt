@@ -17,7 +17,7 @@ use Rattle.adjudicate_core.specs.Commands.Send as sends
 use Rattle.adjudicate_core.specs.Commands.Record as records
 use Rattle.adjudicate_core.specs.Commands.Audit as audits
 use Rattle.adjudicate_core.specs.Commands.Version as versions
-use Rattle.adjudicate_core.specs.Misuses.{Fault, IsFirst, fault_words}
+use Rattle.adjudicate_core.specs.Misuses.{AsksForHelp, Fault, IsFirst, fault_words}
 use Rattle.adjudicate_core.specs.declared.usage.Misuse.{Misuse}
 use Rattle.adjudicate_core.specs.declared.usage.Misuse.TheVariants as misuse
 use Rattle.adjudicate_core.specs.declared.usage.ValueFault.{ValueFault}
@@ -177,11 +177,13 @@ abbrev pub IsReadAs : Name → (Text → Option Text) → Result Task ValueFault
 IsReadAs name value (Ok t) = (name_of t ≡ name) × HasValues value t
 IsReadAs name value (Err fault) = IsFirst value (faults_of name) (fault_words fault)
 
--- what is wrong with the words, the first of these: there is none; the first names no command; the command that it names finds
--- them wrong, in this way, at the first of them where it does; the command's values, of which this is the first that is wrong
+-- what is wrong with the words, the first of these: there is none; the first asks for help; it names no command; the command that
+-- it names finds them wrong, in this way, at the first of them where it does; the command's values, of which this is the first that is wrong
 abbrev pub IsMisuse : List Text → Misuse → Type 0
 IsMisuse words misuse.NoCommand = words ≡ []
-IsMisuse words (misuse.UnknownCommand word) = NamesNone words × (slice_get words 0 ≡ Some word.now)
+IsMisuse words misuse.Help = (word : Text) × (slice_get words 0 ≡ Some word) × AsksForHelp word
+IsMisuse words (misuse.NoText word) = ⊥
+IsMisuse words (misuse.UnknownCommand word) = NamesNone words × (slice_get words 0 ≡ Some word.now) × (AsksForHelp word.now → ⊥)
 IsMisuse words (misuse.Refused e) = (name : Name) × Names words name × IsAmong (kind_of e) (fault_in (app_for name) words)
 IsMisuse words (misuse.Value fault) =
     (name : Name) × Names words name × IsTaken (app_for name) words × IsFirst (value_in (app_for name) words) (faults_of name) (fault_words fault)

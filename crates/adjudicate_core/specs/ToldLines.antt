@@ -5,6 +5,8 @@ use Rattle.std.specs.List.{Contains, list_all}
 use Rattle.std.specs.Io.KnownBytes.{Appends, IsAtEnd}
 use Rattle.system_io.specs.Outputs.{OutputFacts}
 use Rattle.system_io.specs.LineReaders.{LineFacts, ReadsLine}
+use Rattle.system_io.specs.declared.reading.ReadFault.{ReadFault}
+use Rattle.system_io.specs.declared.reading.ReadFault.TheVariants as read
 use Rattle.move_msg.specs.TextLines.{ended, lines_in, text_of}
 use Rattle.adjudicate_core.specs.declared.told_lines.Step.{Step}
 use Rattle.adjudicate_core.specs.declared.told_lines.Step.TheVariants as step
@@ -62,12 +64,17 @@ pub record HasTold (Tells : List ℕ → LineTold → Type 0) (input now : Optio
   pub read : AreRead input lines now
   pub tells : TellsLines Tells lines told
 
+-- why an input can't be read further: it fails; or reading on takes memory, which was refused
+abbrev pub stops_by : LineFacts → ReadFault → Type 0
+stops_by input read.Unreadable = input.fails
+stops_by input read.OutOfMemory = input.takes_memory
+
 -- why no more is read: the input fails, or 2^64 - 1 lines were read; or memory for the next line was refused
-abbrev pub IsCut : Type 0 → List LineTold → List ℕ → Type 0
-IsCut Fails told words = ((words ≡ refused_files) × (Fails ⊎ (2 ^ 64 - 1 ≤ length told))) ⊎ (words ≡ refused_memory)
+abbrev pub IsCut : (ReadFault → Type 0) → List LineTold → List ℕ → Type 0
+IsCut Fails told words = ((words ≡ refused_files) × (Fails read.Unreadable ⊎ (2 ^ 64 - 1 ≤ length told))) ⊎ ((words ≡ refused_memory) × Fails read.OutOfMemory)
 
 -- all lines to the input's end were told; or those until memory was refused for one that was read; or those until no more was read
-pub data WritesRead (Tells : List ℕ → LineTold → Type 0) (TakesMemory : List ℕ → Type 0) (Fails : Type 0) (input old new : Option (List ℕ)) (done : Bool) : Type 0 where
+pub data WritesRead (Tells : List ℕ → LineTold → Type 0) (TakesMemory : List ℕ → Type 0) (Fails : ReadFault → Type 0) (input old new : Option (List ℕ)) (done : Bool) : Type 0 where
   ReadAll : (told : List LineTold) (now : Option (List ℕ)) → HasTold Tells input now told → IsAtEnd now → Appends old new (text_of (words_told told)) → done ≡ all_told told → WritesRead Tells TakesMemory Fails input old new done
   WantsMemory : (told : List LineTold) (now after : Option (List ℕ)) (line : List ℕ) → HasTold Tells input now told → ReadsLine now after line → TakesMemory line → Appends old new (text_of (words_told told ++ refused_memory ∷ [])) → done ≡ false → WritesRead Tells TakesMemory Fails input old new done
   CutShort : (told : List LineTold) (now : Option (List ℕ)) (words : List ℕ) → HasTold Tells input now told → IsCut Fails told words → Appends old new (text_of (words_told told ++ words ∷ [])) → done ≡ false → WritesRead Tells TakesMemory Fails input old new done
@@ -79,7 +86,7 @@ LineTells IsTold TakesMemory old new step.Ended = ⊥
 LineTells IsTold TakesMemory old new step.Cut = TakesMemory × Appends old new (ended refused_memory)
 
 -- what came of the next line
-abbrev pub StepTells : (List ℕ → LineTold → Type 0) → (List ℕ → Type 0) → Type 0 → Option (List ℕ) → Option (List ℕ) → Option (List ℕ) → Option (List ℕ) → Step → Type 0
+abbrev pub StepTells : (List ℕ → LineTold → Type 0) → (List ℕ → Type 0) → (ReadFault → Type 0) → Option (List ℕ) → Option (List ℕ) → Option (List ℕ) → Option (List ℕ) → Step → Type 0
 StepTells Tells TakesMemory Fails input left old new (step.Told done) = (line : List ℕ) × ReadsLine input left line × WritesTold (Tells line) old new done
 StepTells Tells TakesMemory Fails input left old new step.Ended = IsAtEnd input × (new ≡ old)
 StepTells Tells TakesMemory Fails input left old new step.Cut =
@@ -89,11 +96,11 @@ StepTells Tells TakesMemory Fails input left old new step.Cut =
 -- ---- the same over the whole text
 
 -- all lines of the text were told; or the first ones until memory was refused for one of them; or until no more was read
-pub data WritesText (Tells : List ℕ → LineTold → Type 0) (TakesMemory : List ℕ → Type 0) (Fails : Type 0) (text : List ℕ) (old new : Option (List ℕ)) (done : Bool) : Type 0 where
+pub data WritesText (Tells : List ℕ → LineTold → Type 0) (TakesMemory : List ℕ → Type 0) (Fails : ReadFault → Type 0) (text : List ℕ) (old new : Option (List ℕ)) (done : Bool) : Type 0 where
   AllTold : (told : List LineTold) → TellsLines Tells (lines_in text) told → Appends old new (text_of (words_told told)) → done ≡ all_told told → WritesText Tells TakesMemory Fails text old new done
   CutOff : (front : List (List ℕ)) (line : List ℕ) (rest : List (List ℕ)) → lines_in text ≡ front ++ line ∷ rest → TakesMemory line → (told : List LineTold) → TellsLines Tells front told → Appends old new (text_of (words_told told ++ refused_memory ∷ [])) → done ≡ false → WritesText Tells TakesMemory Fails text old new done
   TextCutShort : (front rest : List (List ℕ)) → lines_in text ≡ front ++ rest → (told : List LineTold) → TellsLines Tells front told → (words : List ℕ) → IsCut Fails told words → Appends old new (text_of (words_told told ++ words ∷ [])) → done ≡ false → WritesText Tells TakesMemory Fails text old new done
 
 -- so it is where the input tells its bytes
 abbrev pub WritesIfKnown : (List ℕ → LineTold → Type 0) → (List ℕ → Type 0) → LineFacts → Option (List ℕ) → Option (List ℕ) → Bool → Type 0
-WritesIfKnown Tells TakesMemory input old new done = IfSome input.left (λ text. WritesText Tells TakesMemory input.fails text old new done)
+WritesIfKnown Tells TakesMemory input old new done = IfSome input.left (λ text. WritesText Tells TakesMemory (stops_by input) text old new done)

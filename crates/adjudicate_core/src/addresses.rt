@@ -1,7 +1,9 @@
-//! A list of addresses in one word.
+//! Addresses in one word.
 
-ghost use Rattle.std.specs.Prelude.{◌≡◌, map, IfOk};
-ghost use Rattle.adjudicate_core.specs.Addresses.{addresses_of};
+ghost use Rattle.std.specs.Prelude.{◌≡◌, ◌<◌, ◌^◌, ℕ, [], ◌∷◌, length, map, false, IfNone, IfOk, IfSome, IsTrue};
+ghost use Rattle.adjudicate_core.specs.Addresses.{AreAddresses, IsAddress, addresses_of};
+ghost use Rattle.adjudicate_core.specs.Inside.Behind.{IsBehindColon};
+ghost use Rattle.adjudicate_core.specs.Numbers.{IsNumber};
 
 use std::alloc::{AllocError, Global};
 
@@ -17,4 +19,67 @@ pub(crate) fn addresses_in<'a>(alloc: Global, word: &'a str) -> Result<Vec<&'a s
     }
     addresses.push(rest)?;
     Ok(addresses)
+}
+
+/// Whether a word is one address: no comma parts it.
+pub(crate) fn is_one(word: &str) -> bool
+    ensures one { IsTrue result → addresses_of word.now ≡ word.now ∷ [] }
+    ensures more { result ≡ false → 1 < length (addresses_of word.now) }
+{
+    match word.split_once(',') {
+        Some((_first, _more)) => false,
+        None => true,
+    }
+}
+
+/// What stands behind the last colon of a text; all of it where there is none.
+fn behind_colon<'a>(text: &'a str) -> &'a str
+    ensures { IsBehindColon text.entry.now result.now }
+{
+    let mut rest = text;
+    while let Some((_host, more)) = rest.split_once(':') {
+        rest = more;
+    }
+    rest
+}
+
+/// The port that a text tells, 0 to 65535; none where it tells no such number.
+fn port_of(text: &str) -> Option<u16>
+    ensures some { IfSome result (λ n. IsNumber text.now n × (n < 2 ^ 16)) }
+    ensures none { IfNone result ((n : ℕ) → IsNumber text.now n → n < 2 ^ 16 → ⊥) }
+{
+    match text.parse::<u16>() {
+        Ok(port) => Some(port),
+        Err(_) => None,
+    }
+}
+
+/// Whether a text is an address.
+fn is_address(text: &str) -> bool
+    ensures some { IsTrue result → IsAddress text.now }
+    ensures none { result ≡ false → IsAddress text.now → ⊥ }
+{
+    let port = behind_colon(text);
+    if text.len() - port.len() < 2 {
+        return false;
+    }
+    match port_of(port) {
+        Some(_) => true,
+        None => false,
+    }
+}
+
+/// Whether each of the addresses of a word is one.
+pub(crate) fn are_addresses(word: &str) -> bool
+    ensures some { IsTrue result → AreAddresses word.now }
+    ensures none { result ≡ false → AreAddresses word.now → ⊥ }
+{
+    let mut rest = word;
+    while let Some((first, more)) = rest.split_once(',') {
+        if !is_address(first) {
+            return false;
+        }
+        rest = more;
+    }
+    is_address(rest)
 }

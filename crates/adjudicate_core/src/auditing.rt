@@ -4,7 +4,7 @@ ghost use Rattle.std.specs.Prelude.{◌≡◌, ◌≤◌, ◌<◌, ◌^◌, IfOk
 ghost use Rattle.board_core.specs.Delays.{most_delay};
 ghost use Rattle.move_msg.specs.declared.record_bytes.Record.{Record as Records};
 ghost use Rattle.move_msg.specs.Records.{SpellsRecord};
-ghost use Rattle.adjudicate_core.specs.Audits.{AreCompared, IsComparison, IsFound, is_whole};
+ghost use Rattle.adjudicate_core.specs.Audits.{AreCompared, AreOfOneGame, IsComparison, IsFound, is_whole};
 ghost use Rattle.adjudicate_core.specs.Inside.Auditing.{ArePartedAt, EndsPart, IsAuditedAs, IsFoundBy, IsHeldTo, PartsAfter, rules_of};
 
 use arbiter_service::verdict_or_none;
@@ -204,9 +204,10 @@ fn parting_of_ends(
     }
 }
 
-/// The first ply at which two records part: their moves up to it differ, or their verdicts at it. None where all is the same.
-fn compare(one: &Record, other: &Record) -> Option<usize>
-    ensures { AreCompared one.now other.now result }
+/// The first ply at which two records of one game part: their moves up to it differ, or their verdicts at it. None where all is the
+/// same.
+fn compare_moves(one: &Record, other: &Record) -> Option<usize>
+    ensures { AreOfOneGame one.now other.now → AreCompared one.now other.now result }
 {
     let its = one.moves.as_slice();
     let others = other.moves.as_slice();
@@ -216,7 +217,17 @@ fn compare(one: &Record, other: &Record) -> Option<usize>
     }
 }
 
-/// What comes of comparing two files of which both have a record.
+/// The first ply at which two records part. None where all is the same. Records of different games part at ply 0.
+fn compare(one: &Record, other: &Record) -> Option<usize>
+    ensures { AreCompared one.now other.now result }
+{
+    if one.stamp != other.stamp || one.delay != other.delay {
+        return Some(0);
+    }
+    compare_moves(one, other)
+}
+
+/// What comes of comparing two files of which both have a record; nothing where one has none.
 pub(crate) fn compare_files(one: &Audited, other: &Audited) -> Option<Option<usize>>
     ensures { (bytes its : List ℕ) → IsAuditedAs bytes one.now → IsAuditedAs its other.now → IsComparison bytes its result }
 {

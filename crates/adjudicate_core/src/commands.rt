@@ -1,9 +1,11 @@
 //! The commands: their names, and command lines as tasks. Each command has a file of its own in `commands/`.
 
-ghost use Rattle.std.specs.Prelude.{◌≡◌, map, true, false, IfOk, IfErr, IfSome, IfNone, OnErr, IsErrOf};
+ghost use Rattle.std.specs.Prelude.{◌≡◌, ◌↔◌, IsTrue, map, true, false, IfOk, IfErr, IfSome, IfNone, OnErr, IsErrOf};
 ghost use Rattle.clap.specs.Words.{HasKind, Text, app_of, is_simple_and_free, found_of, first_value, rule_of, with_rule};
 ghost use Rattle.adjudicate_core.specs.declared.usage.Misuse.{Misuse};
+ghost use Rattle.adjudicate_core.specs.Misuses.{AsksForHelp};
 ghost use Rattle.adjudicate_core.specs.Rules.{fault_in, rule_of_value, value_in};
+ghost use Rattle.adjudicate_core.specs.Inside.Putting.{IsMisuseOf};
 ghost use Rattle.adjudicate_core.specs.Sources.{named_by};
 ghost use Rattle.adjudicate_core.specs.Tasks.{IsReadAs, IsTask, IsMisuse, IsTaken, Names, NamesNone, app_for, named_in, rules_of, word_of};
 
@@ -319,6 +321,24 @@ impl<'a> Task<'a> {
     }
 }
 
+/// Whether a word asks for help.
+fn asks_for_help(word: &str) -> bool
+    ensures { IsTrue result ↔ AsksForHelp word.now }
+{
+    word == "help" || word == "--help" || word == "-h"
+}
+
+/// What is wrong with a first word that names no command.
+fn misuse_of(word: &str) -> Misuse<'_>
+    ensures { IsMisuseOf word.entry.now result }
+{
+    if asks_for_help(word) {
+        Misuse::Help
+    } else {
+        Misuse::UnknownCommand(word)
+    }
+}
+
 /// The command that the first word names, or that there is none.
 fn name_in<'a>(words: &'a [&'a str]) -> Result<Name, Misuse<'a>>
     ensures ok { IfOk result (Names (map (λ w. w.now) words.entry.now)) }
@@ -329,7 +349,7 @@ fn name_in<'a>(words: &'a [&'a str]) -> Result<Name, Misuse<'a>>
         [] => Err(Misuse::NoCommand),
         [word, ..] => match Name::of(word) {
             Some(name) => Ok(name),
-            None => Err(Misuse::UnknownCommand(word)),
+            None => Err(misuse_of(word)),
         },
     }
 }
@@ -350,7 +370,7 @@ fn task_by<'a>(alloc: Global, name: Name, words: &'a [&'a str]) -> Result<Task<'
 
 /// The task that the words name: the first word is the command, and the others are its own.
 ///
-/// Else they are a misuse, of which the first is told: no word, or a first one that names no command; words that the command
+/// Else they are a misuse, of which the first is told: no word, or a first one that asks for help or names no command; words that the command
 /// doesn't have, or a wish for help; the command's values in its own order. Want of memory is told where a growth is refused.
 pub fn parse<'a>(alloc: Global, words: &'a [&'a str]) -> Result<Task<'a>, Usage<'a>>
     ensures ok { IfOk result (IsTask (map (λ w. w.now) words.entry.now)) }

@@ -1,13 +1,13 @@
 //! The commands of the adjudicator: words in, lines and a status out.
 //!
-//! `judge FEN` prints the verdict on a position, or `open`; `moves FEN` prints its legal moves;
-//! `probe --tables DIR FEN` prints what tables say of it; `list DIR` prints the manifest of a
-//! folder's tables, and `check --manifest FILE DIR` whether they are those of one; `probes --tables DIR`
-//! prints what tables say of each line of standard input, and `game FEN` what the game of the moves there
-//! comes to; `show` prints the
-//! messages on standard input; `run` runs the schedule on standard input, and prints what becomes of its
-//! two arbiters; `listen` is an arbiter that answers the datagrams of a socket and keeps its record in a file; `record` prints
-//! what such a file says, and `audit` whether it is by the rules of the game; `version` prints the program's version.
+//! `judge FEN` prints the verdict on a position, or `open`; `moves FEN` prints its legal moves; `probe --tables DIR FEN` prints what
+//! tables say of it, and `probes --tables DIR` what they say of each line of standard input, as it comes; `game FEN` prints what the
+//! game of the moves on standard input comes to. `list DIR` prints the manifest of a folder's tables, and `check --manifest FILE DIR`
+//! whether they are those of one. `show` prints the messages on standard input; `run` runs the schedule on standard input, and
+//! prints what becomes of its two arbiters. `listen` is an arbiter that answers the datagrams of a socket and keeps its record in a
+//! file, and `send` the source of a game, which sends the moves on standard input to both arbiters. `record` prints what a kept file
+//! says, and `audit` whether it is by the rules of the game; `version` prints the program's version.
+//!
 //! Statuses: 0 done, 1 refused, 2 misuse.
 //!
 //! Its tests stand in `rows`.
@@ -16,6 +16,7 @@
 mod addresses;
 mod answers;
 mod auditing;
+mod binding;
 mod commands;
 mod file_name;
 mod game_name;
@@ -31,6 +32,7 @@ mod sources;
 mod tables;
 mod told_lines;
 mod usage;
+mod uses;
 mod values;
 
 pub use auditing::Finding;

@@ -11,7 +11,7 @@ ghost use Rattle.adjudicate_core.specs.Looks.{gathered};
 ghost use Rattle.arbiter_service.specs.Serving.{scene};
 ghost use Rattle.arbiter_service.specs.StoredBytes.{IsInFile};
 
-use crate::addresses::addresses_in;
+use crate::binding::bind;
 use crate::commands::Listen;
 use crate::lines::put_refusal;
 use crate::refusals::Refusal;
@@ -109,10 +109,7 @@ fn bind_and_serve<H: Host, W: Output>(
 ) -> Result<u8, WriteFault>
     ensures { IfOk result (BindsAndServes (hosted (H.facts host.now) H.Port.facts H.File.facts) listening.now (setup_view setup.entry) (W.contents out.old) (W.contents out.new)) }
 {
-    let Ok(addresses) = addresses_in(alloc, listening.to) else {
-        return put_refusal(out, Refusal::Memory);
-    };
-    match host.bind(alloc, listening.bind, &addresses) {
+    match bind(alloc, host, listening.bind, listening.to) {
         Ok(mut port) => serve_at(alloc, listening, setup, host, &mut port, out),
         Err(BindFault::Unbound) => put_refusal(out, Refusal::Port),
         Err(BindFault::OutOfMemory) => put_refusal(out, Refusal::Memory),

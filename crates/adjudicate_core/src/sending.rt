@@ -6,11 +6,11 @@ ghost use Rattle.fen_text.specs.Fen.{SpellsPosition};
 ghost use Rattle.fen_text.specs.Written.{fen_of};
 ghost use Rattle.move_msg.specs.Stamps.{stamp_of};
 ghost use Rattle.adjudicate_core.specs.declared.commands.send.Send.{Send};
-ghost use Rattle.adjudicate_core.specs.Inside.SendingParts.{Unmarks};
+ghost use Rattle.adjudicate_core.specs.Inside.SendingParts.{LacksManifestOrRoom};
 ghost use Rattle.adjudicate_core.specs.Listens.{hosted};
 ghost use Rattle.adjudicate_core.specs.Sends.{BindsAndSends, IsManifestOf, Sends, SendsOver};
 
-use crate::addresses::addresses_in;
+use crate::binding::bind;
 use crate::commands::Send;
 use crate::lines::put_refusal;
 use crate::reading::looks_in;
@@ -27,7 +27,7 @@ use system_io::{BindFault, Disk, Host, Input, Output, Port, ReadFault, WriteFaul
 /// The manifest at a path.
 fn manifest_at<D: Disk>(alloc: Global, disk: &D, path: &str) -> Result<Vec<u8>, Refusal>
     ensures ok { IfOk result (λ text. (t : Send) → option_map (λ s. s.now) t.manifest ≡ Some path.now → IsManifestOf (D.facts disk.now) t text.items) }
-    ensures err { IfErr result (λ refusal. (t : Send) → option_map (λ s. s.now) t.manifest ≡ Some path.now → Unmarks (D.facts disk.now) t refusal) }
+    ensures err { IfErr result (λ refusal. (t : Send) → option_map (λ s. s.now) t.manifest ≡ Some path.now → LacksManifestOrRoom (D.facts disk.now) t refusal) }
 {
     let text = match disk.read(alloc, path) {
         Ok(text) => text,
@@ -44,7 +44,7 @@ fn manifest_at<D: Disk>(alloc: Global, disk: &D, path: &str) -> Result<Vec<u8>, 
 /// The manifest of the tables in a folder, of which one at a time is held.
 fn manifest_in<D: Disk>(alloc: Global, disk: &D, folder: &str) -> Result<Vec<u8>, Refusal>
     ensures ok { IfOk result (λ text. (t : Send) → option_map (λ s. s.now) t.manifest ≡ None → t.tables.now ≡ folder.now → IsManifestOf (D.facts disk.now) t text.items) }
-    ensures err { IfErr result (λ refusal. (t : Send) → option_map (λ s. s.now) t.manifest ≡ None → t.tables.now ≡ folder.now → Unmarks (D.facts disk.now) t refusal) }
+    ensures err { IfErr result (λ refusal. (t : Send) → option_map (λ s. s.now) t.manifest ≡ None → t.tables.now ≡ folder.now → LacksManifestOrRoom (D.facts disk.now) t refusal) }
 {
     let lines: Vec<Line> = match looks_in(
         alloc,
@@ -67,7 +67,7 @@ fn manifest_in<D: Disk>(alloc: Global, disk: &D, folder: &str) -> Result<Vec<u8>
 /// The manifest by which the game is stamped.
 fn manifest_for<D: Disk>(alloc: Global, disk: &D, task: &Send<'_>) -> Result<Vec<u8>, Refusal>
     ensures ok { IfOk result (λ text. IsManifestOf (D.facts disk.now) task.now text.items) }
-    ensures err { IfErr result (Unmarks (D.facts disk.now) task.now) }
+    ensures err { IfErr result (LacksManifestOrRoom (D.facts disk.now) task.now) }
 {
     match task.manifest {
         Some(path) => manifest_at(alloc, disk, path),
@@ -117,10 +117,7 @@ fn bind_and_send<I: Input, H: Host, W: Output>(
     requires { terms.tries ≡ task.now.tries }
     ensures { BindsAndSends (hosted (H.facts host.now) H.Port.facts H.File.facts) (I.facts input.now) task.now terms.stamp start (W.contents out.old) (W.contents out.new) result }
 {
-    let Ok(addresses) = addresses_in(alloc, task.to) else {
-        return put_refusal(out, Refusal::Memory);
-    };
-    match host.bind(alloc, task.bind, &addresses) {
+    match bind(alloc, host, task.bind, task.to) {
         Ok(mut port) => send_over(alloc, terms, start, input, &mut port, out),
         Err(BindFault::Unbound) => put_refusal(out, Refusal::Port),
         Err(BindFault::OutOfMemory) => put_refusal(out, Refusal::Memory),

@@ -5,13 +5,13 @@ ghost use Rattle.move_msg.specs.Files.{AreFiles, file_of};
 ghost use Rattle.move_msg.specs.ToldBy.{told_by};
 ghost use Rattle.system_io.specs.Disks.{AtFile};
 ghost use Rattle.adjudicate_core.specs.Outside.{AreFilesAt, FolderFails, IsToldAt};
-ghost use Rattle.adjudicate_core.specs.Sources.{AreTexts, CannotRead, IsGiven, IsInputAt, IsKeptAt, named_by, reads_some};
+ghost use Rattle.adjudicate_core.specs.Sources.{AreTexts, CannotRead, IsGiven, IsInputAt, IsKeptAt, LacksKept, TakesMemory, named_by, nothing, reads_some};
 
 use crate::reading::files_in;
 use move_msg::{Manifest, NamedFile};
 use std::alloc::Global;
 use std::marker::Model;
-use system_io::{Disk, Input, ReadFault};
+use system_io::{Disk, Input, MOST_KEPT_BYTES, ReadFault};
 
 /// What is read for a task: the folder of its tables, the file of its manifest, whether the input is, and kept files.
 #[derive(Clone, Copy)]
@@ -26,6 +26,21 @@ pub struct Places<'a> {
     pub kept: Option<&'a str>,
     /// The path of a second kept file, if one is read.
     pub other_kept: Option<&'a str>,
+}
+
+impl<'a> Places<'a> {
+    /// Nothing is read.
+    pub(crate) fn none() -> Places<'a>
+        ensures { named_by result ≡ nothing }
+    {
+        Places {
+            folder: None,
+            manifest: None,
+            reads_input: false,
+            kept: None,
+            other_kept: None,
+        }
+    }
 }
 
 /// What a task is answered from. Contracts see the files, what the manifest tells, the input, and the bytes of the kept files.
@@ -97,6 +112,7 @@ fn read_input<I: Input>(alloc: Global, input: &I, is_wanted: bool) -> Result<Vec
     ensures ok { IfOk result (λ bytes. IsInputAt (I.facts input.now) is_wanted bytes.items) }
     ensures cause { IsErrOf result ReadFault.Unreadable → (I.facts input.now).fails }
     ensures some { OnErr result (is_wanted ≡ true) }
+    ensures memory { IsErrOf result ReadFault.OutOfMemory → (I.facts input.now).takes_memory }
 {
     if is_wanted {
         input.read_to_end(alloc)
@@ -105,15 +121,15 @@ fn read_input<I: Input>(alloc: Global, input: &I, is_wanted: bool) -> Result<Vec
     }
 }
 
-/// The bytes of the file at a path, if there is one.
+/// The bytes of the kept file at a path, if one is named: at most 8217, of which no more than one more is read.
 fn read_kept<D: Disk>(alloc: Global, disk: &D, path: Option<&str>) -> Result<Vec<u8>, ReadFault>
     ensures ok { IfOk result (λ bytes. IsKeptAt (D.facts disk.now) (option_map (λ s. s.now) path.entry) bytes.items) }
-    ensures cause { IsErrOf result ReadFault.Unreadable → (p : List ℕ) × (option_map (λ s. s.now) path.entry ≡ Some p) × (D.facts disk.now).fails (AtFile p) }
+    ensures cause { IsErrOf result ReadFault.Unreadable → (p : List ℕ) × (option_map (λ s. s.now) path.entry ≡ Some p) × LacksKept (D.facts disk.now) p }
     ensures some { OnErr result (is_some path.entry ≡ true) }
 {
     match path {
         None => Ok(Vec::new(alloc)),
-        Some(path) => disk.read(alloc, path),
+        Some(path) => disk.read_within(alloc, path, MOST_KEPT_BYTES as u64),
     }
 }
 
@@ -135,6 +151,7 @@ fn read_texts<D: Disk, I: Input>(
     ensures ok { IfOk result (λ texts. AreTexts (D.facts disk.now) (I.facts input.now) (named_by places.now) texts.input.items texts.kept.items texts.other_kept.items) }
     ensures cause { IsErrOf result ReadFault.Unreadable → CannotRead (D.facts disk.now) (I.facts input.now) (named_by places.now) }
     ensures some { OnErr result (reads_some (named_by places.now) ≡ true) }
+    ensures memory { IsErrOf result ReadFault.OutOfMemory → TakesMemory (I.facts input.now) (named_by places.now) }
 {
     let input = match read_input(alloc, input, places.reads_input) {
         Ok(input) => input,
@@ -158,8 +175,9 @@ impl Sources {
     /// Reads what these places name: the manifest, the wanted files of the folder, the input where it is wanted, and kept files.
     ///
     /// Files whose names are not those of tables are passed over, and with a manifest those that it doesn't name.
-    /// `Unreadable` where the folder, one of these files, the manifest, the input or a kept file can't be read or has more than
-    /// 2^30 bytes, or the folder lists one of these files twice; `OutOfMemory` where memory is refused. Nothing fails where nothing is named.
+    /// `Unreadable` where the folder, one of these files, the manifest, the input or a kept file can't be read, a kept file has more
+    /// than 8217 bytes or one of the others more than 2^30, or the folder lists one of these files twice; `OutOfMemory` where memory
+    /// is refused. Nothing fails where nothing is named.
     pub fn read<D: Disk, I: Input>(
         alloc: Global,
         disk: &D,
@@ -169,6 +187,7 @@ impl Sources {
         ensures given { IfOk result (IsGiven (D.facts disk.now) (I.facts input.now) (named_by places.now)) }
         ensures cause { IsErrOf result ReadFault.Unreadable → CannotRead (D.facts disk.now) (I.facts input.now) (named_by places.now) }
         ensures some { OnErr result (reads_some (named_by places.now) ≡ true) }
+        ensures memory { IsErrOf result ReadFault.OutOfMemory → TakesMemory (I.facts input.now) (named_by places.now) }
     {
         let manifest = match read_manifest(alloc, disk, places.manifest) {
             Ok(manifest) => manifest,

@@ -3,8 +3,9 @@
 ghost use Rattle.std.specs.Prelude.{◌≡◌, ◌≢◌, ◌%◌, List, ℕ, false, IfOk, OnOk, IsErrOf};
 ghost use Rattle.std.specs.Io.KnownBytes.{Appends, Keeps};
 ghost use Rattle.move_msg.specs.TextLines.{ended};
+ghost use Rattle.system_io.specs.declared.reading.ReadFault.{ReadFault};
 ghost use Rattle.adjudicate_core.specs.Lines.{refusal_words};
-ghost use Rattle.adjudicate_core.specs.ToldLines.{LineTells, LineTold, MayWait, StepTells, TellsNoMore, WritesIfKnown, WritesRead, WritesTold, done_words};
+ghost use Rattle.adjudicate_core.specs.ToldLines.{LineTells, LineTold, MayWait, StepTells, TellsNoMore, WritesIfKnown, WritesRead, WritesTold, done_words, stops_by};
 
 use crate::lines::{Line, put_line};
 use crate::refusals::Refusal;
@@ -113,8 +114,8 @@ fn tell_next<T: Teller, L: LineReader, W: Output>(
 ) -> Result<Step, WriteFault>
     // No line is waited for before what was written has gone out.
     requires { MayWait (L.facts reader.old) (W.facts out.old) }
-    ensures told { IfOk result (StepTells (T.tells teller.old) T.takes_memory (L.facts reader.old).fails (L.facts reader.old).left (L.facts reader.new).left (W.contents out.old) (W.contents out.new)) }
-    ensures reader { (L.facts reader.new).fails → (L.facts reader.old).fails }
+    ensures told { IfOk result (StepTells (T.tells teller.old) T.takes_memory (stops_by (L.facts reader.old)) (L.facts reader.old).left (L.facts reader.new).left (W.contents out.old) (W.contents out.new)) }
+    ensures reader { (fault : ReadFault) → stops_by (L.facts reader.new) fault → stops_by (L.facts reader.old) fault }
     ensures same { TellsNoMore (T.tells teller.old) (T.tells teller.new) }
 {
     match reader.next_line(line) {
@@ -155,7 +156,7 @@ pub fn tell_lines<T: Teller, L: LineReader, W: Output, E: Write>(
     progress: bool,
 ) -> Result<bool, WriteFault>
     // The lines that were read are told.
-    ensures written { IfOk result (WritesRead (T.tells teller.old) T.takes_memory (L.facts reader.old).fails (L.facts reader.old).left (W.contents out.old) (W.contents out.new)) }
+    ensures written { IfOk result (WritesRead (T.tells teller.old) T.takes_memory (stops_by (L.facts reader.old)) (L.facts reader.old).left (W.contents out.old) (W.contents out.new)) }
 
     // Where the reader tells its bytes, these are the lines of the whole text, or those until it was cut short.
     ensures same_text { IfOk result (WritesIfKnown (T.tells teller.old) T.takes_memory (L.facts reader.old) (W.contents out.old) (W.contents out.new)) }

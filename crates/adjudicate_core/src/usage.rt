@@ -1,15 +1,13 @@
 //! Why a command line is no task.
 
-ghost use Rattle.std.specs.Prelude.{◌≡◌, Some};
-ghost use Rattle.std.specs.Fmt.{DisplaysOnOk};
+ghost use Rattle.std.specs.Prelude.{◌≡◌, ◌++◌, codes};
 ghost use Rattle.adjudicate_core.specs.declared.usage.Usage.TheVariants.{OutOfMemory};
 ghost use Rattle.adjudicate_core.specs.declared.usage.WordsFault.TheVariants.{OutOfMemory as NoRoom};
-ghost use Rattle.adjudicate_core.specs.Misuses.{name_of, range_of, unfit_words};
+ghost use Rattle.adjudicate_core.specs.Misuses.{name_of, range_of};
 ghost use Rattle.adjudicate_core.specs.Usage.{usage_of};
 
 use clap::error::ErrorKind;
 use std::alloc::AllocError;
-use std::{fmt, io};
 
 /// A value of which an option takes only some.
 #[derive(Clone, Copy)]
@@ -28,35 +26,39 @@ pub enum Wanted {
     Wait,
     /// How often a move is sent.
     Tries,
+    /// To which addresses messages are sent.
+    Addresses,
 }
 
 impl Wanted {
-    /// The option's name.
-    fn name(self) -> &'static str
-        ensures { result.now ≡ name_of self }
+    /// The option's name, as it stands before a value.
+    pub(crate) fn front(self) -> &'static str
+        ensures { result.now ≡ codes "--" ++ name_of self ++ codes " " }
     {
         match self {
-            Wanted::GameName => "name",
-            Wanted::Cache => "cache",
-            Wanted::Delay => "delay",
-            Wanted::Datagrams => "datagrams",
-            Wanted::Me => "me",
-            Wanted::Wait => "wait",
-            Wanted::Tries => "tries",
+            Wanted::GameName => "--name ",
+            Wanted::Cache => "--cache ",
+            Wanted::Delay => "--delay ",
+            Wanted::Datagrams => "--datagrams ",
+            Wanted::Me => "--me ",
+            Wanted::Wait => "--wait ",
+            Wanted::Tries => "--tries ",
+            Wanted::Addresses => "--to ",
         }
     }
 
-    /// What it takes, in words.
-    fn range(self) -> &'static str
-        ensures { result.now ≡ range_of self }
+    /// What it takes, in words, as they stand after a value.
+    pub(crate) fn rest(self) -> &'static str
+        ensures { result.now ≡ codes ": " ++ range_of self }
     {
         match self {
-            Wanted::GameName => "1 to 64 bytes from the space to the tilde",
-            Wanted::Cache => "1 to 4096",
-            Wanted::Delay => "0 to 8",
-            Wanted::Datagrams => "0 to 4294967295",
-            Wanted::Me => "1 or 2",
-            Wanted::Wait | Wanted::Tries => "1 to 65535",
+            Wanted::GameName => ": 1 to 64 bytes from the space to the tilde",
+            Wanted::Cache => ": 1 to 4096",
+            Wanted::Delay => ": 0 to 8",
+            Wanted::Datagrams => ": 0 to 4294967295",
+            Wanted::Me => ": 1 or 2",
+            Wanted::Wait | Wanted::Tries => ": 1 to 65535",
+            Wanted::Addresses => ": ADDR[,ADDR], each a host, a colon and a port",
         }
     }
 }
@@ -72,35 +74,15 @@ pub enum ValueFault<'a> {
     Unfit(Wanted, &'a str),
 }
 
-/// Tells that an option's value is none that it takes.
-fn fmt_unfit<W: fmt::Write>(f: &mut fmt::Formatter<W>, wanted: Wanted, text: &str) -> fmt::Result
-    ensures { DisplaysOnOk W.Write.write_str_gives f.old result (Some (unfit_words wanted text.now)) f.new }
-{
-    let name = wanted.name();
-    let range = wanted.range();
-    write!(f, "--{name} {text}: {range}")
-}
-
-impl<'a> fmt::Display for ValueFault<'a> {
-    ghost use Rattle.std.specs.Prelude.{Some};
-    ghost use Rattle.adjudicate_core.specs.Misuses.{fault_words};
-
-    ghost output = { λ fault. Some (fault_words fault) };
-
-    fn fmt<W: fmt::Write>(&self, f: &mut fmt::Formatter<W>) -> fmt::Result {
-        match self {
-            ValueFault::NoOption(name) => write!(f, "--{name} is missing"),
-            ValueFault::NoWord(name) => write!(f, "{name} is missing"),
-            ValueFault::Unfit(wanted, text) => fmt_unfit(f, *wanted, text),
-        }
-    }
-}
-
 /// What is wrong with the words of a command line.
 #[derive(Drop)]
 pub enum Misuse<'a> {
     /// There is no word.
     NoCommand,
+    /// The first word asks for help.
+    Help,
+    /// A word has bytes that are no text.
+    NoText(&'a [u8]),
     /// The first word names no command.
     UnknownCommand(&'a str),
     /// The words aren't those that the command has, or ask for help.
@@ -138,10 +120,10 @@ impl<'a> From<clap::Error> for Usage<'a> {
 }
 
 /// Why the words that a program was called with can't be read.
-#[derive(Clone, Copy, Debug)]
+#[derive(Drop, Debug)]
 pub enum WordsFault {
-    /// One of them is no text.
-    NoText,
+    /// The first one that is no text.
+    NoText(Vec<u8>),
     /// Memory was refused.
     OutOfMemory,
 }
@@ -151,14 +133,5 @@ impl From<AllocError> for WordsFault {
 
     fn from(_e: AllocError) -> WordsFault {
         WordsFault::OutOfMemory
-    }
-}
-
-impl From<io::Error> for WordsFault {
-    fn from(error: io::Error) -> WordsFault {
-        match error.kind() {
-            io::ErrorKind::OutOfMemory => WordsFault::OutOfMemory,
-            _ => WordsFault::NoText,
-        }
     }
 }

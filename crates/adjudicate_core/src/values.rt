@@ -3,9 +3,11 @@
 ghost use Rattle.std.specs.Prelude.{◌≡◌, IfOk, IfErr, Some, codes};
 ghost use Rattle.clap.specs.Words.{first_value, found_of};
 ghost use Rattle.move_msg.specs.Stamps.{IsGameName};
-ghost use Rattle.adjudicate_core.specs.Misuses.{AreGameWords, AreWell, IsFirst, IsTold, NoOption, NoWord, Unfit, datagrams_faults, fault_words, game_faults, me_faults, name_faults};
+ghost use Rattle.adjudicate_core.specs.Addresses.{AreAddresses};
+ghost use Rattle.adjudicate_core.specs.Misuses.{AreGameWords, AreWell, IsFirst, IsTold, NoOption, NoWord, Unfit, datagrams_faults, fault_words, game_faults, me_faults, name_faults, to_faults};
 ghost use Rattle.adjudicate_core.specs.Numbers.{IsCache, IsDatagrams, IsDelay, IsHundredOr, IsMe};
 
+use crate::addresses::are_addresses;
 use crate::game_name::GameName;
 use crate::numbers::{CacheSize, Delay, datagrams_of, hundred_or, me_of};
 use crate::usage::{ValueFault, Wanted};
@@ -75,6 +77,20 @@ pub(crate) fn game_words_in<'a>(matches: &ArgMatches<'a>) -> Result<GameWords<'a
         start: option_in(matches, "start")?,
         tables: option_in(matches, "tables")?,
     })
+}
+
+/// The addresses to which messages are sent, of an option that has to be there.
+pub(crate) fn to_in<'a>(matches: &ArgMatches<'a>) -> Result<&'a str, ValueFault<'a>>
+    ensures ok { IfOk result (λ to. (Some to.now ≡ first_value (found_of matches.now) (codes "to")) × AreAddresses to.now) }
+    ensures well { IfOk result (λ to. AreWell (first_value (found_of matches.now)) to_faults) }
+    ensures err { IfErr result (λ fault. IsFirst (first_value (found_of matches.now)) to_faults (fault_words fault)) }
+{
+    let text = option_in(matches, "to")?;
+    if are_addresses(text) {
+        Ok(text)
+    } else {
+        Err(ValueFault::Unfit(Wanted::Addresses, text))
+    }
 }
 
 /// The size of a cache.

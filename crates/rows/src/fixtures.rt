@@ -49,7 +49,7 @@ pub(crate) fn words_of(rt: &impl Abort, alloc: Global, words: Words) -> Vec<&'st
 }
 
 /// How the program ends on words, without its contract.
-fn ended<D: Disk + Source, W: Output, E: Write>(
+fn ended<D: Disk + Source, W: Output, E: Output>(
     alloc: Global,
     words: &[&str],
     disk: &D,
@@ -61,7 +61,7 @@ fn ended<D: Disk + Source, W: Output, E: Write>(
 }
 
 /// How the program ends on the words of a text.
-pub(crate) fn ended_on<D: Disk + Source, W: Output, E: Write>(
+pub(crate) fn ended_on<D: Disk + Source, W: Output, E: Output>(
     rt: &impl Abort,
     alloc: Global,
     words: Words,
@@ -123,7 +123,7 @@ pub(crate) fn expect_row<D: Disk + Source>(rt: &impl Abort, alloc: Global, disk:
 }
 
 /// That the program writes the lines of a row to its words, and ends with its status.
-pub(crate) fn expect_run<D: Disk + Source, E: Write>(
+pub(crate) fn expect_run<D: Disk + Source, E: Output>(
     rt: &impl Abort,
     alloc: Global,
     disk: &D,
@@ -134,7 +134,7 @@ pub(crate) fn expect_run<D: Disk + Source, E: Write>(
 }
 
 /// The same at a host.
-pub(crate) fn expect_run_at<D: Disk + Source, E: Write>(
+pub(crate) fn expect_run_at<D: Disk + Source, E: Output>(
     rt: &impl Abort,
     alloc: Global,
     disk: &D,

@@ -42,15 +42,15 @@ fn record(rt: &impl Abort, alloc: Global) -> Vec<u8> {
 const OTHER_GAME: [u8; 25] = *b"SR\x02\0\0\0\0\0\0\0\0\0\0\0\0\0\0\0\0\0\0\0\0\0\0";
 
 const LISTEN: &str =
-    "listen --name Test --start FEN --tables nothing --me 1 --bind b --to t --kept k --datagrams 2";
+    "listen --name Test --start FEN --tables nothing --me 1 --bind b:1 --to t:1 --kept k --datagrams 2";
 
 /// The same with a file that is no table.
 const WITH_ABC: &str =
-    "listen --name Test --start FEN --tables abc --me 1 --bind b --to t --kept k --datagrams 2";
+    "listen --name Test --start FEN --tables abc --me 1 --bind b:1 --to t:1 --kept k --datagrams 2";
 
 /// The same with a folder that isn't there.
 const WITH_NOWHERE: &str =
-    "listen --name Test --start FEN --tables nowhere --me 1 --bind b --to t --kept k --datagrams 2";
+    "listen --name Test --start FEN --tables nowhere --me 1 --bind b:1 --to t:1 --kept k --datagrams 2";
 
 /// What is refused where the address can't be bound and the kept file can't be read, the first one first: files, the start,
 /// tables, the port.
@@ -63,9 +63,9 @@ const UNBOUND: [Row; 4] = [
 
 /// The same with the two addresses exchanged, and with one for both.
 const EXCHANGED: [&str; 3] = [
-    "listen --name Test --start FEN --tables nothing --me 1 --bind t --to b --kept k --datagrams 2",
-    "listen --name Test --start FEN --tables nothing --me 1 --bind t --to t --kept k --datagrams 2",
-    "listen --name Test --start FEN --tables nothing --me 1 --bind b --to b --kept k --datagrams 2",
+    "listen --name Test --start FEN --tables nothing --me 1 --bind t:1 --to b:1 --kept k --datagrams 2",
+    "listen --name Test --start FEN --tables nothing --me 1 --bind t:1 --to t:1 --kept k --datagrams 2",
+    "listen --name Test --start FEN --tables nothing --me 1 --bind b:1 --to b:1 --kept k --datagrams 2",
 ];
 
 /// What is refused where the address can be bound: the kept file, or what it holds.

@@ -89,9 +89,12 @@ const FIELD: [u8; 25] = [
     0x4C, 0xFB, 0x0D, 0x09, 0x00, 0x00, 0x00, 0x00, 0x00,
 ];
 
+/// As many bytes as the longest record has, and one.
+const LONG: [u8; 8218] = [0; 8218];
+
 /// Kept files: records of the game `Test` from the usual start without tables (record format; the stamp by sha256sum), and what is
 /// none.
-pub(crate) const KEPT: [File; 14] = [
+pub(crate) const KEPT: [File; 15] = [
     ("nothing", &NOTHING, 25),
     ("two", &TWO, 29),
     ("three", &THREE, 31),
@@ -106,4 +109,5 @@ pub(crate) const KEPT: [File; 14] = [
     ("short", &SHORT, 26),
     ("headless", &HEADLESS, 25),
     ("field", &FIELD, 25),
+    ("long", &LONG, 8218),
 ];

@@ -4,8 +4,8 @@ use crate::fixtures::*;
 use crate::folders::Input;
 use crate::memory_host::MemoryHost;
 use std::alloc::Global;
-use std::io::Write;
 use std::process::Abort;
+use system_io::Output;
 
 /// Rook h1 against queen b1; the rook is taken at ply 4.
 const ROOK_FEN: &str = "8/8/8/4k3/8/8/K7/1Q5r b - - 0 1";
@@ -215,7 +215,7 @@ fn many_lines(rt: &impl Abort, alloc: Global) -> Vec<u8> {
 }
 
 /// Whether the words are answered by a refusal over an input, with this writer for what is told on the way.
-fn is_refused<E: Write>(
+fn is_refused<E: Output>(
     rt: &impl Abort,
     alloc: Global,
     words: &'static str,
@@ -228,7 +228,7 @@ fn is_refused<E: Write>(
 }
 
 /// That the words are answered over many lines, with this writer for what is told on the way.
-fn expect_refusals<E: Write>(rt: &impl Abort, alloc: Global, words: &'static str, errors: &mut E) {
+fn expect_refusals<E: Output>(rt: &impl Abort, alloc: Global, words: &'static str, errors: &mut E) {
     let lines = many_lines(rt, alloc);
     let refused = is_refused(rt, alloc, words, &Input::of(lines.as_slice()), errors);
     check(rt, refused, "a refusal");

@@ -120,9 +120,9 @@ impl<'a> Stands<'a> {
 }
 
 /// The address that can be bound, and the one to which messages go.
-const BIND: &str = "b";
+const BIND: &str = "b:1";
 
-const TO: &str = "t";
+const TO: &str = "t:1";
 
 /// A host whose address can be bound if it is so said, at which these datagrams wait, and under whose paths this stands. Another
 /// address can't be bound, and to no other one is anything sent.

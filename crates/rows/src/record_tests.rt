@@ -3,7 +3,7 @@
 use crate::fixtures::*;
 
 /// What kept files say.
-const RECORDS: [Row; 8] = [
+const RECORDS: [Row; 9] = [
     (
         "record kept/three",
         "",
@@ -36,6 +36,8 @@ const RECORDS: [Row; 8] = [
     ),
     ("record kept/short", "", "refused record BadLength\n", 1),
     ("record kept/headless", "", "refused record BadHead\n", 1),
+    // A file of one byte more than the longest record, and none.
+    ("record kept/long", "", "refused files\n", 1),
     ("record kept/none", "", "refused files\n", 1),
 ];
 
@@ -45,7 +47,7 @@ fn shows_kept_records(rt: HostRuntime) {
 }
 
 /// What is found of one file, and of two.
-const AUDITS: [Row; 22] = [
+const AUDITS: [Row; 26] = [
     (
         "audit --name Test --start FEN --tables nothing kept/nothing",
         START,
@@ -165,6 +167,32 @@ const AUDITS: [Row; 22] = [
         "audit --name Test --start FEN --tables nothing kept/three kept/short",
         START,
         "ok 3 none\nrefused record BadLength\n",
+        1,
+    ),
+    // Two of other games, which are refused: of one game, of two games, and of one with another delay.
+    (
+        "audit --name Test --start FEN --tables nothing kept/stranger kept/stranger",
+        START,
+        "refused stamp\nrefused stamp\nagree\n",
+        1,
+    ),
+    (
+        "audit --name Other --start FEN --tables nothing kept/nothing kept/stranger",
+        START,
+        "refused stamp\nrefused stamp\ndiffer 0\n",
+        1,
+    ),
+    (
+        "audit --name Test --start FEN --tables nothing kept/nothing kept/delayed",
+        START,
+        "ok 0 none\nrefused stamp\ndiffer 0\n",
+        1,
+    ),
+    // Two that are no records have nothing to agree with.
+    (
+        "audit --name Test --start FEN --tables nothing kept/short kept/short",
+        START,
+        "refused record BadLength\nrefused record BadLength\n",
         1,
     ),
     // What is refused before them.

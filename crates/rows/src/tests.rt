@@ -201,11 +201,20 @@ const STATUSES: [Row; 4] = [
 ];
 
 /// Words that are misused, and the line that is told of them, before the usage; nothing where they ask for help.
-const MISUSES: [(&str, &str); 24] = [
+const MISUSES: [(&str, &str); 38] = [
     ("", "no command\n"),
     ("judgge x", "no command judgge\n"),
     ("judge", "FEN is missing\n"),
     ("judge --help", ""),
+    ("judge -h", ""),
+    ("help", ""),
+    ("--help", ""),
+    ("-h judge", ""),
+    // Bytes that don't print are told by their numbers.
+    ("jud\u{1b}ge x", "no command jud\\x1bge\n"),
+    ("jud\\ge x", "no command jud\\x5cge\n"),
+    ("judge x \u{7}", "unexpected argument '\\x07' found\n"),
+    ("run --cache \u{7f}", "--cache \\x7f: 1 to 4096\n"),
     ("judge x y", "unexpected argument 'y' found\n"),
     (
         "judge --table here x",
@@ -229,23 +238,47 @@ const MISUSES: [(&str, &str); 24] = [
     ("listen --start s", "--name is missing\n"),
     (
         "listen --name \u{e9}",
-        "--name \u{e9}: 1 to 64 bytes from the space to the tilde\n",
+        "--name \\xc3\\xa9: 1 to 64 bytes from the space to the tilde\n",
     ),
     (
         "listen --name n --start s --tables t --to b --kept k --me 3",
         "--bind is missing\n",
     ),
     (
-        "listen --name n --start s --tables t --bind a --to b --kept k --me 3",
+        "listen --name n --start s --tables t --bind a --to b:1 --kept k --me 3",
         "--me 3: 1 or 2\n",
     ),
     (
-        "listen --name n --start s --tables t --bind a --to b --kept k --me 1",
+        "listen --name n --start s --tables t --bind a --to b:1 --kept k --me 1",
         "--datagrams is missing\n",
     ),
     (
-        "listen --name n --start s --tables t --bind a --to b --kept k --me 1 --datagrams 4294967296",
+        "listen --name n --start s --tables t --bind a --to b:1 --kept k --me 1 --datagrams 4294967296",
         "--datagrams 4294967296: 0 to 4294967295\n",
+    ),
+    (
+        "send --name n --start s --tables t --bind a --to b",
+        "--to b: ADDR[,ADDR], each a host, a colon and a port\n",
+    ),
+    (
+        "send --name n --start s --tables t --bind a --to b:",
+        "--to b:: ADDR[,ADDR], each a host, a colon and a port\n",
+    ),
+    (
+        "send --name n --start s --tables t --bind a --to b:x",
+        "--to b:x: ADDR[,ADDR], each a host, a colon and a port\n",
+    ),
+    (
+        "send --name n --start s --tables t --bind a --to :1",
+        "--to :1: ADDR[,ADDR], each a host, a colon and a port\n",
+    ),
+    (
+        "send --name n --start s --tables t --bind a --to b:65536",
+        "--to b:65536: ADDR[,ADDR], each a host, a colon and a port\n",
+    ),
+    (
+        "send --name n --start s --tables t --bind a --to b:1,,t:1",
+        "--to b:1,,t:1: ADDR[,ADDR], each a host, a colon and a port\n",
     ),
     ("record", "FILE is missing\n"),
     (

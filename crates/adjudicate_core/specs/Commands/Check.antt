@@ -7,7 +7,7 @@ use Rattle.clap.specs.Words.{Rule, Text}
 use Rattle.adjudicate_core.specs.Rules.{rule_of_form}
 use Rattle.adjudicate_core.specs.declared.commands.Form.TheVariants as form
 use Rattle.adjudicate_core.specs.Misuses.{Fault, NoOption, NoWord}
-use Rattle.adjudicate_core.specs.Sources.{Named}
+use Rattle.adjudicate_core.specs.Sources.{Named, nothing}
 use Rattle.adjudicate_core.specs.Lines.{refused_manifest}
 use Rattle.adjudicate_core.specs.Looks.{Look, are_tables, look_for, look_line}
 use Rattle.system_io.specs.Disks.{AtFile, DiskFacts}
@@ -32,7 +32,7 @@ faults = NoOption (codes "manifest") ∷ NoWord (codes "DIR") ∷ []
 
 -- nothing is read for it before it answers: it reads its manifest and its folder itself
 abbrev pub named : Named
-named = record { folder = None; manifest = None; input = false; kept = None; other_kept = None }
+named = nothing
 
 -- a line for each line of the manifest, in its order, and whether all files are there and as they should be
 abbrev pub checked : List Look → Reply

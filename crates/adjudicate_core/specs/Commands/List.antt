@@ -6,7 +6,7 @@ use Rattle.clap.specs.Words.{Rule, Text}
 use Rattle.adjudicate_core.specs.Rules.{rule_of_form}
 use Rattle.adjudicate_core.specs.declared.commands.Form.TheVariants as form
 use Rattle.adjudicate_core.specs.Misuses.{Fault, NoWord}
-use Rattle.adjudicate_core.specs.Sources.{Named}
+use Rattle.adjudicate_core.specs.Sources.{Named, nothing}
 use Rattle.system_io.specs.Disks.{DiskFacts}
 use Rattle.adjudicate_core.specs.Outside.{AreFilesIn, FolderFails}
 use Rattle.adjudicate_core.specs.Numbers.{is_set}
@@ -28,7 +28,7 @@ faults = NoWord (codes "DIR") ∷ []
 
 -- nothing is read for it before it answers: it reads its folder itself
 abbrev pub named : Named
-named = record { folder = None; manifest = None; input = false; kept = None; other_kept = None }
+named = nothing
 
 -- the manifest of the files
 abbrev pub IsListed : List File → Reply → Type 0

@@ -8,7 +8,7 @@ use Rattle.clap.specs.Words.{Rule, Text}
 use Rattle.adjudicate_core.specs.Rules.{rule_of_form}
 use Rattle.adjudicate_core.specs.declared.commands.Form.TheVariants as form
 use Rattle.adjudicate_core.specs.Misuses.{Fault, NoWord}
-use Rattle.adjudicate_core.specs.Sources.{Named}
+use Rattle.adjudicate_core.specs.Sources.{Named, nothing}
 use Rattle.adjudicate_core.specs.Reply.{IsForText, Reply}
 use Rattle.adjudicate_core.specs.declared.commands.moves.Moves.{Moves}
 
@@ -26,7 +26,7 @@ faults = NoWord (codes "FEN") ∷ []
 
 -- what is read for it
 abbrev pub named : Moves → Named
-named t = record { folder = None; manifest = None; input = false; kept = None; other_kept = None }
+named t = nothing
 
 -- the legal moves in coordinates, one a line
 unfoldable pub moves_at : Parts → Reply

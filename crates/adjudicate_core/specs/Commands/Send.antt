@@ -2,11 +2,12 @@
 -- source of a game at a port; specs/Sends.antt has what it makes of its input (this project's own).
 use Rattle.std.specs.Prelude.{◌≡◌, ◌++◌, ℕ, false, List, [], ◌∷◌, Option, Some, None, codes, option_map}
 use Rattle.clap.specs.Words.{Rule, Text}
+use Rattle.adjudicate_core.specs.Addresses.{AreAddresses}
 use Rattle.adjudicate_core.specs.Rules.{rule_of_form}
 use Rattle.adjudicate_core.specs.declared.commands.Form.TheVariants as form
-use Rattle.adjudicate_core.specs.Misuses.{AreGameWords, Fault, NoOption, Unfit, game_faults}
+use Rattle.adjudicate_core.specs.Misuses.{AreGameWords, Fault, NoOption, Unfit, game_faults, to_faults}
 use Rattle.adjudicate_core.specs.declared.usage.Wanted.TheVariants as wanted
-use Rattle.adjudicate_core.specs.Sources.{Named}
+use Rattle.adjudicate_core.specs.Sources.{Named, nothing}
 use Rattle.adjudicate_core.specs.Numbers.{IsDelay, IsHundredOr}
 use Rattle.adjudicate_core.specs.declared.commands.send.Send.{Send}
 
@@ -28,13 +29,14 @@ pub record HasValues (value : Text → Option Text) (t : Send) : Type 0 where
   pub manifest : option_map (λ s. s.now) t.manifest ≡ value (codes "manifest")
   pub bind : Some t.bind.now ≡ value (codes "bind")
   pub to : Some t.to.now ≡ value (codes "to")
+  pub addresses : AreAddresses t.to.now
   pub delay : IsDelay (value (codes "delay")) t.delay
   pub wait : IsHundredOr (value (codes "wait")) t.wait
   pub tries : IsHundredOr (value (codes "tries")) t.tries
 
 -- what may be wrong with its values, in the order in which it is told
 abbrev pub end_faults : List Fault
-end_faults = NoOption (codes "bind") ∷ NoOption (codes "to") ∷ []
+end_faults = NoOption (codes "bind") ∷ to_faults
 
 abbrev pub term_faults : List Fault
 term_faults = Unfit wanted.Delay ∷ Unfit wanted.Wait ∷ Unfit wanted.Tries ∷ []
@@ -44,4 +46,4 @@ faults = game_faults ++ end_faults ++ term_faults
 
 -- nothing is read for it before it answers: it reads its tables or its manifest itself
 abbrev pub named : Named
-named = record { folder = None; manifest = None; input = false; kept = None; other_kept = None }
+named = nothing

@@ -3,7 +3,7 @@ use Rattle.std.specs.Prelude.{◌≡◌, ℕ, false, List, [], Option, None, cod
 use Rattle.std.specs.Io.KnownBytes.{Appends}
 use Rattle.clap.specs.Words.{Rule}
 use Rattle.adjudicate_core.specs.Misuses.{Fault}
-use Rattle.adjudicate_core.specs.Sources.{Named}
+use Rattle.adjudicate_core.specs.Sources.{Named, nothing}
 
 abbrev pub rules : List Rule
 rules = []
@@ -14,7 +14,7 @@ faults = []
 
 -- nothing is read for it
 abbrev pub named : Named
-named = record { folder = None; manifest = None; input = false; kept = None; other_kept = None }
+named = nothing
 
 -- two lines
 abbrev pub version_text : List ℕ

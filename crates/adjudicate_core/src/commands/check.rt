@@ -135,13 +135,7 @@ impl<'a> Check<'a> {
     pub(crate) fn places(&self) -> Places<'a>
         ensures { named_by result ≡ named }
     {
-        Places {
-            folder: None,
-            manifest: None,
-            reads_input: false,
-            kept: None,
-            other_kept: None,
-        }
+        Places::none()
     }
 
     /// Files held to a manifest: a line for each of its lines, or its refusal. One file at a time is held; how much is read is

@@ -70,13 +70,7 @@ impl<'a> List<'a> {
     pub(crate) fn places(&self) -> Places<'a>
         ensures { named_by result ≡ named }
     {
-        Places {
-            folder: None,
-            manifest: None,
-            reads_input: false,
-            kept: None,
-            other_kept: None,
-        }
+        Places::none()
     }
 
     /// The manifest of the files, of which one at a time is held; how much is read is told on the way where that is wanted.

@@ -10,7 +10,7 @@ use super::{Form, Value};
 use crate::numbers::{Delay, is_set};
 use crate::sources::Places;
 use crate::usage::ValueFault;
-use crate::values::{datagrams_in, delay_in, game_words_in, me_in, option_in};
+use crate::values::{datagrams_in, delay_in, game_words_in, me_in, option_in, to_in};
 use clap::ArgMatches;
 use move_msg::Who;
 
@@ -108,7 +108,7 @@ fn ends_in<'a>(matches: &ArgMatches<'a>) -> Result<Ends<'a>, ValueFault<'a>>
 {
     Ok(Ends {
         bind: option_in(matches, "bind")?,
-        to: option_in(matches, "to")?,
+        to: to_in(matches)?,
         kept: option_in(matches, "kept")?,
     })
 }

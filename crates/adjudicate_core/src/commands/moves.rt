@@ -61,13 +61,7 @@ impl<'a> Moves<'a> {
     pub(crate) fn places(&self) -> Places<'a>
         ensures { named_by result ≡ named self.now }
     {
-        Places {
-            folder: None,
-            manifest: None,
-            reads_input: false,
-            kept: None,
-            other_kept: None,
-        }
+        Places::none()
     }
 
     /// The legal moves of the position of the text: a text that is none is refused first.

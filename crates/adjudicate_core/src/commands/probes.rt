@@ -9,6 +9,7 @@ ghost use Rattle.adjudicate_core.specs.Lines.{words_of};
 ghost use Rattle.adjudicate_core.specs.Misuses.{IsFirst, fault_words};
 ghost use Rattle.adjudicate_core.specs.Sources.{named_by};
 ghost use Rattle.adjudicate_core.specs.Reply.{IsText};
+ghost use Rattle.adjudicate_core.specs.ToldLines.{stops_by};
 
 use super::{Form, Value};
 use crate::answers::status_if;
@@ -121,7 +122,7 @@ fn put_probes<L: LineReader, W: Output, E: Write>(
     errors: &mut E,
     progress: bool,
 ) -> Result<u8, WriteFault>
-    ensures written { IfOk result (PutsLines set.entry.tables (L.facts lines.old).fails (L.facts lines.old).left (W.contents out.old) (W.contents out.new)) }
+    ensures written { IfOk result (PutsLines set.entry.tables (stops_by (L.facts lines.old)) (L.facts lines.old).left (W.contents out.old) (W.contents out.new)) }
     ensures quiet { progress ≡ false → errors.new ≡ errors.old }
 {
     let mut prober = Prober { alloc, set };

@@ -11,7 +11,7 @@ use crate::game_name::GameName;
 use crate::numbers::Delay;
 use crate::sources::Places;
 use crate::usage::ValueFault;
-use crate::values::{delay_in, game_words_in, option_in, tries_in, wait_in};
+use crate::values::{delay_in, game_words_in, option_in, to_in, tries_in, wait_in};
 use clap::ArgMatches;
 
 /// What the moves of a game are sent by.
@@ -100,7 +100,7 @@ fn ends_in<'a>(matches: &ArgMatches<'a>) -> Result<Ends<'a>, ValueFault<'a>>
 {
     Ok(Ends {
         bind: option_in(matches, "bind")?,
-        to: option_in(matches, "to")?,
+        to: to_in(matches)?,
     })
 }
 
@@ -148,12 +148,6 @@ impl<'a> Send<'a> {
     pub(crate) fn places(&self) -> Places<'a>
         ensures { named_by result ≡ named }
     {
-        Places {
-            folder: None,
-            manifest: None,
-            reads_input: false,
-            kept: None,
-            other_kept: None,
-        }
+        Places::none()
     }
 }

@@ -22,13 +22,7 @@ impl Version {
     pub(crate) fn places<'a>(&self) -> Places<'a>
         ensures { named_by result ≡ named }
     {
-        Places {
-            folder: None,
-            manifest: None,
-            reads_input: false,
-            kept: None,
-            other_kept: None,
-        }
+        Places::none()
     }
 
     /// Writes both versions, a line each, and tells the status 0.

@@ -14,7 +14,7 @@ pub loop-first-preserved : goal.loop-first-preserved
 loop-first-preserved c =
     let cut = c.in-Some.ensures.byte (omega arith) (λ w o h. h) in (
       search rules,
-      one_found c.args.word.now c.loop-first.rest.now c.in-Some.first.now c.in-Some.more.now (map (λ s. s.now) c.loop-first.addresses.items) c.loop-first.invariant.1 cut.0 cut.1 cut.2
+      one_found 44 c.args.word.now c.loop-first.rest.now c.in-Some.first.now c.in-Some.more.now (map (λ s. s.now) c.loop-first.addresses.items) c.loop-first.invariant.1 cut.0 cut.1 cut.2
           ∙ ap (λ l. l ++ addresses_of c.in-Some.more.now) (sym (ap (map (λ s. s.now)) c.in_ok-push.ensures.items ∙ map-append (λ s. s.now) c.loop-first.addresses.items (c.in-Some.first ∷ []))),
     )
 
@@ -22,4 +22,4 @@ pub returns : goal.returns
 returns c =
     let none = (rw c.in_default.is at c.split_once.ensures.byte) (omega arith) (λ w o h. h) in
     ap (map (λ s. s.now)) c.in_ok-push-2.ensures.items ∙ map-append (λ s. s.now) c.loop-first.addresses.items (c.loop-first.rest ∷ [])
-    ∙ all_found c.args.word.now c.loop-first.rest.now (map (λ s. s.now) c.loop-first.addresses.items) c.loop-first.invariant.1 none
+    ∙ all_found 44 c.args.word.now c.loop-first.rest.now (map (λ s. s.now) c.loop-first.addresses.items) c.loop-first.invariant.1 none

@@ -14,4 +14,4 @@ returns-in-Ok g c = record {
 }
 
 pub returns-in-Err-Misuse-clause-runs : goal.returns-in-Err-Misuse-clause-runs
-returns-in-Err-Misuse-clause-runs g c = ToMisuse c.in-Err-Misuse.misuse (c.in-Err-Misuse.ensures.misuse c.in-Err-Misuse.misuse c.in-Err-Misuse.field-0-is) refl refl
+returns-in-Err-Misuse-clause-runs g c = ToMisuse c.in-Err-Misuse.misuse (c.in-Err-Misuse.ensures.misuse c.in-Err-Misuse.misuse c.in-Err-Misuse.field-0-is) c.tell_misuse.ensures refl refl

@@ -1,7 +1,7 @@
-use Rattle.std.proofs.Common.{◌≡◌, Err, ap, rules}
+use Rattle.std.proofs.Common.{◌≡◌, Err, ap, refl, rules}
 use Rattle.std.proofs.lemmas.Result.{IfOk-weaker}
 use Rattle.adjudicate_core.specs.declared.usage.WordsFault.TheVariants.{NoText}
-use Rattle.adjudicate_core.specs.Running.{OnNone, OnWords, called_by}
+use Rattle.adjudicate_core.specs.Running.{OnNoText, OnWords, called_by}
 use Rattle.adjudicate_core.proofs.program.run_program.Goals as goal
 
 pub returns-in-Ok-tail_of : goal.returns-in-Ok-tail_of
@@ -13,5 +13,5 @@ returns-in-Ok-tail_of g c =
 
 pub returns-in-Err-NoText : goal.returns-in-Err-NoText
 returns-in-Err-NoText g c =
-    let is : called_by c.args.called.now ≡ Err NoText = search rules in
-    IfOk-weaker c.run-in-Err-NoText.result _ _ (λ status h. OnNone is h) c.run-in-Err-NoText.ensures.runs
+    let is : called_by c.args.called.now ≡ Err (NoText c.in-Err-NoText.word.now) = search rules in
+    OnNoText c.in-Err-NoText.word.now c.as_slice.result is c.as_slice.ensures.value c.tell_misuse.ensures refl refl

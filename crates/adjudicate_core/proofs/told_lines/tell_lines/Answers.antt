@@ -3,7 +3,7 @@ use Rattle.adjudicate_core.proofs.TellLaws.{same_if_known, told_all, told_cut, t
 use Rattle.adjudicate_core.proofs.told_lines.tell_lines.Goals as goal
 
 pub loop-before-init : goal.loop-before-init
-loop-before-init g c = record { told = told_none _ _ _; fails = λ fails. fails; quiet = λ unasked. refl; same = λ line told h. h }
+loop-before-init g c = record { told = told_none _ _ _; fails = λ fault fails. fails; quiet = λ unasked. refl; same = λ line told h. h }
 
 pub loop-before-preserved : goal.loop-before-preserved
 loop-before-preserved g c =
@@ -11,7 +11,7 @@ loop-before-preserved g c =
     let one = rw c.in-Ok-Told.field-0-is at c.in-Ok-Told.ensures.told in
     record {
       told = told_more _ _ _ _ _ _ _ _ _ _ _ flushed (one.0, one.1, (one.2.0, c.loop-before.invariant.same _ _ one.2.1, one.2.2)) refl;
-      fails = λ fails. c.loop-before.invariant.fails (c.in-Ok-Told.ensures.reader fails);
+      fails = λ fault fails. c.loop-before.invariant.fails fault (c.in-Ok-Told.ensures.reader fault fails);
       quiet = λ unasked. c.tell_progress.ensures.quiet unasked ∙ c.loop-before.invariant.quiet unasked;
       same = λ line told h. c.loop-before.invariant.same line told (c.in-Ok-Told.ensures.same line told h);
     }

@@ -1,15 +1,25 @@
 use Rattle.std.proofs.Common.{ℕ, List, Option}
 use Rattle.std.proofs.lemmas.Result.{IfOk-weaker}
 use Rattle.judge_core.specs.Tables.{Tables}
-use Rattle.adjudicate_core.specs.Commands.Probes.{PutsLines, PutsSome}
+use Rattle.system_io.specs.Inputs.{InputFacts}
+use Rattle.system_io.specs.LineReaders.{LineFacts}
+use Rattle.system_io.specs.declared.reading.ReadFault.{ReadFault}
+use Rattle.system_io.specs.declared.reading.ReadFault.TheVariants as read
+use Rattle.adjudicate_core.specs.ToldLines.{stops_by}
+use Rattle.adjudicate_core.specs.Commands.Probes.{PutsLines, PutsSome, source_stops}
 use Rattle.adjudicate_core.proofs.TellLaws.{fails_so, same_if_known}
 use Rattle.adjudicate_core.proofs.commands.probes.put_probes_of.Goals as goal
 
+-- what stops the lines of an input stops it
+lines_stop : (lines : LineFacts) (source : InputFacts) → (lines.fails → source.fails) → (lines.takes_memory → source.takes_memory) → (fault : ReadFault) → stops_by lines fault → source_stops source fault
+lines_stop lines source fails room read.Unreadable h = fails h
+lines_stop lines source fails room read.OutOfMemory h = room h
+
 -- another reason for a failure
-puts_so : (tables : Tables) (Now Fails : Type 0) (left old new : Option (List ℕ)) (status : ℕ) → (Now → Fails) → PutsLines tables Now left old new status → PutsLines tables Fails left old new status
+puts_so : (tables : Tables) (Now Fails : ReadFault → Type 0) (left old new : Option (List ℕ)) (status : ℕ) → ((fault : ReadFault) → Now fault → Fails fault) → PutsLines tables Now left old new status → PutsLines tables Fails left old new status
 puts_so tables Now Fails left old new status back h =
     let read = fails_so _ _ Now Fails left old new h.done back h.read in
     record { done = h.done; read = read; text = same_if_known _ _ Fails left old new h.done read; is = h.is }
 
 pub returns-in-Ok-clause-written : goal.returns-in-Ok-clause-written
-returns-in-Ok-clause-written g c = IfOk-weaker c.put_probes.result _ _ (λ status h. PutsSome _ c.in-Ok.ensures.given (puts_so _ _ _ _ _ _ status c.in-Ok.ensures.cause h)) c.put_probes.ensures.written
+returns-in-Ok-clause-written g c = IfOk-weaker c.put_probes.result _ _ (λ status h. PutsSome _ c.in-Ok.ensures.given (puts_so _ _ _ _ _ _ status (lines_stop (g.I.Lines.LineReader.facts c.in-Ok.lines) (g.I.Input.facts c.args.input.now) c.in-Ok.ensures.cause c.in-Ok.ensures.room) h)) c.put_probes.ensures.written

@@ -1,0 +1,50 @@
+//! Ports that are bound to one address and send to those of a word.
+
+ghost use Rattle.std.specs.Prelude.{◌≡◌, ◌<◌, length, IfErr, IfOk};
+ghost use Rattle.adjudicate_core.specs.Addresses.{addresses_of};
+ghost use Rattle.adjudicate_core.specs.Inside.Binding.{CannotBind};
+
+use crate::addresses::{addresses_in, is_one};
+use std::alloc::Global;
+use system_io::{BindFault, Host};
+
+/// A port that sends to several addresses, which takes memory for their list.
+fn bind_to_all<H: Host>(
+    alloc: Global,
+    host: &H,
+    address: &str,
+    to: &str,
+) -> Result<H::Port, BindFault>
+    requires { 1 < length (addresses_of to.now) }
+    ensures bound { IfOk result ((H.facts host.now).binds address.now (addresses_of to.now)) }
+    ensures each { IfOk result (λ port. (H.Port.facts port).addresses ≡ length (addresses_of to.now)) }
+    ensures cause { IfErr result (CannotBind (H.facts host.now) address.now to.now) }
+{
+    let Ok(addresses) = addresses_in(alloc, to) else {
+        return Err(BindFault::OutOfMemory);
+    };
+    match host.bind(alloc, address, &addresses) {
+        Ok(port) => Ok(port),
+        Err(fault) => Err(fault),
+    }
+}
+
+/// A port that is bound to an address, and sends to those of a word, which commas part. One address takes no memory here.
+pub(crate) fn bind<H: Host>(
+    alloc: Global,
+    host: &H,
+    address: &str,
+    to: &str,
+) -> Result<H::Port, BindFault>
+    ensures bound { IfOk result ((H.facts host.now).binds address.now (addresses_of to.now)) }
+    ensures each { IfOk result (λ port. (H.Port.facts port).addresses ≡ length (addresses_of to.now)) }
+    ensures cause { IfErr result (CannotBind (H.facts host.now) address.now to.now) }
+{
+    if is_one(to) {
+        return match host.bind(alloc, address, &[to]) {
+            Ok(port) => Ok(port),
+            Err(fault) => Err(fault),
+        };
+    }
+    bind_to_all(alloc, host, address, to)
+}

@@ -1,0 +1,205 @@
+//! What is told of words that are misused.
+
+ghost use Rattle.std.specs.Prelude.{◌≡◌, ◌++◌, [], ◌∷◌, ℕ, List, false};
+ghost use Rattle.hex.specs.Hex.{encode_lower};
+ghost use Rattle.adjudicate_core.specs.Inside.Putting.{IsPut, TellsLine};
+ghost use Rattle.adjudicate_core.specs.Misuses.{fault_words};
+ghost use Rattle.adjudicate_core.specs.Uses.{GoesOut, TellsMisuse, is_plain, shown, shown_byte, shown_line};
+
+use crate::usage::{Misuse, ValueFault};
+use clap::error::ErrorKind;
+use std::alloc::Global;
+use system_io::{Output, WriteFault};
+
+/// The command lines that there are.
+const USAGE: &str = "usage: adjudicate judge [--tables DIR] [--manifest FILE] FEN
+       adjudicate moves FEN
+       adjudicate probe --tables DIR [--manifest FILE] FEN
+       adjudicate list [--progress] DIR
+       adjudicate check --manifest FILE [--progress] DIR
+       adjudicate show
+       adjudicate probes --tables DIR [--manifest FILE] [--progress]
+       adjudicate game [--tables DIR] [--manifest FILE] [--delay N] FEN
+       adjudicate run [--tables DIR] [--cache N] [--delay N]
+       adjudicate listen --name N --start FEN --tables DIR --me M --bind ADDR --to ADDR[,ADDR] --kept FILE
+                         --datagrams N [--delay N] [--fetch]
+       adjudicate record FILE
+       adjudicate audit --name N --start FEN --tables DIR [--manifest FILE] [--delay N] FILE [FILE]
+       adjudicate send --name N --start FEN --tables DIR [--manifest FILE] [--delay N] --bind ADDR --to ADDR[,ADDR]
+                       [--wait MS] [--tries N]
+       adjudicate version
+";
+
+/// Whether a byte is told as it is.
+fn is_plain(byte: u8) -> bool
+    ensures { result ≡ is_plain byte }
+{
+    32 <= byte && byte <= 126 && byte != b'\\'
+}
+
+/// Writes bytes to their end.
+fn put<E: Output>(errors: &mut E, bytes: &[u8]) -> Result<(), WriteFault>
+    ensures { IsPut E.facts E.contents errors.old errors.new bytes.now result }
+{
+    errors.put(bytes)
+}
+
+/// The number of a byte in hexadecimal digits.
+fn digits_of(byte: u8) -> [u8; 2]
+    ensures { result ≡ encode_lower (byte ∷ []) }
+{
+    let bytes = [byte];
+    let mut digits = [0; 2];
+    hex::encode_to_slice(&bytes, &mut digits).unwrap();
+    digits
+}
+
+/// Writes a byte by its number.
+fn put_number<E: Output>(errors: &mut E, byte: u8) -> Result<(), WriteFault>
+    ensures { is_plain byte ≡ false → IsPut E.facts E.contents errors.old errors.new (shown_byte byte) result }
+{
+    let digits = digits_of(byte);
+    match put(errors, b"\\x") {
+        Ok(()) => put(errors, &digits),
+        Err(fault) => Err(fault),
+    }
+}
+
+/// Writes a byte as it is told.
+fn put_byte<E: Output>(errors: &mut E, byte: u8) -> Result<(), WriteFault>
+    ensures { IsPut E.facts E.contents errors.old errors.new (shown_byte byte) result }
+{
+    if is_plain(byte) {
+        put(errors, &[byte])
+    } else {
+        put_number(errors, byte)
+    }
+}
+
+/// Writes words as they are told.
+fn put_shown<E: Output>(errors: &mut E, words: &[u8]) -> Result<(), WriteFault>
+    ensures { IsPut E.facts E.contents errors.old errors.new (shown words.now) result }
+{
+    for byte in words {
+        match put_byte(errors, *byte) {
+            Ok(()) => {}
+            Err(fault) => return Err(fault),
+        }
+    }
+    Ok(())
+}
+
+/// Writes words of two parts.
+fn put_two<E: Output>(errors: &mut E, front: &[u8], rest: &[u8]) -> Result<(), WriteFault>
+    ensures { IsPut E.facts E.contents errors.old errors.new (shown (front.now ++ rest.now)) result }
+{
+    match put_shown(errors, front) {
+        Ok(()) => put_shown(errors, rest),
+        Err(fault) => Err(fault),
+    }
+}
+
+/// Writes words of three parts.
+fn put_three<E: Output>(
+    errors: &mut E,
+    front: &[u8],
+    middle: &[u8],
+    rest: &[u8],
+) -> Result<(), WriteFault>
+    ensures { IsPut E.facts E.contents errors.old errors.new (shown (front.now ++ middle.now ++ rest.now)) result }
+{
+    match put_two(errors, front, middle) {
+        Ok(()) => put_shown(errors, rest),
+        Err(fault) => Err(fault),
+    }
+}
+
+/// Writes a line of words of three parts.
+fn put_line<E: Output>(
+    errors: &mut E,
+    front: &[u8],
+    middle: &[u8],
+    rest: &[u8],
+) -> Result<(), WriteFault>
+    ensures { IsPut E.facts E.contents errors.old errors.new (shown_line (front.now ++ middle.now ++ rest.now)) result }
+{
+    match put_three(errors, front, middle, rest) {
+        Ok(()) => put(errors, b"\n"),
+        Err(fault) => Err(fault),
+    }
+}
+
+/// Tells the command lines that there are.
+fn tell_usage<E: Output>(errors: &mut E)
+    ensures { (usage : List ℕ) × GoesOut E.facts E.contents errors.old errors.new usage }
+{
+    match put(errors, USAGE.as_bytes()) {
+        Ok(()) => {
+            let _out = errors.flush_all().is_ok();
+        }
+        Err(_) => {}
+    }
+}
+
+/// Tells words of three parts in one line, and the command lines that there are.
+fn tell_line<E: Output>(errors: &mut E, front: &str, middle: &[u8], rest: &str)
+    ensures { TellsLine E.facts E.contents errors.old errors.new (shown_line (front.now ++ middle.now ++ rest.now)) }
+{
+    match put_line(errors, front.as_bytes(), middle, rest.as_bytes()) {
+        Ok(()) => tell_usage(errors),
+        Err(_) => {}
+    }
+}
+
+/// The parser's own words, without what it adds to them.
+fn first_words(text: &str) -> &str {
+    let text = text.strip_prefix("error: ").unwrap_or(text);
+    match text.split_once("\n\n") {
+        Some((first, _)) => first,
+        None => text,
+    }
+}
+
+/// Tells words that the parser of command lines refuses: by its own words, or by its name for what is wrong where memory for them
+/// is refused.
+fn tell_refused<E: Output>(alloc: Global, errors: &mut E, error: &clap::Error)
+    ensures { (words : List ℕ) × TellsLine E.facts E.contents errors.old errors.new (shown_line words) }
+{
+    match format!(in alloc; "{error}") {
+        Ok(text) => tell_line(errors, first_words(text.as_str()), b"", ""),
+        Err(_) => tell_line(errors, error.kind().as_str().unwrap_or(""), b"", ""),
+    }
+}
+
+/// Tells what is wrong with the values of a command.
+fn tell_fault<E: Output>(errors: &mut E, fault: &ValueFault<'_>)
+    ensures { TellsLine E.facts E.contents errors.old errors.new (shown_line (fault_words fault.now)) }
+{
+    match fault {
+        ValueFault::NoOption(name) => tell_line(errors, "--", name.as_bytes(), " is missing"),
+        ValueFault::NoWord(name) => tell_line(errors, "", name.as_bytes(), " is missing"),
+        ValueFault::Unfit(wanted, text) => {
+            tell_line(errors, wanted.front(), text.as_bytes(), wanted.rest())
+        }
+    }
+}
+
+/// Tells what is wrong with the words, in one line, and the command lines that there are; where they ask for help, these alone.
+///
+/// A byte outside those from the space to the tilde is told by its number, as `\x0a`, and so is a backslash. What was told has gone
+/// out then. A failure of `errors` changes nothing.
+pub(crate) fn tell_misuse<E: Output>(alloc: Global, errors: &mut E, misuse: &Misuse<'_>)
+    ensures { TellsMisuse E.facts E.contents errors.old errors.new misuse.now }
+{
+    match misuse {
+        Misuse::NoCommand => tell_line(errors, "no command", b"", ""),
+        Misuse::Help => tell_usage(errors),
+        Misuse::NoText(word) => tell_line(errors, "no text ", word, ""),
+        Misuse::UnknownCommand(word) => tell_line(errors, "no command ", word.as_bytes(), ""),
+        Misuse::Refused(error) => match error.kind() {
+            ErrorKind::DisplayHelp => tell_usage(errors),
+            _ => tell_refused(alloc, errors, error),
+        },
+        Misuse::Value(fault) => tell_fault(errors, fault),
+    }
+}
