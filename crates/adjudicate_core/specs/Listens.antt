@@ -1,5 +1,5 @@
 -- What `listen` makes of its words and of what it reads (this project's own).
-use Rattle.std.specs.Prelude.{◌≡◌, ◌<◌, ◌⊎◌, ℕ, List, [], length, Option, Ok, Err}
+use Rattle.std.specs.Prelude.{◌≡◌, ◌<◌, ◌⊎◌, ℕ, Bool, List, [], length, Option, Result, Ok, Err}
 use Rattle.board_core.specs.declared.parts.Parts.{Parts}
 use Rattle.board_core.specs.Position.{IsPosition}
 use Rattle.fen_text.specs.declared.fault.FenFault.{FenFault}
@@ -10,7 +10,8 @@ use Rattle.move_msg.specs.Manifests.{SpellsManifest}
 use Rattle.move_msg.specs.Senders.{who_number}
 use Rattle.arbiter_core.specs.declared.fault.OpenFault.{OpenFault}
 use Rattle.arbiter_core.specs.declared.fault.OpenFault.TheVariants.{BadSetup, KeeperFailed, BadRecord, OtherStamp, OutOfMemory}
-use Rattle.arbiter_service.specs.OverFiles.{IsOpened, ServesOpened}
+use Rattle.arbiter_service.specs.GoingOut.{Writers}
+use Rattle.arbiter_service.specs.OverFiles.{IsOpened, ServesAndWrites, ServesOpened}
 use Rattle.arbiter_core.specs.Setups.{SetupView}
 use Rattle.arbiter_service.specs.declared.file_keeper.FileKeeper.{FileKeeper}
 use Rattle.adjudicate_core.specs.Addresses.{addresses_of}
@@ -20,6 +21,7 @@ use Rattle.system_io.specs.KeptFiles.{KeptFacts}
 use Rattle.system_io.specs.declared.reading.ReadFault.TheVariants as read
 use Rattle.system_io.specs.declared.host.BindFault.TheVariants as bind
 use Rattle.system_io.specs.Hosts.{HostFacts}
+use Rattle.system_io.specs.declared.output.WriteFault.{WriteFault}
 use Rattle.arbiter_service.specs.ServedLines.{refused_keeper, refused_port}
 use Rattle.adjudicate_core.specs.ToldLines.{refused_memory}
 use Rattle.adjudicate_core.specs.Lines.{refused_fen}
@@ -28,19 +30,33 @@ use Rattle.system_io.specs.Ports.{Passed, PortFacts}
 use Rattle.arbiter_service.specs.Serving.{Scene, scene}
 use Rattle.adjudicate_core.specs.Reply.{IsText}
 use Rattle.arbiter_service.specs.StoredBytes.{CannotKeep, StartsOver}
-use Rattle.adjudicate_core.specs.Telling.{TellsOne}
+use Rattle.adjudicate_core.specs.Telling.{TellsIf}
 
 -- the setup of the arbiter
 abbrev pub setup_for : Listen → Parts → Holding → List ℕ → SetupView
 setup_for l start set manifest = record { name = l.name.now; start = start; manifest = manifest; me = who_number l.me; delay = l.delay; set = set }
 
 -- what is told where no arbiter is opened
-abbrev pub TellsUnopened : OpenFault → Option (List ℕ) → Option (List ℕ) → ℕ → Type 0
-TellsUnopened BadSetup old new status = TellsOne refused_keeper old new status
-TellsUnopened KeeperFailed old new status = TellsOne refused_keeper old new status
-TellsUnopened BadRecord old new status = TellsOne refused_keeper old new status
-TellsUnopened OtherStamp old new status = TellsOne refused_keeper old new status
-TellsUnopened OutOfMemory old new status = TellsOne refused_memory old new status
+abbrev pub TellsUnopened : OpenFault → Option (List ℕ) → Option (List ℕ) → Result ℕ WriteFault → Type 0
+TellsUnopened BadSetup old new r = TellsIf refused_keeper old new r
+TellsUnopened KeeperFailed old new r = TellsIf refused_keeper old new r
+TellsUnopened BadRecord old new r = TellsIf refused_keeper old new r
+TellsUnopened OtherStamp old new r = TellsIf refused_keeper old new r
+TellsUnopened OutOfMemory old new r = TellsIf refused_memory old new r
+
+-- ---- serving
+
+-- what passes where an arbiter of a setup serves so many datagrams, and asks for moves first or doesn't
+abbrev pub ServesBy : Type 0 → Type 1
+ServesBy F = SetupView → ℕ → Bool → Scene (FileKeeper F) → Scene (FileKeeper F) → Type 0
+
+-- it serves so, up to this end
+abbrev pub serving_to : {F : Type 0} → (F → KeptFacts) → Result ℕ WriteFault → ServesBy F
+serving_to facts r = λ setup n fetch old new. ServesOpened facts setup n fetch old new r
+
+-- and each of its lines has gone out at the writer before the next comes; of the last a front at most, where the writer failed
+abbrev pub writing_to : {F W : Type 0} → (F → KeptFacts) → Writers W → W → W → Result ℕ WriteFault → ServesBy F
+writing_to facts w out out' r = λ setup n fetch old new. ServesAndWrites facts w setup n fetch old new out out' r
 
 -- ---- all of it
 
@@ -55,36 +71,36 @@ hosted host port file = record { host = host; port = port; file = file }
 
 -- an arbiter is opened over the keeper and serves the datagrams, and between any two of them its record is in the file; or it
 -- isn't opened, and nothing is served; the keeper is left so
-pub data OpensAndServes {F : Type 0} (facts : F → KeptFacts) (l : Listen) (setup : SetupView) (old new : Scene (FileKeeper F)) (status : ℕ) : Type 0 where
-  Served : ServesOpened facts setup l.datagrams l.fetch old new (Ok status) → OpensAndServes facts l setup old new status
-  Unopened : (fault : OpenFault) → IsOpened facts setup old.at new.at (Err fault) → Passed old.port new.port [] → TellsUnopened fault old.written new.written status → OpensAndServes facts l setup old new status
+pub data OpensAndServes {F : Type 0} (facts : F → KeptFacts) (S : ServesBy F) (l : Listen) (setup : SetupView) (old new : Scene (FileKeeper F)) (r : Result ℕ WriteFault) : Type 0 where
+  Served : S setup l.datagrams l.fetch old new → OpensAndServes facts S l setup old new r
+  Unopened : (fault : OpenFault) → IsOpened facts setup old.at new.at (Err fault) → Passed old.port new.port [] → TellsUnopened fault old.written new.written r → OpensAndServes facts S l setup old new r
 
 -- over the file in which the record is kept: it can't be brought to the disk or read; or an arbiter is opened over a keeper that
 -- started over this file, and so has stored one of any two that it said a start finds, and what every later start finds
-pub data KeepsAndServes {F : Type 0} (facts : F → KeptFacts) (l : Listen) (setup : SetupView) (file : F) (port port' : PortFacts) (old new : Option (List ℕ)) (status : ℕ) : Type 0 where
-  Unreadable : CannotKeep (facts file) read.Unreadable → Passed port port' [] → TellsOne refused_keeper old new status → KeepsAndServes facts l setup file port port' old new status
-  NoRoomToKeep : CannotKeep (facts file) read.OutOfMemory → Passed port port' [] → TellsOne refused_memory old new status → KeepsAndServes facts l setup file port port' old new status
-  Kept : (keeper after : FileKeeper F) → StartsOver facts file keeper → OpensAndServes facts l setup (scene keeper port old) (scene after port' new) status → KeepsAndServes facts l setup file port port' old new status
+pub data KeepsAndServes {F : Type 0} (facts : F → KeptFacts) (S : ServesBy F) (l : Listen) (setup : SetupView) (file : F) (port port' : PortFacts) (old new : Option (List ℕ)) (r : Result ℕ WriteFault) : Type 0 where
+  Unreadable : CannotKeep (facts file) read.Unreadable → Passed port port' [] → TellsIf refused_keeper old new r → KeepsAndServes facts S l setup file port port' old new r
+  NoRoomToKeep : CannotKeep (facts file) read.OutOfMemory → Passed port port' [] → TellsIf refused_memory old new r → KeepsAndServes facts S l setup file port port' old new r
+  Kept : (keeper after : FileKeeper F) → StartsOver facts file keeper → OpensAndServes facts S l setup (scene keeper port old) (scene after port' new) r → KeepsAndServes facts S l setup file port port' old new r
 
 -- at a port, over the file at the path of the words
-pub data ServesAt {P F : Type 0} (host : Hosted P F) (l : Listen) (setup : SetupView) (port port' : PortFacts) (old new : Option (List ℕ)) (status : ℕ) : Type 0 where
-  AtFile : (file : F) → host.host.is_at l.kept.now file → KeepsAndServes host.file l setup file port port' old new status → ServesAt host l setup port port' old new status
-  NoRoomForFile : host.host.takes_memory l.kept.now → Passed port port' [] → TellsOne refused_memory old new status → ServesAt host l setup port port' old new status
+pub data ServesAt {P F : Type 0} (host : Hosted P F) (S : ServesBy F) (l : Listen) (setup : SetupView) (port port' : PortFacts) (old new : Option (List ℕ)) (r : Result ℕ WriteFault) : Type 0 where
+  AtFile : (file : F) → host.host.is_at l.kept.now file → KeepsAndServes host.file S l setup file port port' old new r → ServesAt host S l setup port port' old new r
+  NoRoomForFile : host.host.takes_memory l.kept.now → Passed port port' [] → TellsIf refused_memory old new r → ServesAt host S l setup port port' old new r
 
 -- memory for binding is refused: by the host, or for a list of more than one address
 abbrev pub LacksRoomToBind : {P F : Type 0} → HostFacts P F → List ℕ → List ℕ → Type 0
 LacksRoomToBind host address to = host.refuses address bind.OutOfMemory ⊎ (1 < length (addresses_of to))
 
 -- with these tables: the port can't be bound; or it is, sends to each of the addresses, and the record is kept in the file at the path
-pub data BindsAndServes {P F : Type 0} (host : Hosted P F) (l : Listen) (setup : SetupView) (old new : Option (List ℕ)) (status : ℕ) : Type 0 where
-  Unbound : host.host.refuses l.bind.now bind.Unbound → TellsOne refused_port old new status → BindsAndServes host l setup old new status
-  NoRoomToBind : LacksRoomToBind host.host l.bind.now l.to.now → TellsOne refused_memory old new status → BindsAndServes host l setup old new status
-  Bound : (port port' : P) → host.host.binds l.bind.now (addresses_of l.to.now) port → (host.port port).addresses ≡ length (addresses_of l.to.now) → ServesAt host l setup (host.port port) (host.port port') old new status → BindsAndServes host l setup old new status
+pub data BindsAndServes {P F : Type 0} (host : Hosted P F) (S : ServesBy F) (l : Listen) (setup : SetupView) (old new : Option (List ℕ)) (r : Result ℕ WriteFault) : Type 0 where
+  Unbound : host.host.refuses l.bind.now bind.Unbound → TellsIf refused_port old new r → BindsAndServes host S l setup old new r
+  NoRoomToBind : LacksRoomToBind host.host l.bind.now l.to.now → TellsIf refused_memory old new r → BindsAndServes host S l setup old new r
+  Bound : (port port' : P) → host.host.binds l.bind.now (addresses_of l.to.now) port → (host.port port).addresses ≡ length (addresses_of l.to.now) → ServesAt host S l setup (host.port port) (host.port port') old new r → BindsAndServes host S l setup old new r
 
 -- listening: the text of the start is no position; or else a table is refused; or else what follows, with the manifest of the
 -- tables' files
-pub data Listens {P F : Type 0} (host : Hosted P F) (l : Listen) (given : Given) (old new : Option (List ℕ)) (status : ℕ) : Type 0 where
-  BadStart : (fault : FenFault) → IsFirstFenFault l.start.now fault → TellsOne (refused_fen fault) old new status → Listens host l given old new status
-  BadTables : IsText l.start.now → (words : List ℕ) → gathered given ≡ Err words → TellsOne words old new status → Listens host l given old new status
-  NoRoom : IsText l.start.now → TellsOne refused_memory old new status → Listens host l given old new status
-  Opened : (start : Parts) → SpellsPosition l.start.now start → IsPosition start → (set : Holding) → Ok set.tables ≡ gathered given → (manifest : List ℕ) → SpellsManifest manifest (entries_of given.files) → BindsAndServes host l (setup_for l start set manifest) old new status → Listens host l given old new status
+pub data Listens {P F : Type 0} (host : Hosted P F) (S : ServesBy F) (l : Listen) (given : Given) (old new : Option (List ℕ)) (r : Result ℕ WriteFault) : Type 0 where
+  BadStart : (fault : FenFault) → IsFirstFenFault l.start.now fault → TellsIf (refused_fen fault) old new r → Listens host S l given old new r
+  BadTables : IsText l.start.now → (words : List ℕ) → gathered given ≡ Err words → TellsIf words old new r → Listens host S l given old new r
+  NoRoom : IsText l.start.now → TellsIf refused_memory old new r → Listens host S l given old new r
+  Opened : (start : Parts) → SpellsPosition l.start.now start → IsPosition start → (set : Holding) → Ok set.tables ≡ gathered given → (manifest : List ℕ) → SpellsManifest manifest (entries_of given.files) → BindsAndServes host S l (setup_for l start set manifest) old new r → Listens host S l given old new r

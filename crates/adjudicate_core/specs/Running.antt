@@ -15,7 +15,7 @@ use Rattle.adjudicate_core.specs.ToldLines.{refused_files, refused_memory}
 use Rattle.system_io.specs.Hosts.{HostFacts}
 use Rattle.system_io.specs.KeptFiles.{KeptFacts}
 use Rattle.system_io.specs.Ports.{PortFacts}
-use Rattle.adjudicate_core.specs.Listens.{Hosted, Listens, hosted}
+use Rattle.adjudicate_core.specs.Listens.{Hosted, Listens, hosted, serving_to}
 use Rattle.adjudicate_core.specs.Sends.{Sends}
 use Rattle.adjudicate_core.specs.Sources.{CannotRead, IsGiven, TakesMemory}
 use Rattle.adjudicate_core.specs.Commands.Judge as judges
@@ -57,7 +57,7 @@ AnswersFrom disk source host (task.List t) given old new status = AnswersRead (l
 AnswersFrom disk source host (task.Check t) given old new status = AnswersRead (checks.IsReply disk t) (checks.IsUnread disk t) old new status
 AnswersFrom disk source host (task.Show t) given old new status = shows.Answers given old new status
 AnswersFrom disk source host (task.Run t) given old new status = AnswersOnce (runs.IsReply t given) (Unit {0}) old new status
-AnswersFrom disk source host (task.Listen t) given old new status = Listens host t given old new status
+AnswersFrom disk source host (task.Listen t) given old new status = Listens host (serving_to host.file (Ok status)) t given old new (Ok status)
 AnswersFrom disk source host (task.Probes t) given old new status = PutsProbes source given old new status
 AnswersFrom disk source host (task.Game t) given old new status = AnswersOnce (games.IsReply t given) (IsText t.fen.now) old new status
 AnswersFrom disk source host (task.Record t) given old new status = AnswersOnce (records.IsReply given.kept) (records.TakesMemory given.kept) old new status

@@ -22,12 +22,8 @@ use Rattle.adjudicate_core.specs.Lines.{refused_fen, refused_manifest}
 use Rattle.adjudicate_core.specs.Listens.{Hosted, LacksRoomToBind}
 use Rattle.adjudicate_core.specs.Outside.{AreFilesIn, FolderFails}
 use Rattle.adjudicate_core.specs.Reply.{IsText}
-use Rattle.adjudicate_core.specs.Telling.{TellsOne}
+use Rattle.adjudicate_core.specs.Telling.{TellsIf}
 use Rattle.adjudicate_core.specs.ToldLines.{refused_files, refused_memory}
-
--- a line alone with status 1, where it could be written
-abbrev pub TellsIf : List ℕ → Option (List ℕ) → Option (List ℕ) → Result ℕ WriteFault → Type 0
-TellsIf line old new r = IfOk r (TellsOne line old new)
 
 -- ---- the manifest
 

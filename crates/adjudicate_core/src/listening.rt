@@ -6,8 +6,9 @@ ghost use Rattle.fen_text.specs.Fen.{SpellsPosition};
 ghost use Rattle.move_msg.specs.Files.{entries_of};
 ghost use Rattle.move_msg.specs.Manifests.{SpellsManifest};
 ghost use Rattle.arbiter_core.specs.Setups.{setup_view};
-ghost use Rattle.adjudicate_core.specs.Listens.{BindsAndServes, KeepsAndServes, Listens, OpensAndServes, ServesAt, TellsUnopened, hosted, setup_for};
+ghost use Rattle.adjudicate_core.specs.Listens.{BindsAndServes, KeepsAndServes, Listens, OpensAndServes, ServesAt, TellsUnopened, hosted, setup_for, writing_to};
 ghost use Rattle.adjudicate_core.specs.Looks.{gathered};
+ghost use Rattle.arbiter_service.specs.GoingOut.{writers};
 ghost use Rattle.arbiter_service.specs.Serving.{scene};
 ghost use Rattle.arbiter_service.specs.StoredBytes.{IsInFile};
 
@@ -28,7 +29,7 @@ use system_io::{BindFault, Host, KeptFile, Output, Port, ReadFault, WriteFault};
 
 /// Tells that no arbiter is opened: `refused keeper`, or `refused memory` where memory was refused.
 fn put_unopened<W: Output>(fault: OpenFault, out: &mut W) -> Result<u8, WriteFault>
-    ensures { IfOk result (TellsUnopened fault (W.contents out.old) (W.contents out.new)) }
+    ensures { TellsUnopened fault (W.contents out.old) (W.contents out.new) result }
 {
     match fault {
         OpenFault::OutOfMemory => put_refusal(out, Refusal::Memory),
@@ -47,7 +48,7 @@ fn open_and_serve<F: KeptFile + Drop, P: Port, W: Output>(
     out: &mut W,
 ) -> Result<u8, WriteFault>
     requires { IsInFile F.facts keeper.old }
-    ensures { IfOk result (OpensAndServes F.facts listening.now (setup_view setup.entry) (scene keeper.old (P.facts port.old) (W.contents out.old)) (scene keeper.new (P.facts port.new) (W.contents out.new))) }
+    ensures { OpensAndServes F.facts (writing_to F.facts (writers W.contents W.facts) out.old out.new result) listening.now (setup_view setup.entry) (scene keeper.old (P.facts port.old) (W.contents out.old)) (scene keeper.new (P.facts port.new) (W.contents out.new)) result }
 {
     match arbiter_service::open_and_serve(
         alloc,
@@ -60,7 +61,7 @@ fn open_and_serve<F: KeptFile + Drop, P: Port, W: Output>(
     ) {
         Ok(Ok(status)) => Ok(status),
         Ok(Err(fault)) => put_unopened(fault, out),
-        Err(_) => Err(WriteFault::Io),
+        Err(fault) => Err(fault),
     }
 }
 
@@ -73,7 +74,7 @@ fn keep_and_serve<F: KeptFile + Drop, P: Port, W: Output>(
     port: &mut P,
     out: &mut W,
 ) -> Result<u8, WriteFault>
-    ensures { IfOk result (KeepsAndServes F.facts listening.now (setup_view setup.entry) file (P.facts port.old) (P.facts port.new) (W.contents out.old) (W.contents out.new)) }
+    ensures { KeepsAndServes F.facts (writing_to F.facts (writers W.contents W.facts) out.old out.new result) listening.now (setup_view setup.entry) file (P.facts port.old) (P.facts port.new) (W.contents out.old) (W.contents out.new) result }
 {
     match FileKeeper::new(alloc, file) {
         Ok(mut keeper) => open_and_serve(alloc, listening, setup, &mut keeper, port, out),
@@ -91,7 +92,7 @@ fn serve_at<H: Host, W: Output>(
     port: &mut H::Port,
     out: &mut W,
 ) -> Result<u8, WriteFault>
-    ensures { IfOk result (ServesAt (hosted (H.facts host.now) H.Port.facts H.File.facts) listening.now (setup_view setup.entry) (H.Port.facts port.old) (H.Port.facts port.new) (W.contents out.old) (W.contents out.new)) }
+    ensures { ServesAt (hosted (H.facts host.now) H.Port.facts H.File.facts) (writing_to H.File.facts (writers W.contents W.facts) out.old out.new result) listening.now (setup_view setup.entry) (H.Port.facts port.old) (H.Port.facts port.new) (W.contents out.old) (W.contents out.new) result }
 {
     match host.file(alloc, listening.kept) {
         Ok(file) => keep_and_serve(alloc, listening, setup, file, port, out),
@@ -107,7 +108,7 @@ fn bind_and_serve<H: Host, W: Output>(
     host: &H,
     out: &mut W,
 ) -> Result<u8, WriteFault>
-    ensures { IfOk result (BindsAndServes (hosted (H.facts host.now) H.Port.facts H.File.facts) listening.now (setup_view setup.entry) (W.contents out.old) (W.contents out.new)) }
+    ensures { BindsAndServes (hosted (H.facts host.now) H.Port.facts H.File.facts) (writing_to H.File.facts (writers W.contents W.facts) out.old out.new result) listening.now (setup_view setup.entry) (W.contents out.old) (W.contents out.new) result }
 {
     match bind(alloc, host, listening.bind, listening.to) {
         Ok(mut port) => serve_at(alloc, listening, setup, host, &mut port, out),
@@ -135,7 +136,7 @@ fn listen_with<'a, H: Host, W: Output>(
     out: &mut W,
 ) -> Result<u8, WriteFault>
     requires { name.now ≡ listening.now.name.now }
-    ensures { IfOk result (BindsAndServes (hosted (H.facts host.now) H.Port.facts H.File.facts) listening.now (setup_for listening.now start set.entry manifest.entry.now) (W.contents out.old) (W.contents out.new)) }
+    ensures { BindsAndServes (hosted (H.facts host.now) H.Port.facts H.File.facts) (writing_to H.File.facts (writers W.contents W.facts) out.old out.new result) listening.now (setup_for listening.now start set.entry manifest.entry.now) (W.contents out.old) (W.contents out.new) result }
 {
     let setup = Setup {
         name,
@@ -158,7 +159,7 @@ fn listen_by<'a, H: Host, W: Output>(
     host: &H,
     out: &mut W,
 ) -> Result<u8, WriteFault>
-    ensures { Ok set.entry.tables ≡ gathered sources.now → SpellsPosition listening.now.start.now start → IsPosition start → IfOk result (Listens (hosted (H.facts host.now) H.Port.facts H.File.facts) listening.now sources.now (W.contents out.old) (W.contents out.new)) }
+    ensures { Ok set.entry.tables ≡ gathered sources.now → SpellsPosition listening.now.start.now start → IsPosition start → Listens (hosted (H.facts host.now) H.Port.facts H.File.facts) (writing_to H.File.facts (writers W.contents W.facts) out.old out.new result) listening.now sources.now (W.contents out.old) (W.contents out.new) result }
 {
     let manifest = match manifest_for(alloc, sources) {
         Ok(manifest) => manifest,
@@ -180,7 +181,7 @@ pub fn listen<'a, H: Host, W: Output>(
     host: &H,
     out: &mut W,
 ) -> Result<u8, WriteFault>
-    ensures { IfOk result (Listens (hosted (H.facts host.now) H.Port.facts H.File.facts) listening.now sources.now (W.contents out.old) (W.contents out.new)) }
+    ensures { Listens (hosted (H.facts host.now) H.Port.facts H.File.facts) (writing_to H.File.facts (writers W.contents W.facts) out.old out.new result) listening.now sources.now (W.contents out.old) (W.contents out.new) result }
 {
     let start = match read(listening.start.as_bytes()) {
         Ok(start) => start,

@@ -1,21 +1,18 @@
 use Rattle.std.proofs.Common.{sym}
-use Rattle.std.proofs.lemmas.Result.{IfOk-weaker}
 use Rattle.adjudicate_core.specs.Listens.{BadStart, BadTables, NoRoom}
 use Rattle.adjudicate_core.specs.Reply.{IsText}
 use Rattle.adjudicate_core.proofs.listening.listen.Goals as goal
 
 pub returns-in-Err : goal.returns-in-Err
-returns-in-Err g c =
-    let fault = rw c.as_bytes.ensures.value at c.in-Err.ensures.err in
-    IfOk-weaker c.put_refusal.result _ _ (λ status h. BadStart c.in-Err.fault fault h) c.put_refusal.ensures
+returns-in-Err g c = BadStart c.in-Err.fault (rw c.as_bytes.ensures.value at c.in-Err.ensures.err) c.put_refusal.ensures
 
 pub returns-in-Ok-Err : goal.returns-in-Ok-Err
 returns-in-Ok-Err g c =
     let text : IsText c.args.listening.now.start.now = (c.in-Ok.start, rw c.as_bytes.ensures.value at c.in-Ok.ensures.ok, c.in-Ok.ensures.position) in
     let refused = rw c.in-Ok-Err.field-0-is at c.in-Ok-Err.ensures in
-    IfOk-weaker c.put_refusal-in-Ok-Err.result _ _ (λ status h. BadTables text _ (sym refused) h) c.put_refusal-in-Ok-Err.ensures
+    BadTables text _ (sym refused) c.put_refusal-in-Ok-Err.ensures
 
 pub returns-in-Err-gather : goal.returns-in-Err-gather
 returns-in-Err-gather g c =
     let text : IsText c.args.listening.now.start.now = (c.in-Ok.start, rw c.as_bytes.ensures.value at c.in-Ok.ensures.ok, c.in-Ok.ensures.position) in
-    IfOk-weaker c.put_refusal-in-Err-gather.result _ _ (λ status h. NoRoom text h) c.put_refusal-in-Err-gather.ensures
+    NoRoom text c.put_refusal-in-Err-gather.ensures

@@ -1,6 +1,6 @@
 use Rattle.std.proofs.Common.{◌∙◌, refl, sym, ap}
 use Rattle.adjudicate_core.specs.Tasks.{tells_progress}
-use Rattle.adjudicate_core.proofs.AnswerLaws.{after_reading, once, once_always, sent}
+use Rattle.adjudicate_core.proofs.AnswerLaws.{after_reading, listened, once, once_always, sent}
 use Rattle.adjudicate_core.proofs.program.answer_given.Goals as goal
 
 pub returns-in-Judge : goal.returns-in-Judge
@@ -19,7 +19,7 @@ pub returns-in-Run : goal.returns-in-Run
 returns-in-Run g c = record { answered = rw c.in-Run.is (once_always c.answer-in-Run.result _ c.answer-in-Run.ensures c.put_answered-in-Run.result _ _ c.put_answered-in-Run.ensures); quiet = λ unasked. refl }
 
 pub returns-in-Listen : goal.returns-in-Listen
-returns-in-Listen g c = record { answered = rw c.in-Listen.is c.listen.ensures; quiet = λ unasked. refl }
+returns-in-Listen g c = record { answered = rw c.in-Listen.is (listened _ _ _ _ _ _ _ _ c.listen.result c.listen.ensures); quiet = λ unasked. refl }
 
 pub returns-in-Probes : goal.returns-in-Probes
 returns-in-Probes g c = record { answered = rw c.in-Probes.is c.answer-in-Probes.ensures.written; quiet = λ unasked. c.answer-in-Probes.ensures.quiet (ap tells_progress (sym c.in-Probes.is) ∙ unasked) }
