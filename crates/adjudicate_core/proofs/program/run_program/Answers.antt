@@ -13,5 +13,5 @@ returns-in-Ok-tail_of g c =
 
 pub returns-in-Err-NoText : goal.returns-in-Err-NoText
 returns-in-Err-NoText g c =
-    let is : called_by c.args.called.now ≡ Err (NoText c.in-Err-NoText.word.now) = search rules in
-    OnNoText c.in-Err-NoText.word.now c.as_slice.result is c.as_slice.ensures.value c.tell_misuse.ensures refl refl
+    let is : called_by c.args.called.now ≡ Err (NoText c.in-Err-NoText.word) = search rules in
+    OnNoText c.in-Err-NoText.word c.as_slice.result is c.as_slice.ensures.value c.tell_misuse.ensures refl refl
