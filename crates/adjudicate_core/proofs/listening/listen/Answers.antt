@@ -16,3 +16,8 @@ pub returns-in-Err-gather : goal.returns-in-Err-gather
 returns-in-Err-gather g c =
     let text : IsText c.args.listening.now.start.now = (c.in-Ok.start, rw c.as_bytes.ensures.value at c.in-Ok.ensures.ok, c.in-Ok.ensures.position) in
     NoRoom text c.put_refusal-in-Err-gather.ensures
+
+pub returns-in-Ok-Ok : goal.returns-in-Ok-Ok
+returns-in-Ok-Ok g c =
+    let tables = rw c.in-Ok-Ok.field-0-is at c.in-Ok-Ok.ensures in
+    c.listen_by.ensures tables (rw c.as_bytes.ensures.value at c.in-Ok.ensures.ok) c.in-Ok.ensures.position
