@@ -10,11 +10,12 @@ use Rattle.std.proofs.lemmas.List.{map-append}
 use Rattle.move_msg.specs.TextLines.{ended, lines_in, text_of, whole_lines}
 use Rattle.move_msg.proofs.LineLaws.{more_lines}
 use Rattle.system_io.specs.LineReaders.{LineFacts, ReadsLine}
+use Rattle.system_io.specs.Outputs.{OutputFacts}
 use Rattle.system_io.specs.declared.reading.ReadFault.{ReadFault}
 use Rattle.system_io.specs.declared.reading.ReadFault.TheVariants as read
 use Rattle.adjudicate_core.specs.declared.told_lines.Step.{Step}
 use Rattle.adjudicate_core.specs.declared.told_lines.Step.TheVariants as step
-use Rattle.adjudicate_core.specs.ToldLines.{AllTold, AreRead, CutOff, CutShort, HasTold, IsCut, LineTold, ReadAll, StepTells, TellsLines, TextCutShort, WantsMemory, WritesRead, WritesText, WritesTold, all_told, refused_files, refused_memory, stops_by, words_told}
+use Rattle.adjudicate_core.specs.ToldLines.{AllTold, AreRead, AsksInTurn, AsksNone, AsksOne, MayWait, TellsInTurn, CutOff, CutShort, HasTold, IsCut, LineTold, ReadAll, StepTells, TellsLines, TextCutShort, WantsMemory, WritesRead, WritesText, WritesTold, all_told, refused_files, refused_memory, stops_by, words_told}
 
 pub are_read_more : (a b c : Option (List ℕ)) (lines : List (List ℕ)) (line : List ℕ) → AreRead a lines b → ReadsLine b c line → AreRead a (lines ++ line ∷ []) c
 unfolding AreRead
@@ -92,6 +93,30 @@ step_cut Tells TakesMemory Fails input left old new s words e is wrote = subst (
 -- so many lines were told that no more are counted
 pub told_most : (Tells : List ℕ → LineTold → Type 0) (TakesMemory : List ℕ → Type 0) (Fails : ReadFault → Type 0) (count : ℕ) (input now old mid new : Option (List ℕ)) (done : Bool) → ToldSoFar Tells count input now old mid done → 2 ^ 64 - 1 ≤ count → Appends mid new (ended refused_files) → WritesRead Tells TakesMemory Fails input old new false
 told_most Tells TakesMemory Fails count input now old mid new done h many wrote = CutShort h.told now refused_files h.has (inl (refl, inr (subst (λ n. 2 ^ 64 - 1 ≤ n) (sym h.count_is) many))) (more_lines old mid new (words_told h.told) refused_files h.written wrote) refl
+
+-- ---- in turn
+
+module _ {L W : Type 0} (lines : L → LineFacts) (outs : W → OutputFacts) (contents : W → Option (List ℕ)) where
+  pub asks_more : (reader before now : L) (out told waiting at : W) (Tells : List ℕ → LineTold → Type 0) (done : Bool) → AsksInTurn lines outs contents reader out before told → Keeps (contents told) (contents waiting) → MayWait (lines before) (outs waiting) → (line : List ℕ) × ReadsLine (lines before).left (lines now).left line × WritesTold (Tells line) (contents waiting) (contents at) done → AsksInTurn lines outs contents reader out now at
+  asks_more reader before now out told waiting at Tells done asked keeps may (line, read, (words, tells, wrote)) = AsksOne before now told waiting at asked keeps may line words read wrote
+
+  kept_then : (a b c : Option (List ℕ)) (bs : List ℕ) → Keeps a b → Appends b c bs → Appends a c bs
+  kept_then None b c bs p q = tt
+  kept_then (Some xs) None c bs p q = absurd p
+  kept_then (Some xs) (Some ys) None bs p q = absurd q
+  kept_then (Some xs) (Some ys) (Some zs) bs p q = q ∙ ap (λ l. l ++ bs) p
+
+  pub asks_all : (reader now : L) (out at waiting new : W) → AsksInTurn lines outs contents reader out now at → Keeps (contents at) (contents waiting) → contents new ≡ contents waiting → TellsInTurn lines outs contents reader out new
+  asks_all reader now out at waiting new asked keeps same = record { now = now; at = at; asked = asked; rest = inl (subst (Keeps (contents at)) (sym same) keeps) }
+
+  why : (Now : ReadFault → Type 0) (words : List ℕ) → IsCut Now [] words → (words ≡ refused_files) ⊎ (words ≡ refused_memory)
+  why Now words (inl (is, cause)) = inl is
+  why Now words (inr (is, room)) = inr is
+
+  pub asks_cut : (reader now next : L) (out at waiting new : W) (TakesMemory : List ℕ → Type 0) (Now : ReadFault → Type 0) → AsksInTurn lines outs contents reader out now at → Keeps (contents at) (contents waiting)
+      → ((line : List ℕ) × ReadsLine (lines now).left (lines next).left line × TakesMemory line × Appends (contents waiting) (contents new) (ended refused_memory)) ⊎ ((words : List ℕ) × IsCut Now [] words × Appends (contents waiting) (contents new) (ended words)) → TellsInTurn lines outs contents reader out new
+  asks_cut reader now next out at waiting new TakesMemory Now asked keeps (inl (line, read, takes, wrote)) = record { now = now; at = at; asked = asked; rest = inr (refused_memory, inr refl, kept_then (contents at) (contents waiting) (contents new) (ended refused_memory) keeps wrote) }
+  asks_cut reader now next out at waiting new TakesMemory Now asked keeps (inr (words, is, wrote)) = record { now = now; at = at; asked = asked; rest = inr (words, why Now words is, kept_then (contents at) (contents waiting) (contents new) (ended words) keeps wrote) }
 
 -- ---- another reason for a failure
 

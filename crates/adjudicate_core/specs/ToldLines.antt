@@ -2,7 +2,7 @@
 use Rattle.std.specs.Prelude.{◌≡◌, ◌≤◌, ◌⊎◌, ◌++◌, ◌^◌, ◌-◌, ℕ, Bool, false, List, [], ◌∷◌, length, map, Option, IfSome, codes}
 use Rattle.std.specs.Fmt.{decimal}
 use Rattle.std.specs.List.{Contains, list_all}
-use Rattle.std.specs.Io.KnownBytes.{Appends, IsAtEnd}
+use Rattle.std.specs.Io.KnownBytes.{Appends, IsAtEnd, Keeps}
 use Rattle.system_io.specs.Outputs.{OutputFacts}
 use Rattle.system_io.specs.LineReaders.{LineFacts, ReadsLine}
 use Rattle.system_io.specs.declared.reading.ReadFault.{ReadFault}
@@ -52,6 +52,19 @@ refused_files = codes "refused files"
 -- a line may be waited for: a whole one has come already, or what was written has gone out
 abbrev pub MayWait : LineFacts → OutputFacts → Type 0
 MayWait input out = Contains input.ahead 10 ⊎ out.gone
+
+-- From this reader and output on lines were asked for in turn. Before each of them a whole one had come already, or all that was
+-- told had gone out; then the line was read, and one line was written.
+pub data AsksInTurn {L W : Type 0} (lines : L → LineFacts) (outs : W → OutputFacts) (contents : W → Option (List ℕ)) (reader : L) (out : W) : L → W → Type 0 where
+  AsksNone : (now : L) (at : W) → now ≡ reader → at ≡ out → AsksInTurn lines outs contents reader out now at
+  AsksOne : (before now : L) (told waiting at : W) → AsksInTurn lines outs contents reader out before told → Keeps (contents told) (contents waiting) → MayWait (lines before) (outs waiting) → (line words : List ℕ) → ReadsLine (lines before).left (lines now).left line → Appends (contents waiting) (contents at) (ended words) → AsksInTurn lines outs contents reader out now at
+
+-- all that was written was written so, but for a line that says why no more is told
+pub record TellsInTurn {L W : Type 0} (lines : L → LineFacts) (outs : W → OutputFacts) (contents : W → Option (List ℕ)) (reader : L) (out new : W) : Type 0 where
+  pub now : L
+  pub at : W
+  pub asked : AsksInTurn lines outs contents reader out now at
+  pub rest : Keeps (contents at) (contents new) ⊎ ((words : List ℕ) × ((words ≡ refused_files) ⊎ (words ≡ refused_memory)) × Appends (contents at) (contents new) (ended words))
 
 -- these lines were read, one after the other
 unfoldable pub AreRead : Option (List ℕ) → List (List ℕ) → Option (List ℕ) → Type 0

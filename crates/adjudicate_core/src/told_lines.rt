@@ -5,7 +5,7 @@ ghost use Rattle.std.specs.Io.KnownBytes.{Appends, Keeps};
 ghost use Rattle.move_msg.specs.TextLines.{ended};
 ghost use Rattle.system_io.specs.declared.reading.ReadFault.{ReadFault};
 ghost use Rattle.adjudicate_core.specs.Lines.{refusal_words};
-ghost use Rattle.adjudicate_core.specs.ToldLines.{LineTells, LineTold, MayWait, StepTells, TellsNoMore, WritesIfKnown, WritesRead, WritesTold, done_words, stops_by};
+ghost use Rattle.adjudicate_core.specs.ToldLines.{LineTells, LineTold, MayWait, StepTells, TellsInTurn, TellsNoMore, WritesIfKnown, WritesRead, WritesTold, done_words, stops_by};
 
 use crate::lines::{Line, put_line};
 use crate::refusals::Refusal;
@@ -160,6 +160,9 @@ pub fn tell_lines<T: Teller, L: LineReader, W: Output, E: Write>(
 
     // Where the reader tells its bytes, these are the lines of the whole text, or those until it was cut short.
     ensures same_text { IfOk result (WritesIfKnown (T.tells teller.old) T.takes_memory (L.facts reader.old) (W.contents out.old) (W.contents out.new)) }
+
+    // What was told goes out before the next line is waited for.
+    ensures turns { OnOk result (TellsInTurn L.facts W.facts W.contents reader.old out.old out.new) }
 
     ensures quiet { progress ≡ false → errors.new ≡ errors.old }
     ensures same { TellsNoMore (T.tells teller.old) (T.tells teller.new) }
