@@ -10,7 +10,7 @@ use system_io::{BindFault, DiskFile, Host, Outcome, Port, PortFault};
 /// A port at which datagrams wait; what is sent there goes nowhere.
 #[derive(Drop)]
 pub(crate) struct WaitingPort<'a> {
-    waiting: &'a [&'a [u8]],
+    waiting: &'a [Vec<u8>],
     addresses: usize,
     failures: u64,
 }
@@ -38,7 +38,7 @@ impl<'a> WaitingPort<'a> {
             }
             [first, others @ ..] => {
                 self.waiting = others;
-                Some(first)
+                Some(first.as_slice())
             }
         }
     }
@@ -76,47 +76,17 @@ impl<'a> Port for WaitingPort<'a> {
     }
 }
 
-/// What stands under a name.
+/// What stands where the record is kept.
 #[derive(Clone, Copy)]
-pub(crate) enum Stands<'a> {
+pub(crate) enum Stands {
     /// Nothing.
     Nothing,
-    /// A file with these bytes.
-    Bytes(&'a [u8]),
+    /// A file.
+    Bytes,
     /// Something that can't be read.
     Unreadable,
-    /// A file in a folder that can't be synced.
+    /// Nothing, in a folder that can't be synced.
     Unsettled,
-}
-
-impl<'a> Stands<'a> {
-    /// The bytes of a file, if there is one.
-    fn bytes(&self) -> Option<&'a [u8]> {
-        match self {
-            Stands::Bytes(bytes) => Some(*bytes),
-            _ => None,
-        }
-    }
-
-    /// What comes of the calls for it: the first fails where the folder can't be synced.
-    fn outcomes(&self, alloc: Global) -> Result<Vec<Outcome>, AllocError> {
-        let mut outcomes = Vec::new(alloc);
-        if matches!(self, Stands::Unsettled) {
-            outcomes.push(Outcome::Before)?;
-        }
-        Ok(outcomes)
-    }
-
-    /// The file on a disk.
-    fn on_disk(&self, alloc: Global) -> Result<DiskFile, AllocError> {
-        let stands = match self.bytes() {
-            Some(bytes) => Some(Vec::from_slice(alloc, bytes)?),
-            None => None,
-        };
-        let reads_fail = matches!(self, Stands::Unreadable);
-        let outcomes = self.outcomes(alloc)?;
-        Ok(DiskFile::new(alloc, stands, outcomes, reads_fail))
-    }
 }
 
 /// The address that can be bound, and the one to which messages go.
@@ -129,18 +99,35 @@ const TO: &str = "t:1";
 #[derive(Clone, Copy)]
 pub(crate) struct MemoryHost<'a> {
     pub(crate) is_bound: bool,
-    pub(crate) waiting: &'a [&'a [u8]],
-    pub(crate) stands: Stands<'a>,
+    pub(crate) waiting: &'a [Vec<u8>],
+    pub(crate) stands: Stands,
+    pub(crate) kept: &'a [u8],
 }
 
 impl<'a> MemoryHost<'a> {
-    /// One whose address can't be bound.
-    pub(crate) fn unbound() -> MemoryHost<'a> {
-        MemoryHost {
-            is_bound: false,
-            waiting: &[],
-            stands: Stands::Unreadable,
+    /// The bytes of the file, if there is one.
+    fn bytes(&self, alloc: Global) -> Result<Option<Vec<u8>>, AllocError> {
+        match self.stands {
+            Stands::Bytes => Ok(Some(Vec::from_slice(alloc, self.kept)?)),
+            _ => Ok(None),
         }
+    }
+
+    /// What comes of the calls for the file: the first fails where the folder can't be synced.
+    fn outcomes(&self, alloc: Global) -> Result<Vec<Outcome>, AllocError> {
+        let mut outcomes = Vec::new(alloc);
+        if matches!(self.stands, Stands::Unsettled) {
+            outcomes.push(Outcome::Before)?;
+        }
+        Ok(outcomes)
+    }
+
+    /// The file on a disk.
+    fn on_disk(&self, alloc: Global) -> Result<DiskFile, AllocError> {
+        let bytes = self.bytes(alloc)?;
+        let reads_fail = matches!(self.stands, Stands::Unreadable);
+        let outcomes = self.outcomes(alloc)?;
+        Ok(DiskFile::new(alloc, bytes, outcomes, reads_fail))
     }
 }
 
@@ -181,6 +168,6 @@ impl<'a> Host for MemoryHost<'a> {
     }
 
     fn file(&self, alloc: Global, _path: &str) -> Result<DiskFile, AllocError> {
-        self.stands.on_disk(alloc)
+        self.on_disk(alloc)
     }
 }

@@ -1,0 +1,249 @@
+//! A case: what the program is given, and what is wanted of it.
+
+use crate::memory_host::{MemoryHost, Stands};
+use crate::pieces::{Fault, add_piece, number_of};
+use crate::shelf::{Shelf, head_of, is_comment, parted};
+use crate::slow_input::SlowInput;
+use std::alloc::{AllocError, Global};
+use system_io::WriteFault;
+
+/// What is run.
+#[derive(Clone, Copy)]
+pub(crate) enum Call<'t> {
+    /// The program over the files of the shelf.
+    Shelf,
+    /// The program over the files of the system.
+    System,
+    /// The words are only read, as the task of this name.
+    Task(&'t str),
+    /// A teller is given the lines of the input. It tells how many bytes each has.
+    Teller,
+}
+
+/// What is wanted.
+#[derive(Drop)]
+pub(crate) struct Wanted {
+    pub(crate) output: Vec<u8>,
+    /// The output need only begin so.
+    pub(crate) is_front: bool,
+    pub(crate) errors: Vec<u8>,
+    pub(crate) ended: Result<u8, WriteFault>,
+}
+
+/// A case.
+#[derive(Drop)]
+pub(crate) struct Case<'t> {
+    pub(crate) call: Call<'t>,
+    pub(crate) words: Vec<&'t str>,
+    pub(crate) wanted: Wanted,
+    /// How many of the writes are refused in turn, each in a run of its own.
+    pub(crate) refused_writes: usize,
+    /// Standard error can't be written.
+    pub(crate) is_mute: bool,
+    input: Vec<u8>,
+    /// Standard input fails behind its bytes.
+    input_fails: bool,
+    is_bound: bool,
+    datagrams: Vec<Vec<u8>>,
+    stands: Stands,
+    kept: Vec<u8>,
+}
+
+/// Adds the words of a text. Those in double quotes, with the spaces in them, are one.
+fn add_words<'t>(words: &mut Vec<&'t str>, text: &'t str) -> Result<(), AllocError> {
+    for (place, part) in text.split('"').enumerate() {
+        if place % 2 == 1 {
+            words.push(part)?;
+        } else {
+            add_parted(words, part)?;
+        }
+    }
+    Ok(())
+}
+
+/// Adds the words of a text without quotes.
+fn add_parted<'t>(words: &mut Vec<&'t str>, text: &'t str) -> Result<(), AllocError> {
+    for word in text.split_ascii_whitespace() {
+        words.push(word)?;
+    }
+    Ok(())
+}
+
+impl Wanted {
+    /// Nothing, and the status 0.
+    fn new(alloc: Global) -> Wanted {
+        Wanted {
+            output: Vec::new(alloc),
+            is_front: false,
+            errors: Vec::new(alloc),
+            ended: Ok(0),
+        }
+    }
+}
+
+impl<'t> Case<'t> {
+    /// One without words, input or a port that can be bound, of which nothing is wanted.
+    pub(crate) fn new(alloc: Global) -> Case<'t> {
+        Case {
+            call: Call::Shelf,
+            words: Vec::new(alloc),
+            wanted: Wanted::new(alloc),
+            refused_writes: 0,
+            is_mute: false,
+            input: Vec::new(alloc),
+            input_fails: true,
+            is_bound: false,
+            datagrams: Vec::new(alloc),
+            stands: Stands::Unreadable,
+            kept: Vec::new(alloc),
+        }
+    }
+
+    /// Its standard input.
+    pub(crate) fn input(&self) -> SlowInput<'_> {
+        SlowInput {
+            bytes: &self.input,
+            fails: self.input_fails,
+        }
+    }
+
+    /// Its host.
+    pub(crate) fn host(&self) -> MemoryHost<'_> {
+        MemoryHost {
+            is_bound: self.is_bound,
+            waiting: &self.datagrams,
+            stands: self.stands,
+            kept: &self.kept,
+        }
+    }
+
+    /// Adds a piece of the input, or that it fails behind what it has.
+    fn add_input(
+        &mut self,
+        alloc: Global,
+        shelf: &Shelf<'_>,
+        kind: &str,
+        text: &str,
+    ) -> Result<(), Fault> {
+        self.input_fails = kind == "!";
+        if self.input_fails {
+            return Ok(());
+        }
+        add_piece(alloc, shelf, &mut self.input, kind, text)
+    }
+
+    /// Adds a datagram that waits at the port.
+    fn add_datagram(
+        &mut self,
+        alloc: Global,
+        shelf: &Shelf<'_>,
+        digits: &str,
+    ) -> Result<(), Fault> {
+        let mut datagram = Vec::new(alloc);
+        add_piece(alloc, shelf, &mut datagram, "x", digits)?;
+        match self.datagrams.push(datagram) {
+            Ok(()) => Ok(()),
+            Err(_) => Err(Fault::Memory),
+        }
+    }
+
+    /// Notes what stands where the record is to be kept.
+    fn set_kept(&mut self, alloc: Global, shelf: &Shelf<'_>, text: &str) -> Result<(), Fault> {
+        self.stands = match text {
+            "nothing" => Stands::Nothing,
+            "unreadable" => Stands::Unreadable,
+            "unsettled" => Stands::Unsettled,
+            _ => Stands::Bytes,
+        };
+        match text.strip_prefix("bytes") {
+            Some(digits) => add_piece(alloc, shelf, &mut self.kept, "x", digits.trim_start()),
+            None if matches!(self.stands, Stands::Bytes) => Err(Fault::Line),
+            None => Ok(()),
+        }
+    }
+
+    /// Notes the status that is wanted.
+    fn set_status(&mut self, text: &str) -> Result<(), Fault> {
+        match text.parse::<u8>() {
+            Ok(status) => {
+                self.wanted.ended = Ok(status);
+                Ok(())
+            }
+            Err(_) => Err(Fault::Line),
+        }
+    }
+
+    /// Notes what a line of one word and a value says.
+    fn set(
+        &mut self,
+        alloc: Global,
+        shelf: &Shelf<'_>,
+        word: &str,
+        text: &'t str,
+    ) -> Result<(), Fault> {
+        match word {
+            "$" => return Ok(add_words(&mut self.words, text)?),
+            "status" => return self.set_status(text),
+            "datagram" => return self.add_datagram(alloc, shelf, text),
+            "kept" => return self.set_kept(alloc, shelf, text),
+            "writes" => self.refused_writes = number_of(text)?,
+            "task" => self.call = Call::Task(text),
+            _ => return self.mark(word, text),
+        }
+        Ok(())
+    }
+
+    /// Notes what a line of one word says.
+    fn mark(&mut self, word: &str, text: &str) -> Result<(), Fault> {
+        match word {
+            "tell" => self.call = Call::Teller,
+            "system" => self.call = Call::System,
+            "bound" => self.is_bound = true,
+            "mute" => self.is_mute = true,
+            "front" => self.wanted.is_front = true,
+            "fault" => self.wanted.ended = Err(WriteFault::Io),
+            _ => return Err(Fault::Line),
+        }
+        if text.is_empty() {
+            Ok(())
+        } else {
+            Err(Fault::Line)
+        }
+    }
+
+    /// Adds what a line says.
+    fn add(&mut self, alloc: Global, shelf: &Shelf<'_>, line: &'t str) -> Result<(), Fault> {
+        let (word, text) = parted(line);
+        if let Some(kind) = word.strip_prefix('<') {
+            return self.add_input(alloc, shelf, kind, text);
+        }
+        if let Some(kind) = word.strip_prefix('>') {
+            return add_piece(alloc, shelf, &mut self.wanted.output, kind, text);
+        }
+        if let Some(kind) = word.strip_prefix('!') {
+            return add_piece(alloc, shelf, &mut self.wanted.errors, kind, text);
+        }
+        self.set(alloc, shelf, word, text)
+    }
+
+    /// Adds what the lines of a paragraph say.
+    pub(crate) fn read(
+        &mut self,
+        alloc: Global,
+        shelf: &Shelf<'_>,
+        paragraph: &'t str,
+    ) -> Result<(), Fault> {
+        for line in paragraph.lines() {
+            if !is_comment(line) {
+                self.add(alloc, shelf, line)?;
+            }
+        }
+        Ok(())
+    }
+}
+
+/// Whether a paragraph is a case: it says something, and neither of a file nor of a folder.
+pub(crate) fn is_case(paragraph: &str) -> bool {
+    let (word, _) = parted(head_of(paragraph));
+    !matches!(word, "" | "file" | "folder")
+}

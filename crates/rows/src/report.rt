@@ -1,0 +1,120 @@
+//! What is told where something isn't as it is wanted.
+
+use crate::case::Wanted;
+use std::alloc::{AllocError, Global};
+use std::fmt::Write;
+use system_io::WriteFault;
+
+/// The number of the first line in which two texts differ, the first being 1, and that line of each, if it has so many.
+fn lines_apart<'a>(wanted: &'a str, got: &'a str) -> (usize, Option<&'a str>, Option<&'a str>) {
+    let mut others = got.lines();
+    let mut number = 1usize;
+    for line in wanted.lines() {
+        let other = others.next();
+        if other != Some(line) {
+            return (number, Some(line), other);
+        }
+        number = number.saturating_add(1);
+    }
+    (number, None, others.next())
+}
+
+/// A line of a report, or that there is none.
+fn shown<'a>(line: Option<&'a str>) -> &'a str {
+    line.unwrap_or("(no line, or another line feed)")
+}
+
+/// Notes the first line in which two texts differ.
+fn note_lines(report: &mut String, what: &str, wanted: &str, got: &str) -> Result<(), AllocError> {
+    let (number, line, other) = lines_apart(wanted, got);
+    let (line, other) = (shown(line), shown(other));
+    writeln!(report, "  {what}, line {number}")?;
+    writeln!(report, "    wanted: {line}")?;
+    writeln!(report, "    got:    {other}")
+}
+
+/// Notes that bytes are others than those that are wanted.
+fn note_bytes(
+    alloc: Global,
+    report: &mut String,
+    what: &str,
+    wanted: &[u8],
+    got: &[u8],
+) -> Result<(), AllocError> {
+    let wanted = String::from_utf8_lossy(alloc, wanted)?;
+    let got = String::from_utf8_lossy(alloc, got)?;
+    note_lines(report, what, &wanted, &got)
+}
+
+/// Looks at the output.
+pub(crate) fn check_output(
+    alloc: Global,
+    report: &mut String,
+    wanted: &Wanted,
+    output: &[u8],
+) -> Result<(), AllocError> {
+    let is_right = if wanted.is_front {
+        output.starts_with(&wanted.output)
+    } else {
+        output == wanted.output.as_slice()
+    };
+    if is_right {
+        return Ok(());
+    }
+    note_bytes(alloc, report, "output", &wanted.output, output)
+}
+
+/// Looks at standard error: where words are misused, it need only begin as it is wanted, and isn't empty.
+pub(crate) fn check_errors(
+    alloc: Global,
+    report: &mut String,
+    wanted: &Wanted,
+    errors: &[u8],
+) -> Result<(), AllocError> {
+    let is_right = if wanted.ended == Ok(2) {
+        !errors.is_empty() && errors.starts_with(&wanted.errors)
+    } else {
+        errors == wanted.errors.as_slice()
+    };
+    if is_right {
+        return Ok(());
+    }
+    note_bytes(alloc, report, "standard error", &wanted.errors, errors)
+}
+
+/// Looks at how it ended.
+pub(crate) fn check_end(
+    report: &mut String,
+    wanted: Result<u8, WriteFault>,
+    got: Result<u8, WriteFault>,
+) -> Result<(), AllocError> {
+    if wanted == got {
+        return Ok(());
+    }
+    writeln!(report, "  end: wanted {wanted:?}, got {got:?}")
+}
+
+/// Looks at how it ended where a write was refused.
+pub(crate) fn check_refused(
+    report: &mut String,
+    number: usize,
+    got: Result<u8, WriteFault>,
+) -> Result<(), AllocError> {
+    if got == Err(WriteFault::Io) {
+        return Ok(());
+    }
+    writeln!(report, "  write {number} is refused: got {got:?}")
+}
+
+/// Looks at a word or a text.
+pub(crate) fn check_text(
+    report: &mut String,
+    what: &str,
+    wanted: &str,
+    got: &str,
+) -> Result<(), AllocError> {
+    if wanted == got {
+        return Ok(());
+    }
+    note_lines(report, what, wanted, got)
+}
