@@ -1,10 +1,9 @@
 -- What is written piece by piece.
-use Rattle.std.proofs.Common.{◌≡◌, ◌<◌, ◌++◌, ◌∙◌, ℕ, suc, List, [], ◌∷◌, length, Option, Some, None, take, drop, take-append-drop, append_assoc, append-nil, subst, sym, ap, inl, inr, refl}
+use Rattle.std.proofs.Common.{◌≡◌, ◌<◌, ◌++◌, ◌∙◌, ℕ, suc, List, [], ◌∷◌, length, Option, Some, None, take, drop, take-append-drop, append_assoc, append-nil, subst, sym, ap, inl, inr}
 use Rattle.std.specs.Prelude.{Result, Ok, Err, OnErr, OnOk, get_or, false}
 use Rattle.std.proofs.lemmas.Bool.{cond-false}
 use Rattle.hex.specs.Hex.{encode_lower}
 use Rattle.adjudicate_core.specs.declared.usage.Misuse.{Misuse}
-use Rattle.std.specs.List.{flat_map}
 use Rattle.std.proofs.lemmas.Grind.{flat_map-append}
 use Rattle.std.proofs.Math.Seq.{split_at}
 use Rattle.std.specs.Io.KnownBytes.{Appends, Keeps}

@@ -15,7 +15,7 @@ use Rattle.system_io.specs.declared.reading.ReadFault.{ReadFault}
 use Rattle.system_io.specs.declared.reading.ReadFault.TheVariants as read
 use Rattle.adjudicate_core.specs.declared.told_lines.Step.{Step}
 use Rattle.adjudicate_core.specs.declared.told_lines.Step.TheVariants as step
-use Rattle.adjudicate_core.specs.ToldLines.{AllTold, AreRead, AsksInTurn, AsksNone, AsksOne, MayWait, TellsInTurn, CutOff, CutShort, HasTold, IsCut, LineTold, ReadAll, StepTells, TellsLines, TextCutShort, WantsMemory, WritesRead, WritesText, WritesTold, all_told, refused_files, refused_memory, stops_by, words_told}
+use Rattle.adjudicate_core.specs.ToldLines.{AllTold, AreRead, AsksInTurn, AsksOne, MayWait, TellsInTurn, CutOff, CutShort, HasTold, IsCut, LineTold, ReadAll, StepTells, TellsLines, TextCutShort, WantsMemory, WritesRead, WritesText, WritesTold, all_told, refused_files, refused_memory, stops_by, words_told}
 
 pub are_read_more : (a b c : Option (List ℕ)) (lines : List (List ℕ)) (line : List ℕ) → AreRead a lines b → ReadsLine b c line → AreRead a (lines ++ line ∷ []) c
 unfolding AreRead

@@ -1,5 +1,5 @@
 -- What the program makes of its words and of what it reads (this project's own).
-use Rattle.std.specs.Prelude.{◌≡◌, ℕ, true, List, [], Option, Result, Ok, Err, drop, map, String, Vec, string_bytes}
+use Rattle.std.specs.Prelude.{◌≡◌, ℕ, List, Option, Result, Ok, Err, drop, map, String, Vec, string_bytes}
 use Rattle.std.specs.Borrow.{Bor}
 use Rattle.std.specs.Global.{Global}
 use Rattle.system_io.specs.Disks.{DiskFacts}

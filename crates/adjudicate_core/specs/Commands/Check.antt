@@ -1,5 +1,5 @@
 -- `check --manifest FILE [--progress] DIR`: whether the tables in a folder are those of a manifest (this project's own).
-use Rattle.std.specs.Prelude.{◌≡◌, ◌⊎◌, false, List, [], ◌∷◌, map, Option, Some, None, Ok, Err, codes}
+use Rattle.std.specs.Prelude.{◌≡◌, ◌⊎◌, List, [], ◌∷◌, map, Option, Some, None, Ok, Err, codes}
 use Rattle.move_msg.specs.Files.{File}
 use Rattle.move_msg.specs.TextLines.{text_of}
 use Rattle.move_msg.specs.ToldManifests.{Told}

@@ -1,5 +1,5 @@
 -- `list [--progress] DIR`: the manifest of the tables in a folder (this project's own).
-use Rattle.std.specs.Prelude.{◌≡◌, false, List, [], ◌∷◌, Option, Some, None, codes}
+use Rattle.std.specs.Prelude.{◌≡◌, List, [], ◌∷◌, Option, Some, None, codes}
 use Rattle.move_msg.specs.Files.{File, entries_of}
 use Rattle.move_msg.specs.Manifests.{SpellsManifest}
 use Rattle.clap.specs.Words.{Rule, Text}

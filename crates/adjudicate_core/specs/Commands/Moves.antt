@@ -1,5 +1,5 @@
 -- `moves FEN`: the legal moves of a position (this project's own).
-use Rattle.std.specs.Prelude.{◌≡◌, false, List, [], ◌∷◌, map, Option, Some, None, codes}
+use Rattle.std.specs.Prelude.{◌≡◌, List, [], ◌∷◌, map, Option, Some, codes}
 use Rattle.board_core.specs.declared.parts.Parts.{Parts}
 use Rattle.board_core.specs.ComputedMoves.{legal_moves}
 use Rattle.fen_text.specs.Coordinates.{move_text}

@@ -1,6 +1,6 @@
 -- `send --name N --start FEN --tables DIR [--manifest FILE] [--delay N] --bind ADDR --to ADDR[,ADDR] [--wait MS] [--tries N]`: the
 -- source of a game at a port; specs/Sends.antt has what it makes of its input (this project's own).
-use Rattle.std.specs.Prelude.{◌≡◌, ◌++◌, ℕ, false, List, [], ◌∷◌, Option, Some, None, codes, option_map}
+use Rattle.std.specs.Prelude.{◌≡◌, ◌++◌, List, [], ◌∷◌, Option, Some, codes, option_map}
 use Rattle.clap.specs.Words.{Rule, Text}
 use Rattle.adjudicate_core.specs.Addresses.{AreAddresses}
 use Rattle.adjudicate_core.specs.Rules.{rule_of_form}

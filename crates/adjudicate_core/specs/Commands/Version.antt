@@ -1,5 +1,5 @@
 -- `version`: the program's version, and that of the toolchain that it was proved with (this project's own).
-use Rattle.std.specs.Prelude.{◌≡◌, ℕ, false, List, [], Option, None, codes}
+use Rattle.std.specs.Prelude.{◌≡◌, ℕ, List, [], Option, codes}
 use Rattle.std.specs.Io.KnownBytes.{Appends}
 use Rattle.clap.specs.Words.{Rule}
 use Rattle.adjudicate_core.specs.Misuses.{Fault}

@@ -1,4 +1,4 @@
-use Rattle.std.proofs.Common.{◌<◌, length, ◌≡◌, ◌∙◌, ◌++◌, ◌∷◌, [], List, map, ap, arith, rules, sym, subst}
+use Rattle.std.proofs.Common.{◌<◌, length, ◌∙◌, ◌++◌, ◌∷◌, [], map, ap, arith, rules, sym, subst}
 use Rattle.std.specs.Prelude.{◌==◌}
 use Rattle.std.proofs.lemmas.List.{map-append}
 use Rattle.adjudicate_core.specs.Addresses.{addresses_of}

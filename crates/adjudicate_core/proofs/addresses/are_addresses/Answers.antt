@@ -1,4 +1,4 @@
-use Rattle.std.proofs.Common.{◌<◌, length, ◌≡◌, arith, refl, rules, sym, subst}
+use Rattle.std.proofs.Common.{◌<◌, length, arith, refl, rules, sym, subst}
 use Rattle.std.specs.Prelude.{◌==◌}
 use Rattle.adjudicate_core.proofs.AddressLaws.{after_less, done_bad, done_last, done_more, done_none, done_not}
 use Rattle.adjudicate_core.proofs.addresses.are_addresses.Goals as goal

@@ -1,4 +1,4 @@
-use Rattle.std.proofs.Common.{◌<◌, length, ◌≡◌, arith, refl, rules, sym, subst}
+use Rattle.std.proofs.Common.{◌<◌, length, arith, rules, sym, subst}
 use Rattle.std.specs.Prelude.{◌==◌}
 use Rattle.adjudicate_core.proofs.AddressLaws.{after_less, all_found, cut_more}
 use Rattle.adjudicate_core.proofs.addresses.behind_colon.Goals as goal

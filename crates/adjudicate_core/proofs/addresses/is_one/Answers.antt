@@ -1,5 +1,4 @@
-use Rattle.std.proofs.Common.{◌≡◌, arith}
-use Rattle.std.specs.Prelude.{◌==◌}
+use Rattle.std.proofs.Common.{arith}
 use Rattle.adjudicate_core.proofs.AddressLaws.{only_one, two_pieces}
 use Rattle.adjudicate_core.proofs.addresses.is_one.Goals as goal
 

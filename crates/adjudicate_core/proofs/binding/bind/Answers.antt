@@ -1,4 +1,4 @@
-use Rattle.std.proofs.Common.{◌≡◌, ◌∙◌, ap, length, rules, sym}
+use Rattle.std.proofs.Common.{◌∙◌, ap, length, rules, sym}
 use Rattle.adjudicate_core.proofs.BindLaws.{refused_so}
 use Rattle.adjudicate_core.proofs.binding.bind.Goals as goal
 

@@ -1,6 +1,6 @@
 use Rattle.std.proofs.Common.{Err, ap, inl, inr, refl}
 use Rattle.std.proofs.lemmas.Result.{IfOk-weaker}
-use Rattle.adjudicate_core.proofs.TellLaws.{step_cut, still_stops}
+use Rattle.adjudicate_core.proofs.TellLaws.{step_cut}
 use Rattle.adjudicate_core.specs.ToldLines.{stops_by}
 use Rattle.adjudicate_core.proofs.told_lines.tell_next.Goals as goal
 
