@@ -14,9 +14,7 @@ mod stopping;
 
 pub use file_keeper::FileKeeper;
 pub use heard::verdict_or_none;
-pub use laws::{
-    disk_keeps_what_it_told, keeps_what_it_told, traced_file_keeps_what_it_told,
-};
+pub use laws::{disk_keeps_what_it_told, keeps_what_it_told, traced_file_keeps_what_it_told};
 pub use over_file::open_and_serve;
 pub use serving::serve;
 pub use stopping::run_after;
