@@ -59,8 +59,8 @@ pub record IsGiven (disk : DiskFacts) (source : InputFacts) (n : Named) (given :
   pub files : AreFilesAt disk n.folder given.told given.files
   pub texts : AreTexts disk source n given.input given.kept given.other_kept
 
--- something that is read can't be read: the manifest, the folder or a wanted file of that, the input, or a kept file, or
--- that one has too many bytes; or the folder lists a wanted file twice
+-- something that is read can't be read: the manifest, the folder or a wanted file of that, the input, or a kept file; or a kept
+-- file has more bytes than a record; or the folder lists a wanted file twice
 pub data CannotRead (disk : DiskFacts) (source : InputFacts) (n : Named) : Type 0 where
   Manifest : (path : List ℕ) → n.manifest ≡ Some path → disk.fails (AtFile path) → CannotRead disk source n
   Folder : (folder : List ℕ) (told : Option Told) → n.folder ≡ Some folder → IsToldAt disk n.manifest told → FolderFails disk folder told → CannotRead disk source n

@@ -28,8 +28,8 @@ shown = flat_map shown_byte
 abbrev pub shown_line : List ℕ → List ℕ
 shown_line words = ended (shown words)
 
--- the line that tells a misuse; none where help is asked for. Of words that the parser of command lines refuses it is the parser's
--- own
+-- the line that tells a misuse; none where help is asked for. Of words that the parser of command lines refuses it is some line of
+-- printing bytes: that the words are the parser's is not said
 abbrev pub IsLineOf : Misuse → List ℕ → Type 0
 IsLineOf misuse.NoCommand line = line ≡ shown_line (codes "no command")
 IsLineOf misuse.Help line = line ≡ []
@@ -58,7 +58,7 @@ pub data GoesOut {E : Type 0} (facts : E → OutputFacts) (contents : E → Opti
   Gone : Appends (contents old) (contents new) text → (facts new).gone → GoesOut facts contents old new text
   CutOff : CutsOff facts contents old new text → GoesOut facts contents old new text
 
--- the line that tells the misuse, and then the command lines that there are
+-- the line that tells the misuse, and then more, of which nothing is said: the command lines that there are
 pub record TellsMisuse {E : Type 0} (facts : E → OutputFacts) (contents : E → Option (List ℕ)) (old new : E) (misuse : Misuse) : Type 0 where
   pub line : List ℕ
   pub usage : List ℕ

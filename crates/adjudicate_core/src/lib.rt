@@ -10,7 +10,7 @@
 //!
 //! Statuses: 0 done, 1 refused, 2 misuse.
 //!
-//! Its tests stand in `rows`.
+//! Its cases stand in `rows`.
 #![tactic(auto)]
 
 mod addresses;

@@ -23,8 +23,8 @@ const MOST_ANSWERS: u32 = 256;
 pub struct Terms {
     /// The mark of the game, which each message of it carries.
     pub stamp: Stamp,
-    /// How often a move is sent at most, each time to all addresses: 1 to 2^32 - 1 times. With 0 nothing is sent, and a move that
-    /// isn't acknowledged already is lost.
+    /// How often a turn sends its move at most, each time to all addresses: 1 to 2^32 - 1 times. The last acknowledged move is sent
+    /// once more at the input's end. With 0 nothing is sent, and a move that isn't acknowledged already is lost.
     pub tries: u32,
     /// How long a datagram is awaited: more than nothing, by the nanosecond as far as the port's clock tells it. Where both arbiters
     /// have acknowledged the move, a verdict is awaited for two milliseconds, whatever stands here. A try awaits up to 256

@@ -13,7 +13,7 @@ abbrev pub IsPut : {E T F : Type 0} → (E → OutputFacts) → (E → Option (L
 IsPut facts contents old new text (Ok x) = Appends (contents old) (contents new) text
 IsPut facts contents old new text (Err e) = CutsOff facts contents old new text
 
--- this line, and then the command lines
+-- this line, and then more, of which nothing is said
 pub record TellsLine {E : Type 0} (facts : E → OutputFacts) (contents : E → Option (List ℕ)) (old new : E) (line : List ℕ) : Type 0 where
   pub usage : List ℕ
   pub out : GoesOut facts contents old new (line ++ usage)
