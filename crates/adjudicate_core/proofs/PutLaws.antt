@@ -7,7 +7,7 @@ use Rattle.adjudicate_core.specs.declared.usage.Misuse.{Misuse}
 use Rattle.std.proofs.lemmas.Grind.{flat_map-append}
 use Rattle.std.proofs.Math.Seq.{split_at}
 use Rattle.std.specs.Io.KnownBytes.{Appends, Keeps}
-use Rattle.std.proofs.KnownBytes.{Appends-trans}
+use Rattle.std.proofs.KnownBytes.{Appends-nil, Appends-trans}
 use Rattle.system_io.specs.Outputs.{OutputFacts, WritesFront}
 use Rattle.adjudicate_core.specs.Uses.{CutOff, CutsOff, GoesOut, Gone, IsLineOf, TellsMisuse, is_plain, shown, shown_byte, shown_line}
 use Rattle.adjudicate_core.specs.Inside.Putting.{IsPut, TellsLine}
@@ -16,11 +16,13 @@ module _ {E : Type 0} (facts : E → OutputFacts) (contents : E → Option (List
   pub put_so : {T F : Type 0} (old new : E) (bytes : List ℕ) (r : Result T F) → WritesFront (contents old) (contents new) bytes r → OnErr r (facts old).refuses → IsPut facts contents old new bytes r
   put_so old new bytes (Ok x) front cause = front
   put_so old new bytes (Err e) front cause =
-      record { at = old; closed = inl cause; front = take front.0 bytes; rest = drop front.0 bytes; is = sym (take-append-drop front.0 bytes); written = front.1 }
+      record { at = old; before = []; reached = Appends-nil (contents old); closed = inl cause; front = take front.0 bytes; rest = drop front.0 bytes; is = sym (take-append-drop front.0 bytes); written = front.1 }
 
   pub cut_later : (old mid new : E) (a b : List ℕ) → Appends (contents old) (contents mid) a → CutsOff facts contents mid new b → CutsOff facts contents old new (a ++ b)
   cut_later old mid new a b h p = record {
     at = p.at;
+    before = a ++ p.before;
+    reached = Appends-trans (contents old) (contents mid) (contents p.at) a p.before h p.reached;
     closed = p.closed;
     front = a ++ p.front;
     rest = p.rest;
@@ -31,6 +33,8 @@ module _ {E : Type 0} (facts : E → OutputFacts) (contents : E → Option (List
   pub cut_before : (old new : E) (a b : List ℕ) → CutsOff facts contents old new a → CutsOff facts contents old new (a ++ b)
   cut_before old new a b p = record {
     at = p.at;
+    before = p.before;
+    reached = p.reached;
     closed = p.closed;
     front = p.front;
     rest = p.rest ++ b;
@@ -39,7 +43,7 @@ module _ {E : Type 0} (facts : E → OutputFacts) (contents : E → Option (List
   }
 
   pub cut_as : (old new : E) (a b : List ℕ) → a ≡ b → CutsOff facts contents old new a → CutsOff facts contents old new b
-  cut_as old new a b e p = record { at = p.at; closed = p.closed; front = p.front; rest = p.rest; is = sym e ∙ p.is; written = p.written }
+  cut_as old new a b e p = record { at = p.at; before = p.before; reached = p.reached; closed = p.closed; front = p.front; rest = p.rest; is = sym e ∙ p.is; written = p.written }
 
   pub then_put : {T F : Type 0} (old mid new : E) (a b : List ℕ) (r : Result T F) → Appends (contents old) (contents mid) a → IsPut facts contents mid new b r → IsPut facts contents old new (a ++ b) r
   then_put old mid new a b (Ok x) h p = Appends-trans (contents old) (contents mid) (contents new) a b h p
@@ -55,7 +59,8 @@ module _ {E : Type 0} (facts : E → OutputFacts) (contents : E → Option (List
   pub flushed : {T F : Type 0} (old mid new : E) (text : List ℕ) (r : Result T F) → Appends (contents old) (contents mid) text → Keeps (contents mid) (contents new) → OnOk r (facts new).gone → OnErr r (facts new).stuck → GoesOut facts contents old new text
   flushed old mid new text (Ok x) h keeps gone stuck = Gone (still (contents old) (contents mid) (contents new) text h keeps) gone
   flushed old mid new text (Err e) h keeps gone stuck =
-      CutOff (record { at = new; closed = inr stuck; front = text; rest = []; is = sym (append-nil text); written = still (contents old) (contents mid) (contents new) text h keeps })
+      let all = still (contents old) (contents mid) (contents new) text h keeps in
+      CutOff (record { at = new; before = text; reached = all; closed = inr stuck; front = text; rest = []; is = sym (append-nil text); written = all })
 
   -- a line before what goes out
   pub goes_after : (old mid new : E) (a b : List ℕ) → Appends (contents old) (contents mid) a → GoesOut facts contents mid new b → GoesOut facts contents old new (a ++ b)

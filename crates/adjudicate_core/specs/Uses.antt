@@ -44,9 +44,11 @@ IsLineOf (misuse.Value fault) line = line ≡ shown_line (fault_words fault)
 abbrev pub IsClosed : OutputFacts → Type 0
 IsClosed out = out.refuses ⊎ out.stuck
 
--- the output couldn't take the text to its end: it is closed at some moment, and a front of the text was written
+-- the output couldn't take the text to its end: at a moment on the way it could take no more, and a front of the text was written
 pub record CutsOff {E : Type 0} (facts : E → OutputFacts) (contents : E → Option (List ℕ)) (old new : E) (text : List ℕ) : Type 0 where
   pub at : E
+  pub before : List ℕ
+  pub reached : Appends (contents old) (contents at) before
   pub closed : IsClosed (facts at)
   pub front : List ℕ
   pub rest : List ℕ
