@@ -104,3 +104,22 @@ pub data Listens {P F : Type 0} (host : Hosted P F) (S : ServesBy F) (l : Listen
   BadTables : IsText l.start.now → (words : List ℕ) → gathered given ≡ Err words → TellsIf words old new r → Listens host S l given old new r
   NoRoom : IsText l.start.now → TellsIf refused_memory old new r → Listens host S l given old new r
   Opened : (start : Parts) → SpellsPosition l.start.now start → IsPosition start → (set : Holding) → Ok set.tables ≡ gathered given → (manifest : List ℕ) → SpellsManifest manifest (entries_of given.files) → BindsAndServes host S l (setup_for l start set manifest) old new r → Listens host S l given old new r
+
+-- ---- with the writer
+
+-- over a keeper, a file, a port or a host, and to this writer: what is written is the writer's, and each line has gone out before
+-- the next one
+abbrev pub OpensAndWrites : {F W : Type 0} → (F → KeptFacts) → Writers W → Listen → SetupView → FileKeeper F → FileKeeper F → PortFacts → PortFacts → W → W → Result ℕ WriteFault → Type 0
+OpensAndWrites facts w l setup keeper keeper' port port' out out' r = OpensAndServes facts (writing_to facts w out out' r) l setup (scene keeper port (w.written out)) (scene keeper' port' (w.written out')) r
+
+abbrev pub KeepsAndWrites : {F W : Type 0} → (F → KeptFacts) → Writers W → Listen → SetupView → F → PortFacts → PortFacts → W → W → Result ℕ WriteFault → Type 0
+KeepsAndWrites facts w l setup file port port' out out' r = KeepsAndServes facts (writing_to facts w out out' r) l setup file port port' (w.written out) (w.written out') r
+
+abbrev pub WritesAt : {P F W : Type 0} → Hosted P F → Writers W → Listen → SetupView → PortFacts → PortFacts → W → W → Result ℕ WriteFault → Type 0
+WritesAt host w l setup port port' out out' r = ServesAt host (writing_to host.file w out out' r) l setup port port' (w.written out) (w.written out') r
+
+abbrev pub BindsAndWrites : {P F W : Type 0} → Hosted P F → Writers W → Listen → SetupView → W → W → Result ℕ WriteFault → Type 0
+BindsAndWrites host w l setup out out' r = BindsAndServes host (writing_to host.file w out out' r) l setup (w.written out) (w.written out') r
+
+abbrev pub ListensAndWrites : {P F W : Type 0} → Hosted P F → Writers W → Listen → Given → W → W → Result ℕ WriteFault → Type 0
+ListensAndWrites host w l given out out' r = Listens host (writing_to host.file w out out' r) l given (w.written out) (w.written out') r

@@ -6,10 +6,9 @@ ghost use Rattle.fen_text.specs.Fen.{SpellsPosition};
 ghost use Rattle.move_msg.specs.Files.{entries_of};
 ghost use Rattle.move_msg.specs.Manifests.{SpellsManifest};
 ghost use Rattle.arbiter_core.specs.Setups.{setup_view};
-ghost use Rattle.adjudicate_core.specs.Listens.{BindsAndServes, KeepsAndServes, Listens, OpensAndServes, ServesAt, TellsUnopened, hosted, setup_for, writing_to};
+ghost use Rattle.adjudicate_core.specs.Listens.{BindsAndWrites, KeepsAndWrites, ListensAndWrites, OpensAndWrites, TellsUnopened, WritesAt, hosted, setup_for};
 ghost use Rattle.adjudicate_core.specs.Looks.{gathered};
 ghost use Rattle.arbiter_service.specs.GoingOut.{writers};
-ghost use Rattle.arbiter_service.specs.Serving.{scene};
 ghost use Rattle.arbiter_service.specs.StoredBytes.{IsInFile};
 
 use crate::binding::bind;
@@ -48,7 +47,7 @@ fn open_and_serve<F: KeptFile + Drop, P: Port, W: Output>(
     out: &mut W,
 ) -> Result<u8, WriteFault>
     requires { IsInFile F.facts keeper.old }
-    ensures { OpensAndServes F.facts (writing_to F.facts (writers W.contents W.facts) out.old out.new result) listening.now (setup_view setup.entry) (scene keeper.old (P.facts port.old) (W.contents out.old)) (scene keeper.new (P.facts port.new) (W.contents out.new)) result }
+    ensures { OpensAndWrites F.facts (writers W.contents W.facts) listening.now (setup_view setup.entry) keeper.old keeper.new (P.facts port.old) (P.facts port.new) out.old out.new result }
 {
     match arbiter_service::open_and_serve(
         alloc,
@@ -65,7 +64,8 @@ fn open_and_serve<F: KeptFile + Drop, P: Port, W: Output>(
     }
 }
 
-/// The same over a file in which the record is kept. A file that can't be read is told as `refused keeper`.
+/// Makes a keeper over the file in which the record is kept, and serves over it. A file that can't be read is told as
+/// `refused keeper`.
 fn keep_and_serve<F: KeptFile + Drop, P: Port, W: Output>(
     alloc: Global,
     listening: &Listen<'_>,
@@ -74,7 +74,7 @@ fn keep_and_serve<F: KeptFile + Drop, P: Port, W: Output>(
     port: &mut P,
     out: &mut W,
 ) -> Result<u8, WriteFault>
-    ensures { KeepsAndServes F.facts (writing_to F.facts (writers W.contents W.facts) out.old out.new result) listening.now (setup_view setup.entry) file (P.facts port.old) (P.facts port.new) (W.contents out.old) (W.contents out.new) result }
+    ensures { KeepsAndWrites F.facts (writers W.contents W.facts) listening.now (setup_view setup.entry) file (P.facts port.old) (P.facts port.new) out.old out.new result }
 {
     match FileKeeper::new(alloc, file) {
         Ok(mut keeper) => open_and_serve(alloc, listening, setup, &mut keeper, port, out),
@@ -83,7 +83,7 @@ fn keep_and_serve<F: KeptFile + Drop, P: Port, W: Output>(
     }
 }
 
-/// The same over the file that the words name.
+/// Serves over the file that the words name.
 fn serve_at<H: Host, W: Output>(
     alloc: Global,
     listening: &Listen<'_>,
@@ -92,7 +92,7 @@ fn serve_at<H: Host, W: Output>(
     port: &mut H::Port,
     out: &mut W,
 ) -> Result<u8, WriteFault>
-    ensures { ServesAt (hosted (H.facts host.now) H.Port.facts H.File.facts) (writing_to H.File.facts (writers W.contents W.facts) out.old out.new result) listening.now (setup_view setup.entry) (H.Port.facts port.old) (H.Port.facts port.new) (W.contents out.old) (W.contents out.new) result }
+    ensures { WritesAt (hosted (H.facts host.now) H.Port.facts H.File.facts) (writers W.contents W.facts) listening.now (setup_view setup.entry) (H.Port.facts port.old) (H.Port.facts port.new) out.old out.new result }
 {
     match host.file(alloc, listening.kept) {
         Ok(file) => keep_and_serve(alloc, listening, setup, file, port, out),
@@ -100,7 +100,7 @@ fn serve_at<H: Host, W: Output>(
     }
 }
 
-/// The same at the addresses and over the file that the words name. An address that can't be bound is told as `refused port`.
+/// Binds the address that the words name, and serves there. An address that can't be bound is told as `refused port`.
 fn bind_and_serve<H: Host, W: Output>(
     alloc: Global,
     listening: &Listen<'_>,
@@ -108,7 +108,7 @@ fn bind_and_serve<H: Host, W: Output>(
     host: &H,
     out: &mut W,
 ) -> Result<u8, WriteFault>
-    ensures { BindsAndServes (hosted (H.facts host.now) H.Port.facts H.File.facts) (writing_to H.File.facts (writers W.contents W.facts) out.old out.new result) listening.now (setup_view setup.entry) (W.contents out.old) (W.contents out.new) result }
+    ensures { BindsAndWrites (hosted (H.facts host.now) H.Port.facts H.File.facts) (writers W.contents W.facts) listening.now (setup_view setup.entry) out.old out.new result }
 {
     match bind(alloc, host, listening.bind, listening.to) {
         Ok(mut port) => serve_at(alloc, listening, setup, host, &mut port, out),
@@ -124,7 +124,7 @@ fn manifest_for(alloc: Global, sources: &Sources) -> Result<Vec<u8>, AllocError>
     manifest_of(alloc, sources.files())
 }
 
-/// The same with the tables of a set and their manifest.
+/// Makes the setup of the game from its tables and their manifest, and serves by it.
 fn listen_with<'a, H: Host, W: Output>(
     alloc: Global,
     listening: &Listen<'_>,
@@ -136,7 +136,7 @@ fn listen_with<'a, H: Host, W: Output>(
     out: &mut W,
 ) -> Result<u8, WriteFault>
     requires { name.now ≡ listening.now.name.now }
-    ensures { BindsAndServes (hosted (H.facts host.now) H.Port.facts H.File.facts) (writing_to H.File.facts (writers W.contents W.facts) out.old out.new result) listening.now (setup_for listening.now start set.entry manifest.entry.now) (W.contents out.old) (W.contents out.new) result }
+    ensures { BindsAndWrites (hosted (H.facts host.now) H.Port.facts H.File.facts) (writers W.contents W.facts) listening.now (setup_for listening.now start set.entry manifest.entry.now) out.old out.new result }
 {
     let setup = Setup {
         name,
@@ -149,7 +149,7 @@ fn listen_with<'a, H: Host, W: Output>(
     bind_and_serve(alloc, listening, setup, host, out)
 }
 
-/// The same with the tables of a set.
+/// Writes the manifest of the tables, by which the game is stamped, and serves with it.
 fn listen_by<'a, H: Host, W: Output>(
     alloc: Global,
     listening: &Listen<'a>,
@@ -159,7 +159,10 @@ fn listen_by<'a, H: Host, W: Output>(
     host: &H,
     out: &mut W,
 ) -> Result<u8, WriteFault>
-    ensures { Ok set.entry.tables ≡ gathered sources.now → SpellsPosition listening.now.start.now start → IsPosition start → Listens (hosted (H.facts host.now) H.Port.facts H.File.facts) (writing_to H.File.facts (writers W.contents W.facts) out.old out.new result) listening.now sources.now (W.contents out.old) (W.contents out.new) result }
+    requires tables { Ok set.tables ≡ gathered sources.now }
+    requires spelled { SpellsPosition listening.now.start.now start }
+    requires position { IsPosition start }
+    ensures { ListensAndWrites (hosted (H.facts host.now) H.Port.facts H.File.facts) (writers W.contents W.facts) listening.now sources.now out.old out.new result }
 {
     let manifest = match manifest_for(alloc, sources) {
         Ok(manifest) => manifest,
@@ -181,7 +184,7 @@ pub fn listen<'a, H: Host, W: Output>(
     host: &H,
     out: &mut W,
 ) -> Result<u8, WriteFault>
-    ensures { Listens (hosted (H.facts host.now) H.Port.facts H.File.facts) (writing_to H.File.facts (writers W.contents W.facts) out.old out.new result) listening.now sources.now (W.contents out.old) (W.contents out.new) result }
+    ensures { ListensAndWrites (hosted (H.facts host.now) H.Port.facts H.File.facts) (writers W.contents W.facts) listening.now sources.now out.old out.new result }
 {
     let start = match read(listening.start.as_bytes()) {
         Ok(start) => start,

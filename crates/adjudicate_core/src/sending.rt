@@ -104,7 +104,7 @@ fn send_over<I: Input, P: Port, W: Output>(
     }
 }
 
-/// The same at the addresses that the words name. An address that can't be bound is told as `refused port`.
+/// Binds the address that the words name, and sends from there. An address that can't be bound is told as `refused port`.
 fn bind_and_send<I: Input, H: Host, W: Output>(
     alloc: Global,
     task: &Send<'_>,
@@ -124,7 +124,7 @@ fn bind_and_send<I: Input, H: Host, W: Output>(
     }
 }
 
-/// The same by the text of the start.
+/// Works out the stamp of the game, and sends by it.
 fn send_from<D: Disk, I: Input, H: Host, W: Output>(
     alloc: Global,
     task: &Send<'_>,

@@ -17,7 +17,8 @@ returns-in-Err-gather g c =
     let text : IsText c.args.listening.now.start.now = (c.in-Ok.start, rw c.as_bytes.ensures.value at c.in-Ok.ensures.ok, c.in-Ok.ensures.position) in
     NoRoom text c.put_refusal-in-Err-gather.ensures
 
-pub returns-in-Ok-Ok : goal.returns-in-Ok-Ok
-returns-in-Ok-Ok g c =
-    let tables = rw c.in-Ok-Ok.field-0-is at c.in-Ok-Ok.ensures in
-    c.listen_by.ensures tables (rw c.as_bytes.ensures.value at c.in-Ok.ensures.ok) c.in-Ok.ensures.position
+pub listen_by-requires-clause-tables : goal.listen_by-requires-clause-tables
+listen_by-requires-clause-tables g c = rw c.in-Ok-Ok.field-0-is at c.in-Ok-Ok.ensures
+
+pub listen_by-requires-clause-spelled : goal.listen_by-requires-clause-spelled
+listen_by-requires-clause-spelled g c = rw c.as_bytes.ensures.value at c.in-Ok.ensures.ok
