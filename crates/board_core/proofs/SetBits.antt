@@ -1,5 +1,5 @@
 -- The bits of sets of squares.
-use Rattle.std.proofs.Common.{ℕ, zero, suc, ◌≡◌, ◌≢◌, ◌<◌, ◌≤◌, ◌+◌, ◌*◌, ◌/◌, ◌%◌, List, [], ◌∷◌, Option, Some, None, Bool, true, false, cond, ◌↔◌, IsTrue, is_some, max, bit_or, count_ones, count_by, map, length, refl, sym, ap, ◌∙◌, arith, inl, inr}
+use Rattle.std.proofs.Common.{ℕ, zero, suc, ◌≡◌, ◌<◌, ◌≤◌, ◌+◌, ◌*◌, ◌/◌, ◌%◌, List, [], ◌∷◌, Option, Some, None, Bool, true, false, cond, ◌↔◌, IsTrue, is_some, max, bit_or, count_ones, count_by, map, length, refl, sym, ap, ◌∙◌, arith, inl, inr}
 use Rattle.std.specs.Int.{bit_at}
 use Rattle.std.proofs.lemmas.Bool.{cases_lt, cases_eq}
 use Rattle.std.proofs.lemmas.Nat.Bits.{bit_at_lowest, bit_at-suc, bit_at-zero, bit_at_or, same_from_bits}
@@ -49,16 +49,6 @@ IsBelow-skip test men n set h fails = record {
     | inr ne ↦ h.below s (omega arith)
   ];
   above = λ s le. h.above s (omega arith);
-}
-
--- the next square's man passes the test and is added
-pub IsBelow-with : (test : Option Piece → Bool) (men : List (Option Piece)) (n set set' : ℕ) → IsBelow test men n set → test (man_at men n) ≡ true → bit_at set' n ≡ 1 → ((s : ℕ) → s ≢ n → bit_at set' s ≡ bit_at set s) → IsBelow test men (n + 1) set'
-IsBelow-with test men n set set' h passes here others = record {
-  below = λ s lt. elim (cases_eq s n) [
-    | inl e ↦ rw (e, passes) here
-    | inr ne ↦ others s ne ∙ h.below s (omega arith)
-  ];
-  above = λ s le. others s (omega arith) ∙ h.above s (omega arith);
 }
 
 pub IsBelow-all : (test : Option Piece → Bool) → test None ≡ false → (men : List (Option Piece)) (n set : ℕ) → length men ≤ n → IsBelow test men n set → set ≡ squares_where test men

@@ -1,4 +1,5 @@
--- Attack and check as tests, beside the relations of Attack.antt: what is computed from a position above is a function, and takes these.
+-- Attack and check as computed tests, beside the relations of Attack.antt. Functions of a position in the crates above use
+-- these.
 use Rattle.std.specs.Prelude.{ℕ, zero, suc, ◌+◌, ◌-◌, ◌*◌, Bool, true, false, not, ◌&&◌, ◌||◌, ◌==◌, nat_lt, nat_le, List, [], ◌∷◌, Option, Some, None, is_none}
 use Rattle.std.specs.List.{list_any}
 use Rattle.board_core.specs.declared.piece.Piece.{Piece}

@@ -5,6 +5,7 @@ pub mod Castling
 pub mod Moves
 pub mod Position
 pub mod Sides
+pub mod Sets
 pub mod Computed
 pub mod ComputedMoves
 pub mod Laws

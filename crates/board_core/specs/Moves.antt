@@ -92,8 +92,8 @@ IsBetween a s b = ((a < s) × (s < b)) ⊎ ((b < s) × (s < a))
 abbrev pub IsOnWay : ℕ → ℕ → ℕ → Type 0
 IsOnWay a s b = ((a ≤ s) × (s ≤ b)) ⊎ ((b ≤ s) × (s ≤ a))
 
--- king and rook castle: the right is there, the squares between them are empty, and no square from where
--- the king stands to where it goes is attacked (FIDE articles 3.8.2 to 3.8.2.2)
+-- King and rook castle: the right is there, and the squares between them are empty. No square from the king's to its target
+-- is attacked (FIDE articles 3.8.2 to 3.8.2.2).
 pub record IsCastle (p : Parts) (m : Move) (wing : Wing) : Type 0 where
   pub stands : Stands p.men m.from p.side King
   pub right : IsTrue (has_right p.rights p.side wing)

@@ -15,7 +15,7 @@ use crate::men::Men;
 use crate::piece::{Kind, Side};
 use crate::square::Square;
 
-/// The eight ways in which a queen goes.
+/// The eight directions of a queen's moves.
 #[derive(Clone, Copy)]
 pub enum Direction {
     North,
@@ -63,7 +63,7 @@ const KNIGHT_STEPS: [KnightStep; 8] = [
     KnightStep::WestSouthSouth,
 ];
 
-/// By how much the number of a square and that of the next in this direction differ.
+/// The difference between the number of a square and that of the next one in this direction.
 fn stride(direction: Direction) -> u8
     ensures { result ≡ stride direction }
 {
@@ -85,7 +85,7 @@ fn rises(direction: Direction) -> bool
     }
 }
 
-/// The square that lies k squares on.
+/// The square k steps away in this direction.
 pub fn along(direction: Direction, from: Square, k: u8) -> Square
     requires { IsInside direction k from }
     ensures { Along direction k from result }
@@ -248,8 +248,7 @@ pub fn room(direction: Direction, from: Square) -> u8
     }
 }
 
-/// Whether the first man that is seen from a square in this direction is one of this side that
-/// attacks it.
+/// Whether the first man met from a square in this direction is one of this side that attacks the square.
 fn is_attacked_along(men: &Men, by: Side, direction: Direction, to: Square) -> bool
     ensures { IsTrue result ↔ IsAttackedAlong men.now by direction to }
 {
@@ -263,8 +262,8 @@ fn is_attacked_along(men: &Men, by: Side, direction: Direction, to: Square) -> b
     false
 }
 
-/// Whether a man of this side may pin the man on `from` to the king: along the line over empty
-/// squares that leads from the king to him, the next man attacks him.
+/// Whether a man of this side may pin the man on `from` to the king. The squares between king and man are empty, and
+/// the next man beyond him on that line attacks him.
 pub fn is_pinned(men: &Men, by: Side, king: Square, from: Square) -> bool
     ensures { (r : Ray men.now Kind.Queen king from) → IsAttackedAlong men.now by r.direction from → IsTrue result }
 {
@@ -308,7 +307,7 @@ fn is_attacked_by_knight(men: &Men, by: Side, knight_step: KnightStep, to: Squar
     }
 }
 
-/// Whether in some direction the first man that is seen from a square is one of this side that attacks it.
+/// Whether in some direction the first man met from a square is one of this side that attacks the square.
 fn is_attacked_by_line(men: &Men, by: Side, to: Square) -> bool
     ensures { IsTrue result ↔ ((d : Direction) × IsAttackedAlong men.now by d to) }
 {
@@ -353,7 +352,7 @@ pub fn attacks_to(men: &Men, by: Side, from: Square, to: Square) -> bool
     }
 }
 
-/// Whether some man of this side attacks the square, asked of each man in turn; all its men stand on these squares.
+/// Whether some man of this side attacks the square, tested man by man. All its men stand on these squares.
 fn some_attacks_to(men: &Men, by: Side, squares: Bitboard, to: Square) -> bool
     requires { (s : ℕ) → s < 64 → IsTaken men.now by s → bit_at squares s ≡ 1 }
     ensures { IsTrue result ↔ IsAttacked men.now by to }
@@ -371,11 +370,10 @@ fn some_attacks_to(men: &Men, by: Side, squares: Bitboard, to: Square) -> bool
     false
 }
 
-/// Up to so many men it is quicker to ask of each of them whether a line or a step joins it to a square than to look out
-/// from the square.
+/// With at most this many men, testing each of them is quicker than scanning outwards from the square.
 pub const FEW: u32 = 8;
 
-/// Whether some man of this side attacks the square; all its men stand on these squares.
+/// Whether some man of this side attacks the square. All its men stand on these squares.
 pub fn is_attacked_from(men: &Men, by: Side, squares: Bitboard, to: Square) -> bool
     requires { (s : ℕ) → s < 64 → IsTaken men.now by s → bit_at squares s ≡ 1 }
     ensures { IsTrue result ↔ IsAttacked men.now by to }

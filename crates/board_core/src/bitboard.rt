@@ -1,6 +1,6 @@
 //! Sets of squares.
 
-ghost use Rattle.std.specs.Prelude.{◌≡◌, ◌≢◌, ◌<◌, ◌↔◌, ℕ, IsTrue, bit_and, bit_or, count_ones};
+ghost use Rattle.std.specs.Prelude.{◌≡◌, ◌≢◌, ◌<◌, ◌↔◌, ◌-◌, ℕ, IsTrue, bit_and, bit_or, count_ones};
 ghost use Rattle.std.specs.Int.{bit_at};
 
 use crate::square::Square;
@@ -32,8 +32,8 @@ impl Bitboard {
         Bitboard { bits: 0 }
     }
 
-    /// The squares whose bits are set.
-    pub(crate) fn from_bits(bits: u64) -> Bitboard
+    /// The squares whose bits are set: a1 by bit 0, b1 by bit 1, up to h8 by bit 63.
+    pub fn from_bits(bits: u64) -> Bitboard
         ensures { result ≡ bits }
     {
         Bitboard { bits }
@@ -72,6 +72,15 @@ impl Bitboard {
     {
         Bitboard {
             bits: self.bits & !(1u64 << square.number()),
+        }
+    }
+
+    /// The squares that are not in the other set.
+    pub(crate) fn except(self, other: Bitboard) -> Bitboard
+        ensures { (s : ℕ) → bit_at result s ≡ bit_at self s - bit_at other s }
+    {
+        Bitboard {
+            bits: self.bits & !other.bits,
         }
     }
 

@@ -1,6 +1,6 @@
 //! Moves that may be legal captures, one after the other, without a list of them.
 //!
-//! `next` is where a sweep over squares stands: the proofs speak of it.
+//! `next` is the next square of a sweep. It is a variable of its own because the proofs name it.
 
 ghost use Rattle.std.specs.Prelude.{◌≡◌, ◌<◌, IsTrue, IsFalse, IfSome, IfNone};
 ghost use Rattle.std.specs.Int.{bit_at};
@@ -19,7 +19,7 @@ use crate::sides::Sides;
 use crate::square::Square;
 use crate::{attack, empty_board};
 
-/// Where the moves begin that come after this one, and all moves where there is none.
+/// The first place after this move in the order of moves; 0 where no move is given.
 fn start_of(last: Option<Move>) -> u32
     ensures { result ≡ start_of last }
 {
@@ -36,8 +36,8 @@ fn is_left_behind(start: u32, from: Square) -> bool
     320 * (from.number() as u32 + 1) <= start
 }
 
-/// A set in which the squares are on which men of this kind take: those of the other side's men, and for a pawn the square that one
-/// passed.
+/// A set that contains every square on which men of this kind take: those of the other side's men, and for a pawn the
+/// en passant square.
 fn goals(p: &Parts, sides: &Sides, kind: Kind) -> Bitboard
     requires { sides.now ≡ sides_of p.now.men }
     ensures { (m : Move) → IsLegalCapture p.now m → Stands p.now.men m.from p.now.side kind → bit_at result m.to ≡ 1 }
@@ -52,7 +52,7 @@ fn goals(p: &Parts, sides: &Sides, kind: Kind) -> Bitboard
     }
 }
 
-/// A set in which the squares are on which the man there takes, were no man in his way.
+/// A set that contains every square on which the man there would take if no man stood in his way.
 fn goals_from(p: &Parts, sides: &Sides, from: Square) -> Bitboard
     requires { sides.now ≡ sides_of p.now.men }
     ensures { (m : Move) → IsLegalCapture p.now m → m.from ≡ from → bit_at result m.to ≡ 1 }
@@ -63,7 +63,7 @@ fn goals_from(p: &Parts, sides: &Sides, from: Square) -> Bitboard
     }
 }
 
-/// Whether there may be a legal capture: some man of the side to move takes somewhere, were no man in his way.
+/// Whether there may be a legal capture: some man of the side to move would take somewhere if no man stood in his way.
 pub fn may_capture(p: &Parts, sides: &Sides) -> bool
     requires position { IsPosition p.now }
     requires sides { sides.now ≡ sides_of p.now.men }

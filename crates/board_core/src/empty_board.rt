@@ -10,8 +10,8 @@ use crate::bitboard::Bitboard;
 use crate::piece::{Kind, Side};
 use crate::square::Square;
 
-/// The sets of the squares that a white pawn takes on from each square, a black pawn, a knight, a bishop, a rook, a queen and a
-/// king, 64 squares each.
+/// The sets of attacked squares, 64 rows each. In order: the captures of a white pawn and of a black pawn, then knight,
+/// bishop, rook, queen and king.
 const REACHED: [u64; 448] = [
     0x0000_0000_0000_0200,
     0x0000_0000_0000_0500,
@@ -474,7 +474,8 @@ fn row_of(side: Side, kind: Kind) -> usize
     kind as usize + 1
 }
 
-/// A set in which the squares are that a man of this side and kind attacks from there, whatever else stands on the board.
+/// A set that contains every square that a man of this side and kind attacks from there, whatever else stands on the
+/// board.
 pub fn reached(side: Side, kind: Kind, from: Square) -> Bitboard
     ensures { (men : List (Option Piece)) (to : ℕ) → to < 64 → Reaches men side kind from to → bit_at result to ≡ 1 }
 {

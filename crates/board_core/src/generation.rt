@@ -1,7 +1,7 @@
 //! Listing the legal moves.
 //!
-//! Each man's targets are a set of squares, swept from the lowest up, so that the moves come in order.
-//! `next` is where such a sweep stands: the proofs speak of it.
+//! Each man's targets are a set of squares, swept from the lowest up, so that the moves come in order. `next` is the
+//! next square of such a sweep. It is a variable of its own because the proofs name it.
 
 ghost use Rattle.std.specs.Prelude.{◌≡◌, ◌≢◌, ◌<◌, ◌↔◌, ◌+◌, ◌*◌, ℕ, [], IsTrue, IfOk, OnOk, OnErr, Some, None};
 ghost use Rattle.std.specs.Int.{bit_at};
@@ -42,8 +42,8 @@ pub struct Survey {
     pub king: Square,
 }
 
-/// What keeps the king of the side that moves safe: its square, whether it isn't attacked, the squares of the other side's men, and those
-/// that it must not go to.
+/// What decides the safety of the mover's king: its square, whether it is out of check, the squares of the other side's
+/// men, and those it must not enter.
 #[derive(Clone, Copy)]
 pub struct Guard {
     pub enemy: Bitboard,
@@ -98,7 +98,7 @@ fn attacked_squares(men: &Men, side: Side, enemy: Bitboard) -> Bitboard
     all
 }
 
-/// The squares that the other side attacks, were it not for the king of the side that moves.
+/// The squares that the other side attacks once the king of the side to move is taken off the board.
 fn attacked_without_king(p: &Parts, v: &Survey) -> Bitboard
     requires { IsSurvey p.now v.now }
     ensures { HasAttacked (emptied p.now.men v.now.king) p.now.side result }
@@ -108,7 +108,7 @@ fn attacked_without_king(p: &Parts, v: &Survey) -> Bitboard
     attacked_squares(&men, p.side, v.enemy)
 }
 
-/// What is known of the king of the side that moves, by the squares that the other side attacks.
+/// What is known about the king of the side to move, computed from the squares that the other side attacks.
 fn guard_of(p: &Parts, v: &Survey, attacked: Bitboard) -> Guard
     requires survey { IsSurvey p.now v.now }
     requires attacked { HasAttacked (emptied p.now.men v.now.king) p.now.side attacked }
@@ -133,7 +133,7 @@ fn is_carry(case: MoveCase) -> bool
     }
 }
 
-/// Whether the man on this square may go wherever it likes, as far as its king is concerned.
+/// Whether no move of the man on this square can expose its king.
 fn is_unpinned(p: &Parts, g: &Guard, from: Square) -> bool
     requires { IsGuard p.now g.now }
     ensures { IsTrue result → IsUnpinned p.now from }
@@ -338,7 +338,7 @@ fn steps(p: &Parts, v: &Survey, which: Which, kind: Kind, from: Square) -> Bitbo
     }
 }
 
-/// A set in which the squares are that the pawn or the king there goes to by the moves asked for.
+/// A set that contains every square to which the pawn or the king there goes by the moves asked for.
 fn candidates(p: &Parts, v: &Survey, which: Which, kind: Kind, from: Square) -> Bitboard
     requires survey { IsSurvey p.now v.now }
     requires stands { Stands p.now.men from p.now.side kind }
@@ -354,7 +354,7 @@ fn candidates(p: &Parts, v: &Survey, which: Which, kind: Kind, from: Square) -> 
     }
 }
 
-/// What is known of the king; the attacked squares are worked out where they are first asked for.
+/// What is known about the king. The attacked squares are computed where they are first needed.
 fn guard_in(p: &Parts, v: &Survey, known: &mut Option<Bitboard>) -> Guard
     requires survey { IsSurvey p.now v.now }
     requires known { IsKnown p.now v.now known.old }
@@ -459,7 +459,7 @@ fn listed(p: &Parts, sides: &Sides, which: Which, moves: Vec<Move>) -> Result<Ve
     Ok(moves)
 }
 
-/// As many moves as positions commonly have; room for them is made at once.
+/// As many moves as positions commonly have. Room for them is allocated at once.
 const COMMON: usize = 48;
 
 /// The legal moves, each once, in order of from, to and promotion.

@@ -8,8 +8,8 @@ use crate::piece::{Kind, Piece, Side};
 use crate::square::Square;
 use std::marker::Model;
 
-/// The code of what stands on a square, 0 to 14: 0 for nothing, 1 to 6 for white's pawn, knight, bishop, rook, queen and king,
-/// 9 to 14 for black's.
+/// The code of what stands on a square: 0 for nothing, 1 to 6 for white's pawn, knight, bishop, rook, queen and king,
+/// and 9 to 14 for black's.
 fn code_of(man: Option<Piece>) -> u8
     ensures { result ≡ code_of man }
 {
@@ -89,7 +89,7 @@ impl Men {
         Men { codes: [0; 64] }
     }
 
-    /// How many squares there are: 64. Loops go by it, and its clause tells proofs how long the list is.
+    /// The number of squares, 64. Loops use it, and its clause gives proofs the length of the list.
     pub(crate) fn squares(&self) -> u8
         ensures value { result ≡ 64 }
         ensures all { length self.now ≡ 64 }
@@ -107,7 +107,7 @@ impl Men {
         man_of(self.codes[square.number() as usize])
     }
 
-    /// Puts this man on the square in the place of what stood there, or nothing.
+    /// Puts this man, or nothing, on the square in place of what stood there.
     pub fn put(&mut self, square: Square, man: Option<Piece>)
         ensures { self.new ≡ slice_set self.old square man }
     {

@@ -1,6 +1,6 @@
 //! Whether some move is legal, without a list of the moves.
 //!
-//! `next` is where a sweep over squares stands: the proofs speak of it.
+//! `next` is the next square of a sweep. It is a variable of its own because the proofs name it.
 
 ghost use Rattle.std.specs.Prelude.{◌≡◌, ◌↔◌, ℕ, IsTrue};
 ghost use Rattle.std.specs.Int.{bit_at};

@@ -20,7 +20,7 @@ pub struct Rights {
     pub black_queen: bool,
 }
 
-/// The parts of a position, whether they are one or not; `Position::new` tells.
+/// The parts of a position. They need not form one: `Position::new` tests that.
 #[derive(Clone, Copy, PartialEq, Eq, Debug)]
 pub struct Parts {
     /// What stands on each square.

@@ -107,7 +107,7 @@ fn halfmove_after(p: &Parts, m: &Move, case: MoveCase) -> u16
     }
 }
 
-/// The square behind this one, as this side goes.
+/// The square behind this one, as this side's pawns move.
 pub fn behind(side: Side, square: Square) -> Square
     requires { IsInside (forward (other side)) 1 square }
     ensures { result ≡ behind side square }
@@ -213,8 +213,8 @@ fn king_after(m: &Move, king: Square) -> Square
     if m.from == king { m.to } else { king }
 }
 
-/// Whether the move, which goes by this case, leaves the king of its side unattacked, asked of the men as they stand then. Now the
-/// king stands on this square, and all men of the other side on these.
+/// Whether the move, of this case, leaves the king of its side unattacked, tested on the men after the move. Before it
+/// the king stands on this square, and all men of the other side on these.
 #[inline(never)]
 pub fn is_safe(p: &Parts, m: &Move, case: MoveCase, king: Square, enemy: Bitboard) -> bool
     requires position { IsPosition p.now }
@@ -230,8 +230,8 @@ pub fn is_safe(p: &Parts, m: &Move, case: MoveCase, king: Square, enemy: Bitboar
     !attack::is_attacked_from(&men, p.side.other(), enemy, king_after(m, king))
 }
 
-/// Makes the move, which goes by this case, on a copy of the position and of the sets of its sides, and tells whether the king of its
-/// side is then unattacked.
+/// Makes the move, of this case, on a copy of the position and of the sets of its sides. The flag says whether the king
+/// of its side is then unattacked.
 pub fn play(p: &Parts, copy: &mut Parts, sides: &mut Sides, m: &Move, case: MoveCase) -> bool
     requires position { IsPosition p.now }
     requires copy { copy.old ≡ p.now }

@@ -8,15 +8,18 @@ ghost use Rattle.board_core.specs.Attack.{man_at, IsInCheck};
 ghost use Rattle.board_core.specs.Computed.{is_in_check};
 ghost use Rattle.board_core.specs.ComputedMoves.{position_after, is_legal, has_legal_move, has_move_besides_en_passant, captures_after, legal_captures, legal_moves, count_of_men};
 ghost use Rattle.board_core.specs.Side.{other};
+ghost use Rattle.board_core.specs.Inside.Census.{census_of};
+ghost use Rattle.board_core.specs.Sets.{parts_of};
 ghost use Rattle.board_core.specs.Sides.{IsOccupied, sides_of};
 ghost use Rattle.board_core.specs.declared.piece.Piece.{Piece};
 
 use crate::bitboard::Bitboard;
-use crate::men::Men;
+use crate::census::Census;
 use crate::mobility::Sought;
 use crate::moves::{Move, MoveCase};
 use crate::parts::{Parts, Rights};
 use crate::piece::{Kind, Piece, Side, Wing};
+use crate::sets::{Sets, State};
 use crate::sides::Sides;
 use crate::square::Square;
 use crate::{capturing, castling, generation, king, mobility, playing, rules};
@@ -24,7 +27,7 @@ use std::alloc::{AllocError, Global};
 use std::fmt;
 use std::marker::Model;
 
-/// What keeps parts from being a position: the first condition that fails, in this order.
+/// Why parts are no position: the first condition that fails, in this order.
 #[derive(Clone, Copy, PartialEq, Eq, Debug)]
 pub enum PositionFault {
     /// A side hasn't exactly one king.
@@ -35,8 +38,8 @@ pub enum PositionFault {
     PawnOnEdge,
     /// There is a right to castle whose king or rook isn't at home.
     BadCastling,
-    /// The en passant square isn't on rank 6 (white to move) or 3 (black to move), or the pawn that
-    /// made the double step doesn't stand before it, or it or the square behind it isn't empty.
+    /// The en passant square isn't on rank 6 (white to move) or rank 3 (black to move). Or the pawn that made the
+    /// double step doesn't stand before it. Or the square, or the one behind it, isn't empty.
     BadEnPassant,
     /// The side that isn't to move is in check.
     OpponentInCheck,
@@ -72,51 +75,11 @@ impl fmt::Display for PositionFault {
     }
 }
 
-fn is_king_of(side: Side, man: Option<Piece>) -> bool
-    ensures { result ≡ is_king_of side man }
-{
-    match man {
-        Some(man) => man.is(side, Kind::King),
-        None => false,
-    }
-}
-
-fn count_kings(men: &Men, side: Side) -> usize
-    ensures { result ≡ count_by (is_king_of side) men.now }
-{
-    let mut count = 0;
-    for n in 0..men.squares() {
-        if is_king_of(side, men.at(Square::at(n))) {
-            count += 1;
-        }
-    }
-    count
-}
-
-fn has_one_king_each(men: &Men) -> bool
-    ensures { IsTrue result ↔ HasOneKingEach men.now }
-{
-    count_kings(men, Side::White) == 1 && count_kings(men, Side::Black) == 1
-}
-
 /// Whether each side has 16 men at most, where they stand on these squares.
 fn has_few_men(sides: &Sides) -> bool
     ensures { (men : List (Option Piece)) → sides.now ≡ sides_of men → (IsTrue result ↔ HasFewMen men) }
 {
     sides.white.len() <= 16 && sides.black.len() <= 16
-}
-
-fn has_no_pawn_on_edge(men: &Men) -> bool
-    ensures { IsTrue result ↔ HasNoPawnOnEdge men.now }
-{
-    for n in 0u8..64 {
-        if let Some(man) = men.at(Square::at(n)) {
-            if man.kind == Kind::Pawn && (n < 8 || n >= 56) {
-                return false;
-            }
-        }
-    }
-    true
 }
 
 fn is_right_valid(p: &Parts, side: Side, wing: Wing) -> bool
@@ -183,20 +146,20 @@ fn has_valid_counters(p: &Parts) -> bool
     p.halfmove <= 9999 && p.fullmove <= 9999
 }
 
-/// The first condition that fails; the men of each side stand on these squares.
-fn first_fault(p: &Parts, sides: &Sides) -> Option<PositionFault>
-    requires { sides.now ≡ sides_of p.now.men }
+/// The first condition that fails; these are the squares of the men.
+fn first_fault(p: &Parts, census: &Census) -> Option<PositionFault>
+    requires { census.now ≡ census_of p.now.men }
     ensures found { IfSome result (λ fault. IsFirstFault p.now fault) }
     ensures none { IfNone result (IsPosition p.now) }
 {
     prove!(p.men.squares() == 64);
-    if !has_one_king_each(&p.men) {
+    if !census.has_one_king_each() {
         return Some(PositionFault::BadKings);
     }
-    if !has_few_men(sides) {
+    if !has_few_men(&census.sides) {
         return Some(PositionFault::TooManyMen);
     }
-    if !has_no_pawn_on_edge(&p.men) {
+    if !census.has_no_pawn_on_edge() {
         return Some(PositionFault::PawnOnEdge);
     }
     if !has_valid_rights(p) {
@@ -205,7 +168,7 @@ fn first_fault(p: &Parts, sides: &Sides) -> Option<PositionFault>
     if !has_valid_en_passant(p) {
         return Some(PositionFault::BadEnPassant);
     }
-    if !is_opponent_safe(p, sides) {
+    if !is_opponent_safe(p, &census.sides) {
         return Some(PositionFault::OpponentInCheck);
     }
     if !has_valid_counters(p) {
@@ -242,18 +205,51 @@ impl Model for Position {
 }
 
 impl Position {
-    /// The position of these parts; the first condition that fails is told otherwise.
+    /// The position with these parts. The error is the first condition that fails.
     pub fn new(parts: Parts) -> Result<Position, PositionFault>
         ensures ok { IfOk result (λ p. (p ≡ parts) × IsPosition parts) }
         ensures err { IfErr result (λ fault. IsFirstFault parts fault) }
         ensures only { IsPosition parts → result ≡ Ok parts }
         ensures only_fault { (fault : PositionFault) → IsFirstFault parts fault → result ≡ Err fault }
     {
-        let sides = Sides::of(&parts.men);
-        if let Some(fault) = first_fault(&parts, &sides) {
+        let census = Census::of(&parts.men);
+        Position::checked(parts, &census)
+    }
+
+    /// The position of these parts, where these are the squares of the men.
+    fn checked(parts: Parts, census: &Census) -> Result<Position, PositionFault>
+        requires { census.now ≡ census_of parts.men }
+        ensures ok { IfOk result (λ p. (p ≡ parts) × IsPosition parts) }
+        ensures err { IfErr result (λ fault. IsFirstFault parts fault) }
+        ensures only { IsPosition parts → result ≡ Ok parts }
+        ensures only_fault { (fault : PositionFault) → IsFirstFault parts fault → result ≡ Err fault }
+    {
+        if let Some(fault) = first_fault(&parts, census) {
             return Err(fault);
         }
-        Ok(Position { parts, sides })
+        Ok(Position {
+            parts,
+            sides: census.sides,
+        })
+    }
+
+    /// The position whose men the sets show, with this state; the first condition that fails is told otherwise.
+    pub fn from_sets(sets: &Sets, state: State) -> Result<Position, PositionFault>
+        ensures ok { IfOk result (λ p. (p ≡ parts_of sets.now state) × IsPosition (parts_of sets.now state)) }
+        ensures err { IfErr result (λ fault. IsFirstFault (parts_of sets.now state) fault) }
+        ensures only { IsPosition (parts_of sets.now state) → result ≡ Ok (parts_of sets.now state) }
+        ensures only_fault { (fault : PositionFault) → IsFirstFault (parts_of sets.now state) fault → result ≡ Err fault }
+    {
+        let census = sets.census();
+        let parts = Parts {
+            men: sets.men(census.sides.all()),
+            side: state.side,
+            rights: state.rights,
+            en_passant: state.en_passant,
+            halfmove: state.halfmove,
+            fullmove: state.fullmove,
+        };
+        Position::checked(parts, &census)
     }
 
     /// The parts of the position, which meet all conditions.
@@ -318,11 +314,10 @@ impl Position {
         mobility::has_legal_move(&self.parts, &self.sides, Sought::BesidesEnPassant)
     }
 
-    /// The position after the move; none where the move isn't legal. A right to castle is lost when
-    /// its king or rook moves or its rook is taken at home; a double step sets the en passant square
-    /// and any other move clears it; the halfmove clock is 0 after a capture or a pawn move and
-    /// otherwise one more; the fullmove number is one more after black's move; neither goes above
-    /// 9999.
+    /// The position after the move; none where the move isn't legal. A right to castle is lost when its king or rook
+    /// moves or its rook is taken at home. A double step sets the en passant square, and any other move clears it. The
+    /// halfmove clock is 0 after a capture or a pawn move, and one more after another move. The fullmove number is one
+    /// more after black's move. Neither goes above 9999.
     pub fn play(&self, m: Move) -> Option<Position>
         ensures legal { IfSome result (λ q. Legal self.now m q) }
         ensures only { (q : Parts) → Legal self.now m q → result ≡ Some q }
@@ -345,7 +340,7 @@ impl Position {
         }
     }
 
-    /// The position after the move, which goes by this case; none where it leaves the king of its side attacked.
+    /// The position after the move, of this case; none where it leaves the king of its side attacked.
     #[inline(never)]
     fn played(&self, m: &Move, case: MoveCase) -> Option<Position>
         requires { IsMove self.now m.now case }
@@ -380,9 +375,10 @@ impl Position {
         generation::captures(&self.parts, &self.sides, alloc)
     }
 
-    /// The first of the legal captures, en passant among them, that come after this move in the order of moves, and the
-    /// position after it; the first of all where no move is given, and none where no further one comes. The move that is given
-    /// need not be a capture, nor legal: its place in the order of from, to and promotion alone counts. It takes no memory.
+    /// The first legal capture, en passant among them, after this move in the order of moves, and the position after
+    /// the capture. Where no move is given it is the first of all. None where no further one comes. The move that is
+    /// given need not be a capture, nor legal: its place in the order of from, to and promotion alone counts. It takes
+    /// no memory.
     pub fn capture_after(&self, last: Option<Move>) -> Option<(Move, Position)>
         ensures next { IfSome result (λ c. captures_after self.now last ≡ c.0 ∷ captures_after self.now (Some c.0)) }
         ensures after { IfSome result (λ c. position_after self.now c.0 ≡ Some c.1) }
@@ -405,9 +401,9 @@ impl Position {
         capturing::may_capture(&self.parts, &self.sides)
     }
 
-    /// The next move after this one, in the order of from, to and promotion, that may be a legal capture, or the first of all where no
-    /// move is given; none where no legal capture comes any more. No legal capture comes between the two. Whether the move itself is
-    /// legal `play` tells. It takes no memory.
+    /// The next move after this one, in the order of from, to and promotion, that may be a legal capture; the first of
+    /// all where no move is given. None where no legal capture follows. No legal capture lies between the two. `play`
+    /// tests whether the move itself is legal. It takes no memory.
     pub fn next_capture(&self, last: Option<Move>) -> Option<Move>
         ensures next { IfSome result (λ m. captures_after self.now last
             ≡ if is_legal self.now m then m ∷ captures_after self.now (Some m) else captures_after self.now (Some m)) }

@@ -184,7 +184,7 @@ fn is_castle(p: &Parts, m: &Move, wing: Wing) -> bool
     is_way_safe(&p.men, p.side.other(), home, end)
 }
 
-/// The case of the rules under which the move goes, leaving the king's safety aside.
+/// The case of the rules that allows the move, leaving the king's safety aside.
 pub fn case_of(p: &Parts, m: &Move) -> Option<MoveCase>
     ensures found { IfSome result (λ c. IsMove p.now m.now c) }
     ensures only { (c : MoveCase) → IsMove p.now m.now c → result ≡ Some c }
@@ -223,8 +223,8 @@ fn may_promote(p: &Parts, from: Square, to: Square) -> bool
     stands(&p.men, from, p.side, Kind::Pawn) && to.rank() == last_rank(p.side)
 }
 
-/// How many moves from one square to another there are to try: those of a pawn to its last rank are one for each promotion, and come
-/// after the one without.
+/// How many moves from one square to another there are to try. A pawn's move to its last rank has one for each
+/// promotion, after the one without.
 pub fn places_between(p: &Parts, from: Square, to: Square) -> u8
     ensures most { result ≤ 5 }
     ensures whole { (m : Move) → IsLegal p.now m → m.from ≡ from → m.to ≡ to → promotion_place m.promotion < result }

@@ -5,10 +5,9 @@ ghost use Rattle.std.specs.Int.{bit_at};
 ghost use Rattle.board_core.specs.declared.piece.Piece.{Piece};
 ghost use Rattle.board_core.specs.Moves.{carried};
 ghost use Rattle.board_core.specs.Position.{is_of};
-ghost use Rattle.board_core.specs.Sides.{sides_of, squares_of};
+ghost use Rattle.board_core.specs.Sides.{IsOccupied, sides_of, squares_of};
 
 use crate::bitboard::Bitboard;
-use crate::men::Men;
 use crate::piece::{Piece, Side};
 use crate::square::Square;
 
@@ -43,21 +42,11 @@ pub struct Sides {
 }
 
 impl Sides {
-    /// The squares of these men.
-    pub fn of(men: &Men) -> Sides
-        ensures { result ≡ sides_of men.now }
+    /// The squares of both sides.
+    pub fn all(&self) -> Bitboard
+        ensures { (men : List (Option Piece)) → self.now ≡ sides_of men → IsOccupied men result }
     {
-        let mut white = Bitboard::empty();
-        let mut black = Bitboard::empty();
-        for n in 0..men.squares() {
-            if let Some(man) = men.at(Square::at(n)) {
-                match man.side {
-                    Side::White => white = white.with(Square::at(n)),
-                    Side::Black => black = black.with(Square::at(n)),
-                }
-            }
-        }
-        Sides { white, black }
+        self.white | self.black
     }
 
     /// The squares once this man stands on the square, or nothing does.

@@ -190,7 +190,7 @@ fn with_reached(
     }
 }
 
-/// Those of the squares of a set that a man of this kind reaches, asked of each in turn.
+/// Those squares of a set that a man of this kind reaches, tested one by one.
 pub fn reached_of(men: &Men, side: Side, kind: Kind, from: Square, set: Bitboard) -> Bitboard
     ensures reached { (s : ℕ) → s < 64 → bit_at set s ≡ 1 → Reaches men.now side kind from s
         → bit_at result s ≡ 1 }
