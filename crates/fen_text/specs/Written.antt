@@ -1,4 +1,4 @@
--- The one text of a position, as a word that computes.
+-- The one text of a position, as a computable definition.
 use Rattle.std.specs.Prelude.{◌+◌, ◌++◌, ℕ, zero, suc, List, [], ◌∷◌, map, Option, Some, None}
 use Rattle.std.specs.Fmt.{decimal}
 use Rattle.std.specs.List.{join_with_byte}

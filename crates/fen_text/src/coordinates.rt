@@ -48,8 +48,8 @@ fn read_squares(from: (u8, u8), to: (u8, u8), promotion: Option<Promotion>) -> O
 
 /// Reads a move: the names of its two squares, and after them `q`, `r`, `b` or `n` for a promotion.
 ///
-/// Castling is the move of the king. Any two squares make a move here, also one that no position
-/// has; None where the text is not exactly that of a move.
+/// Castling is the move of the king. Any two squares make a move here, whether or not a position has it. `None` where
+/// the text is not exactly that of a move.
 pub fn read_move(text: &[u8]) -> Option<Move>
     ensures some { IfSome result (SpellsMove text.now) }
     ensures only { (m : Move) → SpellsMove text.now m → result ≡ Some m }

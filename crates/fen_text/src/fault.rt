@@ -6,7 +6,7 @@ ghost use Rattle.fen_text.specs.Fen.{fault_name};
 use board_core::PositionFault;
 use std::fmt;
 
-/// Why a text is not the FEN text of a position, in the order in which faults are told.
+/// Why a text is not the FEN text of a position, in the order in which faults are reported.
 #[derive(Clone, Copy, PartialEq, Eq, Debug)]
 pub enum FenFault {
     /// The text, cut at each space, has not exactly six pieces.

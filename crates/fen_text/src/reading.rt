@@ -52,14 +52,13 @@ fn read_parts(text: &[u8]) -> Result<Parts, FenFault>
 
 /// Reads the FEN text of a position (PGN standard, section 16.1).
 ///
-/// The text has six fields with one space between: the placement from the eighth rank down to the
-/// first, the side to move, the castling rights, the en passant square, and the halfmove clock and
-/// the fullmove number, each from 0 to 9999. There is no other space, no needless zero, and no two
-/// digits stand side by side in a rank, so each position has one text. The en passant square is
-/// kept as read, whether or not a pawn can capture there.
+/// The text has six fields with one space between. They are the placement from the eighth rank down to the first, the
+/// side to move, the castling rights, the en passant square, the halfmove clock and the fullmove number. Both numbers
+/// are 0 to 9999. There is no other space, no needless zero, and no two digits stand side by side in a rank, so each
+/// position has one text. The en passant square is kept as read, whether or not a pawn can capture there.
 ///
-/// The fields are looked at in turn, and the fault is that of the first one that spells nothing;
-/// where each spells its part, it is the first fault of `Position::new`.
+/// The fields are read in turn, and the fault is that of the first one that is malformed. Where each is well formed, it
+/// is the first fault of `Position::new`.
 pub fn read(text: &[u8]) -> Result<Position, FenFault>
     ensures ok { IfOk result (λ p. SpellsPosition text.now p) }
     ensures position { IfOk result (λ p. IsPosition p) }
@@ -67,8 +66,8 @@ pub fn read(text: &[u8]) -> Result<Position, FenFault>
     ensures err { IfErr result (λ fault. IsFirstFenFault text.now fault) }
     ensures only_fault { (fault : FenFault) → IsFirstFenFault text.now fault → result ≡ Err fault }
 
-    // What `write` gives is read as the position that it was given, and a text that is read is what
-    // `write` gives.
+    // A text that `write` produces reads as the position it was given, and a text that reads as a position is the one
+    // that `write` produces.
     ensures written { (p : Parts) → IsPosition p → text.now ≡ fen_of p → result ≡ Ok p }
     ensures one_text { IfOk result (λ p. text.now ≡ fen_of p) }
 {

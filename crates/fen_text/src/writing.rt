@@ -51,7 +51,7 @@ fn digit(run: u8) -> &'static str
     }
 }
 
-/// Writes a square after a run of empty ones, and answers how long the run is now.
+/// Writes a square after a run of empty ones, and returns the length of the run after it.
 #[tactic(auto, unfolding(crate::specs::Written::rank_text))]
 fn push_cell(cell: Option<Piece>, run: u8, out: &mut ArrayString<96>) -> u8
     requires short { run < 8 }
@@ -109,7 +109,7 @@ fn side_letter(side: Side) -> &'static str
     }
 }
 
-/// The letters of the rights that are there, or a dash.
+/// The letters of the castling rights, or a dash where there is none.
 fn castling_letters(rights: Rights) -> &'static str
     ensures { result.now ≡ castling_text rights }
 {

@@ -15,7 +15,7 @@ use Rattle.judge_core.specs.Distances.{Reach, is_by_capture, signed}
 use Rattle.judge_core.specs.Ends.{has_no_move}
 use Rattle.judge_core.specs.Ruling.{is_out_of_scope}
 
--- The probe answers what the tables tell, unless the position is out of their scope or memory was refused.
+-- The probe returns what the tables say, unless the position is out of their scope or memory was refused.
 abbrev pub IsProbe : {X : Type 0} → Result X ProbeFault → Bool → Result X ValueFault → Type 0
 IsProbe (Ok x) outside reading = (outside ≡ false) × (reading ≡ Ok x)
 IsProbe (Err OutOfScope) outside reading = outside ≡ true
@@ -28,7 +28,7 @@ abbrev pub probe_fault : ValueFault → ProbeFault
 probe_fault (value.NotCovered key) = NotCovered key
 probe_fault (value.Damaged key) = Damaged key
 
--- what a probe tells of a reading
+-- what a probe returns for a reading
 abbrev pub as_probe : {X Y : Type 0} → (X → Y) → Result X ValueFault → Result Y ProbeFault
 as_probe say (Ok x) = Ok (say x)
 as_probe say (Err fault) = Err (probe_fault fault)
@@ -42,7 +42,7 @@ IsLeftOpen (Err fault) = ⊥
 abbrev pub ListsMoves : Tables → Parts → Type 0
 ListsMoves tables p = (2 < count_of_men p) × IsLeftOpen (weighed_by tables (wdl_of tables) p)
 
--- the value is there and a win or a loss: only then a verdict asks for a distance
+-- the value is there and a win or a loss: only then a verdict needs a distance
 abbrev pub IsDecisive : Reading → Type 0
 IsDecisive reading = (reading ≡ Ok Win) ⊎ (reading ≡ Ok Loss)
 

@@ -1,4 +1,4 @@
--- What is asked of the positions after some moves, and the fault of the answers.
+-- The values of the positions after some moves, and the first fault among them.
 use Rattle.std.specs.Prelude.{ℕ, List, [], ◌∷◌, Option, Some, None, option_map, Result, Ok, Err, filter_map}
 use Rattle.std.specs.Option.{option_or}
 use Rattle.board_core.specs.declared.parts.Parts.{Parts}
@@ -8,7 +8,7 @@ use Rattle.judge_core.specs.declared.fault.Faults.{Faults}
 use Rattle.judge_core.specs.declared.fault.ValueFault.{ValueFault}
 use Rattle.judge_core.specs.declared.fault.ValueFault.TheVariants.{NotCovered, Damaged}
 
--- what `say` tells of the positions after these moves
+-- what `say` gives for the positions after these moves
 abbrev pub asked : {X : Type 0} → (Parts → Result X ValueFault) → Parts → List Move → List (Result X ValueFault)
 asked say p moves = filter_map (λ m. option_map say (position_after p m)) moves
 

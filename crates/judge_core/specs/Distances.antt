@@ -1,6 +1,6 @@
--- How far a position is from the next move that sets the halfmove clock to 0, a capture or a pawn move, or from mate, with the
--- best play of both (Syzygy DTZ tables). The tables know no such distance where a capture or a pawn move wins at once, and
--- store one side alone, hence the rules.
+-- The distance of a position to the next capture or pawn move, which sets the halfmove clock to 0, or to mate, with best
+-- play of both (Syzygy DTZ tables). The tables hold no such distance where a capture or a pawn move wins at once, and store
+-- one side alone; hence the rules.
 use Rattle.std.specs.Prelude.{ℕ, zero, suc, ◌+◌, nat_le, min, max, Bool, true, false, ◌&&◌, ◌||◌, not, List, Option, Some, None, Result, Ok, Err, filter, filter_map, fold, if◌then◌else◌, ℤ, pos, neg_ℤ}
 use Rattle.std.specs.List.{list_any}
 use Rattle.board_core.specs.declared.parts.Parts.{Parts}
@@ -64,8 +64,8 @@ towards outcome n = if is_won outcome then Win n else Loss n
 
 -- ---- captures
 
--- A capture is what the position is worth: none but en passant is legal, one wins, en passant alone does better than all
--- else, or the best one is as good as the own table and better than a draw.
+-- The value is that of a capture: en passant alone is legal, a capture wins, or en passant beats all else. Or the best
+-- capture is better than a draw and as good as the own table.
 abbrev pub is_by_capture : Weighed → Bool
 is_by_capture w =
     w.forced
@@ -86,7 +86,8 @@ abbrev pub is_value : Wdl → Reading → Bool
 is_value v (Ok u) = is_same u v
 is_value v (Err fault) = false
 
--- whether some pawn move that takes nothing comes to this value; those after all such moves are needed, promotions among them
+-- whether some pawn move that takes nothing reaches this value; the values after all such moves are needed, promotions
+-- among them
 unfoldable pub pawns_reach : Tables → Parts → Wdl → Result Bool ValueFault
 pawns_reach tables p v =
     let steps = after (wdl_of tables) p (filter (is_pawn_step p) (legal_moves p)) in
@@ -111,7 +112,7 @@ abbrev pub counted : Bool → Reach → Result (Option ℕ) ValueFault
 counted won (Ok d) = Ok (one_more won d)
 counted won (Err fault) = Err fault
 
--- what a move comes to by the position after it; the distance after a mating move isn't asked where the side to move wins
+-- the distance before a move, from the position after it; after a mating move none is needed where the side to move wins
 unfoldable pub move_counts : Outcome → (Parts → Reach) → Parts → Result (Option ℕ) ValueFault
 move_counts outcome reach q = if is_won outcome && is_mate q then Ok (Some 1) else counted (is_won outcome) (reach q)
 
@@ -149,8 +150,8 @@ by_counts key outcome counts =
     else if list_any is_odd counts then Err (Damaged key)
     else Ok (Loss (greatest (zeroing outcome) counts))
 
--- by the positions after the quiet moves, of which `reach` tells the distances; the table with this key contradicts itself
--- where these can't be
+-- from the positions after the quiet moves, whose distances `reach` gives; where these are impossible, the table with this
+-- key contradicts itself
 unfoldable pub by_quiet_moves : ℕ → Outcome → (Parts → Reach) → Parts → Reach
 by_quiet_moves key outcome reach p =
     let counts = asked (move_counts outcome reach) p (filter (is_quiet p) (legal_moves p)) in
@@ -192,7 +193,7 @@ unless_reached (Err fault) outcome otherwise = Err fault
 unless_reached (Ok true) outcome otherwise = Ok (towards outcome (zeroing outcome))
 unless_reached (Ok false) outcome otherwise = otherwise
 
--- a win by a pawn move, or what the own table tells
+-- a win by a pawn move, or the distance of the own table
 unfoldable pub by_moves : Tables → (Parts → Reach) → Parts → Wdl → Outcome → Reach
 by_moves tables reach p v outcome =
     if is_won outcome
@@ -208,18 +209,18 @@ abbrev pub by_weighed : Tables → (Parts → Reach) → Parts → Result Weighe
 by_weighed tables reach p (Err fault) = Err fault
 by_weighed tables reach p (Ok w) = by_outcome tables reach p w (outcome_of (worth w))
 
--- The distance of a position, where `reach` tells those of the positions after its moves: a draw has none; then a capture that
--- is what the position is worth; then a pawn move that wins; then the own table, or the quiet moves where that stores the other
--- side alone. A fault of a value that is needed is the answer.
+-- The distance of a position, where `reach` gives those of the positions after its moves. A draw has none. Next come a
+-- capture whose value is the position's, and a pawn move that wins. Last comes the own table, or the quiet moves where that
+-- stores the other side alone. A fault of a value that is needed is the answer.
 abbrev pub dtz_by : Tables → (Parts → Reach) → Parts → Reach
 dtz_by tables reach p = if nat_le (count_of_men p) 2 then Ok Draw else by_weighed tables reach p (weighed_by tables (wdl_of tables) p)
 
--- the same, where at most so many positions in a row are looked at
+-- the distance of a position, where at most so many positions in a row are visited
 unfoldable pub dtz_to : Tables → ℕ → Parts → Reach
 dtz_to tables zero p = Ok Draw
 dtz_to tables (suc n) p = dtz_by tables (dtz_to tables n) p
 
--- The distance. A table stores one side of its material at least, and after a quiet move the other side of the same table is
--- asked, so that two positions in a row are enough.
+-- The distance. A table stores at least one side of its material, and after a quiet move the other side of that table is
+-- read. So two positions in a row are enough.
 unfoldable pub dtz_of : Tables → Parts → Reach
 dtz_of tables p = dtz_to tables 2 p

@@ -1,5 +1,5 @@
--- The five rules of a distance, of which the first that applies counts (Syzygy DTZ tables). `reach` tells the distances of the
--- positions after the moves.
+-- The five rules of a distance, of which the first that applies counts (Syzygy DTZ tables). `reach` gives the distances of
+-- the positions after the moves.
 use Rattle.std.specs.Prelude.{◌≡◌, ◌≤◌, ◌<◌, ◌+◌, ◌↔◌, ℕ, Bool, true, false, IsTrue, IsFalse, List, Option, Some, None, Result, Ok, Err, filter}
 use Rattle.std.specs.List.{list_any}
 use Rattle.board_core.specs.declared.parts.Parts.{Parts}
@@ -31,7 +31,7 @@ pub record IsDecided (tables : Tables) (p : Parts) (w : Weighed) (outcome : Outc
   pub weighed : IsWeighed tables p (Ok w)
   pub decided : outcome_of (worth w) ≡ Some outcome
 
--- neither a capture nor, for a win, a pawn move tells the distance
+-- neither a capture nor, for a win, a pawn move gives the distance
 pub record IsLeft (tables : Tables) (p : Parts) (w : Weighed) (outcome : Outcome) : Type 0 where
   pub decided : IsDecided tables p w outcome
   pub no_capture : IsFalse (is_by_capture w)
@@ -47,7 +47,7 @@ pub record IsOwnTable (tables : Tables) (p : Parts) (key : ℕ) (t : Contents) (
 abbrev pub counts_after : (Parts → Reach) → Parts → Outcome → List (Result (Option ℕ) ValueFault)
 counts_after reach p outcome = asked (move_counts outcome reach) p (filter (is_quiet p) (legal_moves p))
 
--- no capture, pawn move or number of the own table tells the distance, and the table has the other side
+-- no capture, pawn move or number of the own table gives the distance, and the table has the other side
 pub record IsLeftToMoves (tables : Tables) (p : Parts) (outcome : Outcome) (key : ℕ) : Type 0 where
   pub w : Weighed
   pub left : IsLeft tables p w outcome
@@ -68,15 +68,15 @@ pub data IsDistance (tables : Tables) (reach : Parts → Reach) (p : Parts) : Re
   no_table : {w : Weighed} {outcome : Outcome} {key : ℕ} → IsLeft tables p w outcome → material_of p ≡ Some key → table_at tables Dtz key ≡ None → IsDistance tables reach p (Err (NotCovered key))
   no_number : {w : Weighed} {outcome : Outcome} {key : ℕ} {t : Contents} → IsLeft tables p w outcome → IsOwnTable tables p key t true → distance_in t (placed_of key p) outcome ≡ None → IsDistance tables reach p (Err (Damaged key))
   stored : {w : Weighed} {outcome : Outcome} {key n : ℕ} {t : Contents} → IsLeft tables p w outcome → IsOwnTable tables p key t true → distance_in t (placed_of key p) outcome ≡ Some n → IsDistance tables reach p (Ok (towards outcome (zeroing outcome + n)))
-  -- 5. The moves that neither take a man nor move a pawn: for a win the least of their numbers, which there must be; for a loss the
-  -- greatest, at least that of a capture, and each move must lose.
+  -- 5. The moves that neither take a man nor move a pawn. For a win it is the least of their numbers, and there must be
+  --    one. For a loss it is the greatest, at least that of a capture, and each move must lose.
   move_unknown : {outcome : Outcome} {key : ℕ} {fault : ValueFault} → IsLeftToMoves tables p outcome key → fault_in (counts_after reach p outcome) ≡ Some fault → IsDistance tables reach p (Err fault)
   no_winner : {outcome : Outcome} {key : ℕ} → IsLeftToMoves tables p outcome key → fault_in (counts_after reach p outcome) ≡ None → IsTrue (is_won outcome) → least (counts_after reach p outcome) ≡ None → IsDistance tables reach p (Err (Damaged key))
   won : {outcome : Outcome} {key n : ℕ} → IsLeftToMoves tables p outcome key → fault_in (counts_after reach p outcome) ≡ None → IsTrue (is_won outcome) → least (counts_after reach p outcome) ≡ Some n → IsDistance tables reach p (Ok (Win n))
   no_loser : {outcome : Outcome} {key : ℕ} → IsLeftToMoves tables p outcome key → fault_in (counts_after reach p outcome) ≡ None → IsFalse (is_won outcome) → IsTrue (list_any is_odd (counts_after reach p outcome)) → IsDistance tables reach p (Err (Damaged key))
   lost : {outcome : Outcome} {key : ℕ} → IsLeftToMoves tables p outcome key → fault_in (counts_after reach p outcome) ≡ None → IsFalse (is_won outcome) → IsFalse (list_any is_odd (counts_after reach p outcome)) → IsDistance tables reach p (Ok (Loss (greatest (zeroing outcome) (counts_after reach p outcome))))
 
--- The distance of a position in scope is the one that the five rules give, where `dtz_of` tells the others.
+-- The distance of a position in scope is the one that the five rules give, where `dtz_of` gives the others.
 abbrev pub DistanceByFiveRules : Type 0
 DistanceByFiveRules =
     (tables : Tables) (p : Parts) (r : Reach) → AreFiled tables → IsPosition p → IsFalse (is_out_of_scope p) → IsDistance tables (dtz_of tables) p r ↔ (dtz_of tables p ≡ r)

@@ -1,6 +1,6 @@
--- What a whole game comes to (this project's own): the verdict of the earliest ply at which the rule gives one, as long as all
--- moves up to it are legal. Checkmate and stalemate end a game at once; a verdict by tables must hold for some further plies.
--- Positions are counted in plies from the start, which is ply 0.
+-- The outcome of a whole game (this project's own): the verdict at the earliest ply with one, provided that all moves up to
+-- it are legal. Checkmate and stalemate end a game at once; a verdict by tables must hold for some further plies. Positions
+-- are counted in plies from the start, which is ply 0.
 use Rattle.std.specs.Prelude.{◌≡◌, ℕ, zero, suc, ◌+◌, ◌-◌, ◌<◌, ◌≤◌, nat_le, Bool, true, false, cond, ◌&&◌, ◌||◌, ◌==◌, List, length, take, fold, Option, Some, None, IsSome, option_and_then}
 use Rattle.board_core.specs.declared.parts.Parts.{Parts}
 use Rattle.board_core.specs.declared.moves.Move.{Move}
@@ -80,13 +80,13 @@ pub record IsGoing (rules : Rules) (moves : List Move) : Type 0 where
   pub legal : IsSome (position_after_all rules.start moves)
   pub unruled : IsUnruled rules moves (length moves + 1)
 
--- what a game comes to
+-- the outcome of a game
 abbrev pub IsOutcome : Rules → List Move → GameOutcome → Type 0
 IsOutcome rules moves (Ruled ply verdict) = IsFirst rules moves ply verdict
 IsOutcome rules moves (Illegal place) = IsIllegalAt rules moves place
 IsOutcome rules moves Going = IsGoing rules moves
 
--- how many moves are played before it is known what a game comes to
+-- how many moves are played before it is known the outcome of a game
 abbrev pub plies_to : List Move → GameOutcome → ℕ
 plies_to moves (Ruled ply verdict) = ply
 plies_to moves (Illegal place) = place

@@ -16,13 +16,13 @@ use Rattle.judge_core.specs.Games.{Rules, position_after_all, judged_after, verd
 abbrev pub WdlMeetsItsRule : Type 0
 WdlMeetsItsRule = (tables : Tables) (p : Parts) → IsPosition p → wdl_of tables p ≡ wdl_by tables (wdl_of tables) p
 
--- So is the distance in scope, whatever the tables hold, where each is in the slot of its kind and its material, as those of
--- a set: the bound on positions in a row cuts nothing off.
+-- So is the distance in scope, whatever the tables hold, where each is in the slot of its kind and its material, as in a
+-- set. The bound on positions in a row cuts nothing off.
 abbrev pub DtzMeetsItsRules : Type 0
 DtzMeetsItsRules =
     (tables : Tables) (p : Parts) → AreFiled tables → IsPosition p → IsFalse (is_out_of_scope p) → dtz_of tables p ≡ dtz_by tables (dtz_of tables) p
 
--- A game comes to one thing.
+-- A game has one outcome at most.
 abbrev pub GameHasOneOutcome : Type 0
 GameHasOneOutcome =
     (rules : Rules) (moves : List Move) (a b : GameOutcome) → IsOutcome rules moves a → IsOutcome rules moves b → a ≡ b

@@ -1,4 +1,4 @@
--- What both probes tell of a position.
+-- Both probes of a position.
 use Rattle.std.specs.Prelude.{◌≡◌, ◌≢◌, ◌-ℤ◌, ◌&&◌, ℤ, pos, Bool, Result, Ok, Err}
 use Rattle.std.specs.Result.{is_ok}
 use Rattle.board_core.specs.declared.parts.Parts.{Parts}

@@ -1,5 +1,5 @@
--- The WDL value of a position: its own table's, and those of the positions after its captures, since a table may hold less
--- where a capture does better, and knows nothing of en passant.
+-- The WDL value of a position: its own table's, and those of the positions after its captures. A table may hold less where
+-- a capture does better, and ignores en passant.
 use Rattle.std.specs.Prelude.{ℕ, zero, suc, nat_le, Bool, false, not, List, [], ◌∷◌, ◌++◌, Result, Ok, Err, filter, filter_map, fold, if◌then◌else◌}
 use Rattle.std.specs.Result.{result_ok}
 use Rattle.std.specs.List.{list_all}
@@ -16,7 +16,7 @@ use Rattle.judge_core.specs.Asked.{asked, fault_in, unless}
 
 -- ---- lists of values
 
--- the values of the positions after these moves for the side that makes them, where `value` tells those of positions
+-- the values of the positions after these moves for the side that makes them, where `value` gives those of positions
 abbrev pub after : (Parts → Reading) → Parts → List Move → List Reading
 after value p moves = asked (λ q. turned (value q)) p moves
 
@@ -39,8 +39,8 @@ abbrev pub value_or_loss : Reading → Wdl
 value_or_loss (Ok v) = v
 value_or_loss (Err fault) = Loss
 
--- The best capture other than en passant, the best en passant, and the own table, or the fault among all of them: captures in
--- the order of moves, the own table last.
+-- The best capture other than en passant, the best en passant, and the own table, or the first fault among them. Captures
+-- come in the order of moves, the own table last.
 unfoldable pub weighed_by : Tables → (Parts → Reading) → Parts → Result Weighed ValueFault
 weighed_by tables value p =
     unless (fault_in (after value p (legal_captures p) ++ table_value tables p ∷ [])) (Ok (record {
@@ -58,13 +58,13 @@ abbrev pub worth_in : Result Weighed ValueFault → Reading
 worth_in (Ok w) = Ok (worth w)
 worth_in (Err fault) = Err fault
 
--- the value of a position, where `value` tells those of the positions after its captures
+-- the value of a position, where `value` gives those of the positions after its captures
 abbrev pub wdl_by : Tables → (Parts → Reading) → Parts → Reading
 wdl_by tables value p = if nat_le (count_of_men p) 2 then Ok Draw else worth_in (weighed_by tables value p)
 
 -- ---- captures in a row
 
--- the value, where at most so many captures in a row are looked at
+-- the value, where at most so many captures in a row are visited
 unfoldable pub wdl_to : Tables → ℕ → Parts → Reading
 wdl_to tables zero p = Ok Draw
 wdl_to tables (suc n) p = wdl_by tables (wdl_to tables n) p

@@ -1,4 +1,4 @@
--- How it is told in words what tables and games come to (this project's own).
+-- Probes, verdicts and outcomes of games as text (this project's own).
 use Rattle.std.specs.Prelude.{ℕ, ℤ, List, ◌∷◌, ◌++◌, Option, Some, None, Result, Ok, Err, codes}
 use Rattle.std.specs.Fmt.{decimal, signed_decimal}
 use Rattle.board_core.specs.declared.verdict.Verdict.{Verdict}
@@ -27,12 +27,12 @@ unfoldable pub column_words : Result ℤ ProbeFault → List ℕ
 column_words (Ok number) = signed_decimal number
 column_words (Err fault) = codes "refused " ++ fault_words fault
 
--- what both probes tell and the verdict, with a tab between
+-- both probes and the verdict, with a tab between
 abbrev pub columns_words : Result ℤ ProbeFault → Result ℤ ProbeFault → Option Verdict → List ℕ
 columns_words wdl dtz verdict = column_words wdl ++ 9 ∷ column_words dtz ++ 9 ∷ verdict_words verdict
 
--- what a game comes to, of so many moves: the ply of its first verdict and that, the place of its first illegal move, or that
--- it goes on after its last ply
+-- the outcome of a game of so many moves: the ply of its first verdict and the verdict, the place of its first illegal
+-- move, or that it goes on
 unfoldable pub outcome_words : GameOutcome → ℕ → List ℕ
 outcome_words (Ruled ply verdict) plies = codes "ruled " ++ decimal ply ++ codes " " ++ verdict_name verdict
 outcome_words (Illegal place) plies = codes "illegal " ++ decimal place

@@ -1,4 +1,4 @@
-//! What both probes tell of a position and the verdict on it, by one look at its captures.
+//! Both probes of a position and the verdict on it, from one pass over its captures.
 
 ghost use Rattle.std.specs.Prelude.{◌≡◌, ◌≤◌, false, Some, IfOk, OnErr, if◌then◌else◌};
 ghost use Rattle.board_core.specs.ComputedMoves.{legal_moves};
@@ -23,7 +23,7 @@ use crate::wdl::Wdl;
 use board_core::{Position, Verdict};
 use std::alloc::{AllocError, Global};
 
-/// What a position is worth and how far it is from the next capture or pawn move, or which table is missing or damaged.
+/// The WDL value and the DTZ distance of a position, each or the table that is missing or damaged.
 #[derive(Clone, Copy)]
 pub(crate) struct Readings {
     /// The WDL value.
@@ -32,7 +32,7 @@ pub(crate) struct Readings {
     pub dtz: Result<Distance, ValueFault>,
 }
 
-/// The number by which a WDL probe tells this value, or its fault.
+/// The number that a WDL probe returns for this value, or its fault.
 fn number_in(value: &Result<Wdl, ValueFault>) -> Result<i32, ProbeFault>
     ensures { result ≡ as_probe number_of value.now }
 {
@@ -54,7 +54,7 @@ fn end_or(position: &Position, verdict: Option<Verdict>) -> Option<Verdict>
 }
 
 impl Readings {
-    /// The verdict by them.
+    /// The verdict that follows from both readings.
     fn verdict(&self, position: &Position) -> Option<Verdict>
         requires { IfOk self.now.dtz (λ d. plies d ≤ 1000000) }
         ensures { result ≡ ruling_by position.now self.now.wdl self.now.dtz }
@@ -85,7 +85,7 @@ impl Readings {
 }
 
 impl<'a> Set<'a> {
-    /// The three columns of a position in scope, by one look at its captures.
+    /// The three columns of a position in scope, from one pass over its captures.
     fn columns(&mut self, alloc: Global, position: &Position) -> Result<Columns, AllocError>
         requires scope { is_out_of_scope position.now ≡ false }
         ensures told { IfOk result (λ columns. IsProbed self.old.tables position.now columns.probed) }
@@ -110,11 +110,11 @@ impl<'a> Set<'a> {
         Ok(readings.columns(position))
     }
 
-    /// What both probes tell of the position, as `probe` tells it, and the verdict on it, as `judge` tells it. Its captures are
-    /// looked at once, and its distance is told once.
+    /// Both probes of the position, as `probe` gives them, and the verdict on it, as `judge` gives it. Its captures are
+    /// visited once, and its distance is computed once.
     ///
-    /// The error comes only where memory for a list of moves is refused, at a position in scope with more than two men, whose
-    /// WDL value is there, no draw, and not by a capture. The set stays as it was but for its cache.
+    /// The error comes only where memory for a list of moves is refused. The position is then in scope with more than
+    /// two men, and has a WDL value that is no draw and not by a capture. The set stays as it was but for its cache.
     pub fn answers(&mut self, alloc: Global, position: &Position) -> Result<Columns, AllocError>
         ensures told { IfOk result (λ answers. IsProbed self.old.tables position.now answers.probed) }
         ensures verdict { IfOk result (λ answers. answers.verdict ≡ ruling self.old.tables position.now) }
@@ -122,7 +122,7 @@ impl<'a> Set<'a> {
         ensures filed { AreFiled self.old.tables }
         ensures unchanged { self.new ≡ self.old }
     {
-        // Its contract tells that the tables are filed.
+        // Called for its contract: each table is in its slot.
         let _cache = self.cache();
         if is_out_of_scope(position) {
             return Ok(Columns {

@@ -20,7 +20,7 @@ pub(crate) struct BlockKey {
     pub(crate) block: u32,
 }
 
-/// A block that was asked for: its key, when it was asked for last, counted in askings, and how often in a row since it was new
+/// A requested block: its key, the number of its last request, and how often in a row it was requested since it was new
 /// or decoded.
 #[derive(Clone, Copy)]
 pub(crate) struct Asked {
@@ -29,38 +29,38 @@ pub(crate) struct Asked {
     times: u32,
 }
 
-/// How a block is asked for.
+/// How recently and how often a block was requested.
 #[derive(Clone, Copy, PartialEq, Eq)]
 pub(crate) enum Asking {
-    /// For the first time of late.
+    /// For the first time in the recent past.
     First,
     /// Again.
     Again,
-    /// Again so often that it is worth decoding.
+    /// Again, often enough to be worth decoding.
     Often,
 }
 
-/// How many keys that were asked for are remembered for each block that may be kept, at least.
+/// The least number of requested keys that are remembered for each block that may be kept.
 const REMEMBERED: usize = 16;
 
-/// A block is asked for again where no more askings have passed than so many for each block that may be kept.
+/// A request counts as a repeat where at most this many requests have passed for each block that may be kept.
 const RECENT: u32 = 4;
 
-/// A block that was asked for again so often is decoded, which takes as long as some hundred single values.
+/// A block is decoded after this many repeats. Decoding takes as long as some hundred single values.
 const OFTEN: u32 = 128;
 
-/// Decoded blocks, and the keys that were asked for of late, each at a place that it gives.
+/// Decoded blocks, and recently requested keys, each at a place computed from the key.
 #[derive(Drop)]
 pub(crate) struct Blocks {
     pub(crate) kept: LruCache<BlockKey, Vec<u16>>,
     pub(crate) asked: Vec<Asked>,
     pub(crate) askings: u32,
-    /// How many askings may pass between two of a block.
+    /// How many requests may pass between two requests for one block.
     recent: u32,
 }
 
 impl Blocks {
-    /// None yet, and at most so many.
+    /// An empty cache for at most `most` blocks.
     pub(crate) fn new(alloc: Global, most: usize) -> Result<Blocks, AllocError>
         requires some { 1 ≤ most }
         requires few { most ≤ 4096 }
@@ -91,7 +91,7 @@ impl Blocks {
         })
     }
 
-    /// How many are kept.
+    /// The number of blocks kept.
     pub(crate) fn len(&self) -> usize
         ensures { result ≤ self.now.kept.cap }
     {
@@ -107,7 +107,7 @@ impl Blocks {
         (place + key.block as usize) & (self.asked.len() - 1)
     }
 
-    /// The asking after one that is remembered, or after that of another block.
+    /// How a request counts after the one remembered at its place, which may be for another block.
     fn next_asking(&self, last: Asked, key: BlockKey, now: u32) -> (Asking, u32) {
         if last.key != key || now.wrapping_sub(last.when) > self.recent {
             return (Asking::First, 0);
@@ -118,7 +118,7 @@ impl Blocks {
         (Asking::Again, last.times.saturating_add(1))
     }
 
-    /// Records that a block is asked for, and tells how often it was.
+    /// Records a request for a block, and returns how often it was requested.
     pub(crate) fn ask(&mut self, key: BlockKey) -> Asking
         requires { 1 ≤ length self.old.asked.items }
         ensures kept { self.new.kept ≡ self.old.kept }

@@ -15,12 +15,12 @@ use table_file::Outcome;
 pub(crate) struct Steps {
     /// The first faults of the values after them.
     pub faults: Faults,
-    /// Whether one of them comes to the value that is looked for.
+    /// Whether one of them has the value sought.
     pub reached: bool,
 }
 
 impl Steps {
-    /// Before the first one.
+    /// Before the first move.
     pub fn new() -> Steps
         ensures { result ≡ no_steps }
     {
@@ -42,7 +42,7 @@ impl Steps {
         steps
     }
 
-    /// Whether one of them comes to the value, or the fault.
+    /// Whether one of them has the value, or the fault.
     pub fn result(&self) -> Result<bool, ValueFault>
         ensures { result ≡ steps_result self.now }
     {
@@ -77,7 +77,7 @@ fn lesser(first: Option<u32>, other: u32) -> Option<u32>
 }
 
 impl Counts {
-    /// Before the first one.
+    /// Before the first move.
     pub fn new(outcome: Outcome) -> Counts
         ensures is { result ≡ no_counts outcome }
         ensures within { AreWithin 101 result }
@@ -90,7 +90,7 @@ impl Counts {
         }
     }
 
-    /// With what one move more comes to.
+    /// With the distance after one move more, or its fault.
     pub fn with(&self, count: &Result<Option<u32>, ValueFault>) -> Counts
         ensures { result ≡ with_count self.now count.now }
     {
@@ -106,7 +106,7 @@ impl Counts {
         counts
     }
 
-    /// The distance by all of them. The table of this material contradicts itself where there is none.
+    /// The distance that follows from all of them. Where there is none, the table of this material contradicts itself.
     pub fn result(&self, material: Material, outcome: Outcome) -> Result<Distance, ValueFault>
         ensures { result ≡ counts_result material outcome self.now }
     {

@@ -1,4 +1,4 @@
-//! What tables and games come to, in words.
+//! Probes, verdicts and outcomes of games as text.
 
 ghost use Rattle.std.specs.Prelude.{◌≡◌, ◌++◌, Some, Err, codes};
 ghost use Rattle.std.specs.Fmt.{DisplaysOnOk, decimal};
@@ -13,26 +13,26 @@ use board_core::Verdict;
 use place_index::Material;
 use std::fmt;
 
-/// A number that the tables tell, or why they tell none, for printing: the number with `-` before it where it is below 0, or
-/// `refused`, the fault's name, and the name of the table that is missing or damaged, each after a space.
+/// A number of the tables, or why there is none, for printing. A number below 0 has `-` before it. Otherwise `refused`,
+/// the fault's name, and the name of the missing or damaged table, with spaces between.
 #[derive(Clone, Copy)]
 pub struct Column(pub Result<i32, ProbeFault>);
 
-/// What both probes tell of a position and the verdict on it, for printing: three columns with a tab between, each number as
-/// by `Column`, the verdict as by `verdict_or_open`.
+/// Both probes of a position and the verdict on it, for printing: three columns with a tab between. Numbers are as in
+/// `Column`, the verdict as in `verdict_or_open`.
 #[derive(Clone, Copy)]
 pub struct Columns {
-    /// What both probes tell.
+    /// Both probes.
     pub probed: Probed,
     /// The verdict; none where the game goes on.
     pub verdict: Option<Verdict>,
 }
 
-/// What a game comes to, for printing: `ruled`, the ply and the verdict's name, or `illegal` and the place of the move, or
-/// `open` and how many moves were played, with spaces between. Plies and places are counted from 0.
+/// The outcome of a game, for printing, with spaces between. `ruled`, the ply and the verdict's name; or `illegal` and
+/// the place of the move; or `open` and how many moves were played. Plies and places are counted from 0.
 #[derive(Clone, Copy)]
 pub struct Outcome {
-    /// What the game comes to.
+    /// The outcome of the game.
     pub outcome: GameOutcome,
     /// How many moves it has.
     pub plies: usize,
@@ -48,14 +48,14 @@ pub fn verdict_or_open(verdict: Option<Verdict>) -> &'static str
     }
 }
 
-/// Tells a fault by its name.
+/// Writes a fault by its name.
 fn fmt_named<W: fmt::Write>(f: &mut fmt::Formatter<W>, name: &str) -> fmt::Result
     ensures { DisplaysOnOk W.Write.write_str_gives f.old result (Some (codes "refused " ++ name.now)) f.new }
 {
     write!(f, "refused {name}")
 }
 
-/// Tells a fault by its name, and the table.
+/// Writes a fault by its name, and the table.
 fn fmt_of_table<W: fmt::Write>(
     f: &mut fmt::Formatter<W>,
     name: &str,
@@ -67,7 +67,7 @@ fn fmt_of_table<W: fmt::Write>(
     write!(f, "refused {name} {}", table.as_str())
 }
 
-/// Tells why there is no number.
+/// Writes why there is no number.
 #[tactic(auto, unfolding(crate::specs::Words::column_words))]
 fn fmt_fault<W: fmt::Write>(f: &mut fmt::Formatter<W>, fault: ProbeFault) -> fmt::Result
     ensures { DisplaysOnOk W.Write.write_str_gives f.old result (Some (column_words (Err fault))) f.new }
@@ -95,7 +95,7 @@ impl fmt::Display for Column {
     }
 }
 
-/// Tells three columns.
+/// Writes three columns.
 fn fmt_columns<W: fmt::Write>(
     f: &mut fmt::Formatter<W>,
     wdl: Column,
@@ -120,7 +120,7 @@ impl fmt::Display for Columns {
     }
 }
 
-/// Tells a verdict at a ply.
+/// Writes a verdict at a ply.
 fn fmt_ruled<W: fmt::Write>(f: &mut fmt::Formatter<W>, ply: usize, verdict: Verdict) -> fmt::Result
     ensures { DisplaysOnOk W.Write.write_str_gives f.old result (Some (codes "ruled " ++ decimal ply ++ codes " " ++ verdict_name verdict)) f.new }
 {

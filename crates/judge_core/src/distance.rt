@@ -73,7 +73,7 @@ pub(crate) fn zeroing(outcome: Outcome) -> u32
     }
 }
 
-/// So many plies for the side that wins.
+/// This many plies for the side that wins.
 pub(crate) fn towards(outcome: Outcome, number: u32) -> Distance
     ensures is { result ≡ towards outcome number }
     ensures same { plies result ≡ number }
@@ -85,7 +85,7 @@ pub(crate) fn towards(outcome: Outcome, number: u32) -> Distance
     }
 }
 
-/// What a move comes to by the distance after it.
+/// The distance before a move, from the distance after it.
 pub(crate) fn counted(
     won: bool,
     reach: &Result<Distance, ValueFault>,

@@ -22,7 +22,7 @@ use place_index::Material;
 use std::alloc::{AllocError, Global};
 use table_file::{Outcome, TableKind};
 
-/// The distance by what the table stores.
+/// The distance that follows from what the table stores.
 fn stored(material: Material, outcome: Outcome, number: Option<u32>) -> Result<Distance, ValueFault>
     requires { IfSome number (λ n. n ≤ 131070) }
     ensures is { result ≡ stored material outcome number }
@@ -34,7 +34,7 @@ fn stored(material: Material, outcome: Outcome, number: Option<u32>) -> Result<D
     }
 }
 
-/// The number by which a DTZ probe tells this distance, or its fault.
+/// The number that a DTZ probe returns for this distance, or its fault.
 pub(crate) fn signed_in(reach: &Result<Distance, ValueFault>) -> Result<i32, ProbeFault>
     requires { IfOk reach.now (λ d. plies d ≤ 1000000) }
     ensures { result ≡ as_probe (λ n. n) (signed_in reach.now) }
@@ -46,8 +46,8 @@ pub(crate) fn signed_in(reach: &Result<Distance, ValueFault>) -> Result<i32, Pro
 }
 
 impl<'a> Set<'a> {
-    /// Whether some pawn move that takes nothing comes to the value, or the fault of the values after these moves. It isn't
-    /// inlined, since its locals are large.
+    /// Whether some pawn move that takes nothing reaches the value, or the fault of the values after these moves. It
+    /// isn't inlined, since its locals are large.
     #[inline(never)]
     fn pawns_reach(
         &mut self,
@@ -72,7 +72,8 @@ impl<'a> Set<'a> {
         Ok(steps.result())
     }
 
-    /// What a move comes to by the position after it. The distance after a mating move isn't asked where that wins.
+    /// The distance before a move, from the position after it. The distance after a mating move isn't computed where
+    /// that wins.
     #[cycle(dtz)]
     fn move_counts(
         &mut self,
@@ -151,7 +152,7 @@ impl<'a> Set<'a> {
         self.by_quiet_moves(alloc, probe.position(), material, outcome, left)
     }
 
-    /// A win by a pawn move, or what the own table tells.
+    /// A win by a pawn move, or the distance of the own table.
     #[cycle(dtz)]
     fn by_moves(
         &mut self,
@@ -179,7 +180,7 @@ impl<'a> Set<'a> {
         self.by_own_table(alloc, probe, outcome, left)
     }
 
-    /// The distance where captures and the own WDL table say this.
+    /// The distance, given what captures and the own WDL table say.
     #[cycle(dtz)]
     pub(crate) fn by_weighed(
         &mut self,
@@ -208,7 +209,7 @@ impl<'a> Set<'a> {
         self.by_moves(alloc, probe, value, outcome, left)
     }
 
-    /// The distance, where so many positions in a row are looked at.
+    /// The distance, where at most this many positions in a row are visited.
     #[cycle(dtz)]
     fn dtz_to(
         &mut self,
@@ -230,16 +231,17 @@ impl<'a> Set<'a> {
         self.by_weighed(alloc, &probe, &weighed, left - 1)
     }
 
-    /// The distance to the next move that sets the halfmove clock to 0, a capture or a pawn move, or to mate, in plies: above 0
-    /// where the side to move wins, below 0 where it loses, 0 at a draw. It is 100 more where the rule of fifty moves takes
-    /// the win away, and may be off by one ply (Syzygy DTZ tables).
+    /// The distance in plies to the next capture or pawn move, which sets the halfmove clock to 0, or to mate. It is
+    /// above 0 where the side to move wins, below 0 where it loses, 0 at a draw. It is 100 more where the rule of fifty
+    /// moves takes the win away, and may be off by one ply (Syzygy DTZ tables).
     ///
-    /// The first of the faults that applies is told, in the order of `ProbeFault`, of the values that are needed in turn: those
-    /// of the WDL probe; for a win those after all pawn moves that take nothing; the own DTZ table; and where that stores
-    /// the other side alone, the distances after all moves that neither take a man nor move a pawn, but not after a mating
-    /// move where the side to move wins. A table that contradicts itself there is damaged. `OutOfMemory` comes only where memory
-    /// for a list of moves is refused, at a position in scope with more than two men, whose WDL value is there, no draw, and not
-    /// by a capture. The set stays as it was but for its cache.
+    /// The error is the first fault that applies, in the order of `ProbeFault`. Values are needed in this order: those
+    /// of the WDL probe; for a win those after all pawn moves that take nothing; the own DTZ table. Where that stores
+    /// the other side alone, the distances after all moves that neither take a man nor move a pawn come next. A mating
+    /// move's is not needed where the side to move wins. A table that contradicts itself there is damaged.
+    /// `OutOfMemory` comes only where memory for a list of moves is refused. The position is then in scope with more
+    /// than two men, and has a WDL value that is no draw and not by a capture. The set stays as it was but for its
+    /// cache.
     #[tactic(auto, unfolding(crate::specs::Distances::dtz_of))]
     pub fn dtz(&mut self, alloc: Global, position: &Position) -> Result<i32, ProbeFault>
         ensures answer { IsProbe result (is_out_of_scope position.now) (signed_in (dtz_of self.old.tables position.now)) }
@@ -247,7 +249,7 @@ impl<'a> Set<'a> {
         ensures filed { AreFiled self.old.tables }
         ensures unchanged { self.new ≡ self.old }
     {
-        // Its contract tells that the tables are filed.
+        // Called for its contract: each table is in its slot.
         let _cache = self.cache();
         if is_out_of_scope(position) {
             return Err(ProbeFault::OutOfScope);

@@ -7,7 +7,7 @@ ghost use Rattle.judge_core.specs.Asked.{first_fault, no_faults, with_fault};
 
 use place_index::Material;
 
-/// Why the tables don't tell what a position is worth.
+/// Why the tables give no value of a position.
 #[derive(Clone, Copy)]
 pub(crate) enum ValueFault {
     /// The set has no table for these men.
@@ -17,7 +17,7 @@ pub(crate) enum ValueFault {
 }
 
 impl ValueFault {
-    /// The fault of a probe that meets this one.
+    /// The fault of a probe that finds this one.
     pub fn of_probe(&self) -> ProbeFault
         ensures { result ≡ probe_fault self.now }
     {
@@ -28,7 +28,7 @@ impl ValueFault {
     }
 }
 
-/// The first table that is missing and the first that is damaged, of those asked so far.
+/// The first table that is missing and the first that is damaged, of those read so far.
 #[derive(Clone, Copy)]
 pub(crate) struct Faults {
     /// The first that is missing.
@@ -95,10 +95,10 @@ pub enum ProbeFault {
     OutOfScope,
     /// A table that is needed isn't in the set: the first one in the order of moves, the position's own table last.
     NotCovered(Material),
-    /// A table has no value where one is needed, or contradicts itself: the first one in the same order. Among values that are
-    /// needed together a table that is missing goes first.
+    /// A table has no value where one is needed, or contradicts itself: the first one in that order. Among values that
+    /// are needed together a missing table goes first.
     Damaged(Material),
-    /// Memory for a list of moves was refused. A WDL probe never tells it.
+    /// Memory for a list of moves was refused. A WDL probe never returns it.
     OutOfMemory,
 }
 
@@ -121,6 +121,6 @@ impl ProbeFault {
 pub enum SetFault {
     /// The set has a table of this kind for these men.
     Duplicate,
-    /// Memory for the table was refused. `Set::add` takes none, and never tells it.
+    /// Memory for the table was refused. `Set::add` takes none, and never returns it.
     OutOfMemory,
 }

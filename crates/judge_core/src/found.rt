@@ -1,4 +1,4 @@
-//! What is found on the way through the captures of a position.
+//! Values collected over the captures of a position.
 
 ghost use Rattle.std.specs.Prelude.{◌≡◌};
 ghost use Rattle.judge_core.specs.Probing.{worth, worth_in};
@@ -22,8 +22,8 @@ pub(crate) struct Weighed {
 }
 
 impl Weighed {
-    /// Whether a capture is what the position is worth: none but en passant is legal, one wins, en passant alone does better
-    /// than all else, or the best one is as good as the own table and better than a draw.
+    /// Whether the value is that of a capture. It is where en passant alone is legal, where a capture wins, and where
+    /// en passant beats all else. It also is where the best capture is better than a draw and as good as the own table.
     pub fn is_by_capture(&self) -> bool
         ensures { result ≡ is_by_capture self.now }
     {

@@ -12,7 +12,8 @@ use crate::standing::Standing;
 use board_core::{Move, Position, Verdict};
 use std::alloc::{AllocError, Global};
 
-/// What a list of moves comes to. Plies and moves are counted from 0: ply 0 is the start, ply k the position after k moves.
+/// The outcome of a list of moves. Plies and moves are counted from 0: ply 0 is the start, ply k the position after k
+/// moves.
 #[derive(Clone, Copy, PartialEq, Eq, Debug)]
 pub enum GameOutcome {
     /// This is the first ply at which the rule gives a verdict.
@@ -31,16 +32,16 @@ pub enum GameOutcome {
     Going,
 }
 
-/// What a list of moves comes to, and where the game stands there.
+/// The outcome of a list of moves, and where the game stands there.
 #[derive(Drop)]
 pub struct Followed {
-    /// What the moves come to.
+    /// The outcome of the moves.
     pub outcome: GameOutcome,
     /// Where the game stands at the ply that is ruled, before the move that isn't legal, or after all moves.
     pub standing: Standing,
 }
 
-/// What a game without an earlier verdict comes to where it stands so after all of its moves.
+/// The outcome of a game that has no earlier verdict and stands so after all of its moves.
 fn end_of(standing: &Standing, moves: &[Move], delay: u8) -> GameOutcome
     requires { delay ≤ most_delay }
     ensures value { (rules : Rules) → rules.delay ≡ delay → IsAt rules moves.now standing.now → IsUnruled rules moves.now (length moves.now) → IsOutcome rules moves.now result }
@@ -56,8 +57,8 @@ fn end_of(standing: &Standing, moves: &[Move], delay: u8) -> GameOutcome
 }
 
 impl<'a> Set<'a> {
-    /// What a game comes to at a ply before its last one, where that has a verdict or the move from it isn't legal; otherwise
-    /// none, and the game stands after that move.
+    /// The outcome of a game at a ply before its last one, where that ply has a verdict or the move from it isn't
+    /// legal. Otherwise none, and the game stands after that move.
     fn follow_ply(
         &mut self,
         alloc: Global,
@@ -83,9 +84,9 @@ impl<'a> Set<'a> {
         Ok(None)
     }
 
-    /// The first verdict of the game of these moves from this start, and where the game stands at that ply, before an illegal
-    /// move or at the end. Each ply is judged as by `judge`, ply 0 among them, before the move from it is played; checkmate and
-    /// stalemate end the game at once, and a verdict by tables must hold for `delay` further plies.
+    /// The first verdict of the game of these moves from this start, and where the game stands at that ply, before an
+    /// illegal move or at the end. Each ply is judged as by `judge`, ply 0 among them, before the move from it is
+    /// played. Checkmate and stalemate end the game at once. A verdict by tables must hold for `delay` further plies.
     ///
     /// That the delay is at most 8 plies is the caller's condition. The error comes only where memory for a list of moves is
     /// refused. The set stays as it was but for its cache.
@@ -113,7 +114,7 @@ impl<'a> Set<'a> {
         Ok(Followed { outcome, standing })
     }
 
-    /// What `follow` tells, without where the game stands.
+    /// What `follow` returns, without where the game stands.
     pub fn judge_game(
         &mut self,
         alloc: Global,

@@ -17,12 +17,12 @@ use std::alloc::{AllocError, Global};
 impl<'a> Set<'a> {
     /// The verdict on the position; none where the game goes on.
     ///
-    /// Checkmate and stalemate come first. Then there is none where the position has rights to castle or more than five men;
-    /// a table that is needed and damaged stops the game; there is none where one that is needed isn't in the set. By the
-    /// tables a draw is one; a win or a loss is one where the halfmove clock and the distance in plies, as `dtz` tells it, are
-    /// 99 at most together. All else has no verdict. The error comes only where memory for a list of moves is refused, at a
-    /// position in scope with a legal move and more than two men, whose WDL value is there, a win or a loss, and not by a
-    /// capture. The set stays as it was but for its cache.
+    /// Checkmate and stalemate come first. Then a position with rights to castle or more than five men has none. A
+    /// needed table that is damaged stops the game, and where one is missing there is no verdict. A draw by the tables
+    /// is a verdict. A win or a loss is one where the halfmove clock and the distance in plies, as `dtz` gives it, are
+    /// at most 99 together. All else has no verdict. The error comes only where memory for a list of moves is refused.
+    /// The position is then in scope, with a legal move and more than two men, and its WDL value is a win or a loss and
+    /// not by a capture. The set stays as it was but for its cache.
     #[tactic(auto, unfolding(crate::specs::Ruling::ruling))]
     pub fn judge(
         &mut self,
@@ -34,7 +34,7 @@ impl<'a> Set<'a> {
         ensures filed { AreFiled self.old.tables }
         ensures unchanged { self.new ≡ self.old }
     {
-        // Its contract tells that the tables are filed.
+        // Called for its contract: each table is in its slot.
         let _cache = self.cache();
         if has_no_move(position) {
             return Ok(Some(verdict::end_of(position)));

@@ -5,26 +5,27 @@ ghost use Rattle.judge_core.specs.Laws.{WdlMeetsItsRule, DtzMeetsItsRules, GameH
 
 use place_index::few_men_have_tables;
 
-/// The value of a position is what its rule makes of the values after its captures.
+/// The value of a position follows from the values after its captures by its rule.
 pub fn wdl_meets_its_rule()
     ensures { WdlMeetsItsRule }
 {}
 
-/// The distance of a position in scope is what its rules make of the distances after its moves, whatever the bytes of the
-/// tables are.
+/// The distance of a position in scope follows from the distances after its moves by its rules, whatever the bytes of
+/// the tables are.
 pub fn dtz_meets_its_rules()
     ensures { DtzMeetsItsRules }
 {}
 
-/// The distance of a position in scope is the one that the five rules give, and they give no other: the fault of the value or
-/// none for a draw, a capture, a pawn move, the own table, the moves that neither take a man nor move a pawn.
+/// The distance of a position in scope is the one that the five rules give, and they give no other. The first is the
+/// fault of the value, or none for a draw. Then come captures, pawn moves, the own table, and the moves that neither
+/// take a man nor move a pawn.
 pub fn distance_by_five_rules()
     ensures { DistanceByFiveRules }
 {
     few_men_have_tables();
 }
 
-/// No game comes to two different things.
+/// A game has one outcome at most.
 pub fn game_has_one_outcome()
     ensures { GameHasOneOutcome }
 {}
@@ -45,7 +46,7 @@ pub fn first_verdict_looks_back()
     ensures { FirstVerdictLooksBack }
 {}
 
-/// Moves of which one isn't legal in its turn stay so, whatever follows.
+/// A list with a move that isn't legal in its turn stays illegal, whatever follows.
 pub fn illegal_stays_illegal()
     ensures { IllegalStaysIllegal }
 {}

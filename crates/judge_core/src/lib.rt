@@ -1,10 +1,10 @@
-//! What a set of tables says of a position, and the verdict on it.
+//! What a set of tables says about a position, and the verdict on it.
 //!
-//! A set finds a table by its material and its kind, and reads it at the index of the position. The value of a position is
-//! the best of its own table's and of those after its captures, since the tables may hold less where a capture does better,
-//! and know nothing of en passant (Syzygy WDL tables). The distance is that to the next move that sets the halfmove clock to 0; its
-//! tables store one side alone, and the other side's comes from the positions after its moves (Syzygy DTZ tables).
-//! What both probes tell of a position, the verdict on it and what a game comes to are printed here too, each in one way.
+//! A set finds a table by its material and its kind, and reads it at the index of the position. The value of a position
+//! is the best of its own table's and of those after its captures. The tables may hold less where a capture does
+//! better, and ignore en passant (Syzygy WDL tables). The distance is that to the next move that sets the halfmove
+//! clock to 0. Its tables store one side alone, and the other side's follows from the positions after its moves (Syzygy
+//! DTZ tables). Probes, verdicts and outcomes of games are printed here too, each in one way.
 #![tactic(auto)]
 
 mod answering;

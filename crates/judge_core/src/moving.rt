@@ -1,4 +1,4 @@
-//! Moves by what they do to the halfmove clock.
+//! Moves by their effect on the halfmove clock.
 
 ghost use Rattle.std.specs.Prelude.{◌≡◌, ◌↔◌, ◌<◌, ℕ, false, None, IsTrue, IsFalse, if◌then◌else◌};
 ghost use Rattle.board_core.specs.Square.{file_of};

@@ -9,7 +9,7 @@ use board_core::Position;
 use place_index::Placed;
 use std::marker::Model;
 
-/// A position that tables are asked for, and its men as its table sees them, found once, by one look at them.
+/// A position to look up in tables, and its men as its table sees them, found once in one pass.
 ///
 /// Contracts see the position.
 #[derive(Drop)]
@@ -29,13 +29,13 @@ impl<'p> Model for Probe<'p> {
     ghost invariant = { IsProbeOf };
 }
 
-/// Whether the kings are alone, who have no table.
+/// Whether the kings are alone; they have no table.
 pub(crate) fn is_bare(position: &Position) -> bool
     ensures bare { IsTrue result → count_of_men position.now ≤ 2 }
     ensures more { IsFalse result → 2 < count_of_men position.now }
     ensures position { IsPosition position.now }
 {
-    // The proof alone reads that it is a position.
+    // The condition that it is a position serves the proof alone.
     let _parts = position.parts();
     position.men() <= 2
 }
@@ -46,7 +46,7 @@ fn placed(position: &Position) -> Option<Placed>
 {
     match Placed::of(position) {
         Some(placed) => {
-            // The proof alone reads that the key is below 145.
+            // The condition that the key is below 145 serves the proof alone.
             let _men = placed.men();
             Some(placed)
         }
@@ -59,7 +59,7 @@ impl<'p> Probe<'p> {
     pub fn of(position: &'p Position) -> Probe<'p>
         ensures { result ≡ position.now }
     {
-        // The proof alone reads that it is a position.
+        // The condition that it is a position serves the proof alone.
         let _parts = position.parts();
         let placed = placed(position);
         Probe { position, placed }

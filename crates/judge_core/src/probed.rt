@@ -1,4 +1,4 @@
-//! What both probes tell of a position, as numbers.
+//! Both probes of a position, as numbers.
 
 ghost use Rattle.std.specs.Prelude.{◌≡◌, false, IfOk, OnErr};
 ghost use Rattle.judge_core.specs.Answers.{ListsMoves};
@@ -11,13 +11,13 @@ use crate::set::Set;
 use board_core::Position;
 use std::alloc::{AllocError, Global};
 
-/// What both probes tell of a position: each a number, or why there is none. As `Set::probe` and `Set::answers` give it, neither fault is
-/// `OutOfMemory`.
+/// Both probes of a position: each a number, or why there is none. From `Set::probe` and `Set::answers` neither fault
+/// is `OutOfMemory`.
 #[derive(Clone, Copy)]
 pub struct Probed {
-    /// The WDL value, as `Wdl::number` tells it: -2 loss, -1 blessed loss, 0 draw, 1 cursed win, 2 win.
+    /// The WDL value, as `Wdl::number` gives it: -2 loss, -1 blessed loss, 0 draw, 1 cursed win, 2 win.
     pub wdl: Result<i32, ProbeFault>,
-    /// The DTZ value, as `Set::dtz` tells it, in plies: above 0 where the side to move wins, below 0 where it loses.
+    /// The DTZ value, as `Set::dtz` gives it, in plies: above 0 where the side to move wins, below 0 where it loses.
     pub dtz: Result<i32, ProbeFault>,
 }
 
@@ -31,10 +31,10 @@ impl Probed {
 }
 
 impl<'a> Set<'a> {
-    /// What both probes tell of the position, as `wdl` and `dtz` tell it.
+    /// Both probes of the position, as `wdl` and `dtz` give them.
     ///
-    /// The error comes only where memory for a list of moves is refused, at a position in scope with more than two men, whose
-    /// WDL value is there, no draw, and not by a capture. The set stays as it was but for its cache.
+    /// The error comes only where memory for a list of moves is refused. The position is then in scope with more than
+    /// two men, and has a WDL value that is no draw and not by a capture. The set stays as it was but for its cache.
     pub fn probe(&mut self, alloc: Global, position: &Position) -> Result<Probed, AllocError>
         ensures told { IfOk result (IsProbed self.old.tables position.now) }
         ensures memory { OnErr result ((is_out_of_scope position.now ≡ false) × ListsMoves self.old.tables position.now) }

@@ -31,7 +31,7 @@ fn is_forced(position: &Position) -> bool
 }
 
 impl<'a> Set<'a> {
-    /// The table value of a position: what its own WDL table says of it; bare kings are a draw.
+    /// The table value of a position: what its own WDL table says about it. Bare kings are a draw.
     fn table_value(&mut self, alloc: Global, probe: &Probe<'_>) -> Result<Wdl, ValueFault>
         ensures is { result ≡ table_value self.old.tables probe.now }
         ensures unchanged { self.new ≡ self.old }
@@ -56,8 +56,8 @@ impl<'a> Set<'a> {
         }
     }
 
-    /// The values after the captures of the position, looked for one after the other. It isn't inlined,
-    /// since room for a position after a move costs time at each entry, also where nothing can be taken.
+    /// The values after the captures of the position, found one after the other. It isn't inlined: room for a position
+    /// after a move costs time at each entry, even where nothing can be taken.
     #[inline(never)]
     #[cycle(wdl)]
     fn search_captures(&mut self, alloc: Global, probe: &Probe<'_>) -> Found
@@ -90,7 +90,7 @@ impl<'a> Set<'a> {
         }
     }
 
-    /// What the captures and the own table say of the position.
+    /// What the captures and the own table say about the position.
     #[cycle(wdl)]
     pub(crate) fn weigh(&mut self, alloc: Global, probe: &Probe<'_>) -> Result<Weighed, ValueFault>
         ensures is { result ≡ weighed_by self.old.tables (wdl_of self.old.tables) probe.now }
@@ -114,10 +114,11 @@ impl<'a> Set<'a> {
         worth_in(weighed)
     }
 
-    /// What the position is worth to the side to move by the WDL tables, captures and en passant looked at.
+    /// What the position is worth to the side to move by the WDL tables, captures and en passant included.
     ///
-    /// The first of the faults that applies is told, in the order of `ProbeFault`, and never `OutOfMemory`: the probe takes memory only
-    /// for its cache, and does without where that is refused. The set stays as it was but for its cache.
+    /// The error is the first fault that applies, in the order of `ProbeFault`, and never `OutOfMemory`. The probe
+    /// takes memory only for its cache, and does without where that is refused. The set stays as it was but for its
+    /// cache.
     pub fn wdl(&mut self, alloc: Global, position: &Position) -> Result<Wdl, ProbeFault>
         ensures answer { IsProbe result (is_out_of_scope position.now) (wdl_of self.old.tables position.now) }
         ensures no_memory { result ≢ Err OutOfMemory }

@@ -18,7 +18,7 @@ use std::marker::Brand;
 use std::sync::ledger::{Blank, Ledger};
 use table_file::{Damaged, Outcome, Spot, Steps, TableKind, TablePart};
 
-/// Where the value of an index stands, by a count of its own.
+/// Where the value of an index stands, with a step counter of its own.
 fn spot_by<L: Ledger>(part: &TablePart<'_, '_>, index: u64, blank: Blank) -> Result<Spot, Damaged>
     requires name { blank.name ≡ L.name }
     requires parts { blank.parts ≡ L.parts }
@@ -50,7 +50,7 @@ fn side_number(side: Side) -> u8
 }
 
 impl<'a> Shelf<'a> {
-    /// The value of a block at an offset, where the block is kept; none of the inner kind where it is damaged.
+    /// The value of a block at an offset, where the block is kept. The inner option is none where the value is damaged.
     fn kept_value(
         &self,
         blocks: &mut Blocks,
@@ -78,8 +78,8 @@ impl<'a> Shelf<'a> {
         let _ = blocks.kept.put(key, values);
     }
 
-    /// The value of a block at an offset: out of the block where it is kept, or else decoded and kept where it is asked
-    /// for often; alone otherwise, and where memory is refused.
+    /// The value of a block at an offset. It comes from the block where that is kept. A block that is requested often
+    /// is decoded and kept. Otherwise, or where memory is refused, the single value is read.
     fn value_in_block(
         &self,
         blocks: &mut Blocks,

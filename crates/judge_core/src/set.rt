@@ -14,9 +14,9 @@ use table_file::Table;
 /// Opened tables, each found by its kind and its material without a search, and some of their blocks, decoded. It borrows the
 /// bytes of their files.
 ///
-/// Contracts see a list of 290 slots, the WDL tables by the keys of their materials and then the DTZ tables, and the number of
-/// decoded blocks that the set may keep. Which blocks it keeps changes no answer: a block is decoded when it was asked for
-/// again and again, and then kept until it is the one used least recently and another one needs its place.
+/// Contracts see a list of 290 slots and the number of decoded blocks that the set may keep. The slots hold the WDL
+/// tables by the keys of their materials and then the DTZ tables. Which blocks are kept changes no answer. A block is
+/// decoded after repeated requests, and kept until it is the least recently used one when another needs its place.
 #[derive(Drop)]
 pub struct Set<'a> {
     pub(crate) shelf: Shelf<'a>,
@@ -35,8 +35,8 @@ impl<'a> Model for Set<'a> {
 }
 
 impl<'a> Set<'a> {
-    /// A set without tables that may keep so many decoded blocks, 1 to 4096. The error comes where memory for its slots is
-    /// refused, or for the record of what is asked for, 16 to 32 for each block that may be kept.
+    /// A set without tables that may keep this many decoded blocks, 1 to 4096. The error comes where memory is refused
+    /// for its slots, or for the list of requested keys, 16 to 32 for each block that may be kept.
     pub fn new(alloc: Global, cache: usize) -> Result<Set<'a>, AllocError>
         requires some { 1 ≤ cache }
         requires most { cache ≤ 4096 }
@@ -58,7 +58,7 @@ impl<'a> Set<'a> {
         self.shelf.cache()
     }
 
-    /// How many decoded blocks the set keeps now: never more than it was made for.
+    /// The number of decoded blocks that the set keeps now, never more than it was made for.
     pub fn kept_blocks(&self) -> usize
         ensures { result ≤ self.now.cache }
     {
@@ -67,8 +67,8 @@ impl<'a> Set<'a> {
 
     /// Adds a table. One that is refused is dropped, and the set stays as it was.
     ///
-    /// `Duplicate` where there is a table of its kind for its material. It takes no memory, since the set has a slot for each
-    /// table, and so never tells `OutOfMemory`.
+    /// `Duplicate` where there is a table of its kind for its material. The set has a slot for each table, so the call
+    /// takes no memory and never returns `OutOfMemory`.
     pub fn add(&mut self, table: Table<'a>) -> Result<(), SetFault>
         ensures added { OnOk result (self.new ≡ record self.old { tables = slice_set self.old.tables (slot table.entry.kind table.entry.material) (Some table.entry) }) }
         ensures refused { OnErr result (self.new ≡ self.old) }

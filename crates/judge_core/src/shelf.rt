@@ -50,7 +50,8 @@ pub(crate) fn slot(kind: TableKind, material: Material) -> usize
 }
 
 impl<'a> Shelf<'a> {
-    /// A shelf without tables, for so many decoded blocks, 1 to 4096. The error comes where memory for its slots is refused.
+    /// A shelf without tables, for this many decoded blocks, 1 to 4096. The error comes where memory for its slots is
+    /// refused.
     pub(crate) fn new(alloc: Global, cache: usize) -> Result<Shelf<'a>, AllocError>
         requires some { 1 ≤ cache }
         requires most { cache ≤ 4096 }

@@ -52,7 +52,7 @@ fn is_judged(judged: Option<Verdict>, verdict: Verdict) -> bool
     }
 }
 
-/// How many plies a ruling has stood, one ply later.
+/// How many plies a ruling has held, one ply later.
 fn plies_by(old: Option<Verdict>, new: Option<Verdict>, plies: u8) -> u8
     requires { plies ≤ 8 }
     ensures is { result ≡ plies_by old new plies }
@@ -67,7 +67,8 @@ fn plies_by(old: Option<Verdict>, new: Option<Verdict>, plies: u8) -> u8
     if plies < 8 { plies + 1 } else { 8 }
 }
 
-/// The verdict by a ruling that has stood for so many plies, where one by tables must hold for as many as the delay says.
+/// The verdict by a ruling that has held for this many plies, where one by tables must hold for as many as the delay
+/// says.
 fn verdict_of(judged: Option<Verdict>, plies: u8, delay: u8) -> Option<Verdict>
     ensures { result ≡ verdict_of judged plies delay }
 {
@@ -91,7 +92,7 @@ impl Standing {
         &self.position
     }
 
-    /// The verdict at this ply, where a verdict by tables must hold for so many further plies, 0 to 8.
+    /// The verdict at this ply, where a verdict by tables must hold for `delay` further plies, 0 to 8.
     pub fn verdict(&self, delay: u8) -> Option<Verdict>
         requires { delay ≤ 8 }
         ensures { (rules : Rules) (moves : List Move) → rules.delay ≡ delay → IsAt rules moves self.now → result ≡ verdict_after rules moves }

@@ -33,7 +33,7 @@ pub(crate) fn end_of(position: &Position) -> Verdict
     }
 }
 
-/// Whether the tables don't speak of the position: they know no castling, and five men at most.
+/// Whether the position is outside the tables' scope, which excludes castling rights and more than five men.
 #[tactic(auto, unfolding(crate::specs::Ruling::is_out_of_scope))]
 pub(crate) fn is_out_of_scope(position: &Position) -> bool
     ensures is { result ≡ is_out_of_scope position.now }
@@ -53,7 +53,7 @@ fn won_by(side: Side) -> Verdict
     }
 }
 
-/// The verdict by a value that is neither a win nor a loss, or by its fault.
+/// The verdict by a value that is neither a win nor a loss, or by the value's fault.
 pub(crate) fn by_value(reading: &Result<Wdl, ValueFault>) -> Option<Verdict>
     requires win { reading.now ≢ Ok Win }
     requires loss { reading.now ≢ Ok Loss }
@@ -66,7 +66,7 @@ pub(crate) fn by_value(reading: &Result<Wdl, ValueFault>) -> Option<Verdict>
     }
 }
 
-/// The verdict where this side wins in so many plies.
+/// The verdict where this side wins in this many plies.
 pub(crate) fn by_distance(
     position: &Position,
     winner: Side,

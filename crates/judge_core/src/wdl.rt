@@ -11,11 +11,11 @@ use table_file::Outcome;
 pub enum Wdl {
     /// The other side wins.
     Loss,
-    /// The other side would win, were it not for the rule of fifty moves.
+    /// The other side would win without the rule of fifty moves.
     BlessedLoss,
     /// Neither side wins.
     Draw,
-    /// The side to move would win, were it not for the rule of fifty moves.
+    /// The side to move would win without the rule of fifty moves.
     CursedWin,
     /// The side to move wins.
     Win,

@@ -1,4 +1,4 @@
--- The words of a text, and the moves that they tell (this project's own).
+-- The words of a text, and the moves that they list (this project's own).
 use Rattle.std.specs.Prelude.{◌≡◌, ◌==◌, ◌||◌, ◌++◌, ℕ, zero, suc, Bool, true, false, List, [], ◌∷◌, filter}
 use Rattle.std.specs.List.{slice_split}
 use Rattle.board_core.specs.declared.moves.Move.{Move as Moves}
@@ -16,7 +16,7 @@ has_bytes (byte ∷ bytes) = true
 unfoldable pub words_in : List ℕ → List (List ℕ)
 words_in text = filter has_bytes (slice_split is_gap text)
 
--- the moves that a text tells, a word each
+-- the moves that a text lists, a word each
 abbrev pub TellsMoves : List ℕ → List Moves → Type 0
 TellsMoves text moves = AreMoves (words_in text) moves
 

@@ -1,4 +1,4 @@
--- The message that bytes spell, computed (message format, versions 1 and 2).
+-- The message that bytes encode, computed (message format, versions 1 and 2).
 use Rattle.std.specs.Prelude.{◌/◌, ◌%◌, ◌==◌, ◌&&◌, ◌||◌, if◌then◌else◌, nat_le, ℕ, Bool, List, [], ◌∷◌, Option, Some, None, Result, Err, length, take, drop, slice_index, find, option_map, option_and_then}
 use Rattle.std.specs.Option.{ok_or}
 use Rattle.std.specs.Int.{w16, w32, from_be_bytes}
@@ -93,6 +93,6 @@ abbrev pub heard_there : List ℕ → Result Message MessageFault
 heard_there t =
     heard_by (reader_of (slice_index t 2) (slice_index t 3)) (record { 0 = take 16 (drop 4 t) }) (slice_index t 20) (from_be_bytes w32 (take 4 (drop 21 t))) (from_be_bytes w16 (drop 25 t))
 
--- the message that the bytes spell, or their first fault
+-- the message that the bytes encode, or their first fault
 unfoldable pub heard_in : List ℕ → Result Message MessageFault
 heard_in t = if length t == 27 then (if begins_well t then heard_there t else Err BadHead) else Err BadLength

@@ -7,7 +7,7 @@ use Rattle.hex.specs.Hex.{encode_lower}
 use Rattle.move_msg.specs.declared.manifest.Line.{Line}
 use Rattle.move_msg.specs.TableNames.{IsFileName}
 
--- what a line tells: the digest of a file's bytes and the file's name
+-- the contents of a line: the digest of a file's bytes and the file's name
 pub record Entry : Type 0 where
   pub digest : List ℕ
   pub name : List ℕ
@@ -62,8 +62,8 @@ AreEntries es = AreOfFiles es × AreRising es
 abbrev pub SpellsManifest : List ℕ → List Entry → Type 0
 SpellsManifest t es = AreEntries es × (t ≡ lines_text es)
 
--- line k is the first at fault, the lines counted from 1: those before it are a manifest, and with no entry whose name
--- comes later does the text go on from there
+-- line k, counted from 1, is the first malformed one: the lines before it are a manifest, and the rest doesn't begin with
+-- an entry of a later name
 pub record IsFirstBadLine (t : List ℕ) (k : ℕ) : Type 0 where
   pub before : List Entry
   pub rest : List ℕ

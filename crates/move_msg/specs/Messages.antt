@@ -32,7 +32,7 @@ stamp_in (Fetch stamp who number wanted) = stamp
 abbrev pub no_message : Message
 no_message = Ack (record { 0 = replicate 16 0 }) A 0
 
--- an arbiter's moves and what it asks for came with version 2
+-- moves and requests of an arbiter belong to version 2
 abbrev pub version_by : Sender → ℕ
 version_by Source = 1
 version_by (Arbiter who) = 2

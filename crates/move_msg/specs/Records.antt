@@ -97,14 +97,14 @@ HasCounts t = (delay_in t ≤ most_delay) × (verdict_at (body_in t) ≤ 7) × (
 abbrev pub HasRoom : List ℕ → Type 0
 HasRoom t = length (body_in t) ≡ 5 + 2 * count_at (body_in t)
 
--- all is in order but for the words, which are not looked at
+-- all but the words is well formed; the words are not examined
 pub record HasRecordLayout (t : List ℕ) : Type 0 where
   pub front : HasFront t
   pub counts : HasCounts t
   pub exact : HasRoom t
 
--- the first thing that bytes lack: 24 bytes, the head, in version 2 a 25th byte, numbers in their ranges, the length that
--- the number of moves gives, and last words that stand for moves
+-- The first fault of bytes, in this order: fewer than 24; no head; in version 2 fewer than 25; a number out of range. Then
+-- another length than the number of moves gives, and a word that is no move.
 abbrev pub IsFirstRecordFault : List ℕ → RecordFault → Type 0
 IsFirstRecordFault t BadLength =
     (length t < 24)

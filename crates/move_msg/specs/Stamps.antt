@@ -1,4 +1,4 @@
--- The mark of a game (this project's own): the first 16 bytes of a digest of its name, start and tables.
+-- The stamp of a game (this project's own): the first 16 bytes of a digest of its name, start and tables.
 use Rattle.std.specs.Prelude.{◌≡◌, ◌≤◌, ◌++◌, ◌&&◌, ℕ, Bool, true, List, [], ◌∷◌, zero, suc, length, take, nat_le}
 use Rattle.std.specs.List.{list_all}
 use Rattle.sha2.specs.Sha256.{sha256}

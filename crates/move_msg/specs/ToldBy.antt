@@ -1,4 +1,4 @@
--- What a manifest that was read tells.
+-- The contents of a manifest that was read.
 use Rattle.std.specs.Prelude.{map, Option, Some, None, Ok, Err}
 use Rattle.move_msg.specs.Manifests.{entry_of}
 use Rattle.move_msg.specs.ToldManifests.{Told}

@@ -1,8 +1,8 @@
--- What a manifest tells (this project's own).
+-- The contents of a manifest (this project's own).
 use Rattle.std.specs.Prelude.{ℕ, List, Result, Ok, Err}
 use Rattle.move_msg.specs.Manifests.{Entry, SpellsManifest, IsFirstBadLine}
 
--- what the text of a manifest tells: its entries, or the number of its first line at fault
+-- the contents of a manifest's text: its entries, or the number of its first malformed line
 abbrev pub Told : Type 0
 Told = Result (List Entry) ℕ
 

@@ -22,7 +22,7 @@ enum MessageKind {
     Move,
     Ack,
     Verdict,
-    /// A move that an arbiter tells.
+    /// A move that an arbiter sends.
     Relayed,
     Fetch,
 }
@@ -52,7 +52,7 @@ fn fields_in(bytes: &[u8]) -> Fields
     }
 }
 
-/// The move that the source tells by these fields.
+/// The move that the source sends with these fields.
 fn move_of(fields: &Fields) -> Option<Message>
     requires { fields.now.number < 2 ^ 32 }
     ensures some { IfSome result (λ m. HasFields MessageKind.Move fields.now m) }
@@ -72,7 +72,7 @@ fn move_of(fields: &Fields) -> Option<Message>
     }
 }
 
-/// The number of moves that an arbiter tells by these fields.
+/// The number of moves that an arbiter acknowledges with these fields.
 fn ack_of(fields: &Fields) -> Option<Message>
     ensures some { IfSome result (λ m. HasFields MessageKind.Ack fields.now m) }
     ensures only { (m : Message) → HasFields MessageKind.Ack fields.now m → result ≡ Some m }
@@ -93,7 +93,7 @@ fn ack_of(fields: &Fields) -> Option<Message>
     })
 }
 
-/// The verdict that an arbiter tells by these fields.
+/// The verdict that an arbiter reports with these fields.
 fn verdict_of(fields: &Fields) -> Option<Message>
     ensures some { IfSome result (λ m. HasFields MessageKind.Verdict fields.now m) }
     ensures only { (m : Message) → HasFields MessageKind.Verdict fields.now m → result ≡ Some m }
@@ -118,7 +118,7 @@ fn verdict_of(fields: &Fields) -> Option<Message>
     })
 }
 
-/// The move that an arbiter tells by these fields.
+/// The move that an arbiter sends with these fields.
 fn relayed_of(fields: &Fields) -> Option<Message>
     requires { fields.now.number < 2 ^ 32 }
     ensures some { IfSome result (λ m. HasFields MessageKind.Relayed fields.now m) }
@@ -138,7 +138,7 @@ fn relayed_of(fields: &Fields) -> Option<Message>
     }
 }
 
-/// What an arbiter asks for by these fields.
+/// The moves that an arbiter requests with these fields.
 fn fetch_of(fields: &Fields) -> Option<Message>
     ensures some { IfSome result (λ m. HasFields MessageKind.Fetch fields.now m) }
     ensures only { (m : Message) → HasFields MessageKind.Fetch fields.now m → result ≡ Some m }
@@ -163,7 +163,7 @@ fn fetch_of(fields: &Fields) -> Option<Message>
     })
 }
 
-/// The kind of 27 bytes that begin as a message.
+/// The kind of 27 bytes that begin like a message.
 fn kind_in(bytes: &[u8]) -> Result<MessageKind, MessageFault>
     ensures ok { IfOk result (λ kind. (length bytes.now ≡ 27) × HasHead bytes.now × (slice_index bytes.now 2 ≡ version_number kind) × (slice_index bytes.now 3 ≡ kind_number kind)) }
     ensures err { IfErr result (IsFirstMessageFault bytes.now) }
@@ -190,7 +190,7 @@ fn kind_in(bytes: &[u8]) -> Result<MessageKind, MessageFault>
     }
 }
 
-/// The message of a kind by its fields.
+/// The message of a kind with these fields.
 fn message_of(kind: MessageKind, fields: &Fields) -> Option<Message>
     requires { fields.now.number < 2 ^ 32 }
     ensures some { IfSome result (λ m. HasFields kind fields.now m) }
@@ -250,7 +250,7 @@ fn frame(kind: MessageKind, stamp: Stamp, sender: u8, number: u32, word: u16) ->
     out.into_inner().unwrap()
 }
 
-/// The kind of a move by who tells it.
+/// The kind of a move message, by its sender.
 fn kind_by(sender: Sender) -> MessageKind
     ensures version { version_number result ≡ version_by sender }
     ensures kind { kind_number result ≡ 1 }
@@ -262,7 +262,7 @@ fn kind_by(sender: Sender) -> MessageKind
 }
 
 impl Message {
-    /// The 27 bytes of the message (message format): its one spelling.
+    /// The 27 bytes of the message (message format), its only encoding.
     pub fn encode(&self) -> [u8; 27]
         ensures { SpellsMessage result self.now }
     {
@@ -303,8 +303,8 @@ impl Message {
         }
     }
 
-    /// The message that the bytes spell (message format), or the first fault of the bytes:
-    /// `BadLength`, `BadHead`, `BadKind` or `BadField`.
+    /// The message that the bytes encode (message format), or their first fault: `BadLength`, `BadHead`, `BadKind` or
+    /// `BadField`.
     pub fn decode(bytes: &[u8]) -> Result<Message, MessageFault>
         ensures ok { IfOk result (SpellsMessage bytes.now) }
         ensures only { (m : Message) → SpellsMessage bytes.now m → result ≡ Ok m }

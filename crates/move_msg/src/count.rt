@@ -36,7 +36,7 @@ impl Count {
         Count { moves: 0 }
     }
 
-    /// So many moves; none above 4096.
+    /// This many moves; none above 4096.
     pub fn new(moves: u32) -> Option<Count>
         ensures in_range { IsSome result ↔ (moves ≤ most_moves) }
         ensures number { IfSome result (λ count. count ≡ moves) }
@@ -57,7 +57,7 @@ impl Count {
     }
 }
 
-/// How many moves an arbiter asks for at once, 1 to 8; contracts see the number.
+/// How many moves an arbiter requests at once, 1 to 8; contracts see the number.
 #[derive(Clone, Copy, PartialEq, Eq, Debug)]
 pub struct Wanted {
     wanted: u8,
@@ -77,7 +77,7 @@ impl Model for Wanted {
 }
 
 impl Wanted {
-    /// So many moves; none for 0 and above 8.
+    /// This many moves; none for 0 and above 8.
     pub fn new(moves: u8) -> Option<Wanted>
         ensures in_range { IsSome result ↔ ((1 ≤ moves) × (moves ≤ most_wanted)) }
         ensures number { IfSome result (λ wanted. wanted ≡ moves) }
@@ -89,7 +89,7 @@ impl Wanted {
         }
     }
 
-    /// As many as may be asked for, 8.
+    /// The most that may be requested, 8.
     pub fn most() -> Wanted
         ensures { result ≡ most_wanted }
     {

@@ -1,4 +1,4 @@
-//! A stream of messages, in whatever pieces it comes.
+//! A stream of messages, in pieces of any length.
 
 ghost use Rattle.std.specs.Prelude.{◌≡◌, ◌<◌, length, Some, None, Err};
 ghost use Rattle.arrayvec.specs.ArrayVec.{array_vec_len};
@@ -9,10 +9,10 @@ use crate::message::{Message, MessageFault};
 use arrayvec::ArrayVec;
 use std::marker::Model;
 
-/// Reads the messages of a stream one after the other until bytes are at fault.
+/// Reads the messages of a stream one after the other, up to the first malformed one.
 ///
-/// Contracts see what it holds: the bytes of a message that has not come to its end, fewer than
-/// 27, and the fault that the stream came to, if any.
+/// Contracts see what it holds: the bytes of an incomplete message, fewer than 27, and the fault that ended the stream,
+/// if any.
 #[derive(Debug, Drop)]
 pub struct Feeder {
     held: ArrayVec<u8, 27>,
@@ -32,7 +32,7 @@ impl Model for Feeder {
 }
 
 impl Feeder {
-    /// A feeder that holds nothing.
+    /// A feeder that holds no bytes.
     pub fn new() -> Feeder
         ensures { result ≡ nothing_fed }
     {
@@ -42,7 +42,7 @@ impl Feeder {
         }
     }
 
-    /// How many bytes of a message that has not come to its end are held, 0 to 26.
+    /// How many bytes of an incomplete message are held, 0 to 26.
     pub fn held(&self) -> usize
         ensures value { result ≡ length self.now.held }
         ensures part { result < 27 }
@@ -50,10 +50,10 @@ impl Feeder {
         self.held.len()
     }
 
-    /// Takes the whole piece or, where that comes first, its bytes up to the end of one message.
+    /// Takes the whole piece, or its bytes up to the end of one message where that comes first.
     ///
-    /// Answers how many bytes it took, and the message that they end, if any. The 27 bytes of a
-    /// fault are taken and not held; from then on nothing is taken and that fault is answered.
+    /// Returns how many bytes it took, and the message that they complete, if any. The 27 bytes of a malformed message
+    /// are taken and not held. From then on nothing is taken, and each call returns that fault.
     pub fn feed(&mut self, piece: &[u8]) -> (usize, Option<Result<Message, MessageFault>>)
         ensures going { self.old.fault ≡ None → Feeds self.old piece.now result self.new }
         ensures stuck { (fault : MessageFault) → self.old.fault ≡ Some fault

@@ -1,4 +1,4 @@
-//! The moves that a text tells.
+//! The moves that a text lists.
 
 ghost use Rattle.std.specs.Prelude.{◌≡◌, ◌∷◌, [], true, position, IfOk, IfErr, IfSome, IfNone, OnErr};
 ghost use Rattle.std.specs.List.{slice_split};
@@ -30,7 +30,7 @@ fn cut_first(text: &[u8]) -> Option<(&[u8], &[u8])>
     }
 }
 
-/// Adds the move of a word, and tells whether it is one; nothing between two gaps adds none.
+/// Adds the move of a word, and returns whether the word is one. An empty word between two gaps adds none.
 fn add_word(moves: &mut Vec<Move>, word: &[u8]) -> Result<bool, AllocError>
     ensures added { IfOk result (λ is. AddsWord word.now moves.old.items moves.new.items is) }
     ensures memory { OnErr result ((has_bytes word.now ≡ true) × ((m : Moves) × SpellsMove word.now m)) }
@@ -47,11 +47,10 @@ fn add_word(moves: &mut Vec<Move>, word: &[u8]) -> Result<bool, AllocError>
     }
 }
 
-/// The moves that a text tells, or the place of the first word that is none, counted from 0.
+/// The moves that a text lists, or the place of the first word that is no move, counted from 0.
 ///
-/// Words are in coordinates, as `e2e4` or `e7e8q`, and spaces, line feeds and carriage returns stand between them, so many as
-/// there are; a text without words tells no move. The outer error comes only where memory for a move
-/// is refused.
+/// Words are in coordinates, as `e2e4` or `e7e8q`. Any number of spaces, line feeds and carriage returns separate them.
+/// A text without words lists no move. The outer error comes only where memory for a move is refused.
 pub fn read_moves(alloc: Global, text: &[u8]) -> Result<Result<Vec<Move>, usize>, AllocError>
     ensures ok { IfOk result (λ read. IfOk read (λ moves. TellsMoves text.now moves.items)) }
     ensures err { IfOk result (λ read. IfErr read (λ place. IsBadWordAt (words_in text.now) place)) }

@@ -7,22 +7,22 @@ pub fn one_move()
     ensures { HasOneMove }
 {}
 
-/// Bytes spell one message at most.
+/// Bytes encode one message at most.
 pub fn one_message()
     ensures { HasOneMessage }
 {}
 
-/// A message has one spelling at most.
+/// A message has one encoding at most.
 pub fn one_spelling()
     ensures { HasOneSpelling }
 {}
 
-/// Bytes spell one record at most.
+/// Bytes encode one record at most.
 pub fn one_record()
     ensures { HasOneRecord }
 {}
 
-/// A record has one spelling of a version at most.
+/// A record has one encoding of each version at most.
 pub fn one_record_spelling()
     ensures { HasOneRecordSpelling }
 {}
@@ -32,14 +32,14 @@ pub fn one_reading()
     ensures { HasOneReading }
 {}
 
-/// A feeder answers the messages of the bytes that it took, and what it holds, or the fault that it
-/// met, tells how they end.
+/// A feeder returns the messages of the bytes that it took. The bytes it holds, or the fault that it met, say how they
+/// end.
 pub fn reads_its_stream()
     ensures { ReadsItsStream }
 {}
 
-/// In whatever pieces a feeder is given the same bytes, it answers the same messages in the same
-/// order, and holds the same or meets the same fault.
+/// Whatever the pieces in which a feeder gets the same bytes, it returns the same messages in the same order, and holds
+/// the same bytes or meets the same fault.
 pub fn pieces_do_not_matter()
     ensures { PiecesDoNotMatter }
 {}

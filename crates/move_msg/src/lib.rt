@@ -1,10 +1,9 @@
 //! Messages between the source of a game and its arbiters, records of games, and their stamps.
 //!
-//! Each message has one spelling of 27 bytes; a record is spelled by the moves of a game, the
-//! delay of its verdicts by tables and the verdict on it, if any. All numbers have their highest
-//! byte first.
+//! Each message has one encoding of 27 bytes. A record encodes the moves of a game, the delay of its verdicts by
+//! tables, and its verdict, if any. All numbers have their highest byte first.
 //!
-//! Also what a manifest tells, and the moves that a text tells (`read_moves`). Its tests stand in `checks`.
+//! It also has the entries of a manifest, and the moves that a text lists (`read_moves`). Its tests stand in `checks`.
 #![tactic(auto)]
 
 mod coding;

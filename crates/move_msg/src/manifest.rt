@@ -39,8 +39,7 @@ impl Line {
 /// Why bytes are no manifest.
 #[derive(Clone, Copy, PartialEq, Eq, Debug)]
 pub enum ManifestFault {
-    /// The line of this number, the first being 1, is none, or its name doesn't come after the one
-    /// before.
+    /// The line of this number, counted from 1, is malformed, or its name doesn't come after the one before.
     BadLine(usize),
     /// Memory was refused.
     OutOfMemory,
@@ -54,7 +53,7 @@ impl From<AllocError> for ManifestFault {
     }
 }
 
-/// The digest that 64 lower-case hexadecimal digits spell.
+/// The digest with these 64 lower-case hexadecimal digits.
 fn digest_of(text: &[u8]) -> Option<[u8; 32]>
     ensures some { IfSome result (λ digest. (length digest ≡ 32) × ((i : ℕ) → slice_index digest i < 256) × (text.now ≡ encode_lower digest)) }
     ensures none { IfNone result ((digest : List ℕ) → length digest ≡ 32 → ((i : ℕ) → slice_index digest i < 256) → text.now ≡ encode_lower digest → ⊥) }
@@ -87,7 +86,7 @@ fn file_name(name: &[u8]) -> Option<ArrayString<16>>
     ArrayString::from(name).ok()
 }
 
-/// What a line tells, its line feed apart.
+/// The entry of a line without its line feed.
 fn line_of(text: &[u8]) -> Option<Line>
     ensures some { IfSome result (λ line. IsEntry (entry_of line) × (text.now ≡ entry_text (entry_of line))) }
     ensures none { IfNone result ((e : Entry) → IsEntry e → text.now ≡ entry_text e → ⊥) }
@@ -111,7 +110,7 @@ fn line_of(text: &[u8]) -> Option<Line>
     Some(Line { digest, name })
 }
 
-/// The line that bytes begin by, and the bytes after it.
+/// The entry of the first line, and the bytes after it.
 fn first_line(bytes: &[u8]) -> Option<(Line, &[u8])>
     ensures some { IfSome result (λ found. IsEntry (entry_of found.0) × (bytes.now ≡ line_text (entry_of found.0) ++ found.1.now)) }
     ensures none { IfNone result ((e : Entry) (rest : List ℕ) → IsEntry e → bytes.now ≡ line_text e ++ rest → ⊥) }
@@ -145,9 +144,8 @@ fn is_after(lines: &[Line], line: &Line) -> bool
     }
 }
 
-/// The lines of a manifest (manifest format), or the first fault: `BadLine` with the number of the
-/// first line at fault, or `OutOfMemory`, where memory is refused; that comes only where the first
-/// line is in order.
+/// The lines of a manifest (manifest format), or the first fault. `BadLine` has the number of the first malformed line.
+/// `OutOfMemory` comes where memory is refused, and only where the first line is well formed.
 pub fn manifest_read(alloc: Global, bytes: &[u8]) -> Result<Vec<Line>, ManifestFault>
     ensures ok { IfOk result (λ lines. SpellsManifest bytes.now (map entry_of lines.items)) }
     ensures err { IfErr result (λ fault. (fault ≡ OutOfMemory) ⊎ ((k : ℕ) × (fault ≡ BadLine k) × IsFirstBadLine bytes.now k)) }
@@ -185,9 +183,8 @@ fn push_line(line: &Line, out: &mut Vec<u8>) -> Result<(), AllocError>
     Ok(())
 }
 
-/// The bytes of a manifest with these lines, whose names are those of table files, each after the
-/// one before in the order of bytes; that is the caller's condition. The error comes only where
-/// memory is refused.
+/// The bytes of a manifest with these lines. The caller ensures that their names are names of table files, each after
+/// the one before in byte order. The error comes only where memory is refused.
 pub fn manifest_write(alloc: Global, lines: &[Line]) -> Result<Vec<u8>, AllocError>
     requires { AreEntries (map entry_of lines.now) }
     ensures { IfOk result (λ bytes. SpellsManifest bytes.items (map entry_of lines.now)) }
@@ -199,9 +196,8 @@ pub fn manifest_write(alloc: Global, lines: &[Line]) -> Result<Vec<u8>, AllocErr
     Ok(bytes)
 }
 
-/// The bytes of the manifest of these files, whose names are those of table files, each after the
-/// one before in the order of bytes; that is the caller's condition. The error comes only where
-/// memory is refused.
+/// The bytes of the manifest of these files. The caller ensures that their names are names of table files, each after
+/// the one before in byte order. The error comes only where memory is refused.
 pub fn manifest_of(alloc: Global, files: &[NamedFile]) -> Result<Vec<u8>, AllocError>
     requires { AreFiles (map file_of files.now) }
     ensures { IfOk result (λ bytes. SpellsManifest bytes.items (entries_of (map file_of files.now))) }

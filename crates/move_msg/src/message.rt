@@ -8,21 +8,21 @@ use crate::stamp::Stamp;
 use crate::who::{Sender, Who};
 use board_core::{Move, Verdict};
 
-/// What the source of a game and its arbiters tell one another.
+/// A message between the source of a game and its arbiters, or between the arbiters.
 #[derive(Clone, Copy, PartialEq, Eq, Debug)]
 pub enum Message {
-    /// The source tells a move of the game, or an arbiter passes one on.
+    /// The source sends a move of the game, or an arbiter forwards one.
     Move {
         /// The game.
         stamp: Stamp,
-        /// Who tells it.
+        /// The sender.
         sender: Sender,
         /// How many moves come before it.
         number: u32,
         /// The move.
         m: Move,
     },
-    /// An arbiter tells how many moves it keeps.
+    /// An arbiter acknowledges the moves that it keeps.
     Ack {
         /// The game.
         stamp: Stamp,
@@ -31,7 +31,7 @@ pub enum Message {
         /// How many moves it keeps.
         count: Count,
     },
-    /// An arbiter tells its verdict on the game.
+    /// An arbiter reports its verdict on the game.
     Verdict {
         /// The game.
         stamp: Stamp,
@@ -42,15 +42,15 @@ pub enum Message {
         /// How it ended.
         verdict: Verdict,
     },
-    /// An arbiter asks the other for moves of the game.
+    /// An arbiter requests moves of the game from the other.
     Fetch {
         /// The game.
         stamp: Stamp,
         /// The arbiter.
         who: Who,
-        /// The number of the first move that it wants.
+        /// The number of the first move requested.
         number: Count,
-        /// How many it wants.
+        /// How many are requested.
         wanted: Wanted,
     },
 }
@@ -81,8 +81,8 @@ impl Message {
     }
 }
 
-/// What stands in a list with room for more messages where there is none: an acknowledgement of no
-/// move by the first arbiter, with a stamp of zeros.
+/// The filler of unused places in a list of messages: an acknowledgement of no move by the first arbiter, with a stamp
+/// of zeros.
 impl Default for Message {
     ghost use Rattle.std.specs.Prelude.{◌≡◌};
     ghost use Rattle.move_msg.specs.Messages.{no_message};
@@ -98,12 +98,12 @@ impl Default for Message {
     }
 }
 
-/// Why bytes are no message, in the order in which faults are told.
+/// Why bytes are no message, in the order in which faults are reported.
 #[derive(Clone, Copy, PartialEq, Eq, Debug)]
 pub enum MessageFault {
     /// There are not exactly 27 bytes.
     BadLength,
-    /// They don't begin by `SA` and the version 1 or 2.
+    /// They don't begin with `SA` and the version 1 or 2.
     BadHead,
     /// The kind is none of the version.
     BadKind,

@@ -12,7 +12,7 @@ use board_core::{Move, Verdict};
 use fen_text::write_move;
 use std::fmt;
 
-/// Tells a move of the game and its number.
+/// Writes a move of the game and its number.
 fn fmt_move<W: fmt::Write>(
     f: &mut fmt::Formatter<W>,
     sender: Sender,
@@ -27,7 +27,7 @@ fn fmt_move<W: fmt::Write>(
     write!(f, "Move {sender} {number} {text}")
 }
 
-/// Tells how many moves an arbiter keeps.
+/// Writes how many moves an arbiter keeps.
 fn fmt_ack<W: fmt::Write>(f: &mut fmt::Formatter<W>, who: Who, count: Count) -> fmt::Result
     ensures { DisplaysOnOk W.Write.write_str_gives f.old result (Some (ack_words (who_number who) count)) f.new }
 {
@@ -36,7 +36,7 @@ fn fmt_ack<W: fmt::Write>(f: &mut fmt::Formatter<W>, who: Who, count: Count) -> 
     write!(f, "Ack {sender} {count}")
 }
 
-/// Tells an arbiter's verdict and its ply.
+/// Writes an arbiter's verdict and its ply.
 fn fmt_verdict<W: fmt::Write>(
     f: &mut fmt::Formatter<W>,
     who: Who,
@@ -51,7 +51,7 @@ fn fmt_verdict<W: fmt::Write>(
     write!(f, "Verdict {sender} {ply} {name}")
 }
 
-/// Tells which moves an arbiter wants.
+/// Writes which moves an arbiter requests.
 fn fmt_fetch<W: fmt::Write>(
     f: &mut fmt::Formatter<W>,
     who: Who,
@@ -66,8 +66,9 @@ fn fmt_fetch<W: fmt::Write>(
     write!(f, "Fetch {sender} {number} {wanted}")
 }
 
-/// A message's words: what it is, its sender's number (0 the source, 1 or 2 an arbiter), its number, and the move in coordinates,
-/// the verdict's name or how many moves are wanted, with a space between each two. Its stamp isn't told.
+/// A message as text, with single spaces between its words. They are its kind, its sender's number (0 the source, 1 or
+/// 2 an arbiter) and its number. Then comes the move in coordinates, the verdict's name, or how many moves are
+/// requested. The stamp is left out.
 impl fmt::Display for Message {
     ghost use Rattle.std.specs.Prelude.{Some};
     ghost use Rattle.move_msg.specs.MessageWords.{message_words};

@@ -26,7 +26,7 @@ use std::alloc::{AllocError, Global};
 pub struct Record {
     /// The game.
     pub stamp: Stamp,
-    /// How many plies more a verdict by tables has to hold, 0 to 8 in what has a spelling.
+    /// How many further plies a verdict by tables has to hold, 0 to 8 in an encoded record.
     pub delay: u8,
     /// The verdict after the moves, if there is one.
     pub verdict: Option<Verdict>,
@@ -34,19 +34,18 @@ pub struct Record {
     pub moves: MoveList,
 }
 
-/// Why bytes are no record, in the order in which faults are told; the length and the numbers are
-/// looked at twice.
+/// Why bytes are no record, in the order in which faults are reported. The length and the numbers are each checked
+/// twice.
 #[derive(Clone, Copy, PartialEq, Eq, Debug)]
 pub enum RecordFault {
-    /// There are fewer than 24 bytes, in version 2 fewer than 25, or not as many as the number of
-    /// moves wants.
+    /// There are fewer than 24 bytes, in version 2 fewer than 25, or not as many as the number of moves requires.
     BadLength,
-    /// They don't begin by `SR` and the version 1 or 2.
+    /// They don't begin with `SR` and the version 1 or 2.
     BadHead,
     /// The delay is above 8, the code of the verdict above 7, the number of moves above 4096 or a
     /// word above 20479.
     BadField,
-    /// Memory was refused. All but the words is in order then.
+    /// Memory was refused. All but the words is well formed then.
     OutOfMemory,
 }
 
@@ -110,7 +109,7 @@ fn push_words(moves: &[Move], out: &mut Vec<u8>) -> Result<(), AllocError>
     Ok(())
 }
 
-/// Appends all that stands before the words, version 2.
+/// Appends all that precedes the words, in version 2.
 #[tactic(auto, unfolding(crate::specs::Records::record_frame, crate::specs::Records::body_text))]
 fn push_front(game: &Record, out: &mut Vec<u8>) -> Result<(), AllocError>
     ensures ok { OnOk result ((words : List _) → out.new.items ++ words ≡ out.old.items ++ record_frame game.now.stamp.0 game.now.delay (body_text (code_or_none game.now.verdict) (length game.now.moves) words)) }
@@ -126,7 +125,7 @@ fn push_front(game: &Record, out: &mut Vec<u8>) -> Result<(), AllocError>
     Ok(())
 }
 
-/// The word that bytes begin by, and the bytes after it; none where there are fewer than two bytes.
+/// The word at the front of the bytes, and the bytes after it; none where there are fewer than two bytes.
 fn first_word(bytes: &[u8]) -> Option<(u16, &[u8])>
     ensures some { IfSome result (λ found. (found.0 < 2 ^ 16) × (bytes.now ≡ to_be_bytes w16 found.0 ++ found.1.now)) }
     ensures none { IfNone result (length bytes.now < 2) }
@@ -184,7 +183,7 @@ struct Header {
     count: u32,
 }
 
-/// Whether bytes begin by the head of a record.
+/// Whether bytes begin with the head of a record.
 fn has_head(bytes: &[u8]) -> bool
     requires { 24 ≤ length bytes.now }
     ensures { IsTrue result ↔ HasRecordHead bytes.now }
@@ -192,8 +191,7 @@ fn has_head(bytes: &[u8]) -> bool
     bytes[0] == b'S' && bytes[1] == b'R' && (bytes[2] == 1 || bytes[2] == 2)
 }
 
-/// The delay, and the bytes after the stamp and the delay; version 1 has none, which is a delay of
-/// 0.
+/// The delay, and the bytes after the stamp and the delay. Version 1 has no such byte, which means a delay of 0.
 fn body_of(bytes: &[u8]) -> (u8, &[u8])
     requires { 24 ≤ length bytes.now }
     ensures delay { result.0 ≡ delay_in bytes.now }
@@ -208,8 +206,7 @@ fn body_of(bytes: &[u8]) -> (u8, &[u8])
     }
 }
 
-/// What stands before the words and the words, of bytes that are a record unless their words are
-/// none.
+/// The head and the words of bytes that are a record if their words stand for moves.
 #[tactic(auto, unfolding(crate::specs::Inside::Layouts::header_at))]
 fn read_front(bytes: &[u8]) -> Result<(Header, &[u8]), RecordFault>
     ensures ok { IfOk result (λ front. HasRecordLayout bytes.now × (front.0 ≡ header_at bytes.now) × (front.1.now ≡ words_at (body_in bytes.now))) }
@@ -249,8 +246,7 @@ fn read_front(bytes: &[u8]) -> Result<(Header, &[u8]), RecordFault>
 impl Record {
     /// The bytes of the record (record format, version 2): 25 and two for each move.
     ///
-    /// That the delay is at most 8 is the caller's condition. The error comes only where memory is
-    /// refused.
+    /// The caller ensures that the delay is at most 8. The error comes only where memory is refused.
     pub fn encode(&self, alloc: Global) -> Result<Vec<u8>, AllocError>
         requires { self.now.delay ≤ most_delay }
         ensures written { IfOk result (λ bytes. WritesRecord bytes.items self.now) }
@@ -263,13 +259,12 @@ impl Record {
         Ok(bytes)
     }
 
-    /// The record that the bytes spell (record format, versions 1 and 2), or the first fault of the
-    /// bytes: `BadLength` below 24 bytes, `BadHead`, `BadLength` for version 2 below 25 bytes,
-    /// `BadField` for the delay, the verdict's code and the number of moves, `BadLength` where
-    /// there are not as many bytes as that number wants, `BadField` for the words. `OutOfMemory`,
-    /// where memory is refused, comes only when all but the words is in order.
+    /// The record that the bytes encode (record format, versions 1 and 2), or their first fault, in this order.
+    /// `BadLength` below 24 bytes; `BadHead`; `BadLength` below 25 bytes in version 2. `BadField` for the delay, the
+    /// verdict's code and the number of moves. `BadLength` where that number requires another length; `BadField` for
+    /// the words. `OutOfMemory`, where memory is refused, comes only when all but the words is well formed.
     ///
-    /// Version 1 has no delay: what it spells has the delay 0.
+    /// Version 1 has no delay: its records have the delay 0.
     pub fn decode(alloc: Global, bytes: &[u8]) -> Result<Record, RecordFault>
         ensures ok { IfOk result (SpellsRecord bytes.now) }
         ensures only { (r : Record) → SpellsRecord bytes.now r → (result ≡ Ok r) ⊎ (result ≡ Err RecordFault.OutOfMemory) }
@@ -292,8 +287,8 @@ impl Record {
         }
     }
 
-    /// The number of moves, 0 to 4096, and the code of the verdict, 0 for none, of bytes that spell
-    /// a record (record format, versions 1 and 2); none of other bytes. It takes no memory.
+    /// The number of moves, 0 to 4096, and the code of the verdict, 0 for none, of an encoded record (record format,
+    /// versions 1 and 2). None of other bytes. It takes no memory.
     pub fn summary(bytes: &[u8]) -> Option<(u32, u8)>
         ensures some { IfSome result (λ found. (r : Record) × SpellsRecord bytes.now r × (found ≡ (length r.moves, code_or_none r.verdict))) }
         ensures only { (r : Record) → SpellsRecord bytes.now r → result ≡ Some (length r.moves, code_or_none r.verdict) }

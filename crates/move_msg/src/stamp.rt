@@ -1,4 +1,4 @@
-//! The mark of one game.
+//! The identifier of one game.
 
 ghost use Rattle.std.specs.Prelude.{◌≡◌, ◌↔◌, IfSome, IfNone, IsTrue};
 ghost use Rattle.std.specs.List.{list_all};
@@ -10,7 +10,7 @@ use board_core::Position;
 use fen_text::write;
 use sha2::{Digest, Sha256};
 
-/// The mark of one game, by which its messages and records are known: 16 bytes.
+/// The identifier of one game in its messages and records: 16 bytes.
 #[derive(Clone, Copy, PartialEq, Eq, Debug)]
 pub struct Stamp(pub [u8; 16]);
 
@@ -29,7 +29,7 @@ pub fn is_game_name(name: &[u8]) -> bool
     1 <= name.len() && name.len() <= 64 && is_printable(name)
 }
 
-/// What ends a line.
+/// The line feed, which ends a line.
 const LINE_FEED: &str = "\n";
 
 /// The SHA-256 digest (FIPS 180-4) of name, line feed, start, line feed, manifest and delay.
@@ -49,9 +49,9 @@ fn digest(name: &[u8], start: &[u8], manifest: &[u8], delay: u8) -> [u8; 32]
 }
 
 impl Stamp {
-    /// The stamp of the game with this name, start and manifest of tables: the first 16 bytes of
-    /// the SHA-256 digest of the name, a line feed, the start's FEN text, a line feed, the
-    /// manifest's bytes, and the delay as one byte where it isn't 0.
+    /// The stamp of the game with this name, start and manifest of tables: the first 16 bytes of a SHA-256 digest. The
+    /// digest is of the name, a line feed, the start's FEN text, a line feed and the manifest's bytes. Where the delay
+    /// isn't 0 it follows as one byte.
     ///
     /// None unless a game may have the name (`is_game_name`).
     pub fn of(name: &[u8], start: &Position, manifest: &[u8], delay: u8) -> Option<Stamp>

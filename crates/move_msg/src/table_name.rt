@@ -33,7 +33,7 @@ fn are_men(letters: &[u8]) -> bool
     true
 }
 
-/// Whether a table may have so many men of its two sides, in this order of the sides.
+/// Whether a table may have these numbers of men, with the sides in this order.
 fn are_paired(first: &[u8], second: &[u8]) -> bool
     ensures { result ≡ are_paired first.now second.now }
 {
@@ -46,7 +46,7 @@ fn are_paired(first: &[u8], second: &[u8]) -> bool
     first.len() == second.len() && man_place(first[0]) <= man_place(second[0])
 }
 
-/// The bytes after this one, where they begin by it.
+/// The bytes after this one, where they begin with it.
 pub(crate) fn after(bytes: &[u8], byte: u8) -> Option<&[u8]>
     ensures some { IfSome result (λ rest. bytes.now ≡ byte ∷ rest.now) }
     ensures none { IfNone result ((rest : List ℕ) → bytes.now ≡ byte ∷ rest → ⊥) }
@@ -100,15 +100,15 @@ fn is_table_name(name: &[u8]) -> bool
     are_paired(first, second)
 }
 
-/// Whether files of tables end so, their point apart.
+/// Whether this is the extension of a table file, without its point.
 fn is_ending(ending: &[u8]) -> bool
     ensures { IsTrue result ↔ ((ending.now ≡ codes "rtbw") ⊎ (ending.now ≡ codes "rtbz")) }
 {
     ending == b"rtbw".as_slice() || ending == b"rtbz".as_slice()
 }
 
-/// Whether this is the name of a table's file, as `KQvK.rtbw`: the name of one of the 145 tables of three to five men and
-/// an ending, `.rtbw` or `.rtbz` (table format, names of tables). It takes no memory.
+/// Whether this is the name of a table file, as `KQvK.rtbw` (table format, names of tables). It is the name of one of
+/// the 145 tables of three to five men, and the extension `.rtbw` or `.rtbz`. It takes no memory.
 pub fn is_file_name(name: &[u8]) -> bool
     ensures { IsTrue result ↔ IsFileName name.now }
 {

@@ -7,14 +7,14 @@ ghost use Rattle.move_msg.specs.ToldBy.{told_by};
 use crate::manifest::{Line, ManifestFault, manifest_read};
 use std::alloc::{AllocError, Global};
 
-/// What a manifest tells, if one is named.
+/// The contents of a manifest, if one is named.
 #[derive(Drop)]
 pub enum Manifest {
     /// None is named.
     Unnamed,
     /// Its lines.
     Lines(Vec<Line>),
-    /// The number of its first line at fault, the first being 1.
+    /// The number of its first malformed line, counted from 1.
     BadLine(usize),
 }
 

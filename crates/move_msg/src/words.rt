@@ -34,9 +34,8 @@ fn promotion_of(number: u16) -> Option<Promotion>
     }
 }
 
-/// The word of a move, 0 to 20479 (message format, words): the number of the square that the man
-/// leaves, 64 times that of the square where it goes, and 4096 times 1 to 4 for a promotion to
-/// queen, rook, bishop or knight.
+/// The word of a move, 0 to 20479 (message format, words). It is the number of the square left, plus 64 times that of
+/// the square entered. A promotion to queen, rook, bishop or knight adds 4096 times 1 to 4.
 pub fn word(m: Move) -> u16
     ensures spells { SpellsWord result m }
     ensures bound { result ≤ greatest_word }

@@ -4,8 +4,8 @@ use Rattle.pair_dict.specs.Symbols.{symbol_count, AllHaveValues}
 use Rattle.pair_dict.specs.Codes.{Pairing}
 use Rattle.pair_dict.specs.Reading.{words, falls, dictionary_at}
 
--- The greatest code length and the least, a lowest symbol of two bytes for each length from the least on, the number of
--- symbols in two bytes, the symbols, and a byte more where their number is odd.
+-- The greatest code length and the least, then a lowest symbol of two bytes for each length from the least on. The number
+-- of symbols in two bytes, the symbols, and one more byte where their number is odd.
 pub record SpellsDictionary (bytes : List ℕ) (d : Pairing) : Type 0 where
   pub greatest : ℕ
   pub lowest : List ℕ

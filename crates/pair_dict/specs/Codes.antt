@@ -24,8 +24,8 @@ number_of (b ∷ bytes) = b * 2 ^ (8 * length bytes) + number_of bytes
 unfoldable pub bits : List ℕ → ℕ → ℕ → ℕ
 bits block p n = number_of block / 2 ^ (8 * length block - (p + n)) % 2 ^ n
 
--- The n bits v are the code of the symbol s: v is at least the base of the length n, the front of v
--- of each shorter length is below that length's base, and s is as far above the lowest symbol as v is above the base.
+-- The n bits v are the code of the symbol s. v is at least the base of the length n. The front of v of each shorter length
+-- is below that length's base. s is as far above the lowest symbol as v is above the base.
 pub record IsCode (d : Pairing) (n v s : ℕ) : Type 0 where
   pub longest : n < d.least + length d.lowest
   pub shortest : d.least ≤ n

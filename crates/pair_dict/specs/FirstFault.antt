@@ -1,5 +1,5 @@
--- Why bytes don't begin with a dictionary (Syzygy table format, a size record from its greatest code length on): the first fault
--- from the left, where each part is looked at behind the good parts before it.
+-- Why bytes don't begin with a dictionary (Syzygy table format, a size record from its greatest code length on). It is the
+-- first fault from the left: each part is checked after the good parts before it.
 use Rattle.std.specs.Prelude.{◌≡◌, ℕ, ◌+◌, ◌-◌, ◌*◌, ◌%◌, ◌<◌, ◌≤◌, ◌⊎◌, ◌↔◌, false, true, List, ◌∷◌, ◌++◌, length, Err}
 use Rattle.pair_dict.specs.declared.fault.DictFault.{DictFault}
 use Rattle.pair_dict.specs.declared.fault.DictFault.TheVariants.{Truncated, BadCode, BadSymbol}
@@ -63,6 +63,6 @@ pub data IsFirstFault (bytes : List ℕ) : DictFault → Type 0 where
   no_symbols : {count : ℕ} {rest : List ℕ} → HasCount bytes count rest → length rest < 3 * count + count % 2 → IsFirstFault bytes Truncated
   bad_symbols : {symbols : List ℕ} → HasSymbols bytes symbols → (AllHaveValues symbols → ⊥) → IsFirstFault bytes BadSymbol
 
--- Reading tells the first fault, and there is one only where it tells it.
+-- Reading reports the first fault, and there is one only where it reports it.
 abbrev pub FirstFaultIsTold : Type 0
 FirstFaultIsTold = (bytes : List ℕ) (fault : DictFault) → (dictionary_at bytes ≡ Err fault) ↔ IsFirstFault bytes fault

@@ -51,7 +51,7 @@ unfoldable pub symbols_at : ℕ → List ℕ → Result (List ℕ) DictFault
 symbols_at n bytes =
     if nat_lt (length bytes) (3 * n + n % 2) then Err Truncated else Ok (take (3 * n) bytes)
 
--- what the bytes say before the symbols' values are looked at, and how many bytes that takes
+-- the contents of the bytes before the symbols' values are checked, and how many bytes that takes
 unfoldable pub layout_at : List ℕ → Result (Pairing × ℕ) DictFault
 layout_at bytes = do
   lengths ← lengths_at bytes

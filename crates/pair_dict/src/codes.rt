@@ -50,7 +50,7 @@ pub(crate) struct LongCodes {
 }
 
 impl LongCodes {
-    /// The codes that are longer than so many bits.
+    /// The codes longer than this number of bits.
     pub(crate) fn above(width: u32, least: u32, firsts: &[u64]) -> LongCodes
         requires { width ≤ 13 }
         ensures { AreLong firsts.now result }
@@ -63,7 +63,7 @@ impl LongCodes {
         LongCodes { from, first }
     }
 
-    /// The place of the least length that bits may have, which stand at the top of 63 bits.
+    /// The place of the least code length that bits may have; the bits stand at the top of 63 bits.
     #[inline]
     fn start(self, front: u64) -> usize
         ensures { result ≡ if nat_lt front self.first then self.from else 0 }

@@ -20,13 +20,13 @@ use crate::window::{BitBuffer, has_word};
 use std::alloc::{AllocError, Global};
 use std::marker::Model;
 
-/// How many runs are taken out of a word: all of their bits stand in it, 13 at most for each.
+/// How many runs are taken from a word: it holds all of their bits, at most 13 for each.
 const RUNS_IN_WORD: u32 = 4;
 
 /// The symbols of a table and their codes.
 ///
-/// It borrows the bytes that it was read from, and keeps beside them a number for each code length, the runs of short
-/// codes by the bits that begin with them, and how many values each symbol stands for.
+/// It borrows the bytes that it was read from. Beside them it keeps a number for each code length, the runs of short
+/// codes by their first bits, and each symbol's number of values.
 #[derive(Drop)]
 pub struct Dictionary<'a> {
     least: u32,
@@ -52,12 +52,12 @@ impl<'a> Model for Dictionary<'a> {
 }
 
 impl<'a> Dictionary<'a> {
-    /// The dictionary at the front of the bytes, and how many bytes it takes, the fill byte of an odd number of symbols
-    /// included (Syzygy table format, a size record from its greatest code length on).
+    /// The dictionary at the front of the bytes, and how many bytes it takes (Syzygy table format, a size record from
+    /// its greatest code length on). The fill byte after an odd number of symbols counts.
     ///
-    /// Each part is looked at once it is wholly there, in the order of the bytes, and the first fault is told:
-    /// `Truncated`, `BadCode` or `BadSymbol`. `OutOfMemory`, where memory is refused, comes only when the symbols are
-    /// there. The time is linear in the number of symbols, whatever their order.
+    /// Each part is checked once it is complete, in the order of the bytes, and the first fault is reported:
+    /// `Truncated`, `BadCode` or `BadSymbol`. `OutOfMemory`, where memory is refused, comes only after all symbols are
+    /// present. The time is linear in the number of symbols, whatever their order.
     pub fn read(alloc: Global, bytes: &'a [u8]) -> Result<(Dictionary<'a>, usize), DictFault>
         ensures is { Gives (λ x. (x.0, x.1)) result (dictionary_at bytes.now) }
         ensures values { IfOk result (λ x. AllHaveValues x.0.symbols) }
@@ -82,7 +82,7 @@ impl<'a> Dictionary<'a> {
         Ok((dictionary, layout.taken))
     }
 
-    /// The run of codes with which the bits of a buffer begin.
+    /// The run of codes at the front of a buffer's bits.
     #[inline]
     fn run(&self, buffer: BitBuffer) -> CodeRun
         ensures is { (block : List ℕ) (p : ℕ) → Shows block p buffer → run_bits result ≤ buffer.held
@@ -144,7 +144,7 @@ impl<'a> Dictionary<'a> {
         }
     }
 
-    /// Four runs that are taken out of a word one after the other, and the last of them.
+    /// Four runs taken from a word one after the other, added up, and the last of them.
     #[inline]
     fn four_runs(&self, buffer: BitBuffer) -> (RunSum, CodeRun)
         requires { 52 ≤ buffer.held }
@@ -164,8 +164,8 @@ impl<'a> Dictionary<'a> {
         (sum, run)
     }
 
-    /// Skips runs from a place on, one by one out of a single word, up to bits that begin with no run, with one that the
-    /// word doesn't hold whole, or with one that passes the value that is looked for.
+    /// Skips runs from a place on, one by one from a single word. It stops at bits that begin with no run, at a run
+    /// that the word doesn't hold whole, and at one that passes the value sought.
     #[inline]
     fn skip_runs(&self, block: &[u8], from: Place) -> Place
         requires at { from.at ≤ 8 * length block.now }
@@ -185,7 +185,7 @@ impl<'a> Dictionary<'a> {
         }
     }
 
-    /// The place behind the code at a place, unless there is no code, or the value that is looked for is one of its own.
+    /// The place after the code at a place; none where there is no code, or the value sought is one of its own.
     #[inline]
     fn skip_code(&self, block: &[u8], from: Place) -> Option<Place>
         requires at { from.at ≤ 8 * length block.now }
@@ -201,8 +201,8 @@ impl<'a> Dictionary<'a> {
         Some(from.after(skipped, length))
     }
 
-    /// Skips runs from a place on, four out of each word, and codes that no run holds: as long as eight bytes are left, and up to
-    /// a word or a code that passes the value that is looked for, or a code that isn't there.
+    /// Skips runs from a place on, four from each word, and codes that no run holds, as long as eight bytes are left.
+    /// It stops at a word or a code that passes the value sought, and where there is no code.
     #[inline]
     fn skip_words(&self, block: &[u8], from: Place) -> Place
         requires at { from.at ≤ 8 * length block.now }
@@ -226,7 +226,7 @@ impl<'a> Dictionary<'a> {
         place
     }
 
-    /// The value that is looked for from a place on, run by run and code by code.
+    /// The value sought from a place on, run by run and code by code.
     #[inline(never)]
     fn value_from(&self, block: &[u8], from: Place) -> Result<u16, Damaged>
         requires at { from.at ≤ 8 * length block.now }
@@ -250,8 +250,8 @@ impl<'a> Dictionary<'a> {
         }
     }
 
-    /// The value of a block at an offset from its first value, 0 to 4095. It takes no memory, skips the symbols before by their
-    /// counts, several codes in a step, and goes down into one.
+    /// The value of a block at an offset from its first value, 0 to 4095. It takes no memory. It skips the symbols
+    /// before the value by their counts, several codes at a time, and descends into one symbol.
     ///
     /// `Damaged` where the block's whole codes give no value at that offset (Syzygy table format, the values of a block).
     pub fn value(&self, block: &[u8], offset: u32) -> Result<u16, Damaged>
@@ -265,8 +265,8 @@ impl<'a> Dictionary<'a> {
         self.value_from(block, self.skip_words(block, first))
     }
 
-    /// Appends the values of a symbol, as long as there are fewer than `limit`. Right halves wait while left ones are gone
-    /// through.
+    /// Appends the values of a symbol, as long as there are fewer than `limit`. Right halves wait on a stack while left
+    /// ones are expanded.
     fn push_values(
         &self,
         symbol: usize,
@@ -302,7 +302,7 @@ impl<'a> Dictionary<'a> {
         }
     }
 
-    /// How many values are asked for, but no more than the block's codes could give.
+    /// The number of values requested, but no more than the block's codes could give.
     fn limit_of(&self, block: &[u8], count: u32) -> usize
         ensures same { take result (block_values self.now block.now) ≡ take count (block_values self.now block.now) }
         ensures few { result ≤ count }
@@ -314,9 +314,9 @@ impl<'a> Dictionary<'a> {
     }
 
     /// The first values of a block, at most `count`, and fewer where the block's whole codes give fewer (Syzygy table
-    /// format, the values of a block); where a block's length cuts them, the caller asks for no more. Values are 0 to
-    /// 4095. Room for them is taken once, for no more than `count` values and no more than 2048 a byte of the block; the
-    /// only error is that it is refused, and a `count` of 0 takes none.
+    /// format, the values of a block). To cut them by the block's length, pass that as `count`. Values are 0 to
+    /// 4095. Room for them is allocated once, for at most `count` values and at most 2048 for each byte of the block.
+    ///       The only error is that it is refused. A `count` of 0 takes none.
     pub fn decode(&self, alloc: Global, block: &[u8], count: u32) -> Result<Vec<u16>, AllocError>
         ensures values { IfOk result (λ values. values.items ≡ take count (block_values self.now block.now)) }
         ensures room { IfOk result (λ values. vec_capacity values ≤ 2048 * length block.now) }

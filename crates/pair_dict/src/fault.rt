@@ -15,7 +15,7 @@ pub enum DictFault {
     /// The number of symbols isn't 1 to 4095, or a symbol has a reference past the last symbol, leads back to itself,
     /// or stands for more than 256 values.
     BadSymbol,
-    /// Memory was refused. The bytes have a whole layout then, but their symbols may stand for nothing.
+    /// Memory was refused. The bytes have a complete layout then, but their symbols may have no values.
     OutOfMemory,
 }
 

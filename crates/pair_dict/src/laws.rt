@@ -19,13 +19,13 @@ pub fn values_are_unique()
     ensures { ValuesAreUnique }
 {}
 
-/// Reading gives a dictionary and a number of bytes exactly where that many bytes are there and spell it.
+/// Reading gives a dictionary and a number of bytes exactly where the first so many bytes spell it.
 pub fn reads_what_is_spelled()
     ensures { ReadsWhatIsSpelled }
 {}
 
-/// Reading tells the first fault from the left, each part looked at behind the good parts before it; and there is such a fault
-/// only where reading tells it.
+/// Reading reports the first fault from the left, each part being checked after the good parts before it. There is such
+/// a fault only where reading reports it.
 pub fn first_fault_is_told()
     ensures { FirstFaultIsTold }
 {}

@@ -88,7 +88,7 @@ fn symbols_of(n: usize, bytes: &[u8]) -> Result<&[u8], DictFault>
     Ok(&bytes[..3 * n])
 }
 
-/// What a dictionary's bytes say, before the values of its symbols are looked at.
+/// The contents of a dictionary's bytes, before the values of its symbols are checked.
 #[derive(Clone, Copy)]
 pub(crate) struct Layout<'a> {
     /// The least length of a code in bits.

@@ -1,6 +1,6 @@
 //! Pair dictionaries of Syzygy tables: the codes of a table's blocks, and the values that their symbols stand for.
 //!
-//! A dictionary is read once from the bytes of a table file, which it borrows. It then tells single values of a block,
+//! A dictionary is read once from the bytes of a table file, which it borrows. It then gives single values of a block,
 //! or decodes a block's first values.
 #![tactic(auto)]
 

@@ -2,7 +2,7 @@
 
 ghost use Rattle.std.specs.Prelude.{◌≡◌, ◌+◌, ◌-◌, ◌^◌, ◌<◌, ◌≤◌};
 
-/// A bit of a block, and how many values from there on stand before the one that is looked for.
+/// A bit of a block, and how many values from there on come before the one sought.
 #[derive(Clone, Copy)]
 pub(crate) struct Place {
     pub(crate) at: usize,
@@ -10,7 +10,7 @@ pub(crate) struct Place {
 }
 
 impl Place {
-    /// The place behind so many values in so many bits.
+    /// The place after this many values in this many bits.
     #[inline]
     pub(crate) fn after(self, values: usize, bits: u32) -> Place
         requires values { values ≤ self.left }

@@ -15,11 +15,11 @@ use std::alloc::{AllocError, Global};
 /// The most bits that runs are looked up by.
 const MOST_BITS: u32 = 13;
 
-/// How many more bits runs are looked up by than the symbols' numbers have. More bits make fewer steps and a larger table,
-/// which misses the cache more often.
+/// Runs are looked up by this many more bits than the symbols' numbers have. More bits make fewer steps, but a larger
+/// table that misses the cache more often.
 const MORE_BITS: u32 = 1;
 
-/// How many bits runs are looked up by where there are so many symbols: `MORE_BITS` more than the symbols' numbers have, up
+/// By how many bits runs are looked up for this number of symbols: `MORE_BITS` more than the symbols' numbers have, up
 /// to `MOST_BITS`.
 pub(crate) fn run_width(symbols: usize) -> u32
     ensures some { 1 ≤ result }
@@ -40,7 +40,8 @@ const MOST_RUN_VALUES: usize = 1023;
 /// of no bits holds no code.
 #[derive(Clone, Copy)]
 pub(crate) struct CodeRun {
-    // 64 times the values, and the bits: so a word is moved up by the bits as they stand, and runs are added in one sum.
+    // 64 times the values plus the bits. The low six bits are a shift count as they stand, and one addition joins two
+    // runs.
     packed: u16,
 }
 
@@ -53,7 +54,7 @@ impl CodeRun {
         CodeRun { packed: 0 }
     }
 
-    /// A run of so many values in so many bits.
+    /// A run of this many values in this many bits.
     fn of(values: u16, bits: u32) -> CodeRun
         requires values { values < 1024 }
         requires bits { bits < 64 }
@@ -98,7 +99,7 @@ impl CodeRun {
 /// Runs one after the other, taken together: how many values they stand for, and how many bits they take, 0 to 63.
 #[derive(Clone, Copy)]
 pub(crate) struct RunSum {
-    // As in a run.
+    // 64 times the values plus the bits, as in `CodeRun`.
     packed: usize,
 }
 
@@ -142,7 +143,7 @@ impl RunSum {
     }
 }
 
-/// How many numbers of so many bits there are.
+/// How many numbers of this many bits there are.
 #[inline]
 fn numbers_of(bits: u32) -> usize
     requires { bits ≤ 14 }
@@ -151,8 +152,8 @@ fn numbers_of(bits: u32) -> usize
     1 << bits
 }
 
-/// The run at a place, or, where it has more than so many values, the run of fewer of its first bits that has not. The layout
-/// is there for the clauses alone.
+/// The run at a place. Where it has more values than this, the run of fewer of its first bits that has not. The layout
+/// serves the clauses alone.
 fn run_within(layout: &Layout<'_>, runs: &[CodeRun], place: usize, most: usize) -> CodeRun
     requires some { 1 ≤ place }
     requires known { place < length runs.now }
@@ -171,8 +172,8 @@ fn run_within(layout: &Layout<'_>, runs: &[CodeRun], place: usize, most: usize) 
     }
 }
 
-/// Sets the runs of so many bits that begin with one code: that code, and the run of the bits behind it. The layout is there for
-/// the clauses alone.
+/// Sets the runs of this many bits that begin with one code: that code, and the run of the bits after it. The layout
+/// serves the clauses alone.
 fn join_code(layout: &Layout<'_>, single: CodeRun, code: usize, width: u32, runs: &mut [CodeRun])
     requires code { code < 2 ^ run_bits single }
     requires single { IsCodeRun (pairing_in layout.now).0 code single }
@@ -194,8 +195,8 @@ fn join_code(layout: &Layout<'_>, single: CodeRun, code: usize, width: u32, runs
     }
 }
 
-/// Sets the runs that begin with a code of one length: those of so many bits. Codes of that length are below `top`, which
-/// no code of a lesser length is.
+/// Sets those runs of this many bits that begin with a code of one length. Codes of that length are below `top`, and no
+/// shorter code is.
 fn join_length(
     layout: &Layout<'_>,
     firsts: &[u64],
@@ -236,7 +237,7 @@ fn join_length(
     }
 }
 
-/// Sets the runs of so many bits, by those of fewer.
+/// Sets the runs of this many bits from those of fewer bits.
 fn join_width(layout: &Layout<'_>, firsts: &[u64], counts: &[u16], width: u32, runs: &mut [CodeRun])
     requires least { 1 ≤ layout.now.least }
     requires firsts { AreFirsts layout.now.least (words layout.now.lowest.now) firsts.now }
@@ -257,7 +258,8 @@ fn join_width(layout: &Layout<'_>, firsts: &[u64], counts: &[u16], width: u32, r
     }
 }
 
-/// The runs of up to so many bits: those of n bits stand from the place 2^n on, by the number that the bits are.
+/// The runs of up to this many bits. Those of n bits stand from the place 2^n on, in the order of the bits read as a
+/// number.
 fn joined_runs(
     alloc: Global,
     layout: &Layout<'_>,
@@ -274,7 +276,7 @@ fn joined_runs(
 {
     let mut runs = vec![in alloc; CodeRun::none(); numbers_of(width + 1)]?;
     for bits in 1..width + 1 {
-        // Behind a code there are at most `width - least` bits, so that no other runs are joined.
+        // After a code there are at most `width - least` bits, so no other runs are needed.
         if layout.least <= width - bits || bits == width {
             join_width(layout, firsts, counts, bits, &mut runs);
         }
@@ -282,7 +284,7 @@ fn joined_runs(
     Ok(runs)
 }
 
-/// The runs with which so many bits begin, from all bits 0 on.
+/// The run at the front of each pattern of this many bits, from all bits 0 on.
 pub(crate) fn runs_of(
     alloc: Global,
     layout: &Layout<'_>,

@@ -123,7 +123,7 @@ impl BitBuffer {
         word.without(before as u32)
     }
 
-    /// The bits that follow so many of those that are held.
+    /// The bits after the first so many.
     #[inline]
     pub(crate) fn without(self, taken: u32) -> BitBuffer
         requires some { taken ≤ self.held }
@@ -137,7 +137,7 @@ impl BitBuffer {
         }
     }
 
-    /// The first bits, so many.
+    /// The first so many bits, as a number.
     #[inline]
     pub(crate) fn front(self, width: u32) -> usize
         requires some { 1 ≤ width }

@@ -1,4 +1,4 @@
--- Parts of a set, how many of them have k elements, and their numbers.
+-- Subsets of a set: how many of them have k elements, and their numbers.
 use Rattle.std.specs.Prelude.{◌≡◌, ◌≢◌, ◌↔◌, ℕ, zero, suc, ◌+◌, ◌<◌, List, [], ◌∷◌, ◌++◌, map, length, count_by, ◌==◌, Contains}
 use Rattle.std.specs.List.{AllPairs}
 
@@ -33,8 +33,8 @@ set_number (s ∷ lower) = choose s (suc (length lower)) + set_number lower
 abbrev pub IsLater : List ℕ → List ℕ → Type 0
 IsLater xs ys = (front : List ℕ) × (x : ℕ) × (y : ℕ) × (low : List ℕ) × (high : List ℕ) × (xs ≡ front ++ x ∷ low) × (ys ≡ front ++ y ∷ high) × (x < y)
 
--- Sets of equal size, each as a falling list: the number is below the count of sets; a later set, by the greatest number in
--- which the two differ, has a greater number; and a number is that of one set.
+-- Sets of equal size, each as a falling list. The number is below the count of sets. A later set, by the greatest number in
+-- which the two differ, has a greater number. A number is that of one set.
 abbrev pub SetsAreNumbered : Type 0
 SetsAreNumbered =
     ((n : ℕ) (xs : List ℕ) → IsFallingBelow n xs → set_number xs < choose n (length xs))

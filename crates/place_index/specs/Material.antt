@@ -76,7 +76,7 @@ TablesAreNumbered =
     × ((m : Men) → IsTable m → (k : ℕ) × (k < 145) × (men_of k ≡ m))
     × ((j k : ℕ) → j < 145 → k < 145 → name_at j ≡ name_at k → j ≡ k)
 
--- ---- what the men are asked for
+-- ---- properties of the men
 
 -- how often a code stands in a list
 unfoldable pub count_of : List ℕ → ℕ → ℕ

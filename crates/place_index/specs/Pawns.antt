@@ -25,8 +25,8 @@ pawn_number s = slice_index pawn_numbers s
 unfoldable pub pawn_square : ℕ → ℕ
 pawn_square n = position_or_len (λ other. n == other) pawn_numbers
 
--- The placements with the leading pawn on one of the first ranks of a file, from the second rank on, and so many pawns
--- beside it: these stand on squares of lower pawn numbers.
+-- The placements with the leading pawn on one of the first ranks of a file, from the second rank on, and this many pawns
+-- beside it. These stand on squares of lower pawn numbers.
 unfoldable pub pawns_before : ℕ → ℕ → ℕ → ℕ
 pawns_before file others zero = 0
 pawns_before file others (suc ranks) = pawns_before file others ranks + choose (pawn_number (8 * suc ranks + file)) others

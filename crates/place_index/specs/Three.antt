@@ -34,9 +34,9 @@ pub record IsTurnedThree (s0 s1 s2 : ℕ) : Type 0 where
 abbrev pub first_off : ℕ → ℕ → ℕ → ℕ
 first_off s0 s1 s2 = cond (not (on_diagonal s0)) 0 (cond (not (on_diagonal s1)) 1 (cond (not (on_diagonal s2)) 2 3))
 
--- Three men, by the first of them off the diagonal: the first on one of 6 squares of the triangle, and any two others; the
--- first on one of 4 squares of the diagonal and the second on one of 28 below it, and any other; the first two among 4 and
--- 7 squares of the diagonal, the third below it; all three on the diagonal.
+-- Three men, by the first of them off the diagonal. First: the first man on one of 6 squares of the triangle, and any two
+-- others. Second: the first on one of 4 squares of the diagonal, the second on one of 28 below it, and any other. Third:
+-- the first two among 4 and 7 squares of the diagonal, the third below it. Fourth: all three on the diagonal.
 abbrev pub three_size : ℕ
 three_size = 6 * 63 * 62 + 4 * 28 * 62 + 4 * 7 * 28 + 4 * 7 * 6
 

@@ -179,7 +179,7 @@ fn begins_by_kings(pieces: &[PieceCode]) -> bool
         || first == PieceCode::BLACK_KING && second == PieceCode::WHITE_KING
 }
 
-/// Whether the men that lead come first.
+/// Whether the leading men come first.
 fn begins_well(material: Material, pieces: &[PieceCode]) -> bool
     requires { length pieces.now ≡ length (pieces_of material) }
     ensures { IsTrue result ↔ BeginsWell material pieces.now }

@@ -3,7 +3,7 @@ ghost use Rattle.place_index.specs.Choose.{choose, PartsAreListed, PascalsRule};
 
 use crate::tables::CHOICES;
 
-/// How many parts of so many elements a set of so many things has.
+/// How many subsets of `elements` elements a set of `things` things has (a binomial coefficient).
 pub(crate) fn choices(things: u64, elements: u64) -> u64
     requires things { things ≤ 64 }
     requires elements { elements ≤ 5 }
@@ -12,12 +12,12 @@ pub(crate) fn choices(things: u64, elements: u64) -> u64
     CHOICES[elements as usize * 65 + things as usize] as u64
 }
 
-/// The parts that are counted are all parts, each once.
+/// The subsets that are counted are all subsets, each once.
 pub fn parts_are_listed()
     ensures { PartsAreListed }
 {}
 
-/// Parts with a thing and parts without it.
+/// Subsets with a given thing and subsets without it.
 pub fn pascals_rule()
     ensures { PascalsRule }
 {}

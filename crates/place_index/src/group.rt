@@ -11,7 +11,7 @@ use crate::piece_code::PieceCode;
 use crate::short_lists::Earlier;
 use arrayvec::ArrayVec;
 
-/// Men of a table that are numbered together: the leading group, or a run of equal men.
+/// Men of a table that share one number: the leading group, or a run of equal men.
 #[derive(Clone, Copy, PartialEq, Eq, Default, Debug)]
 pub struct Group {
     /// What the first man is.
@@ -29,7 +29,7 @@ impl Group {
         if self.code.is_pawn() { 8 } else { 0 }
     }
 
-    /// How many squares its men may take, after so many leading men, where so many squares are free: the pawns that don't
+    /// How many squares its men may take, after this many leading men and with this many squares free. Pawns that don't
     /// lead have the 48 squares of pawns less those of the leading ones.
     pub(crate) fn squares(&self, lead: u8, free: u8) -> u8
         requires { lead ≤ 3 }
@@ -39,7 +39,7 @@ impl Group {
     }
 }
 
-/// The leading group of so many men, then the runs of equal pieces after it.
+/// The leading group of this many men, then the runs of equal pieces after it.
 pub(crate) fn groups(lead: u8, pieces: &[PieceCode]) -> ArrayVec<Group, 5>
     requires some { 1 ≤ lead }
     requires lead { lead ≤ length pieces.now }

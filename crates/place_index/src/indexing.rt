@@ -1,11 +1,11 @@
 //! The index of a placement (Syzygy index): from a FEN to its place in the table.
 //!
-//! One example, `8/8/5k2/8/6p1/7p/2K5/7r b - - 0 1`, on its way through this crate; `checks`, `index_tests.rt`, has the same
-//! numbers.
+//! One example, `8/8/5k2/8/6p1/7p/2K5/7r b - - 0 1`, step by step through this crate. The test `index_tests.rt` of
+//! `checks` has these numbers.
 //!
-//! **Placement** (`placed.rt`). Black has king, rook and two pawns, so the table is KRPPvK, whose first side has more men.
-//! Colours are exchanged, each man goes to the opposite rank, and the first side is to move: R h8, k c7, P h6, P g5, K f3
-//! (capitals are the first side).
+//! **Placement** (`placed.rt`). Black has king, rook and two pawns, so the table is KRPPvK, whose first side has more
+//! men. Colours are exchanged, each man goes to the opposite rank, and the first side is to move. The men are then R
+//! h8, k c7, P h6, P g5, K f3; capitals are the first side.
 //!
 //! **Turned placement** (`turning.rt`, `Turned`). With pawns the leading pawn goes to the files a to d. Of the leading colour's
 //! pawns it is the one with the greatest pawn number: h6 has 38, g5 has 28. It stands on h, so all men are mirrored left to
@@ -17,14 +17,15 @@
 //! leading group, and the others take the free places in sequence: K 0, R 1, the pawns 2, k 3.
 //!
 //! **Sizes and factors** (`sizes.rt`, `places.rt`). Two leading pawns on file a have 47 + 45 + 43 + 41 + 39 + 37 = 252
-//! placements: for the leading one on a2 to a7 so many squares of lower pawn numbers are left to the other. K has the 62 squares
-//! that are free then, R 61, k 60. A group's factor is the product of the sizes at places before its own: K 1, R 62, the pawns
-//! 62 * 61 = 3,782, k 3,782 * 252 = 953,064. The product of all, 57,183,840, is the size of the record.
+//! placements. Each term counts the squares of lower pawn numbers left to the other pawn, for the leading one on a2 to
+//! a7. K has the 62 squares that are free then, R 61, k 60. A group's factor is the product of the sizes at places
+//! before its own. K has 1, R 62, the pawns 62 * 61 = 3,782, and k 3,782 * 252 = 953,064. The product of all,
+//! 57,183,840, is the size of the record.
 //!
-//! **Numbers** (`leading.rt`, `numbers.rt`). The pawns have the pawn numbers 39 (a6) and 29 (b5): 47 + 45 + 43 + 41 = 176
-//! placements have the leading one on a2 to a5, and 29 more come first, so their number is 205. Squares are numbered from a1 = 0
-//! to h8 = 63, and each man that was numbered before and stands lower takes one away. K on c3: 18, none lower. R on a8: 56 less
-//! three (a6 = 40, b5 = 33, c3 = 18), 53. k on f7: 53 less the same three, 50.
+//! **Numbers** (`leading.rt`, `numbers.rt`). The pawns have the pawn numbers 39 (a6) and 29 (b5). With the leading one
+//! on a2 to a5 there are 47 + 45 + 43 + 41 = 176 placements, and 29 more come first, so their number is 205. Squares
+//! are numbered from a1 = 0 to h8 = 63, and each man that was numbered before and stands lower takes one away. K on c3:
+//! 18, none lower. R on a8: 56 less three (a6 = 40, b5 = 33, c3 = 18), 53. k on f7: 53 less the same three, 50.
 //!
 //! **Index** (`index`). Each number times its factor:
 //! 205 * 3,782 + 18 * 1 + 53 * 62 + 50 * 953,064 = 775,310 + 18 + 3,286 + 47,653,200 = 48,431,814.

@@ -27,7 +27,7 @@ pub(crate) enum Leading {
 }
 
 impl Leading {
-    /// Those of the turned men who lead.
+    /// The leading men of the turned placement.
     pub(crate) fn of(turned: &Turned) -> Leading
         ensures { AreLeading turned.now result }
     {
@@ -39,7 +39,7 @@ impl Leading {
         }
     }
 
-    /// The group's number; leading pawns stand on this file.
+    /// The group's number. Leading pawns stand on this file.
     pub(crate) fn number(&self, file: PawnFile) -> u64
         requires { StandAsWanted file self.now }
         ensures { result ≡ leading_number self.now }

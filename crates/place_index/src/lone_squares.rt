@@ -31,7 +31,7 @@ impl LoneSquares {
     {
         let mut squares = [0u8; 16];
         let mut i = men.len();
-        // The invariant goes by this label.
+        // The loop invariant names this label.
         'men: while i > 0 {
             i -= 1;
             let man = men[i];

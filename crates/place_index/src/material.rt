@@ -14,8 +14,8 @@ use std::marker::Model;
 /// The men of one of the 145 tables of three to five men, two kings among them (Syzygy table names). The side with more
 /// men comes first, and at equal numbers the side whose letter is earlier in Q R B N P.
 ///
-/// It is known by its key, a number from 0 to 144: the tables KXvK, KXYvK, KXvKY, KXYZvK and KXYvKZ one after another,
-/// each in the order of its letters, where Q comes before R, B, N and P.
+/// Its key is a number from 0 to 144: the tables KXvK, KXYvK, KXvKY, KXYZvK and KXYvKZ in turn. Each family is in the
+/// order of its letters, where Q comes before R, B, N and P.
 #[derive(Clone, Copy, PartialEq, Eq, Debug)]
 pub struct Material {
     key: u8,

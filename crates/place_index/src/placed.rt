@@ -18,8 +18,8 @@ use crate::turning::lead_pawn;
 use board_core::{Position, Side, Square};
 use std::marker::Model;
 
-/// What a table is asked for: a position's men with the colours of the table's name, the side to move, and the file of the
-/// leading pawn.
+/// The key of a look-up in a table: a position's men with the colours of the table's name, the side to move, and the
+/// file of the leading pawn.
 #[derive(Drop, Debug)]
 pub struct Placed {
     material: Material,
@@ -102,7 +102,7 @@ fn is_exchanged(material: Material, position: &Position, tally: u64) -> bool
     ensures named { IsNamed material (cond result (exchanged (men_on position.now.men)) (men_on position.now.men)) }
     ensures white { IsSymmetric material → cond result (other position.now.side) position.now.side ≡ White }
 {
-    // The proof alone reads that the key is below 145.
+    // The condition that the key is below 145 serves the proof alone.
     let _key = material.key();
     // In either colours there are as many men as in the material, so equal tallies are equal men.
     if tally != material.tally() {
@@ -145,7 +145,7 @@ fn looked_up(
     requires white { IsSymmetric material → cond exchanges (other position.now.side) position.now.side ≡ White }
     ensures { IsLookedUp material position.now result }
 {
-    // The proof alone reads that it is a position, and that the key is below 145.
+    // The conditions that it is a position and that the key is below 145 serve the proof alone.
     let _position = position.parts();
     let _key = material.key();
     in_colours(&mut men, exchanges);
@@ -181,14 +181,14 @@ impl Placed {
     }
 }
 
-/// A position as its table sees it (Syzygy tables): colours are exchanged, and squares changed to the opposite rank, where
-/// white's men are the name's second side, and for symmetric material with black to move. That the material is the
-/// position's is the caller's condition.
+/// A position as its table sees it (Syzygy tables). Where white's men are the name's second side, or symmetric material
+/// has black to move, colours are exchanged and squares go to the opposite rank. That the material is the position's is
+/// the caller's condition.
 pub fn place(position: &Position, material: &Material) -> Placed
     requires { IsMaterialOf material.now (men_on position.now.men) }
     ensures { IsLookedUp material.now position.now result }
 {
-    // The proof alone reads that the key is below 145.
+    // The condition that the key is below 145 serves the proof alone.
     let _key = material.key();
     let mut men = [Man::default(); 5];
     let (count, tally) = men_on(position, &mut men);

@@ -67,7 +67,7 @@ pub(crate) fn factors(places: &[u8], sizes: &Sizes) -> ArrayVec<u64, 5>
     requires { length places.now ≡ length sizes.now }
     ensures { result.items ≡ map (factor_at places.now sizes.now) places.now }
 {
-    // The proof alone reads that there are at most five.
+    // The condition that there are at most five serves the proof alone.
     let _sizes = sizes.as_slice();
     let mut factors = ArrayVec::<u64, 5>::new();
     for place in places {

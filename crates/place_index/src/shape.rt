@@ -16,9 +16,9 @@ use std::marker::Model;
 /// Why a table file's pieces and order nibbles make no shape.
 #[derive(Clone, Copy, PartialEq, Eq, Debug)]
 pub enum ShapeFault {
-    /// The pieces are not the men of the material with equal ones side by side, or do not begin with the men that lead:
-    /// with pawns the leading colour's pawns and then the other's; without pawns, where some piece other than a king
-    /// occurs once, three pieces that each occur once; otherwise the two kings.
+    /// The pieces are not the men of the material with equal ones side by side, or do not begin with the leading men.
+    /// With pawns these are the leading colour's pawns, followed by the other's. Without pawns they are three pieces
+    /// that each occur once, if some piece other than a king occurs once, and otherwise the two kings.
     BadPieces,
     /// An order nibble is no place of a group, or both sides' pawns have the same place.
     BadOrder,
@@ -75,9 +75,9 @@ fn has_good_order(groups: usize, order: u8, second: Option<u8>) -> bool
 impl Shape {
     /// The shape of a table with this material, for leading pawns on this file.
     ///
-    /// The pieces are codes of the table file: 1 to 6 for white's pawn, knight, bishop, rook, queen and king, 9 to 14 for
-    /// black's. `order` is the place of the leading group among the groups, and `second` that of the other side's pawns,
-    /// which is not looked at unless both sides have pawns.
+    /// The pieces are codes of the table file: 1 to 6 for white's pawn, knight, bishop, rook, queen and king, 9 to 14
+    /// for black's. `order` is the place of the leading group among the groups, and `second` that of the other side's
+    /// pawns, which is ignored unless both sides have pawns.
     ///
     /// `BadPieces` comes before `BadOrder`.
     pub fn new(
@@ -152,8 +152,8 @@ impl Shape {
         self.order
     }
 
-    /// The place of the other side's pawns, where both sides have pawns; otherwise what the shape was made with,
-    /// which is not looked at.
+    /// The place of the other side's pawns, where both sides have pawns. Otherwise it is the ignored argument from
+    /// which the shape was made.
     pub fn second(&self) -> u8
         ensures { result ≡ self.now.second }
     {

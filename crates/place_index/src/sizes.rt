@@ -84,7 +84,7 @@ fn leading_size(material: Material, file: PawnFile) -> u64
     if lead == 3 { 31332 } else { 462 }
 }
 
-/// The sizes of all groups, the first one of so many men and of this size.
+/// The sizes of all groups; the first one has this many men and this size.
 fn all_sizes(first: u64, lead: u8, groups: &[Group]) -> ArrayVec<u64, 5>
     requires lead { lead ≤ 3 }
     requires groups { length groups.now ≤ 4 }

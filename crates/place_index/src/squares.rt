@@ -21,7 +21,7 @@ pub(crate) fn squares_of(men: &[Man], turn: Turn, code: PieceCode) -> UpToThree
 {
     let mut squares = UpToThree::new();
     let mut i = men.len();
-    // The invariant goes by this label.
+    // The loop invariant names this label.
     'men: while i > 0 {
         i -= 1;
         let man = men[i];
@@ -43,7 +43,7 @@ pub(crate) fn pawn_numbers_of(men: &[Man], turn: Turn, code: PieceCode) -> UpToT
 {
     let mut numbers = UpToThree::new();
     let mut i = men.len();
-    // The invariant goes by this label.
+    // The loop invariant names this label.
     'men: while i > 0 {
         i -= 1;
         let man = men[i];

@@ -19,8 +19,8 @@ fn known_tally(code: PieceCode) -> u64
     CODE_TALLIES[code.number() as usize]
 }
 
-/// Puts the men of a position into the first places in order of square; how many they are, and their tally: how often each
-/// code from 0 to 15 stands among them, four bits for each.
+/// Puts the men of a position into the first places in order of square, and returns their number and tally. The tally
+/// says how often each code from 0 to 15 stands among them, four bits for each.
 // Inlined, it would keep the men in registers and take a tenth more instructions.
 #[inline(never)]
 pub(crate) fn men_on(position: &Position, men: &mut [Man; 5]) -> (usize, u64)
@@ -29,11 +29,11 @@ pub(crate) fn men_on(position: &Position, men: &mut [Man; 5]) -> (usize, u64)
     ensures few { result.0 ≤ 5 }
     ensures tally { result.1 ≡ tally_of (codes_of (men_on position.now.men)) }
 {
-    // The proof alone reads that it is a position.
+    // The condition that it is a position serves the proof alone.
     let _position = position.parts();
     let mut tally = 0u64;
     let mut rest = position.occupied();
-    // The first square that was not looked at; the proof alone reads it.
+    // The first square not yet visited. It serves the proof alone.
     let mut next = 0u8;
     for count in 0..5usize {
         if rest.is_empty() {

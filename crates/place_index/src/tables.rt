@@ -1,4 +1,5 @@
-//! Tables by the key of a material, by squares and by numbers. `tools/index_tables` prints each of them anew from its rule.
+//! Tables by the key of a material, by squares and by numbers. `tools/index_tables` recomputes each of them from its
+//! rule.
 
 /// The letters of the 145 names in order of key, six places each, filled up by 0.
 pub const LETTERS: [u8; 870] = [
@@ -316,7 +317,8 @@ pub const SYMMETRIC: [bool; 145] = [
 /// Where the pairs that begin with each letter would begin, so that adding the second letter's place gives the pair's.
 pub const PAIRS: [u8; 5] = [0, 4, 7, 9, 10];
 
-/// The same for triples and the place of their second and third letter.
+/// Where the triples that begin with each letter would begin, so that adding the place of the second and third letter
+/// gives the triple's.
 pub const TRIPLES: [u8; 5] = [0, 10, 16, 19, 20];
 
 /// How many men lead in each material: the leading pawns, or three, or the two kings.
@@ -429,8 +431,8 @@ pub const PAWN_SQUARES: [u8; 48] = [
     54, 49, 46, 41, 38, 33, 30, 25, 22, 17, 14, 9, 55, 48, 47, 40, 39, 32, 31, 24, 23, 16, 15, 8,
 ];
 
-/// How many placements have the leading pawn on one of the first 0 to 6 ranks from the second on: seven numbers for each
-/// of the files a to d, with no, one and two pawns beside it.
+/// How many placements have the leading pawn on one of the first 0 to 6 ranks from the second on. There are seven
+/// numbers for each of the files a to d, with no, one and two pawns beside it.
 pub const PAWNS_BEFORE: [u16; 84] = [
     0, 1, 2, 3, 4, 5, 6, 0, 1, 2, 3, 4, 5, 6, 0, 1, 2, 3, 4, 5, 6, 0, 1, 2, 3, 4, 5, 6, 0, 47, 92,
     135, 176, 215, 252, 0, 35, 68, 99, 128, 155, 180, 0, 23, 44, 63, 80, 95, 108, 0, 11, 20, 27,
@@ -673,7 +675,7 @@ pub const TALLIES: [u64; 145] = [
     72057662774181920,
 ];
 
-/// How many parts of 0 to 5 elements a set of 0 to 64 things has, 65 numbers for each number of elements.
+/// How many subsets of 0 to 5 elements a set of 0 to 64 things has, 65 numbers for each number of elements.
 pub const CHOICES: [u32; 390] = [
     1, 1, 1, 1, 1, 1, 1, 1, 1, 1, 1, 1, 1, 1, 1, 1, 1, 1, 1, 1, 1, 1, 1, 1, 1, 1, 1, 1, 1, 1, 1, 1,
     1, 1, 1, 1, 1, 1, 1, 1, 1, 1, 1, 1, 1, 1, 1, 1, 1, 1, 1, 1, 1, 1, 1, 1, 1, 1, 1, 1, 1, 1, 1, 1,

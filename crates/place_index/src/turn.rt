@@ -9,10 +9,10 @@ use board_core::Square;
 /// Which mirrorings all men go through, in this sequence.
 #[derive(Clone, Copy, Default)]
 pub(crate) struct Turn {
-    /// Whether files a and h are exchanged, and so on.
+    /// Whether files are mirrored: a and h, b and g, c and f, d and e are exchanged.
     pub(crate) left_right: bool,
 
-    /// Whether ranks 1 and 8 are exchanged, and so on.
+    /// Whether ranks are mirrored: 1 and 8, 2 and 7, 3 and 6, 4 and 5 are exchanged.
     pub(crate) bottom_top: bool,
 
     /// Whether file and rank are exchanged.
@@ -33,8 +33,8 @@ impl Turn {
         }
     }
 
-    /// The turn's number among the eight, by which the table of turned squares is read: 1 for files exchanged, 2 for ranks
-    /// exchanged and 4 for file and rank exchanged, added.
+    /// The turn's number among the eight, an index into the table of turned squares. It is the sum of 1 for files
+    /// mirrored, 2 for ranks mirrored and 4 for file and rank exchanged.
     #[tactic(auto, unfolding(crate::specs::Inside::Turns::turn_number))]
     fn number(self) -> usize
         ensures is { result ≡ turn_number self }

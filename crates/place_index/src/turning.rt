@@ -41,7 +41,7 @@ fn greatest_number(men: &[Man], code: PieceCode) -> u8
 {
     let mut greatest = 0u8;
     let mut i = men.len();
-    // The invariant goes by this label.
+    // The loop invariant names this label.
     'men: while i > 0 {
         i -= 1;
         greatest = raised(greatest, men[i], code);
@@ -113,7 +113,7 @@ pub(crate) fn turn_of(shape: &Shape, placed: &Placed, lone_squares: &LoneSquares
     ensures shape { IsShape shape.now }
 {
     let material = shape.material();
-    // The proof alone reads that the men are a placement.
+    // The condition that the men are a placement serves the proof alone.
     let _men = placed.men();
     if material.has_pawns() {
         let lead = placed.lead_pawn();

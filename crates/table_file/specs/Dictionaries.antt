@@ -1,4 +1,4 @@
--- The dictionary of a size record, and what is left after it.
+-- The dictionary of a size record, and the bytes after it.
 use Rattle.std.specs.Prelude.{ℕ, List, drop, Result, Ok, Err}
 use Rattle.pair_dict.specs.Codes.{Pairing}
 use Rattle.pair_dict.specs.Reading.{dictionary_at}

@@ -1,4 +1,4 @@
--- Distances that a DTZ table tells (Syzygy table format, flags of DTZ tables and value maps).
+-- Distances of a DTZ table (Syzygy table format, flags of DTZ tables and value maps).
 use Rattle.std.specs.Prelude.{◌≡◌, ℕ, ◌*◌, ◌%◌, Bool, true, false, List, slice_get, slice_index_or, Option, Some, None, ◌==◌, ◌||◌, not, if◌then◌else◌}
 use Rattle.board_core.specs.declared.piece.Side.TheVariants.{White, Black}
 use Rattle.pair_dict.specs.Reading.{words}
@@ -52,8 +52,8 @@ map_entry maps outcome place = slice_get (entries_of maps.wide (map_of maps outc
 abbrev pub mapped_value : ℕ → ValueMaps → Outcome → ℕ → Option ℕ
 mapped_value flags maps outcome value = if has_bit 2 flags then map_entry maps outcome value else Some value
 
--- Whether the value counts moves of one side, and not plies: always where the fifty-move rule makes the game a draw, for
--- a win where bit 2 of the flags is clear, and for a loss where bit 3 is.
+-- Whether the value counts moves of one side, and not plies. It does where the fifty-move rule makes the game a draw, for a
+-- win where bit 2 of the flags is clear, and for a loss where bit 3 is.
 abbrev pub counts_moves : ℕ → Outcome → Bool
 counts_moves flags Win = not (has_bit 4 flags)
 counts_moves flags CursedWin = true
@@ -71,7 +71,7 @@ abbrev pub mapped : ℕ → ValueMaps → Outcome → Option ℕ → Option ℕ
 mapped flags maps outcome None = None
 mapped flags maps outcome (Some value) = mapped_value flags maps outcome value
 
--- How many plies the table tells at an index of a part, for a game of that outcome, if the value is there: the entry of
--- the expanded table, through the map, and doubled where it counts moves.
+-- The plies that the table gives at an index of a part, for a game of that outcome, if the value is there. They are the
+-- entry of the expanded table, through the map, and doubled where it counts moves.
 unfoldable pub distance : PartAt → ℕ → Outcome → Option ℕ
 distance p index outcome = told (file_flags p) outcome (mapped (file_flags p) (file_maps p) outcome (entry_at (expansion p) index))

@@ -64,7 +64,7 @@ abbrev pub same : Bool → Bool → Bool
 same true b = b
 same false b = not b
 
--- Bit 1 tells whether there are pawns, and in WDL bit 0 whether there are two sides.
+-- Bit 1 says whether there are pawns, and in WDL bit 0 whether there are two sides.
 abbrev pub flags_agree : TableKind → ℕ → ℕ → Bool
 flags_agree Wdl m flags = same (has_bit 2 flags) (has_pawns m) && same (has_bit 1 flags) (not (is_symmetric m))
 flags_agree Dtz m flags = same (has_bit 2 flags) (has_pawns m)

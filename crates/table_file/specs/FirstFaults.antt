@@ -1,6 +1,6 @@
--- The first fault of a table file (Syzygy table format): all that stands before the part at fault is laid out, and that part
--- can't be. Each relation says which fault is the first one from an offset on; it stands beside the relation of the layout for
--- the same part, and offsets are counted as there.
+-- The first fault of a table file (Syzygy table format): all that stands before the part at fault is laid out, and that
+-- part can't be. Each relation says which fault is the first one from an offset on. It corresponds to the relation of the
+-- layout for the same part, and offsets are counted as there.
 use Rattle.std.specs.Prelude.{◌≡◌, ℕ, ◌+◌, ◌-◌, ◌*◌, ◌/◌, ◌%◌, ◌<◌, ◌≤◌, ◌↔◌, ◌⊎◌, Bool, true, false, List, [], ◌∷◌, length, map, take, drop, Err}
 use Rattle.std.specs.List.{range_with_len}
 use Rattle.pair_dict.specs.Reading.{dictionary_at}
@@ -154,6 +154,6 @@ pub data IsFirstFault (name file : List ℕ) : TableFault → Type 0 where
       → IsFirstFault name file BadFlags
   in_parts : {e : TableFault} (kind : TableKind) (m : ℕ) (body : List ℕ) → IsHead name file kind m body → IsPartsFault kind m body 5 e → IsFirstFault name file e
 
--- Reading tells a fault exactly where it is the file's first one.
+-- Reading reports a fault exactly where it is the file's first one.
 abbrev pub TellsFirstFault : Type 0
 TellsFirstFault = (name file : List ℕ) (e : TableFault) → ((table_at name file ≡ Err e) ↔ IsFirstFault name file e)

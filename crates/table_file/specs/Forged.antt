@@ -1,4 +1,4 @@
--- What the forge promises: a file of the plan's name opens, and says what the plan says.
+-- What writing a table file guarantees: a file of the plan's name opens, and says what the plan says.
 use Rattle.std.specs.Prelude.{◌≡◌, ℕ, List, length, slice_get, Some, Ok}
 use Rattle.table_file.specs.declared.parts.Part.{Part}
 use Rattle.table_file.specs.declared.plan.Plan.{Plan}

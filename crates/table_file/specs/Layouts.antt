@@ -101,7 +101,7 @@ pub record AreCodes (body : List ℕ) (p : ℕ) (c : Figures) (q : ℕ) : Type 0
   pub blocks : IsNumber 4 body at_blocks c.blocks at_dictionary
   pub dictionary : IsDictionary body at_dictionary c.dictionary q
 
--- The byte of a single value isn't looked at in a DTZ file.
+-- The byte of a single value is ignored in a DTZ file.
 pub record IsSingle (kind : TableKind) (body : List ℕ) (p v q : ℕ) : Type 0 where
   pub byte : ℕ
   pub byte_is : IsByte body p byte q

@@ -86,8 +86,9 @@ planned_maps Dtz parts = map planned_maps_of parts
 abbrev pub pairing_of : PairsPlan → Pairing
 pairing_of q = record { least = q.least; lowest = q.lowest.items; symbols = symbol_bytes q }
 
--- The code of a symbol, by the lengths from n on and their lowest symbols: of the least length whose lowest symbol isn't
--- above it, and as far above the base as the symbol is above the lowest one. It has no bits where there is no such length.
+-- The code of a symbol, from the lengths from n on and their lowest symbols. It has the least length whose lowest symbol
+-- isn't above the symbol, and is as far above the base as the symbol is above the lowest one. It has no bits where there is
+-- no such length.
 unfoldable pub code_by : ℕ → List ℕ → ℕ → Code
 code_by n [] s = record { length = 0; bits = 0 }
 code_by n (low ∷ lowest) s =
@@ -105,8 +106,8 @@ abbrev pub codes_size : (ℕ → Code) → List ℕ → ℕ
 codes_size code [] = 0
 codes_size code (s ∷ block) = (code s).length + codes_size code block
 
--- The figures of a size record: exponents in range, a lowest symbol for each length from the least to the greatest, none
--- above the one before, 1 to 4095 symbols, and a number of blocks that four bytes hold.
+-- The figures of a size record. Exponents are in range. There is a lowest symbol for each length from the least to the
+-- greatest, none above the one before. There are 1 to 4095 symbols, and the number of blocks fits four bytes.
 pub record AreGoodFigures (q : PairsPlan) : Type 0 where
   pub block : q.block_exponent ≤ 24
   pub span_some : 1 ≤ q.span_exponent
@@ -155,7 +156,7 @@ abbrev pub IsGoodSingle : TableKind → ℕ → Type 0
 IsGoodSingle Wdl v = v < 256
 IsGoodSingle Dtz v = v ≡ 0
 
--- The single flag tells of a single value.
+-- The single flag announces a single value.
 abbrev pub IsGoodContent : TableKind → Content → ℕ → ℕ → Type 0
 IsGoodContent kind (Single v) flags size = (has_bit 128 flags ≡ true) × IsGoodSingle kind v
 IsGoodContent kind (Pairs q) flags size = (has_bit 128 flags ≡ false) × AreGoodPairs q size
@@ -163,7 +164,7 @@ IsGoodContent kind (Pairs q) flags size = (has_bit 128 flags ≡ false) × AreGo
 abbrev pub HasNoMaps : MapsPlan → Type 0
 HasNoMaps m = (m.win.items ≡ []) × (m.loss.items ≡ []) × (m.cursed_win.items ≡ []) × (m.blessed_loss.items ≡ [])
 
--- whether a file tells value maps of a part
+-- whether a file has value maps of a part
 abbrev pub has_maps : TableKind → PartPlan → Bool
 has_maps Wdl p = false
 has_maps Dtz p = has_bit 2 p.flags
@@ -179,7 +180,7 @@ pub record AreGoodMaps (wide : Bool) (m : MapsPlan) : Type 0 where
   pub cursed_win : IsGoodMap wide m.cursed_win.items
   pub blessed_loss : IsGoodMap wide m.blessed_loss.items
 
--- Pieces and orders make a shape, and there are maps only where a DTZ file's flags tell of them.
+-- Pieces and orders make a shape, and there are maps only where a DTZ file's flags announce them.
 pub record IsGoodPart (kind : TableKind) (material : ℕ) (p : PartPlan) (file : ℕ) : Type 0 where
   pub second : IsSome p.second ↔ (both_have_pawns material ≡ true)
   pub pieces : HasGoodPieces material p.pieces.items

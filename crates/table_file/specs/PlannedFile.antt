@@ -166,7 +166,7 @@ unfoldable pub four_maps_bytes : Bool → MapsPlan → List ℕ
 four_maps_bytes wide m =
     one_map_bytes wide m.win.items ++ one_map_bytes wide m.loss.items ++ one_map_bytes wide m.cursed_win.items ++ one_map_bytes wide m.blessed_loss.items
 
--- The file with the maps of a part, where its flags tell of them; wide ones begin at an even place.
+-- The file with the maps of a part, where its flags announce them; wide ones begin at an even place.
 unfoldable pub with_maps : List ℕ → PartPlan → List ℕ
 with_maps file p =
     if has_bit 2 p.flags

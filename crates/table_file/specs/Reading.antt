@@ -1,6 +1,6 @@
 -- Reading a table file from left to right, with the first fault that is met. What is read is the file without its last 16
--- bytes. Its length is a multiple of 64, so where it is read up to is an even place, or a multiple of 64, exactly where the
--- length of what is left is one.
+-- bytes. Its length is a multiple of 64. So a place is even, or a multiple of 64, exactly where the length of what is left
+-- is.
 use Rattle.std.specs.Prelude.{◌≡◌, ℕ, ◌/◌, ◌%◌, Bool, List, [], ◌∷◌, length, take, drop, Result, Ok, Err, nat_lt, nat_le, ◌==◌, ◌&&◌, if◌then◌else◌}
 use Rattle.byteorder.specs.Endian.{little_number}
 use Rattle.table_file.specs.declared.fault.TableFault.{TableFault}

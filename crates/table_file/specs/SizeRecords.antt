@@ -20,7 +20,7 @@ codes_at bytes = do
   dictionary ← pairing_at blocks.1
   Ok (record { block_exponent = block.0; span_exponent = span.0; padding = padding.0; blocks = blocks.0; dictionary = dictionary.0 }, dictionary.1)
 
--- in a DTZ file the byte of a single value isn't looked at, and the value is 0
+-- in a DTZ file the byte of a single value is ignored, and the value is 0
 abbrev pub single_value : TableKind → ℕ → ℕ
 single_value Wdl b = b
 single_value Dtz b = 0

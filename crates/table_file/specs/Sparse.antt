@@ -1,4 +1,4 @@
--- Where a value stands among blocks, and the sparse entries that tell it (Syzygy table format, sparse entries).
+-- Where a value stands among blocks, and the sparse entries that give it (Syzygy table format, sparse entries).
 use Rattle.std.specs.Prelude.{◌≡◌, ℕ, zero, suc, ◌+◌, ◌*◌, ◌/◌, ◌<◌, Bool, true, List, [], ◌∷◌, length, take, sum, slice_index, nat_le, ◌==◌, ◌&&◌}
 use Rattle.table_file.specs.declared.size_record.Coding.{Coding}
 use Rattle.table_file.specs.declared.size_record.Coding.TheVariants.{Single, Pairs}

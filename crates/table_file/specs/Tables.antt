@@ -18,8 +18,8 @@ use Rattle.table_file.specs.Files.{sides_of, files_of, side_of, body_of, magic_a
 use Rattle.table_file.specs.Maps.{ValueMaps, all_maps_at}
 use Rattle.table_file.specs.Sparse.{all_fit}
 
--- What a file says. Part k is of file k / sides and of side k % sides, and so are its sparse entries, its block lengths and
--- its blocks; these are bytes, and a part of a single value has none. Maps are there in DTZ files alone, four for each part.
+-- What a file says. Part k is of file k / sides and of side k % sides. So are its sparse entries, its block lengths and its
+-- blocks; these are bytes, and a part of a single value has none. Maps are there in DTZ files alone, four for each part.
 pub record Contents : Type 0 where
   pub kind : TableKind
   pub material : ℕ

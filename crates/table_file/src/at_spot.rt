@@ -1,4 +1,4 @@
-//! Values at spots that were located before, and out of blocks that were unpacked before.
+//! Values at spots found by `locate`, and from blocks decoded by `unpack`.
 
 ghost use Rattle.std.specs.Prelude.{◌≡◌, ◌<◌, ◌≤◌, ℕ, slice_get, Some, None, IfOk, OnErr};
 ghost use Rattle.table_file.specs.declared.kind.TableKind.TheVariants.{Dtz};
@@ -20,7 +20,8 @@ fn value_at(values: &[u16], place: u32) -> Option<u16>
 }
 
 impl<'t, 'a> TablePart<'t, 'a> {
-    /// The value in a real block at an offset, as `value` tells it at the index for which `locate` told them.
+    /// The value in a real block at an offset: the one that `value` gives at the index for which `locate` gave that
+    /// spot.
     pub fn value_in_block(&self, block: u32, offset: u32) -> Result<u16, Damaged>
         requires real { block < real_blocks self.now }
         ensures found { (index : ℕ) → IsSpot self.now index (At block offset) → IfOk result (λ v. entry_at (expansion self.now) index ≡ Some v) }
@@ -35,20 +36,20 @@ impl<'t, 'a> TablePart<'t, 'a> {
         }
     }
 
-    /// The value at an offset of a block, out of the values that `unpack` gave for it, as `value` tells it at the index for
-    /// which `locate` told them; none where that is damaged.
+    /// The value at an offset among the values that `unpack` gave for a block. It is the one that `value` gives at the
+    /// index for which `locate` gave that spot; none where that is damaged.
     pub fn value_among(&self, block: u32, offset: u32, values: &[u16]) -> Option<u16>
         requires values { values.now ≡ values_of self.now block }
         ensures { (index : ℕ) → IsSpot self.now index (At block offset) → result ≡ entry_at (expansion self.now) index }
     {
-        // Its contract tells what was checked of the part.
+        // Called for its contract: what was checked of the part.
         let _view = self.view();
         let _block = block;
         value_at(values, offset)
     }
 
-    /// How many plies a stored value of a DTZ table stands for, as `dtz` tells them at an index that has it: through the value
-    /// map where the file is mapped, and doubled where it counts moves.
+    /// The plies that a stored value of a DTZ table stands for, as `dtz` gives them at an index with that value. It
+    /// passes the value map where the file is mapped, and is doubled where it counts moves.
     ///
     /// It is at most 131070. `Damaged` where the map has no entry.
     #[tactic(auto, unfolding(crate::specs::Distances::distance))]

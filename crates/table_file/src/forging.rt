@@ -80,8 +80,8 @@ fn is_right(alloc: Global, plan: &Plan, file: &[u8]) -> Result<bool, AllocError>
     opens_as(alloc, plan, &name, file)
 }
 
-/// The bytes of the file that a plan describes. There are none where the plan breaks a rule of plans or the file doesn't say
-/// what it says.
+/// The bytes of the file that a plan describes. There are none where the plan breaks a rule of plans, or the file
+/// doesn't say what the plan says.
 fn forged(alloc: Global, plan: &Plan) -> Result<Option<Vec<u8>>, AllocError>
     ensures found { IfOk result (λ o. IfSome o (λ file. file.items ≡ file_of plan.now)) }
     ensures good { IfOk result (λ o. IfSome o (λ _. IsGoodPlan plan.now.kind plan.now.material plan.now.parts.items × OpensAs plan.now (file_of plan.now))) }
@@ -99,9 +99,10 @@ fn forged(alloc: Global, plan: &Plan) -> Result<Option<Vec<u8>>, AllocError>
 
 /// Writes the table file that a plan describes (Syzygy table format). Fill and checksum are zero.
 ///
-/// The file is made in memory, opened and compared with the plan before the first byte is written. `BadPlan` comes where
-/// the plan breaks a rule of plans or the file doesn't say what it says, and `OutOfMemory` where memory is refused; both leave
-/// the writer as it was. `Io` comes only where the writer failed, and some bytes may be out then.
+/// The file is made in memory, opened and compared with the plan before the first byte is written. `BadPlan` comes
+/// where the plan breaks a rule of plans, or the file doesn't say what the plan says. `OutOfMemory` comes where memory
+/// is refused. Both leave the writer as it was. `Io` comes only where the writer failed, and some bytes may be out
+/// then.
 pub fn forge<W: Write>(alloc: Global, plan: &Plan, out: &mut W) -> Result<(), ForgeFault>
     ensures ok { OnOk result (Appends (W.contents out.old) (W.contents out.new) (file_of plan.now)) }
     ensures good { OnOk result (CanBeForged plan.now) }

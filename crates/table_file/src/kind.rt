@@ -9,7 +9,7 @@ ghost use Rattle.table_file.specs.Reading.{Gives};
 use crate::fault::TableFault;
 use place_index::{Material, tables_are_numbered};
 
-/// What the values of a table file tell.
+/// What the values of a table file mean.
 #[derive(Clone, Copy, Debug, PartialEq, Eq)]
 pub enum TableKind {
     /// Win, draw or loss, with the halfmove clock at 0.
@@ -33,7 +33,7 @@ fn kind_of(text: &[u8]) -> Option<TableKind>
     }
 }
 
-/// The kind and the material that a file name tells: the name of the men, and an ending.
+/// The kind and the material that a file name gives: the name of the men, and an ending.
 pub(crate) fn title(name: &[u8]) -> Result<(TableKind, Material), TableFault>
     ensures is { Gives (λ x. (x.0, x.1)) result (title_of name.now) }
     ensures no_memory { IfErr result (λ e. e ≢ OutOfMemory) }

@@ -15,8 +15,8 @@ pub fn reads_what_is_laid_out()
     tables_are_numbered();
 }
 
-/// Reading tells a fault exactly where it is the file's first one: what stands before is laid out, and the part at fault
-/// can't be.
+/// Reading reports a fault exactly where it is the file's first one: the parts before it are well formed, and the part
+/// at fault is not.
 pub fn tells_first_fault()
     ensures { TellsFirstFault }
 {
@@ -24,7 +24,7 @@ pub fn tells_first_fault()
     tables_are_numbered();
 }
 
-/// A DTZ table tells distances for one side to move at least, in each file of the leading pawn.
+/// A DTZ table stores distances for at least one side to move, in each file of the leading pawn.
 pub fn a_side_is_stored()
     ensures { ASideIsStored }
 {}

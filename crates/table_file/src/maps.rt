@@ -131,7 +131,7 @@ fn map_of(wide: bool, bytes: &[u8]) -> Result<(&[u8], &[u8]), TableFault>
     }
 }
 
-/// Four maps.
+/// The four maps of one file, one after the other.
 #[tactic(auto, unfolding(crate::specs::Maps::four_at))]
 fn four<'a>(wide: bool, bytes: &'a [u8]) -> Result<(Maps<'a>, &'a [u8]), TableFault>
     ensures is { Gives (λ x. (x.0, x.1.now)) result (four_at wide bytes.now) }

@@ -1,4 +1,4 @@
-//! What a material says of its table files.
+//! What follows from a material for its table files.
 
 ghost use Rattle.std.specs.Prelude.{◌≡◌, ◌≤◌, length};
 ghost use Rattle.place_index.specs.Material.{pieces_of};
@@ -21,8 +21,8 @@ pub(crate) fn has_pawns(material: &Material) -> bool
     material.has_pawns()
 }
 
-/// Whether both sides have pawns. A pawn's letter is the last of its side, and the second side of a table with two letters
-/// more than kings has one.
+/// Whether both sides have pawns. A pawn's letter is the last of its side. The second side has at most one letter
+/// beside its king's.
 pub(crate) fn both_have_pawns(material: &Material) -> bool
     ensures { result ≡ both_have_pawns material.now }
 {

@@ -29,7 +29,7 @@ pub(crate) fn counts_moves(flags: u8, outcome: Outcome) -> bool
     }
 }
 
-/// How many plies a value is, which counts moves of one side or plies.
+/// The plies of a value that counts moves of one side or plies.
 pub(crate) fn plies(moves: bool, value: u16) -> u32
     ensures is { result ≡ plies moves value }
     ensures most { result ≤ 131070 }

@@ -23,14 +23,14 @@ use board_core::Side;
 use place_index::{Material, PawnFile, Shape, ShapeFault};
 use std::alloc::Global;
 
-/// A shape, and what is said of its values.
+/// A shape, and the coding of its values.
 #[derive(Drop)]
 pub(crate) struct Part<'a> {
     pub(crate) shape: Shape,
     pub(crate) size_record: SizeRecord<'a>,
 }
 
-/// What stands behind the value maps, each for all parts.
+/// The sections after the value maps, each for all parts.
 #[derive(Clone, Copy)]
 pub(crate) enum Section {
     Entries,
@@ -108,7 +108,7 @@ pub(crate) fn flags<'a>(
     Ok(rest)
 }
 
-/// The half of a byte that belongs to a side.
+/// The half of a byte that is a side's.
 fn nibble(side: Side, byte: u8) -> u8
     ensures { result ≡ nibble side byte }
 {
@@ -163,7 +163,7 @@ fn shape(
     }
 }
 
-/// The shape that the halves of some bytes make which belong to a side.
+/// The shape made by a side's halves of some bytes.
 fn side_shape(
     material: &Material,
     side: Side,

@@ -7,27 +7,28 @@ use place_index::Material;
 /// What a table file is to hold.
 #[derive(Drop)]
 pub struct Plan {
-    /// What the values tell.
+    /// What the values mean.
     pub kind: TableKind,
     /// The men.
     pub material: Material,
-    /// Files of the leading pawn in order, a and h first, and of each file its sides in order: four files where there are
-    /// pawns, else one; two sides in a WDL file of unsymmetric material, else one.
+    /// Files of the leading pawn in order, a and h first, and of each file its sides in order. There are four files
+    /// where there are pawns, else one. There are two sides in a WDL file of unsymmetric material, else one.
     pub parts: Vec<PartPlan>,
 }
 
 /// What a table file is to hold for a file of the leading pawn and a side to move.
 #[derive(Drop)]
 pub struct PartPlan {
-    /// The codes of the men, in the order of their groups: 1 to 6 for the first side's pawn, knight, bishop, rook, queen and
-    /// king, 9 to 14 for the second side's.
+    /// The codes of the men, in the order of their groups. The first side's P N B R Q K have 1 to 6, the second side's
+    /// 9 to 14.
     pub pieces: Vec<u8>,
     /// The place of the leading group, 0 to 4.
     pub order: u8,
     /// The place of the other side's pawns, 0 to 4, where both sides have pawns.
     pub second: Option<u8>,
-    /// The flags of the size record. Bit 7 says that there is a single value. In a DTZ file bit 0 is the stored side, bit 1
-    /// says that there are value maps, bit 2 wins in plies, bit 3 losses in plies, and bit 4 says that maps are wide.
+    /// The flags of the size record. Bit 7 says that there is a single value. In a DTZ file bit 0 is the stored side,
+    /// bit 1 says that there are value maps, and bit 4 that they are wide. Bit 2 says that wins are in plies, bit 3
+    /// that losses are.
     pub flags: u8,
     /// The values.
     pub content: Content,
@@ -57,8 +58,8 @@ pub struct PairsPlan {
     pub greatest: u8,
     /// The lowest symbol of each length from the least on, none greater than the one before.
     pub lowest: Vec<u16>,
-    /// The symbols, 1 to 4095 of them: twelve bits of a left symbol and then twelve of a right one; with a right one of 4095
-    /// the left one is a value (Syzygy table format, the symbols of a size record).
+    /// The symbols, 1 to 4095 of them: twelve bits of a left symbol and then twelve of a right one. With a right one of
+    /// 4095 the left one is a value (Syzygy table format, the symbols of a size record).
     pub symbols: Vec<[u8; 3]>,
     /// The symbols of each block.
     pub blocks: Vec<Vec<u16>>,
@@ -88,7 +89,7 @@ impl PartPlan {
         has_bit(2, self.flags) && has_bit(16, self.flags)
     }
 
-    /// Whether a file of a kind tells value maps of the part.
+    /// Whether a file of a kind has value maps of the part.
     pub(crate) fn has_maps(&self, kind: TableKind) -> bool
         ensures { result ≡ has_maps kind self.now }
     {

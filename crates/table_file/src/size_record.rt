@@ -70,7 +70,7 @@ fn codes_of<'a>(alloc: Global, bytes: &'a [u8]) -> Result<(Codes<'a>, &'a [u8]),
     Ok((codes, rest))
 }
 
-/// The value that a byte gives. In a DTZ file the byte isn't looked at.
+/// The value that a byte gives. In a DTZ file the byte is ignored.
 fn single_value(kind: TableKind, value: u8) -> u16
     ensures { result ≡ single_value kind value }
 {

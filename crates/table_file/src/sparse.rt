@@ -54,8 +54,8 @@ fn is_entry(entries: &[u8], sums: &[u64], span: u64, k: usize, lengths: &[u8]) -
     before + offset as u64 == k as u64 * span + span / 2
 }
 
-/// Whether each of the first n entries names the value in the middle of its span. The time is linear in the entries and
-/// the lengths, whatever blocks the entries name.
+/// Whether each of the first n entries names the value in the middle of its span. The time is linear in the number of
+/// entries and of lengths, whatever blocks the entries name.
 fn are_entries(
     alloc: Global,
     span: u64,

@@ -44,7 +44,7 @@ pub(crate) struct View<'t, 'a> {
     pub(crate) blocks: &'t [u8],
 }
 
-/// Steps on from a place over whole blocks, to the block that holds the offset, or past the real blocks.
+/// Steps forward from a place over whole blocks, to the block that holds the offset, or past the real blocks.
 fn step_on<L: Ledger>(
     lengths: &[u8],
     real: usize,
@@ -199,7 +199,7 @@ fn value_of(codes: &Codes<'_>, blocks: &[u8], place: Place) -> Result<u16, Damag
     codes.dictionary().value(block, place.offset as u32)
 }
 
-/// The value of an index, by a count of its own.
+/// The value of an index, with a step counter of its own.
 fn value_by<L: Ledger>(view: View<'_, '_>, index: u64, blank: Blank) -> Result<u16, Damaged>
     requires checked { IsChecked view }
     requires name { blank.name ≡ L.name }

@@ -1,4 +1,4 @@
-//! The count of the block lengths that are read on the way to values.
+//! The step counter: how many block lengths are read to find values.
 
 ghost use Rattle.std.specs.Prelude.{◌≡◌, ◌+◌, ◌*◌, ◌/◌, ◌<◌, ◌≤◌, length, slice_index};
 ghost use Rattle.table_file.specs.Sparse.{sizes_of};
@@ -7,7 +7,8 @@ use crate::reading::word_at;
 use std::marker::{Brand, Model};
 use std::sync::ledger::{Blank, Book, Ledger, Share};
 
-/// How many block lengths were read on the way to values. It takes no bytes, and reading a length alone changes it.
+/// How many block lengths were read to find values. It takes no bytes at run time, and reading a length alone changes
+/// it.
 #[derive(Drop)]
 pub struct Steps<L: Ledger> {
     book: Book<L>,
@@ -25,8 +26,8 @@ impl<L: Ledger> Model for Steps<L> {
 }
 
 impl<L: Ledger> Steps<L> {
-    /// A count of 0, by a new ledger. A caller that counts nothing gives `Blank::new(1)` to a function of its own that takes
-    /// any ledger.
+    /// A count of 0, over a new ledger. A caller that counts nothing passes `Blank::new(1)` to a function of its own
+    /// that takes any ledger.
     pub fn new(blank: Blank) -> Steps<L>
         requires name { blank.name ≡ L.name }
         requires parts { blank.parts ≡ L.parts }
@@ -44,8 +45,8 @@ impl<L: Ledger> Steps<L> {
         self.book.add(&mut self.share, 1);
     }
 
-    /// The length of a block, one less than the values that it holds, of all block lengths of a side and a file, those of
-    /// padding entries included. It counts as one step.
+    /// The length of a block, which is one less than the number of its values. The lengths are all those of a side and
+    /// a file, padding entries included. It counts as one step.
     pub(crate) fn length(&mut self, lengths: &[u8], block: usize) -> u16
         requires { block < length lengths.now / 2 }
         ensures is { slice_index (sizes_of lengths.now) block ≡ result + 1 }
@@ -56,7 +57,7 @@ impl<L: Ledger> Steps<L> {
     }
 }
 
-/// How many values a block holds, by a count of its own.
+/// How many values a block holds, with a step counter of its own.
 fn size_by<L: Ledger>(lengths: &[u8], block: usize, blank: Blank) -> usize
     requires block { block < length lengths.now / 2 }
     requires name { blank.name ≡ L.name }

@@ -29,8 +29,8 @@ use place_index::{Material, PawnFile};
 use std::alloc::{AllocError, Global};
 use std::marker::Model;
 
-/// A table file that was opened: its parts are there and in order, and its sparse entries name the values that they are to
-/// name. It borrows the file's bytes.
+/// An opened table file: its parts are there and in order, and its sparse entries name the values in the middle of
+/// their spans. It borrows the file's bytes.
 #[derive(Drop)]
 pub struct Table<'a> {
     kind: TableKind,
@@ -266,9 +266,9 @@ fn with_parts<'a>(
 
 /// Opens a table file by its name, `KQvK.rtbw` or the like, and its bytes (Syzygy table format).
 ///
-/// Each part is looked at once, in the order of `TableFault`: name, size, magic and flags first, and then all in the file's
-/// order, and the first fault is told. `OutOfMemory`, where memory is refused, comes only when name, size, magic and flags
-/// are good. The time is linear in the length of the file.
+/// Each part is checked once, in the order of `TableFault`: name, size, magic and flags first, and then all in the
+/// file's order. The first fault is returned. `OutOfMemory`, where memory is refused, comes only when name, size, magic
+/// and flags are good. The time is linear in the length of the file.
 #[tactic(auto, unfolding(crate::specs::Tables::table_at))]
 pub fn open<'a>(alloc: Global, name: &[u8], file: &'a [u8]) -> Result<Table<'a>, TableFault>
     ensures is { Gives (λ x. x) result (table_at name.now file.now) }
@@ -296,21 +296,21 @@ fn own_file(has_pawns: bool, file: PawnFile) -> usize
 }
 
 impl<'a> Table<'a> {
-    /// The men of the table. It takes no memory, as the other readers.
+    /// The men of the table. It takes no memory.
     pub fn material(&self) -> &Material
         ensures { result.now ≡ self.now.material }
     {
         &self.material
     }
 
-    /// What the values tell. It takes no memory.
+    /// What the values mean. It takes no memory.
     pub fn kind(&self) -> TableKind
         ensures { result ≡ self.now.kind }
     {
         self.kind
     }
 
-    /// Whether the values tell distances to the next move that sets the halfmove clock to 0, and not results.
+    /// Whether the values are distances to the next move that sets the halfmove clock to 0, and not results.
     pub fn is_dtz(&self) -> bool
         ensures { IsTrue result ↔ (self.now.kind ≡ Dtz) }
     {

@@ -99,8 +99,9 @@ impl<'t, 'a> TablePart<'t, 'a> {
 
     /// Where the value at an index stands: the single value, or a real block and the offset in it.
     ///
-    /// It goes from the sparse entry of the index's span, and past the last span from the last entry, back or on over whole
-    /// blocks, and `steps` counts the block lengths that it reads: for an index below the size at most half a span and 65536.
+    /// It starts at the sparse entry of the index's span, or past the last span at the last entry, and steps back or
+    /// forward over whole blocks. `steps` counts the block lengths that it reads: for an index below the size at most
+    /// half a span and 65536.
     ///
     /// `Damaged` exactly where the index is past the expanded table.
     pub fn locate<L: Ledger>(&self, index: u64, steps: &mut Steps<L>) -> Result<Spot, Damaged>
@@ -112,7 +113,7 @@ impl<'t, 'a> TablePart<'t, 'a> {
         spot_in(self.view(), index, steps)
     }
 
-    /// The values of a real block, as `locate` tells it: those that its codes give, at most as many as its length says and
+    /// The values of a real block, one that `locate` gives: those of its codes, at most as many as its length says and
     /// at most 65536. The only error is that memory is refused.
     pub fn unpack(&self, alloc: Global, block: u32) -> Result<Vec<u16>, AllocError>
         requires real { block < real_blocks self.now }
@@ -122,7 +123,7 @@ impl<'t, 'a> TablePart<'t, 'a> {
         values_in(alloc, self.view(), block as usize)
     }
 
-    /// Whether a DTZ table tells distances for this side to move: its file stores the side, or both sides have the same
+    /// Whether a DTZ table has distances for this side to move: its file stores the side, or both sides have the same
     /// men (Syzygy table format, flags of DTZ tables).
     #[tactic(auto, unfolding(crate::specs::Distances::stores))]
     pub fn stores(&self) -> bool
@@ -153,9 +154,9 @@ impl<'t, 'a> TablePart<'t, 'a> {
         }
     }
 
-    /// How many plies a DTZ table tells at an index, for a game of that outcome for the side that the file stores: the value
-    /// of the expanded table, through the value map where the file is mapped, and doubled where it counts moves and not plies
-    /// (Syzygy table format, flags of DTZ tables and value maps).
+    /// The plies that a DTZ table gives at an index, for a game of that outcome for the side that the file stores. They
+    /// are the value of the expanded table, passed through the value map where the file is mapped. They are doubled
+    /// where it counts moves and not plies (Syzygy table format, flags of DTZ tables and value maps).
     ///
     /// It is at most 131070. `Damaged` where the expanded table has no value there, or the map no entry.
     #[tactic(auto, unfolding(crate::specs::Distances::distance))]

@@ -15,8 +15,8 @@ pub(super) struct Code {
     pub(super) bits: u64,
 }
 
-/// The base of the first of some code lengths, by their lowest symbols: 0 at the greatest length, and each other one by the
-/// one above it (Syzygy table format, codes).
+/// The base of the first of some code lengths, computed from their lowest symbols (Syzygy table format, codes). It is 0
+/// at the greatest length, and each other one follows from the one above it.
 fn base(lowest: &[u16]) -> u32
     requires { falls lowest.now ≡ true }
     ensures { result ≡ slice_index (bases lowest.now) 0 }

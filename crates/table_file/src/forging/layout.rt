@@ -619,7 +619,7 @@ fn put_four_maps(wide: bool, maps: &MapsPlan, file: &mut Vec<u8>) -> Result<(), 
     put_map(wide, &maps.blessed_loss, file)
 }
 
-/// Appends the value maps of a file of the leading pawn, where its flags tell of them.
+/// Appends the value maps of a file of the leading pawn, where its flags announce them.
 #[tactic(auto, unfolding(crate::specs::PlannedFile::with_maps))]
 fn put_maps(part: &PartPlan, file: &mut Vec<u8>) -> Result<(), AllocError>
     requires { AreGoodMaps (is_wide part.now) part.now.maps }
