@@ -8,7 +8,7 @@ pub data Source : Type 0 where
 
 -- what is known of a disk
 pub record DiskFacts : Type 1 where
-  -- whether it tells what stands on it
+  -- whether its contents are stated
   pub is_told : Bool
   -- the folder at this path lists these names, those apart that are no text
   pub lists : List ℕ → List (List ℕ) → Type 0

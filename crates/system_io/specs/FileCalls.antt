@@ -1,4 +1,4 @@
--- The calls of a system for a file under a name and one beside it, as they were made (this project's own).
+-- The calls of a system for a file under a name and a file beside it, in the order made (this project's own).
 use Rattle.std.specs.Prelude.{◌≡◌, ◌⊎◌, ◌++◌, ℕ, List, [], ◌∷◌, Option, Some, Result, Ok, Err, Vec}
 use Rattle.std.specs.declared.alloc.Global.{Global}
 use Rattle.system_io.specs.declared.reading.ReadFault.{ReadFault}
@@ -22,7 +22,7 @@ pub data Call : Type 0 where
 
 -- what is known of such calls
 pub record CallFacts : Type 1 where
-  -- those that were made, in order; none where they aren't told
+  -- the calls made, in order; none where they aren't recorded
   pub made : Option (List Call)
   -- why a read, or a sync of the folder after it, may fail
   pub fails : ReadFault → Type 0

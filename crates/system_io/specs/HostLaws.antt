@@ -7,5 +7,6 @@ pub places_one : {X Y Z : Type 0} → PlacesOne (system_host {X = X} {Y = Y} {Z 
 places_one = record {
   address = λ port a b to others p q. sym p.at ∙ q.at;
   to = λ port a b to others p q. sym p.sends ∙ q.sends;
+  own = λ port a b p q. p ∙ sym q;
   path = λ file a b p q. sym p ∙ q;
 }

@@ -1,13 +1,16 @@
 -- Where ports and kept files are opened (this project's own).
-use Rattle.std.specs.Prelude.{◌≡◌, ℕ, Bool, List}
+use Rattle.std.specs.Prelude.{◌≡◌, ℕ, Bool, List, Option}
+use Rattle.std.specs.declared.net.socket_addr.SocketAddr.{SocketAddr}
 use Rattle.system_io.specs.declared.host.BindFault.{BindFault}
 
 -- what is known of a host of such ports and files
 pub record HostFacts (P F : Type 0) : Type 1 where
-  -- whether it tells where its ports and files are
+  -- whether the places of its ports and files are stated
   pub is_told : Bool
   -- the port is bound to this address and sends to those
   pub binds : List ℕ → List (List ℕ) → P → Type 0
+  -- the port listens at this address, by the number that it has got where it was bound to port 0; none where that isn't told
+  pub listens : P → Option SocketAddr → Type 0
   -- no port is bound to this address, for this reason
   pub refuses : List ℕ → BindFault → Type 0
   -- the file is the one at this path
@@ -15,8 +18,9 @@ pub record HostFacts (P F : Type 0) : Type 1 where
   -- the file at this path may take memory, which may be refused
   pub takes_memory : List ℕ → Type 0
 
--- a port is bound to one address and sends to one list of addresses, and a file is at one path
+-- a port is bound to one address, listens at one and sends to one list of addresses, and a file is at one path
 pub record PlacesOne {P F : Type 0} (host : HostFacts P F) : Type 0 where
   pub address : (port : P) (a b : List ℕ) (to others : List (List ℕ)) → host.binds a to port → host.binds b others port → a ≡ b
   pub to : (port : P) (a b : List ℕ) (to others : List (List ℕ)) → host.binds a to port → host.binds b others port → to ≡ others
+  pub own : (port : P) (a b : Option SocketAddr) → host.listens port a → host.listens port b → a ≡ b
   pub path : (file : F) (a b : List ℕ) → host.is_at a file → host.is_at b file → a ≡ b

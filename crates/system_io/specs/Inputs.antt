@@ -3,7 +3,7 @@ use Rattle.std.specs.Prelude.{◌≡◌, ℕ, Bool, List}
 
 -- what is known of an input
 pub record InputFacts : Type 1 where
-  -- whether it tells what it has
+  -- whether its bytes are stated
   pub is_told : Bool
   -- it has these bytes
   pub gives : List ℕ → Type 0

@@ -1,4 +1,4 @@
--- How bytes come to stand under a file's name (this project's own).
+-- How the bytes under a file's name are replaced (this project's own).
 use Rattle.std.specs.Prelude.{◌≡◌, ◌⊎◌, ◌<◌, ℕ, List, length, Option, Some, None, Vec, option_map}
 use Rattle.std.specs.declared.alloc.Global.{Global}
 use Rattle.system_io.specs.declared.reading.ReadFault.{ReadFault}

@@ -1,4 +1,4 @@
--- What the calls for a kept file in memory tell of themselves (this project's own).
+-- The facts of the calls for a kept file in memory (this project's own).
 use Rattle.std.specs.Prelude.{◌⊎◌, ◌≤◌, ℕ, List, Option, Some, None, cond, map}
 use Rattle.system_io.specs.declared.memory_calls.MadeCall.{MadeCall}
 use Rattle.system_io.specs.declared.memory_calls.MadeCall.TheVariants as made

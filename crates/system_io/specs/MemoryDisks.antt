@@ -30,7 +30,7 @@ abbrev pub CannotRead : MemoryDisk → Source → Type 0
 CannotRead d (AtFolder at) = (CanBeRead d at → ⊥) ⊎ IsNowhere (λ row. row.path.now) d.folders.now at
 CannotRead d (AtFile at) = ((CanBeRead d at → ⊥) ⊎ IsNowhere (λ row. row.path.now) d.files.now at) ⊎ ((bytes : List ℕ) × IsFileAt d at bytes × (most_bytes < length bytes))
 
--- what a disk in memory tells of itself
+-- the facts of a disk in memory
 abbrev pub disk_of : MemoryDisk → DiskFacts
 disk_of d = record {
   is_told = true;

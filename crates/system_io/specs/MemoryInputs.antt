@@ -1,4 +1,4 @@
--- What an input in memory tells of itself (this project's own).
+-- The facts of an input in memory (this project's own).
 use Rattle.std.specs.Prelude.{◌≡◌, ◌⊎◌, ◌<◌, true, length, Some, None, cond}
 use Rattle.std.proofs.Common.{◌∙◌, sym}
 use Rattle.system_io.specs.declared.memory_input.MemoryInput.{MemoryInput}

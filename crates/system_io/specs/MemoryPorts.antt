@@ -1,4 +1,4 @@
--- What a port in memory tells of itself (this project's own).
+-- The facts of a port in memory (this project's own).
 use Rattle.std.specs.Prelude.{ℕ, List, Option, Some, None, cond, map}
 use Rattle.system_io.specs.declared.memory_port.MemoryPort.{MemoryPort}
 use Rattle.system_io.specs.declared.memory_port.Passage.{Passage}

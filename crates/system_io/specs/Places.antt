@@ -1,5 +1,6 @@
 -- Where the system's ports and kept files are (this project's own).
-use Rattle.std.specs.Prelude.{◌≡◌, ℕ, List, map, string_bytes}
+use Rattle.std.specs.Prelude.{◌≡◌, ℕ, List, Option, map, string_bytes}
+use Rattle.std.specs.declared.net.socket_addr.SocketAddr.{SocketAddr}
 use Rattle.system_io.specs.declared.system_file.SystemCalls.{SystemCalls}
 use Rattle.system_io.specs.declared.traced_file.Traced.{Traced}
 use Rattle.system_io.specs.declared.udp_port.UdpPort.{UdpPort}
@@ -8,6 +9,10 @@ use Rattle.system_io.specs.declared.udp_port.UdpPort.{UdpPort}
 pub record IsBound (address : List ℕ) (to : List (List ℕ)) (port : UdpPort) : Type 0 where
   pub at : string_bytes port.address ≡ address
   pub sends : map string_bytes port.to.items ≡ to
+
+-- the address that the socket told as its own when it was bound, if it did
+abbrev pub ListensAt : UdpPort → Option SocketAddr → Type 0
+ListensAt port own = own ≡ port.own
 
 -- the calls are those for the file at this path
 abbrev pub AreFor : {X Y Z : Type 0} → List ℕ → SystemCalls X Y Z → Type 0

@@ -1,4 +1,4 @@
--- What passes at a port (this project's own).
+-- The traffic at a port (this project's own).
 use Rattle.std.specs.Prelude.{◌≡◌, ◌++◌, ◌≤◌, ℕ, zero, suc, List, [], ◌∷◌, Option}
 pub use Rattle.system_io.specs.Histories.{Passes}
 
@@ -9,17 +9,17 @@ pub data Passing : Type 0 where
   Quiet : Passing
   -- no datagram could be received
   Missed : Passing
-  -- a datagram was handed over to be sent to the address at this place, whether or not it went out
+  -- a datagram was given to the system for the address at this place, whether or not it went out
   Handed : (to : ℕ) (bytes : List ℕ) → Passing
 
--- what is known of a port: what has passed there so far, in order, none where it doesn't tell; how often it has failed; to how
--- many addresses it sends
+-- the facts of a port: its traffic so far, in order, none where it isn't recorded; the count of its failures; the number of
+-- addresses to which it sends
 pub record PortFacts : Type 0 where
   pub passed : Option (List Passing)
   pub faults : ℕ
   pub addresses : ℕ
 
--- a datagram is handed over for each of so many addresses, once and in their order
+-- a datagram is given to the system for each of so many addresses, once and in their order
 unfoldable pub to_each : ℕ → List ℕ → List Passing
 to_each zero bytes = []
 to_each (suc n) bytes = to_each n bytes ++ Handed n bytes ∷ []

@@ -22,8 +22,8 @@ abbrev pub left_of : Option Content → List ℕ → Option (List ℕ)
 left_of None bytes = None
 left_of (Some c) bytes = cond c.is_synced (Some c.bytes.items) (Some bytes)
 
--- what stands under the name after a loss of power: what has the name now, or what had it at some time since the folder was
--- synced (the number names it), and of that what is left
+-- what stands under the name after a loss of power: what is left of the present holder, or of one since the folder was
+-- synced, chosen by the number
 abbrev pub after_stop : DiskFile → ℕ → List ℕ → Option (List ℕ)
 after_stop d which bytes = left_of (slice_index_or d.earlier.items which d.stands) bytes
 
@@ -31,7 +31,7 @@ after_stop d which bytes = left_of (slice_index_or d.earlier.items which d.stand
 abbrev pub seen : DiskFile → Option (List ℕ)
 seen d = shown d.stands
 
--- ---- what the kept file on it tells of itself
+-- ---- the facts of the kept file on it
 
 -- each loss of power that may come now leaves the one or the other under the name
 abbrev pub LeavesOneOf : DiskFile → Option (List ℕ) → Option (List ℕ) → Type 0
@@ -101,7 +101,7 @@ abbrev pub CannotBeRead : DiskFile → ReadFault → Type 0
 CannotBeRead d Unreadable = (d.reads_fail ≡ true) ⊎ IsLong (seen d)
 CannotBeRead d OutOfMemory = HasAny (seen d)
 
--- what the kept file on a disk tells of itself
+-- the facts of the kept file on a disk
 abbrev pub disk_facts : DiskFile → KeptFacts
 disk_facts d = record { reached = HasReached d; finds = LeavesOneOf d; settled = IsLasting d; cannot_settle = IsStuck d; cannot_read = CannotBeRead d; faults = d.failures }
 

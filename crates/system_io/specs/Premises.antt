@@ -1,5 +1,5 @@
--- What is trusted of the system: for each of its own disks, inputs, outputs, ports, files and hosts what a proof knows of it. The
--- standard library claims nothing of what the system's calls do, so each says only that the system is asked.
+-- What is trusted of the system: for each of its own disks, inputs, outputs, ports, files and hosts what a proof knows of
+-- it. The standard library claims nothing of what the system's calls do, so each says only that the system is called.
 use Rattle.std.specs.Prelude.{◌≡◌, ℕ, Bool, true, false, List, [], ◌∷◌, Option, None}
 use Rattle.system_io.specs.Disks.{DiskFacts}
 use Rattle.system_io.specs.FileCalls.{CallFacts}
@@ -12,19 +12,19 @@ use Rattle.system_io.specs.declared.traced_file.Traced.{Traced}
 use Rattle.system_io.specs.declared.udp_port.UdpPort.{UdpPort}
 use Rattle.system_io.specs.Traces.{IsAmong}
 use Rattle.system_io.specs.Hosts.{HostFacts}
-use Rattle.system_io.specs.Places.{IsAtPath, IsBound}
+use Rattle.system_io.specs.Places.{IsAtPath, IsBound, ListensAt}
 
--- DISK: the names of a folder and the bytes of a file are those that the system tells, and what it refuses can't be read
+-- DISK: the names of a folder and the bytes of a file are those that the system gives, and what it refuses can't be read
 abbrev pub system_disk : DiskFacts
 system_disk = record { is_told = false; lists = λ _ _. Unit {0}; holds = λ _ _. Unit {0}; fails = λ _. Unit {0} }
 
--- INPUT: the bytes of standard input are those that the system tells, an input that it refuses can't be read, and where it tells
--- that memory was refused, memory was refused
+-- INPUT: the bytes of standard input are those that the system gives. An input that it refuses can't be read. Where it says
+-- that memory was refused, memory was refused.
 abbrev pub system_input : InputFacts
 system_input = record { is_told = false; gives = λ _. Unit {0}; fails = Unit {0}; takes_memory = Unit {0} }
 
--- LINES: an input of which a read was refused can't be read to its end, and where the system tells that memory was refused,
--- memory was refused
+-- LINES: an input with a refused read can't be read to its end, and where the system says that memory was refused, memory
+-- was refused
 abbrev pub system_lines : Option (List ℕ) → List ℕ → LineFacts
 system_lines left ahead = record { left = left; ahead = ahead; fails = Unit {0}; takes_memory = Unit {0} }
 
@@ -32,22 +32,24 @@ system_lines left ahead = record { left = left; ahead = ahead; fails = Unit {0};
 abbrev pub system_output : List ℕ → Bool → OutputFacts
 system_output waiting is_stuck = record { gone = (waiting ≡ []) × (is_stuck ≡ false); stuck = is_stuck ≡ true; refuses = Unit {0} }
 
--- DATAGRAMS: what the socket receives came, and what is handed to it is on its way to each address; how often a call failed and to
--- how many addresses it sends is counted
+-- DATAGRAMS: what the socket receives came, and what is passed to it is on its way to each address. Failed calls and
+-- addresses are counted.
 abbrev pub system_port : ℕ → ℕ → PortFacts
 system_port faults addresses = record { passed = None; faults = faults; addresses = addresses }
 
--- CALLS: a read or a sync that the system refuses can't be done, and where it tells that memory was refused, memory was refused
+-- CALLS: a read or a sync that the system refuses can't be done, and where it says that memory was refused, memory was
+-- refused
 abbrev pub system_calls : CallFacts
 system_calls = record { made = None; fails = λ _. Unit {0} }
 
--- KEPT FILE: a start reads under the name one of those that, by the calls of the last run that had a keeper and by their answers,
--- may stand there: what was read when that run began, or a record that was to take the name since the folder was last synced. A
--- start that failed since then changed nothing there.
+-- KEPT FILE: a start reads one of the contents that may stand under the name, by the calls of the last run that had a
+-- keeper and their results. These are what was read when that run began, and each record that was to take the name since
+-- the folder was last synced. A start that failed since then changed nothing there.
 pub record IsAsTold {C : Type 0} (left : Traced C) (read : Option (List ℕ)) : Type 0 where
   pub among : left.is_known ≡ true → IsAmong read (left.stands ∷ left.earlier.items)
 
--- HOST: a socket that was made for an address is bound to it, and the calls for a path are made at that path; an address that the
--- system refuses can't be bound, and where it tells that memory was refused, memory was refused
+-- HOST: a socket that was made for an address is bound to it, and listens at the address that it tells as its own; the calls for a
+-- path are made at that path; an address that the system refuses can't be bound, and where it tells that memory was refused, memory
+-- was refused
 abbrev pub system_host : {X Y Z : Type 0} → HostFacts UdpPort (Traced (SystemCalls X Y Z))
-system_host = record { is_told = true; binds = IsBound; refuses = λ _ _. Unit {0}; is_at = IsAtPath; takes_memory = λ _. Unit {0} }
+system_host = record { is_told = true; binds = IsBound; listens = ListensAt; refuses = λ _ _. Unit {0}; is_at = IsAtPath; takes_memory = λ _. Unit {0} }

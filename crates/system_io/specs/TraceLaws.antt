@@ -1,4 +1,4 @@
--- A law of what was told of a file.
+-- A law of traced files.
 use Rattle.std.specs.Prelude.{◌≡◌, ◌⊎◌, ℕ, List, [], ◌∷◌, Option}
 use Rattle.std.specs.List.{AllByRecursion}
 use Rattle.std.proofs.Common.{◌∙◌, inl, inr, ⊎_elim, sym}

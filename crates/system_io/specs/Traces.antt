@@ -1,4 +1,4 @@
--- What the calls that were made of a file, and their answers, say of it (this project's own). Nothing is claimed of the file.
+-- What the calls made for a file, and their results, say about it (this project's own). Nothing is claimed of the file.
 use Rattle.std.specs.Prelude.{◌≡◌, ◌⊎◌, ℕ, true, false, List, [], ◌∷◌, Option, Some, IfSome, Vec}
 use Rattle.std.specs.List.{AllByRecursion}
 use Rattle.std.specs.declared.alloc.Global.{Global}
@@ -46,7 +46,8 @@ pub record HasBytes (o : Option Bytes) (bytes : List ℕ) : Type 0 where
   pub is : o ≡ Some v
   pub items : v.items ≡ bytes
 
--- by the calls and their answers these bytes have come so far; where the calls are told, the last of them brought them there
+-- by the calls and their results these bytes have come so far; where the calls are recorded, the last of them brought them
+-- there
 abbrev pub SaysReached : {C : Type 0} → (C → CallFacts) → Traced C → Stage → List ℕ → Type 0
 SaysReached facts t Written bytes = HasBytes t.written bytes × (t.reach ≡ reach.Written) × EndsWith (facts t.calls).made (Wrote bytes ∷ [])
 SaysReached facts t Synced bytes = HasBytes t.written bytes × (t.reach ≡ reach.Synced) × EndsWith (facts t.calls).made (Wrote bytes ∷ SyncedFile ∷ [])
@@ -71,6 +72,6 @@ abbrev pub IsAmong : Option (List ℕ) → List (Option Bytes) → Type 0
 IsAmong read [] = ⊥
 IsAmong read (o ∷ os) = (read ≡ bytes_of o) ⊎ IsAmong read os
 
--- what a file tells of itself by the calls and their answers
+-- the facts of a file by the calls and their results
 abbrev pub told_of : {C : Type 0} → (C → CallFacts) → Traced C → KeptFacts
 told_of facts t = record { reached = SaysReached facts t; finds = SaysOneOf facts t; settled = SaysSettled facts t; cannot_settle = CannotSettle facts t; cannot_read = CannotCopy t; faults = t.failures }

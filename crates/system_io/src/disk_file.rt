@@ -1,4 +1,4 @@
-//! A file in memory, on a disk that loses power and whose calls fail as they are told to.
+//! A file in memory, on a disk that can lose power and whose calls fail on request.
 
 ghost use Rattle.std.specs.Prelude.{◌≡◌, ℕ, [], List, slice_index_or, Option, Some, true, false, IsTrue, IfOk, IfErr, OnOk};
 ghost use Rattle.system_io.specs.Failures.{Counts, Risen};
@@ -11,8 +11,8 @@ use crate::reading::ReadFault;
 use std::alloc::Global;
 use std::io;
 
-/// The bytes of a file as the system shows them, whether they are on the platter, and whether a sync of them has failed, after
-/// which no later one brings them there.
+/// The bytes of a file as the system shows them, and whether they are on the platter. Also whether a sync of them has
+/// failed; after that no later one brings them there.
 #[derive(Drop)]
 pub struct Content {
     bytes: Vec<u8>,
@@ -20,27 +20,27 @@ pub struct Content {
     is_spoiled: bool,
 }
 
-/// What comes of a call.
+/// The outcome of a call.
 #[derive(Clone, Copy)]
 pub enum Outcome {
-    /// It is done, and says so.
+    /// It succeeds, and says so.
     Good,
-    /// It fails, and nothing is done.
+    /// It fails, and has no effect.
     Before,
-    /// It fails in the middle: so many bytes are written, or the sync has lost bytes, or a name, that it was to bring to the
+    /// It fails in the middle: this many bytes are written, or the sync loses bytes, or a name, on the way to the
     /// platter.
     Halfway(usize),
-    /// All is done, and yet it says that it failed.
+    /// It takes full effect, and yet says that it failed.
     After,
 }
 
-/// How a run ends, and what that makes of the disk.
+/// How a run ends, and what that does to the disk.
 #[derive(Drop)]
 pub enum Choice {
     /// The process stops, and the system goes on.
     StaysUp,
-    /// The power is lost: which of the files that may have the name has it, what is left of one that isn't synced, and what lies
-    /// beside it.
+    /// The power is lost. The fields say which of the candidate files has the name, what is left of one that isn't
+    /// synced, and what the file beside holds.
     PowerLost {
         which: usize,
         bytes: Vec<u8>,
@@ -48,10 +48,11 @@ pub enum Choice {
     },
 }
 
-/// A name on a disk, and a file beside it. What has the name as the system shows it, what had it before at some time since the
-/// folder was synced (after a loss of power each of them may have it), whether a sync of the folder has failed since the name was
-/// last given, after which no later one brings it to the platter, the file beside, and what comes of the next calls, the last of
-/// the list first; calls past its end are good. How often a call has failed is counted.
+/// A name on a disk, and a file beside it. `stands` is what has the name as the system shows it. `earlier` is what had
+/// it at some time since the folder was synced; after a loss of power each of them may have it. `is_name_lost` says
+/// that a sync of the folder has failed since the last rename, after which no later sync brings the name to the
+/// platter. `outcomes` are the outcomes of the next calls, the last of the list first; calls past its end succeed.
+/// Failed calls are counted.
 #[derive(Drop)]
 pub struct DiskFile {
     alloc: Global,
@@ -93,7 +94,7 @@ fn written(bytes: Vec<u8>) -> Content
     }
 }
 
-/// Whether no sync can bring the bytes of a file to the platter any more.
+/// Whether no further sync can bring the bytes of a file to the platter.
 fn is_lost(content: &Content) -> bool
     ensures { IsTrue result → IsSpoilt (Some content.now) }
 {
@@ -125,7 +126,7 @@ fn synced(content: Content) -> Content
     }
 }
 
-/// What has the name after a loss of power: of what had it earlier that of this number, or what has it now.
+/// What has the name after a loss of power: the earlier holder with this number, or the present one.
 fn named(earlier: Vec<Option<Content>>, which: usize, stands: Option<Content>) -> Option<Content>
     ensures { result ≡ slice_index_or earlier.items which stands }
 {
@@ -155,7 +156,7 @@ fn lasting(held: Option<Content>, garbage: Vec<u8>) -> Option<Content>
 }
 
 impl DiskFile {
-    /// A disk on which these bytes stand under the name, or nothing does.
+    /// A disk with these bytes, or nothing, under the name.
     pub fn new(
         alloc: Global,
         stands: Option<Vec<u8>>,
@@ -182,7 +183,7 @@ impl DiskFile {
         }
     }
 
-    /// Counts a failure, and gives back why a call failed.
+    /// Counts a failure, and returns its cause.
     fn fail<E>(&mut self, why: E) -> E
         ensures why { result ≡ why }
         ensures risen { Risen self.old.failures self.new.failures }
@@ -194,7 +195,7 @@ impl DiskFile {
         why
     }
 
-    /// What comes of the next call.
+    /// The outcome of the next call.
     fn next(&mut self) -> Outcome
         ensures stands { self.new.stands ≡ self.old.stands }
         ensures earlier { self.new.earlier ≡ self.old.earlier }
@@ -281,7 +282,8 @@ impl DiskFile {
         }
     }
 
-    /// Lets the names reach the platter: what had the name before can't have it again. Where a sync has lost the name, none does.
+    /// Brings the names to the platter: an earlier holder can't have the name again. Where a sync has lost the name, it
+    /// has no effect.
     fn sync_names(&mut self)
         ensures names { self.old.is_name_lost ≡ false → self.new.earlier.items ≡ [] }
         ensures stands { self.new.stands ≡ self.old.stands }
@@ -373,8 +375,8 @@ impl DiskFile {
     }
 }
 
-/// What a start reads after a stop: after a loss of power what that leaves under the name. It is one of any two of which the disk
-/// says that each start finds the one or the other.
+/// What a start reads after a stop; after a loss of power it is what that leaves under the name. Of any two contents
+/// that the disk claims every start to be among, it is one.
 pub fn read_after(
     alloc: Global,
     disk: DiskFile,

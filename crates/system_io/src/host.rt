@@ -7,11 +7,12 @@ use crate::kept_file::KeptFile;
 use crate::port::Port;
 use std::alloc::{AllocError, Global};
 use std::io;
+use std::net::SocketAddr;
 
 /// Why a port wasn't bound.
 #[derive(Clone, Copy)]
 pub enum BindFault {
-    /// The address can't be bound.
+    /// The address couldn't be bound.
     Unbound,
     /// Memory was refused.
     OutOfMemory,
@@ -40,7 +41,7 @@ pub trait Host {
     /// A file in which a record is kept.
     type File: KeptFile + Drop;
 
-    /// Which ports are bound where, and which file is at a path.
+    /// Which addresses ports are bound to, and which file is at a path.
     ghost facts: { Self → HostFacts Self.Port Self.File };
 
     /// A port that is bound to an address and sends to others.
@@ -49,11 +50,16 @@ pub trait Host {
         ensures each { IfOk result (λ port. (Self.Port.facts port).addresses ≡ length to.now) }
         ensures cause { IfErr result ((facts self.now).refuses address.now) };
 
-    /// The file at a path, which may not be there yet.
+    /// The address at which a port listens, with the number that it has got where it was bound to port 0; none where that isn't
+    /// told. It takes no memory.
+    fn own_address(&self, port: &Self::Port) -> Option<SocketAddr>
+        ensures own { (facts self.now).listens port.now result };
+
+    /// The file at a path. It need not exist yet.
     fn file(&self, alloc: Global, path: &str) -> Result<Self::File, AllocError>
         ensures at { IfOk result ((facts self.now).is_at path.now) }
         ensures memory { OnErr result ((facts self.now).takes_memory path.now) };
 
-    /// A host that tells where its ports and files are tells one place of each.
+    /// A host whose ports and files have stated places gives each of them one place.
     ghost one: { (h : Self) → (facts h).is_told ≡ true → PlacesOne (facts h) };
 }

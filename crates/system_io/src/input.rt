@@ -13,7 +13,7 @@ pub trait Input {
     /// Its lines, as they come.
     type Lines: LineReader + Drop;
 
-    /// What it gives, and whether it can't be read.
+    /// Its bytes, and whether it can't be read.
     ghost facts: { Self → InputFacts };
 
     /// All bytes of the input, at most 2^30.
@@ -23,13 +23,14 @@ pub trait Input {
         ensures cause { IsErrOf result ReadFault.Unreadable → (facts self.now).fails }
         ensures memory { IsErrOf result ReadFault.OutOfMemory → (facts self.now).takes_memory };
 
-    /// Its lines, as they come, of which none is read yet. The error comes where memory for what is read ahead is refused.
+    /// Its lines as they come, none of them read yet. The error comes where memory for the read-ahead buffer is
+    /// refused.
     fn lines(&self, alloc: Global) -> Result<Self::Lines, AllocError>
         ensures given { IfOk result (λ lines. IfSome (Self.Lines.facts lines).left (facts self.now).gives) }
         ensures cause { IfOk result (λ lines. (Self.Lines.facts lines).fails → (facts self.now).fails) }
         ensures room { IfOk result (λ lines. (Self.Lines.facts lines).takes_memory → (facts self.now).takes_memory) }
         ensures memory { OnErr result (facts self.now).takes_memory };
 
-    /// An input that tells what it has tells one thing.
+    /// An input whose bytes are stated has one list of them.
     ghost one: { (i : Self) → (facts i).is_told ≡ true → GivesOne (facts i) };
 }

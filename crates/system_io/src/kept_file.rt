@@ -1,4 +1,4 @@
-//! The file in which a record is kept, and how another takes its place.
+//! The file in which a record is kept, and its replacement by a new one.
 
 ghost use Rattle.std.specs.Prelude.{◌≡◌, ◌≤◌, ◌<◌, ◌⊎◌, ℕ, List, Option, Some, false, length, IsTrue, IfOk, IfErr, IfSome, OnOk, OnErr};
 ghost use Rattle.system_io.specs.Failures.{Counts, Risen};
@@ -9,10 +9,10 @@ use crate::reading::ReadFault;
 use std::alloc::{AllocError, Global};
 use std::io;
 
-/// How many bytes are kept at most: as many as a record of 4096 moves has, 25 and two for each (record format).
+/// The most bytes that are kept: the length of a record of 4096 moves, 25 bytes and two for each move (record format).
 pub const MOST_KEPT_BYTES: usize = 8217;
 
-/// A copy of what stands under a name. The error comes where memory for it is refused, which no bytes don't take.
+/// A copy of what stands under a name. The error comes where memory for it is refused; an empty copy takes none.
 pub(crate) fn copied(alloc: Global, bytes: &Option<Vec<u8>>) -> Result<Option<Vec<u8>>, AllocError>
     ensures same { IfOk result (λ copy. bytes_of copy ≡ bytes_of bytes.now) }
     ensures cause { OnErr result (HasAny (bytes_of bytes.now)) }
@@ -29,16 +29,16 @@ pub(crate) fn copied(alloc: Global, bytes: &Option<Vec<u8>>) -> Result<Option<Ve
     }
 }
 
-/// A file under a name, and one beside it that is to take its name.
+/// A file under a name, and a file beside it that is to take that name.
 ///
-/// A call that fails is counted, and no other is; a count at its greatest value stays there and is taken as risen. `OutOfMemory`
-/// is told only where memory was refused.
+/// Exactly the failed calls are counted. A count at its greatest value stays there and is taken as risen. `OutOfMemory`
+/// is returned only where memory was refused.
 pub trait KeptFile {
-    /// How far bytes have come on their way to the name, and what a start finds there.
+    /// How far new bytes are on their way to the name, and what a start finds there.
     ghost facts: { Self → KeptFacts };
 
-    /// Lets what stands under the name reach the disk, its bytes and the name itself, as a run that stopped before may not
-    /// have done.
+    /// Syncs what stands under the name, its bytes and the name itself, since an earlier run may have stopped before
+    /// that.
     fn settle(&mut self) -> Result<(), ReadFault>
         ensures settled { OnOk result (facts self.new).settled }
         ensures same { (a b : Option (List ℕ)) → (facts self.old).finds a b → (facts self.new).finds a b }
@@ -52,38 +52,38 @@ pub trait KeptFile {
         ensures short { IfOk result (λ got. IfSome got (λ v. length v.items ≤ 8217)) }
         ensures cause { IfErr result (facts self.now).cannot_read };
 
-    /// Writes bytes to the file beside, in place of what an earlier run may have left there.
+    /// Writes bytes to the file beside, replacing what an earlier run may have left there.
     fn write_beside(&mut self, bytes: &[u8]) -> io::Result<()>
         ensures written { OnOk result ((facts self.new).reached Written bytes.now) }
         ensures same { (a b : Option (List ℕ)) → (facts self.old).finds a b → (facts self.new).finds a b }
         ensures count { Counts result (facts self.old).faults (facts self.new).faults };
 
-    /// Lets what was written beside reach the disk.
+    /// Syncs the file beside.
     fn sync_beside(&mut self) -> io::Result<()>
         ensures synced { OnOk result ((bytes : List ℕ) → (facts self.old).reached Written bytes → (facts self.new).reached Synced bytes) }
         ensures same { (a b : Option (List ℕ)) → (facts self.old).finds a b → (facts self.new).finds a b }
         ensures count { Counts result (facts self.old).faults (facts self.new).faults };
 
-    /// Gives the file beside the name, in place of the file that had it. A name leads to the one file or the other, also where
-    /// this fails, and what is synced is whole.
+    /// Renames the file beside to the name, replacing the file that had it. The name leads to one file or the other,
+    /// also where this fails, and a synced file is complete.
     fn rename(&mut self) -> io::Result<()>
         ensures renamed { OnOk result ((bytes : List ℕ) → (facts self.old).reached Synced bytes → (facts self.new).reached Renamed bytes) }
         ensures either { (old : Option (List ℕ)) (bytes : List ℕ) → (facts self.old).finds old old → (facts self.old).reached Synced bytes → (facts self.new).finds old (Some bytes) }
         ensures count { Counts result (facts self.old).faults (facts self.new).faults };
 
-    /// Lets the new name reach the disk.
+    /// Syncs the folder, and with it the new name.
     fn sync_folder(&mut self) -> io::Result<()>
         ensures synced { OnOk result ((bytes : List ℕ) → (facts self.old).reached Renamed bytes → (facts self.new).finds (Some bytes) (Some bytes)) }
         ensures same { OnErr result ((a b : Option (List ℕ)) → (facts self.old).finds a b → (facts self.new).finds a b) }
         ensures count { Counts result (facts self.old).faults (facts self.new).faults };
 
-    /// What every start finds is one of any two of which each start finds the one or the other. So what a start finds isn't empty
-    /// of meaning: an instance that told all of everything would not pass.
+    /// Where every start finds one of two contents, whichever it finds is among any other such two. So the fact has
+    /// meaning: an instance that claims every pair of contents fails this clause.
     ghost one: { (f : Self) → FindsOne (facts f) };
 }
 
-/// What a start reads: the bytes under the name, once they and the name are on the disk. They are one of any two of which the
-/// file says that each start finds the one or the other, and every later start finds them.
+/// What a start reads: the bytes under the name, once they and the name are synced. Of any two contents that every
+/// start is claimed to be among they are one, and every later start finds them.
 pub fn begin<F: KeptFile>(alloc: Global, file: &mut F) -> Result<Option<Vec<u8>>, ReadFault>
     ensures one { IfOk result (λ got. IsOneOfFound (F.facts file.old) (bytes_of got)) }
     ensures lasts { IfOk result (λ got. (F.facts file.new).finds (bytes_of got) (bytes_of got)) }
@@ -98,8 +98,8 @@ pub fn begin<F: KeptFile>(alloc: Global, file: &mut F) -> Result<Option<Vec<u8>>
     }
 }
 
-/// Lets bytes take the place of those in the file. Where this fails, or the process stops on the way, a start finds the old
-/// bytes or the new. It fails only where one of its calls does.
+/// Replaces the bytes of the file. Where this fails, or the process stops midway, a start finds the old bytes or the
+/// new. It fails only where one of its calls does.
 pub fn replace<F: KeptFile>(file: &mut F, bytes: &[u8]) -> io::Result<()>
     ensures ok { OnOk result ((F.facts file.new).finds (Some bytes.now) (Some bytes.now)) }
     ensures err { (old : Option (List ℕ)) → (F.facts file.old).finds old old → OnErr result (FindsOldOrNew (F.facts file.new) old bytes.now) }
@@ -111,8 +111,8 @@ pub fn replace<F: KeptFile>(file: &mut F, bytes: &[u8]) -> io::Result<()>
     file.sync_folder()
 }
 
-/// Makes the first calls of `replace`, so many, and no more: what is left where a process stops in the middle of it. Tells
-/// whether all four were made and none failed.
+/// Makes only the first `calls` calls of `replace`, as where a process stops in the middle of it. Returns whether all
+/// four were made and none failed.
 pub fn replace_in_part<F: KeptFile>(file: &mut F, bytes: &[u8], calls: usize) -> bool
     ensures cut { IsCutOff (F.facts file.old) bytes.now (F.facts file.new) }
     ensures none { calls ≡ 0 → file.new ≡ file.old }

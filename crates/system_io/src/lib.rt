@@ -1,7 +1,7 @@
-//! Where the outside comes in: folders and files, an input and an output, datagrams, and a file in which something is kept.
+//! Traits for the outside: folders and files, an input and an output, datagrams, and a file in which a record is kept.
 //!
-//! Each is a trait, whose `facts` are all that a proof sees of it; beside it stands the system's own. `specs/Premises.antt` says
-//! what is trusted of the system.
+//! The `facts` of a trait are all that a proof sees of it. Each has an instance over the system's calls.
+//! `specs/Premises.antt` states what is trusted of the system.
 //!
 //! Its tests stand in `checks`.
 #![tactic(auto)]

@@ -11,14 +11,14 @@ use std::io::{BufRead, BufReader, Read};
 
 /// An input that is read line by line as it comes.
 pub trait LineReader {
-    /// What is left of it, where that is known, and whether it can't be read to its end.
+    /// Its remaining bytes, where they are known, and whether it can't be read to its end.
     ghost facts: { Self → LineFacts };
 
-    /// Reads the next line in place of what stands in the buffer, without its line feed, and tells whether there is one. The last
-    /// line may lack its line feed.
+    /// Replaces the buffer's contents by the next line, without its line feed, and returns whether there is one. The
+    /// last line may lack its line feed.
     ///
-    /// It takes nothing after the line feed, and so waits for no more than the line. The buffer's room is that of the longest line
-    /// so far. After an error a part of a line may be lost.
+    /// It reads nothing after the line feed, so it waits for no more than the line. The buffer's capacity is that of
+    /// the longest line so far. After an error a part of a line may be lost.
     fn next_line(&mut self, line: &mut Vec<u8>) -> Result<bool, ReadFault>
         ensures read { IfOk result (ReadsIfAny (facts self.old).left (facts self.new).left line.new.items) }
         ensures cause { IsErrOf result ReadFault.Unreadable → (facts self.old).fails }
@@ -31,7 +31,7 @@ pub trait LineReader {
         ensures { IsTrue result ↔ Contains (facts self.now).ahead 10 };
 }
 
-/// Takes a line feed from the end, if there is one.
+/// Removes a line feed from the end, if there is one.
 pub(crate) fn drop_line_feed(line: &mut Vec<u8>)
     ensures { line.new.items ≡ strip_last 10 line.old.items }
 {

@@ -1,4 +1,4 @@
-//! The calls for a kept file in memory, which tell what was made, and of which one fails if it is so said.
+//! The calls for a kept file in memory. They are recorded, and one of them fails on request.
 
 ghost use Rattle.std.specs.Prelude.{◌≡◌, ◌↔◌, ◌∷◌, [], Some, IsTrue};
 ghost use Rattle.std.specs.IoError.{error_kind};
@@ -17,7 +17,7 @@ use std::io;
 /// A call that was made.
 #[derive(Drop)]
 pub enum MadeCall {
-    /// What stands under the name was read: these bytes, or that there are none.
+    /// The bytes under the name were read, or that there are none.
     Read(Option<Vec<u8>>),
     /// These bytes were written to the file beside.
     Wrote(Vec<u8>),
@@ -33,7 +33,7 @@ pub enum MadeCall {
     Failed,
 }
 
-/// A file under a name and one beside it, in memory, and the calls that were made.
+/// A file under a name, a file beside it, and the calls that were made, all in memory.
 #[derive(Drop)]
 pub struct MemoryCalls {
     alloc: Global,
@@ -53,7 +53,7 @@ fn failed() -> io::Error
 }
 
 impl MemoryCalls {
-    /// Those for a file with these bytes, or for none, of which the one of this number fails, the first being 0.
+    /// Calls for a file with these bytes, or for no file. The call with this number fails, counted from 0.
     pub fn new(alloc: Global, stands: Option<Vec<u8>>, fails_at: Option<usize>) -> MemoryCalls
         ensures { made_by result ≡ Some [] }
     {
@@ -77,7 +77,7 @@ impl MemoryCalls {
         }
     }
 
-    /// Keeps a call.
+    /// Records a call.
     fn keep(&mut self, call: MadeCall)
         ensures made { Passes (made_by self.old) (made_by self.new) (call_of call ∷ []) }
         ensures stands { self.new.stands ≡ self.old.stands }
@@ -88,7 +88,7 @@ impl MemoryCalls {
         }
     }
 
-    /// Keeps that bytes were read.
+    /// Records that bytes were read.
     fn keep_read(&mut self, got: &Option<Vec<u8>>)
         ensures made { Passes (made_by self.old) (made_by self.new) (Read (bytes_of got.now) ∷ []) }
         ensures stands { self.new.stands ≡ self.old.stands }
@@ -100,7 +100,7 @@ impl MemoryCalls {
         }
     }
 
-    /// Keeps that bytes were written.
+    /// Records that bytes were written.
     fn keep_wrote(&mut self, bytes: &[u8])
         ensures { Passes (made_by self.old) (made_by self.new) (Wrote bytes.now ∷ []) }
     {
@@ -110,7 +110,7 @@ impl MemoryCalls {
         }
     }
 
-    /// Counts a call, and tells whether it fails.
+    /// Counts a call, and returns whether it fails.
     fn is_failing(&mut self) -> bool
         ensures made { made_by self.new ≡ made_by self.old }
         ensures stands { self.new.stands ≡ self.old.stands }
@@ -135,7 +135,7 @@ impl MemoryCalls {
         }
     }
 
-    /// Keeps that a call failed.
+    /// Records that a call failed.
     fn keep_failed(&mut self) -> io::Error
         ensures made { Passes (made_by self.old) (made_by self.new) (Failed ∷ []) }
         ensures kind { error_kind result ≡ StorageFull }

@@ -1,4 +1,4 @@
-//! Folders and files in memory, of which some can't be read.
+//! Folders and files in memory, some of them unreadable.
 
 ghost use Rattle.std.specs.Prelude.{◌↔◌, IfNone, IfSome, IsTrue};
 ghost use Rattle.system_io.specs.Disks.{AtFile};
@@ -16,7 +16,7 @@ pub struct AtPath<'a, T: Copy> {
     pub holds: T,
 }
 
-/// What stands first at a path.
+/// The first entry at a path.
 fn found<'a, T: Copy>(all: &[AtPath<'a, T>], path: &str) -> Option<T>
     ensures found { IfSome result (IsFoundAt (λ e. e.path.now) (λ e. e.holds) all.now path.now) }
     ensures nowhere { IfNone result (IsNowhere (λ e. e.path.now) all.now path.now) }
@@ -33,7 +33,7 @@ fn found<'a, T: Copy>(all: &[AtPath<'a, T>], path: &str) -> Option<T>
     }
 }
 
-/// Whether a path is none of these.
+/// Whether a path is not among these.
 fn is_other(paths: &[&str], path: &str) -> bool
     ensures { IsTrue result ↔ IsNowhere (λ p. p.now) paths.now path.now }
 {
@@ -49,8 +49,8 @@ fn is_other(paths: &[&str], path: &str) -> bool
     }
 }
 
-/// Files and folders by their paths, and the paths at which nothing can be read. Of two rows for one path the first counts. A
-/// folder may list a name at whose path no file stands: that one can't be read.
+/// Files and folders by their paths, and the paths that can't be read. Of two entries for one path the first counts. A
+/// folder may list a name without a file at its path; that one can't be read.
 #[derive(Clone, Copy)]
 pub struct MemoryDisk<'a> {
     pub files: &'a [AtPath<'a, &'a [u8]>],

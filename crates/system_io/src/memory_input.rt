@@ -9,7 +9,7 @@ use crate::reading::{MOST_BYTES, ReadFault};
 use std::alloc::{AllocError, Global};
 use std::io::BufRead;
 
-/// An input of these bytes, which is read to its end or fails there.
+/// An input of these bytes, which ends after them or fails there.
 #[derive(Clone, Copy)]
 pub struct MemoryInput<'a> {
     pub bytes: &'a [u8],
@@ -25,7 +25,7 @@ impl<'a> MemoryInput<'a> {
     }
 }
 
-/// Its lines, all of which have come already.
+/// The lines of an input in memory, all of which have already arrived.
 #[derive(Drop)]
 pub struct MemoryLines<'a> {
     left: &'a [u8],

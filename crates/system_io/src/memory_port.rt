@@ -1,4 +1,4 @@
-//! A port in memory, which tells what has passed there, and loses, repeats, reorders and fails as it is told to.
+//! A port in memory that records its traffic, and loses, repeats, reorders and fails on request.
 
 ghost use Rattle.std.specs.Prelude.{◌≡◌, ◌≤◌, ◌∷◌, [], Some, map, take, IfOk, OnErr};
 ghost use Rattle.system_io.specs.Failures.{Risen};
@@ -10,7 +10,7 @@ use crate::port::{Port, PortFault};
 use std::alloc::Global;
 use std::time::Duration;
 
-/// What has passed at a port.
+/// An event at a port.
 #[derive(Drop)]
 pub enum Passage {
     /// A datagram came, with these first 64 bytes.
@@ -19,23 +19,23 @@ pub enum Passage {
     Quiet,
     /// No datagram could be received.
     Missed,
-    /// A datagram was given out for the address at this place.
+    /// A datagram was sent to the address at this place.
     Handed { to: usize, bytes: Vec<u8> },
 }
 
-/// What comes of a call that receives.
+/// The outcome of a call that receives.
 #[derive(Clone, Copy)]
 pub enum Turn {
-    /// The datagram at this place comes. One that no turn names is lost, one that two name comes twice.
+    /// The datagram at this place comes. One that no turn names is lost, and one named twice comes twice.
     Comes(usize),
-    /// Nothing comes in time; without a limit of time the call fails.
+    /// Nothing comes in time. Without a time limit the call fails.
     Quiet,
     /// The call fails.
     Fails,
 }
 
-/// Gives the datagrams of a list, by turns, and keeps all that passes. A call past the last turn fails, as does a turn for a
-/// datagram that isn't there. How often a call has failed is counted.
+/// Delivers the datagrams of a list, turn by turn, and records all traffic. A call past the last turn fails, as does a
+/// turn for a datagram that isn't there. Failed calls are counted.
 #[derive(Drop)]
 pub struct MemoryPort<'a> {
     alloc: Global,
@@ -49,7 +49,7 @@ pub struct MemoryPort<'a> {
     fails_at: Option<usize>,
 }
 
-/// Puts the first 64 bytes of a datagram at the front of a buffer, and tells how many they are.
+/// Copies the first 64 bytes of a datagram to the front of a buffer, and returns how many they are.
 fn fill(buffer: &mut [u8; 64], datagram: &[u8]) -> usize
     ensures { result ≤ 64 }
 {
@@ -59,8 +59,8 @@ fn fill(buffer: &mut [u8; 64], datagram: &[u8]) -> usize
 }
 
 impl<'a> MemoryPort<'a> {
-    /// One that sends to so many addresses, and at which nothing has passed. The call of this number fails too, the first being 0,
-    /// whether it receives or sends.
+    /// A port that sends to this many addresses, without traffic yet. The call with this number, counted from 0, fails
+    /// too, whether it receives or sends.
     pub fn new(
         alloc: Global,
         addresses: usize,
@@ -85,7 +85,7 @@ impl<'a> MemoryPort<'a> {
         }
     }
 
-    /// All that has passed; none where memory for it was refused.
+    /// All traffic so far; none where memory for it was refused.
     pub fn passages(&self) -> Option<&[Passage]> {
         if self.is_whole {
             Some(&self.passages)
@@ -94,7 +94,7 @@ impl<'a> MemoryPort<'a> {
         }
     }
 
-    /// Keeps what passes.
+    /// Records an event.
     fn keep(&mut self, passage: Passage)
         ensures passes { Passes (passed_at self.old) (passed_at self.new) (passing passage ∷ []) }
         ensures addresses { self.new.addresses ≡ self.old.addresses }
@@ -105,7 +105,7 @@ impl<'a> MemoryPort<'a> {
         }
     }
 
-    /// Keeps that a datagram came.
+    /// Records that a datagram came.
     fn keep_came(&mut self, bytes: &[u8])
         ensures passes { Passes (passed_at self.old) (passed_at self.new) (Came bytes.now ∷ []) }
         ensures addresses { self.new.addresses ≡ self.old.addresses }
@@ -117,7 +117,7 @@ impl<'a> MemoryPort<'a> {
         }
     }
 
-    /// Keeps that a datagram is given out for the address at a place.
+    /// Records that a datagram is sent to the address at a place.
     fn keep_handed(&mut self, to: usize, bytes: &[u8])
         ensures passes { Passes (passed_at self.old) (passed_at self.new) (Handed to bytes.now ∷ []) }
         ensures addresses { self.new.addresses ≡ self.old.addresses }
@@ -140,7 +140,7 @@ impl<'a> MemoryPort<'a> {
         PortFault::Failed
     }
 
-    /// Counts a call, and tells whether it fails.
+    /// Counts a call, and returns whether it fails.
     fn is_failing(&mut self) -> bool
         ensures passed { passed_at self.new ≡ passed_at self.old }
         ensures addresses { self.new.addresses ≡ self.old.addresses }
@@ -151,7 +151,7 @@ impl<'a> MemoryPort<'a> {
         fails
     }
 
-    /// What comes of the next call that receives.
+    /// The outcome of the next call that receives.
     fn next(&mut self) -> Turn
         ensures passed { passed_at self.new ≡ passed_at self.old }
         ensures addresses { self.new.addresses ≡ self.old.addresses }
@@ -186,7 +186,7 @@ impl<'a> MemoryPort<'a> {
         }
     }
 
-    /// Keeps that no datagram could be received.
+    /// Records that no datagram could be received.
     fn miss(&mut self) -> PortFault
         ensures missed { Passed (port_facts self.old) (port_facts self.new) (Missed ∷ []) }
         ensures cause { Risen self.old.failures self.new.failures }

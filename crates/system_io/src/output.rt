@@ -16,25 +16,25 @@ pub enum WriteFault {
 
 /// Where a program's output goes.
 pub trait Output: Write {
-    /// Whether what was written has gone out, or some of it can't go out.
+    /// Whether everything written has gone out, or some of it can't.
     ghost facts: { Self → OutputFacts };
 
-    /// Writes bytes to their end. The error comes only where a write was refused; then a front of them was written.
+    /// Writes all bytes. The error comes only where a write was refused; a prefix of them is written then.
     fn put(&mut self, bytes: &[u8]) -> Result<(), WriteFault>
         ensures front { WritesFront (Self.contents self.old) (Self.contents self.new) bytes.now result }
         ensures cause { OnErr result (facts self.old).refuses };
 
-    /// Lets all that was written go out; the error comes where some of it can't.
+    /// Flushes everything written. The error comes where some of it can't go out.
     fn flush_all(&mut self) -> Result<(), WriteFault>
         ensures kept { Keeps (Self.contents self.old) (Self.contents self.new) }
         ensures gone { OnOk result (facts self.new).gone }
         ensures stuck { OnErr result (facts self.new).stuck };
 
-    /// What has gone out isn't stuck. So neither says nothing: an instance that told both of everything would not pass.
+    /// What has gone out isn't stuck. So the facts have meaning: an instance that claims both fails this clause.
     ghost one: { (o : Self) → NotBoth (facts o) };
 }
 
-/// Writes bytes to their end. Where a write is refused, or takes none of them, a front of them was written.
+/// Writes all bytes. Where a write is refused, or takes none of them, a prefix of them is written.
 fn write_front<W: Write>(out: &mut W, bytes: &[u8]) -> Result<(), WriteFault>
     ensures { WritesFront (W.contents out.old) (W.contents out.new) bytes.now result }
 {
@@ -56,7 +56,7 @@ fn write_front<W: Write>(out: &mut W, bytes: &[u8]) -> Result<(), WriteFault>
     Err(WriteFault::Io)
 }
 
-/// An output that is written in blocks, and knows whether its last flush has failed.
+/// A buffered output that knows whether its last flush has failed.
 #[derive(Drop)]
 pub struct BufferedOutput<W: Write + Drop> {
     buffer: BufWriter<W>,
@@ -64,7 +64,8 @@ pub struct BufferedOutput<W: Write + Drop> {
 }
 
 impl<W: Write + Drop> BufferedOutput<W> {
-    /// One over a writer, of which nothing is written yet. The error comes where memory for the buffer is refused.
+    /// A buffered output over a writer, with nothing written yet. The error comes where memory for the buffer is
+    /// refused.
     pub fn new(alloc: Global, writer: W) -> Result<BufferedOutput<W>, AllocError>
         ensures { IfOk result (StartsEmpty writer) }
     {
@@ -139,8 +140,8 @@ impl Output for Vec<u8> {
     }
 }
 
-/// Ends the output, and tells the program's status: that of its answer where all of it has gone
-/// out, and 1 where it was not written or can't go out.
+/// Ends the output, and returns the program's exit status. It is that of the answer where all of it has gone out, and 1
+/// where it was not written or can't go out.
 pub fn end<O: Output>(out: &mut O, answered: Result<u8, WriteFault>) -> u8
     ensures { HasEnded (O.facts out.new) answered result }
 {

@@ -1,4 +1,4 @@
-//! Where datagrams come from and go to.
+//! Ports, which receive and send datagrams.
 
 ghost use Rattle.std.specs.Prelude.{◌≡◌, ◌≤◌, [], ◌∷◌, None, Ok, take, IfOk, IfSome, OnErr};
 ghost use Rattle.system_io.specs.Failures.{Risen};
@@ -6,29 +6,29 @@ ghost use Rattle.system_io.specs.Ports.{PortFacts, Came, Quiet, Missed, Passed, 
 
 use std::time::Duration;
 
-/// Why a port does nothing.
+/// Why a call of a port failed.
 #[derive(Clone, Copy)]
 pub enum PortFault {
     /// It failed.
     Failed,
 }
 
-/// Where datagrams come from, and the addresses to which they are sent, in an order.
+/// A port receives datagrams, and sends them to a list of addresses.
 ///
-/// `Failed` comes only where the failures rose in this call; a count that stands at its greatest value stays there and is taken
-/// as risen.
+/// `Failed` comes only where the count of failures rose in this call. A count at its greatest value stays there and is
+/// taken as risen.
 pub trait Port {
-    /// What has passed there, how often it has failed, and to how many addresses it sends.
+    /// Its traffic, the count of its failures, and the number of addresses to which it sends.
     ghost facts: { Self → PortFacts };
 
-    /// Waits for a datagram, puts its first 64 bytes at the front of the buffer, and tells how many they are.
+    /// Waits for a datagram, copies its first 64 bytes to the front of the buffer, and returns how many they are.
     fn receive(&mut self, buffer: &mut [u8; 64]) -> Result<usize, PortFault>
         ensures length { IfOk result (λ n. n ≤ 64) }
         ensures came { IfOk result (λ n. Passed (facts self.old) (facts self.new) (Came (take n buffer.new) ∷ [])) }
         ensures missed { OnErr result (Passed (facts self.old) (facts self.new) (Missed ∷ [])) }
         ensures cause { OnErr result (Risen (facts self.old).faults (facts self.new).faults) };
 
-    /// The same, but waits no longer than so long, which is more than nothing: none where nothing came in time.
+    /// As `receive`, but waits at most `wait`, which is above 0. None where nothing came in time.
     fn receive_in_time(
         &mut self,
         wait: Duration,
@@ -40,7 +40,7 @@ pub trait Port {
         ensures missed { OnErr result (Passed (facts self.old) (facts self.new) (Missed ∷ [])) }
         ensures cause { OnErr result (Risen (facts self.old).faults (facts self.new).faults) };
 
-    /// Sends a datagram to each address in turn. One that can't be sent keeps none of the others back.
+    /// Sends a datagram to each address in turn. A send that fails does not prevent the others.
     fn send(&mut self, bytes: &[u8]) -> Result<(), PortFault>
         ensures handed { Passed (facts self.old) (facts self.new) (to_each (facts self.old).addresses bytes.now) }
         ensures cause { OnErr result (Risen (facts self.old).faults (facts self.new).faults) };

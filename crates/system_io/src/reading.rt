@@ -15,7 +15,7 @@ pub(crate) const MOST_BYTES: u64 = 1_073_741_824;
 /// Why something wasn't read.
 #[derive(Clone, Copy)]
 pub enum ReadFault {
-    /// It isn't there, can't be read, or has more bytes than it may have.
+    /// It doesn't exist, can't be read, or has more bytes than allowed.
     Unreadable,
     /// Memory was refused.
     OutOfMemory,
@@ -40,8 +40,8 @@ impl From<io::Error> for ReadFault {
     }
 }
 
-/// All that a reader has, at most so many bytes, of which no more than one more is read. Room for so many bytes as are
-/// expected, and one, is taken at once.
+/// All bytes of a reader, if they are at most `most`; of more, one byte past that number is read. Room for the expected
+/// number of bytes, and one, is allocated at once.
 pub fn read_at_most<R: Read + Drop>(
     alloc: Global,
     reader: R,

@@ -14,13 +14,13 @@ pub struct SystemDisk<'a, R: Files + AllocGlobal + Clone + Drop> {
 }
 
 impl<'a, R: Files + AllocGlobal + Clone + Drop> SystemDisk<'a, R> {
-    /// Those of this system.
+    /// The folders and files of this system.
     pub fn new(rt: &'a R) -> SystemDisk<'a, R> {
         SystemDisk { rt }
     }
 }
 
-/// The name of an entry of a folder; none where it is no text.
+/// The name of an entry of a folder; none where it is not UTF-8.
 fn name_of<R: Files + AllocGlobal + Clone + Drop>(
     rt: &R,
     entry: io::Result<DirEntry<R>>,
@@ -32,7 +32,7 @@ fn name_of<R: Files + AllocGlobal + Clone + Drop>(
     }
 }
 
-/// The names in a folder; those that are no text are left out.
+/// The names in a folder; those that are not UTF-8 are left out.
 fn names_in<R: Files + AllocGlobal + Clone + Drop>(
     rt: &R,
     folder: &str,

@@ -1,4 +1,4 @@
-//! A file of the system, and the one beside it.
+//! A file of the system, and the file beside it.
 
 ghost use Rattle.std.specs.Prelude.{IfOk};
 ghost use Rattle.system_io.specs.Places.{AreFor, IsAtPath};
@@ -12,7 +12,7 @@ use std::io::Write;
 use std::rt::Files;
 use std::{fs, io};
 
-/// The calls of the system for a file by its path. The one beside it has the same path with `.new` at its end.
+/// The calls of the system for a file by its path. The file beside it has that path with `.new` appended.
 #[derive(Drop)]
 pub struct SystemCalls<'a, R: Files + AllocGlobal> {
     rt: &'a R,
@@ -31,7 +31,7 @@ fn folder_of(path: &str) -> &str {
 }
 
 impl<'a, R: Files + AllocGlobal> SystemCalls<'a, R> {
-    /// Those for the file at a path.
+    /// The calls for the file at a path.
     pub fn at(rt: &'a R, alloc: Global, path: &str) -> Result<SystemCalls<'a, R>, AllocError>
         ensures { IfOk result (AreFor path.now) }
     {
@@ -89,7 +89,7 @@ impl<'a, R: Files + AllocGlobal> FileCalls for SystemCalls<'a, R> {
 pub type SystemFile<'a, R> = Traced<SystemCalls<'a, R>>;
 
 impl<'a, R: Files + AllocGlobal> Traced<SystemCalls<'a, R>> {
-    /// The file at a path, of which nothing is known yet.
+    /// The file at a path, with nothing known about it yet.
     pub fn at(rt: &'a R, alloc: Global, path: &str) -> Result<SystemFile<'a, R>, AllocError>
         ensures { IfOk result (IsAtPath path.now) }
     {

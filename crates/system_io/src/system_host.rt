@@ -4,7 +4,7 @@ use crate::host::{BindFault, Host};
 use crate::system_file::SystemFile;
 use crate::udp_port::UdpPort;
 use std::alloc::{AllocError, Global};
-use std::net::Net;
+use std::net::{Net, SocketAddr};
 use std::rt::Files;
 
 /// The ports and kept files of the system.
@@ -14,7 +14,7 @@ pub struct SystemHost<'a, R: Files + Net + AllocGlobal> {
 }
 
 impl<'a, R: Files + Net + AllocGlobal> SystemHost<'a, R> {
-    /// Those of this system.
+    /// The ports and kept files of this system.
     pub fn new(rt: &'a R) -> SystemHost<'a, R> {
         SystemHost { rt }
     }
@@ -34,6 +34,10 @@ impl<'a, R: Files + Net + AllocGlobal> Host for SystemHost<'a, R> {
 
     fn bind(&self, alloc: Global, address: &str, to: &[&str]) -> Result<UdpPort, BindFault> {
         Ok(UdpPort::bind(self.rt, alloc, address, to)?)
+    }
+
+    fn own_address(&self, port: &UdpPort) -> Option<SocketAddr> {
+        port.own_address()
     }
 
     fn file(&self, alloc: Global, path: &str) -> Result<SystemFile<'a, R>, AllocError> {

@@ -12,7 +12,7 @@ pub struct SystemInput<'a, R: Input + Drop> {
 }
 
 impl<'a, R: Input + Drop> SystemInput<'a, R> {
-    /// That of this system.
+    /// The standard input of this system.
     pub fn new(rt: &'a R) -> SystemInput<'a, R> {
         SystemInput { rt }
     }

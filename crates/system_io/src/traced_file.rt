@@ -1,4 +1,5 @@
-//! A kept file over the calls of a system, of which nothing is claimed: it tells what those calls and their answers say.
+//! A kept file over the calls of a system. Nothing is claimed of the calls; the facts of the file follow from the calls
+//! and their results.
 
 ghost use Rattle.std.specs.Prelude.{◌≡◌, ◌≤◌, ◌↔◌, [], ◌∷◌, ℕ, List, Option, Some, IfOk, IfErr, IfSome, IsTrue, OnOk, length};
 ghost use Rattle.std.specs.IoError.{error_kind};
@@ -16,38 +17,38 @@ use crate::reading::ReadFault;
 use std::alloc::Global;
 use std::io;
 
-/// The calls of a system for a file under a name and one beside it. Nothing is claimed of what they do; which of them were made
-/// may be told.
+/// The calls of a system for a file under a name and a file beside it. Nothing is claimed of their effect; an instance
+/// may record which were made.
 pub trait FileCalls {
-    /// Which calls were made, where that is told, and why a read or a sync of the folder may fail.
+    /// The calls made, where they are recorded, and why a read or a sync of the folder may fail.
     ghost facts: { Self → CallFacts };
 
-    /// The bytes under the name, at most 8217, or that there are none; before they are read they are to reach the disk.
+    /// The bytes under the name, at most 8217, or that there are none. They are to be synced before they are read.
     fn read(&mut self, alloc: Global) -> Result<Option<Vec<u8>>, ReadFault>
         ensures short { IfOk result (λ got. IfSome got (λ v. length v.items ≤ 8217)) }
         ensures made { Passes (facts self.old).made (facts self.new).made (read_call result ∷ []) }
         ensures cause { IfErr result (facts self.old).fails }
         ensures still { (fault : ReadFault) → (facts self.new).fails fault → (facts self.old).fails fault };
 
-    /// Writes the file beside, in place of what stands there.
+    /// Writes the file beside, replacing its contents.
     fn write(&mut self, bytes: &[u8]) -> io::Result<()>
         ensures { Passes (facts self.old).made (facts self.new).made (answered result (Wrote bytes.now) Failed ∷ []) };
 
-    /// Lets the file beside reach the disk.
+    /// Syncs the file beside.
     fn sync(&mut self) -> io::Result<()>
         ensures { Passes (facts self.old).made (facts self.new).made (answered result SyncedFile Failed ∷ []) };
 
-    /// Gives the file beside the name.
+    /// Renames the file beside to the name.
     fn rename(&mut self) -> io::Result<()>
         ensures { Passes (facts self.old).made (facts self.new).made (answered result Renamed RenameFailed ∷ []) };
 
-    /// Lets the folder, and with it the names in it, reach the disk.
+    /// Syncs the folder, and with it the names in it.
     fn sync_folder(&mut self) -> io::Result<()>
         ensures made { Passes (facts self.old).made (facts self.new).made (answered result SyncedFolder Failed ∷ []) }
         ensures cause { IfErr result (λ e. (facts self.old).fails (fault_of (error_kind e))) };
 }
 
-/// How far the bytes of the last write have come, by the answers.
+/// How far the bytes of the last write have come, by the results of the calls.
 #[derive(Clone, Copy)]
 pub enum Reach {
     /// They weren't written, or a call failed since.
@@ -60,9 +61,10 @@ pub enum Reach {
     Renamed,
 }
 
-/// What was told of a file by the calls that were made and their answers: whether it is known what may stand under its name;
-/// what is to stand there, and what else may, since it did when the folder was last synced or later; what was written beside it,
-/// and how far that has come; and how often a call has failed.
+/// What the calls made and their results say about a file. `is_known` says whether it is known what may stand under the
+/// name. `stands` is what should stand there; `earlier` is what else may, since it did when the folder was last synced
+/// or later. `written` is what was written beside it, `reach` how far that has come, and `failures` how often a call
+/// has failed.
 #[derive(Drop)]
 pub struct Traced<C: Drop> {
     alloc: Global,
@@ -75,7 +77,7 @@ pub struct Traced<C: Drop> {
     failures: u64,
 }
 
-/// Whether the same bytes stand in both, or none do.
+/// Whether both hold the same bytes, or neither holds any.
 fn are_same(got: &Option<Vec<u8>>, known: &Option<Vec<u8>>) -> bool
     ensures { IsTrue result ↔ (bytes_of got.now ≡ bytes_of known.now) }
 {
@@ -87,7 +89,7 @@ fn are_same(got: &Option<Vec<u8>>, known: &Option<Vec<u8>>) -> bool
 }
 
 impl<C: FileCalls + Drop> Traced<C> {
-    /// A file of which nothing is known.
+    /// A file about which nothing is known.
     pub fn new(alloc: Global, calls: C) -> Traced<C>
         ensures calls { calls_in result ≡ calls }
         ensures fresh { IsFresh result }
@@ -111,7 +113,7 @@ impl<C: FileCalls + Drop> Traced<C> {
         &self.calls
     }
 
-    /// Counts a failure, and gives back why a call failed.
+    /// Counts a failure, and returns its cause.
     fn fail<E>(&mut self, why: E) -> E
         ensures why { result ≡ why }
         ensures risen { Risen self.old.failures self.new.failures }
@@ -124,7 +126,7 @@ impl<C: FileCalls + Drop> Traced<C> {
         why
     }
 
-    /// Notes that what was written may have the name from now on.
+    /// Records that what was written may have the name from now on.
     fn note_name(&mut self) -> io::Result<()>
         ensures named { OnOk result ((bytes : List ℕ) → HasBytes self.old.written bytes → HasBytes self.new.stands bytes) }
         ensures calls { self.new.calls ≡ self.old.calls }
@@ -149,13 +151,13 @@ impl<C: FileCalls + Drop> Traced<C> {
     }
 }
 
-/// Under the premise on a system's file a start reads one of any two of which the file that was left says that each start finds
-/// the one or the other.
+/// Under the premise on a system's file: of any two contents that the file claims every start to be among, a start
+/// reads one.
 pub fn read_as_told<C: FileCalls + Drop>(left: &Traced<C>)
     ensures { (read : Option (List ℕ)) → IsAsTold left.now read → IsOneOfFound (told_of C.facts left.now) read }
 {}
 
-/// A call that is refused, since what came before it doesn't lead to it.
+/// The error of a call that is out of order.
 fn refused() -> io::Error {
     io::Error::from(io::ErrorKind::InvalidInput)
 }
@@ -168,7 +170,7 @@ impl<C: FileCalls + Drop> KeptFile for Traced<C> {
 
     ghost one = { λ t a b c. says_one C.facts t a b c };
 
-    // Of a file that is known already the same bytes must be read again.
+    // Where the file is known already, the read must give the known bytes.
     fn settle(&mut self) -> Result<(), ReadFault> {
         if !self.earlier.is_empty() {
             return Err(self.fail(ReadFault::Unreadable));
@@ -251,7 +253,7 @@ impl<C: FileCalls + Drop> KeptFile for Traced<C> {
         }
     }
 
-    // After a sync that failed a later one may be good though the name isn't on the disk.
+    // After a failed sync a later one may succeed although the name isn't on the disk.
     fn sync_folder(&mut self) -> io::Result<()> {
         let synced = self.calls.sync_folder();
         match synced {

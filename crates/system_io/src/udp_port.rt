@@ -1,28 +1,29 @@
-//! Datagrams of the system.
+//! A UDP port of the system.
 
 ghost use Rattle.std.specs.Prelude.{◌≡◌, ◌≤◌, map, string_bytes, IfOk};
 ghost use Rattle.system_io.specs.Failures.{Risen};
-ghost use Rattle.system_io.specs.Places.{IsBound};
+ghost use Rattle.system_io.specs.Places.{IsBound, ListensAt};
 
 use crate::port::{Port, PortFault};
 use crate::texts::owned;
 use std::alloc::Global;
 use std::io;
-use std::net::{Net, UdpSocket};
+use std::net::{Net, SocketAddr, UdpSocket};
 use std::time::Duration;
 
-/// A socket, the address to which it was bound, and those to which it sends.
+/// A socket, the address to which it was bound, the one that it told as its own then, and those to which it sends.
 #[derive(Drop)]
 pub struct UdpPort {
     socket: UdpSocket,
     address: String,
+    own: Option<SocketAddr>,
     to: Vec<String>,
-    /// How long the socket waits for a datagram, if not for ever.
+    /// How long the socket waits for a datagram; none means without limit.
     wait: Option<Duration>,
     failures: u64,
 }
 
-/// Whether a receive failed for no other reason than that nothing came in time.
+/// Whether a receive failed only because nothing came in time.
 fn is_quiet(error: &io::Error) -> bool {
     matches!(
         error.kind(),
@@ -30,26 +31,44 @@ fn is_quiet(error: &io::Error) -> bool {
     )
 }
 
+/// The address at which a socket listens, where it tells that.
+fn own_address_of(socket: &UdpSocket) -> Option<SocketAddr> {
+    match socket.local_addr() {
+        Ok(own) => Some(own),
+        Err(_) => None,
+    }
+}
+
 impl UdpPort {
-    /// One that is bound to an address and sends to others, each an IP address or a host's name, a colon and a port. The
-    /// error comes where the first can't be bound, or memory is refused; where another can't be sent to, each send to it fails.
+    /// A port bound to an address that sends to others. Each is an IP address or a host name, a colon and a port
+    /// number. The error comes where the first can't be bound, or memory is refused. Where another can't be reached,
+    /// each send to it fails.
     pub fn bind<R: Net>(rt: &R, alloc: Global, address: &str, to: &[&str]) -> io::Result<UdpPort>
         ensures { IfOk result (IsBound address.now (map (λ s. s.now) to.now)) }
     {
         UdpPort::over(alloc, UdpSocket::bind(rt, address)?, address, to)
     }
 
-    /// One over a socket that is bound to this address already.
+    /// A port over a socket that is already bound to this address.
     pub fn over(alloc: Global, socket: UdpSocket, address: &str, to: &[&str]) -> io::Result<UdpPort>
         ensures { IfOk result (IsBound address.now (map (λ s. s.now) to.now)) }
     {
+        let own = own_address_of(&socket);
         Ok(UdpPort {
             socket,
+            own,
             address: String::from_str(alloc, address)?,
             to: owned(alloc, to)?,
             wait: None,
             failures: 0,
         })
+    }
+
+    /// The address at which it listens, as the socket told it when it was bound, if it did.
+    pub fn own_address(&self) -> Option<SocketAddr>
+        ensures { ListensAt self.now result }
+    {
+        self.own
     }
 
     /// Counts one failure.
@@ -62,7 +81,7 @@ impl UdpPort {
         PortFault::Failed
     }
 
-    /// Lets the socket wait for so long, or for ever.
+    /// Sets how long the socket waits; none means without limit.
     fn wait_for(&mut self, wait: Option<Duration>) -> io::Result<()>
         ensures same { self.new.to ≡ self.old.to }
         ensures failures { self.new.failures ≡ self.old.failures }
@@ -74,7 +93,7 @@ impl UdpPort {
         Ok(())
     }
 
-    /// Waits for a datagram for so long, or for ever.
+    /// Waits for a datagram at most this long; none means without limit.
     fn receive_within(&mut self, wait: Option<Duration>, buffer: &mut [u8; 64]) -> io::Result<usize>
         ensures length { IfOk result (λ n. n ≤ 64) }
         ensures same { self.new.to ≡ self.old.to }
