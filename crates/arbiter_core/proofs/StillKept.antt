@@ -35,5 +35,21 @@ module _ {K : Type 0} (facts : KeeperFacts K) (old new : View) (before now : K) 
   by_answer (Puts next outputs window) h (inl p) k = same_kept p.arbiter p.keeper k
   by_answer (Puts next outputs window) h (inr p) k = landed p.keep next outputs window p.lands
 
+  landed_setup : (keep : Keep) (next : Recorded) (outputs : List Message) (window : Window) → Lands keep old next outputs window (facts.kept before) (facts.kept now) new told → new.setup ≡ old.setup
+  landed_setup Good next outputs window h = ap (λ (v : View). v.setup) h.1
+  landed_setup FailsOld next outputs window h = ap (λ (v : View). v.setup) h.1
+  landed_setup FailsNew next outputs window h = ap (λ (v : View). v.setup) h.1
+
+  setup_by : (a : Answer) → RefusesOrSends old before now new told a → PutsIfAny facts old before now new told a → new.setup ≡ old.setup
+  setup_by (Refuses fault) h p = ap (λ (v : View). v.setup) h.arbiter
+  setup_by (Sends outputs window) (inl h) p = ap (λ (v : View). v.setup) h.arbiter
+  setup_by (Sends outputs window) (inr h) p = let u = h.1 in ap (λ (v : View). v.setup) u.arbiter
+  setup_by (Puts next outputs window) h (inl p) = ap (λ (v : View). v.setup) p.arbiter
+  setup_by (Puts next outputs window) h (inr p) = landed_setup p.keep next outputs window p.lands
+
+  -- no answer changes what the arbiter was opened from
+  pub same_setup : (a : Answer) → Answers facts (moment old before) a told (moment new now) → new.setup ≡ old.setup
+  same_setup a h = setup_by a h.answered h.put
+
   pub still_kept : (a : Answer) → Answers facts (moment old before) a told (moment new now) → IsKept (facts.kept before) old → IsKept (facts.kept now) new
   still_kept a h k = by_answer a h.answered h.put k

@@ -30,7 +30,7 @@ waits_too window place m = cond (is_some (slice_index_or window place None)) win
 abbrev pub still_waits : Window → ℕ → Window
 still_waits window n = take 31 (drop n window ++ nothing_waits)
 
--- what an arbiter tells of its record
+-- the messages by which an arbiter reports its record
 abbrev pub told_of : Identity → ℕ → Option Verdicts → List Message
 told_of me count None = Ack me.stamp me.who count ∷ []
 told_of me count (Some v) = Ack me.stamp me.who count ∷ Verdict me.stamp me.who count v ∷ []
@@ -68,7 +68,7 @@ sent_by stamp sender number (m ∷ moves) = Move stamp sender number m ∷ sent_
 abbrev pub fetched : Identity → Recorded → ℕ → ℕ → List Message
 fetched me old number wanted = sent_by me.stamp (Arbiter me.who) number (take wanted (drop number old.moves))
 
--- what a running arbiter asks for, which has no verdict and room for more moves
+-- the request of a running arbiter that has no verdict and room for more moves
 abbrev pub asked : Identity → Recorded → Option Message
 asked me old = cond (is_some old.verdict || nat_le most_moves (count_of old)) None (Some (Fetch me.stamp me.who (count_of old) most_wanted))
 
@@ -79,7 +79,7 @@ answer_to rules me old window (Ack stamp who count) = Sends [] window
 answer_to rules me old window (Verdict stamp who ply verdict) = Sends [] window
 answer_to rules me old window (Fetch stamp who number wanted) = Sends (fetched me old number wanted) window
 
--- the same of what was heard: a message, or why it is none
+-- the answer to a message, or the fault of bytes that are none
 abbrev pub answer_heard : Rules → Identity → Recorded → Window → Result Message DeliverFault → Answer
 answer_heard rules me old window (Ok message) = answer_to rules me old window message
 answer_heard rules me old window (Err fault) = Refuses fault

@@ -28,7 +28,7 @@ in_game stamp (Err fault) = Err (NotAMessage fault)
 abbrev pub heard : Stamp → List ℕ → Result Message DeliverFault
 heard stamp bytes = in_game stamp (heard_in bytes)
 
--- the answer to what was heard
+-- the answer to the datagram
 abbrev pub answer_of : View → Result Message DeliverFault → Answer
 answer_of old heard = cond old.is_down (Refuses Down) (answer_heard (rules_at old.setup) old.me old.kept old.window heard)
 
@@ -117,7 +117,7 @@ PutsIfAny facts old before now new told (Sends outputs window) = Unit {0}
 PutsIfAny facts old before now new told (Puts next outputs window) =
     Unchanged old before now new told (Err OutOfMemory) ⊎ PutsOnce facts old next outputs window before now new told
 
--- the arbiter tells this where its answer is so, and it and the keeper are so afterwards
+-- the arbiter returns this where its answer is so, with itself and the keeper in this state afterwards
 pub record Answers {K : Type 0} (facts : KeeperFacts K) (old : Moment K) (answer : Answer) (told : Told) (after : Moment K) : Type 0 where
   -- a refusal leaves both as they were, and so does what is sent without a put, but for the window
   pub answered : RefusesOrSends old.arbiter old.keeper after.keeper after.arbiter told answer

@@ -1,4 +1,5 @@
--- What values keep and what functions find on the way; cited by private clauses alone.
+-- Invariants of values and intermediate results of functions. Private clauses alone cite them.
 pub mod Playing
 pub mod Fields
+pub mod AtRest
 pub mod Starting

@@ -5,6 +5,7 @@ pub mod Keeping
 pub mod Memory
 pub mod Setups
 pub mod Views
+pub mod Resting
 pub mod Inside
 pub mod Delivers
 pub mod Opens

@@ -37,8 +37,8 @@ IsResumed rules stamp bytes kept = SpellsRecord bytes (spelled_as stamp rules.de
 abbrev pub IsOfGame : Rules → Stamp → Record → Type 0
 IsOfGame rules stamp r = (r.stamp ≡ stamp) × (r.delay ≡ rules.delay)
 
--- why bytes are none; memory is wanted only for the moves of what is laid out as a record, and for a list of moves where a
--- record of this game is judged
+-- why bytes are no such record; memory is taken for the moves of a well-formed record, and for a list of moves to judge a
+-- record of this game
 abbrev pub IsBadKept : Rules → Stamp → List ℕ → OpenFault → Type 0
 IsBadKept rules stamp bytes BadRecord =
     ((r : Record) → SpellsRecord bytes r → ⊥)

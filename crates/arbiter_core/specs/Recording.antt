@@ -5,7 +5,7 @@ use Rattle.board_core.specs.declared.moves.Move.{Move}
 use Rattle.board_core.specs.declared.verdict.Verdict.{Verdict}
 use Rattle.judge_core.specs.Games.{position_after_all, Rules, verdict_after}
 
--- The game gets as far as ply k: ply 0 is reached, and the next one is where there is no verdict yet and the next move is
+-- The game reaches ply k. Ply 0 is reached. The next ply is reached where there is no verdict yet and the next move is
 -- there and legal.
 abbrev pub reaches : Rules → List Move → ℕ → Bool
 reaches rules game zero = true

@@ -20,7 +20,7 @@ pub record SetupView : Type 0 where
   pub set : Holding
 
 abbrev pub setup_view : Setup → SetupView
-setup_view s = record { name = s.name.now; start = s.start; manifest = s.manifest.now; me = s.me; delay = s.delay; set = s.set }
+setup_view s = record { name = s.name.items; start = s.start; manifest = s.manifest.now; me = s.me; delay = s.delay; set = s.set }
 
 -- how the game is judged
 abbrev pub rules_at : SetupView → Rules

@@ -9,6 +9,7 @@ ghost use Rattle.arbiter_core.specs.Recording.{count_of};
 ghost use Rattle.arbiter_core.specs.Answering.{asked, fetched, nothing_waits, sent_by, told_of};
 ghost use Rattle.arbiter_core.specs.Setups.{rules_at, setup_view};
 ghost use Rattle.arbiter_core.specs.Opens.{running};
+ghost use Rattle.arbiter_core.specs.Resting.{CanWake, awake};
 ghost use Rattle.arbiter_core.specs.Delivers.{Answers, Delivers, IsKept, Keeps, answer_to_message, answer_to_next, answer_to_numbered, exchange, heard, moment};
 ghost use Rattle.arbiter_core.specs.Inside.Playing.{IsInOrder, IsNext, recorded_in};
 
@@ -16,19 +17,20 @@ use crate::fault::DeliverFault;
 use crate::keeper::Keeper;
 use crate::planning::play_on;
 use crate::played::Played;
+use crate::resting::Resting;
 use crate::setup::Setup;
 use crate::window::Window;
 use board_core::{Move, Position};
-use judge_core::Verdict;
+use judge_core::{Set, Verdict};
 use move_msg::{Count, Message, Sender, Stamp, Wanted, Who};
 use smallvec::SmallVec;
 use std::alloc::{AllocError, Global};
 use std::marker::Model;
 
-/// What a delivery sends: at most two messages, or for a `Fetch` at most eight; up to four take no memory.
+/// What a delivery sends: at most two messages, or at most eight for a `Fetch`. Up to four take no memory.
 pub type Outputs = SmallVec<Message, 4>;
 
-/// An arbiter that is open: it runs, or it is down.
+/// An open arbiter: it runs, or it is down.
 #[derive(Drop)]
 pub struct Arbiter<'a> {
     setup: Setup<'a>,
@@ -49,7 +51,7 @@ impl<'a> Model for Arbiter<'a> {
     ghost invariant = { AreInOrder };
 }
 
-/// What an arbiter tells of its record.
+/// The messages by which an arbiter reports its record.
 fn tell(alloc: Global, stamp: Stamp, who: Who, count: Count, verdict: Option<Verdict>) -> Outputs
     ensures { result.items ≡ told_of (record { stamp = stamp; who = who }) count verdict }
 {
@@ -66,7 +68,8 @@ fn tell(alloc: Global, stamp: Stamp, who: Who, count: Count, verdict: Option<Ver
     outputs
 }
 
-/// These moves as messages of an arbiter, the first with this number; the error comes only where there are more than four.
+/// These moves as messages of an arbiter, the first with this number. The error comes only where there are more than
+/// four.
 fn sent(
     alloc: Global,
     stamp: Stamp,
@@ -95,7 +98,7 @@ fn sent(
 }
 
 impl<'a> Arbiter<'a> {
-    /// Plays a legal move and what waits behind it, and has the record kept.
+    /// Plays a legal move and the waiting moves after it, and puts the record with the keeper.
     fn go_on<K: Keeper>(
         &mut self,
         alloc: Global,
@@ -147,7 +150,7 @@ impl<'a> Arbiter<'a> {
         }
     }
 
-    /// The position after the recorded moves and one more; none where that isn't legal.
+    /// The position after the recorded moves and one more; none where that one isn't legal.
     fn position_after(&self, m: Move) -> Option<Position>
         ensures { result ≡ position_after_all self.now.setup.start (self.now.kept.moves ++ m ∷ []) }
     {
@@ -191,7 +194,7 @@ impl<'a> Arbiter<'a> {
         self.go_on(alloc, keeper, m, &position)
     }
 
-    /// The message of this arbiter's game that bytes spell, or why there is none.
+    /// The message of this arbiter's game that bytes encode, or why there is none.
     fn hear(&self, bytes: &[u8]) -> Result<Message, DeliverFault>
         ensures { result ≡ heard self.now.me.stamp bytes.now }
     {
@@ -207,8 +210,8 @@ impl<'a> Arbiter<'a> {
         }
     }
 
-    /// The recorded moves from this number on, so many at most, as messages of this arbiter. The error comes only where
-    /// there are more than four, and memory for them is refused.
+    /// The recorded moves from this number on, at most `wanted`, as messages of this arbiter. The error comes only
+    /// where there are more than four, and memory for them is refused.
     fn fetched(&self, alloc: Global, number: Count, wanted: Wanted) -> Result<Outputs, AllocError>
         ensures ok { IfOk result (λ o. o.items ≡ fetched self.now.me self.now.kept number wanted) }
         ensures inline { IsErr result → 4 < length (fetched self.now.me self.now.kept number wanted) }
@@ -225,8 +228,8 @@ impl<'a> Arbiter<'a> {
         )
     }
 
-    /// What the arbiter asks the other for: a `Fetch` of eight moves from its count on. None where it is down, has a verdict, or
-    /// has 4096 moves.
+    /// The request to the other arbiter: a `Fetch` of eight moves from its count on. None where it is down, has a
+    /// verdict, or has 4096 moves.
     pub fn ask(&self) -> Option<Message>
         ensures { result ≡ cond self.now.is_down None (asked self.now.me self.now.kept) }
     {
@@ -263,25 +266,27 @@ impl<'a> Arbiter<'a> {
         }
     }
 
-    /// Hears a datagram, and answers with the messages to be sent. With k the count of recorded moves, in this order:
+    /// Processes a datagram, and returns the messages to send. With k the count of recorded moves, in this order:
     ///
-    /// 1. An arbiter that is down answers `Down`.
-    /// 2. Bytes that spell no message are `NotAMessage`, a message of another game is `Stranger`.
-    /// 3. An `Ack` or a `Verdict` changes nothing, and nothing is sent. A `Fetch` is answered with the recorded moves from its
-    ///    number on, as many as it wants and there are, as messages of this arbiter; nothing changes.
+    /// 1. An arbiter that is down returns `Down`.
+    /// 2. Bytes that encode no message are `NotAMessage`, a message of another game is `Stranger`.
+    /// 3. An `Ack` or a `Verdict` changes nothing, and nothing is sent. A `Fetch` is answered with the recorded moves
+    ///    from its number on, as many as it requests and there are, as messages of this arbiter. Nothing changes.
     /// 4. A `Move` of number 4096 or more is `TooLong`.
-    /// 5. Where a verdict is recorded or the number is below k, the count and the verdict, if any, are told; the move isn't
-    ///    looked at.
+    /// 5. Where a verdict is recorded or the number is below k, the count and the verdict, if any, are sent. The move
+    ///    isn't examined.
     /// 6. A number of k + 32 or more is `TooFarAhead`.
-    /// 7. A move with a number above k waits, unless one waits there already; the count is told.
-    /// 8. The move with number k is `IllegalMove` where it isn't legal. Otherwise it is played, and then the moves that wait
-    ///    behind it without a gap, until there is a verdict; one that isn't legal in its turn is dropped and ends the run. The
-    ///    record is put once. Where that succeeds the new count and the verdict, if any, are told, and at a verdict nothing waits
-    ///    any more. Otherwise it is `KeeperFailed`: the arbiter is down, and its readers tell the record from before.
+    /// 7. A move with a number above k waits, unless one waits there already. The count is sent.
+    /// 8. The move with number k is `IllegalMove` where it isn't legal. Otherwise it is played, and then the waiting
+    ///    moves after it without a gap, until there is a verdict. One that isn't legal in its turn is dropped and ends
+    ///    the run. The record is put once. Where that succeeds the new count and the verdict, if any, are sent, and at
+    ///    a verdict no move waits any more. Otherwise it is `KeeperFailed`: the arbiter is down, and its readers give
+    ///    the record from before.
     ///
-    /// `OutOfMemory` comes only in case 8, before the put, and for a `Fetch` that is answered by more than four moves. It leaves
-    /// the keeper and all of the arbiter but its cache as before, and so does each refusal but `KeeperFailed`. That the keeper
-    /// keeps this arbiter's record while it runs, as `open` and each delivery leave it, is the caller's condition.
+    /// `OutOfMemory` comes only in case 8, before the put, and for a `Fetch` that is answered by more than four moves.
+    /// It leaves the keeper and all of the arbiter but its cache as before, and so does each refusal but
+    /// `KeeperFailed`. The caller ensures that the keeper keeps this arbiter's record while it runs, as `open` and each
+    /// delivery leave it.
     pub fn deliver<K: Keeper>(
         &mut self,
         alloc: Global,
@@ -291,11 +296,14 @@ impl<'a> Arbiter<'a> {
         // A running arbiter's record is the one that the keeper keeps.
         requires { IsKept (K.facts.kept keeper.old) self.old }
 
-        // It is answered by what was heard and recorded, and a record is put where the answer says so.
+        // The result follows from the datagram and the record, and a record is put where the result says so.
         ensures delivered { Delivers K.facts (moment self.old keeper.old) (exchange bytes.now (result_map_both (λ o. o.items) (λ e. e) result) (moment self.new keeper.new)) }
 
-        // So it is afterwards.
+        // The keeper keeps the record afterwards too.
         ensures keeps { IsKept (K.facts.kept keeper.new) self.new }
+
+        // What it was opened from stays.
+        ensures setup { self.new.setup ≡ self.old.setup }
     {
         let heard = self.hear(bytes);
         if self.down {
@@ -307,18 +315,85 @@ impl<'a> Arbiter<'a> {
         }
     }
 
-    /// Gives back what the arbiter was opened from.
+    /// Returns the setup from which the arbiter was opened.
     pub fn close(self) -> Setup<'a>
         ensures { setup_view result ≡ self.entry.setup }
     {
         let Arbiter {
-            setup,
+            setup: given,
             who: _,
             played: _,
             window: _,
             down: _,
         } = self;
-        setup
+        given
+    }
+
+    /// Puts the arbiter to rest: all of it but its tables, and these, which may serve others meanwhile.
+    pub fn rest(self) -> (Resting<'a>, Set<'a>)
+        ensures is { awake result.0 result.1 ≡ self.entry }
+        ensures wakes { CanWake result.0 result.1 }
+    {
+        let Arbiter {
+            setup: opened_from,
+            who,
+            played,
+            window,
+            down,
+        } = self;
+        let Setup {
+            name,
+            start,
+            manifest,
+            me,
+            delay,
+            set,
+        } = opened_from;
+        let resting = Resting {
+            name,
+            start,
+            manifest,
+            number: me,
+            delay,
+            who,
+            played,
+            window,
+            down,
+        };
+        (resting, set)
+    }
+
+    /// Wakes an arbiter with the tables that it had, or with others by which its record is whole too.
+    pub fn wake(resting: Resting<'a>, set: Set<'a>) -> Arbiter<'a>
+        requires { CanWake resting set }
+        ensures { result ≡ awake resting.entry set.entry }
+    {
+        let Resting {
+            name,
+            start,
+            manifest,
+            number,
+            delay,
+            who,
+            played,
+            window,
+            down,
+        } = resting;
+        let setup = Setup {
+            name,
+            start,
+            manifest,
+            me: number,
+            delay,
+            set,
+        };
+        Arbiter {
+            setup,
+            who,
+            played,
+            window,
+            down,
+        }
     }
 
     /// The moves that are recorded.

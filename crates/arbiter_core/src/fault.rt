@@ -1,4 +1,4 @@
-//! Why an arbiter refuses.
+//! Why an arbiter refuses a datagram, or can't be opened.
 
 ghost use Rattle.std.specs.Prelude.{◌≡◌};
 ghost use Rattle.arbiter_core.specs.Faults.{deliver_fault_name, open_fault_name};
@@ -27,7 +27,7 @@ pub enum DeliverFault {
 }
 
 impl DeliverFault {
-    /// The name of the fault, for printing; of `NotAMessage` without the fault of the bytes.
+    /// The name of the fault, for printing. That of `NotAMessage` leaves out the fault of the bytes.
     pub fn name(self) -> &'static str
         ensures { result.now ≡ deliver_fault_name self }
     {
@@ -44,15 +44,16 @@ impl DeliverFault {
     }
 }
 
-/// Why an arbiter can't be opened, in the order in which it is told; want of memory is told where it comes.
+/// Why an arbiter can't be opened, in the order in which faults are reported. Refused memory is reported where it
+/// occurs.
 #[derive(Clone, Copy, PartialEq, Eq, Debug)]
 pub enum OpenFault {
     /// The name is none of a game, the number is none of an arbiter, or the delay is above 8.
     BadSetup,
     /// The keeper failed.
     KeeperFailed,
-    /// What is kept is no record, or its moves aren't legal in turn, or a ply before its last has a verdict, or its verdict isn't
-    /// the one at its last ply.
+    /// What is kept is no record, or its moves aren't legal in turn. Or a ply before its last has a verdict, or its
+    /// verdict isn't the one at its last ply.
     BadRecord,
     /// What is kept is a record of another game, or of one with another delay.
     OtherStamp,

@@ -28,20 +28,20 @@ pub enum Keep {
 pub enum KeepFault {
     /// It failed.
     Failed,
-    /// Memory for a copy was refused; only a get tells it.
+    /// Memory for a copy was refused; only a get returns this.
     OutOfMemory,
 }
 
-/// Keeps nothing or one list of bytes, at most 8217.
+/// A keeper holds nothing or one list of bytes, at most 8217.
 pub trait Keeper {
-    /// What it keeps, how often it has failed, which outcomes its next put may have, whether a get may fail, and what a put and a
-    /// get make of it.
+    /// What it keeps, how often it has failed, which outcomes its next put may have, whether a get may fail, and the
+    /// effect of a put and of a get.
     ghost facts: { KeeperFacts Self };
 
-    /// Keeps these bytes in place of what was kept. Where it fails, what is kept is the old or the new, and stays so.
+    /// Replaces what is kept by these bytes. Where it fails, what is kept is the old or the new, and stays so.
     ///
-    /// That there are at most 8217 bytes is the caller's condition. `Failed` comes only where the failures rose in this call;
-    /// a count that stands at its greatest value stays there and is taken as risen.
+    /// The caller ensures that there are at most 8217 bytes. `Failed` comes only where the count of failures rose in
+    /// this call. A count at its greatest value stays there and is taken as risen.
     fn put(&mut self, bytes: &[u8]) -> Result<(), KeepFault>
         requires { length bytes.now ≤ 8217 }
         ensures outcome { PutLeaves (facts.may_be self.old) (facts.kept self.old) bytes.now (facts.kept self.new) result }
@@ -49,8 +49,9 @@ pub trait Keeper {
         ensures count { facts.faults self.old ≤ facts.faults self.new }
         ensures once { facts.leaves self.old bytes.now self.new };
 
-    /// A copy of what is kept, which stays kept. `Failed` comes only where the failures rose in this call and the keeper states
-    /// that a get may fail, `OutOfMemory` where memory for the copy is refused, which no bytes don't take.
+    /// A copy of what is kept, which stays kept. `Failed` comes only where the count of failures rose in this call and
+    /// the keeper states that a get may fail. `OutOfMemory` comes where memory for the copy is refused; an empty copy
+    /// takes none.
     fn get(&mut self, alloc: Global) -> Result<Option<Vec<u8>>, KeepFault>
         ensures value { IfOk result (λ got. option_map (λ v. v.items) got ≡ facts.kept self.old) }
         ensures kept { facts.kept self.new ≡ facts.kept self.old }
@@ -67,7 +68,8 @@ pub trait Keeper {
         ensures { result ≡ facts.faults self.now };
 }
 
-/// A copy of kept bytes, as a get answers it. `OutOfMemory` comes where memory for it is refused, which no bytes don't take.
+/// A copy of kept bytes, as a get returns it. `OutOfMemory` comes where memory for it is refused; an empty copy takes
+/// none.
 pub fn copy_of(alloc: Global, kept: Option<&[u8]>) -> Result<Option<Vec<u8>>, KeepFault>
     ensures value { IfOk result (λ got. option_map (λ v. v.items) got ≡ option_map (λ b. b.now) kept.entry) }
     ensures memory { IfErr result (λ fault. (fault ≡ KeepFault.OutOfMemory) × HasBytes (option_map (λ b. b.now) kept.entry)) }
@@ -84,8 +86,8 @@ pub fn copy_of(alloc: Global, kept: Option<&[u8]>) -> Result<Option<Vec<u8>>, Ke
     }
 }
 
-/// Keeps bytes in memory, in room for 8217 that `new` makes; no other call takes memory but `get`. The outcome of each put is
-/// chosen by `set`, and a get never fails.
+/// Keeps bytes in memory, in room for 8217 that `new` makes; no other call takes memory but `get`. `set` chooses the
+/// outcome of each put, and a get never fails.
 #[derive(Drop)]
 pub struct MemoryKeeper {
     bytes: Vec<u8>,
@@ -121,7 +123,7 @@ impl MemoryKeeper {
         })
     }
 
-    /// Names the outcome of each put from now on.
+    /// Sets the outcome of each put from now on.
     pub fn set(&mut self, keep: Keep)
         ensures { self.new ≡ record self.old { keep = keep } }
     {

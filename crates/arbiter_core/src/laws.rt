@@ -17,7 +17,7 @@ pub fn last_ply_in_words()
     ensures { LastPlyInWords }
 {}
 
-/// Kept bytes are resumed as one record.
+/// Kept bytes are resumed as one record at most.
 pub fn one_resumed()
     ensures { OneResumed }
 {}

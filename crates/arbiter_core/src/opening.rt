@@ -1,6 +1,6 @@
-//! How an arbiter is opened.
+//! Opening an arbiter.
 
-ghost use Rattle.std.specs.Prelude.{◌≡◌, ◌≤◌, IfOk, IfErr, IsErr, OnErr, IsTrue, ◌↔◌, IfSome, IfNone, Option, Some, None, Result, Ok, Err};
+ghost use Rattle.std.specs.Prelude.{◌≡◌, ◌≤◌, IfOk, IfErr, IsErr, OnErr, IsTrue, ◌↔◌, IfSome, IfNone, Option, Some, None, Result, Ok, Err, false};
 ghost use Rattle.arbiter_core.specs.Setups.{setup_view, rules_at, IsGood, IsIdentity};
 ghost use Rattle.std.specs.Result.{result_map_both};
 ghost use Rattle.move_msg.specs.declared.who.Who.{Who};
@@ -19,7 +19,7 @@ use judge_core::{GameOutcome, Verdict};
 use move_msg::{MoveList, Record, RecordFault, Stamp, Who};
 use std::alloc::{AllocError, Global};
 
-/// Why an arbiter was not opened, and the setup as it was handed in, but for its cache.
+/// Why an arbiter was not opened, and the setup as it was given, but for its cache.
 #[derive(Drop)]
 pub struct Refused<'a> {
     /// Why.
@@ -28,7 +28,7 @@ pub struct Refused<'a> {
     pub setup: Setup<'a>,
 }
 
-/// Who an arbiter is by its setup; none where the setup is bad.
+/// The identity of an arbiter by its setup; none where the setup is bad.
 fn identify(setup: &Setup<'_>) -> Option<(Stamp, Who)>
     ensures some { IfSome result (λ me. IsGood (setup_view setup.now) × IsIdentity (setup_view setup.now) (record { stamp = me.0; who = me.1 })) }
     ensures none { IfNone result (IsGood (setup_view setup.now) → ⊥) }
@@ -39,7 +39,8 @@ fn identify(setup: &Setup<'_>) -> Option<(Stamp, Who)>
     let Some(who) = Who::of_number(setup.me) else {
         return None;
     };
-    let Some(stamp) = Stamp::of(setup.name, &setup.start, setup.manifest, setup.delay) else {
+    let name = setup.name.as_slice();
+    let Some(stamp) = Stamp::of(name, &setup.start, setup.manifest, setup.delay) else {
         return None;
     };
     Some((stamp, who))
@@ -69,8 +70,8 @@ fn is_of_game(kept: &Record, stamp: Stamp, delay: u8) -> bool
     kept.stamp == stamp && kept.delay == delay
 }
 
-/// What is recorded by a record, if it is one of this game that an arbiter can run from. `OutOfMemory` comes only where memory
-/// for a list of moves is refused, while a record of this game is judged.
+/// The recorded state from a record, if it is one of this game that an arbiter can run from. `OutOfMemory` comes only
+/// where memory for a list of moves is refused, while a record of this game is judged.
 fn go_on_from(
     alloc: Global,
     setup: &mut Setup<'_>,
@@ -101,7 +102,7 @@ fn go_on_from(
     })
 }
 
-/// What is recorded by kept bytes, if they are a record of this game.
+/// The recorded state from kept bytes, if they are a record of this game.
 fn resume(
     alloc: Global,
     setup: &mut Setup<'_>,
@@ -122,8 +123,8 @@ fn resume(
     }
 }
 
-/// What is recorded before the first move. The error comes only where memory for a list of moves is refused, while the start is
-/// judged.
+/// The recorded state before the first move. The error comes only where memory for a list of moves is refused, while
+/// the start is judged.
 fn first(alloc: Global, setup: &mut Setup<'_>, stamp: Stamp) -> Result<Played, AllocError>
     requires { setup.old.delay ≤ 8 }
     ensures same { setup.new ≡ setup.old }
@@ -141,7 +142,7 @@ fn first(alloc: Global, setup: &mut Setup<'_>, stamp: Stamp) -> Result<Played, A
     Ok(Played { record, standing })
 }
 
-/// Has the first record kept.
+/// Puts the first record with the keeper.
 fn put_first<K: Keeper>(
     alloc: Global,
     keeper: &mut K,
@@ -164,7 +165,7 @@ fn put_first<K: Keeper>(
     }
 }
 
-/// What is recorded over what is kept.
+/// The recorded state from what is kept.
 fn recorded<K: Keeper>(
     alloc: Global,
     keeper: &mut K,
@@ -185,23 +186,26 @@ fn recorded<K: Keeper>(
 }
 
 impl<'a> Arbiter<'a> {
-    /// Opens an arbiter over what is kept: it runs from a kept record of this game, and where nothing is kept it has the record
-    /// before the first move kept first.
+    /// Opens an arbiter over what is kept. It runs from a kept record of this game. Where nothing is kept, the record
+    /// before the first move is put first.
     ///
-    /// In this order: `BadSetup` where the name is none of a game, the number none of an arbiter or the delay above 8 plies;
-    /// `KeeperFailed` where the get failed; over something kept `BadRecord` where it is no record, `OtherStamp` where its stamp
-    /// or its delay is another, `BadRecord` where its moves aren't legal in turn, a ply before its last has a verdict, or its
-    /// verdict isn't the one at its last ply; over nothing kept `KeeperFailed` where the put failed. `OutOfMemory` comes where
-    /// memory was refused, and before a put. Over a kept record, of either version, nothing is put. A refusal hands the setup
-    /// back, but for its cache.
+    /// Errors come in this order. `BadSetup`: the name is none of a game, the number none of an arbiter, or the delay
+    /// is above 8 plies. `KeeperFailed`: the get failed. Where something is kept: `BadRecord` if it is no record, then
+    /// `OtherStamp` if its stamp or its delay differs. Then `BadRecord` again if its moves aren't legal in turn, a ply
+    /// before its last has a verdict, or its verdict isn't the one at its last ply. Where nothing is kept,
+    /// `KeeperFailed`: the put failed. `OutOfMemory` comes where memory was refused, and before a put. Over a kept
+    /// record, of either version, nothing is put. An error returns the setup, unchanged but for its cache.
     pub fn open<K: Keeper>(
         alloc: Global,
         keeper: &mut K,
         setup: Setup<'a>,
     ) -> Result<Arbiter<'a>, Refused<'a>>
         ensures back { IfErr result (λ r. setup_view r.setup ≡ setup_view setup.entry) }
+        // It is opened from this setup, and runs.
+        ensures setup { IfOk result (λ a. a.setup ≡ setup_view setup.entry) }
+        ensures runs { IfOk result (λ a. a.is_down ≡ false) }
         ensures bad { (IsGood (setup_view setup.entry) → ⊥) → IfErr result (λ r. r.fault ≡ OpenFault.BadSetup) × IsErr result × (keeper.new ≡ keeper.old) }
-        // What a running arbiter has recorded is what is kept.
+        // The record of a running arbiter is what is kept.
         ensures keeps { IfOk result (λ a. IsKept (K.facts.kept keeper.new) a) }
         ensures good { OpensIfGood K.facts (setup_view setup.entry) keeper.old keeper.new (result_map_both (λ a. a) (λ r. r.fault) result) }
     {

@@ -1,4 +1,4 @@
-//! A legal move and the moves that wait behind it.
+//! A legal move and the waiting moves after it.
 
 ghost use Rattle.std.specs.Prelude.{◌≡◌, ◌+◌, ◌≤◌, length, vec_capacity, IfOk, OnErr};
 ghost use Rattle.arbiter_core.specs.Setups.{rules_at, setup_view};
@@ -20,7 +20,7 @@ struct Plan {
     verdict: Option<Verdict>,
 }
 
-/// A copy of recorded moves, with room for one more and for those that may wait behind it.
+/// A copy of recorded moves, with room for one more and for the waiting moves after it.
 fn copy_with_room(alloc: Global, before: &[Move]) -> Result<Vec<Move>, AllocError>
     ensures items { IfOk result (λ moves. moves.items ≡ before.now) }
     ensures room { IfOk result (λ moves. length before.now + 32 ≤ vec_capacity moves) }
@@ -30,8 +30,9 @@ fn copy_with_room(alloc: Global, before: &[Move]) -> Result<Vec<Move>, AllocErro
     Ok(moves)
 }
 
-/// Plans a legal move that leads to this position, and then those that wait behind it: as long as there is no verdict, the next
-/// move waits and it is legal. They follow the recorded moves in a copy that has room for them. Each new position is judged once.
+/// Plans a legal move that leads to this position, and then the waiting moves after it. It stops at a verdict, and
+/// where the next move doesn't wait or isn't legal. They follow the recorded moves in a copy with room for them. Each
+/// new position is judged once.
 ///
 /// The error comes only where memory for a list of moves is refused, while one of the new positions is judged. The setup stays
 /// as it was but for the set's cache.
@@ -79,8 +80,8 @@ fn make_plan(
     Ok(plan)
 }
 
-/// What is recorded once a legal move that leads to this position is played, and those that wait behind it. The error comes
-/// where memory for the copy of the moves is refused, or for a list of moves; the setup is as in `make_plan`.
+/// The recorded state after a legal move that leads to this position, and the waiting moves after it. The error comes
+/// where memory for the copy of the moves, or for a list of moves, is refused. The setup is as in `make_plan`.
 pub(crate) fn play_on(
     alloc: Global,
     setup: &mut Setup<'_>,

@@ -1,9 +1,9 @@
-//! A game as it was played so far.
+//! A game as played so far.
 
 use judge_core::Standing;
 use move_msg::Record;
 
-/// What is recorded, and where the game stands. That the one is of the other is said by the setup, which has the rules.
+/// The record, and where the game stands. That they agree is stated with the setup, which has the rules.
 #[derive(Drop)]
 pub(crate) struct Played {
     /// The record: what is kept, unless the arbiter is down.

@@ -1,16 +1,32 @@
 //! What an arbiter is opened from.
 
+ghost use Rattle.std.specs.Prelude.{◌≡◌, ◌≤◌, length};
+
+use arrayvec::ArrayVec;
 use board_core::Position;
 use judge_core::Set;
+
+/// The bytes of a name, at most 64.
+pub type Name = ArrayVec<u8, 64>;
+
+/// A copy of a name of at most 64 bytes.
+pub fn name_of(bytes: &[u8]) -> Name
+    requires { length bytes.now ≤ 64 }
+    ensures { result.items ≡ bytes.now }
+{
+    let mut name = ArrayVec::new();
+    let _fits = name.try_extend_from_slice(bytes);
+    name
+}
 
 /// What an arbiter is opened from. The two arbiters of a game have the same setup but for `me`.
 #[derive(Drop)]
 pub struct Setup<'a> {
     /// The name of the game: 1 to 64 bytes, all from 0x20 (the space) to 0x7E (the tilde).
-    pub name: &'a [u8],
+    pub name: Name,
     /// The position before the first move, ply 0.
     pub start: Position,
-    /// The manifest of the tables (manifest format), which the stamp of the game depends on.
+    /// The manifest of the tables (manifest format). The stamp of the game depends on it.
     pub manifest: &'a [u8],
     /// Which of the two arbiters it is, 1 or 2.
     pub me: u8,

@@ -33,3 +33,9 @@ returns-in-Ok-clause-keeps g c = λ up.
     (opens_as g.K.Keeper.facts (setup_view c.args.setup) me c.args.keeper.now c.recorded.new.keeper _ _
     (ap (λ (v : View). Ok v) (sym (c.running.ensures ∙ runs_is _ (setup_view c.args.setup) _ c.in-Some.stamp c.in-Some.who (recorded_in c.in-Ok.played) (ap setup_view c.in-Ok.ensures.same) c.in-Ok.ensures.played.stamp_is)))
     (c.in-Ok.ensures.opens c.in-Some.who))
+
+pub returns-in-Ok-clause-setup : goal.returns-in-Ok-clause-setup
+returns-in-Ok-clause-setup g c = ap (λ (v : View). v.setup) c.running.ensures ∙ ap setup_view c.in-Ok.ensures.same
+
+pub returns-in-Ok-clause-runs : goal.returns-in-Ok-clause-runs
+returns-in-Ok-clause-runs g c = ap (λ (v : View). v.is_down) c.running.ensures
