@@ -24,7 +24,7 @@ Passes-trans (Some a) (Some b) (Some c) x y p q = q ∙ ap (λ (l : List Passing
 pub Passed-nil : (a : PortFacts) → Passed a a []
 Passed-nil a = record { passes = Passes-nil a.passed; addresses = refl; count = omega arith }
 
-Passed-trans : (a b c : PortFacts) (x y : List Passing) → Passed a b x → Passed b c y → Passed a c (x ++ y)
+pub Passed-trans : (a b c : PortFacts) (x y : List Passing) → Passed a b x → Passed b c y → Passed a c (x ++ y)
 Passed-trans a b c x y p q =
     let before = p.count in
     let after = q.count in

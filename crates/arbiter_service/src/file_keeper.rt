@@ -8,8 +8,8 @@ use arbiter_core::{KeepFault, Keeper, copy_of};
 use std::alloc::{AllocError, Global};
 use system_io::{KeptFile, MOST_KEPT_BYTES, ReadFault, begin, replace};
 
-/// Keeps bytes in a file, and stores them in room for 8217 that `new` makes. Besides, a get takes memory for its copy, and a put
-/// where the file does. A get fails for want of memory alone.
+/// Keeps bytes in a file, and stores them in room for 8217 that `new` allocates. A get takes memory for its copy, and a
+/// put where the file does. A get fails only where memory is refused.
 #[derive(Drop)]
 pub struct FileKeeper<F: Drop> {
     file: F,
@@ -32,12 +32,12 @@ fn roomy(alloc: Global, bytes: &[u8]) -> Result<Vec<u8>, AllocError>
 impl<F: KeptFile + Drop> FileKeeper<F> {
     ghost use Rattle.arbiter_service.specs.StoredBytes.{CannotKeep, IsInFile, file_of, stored};
 
-    /// A keeper over a file, which is read here and never again: a file that isn't there is nothing kept. Before it is read it and
-    /// its folder are synced, so that a loss of power can't take back what is read. `Unreadable` where they can't be synced, or
-    /// the file can't be read or has more than 8217 bytes; `OutOfMemory` where memory to read it is refused, or, once it is read,
-    /// memory for the room.
+    /// A keeper over a file, which is read here and never again. A file that doesn't exist is nothing kept. The file
+    /// and its folder are synced before it is read, so that a loss of power can't take back what is read. `Unreadable`
+    /// where they can't be synced, or the file can't be read or has more than 8217 bytes. `OutOfMemory` where memory to
+    /// read it is refused, or, once it is read, memory for the room.
     pub fn new(alloc: Global, file: F) -> Result<FileKeeper<F>, ReadFault>
-        // What is stored is one of any two of which the file says that each start finds the one or the other,
+        // Of any two contents that every start is claimed to be among, what is stored is one,
         ensures one { IfOk result (λ k. IsOneOfFound (F.facts file) (stored k)) }
         // and every later start finds it.
         ensures found { IfOk result (IsInFile F.facts) }
@@ -67,7 +67,7 @@ impl<F: KeptFile + Drop> FileKeeper<F> {
         &self.file
     }
 
-    /// The file, of a keeper that is done with.
+    /// The file, of a keeper that is no longer needed.
     pub fn into_file(self) -> F
         ensures { result ≡ file_of self }
     {
@@ -111,7 +111,7 @@ impl<F: KeptFile + Drop> Keeper for FileKeeper<F> {
     // Which record a start finds after a put that failed isn't known; one that succeeds has brought the bytes into the file.
     ghost facts = { keeper_over F.facts };
 
-    // Bytes take the place of those in the file, and only then they are stored.
+    // The bytes in the file are replaced, and only then the new ones are stored.
     fn put(&mut self, bytes: &[u8]) -> Result<(), KeepFault> {
         match replace(&mut self.file, bytes) {
             Ok(()) => {

@@ -1,29 +1,30 @@
-//! What is told of each datagram.
+//! The line for each datagram.
 
-ghost use Rattle.std.specs.Prelude.{◌≡◌, ◌≤◌, ◌+◌, ◌++◌, length};
+ghost use Rattle.std.specs.Prelude.{◌≡◌, ◌≤◌, ◌+◌, ◌++◌, cond, length};
 ghost use Rattle.move_msg.specs.TextLines.{ended};
-ghost use Rattle.arbiter_service.specs.ServedLines.{heard_line, heard_words, refused_datagram, verdict_or_none};
+ghost use Rattle.arbiter_service.specs.ServedLines.{heard_line, heard_words, refused_datagram, refused_keeper, verdict_or_none};
+ghost use Rattle.arbiter_service.specs.Serving.{is_loss};
 
 use arbiter_core::DeliverFault;
 use arrayvec::ArrayString;
 use board_core::Verdict;
 use itoa::Buffer;
 
-/// What is told of a datagram; its text has no line feed.
+/// The line for a datagram, without its line feed.
 #[derive(Clone, Copy)]
-pub(crate) enum Heard {
+pub enum Heard {
     /// How many moves are recorded after it, and the verdict.
     Recorded(u32, Option<Verdict>),
     /// Why it is refused.
     Refused(DeliverFault),
     /// The keeper failed, now or before.
     KeeperLost,
-    /// None can be received.
+    /// No datagram can be received.
     PortLost,
 }
 
-/// The text of a line, with its line feed. It takes no memory, so that no line is lost for want of it.
-pub(crate) type LineText = ArrayString<64>;
+/// The text of a line, with its line feed. It takes no memory, so no line is lost where memory is refused.
+pub type HeardText = ArrayString<64>;
 
 /// The name of a verdict, or `none`.
 pub fn verdict_or_none(verdict: Option<Verdict>) -> &'static str
@@ -36,8 +37,8 @@ pub fn verdict_or_none(verdict: Option<Verdict>) -> &'static str
     }
 }
 
-/// The line of two words, one behind the other.
-fn line_of(first: &str, second: &str) -> LineText
+/// The line of two texts, one after the other.
+fn line_of(first: &str, second: &str) -> HeardText
     requires { length first.now + length second.now ≤ 40 }
     ensures { result.bytes ≡ ended (first.now ++ second.now) }
 {
@@ -49,7 +50,7 @@ fn line_of(first: &str, second: &str) -> LineText
 }
 
 /// The line for what is recorded.
-fn recorded_line(count: u32, verdict: Option<Verdict>) -> LineText
+fn recorded_line(count: u32, verdict: Option<Verdict>) -> HeardText
     ensures { result.bytes ≡ ended (heard_words count verdict) }
 {
     let mut digits = Buffer::new();
@@ -63,7 +64,7 @@ fn recorded_line(count: u32, verdict: Option<Verdict>) -> LineText
 }
 
 /// The line for why a datagram is refused.
-fn refused_line(fault: DeliverFault) -> LineText
+fn refused_line(fault: DeliverFault) -> HeardText
     ensures { result.bytes ≡ ended (refused_datagram fault) }
 {
     match fault {
@@ -73,8 +74,18 @@ fn refused_line(fault: DeliverFault) -> LineText
 }
 
 impl Heard {
+    /// What is told of a refusal.
+    pub fn refused(fault: DeliverFault) -> Heard
+        ensures { heard_line result ≡ cond (is_loss fault) refused_keeper (refused_datagram fault) }
+    {
+        match fault {
+            DeliverFault::KeeperFailed | DeliverFault::Down => Heard::KeeperLost,
+            _ => Heard::Refused(fault),
+        }
+    }
+
     /// The line.
-    pub(crate) fn line(self) -> LineText
+    pub fn line(self) -> HeardText
         ensures { result.bytes ≡ ended (heard_line self) }
     {
         match self {

@@ -13,17 +13,17 @@ use arbiter_core::{Arbiter, OpenFault, Setup};
 use std::alloc::Global;
 use system_io::{KeptFile, Output, Port, WriteFault};
 
-/// Opens an arbiter over a keeper, and lets it answer so many datagrams of a port, as `serve` does; tells the status, or why no
+/// Opens an arbiter over a keeper, and answers `n` datagrams of a port, as `serve` does. Returns the status, or why no
 /// arbiter is opened. Before the first datagram and after each one a start finds the arbiter's record in the file.
 ///
-/// Where none is opened, nothing passes at the port and nothing is written. The outer error comes where a line could not be
-/// written whole or can't go out, at most the n-th: what was served before it is the same.
+/// Where none is opened, nothing passes at the port and nothing is written. The outer error comes where a line, at most
+/// the n-th, could not be written whole or can't go out. What was served before is unchanged.
 pub fn open_and_serve<F: KeptFile + Drop, P: Port, W: Output>(
     alloc: Global,
     setup: Setup<'_>,
     keeper: &mut FileKeeper<F>,
     port: &mut P,
-    n: u32,
+    n: u64,
     fetch: bool,
     out: &mut W,
 ) -> Result<Result<u8, OpenFault>, WriteFault>

@@ -1,9 +1,10 @@
 //! An arbiter that answers the datagrams of a port.
 
-ghost use Rattle.std.specs.Prelude.{◌≡◌, ◌∷◌, [], cond, false};
+ghost use Rattle.std.specs.Prelude.{◌≡◌, ◌∷◌, [], ℕ, List, cond, false};
 ghost use Rattle.std.specs.List.{flat_map};
 ghost use Rattle.std.specs.Result.{result_map_both};
 ghost use Rattle.arbiter_core.specs.Delivers.{IsKept, moment};
+ghost use Rattle.move_msg.specs.TextLines.{ended};
 ghost use Rattle.system_io.specs.Ports.{Passed};
 ghost use Rattle.arbiter_service.specs.GoingOut.{LinesEnd, writers};
 ghost use Rattle.arbiter_service.specs.ServedLines.{heard_line, refused_datagram, refused_keeper};
@@ -33,7 +34,7 @@ fn send<P: Port>(port: &mut P, message: &Message)
 }
 
 /// Sends messages, each once and in their order.
-fn send_all<P: Port>(port: &mut P, messages: &[Message])
+pub fn send_all<P: Port>(port: &mut P, messages: &[Message])
     ensures { Passed (P.facts port.old) (P.facts port.new) (flat_map (handed (P.facts port.old).addresses) messages.now) }
 {
     for message in messages {
@@ -52,7 +53,7 @@ fn refusal(fault: DeliverFault) -> (Heard, Next)
     }
 }
 
-/// Delivers a datagram and sends what is answered; tells the line for it, and whether the run goes on.
+/// Delivers a datagram and sends the answer. Returns the line for it, and whether the run goes on.
 fn hear<K: Keeper, P: Port>(
     alloc: Global,
     arbiter: &mut Arbiter<'_>,
@@ -76,7 +77,7 @@ fn hear<K: Keeper, P: Port>(
     }
 }
 
-/// Receives a datagram and answers it; tells the line for it, and whether the run goes on.
+/// Receives a datagram and answers it. Returns the line for it, and whether the run goes on.
 fn receive<K: Keeper, P: Port>(
     alloc: Global,
     arbiter: &mut Arbiter<'_>,
@@ -94,17 +95,24 @@ fn receive<K: Keeper, P: Port>(
     }
 }
 
-/// Writes a line, and lets it go out at once.
-fn put_now<W: Output>(out: &mut W, line: Heard) -> Result<(), WriteFault>
-    ensures { LinesEnd (writers W.Write.contents W.facts) out.old (heard_line line ∷ []) out.new result }
+/// Writes a line, which ends with its line feed, and lets it go out at once.
+pub fn put_line<W: Output>(out: &mut W, text: &[u8]) -> Result<(), WriteFault>
+    ensures { (line : List ℕ) → text.now ≡ ended line → LinesEnd (writers W.Write.contents W.facts) out.old (line ∷ []) out.new result }
 {
-    match out.put(line.line().as_str().as_bytes()) {
+    match out.put(text) {
         Ok(()) => out.flush_all(),
         Err(fault) => Err(fault),
     }
 }
 
-/// Receives a datagram, answers it and writes the line for it; tells whether the run goes on.
+/// Writes the line for a datagram, and lets it go out at once.
+fn put_now<W: Output>(out: &mut W, line: Heard) -> Result<(), WriteFault>
+    ensures { LinesEnd (writers W.Write.contents W.facts) out.old (heard_line line ∷ []) out.new result }
+{
+    put_line(out, line.line().as_str().as_bytes())
+}
+
+/// Receives a datagram, answers it and writes the line for it. Returns whether the run goes on.
 fn serve_one<K: Keeper, P: Port, W: Output>(
     alloc: Global,
     arbiter: &mut Arbiter<'_>,
@@ -123,7 +131,7 @@ fn serve_one<K: Keeper, P: Port, W: Output>(
     }
 }
 
-/// Asks the other arbiter for moves, where that is wanted.
+/// Sends the request for moves to the other arbiter, where `fetch` is set.
 fn ask_if<P: Port>(arbiter: &Arbiter<'_>, port: &mut P, fetch: bool)
     ensures { Passed (P.facts port.old) (P.facts port.new) (asked_first (P.facts port.old).addresses fetch arbiter.now) }
 {
@@ -134,30 +142,31 @@ fn ask_if<P: Port>(arbiter: &Arbiter<'_>, port: &mut P, fetch: bool)
     }
 }
 
-/// Receives so many datagrams, hands each to the arbiter in turn, and sends what it answers; tells the status, 0 where all came.
+/// Receives `n` datagrams, delivers each to the arbiter in turn, and sends its answers. Returns the status, 0 where all
+/// came.
 ///
-/// A line is written for each datagram, and goes out at once: `ok`, how many moves are recorded and the verdict or `none`, or
-/// else `refused` and why. Each message of an answer is handed to the port once for each address, in order, and one that isn't
-/// sent is lost, as it may be on its way. Where the keeper fails or has failed the line is `refused keeper`, and where no
-/// datagram can be received `refused port`; each ends the run with status 1. Where `fetch` is set, the arbiter's question for moves, if it has one, is sent once
-/// before the first datagram.
+/// A line is written and flushed for each datagram. It is `ok`, the number of recorded moves and the verdict or `none`;
+/// or `refused` and why. Each message of an answer is sent once to each address, in order. One that can't be sent is
+/// lost, as it may be on its way. Where the keeper fails or has failed the line is `refused keeper`, and where no
+/// datagram can be received `refused port`. Each ends the run with status 1. Where `fetch` is set, the arbiter's
+/// request for moves, if it has one, is sent once before the first datagram.
 ///
-/// That the keeper keeps the arbiter's record while it runs is the caller's condition. The error comes only where the writer
-/// failed: each line before has gone out whole, of the last one a front may be written, and what was delivered, sent and kept is
-/// as if nothing had failed. It returns if each `receive` does.
+/// The caller ensures that the keeper keeps the arbiter's record while it runs. The error comes only where the writer
+/// failed. Each line before has gone out whole, and a prefix of the last one may be written. What was delivered, sent
+/// and kept is as if nothing had failed. It returns if each `receive` does.
 pub fn serve<K: Keeper, P: Port, W: Output>(
     alloc: Global,
     arbiter: &mut Arbiter<'_>,
     keeper: &mut K,
     port: &mut P,
-    n: u32,
+    n: u64,
     fetch: bool,
     out: &mut W,
 ) -> Result<u8, WriteFault>
     requires { IsKept (K.facts.kept keeper.old) arbiter.old }
 
-    // The arbiter has answered the datagrams in turn, all else at the port is what it sends to each address, the lines and the
-    // status are those of this run, and each line has gone out before the next.
+    // The arbiter has answered the datagrams in turn, and all else at the port is what it sends to each address. The
+    // lines and the status are those of this run, and each line has gone out before the next.
     ensures run { Serves K.facts (writers W.Write.contents W.facts) n fetch (serving arbiter.old keeper.old (P.facts port.old) (W.Write.contents out.old)) (serving arbiter.new keeper.new (P.facts port.new) (W.Write.contents out.new)) out.old out.new result }
 
     // A running arbiter's record is still the one that the keeper keeps.
