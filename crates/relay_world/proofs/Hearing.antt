@@ -34,7 +34,7 @@ sent_in (Ok outputs) = outputs
 sent_in (Err fault) = []
 
 -- bytes that are written of one record and spell another are written of that one, since it is the same
-written_too : (stamp : Stamp) (delay : ℕ) (old next : Recorded) (bytes : Option (List ℕ)) → IsWritten stamp delay old bytes → IsSpelled stamp delay next bytes → IsWritten stamp delay next bytes
+pub written_too : (stamp : Stamp) (delay : ℕ) (old next : Recorded) (bytes : Option (List ℕ)) → IsWritten stamp delay old bytes → IsSpelled stamp delay next bytes → IsWritten stamp delay next bytes
 written_too stamp delay old next None w h = absurd w
 written_too stamp delay old next (Some t) w h = subst (WritesRecord t) (one_record t (spelled_as stamp delay old) (spelled_as stamp delay next) (is_spelled t (spelled_as stamp delay old) w) h) w
 

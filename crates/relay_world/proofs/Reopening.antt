@@ -50,7 +50,7 @@ one_identity setup i me f g =
     made s t a b e d = cc
 
 -- bytes spell one whole record
-one_whole : (rules : Rules) (stamp : Stamp) (bytes : List ℕ) (one other : Recorded) → IsResumed rules stamp bytes one → IsResumed rules stamp bytes other → one ≡ other
+pub one_whole : (rules : Rules) (stamp : Stamp) (bytes : List ℕ) (one other : Recorded) → IsResumed rules stamp bytes one → IsResumed rules stamp bytes other → one ≡ other
 one_whole rules stamp bytes one other f g =
     let q : spelled_as stamp rules.delay one ≡ spelled_as stamp rules.delay other = one_record bytes (spelled_as stamp rules.delay one) (spelled_as stamp rules.delay other) f.0 g.0 in
     let moves : one.moves ≡ other.moves = ap (λ (r : Record). r.moves) q in

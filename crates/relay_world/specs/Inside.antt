@@ -1,4 +1,4 @@
--- What values keep and what functions find on the way; cited by private clauses alone.
+-- Invariants of values and intermediate results of functions. Private clauses alone cite them.
 pub mod Seats
 pub mod Fields
 pub mod Pairs

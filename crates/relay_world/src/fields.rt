@@ -49,7 +49,7 @@ pub(crate) fn read_keep(word: &[u8]) -> Option<Keep>
     }
 }
 
-/// The place in the log that a word tells, 0 to 999999 in digits without needless zeros.
+/// The place in the log that a word gives, 0 to 999999 in digits without needless zeros.
 pub(crate) fn read_place(text: &[u8]) -> Option<usize>
     ensures some { IfSome result (SpellsPlace text.now) }
     ensures none { IfNone result ((n : ℕ) → SpellsPlace text.now n → ⊥) }

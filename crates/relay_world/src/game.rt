@@ -8,7 +8,7 @@ ghost use Rattle.move_msg.specs.Stamps.{IsGameName};
 ghost use Rattle.relay_world.specs.Runs.{IsGame, judged_by};
 
 use crate::fault::GameFault;
-use arbiter_core::Setup;
+use arbiter_core::{Setup, name_of};
 use board_core::{Move, Position};
 use judge_core::Set;
 use move_msg::{MoveList, Stamp, is_game_name};
@@ -37,9 +37,9 @@ impl Model for Game {
 }
 
 impl Game {
-    /// The game with this name, start, moves and delay. The first that applies is told: `BadName` unless the name has 1 to 64
-    /// bytes, all from 0x20 (the space) to 0x7E (the tilde); `TooManyMoves` above 4096 moves; `BadDelay` above 8; and
-    /// `OutOfMemory` where memory for name and moves is refused, which each game takes.
+    /// The game with this name, start, moves and delay. The error is the first that applies. `BadName`: the name hasn't
+    /// 1 to 64 bytes, all from 0x20 (the space) to 0x7E (the tilde). `TooManyMoves`: above 4096. `BadDelay`: above 8.
+    /// `OutOfMemory`: memory for name and moves is refused, which each game takes.
     pub fn new(
         alloc: Global,
         name: &[u8],
@@ -92,14 +92,14 @@ impl Game {
         Stamp::of(&self.name, &self.start, manifest, self.delay).unwrap()
     }
 
-    /// What the arbiter with this number is opened from.
+    /// The setup of the arbiter with this number.
     pub(crate) fn setup<'a>(&'a self, manifest: &'a [u8], me: u8, set: Set<'a>) -> Setup<'a>
         requires { (me ≡ 1) ⊎ (me ≡ 2) }
         ensures is { setup_view result ≡ record { name = self.now.name; start = self.now.start; manifest = manifest.now; me = me; delay = self.now.delay; set = set.entry } }
         ensures good { IsGood (setup_view result) }
     {
         Setup {
-            name: &self.name,
+            name: name_of(&self.name),
             start: self.start,
             manifest,
             me,

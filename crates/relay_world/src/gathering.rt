@@ -10,7 +10,7 @@ use judge_core::{Set, SetFault};
 use std::alloc::{AllocError, Global};
 use table_file::{Table, TableFault, open};
 
-/// The table that a file is.
+/// The table of a file.
 fn open_file<'f>(
     alloc: Global,
     name: &[u8],
@@ -25,7 +25,7 @@ fn open_file<'f>(
     }
 }
 
-/// Adds the table that the file at this place is.
+/// Adds the table of the file at this place.
 fn add<'f>(
     set: &mut Set<'f>,
     place: usize,
@@ -64,7 +64,7 @@ fn add_all<'f>(
     Ok(Ok(()))
 }
 
-/// The set of the tables that files are, with a cache of so many blocks, or the first fault, place by place.
+/// The set of the tables of files, with a cache of `cache` blocks, or the first fault, place by place.
 pub(crate) fn gather<'f>(
     alloc: Global,
     cache: usize,

@@ -5,11 +5,13 @@ ghost use Rattle.relay_world.specs.declared.event.Event.{Event};
 ghost use Rattle.relay_world.specs.Worlds.{Judged, World, after, worlds, first_world, AreStamped};
 ghost use Rattle.relay_world.specs.Headline.{IsFaithful};
 ghost use Rattle.relay_world.specs.Laws.{AcksAreKept, CountsGrow, InOrderKeepsAll, InOrderKeepsOne, LastPlyIsOutcome, MovesAreTheGames, NoDelayIsLeastRuling, NoFilesAreNoTables, NoTablesIsTheBoard, ReachedPlies, RisingOrder, RunsTellOne, SourceSendsTheGame, VerdictsAreFirst, VerdictsStay, WholeRecordsAreOne};
+ghost use Rattle.relay_world.specs.Nets.{ArbitersAreWorlds};
 ghost use Rattle.relay_world.specs.Runs.{AreWorlds};
 ghost use Rattle.relay_world.specs.declared.schedule.Schedule.{Schedule};
 ghost use Rattle.relay_world.specs.Texts.{IsFirstBadLine, IsSameSchedule, SpellsSchedule};
 ghost use Rattle.relay_world.specs.FileNames.{FileNamesAreThoseOfTables};
 
+use arbiter_core::Keeper;
 use fen_text::laws::{one_move, one_position};
 use judge_core::laws::{first_verdict_in_words, no_delay_is_the_ruling};
 use place_index::{few_men_have_tables, tables_are_numbered};
@@ -28,8 +30,8 @@ pub fn one_list_of_worlds()
     ensures last { (game : Judged) (events : List Event) → slice_get (worlds game (first_world game) events) (length events) ≡ Some (after game (first_world game) events) }
 {}
 
-/// A run of a game tells one thing, by its files and its events alone: two that meet the contract of `run`, at whatever numbers of
-/// blocks, tell the same.
+/// A run of a game has one result, by its files and its events alone. Two runs that meet the contract of `run`, at any
+/// numbers of blocks, have equal results.
 pub fn runs_tell_one()
     ensures { RunsTellOne }
 {}
@@ -44,7 +46,7 @@ pub fn counts_grow()
     ensures { CountsGrow }
 {}
 
-/// No Ack tells more than its sender keeps, then and later.
+/// No Ack exceeds what its sender keeps, then and later.
 pub fn acks_are_kept()
     ensures { AcksAreKept }
 {}
@@ -65,9 +67,9 @@ pub fn rising_order()
     ensures { RisingOrder }
 {}
 
-/// Whatever happened before, an arbiter that runs and is then handed the moves of the game in order, with puts that succeed, keeps
-/// the record of the game up to its first verdict, its first illegal move or its end; and so two keep one record. In another order
-/// it need not: a move 32 ahead of the count is refused.
+/// Whatever happened before, an arbiter that runs and then receives the moves in order, with puts that succeed, keeps
+/// the record of the game. It goes up to the first verdict, the first illegal move or the end; so two arbiters keep one
+/// record. In another order it need not: a move 32 ahead of the count is refused.
 pub fn progress()
     ensures all { InOrderKeepsAll }
     ensures one { InOrderKeepsOne }
@@ -87,8 +89,9 @@ pub fn no_delay_is_least_ruling()
     no_delay_is_the_ruling();
 }
 
-/// Without tables a record has a verdict exactly where its ply is the first at which the game ends on the board: by checkmate, by
-/// stalemate, or by bare kings, which are a draw once they have stood for as many plies as the delay says. No files give no table.
+/// Without tables a record has a verdict exactly where its ply is the first at which the game ends on the board. It
+/// ends by checkmate, by stalemate, or by bare kings, which are a draw once they have stood for as many plies as the
+/// delay says. No files give no table.
 pub fn no_tables_is_the_board()
     ensures board { NoTablesIsTheBoard }
     ensures files { NoFilesAreNoTables }
@@ -97,9 +100,9 @@ pub fn no_tables_is_the_board()
     few_men_have_tables();
 }
 
-/// A list of messages is what the source of a game sends, with which the log begins, exactly where message n is the `Move` with
-/// number n and the game's move n, and there are no others. So where each datagram of a sender spells that message, its game is the
-/// one of these worlds.
+/// A list of messages is what the source of a game sends, with which the log begins, exactly where it has these
+/// messages alone: message n is the `Move` with number n and the game's move n. So a sender whose datagrams are these
+/// messages sends the game of these worlds.
 pub fn source_sends_the_game()
     ensures { SourceSendsTheGame }
 {}
@@ -121,14 +124,14 @@ pub fn file_names_are_those_of_tables()
     tables_are_numbered();
 }
 
-/// A text that has a line at fault spells no schedule, and one line is its first at fault.
+/// A text with a malformed line spells no schedule, and has one first malformed line.
 pub fn one_bad_line()
     ensures none { (text : List ℕ) (k : ℕ) (schedule : Schedule) → IsFirstBadLine text k → SpellsSchedule text schedule → ⊥ }
     ensures one { (text : List ℕ) (j k : ℕ) → IsFirstBadLine text j → IsFirstBadLine text k → j ≡ k }
 {}
 
-/// Two schedules that one text spells have one name, one start, the same moves and the same events; lists of bytes are one where
-/// they have the same items. Schedules that are so one come to the same worlds.
+/// Two schedules of one text have equal names, starts, moves and events, where lists of bytes are compared by their
+/// items. Such schedules have the same worlds.
 pub fn one_schedule()
     ensures one { (text : List ℕ) (s t : Schedule) → SpellsSchedule text s → SpellsSchedule text t → IsSameSchedule s t }
     ensures worlds { (game : Judged) (s t : Schedule) → IsSameSchedule s t → worlds game (first_world game) s.events.items ≡ worlds game (first_world game) t.events.items }
@@ -136,3 +139,10 @@ pub fn one_schedule()
     one_position();
     one_move();
 }
+
+/// Two arbiters of one game over any keepers, each step of theirs as the contracts of `open` and `deliver` have it, come to what a
+/// schedule comes to: so each law here is about what they keep and send. The premises are in the steps: a datagram that is a
+/// message of the game was sent before, and an opening finds what was kept or, after a put that failed, what was to be kept.
+pub fn arbiters_are_worlds<K: Keeper>(_keeper: &K)
+    ensures { ArbitersAreWorlds K.facts }
+{}

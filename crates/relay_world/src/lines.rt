@@ -20,7 +20,7 @@ use move_msg::{Who, is_game_name};
 use std::alloc::{AllocError, Global};
 use std::vec::Vec;
 
-/// The name that a line tells.
+/// The name in a line.
 pub(crate) fn read_name(line: &[u8]) -> Option<&[u8]>
     ensures some { IfSome result (λ name. IsNameLine line.now name.now) }
     ensures none { IfNone result ((name : List ℕ) → IsNameLine line.now name → ⊥) }
@@ -34,7 +34,7 @@ pub(crate) fn read_name(line: &[u8]) -> Option<&[u8]>
     Some(name)
 }
 
-/// The start that a line tells.
+/// The start in a line.
 pub(crate) fn read_start(line: &[u8]) -> Option<Position>
     ensures some { IfSome result (IsStartLine line.now) }
     ensures none { IfNone result ((start : Parts) → IsStartLine line.now start → ⊥) }
@@ -48,7 +48,7 @@ pub(crate) fn read_start(line: &[u8]) -> Option<Position>
     }
 }
 
-/// The moves that the words after the first one tell. No more than 4096 are ever held.
+/// The moves of the words after the first one. No more than 4096 are ever held.
 fn read_words(alloc: Global, text: &[u8]) -> Result<Option<Vec<Move>>, AllocError>
     ensures some { IfOk result (λ read. IfSome read (λ moves. AreMoves (cut_at 32 text.now) moves.items)) }
     ensures few { IfOk result (λ read. IfSome read (λ moves. length moves.items ≤ most_moves)) }
@@ -58,7 +58,7 @@ fn read_words(alloc: Global, text: &[u8]) -> Result<Option<Vec<Move>>, AllocErro
     let mut moves = Vec::new(alloc);
     let mut rest = text;
     while let Some((word, tail)) = cut_first(rest, b' ') {
-        // A word follows this one, so that there would be more than 4096.
+        // A word follows this one, so there would be more than 4096.
         if moves.len() >= 4095 {
             return Ok(None);
         }
@@ -75,7 +75,7 @@ fn read_words(alloc: Global, text: &[u8]) -> Result<Option<Vec<Move>>, AllocErro
     Ok(Some(moves))
 }
 
-/// The moves that a line tells.
+/// The moves in a line.
 pub(crate) fn read_moves(alloc: Global, line: &[u8]) -> Result<Option<Vec<Move>>, AllocError>
     ensures some { IfOk result (λ read. IfSome read (λ moves. IsMovesLine line.now moves.items)) }
     ensures none { IfOk result (λ read. IfNone read ((moves : List Moves) → IsMovesLine line.now moves → ⊥)) }
@@ -107,7 +107,7 @@ fn split_who(text: &[u8]) -> Option<(Who, &[u8])>
     }
 }
 
-/// The outcome of a put that is told by the only word.
+/// The outcome of a put, in the only word.
 fn only_keep(text: &[u8]) -> Option<Keep>
     ensures some { IfSome result (λ keep. cut_at 32 text.now ≡ keep_word keep ∷ []) }
     ensures none { IfNone result ((keep : Keep) → cut_at 32 text.now ≡ keep_word keep ∷ [] → ⊥) }
@@ -118,7 +118,7 @@ fn only_keep(text: &[u8]) -> Option<Keep>
     }
 }
 
-/// The first of two words, and the outcome of a put that the second tells.
+/// The first of two words, and the outcome of a put in the second.
 fn word_and_keep(text: &[u8]) -> Option<(&[u8], Keep)>
     ensures some { IfSome result (λ x. cut_at 32 text.now ≡ x.0.now ∷ keep_word x.1 ∷ []) }
     ensures none { IfNone result ((word : List ℕ) (keep : Keep) → cut_at 32 text.now ≡ word ∷ keep_word keep ∷ [] → ⊥) }
@@ -195,7 +195,7 @@ fn read_noise(alloc: Global, text: &[u8]) -> Result<Option<Event>, AllocError>
     Ok(Some(Event::Noise { who, bytes, keep }))
 }
 
-/// The event that a line tells.
+/// The event in a line.
 pub(crate) fn read_event(alloc: Global, line: &[u8]) -> Result<Option<Event>, AllocError>
     ensures some { IfOk result (λ read. IfSome read (IsEventLine line.now)) }
     ensures none { IfOk result (λ read. IfNone read ((event : Event) → IsEventLine line.now event → ⊥)) }

@@ -1,4 +1,4 @@
-//! The manifest of files, in whatever order they are given.
+//! The manifest of files in any order.
 
 ghost use Rattle.std.specs.Prelude.{◌≡◌, ◌↔◌, map, IfOk, IsTrue};
 ghost use Rattle.move_msg.specs.Manifests.{IsBefore, entry_of};

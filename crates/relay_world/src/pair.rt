@@ -38,7 +38,7 @@ fn append(log: &mut Vec<Message>, outputs: &Outputs) -> Result<(), AllocError>
     Ok(())
 }
 
-/// What is asked for goes to the log.
+/// A request goes to the log.
 fn note(log: &mut Vec<Message>, asked: Option<Message>) -> Result<(), AllocError>
     ensures { OnOk result (log.new.items ≡ log.old.items ++ listed asked) }
 {
@@ -145,7 +145,7 @@ fn restart_at<'a>(
     }
 }
 
-/// What one of the two asks for.
+/// The request of one of the two.
 fn asked_by(pair: &Pair<'_>, who: Who) -> Option<Message>
     ensures { IsAsked pair.now who (listed result) }
 {
@@ -155,7 +155,7 @@ fn asked_by(pair: &Pair<'_>, who: Who) -> Option<Message>
     }
 }
 
-/// One of the two asks for moves.
+/// One of the two requests moves.
 fn ask_at(pair: &mut Pair<'_>, who: Who) -> Result<(), AllocError>
     ensures { OnOk result (IsAfter pair.old (asks who) pair.new) }
 {
@@ -206,7 +206,7 @@ fn deliver_noise(
     deliver_to(alloc, pair, who, keep, bytes)
 }
 
-/// A pair after what was done to it; none where that wanted memory.
+/// A pair after an event; none where memory was refused.
 fn if_done<'a>(pair: Pair<'a>, done: Result<(), AllocError>) -> Result<Pair<'a>, AllocError>
     ensures pair { IfOk result (λ late. late ≡ pair.entry) }
     ensures done { OnOk result (IsOk done) }

@@ -74,7 +74,7 @@ fn begin<'a>(
     })
 }
 
-/// How both arbiters are, what they keep and what was sent.
+/// The states of both arbiters, what they keep and what was sent.
 fn world_of(pair: Pair<'_>) -> World
     ensures { (game : Judged) (a b : SetupView) (world : Worlds) → a.delay ≡ game.rules.delay → b.delay ≡ game.rules.delay → PairIs game a b pair.entry world → Tells game result world }
 {
@@ -98,18 +98,18 @@ fn world_of(pair: Pair<'_>) -> World
 /// Runs a schedule: two arbiters of a game, A and B, both closed and with nothing kept, and a log of everything that was ever
 /// sent, at first the game's moves, number i at place i. Then one event after the other.
 ///
-/// - A message of the log is delivered to an arbiter, which answers it; an index past the log's end and a closed arbiter do nothing.
-/// - Noise is delivered to an arbiter likewise, but bytes that spell a message of this game do nothing: nobody forges one.
-/// - An arbiter is closed, unless it is closed already, and opened over what is kept.
-/// - An arbiter that runs without a verdict asks the other for moves.
+/// - A message of the log is delivered to an arbiter, which answers it; an index past the log's end and a closed
+/// arbiter do nothing. - Noise is delivered to an arbiter likewise, but bytes that encode a message of this game do
+/// nothing: nobody forges one. - An arbiter is closed, unless it is closed already, and opened over what is kept. - An
+/// arbiter that runs without a verdict requests moves from the other.
 ///
 /// `keep` is the outcome of the put that the event makes, if any. What an arbiter sends is appended to the log.
 ///
-/// `tables` are files by name, in any order. Each arbiter has all of them, with a cache of so many blocks, 1 to 4096; their
-/// manifest is by rising name. `BadTable` and `DuplicateTable` tell the first file at fault, place by place. `OutOfMemory` comes
-/// where memory is refused before or in any event, but not where the cache of a probe finds none; no world is told then. Each run
-/// takes memory, for two sets and two keepers, so that it may come at any game and any files. The number of blocks changes nothing
-/// in what is told.
+/// `tables` are files by name, in any order. Each arbiter has all of them, with a cache of `cache` blocks, 1 to 4096;
+/// their manifest is by rising name. `BadTable` and `DuplicateTable` name the first file at fault, place by place.
+/// `OutOfMemory` comes where memory is refused before or in any event, but not for the cache of a probe. No world is
+/// returned then. Each run takes memory, for two sets and two keepers, so this error may come for any game and any
+/// files. The number of blocks changes nothing in the result.
 pub fn run<'a>(
     alloc: Global,
     game: &'a Game,
@@ -120,15 +120,17 @@ pub fn run<'a>(
     requires some { 1 ≤ cache }
     requires most { cache ≤ 4096 }
 
-    // There are worlds, one more than the events: the first has both arbiters closed, nothing kept and the game's moves as log,
-    // each next one is the step of its event, and the last is the one that is told. In each of them each kept record is that of
-    // the game's first so many moves, with the first verdict exactly at its ply, and two kept verdicts are one.
+    // There are worlds, one more than the events. The first has both arbiters closed, nothing kept and the game's moves
+    // as log. Each next one is the step of its event, and the last is the one that is returned. In each of them each
+    // kept record is that of the game's first so many moves, with the first verdict exactly at its ply, and two kept
+    // verdicts are one.
     ensures worlds { IfOk result (Runs game.now (map (λ f. record { name = f.0.now; bytes = f.1.now }) tables.now) events.now) }
 
-    // It is told by the game, the files and the events alone: another run of them, at whatever number of blocks, tells the same.
+    // The result depends on the game, the files and the events alone: another run of them, at any number of blocks, has
+    // the same result.
     ensures one { IfOk result (λ told. (other : WorldView) → Runs game.now (map (λ f. record { name = f.0.now; bytes = f.1.now }) tables.now) events.now other → other ≡ told) }
 
-    // The first file at fault is told.
+    // The error is the first file at fault.
     ensures faults { IfErr result (λ fault. (fault ≡ OutOfMemory) ⊎ (tables_of (map (λ f. record { name = f.0.now; bytes = f.1.now }) tables.now) ≡ Err fault)) }
 {
     let first = gather(alloc, cache, tables)?;

@@ -13,7 +13,7 @@ use fen_text::cut_first;
 use std::alloc::{AllocError, Global};
 use std::vec::Vec;
 
-/// A game and what happens to its two arbiters, as a text tells it.
+/// A game and what happens to its two arbiters, as read from a text.
 #[derive(Drop)]
 pub struct Schedule {
     /// The name of the game.
@@ -29,7 +29,7 @@ pub struct Schedule {
 /// Why a text is no schedule.
 #[derive(Clone, Copy, PartialEq, Eq, Debug)]
 pub enum ScheduleFault {
-    /// The line with this number, the first being 1, is the first at fault; it may be the one that is missing.
+    /// The line with this number, counted from 1, is the first malformed one; it may be a missing one.
     BadLine(usize),
     /// Memory was refused.
     OutOfMemory,
@@ -59,13 +59,14 @@ fn read_events(alloc: Global, text: &[u8]) -> Result<Result<Vec<Event>, usize>, 
 
 /// The schedule that a text spells (schedule format), or the number of its first line at fault.
 ///
-/// A text is lines that end with a line feed. The first three are `name TEXT` with a name of 1 to 64 bytes, all from 0x20 (the
-/// space) to 0x7E (the tilde), `start FEN`, and `moves` followed by at most 4096 moves in coordinates, a space before each. Each
-/// further line is an event: `restart WHO KEEP`, `deliver WHO INDEX KEEP`, `noise WHO HEX KEEP` or `ask WHO`. WHO is `A` or `B`;
-/// KEEP is `good`, `old` or `new`; INDEX is 0 to 999999 in digits without needless zeros; HEX is two digits of either case for
-/// each byte, and `-` for no bytes. A missing line counts as the one after the last. `OutOfMemory` comes where memory is
-/// refused: for the moves, for what an event tells, and for the name. None is taken where one of the first two lines is at fault,
-/// nor where the third begins with no move and is at fault, or the fourth is and tells no bytes.
+/// A text is lines that end with a line feed. The first three are `name TEXT`, `start FEN`, and `moves` followed by at
+/// most 4096 moves in coordinates, a space before each. A name has 1 to 64 bytes, all from 0x20 (the space) to 0x7E
+/// (the tilde). Each further line is an event: `restart WHO KEEP`, `deliver WHO INDEX KEEP`, `noise WHO HEX KEEP` or
+/// `ask WHO`. WHO is `A` or `B`. KEEP is `good`, `old` or `new`. INDEX is 0 to 999999 in digits without needless zeros.
+/// HEX is two digits of either case for each byte, and `-` for no bytes. A missing line counts as the one after the
+/// last. `OutOfMemory` comes where memory is refused for the moves, for the bytes of an event, or for the name. None is
+/// taken where one of the first two lines is malformed, or a third one that begins with no move, or a fourth one
+/// without bytes.
 pub fn read(alloc: Global, text: &[u8]) -> Result<Schedule, ScheduleFault>
     ensures ok { IfOk result (SpellsSchedule text.now) }
     ensures err { IfErr result (λ fault. (fault ≡ OutOfMemory) ⊎ ((k : ℕ) × (fault ≡ BadLine k) × IsFirstBadLine text.now k)) }

@@ -1,4 +1,4 @@
-//! Where an arbiter sits, beside its keeper.
+//! An arbiter beside its keeper.
 
 ghost use Rattle.std.specs.Prelude.{◌≡◌, IfOk, OnErr};
 ghost use Rattle.arbiter_core.specs.Answering.{Identity};
@@ -16,7 +16,7 @@ use smallvec::SmallVec;
 use std::alloc::{AllocError, Global};
 use std::marker::Model;
 
-/// An arbiter, or what one is opened from.
+/// An arbiter, or the setup for one.
 #[derive(Drop)]
 enum Place<'a> {
     /// It is closed.
@@ -87,9 +87,9 @@ impl<'a> Seat<'a> {
         }
     }
 
-    /// Delivers a datagram, where the put that follows, if any, has this outcome. A closed arbiter hears nothing, and a refusal
-    /// sends nothing. The error comes only where the answer of a running arbiter takes memory, for a record to be put or more than
-    /// four messages, and leaves the arbiter and what is kept as before.
+    /// Delivers a datagram, where the put that follows, if any, has this outcome. A closed arbiter receives nothing,
+    /// and a refusal sends nothing. The error comes only where the answer of a running arbiter takes memory, for a
+    /// record to be put or more than four messages. It leaves the arbiter and what is kept as before.
     pub fn deliver(
         &mut self,
         alloc: Global,
@@ -126,7 +126,7 @@ impl<'a> Seat<'a> {
         }
     }
 
-    /// What the arbiter asks the other for.
+    /// The arbiter's request to the other.
     pub fn ask(&self) -> Option<Message>
         ensures { (me : Identity) (setup : SetupView) (side : Side) → SeatIs me setup self.now side → listed result ≡ wants me side.kept side.life }
     {
@@ -136,7 +136,7 @@ impl<'a> Seat<'a> {
         }
     }
 
-    /// How the arbiter is.
+    /// The state of the arbiter.
     pub fn state(&self) -> State
         ensures { (me : Identity) (setup : SetupView) (side : Side) → SeatIs me setup self.now side → result ≡ state_of side.life }
     {

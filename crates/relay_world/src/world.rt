@@ -1,4 +1,4 @@
-//! What is told of two arbiters after a schedule.
+//! Two arbiters after a schedule, as the caller sees them.
 
 ghost use Rattle.std.specs.Prelude.{◌≡◌, ℕ, option_map, length, Option, Some, None, List, IfSome};
 ghost use Rattle.move_msg.specs.declared.stamp.Stamp.{Stamp};
@@ -12,7 +12,7 @@ use move_msg::{Message, Record, Who};
 use std::marker::Model;
 use std::vec::Vec;
 
-/// How an arbiter is.
+/// The state of an arbiter.
 #[derive(Clone, Copy, PartialEq, Eq, Debug)]
 pub enum State {
     /// It runs.
@@ -23,7 +23,8 @@ pub enum State {
     Closed,
 }
 
-/// Two arbiters after a schedule: how each is, what each keeps, and everything that was ever sent. No reader takes memory.
+/// Two arbiters after a schedule: their states, what they keep, and everything that was ever sent. No reader takes
+/// memory.
 #[derive(Drop)]
 pub struct World {
     pub(crate) first: State,
@@ -42,7 +43,7 @@ impl Model for World {
 }
 
 impl World {
-    /// How an arbiter is.
+    /// The state of an arbiter.
     pub fn state(&self, who: Who) -> State
         ensures { result ≡ (told_of self.now who).state }
     {
@@ -62,8 +63,8 @@ impl World {
         }
     }
 
-    /// How many moves are kept by an arbiter's keeper, and the code of the kept verdict, 0 for none; none where nothing is kept,
-    /// or where what is kept spells no record.
+    /// How many moves an arbiter's keeper keeps, and the code of the kept verdict, 0 for none. None where nothing is
+    /// kept, or where what is kept is no record.
     pub fn kept(&self, who: Who) -> Option<(u32, u8)>
         ensures nothing { (told_of self.now who).bytes ≡ None → result ≡ None }
         ensures record { (bytes : List _) (r : Record) → (told_of self.now who).bytes ≡ Some bytes → SpellsRecord bytes r → result ≡ Some (length r.moves, code_or_none r.verdict) }

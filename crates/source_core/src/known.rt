@@ -33,18 +33,18 @@ pub struct Clash {
     pub second: Ruling,
 }
 
-/// How a move stands.
+/// The state of a move.
 #[derive(Clone, Copy)]
 pub enum Standing {
     /// Both arbiters have acknowledged it, and neither has reported a verdict.
     Acked,
     /// Both have reported the verdict.
     Ruled(Ruling),
-    /// Neither is so.
+    /// Neither of these.
     Open,
 }
 
-/// The verdict that is known, where it is another one.
+/// The known verdict, where it differs from this one.
 fn other_than(known: Option<Ruling>, ruling: Ruling) -> Option<Ruling>
     ensures some { IfSome result (λ first. (known ≡ Some first) × (first ≢ ruling)) }
     ensures none { IfNone result (Fits known ruling) }
@@ -80,7 +80,7 @@ impl Known {
         }
     }
 
-    /// The same, with this for an arbiter.
+    /// What is known, with this report of an arbiter in place of its earlier one.
     fn with_reported(&self, who: Who, reported: Reported) -> Known
         ensures { result ≡ with_reported self.now who reported }
     {
@@ -96,7 +96,7 @@ impl Known {
         }
     }
 
-    /// A verdict that was reported and is another one than this.
+    /// A reported verdict that differs from this one.
     fn clash_with(&self, ruling: Ruling) -> Option<Ruling>
         ensures some { IfSome result (λ first. (first ≢ ruling) × ((self.now.a.ruling ≡ Some first) ⊎ (self.now.b.ruling ≡ Some first))) }
         ensures none { IfNone result (Fits self.now.a.ruling ruling × Fits self.now.b.ruling ruling) }
@@ -107,7 +107,7 @@ impl Known {
         }
     }
 
-    /// Adds a report. The error comes where it is a verdict that differs from one that was reported; then nothing is added.
+    /// Adds a report. The error comes where it is a verdict that differs from a reported one; nothing is added then.
     pub fn add(&mut self, report: Report) -> Result<(), Clash>
         ensures added { OnOk result (Adds self.old report self.new) }
         ensures clash { IfErr result (Clashes self.old report) }
@@ -145,7 +145,7 @@ impl Known {
         }
     }
 
-    /// How the move with this number stands.
+    /// The state of the move with this number.
     pub fn standing(&self, number: u32) -> Standing
         ensures { StandsSo self.now number result }
     {

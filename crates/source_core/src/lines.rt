@@ -12,10 +12,10 @@ use arrayvec::ArrayString;
 use std::fmt::{self, Write as _};
 use system_io::{Output, WriteFault};
 
-/// With what a run ends.
+/// The end of a run.
 #[derive(Clone, Copy)]
 pub enum End {
-    /// The input has ended; so many moves are acknowledged.
+    /// The input has ended; this many moves are acknowledged.
     Open(u32),
     /// Both arbiters have reported this verdict.
     Ruled(Ruling),
@@ -40,7 +40,7 @@ pub enum End {
 /// A line of a run, without its line feed.
 #[derive(Clone, Copy)]
 pub enum Line {
-    /// So many moves are acknowledged by both arbiters.
+    /// Both arbiters have acknowledged this many moves.
     Acked(u32),
     /// The last line.
     Ends(End),
@@ -119,7 +119,7 @@ impl fmt::Display for Line {
     }
 }
 
-/// The text of a line with its line feed; none where it has more than 64 bytes, as no line has.
+/// The text of a line with its line feed; none where it has more than 64 bytes, which no line has.
 fn text_of(line: &Line) -> Option<ArrayString<64>>
     ensures { IfSome result (λ t. t.bytes ≡ ended (line_words line.now)) }
 {

@@ -37,7 +37,7 @@ pub enum Report {
     },
 }
 
-/// What a message reports of a record, and the stamp of the game.
+/// The report that a message makes, and the stamp of the game.
 fn report_in(message: &Message) -> Option<(Stamp, Report)>
     ensures some { IfSome result (λ s. message.now ≡ message_of s.0 s.1) }
     ensures only { (stamp : Stamp) (r : Report) → message.now ≡ message_of stamp r → result ≡ Some (stamp, r) }
@@ -69,8 +69,8 @@ fn report_in(message: &Message) -> Option<(Stamp, Report)>
     }
 }
 
-/// What a datagram reports: an acknowledgement or a verdict of an arbiter of the game with this stamp. None where it is anything
-/// else.
+/// The report of a datagram: an acknowledgement or a verdict of an arbiter of the game with this stamp. None for any
+/// other datagram.
 pub fn report_of(stamp: Stamp, datagram: &[u8]) -> Option<Report>
     ensures some { IfSome result (λ r. SpellsMessage datagram.now (message_of stamp r)) }
     ensures only { (r : Report) → SpellsMessage datagram.now (message_of stamp r) → result ≡ Some r }

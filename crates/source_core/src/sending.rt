@@ -17,7 +17,7 @@ use move_msg::MOST_MOVES;
 use std::alloc::Global;
 use system_io::{LineReader, Output, Port, ReadFault, WriteFault};
 
-/// How far a game has come.
+/// The progress of a game.
 #[derive(Drop)]
 struct Course {
     /// The position after the acknowledged moves.
@@ -28,7 +28,7 @@ struct Course {
     last: Option<Move>,
 }
 
-/// A game of which nothing is sent yet.
+/// A game with nothing sent yet.
 fn begun_at(start: Position) -> Course
     ensures { result ≡ begun_at start }
 {
@@ -39,7 +39,7 @@ fn begun_at(start: Position) -> Course
     }
 }
 
-/// A line as a legal move of a position, and the position after it; the other answer is with what the run ends.
+/// A line as a legal move of a position, and the position after it. The error is the end of the run.
 fn move_of(line: &[u8], position: &Position, number: u32) -> Result<(Move, Position), End>
     requires { number ≤ most_moves }
     ensures ok { IfOk result (λ t. IsPlayed position.now number line.now t.0 t.1) }
@@ -58,7 +58,7 @@ fn move_of(line: &[u8], position: &Position, number: u32) -> Result<(Move, Posit
     }
 }
 
-/// With what a run ends after a turn; none where it goes on.
+/// The end of a run after a turn; none where it goes on.
 fn end_of(turn: Turn) -> Option<End>
     ensures { result ≡ end_by turn }
 {
@@ -71,7 +71,7 @@ fn end_of(turn: Turn) -> Option<End>
     }
 }
 
-/// Sends the move of a line that was read; tells with what the run ends, if it does.
+/// Sends the move of a line that was read. Returns the end of the run, if it ends.
 fn send_line<P: Port>(
     terms: Terms,
     number: u32,
@@ -92,7 +92,7 @@ fn send_line<P: Port>(
     }
 }
 
-/// The verdict that both have reported, as the end of a run; or else that the game is open after so many moves.
+/// The end of a run by the verdict that both have reported; otherwise the game is open after this many moves.
 fn end_at(known: &Known, number: u32) -> End
     ensures { EndsAt number known.now result }
 {
@@ -102,8 +102,8 @@ fn end_at(known: &Known, number: u32) -> End
     }
 }
 
-/// Sends the last acknowledged move once more, which an arbiter answers with its count and its verdict; receives what still comes
-/// in time, and tells with what the run ends.
+/// Sends the last acknowledged move once more, which an arbiter answers with its count and its verdict. Receives what
+/// still comes in time, and returns the end of the run.
 fn close<P: Port>(terms: Terms, number: u32, course: &mut Course, port: &mut P) -> End
     ensures { Closes terms.stamp number course.old.last course.old.known (P.facts port.old) (P.facts port.new) result }
 {
@@ -115,7 +115,7 @@ fn close<P: Port>(terms: Terms, number: u32, course: &mut Course, port: &mut P) 
     }
 }
 
-/// Reads the next line and sends its move; tells with what the run ends, if it does.
+/// Reads the next line and sends its move. Returns the end of the run, if it ends.
 fn step<L: LineReader, P: Port>(
     terms: Terms,
     number: u32,
@@ -142,7 +142,7 @@ fn step<L: LineReader, P: Port>(
     }
 }
 
-/// Writes the last line, and tells the status.
+/// Writes the last line, and returns the status.
 fn finish<W: Output>(out: &mut W, end: End) -> Result<u8, WriteFault>
     ensures status { IfOk result (λ status. status ≡ status_by end) }
     ensures front { WritesFront (W.contents out.old) (W.contents out.new) (ended (end_words end)) result }
@@ -154,15 +154,16 @@ fn finish<W: Output>(out: &mut W, end: End) -> Result<u8, WriteFault>
     }
 }
 
-/// Sends the moves of an input, a line each, to the arbiters of a game as they come, and tells the status.
+/// Sends the moves of an input, a line each, to the arbiters of a game as they come, and returns the status.
 ///
-/// Each legal move is sent to each address, at most as often as the terms say, until both arbiters have acknowledged it. Then the
-/// line `2 acked` follows, with how many moves are acknowledged, and the next line is read. Once both have reported the verdict
-/// the last line is `verdict 4 BlackMates`, with status 0. At the input's end the last acknowledged move is sent once more, and
-/// the last line is `open 2`, with status 0, unless the verdict comes in time. With status 1 it is `refused move 2`, a line that is
-/// no move, counted from 0; `illegal 2`, a move that isn't legal, which isn't sent; `refused TooLong`, a 4097th move;
-/// `refused lost`, an arbiter that doesn't answer; `refused port`; `refused files`, an input that can't be read; `refused memory`;
-/// and `disagree 2 BlackMates 2 Stalemate`, two verdicts that differ. The error comes only where the writer failed.
+/// Each legal move is sent to each address, at most as often as the terms say, until both arbiters have acknowledged
+/// it. Then the line `2 acked` follows, with how many moves are acknowledged, and the next line is read. Once both have
+/// reported the verdict the last line is `verdict 4 BlackMates`, with status 0. At the input's end the last
+/// acknowledged move is sent once more, and the last line is `open 2`, with status 0, unless the verdict comes in time.
+/// With status 1 it is one of these. `refused move 2`: a line that is no move, counted from 0. `illegal 2`: a move that
+/// isn't legal, which isn't sent. `refused TooLong`: a 4097th move. `refused lost`: an arbiter doesn't answer. `refused
+/// port`, `refused memory`, and `refused files`: the input can't be read. `disagree 2 BlackMates 2 Stalemate`: two
+/// verdicts that differ. The error comes only where the writer failed.
 pub fn send_game<L: LineReader, P: Port, W: Output>(
     alloc: Global,
     terms: Terms,
@@ -171,7 +172,7 @@ pub fn send_game<L: LineReader, P: Port, W: Output>(
     port: &mut P,
     out: &mut W,
 ) -> Result<u8, WriteFault>
-    // There is such a run, whose lines are written.
+    // There is such a run, and its lines are written.
     ensures sends { (s : Sending) × IsSending (causes (L.facts reader.old).fails (L.facts reader.old).takes_memory) (record { stamp = terms.stamp; addresses = (P.facts port.old).addresses; most = terms.tries }) start (L.facts reader.old).left (L.facts reader.new).left (P.facts port.old) (P.facts port.new) s × WritesLines s (W.contents out.old) (W.contents out.new) result }
 
     // All of them have gone out.

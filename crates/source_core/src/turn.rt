@@ -1,4 +1,4 @@
-//! One move that is sent until both arbiters have acknowledged it.
+//! Sending one move until both arbiters have acknowledged it.
 
 ghost use Rattle.std.specs.Prelude.{◌≡◌, ◌∷◌, [], List, IfSome};
 ghost use Rattle.std.specs.List.{AllByRecursion};
@@ -18,17 +18,17 @@ use system_io::Port;
 /// How many datagrams one try receives at most.
 const MOST_ANSWERS: u32 = 256;
 
-/// On what terms the moves of a game are sent.
+/// The terms on which the moves of a game are sent.
 #[derive(Clone, Copy)]
 pub struct Terms {
-    /// The mark of the game, which each message of it carries.
+    /// The stamp of the game, which each of its messages carries.
     pub stamp: Stamp,
     /// How often a turn sends its move at most, each time to all addresses: 1 to 2^32 - 1 times. The last acknowledged move is sent
     /// once more at the input's end. With 0 nothing is sent, and a move that isn't acknowledged already is lost.
     pub tries: u32,
-    /// How long a datagram is awaited: more than nothing, by the nanosecond as far as the port's clock tells it. Where both arbiters
-    /// have acknowledged the move, a verdict is awaited for two milliseconds, whatever stands here. A try awaits up to 256
-    /// datagrams one after the other, so that it may take so many times as long.
+    /// How long a datagram is awaited, above 0, as precisely as the port's clock allows. Where both arbiters have
+    /// acknowledged the move, a verdict is awaited for two milliseconds instead. A try awaits up to 256 datagrams one
+    /// after the other, so it may take 256 times as long.
     pub wait: Duration,
 }
 
@@ -41,7 +41,7 @@ pub enum Turn {
     Ruled(Ruling),
     /// Two verdicts were reported that differ.
     Clashed(Clash),
-    /// The move was sent as often as it may be, and neither is so.
+    /// The move was sent as often as the terms allow, without either.
     Lost,
     /// No datagram can be received.
     PortLost,
@@ -67,7 +67,7 @@ fn send<P: Port>(port: &mut P, bytes: &[u8])
     let _sent = port.send(bytes);
 }
 
-/// Adds what a datagram reports, if anything.
+/// Adds the report of a datagram, if it has one.
 fn take_in(stamp: Stamp, known: &mut Known, datagram: &[u8]) -> Next
     ensures learns { Learns stamp known.old known.new (Came datagram.now ∷ []) result }
     ensures last { IsLast (Came datagram.now) result }
@@ -81,7 +81,7 @@ fn take_in(stamp: Stamp, known: &mut Known, datagram: &[u8]) -> Next
     }
 }
 
-/// Receives a datagram, if one comes in so long a time, and adds what it reports.
+/// Receives a datagram, if one comes in time, and adds its report.
 fn receive_one<P: Port>(
     terms: Terms,
     number: u32,
@@ -118,8 +118,8 @@ fn wait_at(terms: Terms, number: u32, known: &Known) -> Duration
     }
 }
 
-/// Receives what comes in time, and adds what it reports, until nothing came, both have reported a verdict, or as many datagrams
-/// came as one try receives.
+/// Receives datagrams and adds their reports, until none comes in time, both have reported a verdict, or a try's number
+/// of datagrams came.
 pub(crate) fn receive_all<P: Port>(
     terms: Terms,
     number: u32,
@@ -141,7 +141,7 @@ pub(crate) fn receive_all<P: Port>(
     Next::Waited
 }
 
-/// How a move stands, as the end of its turn; none where it is open.
+/// The state of a move as the end of its turn; none where it is open.
 fn turn_of(known: &Known, number: u32) -> Option<Turn>
     ensures { EndsIf number known.now result }
 {
@@ -152,7 +152,7 @@ fn turn_of(known: &Known, number: u32) -> Option<Turn>
     }
 }
 
-/// How what came ends a turn, if it does.
+/// The end of a turn by what came, if it ends.
 fn loss_of(next: Next) -> Option<Turn>
     ensures { result ≡ loss_by next }
 {
@@ -163,7 +163,7 @@ fn loss_of(next: Next) -> Option<Turn>
     }
 }
 
-/// Sends a datagram to each address, and receives what comes then; tells how that ends the turn, if it does.
+/// Sends a datagram to each address, and receives what comes then. Returns the end of the turn, if it ends.
 fn try_once<P: Port>(
     terms: Terms,
     number: u32,
@@ -200,8 +200,8 @@ pub(crate) fn send_again<P: Port>(stamp: Stamp, number: u32, last: &Option<Move>
     }
 }
 
-/// Sends a move to each address until both arbiters have acknowledged it and reported what they have to report, at most as often
-/// as the terms say. Its number is how many moves stand before it, 0 to 4095.
+/// Sends a move to each address until both arbiters have acknowledged it, or both have reported a verdict, at most as
+/// often as the terms say. Its number is that of the moves before it, 0 to 4095.
 ///
 /// A move that is acknowledged already isn't sent. Nothing else is sent.
 pub fn take_turn<P: Port>(

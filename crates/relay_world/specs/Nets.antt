@@ -1,0 +1,151 @@
+-- Two arbiters over keepers, and every message that was ever sent: their own steps, as the contracts of `open` and `deliver`
+-- have them (this project's own, docs/RULES.md).
+use Rattle.std.specs.Prelude.{◌≡◌, ◌⊎◌, ℕ, false, List, [], ◌∷◌, ◌++◌, slice_get, Option, Some, None, Ok, Err}
+use Rattle.move_msg.specs.declared.who.Who.{Who}
+use Rattle.move_msg.specs.declared.who.Who.TheVariants.{A, B}
+use Rattle.move_msg.specs.declared.who.Sender.TheVariants.{Source}
+use Rattle.move_msg.specs.declared.message.Message.{Message}
+use Rattle.arbiter_core.specs.declared.fault.DeliverFault.TheVariants as deliver
+use Rattle.arbiter_core.specs.declared.fault.OpenFault.TheVariants as opening
+use Rattle.arbiter_core.specs.Keeping.{KeeperFacts}
+use Rattle.arbiter_core.specs.Setups.{SetupView, IsIdentity, rules_at}
+use Rattle.arbiter_core.specs.Views.{View}
+use Rattle.arbiter_core.specs.Answering.{Answer, Refuses, Sends, Puts, asked, sent_by}
+use Rattle.arbiter_core.specs.Delivers.{Delivers, Exchange, IsWritten, Told as Answered, answer_at, heard, moment}
+use Rattle.arbiter_core.specs.Opens.{Opens, Told as Opened, first_record}
+use Rattle.relay_world.specs.declared.event.Event.{Event}
+use Rattle.relay_world.specs.Worlds.{Judged, after, first_world, identity, listed}
+use Rattle.relay_world.specs.Headline.{IsFaithful}
+use Rattle.relay_world.specs.Runs.{KeptIs}
+
+-- where one of the two runs: what its next opening finds, and the arbiter while it is open
+pub record Site : Type 0 where
+  pub kept : Option (List ℕ)
+  pub arbiter : Option View
+
+pub record Net : Type 0 where
+  pub a : Site
+  pub b : Site
+  -- every message that was ever sent, in order
+  pub log : List Message
+
+abbrev pub site_of : Net → Who → Site
+site_of net A = net.a
+site_of net B = net.b
+
+-- one site changes, and it sends these messages
+abbrev pub changed : Net → Who → Site → List Message → Net
+changed net A site outputs = record { a = site; b = net.b; log = net.log ++ outputs }
+changed net B site outputs = record { a = net.a; b = site; log = net.log ++ outputs }
+
+-- nothing is kept, both are closed, and the source has sent the moves of the game
+abbrev pub first_net : Judged → Net
+first_net game = record { a = record { kept = None; arbiter = None }; b = record { kept = None; arbiter = None }; log = sent_by game.stamp Source 0 game.moves }
+
+-- ---- the steps
+
+pub data Act (K : Type 0) : Type 0 where
+  -- an arbiter is opened, or refused: the keeper before and after it, and what was told
+  OpensOne : (who : Who) (before now : K) (told : Opened) → Act K
+  -- an arbiter that runs answers a datagram
+  AnswersOne : (who : Who) (arbiter : View) (before : K) (exchange : Exchange K) → Act K
+  -- an arbiter that runs asks for moves
+  AsksOne : (who : Who) (arbiter : View) → Act K
+  -- an arbiter is closed, or its process ends
+  ClosesOne : (who : Who) → Act K
+
+-- a setup of one of the two arbiters of the game
+pub record IsSetupOf (game : Judged) (who : Who) (setup : SetupView) : Type 0 where
+  pub rules : rules_at setup ≡ game.rules
+  pub identity : IsIdentity setup (identity game who)
+
+abbrev pub arbiter_in : Opened → Option View
+arbiter_in (Ok v) = Some v
+arbiter_in (Err fault) = None
+
+-- after an opening a start finds what the keeper keeps; or the keeper failed over nothing kept, and it finds the first record
+abbrev pub FoundOpened : {K : Type 0} → KeeperFacts K → Judged → SetupView → Option (List ℕ) → K → Opened → Option (List ℕ) → Type 0
+FoundOpened facts game setup old now told found =
+    (found ≡ facts.kept now)
+    ⊎ ((told ≡ Err opening.KeeperFailed) × (old ≡ None) × IsWritten game.stamp game.rules.delay (first_record (rules_at setup)) found)
+
+-- the keeper keeps what is found there, and what is told is what opening an arbiter of the game leaves
+pub record IsOpening {K : Type 0} (facts : KeeperFacts K) (game : Judged) (who : Who) (old : Site) (before now : K) (told : Opened) (new : Site) : Type 0 where
+  pub setup : SetupView
+  pub is_setup : IsSetupOf game who setup
+  pub kept : facts.kept before ≡ old.kept
+  pub opens : Opens facts setup (identity game who) before now told
+  pub arbiter : new.arbiter ≡ arbiter_in told
+  pub found : FoundOpened facts game setup old.kept now told new.kept
+
+abbrev pub sent_with : Answered → List Message
+sent_with (Ok outputs) = outputs
+sent_with (Err fault) = []
+
+-- A datagram comes: a message of the game was sent before, by the source or by one of the two. Other bytes are noise.
+abbrev pub IsNoForgery : Judged → List Message → List ℕ → Type 0
+IsNoForgery game log datagram = (m : Message) → heard game.stamp datagram ≡ Ok m → (i : ℕ) × (slice_get log i ≡ Some m)
+
+-- these bytes are written of the record that was to be put
+abbrev pub IsToBePut : View → Answer → Option (List ℕ) → Type 0
+IsToBePut v (Refuses fault) found = ⊥
+IsToBePut v (Sends outputs window) found = ⊥
+IsToBePut v (Puts next outputs window) found = IsWritten v.me.stamp v.setup.delay next found
+
+-- after a delivery a start finds what the keeper keeps; or the keeper failed, and it finds the record that was to be put
+abbrev pub FoundAnswered : {K : Type 0} → KeeperFacts K → View → Exchange K → Option (List ℕ) → Type 0
+FoundAnswered facts v e found =
+    (found ≡ facts.kept e.after.keeper) ⊎ ((e.told ≡ Err deliver.KeeperFailed) × IsToBePut v (answer_at v e.datagram) found)
+
+-- the arbiter runs, its keeper keeps what is found there, and it answers as `deliver` does
+pub record IsAnswer {K : Type 0} (facts : KeeperFacts K) (game : Judged) (log : List Message) (old : Site) (v : View) (before : K) (e : Exchange K) (new : Site) : Type 0 where
+  pub stands : old.arbiter ≡ Some v
+  pub runs : v.is_down ≡ false
+  pub kept : facts.kept before ≡ old.kept
+  pub came : IsNoForgery game log e.datagram
+  pub delivers : Delivers facts (moment v before) e
+  pub arbiter : new.arbiter ≡ Some e.after.arbiter
+  pub found : FoundAnswered facts v e new.kept
+
+pub record Opening {K : Type 0} (facts : KeeperFacts K) (game : Judged) (old : Net) (who : Who) (before now : K) (told : Opened) (new : Net) : Type 0 where
+  pub site : Site
+  pub is : IsOpening facts game who (site_of old who) before now told site
+  pub net : new ≡ changed old who site []
+
+pub record Answering {K : Type 0} (facts : KeeperFacts K) (game : Judged) (old : Net) (who : Who) (v : View) (before : K) (e : Exchange K) (new : Net) : Type 0 where
+  pub site : Site
+  pub is : IsAnswer facts game old.log (site_of old who) v before e site
+  pub net : new ≡ changed old who site (sent_with e.told)
+
+pub record Asking (old : Net) (who : Who) (v : View) (new : Net) : Type 0 where
+  pub stands : (site_of old who).arbiter ≡ Some v
+  pub runs : v.is_down ≡ false
+  pub net : new ≡ changed old who (site_of old who) (listed (asked v.me v.kept))
+
+-- one step
+abbrev pub GoesOn : {K : Type 0} → KeeperFacts K → Judged → Net → Act K → Net → Type 0
+GoesOn facts game old (OpensOne who before now told) new = Opening facts game old who before now told new
+GoesOn facts game old (AnswersOne who v before e) new = Answering facts game old who v before e new
+GoesOn facts game old (AsksOne who v) new = Asking old who v new
+GoesOn facts game old (ClosesOne who) new = new ≡ changed old who (record { kept = (site_of old who).kept; arbiter = None }) []
+
+-- steps in turn
+abbrev pub Goes : {K : Type 0} → KeeperFacts K → Judged → Net → List (Act K) → Net → Type 0
+Goes facts game old [] new = new ≡ old
+Goes facts game old (act ∷ acts) new = (mid : Net) × GoesOn facts game old act mid × Goes facts game mid acts new
+
+-- ---- what holds
+
+-- There is a schedule after which the world keeps what is found at both, and has sent what was sent; and that world is true to
+-- the game.
+pub record IsOfWorld (game : Judged) (net : Net) : Type 0 where
+  pub events : List Event
+  pub a : KeptIs game.stamp game.rules.delay net.a.kept (after game (first_world game) events).a.kept
+  pub b : KeptIs game.stamp game.rules.delay net.b.kept (after game (first_world game) events).b.kept
+  pub log : net.log ≡ (after game (first_world game) events).log
+  pub faithful : IsFaithful game (after game (first_world game) events)
+
+-- Wherever two arbiters of one game come by their own steps over keepers of a type, a schedule leads to what is found there.
+abbrev pub ArbitersAreWorlds : {K : Type 0} → KeeperFacts K → Type 0
+ArbitersAreWorlds {K = K} facts =
+    (game : Judged) (acts : List (Act K)) (net : Net) → Goes facts game (first_net game) acts net → IsOfWorld game net
