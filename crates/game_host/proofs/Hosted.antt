@@ -1,0 +1,171 @@
+-- A host's run, and one more datagram after it.
+use Rattle.std.proofs.Common.{◌≡◌, ℕ, ◌+◌, ◌<◌, ◌≤◌, Bool, true, false, List, [], ◌∷◌, ◌++◌, length, map, Option, None, refl, sym, ap, subst, ◌∙◌, append-nil, length-append, arith}
+use Rattle.std.specs.Prelude.{Result, Ok, Err, IfOk}
+use Rattle.std.specs.List.{flat_map}
+use Rattle.std.proofs.lemmas.List.{length-map, map-append}
+use Rattle.std.proofs.lemmas.List.Concat.{flat_map-append}
+use Rattle.system_io.specs.Ports.{Came, Passed, Passing, PortFacts}
+use Rattle.arbiter_service.specs.Serving.{handed}
+use Rattle.system_io.specs.Failures.{Risen}
+use Rattle.system_io.specs.declared.output.WriteFault.{WriteFault}
+use Rattle.arbiter_service.specs.GoingOut.{GoOut, LastIsCut, LinesEnd, Writers}
+use Rattle.arbiter_service.specs.ServedLines.{refused_port}
+use Rattle.arbiter_service.proofs.PortLaws.{Passed-nil, Passed-on, Passed-trans, Risen-later}
+use Rattle.arbiter_service.proofs.GoingLaws.{cut_later, go_join, none_out}
+use Rattle.game_host.specs.declared.seat.Seat.{Seat}
+use Rattle.game_host.specs.Folders.{Gives, Keepers}
+use Rattle.game_host.specs.Acts.{Reply, passing_at}
+use Rattle.game_host.specs.Games.{CommonView, Fresh}
+use Rattle.game_host.specs.Seats.{At, AreSeated, Stands}
+use Rattle.game_host.specs.Hosts.{Ends, Hosts, all_lines, all_passing, lost_line, missed_if}
+use Rattle.game_host.specs.Turns.{Leads, LeadsFrom, Receives, TakesTurn}
+use Rattle.game_host.proofs.Turning.{leads_join}
+
+-- a datagram came, and then what is answered was sent
+pub came_and_sent : (a b c : PortFacts) (r : Reply) → Passed a b (Came r.datagram ∷ []) → Passed b c (flat_map (handed b.addresses) r.outputs) → Passed a c (passing_at a.addresses r)
+came_and_sent a b c r came sent = Passed-on a b c (Came r.datagram ∷ []) (λ n. flat_map (handed n) r.outputs) came sent
+
+-- so many datagrams came and were answered
+pub record HasHosted {K W : Type 0} (s : Keepers K) (t : CommonView) (w : Writers W) (gives : Gives K) (at : At K) (port now : PortFacts) (out out' : W) (n : ℕ) : Type 0 where
+  pub replies : List Reply
+  pub leads : Leads s t (λ stamp. Fresh) gives at replies
+  pub passed : Passed port now (flat_map (passing_at port.addresses) replies)
+  pub lines : GoOut w out (map (λ (r : Reply). r.line) replies) out'
+  pub came : length replies ≡ n
+
+module _ {K W : Type 0} (s : Keepers K) (t : CommonView) (w : Writers W) where
+  pub none_hosted : (gives : Gives K) (at : At K) (port : PortFacts) (out : W) → ((stamp : List ℕ) → at stamp ≡ None) → HasHosted s t w gives at port port out out 0
+  none_hosted gives at port out none = record {
+    replies = [];
+    leads = record {
+      acts = [];
+      new = λ stamp. Fresh;
+      turns = record { each = λ stamp. refl; sorted = tt };
+      stand = λ stamp. subst (λ (o : Option (Seat K)). Stands s t (gives stamp) o Fresh) (sym (none stamp)) tt;
+      replies_are = refl;
+    };
+    passed = Passed-nil port;
+    lines = none_out w out;
+    came = refl;
+  }
+
+  -- what passes with one more reply
+  passed_more : (port now later : PortFacts) (replies : List Reply) (r : Reply) → Passed port now (flat_map (passing_at port.addresses) replies) → Passed now later (passing_at now.addresses r) → Passed port later (flat_map (passing_at port.addresses) (replies ++ r ∷ []))
+  passed_more port now later replies r before one =
+      let front : List Passing = flat_map (passing_at port.addresses) replies in
+      let joined : flat_map (passing_at port.addresses) (replies ++ r ∷ []) ≡ front ++ passing_at port.addresses r =
+      flat_map-append (passing_at port.addresses) replies (r ∷ []) ∙ ap (λ (l : List Passing). front ++ l) (append-nil (passing_at port.addresses r)) in
+      subst (Passed port later) (sym joined) (Passed-on port now later front (λ n. passing_at n r) before one)
+
+  lines_more : (replies : List Reply) (r : Reply) → map (λ (x : Reply). x.line) (replies ++ r ∷ []) ≡ map (λ (x : Reply). x.line) replies ++ r.line ∷ []
+  lines_more replies r = map-append (λ (x : Reply). x.line) replies (r ∷ [])
+
+  module _ (old new : Gives K) (at at' : At K) (port now later : PortFacts) (first out out' : W) (n : ℕ) (had : HasHosted s t w old at port now first out n) (line : List ℕ) where
+    pub more_hosted : Receives (LeadsFrom s t old at new at') now later line false → GoOut w out (line ∷ []) out' → HasHosted s t w new at' port later first out' (n + 1)
+    more_hosted one went =
+        let r = one.0 in
+        let before = had.came in
+        record {
+          replies = had.replies ++ r ∷ [];
+          leads = leads_join s t old new at at' (λ stamp. Fresh) had.replies (r ∷ []) had.leads one.1;
+          passed = passed_more port now later had.replies r had.passed one.3;
+          lines = subst (λ (ls : List (List ℕ)). GoOut w first ls out') (sym (lines_more had.replies r)) (go_join w first out out' _ (r.line ∷ []) had.lines (subst (λ (l : List ℕ). GoOut w out (l ∷ []) out') one.2 went));
+          came = length-append had.replies (r ∷ []) ∙ omega (arith, before);
+        }
+
+  pub seated_so : (gives : Gives K) (at : At K) (port now : PortFacts) (first out : W) (n : ℕ) → HasHosted s t w gives at port now first out n → AreSeated s t gives at
+  seated_so gives at port now first out n h = (h.leads.new, h.leads.stand)
+
+  -- all of a run, by what was hosted
+  hosts : (gives : Gives K) (at : At K) (port now later : PortFacts) (first out out' : W) (k n : ℕ) (lost : Bool) (ended : Result ℕ WriteFault) → (had : HasHosted s t w gives at port now first out k)
+      → Passed now later (missed_if lost) → (lost ≡ true → Risen now.faults later.faults) → Ends n had.replies lost ended → LinesEnd w first (map (λ (r : Reply). r.line) had.replies ++ lost_line lost) out' ended
+      → Hosts s t w n port later first out' ended
+  hosts gives at port now later first out out' k n lost ended had missed cause ends lines =
+      let count = had.passed.count in
+      record {
+        acts = had.leads.acts;
+        hosted = record { games = had.leads.new; each = had.leads.turns.each; sorted = had.leads.turns.sorted };
+        lost = lost;
+        passed = subst (λ (rs : List Reply). Passed port later (all_passing port.addresses rs lost)) (sym had.leads.replies_are) (Passed-trans port now later _ (missed_if lost) had.passed missed);
+        cause = λ is. Risen-later port.faults now.faults later.faults count (cause is);
+        ends = subst (λ (rs : List Reply). Ends n rs lost ended) (sym had.leads.replies_are) ends;
+        lines = subst (λ (rs : List Reply). LinesEnd w first (all_lines rs lost) out' ended) (sym had.leads.replies_are) lines;
+      }
+
+  never_lost : (a b : ℕ) → false ≡ true → Risen a b
+  never_lost a b e = absurd (let wrong : false ≡ true = e in cc)
+
+  -- all came
+  pub hosts_all : (gives : Gives K) (at : At K) (port now : PortFacts) (first out : W) (n : ℕ) → HasHosted s t w gives at port now first out n → Hosts s t w n port now first out (Ok 0)
+  hosts_all gives at port now first out n had =
+      hosts gives at port now now first out out n n false (Ok 0) had (Passed-nil now) (never_lost now.faults now.faults) (had.came, refl)
+      (subst (λ (ls : List (List ℕ)). GoOut w first ls out) (sym (append-nil (map (λ (r : Reply). r.line) had.replies))) had.lines)
+
+  module _ (gives : Gives K) (at : At K) (port now later : PortFacts) (first out out' : W) (k n : ℕ) (had : HasHosted s t w gives at port now first out k) (few : k < n) (line : List ℕ) where
+    -- the port is lost
+    pub hosts_until : (T : List Reply → Type 0) → Receives T now later line true → GoOut w out (line ∷ []) out' → Hosts s t w n port later first out' (Ok 1)
+    hosts_until T one went =
+        let came = had.came in
+        hosts gives at port now later first out out' k n true (Ok 1) had one.1 (λ _. one.2) (omega (arith, few, came), refl)
+        (go_join w first out out' _ (refused_port ∷ []) had.lines (subst (λ (l : List ℕ). GoOut w out (l ∷ []) out') one.0 went))
+
+    -- the line of a port that is lost is cut short
+    cut_at_loss : (T : List Reply → Type 0) (fault : WriteFault) → Receives T now later line true → LastIsCut w out (line ∷ []) out' → Hosts s t w n port later first out' (Err fault)
+    cut_at_loss T fault one cut =
+        let came = had.came in
+        let size : length (map (λ (r : Reply). r.line) had.replies) ≡ length had.replies = length-map had.replies (λ (r : Reply). r.line) in
+        let all : length (map (λ (r : Reply). r.line) had.replies ++ refused_port ∷ []) ≡ length (map (λ (r : Reply). r.line) had.replies) + 1 = length-append (map (λ (r : Reply). r.line) had.replies) (refused_port ∷ []) in
+        hosts gives at port now later first out out' k n true (Err fault) had one.1 (λ _. one.2) (omega (arith, few, came, size, all))
+        (cut_later w first out out' _ (refused_port ∷ []) had.lines (subst (λ (l : List ℕ). LastIsCut w out (l ∷ []) out') one.0 cut))
+
+  -- the line of a datagram is cut short
+  cut_at_reply : (old new : Gives K) (at at' : At K) (port now later : PortFacts) (first out out' : W) (k n : ℕ) → HasHosted s t w old at port now first out k → k < n → (line : List ℕ) (fault : WriteFault)
+      → Receives (LeadsFrom s t old at new at') now later line false → LastIsCut w out (line ∷ []) out' → Hosts s t w n port later first out' (Err fault)
+  cut_at_reply old new at at' port now later first out out' k n had few line fault one cut =
+      let r = one.0 in
+      let came = had.came in
+      let all : List Reply = had.replies ++ r ∷ [] in
+      let leads : Leads s t (λ stamp. Fresh) new at' all = leads_join s t old new at at' (λ stamp. Fresh) had.replies (r ∷ []) had.leads one.1 in
+      let passed : Passed port later (flat_map (passing_at port.addresses) all) = passed_more port now later had.replies r had.passed one.3 in
+      let lines : LastIsCut w first (map (λ (x : Reply). x.line) all) out' =
+      subst (λ (ls : List (List ℕ)). LastIsCut w first ls out') (sym (lines_more had.replies r)) (cut_later w first out out' _ (r.line ∷ []) had.lines (subst (λ (l : List ℕ). LastIsCut w out (l ∷ []) out') one.2 cut)) in
+      let size : length (map (λ (x : Reply). x.line) all) ≡ length all = length-map all (λ (x : Reply). x.line) in
+      let one_more : length all ≡ length had.replies + 1 = length-append had.replies (r ∷ []) in
+      let ends : length (map (λ (x : Reply). x.line) all) ≤ n = omega (arith, few, came, size, one_more) in
+      record {
+        acts = leads.acts;
+        hosted = record { games = leads.new; each = leads.turns.each; sorted = leads.turns.sorted };
+        lost = false;
+        passed = subst (λ (rs : List Reply). Passed port later (all_passing port.addresses rs false)) (sym leads.replies_are) (subst (Passed port later) (sym (append-nil (flat_map (passing_at port.addresses) all))) passed);
+        cause = never_lost port.faults later.faults;
+        ends = subst (λ (rs : List Reply). Ends n rs false (Err fault)) (sym leads.replies_are) (subst (λ (ls : List (List ℕ)). length ls ≤ n) (sym (append-nil (map (λ (x : Reply). x.line) all))) ends);
+        lines = subst (λ (rs : List Reply). LastIsCut w first (all_lines rs false) out') (sym leads.replies_are) (subst (λ (ls : List (List ℕ)). LastIsCut w first ls out') (sym (append-nil (map (λ (x : Reply). x.line) all))) lines);
+      }
+
+  pub hosts_cut : (old new : Gives K) (at at' : At K) (port now later : PortFacts) (first out out' : W) (k n : ℕ) → HasHosted s t w old at port now first out k → k < n → (line : List ℕ) (fault : WriteFault)
+      → (lost : Bool) → Receives (LeadsFrom s t old at new at') now later line lost → LastIsCut w out (line ∷ []) out' → Hosts s t w n port later first out' (Err fault)
+  hosts_cut old new at at' port now later first out out' k n had few line fault true one cut = cut_at_loss old at port now later first out out' k n had few line (LeadsFrom s t old at new at') fault one cut
+  hosts_cut old new at at' port now later first out out' k n had few line fault false one cut = cut_at_reply old new at at' port now later first out out' k n had few line fault one cut
+
+module _ {K W : Type 0} (s : Keepers K) (t : CommonView) (w : Writers W) (old new : Gives K) (at at' : At K) (port now later : PortFacts) (first out out' : W) (k : ℕ) (had : HasHosted s t w old at port now first out k) where
+  -- a turn after which the run goes on
+  pub more_by_turn : (told : Result Bool WriteFault) (lost : Bool) → TakesTurn (LeadsFrom s t old at new at') w now later out out' told → told ≡ Ok lost → lost ≡ false → HasHosted s t w new at' port later first out' (k + 1)
+  more_by_turn told lost x is on =
+      let lines : GoOut w out (x.line ∷ []) out' = subst (λ (r : Result Bool WriteFault). LinesEnd w out (x.line ∷ []) out' r) is x.lines in
+      let same : lost ≡ x.lost = subst (λ (r : Result Bool WriteFault). IfOk r (λ b. b ≡ x.lost)) is x.is in
+      let received : Receives (LeadsFrom s t old at new at') now later x.line false = subst (λ (b : Bool). Receives (LeadsFrom s t old at new at') now later x.line b) (sym same ∙ on) x.received in
+      more_hosted s t w old new at at' port now later first out out' k had x.line received lines
+
+  -- one at which the port is lost
+  pub ends_by_loss : (n : ℕ) → k < n → (told : Result Bool WriteFault) (lost : Bool) → TakesTurn (LeadsFrom s t old at new at') w now later out out' told → told ≡ Ok lost → lost ≡ true → Hosts s t w n port later first out' (Ok 1)
+  ends_by_loss n few told lost x is off =
+      let lines : GoOut w out (x.line ∷ []) out' = subst (λ (r : Result Bool WriteFault). LinesEnd w out (x.line ∷ []) out' r) is x.lines in
+      let same : lost ≡ x.lost = subst (λ (r : Result Bool WriteFault). IfOk r (λ b. b ≡ x.lost)) is x.is in
+      let received : Receives (LeadsFrom s t old at new at') now later x.line true = subst (λ (b : Bool). Receives (LeadsFrom s t old at new at') now later x.line b) (sym same ∙ off) x.received in
+      hosts_until s t w old at port now later first out out' k n had few x.line (LeadsFrom s t old at new at') received lines
+
+  -- one whose line is cut short
+  pub ends_by_cut : (n : ℕ) → k < n → (told : Result Bool WriteFault) (fault : WriteFault) → TakesTurn (LeadsFrom s t old at new at') w now later out out' told → told ≡ Err fault → Hosts s t w n port later first out' (Err fault)
+  ends_by_cut n few told fault x is =
+      let lines : LastIsCut w out (x.line ∷ []) out' = subst (λ (r : Result Bool WriteFault). LinesEnd w out (x.line ∷ []) out' r) is x.lines in
+      hosts_cut s t w old new at at' port now later first out out' k n had few x.line fault x.lost x.received lines

@@ -1,0 +1,14 @@
+pub mod OneLines
+pub mod CutLines
+pub mod Digits
+pub mod GameTexts
+pub mod GameLaws
+pub mod Rooms
+pub mod Lines
+pub mod Turning
+pub mod Handing
+pub mod Opening
+pub mod Answering
+pub mod Seating
+pub mod Hosted
+pub mod Histories

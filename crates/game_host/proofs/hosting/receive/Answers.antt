@@ -1,0 +1,12 @@
+use Rattle.std.proofs.Common.{take, refl}
+use Rattle.game_host.specs.Turns.{reply_of}
+use Rattle.game_host.proofs.Hosted.{came_and_sent}
+use Rattle.game_host.proofs.hosting.receive.Goals as goal
+
+pub returns-in-Ok-clause-received : goal.returns-in-Ok-clause-received
+returns-in-Ok-clause-received g c =
+    let r = reply_of (take c.in-Ok.length c.receive.new.buffer) c.hear-told.result.0 in
+    (r, c.hear-told.ensures.turns, refl, came_and_sent (g.P.Port.facts c.args.port.now) (g.P.Port.facts c.receive.new.self) (g.P.Port.facts c.send_all.new.port) r c.in-Ok.ensures.came (rw c.as_slice.ensures at c.send_all.ensures))
+
+pub returns-in-Err-clause-received : goal.returns-in-Err-clause-received
+returns-in-Err-clause-received g c = (refl, c.in-Err.ensures.missed, c.in-Err.ensures.cause)

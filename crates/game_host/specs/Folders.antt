@@ -1,0 +1,42 @@
+-- What a folder of games tells and gives (this project's own).
+use Rattle.std.specs.Prelude.{◌≡◌, ℕ, false, List}
+use Rattle.std.specs.Str.{bytes_eq}
+use Rattle.arbiter_core.specs.Keeping.{KeeperFacts}
+use Rattle.game_host.specs.declared.fault.Unopened.{Unopened}
+use Rattle.game_host.specs.declared.games.Found.{Found}
+
+-- which keepers may be given next, by stamps
+abbrev pub Gives : Type 0 → Type 1
+Gives K = List ℕ → K → Type 0
+
+-- all games but this one are given as before, or less
+abbrev pub GivesOthers : {K : Type 0} → List ℕ → Gives K → Gives K → Type 0
+GivesOthers {K = K} stamp old new = (other : List ℕ) → bytes_eq stamp other ≡ false → (keeper : K) → new other keeper → old other keeper
+
+-- all are
+abbrev pub GivesLess : {K : Type 0} → Gives K → Gives K → Type 0
+GivesLess {K = K} old new = (other : List ℕ) (keeper : K) → new other keeper → old other keeper
+
+-- what is known of folders of a type, with keepers of a type
+pub record FolderFacts (G K : Type 0) : Type 1 where
+  -- it may tell this of the game with this stamp
+  pub tells : List ℕ → Found → Type 0
+  -- it may refuse the game with this stamp so
+  pub refuses : List ℕ → Unopened → Type 0
+  -- it is a keeper of the game with this stamp
+  pub is_of : List ℕ → K → Type 0
+  -- the second is a keeper over what the first one left
+  pub follows : K → K → Type 0
+  -- which keeper the folder may give next
+  pub gives : G → Gives K
+
+-- the same of keepers alone, with what they tell of themselves
+pub record Keepers (K : Type 0) : Type 1 where
+  pub facts : KeeperFacts K
+  pub tells : List ℕ → Found → Type 0
+  pub refuses : List ℕ → Unopened → Type 0
+  pub is_of : List ℕ → K → Type 0
+  pub follows : K → K → Type 0
+
+abbrev pub keepers : {G K : Type 0} → KeeperFacts K → FolderFacts G K → Keepers K
+keepers facts folder = record { facts = facts; tells = folder.tells; refuses = folder.refuses; is_of = folder.is_of; follows = folder.follows }

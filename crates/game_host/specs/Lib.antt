@@ -1,0 +1,13 @@
+pub mod Inside
+pub mod GameFiles
+pub mod GameFolders
+pub mod DiskGames
+pub mod Room
+pub mod Folders
+pub mod Told
+pub mod Acts
+pub mod Games
+pub mod Hosts
+pub mod Laws
+pub mod Seats
+pub mod Turns

@@ -1,0 +1,78 @@
+-- From one moment of a host to a later one; cited by private clauses alone.
+use Rattle.std.specs.Prelude.{◌≡◌, ℕ, Bool, true, false, List, [], ◌∷◌, Some, None, Result, IfOk}
+use Rattle.std.specs.List.{AllByRecursion}
+use Rattle.arbiter_core.specs.Keeping.{KeeperFacts}
+use Rattle.system_io.specs.Failures.{Risen}
+use Rattle.system_io.specs.Ports.{Missed, Passed, PortFacts}
+use Rattle.system_io.specs.declared.output.WriteFault.{WriteFault}
+use Rattle.arbiter_service.specs.GoingOut.{LinesEnd, Writers}
+use Rattle.arbiter_service.specs.ServedLines.{refused_port}
+use Rattle.game_host.specs.declared.fault.Unopened.{Unopened}
+use Rattle.game_host.specs.declared.seat.Seat.{Seat}
+use Rattle.game_host.specs.Folders.{FolderFacts, Gives, GivesOthers, Keepers, keepers}
+use Rattle.game_host.specs.declared.turn.Answered.{Answered}
+use Rattle.game_host.specs.Told.{line_words}
+use Rattle.game_host.specs.Acts.{Act, IsSorted, Reply, acts_of, all_replies, passing_at, stamp_for, unopened}
+use Rattle.game_host.specs.Games.{CommonView, Goes}
+use Rattle.game_host.specs.Seats.{At, AreLives, AreSeated, IsSeated, Lives, in_hand}
+
+-- the acts of each game lead from its old life to its new one, whatever stands between them
+pub record Each {K : Type 0} (s : Keepers K) (t : CommonView) (old new : Lives K) (acts : List (Act K)) : Type 0 where
+  pub each : (stamp : List ℕ) → Goes s t stamp (old stamp) (acts_of stamp acts) (new stamp)
+  pub sorted : AllByRecursion IsSorted acts
+
+-- some acts lead from these lives to where the games are now, with these replies
+pub record Leads {K : Type 0} (s : Keepers K) (t : CommonView) (old : Lives K) (gives : Gives K) (at : At K) (replies : List Reply) : Type 0 where
+  pub acts : List (Act K)
+  pub new : Lives K
+  pub turns : Each s t old new acts
+  pub stand : AreLives s t gives at new
+  pub replies_are : all_replies acts ≡ replies
+
+-- so they do for all lives for which the games stood before
+abbrev pub LeadsFrom : {K : Type 0} → Keepers K → CommonView → Gives K → At K → Gives K → At K → List Reply → Type 0
+LeadsFrom {K = K} s t gives at gives' at' replies = (lives : Lives K) → AreLives s t gives at lives → Leads s t lives gives' at' replies
+
+-- the same of a folder before and after
+abbrev pub Turns : {G K : Type 0} → KeeperFacts K → FolderFacts G K → CommonView → G → At K → G → At K → List Reply → Type 0
+Turns facts folder t games at games' at' replies = LeadsFrom (keepers facts folder) t (folder.gives games) at (folder.gives games') at' replies
+
+-- the open games stand for some lives
+abbrev pub AreOpen : {G K : Type 0} → KeeperFacts K → FolderFacts G K → CommonView → G → At K → Type 0
+AreOpen facts folder t games at = AreSeated (keepers facts folder) t (folder.gives games) at
+
+-- a game that isn't open is opened, and in hand
+pub record OpensSeat {G K : Type 0} (facts : KeeperFacts K) (folder : FolderFacts G K) (t : CommonView) (games games' : G) (stamp : List ℕ) (seat : Seat K) : Type 0 where
+  pub seated : IsSeated facts t.set seat
+  pub turns : (at : At K) → at stamp ≡ None → Turns facts folder t games at games' (in_hand stamp (Some seat) at) []
+
+-- or it isn't, and its datagram is refused so
+abbrev pub RefusesSeat : {G K : Type 0} → KeeperFacts K → FolderFacts G K → CommonView → G → G → List ℕ → Unopened → Type 0
+RefusesSeat {K = K} facts folder t games games' stamp why =
+    (at : At K) (datagram : List ℕ) → at stamp ≡ None → stamp_for datagram ≡ Some stamp → Turns facts folder t games at games' at (unopened stamp datagram why ∷ [])
+
+-- the keeper of a game is given back: what the folder gives next of it is over what this one left, and of the others no more
+pub record Closes {G K : Type 0} (folder : FolderFacts G K) (games games' : G) (stamp : List ℕ) (left : K) : Type 0 where
+  pub next : (next : K) → folder.gives games' stamp next → folder.follows left next
+  pub others : GivesOthers stamp (folder.gives games) (folder.gives games')
+
+-- the reply to a datagram
+abbrev pub reply_of : List ℕ → Answered → Reply
+reply_of datagram r = record { datagram = datagram; outputs = r.outputs.items; line = line_words r.line }
+
+-- with these replies something goes on
+abbrev pub Going : Type 1
+Going = List Reply → Type 0
+
+-- a datagram came and was answered, and this is its line; or the port is lost
+abbrev pub Receives : Going → PortFacts → PortFacts → List ℕ → Bool → Type 0
+Receives turns port port' line false = (r : Reply) × turns (r ∷ []) × (line ≡ r.line) × Passed port port' (passing_at port.addresses r)
+Receives turns port port' line true = (line ≡ refused_port) × Passed port port' (Missed ∷ []) × Risen port.faults port'.faults
+
+-- so it was, and the line has gone out or was cut short
+pub record TakesTurn {W : Type 0} (turns : Going) (w : Writers W) (port port' : PortFacts) (out out' : W) (told : Result Bool WriteFault) : Type 0 where
+  pub line : List ℕ
+  pub lost : Bool
+  pub received : Receives turns port port' line lost
+  pub lines : LinesEnd w out (line ∷ []) out' told
+  pub is : IfOk told (λ x. x ≡ lost)

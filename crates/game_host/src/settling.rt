@@ -1,0 +1,57 @@
+//! How a game is closed, and how it stays open.
+
+ghost use Rattle.std.specs.Prelude.{◌≡◌, ◌<◌, [], ℕ, List, None, Some, length, false, true};
+ghost use Rattle.game_host.specs.Folders.{GivesOthers};
+ghost use Rattle.game_host.specs.Room.{at_stamp};
+ghost use Rattle.game_host.specs.Games.{CommonView};
+ghost use Rattle.game_host.specs.Seats.{Evicts, in_hand};
+ghost use Rattle.game_host.specs.Turns.{Closes, Turns};
+
+use crate::games::Games;
+use crate::room::{least_used, put_in};
+use crate::seat::Seat;
+use lru::LruCache;
+
+/// Closes a game: its keeper is given back.
+pub(crate) fn close<'a, G: Games>(games: &mut G, stamp: &[u8; 16], seat: Seat<'a, G::Keeper>)
+    ensures { Closes G.facts games.old games.new stamp.now seat.entry.keeper }
+{
+    let Seat { resting: _, keeper } = seat;
+    games.give_back(stamp, keeper);
+}
+
+/// Closes the game that was used least recently, where there is no room for one more.
+fn make_room<'a, G: Games>(games: &mut G, seats: &mut LruCache<[u8; 16], Seat<'a, G::Keeper>>)
+    ensures closes { Evicts G.facts.follows (G.facts.gives games.old) (at_stamp seats.old.entries) (G.facts.gives games.new) (at_stamp seats.new.entries) }
+    ensures room { length seats.new.entries < seats.new.cap }
+{
+    match least_used(seats) {
+        None => {}
+        Some(least) => {
+            let stamp = least.0;
+            close(games, &stamp, least.1);
+        }
+    }
+}
+
+/// Keeps a game open that has answered; or closes it where its keeper failed, or memory for it is refused.
+pub(crate) fn settle<'a, G: Games>(
+    games: &mut G,
+    seats: &mut LruCache<[u8; 16], Seat<'a, G::Keeper>>,
+    stamp: &[u8; 16],
+    seat: Seat<'a, G::Keeper>,
+)
+    requires { at_stamp seats.old.entries stamp.now ≡ None }
+    ensures runs { seat.entry.resting.is_down ≡ false → (t : CommonView) → Turns G.Keeper.facts G.facts t games.old (in_hand stamp.now (Some seat.entry) (at_stamp seats.old.entries)) games.new (at_stamp seats.new.entries) [] }
+    ensures down { seat.entry.resting.is_down ≡ true → Closes G.facts games.old games.new stamp.now seat.entry.keeper × (seats.new ≡ seats.old) }
+{
+    if seat.resting.is_down() {
+        close(games, stamp, seat);
+        return;
+    }
+    make_room(games, seats);
+    match put_in(seats, *stamp, seat) {
+        Ok(()) => {}
+        Err(seat) => close(games, stamp, seat),
+    }
+}
