@@ -1,0 +1,3 @@
+pub mod GameSeats
+pub mod Seats
+pub mod Values

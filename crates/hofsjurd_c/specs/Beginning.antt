@@ -1,0 +1,13 @@
+-- Games that are begun in a handle.
+use Rattle.std.specs.Prelude.{◌≡◌, ◌⊎◌, ℕ, List, Option, Some, None, Ok, Err, pos}
+use Rattle.judge_core.specs.Tables.{Tables}
+use Rattle.probe_api.specs.Plays.{Begins}
+use Rattle.probe_api.specs.Replies.{told, refused, verdict_number}
+use Rattle.probe_api.specs.declared.reply.Reply.{Reply}
+use Rattle.hofsjurd_c.specs.declared.held.HeldGame.{HeldGame}
+
+-- the handle holds a game that was begun, and its first verdict is told with status 0; or it holds none, and the status is that of the
+-- refusal, or 5 where memory was refused
+pub record BeginsIn (tables : Tables) (text : List ℕ) (delay : ℕ) (reply : Reply) (new : Option HeldGame) : Type 0 where
+  pub game : (held : HeldGame) → new ≡ Some held → Begins tables text delay (Ok held.game) × (reply ≡ told (pos (verdict_number held.game.verdict)))
+  pub none : new ≡ None → (reply ≡ refused 5) ⊎ ((status : ℕ) × (reply ≡ refused status) × Begins tables text delay (Err status))

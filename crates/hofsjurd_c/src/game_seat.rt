@@ -1,0 +1,59 @@
+//! Room for the pointer of a boxed game, in a form that C can keep.
+
+ghost use Rattle.std.specs.Prelude.{◌≡◌, Option, None, Some, IsSome};
+ghost use Rattle.hofsjurd_c.specs.Owned.{game_seat_owns};
+ghost use Rattle.hofsjurd_c.specs.declared.held.HeldGame.{HeldGame};
+
+use crate::held::HeldGame;
+use crate::loose::Loose;
+use std::alloc::Global;
+use std::marker::Model;
+
+/// A pointer without a type. It owns a box where `value` tells one, and nothing otherwise.
+#[repr(C)]
+#[derive(Drop)]
+pub struct GameSeat {
+    at: *mut u8,
+    alloc: Global,
+    /// What stands there.
+    pub ghost value: { Option HeldGame },
+}
+
+impl Model for GameSeat {
+    ghost also_owns = { λ s. game_seat_owns s.alloc s.at s.value };
+}
+
+impl GameSeat {
+    /// A seat with a null pointer, which owns nothing.
+    pub(crate) fn empty(alloc: Global) -> GameSeat
+        ensures { result.value ≡ None }
+    {
+        GameSeat {
+            at: std::ptr::null_mut(),
+            alloc,
+        }
+    }
+
+    /// A seat that owns the box.
+    pub(crate) fn of(loose: Loose<HeldGame, Global>) -> GameSeat
+        ensures { result.value ≡ Some loose.value }
+    {
+        let Loose { at, alloc } = loose;
+        GameSeat {
+            at: at as *mut u8,
+            alloc,
+        }
+    }
+
+    /// The box that the seat owns.
+    pub(crate) fn into_loose(self) -> Loose<HeldGame, Global>
+        requires { IsSome self.value }
+        ensures { self.value ≡ Some result.value }
+    {
+        let GameSeat { at, alloc } = self;
+        Loose {
+            at: at as *mut HeldGame,
+            alloc,
+        }
+    }
+}

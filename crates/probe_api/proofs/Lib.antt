@@ -1,0 +1,6 @@
+pub mod Placing
+pub mod Playing
+pub mod Showing
+pub mod Telling
+pub mod Texts
+pub mod Writing

@@ -1,0 +1,21 @@
+use Rattle.std.proofs.Common.{refl, inl, inr}
+use Rattle.probe_api.specs.Moves.{IsMoveOf}
+use Rattle.probe_api.specs.Plays.{TellsMove}
+use Rattle.probe_api.proofs.Telling.{of_move, of_none}
+use Rattle.probe_api.proofs.game.tell_numbers.Goals as goal
+
+pub returns-in-Some-clause-is : goal.returns-in-Some-clause-is
+returns-in-Some-clause-is c = record {
+  move = of_move (IsMoveOf c.args.numbers) (λ x. TellsMove c.args.set.now.tables x c.args.game.now c.tell.result c.tell.new.game) c.to_move.result c.in-Some.m c.in-Some.is c.to_move.ensures.only c.tell.ensures.is;
+  none = λ no. absurd (no c.in-Some.m c.in-Some.ensures.some);
+  one = inl (c.in-Some.m, c.in-Some.ensures.some);
+  kept = c.tell.ensures.is.kept;
+}
+
+pub returns-in-None-clause-is : goal.returns-in-None-clause-is
+returns-in-None-clause-is c = record {
+  move = of_none (IsMoveOf c.args.numbers) (λ x. TellsMove c.args.set.now.tables x c.args.game.now c.refused.result c.args.game.now) c.to_move.result c.in-None.is c.to_move.ensures.only;
+  none = λ _. (c.refused.ensures, refl);
+  one = inr (of_none (IsMoveOf c.args.numbers) (λ _. ⊥) c.to_move.result c.in-None.is c.to_move.ensures.only);
+  kept = λ _. refl;
+}

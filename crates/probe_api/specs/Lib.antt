@@ -1,0 +1,9 @@
+pub mod Adding
+pub mod Batches
+pub mod Boards
+pub mod Moves
+pub mod Names
+pub mod Plays
+pub mod Replies
+pub mod Texts
+pub mod Version

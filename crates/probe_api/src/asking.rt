@@ -1,0 +1,101 @@
+//! Probes of a position, and of a position's text.
+
+ghost use Rattle.std.specs.Prelude.{◌≡◌};
+ghost use Rattle.judge_core.specs.Probed.{numbered};
+ghost use Rattle.probe_api.specs.Replies.{Tells, TellsBoard, TellsText, TellsWdl, TellsDtz, TellsVerdict};
+
+use crate::board::{Board, position_on};
+use crate::reply::{Reply, fen_status, position_status, probed, verdict_number};
+use board_core::Position;
+use fen_text::read;
+use judge_core::{ProbeFault, Set, Wdl};
+use std::alloc::Global;
+
+/// What is asked of a position.
+#[derive(Clone, Copy)]
+pub enum Question {
+    /// The value by the WDL tables.
+    Wdl,
+    /// The distance by the DTZ tables.
+    Dtz,
+    /// The verdict.
+    Verdict,
+}
+
+/// The number that a WDL probe tells.
+fn number_in(wdl: Result<Wdl, ProbeFault>) -> Result<i32, ProbeFault>
+    ensures { result ≡ numbered wdl }
+{
+    match wdl {
+        Ok(value) => Ok(i32::from(value.number())),
+        Err(fault) => Err(fault),
+    }
+}
+
+/// The WDL value.
+fn wdl(alloc: Global, set: &mut Set<'_>, position: &Position) -> Reply
+    ensures is { TellsWdl set.old.tables position.now result }
+    ensures kept { set.new ≡ set.old }
+{
+    let wdl = set.wdl(alloc, position);
+    probed(number_in(wdl))
+}
+
+/// The distance in plies.
+fn dtz(alloc: Global, set: &mut Set<'_>, position: &Position) -> Reply
+    ensures is { TellsDtz set.old.tables position.now result }
+    ensures kept { set.new ≡ set.old }
+{
+    let dtz = set.dtz(alloc, position);
+    probed(dtz)
+}
+
+/// The verdict's number, 0 where the game goes on.
+fn verdict(alloc: Global, set: &mut Set<'_>, position: &Position) -> Reply
+    ensures is { TellsVerdict set.old.tables position.now result }
+    ensures kept { set.new ≡ set.old }
+{
+    match set.judge(alloc, position) {
+        Ok(verdict) => Reply::told(verdict_number(verdict)),
+        Err(_) => Reply::refused(5),
+    }
+}
+
+/// What is asked of a position.
+pub(crate) fn answer(
+    alloc: Global,
+    set: &mut Set<'_>,
+    question: Question,
+    position: &Position,
+) -> Reply
+    ensures is { Tells question set.old.tables position.now result }
+    ensures kept { set.new ≡ set.old }
+{
+    match question {
+        Question::Wdl => wdl(alloc, set, position),
+        Question::Dtz => dtz(alloc, set, position),
+        Question::Verdict => verdict(alloc, set, position),
+    }
+}
+
+/// What is asked of the position that a text spells, or the fault of the text.
+pub fn answer_text(alloc: Global, set: &mut Set<'_>, question: Question, text: &[u8]) -> Reply
+    ensures is { TellsText question set.old.tables text.now result }
+    ensures kept { set.new ≡ set.old }
+{
+    match read(text) {
+        Ok(position) => answer(alloc, set, question, &position),
+        Err(fault) => Reply::refused(fen_status(fault)),
+    }
+}
+
+/// What is asked of the position that a board shows, or the first fault of what it shows.
+pub fn answer_board(alloc: Global, set: &mut Set<'_>, question: Question, board: &Board) -> Reply
+    ensures is { TellsBoard question set.old.tables board.now result }
+    ensures kept { set.new ≡ set.old }
+{
+    match position_on(board) {
+        Ok(position) => answer(alloc, set, question, &position),
+        Err(fault) => Reply::refused(position_status(fault)),
+    }
+}
