@@ -1,4 +1,4 @@
-//! The adjudicator's program: it hands the system to `adjudicate_core`, and ends with the status.
+//! The adjudicator's program: it passes the system to `adjudicate_core`, and ends with the status.
 #![tactic(auto)]
 
 use adjudicate_core::{WordsFault, refuse_memory, run_program};
@@ -26,7 +26,7 @@ fn bytes_of(rt: &HostRuntime, place: usize) -> Result<Option<Vec<u8>>, WordsFaul
     Ok(None)
 }
 
-/// The first word that is no text.
+/// The first word that is not UTF-8.
 fn no_text(rt: &HostRuntime) -> Result<Vec<u8>, WordsFault> {
     for place in 0..usize::MAX {
         match bytes_of(rt, place)? {
@@ -47,8 +47,7 @@ fn words_of(rt: &HostRuntime) -> Result<Vec<String>, WordsFault> {
     }
 }
 
-/// Runs the program, and ends with its status, 1 where the output can't be written. Its lines are gathered before they are
-/// written.
+/// Runs the program, and ends with its status, 1 where the output can't be written. Its output is buffered.
 fn main(rt: HostRuntime) -> ExitCode {
     let Ok(mut out) = BufferedOutput::new(rt.alloc(), io::writer(&rt)) else {
         return ExitCode::from(refuse_memory(&mut io::writer(&rt)).unwrap_or(1));

@@ -1,18 +1,23 @@
 -- Answers that are written all at once.
-use Rattle.std.proofs.Common.{ℕ, List, Option, refl}
+use Rattle.std.proofs.Common.{ℕ, List, [], ◌∷◌, Option, refl, subst, sym}
 use Rattle.std.specs.Prelude.{Result, Ok, Err, IfOk, IsErrOf, OnErr}
 use Rattle.adjudicate_core.specs.declared.answers.Answer.{Answer}
 use Rattle.adjudicate_core.specs.Inside.Asked.{PutsAnswered, PutsRead, reply_of}
 use Rattle.adjudicate_core.specs.Reply.{AnswersOnce, AnswersRead, NoRoomToRead, ReadAll, Refused, Replied, Reply, Unread}
 use Rattle.adjudicate_core.specs.Given.{Given}
-use Rattle.adjudicate_core.specs.Listens.{AtFile, BadStart, BadTables, BindsAndServes, Bound, Hosted, Kept, KeepsAndServes, Listens, NoRoom, NoRoomForFile, NoRoomToBind, NoRoomToKeep, Opened, OpensAndServes, Served, ServesAt, Unbound, Unopened, Unreadable as Unkept, serving_to, setup_for, writing_to}
+use Rattle.adjudicate_core.specs.Listens.{AtFile, BadStart, BadTables, BindsAndServes, Bound, Hosted, Kept, KeepsAndServes, Listens, NoAddress, NoRoom, NoRoomForFile, NoRoomForLine, NoRoomToBind, NoRoomToKeep, Opened, OpensAndServes, Ready, Served, ServesAt, StartsAt, Unasked, Unbound, Unopened, Unreadable as Unkept, Unready, seen_as, seen_by, serving_to, setup_for, writing_to}
+use Rattle.adjudicate_core.specs.Lines.{ready_words}
+use Rattle.move_msg.specs.TextLines.{ended}
+use Rattle.std.specs.Io.KnownBytes.{Appends}
 use Rattle.adjudicate_core.specs.declared.commands.listen.Listen.{Listen}
 use Rattle.arbiter_core.specs.Setups.{SetupView}
-use Rattle.arbiter_service.specs.GoingOut.{Writers}
+use Rattle.arbiter_service.specs.GoingOut.{GoOut, Writers}
 use Rattle.arbiter_service.specs.Serving.{Scene, scene}
 use Rattle.arbiter_service.specs.declared.file_keeper.FileKeeper.{FileKeeper}
 use Rattle.system_io.specs.Ports.{PortFacts}
 use Rattle.adjudicate_core.specs.Sends.{Sends}
+use Rattle.adjudicate_core.specs.Enters.{Enters}
+use Rattle.adjudicate_core.specs.declared.commands.enter.Enter.{Enter}
 use Rattle.adjudicate_core.specs.declared.commands.send.Send.{Send}
 use Rattle.system_io.specs.Disks.{DiskFacts}
 use Rattle.system_io.specs.Inputs.{InputFacts}
@@ -53,32 +58,48 @@ pub sent : {P F : Type 0} (disk : DiskFacts) (source : InputFacts) (host : Hoste
 sent disk source host t old new (Ok status) h = h
 sent disk source host t old new (Err fault) h = tt
 
+-- so it is where a game is entered
+pub entered : {P F : Type 0} (disk : DiskFacts) (host : Hosted P F) (t : Enter) (old new : Option (List ℕ)) (r : Result ℕ WriteFault) → Enters disk host t old new r → IfOk r (λ status. Enters disk host t old new (Ok status))
+entered disk host t old new (Ok status) h = h
+entered disk host t old new (Err fault) h = tt
+
 -- by an arbiter: what holds with its writer holds of what is written
-module _ {P F W : Type 0} (host : Hosted P F) (w : Writers W) (out out' : W) (status : ℕ) (l : Listen) where
-  opened_done : (setup : SetupView) (old new : Scene (FileKeeper F)) → OpensAndServes host.file (writing_to host.file w out out' (Ok status)) l setup old new (Ok status) → OpensAndServes host.file (serving_to host.file (Ok status)) l setup old new (Ok status)
-  opened_done setup old new (Served h) = Served h.serves
-  opened_done setup old new (Unopened fault opened nothing told) = Unopened fault opened nothing told
+module _ {P F W : Type 0} (host : Hosted P F) (w : Writers W) (status : ℕ) (l : Listen) where
+  opened_done : (out out' : W) (setup : SetupView) (old new : Scene (FileKeeper F)) → OpensAndServes host.file (writing_to host.file w out out' (Ok status)) l setup old new (Ok status) → OpensAndServes host.file (serving_to host.file (Ok status)) l setup old new (Ok status)
+  opened_done out out' setup old new (Served h) = Served h.serves
+  opened_done out out' setup old new (Unopened fault opened nothing told) = Unopened fault opened nothing told
 
-  kept_done : (setup : SetupView) (file : F) (port port' : PortFacts) (old new : Option (List ℕ)) → KeepsAndServes host.file (writing_to host.file w out out' (Ok status)) l setup file port port' old new (Ok status) → KeepsAndServes host.file (serving_to host.file (Ok status)) l setup file port port' old new (Ok status)
-  kept_done setup file port port' old new (Unkept why nothing told) = Unkept why nothing told
-  kept_done setup file port port' old new (NoRoomToKeep why nothing told) = NoRoomToKeep why nothing told
-  kept_done setup file port port' old new (Kept keeper after starts h) = Kept keeper after starts (opened_done setup (scene keeper port old) (scene after port' new) h)
+  kept_done : (out out' : W) (setup : SetupView) (file : F) (port port' : PortFacts) (old new : Option (List ℕ)) → KeepsAndServes host.file (writing_to host.file w out out' (Ok status)) l setup file port port' old new (Ok status) → KeepsAndServes host.file (serving_to host.file (Ok status)) l setup file port port' old new (Ok status)
+  kept_done out out' setup file port port' old new (Unkept why nothing told) = Unkept why nothing told
+  kept_done out out' setup file port port' old new (NoRoomToKeep why nothing told) = NoRoomToKeep why nothing told
+  kept_done out out' setup file port port' old new (Kept keeper after starts h) = Kept keeper after starts (opened_done out out' setup (scene keeper port old) (scene after port' new) h)
 
-  at_done : (setup : SetupView) (port port' : PortFacts) (old new : Option (List ℕ)) → ServesAt host (writing_to host.file w out out' (Ok status)) l setup port port' old new (Ok status) → ServesAt host (serving_to host.file (Ok status)) l setup port port' old new (Ok status)
-  at_done setup port port' old new (AtFile file there h) = AtFile file there (kept_done setup file port port' old new h)
-  at_done setup port port' old new (NoRoomForFile why nothing told) = NoRoomForFile why nothing told
+  at_done : (out out' : W) (setup : SetupView) (port port' : PortFacts) (old new : Option (List ℕ)) → ServesAt host (writing_to host.file w out out' (Ok status)) l setup port port' old new (Ok status) → ServesAt host (serving_to host.file (Ok status)) l setup port port' old new (Ok status)
+  at_done out out' setup port port' old new (AtFile file there h) = AtFile file there (kept_done out out' setup file port port' old new h)
+  at_done out out' setup port port' old new (NoRoomForFile why nothing told) = NoRoomForFile why nothing told
 
-  bound_done : (setup : SetupView) (old new : Option (List ℕ)) → BindsAndServes host (writing_to host.file w out out' (Ok status)) l setup old new (Ok status) → BindsAndServes host (serving_to host.file (Ok status)) l setup old new (Ok status)
-  bound_done setup old new (Unbound why told) = Unbound why told
-  bound_done setup old new (NoRoomToBind why told) = NoRoomToBind why told
-  bound_done setup old new (Bound port port' bound each h) = Bound port port' bound each (at_done setup (host.port port) (host.port port') old new h)
+  line_done : (out mid : W) (line : List ℕ) → GoOut w out (line ∷ []) mid → Appends (w.written out) (w.written mid) (ended line)
+  unfolding GoOut
+  line_done out mid line (next, goes, same) = subst (λ (x : W). Appends (w.written out) (w.written x) (ended line)) (sym same) goes.whole
 
-  all_done : (given : Given) (old new : Option (List ℕ)) → Listens host (writing_to host.file w out out' (Ok status)) l given old new (Ok status) → Listens host (serving_to host.file (Ok status)) l given old new (Ok status)
-  all_done given old new (BadStart fault first told) = BadStart fault first told
-  all_done given old new (BadTables text words refused told) = BadTables text words refused told
-  all_done given old new (NoRoom text told) = NoRoom text told
-  all_done given old new (Opened start spells legal set tables manifest is h) = Opened start spells legal set tables manifest is (bound_done (setup_for l start set manifest) old new h)
+  start_done : (setup : SetupView) (port : P) (port' : PortFacts) (out out' : W) → StartsAt host (seen_by host.file w (Ok status)) l setup port port' out out' (Ok status) → StartsAt host (seen_as host.file (Ok status)) l setup port port' (w.written out) (w.written out') (Ok status)
+  start_done setup port port' out out' (Unasked off h) = Unasked off (at_done out out' setup (host.port port) port' (w.written out) (w.written out') h)
+  start_done setup port port' out out' (NoAddress on none nothing told) = NoAddress on none nothing told
+  start_done setup port port' out out' (NoRoomForLine on nothing told) = NoRoomForLine on nothing told
+  start_done setup port port' out out' (Ready on own is mid gone h) = Ready on own is (w.written mid) (line_done out mid (ready_words own) gone) (at_done mid out' setup (host.port port) port' (w.written mid) (w.written out') h)
+  start_done setup port port' out out' (Unready on own is nothing cut fault failed) = Unready on own is nothing tt fault failed
 
-pub listened : {P F W : Type 0} (host : Hosted P F) (w : Writers W) (out out' : W) (l : Listen) (given : Given) (old new : Option (List ℕ)) (r : Result ℕ WriteFault) → Listens host (writing_to host.file w out out' r) l given old new r → IfOk r (λ status. Listens host (serving_to host.file (Ok status)) l given old new (Ok status))
-listened host w out out' l given old new (Ok status) h = all_done host w out out' status l given old new h
-listened host w out out' l given old new (Err fault) h = tt
+  bound_done : (setup : SetupView) (out out' : W) → BindsAndServes host (seen_by host.file w (Ok status)) l setup out out' (Ok status) → BindsAndServes host (seen_as host.file (Ok status)) l setup (w.written out) (w.written out') (Ok status)
+  bound_done setup out out' (Unbound why told) = Unbound why told
+  bound_done setup out out' (NoRoomToBind why told) = NoRoomToBind why told
+  bound_done setup out out' (Bound port port' bound each h) = Bound port port' bound each (start_done setup port (host.port port') out out' h)
+
+  all_done : (given : Given) (out out' : W) → Listens host (seen_by host.file w (Ok status)) l given out out' (Ok status) → Listens host (seen_as host.file (Ok status)) l given (w.written out) (w.written out') (Ok status)
+  all_done given out out' (BadStart fault first told) = BadStart fault first told
+  all_done given out out' (BadTables text words refused told) = BadTables text words refused told
+  all_done given out out' (NoRoom text told) = NoRoom text told
+  all_done given out out' (Opened start spells legal set tables manifest is h) = Opened start spells legal set tables manifest is (bound_done (setup_for l start set manifest) out out' h)
+
+pub listened : {P F W : Type 0} (host : Hosted P F) (w : Writers W) (out out' : W) (l : Listen) (given : Given) (r : Result ℕ WriteFault) → Listens host (seen_by host.file w r) l given out out' r → IfOk r (λ status. Listens host (seen_as host.file (Ok status)) l given (w.written out) (w.written out') (Ok status))
+listened host w out out' l given (Ok status) h = all_done host w status l given out out' h
+listened host w out out' l given (Err fault) h = tt

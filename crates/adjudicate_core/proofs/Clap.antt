@@ -22,3 +22,5 @@ is_simple name.Record = refl
 is_simple name.Audit = refl
 is_simple name.Version = refl
 is_simple name.Send = refl
+is_simple name.Enter = refl
+is_simple name.Host = refl

@@ -7,8 +7,10 @@ pub mod TableLaws
 pub mod TextLaws
 pub mod ShowLaws
 pub mod ScheduleLaws
+pub mod HostLaws
 pub mod LookLaws
 pub mod AuditLaws
 pub mod MisuseLaws
 pub mod PutLaws
 pub mod BindLaws
+pub mod EnterLaws

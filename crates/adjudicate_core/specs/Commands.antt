@@ -1,7 +1,9 @@
 -- The commands, one by one.
 pub mod Audit
 pub mod Check
+pub mod Enter
 pub mod Game
+pub mod Host
 pub mod Judge
 pub mod List
 pub mod Listen

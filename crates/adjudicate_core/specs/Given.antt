@@ -1,4 +1,4 @@
--- What a task is answered from (this project's own).
+-- What is read for a task, as its answer uses it (this project's own).
 use Rattle.std.specs.Prelude.{ℕ, List, Option}
 use Rattle.move_msg.specs.Files.{File}
 use Rattle.move_msg.specs.ToldManifests.{Told}

@@ -1,11 +1,14 @@
--- What values keep and what functions find on the way; cited by private clauses alone.
+-- Invariants of values and intermediate results of functions. Private clauses alone cite them.
 pub mod Asked
 pub mod Auditing
 pub mod Behind
 pub mod Binding
+pub mod Entering
 pub mod Fronts
+pub mod HostingParts
 pub mod ListeningParts
 pub mod Looking
+pub mod Manifesting
 pub mod Placing
 pub mod Refusals
 pub mod SendingParts

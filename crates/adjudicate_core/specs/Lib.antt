@@ -18,7 +18,10 @@ pub mod Telling
 pub mod Running
 pub mod Addresses
 pub mod Listens
+pub mod Manifests
 pub mod Sends
+pub mod Enters
+pub mod Hostings
 pub mod Laws
 pub mod Audits
 pub mod Inside

@@ -1,5 +1,7 @@
 -- The lines that the program writes (this project's own).
 use Rattle.std.specs.Prelude.{ℕ, ℤ, List, ◌++◌, Option, Some, None, Result, codes}
+use Rattle.std.specs.Net.Text.{socket_text}
+use Rattle.std.specs.declared.net.socket_addr.SocketAddr.{SocketAddr}
 use Rattle.std.specs.Fmt.{decimal}
 use Rattle.board_core.specs.Position.{fault_name as position_fault_name}
 use Rattle.fen_text.specs.declared.fault.FenFault.{FenFault}
@@ -91,6 +93,10 @@ unfoldable pub arbiter_words : Who → State → Option KeptCount → List ℕ
 arbiter_words who state None = who_word who ++ codes " " ++ state_word state ++ codes " - none"
 arbiter_words who state (Some kept) =
     who_word who ++ codes " " ++ state_word state ++ codes " " ++ decimal kept.count ++ codes " " ++ verdict_or_none kept.verdict
+
+-- the address at which datagrams come
+abbrev pub ready_words : SocketAddr → List ℕ
+ready_words own = codes "ready " ++ socket_text own
 
 -- how many messages were sent
 abbrev pub sent_words : ℕ → List ℕ

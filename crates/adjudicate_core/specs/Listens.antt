@@ -1,5 +1,7 @@
--- What `listen` makes of its words and of what it reads (this project's own).
-use Rattle.std.specs.Prelude.{◌≡◌, ◌<◌, ◌⊎◌, ℕ, Bool, List, [], length, Option, Result, Ok, Err}
+-- The behaviour of `listen` by its words and by what it reads (this project's own).
+use Rattle.std.specs.Prelude.{◌≡◌, ◌<◌, ◌⊎◌, ℕ, Bool, true, false, List, [], ◌∷◌, length, Option, Some, None, Result, Ok, Err}
+use Rattle.std.specs.Io.KnownBytes.{Appends}
+use Rattle.std.specs.declared.net.socket_addr.SocketAddr.{SocketAddr}
 use Rattle.board_core.specs.declared.parts.Parts.{Parts}
 use Rattle.board_core.specs.Position.{IsPosition}
 use Rattle.fen_text.specs.declared.fault.FenFault.{FenFault}
@@ -8,9 +10,10 @@ use Rattle.judge_core.specs.Tables.{Holding}
 use Rattle.move_msg.specs.Files.{entries_of}
 use Rattle.move_msg.specs.Manifests.{SpellsManifest}
 use Rattle.move_msg.specs.Senders.{who_number}
+use Rattle.move_msg.specs.TextLines.{ended}
 use Rattle.arbiter_core.specs.declared.fault.OpenFault.{OpenFault}
 use Rattle.arbiter_core.specs.declared.fault.OpenFault.TheVariants.{BadSetup, KeeperFailed, BadRecord, OtherStamp, OutOfMemory}
-use Rattle.arbiter_service.specs.GoingOut.{Writers}
+use Rattle.arbiter_service.specs.GoingOut.{GoOut, LastIsCut, Writers}
 use Rattle.arbiter_service.specs.OverFiles.{IsOpened, ServesAndWrites, ServesOpened}
 use Rattle.arbiter_core.specs.Setups.{SetupView}
 use Rattle.arbiter_service.specs.declared.file_keeper.FileKeeper.{FileKeeper}
@@ -24,7 +27,7 @@ use Rattle.system_io.specs.Hosts.{HostFacts}
 use Rattle.system_io.specs.declared.output.WriteFault.{WriteFault}
 use Rattle.arbiter_service.specs.ServedLines.{refused_keeper, refused_port}
 use Rattle.adjudicate_core.specs.ToldLines.{refused_memory}
-use Rattle.adjudicate_core.specs.Lines.{refused_fen}
+use Rattle.adjudicate_core.specs.Lines.{ready_words, refused_fen}
 use Rattle.adjudicate_core.specs.Looks.{gathered}
 use Rattle.system_io.specs.Ports.{Passed, PortFacts}
 use Rattle.arbiter_service.specs.Serving.{Scene, scene}
@@ -34,7 +37,7 @@ use Rattle.adjudicate_core.specs.Telling.{TellsIf}
 
 -- the setup of the arbiter
 abbrev pub setup_for : Listen → Parts → Holding → List ℕ → SetupView
-setup_for l start set manifest = record { name = l.name.now; start = start; manifest = manifest; me = who_number l.me; delay = l.delay; set = set }
+setup_for l start set manifest = record { name = l.name; start = start; manifest = manifest; me = who_number l.me; delay = l.delay; set = set }
 
 -- what is told where no arbiter is opened
 abbrev pub TellsUnopened : OpenFault → Option (List ℕ) → Option (List ℕ) → Result ℕ WriteFault → Type 0
@@ -91,19 +94,44 @@ pub data ServesAt {P F : Type 0} (host : Hosted P F) (S : ServesBy F) (l : Liste
 abbrev pub LacksRoomToBind : {P F : Type 0} → HostFacts P F → List ℕ → List ℕ → Type 0
 LacksRoomToBind host address to = host.refuses address bind.OutOfMemory ⊎ (1 < length (addresses_of to))
 
+-- how a run is seen from moments of a type: what is written by then; that this line, and nothing else, went out between two of them;
+-- that it was cut short; and that an arbiter serves between them
+pub record Seen (F T : Type 0) : Type 1 where
+  pub written : T → Option (List ℕ)
+  pub told : T → List ℕ → T → Type 0
+  pub cut : T → List ℕ → T → Type 0
+  pub serves : T → T → ServesBy F
+
+-- by what is written
+abbrev pub seen_as : {F : Type 0} → (F → KeptFacts) → Result ℕ WriteFault → Seen F (Option (List ℕ))
+seen_as facts r = record { written = λ t. t; told = λ old line new. Appends old new (ended line); cut = λ old line new. Unit {0}; serves = λ old new. serving_to facts r }
+
+-- by the writer
+abbrev pub seen_by : {F W : Type 0} → (F → KeptFacts) → Writers W → Result ℕ WriteFault → Seen F W
+seen_by facts w r = record { written = w.written; told = λ out line now. GoOut w out (line ∷ []) now; cut = λ out line now. LastIsCut w out (line ∷ []) now; serves = λ out now. writing_to facts w out now r }
+
+-- at a port that is bound: the address at which it listens isn't wanted; or it isn't told; or its line goes out before all else; or
+-- that is cut short
+pub data StartsAt {P F T : Type 0} (host : Hosted P F) (seen : Seen F T) (l : Listen) (setup : SetupView) (port : P) (port' : PortFacts) (old new : T) (r : Result ℕ WriteFault) : Type 0 where
+  Unasked : l.ready ≡ false → ServesAt host (seen.serves old new) l setup (host.port port) port' (seen.written old) (seen.written new) r → StartsAt host seen l setup port port' old new r
+  NoAddress : l.ready ≡ true → host.host.listens port None → Passed (host.port port) port' [] → TellsIf refused_port (seen.written old) (seen.written new) r → StartsAt host seen l setup port port' old new r
+  NoRoomForLine : l.ready ≡ true → Passed (host.port port) port' [] → TellsIf refused_memory (seen.written old) (seen.written new) r → StartsAt host seen l setup port port' old new r
+  Ready : l.ready ≡ true → (own : SocketAddr) → host.host.listens port (Some own) → (mid : T) → seen.told old (ready_words own) mid → ServesAt host (seen.serves mid new) l setup (host.port port) port' (seen.written mid) (seen.written new) r → StartsAt host seen l setup port port' old new r
+  Unready : l.ready ≡ true → (own : SocketAddr) → host.host.listens port (Some own) → Passed (host.port port) port' [] → seen.cut old (ready_words own) new → (fault : WriteFault) → r ≡ Err fault → StartsAt host seen l setup port port' old new r
+
 -- with these tables: the port can't be bound; or it is, sends to each of the addresses, and the record is kept in the file at the path
-pub data BindsAndServes {P F : Type 0} (host : Hosted P F) (S : ServesBy F) (l : Listen) (setup : SetupView) (old new : Option (List ℕ)) (r : Result ℕ WriteFault) : Type 0 where
-  Unbound : host.host.refuses l.bind.now bind.Unbound → TellsIf refused_port old new r → BindsAndServes host S l setup old new r
-  NoRoomToBind : LacksRoomToBind host.host l.bind.now l.to.now → TellsIf refused_memory old new r → BindsAndServes host S l setup old new r
-  Bound : (port port' : P) → host.host.binds l.bind.now (addresses_of l.to.now) port → (host.port port).addresses ≡ length (addresses_of l.to.now) → ServesAt host S l setup (host.port port) (host.port port') old new r → BindsAndServes host S l setup old new r
+pub data BindsAndServes {P F T : Type 0} (host : Hosted P F) (seen : Seen F T) (l : Listen) (setup : SetupView) (old new : T) (r : Result ℕ WriteFault) : Type 0 where
+  Unbound : host.host.refuses l.bind.now bind.Unbound → TellsIf refused_port (seen.written old) (seen.written new) r → BindsAndServes host seen l setup old new r
+  NoRoomToBind : LacksRoomToBind host.host l.bind.now l.to.now → TellsIf refused_memory (seen.written old) (seen.written new) r → BindsAndServes host seen l setup old new r
+  Bound : (port port' : P) → host.host.binds l.bind.now (addresses_of l.to.now) port → (host.port port).addresses ≡ length (addresses_of l.to.now) → StartsAt host seen l setup port (host.port port') old new r → BindsAndServes host seen l setup old new r
 
 -- listening: the text of the start is no position; or else a table is refused; or else what follows, with the manifest of the
 -- tables' files
-pub data Listens {P F : Type 0} (host : Hosted P F) (S : ServesBy F) (l : Listen) (given : Given) (old new : Option (List ℕ)) (r : Result ℕ WriteFault) : Type 0 where
-  BadStart : (fault : FenFault) → IsFirstFenFault l.start.now fault → TellsIf (refused_fen fault) old new r → Listens host S l given old new r
-  BadTables : IsText l.start.now → (words : List ℕ) → gathered given ≡ Err words → TellsIf words old new r → Listens host S l given old new r
-  NoRoom : IsText l.start.now → TellsIf refused_memory old new r → Listens host S l given old new r
-  Opened : (start : Parts) → SpellsPosition l.start.now start → IsPosition start → (set : Holding) → Ok set.tables ≡ gathered given → (manifest : List ℕ) → SpellsManifest manifest (entries_of given.files) → BindsAndServes host S l (setup_for l start set manifest) old new r → Listens host S l given old new r
+pub data Listens {P F T : Type 0} (host : Hosted P F) (seen : Seen F T) (l : Listen) (given : Given) (old new : T) (r : Result ℕ WriteFault) : Type 0 where
+  BadStart : (fault : FenFault) → IsFirstFenFault l.start.now fault → TellsIf (refused_fen fault) (seen.written old) (seen.written new) r → Listens host seen l given old new r
+  BadTables : IsText l.start.now → (words : List ℕ) → gathered given ≡ Err words → TellsIf words (seen.written old) (seen.written new) r → Listens host seen l given old new r
+  NoRoom : IsText l.start.now → TellsIf refused_memory (seen.written old) (seen.written new) r → Listens host seen l given old new r
+  Opened : (start : Parts) → SpellsPosition l.start.now start → IsPosition start → (set : Holding) → Ok set.tables ≡ gathered given → (manifest : List ℕ) → SpellsManifest manifest (entries_of given.files) → BindsAndServes host seen l (setup_for l start set manifest) old new r → Listens host seen l given old new r
 
 -- ---- with the writer
 
@@ -118,8 +146,11 @@ KeepsAndWrites facts w l setup file port port' out out' r = KeepsAndServes facts
 abbrev pub WritesAt : {P F W : Type 0} → Hosted P F → Writers W → Listen → SetupView → PortFacts → PortFacts → W → W → Result ℕ WriteFault → Type 0
 WritesAt host w l setup port port' out out' r = ServesAt host (writing_to host.file w out out' r) l setup port port' (w.written out) (w.written out') r
 
+abbrev pub StartsAndWrites : {P F W : Type 0} → Hosted P F → Writers W → Listen → SetupView → P → PortFacts → W → W → Result ℕ WriteFault → Type 0
+StartsAndWrites host w l setup port port' out out' r = StartsAt host (seen_by host.file w r) l setup port port' out out' r
+
 abbrev pub BindsAndWrites : {P F W : Type 0} → Hosted P F → Writers W → Listen → SetupView → W → W → Result ℕ WriteFault → Type 0
-BindsAndWrites host w l setup out out' r = BindsAndServes host (writing_to host.file w out out' r) l setup (w.written out) (w.written out') r
+BindsAndWrites host w l setup out out' r = BindsAndServes host (seen_by host.file w r) l setup out out' r
 
 abbrev pub ListensAndWrites : {P F W : Type 0} → Hosted P F → Writers W → Listen → Given → W → W → Result ℕ WriteFault → Type 0
-ListensAndWrites host w l given out out' r = Listens host (writing_to host.file w out out' r) l given (w.written out) (w.written out') r
+ListensAndWrites host w l given out out' r = Listens host (seen_by host.file w r) l given out out' r

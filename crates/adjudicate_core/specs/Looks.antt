@@ -1,4 +1,4 @@
--- What is found where the files of tables are looked at (this project's own).
+-- The results for the files of tables (this project's own).
 use Rattle.std.specs.Prelude.{ℕ, Bool, List, [], ◌∷◌, map, replicate, Option, Some, None, is_some, Result, Ok, Err, slice_set, if◌then◌else◌}
 use Rattle.std.specs.List.{list_all}
 use Rattle.std.specs.Str.{bytes_eq}

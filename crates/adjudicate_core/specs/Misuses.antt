@@ -1,11 +1,11 @@
--- What can be wrong with the values of a command, and which of it is told (this project's own).
+-- The faults of the values of a command, and which one is reported (this project's own).
 use Rattle.std.specs.Prelude.{◌≡◌, ◌⊎◌, ◌++◌, ℕ, List, [], ◌∷◌, Option, Some, None, codes}
 use Rattle.std.specs.List.{AllByRecursion}
 use Rattle.clap.specs.Words.{Text}
 use Rattle.move_msg.specs.declared.who.Who.{Who}
 use Rattle.move_msg.specs.Stamps.{IsGameName}
 use Rattle.adjudicate_core.specs.Addresses.{AreAddresses}
-use Rattle.adjudicate_core.specs.Numbers.{IsCache, IsDatagrams, IsDelay, IsHundredOr, IsMe}
+use Rattle.adjudicate_core.specs.Numbers.{IsAtOnce, IsCache, IsDatagrams, IsDelay, IsHundredOr, IsMe}
 use Rattle.adjudicate_core.specs.declared.usage.Wanted.{Wanted}
 use Rattle.adjudicate_core.specs.declared.usage.Wanted.TheVariants as wanted
 use Rattle.adjudicate_core.specs.declared.usage.ValueFault.{ValueFault}
@@ -23,6 +23,7 @@ name_of wanted.Me = codes "me"
 name_of wanted.Wait = codes "wait"
 name_of wanted.Tries = codes "tries"
 name_of wanted.Addresses = codes "to"
+name_of wanted.AtOnce = codes "at-once"
 
 -- what it takes
 abbrev pub range_of : Wanted → List ℕ
@@ -33,6 +34,7 @@ range_of wanted.Datagrams = codes "0 to 4294967295"
 range_of wanted.Me = codes "1 or 2"
 range_of wanted.Wait = codes "1 to 65535"
 range_of wanted.Tries = codes "1 to 65535"
+range_of wanted.AtOnce = codes "1 to 65535"
 range_of wanted.Addresses = codes "ADDR[,ADDR], each a host, a colon and a port"
 
 abbrev pub unfit_words : Wanted → List ℕ → List ℕ
@@ -72,6 +74,7 @@ IsUnfit value wanted.Me = (who : Who) → IsMe (value (codes "me")) who → ⊥
 IsUnfit value wanted.Wait = (n : ℕ) → IsHundredOr (value (codes "wait")) n → ⊥
 IsUnfit value wanted.Tries = (n : ℕ) → IsHundredOr (value (codes "tries")) n → ⊥
 IsUnfit value wanted.Addresses = (to : List ℕ) → Some to ≡ value (codes "to") → AreAddresses to → ⊥
+IsUnfit value wanted.AtOnce = (n : ℕ) → IsAtOnce (value (codes "at-once")) n → ⊥
 
 abbrev pub Holds : (Text → Option Text) → Fault → Type 0
 Holds value (NoOption name) = value name ≡ None
@@ -111,9 +114,6 @@ to_faults = NoOption (codes "to") ∷ Unfit wanted.Addresses ∷ []
 
 abbrev pub me_faults : List Fault
 me_faults = NoOption (codes "me") ∷ Unfit wanted.Me ∷ []
-
-abbrev pub datagrams_faults : List Fault
-datagrams_faults = NoOption (codes "datagrams") ∷ Unfit wanted.Datagrams ∷ []
 
 -- ---- the words on a game
 

@@ -1,5 +1,5 @@
 -- Numbers of the command line, as Rust reads integers (this project's own bounds).
-use Rattle.std.specs.Prelude.{◌≡◌, ◌≤◌, ◌<◌, ◌^◌, ℕ, Bool, false, List, Option, Some, None, codes}
+use Rattle.std.specs.Prelude.{◌≡◌, ◌≤◌, ◌<◌, ◌^◌, ◌-◌, ℕ, Bool, false, List, Option, Some, None, codes}
 use Rattle.std.specs.Str.{bytes_eq}
 use Rattle.std.specs.Str.Parse.{IsNumeral, digits_value, without_leading_plus}
 use Rattle.board_core.specs.Delays.{most_delay}
@@ -20,15 +20,20 @@ abbrev pub IsDelay : Option (List ℕ) → ℕ → Type 0
 IsDelay None plies = plies ≡ 0
 IsDelay (Some text) plies = IsNumber text plies × (plies ≤ most_delay)
 
--- a number of datagrams has to be given, 0 to 2^32 - 1
+-- a number of datagrams is 0 to 2^32 - 1; where none is given it is 2^64 - 1, which no run comes to
 abbrev pub IsDatagrams : Option (List ℕ) → ℕ → Type 0
-IsDatagrams None n = ⊥
+IsDatagrams None n = n ≡ 2 ^ 64 - 1
 IsDatagrams (Some text) n = IsNumber text n × (n < 2 ^ 32)
 
 -- 1 to 65535, and 100 where no number is given
 abbrev pub IsHundredOr : Option (List ℕ) → ℕ → Type 0
 IsHundredOr None n = n ≡ 100
 IsHundredOr (Some text) n = IsNumber text n × (1 ≤ n) × (n < 2 ^ 16)
+
+-- 1 to 65535 games are open at once, and 256 where no number is given
+abbrev pub IsAtOnce : Option (List ℕ) → ℕ → Type 0
+IsAtOnce None n = n ≡ 256
+IsAtOnce (Some text) n = IsNumber text n × (1 ≤ n) × (n < 2 ^ 16)
 
 -- the number of an arbiter has to be given, 1 or 2
 abbrev pub IsMe : Option (List ℕ) → Who → Type 0

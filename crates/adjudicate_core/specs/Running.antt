@@ -1,4 +1,4 @@
--- What the program makes of its words and of what it reads (this project's own).
+-- The answer of the program to its words and to what it reads (this project's own).
 use Rattle.std.specs.Prelude.{◌≡◌, ℕ, List, Option, Result, Ok, Err, drop, map, String, Vec, string_bytes}
 use Rattle.std.specs.Borrow.{Bor}
 use Rattle.std.specs.Global.{Global}
@@ -15,8 +15,10 @@ use Rattle.adjudicate_core.specs.ToldLines.{refused_files, refused_memory}
 use Rattle.system_io.specs.Hosts.{HostFacts}
 use Rattle.system_io.specs.KeptFiles.{KeptFacts}
 use Rattle.system_io.specs.Ports.{PortFacts}
-use Rattle.adjudicate_core.specs.Listens.{Hosted, Listens, hosted, serving_to}
+use Rattle.adjudicate_core.specs.Listens.{Hosted, Listens, hosted, seen_as}
 use Rattle.adjudicate_core.specs.Sends.{Sends}
+use Rattle.adjudicate_core.specs.Enters.{Enters}
+use Rattle.adjudicate_core.specs.Hostings.{HostsGames, seen_as as seen_hosting}
 use Rattle.adjudicate_core.specs.Sources.{CannotRead, IsGiven, TakesMemory}
 use Rattle.adjudicate_core.specs.Commands.Judge as judges
 use Rattle.adjudicate_core.specs.Commands.Probe as probes
@@ -57,13 +59,15 @@ AnswersFrom disk source host (task.List t) given old new status = AnswersRead (l
 AnswersFrom disk source host (task.Check t) given old new status = AnswersRead (checks.IsReply disk t) (checks.IsUnread disk t) old new status
 AnswersFrom disk source host (task.Show t) given old new status = shows.Answers given old new status
 AnswersFrom disk source host (task.Run t) given old new status = AnswersOnce (runs.IsReply t given) (Unit {0}) old new status
-AnswersFrom disk source host (task.Listen t) given old new status = Listens host (serving_to host.file (Ok status)) t given old new (Ok status)
+AnswersFrom disk source host (task.Listen t) given old new status = Listens host (seen_as host.file (Ok status)) t given old new (Ok status)
 AnswersFrom disk source host (task.Probes t) given old new status = PutsProbes source given old new status
 AnswersFrom disk source host (task.Game t) given old new status = AnswersOnce (games.IsReply t given) (IsText t.fen.now) old new status
 AnswersFrom disk source host (task.Record t) given old new status = AnswersOnce (records.IsReply given.kept) (records.TakesMemory given.kept) old new status
 AnswersFrom disk source host (task.Audit t) given old new status = AnswersOnce (audits.IsReply t given) (IsText t.start.now) old new status
 AnswersFrom disk source host (task.Version t) given old new status = versions.Answers old new status
 AnswersFrom disk source host (task.Send t) given old new status = Sends disk source host t old new (Ok status)
+AnswersFrom disk source host (task.Enter t) given old new status = Enters disk host t old new (Ok status)
+AnswersFrom disk source host (task.Host t) given old new status = HostsGames host (seen_hosting host.file (Ok status)) t given old new (Ok status)
 
 -- to a task the program answers from what it reads; or something that it reads for it can't be read; or memory was refused while
 -- it read

@@ -1,4 +1,4 @@
--- Schedules that are run, and what is told of them (this project's own).
+-- Schedules that are run, and the lines for them (this project's own).
 use Rattle.std.specs.Prelude.{◌≡◌, ℕ, List, [], ◌∷◌, length, Option, Some, None, Err, slice_get}
 use Rattle.move_msg.specs.Files.{File}
 use Rattle.move_msg.specs.declared.who.Who.{Who}

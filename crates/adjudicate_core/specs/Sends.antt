@@ -1,4 +1,4 @@
--- What `send` makes of its words and of what it reads (this project's own).
+-- The behaviour of `send` by its words and by what it reads (this project's own).
 use Rattle.std.specs.Prelude.{◌≡◌, ℕ, List, Option, Some, None, Result, IfSome, length, option_map, []}
 use Rattle.board_core.specs.declared.parts.Parts.{Parts}
 use Rattle.board_core.specs.Position.{IsPosition}
@@ -6,11 +6,9 @@ use Rattle.fen_text.specs.declared.fault.FenFault.{FenFault}
 use Rattle.fen_text.specs.Fen.{SpellsPosition, IsFirstFenFault}
 use Rattle.fen_text.specs.Written.{fen_of}
 use Rattle.move_msg.specs.declared.stamp.Stamp.{Stamp}
-use Rattle.move_msg.specs.Files.{File, entries_of}
-use Rattle.move_msg.specs.Manifests.{Entry, IsFirstBadLine, SpellsManifest}
 use Rattle.move_msg.specs.Stamps.{stamp_of}
 use Rattle.system_io.specs.declared.output.WriteFault.{WriteFault}
-use Rattle.system_io.specs.Disks.{AtFile, DiskFacts}
+use Rattle.system_io.specs.Disks.{DiskFacts}
 use Rattle.system_io.specs.declared.host.BindFault.TheVariants as bind
 use Rattle.system_io.specs.Inputs.{InputFacts}
 use Rattle.system_io.specs.Ports.{Passed, PortFacts}
@@ -18,25 +16,12 @@ use Rattle.source_core.specs.Sendings.{IsSending, Sending, WritesLines, causes}
 use Rattle.arbiter_service.specs.ServedLines.{refused_port}
 use Rattle.adjudicate_core.specs.Addresses.{addresses_of}
 use Rattle.adjudicate_core.specs.declared.commands.send.Send.{Send}
-use Rattle.adjudicate_core.specs.Lines.{refused_fen, refused_manifest}
+use Rattle.adjudicate_core.specs.Lines.{refused_fen}
 use Rattle.adjudicate_core.specs.Listens.{Hosted, LacksRoomToBind}
-use Rattle.adjudicate_core.specs.Outside.{AreFilesIn, FolderFails}
+use Rattle.adjudicate_core.specs.Manifests.{IsManifestOf, LacksManifest}
 use Rattle.adjudicate_core.specs.Reply.{IsText}
 use Rattle.adjudicate_core.specs.Telling.{TellsIf}
-use Rattle.adjudicate_core.specs.ToldLines.{refused_files, refused_memory}
-
--- ---- the manifest
-
--- the manifest by which the game is stamped: the file that is named, where one is, and else that of the tables in the folder
-pub data IsManifestOf (disk : DiskFacts) (t : Send) (manifest : List ℕ) : Type 0 where
-  OfFile : (path : List ℕ) → option_map (λ s. s.now) t.manifest ≡ Some path → disk.holds path manifest → (entries : List Entry) → SpellsManifest manifest entries → IsManifestOf disk t manifest
-  OfFolder : option_map (λ s. s.now) t.manifest ≡ None → (files : List File) → AreFilesIn disk t.tables.now None files → SpellsManifest manifest (entries_of files) → IsManifestOf disk t manifest
-
--- why there is none: a line of that file is at fault; it can't be read; or the folder can't, which is read where no file is named
-pub data LacksManifest (disk : DiskFacts) (t : Send) (words : List ℕ) : Type 0 where
-  BadLine : (path text : List ℕ) → option_map (λ s. s.now) t.manifest ≡ Some path → disk.holds path text → (k : ℕ) → IsFirstBadLine text k → words ≡ refused_manifest k → LacksManifest disk t words
-  NoFile : (path : List ℕ) → option_map (λ s. s.now) t.manifest ≡ Some path → disk.fails (AtFile path) → words ≡ refused_files → LacksManifest disk t words
-  NoFolder : option_map (λ s. s.now) t.manifest ≡ None → FolderFails disk t.tables.now None → words ≡ refused_files → LacksManifest disk t words
+use Rattle.adjudicate_core.specs.ToldLines.{refused_memory}
 
 -- ---- all of it
 
@@ -54,6 +39,6 @@ pub data BindsAndSends {P F : Type 0} (host : Hosted P F) (source : InputFacts) 
 -- sending: the text of the start is no position; or else there is no manifest; or else what follows, with the stamp of the game
 pub data Sends {P F : Type 0} (disk : DiskFacts) (source : InputFacts) (host : Hosted P F) (t : Send) (old new : Option (List ℕ)) (r : Result ℕ WriteFault) : Type 0 where
   BadStart : (fault : FenFault) → IsFirstFenFault t.start.now fault → TellsIf (refused_fen fault) old new r → Sends disk source host t old new r
-  NoManifest : IsText t.start.now → (words : List ℕ) → LacksManifest disk t words → TellsIf words old new r → Sends disk source host t old new r
+  NoManifest : IsText t.start.now → (words : List ℕ) → LacksManifest disk (option_map (λ s. s.now) t.manifest) t.tables.now words → TellsIf words old new r → Sends disk source host t old new r
   NoRoom : IsText t.start.now → TellsIf refused_memory old new r → Sends disk source host t old new r
-  Stamped : (start : Parts) → SpellsPosition t.start.now start → IsPosition start → (manifest : List ℕ) → IsManifestOf disk t manifest → (stamp : Stamp) → stamp.0 ≡ stamp_of t.name (fen_of start) manifest t.delay → BindsAndSends host source t stamp start old new r → Sends disk source host t old new r
+  Stamped : (start : Parts) → SpellsPosition t.start.now start → IsPosition start → (manifest : List ℕ) → IsManifestOf disk (option_map (λ s. s.now) t.manifest) t.tables.now manifest → (stamp : Stamp) → stamp.0 ≡ stamp_of t.name (fen_of start) manifest t.delay → BindsAndSends host source t stamp start old new r → Sends disk source host t old new r

@@ -14,6 +14,8 @@ use Rattle.adjudicate_core.specs.Commands.Listen as listens
 use Rattle.adjudicate_core.specs.Commands.Probes as of_probes
 use Rattle.adjudicate_core.specs.Commands.Game as games
 use Rattle.adjudicate_core.specs.Commands.Send as sends
+use Rattle.adjudicate_core.specs.Commands.Enter as enters
+use Rattle.adjudicate_core.specs.Commands.Host as hosts
 use Rattle.adjudicate_core.specs.Commands.Record as records
 use Rattle.adjudicate_core.specs.Commands.Audit as audits
 use Rattle.adjudicate_core.specs.Commands.Version as versions
@@ -44,6 +46,8 @@ word_of name.Record = codes "record"
 word_of name.Audit = codes "audit"
 word_of name.Version = codes "version"
 word_of name.Send = codes "send"
+word_of name.Enter = codes "enter"
+word_of name.Host = codes "host"
 
 -- what it is given
 abbrev pub rules_of : Name → List Rule
@@ -61,6 +65,8 @@ rules_of name.Record = records.rules
 rules_of name.Audit = audits.rules
 rules_of name.Version = versions.rules
 rules_of name.Send = sends.rules
+rules_of name.Enter = enters.rules
+rules_of name.Host = hosts.rules
 
 -- what may be wrong with its values, in the order in which it is told
 abbrev pub faults_of : Name → List Fault
@@ -78,6 +84,8 @@ faults_of name.Record = records.faults
 faults_of name.Audit = audits.faults
 faults_of name.Version = versions.faults
 faults_of name.Send = sends.faults
+faults_of name.Enter = enters.faults
+faults_of name.Host = hosts.faults
 
 -- ---- by the task
 
@@ -96,6 +104,8 @@ name_of (task.Record t) = name.Record
 name_of (task.Audit t) = name.Audit
 name_of (task.Version t) = name.Version
 name_of (task.Send t) = name.Send
+name_of (task.Enter t) = name.Enter
+name_of (task.Host t) = name.Host
 
 -- it has these values of its command's arguments
 abbrev pub HasValues : (Text → Option Text) → Task → Type 0
@@ -113,6 +123,8 @@ HasValues value (task.Record t) = records.HasValues value t
 HasValues value (task.Audit t) = audits.HasValues value t
 HasValues value (task.Version t) = Unit {0}
 HasValues value (task.Send t) = sends.HasValues value t
+HasValues value (task.Enter t) = enters.HasValues value t
+HasValues value (task.Host t) = hosts.HasValues value t
 
 -- what is read for it
 abbrev pub named_in : Task → Named
@@ -130,6 +142,8 @@ named_in (task.Record t) = records.named t
 named_in (task.Audit t) = audits.named t
 named_in (task.Version t) = versions.named
 named_in (task.Send t) = sends.named
+named_in (task.Enter t) = enters.named
+named_in (task.Host t) = hosts.named t
 
 -- how far it is, is told on the way
 abbrev pub tells_progress : Task → Bool
@@ -147,6 +161,8 @@ tells_progress (task.Record t) = false
 tells_progress (task.Audit t) = false
 tells_progress (task.Version t) = false
 tells_progress (task.Send t) = false
+tells_progress (task.Enter t) = false
+tells_progress (task.Host t) = false
 
 -- ---- words
 

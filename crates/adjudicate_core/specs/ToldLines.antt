@@ -1,4 +1,4 @@
--- What is told of the lines of an input, a line each, as they come (this project's own).
+-- The answers to the lines of an input, a line each, as they come (this project's own).
 use Rattle.std.specs.Prelude.{◌≡◌, ◌≤◌, ◌⊎◌, ◌++◌, ◌^◌, ◌-◌, ℕ, Bool, false, List, [], ◌∷◌, length, map, Option, IfSome, codes}
 use Rattle.std.specs.Fmt.{decimal}
 use Rattle.std.specs.List.{Contains, list_all}

@@ -1,4 +1,4 @@
--- Want of memory is told apart from every other fault of the words.
+-- Refused memory is distinguished from every other fault of the words.
 use Rattle.adjudicate_core.specs.declared.usage.Usage.{Usage}
 use Rattle.adjudicate_core.specs.declared.usage.Usage.TheVariants.{Misuse, OutOfMemory}
 use Rattle.adjudicate_core.specs.declared.usage.Misuse.TheVariants.{Refused}

@@ -1,4 +1,4 @@
--- What is told of words that are misused: one line, and then the command lines that there are (this project's own).
+-- What is printed for a misuse: one line, and then the usage (this project's own).
 use Rattle.std.specs.Prelude.{◌≡◌, ◌⊎◌, ◌++◌, ◌==◌, ◌&&◌, not, nat_le, cond, ℕ, Bool, List, [], ◌∷◌, Option, codes}
 use Rattle.std.specs.List.{flat_map}
 use Rattle.std.specs.Io.KnownBytes.{Appends}

@@ -7,7 +7,7 @@ ghost use Rattle.adjudicate_core.specs.Numbers.{IsNumber};
 
 use std::alloc::{AllocError, Global};
 
-/// The addresses of a word, which commas part.
+/// The addresses of a word, separated by commas.
 pub(crate) fn addresses_in<'a>(alloc: Global, word: &'a str) -> Result<Vec<&'a str>, AllocError>
     ensures { IfOk result (λ all. map (λ s. s.now) all.items ≡ addresses_of word.now) }
 {
@@ -21,7 +21,7 @@ pub(crate) fn addresses_in<'a>(alloc: Global, word: &'a str) -> Result<Vec<&'a s
     Ok(addresses)
 }
 
-/// Whether a word is one address: no comma parts it.
+/// Whether a word is one address: it has no comma.
 pub(crate) fn is_one(word: &str) -> bool
     ensures one { IsTrue result → addresses_of word.now ≡ word.now ∷ [] }
     ensures more { result ≡ false → 1 < length (addresses_of word.now) }
@@ -32,7 +32,7 @@ pub(crate) fn is_one(word: &str) -> bool
     }
 }
 
-/// What stands behind the last colon of a text; all of it where there is none.
+/// The part of a text after its last colon; all of it where there is none.
 fn behind_colon<'a>(text: &'a str) -> &'a str
     ensures { IsBehindColon text.entry.now result.now }
 {
@@ -43,7 +43,7 @@ fn behind_colon<'a>(text: &'a str) -> &'a str
     rest
 }
 
-/// The port that a text tells, 0 to 65535; none where it tells no such number.
+/// The port in a text, 0 to 65535; none where it is no such number.
 fn port_of(text: &str) -> Option<u16>
     ensures some { IfSome result (λ n. IsNumber text.now n × (n < 2 ^ 16)) }
     ensures none { IfNone result ((n : ℕ) → IsNumber text.now n → n < 2 ^ 16 → ⊥) }

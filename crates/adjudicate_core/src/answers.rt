@@ -1,4 +1,4 @@
-//! Answers as values, and as they are written.
+//! Answers as values, and their text.
 
 ghost use Rattle.std.specs.Prelude.{◌≡◌, map, IfOk, OnOk};
 ghost use Rattle.std.specs.Io.KnownBytes.{Appends};
@@ -46,7 +46,7 @@ fn put_lines<W: Write>(out: &mut W, lines: &[Line]) -> Result<(), WriteFault>
     Ok(())
 }
 
-/// Writes an answer, and tells its status.
+/// Writes an answer, and returns its status.
 fn put_answer<W: Write>(out: &mut W, answer: &Answer) -> Result<u8, WriteFault>
     ensures { IfOk result (WritesReply (W.contents out.old) (W.contents out.new) (reply_of answer.now)) }
 {
@@ -67,7 +67,7 @@ fn put_answer<W: Write>(out: &mut W, answer: &Answer) -> Result<u8, WriteFault>
     }
 }
 
-/// Writes an answer, or the line `refused memory` where memory was refused for it, and tells the status.
+/// Writes an answer, or the line `refused memory` where memory was refused for it, and returns the status.
 pub(crate) fn put_answered<W: Write>(
     out: &mut W,
     answered: Result<Answer, AllocError>,
@@ -80,7 +80,7 @@ pub(crate) fn put_answered<W: Write>(
     }
 }
 
-/// Writes an answer, or why something for it wasn't read, and tells the status.
+/// Writes an answer, or why something for it wasn't read, and returns the status.
 pub(crate) fn put_read<W: Write>(
     out: &mut W,
     answered: Result<Answer, ReadFault>,

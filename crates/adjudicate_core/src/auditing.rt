@@ -14,7 +14,7 @@ use move_msg::{Record, RecordFault, Stamp};
 use std::alloc::{AllocError, Global};
 use std::fmt;
 
-/// What is found of a kept file.
+/// The finding on a kept file.
 #[derive(Clone, Copy)]
 pub enum Finding {
     /// An arbiter of the game can be opened over it: how many moves its record has, and the verdict.
@@ -64,7 +64,7 @@ impl fmt::Display for Finding {
     }
 }
 
-/// What is found where the last ply has a verdict, or has none.
+/// The finding where the last ply has a verdict, or has none.
 fn held_to(count: usize, told: Option<Verdict>, ruled: Option<Verdict>) -> Finding
     ensures { IsHeldTo count told ruled result }
 {
@@ -75,7 +75,7 @@ fn held_to(count: usize, told: Option<Verdict>, ruled: Option<Verdict>) -> Findi
     }
 }
 
-/// What is found of so many moves and a verdict, by what the moves come to.
+/// The finding on this number of moves and a verdict, by the outcome of the moves.
 fn found_by(outcome: GameOutcome, count: usize, told: Option<Verdict>) -> Finding
     ensures { IsFoundBy outcome count told result }
 {
@@ -100,16 +100,16 @@ pub(crate) struct Auditor<'a> {
     pub(crate) set: Set<'a>,
 }
 
-/// What is found of a file, and its record where it has one.
+/// The finding on a file, and its record where it has one.
 #[derive(Drop)]
 pub(crate) struct Audited {
-    /// What is found.
+    /// The finding.
     pub(crate) finding: Finding,
     /// The record.
     pub(crate) kept: Option<Record>,
 }
 
-/// What is found of a record.
+/// The finding on a record.
 fn judge_record(
     alloc: Global,
     auditor: &mut Auditor<'_>,
@@ -129,7 +129,7 @@ fn judge_record(
     Ok(found_by(outcome, moves.len(), kept.verdict))
 }
 
-/// What is found of a file's bytes, and their record.
+/// The finding on a file's bytes, and their record.
 pub(crate) fn audit(
     alloc: Global,
     auditor: &mut Auditor<'_>,
@@ -159,7 +159,7 @@ pub(crate) fn audit(
     }
 }
 
-/// How many moves stand at the front of both lists, where they part before one of them ends.
+/// The number of common first moves of two lists, where they part before one of them ends.
 fn parting(one: &[Move], other: &[Move]) -> Option<usize>
     ensures some { IfSome result (ArePartedAt one.now other.now) }
     ensures none { IfNone result (take (min (length one.now) (length other.now)) one.now ≡ take (min (length one.now) (length other.now)) other.now) }
@@ -173,7 +173,8 @@ fn parting(one: &[Move], other: &[Move]) -> Option<usize>
     None
 }
 
-/// The ply at which a longer record parts from one that ends so, and whose moves it has first: at the verdict or at the next move.
+/// The ply at which a longer record parts from one that it begins with, which ends so: at the verdict or at the next
+/// move.
 fn parting_after(count: usize, verdict: Option<Verdict>) -> usize
     requires { count < 2 ^ 32 }
     ensures { PartsAfter count verdict result }
@@ -181,8 +182,8 @@ fn parting_after(count: usize, verdict: Option<Verdict>) -> usize
     if verdict.is_some() { count } else { count + 1 }
 }
 
-/// The first ply at which records part of which one begins by the moves of the other, by how many moves they have and their
-/// verdicts; none where all is the same.
+/// The first ply at which two records part, one of which begins with the moves of the other. It follows from their
+/// numbers of moves and verdicts; none where they are equal.
 fn parting_of_ends(
     count: usize,
     verdict: Option<Verdict>,
@@ -217,7 +218,7 @@ fn compare_moves(one: &Record, other: &Record) -> Option<usize>
     }
 }
 
-/// The first ply at which two records part. None where all is the same. Records of different games part at ply 0.
+/// The first ply at which two records part. None where they are equal. Records of different games part at ply 0.
 fn compare(one: &Record, other: &Record) -> Option<usize>
     ensures { AreCompared one.now other.now result }
 {
@@ -227,7 +228,7 @@ fn compare(one: &Record, other: &Record) -> Option<usize>
     compare_moves(one, other)
 }
 
-/// What comes of comparing two files of which both have a record; nothing where one has none.
+/// The comparison of two files that both have a record; none where one has none.
 pub(crate) fn compare_files(one: &Audited, other: &Audited) -> Option<Option<usize>>
     ensures { (bytes its : List ℕ) → IsAuditedAs bytes one.now → IsAuditedAs its other.now → IsComparison bytes its result }
 {

@@ -1,4 +1,4 @@
-//! Ports that are bound to one address and send to those of a word.
+//! Ports bound to one address that send to the addresses of a word.
 
 ghost use Rattle.std.specs.Prelude.{◌≡◌, ◌<◌, length, IfErr, IfOk};
 ghost use Rattle.adjudicate_core.specs.Addresses.{addresses_of};
@@ -29,7 +29,8 @@ fn bind_to_all<H: Host>(
     }
 }
 
-/// A port that is bound to an address, and sends to those of a word, which commas part. One address takes no memory here.
+/// A port bound to an address that sends to the addresses of a word, separated by commas. A single address takes no
+/// memory here.
 pub(crate) fn bind<H: Host>(
     alloc: Global,
     host: &H,

@@ -11,7 +11,9 @@ ghost use Rattle.adjudicate_core.specs.Tasks.{IsReadAs, IsTask, IsMisuse, IsTake
 
 mod audit;
 mod check;
+mod enter;
 mod game;
+mod host;
 mod judge;
 mod list;
 mod listen;
@@ -29,7 +31,9 @@ use crate::usage::{Misuse, Usage, ValueFault};
 pub use audit::Audit;
 pub use check::Check;
 use clap::{Arg, ArgAction, ArgMatches, Command};
+pub use enter::Enter;
 pub use game::FollowGame;
+pub use host::HostGames;
 pub use judge::Judge;
 pub use list::List;
 pub use listen::Listen;
@@ -43,12 +47,12 @@ pub use show::Show;
 use std::alloc::{AllocError, Global};
 pub use version::Version;
 
-/// What a command line asks for.
+/// The task of a command line.
 #[derive(Drop)]
 pub enum Task<'a> {
     /// The verdict of a position.
     Judge(Judge<'a>),
-    /// What the tables say of a position.
+    /// The values of a position in the tables.
     Probe(Probe<'a>),
     /// The legal moves of a position.
     Moves(Moves<'a>),
@@ -58,15 +62,15 @@ pub enum Task<'a> {
     Check(Check<'a>),
     /// The messages of the input.
     Show(Show),
-    /// What becomes of two arbiters under the schedule of the input.
+    /// Two arbiters under the schedule of the input.
     Run(RunSchedule<'a>),
     /// An arbiter that answers datagrams.
     Listen(Listen<'a>),
-    /// What tables tell of the positions of the input.
+    /// The values of the positions of the input in the tables.
     Probes(Probes<'a>),
-    /// What the game of the input comes to.
+    /// The outcome of the game of the input.
     Game(FollowGame<'a>),
-    /// What a kept record says.
+    /// The contents of a kept record.
     Record(ShowRecord<'a>),
     /// Whether kept files are records of a game.
     Audit(Audit<'a>),
@@ -74,6 +78,10 @@ pub enum Task<'a> {
     Version(Version),
     /// The moves of the input, sent to the arbiters of a game.
     Send(Send<'a>),
+    /// A game of a folder.
+    Enter(Enter<'a>),
+    /// Arbiters of the games of a folder.
+    Host(HostGames<'a>),
 }
 
 /// The commands.
@@ -103,13 +111,17 @@ pub enum Name {
     Record,
     /// Audits kept files.
     Audit,
-    /// Tells the program's version.
+    /// Prints the program's version.
     Version,
     /// Sends the moves of a game.
     Send,
+    /// Enters a game in a folder.
+    Enter,
+    /// Answers datagrams of any number of games.
+    Host,
 }
 
-/// How a command is given a value. Whether the value has to be there isn't told here: the command asks for it.
+/// How a command gets a value. Whether it is required isn't said here: the command requires it.
 #[derive(Clone, Copy)]
 pub enum Form {
     /// As a word.
@@ -120,7 +132,7 @@ pub enum Form {
     Flag,
 }
 
-/// A value that a command is given.
+/// A value that a command takes.
 #[derive(Clone, Copy)]
 pub struct Value {
     name: &'static str,
@@ -148,6 +160,8 @@ impl Name {
             "audit" => Some(Name::Audit),
             "version" => Some(Name::Version),
             "send" => Some(Name::Send),
+            "enter" => Some(Name::Enter),
+            "host" => Some(Name::Host),
             _ => None,
         }
     }
@@ -171,10 +185,12 @@ impl Name {
             Name::Audit => "audit",
             Name::Version => "version",
             Name::Send => "send",
+            Name::Enter => "enter",
+            Name::Host => "host",
         }
     }
 
-    /// The values that the command is given.
+    /// The values that the command takes.
     fn values(self) -> &'static [Value]
         ensures { map rule_of_value result.now ≡ rules_of self }
     {
@@ -193,6 +209,8 @@ impl Name {
             Name::Audit => &audit::VALUES,
             Name::Version => &[],
             Name::Send => &send::VALUES,
+            Name::Enter => &enter::VALUES,
+            Name::Host => &host::VALUES,
         }
     }
 }
@@ -242,7 +260,7 @@ fn matches_at<'a>(command: Command<'a>, words: &'a [&'a str]) -> Result<ArgMatch
     command.try_get_matches_from(words)
 }
 
-/// The task of a command with these values, or the first thing that is wrong with them.
+/// The task of a command with these values, or their first fault.
 fn task_of<'a>(name: Name, matches: &ArgMatches<'a>) -> Result<Task<'a>, ValueFault<'a>>
     ensures { IsReadAs name (first_value (found_of matches.now)) result }
 {
@@ -294,11 +312,19 @@ fn task_of<'a>(name: Name, matches: &ArgMatches<'a>) -> Result<Task<'a>, ValueFa
         },
         Name::Version => Ok(Task::Version(Version)),
         Name::Send => Ok(Task::Send(Send::of(matches)?)),
+        Name::Enter => match Enter::of(matches) {
+            Ok(task) => Ok(Task::Enter(task)),
+            Err(fault) => Err(fault),
+        },
+        Name::Host => match HostGames::of(matches) {
+            Ok(task) => Ok(Task::Host(task)),
+            Err(fault) => Err(fault),
+        },
     }
 }
 
 impl<'a> Task<'a> {
-    /// What is read for the task.
+    /// The places to read for the task.
     pub(crate) fn places(&self) -> Places<'a>
         ensures { named_by result ≡ named_in self.now }
     {
@@ -317,6 +343,8 @@ impl<'a> Task<'a> {
             Task::Audit(task) => task.places(),
             Task::Version(task) => task.places(),
             Task::Send(task) => task.places(),
+            Task::Enter(task) => task.places(),
+            Task::Host(task) => task.places(),
         }
     }
 }
@@ -328,7 +356,7 @@ fn asks_for_help(word: &str) -> bool
     word == "help" || word == "--help" || word == "-h"
 }
 
-/// What is wrong with a first word that names no command.
+/// The fault of a first word that names no command.
 fn misuse_of(word: &str) -> Misuse<'_>
     ensures { IsMisuseOf word.entry.now result }
 {
@@ -370,8 +398,9 @@ fn task_by<'a>(alloc: Global, name: Name, words: &'a [&'a str]) -> Result<Task<'
 
 /// The task that the words name: the first word is the command, and the others are its own.
 ///
-/// Else they are a misuse, of which the first is told: no word, or a first one that asks for help or names no command; words that the command
-/// doesn't have, or a wish for help; the command's values in its own order. Want of memory is told where a growth is refused.
+/// Otherwise the error is the first misuse that applies. There is no word, or the first one asks for help or names no
+/// command. Then come words that the command doesn't have, or a request for help; then the command's values in its own
+/// order. Refused memory is returned where a growth is refused.
 pub fn parse<'a>(alloc: Global, words: &'a [&'a str]) -> Result<Task<'a>, Usage<'a>>
     ensures ok { IfOk result (IsTask (map (λ w. w.now) words.entry.now)) }
     ensures misuse { IfErr result (λ e. (misuse : Misuse) → e ≡ Usage.Misuse misuse → IsMisuse (map (λ w. w.now) words.entry.now) misuse) }

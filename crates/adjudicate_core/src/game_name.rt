@@ -38,12 +38,12 @@ impl<'a> GameName<'a> {
         }
     }
 
-    /// The name as a text.
-    pub fn into_text(self) -> &'a str
-        ensures text { result.now ≡ self.entry }
+    /// The bytes of the name.
+    pub fn as_bytes(&self) -> &'a [u8]
+        ensures bytes { result.now ≡ self.now }
         ensures name { IsGameName result.now }
     {
-        self.text
+        self.text.as_bytes()
     }
 
     /// The stamp of the game of this name with this start, manifest of tables and delay.

@@ -6,7 +6,8 @@
 //! whether they are those of one. `show` prints the messages on standard input; `run` runs the schedule on standard input, and
 //! prints what becomes of its two arbiters. `listen` is an arbiter that answers the datagrams of a socket and keeps its record in a
 //! file, and `send` the source of a game, which sends the moves on standard input to both arbiters. `record` prints what a kept file
-//! says, and `audit` whether it is by the rules of the game; `version` prints the program's version.
+//! says, and `audit` whether it is by the rules of the game; `enter` writes a game's file to a folder of games, and prints its stamp,
+//! and `host` answers datagrams of all games there; `version` prints the program's version.
 //!
 //! Statuses: 0 done, 1 refused, 2 misuse.
 //!
@@ -18,11 +19,14 @@ mod answers;
 mod auditing;
 mod binding;
 mod commands;
+mod entering;
 mod file_name;
 mod game_name;
+mod hosting;
 pub mod laws;
 mod lines;
 mod listening;
+mod manifests;
 mod numbers;
 mod program;
 mod reading;
@@ -37,8 +41,8 @@ mod values;
 
 pub use auditing::Finding;
 pub use commands::{
-    Audit, Check, FollowGame, Form, Judge, List, Listen, Moves, Name, Probe, Probes, RunSchedule,
-    Send, Show, ShowRecord, Task, Value, Version, parse,
+    Audit, Check, Enter, FollowGame, Form, HostGames, Judge, List, Listen, Moves, Name, Probe,
+    Probes, RunSchedule, Send, Show, ShowRecord, Task, Value, Version, parse,
 };
 pub use game_name::GameName;
 pub use numbers::{CacheSize, Delay};

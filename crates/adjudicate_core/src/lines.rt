@@ -42,27 +42,27 @@ pub(crate) enum Line {
     Move(Move),
     /// Whether the file of this name is the table that it should be.
     Look(ArrayString<16>, Option<FileFault>),
-    /// The value that the tables tell, or why they tell none.
+    /// The value in the tables, or why there is none.
     Wdl(Column),
-    /// The distance that the tables tell, or why they tell none.
+    /// The distance in the tables, or why there is none.
     Dtz(Column),
     /// A message.
     Message(Message),
-    /// How an arbiter is, and what it keeps, if anything.
+    /// The state of an arbiter, and what it keeps, if anything.
     Arbiter(Who, State, Option<KeptCount>),
     /// How many messages were sent.
     Sent(usize),
-    /// What is found of a kept file.
+    /// The finding on a kept file.
     Finding(Finding),
     /// At which ply two records part first, if they do.
     Compared(Option<usize>),
-    /// What a game comes to.
+    /// The outcome of a game.
     Outcome(Outcome),
-    /// What both probes tell of a position, and the verdict on it.
+    /// Both probes of a position, and the verdict on it.
     Columns(Columns),
 }
 
-/// Tells what the tables tell, or why they tell nothing.
+/// Writes a value of the tables, or why there is none.
 fn fmt_told<W: fmt::Write>(f: &mut fmt::Formatter<W>, question: &str, told: Column) -> fmt::Result
     ensures { DisplaysOnOk W.Write.write_str_gives f.old result (Some (told_words question.now told.0)) f.new }
 {
@@ -79,7 +79,7 @@ fn letter_of(who: Who) -> &'static str
     }
 }
 
-/// The word for how an arbiter is.
+/// The word for the state of an arbiter.
 fn state_word(state: State) -> &'static str
     ensures { result.now ≡ state_word state }
 {
@@ -90,7 +90,7 @@ fn state_word(state: State) -> &'static str
     }
 }
 
-/// Tells how an arbiter is, and what it keeps.
+/// Writes the state of an arbiter, and what it keeps.
 #[tactic(auto, unfolding(crate::specs::Lines::arbiter_words))]
 fn fmt_arbiter<W: fmt::Write>(
     f: &mut fmt::Formatter<W>,
@@ -111,7 +111,7 @@ fn fmt_arbiter<W: fmt::Write>(
     }
 }
 
-/// Tells a name, and a word on it.
+/// Writes a name, and a word on it.
 fn fmt_named<W: fmt::Write>(f: &mut fmt::Formatter<W>, name: &str, word: &str) -> fmt::Result
     ensures { DisplaysOnOk W.Write.write_str_gives f.old result (Some (name.now ++ codes " " ++ word.now)) f.new }
 {
@@ -155,7 +155,7 @@ pub(crate) fn put_line<W: Write>(out: &mut W, line: &Line) -> Result<(), WriteFa
     }
 }
 
-/// Writes why all else is refused, and tells the status 1.
+/// Writes a refusal of everything, and returns the status 1.
 pub(crate) fn put_refusal<W: Write>(out: &mut W, refusal: Refusal) -> Result<u8, WriteFault>
     ensures { IfOk result (λ status. Appends (W.contents out.old) (W.contents out.new) (ended (refusal_words refusal)) × (status ≡ 1)) }
 {

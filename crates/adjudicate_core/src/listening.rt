@@ -1,12 +1,14 @@
 //! An arbiter that answers datagrams, from its words to its status.
 
-ghost use Rattle.std.specs.Prelude.{◌≡◌, IfOk, Ok};
+ghost use Rattle.std.specs.Prelude.{◌≡◌, true, string_bytes, IfOk, Ok, Some};
 ghost use Rattle.board_core.specs.Position.{IsPosition};
 ghost use Rattle.fen_text.specs.Fen.{SpellsPosition};
 ghost use Rattle.move_msg.specs.Files.{entries_of};
 ghost use Rattle.move_msg.specs.Manifests.{SpellsManifest};
+ghost use Rattle.move_msg.specs.TextLines.{ended};
 ghost use Rattle.arbiter_core.specs.Setups.{setup_view};
-ghost use Rattle.adjudicate_core.specs.Listens.{BindsAndWrites, KeepsAndWrites, ListensAndWrites, OpensAndWrites, TellsUnopened, WritesAt, hosted, setup_for};
+ghost use Rattle.adjudicate_core.specs.Listens.{BindsAndWrites, KeepsAndWrites, ListensAndWrites, OpensAndWrites, StartsAndWrites, TellsUnopened, WritesAt, hosted, setup_for};
+ghost use Rattle.adjudicate_core.specs.Lines.{ready_words};
 ghost use Rattle.adjudicate_core.specs.Looks.{gathered};
 ghost use Rattle.arbiter_service.specs.GoingOut.{writers};
 ghost use Rattle.arbiter_service.specs.StoredBytes.{IsInFile};
@@ -14,19 +16,21 @@ ghost use Rattle.arbiter_service.specs.StoredBytes.{IsInFile};
 use crate::binding::bind;
 use crate::commands::Listen;
 use crate::lines::put_refusal;
+use crate::numbers::CacheSize;
 use crate::refusals::Refusal;
 use crate::sources::Sources;
 use crate::tables::gather;
-use arbiter_core::{OpenFault, Setup};
-use arbiter_service::FileKeeper;
+use arbiter_core::{OpenFault, Setup, name_of};
+use arbiter_service::{FileKeeper, put_line};
 use board_core::Position;
 use fen_text::read;
 use judge_core::Set;
 use move_msg::manifest_of;
 use std::alloc::{AllocError, Global};
+use std::net::SocketAddr;
 use system_io::{BindFault, Host, KeptFile, Output, Port, ReadFault, WriteFault};
 
-/// Tells that no arbiter is opened: `refused keeper`, or `refused memory` where memory was refused.
+/// Writes that no arbiter is opened: `refused keeper`, or `refused memory` where memory was refused.
 fn put_unopened<W: Output>(fault: OpenFault, out: &mut W) -> Result<u8, WriteFault>
     ensures { TellsUnopened fault (W.contents out.old) (W.contents out.new) result }
 {
@@ -36,7 +40,7 @@ fn put_unopened<W: Output>(fault: OpenFault, out: &mut W) -> Result<u8, WriteFau
     }
 }
 
-/// Opens an arbiter over a keeper, and lets it answer the datagrams of a port. An arbiter that can't be opened is told as
+/// Opens an arbiter over a keeper, and answers the datagrams of a port. Where no arbiter can be opened, the line is
 /// `refused keeper`.
 fn open_and_serve<F: KeptFile + Drop, P: Port, W: Output>(
     alloc: Global,
@@ -64,8 +68,8 @@ fn open_and_serve<F: KeptFile + Drop, P: Port, W: Output>(
     }
 }
 
-/// Makes a keeper over the file in which the record is kept, and serves over it. A file that can't be read is told as
-/// `refused keeper`.
+/// Makes a keeper over the file in which the record is kept, and serves over it. Where the file can't be read, the line
+/// is `refused keeper`.
 fn keep_and_serve<F: KeptFile + Drop, P: Port, W: Output>(
     alloc: Global,
     listening: &Listen<'_>,
@@ -100,7 +104,58 @@ fn serve_at<H: Host, W: Output>(
     }
 }
 
-/// Binds the address that the words name, and serves there. An address that can't be bound is told as `refused port`.
+/// The line that tells the address at which a port listens.
+pub(crate) fn ready_line(alloc: Global, own: SocketAddr) -> Result<String, AllocError>
+    ensures { IfOk result (λ line. string_bytes line ≡ ended (ready_words own)) }
+{
+    format!(in alloc; "ready {own}\n")
+}
+
+/// Tells the address at which the port listens, and serves when that line has gone out.
+fn tell_and_serve<H: Host, W: Output>(
+    alloc: Global,
+    listening: &Listen<'_>,
+    setup: Setup<'_>,
+    host: &H,
+    port: &mut H::Port,
+    own: SocketAddr,
+    out: &mut W,
+) -> Result<u8, WriteFault>
+    requires wanted { listening.now.ready ≡ true }
+    requires own { (H.facts host.now).listens port.old (Some own) }
+    ensures { StartsAndWrites (hosted (H.facts host.now) H.Port.facts H.File.facts) (writers W.contents W.facts) listening.now (setup_view setup.entry) port.old (H.Port.facts port.new) out.old out.new result }
+{
+    let Ok(line) = ready_line(alloc, own) else {
+        return put_refusal(out, Refusal::Memory);
+    };
+    match put_line(out, line.as_str().as_bytes()) {
+        Ok(()) => serve_at(alloc, listening, setup, host, port, out),
+        Err(refused) => Err(refused),
+    }
+}
+
+/// Serves at a port; before that the address at which it listens is told, where that is wanted. An address that isn't known is told
+/// as `refused port`.
+fn start_at<H: Host, W: Output>(
+    alloc: Global,
+    listening: &Listen<'_>,
+    setup: Setup<'_>,
+    host: &H,
+    port: &mut H::Port,
+    out: &mut W,
+) -> Result<u8, WriteFault>
+    ensures { StartsAndWrites (hosted (H.facts host.now) H.Port.facts H.File.facts) (writers W.contents W.facts) listening.now (setup_view setup.entry) port.old (H.Port.facts port.new) out.old out.new result }
+{
+    if !listening.ready {
+        return serve_at(alloc, listening, setup, host, port, out);
+    }
+    match host.own_address(port) {
+        Some(own) => tell_and_serve(alloc, listening, setup, host, port, own, out),
+        None => put_refusal(out, Refusal::Port),
+    }
+}
+
+/// Binds the address that the words name, and serves there. Where it can't be bound, the line is `refused port`.
 fn bind_and_serve<H: Host, W: Output>(
     alloc: Global,
     listening: &Listen<'_>,
@@ -111,14 +166,14 @@ fn bind_and_serve<H: Host, W: Output>(
     ensures { BindsAndWrites (hosted (H.facts host.now) H.Port.facts H.File.facts) (writers W.contents W.facts) listening.now (setup_view setup.entry) out.old out.new result }
 {
     match bind(alloc, host, listening.bind, listening.to) {
-        Ok(mut port) => serve_at(alloc, listening, setup, host, &mut port, out),
+        Ok(mut port) => start_at(alloc, listening, setup, host, &mut port, out),
         Err(BindFault::Unbound) => put_refusal(out, Refusal::Port),
         Err(BindFault::OutOfMemory) => put_refusal(out, Refusal::Memory),
     }
 }
 
 /// The manifest of the tables.
-fn manifest_for(alloc: Global, sources: &Sources) -> Result<Vec<u8>, AllocError>
+pub(crate) fn manifest_for(alloc: Global, sources: &Sources) -> Result<Vec<u8>, AllocError>
     ensures { IfOk result (λ text. SpellsManifest text.items (entries_of sources.now.files)) }
 {
     manifest_of(alloc, sources.files())
@@ -128,18 +183,16 @@ fn manifest_for(alloc: Global, sources: &Sources) -> Result<Vec<u8>, AllocError>
 fn listen_with<'a, H: Host, W: Output>(
     alloc: Global,
     listening: &Listen<'_>,
-    name: &'a [u8],
     start: Position,
     manifest: &'a [u8],
     set: Set<'a>,
     host: &H,
     out: &mut W,
 ) -> Result<u8, WriteFault>
-    requires { name.now ≡ listening.now.name.now }
     ensures { BindsAndWrites (hosted (H.facts host.now) H.Port.facts H.File.facts) (writers W.contents W.facts) listening.now (setup_for listening.now start set.entry manifest.entry.now) out.old out.new result }
 {
     let setup = Setup {
-        name,
+        name: name_of(listening.name.as_bytes()),
         start,
         manifest,
         me: listening.me.number(),
@@ -149,7 +202,7 @@ fn listen_with<'a, H: Host, W: Output>(
     bind_and_serve(alloc, listening, setup, host, out)
 }
 
-/// Writes the manifest of the tables, by which the game is stamped, and serves with it.
+/// Writes the manifest of the tables, on which the stamp depends, and serves with it.
 fn listen_by<'a, H: Host, W: Output>(
     alloc: Global,
     listening: &Listen<'a>,
@@ -168,14 +221,14 @@ fn listen_by<'a, H: Host, W: Output>(
         Ok(manifest) => manifest,
         Err(_) => return put_refusal(out, Refusal::Memory),
     };
-    let name = listening.name.as_bytes();
-    listen_with(alloc, listening, name, start, &manifest, set, host, out)
+    listen_with(alloc, listening, start, &manifest, set, host, out)
 }
 
-/// Opens an arbiter as its words say, lets it answer datagrams, and tells the status.
+/// Opens an arbiter as its words say, answers datagrams, and returns the status.
 ///
-/// What is refused is told in one line, in this order: the text of its start, the tables, the address, and the file in which the
-/// record is kept or what stands there. Where memory is refused the line is `refused memory`. The error comes only where the
+/// Where that is wanted, the first line is `ready` and the address at which datagrams come, when that is bound. What is refused is
+/// told in one line, in this order: the text of its start, the tables, the address, and the file in which the record is kept or what
+/// stands there. Where memory is refused the line is `refused memory`. The error comes only where the
 /// writer failed.
 pub fn listen<'a, H: Host, W: Output>(
     alloc: Global,
@@ -190,7 +243,7 @@ pub fn listen<'a, H: Host, W: Output>(
         Ok(start) => start,
         Err(fault) => return put_refusal(out, Refusal::Fen(fault)),
     };
-    match gather(alloc, sources) {
+    match gather(alloc, sources, CacheSize::usual()) {
         Ok(Ok(set)) => listen_by(alloc, listening, sources, start, set, host, out),
         Ok(Err(refusal)) => put_refusal(out, refusal),
         Err(_) => put_refusal(out, Refusal::Memory),

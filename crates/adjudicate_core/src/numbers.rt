@@ -3,10 +3,11 @@
 ghost use Rattle.std.specs.Prelude.{◌≡◌, ◌≤◌, ℕ, option_map, IfSome, IfNone, Some};
 ghost use Rattle.move_msg.specs.declared.who.Who.{Who};
 ghost use Rattle.board_core.specs.Delays.{most_delay};
-ghost use Rattle.adjudicate_core.specs.Numbers.{IsCache, IsDatagrams, IsDelay, IsHundredOr, IsMe, is_set};
+ghost use Rattle.adjudicate_core.specs.Numbers.{IsAtOnce, IsCache, IsDatagrams, IsDelay, IsHundredOr, IsMe, is_set};
 
 use move_msg::Who;
 use std::marker::Model;
+use std::num::NonZeroUsize;
 
 /// How many decoded blocks the cache of an arbiter's tables may have, 1 to 4096; contracts see the
 /// number.
@@ -28,13 +29,13 @@ impl Model for CacheSize {
 }
 
 impl CacheSize {
-    /// The number of blocks that a text tells, and 64 where there is no text; none outside 1 to 4096.
+    /// The number of blocks in a text, and 64 where there is no text; none outside 1 to 4096.
     pub fn of(text: Option<&str>) -> Option<CacheSize>
         ensures some { IfSome result (IsCache (option_map (λ s. s.now) text.entry)) }
         ensures none { IfNone result ((n : ℕ) → IsCache (option_map (λ s. s.now) text.entry) n → ⊥) }
     {
         let Some(text) = text else {
-            return Some(CacheSize { blocks: 64 });
+            return Some(CacheSize::usual());
         };
         let Ok(blocks) = text.parse::<u16>() else {
             return None;
@@ -43,6 +44,13 @@ impl CacheSize {
             return None;
         }
         Some(CacheSize { blocks })
+    }
+
+    /// 64 blocks.
+    pub fn usual() -> CacheSize
+        ensures { result ≡ 64 }
+    {
+        CacheSize { blocks: 64 }
     }
 
     /// The number of blocks.
@@ -75,7 +83,7 @@ impl Model for Delay {
 }
 
 impl Delay {
-    /// The number of plies that a text tells, and 0 where there is no text; none above 8.
+    /// The number of plies in a text, and 0 where there is no text; none above 8.
     pub fn of(text: Option<&str>) -> Option<Delay>
         ensures some { IfSome result (IsDelay (option_map (λ s. s.now) text.entry)) }
         ensures none { IfNone result ((n : ℕ) → IsDelay (option_map (λ s. s.now) text.entry) n → ⊥) }
@@ -98,7 +106,7 @@ impl Delay {
     }
 }
 
-/// The number from 1 to 65535 that a text tells, and 100 where there is no text; none where it tells another.
+/// The number from 1 to 65535 in a text, and 100 where there is no text; none for any other.
 pub fn hundred_or(text: Option<&str>) -> Option<u16>
     ensures some { IfSome result (IsHundredOr (option_map (λ s. s.now) text.entry)) }
     ensures none { IfNone result ((n : ℕ) → IsHundredOr (option_map (λ s. s.now) text.entry) n → ⊥) }
@@ -112,18 +120,37 @@ pub fn hundred_or(text: Option<&str>) -> Option<u16>
     }
 }
 
-/// How many datagrams a text tells, 0 to 2^32 - 1; none where it tells no such number.
-pub fn datagrams_of(text: &str) -> Option<u32>
-    ensures some { IfSome result (IsDatagrams (Some text.now)) }
-    ensures none { IfNone result ((n : ℕ) → IsDatagrams (Some text.now) n → ⊥) }
+/// How many games a text tells that are open at once, 1 to 65535, and 256 where there is no text; none where it tells another
+/// number.
+pub fn at_once_of(text: Option<&str>) -> Option<NonZeroUsize>
+    ensures some { IfSome result (λ n. IsAtOnce (option_map (λ s. s.now) text.entry) n.value) }
+    ensures none { IfNone result ((n : ℕ) → IsAtOnce (option_map (λ s. s.now) text.entry) n → ⊥) }
 {
-    match text.parse::<u32>() {
-        Ok(datagrams) => Some(datagrams),
+    let Some(text) = text else {
+        return NonZeroUsize::new(256);
+    };
+    match text.parse::<u16>() {
+        Ok(number) => NonZeroUsize::new(usize::from(number)),
         Err(_) => None,
     }
 }
 
-/// Which of the two arbiters a text tells, 1 or 2; none where it tells another number.
+/// The number of datagrams in a text, 0 to 2^32 - 1; none where it is no such number. Where there is no text they are 2^64 - 1,
+/// which no run comes to.
+pub fn datagrams_of(text: Option<&str>) -> Option<u64>
+    ensures some { IfSome result (IsDatagrams (option_map (λ s. s.now) text.entry)) }
+    ensures none { IfNone result ((n : ℕ) → IsDatagrams (option_map (λ s. s.now) text.entry) n → ⊥) }
+{
+    let Some(text) = text else {
+        return Some(u64::MAX);
+    };
+    match text.parse::<u32>() {
+        Ok(datagrams) => Some(u64::from(datagrams)),
+        Err(_) => None,
+    }
+}
+
+/// The number of the arbiter in a text, 1 or 2; none where it is another number.
 pub fn me_of(text: &str) -> Option<Who>
     ensures some { IfSome result (IsMe (Some text.now)) }
     ensures none { IfNone result ((who : Who) → IsMe (Some text.now) who → ⊥) }

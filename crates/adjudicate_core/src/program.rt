@@ -11,6 +11,8 @@ ghost use Rattle.adjudicate_core.specs.Uses.{TellsMisuse};
 
 use crate::answers::{put_answered, put_read};
 use crate::commands::{Task, parse};
+use crate::entering::enter;
+use crate::hosting::host_games;
 use crate::lines::put_refusal;
 use crate::listening::listen;
 use crate::refusals::Refusal;
@@ -22,18 +24,18 @@ use std::alloc::{AllocError, Global};
 use std::io::Write;
 use system_io::{Disk, Host, Input, Output, ReadFault, WriteFault};
 
-/// Answers a task from what was read for it, and tells the status, 0 done or 1 refused.
+/// Answers a task from what was read for it, and returns the status, 0 done or 1 refused.
 ///
-/// `judge` and `probe` look at all files, or with a manifest at those of its lines, in its order, and
-/// tell the first refusal: of the text, then of the manifest, then of a file. `run` tells that of a line of
-/// the schedule, then of a file; and where it refuses nothing, there are worlds of the schedule, in each of
-/// which the records of both arbiters are true to the game and their verdicts one, and it tells the last.
+/// `judge` and `probe` use all files, or with a manifest those of its lines, in its order. They report the first
+/// refusal: of the text, then of the manifest, then of a file. `run` reports that of a line of the schedule, then of a
+/// file. Where it refuses nothing, there are worlds of the schedule, in each of which the records of both arbiters are
+/// true to the game and their verdicts one. It reports the last.
 ///
-/// Where memory is refused, the line `refused memory` comes in place of all else, for `probes` after the whole lines before it,
-/// with status 1; a
-/// text that is no position takes none, and `show` takes none. The error comes only where the writer
-/// failed. `list` and `check` read their folder here, and hold one file at a time. With `--progress`, `probes` tells `errors` after
-/// every 10,000 lines how many are done, `list` and `check` after each hundred million bytes; no other task writes there.
+/// Where memory is refused, the line `refused memory` comes in place of all else, for `probes` after the whole lines
+/// before it, with status 1. A text that is no position takes none, and `show` takes none. The error comes only where
+/// the writer failed. `list` and `check` read their folder here, and hold one file at a time. With `--progress` the
+/// progress goes to `errors`: for `probes` after every 10,000 lines, for `list` and `check` after each hundred million
+/// bytes. No other task writes there.
 fn answer_given<D: Disk, I: Input, H: Host, W: Output, E: Output>(
     alloc: Global,
     task: &Task,
@@ -62,6 +64,8 @@ fn answer_given<D: Disk, I: Input, H: Host, W: Output, E: Output>(
         Task::Audit(task) => put_answered(out, task.answer(alloc, sources)),
         Task::Version(task) => task.answer(out),
         Task::Send(task) => send(alloc, task, disk, input, host, out),
+        Task::Enter(task) => enter(alloc, task, disk, host, out),
+        Task::Host(task) => host_games(alloc, task, sources, disk, host, out),
     }
 }
 
@@ -86,18 +90,17 @@ fn run_task<D: Disk, I: Input, H: Host, W: Output, E: Output>(
     }
 }
 
-/// Runs the program on the words after its own name, and tells the status: 0 done, 1 refused, 2
-/// misuse.
+/// Runs the program on the words after its own name, and returns the status: 0 done, 1 refused, 2 misuse.
 ///
 /// All that a task names is read before anything is answered: its folder, of which the files of tables are looked at, its
 /// manifest, for `show`, `run` and `game` the input, to its end, and for `record` and `audit` kept files. What can't be read or has
 /// more than 2^30 bytes, a kept file more than 8217, is told as `refused files`. `list` and `check` hold one file at a time, and so
 /// does `send`. `probes` and `send` read the input line by line, and answer each line as it comes. `listen` and `send` open a port;
-/// only `listen` writes a kept file.
+/// only `listen` writes a kept file, and `enter` a game's file.
 ///
-/// Answers go to `out`. Of words that are misused `errors` is told in one line what is wrong, and the command lines that there are;
-/// where they ask for help, these alone. How far a task with `--progress` is goes there too, and nothing else; its failure changes
-/// nothing. The error comes only where `out` failed.
+/// Answers go to `out`. For a misuse one line on `errors` says what is wrong, followed by the usage. A request for help
+/// gets the usage alone. The progress of a task with `--progress` goes there too, and nothing else. A failure of
+/// `errors` changes nothing. The error comes only where `out` failed.
 pub fn run<D: Disk, I: Input, H: Host, W: Output, E: Output>(
     alloc: Global,
     words: &[&str],
@@ -141,15 +144,15 @@ fn texts_of<'a>(alloc: Global, words: &'a [String]) -> Result<Vec<&'a str>, Allo
     Ok(texts)
 }
 
-/// Writes the line `refused memory`, and tells the status 1.
+/// Writes the line `refused memory`, and returns the status 1.
 pub fn refuse_memory<W: Write>(out: &mut W) -> Result<u8, WriteFault>
     ensures { IfOk result (TellsOne refused_memory (W.contents out.old) (W.contents out.new)) }
 {
     put_refusal(out, Refusal::Memory)
 }
 
-/// Runs the program on all words that it was called with, its own name first. Where one is no text they are misused, and where
-/// memory was refused for them, that is told.
+/// Runs the program on all words that it was called with, its own name first. A word that is not UTF-8 is a misuse.
+/// Where memory was refused for the words, the line is `refused memory`.
 pub fn run_program<D: Disk, I: Input, H: Host, W: Output, E: Output>(
     alloc: Global,
     called: &Result<Vec<String>, WordsFault>,

@@ -33,7 +33,7 @@ fn is_named(lines: &[Line], name: &str) -> bool
     false
 }
 
-/// Whether the manifest wants the file of this name; without one each is wanted.
+/// Whether the file of this name is wanted: by the manifest, or, without one, always.
 fn is_wanted(name: &str, manifest: &Manifest) -> bool
     ensures { IsTrue result ↔ IsWanted (told_by manifest.now) name.now }
 {
@@ -154,10 +154,10 @@ fn read_file<D: Disk>(
     }
 }
 
-/// After how many bytes it is told how many are read.
+/// The number of bytes between two lines of progress.
 const PROGRESS_BYTES: u64 = 100_000_000;
 
-/// Writes how many times a hundred million bytes are read.
+/// Writes the progress, in hundreds of millions of bytes.
 fn put_read<E: Write>(errors: &mut E, hundreds: u64) -> Result<(), WriteFault>
     ensures { OnOk result (Appends (E.contents errors.old) (E.contents errors.new) (ended (read_words hundreds))) }
 {
@@ -167,7 +167,7 @@ fn put_read<E: Write>(errors: &mut E, hundreds: u64) -> Result<(), WriteFault>
     }
 }
 
-/// Tells how many bytes are read, where that is wanted and another hundred million are; a failure changes nothing.
+/// Writes the progress, if requested, where another hundred million bytes are read. A failure changes nothing.
 fn tell_read<E: Write>(errors: &mut E, progress: bool, before: u64, now: u64)
     ensures quiet { progress ≡ false → errors.new ≡ errors.old }
 {
@@ -181,7 +181,7 @@ fn tell_read<E: Write>(errors: &mut E, progress: bool, before: u64, now: u64)
     }
 }
 
-/// Reads the files of these names in a folder one by one, and keeps of each what is made of it.
+/// Reads the files of these names in a folder one by one, and keeps a look made from each.
 fn look_at_files<D: Disk, L: Look, E: Write>(
     alloc: Global,
     disk: &D,
@@ -214,12 +214,12 @@ fn look_at_files<D: Disk, L: Look, E: Write>(
     Ok(looks)
 }
 
-/// What is made of the wanted files of tables that a folder has, in rising order of names: those whose names are of tables'
+/// The looks at the wanted table files of a folder, in rising order of names. Wanted are those with names of table
 /// files, and with a manifest only those that its lines name. One file at a time is held.
 ///
-/// `Unreadable` where the folder or one of these files can't be read or has more than 2^30 bytes, or the folder lists one of
-/// them twice. With `progress` it tells `errors` after each hundred million bytes how many are read, as `300 MB done`; without,
-/// nothing is written there, and a failure there changes nothing.
+/// `Unreadable` where the folder or one of these files can't be read or has more than 2^30 bytes, or the folder lists
+/// one of them twice. With `progress` a line such as `300 MB done` goes to `errors` after each hundred million bytes.
+/// Without it nothing is written there. A failure there changes nothing.
 pub(crate) fn looks_in<D: Disk, L: Look, E: Write>(
     alloc: Global,
     disk: &D,
@@ -243,7 +243,7 @@ pub(crate) fn looks_in<D: Disk, L: Look, E: Write>(
     look_at_files(alloc, disk, folder, &wanted, errors, progress)
 }
 
-/// The wanted files of tables that a folder has, in rising order of names: those whose names are of tables' files, and with a
+/// The wanted table files of a folder, in rising order of names. Wanted are those with names of table files, and with a
 /// manifest only those that its lines name.
 ///
 /// `Unreadable` where the folder or one of these files can't be read or has more than 2^30 bytes, or the folder lists one of

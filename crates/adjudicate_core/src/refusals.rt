@@ -1,4 +1,4 @@
-//! Why something is refused, as it is told.
+//! Refusals and their text.
 
 ghost use Rattle.std.specs.Prelude.{◌++◌, Some};
 ghost use Rattle.std.specs.Fmt.{DisplaysOnOk, decimal};
@@ -15,15 +15,15 @@ use std::fmt;
 pub(crate) enum Refusal {
     /// A text is no position.
     Fen(FenFault),
-    /// The first line of a manifest that is at fault, by its number, the first being 1.
+    /// The first malformed line of a manifest, by its number, counted from 1.
     Manifest(usize),
     /// The first file that isn't the table that it should be.
     File(ArrayString<16>, FileFault),
-    /// A message of a stream, by its number, the first being 1, and what is wrong with it; nothing where it is cut.
+    /// A message of a stream, by its number, counted from 1, and its fault; none where it is cut.
     Message(usize, Option<MessageFault>),
-    /// The first line of a schedule that is at fault, by its number, the first being 1.
+    /// The first malformed line of a schedule, by its number, counted from 1.
     Line(usize),
-    /// A word that is no move, by its place, the first being 0.
+    /// A word that is no move, by its place, counted from 0.
     Move(usize),
     /// The bytes of a kept file are no record.
     Record(RecordFault),
@@ -37,7 +37,7 @@ pub(crate) enum Refusal {
     Memory,
 }
 
-/// Tells why a text is no position.
+/// Writes why a text is no position.
 fn fmt_fen<W: fmt::Write>(f: &mut fmt::Formatter<W>, fault: FenFault) -> fmt::Result
     ensures { DisplaysOnOk W.Write.write_str_gives f.old result (Some (refused_fen fault)) f.new }
 {
@@ -47,21 +47,21 @@ fn fmt_fen<W: fmt::Write>(f: &mut fmt::Formatter<W>, fault: FenFault) -> fmt::Re
     }
 }
 
-/// Tells that a file is refused.
+/// Writes that a file is refused.
 fn fmt_file<W: fmt::Write>(f: &mut fmt::Formatter<W>, name: &str, word: &str) -> fmt::Result
     ensures { DisplaysOnOk W.Write.write_str_gives f.old result (Some (refused_file name.now word.now)) f.new }
 {
     write!(f, "refused {name} {word}")
 }
 
-/// Tells that a message is refused.
+/// Writes that a message is refused.
 fn fmt_message<W: fmt::Write>(f: &mut fmt::Formatter<W>, number: usize, word: &str) -> fmt::Result
     ensures { DisplaysOnOk W.Write.write_str_gives f.old result (Some (refused_message number word.now)) f.new }
 {
     write!(f, "refused message {number} {word}")
 }
 
-/// Tells a number after these words.
+/// Writes a number after these words.
 fn fmt_number<W: fmt::Write>(f: &mut fmt::Formatter<W>, words: &str, number: usize) -> fmt::Result
     ensures { DisplaysOnOk W.Write.write_str_gives f.old result (Some (words.now ++ decimal number)) f.new }
 {

@@ -1,81 +1,26 @@
 //! The source of a game: the moves of the input at a port.
 
-ghost use Rattle.std.specs.Prelude.{◌≡◌, None, Some, IfErr, IfOk, option_map};
+ghost use Rattle.std.specs.Prelude.{◌≡◌};
 ghost use Rattle.board_core.specs.Position.{IsPosition};
 ghost use Rattle.fen_text.specs.Fen.{SpellsPosition};
 ghost use Rattle.fen_text.specs.Written.{fen_of};
 ghost use Rattle.move_msg.specs.Stamps.{stamp_of};
-ghost use Rattle.adjudicate_core.specs.declared.commands.send.Send.{Send};
-ghost use Rattle.adjudicate_core.specs.Inside.SendingParts.{LacksManifestOrRoom};
 ghost use Rattle.adjudicate_core.specs.Listens.{hosted};
-ghost use Rattle.adjudicate_core.specs.Sends.{BindsAndSends, IsManifestOf, Sends, SendsOver};
+ghost use Rattle.adjudicate_core.specs.Sends.{BindsAndSends, Sends, SendsOver};
 
 use crate::binding::bind;
 use crate::commands::Send;
 use crate::lines::put_refusal;
-use crate::reading::looks_in;
+use crate::manifests::manifest_for;
 use crate::refusals::Refusal;
 use board_core::Position;
 use fen_text::read;
-use move_msg::{Line, Manifest, ManifestFault, manifest_read, manifest_write};
 use source_core::{Terms, send_game};
 use std::alloc::Global;
-use std::io;
 use std::time::Duration;
-use system_io::{BindFault, Disk, Host, Input, Output, Port, ReadFault, WriteFault};
+use system_io::{BindFault, Disk, Host, Input, Output, Port, WriteFault};
 
-/// The manifest at a path.
-fn manifest_at<D: Disk>(alloc: Global, disk: &D, path: &str) -> Result<Vec<u8>, Refusal>
-    ensures ok { IfOk result (λ text. (t : Send) → option_map (λ s. s.now) t.manifest ≡ Some path.now → IsManifestOf (D.facts disk.now) t text.items) }
-    ensures err { IfErr result (λ refusal. (t : Send) → option_map (λ s. s.now) t.manifest ≡ Some path.now → LacksManifestOrRoom (D.facts disk.now) t refusal) }
-{
-    let text = match disk.read(alloc, path) {
-        Ok(text) => text,
-        Err(ReadFault::Unreadable) => return Err(Refusal::Files),
-        Err(ReadFault::OutOfMemory) => return Err(Refusal::Memory),
-    };
-    match manifest_read(alloc, &text) {
-        Ok(_) => Ok(text),
-        Err(ManifestFault::BadLine(number)) => Err(Refusal::Manifest(number)),
-        Err(ManifestFault::OutOfMemory) => Err(Refusal::Memory),
-    }
-}
-
-/// The manifest of the tables in a folder, of which one at a time is held.
-fn manifest_in<D: Disk>(alloc: Global, disk: &D, folder: &str) -> Result<Vec<u8>, Refusal>
-    ensures ok { IfOk result (λ text. (t : Send) → option_map (λ s. s.now) t.manifest ≡ None → t.tables.now ≡ folder.now → IsManifestOf (D.facts disk.now) t text.items) }
-    ensures err { IfErr result (λ refusal. (t : Send) → option_map (λ s. s.now) t.manifest ≡ None → t.tables.now ≡ folder.now → LacksManifestOrRoom (D.facts disk.now) t refusal) }
-{
-    let lines: Vec<Line> = match looks_in(
-        alloc,
-        disk,
-        folder,
-        &Manifest::Unnamed,
-        &mut io::sink(),
-        false,
-    ) {
-        Ok(lines) => lines,
-        Err(ReadFault::Unreadable) => return Err(Refusal::Files),
-        Err(ReadFault::OutOfMemory) => return Err(Refusal::Memory),
-    };
-    match manifest_write(alloc, &lines) {
-        Ok(text) => Ok(text),
-        Err(_) => Err(Refusal::Memory),
-    }
-}
-
-/// The manifest by which the game is stamped.
-fn manifest_for<D: Disk>(alloc: Global, disk: &D, task: &Send<'_>) -> Result<Vec<u8>, Refusal>
-    ensures ok { IfOk result (λ text. IsManifestOf (D.facts disk.now) task.now text.items) }
-    ensures err { IfErr result (LacksManifestOrRoom (D.facts disk.now) task.now) }
-{
-    match task.manifest {
-        Some(path) => manifest_at(alloc, disk, path),
-        None => manifest_in(alloc, disk, task.tables),
-    }
-}
-
-/// On what terms the moves are sent.
+/// The terms on which the moves are sent.
 fn terms_of(task: &Send<'_>, start: &Position, manifest: &[u8]) -> Terms
     ensures stamp { result.stamp.0 ≡ stamp_of task.now.name (fen_of start.now) manifest.now task.now.delay }
     ensures tries { result.tries ≡ task.now.tries }
@@ -87,7 +32,7 @@ fn terms_of(task: &Send<'_>, start: &Position, manifest: &[u8]) -> Terms
     }
 }
 
-/// Sends the moves of an input at a port; where memory for reading it is refused, that alone is told.
+/// Sends the moves of an input at a port. Where memory for reading it is refused, the only line is `refused memory`.
 fn send_over<I: Input, P: Port, W: Output>(
     alloc: Global,
     terms: Terms,
@@ -104,7 +49,7 @@ fn send_over<I: Input, P: Port, W: Output>(
     }
 }
 
-/// Binds the address that the words name, and sends from there. An address that can't be bound is told as `refused port`.
+/// Binds the address that the words name, and sends from there. Where it can't be bound, the line is `refused port`.
 fn bind_and_send<I: Input, H: Host, W: Output>(
     alloc: Global,
     task: &Send<'_>,
@@ -124,7 +69,7 @@ fn bind_and_send<I: Input, H: Host, W: Output>(
     }
 }
 
-/// Works out the stamp of the game, and sends by it.
+/// Computes the stamp of the game, and sends with it.
 fn send_from<D: Disk, I: Input, H: Host, W: Output>(
     alloc: Global,
     task: &Send<'_>,
@@ -138,7 +83,7 @@ fn send_from<D: Disk, I: Input, H: Host, W: Output>(
     requires position { IsPosition start }
     ensures { Sends (D.facts disk.now) (I.facts input.now) (hosted (H.facts host.now) H.Port.facts H.File.facts) task.now (W.contents out.old) (W.contents out.new) result }
 {
-    match manifest_for(alloc, disk, task) {
+    match manifest_for(alloc, disk, task.manifest, task.tables) {
         Ok(manifest) => {
             let terms = terms_of(task, &start, &manifest);
             bind_and_send(alloc, task, terms, start, input, host, out)
@@ -147,12 +92,12 @@ fn send_from<D: Disk, I: Input, H: Host, W: Output>(
     }
 }
 
-/// Sends the moves of the input as the words say, and tells the status.
+/// Sends the moves of the input as the words say, and returns the status.
 ///
-/// What is refused before the first move is told in one line, in this order: the text of the start, the manifest or the folder of
-/// the tables, and the address. Where memory is refused the line is `refused memory`. Tables are read for the stamp alone, and
-/// none where a manifest is named. What follows is told as `source_core::send_game` says. The error comes only where the writer
-/// failed.
+/// A refusal before the first move is one line, in this order: of the text of the start, the manifest or the folder of
+/// the tables, and the address. Where memory is refused the line is `refused memory`. Tables are read for the stamp
+/// alone, and none where a manifest is named. What follows is as in `source_core::send_game`. The error comes only
+/// where the writer failed.
 pub fn send<D: Disk, I: Input, H: Host, W: Output>(
     alloc: Global,
     task: &Send<'_>,

@@ -1,4 +1,4 @@
-//! What a task is answered from: the files of its folder, its manifest and the input.
+//! What is read for a task: the files of its folder, its manifest and the input.
 
 ghost use Rattle.std.specs.Prelude.{◌≡◌, List, ℕ, map, option_map, is_some, true, Some, IfOk, OnErr, IsErrOf};
 ghost use Rattle.move_msg.specs.Files.{AreFiles, file_of};
@@ -43,7 +43,8 @@ impl<'a> Places<'a> {
     }
 }
 
-/// What a task is answered from. Contracts see the files, what the manifest tells, the input, and the bytes of the kept files.
+/// What was read for a task. Contracts see the files, the contents of the manifest, the input, and the bytes of the
+/// kept files.
 #[derive(Drop)]
 pub struct Sources {
     files: Vec<NamedFile>,
@@ -121,7 +122,7 @@ fn read_input<I: Input>(alloc: Global, input: &I, is_wanted: bool) -> Result<Vec
     }
 }
 
-/// The bytes of the kept file at a path, if one is named: at most 8217, of which no more than one more is read.
+/// The bytes of the kept file at a path, if one is named: at most 8217. Of a longer file one byte more is read.
 fn read_kept<D: Disk>(alloc: Global, disk: &D, path: Option<&str>) -> Result<Vec<u8>, ReadFault>
     ensures ok { IfOk result (λ bytes. IsKeptAt (D.facts disk.now) (option_map (λ s. s.now) path.entry) bytes.items) }
     ensures cause { IsErrOf result ReadFault.Unreadable → (p : List ℕ) × (option_map (λ s. s.now) path.entry ≡ Some p) × LacksKept (D.facts disk.now) p }
@@ -174,10 +175,10 @@ fn read_texts<D: Disk, I: Input>(
 impl Sources {
     /// Reads what these places name: the manifest, the wanted files of the folder, the input where it is wanted, and kept files.
     ///
-    /// Files whose names are not those of tables are passed over, and with a manifest those that it doesn't name.
-    /// `Unreadable` where the folder, one of these files, the manifest, the input or a kept file can't be read, a kept file has more
-    /// than 8217 bytes or one of the others more than 2^30, or the folder lists one of these files twice; `OutOfMemory` where memory
-    /// is refused. Nothing fails where nothing is named.
+    /// Files whose names are not those of tables are ignored, and with a manifest those that it doesn't name.
+    /// `Unreadable` where one of these can't be read: the folder, one of these files, the manifest, the input or a kept
+    /// file. Also where a kept file has more than 8217 bytes or one of the others more than 2^30, or the folder lists
+    /// one of these files twice. `OutOfMemory` where memory is refused. Nothing fails where nothing is named.
     pub fn read<D: Disk, I: Input>(
         alloc: Global,
         disk: &D,

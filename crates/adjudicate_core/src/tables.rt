@@ -8,6 +8,7 @@ ghost use Rattle.adjudicate_core.specs.Lines.{file_fault_name};
 ghost use Rattle.adjudicate_core.specs.Looks.{found_in, gathered, gathered_by, held, look_at, look_for, tables_from, with_found};
 ghost use Rattle.adjudicate_core.specs.Inside.Refusals.{filled, tables_in};
 
+use crate::numbers::CacheSize;
 use crate::refusals::Refusal;
 use crate::sources::Sources;
 use arrayvec::ArrayString;
@@ -16,13 +17,10 @@ use move_msg::{Line as Entry, Manifest, NamedFile, file_digest};
 use std::alloc::{AllocError, Global};
 use table_file::{Table, TableFault, open};
 
-/// How many decoded blocks a set may keep.
-const CACHE: usize = 64;
-
-/// Why a file that is looked at isn't the table that it should be.
+/// Why a file isn't the table that it should be.
 #[derive(Clone, Copy)]
 pub enum FileFault {
-    /// No file has the name that the manifest tells.
+    /// No file has the name in the manifest.
     Missing,
     /// The SHA-256 digest of the file's bytes isn't the manifest's.
     Changed,
@@ -43,7 +41,7 @@ impl FileFault {
     }
 }
 
-/// The table that a file is.
+/// The table of a file.
 pub(crate) fn open_file<'f>(
     alloc: Global,
     file: &'f NamedFile,
@@ -144,10 +142,11 @@ fn add_lines<'f>(
 fn gather_files<'f>(
     alloc: Global,
     files: &'f [NamedFile],
+    cache: CacheSize,
 ) -> Result<Result<Set<'f>, Refusal>, AllocError>
     ensures { IfOk result (λ set. tables_in set ≡ gathered_by (map file_of files.now) None) }
 {
-    let mut set = Set::new(alloc, CACHE)?;
+    let mut set = Set::new(alloc, cache.blocks())?;
     match add_files(alloc, &mut set, files)? {
         Ok(()) => Ok(Ok(set)),
         Err(refusal) => Ok(Err(refusal)),
@@ -159,29 +158,30 @@ fn gather_lines<'f>(
     alloc: Global,
     files: &'f [NamedFile],
     lines: &[Entry],
+    cache: CacheSize,
 ) -> Result<Result<Set<'f>, Refusal>, AllocError>
     ensures { IfOk result (λ set. tables_in set ≡ gathered_by (map file_of files.now) (Some (Ok (map entry_of lines.now)))) }
 {
-    let mut set = Set::new(alloc, CACHE)?;
+    let mut set = Set::new(alloc, cache.blocks())?;
     match add_lines(alloc, &mut set, files, lines)? {
         Ok(()) => Ok(Ok(set)),
         Err(refusal) => Ok(Err(refusal)),
     }
 }
 
-/// The set of the files that are looked at, or the first refusal: without a manifest all files are,
-/// in their order; with one those that its lines name, in its order. The error comes only where
-/// memory is refused.
+/// The set of the files that are looked at, or the first refusal: without a manifest all files are, in their order; with one those
+/// that its lines name, in its order. It may keep so many decoded blocks. The error comes only where memory is refused.
 #[tactic(auto, unfolding(crate::specs::Looks::gathered))]
 pub(crate) fn gather<'f>(
     alloc: Global,
     sources: &'f Sources,
+    cache: CacheSize,
 ) -> Result<Result<Set<'f>, Refusal>, AllocError>
     ensures { IfOk result (λ set. tables_in set ≡ gathered sources.now) }
 {
     match sources.manifest() {
-        Manifest::Unnamed => gather_files(alloc, sources.files()),
-        Manifest::Lines(lines) => gather_lines(alloc, sources.files(), lines),
+        Manifest::Unnamed => gather_files(alloc, sources.files(), cache),
+        Manifest::Lines(lines) => gather_lines(alloc, sources.files(), lines, cache),
         Manifest::BadLine(number) => Ok(Err(Refusal::Manifest(*number))),
     }
 }

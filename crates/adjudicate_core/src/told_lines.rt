@@ -1,4 +1,4 @@
-//! What is told of the lines of an input, a line each, as they come.
+//! The answers to the lines of an input, a line each, as they come.
 
 ghost use Rattle.std.specs.Prelude.{◌≡◌, ◌≢◌, ◌%◌, List, ℕ, false, IfOk, OnOk, IsErrOf};
 ghost use Rattle.std.specs.Io.KnownBytes.{Appends, Keeps};
@@ -13,10 +13,10 @@ use std::alloc::Global;
 use std::io::Write;
 use system_io::{LineReader, Output, ReadFault, WriteFault};
 
-/// After how many lines it is told how many are done.
+/// The number of lines between two lines of progress.
 const PROGRESS_STEP: u64 = 10_000;
 
-/// Why a line was not told.
+/// Why a line was not answered.
 #[derive(Clone, Copy, PartialEq, Eq, Debug)]
 pub enum TellFault {
     /// Memory was refused; nothing was written.
@@ -25,26 +25,26 @@ pub enum TellFault {
     Io,
 }
 
-/// What tells something of each line of an input.
+/// A teller answers each line of an input.
 pub trait Teller {
-    /// This is told of the line.
+    /// This is the answer to the line.
     ghost tells: { Self → List ℕ → LineTold → Type 0 };
 
-    /// What is told of this line takes memory.
+    /// The answer to this line takes memory.
     ghost takes_memory: { List ℕ → Type 0 };
 
-    /// Writes what is told of a line, with a line feed after it, and answers whether all of it is told. What is told of a line
-    /// later could have been told before.
+    /// Writes the answer to a line, with a line feed after it, and returns whether it is complete. An answer given
+    /// later could have been given before.
     ///
-    /// `OutOfMemory` comes only for a line that takes memory, and nothing of it is written then. After `Io` perhaps a part of the
-    /// line is.
+    /// `OutOfMemory` comes only for a line that takes memory, and nothing of the answer is written then. After `Io` a
+    /// part of it may be.
     fn tell<W: Write>(&mut self, line: &[u8], out: &mut W) -> Result<bool, TellFault>
         ensures told { IfOk result (WritesTold (tells self.old line.now) (W.contents out.old) (W.contents out.new)) }
         ensures memory { IsErrOf result TellFault.OutOfMemory → takes_memory line.now × (W.contents out.new ≡ W.contents out.old) }
         ensures same { TellsNoMore (tells self.old) (tells self.new) };
 }
 
-/// Writes how many lines are done.
+/// Writes the number of lines done.
 fn put_done<E: Write>(errors: &mut E, lines: u64) -> Result<(), WriteFault>
     ensures { OnOk result (Appends (E.contents errors.old) (E.contents errors.new) (ended (done_words lines))) }
 {
@@ -54,7 +54,7 @@ fn put_done<E: Write>(errors: &mut E, lines: u64) -> Result<(), WriteFault>
     }
 }
 
-/// Tells how many lines are done, where that is wanted and enough are done; a failure changes nothing.
+/// Writes the progress, if requested, where enough lines are done. A failure changes nothing.
 fn tell_progress<E: Write>(errors: &mut E, progress: bool, lines: u64)
     ensures quiet { progress ≡ false → errors.new ≡ errors.old }
     ensures seldom { lines % 10000 ≢ 0 → errors.new ≡ errors.old }
@@ -68,18 +68,18 @@ fn tell_progress<E: Write>(errors: &mut E, progress: bool, lines: u64)
     }
 }
 
-/// What came of the next line.
+/// The outcome for the next line.
 #[derive(Clone, Copy)]
 pub(crate) enum Step {
-    /// It is told, and whether all of it is.
+    /// It is answered, and whether completely.
     Told(bool),
     /// There is none.
     Ended,
-    /// It isn't told, and nothing more is.
+    /// It isn't answered, and nothing more is.
     Cut,
 }
 
-/// Writes why no more is told.
+/// Writes why no more lines are answered.
 fn put_cut<W: Write>(out: &mut W, refusal: Refusal) -> Result<Step, WriteFault>
     ensures { IfOk result (λ step. (step ≡ Step.Cut) × Appends (W.contents out.old) (W.contents out.new) (ended (refusal_words refusal))) }
 {
@@ -89,7 +89,7 @@ fn put_cut<W: Write>(out: &mut W, refusal: Refusal) -> Result<Step, WriteFault>
     }
 }
 
-/// Tells something of a line.
+/// Answers a line.
 fn tell_line<T: Teller, W: Write>(
     teller: &mut T,
     line: &[u8],
@@ -105,14 +105,14 @@ fn tell_line<T: Teller, W: Write>(
     }
 }
 
-/// Reads the next line of an input, and tells something of it.
+/// Reads the next line of an input, and answers it.
 fn tell_next<T: Teller, L: LineReader, W: Output>(
     teller: &mut T,
     reader: &mut L,
     line: &mut Vec<u8>,
     out: &mut W,
 ) -> Result<Step, WriteFault>
-    // No line is waited for before what was written has gone out.
+    // No line is awaited before what was written has gone out.
     requires { MayWait (L.facts reader.old) (W.facts out.old) }
     ensures told { IfOk result (StepTells (T.tells teller.old) T.takes_memory (stops_by (L.facts reader.old)) (L.facts reader.old).left (L.facts reader.new).left (W.contents out.old) (W.contents out.new)) }
     ensures reader { (fault : ReadFault) → stops_by (L.facts reader.new) fault → stops_by (L.facts reader.old) fault }
@@ -126,7 +126,7 @@ fn tell_next<T: Teller, L: LineReader, W: Output>(
     }
 }
 
-/// Lets what was written go out before a line is waited for: nothing is done where the next line has come already.
+/// Flushes the output before a line is awaited. Nothing is done where the next line has come already.
 fn flush_before_wait<L: LineReader, W: Output>(reader: &L, out: &mut W) -> Result<(), WriteFault>
     ensures kept { Keeps (W.contents out.old) (W.contents out.new) }
     ensures may_wait { OnOk result (MayWait (L.facts reader.now) (W.facts out.new)) }
@@ -137,16 +137,17 @@ fn flush_before_wait<L: LineReader, W: Output>(reader: &L, out: &mut W) -> Resul
     out.flush_all()
 }
 
-/// Writes what is told of each line of an input as it comes, and tells whether all of it is told. The last line may lack its line
-/// feed.
+/// Writes the answer to each line of an input as it comes, and returns whether all are complete. The last line may lack
+/// its line feed.
 ///
-/// What was told goes out before the next line is waited for, so that each line is answered before the next one has to be there.
-/// Memory is that of the longest line. Where it is refused for one, the line `refused memory` follows the whole lines before it;
-/// where the input can't be read further, `refused files`. Nothing follows then, and not all is told.
+/// Answers go out before the next line is awaited, so that each line is answered before the next one has to arrive.
+/// Memory is that of the longest line. Where it is refused for one, the line `refused memory` follows the whole lines
+/// before it. Where the input can't be read further, it is `refused files`. Nothing follows then, and the result is
+/// false.
 ///
-/// With `progress` it tells `errors` after every 10,000 lines how many are done, as `20000 done`; without, nothing is written
-/// there, and a failure there changes nothing. The error comes where the writer of the lines fails, or the teller tells that it
-/// did; what it has then isn't told.
+/// With `progress` a line such as `20000 done` goes to `errors` after every 10,000 lines. Without it nothing is written
+/// there. A failure there changes nothing. The error comes where the writer of the lines fails, or the teller says that
+/// it did. What the writer then holds isn't stated.
 pub fn tell_lines<T: Teller, L: LineReader, W: Output, E: Write>(
     alloc: Global,
     teller: &mut T,
@@ -155,13 +156,13 @@ pub fn tell_lines<T: Teller, L: LineReader, W: Output, E: Write>(
     errors: &mut E,
     progress: bool,
 ) -> Result<bool, WriteFault>
-    // The lines that were read are told.
+    // The lines that were read are answered.
     ensures written { IfOk result (WritesRead (T.tells teller.old) T.takes_memory (stops_by (L.facts reader.old)) (L.facts reader.old).left (W.contents out.old) (W.contents out.new)) }
 
-    // Where the reader tells its bytes, these are the lines of the whole text, or those until it was cut short.
+    // Where the reader's bytes are stated, these are the lines of the whole text, or those until it was cut short.
     ensures same_text { IfOk result (WritesIfKnown (T.tells teller.old) T.takes_memory (L.facts reader.old) (W.contents out.old) (W.contents out.new)) }
 
-    // What was told goes out before the next line is waited for.
+    // Answers go out before the next line is awaited.
     ensures turns { OnOk result (TellsInTurn L.facts W.facts W.contents reader.old out.old out.new) }
 
     ensures quiet { progress ≡ false → errors.new ≡ errors.old }

@@ -9,7 +9,7 @@ ghost use Rattle.adjudicate_core.specs.Usage.{usage_of};
 use clap::error::ErrorKind;
 use std::alloc::AllocError;
 
-/// A value of which an option takes only some.
+/// An option that takes only some values.
 #[derive(Clone, Copy)]
 pub enum Wanted {
     /// The name of a game.
@@ -28,6 +28,8 @@ pub enum Wanted {
     Tries,
     /// To which addresses messages are sent.
     Addresses,
+    /// How many games are open at once.
+    AtOnce,
 }
 
 impl Wanted {
@@ -44,10 +46,11 @@ impl Wanted {
             Wanted::Wait => "--wait ",
             Wanted::Tries => "--tries ",
             Wanted::Addresses => "--to ",
+            Wanted::AtOnce => "--at-once ",
         }
     }
 
-    /// What it takes, in words, as they stand after a value.
+    /// The range of values, as it is printed after a value.
     pub(crate) fn rest(self) -> &'static str
         ensures { result.now ≡ codes ": " ++ range_of self }
     {
@@ -57,13 +60,13 @@ impl Wanted {
             Wanted::Delay => ": 0 to 8",
             Wanted::Datagrams => ": 0 to 4294967295",
             Wanted::Me => ": 1 or 2",
-            Wanted::Wait | Wanted::Tries => ": 1 to 65535",
+            Wanted::Wait | Wanted::Tries | Wanted::AtOnce => ": 1 to 65535",
             Wanted::Addresses => ": ADDR[,ADDR], each a host, a colon and a port",
         }
     }
 }
 
-/// What is wrong with the values of a command.
+/// A fault of the values of a command.
 #[derive(Clone, Copy)]
 pub enum ValueFault<'a> {
     /// An option that has to be there isn't.
@@ -74,14 +77,14 @@ pub enum ValueFault<'a> {
     Unfit(Wanted, &'a str),
 }
 
-/// What is wrong with the words of a command line.
+/// A fault of the words of a command line.
 #[derive(Drop)]
 pub enum Misuse<'a> {
     /// There is no word.
     NoCommand,
     /// The first word asks for help.
     Help,
-    /// A word has bytes that are no text.
+    /// A word is not UTF-8.
     NoText(&'a [u8]),
     /// The first word names no command.
     UnknownCommand(&'a str),
@@ -122,7 +125,7 @@ impl<'a> From<clap::Error> for Usage<'a> {
 /// Why the words that a program was called with can't be read.
 #[derive(Drop, Debug)]
 pub enum WordsFault {
-    /// The first one that is no text.
+    /// The first word that is not UTF-8.
     NoText(Vec<u8>),
     /// Memory was refused.
     OutOfMemory,

@@ -1,4 +1,4 @@
-//! What is told of words that are misused.
+//! What is printed for a misuse.
 
 ghost use Rattle.std.specs.Prelude.{◌≡◌, ◌++◌, [], ◌∷◌, ℕ, List, false};
 ghost use Rattle.hex.specs.Hex.{encode_lower};
@@ -11,7 +11,7 @@ use clap::error::ErrorKind;
 use std::alloc::Global;
 use system_io::{Output, WriteFault};
 
-/// The command lines that there are.
+/// The usage: all command lines.
 const USAGE: &str = "usage: adjudicate judge [--tables DIR] [--manifest FILE] FEN
        adjudicate moves FEN
        adjudicate probe --tables DIR [--manifest FILE] FEN
@@ -22,15 +22,18 @@ const USAGE: &str = "usage: adjudicate judge [--tables DIR] [--manifest FILE] FE
        adjudicate game [--tables DIR] [--manifest FILE] [--delay N] FEN
        adjudicate run [--tables DIR] [--cache N] [--delay N]
        adjudicate listen --name N --start FEN --tables DIR --me M --bind ADDR --to ADDR[,ADDR] --kept FILE
-                         --datagrams N [--delay N] [--fetch]
+                         [--datagrams N] [--delay N] [--fetch] [--ready]
        adjudicate record FILE
        adjudicate audit --name N --start FEN --tables DIR [--manifest FILE] [--delay N] FILE [FILE]
        adjudicate send --name N --start FEN --tables DIR [--manifest FILE] [--delay N] --bind ADDR --to ADDR[,ADDR]
                        [--wait MS] [--tries N]
+       adjudicate enter --name N --start FEN --tables DIR [--manifest FILE] [--delay N] --games DIR
+       adjudicate host --games DIR --tables DIR [--manifest FILE] --me M --bind ADDR --to ADDR[,ADDR]
+                       [--at-once N] [--cache N] [--datagrams N]
        adjudicate version
 ";
 
-/// Whether a byte is told as it is.
+/// Whether a byte is printed as it is.
 fn is_plain(byte: u8) -> bool
     ensures { result ≡ is_plain byte }
 {
@@ -65,7 +68,7 @@ fn put_number<E: Output>(errors: &mut E, byte: u8) -> Result<(), WriteFault>
     }
 }
 
-/// Writes a byte as it is told.
+/// Writes a byte as it is printed.
 fn put_byte<E: Output>(errors: &mut E, byte: u8) -> Result<(), WriteFault>
     ensures { IsPut E.facts E.contents errors.old errors.new (shown_byte byte) result }
 {
@@ -76,7 +79,7 @@ fn put_byte<E: Output>(errors: &mut E, byte: u8) -> Result<(), WriteFault>
     }
 }
 
-/// Writes words as they are told.
+/// Writes words as they are printed.
 fn put_shown<E: Output>(errors: &mut E, words: &[u8]) -> Result<(), WriteFault>
     ensures { IsPut E.facts E.contents errors.old errors.new (shown words.now) result }
 {
@@ -129,7 +132,7 @@ fn put_line<E: Output>(
     }
 }
 
-/// Tells the command lines that there are.
+/// Writes the usage.
 fn tell_usage<E: Output>(errors: &mut E)
     ensures { (usage : List ℕ) × GoesOut E.facts E.contents errors.old errors.new usage }
 {
@@ -141,7 +144,7 @@ fn tell_usage<E: Output>(errors: &mut E)
     }
 }
 
-/// Tells words of three parts in one line, and the command lines that there are.
+/// Writes words of three parts in one line, and the usage.
 fn tell_line<E: Output>(errors: &mut E, front: &str, middle: &[u8], rest: &str)
     ensures { TellsLine E.facts E.contents errors.old errors.new (shown_line (front.now ++ middle.now ++ rest.now)) }
 {
@@ -160,8 +163,8 @@ fn first_words(text: &str) -> &str {
     }
 }
 
-/// Tells words that the parser of command lines refuses: by its own words, or by its name for what is wrong where memory for them
-/// is refused.
+/// Writes why the parser of command lines refuses words: in its own words, or, where memory for these is refused, by
+/// its name for the fault.
 fn tell_refused<E: Output>(alloc: Global, errors: &mut E, error: &clap::Error)
     ensures { (words : List ℕ) × TellsLine E.facts E.contents errors.old errors.new (shown_line words) }
 {
@@ -171,7 +174,7 @@ fn tell_refused<E: Output>(alloc: Global, errors: &mut E, error: &clap::Error)
     }
 }
 
-/// Tells what is wrong with the values of a command.
+/// Writes a fault of the values of a command.
 fn tell_fault<E: Output>(errors: &mut E, fault: &ValueFault<'_>)
     ensures { TellsLine E.facts E.contents errors.old errors.new (shown_line (fault_words fault.now)) }
 {
@@ -184,10 +187,10 @@ fn tell_fault<E: Output>(errors: &mut E, fault: &ValueFault<'_>)
     }
 }
 
-/// Tells what is wrong with the words, in one line, and the command lines that there are; where they ask for help, these alone.
+/// Writes the fault of the words in one line, and the usage. For a request for help it writes the usage alone.
 ///
-/// A byte outside those from the space to the tilde is told by its number, as `\x0a`, and so is a backslash. What was told has gone
-/// out then. A failure of `errors` changes nothing.
+/// A byte outside those from the space to the tilde is printed by its number, as `\x0a`, and so is a backslash. All of
+/// it is flushed. A failure of `errors` changes nothing.
 pub(crate) fn tell_misuse<E: Output>(alloc: Global, errors: &mut E, misuse: &Misuse<'_>)
     ensures { TellsMisuse E.facts E.contents errors.old errors.new misuse.now }
 {

@@ -1,18 +1,19 @@
-//! The values of a command, as they are taken from its words, or what is wrong with one.
+//! The values of a command, taken from its words, or the fault of one.
 
 ghost use Rattle.std.specs.Prelude.{◌≡◌, IfOk, IfErr, Some, codes};
 ghost use Rattle.clap.specs.Words.{first_value, found_of};
 ghost use Rattle.move_msg.specs.Stamps.{IsGameName};
 ghost use Rattle.adjudicate_core.specs.Addresses.{AreAddresses};
-ghost use Rattle.adjudicate_core.specs.Misuses.{AreGameWords, AreWell, IsFirst, IsTold, NoOption, NoWord, Unfit, datagrams_faults, fault_words, game_faults, me_faults, name_faults, to_faults};
-ghost use Rattle.adjudicate_core.specs.Numbers.{IsCache, IsDatagrams, IsDelay, IsHundredOr, IsMe};
+ghost use Rattle.adjudicate_core.specs.Misuses.{AreGameWords, AreWell, IsFirst, IsTold, NoOption, NoWord, Unfit, fault_words, game_faults, me_faults, name_faults, to_faults};
+ghost use Rattle.adjudicate_core.specs.Numbers.{IsAtOnce, IsCache, IsDatagrams, IsDelay, IsHundredOr, IsMe};
 
 use crate::addresses::are_addresses;
 use crate::game_name::GameName;
-use crate::numbers::{CacheSize, Delay, datagrams_of, hundred_or, me_of};
+use crate::numbers::{CacheSize, Delay, at_once_of, datagrams_of, hundred_or, me_of};
 use crate::usage::{ValueFault, Wanted};
 use clap::ArgMatches;
 use move_msg::Who;
+use std::num::NonZeroUsize;
 
 /// The value of an option that has to be there.
 pub(crate) fn option_in<'a>(
@@ -141,15 +142,27 @@ pub(crate) fn tries_in<'a>(matches: &ArgMatches<'a>) -> Result<u16, ValueFault<'
     }
 }
 
-/// A number of datagrams, of an option that has to be there.
-pub(crate) fn datagrams_in<'a>(matches: &ArgMatches<'a>) -> Result<u32, ValueFault<'a>>
-    ensures ok { IfOk result (IsDatagrams (first_value (found_of matches.now) (codes "datagrams"))) }
-    ensures err { IfErr result (λ fault. IsFirst (first_value (found_of matches.now)) datagrams_faults (fault_words fault)) }
+/// How many games are open at once.
+pub(crate) fn at_once_in<'a>(matches: &ArgMatches<'a>) -> Result<NonZeroUsize, ValueFault<'a>>
+    ensures ok { IfOk result (λ n. IsAtOnce (first_value (found_of matches.now) (codes "at-once")) n.value) }
+    ensures err { IfErr result (λ fault. IsTold (first_value (found_of matches.now)) (Unfit Wanted.AtOnce) (fault_words fault)) }
 {
-    let text = option_in(matches, "datagrams")?;
+    let text = matches.get_str("at-once");
+    match at_once_of(text) {
+        Some(at_once) => Ok(at_once),
+        None => Err(ValueFault::Unfit(Wanted::AtOnce, text.unwrap_or(""))),
+    }
+}
+
+/// A number of datagrams.
+pub(crate) fn datagrams_in<'a>(matches: &ArgMatches<'a>) -> Result<u64, ValueFault<'a>>
+    ensures ok { IfOk result (IsDatagrams (first_value (found_of matches.now) (codes "datagrams"))) }
+    ensures err { IfErr result (λ fault. IsTold (first_value (found_of matches.now)) (Unfit Wanted.Datagrams) (fault_words fault)) }
+{
+    let text = matches.get_str("datagrams");
     match datagrams_of(text) {
         Some(datagrams) => Ok(datagrams),
-        None => Err(ValueFault::Unfit(Wanted::Datagrams, text)),
+        None => Err(ValueFault::Unfit(Wanted::Datagrams, text.unwrap_or(""))),
     }
 }
 

@@ -1,12 +1,11 @@
--- `listen --name N --start FEN --tables DIR --me M --bind ADDR --to ADDR[,ADDR] --kept FILE --datagrams N [--delay N] [--fetch]`: an
--- arbiter that answers datagrams; specs/Listens.antt has what it makes of them (this project's own).
+-- `listen --name N --start FEN --tables DIR --me M --bind ADDR --to ADDR[,ADDR] --kept FILE [--datagrams N] [--delay N] [--fetch]
+-- [--ready]`: an arbiter that answers datagrams; specs/Listens.antt has what it makes of them (this project's own).
 use Rattle.std.specs.Prelude.{◌≡◌, ◌++◌, false, List, [], ◌∷◌, Option, Some, None, codes}
-use Rattle.move_msg.specs.Stamps.{IsGameName}
 use Rattle.clap.specs.Words.{Rule, Text}
 use Rattle.adjudicate_core.specs.Addresses.{AreAddresses}
 use Rattle.adjudicate_core.specs.Rules.{rule_of_form}
 use Rattle.adjudicate_core.specs.declared.commands.Form.TheVariants as form
-use Rattle.adjudicate_core.specs.Misuses.{Fault, NoOption, Unfit, datagrams_faults, game_faults, me_faults, to_faults}
+use Rattle.adjudicate_core.specs.Misuses.{Fault, NoOption, Unfit, game_faults, me_faults, to_faults}
 use Rattle.adjudicate_core.specs.declared.usage.Wanted.TheVariants as wanted
 use Rattle.adjudicate_core.specs.Sources.{Named}
 use Rattle.adjudicate_core.specs.Numbers.{IsDatagrams, IsDelay, IsMe, is_set}
@@ -23,12 +22,12 @@ rules =
     ∷ rule_of_form form.Option (codes "kept")
     ∷ rule_of_form form.Option (codes "datagrams")
     ∷ rule_of_form form.Option (codes "delay")
-    ∷ rule_of_form form.Flag (codes "fetch") ∷ []
+    ∷ rule_of_form form.Flag (codes "fetch")
+    ∷ rule_of_form form.Flag (codes "ready") ∷ []
 
--- the values of its arguments, of which the name is that of a game
+-- the values of its arguments
 pub record IsListening (value : Text → Option Text) (l : Listen) : Type 0 where
-  pub name : Some l.name.now ≡ value (codes "name")
-  pub is_name : IsGameName l.name.now
+  pub name : Some l.name ≡ value (codes "name")
   pub start : Some l.start.now ≡ value (codes "start")
   pub tables : Some l.tables.now ≡ value (codes "tables")
   pub me : IsMe (value (codes "me")) l.me
@@ -39,6 +38,7 @@ pub record IsListening (value : Text → Option Text) (l : Listen) : Type 0 wher
   pub datagrams : IsDatagrams (value (codes "datagrams")) l.datagrams
   pub delay : IsDelay (value (codes "delay")) l.delay
   pub fetch : l.fetch ≡ is_set (value (codes "fetch"))
+  pub ready : l.ready ≡ is_set (value (codes "ready"))
 
 -- what may be wrong with its values, in the order in which it is told: with the words on the game, the addresses and the kept
 -- file, the numbers
@@ -46,7 +46,7 @@ abbrev pub end_faults : List Fault
 end_faults = NoOption (codes "bind") ∷ to_faults ++ NoOption (codes "kept") ∷ []
 
 abbrev pub term_faults : List Fault
-term_faults = me_faults ++ datagrams_faults ++ Unfit wanted.Delay ∷ []
+term_faults = me_faults ++ Unfit wanted.Datagrams ∷ Unfit wanted.Delay ∷ []
 
 abbrev pub faults : List Fault
 faults = game_faults ++ end_faults ++ term_faults

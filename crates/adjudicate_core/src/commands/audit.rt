@@ -17,7 +17,7 @@ use crate::answers::Answer;
 use crate::auditing::{Audited, Auditor, audit, compare_files};
 use crate::game_name::GameName;
 use crate::lines::Line;
-use crate::numbers::Delay;
+use crate::numbers::{CacheSize, Delay};
 use crate::refusals::Refusal;
 use crate::sources::{Places, Sources};
 use crate::tables::gather;
@@ -81,7 +81,7 @@ pub(crate) const VALUES: [Value; 7] = [
     },
 ];
 
-/// What is found of one file, as an answer.
+/// The finding on one file, as an answer.
 fn answer_one(alloc: Global, one: &Audited) -> Result<Answer, AllocError>
     ensures { IfOk result (λ a. reply_of a ≡ audited_one one.now.finding) }
 {
@@ -90,7 +90,7 @@ fn answer_one(alloc: Global, one: &Audited) -> Result<Answer, AllocError>
     Ok(Answer::Lines(lines, one.finding.is_whole()))
 }
 
-/// What is found of two files and of comparing them, as an answer.
+/// The findings on two files and their comparison, as an answer.
 fn answer_two(
     alloc: Global,
     one: &Audited,
@@ -109,7 +109,7 @@ fn answer_two(
     Ok(Answer::Lines(lines, done))
 }
 
-/// What is found of kept files by the rules of a game.
+/// The findings on kept files by the rules of a game.
 fn answer_files(
     alloc: Global,
     auditor: &mut Auditor<'_>,
@@ -170,7 +170,7 @@ impl<'a> Audit<'a> {
         }
     }
 
-    /// What is found of the kept files by these tables.
+    /// The findings on the kept files by these tables.
     fn answer_by(
         &self,
         alloc: Global,
@@ -192,7 +192,7 @@ impl<'a> Audit<'a> {
         answer_files(alloc, &mut auditor, sources.kept(), self.other_in(sources))
     }
 
-    /// The same by the tables of the files, or their refusal.
+    /// The findings on the kept files by the tables of the files, or their refusal.
     fn answer_from(
         &self,
         alloc: Global,
@@ -201,14 +201,15 @@ impl<'a> Audit<'a> {
     ) -> Result<Answer, AllocError>
         ensures { IfOk result (λ a. IsHeld self.now sources.now start.now (reply_of a)) }
     {
-        match gather(alloc, sources)? {
+        match gather(alloc, sources, CacheSize::usual())? {
             Ok(set) => self.answer_by(alloc, sources, start, set),
             Err(refusal) => Ok(Answer::Refused(refusal)),
         }
     }
 
-    /// What is found of the kept files: each is judged as an arbiter of the game judges it when it is opened, and is only read. Of
-    /// two that are records it is told at which ply they part. A text that is no position is refused first, then the tables.
+    /// The findings on the kept files: each is judged as an arbiter of the game judges it at its opening, and is only
+    /// read. Of two records the answer has the ply at which they part. A text that is no position is refused first,
+    /// then the tables.
     pub(crate) fn answer(&self, alloc: Global, sources: &Sources) -> Result<Answer, AllocError>
         ensures ok { IfOk result (λ a. IsReply self.now sources.now (reply_of a)) }
         ensures memory { OnErr result (IsText self.now.start.now) }

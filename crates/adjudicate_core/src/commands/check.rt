@@ -34,7 +34,7 @@ pub struct Check<'a> {
     pub manifest: &'a str,
     /// The folder.
     pub folder: &'a str,
-    /// Whether it is told on the way how much is read.
+    /// Whether the progress is written.
     pub progress: bool,
 }
 
@@ -54,7 +54,7 @@ pub(crate) const VALUES: [Value; 3] = [
     },
 ];
 
-/// What is seen of a file: its line in a manifest, and why it is no table, if it isn't one.
+/// The look at a file: its line in a manifest, and why it is no table, if it isn't one.
 #[derive(Clone, Copy)]
 pub(crate) struct Seen {
     /// Its line.
@@ -77,7 +77,7 @@ impl Look for Seen {
     }
 }
 
-/// Why a line of a manifest isn't met by what was seen; none where it is.
+/// Why the looks don't meet a line of a manifest; none where they do.
 fn fault_in(seen: &[Seen], line: &Entry) -> Option<FileFault>
     ensures { result ≡ fault_seen (map sight_of seen.now) (entry_of line.now) }
 {
@@ -93,7 +93,7 @@ fn fault_in(seen: &[Seen], line: &Entry) -> Option<FileFault>
     Some(FileFault::Missing)
 }
 
-/// What is found for the lines of a manifest, a line each, and whether all is as it should be.
+/// The findings for the lines of a manifest, a line each, and whether all are `ok`.
 fn check_lines(alloc: Global, seen: &[Seen], entries: &[Entry]) -> Result<Answer, AllocError>
     ensures { IfOk result (λ a. reply_of a ≡ reply_seen (map sight_of seen.now) (map entry_of entries.now)) }
 {
@@ -107,7 +107,7 @@ fn check_lines(alloc: Global, seen: &[Seen], entries: &[Entry]) -> Result<Answer
     Ok(Answer::Lines(lines, done))
 }
 
-/// What is found for a manifest, or its refusal.
+/// The findings for a manifest, or its refusal.
 fn check_manifest(alloc: Global, seen: &[Seen], manifest: &Manifest) -> Result<Answer, AllocError>
     ensures { IfOk result (λ a. (files : List File) → AreMadeOf IsSeenOf seen.now files → reply_of a ≡ checked_by files (told_by manifest.now)) }
 {
@@ -138,8 +138,8 @@ impl<'a> Check<'a> {
         Places::none()
     }
 
-    /// Files held to a manifest: a line for each of its lines, or its refusal. One file at a time is held; how much is read is
-    /// told on the way where that is wanted.
+    /// Files held to a manifest: a line for each of its lines, or its refusal. One file at a time is held. Progress is
+    /// written if requested.
     pub(crate) fn answer<D: Disk, E: Write>(
         &self,
         alloc: Global,

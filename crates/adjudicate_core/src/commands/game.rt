@@ -1,4 +1,4 @@
-//! `game`: a game that is told by the moves of the input, and what it comes to.
+//! `game`: the game of the moves of the input, and its outcome.
 
 ghost use Rattle.std.specs.Prelude.{◌≡◌, IfOk, OnErr, IfErr};
 ghost use Rattle.clap.specs.Words.{first_value, found_of};
@@ -13,7 +13,7 @@ ghost use Rattle.adjudicate_core.specs.Sources.{named_by};
 use super::{Form, Value};
 use crate::answers::Answer;
 use crate::lines::Line;
-use crate::numbers::Delay;
+use crate::numbers::{CacheSize, Delay};
 use crate::refusals::Refusal;
 use crate::sources::{Places, Sources};
 use crate::tables::gather;
@@ -26,7 +26,7 @@ use judge_core::{GameOutcome, Outcome};
 use move_msg::read_moves;
 use std::alloc::{AllocError, Global};
 
-/// What the game of the input comes to.
+/// The outcome of the game of the input.
 #[derive(Clone, Copy)]
 pub struct FollowGame<'a> {
     /// The folder of the tables, if one is named.
@@ -59,7 +59,7 @@ pub(crate) const VALUES: [Value; 4] = [
     },
 ];
 
-/// What a game comes to by the tables of files, or the refusal of these.
+/// The outcome of a game by the tables of files, or the refusal of these.
 fn answer_moves(
     alloc: Global,
     sources: &Sources,
@@ -70,7 +70,7 @@ fn answer_moves(
     requires { TellsMoves sources.now.input moves.now }
     ensures { IfOk result (λ a. IsPlayed sources.now.input (gathered sources.now) delay start.now (reply_of a)) }
 {
-    let mut set = match gather(alloc, sources)? {
+    let mut set = match gather(alloc, sources, CacheSize::usual())? {
         Ok(set) => set,
         Err(refusal) => return Ok(Answer::Refused(refusal)),
     };
@@ -92,8 +92,8 @@ fn is_legal(outcome: GameOutcome) -> bool
     }
 }
 
-/// What the game of the input comes to from a position: the first word that is no move is refused,
-/// then a manifest at fault, then the first file at fault.
+/// The outcome of the game of the input from a position. The first word that is no move is refused, then a malformed
+/// manifest, then the first file at fault.
 fn answer_from(
     alloc: Global,
     sources: &Sources,
@@ -135,8 +135,7 @@ impl<'a> FollowGame<'a> {
         }
     }
 
-    /// What the game of the input comes to from the position of the text: a text that is none is refused
-    /// first.
+    /// The outcome of the game of the input from the position of the text. A text that is no position is refused first.
     pub(crate) fn answer(&self, alloc: Global, sources: &Sources) -> Result<Answer, AllocError>
         ensures ok { IfOk result (λ a. IsReply self.now sources.now (reply_of a)) }
         ensures memory { OnErr result (IsText self.now.fen.now) }

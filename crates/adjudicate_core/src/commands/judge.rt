@@ -12,6 +12,7 @@ ghost use Rattle.adjudicate_core.specs.Sources.{named_by};
 use super::{Form, Value};
 use crate::answers::Answer;
 use crate::lines::Line;
+use crate::numbers::CacheSize;
 use crate::refusals::Refusal;
 use crate::sources::{Places, Sources};
 use crate::tables::gather;
@@ -55,7 +56,7 @@ pub(crate) const VALUES: [Value; 3] = [
 fn verdict_of(alloc: Global, sources: &Sources, position: &Position) -> Result<Answer, AllocError>
     ensures { IfOk result (λ a. ByTables (gathered sources.now) IsJudged position.now (reply_of a)) }
 {
-    match gather(alloc, sources) {
+    match gather(alloc, sources, CacheSize::usual()) {
         Ok(Ok(mut set)) => {
             let verdict = set.judge(alloc, position)?;
             Ok(Answer::One(Line::Ruling(verdict), true))

@@ -25,7 +25,7 @@ use system_io::{Disk, ReadFault};
 pub struct List<'a> {
     /// The folder.
     pub folder: &'a str,
-    /// Whether it is told on the way how much is read.
+    /// Whether the progress is written.
     pub progress: bool,
 }
 
@@ -73,7 +73,7 @@ impl<'a> List<'a> {
         Places::none()
     }
 
-    /// The manifest of the files, of which one at a time is held; how much is read is told on the way where that is wanted.
+    /// The manifest of the files. One file at a time is held. Progress is written if requested.
     pub(crate) fn answer<D: Disk, E: Write>(
         &self,
         alloc: Global,

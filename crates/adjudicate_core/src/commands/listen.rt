@@ -7,6 +7,7 @@ ghost use Rattle.adjudicate_core.specs.Commands.Listen.{end_faults, term_faults}
 ghost use Rattle.adjudicate_core.specs.Misuses.{AreWell, IsFirst, fault_words};
 
 use super::{Form, Value};
+use crate::game_name::GameName;
 use crate::numbers::{Delay, is_set};
 use crate::sources::Places;
 use crate::usage::ValueFault;
@@ -14,11 +15,11 @@ use crate::values::{datagrams_in, delay_in, game_words_in, me_in, option_in, to_
 use clap::ArgMatches;
 use move_msg::Who;
 
-/// What an arbiter that answers datagrams is opened from.
-#[derive(Clone, Copy)]
+/// The values of an arbiter that answers datagrams.
+#[derive(Drop)]
 pub struct Listen<'a> {
     /// The name of the game.
-    pub name: &'a str,
+    pub name: GameName<'a>,
     /// The FEN text of its start.
     pub start: &'a str,
     /// The folder of the tables.
@@ -27,20 +28,22 @@ pub struct Listen<'a> {
     pub me: Who,
     /// The address at which datagrams come.
     pub bind: &'a str,
-    /// The addresses to which messages are sent, which commas part.
+    /// The addresses to which messages are sent, separated by commas.
     pub to: &'a str,
     /// The file in which the record is kept.
     pub kept: &'a str,
     /// How many datagrams are answered.
-    pub datagrams: u32,
+    pub datagrams: u64,
     /// For how many further plies a verdict by tables must hold.
     pub delay: Delay,
-    /// Whether the other arbiter is asked for moves first.
+    /// Whether moves are requested from the other arbiter first.
     pub fetch: bool,
+    /// Whether the address at which datagrams come is told first.
+    pub ready: bool,
 }
 
 /// The values of `listen`.
-pub(crate) const VALUES: [Value; 10] = [
+pub(crate) const VALUES: [Value; 11] = [
     Value {
         name: "name",
         form: Form::Option,
@@ -81,6 +84,10 @@ pub(crate) const VALUES: [Value; 10] = [
         name: "fetch",
         form: Form::Flag,
     },
+    Value {
+        name: "ready",
+        form: Form::Flag,
+    },
 ];
 
 /// The addresses and the kept file.
@@ -91,13 +98,14 @@ struct Ends<'a> {
     kept: &'a str,
 }
 
-/// The numbers, and whether it asks first.
+/// The numbers, whether it asks first, and whether it tells its address.
 #[derive(Clone, Copy)]
 struct Terms {
     me: Who,
-    datagrams: u32,
+    datagrams: u64,
     delay: Delay,
     fetch: bool,
+    ready: bool,
 }
 
 /// The addresses and the kept file, of options that have to be there.
@@ -113,9 +121,9 @@ fn ends_in<'a>(matches: &ArgMatches<'a>) -> Result<Ends<'a>, ValueFault<'a>>
     })
 }
 
-/// The numbers, and whether it asks first.
+/// The numbers, whether it asks first, and whether it tells its address.
 fn terms_in<'a>(matches: &ArgMatches<'a>) -> Result<Terms, ValueFault<'a>>
-    ensures ok { IfOk result (λ t. AreTerms (first_value (found_of matches.now)) t.me t.datagrams t.delay t.fetch) }
+    ensures ok { IfOk result (λ t. AreTerms (first_value (found_of matches.now)) t.me t.datagrams t.delay t.fetch t.ready) }
     ensures err { IfErr result (λ fault. IsFirst (first_value (found_of matches.now)) term_faults (fault_words fault)) }
 {
     Ok(Terms {
@@ -123,6 +131,7 @@ fn terms_in<'a>(matches: &ArgMatches<'a>) -> Result<Terms, ValueFault<'a>>
         datagrams: datagrams_in(matches)?,
         delay: delay_in(matches)?,
         fetch: is_set(matches.get_str("fetch")),
+        ready: is_set(matches.get_str("ready")),
     })
 }
 
@@ -151,7 +160,7 @@ impl<'a> Listen<'a> {
             Err(fault) => return Err(fault),
         };
         Ok(Listen {
-            name: game.name.into_text(),
+            name: game.name,
             start: game.start,
             tables: game.tables,
             me: terms.me,
@@ -161,6 +170,7 @@ impl<'a> Listen<'a> {
             datagrams: terms.datagrams,
             delay: terms.delay,
             fetch: terms.fetch,
+            ready: terms.ready,
         })
     }
 

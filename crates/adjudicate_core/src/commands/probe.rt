@@ -1,4 +1,4 @@
-//! `probe`: what tables tell of a position.
+//! `probe`: the values of a position in tables.
 
 ghost use Rattle.std.specs.Prelude.{◌≡◌, IfOk, OnErr, IfErr};
 ghost use Rattle.clap.specs.Words.{first_value, found_of};
@@ -12,6 +12,7 @@ ghost use Rattle.adjudicate_core.specs.Sources.{named_by};
 use super::{Form, Value};
 use crate::answers::Answer;
 use crate::lines::Line;
+use crate::numbers::CacheSize;
 use crate::refusals::Refusal;
 use crate::sources::{Places, Sources};
 use crate::tables::gather;
@@ -23,7 +24,7 @@ use fen_text::read;
 use judge_core::{Column, Probed, Set};
 use std::alloc::{AllocError, Global};
 
-/// What tables tell of a position.
+/// The values of a position in tables.
 #[derive(Clone, Copy)]
 pub struct Probe<'a> {
     /// The folder of the tables.
@@ -50,7 +51,7 @@ pub(crate) const VALUES: [Value; 3] = [
     },
 ];
 
-/// What both probes tell, a line each.
+/// Both probes, a line each.
 fn tell(alloc: Global, probed: Probed) -> Result<Answer, AllocError>
     ensures { IfOk result (λ a. reply_of a ≡ told probed) }
 {
@@ -59,7 +60,7 @@ fn tell(alloc: Global, probed: Probed) -> Result<Answer, AllocError>
     Ok(Answer::Lines(lines, probed.has_both()))
 }
 
-/// What the tables tell of a position, a line a question.
+/// The values of a position in the tables, a line each.
 fn told_by(alloc: Global, set: &mut Set<'_>, position: &Position) -> Result<Answer, AllocError>
     ensures { IfOk result (λ a. IsTold set.old.tables position.now (reply_of a)) }
 {
@@ -69,11 +70,12 @@ fn told_by(alloc: Global, set: &mut Set<'_>, position: &Position) -> Result<Answ
     }
 }
 
-/// What the tables of files tell of a position, or the refusal of these: of a manifest at fault, then of the first file at fault.
+/// The values of a position in the tables of files, or the refusal of these: of a malformed manifest, then of the first
+/// file at fault.
 fn told_of(alloc: Global, sources: &Sources, position: &Position) -> Result<Answer, AllocError>
     ensures { IfOk result (λ a. ByTables (gathered sources.now) IsTold position.now (reply_of a)) }
 {
-    match gather(alloc, sources) {
+    match gather(alloc, sources, CacheSize::usual()) {
         Ok(Ok(mut set)) => told_by(alloc, &mut set, position),
         Ok(Err(refusal)) => Ok(Answer::Refused(refusal)),
         Err(_) => Err(AllocError),
@@ -106,7 +108,7 @@ impl<'a> Probe<'a> {
         }
     }
 
-    /// What the tables tell of the position of the text: a text that is none is refused first.
+    /// The values of the position of the text. A text that is no position is refused first.
     pub(crate) fn answer(&self, alloc: Global, sources: &Sources) -> Result<Answer, AllocError>
         ensures ok { IfOk result (λ a. IsReply self.now sources.now (reply_of a)) }
         ensures memory { OnErr result (IsText self.now.fen.now) }

@@ -1,4 +1,4 @@
-//! `probes`: what tables tell of the positions of the input, a line each.
+//! `probes`: the values of the positions of the input in tables, a line each.
 
 ghost use Rattle.std.specs.Prelude.{◌≡◌, false, IfOk, OnErr, IfErr};
 ghost use Rattle.clap.specs.Words.{first_value, found_of};
@@ -14,7 +14,7 @@ ghost use Rattle.adjudicate_core.specs.ToldLines.{stops_by};
 use super::{Form, Value};
 use crate::answers::status_if;
 use crate::lines::{Line, put_line, put_refusal};
-use crate::numbers::is_set;
+use crate::numbers::{CacheSize, is_set};
 use crate::refusals::Refusal;
 use crate::sources::{Places, Sources};
 use crate::tables::gather;
@@ -29,14 +29,14 @@ use std::alloc::{AllocError, Global};
 use std::io::Write;
 use system_io::{Input, LineReader, Output, WriteFault};
 
-/// What tables tell of the positions of the input.
+/// The values of the positions of the input in tables.
 #[derive(Clone, Copy)]
 pub struct Probes<'a> {
     /// The folder of the tables.
     pub tables: &'a str,
     /// The file of the manifest that the tables are held to, if one is named.
     pub manifest: Option<&'a str>,
-    /// Whether it is told on the way how many are done.
+    /// Whether the progress is written.
     pub progress: bool,
 }
 
@@ -56,7 +56,7 @@ pub(crate) const VALUES: [Value; 3] = [
     },
 ];
 
-/// What the tables tell of a position, in columns, and whether all of it is told.
+/// The values of a position in the tables, in columns, and whether both are there.
 fn columns(
     alloc: Global,
     set: &mut Set<'_>,
@@ -72,7 +72,7 @@ fn columns(
     Ok((Line::Columns(columns), columns.probed.has_both()))
 }
 
-/// What is told of a line, and whether all of it is told.
+/// The answer to a line, and whether it is complete.
 fn probe_line(alloc: Global, set: &mut Set<'_>, text: &[u8]) -> Result<(Line, bool), AllocError>
     ensures told { IfOk result (λ told. TellsLine set.old.tables text.now (record { words = words_of told.0; done = told.1 })) }
     ensures unchanged { set.new.tables ≡ set.old.tables }
@@ -84,10 +84,10 @@ fn probe_line(alloc: Global, set: &mut Set<'_>, text: &[u8]) -> Result<(Line, bo
     }
 }
 
-/// Tells of a line what tables tell of its position.
+/// Answers a line with the values of its position in tables.
 #[derive(Drop)]
 struct Prober<'a> {
-    /// Where its memory comes from.
+    /// The allocator.
     alloc: Global,
     /// The tables.
     set: Set<'a>,
@@ -112,8 +112,8 @@ impl<'a> Teller for Prober<'a> {
     }
 }
 
-/// Writes what a set tells of each line of an input as it comes, and tells the status; on the way it tells how far it is, where
-/// that is wanted.
+/// Writes the answer of a set to each line of an input as it comes, and returns the status. Progress is written if
+/// requested.
 fn put_probes<L: LineReader, W: Output, E: Write>(
     alloc: Global,
     set: Set<'_>,
@@ -132,7 +132,8 @@ fn put_probes<L: LineReader, W: Output, E: Write>(
     }
 }
 
-/// Reads an input by lines, and writes what a set tells of each; where memory for reading is refused, that alone is told.
+/// Reads an input by lines, and writes the answer of a set to each. Where memory for reading is refused, the only line
+/// is `refused memory`.
 fn put_probes_of<I: Input, W: Output, E: Write>(
     alloc: Global,
     set: Set<'_>,
@@ -176,12 +177,13 @@ impl<'a> Probes<'a> {
         }
     }
 
-    /// Writes what the tables of files tell of each line of the input as it comes, or the refusal of the tables; tells the status,
-    /// 0 where all is told, else 1.
+    /// Writes the answer to each line of the input as it comes, by the tables of files, or the refusal of the tables.
+    /// Returns the status, 0 where all answers are complete, else 1.
     ///
-    /// Each line is answered before the next one has to be there, and memory is that of the longest line. Where memory is refused,
-    /// the line `refused memory` follows the whole lines before it; where the input fails, `refused files`. With `--progress` it
-    /// tells `errors` after every 10,000 lines how many are done; without, nothing is written there.
+    /// Each line is answered before the next one has to arrive, and memory is that of the longest line. Where memory is
+    /// refused, the line `refused memory` follows the whole lines before it; where the input fails, `refused files`.
+    /// With `--progress` the number of lines done goes to `errors` after every 10,000; without it nothing is written
+    /// there.
     pub(crate) fn answer<I: Input, W: Output, E: Write>(
         &self,
         alloc: Global,
@@ -193,7 +195,7 @@ impl<'a> Probes<'a> {
         ensures written { IfOk result (PutsProbes (I.facts input.now) sources.now (W.contents out.old) (W.contents out.new)) }
         ensures quiet { self.now.progress ≡ false → errors.new ≡ errors.old }
     {
-        match gather(alloc, sources) {
+        match gather(alloc, sources, CacheSize::usual()) {
             Ok(Ok(set)) => put_probes_of(alloc, set, input, out, errors, self.progress),
             Ok(Err(refusal)) => put_refusal(out, refusal),
             Err(_) => put_refusal(out, Refusal::Memory),

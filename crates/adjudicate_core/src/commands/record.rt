@@ -1,4 +1,4 @@
-//! `record`: what a kept record says.
+//! `record`: the contents of a kept record.
 
 ghost use Rattle.std.specs.Prelude.{◌≡◌, ◌++◌, IfErr, IfOk, OnOk, codes};
 ghost use Rattle.fen_text.specs.Coordinates.{move_text};
@@ -25,7 +25,7 @@ use std::alloc::Global;
 use std::io::Write;
 use system_io::WriteFault;
 
-/// What a kept record says.
+/// The contents of a kept record.
 #[derive(Clone, Copy)]
 pub struct ShowRecord<'a> {
     /// The kept file.
@@ -145,7 +145,7 @@ impl<'a> ShowRecord<'a> {
         }
     }
 
-    /// Writes a line for each part of the record that the kept file is, or why it is none; tells the status, 0 or 1.
+    /// Writes a line for each part of the record in the kept file, or why it is none. Returns the status, 0 or 1.
     pub(crate) fn answer<W: Write>(
         &self,
         alloc: Global,

@@ -35,7 +35,7 @@ use relay_world::{Event, Game, World, WorldFault, run};
 use std::alloc::{AllocError, Global};
 use table_file::{TableFault, reads_what_is_laid_out};
 
-/// What becomes of two arbiters under the schedule of the input.
+/// Two arbiters under the schedule of the input.
 #[derive(Clone, Copy)]
 pub struct RunSchedule<'a> {
     /// The folder of the tables, if one is named.
@@ -148,14 +148,14 @@ fn kept_count_of(world: &World, who: Who) -> Option<KeptCount>
     }
 }
 
-/// What is told of an arbiter.
+/// The line for an arbiter.
 fn line_of(world: &World, who: Who) -> Line
     ensures { (stamp : Stamp) (delay : ℕ) (side : Side) → TellsSide stamp delay (told_of world.now who) side → words_of result ≡ side_words who side }
 {
     Line::Arbiter(who, world.state(who), kept_count_of(world, who))
 }
 
-/// What is told of a world.
+/// The lines for a world.
 fn lines_of(alloc: Global, world: &World) -> Result<Vec<Line>, AllocError>
     ensures { IfOk result (λ lines. (game : Judged) (last : Worlds) → Tells game world.now last → map words_of lines.items ≡ world_words last) }
 {
@@ -167,7 +167,7 @@ fn lines_of(alloc: Global, world: &World) -> Result<Vec<Line>, AllocError>
     Vec::from_slice(alloc, &lines)
 }
 
-/// What is told of a world, as an answer.
+/// The lines for a world, as an answer.
 fn answer_world(alloc: Global, world: &World) -> Result<Answer, AllocError>
     ensures { IfOk result (λ a. (game : Judged) (last : Worlds) → Tells game world.now last → reply_of a ≡ record { text = text_of (world_words last); status = 0 }) }
 {
@@ -175,7 +175,7 @@ fn answer_world(alloc: Global, world: &World) -> Result<Answer, AllocError>
     Ok(Answer::Lines(lines, true))
 }
 
-/// What becomes of two arbiters under the events of a schedule, or the refusal of the first file that is no table.
+/// Two arbiters after the events of a schedule, or the refusal of the first file that is no table.
 fn answer_events(
     alloc: Global,
     sources: &Sources,
@@ -193,7 +193,7 @@ fn answer_events(
     }
 }
 
-/// What becomes of two arbiters under a schedule, or the refusal of the first file that is no table.
+/// Two arbiters after a schedule, or the refusal of the first file that is no table.
 fn answer_schedule(
     alloc: Global,
     sources: &Sources,
@@ -236,8 +236,8 @@ impl<'a> RunSchedule<'a> {
         }
     }
 
-    /// What becomes of two arbiters under the schedule of the input: the first line at fault is refused,
-    /// then the first file that is no table.
+    /// Two arbiters after the schedule of the input. The first malformed line is refused, then the first file that is
+    /// no table.
     pub(crate) fn answer(&self, alloc: Global, sources: &Sources) -> Result<Answer, AllocError>
         ensures { IfOk result (λ a. IsReply self.now sources.now (reply_of a)) }
     {

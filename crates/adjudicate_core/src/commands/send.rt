@@ -14,7 +14,7 @@ use crate::usage::ValueFault;
 use crate::values::{delay_in, game_words_in, option_in, to_in, tries_in, wait_in};
 use clap::ArgMatches;
 
-/// What the moves of a game are sent by.
+/// The values for sending the moves of a game.
 #[derive(Drop)]
 pub struct Send<'a> {
     /// The name of the game.
@@ -29,7 +29,7 @@ pub struct Send<'a> {
     pub delay: Delay,
     /// The address at which datagrams come.
     pub bind: &'a str,
-    /// The addresses to which moves are sent, which commas part.
+    /// The addresses to which moves are sent, separated by commas.
     pub to: &'a str,
     /// How many milliseconds a datagram is awaited.
     pub wait: u16,

@@ -44,8 +44,8 @@ fn read_front<'a>(feeder: &mut Feeder, stream: &'a [u8]) -> Front<'a>
     }
 }
 
-/// Writes a line for each message of a stream, and a refusal where it doesn't end after one; tells
-/// the status, 0 done or 1 refused.
+/// Writes a line for each message of a stream, and a refusal where it doesn't end after one. Returns the status, 0 done
+/// or 1 refused.
 fn show_messages<W: Write>(stream: &[u8], out: &mut W) -> Result<u8, WriteFault>
     ensures { IfOk result (λ status. (r : Reply) × IsShown stream.now r × WritesReply (W.contents out.old) (W.contents out.new) r status) }
 {
@@ -85,7 +85,7 @@ impl Show {
         }
     }
 
-    /// Writes a line for each message of the input, as it is read, and tells the status.
+    /// Writes a line for each message of the input, and returns the status.
     pub(crate) fn answer<W: Write>(&self, sources: &Sources, out: &mut W) -> Result<u8, WriteFault>
         ensures { IfOk result (Answers sources.now (W.contents out.old) (W.contents out.new)) }
     {

@@ -25,7 +25,7 @@ impl Version {
         Places::none()
     }
 
-    /// Writes both versions, a line each, and tells the status 0.
+    /// Writes both versions, a line each, and returns the status 0.
     pub(crate) fn answer<W: Write>(&self, out: &mut W) -> Result<u8, WriteFault>
         ensures { IfOk result (Answers (W.contents out.old) (W.contents out.new)) }
     {

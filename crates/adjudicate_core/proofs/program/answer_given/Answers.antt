@@ -1,6 +1,7 @@
 use Rattle.std.proofs.Common.{◌∙◌, refl, sym, ap}
 use Rattle.adjudicate_core.specs.Tasks.{tells_progress}
-use Rattle.adjudicate_core.proofs.AnswerLaws.{after_reading, listened, once, once_always, sent}
+use Rattle.adjudicate_core.proofs.AnswerLaws.{after_reading, entered, listened, once, once_always, sent}
+use Rattle.adjudicate_core.proofs.HostLaws.{hosted_games}
 use Rattle.adjudicate_core.proofs.program.answer_given.Goals as goal
 
 pub returns-in-Judge : goal.returns-in-Judge
@@ -19,7 +20,7 @@ pub returns-in-Run : goal.returns-in-Run
 returns-in-Run g c = record { answered = rw c.in-Run.is (once_always c.answer-in-Run.result _ c.answer-in-Run.ensures c.put_answered-in-Run.result _ _ c.put_answered-in-Run.ensures); quiet = λ unasked. refl }
 
 pub returns-in-Listen : goal.returns-in-Listen
-returns-in-Listen g c = record { answered = rw c.in-Listen.is (listened _ _ _ _ _ _ _ _ c.listen.result c.listen.ensures); quiet = λ unasked. refl }
+returns-in-Listen g c = record { answered = rw c.in-Listen.is (listened _ _ _ _ _ _ c.listen.result c.listen.ensures); quiet = λ unasked. refl }
 
 pub returns-in-Probes : goal.returns-in-Probes
 returns-in-Probes g c = record { answered = rw c.in-Probes.is c.answer-in-Probes.ensures.written; quiet = λ unasked. c.answer-in-Probes.ensures.quiet (ap tells_progress (sym c.in-Probes.is) ∙ unasked) }
@@ -44,3 +45,9 @@ returns-in-Version g c = record { answered = rw c.in-Version.is c.answer-in-Vers
 
 pub returns-in-Send : goal.returns-in-Send
 returns-in-Send g c = record { answered = rw c.in-Send.is (sent _ _ _ _ _ _ c.send.result c.send.ensures); quiet = λ unasked. refl }
+
+pub returns-in-Enter : goal.returns-in-Enter
+returns-in-Enter g c = record { answered = rw c.in-Enter.is (entered _ _ _ _ _ c.enter.result c.enter.ensures); quiet = λ unasked. refl }
+
+pub returns-in-Host : goal.returns-in-Host
+returns-in-Host g c = record { answered = rw c.in-Host.is (hosted_games _ _ _ _ _ _ c.host_games.result c.host_games.ensures); quiet = λ unasked. refl }

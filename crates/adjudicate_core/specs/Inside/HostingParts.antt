@@ -1,0 +1,14 @@
+-- The words of `host`, part by part; cited by private functions alone.
+use Rattle.std.specs.Prelude.{◌≡◌, ℕ, List, Option, Some, codes}
+use Rattle.clap.specs.Words.{Text}
+use Rattle.move_msg.specs.declared.who.Who.{Who}
+use Rattle.adjudicate_core.specs.Addresses.{AreAddresses}
+use Rattle.adjudicate_core.specs.Numbers.{IsAtOnce, IsCache, IsDatagrams, IsMe}
+
+abbrev pub AreEnds : (Text → Option Text) → List ℕ → List ℕ → List ℕ → List ℕ → Type 0
+AreEnds value games tables bind to =
+    (Some games ≡ value (codes "games")) × (Some tables ≡ value (codes "tables")) × (Some bind ≡ value (codes "bind")) × (Some to ≡ value (codes "to")) × AreAddresses to
+
+abbrev pub AreTerms : (Text → Option Text) → Who → ℕ → ℕ → ℕ → Type 0
+AreTerms value me at_once cache datagrams =
+    IsMe (value (codes "me")) me × IsAtOnce (value (codes "at-once")) at_once × IsCache (value (codes "cache")) cache × IsDatagrams (value (codes "datagrams")) datagrams

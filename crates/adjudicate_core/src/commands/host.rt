@@ -1,0 +1,165 @@
+//! `host`: arbiters of any number of games; these are its words, and `hosting` serves the games.
+
+ghost use Rattle.std.specs.Prelude.{IfOk, IfErr};
+ghost use Rattle.clap.specs.Words.{found_of, first_value};
+ghost use Rattle.adjudicate_core.specs.Inside.HostingParts.{AreEnds, AreTerms};
+ghost use Rattle.adjudicate_core.specs.Commands.Host.{end_faults, term_faults};
+ghost use Rattle.adjudicate_core.specs.Misuses.{AreWell, IsFirst, fault_words};
+
+use super::{Form, Value};
+use crate::numbers::CacheSize;
+use crate::sources::Places;
+use crate::usage::ValueFault;
+use crate::values::{at_once_in, cache_in, datagrams_in, me_in, option_in, to_in};
+use clap::ArgMatches;
+use move_msg::Who;
+use std::num::NonZeroUsize;
+
+/// What arbiters of games are opened from.
+#[derive(Drop)]
+pub struct HostGames<'a> {
+    /// The folder of the games.
+    pub games: &'a str,
+    /// The folder of the tables.
+    pub tables: &'a str,
+    /// The file of their manifest, if one is named; then the tables are those of its lines.
+    pub manifest: Option<&'a str>,
+    /// The address at which datagrams come.
+    pub bind: &'a str,
+    /// The addresses to which messages are sent, which commas part.
+    pub to: &'a str,
+    /// Which of the two arbiters of each game it is.
+    pub me: Who,
+    /// How many games are open at once, at most; 65535 or less.
+    pub at_once: NonZeroUsize,
+    /// How many decoded blocks the tables may keep.
+    pub cache: CacheSize,
+    /// How many datagrams are answered.
+    pub datagrams: u64,
+}
+
+/// The values of `host`.
+pub(crate) const VALUES: [Value; 9] = [
+    Value {
+        name: "games",
+        form: Form::Option,
+    },
+    Value {
+        name: "tables",
+        form: Form::Option,
+    },
+    Value {
+        name: "manifest",
+        form: Form::Option,
+    },
+    Value {
+        name: "bind",
+        form: Form::Option,
+    },
+    Value {
+        name: "to",
+        form: Form::Option,
+    },
+    Value {
+        name: "me",
+        form: Form::Option,
+    },
+    Value {
+        name: "at-once",
+        form: Form::Option,
+    },
+    Value {
+        name: "cache",
+        form: Form::Option,
+    },
+    Value {
+        name: "datagrams",
+        form: Form::Option,
+    },
+];
+
+/// The folders and the addresses.
+#[derive(Clone, Copy)]
+struct Ends<'a> {
+    games: &'a str,
+    tables: &'a str,
+    bind: &'a str,
+    to: &'a str,
+}
+
+/// The numbers.
+#[derive(Clone, Copy)]
+struct Terms {
+    me: Who,
+    at_once: NonZeroUsize,
+    cache: CacheSize,
+    datagrams: u64,
+}
+
+/// The folders and the addresses, of options that have to be there.
+fn ends_in<'a>(matches: &ArgMatches<'a>) -> Result<Ends<'a>, ValueFault<'a>>
+    ensures ok { IfOk result (λ e. AreEnds (first_value (found_of matches.now)) e.games.now e.tables.now e.bind.now e.to.now) }
+    ensures well { IfOk result (λ e. AreWell (first_value (found_of matches.now)) end_faults) }
+    ensures err { IfErr result (λ fault. IsFirst (first_value (found_of matches.now)) end_faults (fault_words fault)) }
+{
+    Ok(Ends {
+        games: option_in(matches, "games")?,
+        tables: option_in(matches, "tables")?,
+        bind: option_in(matches, "bind")?,
+        to: to_in(matches)?,
+    })
+}
+
+/// The numbers.
+fn terms_in<'a>(matches: &ArgMatches<'a>) -> Result<Terms, ValueFault<'a>>
+    ensures ok { IfOk result (λ t. AreTerms (first_value (found_of matches.now)) t.me t.at_once.value t.cache t.datagrams) }
+    ensures err { IfErr result (λ fault. IsFirst (first_value (found_of matches.now)) term_faults (fault_words fault)) }
+{
+    Ok(Terms {
+        me: me_in(matches)?,
+        at_once: at_once_in(matches)?,
+        cache: cache_in(matches)?,
+        datagrams: datagrams_in(matches)?,
+    })
+}
+
+impl<'a> HostGames<'a> {
+    ghost use Rattle.std.specs.Prelude.{◌≡◌, IfOk, IfErr};
+    ghost use Rattle.clap.specs.Words.{found_of, first_value};
+    ghost use Rattle.adjudicate_core.specs.Sources.{named_by};
+    ghost use Rattle.adjudicate_core.specs.Misuses.{IsFirst, fault_words};
+    ghost use Rattle.adjudicate_core.specs.Commands.Host.{HasValues, faults, named};
+
+    /// The task with these values, or the first thing that is wrong with them.
+    pub(crate) fn of(matches: &ArgMatches<'a>) -> Result<HostGames<'a>, ValueFault<'a>>
+        ensures ok { IfOk result (HasValues (first_value (found_of matches.now))) }
+        ensures err { IfErr result (λ fault. IsFirst (first_value (found_of matches.now)) faults (fault_words fault)) }
+    {
+        let ends = ends_in(matches)?;
+        let terms = terms_in(matches)?;
+        Ok(HostGames {
+            games: ends.games,
+            tables: ends.tables,
+            manifest: matches.get_str("manifest"),
+            bind: ends.bind,
+            to: ends.to,
+            me: terms.me,
+            at_once: terms.at_once,
+            cache: terms.cache,
+            datagrams: terms.datagrams,
+        })
+    }
+
+    /// What is read for it.
+    pub(crate) fn places(&self) -> Places<'a>
+        ensures { named_by result ≡ named self.now }
+    {
+        Places {
+            folder: Some(self.tables),
+            manifest: self.manifest,
+            reads_input: false,
+            kept: None,
+            other_kept: None,
+        }
+    }
+}
