@@ -1,14 +1,17 @@
 //! The worked files as plans, plans that no file says, and writers that fail.
 
+ghost use Rattle.std.specs.Prelude.{◌<◌};
+
 use crate::comparing::{check_bytes, check_same};
+use crate::failing::Failing;
 use crate::files::{BISHOP, KNIGHT, PAWN, PAWNS, QUEEN, QUEEN_PLIES, file_of, queen_file};
-use crate::index_tests::material;
-use crate::table_tests::{distance, table_of};
+use board_core::Side;
+use place_index::{Material, PawnFile, index};
 use std::alloc::Global;
-use std::io::{self, Write};
 use std::process::Abort;
 use table_file::{
-    Content, ForgeFault, MapsPlan, Outcome, PairsPlan, PartPlan, Plan, Table, TableKind, forge,
+    Content, Damaged, ForgeFault, MapsPlan, Outcome, PairsPlan, PartPlan, Plan, Table, TableFault,
+    TableKind, forge, open,
 };
 
 fn words_of(rt: &impl Abort, alloc: Global, words: &[u16]) -> Vec<u16> {
@@ -423,34 +426,6 @@ fn plans_that_no_file_says_are_refused(rt: HostRuntime) {
     check_refused(&rt, alloc, with_maps_untold(&rt, alloc), "maps");
 }
 
-/// A writer that takes at most 16 bytes at once and fails at one call.
-#[derive(Drop)]
-pub(crate) struct Failing {
-    calls: u32,
-    fails_at: u32,
-}
-
-impl Failing {
-    /// One that fails at the call of this number, the first being 0.
-    pub(crate) fn at(fails_at: u32) -> Failing {
-        Failing { calls: 0, fails_at }
-    }
-}
-
-impl Write for Failing {
-    fn write(&mut self, buf: &[u8]) -> io::Result<usize> {
-        if self.calls == self.fails_at {
-            return Err(io::Error::from(io::ErrorKind::BrokenPipe));
-        }
-        self.calls = self.calls.wrapping_add(1);
-        Ok(buf.len().min(16))
-    }
-
-    fn flush(&mut self) -> io::Result<()> {
-        Ok(())
-    }
-}
-
 /// What is told where the writer fails at one call.
 fn told_at(alloc: Global, plan: &Plan, fails_at: u32) -> Result<(), ForgeFault> {
     forge(alloc, plan, &mut Failing::at(fails_at))
@@ -539,4 +514,37 @@ fn values_are_places_in_maps(rt: HostRuntime) {
     for row in &PLACES {
         check_places(&rt, rt.alloc(), row);
     }
+}
+
+/// The material of a name that is good.
+pub(crate) fn material(rt: &impl Abort, name: &str) -> Material {
+    Material::from_name(name.as_bytes()).expect(rt, name)
+}
+
+/// A file as a table, or its fault. The functions down to `distance` show a table to the tests without its contracts.
+fn opened<'a>(alloc: Global, name: &str, file: &'a [u8]) -> Result<Table<'a>, TableFault> {
+    open(alloc, name.as_bytes(), file)
+}
+
+/// The table of a file that is good.
+pub(crate) fn table_of<'a>(
+    rt: &impl Abort,
+    alloc: Global,
+    name: &str,
+    file: &'a [u8],
+) -> Table<'a> {
+    opened(alloc, name, file).expect(rt, name)
+}
+
+/// The plies that a DTZ table tells.
+pub(crate) fn distance(
+    rt: &impl Abort,
+    table: &Table<'_>,
+    file: u8,
+    index: u64,
+    outcome: Outcome,
+) -> Result<u32, Damaged> {
+    assert!(rt; table.kind() == TableKind::Dtz);
+    let file = PawnFile::new(file).expect(rt, "a file");
+    table.part(Side::White, file).dtz(index, outcome)
 }

@@ -1,11 +1,8 @@
 //! Messages: the worked rows, refusals in their order, and streams in pieces.
 
-use crate::comparing::{check_bytes, check_same, check_text};
-use board_core::{Move, Promotion, Square, Verdict};
-use move_msg::{
-    Count, Feeder, MOST_MOVES, Message, MessageFault, RecordFault, Sender, Stamp, Wanted, Who,
-    of_word, word,
-};
+use crate::comparing::{check_same, push_bytes};
+use board_core::{Move, Square};
+use move_msg::{Feeder, Message, MessageFault, Sender, Stamp, Wanted, Who, word};
 use std::alloc::Global;
 use std::process::Abort;
 
@@ -20,19 +17,6 @@ pub(crate) fn e2e4() -> Move {
     }
 }
 
-/// A pawn promoted to a queen.
-pub(crate) fn e7e8q() -> Move {
-    Move {
-        from: Square::at(52),
-        to: Square::at(60),
-        promotion: Some(Promotion::Queen),
-    }
-}
-
-fn count(rt: &impl Abort, moves: u32) -> Count {
-    Count::new(moves).expect(rt, "a count")
-}
-
 /// A message of these fields, with the stamp of the tests.
 fn bytes_of(version: u8, kind: u8, sender: u8, number: u32, word: u16) -> [u8; 27] {
     let mut bytes = [0; 27];
@@ -44,47 +28,8 @@ fn bytes_of(version: u8, kind: u8, sender: u8, number: u32, word: u16) -> [u8; 2
     bytes
 }
 
-fn spelled(m: Move) -> u16 {
-    word(m)
-}
-
-fn move_by(word: u16) -> Option<Move> {
-    of_word(word)
-}
-
-#[test]
-fn writes_words(rt: HostRuntime) {
-    check_same(&rt, spelled(e2e4()), 0x070c, "e2e4");
-    check_same(&rt, spelled(e7e8q()), 0x1f34, "e7e8q");
-}
-
-#[test]
-fn reads_words(rt: HostRuntime) {
-    check_same(&rt, move_by(0x070c), Some(e2e4()), "e2e4");
-    check_same(&rt, move_by(0x1f34), Some(e7e8q()), "e7e8q");
-    check_same(&rt, move_by(20479).is_some(), true, "20479");
-    check_same(&rt, move_by(20480), None, "20480");
-    check_same(&rt, move_by(65535), None, "65535");
-}
-
 fn encoded(message: &Message) -> [u8; 27] {
     message.encode()
-}
-
-fn decoded(bytes: &[u8]) -> Result<Message, MessageFault> {
-    Message::decode(bytes)
-}
-
-fn check_head(rt: &impl Abort, message: &Message, sender: u8) {
-    check_same(rt, message.stamp(), STAMP, "stamp");
-    check_same(rt, message.sender().number(), sender, "sender");
-}
-
-/// Writes and reads a message.
-fn there_and_back(rt: &impl Abort, message: Message, bytes: &[u8; 27]) {
-    check_bytes(rt, &encoded(&message), bytes, "written");
-    check_same(rt, decoded(bytes), Ok(message), "read");
-    check_head(rt, &message, bytes[20]);
 }
 
 /// A move of this sender.
@@ -95,62 +40,6 @@ fn told(sender: Sender, number: u32, m: Move) -> Message {
         number,
         m,
     }
-}
-
-#[test]
-fn writes_and_reads_moves(rt: HostRuntime) {
-    let first = told(Sender::Source, 0, e2e4());
-    there_and_back(&rt, first, &bytes_of(1, 1, 0, 0, 0x070c));
-    let last = told(Sender::Source, u32::MAX, e7e8q());
-    there_and_back(&rt, last, &bytes_of(1, 1, 0, u32::MAX, 0x1f34));
-    let relayed = told(Sender::Arbiter(Who::A), 5, e2e4());
-    there_and_back(&rt, relayed, &bytes_of(2, 1, 1, 5, 0x070c));
-}
-
-/// A move as its bytes stand.
-#[test]
-fn a_move_has_its_bytes(rt: HostRuntime) {
-    let bytes = [
-        0x53, 0x41, 1, 1, 0, 1, 2, 3, 4, 5, 6, 7, 8, 9, 10, 11, 12, 13, 14, 15, 0, 0, 0, 0, 0,
-        0x07, 0x0c,
-    ];
-    check_bytes(&rt, &bytes_of(1, 1, 0, 0, 0x070c), &bytes, "bytes");
-}
-
-fn ack(rt: &impl Abort) -> Message {
-    Message::Ack {
-        stamp: STAMP,
-        who: Who::A,
-        count: count(rt, 3),
-    }
-}
-
-fn stopped(rt: &impl Abort) -> Message {
-    Message::Verdict {
-        stamp: STAMP,
-        who: Who::B,
-        ply: count(rt, MOST_MOVES),
-        verdict: Verdict::Stopped,
-    }
-}
-
-fn fetch() -> Message {
-    Message::Fetch {
-        stamp: STAMP,
-        who: Who::B,
-        number: Count::none(),
-        wanted: Wanted::most(),
-    }
-}
-
-#[test]
-fn writes_and_reads_messages(rt: HostRuntime) {
-    there_and_back(&rt, ack(&rt), &bytes_of(1, 2, 1, 3, 0));
-    there_and_back(&rt, stopped(&rt), &bytes_of(1, 3, 2, 4096, 7));
-    let bytes = [
-        0x53, 0x41, 2, 4, 0, 1, 2, 3, 4, 5, 6, 7, 8, 9, 10, 11, 12, 13, 14, 15, 2, 0, 0, 0, 0, 0, 8,
-    ];
-    there_and_back(&rt, fetch(), &bytes);
 }
 
 fn no_message() -> Message {
@@ -164,65 +53,6 @@ fn names_who_and_what(rt: HostRuntime) {
     let sender = no_message().sender();
     check_same(&rt, sender, Sender::Arbiter(Who::A), "default");
     check_same(&rt, sender == Sender::Source, false, "no source");
-}
-
-#[test]
-fn names_verdicts_and_faults(rt: HostRuntime) {
-    let verdict = Verdict::from_code(5);
-    check_same(&rt, verdict, Some(Verdict::TableWhite), "5");
-    check_text(&rt, MessageFault::BadKind.name(), "BadKind");
-    check_text(&rt, RecordFault::BadField.name(), "BadField");
-}
-
-/// A message's version, kind, sender, number and last word, and its fault.
-type Refusal = (u8, u8, u8, u32, u16, MessageFault);
-
-const REFUSALS: [Refusal; 23] = [
-    (1, 0, 0, 0, 0, MessageFault::BadKind),
-    (1, 4, 9, 9, 65535, MessageFault::BadKind),
-    (1, 1, 1, 0, 0x070c, MessageFault::BadField),
-    (1, 1, 0, 0, 20480, MessageFault::BadField),
-    (1, 2, 0, 3, 0, MessageFault::BadField),
-    (1, 2, 3, 3, 0, MessageFault::BadField),
-    (1, 2, 1, 4097, 0, MessageFault::BadField),
-    (1, 2, 1, 3, 1, MessageFault::BadField),
-    (1, 3, 0, 4, 5, MessageFault::BadField),
-    (1, 3, 1, 4097, 5, MessageFault::BadField),
-    (1, 3, 1, 4, 0, MessageFault::BadField),
-    (1, 3, 1, 4, 8, MessageFault::BadField),
-    (1, 3, 1, 4, 257, MessageFault::BadField),
-    (2, 2, 1, 3, 0, MessageFault::BadKind),
-    (2, 1, 0, 0, 0x070c, MessageFault::BadField),
-    (2, 1, 1, 0, 20480, MessageFault::BadField),
-    (2, 4, 0, 0, 8, MessageFault::BadField),
-    (2, 4, 2, 4097, 8, MessageFault::BadField),
-    (2, 4, 2, 0, 0, MessageFault::BadField),
-    (2, 4, 2, 0, 9, MessageFault::BadField),
-    (2, 4, 2, 0, 264, MessageFault::BadField),
-    (0, 1, 0, 0, 0x070c, MessageFault::BadHead),
-    (3, 4, 2, 0, 8, MessageFault::BadHead),
-];
-
-fn check_refusal(rt: &impl Abort, row: &Refusal) {
-    let (version, kind, sender, number, word, fault) = *row;
-    let told = decoded(&bytes_of(version, kind, sender, number, word));
-    check_same(rt, (*row, told), (*row, Err(fault)), "refused");
-}
-
-#[test]
-fn refuses_other_messages(rt: HostRuntime) {
-    for row in &REFUSALS {
-        check_refusal(&rt, row);
-    }
-}
-
-const OTHER_LENGTHS: [&[u8]; 3] = [&[], &[0; 26], &[0; 28]];
-
-#[test]
-fn refuses_other_lengths(rt: HostRuntime) {
-    for bytes in OTHER_LENGTHS {
-        check_same(&rt, decoded(bytes), Err(MessageFault::BadLength), "length");
-    }
 }
 
 /// The number after that of the message that a feeder answers, if any; without an answer it took all bytes.
@@ -271,10 +101,6 @@ fn feed_all(rt: &impl Abort, feeder: &mut Feeder, piece: &[u8], first: u32) -> u
         next = number;
     }
     next
-}
-
-pub(crate) fn push_bytes(rt: &impl Abort, bytes: &mut Vec<u8>, more: &[u8]) {
-    assert!(rt; bytes.extend_from_slice(more).is_ok());
 }
 
 fn push_move(rt: &impl Abort, stream: &mut Vec<u8>, number: u32) {

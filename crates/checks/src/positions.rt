@@ -2,13 +2,11 @@
 
 use board_core::{Move, Position, Square};
 use fen_text::{read, read_move};
+use move_msg::word;
 use std::alloc::{AllocError, Global};
 use std::process::Abort;
 
 pub(crate) const START: &str = "rnbqkbnr/pppppppp/8/8/8/8/PPPPPPPP/RNBQKBNR w KQkq - 0 1";
-
-/// Bare kings, white to move.
-pub(crate) const KINGS: &str = "8/8/8/4k3/8/8/8/K7 w - - 0 1";
 
 /// The position of a FEN text that is good.
 pub(crate) fn position_of(rt: &impl Abort, text: &str) -> Position {

@@ -1,14 +1,14 @@
 //! No refused memory changes an answer of a probe.
 
+ghost use Rattle.std.specs.Prelude.{◌≤◌};
+ghost use Rattle.board_core.specs.Delays.{most_delay};
+
 use crate::comparing::check_same;
 use crate::files::{QUEEN, QUEEN_PLIES, files_of};
-use crate::game_tests::{WHITE_WINS, game_of};
-use crate::probe_tests::{
-    CHECKING_ROW, HANGING_ROW, QUEEN_ROW, ROOK_ROW, check_value, distance, judged, value,
-};
-use board_core::Verdict;
-use judge_core::{ProbeFault, Set, SetFault};
-use std::alloc::Global;
+use crate::positions::{moves_of, position_of};
+use board_core::{Move, Verdict};
+use judge_core::{GameOutcome, ProbeFault, Set, SetFault};
+use std::alloc::{AllocError, Global};
 use std::process::Abort;
 use std::test::Fail;
 use table_file::{Table, open};
@@ -108,4 +108,91 @@ fn refused_memory_changes_no_answer(rt: HostRuntime) -> Result<(), Fail> {
     let files = files_of(&QUEEN, &QUEEN_PLIES);
     let mut set = Set::new(rt.alloc(), 64)?;
     check_both_added(&rt, rt.alloc(), &mut set, &files)
+}
+
+pub(crate) const QUEEN_ROW: &str = "8/8/8/4k3/8/8/8/KQ6 w - - 0 1";
+
+/// The queen stands beside the king that is to move.
+pub(crate) const HANGING_ROW: &str = "7K/8/8/4k3/3Q4/8/8/8 b - - 0 1";
+
+/// The queen gives check from h1.
+pub(crate) const CHECKING_ROW: &str = "8/8/8/8/8/2k5/8/K6Q b - - 0 1";
+
+pub(crate) const ROOK_ROW: &str = "8/8/8/4k3/8/8/K7/1Q5r b - - 0 1";
+
+pub(crate) fn value(
+    rt: &impl Abort,
+    alloc: Global,
+    set: &mut Set<'_>,
+    row: &str,
+) -> Result<i8, ProbeFault> {
+    match set.wdl(alloc, &position_of(rt, row)) {
+        Ok(value) => Ok(value.number()),
+        Err(fault) => Err(fault),
+    }
+}
+
+pub(crate) fn distance(
+    rt: &impl Abort,
+    alloc: Global,
+    set: &mut Set<'_>,
+    row: &str,
+) -> Result<i32, ProbeFault> {
+    set.dtz(alloc, &position_of(rt, row))
+}
+
+pub(crate) fn judged(
+    rt: &impl Abort,
+    alloc: Global,
+    set: &mut Set<'_>,
+    row: &str,
+) -> Result<Option<Verdict>, AllocError> {
+    set.judge(alloc, &position_of(rt, row))
+}
+
+pub(crate) fn check_value(
+    rt: &impl Abort,
+    alloc: Global,
+    set: &mut Set<'_>,
+    row: &str,
+    wanted: Result<i8, ProbeFault>,
+) {
+    check_same(rt, value(rt, alloc, set, row), wanted, row);
+}
+
+pub(crate) const WHITE_WINS: GameOutcome = GameOutcome::Ruled {
+    ply: 4,
+    verdict: Verdict::TableWhite,
+};
+
+/// A delay is at most 8 plies.
+fn check_delay(rt: &impl Abort, delay: u8)
+    ensures { delay ≤ most_delay }
+{
+    assert!(rt; delay <= 8);
+}
+
+fn outcome(
+    rt: &impl Abort,
+    alloc: Global,
+    set: &mut Set<'_>,
+    start: &str,
+    moves: &[Move],
+    delay: u8,
+) -> Result<GameOutcome, AllocError> {
+    check_delay(rt, delay);
+    set.judge_game(alloc, &position_of(rt, start), moves, delay)
+}
+
+/// What the game of these moves comes to.
+pub(crate) fn game_of(
+    rt: &impl Abort,
+    alloc: Global,
+    set: &mut Set<'_>,
+    start: &str,
+    moves: &str,
+    delay: u8,
+) -> Result<GameOutcome, AllocError> {
+    let moves = moves_of(rt, alloc, moves)?;
+    outcome(rt, alloc, set, start, moves.as_slice(), delay)
 }

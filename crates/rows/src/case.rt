@@ -1,4 +1,4 @@
-//! A case: what the program is given, and what is wanted of it.
+//! A case: the input of the program, and what is wanted of it.
 
 use crate::memory_host::{MemoryHost, Stands};
 use crate::pieces::{Fault, add_piece, number_of};
@@ -12,12 +12,14 @@ use system_io::WriteFault;
 pub(crate) enum Call<'t> {
     /// The program over the files of the shelf.
     Shelf,
-    /// The program over the files of the system.
+    /// The words are paths of the system, which are read.
     System,
     /// The words are only read, as the task of this name.
     Task(&'t str),
-    /// A teller is given the lines of the input. It tells how many bytes each has.
+    /// A teller gets the lines of the input. It answers the number of bytes of each.
     Teller,
+    /// The call of a library that has this name.
+    Library(&'t str),
 }
 
 /// What is wanted.
@@ -107,6 +109,11 @@ impl<'t> Case<'t> {
         }
     }
 
+    /// The bytes of its standard input.
+    pub(crate) fn input_bytes(&self) -> &[u8] {
+        &self.input
+    }
+
     /// Its host.
     pub(crate) fn host(&self) -> MemoryHost<'_> {
         MemoryHost {
@@ -147,7 +154,7 @@ impl<'t> Case<'t> {
         }
     }
 
-    /// Notes what stands where the record is to be kept.
+    /// Sets what stands where the record is to be kept.
     fn set_kept(&mut self, alloc: Global, shelf: &Shelf<'_>, text: &str) -> Result<(), Fault> {
         self.stands = match text {
             "nothing" => Stands::Nothing,
@@ -162,7 +169,7 @@ impl<'t> Case<'t> {
         }
     }
 
-    /// Notes the status that is wanted.
+    /// Sets the status that is wanted.
     fn set_status(&mut self, text: &str) -> Result<(), Fault> {
         match text.parse::<u8>() {
             Ok(status) => {
@@ -173,7 +180,7 @@ impl<'t> Case<'t> {
         }
     }
 
-    /// Notes what a line of one word and a value says.
+    /// Sets what a line of one word and a value says.
     fn set(
         &mut self,
         alloc: Global,
@@ -188,12 +195,13 @@ impl<'t> Case<'t> {
             "kept" => return self.set_kept(alloc, shelf, text),
             "writes" => self.refused_writes = number_of(text)?,
             "task" => self.call = Call::Task(text),
+            "call" => self.call = Call::Library(text),
             _ => return self.mark(word, text),
         }
         Ok(())
     }
 
-    /// Notes what a line of one word says.
+    /// Sets what a line of one word says.
     fn mark(&mut self, word: &str, text: &str) -> Result<(), Fault> {
         match word {
             "tell" => self.call = Call::Teller,

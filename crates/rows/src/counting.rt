@@ -9,8 +9,8 @@ use adjudicate_core::{TellFault, Teller};
 use std::io::Write;
 use system_io::WriteFault;
 
-/// Tells how many bytes a line has; one byte isn't all. For an empty line memory is refused, and at the line `!` the writer
-/// fails.
+/// Answers the number of bytes of a line; an answer of one byte isn't complete. For an empty line memory is refused,
+/// and at the line `!` the writer fails.
 #[derive(Drop)]
 pub(crate) struct Counting;
 

@@ -1,4 +1,4 @@
-//! Runs the cases of the files that its words name, and tells where the program does otherwise.
+//! Runs the cases of the files that its words name, and reports where the program does otherwise.
 //!
 //! A case is the words of a command, what lies in the folder and on standard input, and what must be printed, with which status.
 //! `data/README.md` says how one is written. A case is data: it costs no proof. It runs through `adjudicate_core` as the program
@@ -16,6 +16,7 @@ mod report;
 mod running;
 mod shelf;
 mod slow_input;
+mod system;
 
 use crate::case::{Case, is_case};
 use crate::pieces::Fault;
@@ -89,7 +90,7 @@ fn read_files(rt: &HostRuntime) -> io::Result<Vec<CaseFile>> {
     Ok(files)
 }
 
-/// Tells of a paragraph that can't be read.
+/// Reports a paragraph that can't be read.
 fn tell_unread(rt: &HostRuntime, file: &CaseFile, paragraph: &str, fault: Fault) -> io::Result<()> {
     let (name, head) = (file.name.as_str(), head_of(paragraph));
     let why = match fault {
@@ -115,7 +116,7 @@ fn add_to_shelf<'t>(
     Ok(())
 }
 
-/// Runs a case, and tells of it where it differs. Whether it does.
+/// Runs a case, reports it where it differs, and returns whether it does.
 fn run_case(
     rt: &HostRuntime,
     disk: &MemoryDisk<'_>,
@@ -133,7 +134,7 @@ fn run_case(
     Ok(true)
 }
 
-/// Reads the case of a paragraph and runs it. Whether it differs or can't be read.
+/// Reads the case of a paragraph and runs it. Returns whether it differs or can't be read.
 fn run_paragraph(
     rt: &HostRuntime,
     shelf: &Shelf<'_>,
@@ -194,7 +195,7 @@ fn run_all(rt: &HostRuntime, files: &[CaseFile], tally: &mut Tally) -> io::Resul
     run_files(rt, &shelf, files, tally)
 }
 
-/// Runs all cases, and tells how many there are and how many differ.
+/// Runs all cases, and prints how many there are and how many differ.
 fn main(rt: HostRuntime) -> io::Result<ExitCode> {
     let files = read_files(&rt)?;
     let mut tally = Tally::new();

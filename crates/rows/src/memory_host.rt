@@ -4,6 +4,7 @@ ghost use Rattle.std.specs.Prelude.{◌≡◌, ◌≤◌, IfNone};
 ghost use Rattle.system_io.specs.Failures.{Risen};
 
 use std::alloc::{AllocError, Global};
+use std::net::{IpAddr, Ipv4Addr, SocketAddr};
 use std::time::Duration;
 use system_io::{BindFault, DiskFile, Host, Outcome, Port, PortFault};
 
@@ -147,7 +148,7 @@ impl<'a> Host for MemoryHost<'a> {
     ghost use Rattle.std.specs.Prelude.{false};
     ghost use Rattle.system_io.specs.OutputLaws.{untold};
 
-    ghost facts = { λ _. record { is_told = false; binds = λ _ _ _. Unit {0}; refuses = λ _ _. Unit {0}; is_at = λ _ _. Unit {0}; takes_memory = λ _. Unit {0} } };
+    ghost facts = { λ _. record { is_told = false; binds = λ _ _ _. Unit {0}; listens = λ _ _. Unit {0}; refuses = λ _ _. Unit {0}; is_at = λ _ _. Unit {0}; takes_memory = λ _. Unit {0} } };
 
     ghost one = { λ _ told. untold told };
 
@@ -165,6 +166,10 @@ impl<'a> Host for MemoryHost<'a> {
             addresses: to.len(),
             failures: 0,
         })
+    }
+
+    fn own_address(&self, _port: &WaitingPort<'a>) -> Option<SocketAddr> {
+        Some(SocketAddr::new(IpAddr::V4(Ipv4Addr::new(127, 0, 0, 1)), 7701))
     }
 
     fn file(&self, alloc: Global, _path: &str) -> Result<DiskFile, AllocError> {

@@ -54,6 +54,34 @@ fn add_repeated(bytes: &mut Vec<u8>, text: &str) -> Result<(), Fault> {
     Ok(())
 }
 
+/// Adds what stands in hexadecimal digits, so many times.
+fn add_repeated_hex(alloc: Global, bytes: &mut Vec<u8>, text: &str) -> Result<(), Fault> {
+    let (count, digits) = text.split_once(' ').ok_or(Fault::Line)?;
+    for _ in 0..number_of(count)? {
+        add_hex(alloc, bytes, digits)?;
+    }
+    Ok(())
+}
+
+/// Sets the byte at a place, the first being 0, to a number.
+fn set_byte(bytes: &mut [u8], text: &str) -> Result<(), Fault> {
+    let (place, byte) = text.split_once(' ').ok_or(Fault::Line)?;
+    let byte = byte.parse::<u8>().or(Err(Fault::Line))?;
+    match bytes.get_mut(number_of(place)?) {
+        Some(there) => {
+            *there = byte;
+            Ok(())
+        }
+        None => Err(Fault::Line),
+    }
+}
+
+/// Leaves out what stands behind so many bytes.
+fn cut(bytes: &mut Vec<u8>, text: &str) -> Result<(), Fault> {
+    bytes.truncate(number_of(text)?);
+    Ok(())
+}
+
 /// Adds what a file of the shelf holds.
 fn add_file(bytes: &mut Vec<u8>, shelf: &Shelf<'_>, path: &str) -> Result<(), Fault> {
     match shelf.bytes_at(path) {
@@ -102,6 +130,9 @@ pub(crate) fn add_piece(
         "x" => add_hex(alloc, bytes, text),
         "0" => add_zeros(bytes, text),
         "*" => add_repeated(bytes, text),
+        "*x" => add_repeated_hex(alloc, bytes, text),
+        "=" => set_byte(bytes, text),
+        "/" => cut(bytes, text),
         "@" => add_file(bytes, shelf, text),
         "#" => add_lines(bytes, shelf, text),
         _ => Err(Fault::Line),

@@ -1,4 +1,4 @@
-//! What is told where something isn't as it is wanted.
+//! Reports of differences.
 
 use crate::case::Wanted;
 use std::alloc::{AllocError, Global};
@@ -24,7 +24,7 @@ fn shown<'a>(line: Option<&'a str>) -> &'a str {
     line.unwrap_or("(no line, or another line feed)")
 }
 
-/// Notes the first line in which two texts differ.
+/// Reports the first line in which two texts differ.
 fn note_lines(report: &mut String, what: &str, wanted: &str, got: &str) -> Result<(), AllocError> {
     let (number, line, other) = lines_apart(wanted, got);
     let (line, other) = (shown(line), shown(other));
@@ -33,7 +33,7 @@ fn note_lines(report: &mut String, what: &str, wanted: &str, got: &str) -> Resul
     writeln!(report, "    got:    {other}")
 }
 
-/// Notes that bytes are others than those that are wanted.
+/// Reports that bytes differ from those that are wanted.
 fn note_bytes(
     alloc: Global,
     report: &mut String,
@@ -46,7 +46,7 @@ fn note_bytes(
     note_lines(report, what, &wanted, &got)
 }
 
-/// Looks at the output.
+/// Compares the output.
 pub(crate) fn check_output(
     alloc: Global,
     report: &mut String,
@@ -64,7 +64,7 @@ pub(crate) fn check_output(
     note_bytes(alloc, report, "output", &wanted.output, output)
 }
 
-/// Looks at standard error: where words are misused, it need only begin as it is wanted, and isn't empty.
+/// Compares standard error. For a misuse it need only begin as it is wanted, and not be empty.
 pub(crate) fn check_errors(
     alloc: Global,
     report: &mut String,
@@ -82,7 +82,7 @@ pub(crate) fn check_errors(
     note_bytes(alloc, report, "standard error", &wanted.errors, errors)
 }
 
-/// Looks at how it ended.
+/// Compares the end.
 pub(crate) fn check_end(
     report: &mut String,
     wanted: Result<u8, WriteFault>,
@@ -94,7 +94,7 @@ pub(crate) fn check_end(
     writeln!(report, "  end: wanted {wanted:?}, got {got:?}")
 }
 
-/// Looks at how it ended where a write was refused.
+/// Compares the end where a write was refused.
 pub(crate) fn check_refused(
     report: &mut String,
     number: usize,
@@ -106,7 +106,12 @@ pub(crate) fn check_refused(
     writeln!(report, "  write {number} is refused: got {got:?}")
 }
 
-/// Looks at a word or a text.
+/// Notes that there is no such call, or that it isn't given what it takes.
+pub(crate) fn note_call(report: &mut String, name: &str) -> Result<(), AllocError> {
+    writeln!(report, "  the call {name} can't be made")
+}
+
+/// Compares a word or a text.
 pub(crate) fn check_text(
     report: &mut String,
     what: &str,

@@ -3,17 +3,19 @@
 use crate::case::{Call, Case};
 use crate::counting::Counting;
 use crate::paper::Paper;
-use crate::report::{check_end, check_errors, check_output, check_refused, check_text};
+use crate::report::{check_end, check_errors, check_output, check_refused, check_text, note_call};
 use crate::shelf::parted;
+use crate::system::tell_system;
 use adjudicate_core::{Task, Usage, parse, run, tell_lines};
+use row_calls::{Fault, Given, tell_call};
 use std::alloc::{AllocError, Global};
-use system_io::{Disk, Input, MemoryDisk, SystemDisk, WriteFault};
+use system_io::{Input, MemoryDisk, WriteFault};
 
 /// How the program ends.
-fn ended_over<D: Disk>(
+fn ended_over(
     alloc: Global,
     case: &Case<'_>,
-    disk: &D,
+    disk: &MemoryDisk<'_>,
     output: &mut Paper,
     errors: &mut Paper,
 ) -> Result<u8, WriteFault> {
@@ -45,16 +47,15 @@ fn told(
 
 /// How a case ends.
 fn ended(
-    rt: &HostRuntime,
+    alloc: Global,
     case: &Case<'_>,
     disk: &MemoryDisk<'_>,
     output: &mut Paper,
     errors: &mut Paper,
 ) -> Result<u8, WriteFault> {
     match case.call {
-        Call::System => ended_over(rt.alloc(), case, &SystemDisk::new(rt), output, errors),
-        Call::Teller => told(rt.alloc(), case, output, errors),
-        _ => ended_over(rt.alloc(), case, disk, output, errors),
+        Call::Teller => told(alloc, case, output, errors),
+        _ => ended_over(alloc, case, disk, output, errors),
     }
 }
 
@@ -90,17 +91,44 @@ fn check_task(
     check_text(report, "FEN", fen, read_fen)
 }
 
+/// Looks at what the call of a library gives.
+fn check_call(
+    alloc: Global,
+    report: &mut String,
+    case: &Case<'_>,
+    disk: &MemoryDisk<'_>,
+    name: &str,
+) -> Result<(), AllocError> {
+    let mut told = String::new(alloc);
+    let given = Given {
+        words: &case.words,
+        input: case.input_bytes(),
+        disk,
+    };
+    match tell_call(alloc, &mut told, name, &given) {
+        Ok(()) => check_output(alloc, report, &case.wanted, told.as_bytes()),
+        Err(Fault::Line) => note_call(report, name),
+        Err(Fault::Memory) => Err(AllocError),
+    }
+}
+
+/// Looks at what paths of the system are read as.
+fn check_system(rt: &HostRuntime, report: &mut String, case: &Case<'_>) -> Result<(), AllocError> {
+    let mut told = String::new(rt.alloc());
+    tell_system(rt, &mut told, &case.words)?;
+    check_output(rt.alloc(), report, &case.wanted, told.as_bytes())
+}
+
 /// Looks at what comes of a run.
 fn check_run(
-    rt: &HostRuntime,
+    alloc: Global,
     report: &mut String,
     case: &Case<'_>,
     disk: &MemoryDisk<'_>,
 ) -> Result<(), AllocError> {
-    let alloc = rt.alloc();
     let mut output = Paper::new(alloc, None);
     let mut errors = Paper::new(alloc, if case.is_mute { Some(0) } else { None });
-    let got = ended(rt, case, disk, &mut output, &mut errors);
+    let got = ended(alloc, case, disk, &mut output, &mut errors);
     check_end(report, case.wanted.ended, got)?;
     check_output(alloc, report, &case.wanted, output.bytes())?;
     if case.is_mute {
@@ -111,16 +139,30 @@ fn check_run(
 
 /// Looks at how a run ends of which this write is refused.
 fn check_write(
-    rt: &HostRuntime,
+    alloc: Global,
     report: &mut String,
     case: &Case<'_>,
     disk: &MemoryDisk<'_>,
     number: usize,
 ) -> Result<(), AllocError> {
-    let mut output = Paper::new(rt.alloc(), Some(number));
-    let mut errors = Paper::new(rt.alloc(), None);
-    let got = ended(rt, case, disk, &mut output, &mut errors);
+    let mut output = Paper::new(alloc, Some(number));
+    let mut errors = Paper::new(alloc, None);
+    let got = ended(alloc, case, disk, &mut output, &mut errors);
     check_refused(report, number, got)
+}
+
+/// Looks at what comes of a run, and of one more for each write that is refused.
+fn check_runs(
+    alloc: Global,
+    report: &mut String,
+    case: &Case<'_>,
+    disk: &MemoryDisk<'_>,
+) -> Result<(), AllocError> {
+    check_run(alloc, report, case, disk)?;
+    for number in 0..case.refused_writes {
+        check_write(alloc, report, case, disk, number)?;
+    }
+    Ok(())
 }
 
 /// Looks at all that a case wants.
@@ -130,12 +172,11 @@ pub(crate) fn check_case(
     case: &Case<'_>,
     disk: &MemoryDisk<'_>,
 ) -> Result<(), AllocError> {
-    if let Call::Task(task) = case.call {
-        return check_task(rt.alloc(), report, &case.words, task);
+    let alloc = rt.alloc();
+    match case.call {
+        Call::Task(task) => check_task(alloc, report, &case.words, task),
+        Call::System => check_system(rt, report, case),
+        Call::Library(name) => check_call(alloc, report, case, disk, name),
+        Call::Shelf | Call::Teller => check_runs(alloc, report, case, disk),
     }
-    check_run(rt, report, case, disk)?;
-    for number in 0..case.refused_writes {
-        check_write(rt, report, case, disk, number)?;
-    }
-    Ok(())
 }

@@ -1,4 +1,0 @@
-use Rattle.checks.proofs.board_tests.+count_ways.Given as goal
-
-abbrev pub decreases-count_ways : goal.decreases-count_ways
-decreases-count_ways l = l.moves

@@ -1,0 +1,31 @@
+//! A writer that fails at one call.
+
+use std::io::{self, Write};
+
+/// A writer that takes at most 16 bytes at once and fails at one call.
+#[derive(Drop)]
+pub(crate) struct Failing {
+    calls: u32,
+    fails_at: u32,
+}
+
+impl Failing {
+    /// One that fails at the call of this number, the first being 0.
+    pub(crate) fn at(fails_at: u32) -> Failing {
+        Failing { calls: 0, fails_at }
+    }
+}
+
+impl Write for Failing {
+    fn write(&mut self, buf: &[u8]) -> io::Result<usize> {
+        if self.calls == self.fails_at {
+            return Err(io::Error::from(io::ErrorKind::BrokenPipe));
+        }
+        self.calls = self.calls.wrapping_add(1);
+        Ok(buf.len().min(16))
+    }
+
+    fn flush(&mut self) -> io::Result<()> {
+        Ok(())
+    }
+}

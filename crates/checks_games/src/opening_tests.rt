@@ -1,0 +1,190 @@
+//! How an arbiter is opened, over what is kept and over keepers that fail.
+
+use crate::arbiters::{NAME, record_of, setup_of, stamp_of};
+use crate::comparing::{check_bytes, check_same};
+use crate::positions::{START, position_of};
+use arbiter_core::{Arbiter, KeepFault, Keeper, Name, OpenFault, Refused, Setup, name_of};
+use arbiter_service::FileKeeper;
+use board_core::Position;
+use std::alloc::Global;
+use std::process::Abort;
+use system_io::{DiskFile, KeptFile};
+
+fn fault_in(told: &Result<Arbiter<'_>, Refused<'_>>) -> Option<OpenFault> {
+    match told {
+        Ok(_) => None,
+        Err(refused) => Some(refused.fault),
+    }
+}
+
+/// Why an arbiter isn't opened over a keeper.
+fn open_fault<K: Keeper>(alloc: Global, keeper: &mut K, setup: Setup<'_>) -> Option<OpenFault> {
+    fault_in(&Arbiter::open(alloc, keeper, setup))
+}
+
+/// A keeper whose gets and puts fail.
+#[derive(Drop)]
+struct Broken {
+    failures: u64,
+}
+
+impl Keeper for Broken {
+    ghost use Rattle.std.specs.Prelude.{◌≡◌, None};
+    ghost use Rattle.arbiter_core.specs.declared.keeper.Keep.TheVariants.{FailsOld};
+
+    ghost facts = { record { kept = λ k. None; faults = λ k. k.failures; may_be = λ k keep. keep ≡ FailsOld; get_may_fail = λ k. Unit {0}; leaves = λ k bytes n. Unit {0}; reads = λ k fault n. Unit {0} } };
+
+    fn put(&mut self, _bytes: &[u8]) -> Result<(), KeepFault> {
+        self.failures = self.failures.saturating_add(1);
+        Err(KeepFault::Failed)
+    }
+
+    fn get(&mut self, _alloc: Global) -> Result<Option<Vec<u8>>, KeepFault> {
+        self.failures = self.failures.saturating_add(1);
+        Err(KeepFault::Failed)
+    }
+
+    fn failures(&self) -> u64 {
+        self.failures
+    }
+}
+
+/// What an arbiter is opened from, why it isn't over a keeper whose get fails, and how often that one then failed.
+struct Refusal {
+    name: &'static [u8],
+    me: u8,
+    delay: u8,
+    fault: OpenFault,
+    failures: u64,
+}
+
+const REFUSALS: [Refusal; 4] = [
+    Refusal {
+        name: NAME,
+        me: 1,
+        delay: 0,
+        fault: OpenFault::KeeperFailed,
+        failures: 1,
+    },
+    Refusal {
+        name: NAME,
+        me: 1,
+        delay: 9,
+        fault: OpenFault::BadSetup,
+        failures: 0,
+    },
+    Refusal {
+        name: NAME,
+        me: 3,
+        delay: 0,
+        fault: OpenFault::BadSetup,
+        failures: 0,
+    },
+    Refusal {
+        name: b"",
+        me: 1,
+        delay: 0,
+        fault: OpenFault::BadSetup,
+        failures: 0,
+    },
+];
+
+/// A name as a setup holds it.
+fn held(rt: &impl Abort, name: &[u8]) -> Name {
+    let held = if name.len() <= 64 {
+        Some(name_of(name))
+    } else {
+        None
+    };
+    held.expect(rt, "at most 64 bytes")
+}
+
+fn setup_by(rt: &impl Abort, alloc: Global, row: &Refusal) -> Setup<'static> {
+    let mut setup = setup_of(rt, alloc, START, row.delay);
+    setup.name = held(rt, row.name);
+    setup.me = row.me;
+    setup
+}
+
+/// The refusal of a setup over a keeper whose get fails, and how often the keeper failed.
+fn refused<'a>(rt: &impl Abort, alloc: Global, setup: Setup<'a>) -> (Refused<'a>, u64) {
+    let mut keeper = Broken { failures: 0 };
+    let told = Arbiter::open(alloc, &mut keeper, setup).err();
+    (told.expect(rt, "a refusal"), keeper.failures())
+}
+
+/// A setup is that of a row.
+fn check_setup(rt: &impl Abort, setup: &Setup<'_>, row: &Refusal) {
+    check_bytes(rt, setup.name.as_slice(), row.name, "the name");
+    check_same(rt, (setup.me, setup.delay), (row.me, row.delay), "numbers");
+    check_start(rt, &setup.start);
+    check_bytes(rt, setup.manifest, b"", "the manifest");
+}
+
+fn check_start(rt: &impl Abort, start: &Position) {
+    check_same(rt, *start == position_of(rt, START), true, "the start");
+}
+
+fn check_refusal(rt: &impl Abort, refused: &Refused<'_>, row: &Refusal) {
+    check_same(rt, refused.fault, row.fault, "a fault");
+    check_setup(rt, &refused.setup, row);
+}
+
+fn check_refused(rt: &impl Abort, alloc: Global, row: &Refusal) {
+    let (refused, failures) = refused(rt, alloc, setup_by(rt, alloc, row));
+    check_same(rt, failures, row.failures, "failures");
+    check_refusal(rt, &refused, row);
+}
+
+/// A bad setup is told before a keeper that fails; both hand the setup back.
+#[test]
+fn hands_setups_back(rt: HostRuntime) {
+    for row in &REFUSALS {
+        check_refused(&rt, rt.alloc(), row);
+    }
+}
+
+/// A record of three moves.
+fn three_moves(rt: &impl Abort, alloc: Global) -> Vec<u8> {
+    let stamp = stamp_of(rt, START, 0);
+    record_of(rt, alloc, stamp, 0, "e2e4 e7e5 g1f3", None)
+}
+
+/// What has the name on a disk.
+fn seen(rt: &impl Abort, alloc: Global, disk: &DiskFile) -> Option<Vec<u8>> {
+    disk.read(alloc).ok().expect(rt, "what is read")
+}
+
+/// A keeper over a file in memory with these bytes.
+fn keeper_over(rt: &impl Abort, alloc: Global, bytes: &[u8]) -> FileKeeper<DiskFile> {
+    let bytes = Vec::from_slice(alloc, bytes).expect(rt, "memory");
+    let disk = DiskFile::new(alloc, Some(bytes), Vec::new(alloc), false);
+    FileKeeper::new(alloc, disk).ok().expect(rt, "a keeper")
+}
+
+/// Why no arbiter is opened over a file with these bytes, or that one is; the file is left alone.
+fn check_over_file(rt: &impl Abort, alloc: Global, bytes: &[u8], wanted: Option<OpenFault>) {
+    let mut keeper = keeper_over(rt, alloc, bytes);
+    let fault = open_fault(alloc, &mut keeper, setup_of(rt, alloc, START, 0));
+    check_same(rt, (bytes.len(), fault), (bytes.len(), wanted), "opened");
+    check_same(
+        rt,
+        seen(rt, alloc, keeper.file()).as_deref(),
+        Some(bytes),
+        "the file",
+    );
+}
+
+/// The record cut at any place is refused.
+fn check_cuts(rt: &impl Abort, alloc: Global, whole: &[u8]) {
+    for length in 0..whole.len() {
+        check_over_file(rt, alloc, &whole[..length], Some(OpenFault::BadRecord));
+    }
+}
+
+#[test]
+fn refuses_a_record_that_is_cut(rt: HostRuntime) {
+    let whole = three_moves(&rt, rt.alloc());
+    check_cuts(&rt, rt.alloc(), &whole);
+    check_over_file(&rt, rt.alloc(), &whole, None);
+}

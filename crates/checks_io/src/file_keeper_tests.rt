@@ -1,0 +1,236 @@
+//! The keeper over a file in memory, on a disk that loses power.
+
+use crate::comparing::check_same;
+use arbiter_core::{KeepFault, Keeper};
+use arbiter_service::FileKeeper;
+use std::alloc::Global;
+use std::process::Abort;
+use system_io::{Choice, DiskFile, KeptFile, Outcome, ReadFault, read_after};
+
+/// A copy of bytes.
+fn copy(rt: &impl Abort, alloc: Global, bytes: &[u8]) -> Vec<u8> {
+    Vec::from_slice(alloc, bytes).expect(rt, "memory")
+}
+
+/// A copy of them, if there are any.
+fn copied(rt: &impl Abort, alloc: Global, bytes: Option<&[u8]>) -> Option<Vec<u8>> {
+    match bytes {
+        Some(bytes) => Some(copy(rt, alloc, bytes)),
+        None => None,
+    }
+}
+
+/// How a call fails: nothing is done, some of it, or all.
+#[derive(Clone, Copy)]
+enum Way {
+    Before,
+    Halfway,
+    After,
+}
+
+/// What comes of a call that fails so.
+fn outcome_of(way: Way) -> Outcome {
+    match way {
+        Way::Before => Outcome::Before,
+        Way::Halfway => Outcome::Halfway(2),
+        Way::After => Outcome::After,
+    }
+}
+
+/// The call of this number fails so, the first being 0; all others are good.
+fn outcomes(rt: &impl Abort, alloc: Global, place: usize, way: Way) -> Vec<Outcome> {
+    let mut all = Vec::new(alloc);
+    all.push(outcome_of(way)).expect(rt, "memory");
+    all.resize(place.saturating_add(1), Outcome::Good)
+        .expect(rt, "memory");
+    all
+}
+
+/// A disk on which these bytes have the name, or nothing has, whose call of this number fails so.
+fn disk_of(
+    rt: &impl Abort,
+    alloc: Global,
+    stands: Option<&[u8]>,
+    place: usize,
+    way: Way,
+) -> DiskFile {
+    let stands = copied(rt, alloc, stands);
+    DiskFile::new(alloc, stands, outcomes(rt, alloc, place, way), false)
+}
+
+/// One whose first sixteen calls are good.
+fn good_disk(rt: &impl Abort, alloc: Global, stands: Option<&[u8]>) -> DiskFile {
+    disk_of(rt, alloc, stands, 16, Way::Before)
+}
+
+/// A keeper over a disk that is read.
+fn keeper_on(rt: &impl Abort, alloc: Global, disk: DiskFile) -> FileKeeper<DiskFile> {
+    FileKeeper::new(alloc, disk).ok().expect(rt, "a keeper")
+}
+
+/// What is kept.
+fn got(rt: &impl Abort, alloc: Global, keeper: &mut FileKeeper<DiskFile>) -> Option<Vec<u8>> {
+    keeper.get(alloc).expect(rt, "memory")
+}
+
+/// A keeper keeps these bytes, or none.
+fn check_kept(
+    rt: &impl Abort,
+    alloc: Global,
+    keeper: &mut FileKeeper<DiskFile>,
+    wanted: Option<&[u8]>,
+) {
+    let kept = got(rt, alloc, keeper);
+    check_same(rt, kept.as_deref(), wanted, "what is kept");
+}
+
+/// A loss of power after which the file of this number has the name, the earliest being 0, and these bytes stand where nothing
+/// was synced.
+fn loss(rt: &impl Abort, alloc: Global, which: usize) -> Choice {
+    Choice::PowerLost {
+        which,
+        bytes: copy(rt, alloc, b"garbage"),
+        beside: None,
+    }
+}
+
+/// What a start over a disk finds after a loss of power.
+fn check_found(rt: &impl Abort, alloc: Global, disk: DiskFile, which: usize, wanted: &[u8]) {
+    let mut keeper = keeper_on(rt, alloc, disk.stop(loss(rt, alloc, which)));
+    check_kept(rt, alloc, &mut keeper, Some(wanted));
+}
+
+/// The number of the call that fails while a put lets `new` take the place of `old`, how it fails, and what a start finds after
+/// two losses of power: the one lets the earliest file have the name, the other the last.
+type Row = (usize, Way, &'static [u8], &'static [u8]);
+
+/// Each call of a put fails in turn, in each way; the call 0 is that of the start. What was written or synced beside is nothing
+/// to a start. Where a rename is done it may find either, where the folder is synced the new bytes alone.
+const FAILED: [Row; 12] = [
+    (1, Way::Before, b"old", b"old"),
+    (1, Way::Halfway, b"old", b"old"),
+    (1, Way::After, b"old", b"old"),
+    (2, Way::Before, b"old", b"old"),
+    (2, Way::Halfway, b"old", b"old"),
+    (2, Way::After, b"old", b"old"),
+    (3, Way::Before, b"old", b"old"),
+    (3, Way::Halfway, b"old", b"old"),
+    (3, Way::After, b"old", b"new"),
+    (4, Way::Before, b"old", b"new"),
+    (4, Way::Halfway, b"old", b"new"),
+    (4, Way::After, b"new", b"new"),
+];
+
+/// Puts a record.
+fn put_record(keeper: &mut FileKeeper<DiskFile>) -> Result<(), KeepFault> {
+    keeper.put(b"new")
+}
+
+/// What a put tells, how often the keeper then has failed, and what it keeps.
+fn check_told(
+    rt: &impl Abort,
+    alloc: Global,
+    keeper: &mut FileKeeper<DiskFile>,
+    told: Result<(), KeepFault>,
+    failures: u64,
+    kept: &[u8],
+) {
+    check_same(rt, put_record(keeper), told, "a put");
+    check_same(rt, keeper.failures(), failures, "failures");
+    check_kept(rt, alloc, keeper, Some(kept));
+}
+
+/// The disk that a put leaves of which a call fails.
+fn failed_disk(rt: &impl Abort, alloc: Global, row: &Row) -> DiskFile {
+    let disk = disk_of(rt, alloc, Some(b"old"), row.0, row.1);
+    let mut keeper = keeper_on(rt, alloc, disk);
+    check_told(rt, alloc, &mut keeper, Err(KeepFault::Failed), 1, b"old");
+    keeper.into_file()
+}
+
+/// The disk that a put leaves of which none fails.
+fn put_disk(rt: &impl Abort, alloc: Global) -> DiskFile {
+    let mut keeper = keeper_on(rt, alloc, good_disk(rt, alloc, Some(b"old")));
+    check_told(rt, alloc, &mut keeper, Ok(()), 0, b"new");
+    keeper.into_file()
+}
+
+/// What a start finds after a put of which a call fails.
+fn check_row(rt: &impl Abort, alloc: Global, row: &Row) {
+    check_found(rt, alloc, failed_disk(rt, alloc, row), 0, row.2);
+    check_found(rt, alloc, failed_disk(rt, alloc, row), 1, row.3);
+}
+
+/// A put that fails keeps what was kept, and a start finds that or the new bytes; after one that doesn't it finds those alone.
+#[test]
+fn keeps_what_has_come_to_the_name(rt: HostRuntime) {
+    for row in &FAILED {
+        check_row(&rt, rt.alloc(), row);
+    }
+    check_found(&rt, rt.alloc(), put_disk(&rt, rt.alloc()), 0, b"new");
+}
+
+/// Whether a start over a disk can't read the file.
+fn is_unread(alloc: Global, disk: DiskFile) -> bool {
+    matches!(FileKeeper::new(alloc, disk), Err(ReadFault::Unreadable))
+}
+
+/// A start whose sync fails so can't read the file.
+fn check_unread(rt: &impl Abort, alloc: Global, way: Way) {
+    let disk = disk_of(rt, alloc, Some(b"old"), 0, way);
+    check_same(rt, is_unread(alloc, disk), true, "a start");
+}
+
+/// A disk that gives nothing.
+fn silent_disk(rt: &impl Abort, alloc: Global) -> DiskFile {
+    DiskFile::new(alloc, None, Vec::new(alloc), true)
+}
+
+/// A file with more bytes than may be kept.
+fn long_disk(rt: &impl Abort, alloc: Global) -> DiskFile {
+    let mut bytes = Vec::new(alloc);
+    bytes.resize(8218, 1).expect(rt, "memory");
+    DiskFile::new(alloc, Some(bytes), Vec::new(alloc), false)
+}
+
+/// Where the sync at the start fails, the disk gives nothing or the file is too long there is no keeper.
+#[test]
+fn starts_over_nothing_that_it_cannot_read(rt: HostRuntime) {
+    check_unread(&rt, rt.alloc(), Way::Before);
+    check_unread(&rt, rt.alloc(), Way::Halfway);
+    check_unread(&rt, rt.alloc(), Way::After);
+    let disk = silent_disk(&rt, rt.alloc());
+    check_same(&rt, is_unread(rt.alloc(), disk), true, "a silent disk");
+    let disk = long_disk(&rt, rt.alloc());
+    check_same(&rt, is_unread(rt.alloc(), disk), true, "a long file");
+}
+
+/// Writes bytes beside, lets a sync lose some of them and gives the file the name all the same.
+fn rename_unsynced(rt: &impl Abort, disk: &mut DiskFile) {
+    disk.write_beside(b"new").expect(rt, "a write");
+    check_same(rt, disk.sync_beside().is_err(), true, "a sync");
+    disk.rename().expect(rt, "a rename");
+}
+
+/// A disk on which a file has the name whose sync failed.
+fn unsynced_disk(rt: &impl Abort, alloc: Global) -> DiskFile {
+    let mut disk = disk_of(rt, alloc, Some(b"old"), 1, Way::Halfway);
+    rename_unsynced(rt, &mut disk);
+    disk
+}
+
+/// What is read after a loss of power.
+fn check_read(rt: &impl Abort, alloc: Global, which: usize, wanted: &[u8]) {
+    let read = read_after(alloc, unsynced_disk(rt, alloc), loss(rt, alloc, which));
+    let read = read.ok().expect(rt, "what is read");
+    check_same(rt, read.as_deref(), Some(wanted), "what is read");
+}
+
+/// Of a file whose sync failed a loss of power leaves anything, or the old file; without one it can't be brought to the disk.
+#[test]
+fn loses_what_is_not_synced(rt: HostRuntime) {
+    check_read(&rt, rt.alloc(), 0, b"old");
+    check_read(&rt, rt.alloc(), 1, b"garbage");
+    let disk = unsynced_disk(&rt, rt.alloc());
+    check_same(&rt, is_unread(rt.alloc(), disk), true, "an unsynced file");
+}

@@ -1,0 +1,123 @@
+//! A port in memory, and ports of the system.
+
+use crate::comparing::{check_bytes, check_same, push_bytes};
+use std::alloc::Global;
+use std::net::{Net, UdpSocket};
+use std::process::Abort;
+use std::rt::Files;
+use std::time::Duration;
+use system_io::{BindFault, Host, MemoryPort, Passage, Port, SystemHost, Turn, UdpPort};
+
+const DATAGRAMS: [&[u8]; 3] = [b"a", b"b", b"c"];
+
+/// The second comes first, and twice; then nothing comes; then a receive fails; then the first comes, and the third is lost.
+const TURNS: [Turn; 5] = [
+    Turn::Comes(1),
+    Turn::Comes(1),
+    Turn::Quiet,
+    Turn::Fails,
+    Turn::Comes(0),
+];
+
+/// Waits for a datagram, but no longer than a hundredth of a second.
+fn receive<P: Port>(port: &mut P) {
+    let _received = port.receive_in_time(Duration::from_millis(10), &mut [0; 64]);
+}
+
+/// What passed: the datagram that came, a sign where none did, and the address and the datagram for one that was given out.
+fn push_passage(rt: &impl Abort, text: &mut Vec<u8>, passage: &Passage) {
+    match passage {
+        Passage::Came(bytes) => push_bytes(rt, text, bytes),
+        Passage::Quiet => push_bytes(rt, text, b"?"),
+        Passage::Missed => push_bytes(rt, text, b"!"),
+        Passage::Handed { to, bytes } => {
+            push_bytes(rt, text, if *to == 0 { b"0" } else { b"1" });
+            push_bytes(rt, text, bytes);
+        }
+    }
+}
+
+/// All that passed at a port.
+fn check_passed(rt: &impl Abort, alloc: Global, port: &MemoryPort<'_>, wanted: &[u8]) {
+    let mut text = Vec::new(alloc);
+    for passage in port.passages().expect(rt, "memory") {
+        push_passage(rt, &mut text, passage);
+    }
+    check_bytes(rt, &text, wanted, "what passed");
+}
+
+#[test]
+fn loses_repeats_and_reorders(rt: HostRuntime) {
+    let mut port = MemoryPort::new(rt.alloc(), 2, &DATAGRAMS, &TURNS, None);
+    for _ in 0..6 {
+        receive(&mut port);
+    }
+    check_same(&rt, port.send(b"d").is_ok(), true, "a send");
+    check_passed(&rt, rt.alloc(), &port, b"bb?!a!0d1d");
+    check_same(&rt, port.failures(), 2, "failures");
+}
+
+/// A socket of the loopback.
+fn bound<R: Net + Abort>(rt: &R) -> UdpSocket {
+    UdpSocket::bind(rt, "127.0.0.1:0").expect(rt, "a socket")
+}
+
+/// The address of a socket.
+fn text_at(rt: &impl Abort, alloc: Global, socket: &UdpSocket) -> String {
+    let address = socket.local_addr().expect(rt, "an address");
+    format!(in alloc; "{address}").expect(rt, "memory")
+}
+
+/// That no port is bound to an address.
+fn expect_unbound<R: Files + Net + AllocGlobal + Abort>(rt: &R, address: &str) {
+    let port = SystemHost::new(rt).bind(rt.alloc(), address, &[]);
+    check_same(rt, matches!(port, Err(BindFault::Unbound)), true, address);
+}
+
+/// An address that is taken, and texts that are none.
+#[test]
+fn binds_no_taken_or_bad_address(rt: HostRuntime) {
+    let socket = bound(&rt);
+    expect_unbound(&rt, text_at(&rt, rt.alloc(), &socket).as_str());
+    expect_unbound(&rt, "127.0.0.1");
+    expect_unbound(&rt, "127.0.0.1:65536");
+}
+
+/// A port of the loopback that sends to these.
+fn port_to<R: Net + AllocGlobal + Abort>(rt: &R, to: &[&str]) -> UdpPort {
+    UdpPort::bind(rt, rt.alloc(), "127.0.0.1:0", to).expect(rt, "a port")
+}
+
+/// A port that sends to an address that is none, and then to a socket's.
+fn port_to_two<R: Net + AllocGlobal + Abort>(rt: &R, socket: &UdpSocket) -> UdpPort {
+    port_to(
+        rt,
+        &["127.0.0.1:65536", text_at(rt, rt.alloc(), socket).as_str()],
+    )
+}
+
+/// A send that fails keeps the others from nothing.
+#[test]
+fn sends_to_the_others_too(rt: HostRuntime) {
+    let client = bound(&rt);
+    let mut port = port_to_two(&rt, &client);
+    check_same(&rt, port.send(b"x").is_err(), true, "a send");
+    check_same(&rt, port.failures(), 1, "failures");
+    let received = client.recv_from(&mut [0; 64]).expect(&rt, "a datagram");
+    check_same(&rt, received.0, 1, "its length");
+}
+
+/// Whether nothing came in time.
+fn is_quiet<P: Port>(port: &mut P) -> bool {
+    matches!(
+        port.receive_in_time(Duration::from_millis(10), &mut [0; 64]),
+        Ok(None)
+    )
+}
+
+#[test]
+fn waits_no_longer_than_it_should(rt: HostRuntime) {
+    let mut port = port_to(&rt, &[]);
+    check_same(&rt, is_quiet(&mut port), true, "nothing");
+    check_same(&rt, port.failures(), 0, "failures");
+}
