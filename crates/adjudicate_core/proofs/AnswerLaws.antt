@@ -4,7 +4,7 @@ use Rattle.std.specs.Prelude.{Result, Ok, Err, IfOk, IsErrOf, OnErr}
 use Rattle.adjudicate_core.specs.declared.answers.Answer.{Answer}
 use Rattle.adjudicate_core.specs.Inside.Asked.{PutsAnswered, PutsRead, reply_of}
 use Rattle.adjudicate_core.specs.Reply.{AnswersOnce, AnswersRead, NoRoomToRead, ReadAll, Refused, Replied, Reply, Unread}
-use Rattle.adjudicate_core.specs.Given.{Given}
+use Rattle.task_files.specs.Given.{Given}
 use Rattle.adjudicate_core.specs.Listens.{AtFile, BadStart, BadTables, BindsAndServes, Bound, Hosted, Kept, KeepsAndServes, Listens, NoAddress, NoRoom, NoRoomForFile, NoRoomForLine, NoRoomToBind, NoRoomToKeep, Opened, OpensAndServes, Ready, Served, ServesAt, StartsAt, Unasked, Unbound, Unopened, Unreadable as Unkept, Unready, seen_as, seen_by, serving_to, setup_for, writing_to}
 use Rattle.adjudicate_core.specs.Lines.{ready_words}
 use Rattle.move_msg.specs.TextLines.{ended}

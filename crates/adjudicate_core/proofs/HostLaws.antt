@@ -13,7 +13,7 @@ use Rattle.game_host.specs.DiskGames.{file_keepers}
 use Rattle.game_host.specs.Games.{CommonView}
 use Rattle.game_host.specs.Hosts.{Hosts, all_lines}
 use Rattle.adjudicate_core.specs.declared.commands.host.HostGames.{HostGames}
-use Rattle.adjudicate_core.specs.Given.{Given}
+use Rattle.task_files.specs.Given.{Given}
 use Rattle.adjudicate_core.specs.Hostings.{BadTables, BindsAndHosts, Bound, Hosting, HostsAndWrites, HostsAt, HostsGames, HostsNow, NoAddress, NoRoom, NoRoomForGames, NoRoomForLine, NoRoomToBind, Ready, Served, Unbound, Unready, common_for, seen_as, seen_by}
 use Rattle.adjudicate_core.specs.Lines.{ready_words}
 use Rattle.adjudicate_core.specs.Listens.{Hosted}

@@ -1,6 +1,4 @@
 pub mod AddressLaws
-pub mod NameLaws
-pub mod TellLaws
 pub mod AnswerLaws
 pub mod Clap
 pub mod TableLaws
@@ -9,7 +7,6 @@ pub mod ShowLaws
 pub mod ScheduleLaws
 pub mod HostLaws
 pub mod LookLaws
-pub mod AuditLaws
 pub mod MisuseLaws
 pub mod PutLaws
 pub mod BindLaws

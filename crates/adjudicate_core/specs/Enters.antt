@@ -20,7 +20,7 @@ use Rattle.adjudicate_core.specs.Listens.{Hosted}
 use Rattle.adjudicate_core.specs.Manifests.{IsManifestOf, LacksManifest}
 use Rattle.adjudicate_core.specs.Reply.{IsText}
 use Rattle.adjudicate_core.specs.Telling.{TellsIf}
-use Rattle.adjudicate_core.specs.ToldLines.{refused_memory}
+use Rattle.line_teller.specs.ToldLines.{refused_memory}
 
 -- the game that the words tell, with this start
 abbrev pub game_of : Enter → Parts → Told

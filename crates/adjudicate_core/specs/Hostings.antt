@@ -21,12 +21,12 @@ use Rattle.game_host.specs.Games.{CommonView}
 use Rattle.game_host.specs.Hosts.{Ends, Hosts, IsHosted, all_lines, all_passing}
 use Rattle.adjudicate_core.specs.Addresses.{addresses_of}
 use Rattle.adjudicate_core.specs.declared.commands.host.HostGames.{HostGames}
-use Rattle.adjudicate_core.specs.Given.{Given}
+use Rattle.task_files.specs.Given.{Given}
 use Rattle.adjudicate_core.specs.Lines.{ready_words}
 use Rattle.adjudicate_core.specs.Listens.{Hosted, LacksRoomToBind}
 use Rattle.adjudicate_core.specs.Looks.{gathered}
 use Rattle.adjudicate_core.specs.Telling.{TellsIf}
-use Rattle.adjudicate_core.specs.ToldLines.{refused_memory}
+use Rattle.line_teller.specs.ToldLines.{refused_memory}
 
 -- what the games have in common
 abbrev pub common_for : HostGames → Holding → List ℕ → CommonView

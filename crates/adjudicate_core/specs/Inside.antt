@@ -1,6 +1,5 @@
 -- Invariants of values and intermediate results of functions. Private clauses alone cite them.
 pub mod Asked
-pub mod Auditing
 pub mod Behind
 pub mod Binding
 pub mod Entering
@@ -9,7 +8,6 @@ pub mod HostingParts
 pub mod ListeningParts
 pub mod Looking
 pub mod Manifesting
-pub mod Placing
 pub mod Refusals
 pub mod SendingParts
 pub mod Putting

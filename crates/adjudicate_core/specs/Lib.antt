@@ -1,8 +1,3 @@
-pub mod FileNames
-pub mod Outside
-pub mod Given
-pub mod Sources
-pub mod ToldLines
 pub mod Numbers
 pub mod Rules
 pub mod Commands

@@ -14,16 +14,13 @@ use Rattle.judge_core.specs.Words.{column_words, columns_words, outcome_words, v
 use Rattle.move_msg.specs.declared.message.MessageFault.{MessageFault}
 use Rattle.move_msg.specs.Messages.{fault_name as message_fault_name}
 use Rattle.move_msg.specs.MessageWords.{message_words}
-use Rattle.move_msg.specs.declared.record_bytes.RecordFault.{RecordFault}
-use Rattle.move_msg.specs.Records.{record_fault_name}
-use Rattle.adjudicate_core.specs.declared.auditing.Finding.{Finding}
-use Rattle.adjudicate_core.specs.declared.auditing.Finding.TheVariants as found
-use Rattle.adjudicate_core.specs.ToldLines.{refused_files, refused_memory}
+use Rattle.record_audit.specs.Findings.{finding_words, refused_record}
+use Rattle.line_teller.specs.ToldLines.{refused_files, refused_memory}
 use Rattle.move_msg.specs.declared.who.Who.{Who}
 use Rattle.relay_world.specs.declared.world.State.{State}
 use Rattle.relay_world.specs.declared.world.State.TheVariants as state
 use Rattle.relay_world.specs.Texts.{who_word}
-use Rattle.arbiter_service.specs.ServedLines.{heard_words, refused_keeper, refused_port, verdict_or_none}
+use Rattle.arbiter_service.specs.ServedLines.{refused_keeper, refused_port, verdict_or_none}
 use Rattle.adjudicate_core.specs.declared.tables.FileFault.{FileFault}
 use Rattle.adjudicate_core.specs.declared.tables.FileFault.TheVariants.{Missing, Changed, Bad}
 use Rattle.adjudicate_core.specs.declared.lines.KeptCount.{KeptCount}
@@ -110,10 +107,6 @@ refused_move place = codes "refused move " ++ decimal place
 abbrev pub refused_line : ℕ → List ℕ
 refused_line number = codes "refused line " ++ decimal number
 
--- the refusal of bytes that are no record
-abbrev pub refused_record : RecordFault → List ℕ
-refused_record fault = codes "refused record " ++ record_fault_name fault
-
 -- why something is refused
 abbrev pub refusal_words : Refusal → List ℕ
 refusal_words (refusal.Fen fault) = refused_fen fault
@@ -127,14 +120,6 @@ refusal_words refusal.Port = refused_port
 refusal_words refusal.Keeper = refused_keeper
 refusal_words refusal.Files = refused_files
 refusal_words refusal.Memory = refused_memory
-
--- what is found of a kept file: how many moves its record has and the verdict, or why it is refused
-abbrev pub finding_words : Finding → List ℕ
-finding_words (found.Whole count verdict) = heard_words count verdict
-finding_words (found.BadRecord fault) = refused_record fault
-finding_words found.OtherStamp = codes "refused stamp"
-finding_words (found.BadMoves place) = codes "refused moves " ++ decimal place
-finding_words (found.BadVerdict verdict) = codes "refused verdict " ++ verdict_or_none verdict
 
 -- two records are the same, or part at a ply
 abbrev pub compared_words : Option ℕ → List ℕ

@@ -19,14 +19,14 @@ use Rattle.arbiter_core.specs.Setups.{SetupView}
 use Rattle.arbiter_service.specs.declared.file_keeper.FileKeeper.{FileKeeper}
 use Rattle.adjudicate_core.specs.Addresses.{addresses_of}
 use Rattle.adjudicate_core.specs.declared.commands.listen.Listen.{Listen}
-use Rattle.adjudicate_core.specs.Given.{Given}
+use Rattle.task_files.specs.Given.{Given}
 use Rattle.system_io.specs.KeptFiles.{KeptFacts}
 use Rattle.system_io.specs.declared.reading.ReadFault.TheVariants as read
 use Rattle.system_io.specs.declared.host.BindFault.TheVariants as bind
 use Rattle.system_io.specs.Hosts.{HostFacts}
 use Rattle.system_io.specs.declared.output.WriteFault.{WriteFault}
 use Rattle.arbiter_service.specs.ServedLines.{refused_keeper, refused_port}
-use Rattle.adjudicate_core.specs.ToldLines.{refused_memory}
+use Rattle.line_teller.specs.ToldLines.{refused_memory}
 use Rattle.adjudicate_core.specs.Lines.{ready_words, refused_fen}
 use Rattle.adjudicate_core.specs.Looks.{gathered}
 use Rattle.system_io.specs.Ports.{Passed, PortFacts}

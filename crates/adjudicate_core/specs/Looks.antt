@@ -11,9 +11,9 @@ use Rattle.table_file.specs.Tables.{Contents, table_at as contents_at}
 use Rattle.judge_core.specs.Tables.{Tables, slot, table_at}
 use Rattle.adjudicate_core.specs.declared.tables.FileFault.{FileFault}
 use Rattle.adjudicate_core.specs.declared.tables.FileFault.TheVariants.{Missing, Changed, Bad}
-use Rattle.adjudicate_core.specs.FileNames.{file_named}
+use Rattle.task_files.specs.FileNames.{file_named}
 use Rattle.move_msg.specs.ToldManifests.{Told}
-use Rattle.adjudicate_core.specs.Given.{Given}
+use Rattle.task_files.specs.Given.{Given}
 use Rattle.adjudicate_core.specs.Lines.{file_fault_name, look_words, refused_file, refused_manifest}
 
 -- ---- one file

@@ -4,8 +4,8 @@ use Rattle.move_msg.specs.Files.{File, entries_of}
 use Rattle.move_msg.specs.Manifests.{Entry, IsFirstBadLine, SpellsManifest}
 use Rattle.system_io.specs.Disks.{AtFile, DiskFacts}
 use Rattle.adjudicate_core.specs.Lines.{refused_manifest}
-use Rattle.adjudicate_core.specs.Outside.{AreFilesIn, FolderFails}
-use Rattle.adjudicate_core.specs.ToldLines.{refused_files}
+use Rattle.task_files.specs.Outside.{AreFilesIn, FolderFails}
+use Rattle.line_teller.specs.ToldLines.{refused_files}
 
 -- that of the file that is named, where one is, and else that of the tables in the folder
 pub data IsManifestOf (disk : DiskFacts) (named : Option (List ℕ)) (tables manifest : List ℕ) : Type 0 where

@@ -9,7 +9,7 @@ use Rattle.judge_core.specs.Tables.{Tables}
 use Rattle.move_msg.specs.TextLines.{ended}
 use Rattle.adjudicate_core.specs.Lines.{refused_fen}
 use Rattle.adjudicate_core.specs.Telling.{TellsOne}
-use Rattle.adjudicate_core.specs.ToldLines.{refused_files, refused_memory}
+use Rattle.line_teller.specs.ToldLines.{refused_files, refused_memory}
 
 pub record Reply : Type 0 where
   pub text : List ℕ

@@ -10,8 +10,8 @@ use Rattle.adjudicate_core.specs.declared.usage.Misuse.{Misuse}
 use Rattle.adjudicate_core.specs.declared.usage.WordsFault.{WordsFault}
 use Rattle.adjudicate_core.specs.declared.usage.WordsFault.TheVariants.{NoText}
 use Rattle.adjudicate_core.specs.declared.usage.Misuse.TheVariants as misuse
-use Rattle.adjudicate_core.specs.Given.{Given}
-use Rattle.adjudicate_core.specs.ToldLines.{refused_files, refused_memory}
+use Rattle.task_files.specs.Given.{Given}
+use Rattle.line_teller.specs.ToldLines.{refused_files, refused_memory}
 use Rattle.system_io.specs.Hosts.{HostFacts}
 use Rattle.system_io.specs.KeptFiles.{KeptFacts}
 use Rattle.system_io.specs.Ports.{PortFacts}
@@ -19,7 +19,7 @@ use Rattle.adjudicate_core.specs.Listens.{Hosted, Listens, hosted, seen_as}
 use Rattle.adjudicate_core.specs.Sends.{Sends}
 use Rattle.adjudicate_core.specs.Enters.{Enters}
 use Rattle.adjudicate_core.specs.Hostings.{HostsGames, seen_as as seen_hosting}
-use Rattle.adjudicate_core.specs.Sources.{CannotRead, IsGiven, TakesMemory}
+use Rattle.task_files.specs.Sources.{CannotRead, IsGiven, TakesMemory}
 use Rattle.adjudicate_core.specs.Commands.Judge as judges
 use Rattle.adjudicate_core.specs.Commands.Probe as probes
 use Rattle.adjudicate_core.specs.Commands.Moves as of_moves

@@ -21,7 +21,7 @@ use Rattle.adjudicate_core.specs.Listens.{Hosted, LacksRoomToBind}
 use Rattle.adjudicate_core.specs.Manifests.{IsManifestOf, LacksManifest}
 use Rattle.adjudicate_core.specs.Reply.{IsText}
 use Rattle.adjudicate_core.specs.Telling.{TellsIf}
-use Rattle.adjudicate_core.specs.ToldLines.{refused_memory}
+use Rattle.line_teller.specs.ToldLines.{refused_memory}
 
 -- ---- all of it
 

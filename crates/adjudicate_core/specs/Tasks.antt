@@ -2,7 +2,7 @@
 use Rattle.std.specs.Prelude.{◌≡◌, Bool, false, List, [], Option, Some, Result, Ok, Err, codes, slice_get}
 use Rattle.clap.specs.Words.{App, IsAmong, Rule, Text, kind_of, new_app}
 use Rattle.adjudicate_core.specs.Rules.{fault_in, value_in, with_rules}
-use Rattle.adjudicate_core.specs.Sources.{Named}
+use Rattle.task_files.specs.Sources.{Named}
 use Rattle.adjudicate_core.specs.Commands.Judge as judges
 use Rattle.adjudicate_core.specs.Commands.Probe as probes
 use Rattle.adjudicate_core.specs.Commands.Moves as of_moves

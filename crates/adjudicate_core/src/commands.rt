@@ -6,7 +6,7 @@ ghost use Rattle.adjudicate_core.specs.declared.usage.Misuse.{Misuse};
 ghost use Rattle.adjudicate_core.specs.Misuses.{AsksForHelp};
 ghost use Rattle.adjudicate_core.specs.Rules.{fault_in, rule_of_value, value_in};
 ghost use Rattle.adjudicate_core.specs.Inside.Putting.{IsMisuseOf};
-ghost use Rattle.adjudicate_core.specs.Sources.{named_by};
+ghost use Rattle.task_files.specs.Sources.{named_by};
 ghost use Rattle.adjudicate_core.specs.Tasks.{IsReadAs, IsTask, IsMisuse, IsTaken, Names, NamesNone, app_for, named_in, rules_of, word_of};
 
 mod audit;
@@ -26,7 +26,6 @@ mod send;
 mod show;
 mod version;
 
-use crate::sources::Places;
 use crate::usage::{Misuse, Usage, ValueFault};
 pub use audit::Audit;
 pub use check::Check;
@@ -45,6 +44,7 @@ pub use run::RunSchedule;
 pub use send::Send;
 pub use show::Show;
 use std::alloc::{AllocError, Global};
+use task_files::Places;
 pub use version::Version;
 
 /// The task of a command line.

@@ -12,7 +12,6 @@ use crate::commands::HostGames;
 use crate::lines::put_refusal;
 use crate::listening::{manifest_for, ready_line};
 use crate::refusals::Refusal;
-use crate::sources::Sources;
 use crate::tables::gather;
 use arbiter_service::put_line;
 use game_host::{Common, DiskGames, serve_games};
@@ -20,6 +19,7 @@ use judge_core::Set;
 use std::alloc::Global;
 use std::net::SocketAddr;
 use system_io::{BindFault, Disk, Host, Output, WriteFault};
+use task_files::Sources;
 
 /// Serves the games of the folder at a port. Where memory for the open games is refused, that is told.
 fn serve_at<'a, D: Disk, H: Host, W: Output>(

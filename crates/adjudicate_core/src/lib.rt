@@ -16,11 +16,9 @@
 
 mod addresses;
 mod answers;
-mod auditing;
 mod binding;
 mod commands;
 mod entering;
-mod file_name;
 mod game_name;
 mod hosting;
 pub mod laws;
@@ -29,17 +27,13 @@ mod listening;
 mod manifests;
 mod numbers;
 mod program;
-mod reading;
 mod refusals;
 mod sending;
-mod sources;
 mod tables;
-mod told_lines;
 mod usage;
 mod uses;
 mod values;
 
-pub use auditing::Finding;
 pub use commands::{
     Audit, Check, Enter, FollowGame, Form, HostGames, Judge, List, Listen, Moves, Name, Probe,
     Probes, RunSchedule, Send, Show, ShowRecord, Task, Value, Version, parse,
@@ -47,7 +41,4 @@ pub use commands::{
 pub use game_name::GameName;
 pub use numbers::{CacheSize, Delay};
 pub use program::{refuse_memory, run, run_program};
-pub use reading::files_in;
-pub use sources::{Places, Sources};
-pub use told_lines::{TellFault, Teller, tell_lines};
 pub use usage::{Misuse, Usage, ValueFault, Wanted, WordsFault};

@@ -8,7 +8,6 @@ ghost use Rattle.arbiter_service.specs.ServedLines.{verdict_or_none};
 ghost use Rattle.adjudicate_core.specs.Lines.{arbiter_words, refusal_words, state_word, told_words, words_of};
 ghost use Rattle.relay_world.specs.Texts.{who_word};
 
-use crate::auditing::Finding;
 use crate::refusals::Refusal;
 use crate::tables::FileFault;
 use arbiter_service::verdict_or_none;
@@ -17,6 +16,7 @@ use board_core::{Move, Verdict};
 use fen_text::write_move;
 use judge_core::{Column, Columns, Outcome, verdict_or_open};
 use move_msg::{Message, Who};
+use record_audit::Finding;
 use relay_world::State;
 use std::fmt;
 use std::io::Write;

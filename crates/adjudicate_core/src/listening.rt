@@ -18,7 +18,6 @@ use crate::commands::Listen;
 use crate::lines::put_refusal;
 use crate::numbers::CacheSize;
 use crate::refusals::Refusal;
-use crate::sources::Sources;
 use crate::tables::gather;
 use arbiter_core::{OpenFault, Setup, name_of};
 use arbiter_service::{FileKeeper, put_line};
@@ -29,6 +28,7 @@ use move_msg::manifest_of;
 use std::alloc::{AllocError, Global};
 use std::net::SocketAddr;
 use system_io::{BindFault, Host, KeptFile, Output, Port, ReadFault, WriteFault};
+use task_files::Sources;
 
 /// Writes that no arbiter is opened: `refused keeper`, or `refused memory` where memory was refused.
 fn put_unopened<W: Output>(fault: OpenFault, out: &mut W) -> Result<u8, WriteFault>

@@ -4,12 +4,12 @@ ghost use Rattle.std.specs.Prelude.{ℕ, List, None, Some, IfErr, IfOk, option_m
 ghost use Rattle.adjudicate_core.specs.Inside.Manifesting.{LacksManifestOrRoom};
 ghost use Rattle.adjudicate_core.specs.Manifests.{IsManifestOf};
 
-use crate::reading::looks_in;
 use crate::refusals::Refusal;
 use move_msg::{Line, Manifest, ManifestFault, manifest_read, manifest_write};
 use std::alloc::Global;
 use std::io;
 use system_io::{Disk, ReadFault};
+use task_files::looks_in;
 
 /// The manifest at a path.
 fn manifest_at<D: Disk>(alloc: Global, disk: &D, path: &str) -> Result<Vec<u8>, Refusal>

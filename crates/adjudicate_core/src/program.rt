@@ -2,7 +2,7 @@
 
 ghost use Rattle.std.specs.Prelude.{◌≡◌, ◌≢◌, ◌⊎◌, drop, map, string_bytes, true, false, Ok, IfOk};
 ghost use Rattle.adjudicate_core.specs.declared.commands.Task.{Task};
-ghost use Rattle.adjudicate_core.specs.ToldLines.{refused_memory};
+ghost use Rattle.line_teller.specs.ToldLines.{refused_memory};
 ghost use Rattle.adjudicate_core.specs.Listens.{hosted};
 ghost use Rattle.adjudicate_core.specs.Running.{AnswersFrom, AnswersTask, Called, Performs, called_by, outside, texts};
 ghost use Rattle.adjudicate_core.specs.Tasks.{IsTask, tells_progress};
@@ -17,12 +17,12 @@ use crate::lines::put_refusal;
 use crate::listening::listen;
 use crate::refusals::Refusal;
 use crate::sending::send;
-use crate::sources::Sources;
 use crate::usage::{Misuse, Usage, WordsFault};
 use crate::uses::tell_misuse;
 use std::alloc::{AllocError, Global};
 use std::io::Write;
 use system_io::{Disk, Host, Input, Output, ReadFault, WriteFault};
+use task_files::Sources;
 
 /// Answers a task from what was read for it, and returns the status, 0 done or 1 refused.
 ///

@@ -3,19 +3,19 @@
 ghost use Rattle.std.specs.Prelude.{◌≡◌, map, option_map, IfOk, Some, None, Ok};
 ghost use Rattle.move_msg.specs.Files.{file_of};
 ghost use Rattle.move_msg.specs.Manifests.{entry_of};
-ghost use Rattle.adjudicate_core.specs.FileNames.{file_named};
+ghost use Rattle.task_files.specs.FileNames.{file_named};
 ghost use Rattle.adjudicate_core.specs.Lines.{file_fault_name};
 ghost use Rattle.adjudicate_core.specs.Looks.{found_in, gathered, gathered_by, held, look_at, look_for, tables_from, with_found};
 ghost use Rattle.adjudicate_core.specs.Inside.Refusals.{filled, tables_in};
 
 use crate::numbers::CacheSize;
 use crate::refusals::Refusal;
-use crate::sources::Sources;
 use arrayvec::ArrayString;
 use judge_core::{Set, SetFault};
 use move_msg::{Line as Entry, Manifest, NamedFile, file_digest};
 use std::alloc::{AllocError, Global};
 use table_file::{Table, TableFault, open};
+use task_files::Sources;
 
 /// Why a file isn't the table that it should be.
 #[derive(Clone, Copy)]

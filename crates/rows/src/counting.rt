@@ -5,7 +5,7 @@ ghost use Rattle.std.specs.Fmt.{decimal};
 ghost use Rattle.std.specs.Io.KnownBytes.{Appends};
 ghost use Rattle.move_msg.specs.TextLines.{ended};
 
-use adjudicate_core::{TellFault, Teller};
+use line_teller::{TellFault, Teller};
 use std::io::Write;
 use system_io::WriteFault;
 

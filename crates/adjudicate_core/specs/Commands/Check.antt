@@ -7,12 +7,12 @@ use Rattle.clap.specs.Words.{Rule, Text}
 use Rattle.adjudicate_core.specs.Rules.{rule_of_form}
 use Rattle.adjudicate_core.specs.declared.commands.Form.TheVariants as form
 use Rattle.adjudicate_core.specs.Misuses.{Fault, NoOption, NoWord}
-use Rattle.adjudicate_core.specs.Sources.{Named, nothing}
+use Rattle.task_files.specs.Sources.{Named, nothing}
 use Rattle.adjudicate_core.specs.Lines.{refused_manifest}
 use Rattle.adjudicate_core.specs.Looks.{Look, are_tables, look_for, look_line}
 use Rattle.system_io.specs.Disks.{AtFile, DiskFacts}
 use Rattle.adjudicate_core.specs.Numbers.{is_set}
-use Rattle.adjudicate_core.specs.Outside.{AreFilesIn, FolderFails, IsToldAt}
+use Rattle.task_files.specs.Outside.{AreFilesIn, FolderFails, IsToldAt}
 use Rattle.adjudicate_core.specs.Reply.{Reply, refused, status_if}
 use Rattle.adjudicate_core.specs.declared.commands.check.Check.{Check}
 

@@ -14,8 +14,8 @@ use Rattle.adjudicate_core.specs.Rules.{rule_of_form}
 use Rattle.adjudicate_core.specs.declared.commands.Form.TheVariants as form
 use Rattle.adjudicate_core.specs.Misuses.{Fault, NoWord, Unfit}
 use Rattle.adjudicate_core.specs.declared.usage.Wanted.TheVariants as wanted
-use Rattle.adjudicate_core.specs.Sources.{Named}
-use Rattle.adjudicate_core.specs.Given.{Given}
+use Rattle.task_files.specs.Sources.{Named}
+use Rattle.task_files.specs.Given.{Given}
 use Rattle.adjudicate_core.specs.Lines.{refused_move}
 use Rattle.adjudicate_core.specs.Looks.{gathered}
 use Rattle.adjudicate_core.specs.Numbers.{IsDelay}

@@ -7,7 +7,7 @@ use Rattle.adjudicate_core.specs.Rules.{rule_of_form}
 use Rattle.adjudicate_core.specs.declared.commands.Form.TheVariants as form
 use Rattle.adjudicate_core.specs.Misuses.{Fault, NoOption, Unfit, me_faults, to_faults}
 use Rattle.adjudicate_core.specs.declared.usage.Wanted.TheVariants as wanted
-use Rattle.adjudicate_core.specs.Sources.{Named}
+use Rattle.task_files.specs.Sources.{Named}
 use Rattle.adjudicate_core.specs.Numbers.{IsAtOnce, IsCache, IsDatagrams, IsMe}
 use Rattle.adjudicate_core.specs.declared.commands.host.HostGames.{HostGames}
 

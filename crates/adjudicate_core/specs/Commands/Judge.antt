@@ -9,8 +9,8 @@ use Rattle.clap.specs.Words.{Rule, Text}
 use Rattle.adjudicate_core.specs.Rules.{rule_of_form}
 use Rattle.adjudicate_core.specs.declared.commands.Form.TheVariants as form
 use Rattle.adjudicate_core.specs.Misuses.{Fault, NoWord}
-use Rattle.adjudicate_core.specs.Sources.{Named}
-use Rattle.adjudicate_core.specs.Given.{Given}
+use Rattle.task_files.specs.Sources.{Named}
+use Rattle.task_files.specs.Given.{Given}
 use Rattle.adjudicate_core.specs.Looks.{gathered}
 use Rattle.adjudicate_core.specs.Reply.{ByTables, IsForText, Reply}
 use Rattle.adjudicate_core.specs.declared.commands.judge.Judge.{Judge}

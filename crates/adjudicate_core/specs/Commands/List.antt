@@ -6,9 +6,9 @@ use Rattle.clap.specs.Words.{Rule, Text}
 use Rattle.adjudicate_core.specs.Rules.{rule_of_form}
 use Rattle.adjudicate_core.specs.declared.commands.Form.TheVariants as form
 use Rattle.adjudicate_core.specs.Misuses.{Fault, NoWord}
-use Rattle.adjudicate_core.specs.Sources.{Named, nothing}
+use Rattle.task_files.specs.Sources.{Named, nothing}
 use Rattle.system_io.specs.Disks.{DiskFacts}
-use Rattle.adjudicate_core.specs.Outside.{AreFilesIn, FolderFails}
+use Rattle.task_files.specs.Outside.{AreFilesIn, FolderFails}
 use Rattle.adjudicate_core.specs.Numbers.{is_set}
 use Rattle.adjudicate_core.specs.Reply.{Reply}
 use Rattle.adjudicate_core.specs.declared.commands.list.List.{List as ListTask}

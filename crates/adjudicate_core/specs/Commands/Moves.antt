@@ -8,7 +8,7 @@ use Rattle.clap.specs.Words.{Rule, Text}
 use Rattle.adjudicate_core.specs.Rules.{rule_of_form}
 use Rattle.adjudicate_core.specs.declared.commands.Form.TheVariants as form
 use Rattle.adjudicate_core.specs.Misuses.{Fault, NoWord}
-use Rattle.adjudicate_core.specs.Sources.{Named, nothing}
+use Rattle.task_files.specs.Sources.{Named, nothing}
 use Rattle.adjudicate_core.specs.Reply.{IsForText, Reply}
 use Rattle.adjudicate_core.specs.declared.commands.moves.Moves.{Moves}
 

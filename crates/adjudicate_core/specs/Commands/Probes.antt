@@ -16,14 +16,14 @@ use Rattle.clap.specs.Words.{Rule, Text}
 use Rattle.adjudicate_core.specs.Rules.{rule_of_form}
 use Rattle.adjudicate_core.specs.declared.commands.Form.TheVariants as form
 use Rattle.adjudicate_core.specs.Misuses.{Fault, NoOption}
-use Rattle.adjudicate_core.specs.Sources.{Named}
-use Rattle.adjudicate_core.specs.Given.{Given}
+use Rattle.task_files.specs.Sources.{Named}
+use Rattle.task_files.specs.Given.{Given}
 use Rattle.adjudicate_core.specs.Lines.{refused_fen}
 use Rattle.adjudicate_core.specs.Looks.{gathered}
 use Rattle.adjudicate_core.specs.Numbers.{is_set}
 use Rattle.adjudicate_core.specs.Reply.{IsText, status_if}
 use Rattle.adjudicate_core.specs.Telling.{TellsOne}
-use Rattle.adjudicate_core.specs.ToldLines.{LineTold, WritesRead, WritesText, refused_memory}
+use Rattle.line_teller.specs.ToldLines.{LineTold, WritesRead, WritesText, refused_memory}
 use Rattle.adjudicate_core.specs.declared.commands.probes.Probes.{Probes}
 
 abbrev pub rules : List Rule

@@ -16,8 +16,8 @@ use Rattle.clap.specs.Words.{Rule, Text}
 use Rattle.adjudicate_core.specs.Rules.{rule_of_form}
 use Rattle.adjudicate_core.specs.declared.commands.Form.TheVariants as form
 use Rattle.adjudicate_core.specs.Misuses.{Fault, NoWord}
-use Rattle.adjudicate_core.specs.Sources.{Named}
-use Rattle.adjudicate_core.specs.Lines.{refused_record}
+use Rattle.task_files.specs.Sources.{Named}
+use Rattle.record_audit.specs.Findings.{refused_record}
 use Rattle.adjudicate_core.specs.Reply.{Reply, refused}
 use Rattle.adjudicate_core.specs.declared.commands.record.ShowRecord.{ShowRecord}
 

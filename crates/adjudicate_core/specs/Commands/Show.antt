@@ -7,8 +7,8 @@ use Rattle.move_msg.specs.Streams.{End, AfterMessage, Cut, AtFault, SpellsStream
 use Rattle.move_msg.specs.TextLines.{text_of}
 use Rattle.clap.specs.Words.{Rule}
 use Rattle.adjudicate_core.specs.Misuses.{Fault}
-use Rattle.adjudicate_core.specs.Sources.{Named}
-use Rattle.adjudicate_core.specs.Given.{Given}
+use Rattle.task_files.specs.Sources.{Named}
+use Rattle.task_files.specs.Given.{Given}
 use Rattle.adjudicate_core.specs.Lines.{refused_message}
 use Rattle.adjudicate_core.specs.Reply.{Reply, WritesReply}
 

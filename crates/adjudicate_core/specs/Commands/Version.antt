@@ -3,7 +3,7 @@ use Rattle.std.specs.Prelude.{◌≡◌, ℕ, List, [], Option, codes}
 use Rattle.std.specs.Io.KnownBytes.{Appends}
 use Rattle.clap.specs.Words.{Rule}
 use Rattle.adjudicate_core.specs.Misuses.{Fault}
-use Rattle.adjudicate_core.specs.Sources.{Named, nothing}
+use Rattle.task_files.specs.Sources.{Named, nothing}
 
 abbrev pub rules : List Rule
 rules = []

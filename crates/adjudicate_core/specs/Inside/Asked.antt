@@ -6,7 +6,7 @@ use Rattle.move_msg.specs.TextLines.{ended, text_of}
 use Rattle.adjudicate_core.specs.Lines.{refusal_words, words_of}
 use Rattle.adjudicate_core.specs.Reply.{Reply, WritesReply, refused, status_if}
 use Rattle.adjudicate_core.specs.Telling.{TellsOne}
-use Rattle.adjudicate_core.specs.ToldLines.{refused_files, refused_memory}
+use Rattle.line_teller.specs.ToldLines.{refused_files, refused_memory}
 use Rattle.system_io.specs.declared.reading.ReadFault.{ReadFault}
 use Rattle.system_io.specs.declared.reading.ReadFault.TheVariants.{OutOfMemory, Unreadable}
 

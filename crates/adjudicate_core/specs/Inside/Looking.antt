@@ -1,40 +1,16 @@
--- Files of a folder that are read one by one; cited by private functions alone.
-use Rattle.std.specs.Prelude.{◌≡◌, ◌++◌, ℕ, List, [], ◌∷◌, Option, Some, None, find, map, if◌then◌else◌, is_none, codes}
-use Rattle.std.specs.Fmt.{decimal}
-use Rattle.std.specs.List.{AllByRecursion, list_all}
+-- What is seen of files that are held to a manifest; cited by private functions alone.
+use Rattle.std.specs.Prelude.{◌≡◌, List, Option, Some, None, find, map, if◌then◌else◌, is_none, ℕ}
+use Rattle.std.specs.List.{list_all}
 use Rattle.std.specs.Str.{bytes_eq}
-use Rattle.system_io.specs.Disks.{DiskFacts}
 use Rattle.move_msg.specs.Files.{File, entry_for}
 use Rattle.move_msg.specs.Manifests.{Entry, entry_of}
 use Rattle.move_msg.specs.TextLines.{text_of}
 use Rattle.adjudicate_core.specs.declared.commands.check.Seen.{Seen}
 use Rattle.adjudicate_core.specs.declared.tables.FileFault.{FileFault}
 use Rattle.adjudicate_core.specs.declared.tables.FileFault.TheVariants.{Changed, Missing}
-use Rattle.adjudicate_core.specs.FileNames.{names_of}
 use Rattle.adjudicate_core.specs.Lines.{look_words}
 use Rattle.adjudicate_core.specs.Looks.{fault_in, found_in}
-use Rattle.adjudicate_core.specs.Outside.{IsAtItsPath}
 use Rattle.adjudicate_core.specs.Reply.{Reply, status_if}
-
--- how many bytes are read on the way, a hundred million so many times
-abbrev pub read_words : ℕ → List ℕ
-read_words hundreds = decimal hundreds ++ codes "00 MB done"
-
--- each of these is made of the file at its place
-abbrev pub AreMadeOf : {L : Type 0} → (L → File → Type 0) → List L → List File → Type 0
-AreMadeOf IsMadeOf [] [] = Unit {0}
-AreMadeOf IsMadeOf [] (f ∷ files) = ⊥
-AreMadeOf IsMadeOf (look ∷ looks) [] = ⊥
-AreMadeOf IsMadeOf (look ∷ looks) (f ∷ files) = IsMadeOf look f × AreMadeOf IsMadeOf looks files
-
--- these are made of the files of these names, each with the bytes at its path
-pub record AreLooksAt {L : Type 0} (disk : DiskFacts) (folder : List ℕ) (IsMadeOf : L → File → Type 0) (names : List (List ℕ)) (looks : List L) : Type 0 where
-  pub files : List File
-  pub named : names_of files ≡ names
-  pub bytes : AllByRecursion (IsAtItsPath disk folder) files
-  pub made : AreMadeOf IsMadeOf looks files
-
--- ---- what is seen of files that are held to a manifest
 
 -- the entry of a file, and why it is no table, if it isn't one
 pub record Sight : Type 0 where

@@ -6,20 +6,18 @@ ghost use Rattle.board_core.specs.Delays.{most_delay};
 ghost use Rattle.adjudicate_core.specs.Audits.{IsAudited, audited_one, audited_two};
 ghost use Rattle.adjudicate_core.specs.Commands.Audit.{HasValues, IsHeld, IsReply, faults, named, other_in};
 ghost use Rattle.adjudicate_core.specs.Inside.Asked.{reply_of};
-ghost use Rattle.adjudicate_core.specs.Inside.Auditing.{rules_of};
+ghost use Rattle.record_audit.specs.Findings.{rules_of};
 ghost use Rattle.adjudicate_core.specs.Looks.{gathered};
 ghost use Rattle.adjudicate_core.specs.Misuses.{IsFirst, fault_words};
 ghost use Rattle.adjudicate_core.specs.Reply.{IsText};
-ghost use Rattle.adjudicate_core.specs.Sources.{named_by};
+ghost use Rattle.task_files.specs.Sources.{named_by};
 
 use super::{Form, Value};
 use crate::answers::Answer;
-use crate::auditing::{Audited, Auditor, audit, compare_files};
 use crate::game_name::GameName;
 use crate::lines::Line;
 use crate::numbers::{CacheSize, Delay};
 use crate::refusals::Refusal;
-use crate::sources::{Places, Sources};
 use crate::tables::gather;
 use crate::usage::ValueFault;
 use crate::values::{delay_in, game_words_in, word_in};
@@ -28,7 +26,9 @@ use clap::ArgMatches;
 use fen_text::read;
 use judge_core::Set;
 use move_msg::manifest_of;
+use record_audit::{Audited, Auditor, are_whole_and_agree, audit, compare_files};
 use std::alloc::{AllocError, Global};
+use task_files::{Places, Sources};
 
 /// Whether kept files are records of a game as an arbiter of it keeps them.
 #[derive(Drop)]
@@ -104,8 +104,7 @@ fn answer_two(
     if let Some(compared) = compared {
         lines.push(Line::Compared(compared))?;
     }
-    let agree = matches!(compared, Some(None));
-    let done = one.finding.is_whole() && other.finding.is_whole() && agree;
+    let done = are_whole_and_agree(one, other, compared);
     Ok(Answer::Lines(lines, done))
 }
 

@@ -7,17 +7,16 @@ ghost use Rattle.move_msg.specs.Manifests.{entry_of};
 ghost use Rattle.move_msg.specs.ToldBy.{told_by};
 ghost use Rattle.adjudicate_core.specs.Commands.Check.{HasValues, IsReply, IsUnread, checked_by, faults, named};
 ghost use Rattle.adjudicate_core.specs.Inside.Asked.{reply_of};
-ghost use Rattle.adjudicate_core.specs.Inside.Looking.{AreMadeOf, IsSeenOf, fault_seen, reply_seen, sight_of};
+ghost use Rattle.task_files.specs.Made.{AreMadeOf};
+ghost use Rattle.adjudicate_core.specs.Inside.Looking.{IsSeenOf, fault_seen, reply_seen, sight_of};
 ghost use Rattle.adjudicate_core.specs.Misuses.{IsFirst, fault_words};
-ghost use Rattle.adjudicate_core.specs.Sources.{named_by};
+ghost use Rattle.task_files.specs.Sources.{named_by};
 
 use super::{Form, Value};
 use crate::answers::Answer;
 use crate::lines::Line;
 use crate::numbers::is_set;
-use crate::reading::{Look, looks_in};
 use crate::refusals::Refusal;
-use crate::sources::{Places, read_manifest};
 use crate::tables::{FileFault, open_file};
 use crate::usage::ValueFault;
 use crate::values::{option_in, word_in};
@@ -26,6 +25,7 @@ use move_msg::{Line as Entry, Manifest, NamedFile};
 use std::alloc::{AllocError, Global};
 use std::io::Write;
 use system_io::{Disk, ReadFault};
+use task_files::{Look, Places, looks_in, read_manifest};
 
 /// Whether the tables in a folder are those of a manifest.
 #[derive(Clone, Copy)]

@@ -3,10 +3,10 @@
 use super::{Form, Value};
 use crate::game_name::GameName;
 use crate::numbers::Delay;
-use crate::sources::Places;
 use crate::usage::ValueFault;
 use crate::values::{delay_in, game_words_in, option_in};
 use clap::ArgMatches;
+use task_files::Places;
 
 /// A game that is entered in a folder.
 #[derive(Drop)]
@@ -56,7 +56,7 @@ pub(crate) const VALUES: [Value; 6] = [
 impl<'a> Enter<'a> {
     ghost use Rattle.std.specs.Prelude.{◌≡◌, IfOk, IfErr};
     ghost use Rattle.clap.specs.Words.{found_of, first_value};
-    ghost use Rattle.adjudicate_core.specs.Sources.{named_by};
+    ghost use Rattle.task_files.specs.Sources.{named_by};
     ghost use Rattle.adjudicate_core.specs.Misuses.{IsFirst, fault_words};
     ghost use Rattle.adjudicate_core.specs.Commands.Enter.{HasValues, faults, named};
 

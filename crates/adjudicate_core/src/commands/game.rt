@@ -8,14 +8,13 @@ ghost use Rattle.adjudicate_core.specs.Looks.{gathered};
 ghost use Rattle.adjudicate_core.specs.Reply.{IsText, status_if};
 ghost use Rattle.adjudicate_core.specs.Commands.Game.{HasValues, IsPlayed, IsReply, faults, named, outcome_status};
 ghost use Rattle.adjudicate_core.specs.Misuses.{IsFirst, fault_words};
-ghost use Rattle.adjudicate_core.specs.Sources.{named_by};
+ghost use Rattle.task_files.specs.Sources.{named_by};
 
 use super::{Form, Value};
 use crate::answers::Answer;
 use crate::lines::Line;
 use crate::numbers::{CacheSize, Delay};
 use crate::refusals::Refusal;
-use crate::sources::{Places, Sources};
 use crate::tables::gather;
 use crate::usage::ValueFault;
 use crate::values::{delay_in, word_in};
@@ -25,6 +24,7 @@ use fen_text::read;
 use judge_core::{GameOutcome, Outcome};
 use move_msg::read_moves;
 use std::alloc::{AllocError, Global};
+use task_files::{Places, Sources};
 
 /// The outcome of the game of the input.
 #[derive(Clone, Copy)]

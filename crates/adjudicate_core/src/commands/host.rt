@@ -8,12 +8,12 @@ ghost use Rattle.adjudicate_core.specs.Misuses.{AreWell, IsFirst, fault_words};
 
 use super::{Form, Value};
 use crate::numbers::CacheSize;
-use crate::sources::Places;
 use crate::usage::ValueFault;
 use crate::values::{at_once_in, cache_in, datagrams_in, me_in, option_in, to_in};
 use clap::ArgMatches;
 use move_msg::Who;
 use std::num::NonZeroUsize;
+use task_files::Places;
 
 /// What arbiters of games are opened from.
 #[derive(Drop)]
@@ -126,7 +126,7 @@ fn terms_in<'a>(matches: &ArgMatches<'a>) -> Result<Terms, ValueFault<'a>>
 impl<'a> HostGames<'a> {
     ghost use Rattle.std.specs.Prelude.{◌≡◌, IfOk, IfErr};
     ghost use Rattle.clap.specs.Words.{found_of, first_value};
-    ghost use Rattle.adjudicate_core.specs.Sources.{named_by};
+    ghost use Rattle.task_files.specs.Sources.{named_by};
     ghost use Rattle.adjudicate_core.specs.Misuses.{IsFirst, fault_words};
     ghost use Rattle.adjudicate_core.specs.Commands.Host.{HasValues, faults, named};
 

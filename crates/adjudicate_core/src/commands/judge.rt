@@ -7,14 +7,13 @@ ghost use Rattle.adjudicate_core.specs.Inside.Asked.{reply_of};
 ghost use Rattle.adjudicate_core.specs.Looks.{gathered};
 ghost use Rattle.adjudicate_core.specs.Reply.{ByTables, IsText};
 ghost use Rattle.adjudicate_core.specs.Misuses.{IsFirst, fault_words};
-ghost use Rattle.adjudicate_core.specs.Sources.{named_by};
+ghost use Rattle.task_files.specs.Sources.{named_by};
 
 use super::{Form, Value};
 use crate::answers::Answer;
 use crate::lines::Line;
 use crate::numbers::CacheSize;
 use crate::refusals::Refusal;
-use crate::sources::{Places, Sources};
 use crate::tables::gather;
 use crate::usage::ValueFault;
 use crate::values::word_in;
@@ -22,6 +21,7 @@ use board_core::Position;
 use clap::ArgMatches;
 use fen_text::read;
 use std::alloc::{AllocError, Global};
+use task_files::{Places, Sources};
 
 /// The verdict on a position.
 #[derive(Clone, Copy)]

@@ -5,20 +5,19 @@ ghost use Rattle.clap.specs.Words.{first_value, found_of};
 ghost use Rattle.adjudicate_core.specs.Commands.List.{HasValues, IsReply, IsUnread, faults, named};
 ghost use Rattle.adjudicate_core.specs.Inside.Asked.{reply_of};
 ghost use Rattle.adjudicate_core.specs.Misuses.{IsFirst, fault_words};
-ghost use Rattle.adjudicate_core.specs.Sources.{named_by};
+ghost use Rattle.task_files.specs.Sources.{named_by};
 
 use super::{Form, Value};
 use crate::answers::Answer;
 use crate::numbers::is_set;
-use crate::reading::{Look, looks_in};
-use crate::sources::Places;
 use crate::usage::ValueFault;
 use crate::values::word_in;
 use clap::ArgMatches;
-use move_msg::{Line as Entry, Manifest, NamedFile, manifest_write};
-use std::alloc::{AllocError, Global};
+use move_msg::{Line as Entry, Manifest, manifest_write};
+use std::alloc::Global;
 use std::io::Write;
 use system_io::{Disk, ReadFault};
+use task_files::{Places, looks_in};
 
 /// The manifest of the tables in a folder.
 #[derive(Clone, Copy)]
@@ -40,19 +39,6 @@ pub(crate) const VALUES: [Value; 2] = [
         form: Form::Word,
     },
 ];
-
-impl Look for Entry {
-    ghost use Rattle.std.specs.Prelude.{◌≡◌};
-    ghost use Rattle.move_msg.specs.Files.{entry_for};
-    ghost use Rattle.move_msg.specs.Manifests.{IsEntry, entry_of};
-    ghost use Rattle.move_msg.specs.TableNames.{IsFileName};
-
-    ghost made_of = { λ line f. (entry_of line ≡ entry_for f) × (IsFileName f.name → IsEntry (entry_of line)) };
-
-    fn of(_alloc: Global, file: NamedFile) -> Result<Entry, AllocError> {
-        Ok(Entry::of(file.name, &file.bytes))
-    }
-}
 
 impl<'a> List<'a> {
     /// The task with these values, or the first thing that is wrong with them.

@@ -9,11 +9,11 @@ ghost use Rattle.adjudicate_core.specs.Misuses.{AreWell, IsFirst, fault_words};
 use super::{Form, Value};
 use crate::game_name::GameName;
 use crate::numbers::{Delay, is_set};
-use crate::sources::Places;
 use crate::usage::ValueFault;
 use crate::values::{datagrams_in, delay_in, game_words_in, me_in, option_in, to_in};
 use clap::ArgMatches;
 use move_msg::Who;
+use task_files::Places;
 
 /// The values of an arbiter that answers datagrams.
 #[derive(Drop)]
@@ -138,7 +138,7 @@ fn terms_in<'a>(matches: &ArgMatches<'a>) -> Result<Terms, ValueFault<'a>>
 impl<'a> Listen<'a> {
     ghost use Rattle.std.specs.Prelude.{◌≡◌, IfOk, IfErr};
     ghost use Rattle.clap.specs.Words.{found_of, first_value};
-    ghost use Rattle.adjudicate_core.specs.Sources.{named_by};
+    ghost use Rattle.task_files.specs.Sources.{named_by};
     ghost use Rattle.adjudicate_core.specs.Misuses.{IsFirst, fault_words};
     ghost use Rattle.adjudicate_core.specs.Commands.Listen.{IsListening, faults, named};
 

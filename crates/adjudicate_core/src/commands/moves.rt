@@ -6,19 +6,19 @@ ghost use Rattle.adjudicate_core.specs.Commands.Moves.{HasValues, IsMoves, IsRep
 ghost use Rattle.adjudicate_core.specs.Inside.Asked.{reply_of};
 ghost use Rattle.adjudicate_core.specs.Reply.{IsText};
 ghost use Rattle.adjudicate_core.specs.Misuses.{IsFirst, fault_words};
-ghost use Rattle.adjudicate_core.specs.Sources.{named_by};
+ghost use Rattle.task_files.specs.Sources.{named_by};
 
 use super::{Form, Value};
 use crate::answers::Answer;
 use crate::lines::Line;
 use crate::refusals::Refusal;
-use crate::sources::Places;
 use crate::usage::ValueFault;
 use crate::values::word_in;
 use board_core::Position;
 use clap::ArgMatches;
 use fen_text::read;
 use std::alloc::{AllocError, Global};
+use task_files::Places;
 
 /// The legal moves of a position.
 #[derive(Clone, Copy)]

@@ -7,14 +7,13 @@ ghost use Rattle.adjudicate_core.specs.Inside.Asked.{reply_of};
 ghost use Rattle.adjudicate_core.specs.Looks.{gathered};
 ghost use Rattle.adjudicate_core.specs.Reply.{ByTables, IsText};
 ghost use Rattle.adjudicate_core.specs.Misuses.{IsFirst, fault_words};
-ghost use Rattle.adjudicate_core.specs.Sources.{named_by};
+ghost use Rattle.task_files.specs.Sources.{named_by};
 
 use super::{Form, Value};
 use crate::answers::Answer;
 use crate::lines::Line;
 use crate::numbers::CacheSize;
 use crate::refusals::Refusal;
-use crate::sources::{Places, Sources};
 use crate::tables::gather;
 use crate::usage::ValueFault;
 use crate::values::{option_in, word_in};
@@ -23,6 +22,7 @@ use clap::ArgMatches;
 use fen_text::read;
 use judge_core::{Column, Probed, Set};
 use std::alloc::{AllocError, Global};
+use task_files::{Places, Sources};
 
 /// The values of a position in tables.
 #[derive(Clone, Copy)]

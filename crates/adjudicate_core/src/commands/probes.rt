@@ -7,27 +7,27 @@ ghost use Rattle.fen_text.specs.Fen.{SpellsPosition};
 ghost use Rattle.adjudicate_core.specs.Commands.Probes.{HasValues, PutsLines, PutsLinesOrNone, PutsProbes, TellsLine, faults, named};
 ghost use Rattle.adjudicate_core.specs.Lines.{words_of};
 ghost use Rattle.adjudicate_core.specs.Misuses.{IsFirst, fault_words};
-ghost use Rattle.adjudicate_core.specs.Sources.{named_by};
+ghost use Rattle.task_files.specs.Sources.{named_by};
 ghost use Rattle.adjudicate_core.specs.Reply.{IsText};
-ghost use Rattle.adjudicate_core.specs.ToldLines.{stops_by};
+ghost use Rattle.line_teller.specs.ToldLines.{stops_by};
 
 use super::{Form, Value};
 use crate::answers::status_if;
 use crate::lines::{Line, put_line, put_refusal};
 use crate::numbers::{CacheSize, is_set};
 use crate::refusals::Refusal;
-use crate::sources::{Places, Sources};
 use crate::tables::gather;
-use crate::told_lines::{TellFault, Teller, tell_lines};
 use crate::usage::ValueFault;
 use crate::values::option_in;
 use board_core::Position;
 use clap::ArgMatches;
 use fen_text::read;
 use judge_core::Set;
+use line_teller::{TellFault, Teller, tell_lines};
 use std::alloc::{AllocError, Global};
 use std::io::Write;
 use system_io::{Input, LineReader, Output, WriteFault};
+use task_files::{Places, Sources};
 
 /// The values of the positions of the input in tables.
 #[derive(Clone, Copy)]

@@ -8,12 +8,11 @@ ghost use Rattle.move_msg.specs.TextLines.{ended, text_of};
 ghost use Rattle.adjudicate_core.specs.Commands.Record.{HasValues, IsReply, TakesMemory, delay_words, faults, moves_words, named, record_lines, ruling_words, spaced, stamp_words};
 ghost use Rattle.adjudicate_core.specs.Misuses.{IsFirst, fault_words};
 ghost use Rattle.adjudicate_core.specs.Reply.{AnswersOnce};
-ghost use Rattle.adjudicate_core.specs.Sources.{named_by};
+ghost use Rattle.task_files.specs.Sources.{named_by};
 
 use super::{Form, Value};
 use crate::lines::put_refusal;
 use crate::refusals::Refusal;
-use crate::sources::{Places, Sources};
 use crate::usage::ValueFault;
 use crate::values::word_in;
 use arbiter_service::verdict_or_none;
@@ -24,6 +23,7 @@ use move_msg::{Record, RecordFault, Stamp};
 use std::alloc::Global;
 use std::io::Write;
 use system_io::WriteFault;
+use task_files::{Places, Sources};
 
 /// The contents of a kept record.
 #[derive(Clone, Copy)]

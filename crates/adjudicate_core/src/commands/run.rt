@@ -15,7 +15,7 @@ ghost use Rattle.adjudicate_core.specs.Inside.Asked.{reply_of};
 ghost use Rattle.adjudicate_core.specs.Lines.{refused_line, refusal_words, words_of};
 ghost use Rattle.adjudicate_core.specs.Commands.Run.{HasValues, IsReply, IsRun, faults, named};
 ghost use Rattle.adjudicate_core.specs.Misuses.{IsFirst, fault_words};
-ghost use Rattle.adjudicate_core.specs.Sources.{named_by};
+ghost use Rattle.task_files.specs.Sources.{named_by};
 ghost use Rattle.adjudicate_core.specs.Schedules.{RefusesTable, counted, game_of, side_words, world_words};
 
 use super::{Form, Value};
@@ -23,7 +23,6 @@ use crate::answers::Answer;
 use crate::lines::{KeptCount, Line};
 use crate::numbers::{CacheSize, Delay};
 use crate::refusals::Refusal;
-use crate::sources::{Places, Sources};
 use crate::tables::FileFault;
 use crate::usage::ValueFault;
 use crate::values::{cache_in, delay_in};
@@ -34,6 +33,7 @@ use relay_world::schedule::{Schedule, ScheduleFault, read};
 use relay_world::{Event, Game, World, WorldFault, run};
 use std::alloc::{AllocError, Global};
 use table_file::{TableFault, reads_what_is_laid_out};
+use task_files::{Places, Sources};
 
 /// Two arbiters under the schedule of the input.
 #[derive(Clone, Copy)]

@@ -9,10 +9,10 @@ ghost use Rattle.adjudicate_core.specs.Misuses.{AreWell, IsFirst, fault_words};
 use super::{Form, Value};
 use crate::game_name::GameName;
 use crate::numbers::Delay;
-use crate::sources::Places;
 use crate::usage::ValueFault;
 use crate::values::{delay_in, game_words_in, option_in, to_in, tries_in, wait_in};
 use clap::ArgMatches;
+use task_files::Places;
 
 /// The values for sending the moves of a game.
 #[derive(Drop)]
@@ -119,7 +119,7 @@ fn terms_in<'a>(matches: &ArgMatches<'a>) -> Result<Terms, ValueFault<'a>>
 impl<'a> Send<'a> {
     ghost use Rattle.std.specs.Prelude.{◌≡◌, IfOk, IfErr};
     ghost use Rattle.clap.specs.Words.{found_of, first_value};
-    ghost use Rattle.adjudicate_core.specs.Sources.{named_by};
+    ghost use Rattle.task_files.specs.Sources.{named_by};
     ghost use Rattle.adjudicate_core.specs.Misuses.{IsFirst, fault_words};
     ghost use Rattle.adjudicate_core.specs.Commands.Send.{HasValues, faults, named};
 

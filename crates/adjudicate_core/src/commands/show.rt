@@ -5,14 +5,14 @@ ghost use Rattle.move_msg.specs.Streams.{nothing_fed};
 ghost use Rattle.adjudicate_core.specs.Commands.Show.{Answers, IsShown, named};
 ghost use Rattle.adjudicate_core.specs.Reply.{Reply, WritesReply};
 ghost use Rattle.adjudicate_core.specs.Inside.Fronts.{IsFront};
-ghost use Rattle.adjudicate_core.specs.Sources.{named_by};
+ghost use Rattle.task_files.specs.Sources.{named_by};
 
 use crate::lines::{Line, put_line, put_refusal};
 use crate::refusals::Refusal;
-use crate::sources::{Places, Sources};
 use move_msg::{Feeder, Message, MessageFault};
 use std::io::Write;
 use system_io::WriteFault;
+use task_files::{Places, Sources};
 
 /// The messages of the input.
 #[derive(Clone, Copy)]

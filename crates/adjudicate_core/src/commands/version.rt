@@ -2,11 +2,11 @@
 
 ghost use Rattle.std.specs.Prelude.{◌≡◌, IfOk};
 ghost use Rattle.adjudicate_core.specs.Commands.Version.{Answers, named};
-ghost use Rattle.adjudicate_core.specs.Sources.{named_by};
+ghost use Rattle.task_files.specs.Sources.{named_by};
 
-use crate::sources::Places;
 use std::io::Write;
 use system_io::WriteFault;
+use task_files::Places;
 
 /// The program's version.
 #[derive(Clone, Copy)]

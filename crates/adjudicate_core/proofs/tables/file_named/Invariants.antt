@@ -1,6 +1,6 @@
 use Rattle.std.proofs.Common.{◌≡◌, map, drop}
 use Rattle.move_msg.specs.Files.{file_of}
-use Rattle.adjudicate_core.specs.FileNames.{file_named}
+use Rattle.task_files.specs.FileNames.{file_named}
 use Rattle.adjudicate_core.proofs.tables.file_named.Given as goal
 
 abbrev pub invariant-loop-file : goal.invariant-loop-file

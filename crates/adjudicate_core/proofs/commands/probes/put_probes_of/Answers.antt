@@ -5,9 +5,9 @@ use Rattle.system_io.specs.Inputs.{InputFacts}
 use Rattle.system_io.specs.LineReaders.{LineFacts}
 use Rattle.system_io.specs.declared.reading.ReadFault.{ReadFault}
 use Rattle.system_io.specs.declared.reading.ReadFault.TheVariants as read
-use Rattle.adjudicate_core.specs.ToldLines.{stops_by}
+use Rattle.line_teller.specs.ToldLines.{stops_by}
 use Rattle.adjudicate_core.specs.Commands.Probes.{PutsLines, PutsSome, source_stops}
-use Rattle.adjudicate_core.proofs.TellLaws.{fails_so, same_if_known}
+use Rattle.line_teller.proofs.TellLaws.{fails_so, same_if_known}
 use Rattle.adjudicate_core.proofs.commands.probes.put_probes_of.Goals as goal
 
 -- what stops the lines of an input stops it
