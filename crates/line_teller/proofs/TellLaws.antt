@@ -1,6 +1,7 @@
 -- Lines of an input that are told as they come.
 use Rattle.std.proofs.Common.{◌≡◌, ◌≢◌, ◌⊎◌, ℕ, ◌+◌, ◌-◌, ◌^◌, ◌≤◌, ◌<◌, Bool, true, false, All, List, [], ◌∷◌, ◌++◌, cond, length, ne_eqb, Option, Some, None, IfSome, refl, sym, ap, subst, ◌∙◌, append_assoc, append-nil, inl, inr, arith, length-append}
-use Rattle.std.specs.Prelude.{◌&&◌, ◌==◌}
+use Rattle.std.specs.Prelude.{◌&&◌, ◌==◌, Err}
+use Rattle.std.specs.Result.{IsErrOf}
 use Rattle.std.specs.List.{AllByRecursion, onto_first, slice_split}
 use Rattle.std.proofs.lemmas.List.Elements.{recursion_from_All}
 use Rattle.std.proofs.lemmas.List.Splits.{length-slice_split}
@@ -15,7 +16,7 @@ use Rattle.system_io.specs.declared.reading.ReadFault.{ReadFault}
 use Rattle.system_io.specs.declared.reading.ReadFault.TheVariants as read
 use Rattle.line_teller.specs.declared.told_lines.Step.{Step}
 use Rattle.line_teller.specs.declared.told_lines.Step.TheVariants as step
-use Rattle.line_teller.specs.ToldLines.{AllTold, AreRead, AsksInTurn, AsksOne, MayWait, TellsInTurn, CutOff, CutShort, HasTold, IsCut, LineTold, ReadAll, StepTells, TellsLines, TextCutShort, WantsMemory, WritesRead, WritesText, WritesTold, all_told, refused_files, refused_memory, stops_by, words_told}
+use Rattle.line_teller.specs.ToldLines.{AllTold, AreRead, AsksInTurn, AsksOne, MayWait, TellsInTurn, CutOff, CutShort, HasTold, IsCut, LineTold, ReadAll, StepTells, TellsLines, TextCutShort, WantsMemory, WritesRead, WritesText, WritesTold, all_told, cut_words, refused_files, refused_memory, stops_by, words_told}
 
 pub are_read_more : (a b c : Option (List ℕ)) (lines : List (List ℕ)) (line : List ℕ) → AreRead a lines b → ReadsLine b c line → AreRead a (lines ++ line ∷ []) c
 unfolding AreRead
@@ -90,9 +91,19 @@ told_cut Tells TakesMemory Now Fails count input now next old mid new done h bac
 pub step_cut : (Tells : List ℕ → LineTold → Type 0) (TakesMemory : List ℕ → Type 0) (Fails : ReadFault → Type 0) (input left old new : Option (List ℕ)) (s : Step) (words : List ℕ) → s ≡ step.Cut → IsCut Fails [] words → Appends old new (ended words) → StepTells Tells TakesMemory Fails input left old new s
 step_cut Tells TakesMemory Fails input left old new s words e is wrote = subst (StepTells Tells TakesMemory Fails input left old new) (sym e) (inr (words, is, wrote))
 
+-- what a reader's fault says stops the input, and is told by its words
+pub cut_by : (input : LineFacts) (fault : ReadFault) → stops_by input fault → IsCut (stops_by input) [] (cut_words fault)
+cut_by input read.Unreadable fails = inl (refl, inl fails)
+cut_by input read.OutOfMemory room = inr (refl, room)
+
 -- so many lines were told that no more are counted
 pub told_most : (Tells : List ℕ → LineTold → Type 0) (TakesMemory : List ℕ → Type 0) (Fails : ReadFault → Type 0) (count : ℕ) (input now old mid new : Option (List ℕ)) (done : Bool) → ToldSoFar Tells count input now old mid done → 2 ^ 64 - 1 ≤ count → Appends mid new (ended refused_files) → WritesRead Tells TakesMemory Fails input old new false
 told_most Tells TakesMemory Fails count input now old mid new done h many wrote = CutShort h.told now refused_files h.has (inl (refl, inr (subst (λ n. 2 ^ 64 - 1 ≤ n) (sym h.count_is) many))) (more_lines old mid new (words_told h.told) refused_files h.written wrote) refl
+
+-- why a line isn't read, by what its reader says of each cause
+pub stops_so : {T : Type 0} (input : LineFacts) (fault : ReadFault) → (IsErrOf {T = T} (Err fault) read.Unreadable → input.fails) → (IsErrOf {T = T} (Err fault) read.OutOfMemory → input.takes_memory) → stops_by input fault
+stops_so input read.Unreadable fails room = fails refl
+stops_so input read.OutOfMemory fails room = room refl
 
 -- ---- in turn
 

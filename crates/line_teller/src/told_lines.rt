@@ -129,8 +129,7 @@ fn tell_next<T: Teller, L: LineReader, W: Output>(
     match reader.next_line(line) {
         Ok(true) => tell_line(teller, line, out),
         Ok(false) => Ok(Step::Ended),
-        Err(ReadFault::Unreadable) => put_cut(out, ReadFault::Unreadable),
-        Err(ReadFault::OutOfMemory) => put_cut(out, ReadFault::OutOfMemory),
+        Err(fault) => put_cut(out, fault),
     }
 }
 
