@@ -1,6 +1,6 @@
 //! Opened table files.
 
-ghost use Rattle.std.specs.Prelude.{◌≡◌, ◌≢◌, ◌<◌, length, IsTrue, IsOk, true, cond, IfOk, IfErr, ◌↔◌};
+ghost use Rattle.std.specs.Prelude.{◌≡◌, ◌≢◌, ◌<◌, [], length, get_or, IsTrue, IsOk, true, cond, IfOk, IfErr, ◌↔◌};
 ghost use Rattle.table_file.specs.declared.fault.TableFault.TheVariants.{OutOfMemory};
 ghost use Rattle.table_file.specs.declared.kind.TableKind.TheVariants.{Dtz};
 ghost use Rattle.table_file.specs.declared.parts.Section.TheVariants.{Entries, Lengths, Blocks};
@@ -167,6 +167,24 @@ fn checked_sections<'a>(
     }
 }
 
+/// A part with its sections, which have one place in the three lists.
+fn opened_part<'a>(part: Part<'a>, sections: &Sections<'a>, place: usize) -> OpenedPart<'a>
+    requires entries { place < length sections.now.entries.items }
+    requires lengths { place < length sections.now.lengths.items }
+    requires blocks { place < length sections.now.blocks.items }
+    ensures head { result.head ≡ part.entry }
+    ensures entries { result.entries ≡ get_or sections.now.entries.items place [] }
+    ensures lengths { result.lengths ≡ get_or sections.now.lengths.items place [] }
+    ensures blocks { result.blocks ≡ get_or sections.now.blocks.items place [] }
+{
+    OpenedPart {
+        entries: FileBytes::new(sections.entries[place].bytes()),
+        lengths: FileBytes::new(sections.lengths[place].bytes()),
+        blocks: FileBytes::new(sections.blocks[place].bytes()),
+        head: part,
+    }
+}
+
 /// Each part with its sections. The only error is that memory is refused.
 fn opened_parts<'a>(
     alloc: Global,
@@ -185,12 +203,7 @@ fn opened_parts<'a>(
     let mut left = parts.into_iter();
     'parts: while let Some(part) = left.next() {
         let k = opened.len();
-        opened.push(OpenedPart {
-            entries: FileBytes::new(sections.entries[k].bytes()),
-            lengths: FileBytes::new(sections.lengths[k].bytes()),
-            blocks: FileBytes::new(sections.blocks[k].bytes()),
-            head: part,
-        })?;
+        opened.push(opened_part(part, sections, k))?;
     }
     Ok(opened)
 }
