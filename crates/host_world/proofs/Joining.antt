@@ -1,6 +1,7 @@
 -- Two hosts of one game come to a world of a schedule.
 use Rattle.std.proofs.Common.{◌≡◌, ◌∙◌, ℕ, List, [], ◌∷◌, ◌++◌, refl, sym, subst}
 use Rattle.std.specs.List.{AllByRecursion}
+use Rattle.std.proofs.lemmas.List.Elements.{filter-append}
 use Rattle.move_msg.specs.declared.who.Who.{Who}
 use Rattle.move_msg.specs.declared.who.Who.TheVariants.{A, B}
 use Rattle.game_host.specs.Folders.{Keepers}
@@ -47,6 +48,10 @@ module _ {K : Type 0} (s : Keepers K) (stamp : List ℕ) where
   one_end old (a ∷ acts) x y t u h k =
       one_end k.0 acts x y t u (subst (λ l. Goes s t stamp l acts x) (one_life t u old h.0 k.0 a h.1 k.1) h.2) k.2
 
+goes_front : {K : Type 0} (s : Keepers K) (t : CommonView) (stamp : List ℕ) (early late : List (Act K)) (old new : Life K) → Goes s t stamp old (early ++ late) new → (mid : Life K) × Goes s t stamp old early mid
+goes_front s t stamp [] late old new g = (old, refl)
+goes_front s t stamp (a ∷ early) late old new g = let front = goes_front s t stamp early late g.0 new g.2 in (front.0, (g.0, g.1, front.1))
+
 -- ---- the runs of one host
 
 module _ {K : Type 0} (s : Keepers K) (game : Judged) (who : Who) where
@@ -64,18 +69,23 @@ module _ {K : Type 0} (s : Keepers K) (game : Judged) (who : Who) where
   abbrev DeedsGo : Life K → List (Deed K) → Life K → Type 0
   DeedsGo old deeds new = RunsGo old (first_run deeds) (later_runs deeds) new
 
-  a_run : (run : List (Act K)) (r : IsRunOf s game who run) → RunGoes Fresh run (r.hosted.games game.stamp.0)
-  a_run run r = record { common = r.common; of = r.of; goes = r.hosted.each game.stamp.0 }
+  a_run : (run : List (Act K)) → IsRunOf s game who run → (end : Life K) × RunGoes Fresh run end
+  a_run run r =
+      let split : acts_of game.stamp.0 (run ++ r.rest) ≡ acts_of game.stamp.0 run ++ acts_of game.stamp.0 r.rest = filter-append (λ (a : Act K). is_stamp game.stamp.0 (game_of a)) run r.rest in
+      let all : Goes s r.common game.stamp.0 Fresh (acts_of game.stamp.0 run ++ acts_of game.stamp.0 r.rest) (r.hosted.games game.stamp.0) =
+      subst (λ (acts : List (Act K)). Goes s r.common game.stamp.0 Fresh acts (r.hosted.games game.stamp.0)) split (r.hosted.each game.stamp.0) in
+      let front = goes_front s r.common game.stamp.0 (acts_of game.stamp.0 run) (acts_of game.stamp.0 r.rest) Fresh (r.hosted.games game.stamp.0) all in
+      (front.0, record { common = r.common; of = r.of; goes = front.1 })
 
   -- all of them lead to where the last one leads
   abbrev AllGo : List (Act K) → List (List (Act K)) → Type 0
   AllGo run later = (end : Life K) × RunsGo Fresh run later end × RunGoes Fresh (last_of run later) end
 
   all_go : (run : List (Act K)) (later : List (List (Act K))) → AllByRecursion (IsRunOf s game who) (run ∷ later) → AllGo run later
-  all_go run [] r = (r.0.hosted.games game.stamp.0, a_run run r.0, a_run run r.0)
+  all_go run [] r = let x = a_run run r.0 in (x.0, x.1, x.1)
   all_go run (next ∷ later) r =
       let rest = all_go next later r.1 in
-      (rest.0, ((r.0.hosted.games game.stamp.0, a_run run r.0), rest.1), rest.2)
+      (rest.0, (a_run run r.0, rest.1), rest.2)
 
   module _ (old new : Net) where
     abbrev GoesTo : Life K → Type 0

@@ -9,7 +9,7 @@
 -- `changed` has them, with what is in that file after each act. Then `kept` and `is_found` hold by what reading and replacing a file
 -- do (`Premises.antt` of system_io), mostly by `inl refl`. `came` holds where datagrams come from the source and from the two, and
 -- `start` and `delay` where no other game of the same stamp was entered.
-use Rattle.std.specs.Prelude.{◌≡◌, ◌⊎◌, ℕ, Bool, true, false, cond, List, [], ◌∷◌, Option, Some, None, Ok, Err, IfSome}
+use Rattle.std.specs.Prelude.{◌≡◌, ◌⊎◌, ℕ, Bool, true, false, cond, List, [], ◌∷◌, ◌++◌, Option, Some, None, Ok, Err, IfSome}
 use Rattle.std.specs.List.{AllByRecursion}
 use Rattle.move_msg.specs.declared.who.Who.{Who}
 use Rattle.move_msg.specs.declared.who.Who.TheVariants.{A, B}
@@ -77,11 +77,13 @@ pub record IsHostOf (game : Judged) (who : Who) (t : CommonView) : Type 0 where
   pub tables : t.set.tables ≡ game.rules.tables
   pub number : t.number ≡ who_number who
 
--- these are the acts of a run of it, as the contract of `serve_games` has them
+-- These acts are what a run of it has done so far: with what is still to come, if anything, they are the acts of a run that returns, as
+-- the contract of `serve_games` has them. A run that was stopped is the front of one that is to answer as many datagrams as came.
 pub record IsRunOf {K : Type 0} (s : Keepers K) (game : Judged) (who : Who) (acts : List (Act K)) : Type 0 where
   pub common : CommonView
   pub of : IsHostOf game who common
-  pub hosted : IsHosted s common acts
+  pub rest : List (Act K)
+  pub hosted : IsHosted s common (acts ++ rest)
 
 -- so are those of each run
 abbrev pub AreRunsOf : {K : Type 0} → Keepers K → Judged → Who → List (Deed K) → Type 0
