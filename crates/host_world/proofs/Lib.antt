@@ -1,0 +1,4 @@
+pub mod Seeing
+pub mod Weaving
+pub mod Stopping
+pub mod Joining

@@ -1,0 +1,17 @@
+//! A game at two hosts.
+//!
+//! `game_host` proves what one host does for each of its games, `relay_world` what two arbiters of one game come to. Here the first is
+//! the second: what two hosts keep and send for a game is what a schedule's world keeps and sends.
+#![tactic(auto)]
+
+ghost use Rattle.game_host.specs.Folders.{keepers};
+ghost use Rattle.host_world.specs.Weaves.{HostsAreWorlds};
+
+use game_host::Games;
+
+/// Two hosts that have one game, each over a folder of its own, come to what a schedule comes to, in whichever order their acts come
+/// and however often each of them is stopped and run again. So each law of `relay_world` is about what they keep and send. The
+/// premises are those about the outside alone: see `specs/Weaves.antt`.
+pub fn hosts_are_worlds<G: Games, H: Games>(_first: &G, _second: &H)
+    ensures { HostsAreWorlds (keepers G.Keeper.facts G.facts) (keepers H.Keeper.facts H.facts) }
+{}
