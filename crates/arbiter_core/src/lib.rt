@@ -5,7 +5,7 @@
 //! knows nothing of squares, table files, sockets, or how long a verdict by tables must hold. `judge_core` says where a
 //! game stands, and `arbiter_service` connects an arbiter to a port and to a record in a file.
 //!
-//! Its tests stand in `checks`.
+//! Its tests stand in `checks_games`.
 #![tactic(auto)]
 
 mod arbiter;

@@ -2,7 +2,7 @@
 //!
 //! `arbiter_core` decides what is answered and recorded; ports and files are those of `system_io`.
 //!
-//! Its tests stand in `checks`.
+//! Its tests stand in `checks_games` and `checks_io`.
 #![tactic(auto)]
 
 mod file_keeper;

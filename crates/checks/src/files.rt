@@ -66,7 +66,7 @@ pub(crate) fn fill(rt: &impl Abort, bytes: &mut Vec<u8>, length: usize, byte: u8
     assert!(rt; bytes.resize(length, byte).is_ok());
 }
 
-/// The same bytes so many times.
+/// Appends these bytes so many times.
 fn repeat(rt: &impl Abort, bytes: &mut Vec<u8>, count: u16, more: &[u8]) {
     for _ in 0..count {
         push_bytes(rt, bytes, more);

@@ -234,7 +234,7 @@ pub extern "C" fn hofsjurd_moves(alloc: Global, fen: &[u8], room: &mut [PlainMov
     probe_api::moves_of_text(alloc, fen, room)
 }
 
-/// The same of the position that a board shows.
+/// Writes the legal moves of the position that a board shows.
 #[unsafe(no_mangle)]
 pub extern "C" fn hofsjurd_board_moves(
     alloc: Global,
@@ -372,7 +372,7 @@ pub extern "C" fn hofsjurd_status_name(status: u32, room: &mut [u8]) -> usize
     probe_api::put_text(probe_api::status_name(status).as_bytes(), room)
 }
 
-/// The same of a verdict by its number.
+/// Writes the name of a verdict by its number, 1 to 7, and `open` for 0.
 #[unsafe(no_mangle)]
 pub extern "C" fn hofsjurd_verdict_name(number: u32, room: &mut [u8]) -> usize
     ensures { PutsText (verdict_name number) room.old result room.new }
@@ -380,7 +380,7 @@ pub extern "C" fn hofsjurd_verdict_name(number: u32, room: &mut [u8]) -> usize
     probe_api::put_text(probe_api::verdict_name(number).as_bytes(), room)
 }
 
-/// The same of the version, a line of the library and one of the toolchain that it is proved with.
+/// Writes the version: a line of the library, and one of the toolchain that it is proved with.
 #[unsafe(no_mangle)]
 pub extern "C" fn hofsjurd_version(room: &mut [u8]) -> usize
     ensures { PutsText version room.old result room.new }

@@ -88,7 +88,7 @@ impl PieceCode {
         self.code
     }
 
-    /// The same piece of the other side.
+    /// The piece of this kind of the other side.
     pub fn of_other_side(self) -> PieceCode
         ensures { result ≡ other_side self }
     {

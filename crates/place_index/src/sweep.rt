@@ -55,7 +55,7 @@ pub(crate) fn men_on(position: &Position, men: &mut [Man; 5]) -> (usize, u64)
     (5, tally)
 }
 
-/// The same man of the other side, on the rank that lies opposite.
+/// The man as one of the other side, on the rank that lies opposite.
 fn exchanged(man: Man) -> Man
     ensures code { result.code ≡ other_side man.code }
     ensures square { result.square ≡ bottom_top man.square }

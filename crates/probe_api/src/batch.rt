@@ -1,4 +1,4 @@
-//! The same question of many boards.
+//! One question asked of many boards.
 
 ghost use Rattle.std.specs.Prelude.{◌≡◌, ◌≢◌, ◌<◌, length, slice_index_or};
 ghost use Rattle.probe_api.specs.declared.board.Board.{Board};

@@ -133,7 +133,7 @@ pub fn tell_text(alloc: Global, set: &mut Set<'_>, game: &mut Game, text: &[u8])
     }
 }
 
-/// The same of a move as numbers; the status is 85 where a square is above 63 or the promotion above 4.
+/// Tells a game its next move, as numbers; the status is 85 where a square is above 63 or the promotion above 4.
 pub fn tell_numbers(alloc: Global, set: &mut Set<'_>, game: &mut Game, numbers: PlainMove) -> Reply
     ensures is { TellsMoveNumbers set.old.tables numbers game.old result game.new }
     ensures kept { set.new ≡ set.old }

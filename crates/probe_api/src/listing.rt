@@ -60,7 +60,8 @@ pub fn moves_of_text(alloc: Global, text: &[u8], room: &mut [PlainMove]) -> Repl
     }
 }
 
-/// The same of the position that a board shows; where that is none, the status is the first fault of what it shows.
+/// The legal moves of the position that a board shows, as `moves_of_text` writes them; where it shows none, the status is the first
+/// fault of what it shows.
 pub fn moves_of_board(alloc: Global, board: &Board, room: &mut [PlainMove]) -> Reply
     ensures { PutsMovesOfBoard board.now room.old result room.new }
 {

@@ -75,5 +75,5 @@ pub fn verdict_name(number: u32) -> &'static str
 pub fn version() -> &'static str
     ensures { result.now ≡ version }
 {
-    "hofsjurd 1.0.0\nrattle-kit-13f logic dac8208d650f15bf"
+    "hofsjurd 1.0.0\nrattle-kit-13b logic dac8208d650f15bf"
 }

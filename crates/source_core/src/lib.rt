@@ -1,6 +1,6 @@
 //! The source of a live game: it sends the game's moves to the two arbiters as they are played.
 //!
-//! Its tests stand in `checks`.
+//! Its tests stand in `checks_io`.
 #![tactic(auto)]
 
 mod known;

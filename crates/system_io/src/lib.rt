@@ -3,7 +3,7 @@
 //! The `facts` of a trait are all that a proof sees of it. Each has an instance over the system's calls.
 //! `specs/Premises.antt` states what is trusted of the system.
 //!
-//! Its tests stand in `checks`.
+//! Its tests stand in `checks_io`.
 #![tactic(auto)]
 
 mod disk;

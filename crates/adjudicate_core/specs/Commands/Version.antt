@@ -18,7 +18,7 @@ named = nothing
 
 -- two lines
 abbrev pub version_text : List ℕ
-version_text = codes "adjudicate 1.0.0\nrattle-kit-13f logic dac8208d650f15bf\n"
+version_text = codes "adjudicate 1.0.0\nrattle-kit-13b logic dac8208d650f15bf\n"
 
 abbrev pub Answers : Option (List ℕ) → Option (List ℕ) → ℕ → Type 0
 Answers old new status = Appends old new version_text × (status ≡ 0)

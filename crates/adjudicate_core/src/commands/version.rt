@@ -14,7 +14,7 @@ pub struct Version;
 
 /// The program's version, and the line that `rt version` prints of the toolchain.
 const TEXT: &str = "adjudicate 1.0.0
-rattle-kit-13f logic dac8208d650f15bf
+rattle-kit-13b logic dac8208d650f15bf
 ";
 
 impl Version {
