@@ -1,5 +1,5 @@
 -- The put of a new record.
-use Rattle.std.proofs.Common.{◌≡◌, ◌∙◌, sym, ap, ap₂, subst, refl, ℕ, Bool, cond, ◌++◌, ◌+◌, ◌-◌, ◌<◌, ◌≤◌, inl, inr, ◌⊎◌, List, length, take, Option, Some, None, Ok, Err}
+use Rattle.std.proofs.Common.{◌≡◌, ◌∙◌, sym, ap, ap₂, subst, refl, ℕ, Bool, cond, ◌++◌, ◌+◌, ◌-◌, inl, inr, ◌⊎◌, List, length, Option, Some, None, Ok, Err}
 use Rattle.std.specs.Prelude.{is_some}
 use Rattle.std.proofs.lemmas.List.{take_at}
 use Rattle.std.specs.Result.{IsErrOf}
