@@ -1,11 +1,13 @@
 -- The put of a new record.
-use Rattle.std.proofs.Common.{◌≡◌, ◌∙◌, sym, ap, subst, refl, ℕ, true, cond, ◌+◌, ◌-◌, ◌<◌, ◌≤◌, inl, inr, ◌⊎◌, List, length, Option, Some, Ok, Err}
+use Rattle.std.proofs.Common.{◌≡◌, ◌∙◌, sym, ap, ap₂, subst, refl, ℕ, Bool, cond, ◌++◌, ◌+◌, ◌-◌, inl, inr, ◌⊎◌, List, length, Option, Some, None, Ok, Err}
 use Rattle.std.specs.Prelude.{is_some}
+use Rattle.std.proofs.lemmas.List.{take_at}
 use Rattle.std.specs.Result.{IsErrOf}
 use Rattle.board_core.specs.declared.moves.Move.{Move as Moves}
 use Rattle.board_core.specs.declared.verdict.Verdict.{Verdict}
-use Rattle.judge_core.specs.Standings.{IsAt}
-use Rattle.move_msg.specs.Numbers.{most_moves}
+use Rattle.move_msg.specs.Records.{cut_back, gone_on}
+use Rattle.move_msg.specs.declared.record_bytes.Record.{Record}
+use Rattle.move_msg.specs.declared.who.Who.{Who}
 use Rattle.move_msg.specs.declared.stamp.Stamp.{Stamp}
 use Rattle.move_msg.specs.declared.message.Message.{Message}
 use Rattle.arbiter_core.specs.declared.keeper.Keep.{Keep}
@@ -22,29 +24,32 @@ use Rattle.arbiter_core.specs.Keeping.{KeeperFacts, PutIs, PutLeaves}
 use Rattle.arbiter_core.specs.Setups.{SetupView, rules_at}
 use Rattle.arbiter_core.specs.Views.{IsNear, View}
 use Rattle.arbiter_core.specs.Delivers.{Answers, PutsOnce, PutsIfAny, IsSpelled, IsWritten, Told, answer_to_next, moment, with_record, downed}
-use Rattle.arbiter_core.specs.Inside.Playing.{IsInOrder, IsPlan, IsPlayed, IsPlayedOn, recorded_in}
+use Rattle.arbiter_core.specs.Inside.Playing.{IsInOrder, IsPlan, IsPlayed, IsPlayedOn, played_of, recorded_in}
+use Rattle.arbiter_core.specs.Inside.Starting.{recorded_by}
 use Rattle.arbiter_core.proofs.Settling.{advanced}
 
-recorded_is : (ms ns : List Moves) (v : Option Verdict) → ms ≡ ns → ◌≡◌ {A = Recorded} (record { moves = ms; verdict = v }) (record { moves = ns; verdict = v })
-recorded_is ms ns v e = ap (λ (xs : List Moves). record { moves = xs; verdict = v }) e
-
 -- a plan as a record
-pub played_on : (setup : SetupView) (old : Played) (m : Moves) (window : Window) (plan : Plan) (moves : List Moves) → IsInOrder setup old window → moves ≡ plan.moves.items → IsPlan (rules_at setup) (recorded_in old) m window plan → IsPlayedOn setup old m window (record { «record» = record { stamp = old.record.stamp; delay = old.record.delay; verdict = plan.verdict; moves = moves }; standing = plan.standing })
-played_on setup old m window plan moves order made p =
-    let e : record { moves = moves; verdict = plan.verdict } ≡ advance (rules_at setup) old.record.moves m window = recorded_is moves plan.moves.items plan.verdict made ∙ p.advanced in
-    let a = advanced (rules_at setup) old.record.moves m window moves plan.verdict e in
-    record {
-      played = record {
-        stamp_is = refl;
-        delay_is = order.played.delay_is;
-        at = subst (λ (xs : List Moves). IsAt (rules_at setup) xs plan.standing) (sym made) p.at;
-        ruled = a.ruled;
-        reached = a.reached;
-        short = subst (λ (xs : List Moves). length xs ≤ most_moves) (sym made) p.short;
-      };
-      advanced = e;
-      more = subst (λ (xs : List Moves). length old.record.moves < length xs) (sym made) p.more;
-    }
+pub played_on : (setup : SetupView) (old : Played) (m : Moves) (window : Window) (plan : Plan) (r : Record) → IsInOrder setup old window → r ≡ gone_on old.record plan.moves.items plan.verdict → IsPlan (rules_at setup) (recorded_in old) m window plan → IsPlayedOn setup old m window (played_of r plan.standing)
+played_on setup old m window plan r order is p =
+    let a = advanced (rules_at setup) old.record.moves m window (old.record.moves ++ plan.moves.items) plan.verdict p.advanced in
+    subst (λ (x : Record). IsPlayedOn setup old m window (played_of x plan.standing)) (sym is)
+    (record {
+      played = record { stamp_is = refl; delay_is = order.played.delay_is; at = p.at; ruled = a.ruled; reached = a.reached; short = p.short };
+      advanced = p.advanced;
+      more = p.more;
+    })
+
+-- a record from which the added moves are taken back is the one before
+pub taken_back : (old r b : Record) (more : List Moves) (v : Option Verdict) (count : ℕ) → old.verdict ≡ None → r ≡ gone_on old more v → b ≡ cut_back r count → count ≡ length old.moves → b ≡ old
+taken_back old r b more v count none on back all =
+    back ∙ ap (λ (x : Record). cut_back x count) on
+    ∙ ap₂ (λ (w : Option Verdict) (ms : List Moves). record { stamp = old.stamp; delay = old.delay; verdict = w; moves = ms }) (sym none) (take_at old.moves more count (sym all))
+
+-- with the record as it was all stays in order
+pub still_in_order : (setup now : SetupView) (old : Played) (r : Record) (window : Window) → now ≡ setup → r ≡ old.record → IsInOrder setup old window → IsInOrder now (played_of r old.standing) window
+still_in_order setup now old r window same is order =
+    subst (λ (s : SetupView). IsInOrder s (played_of r old.standing) window) (sym same)
+    (subst (λ (x : Record). IsInOrder setup (played_of x old.standing) window) (sym is) order)
 
 -- what is in order stays so with the next record and what still waits
 pub next_in_order : (setup now : SetupView) (old new : Played) (m : Moves) (window later : Window) → now ≡ setup → IsInOrder setup old window → IsPlayedOn setup old m window new → IsNear later (length new.record.moves + 1) → IsInOrder now new later
@@ -58,8 +63,12 @@ new_is v s stamp n w later e f h =
     ∙ ap (λ (x : Stamp). record { setup = v.setup; me = record { stamp = x; who = v.me.who }; kept = n; window = w; is_down = v.is_down }) f
     ∙ ap (λ (x : Window). record { setup = v.setup; me = v.me; kept = n; window = x; is_down = v.is_down }) h
 
-pub down_is : (v : View) (s : SetupView) → s ≡ v.setup → record { setup = s; me = v.me; kept = v.kept; window = v.window; is_down = true } ≡ downed v
-down_is v s e = ap (λ (x : SetupView). record { setup = x; me = v.me; kept = v.kept; window = v.window; is_down = true }) e
+-- an arbiter by its setup, its record and what waits
+abbrev pub seen : SetupView → Who → Record → Window → Bool → View
+seen s who r window down = record { setup = s; me = record { stamp = r.stamp; who = who }; kept = recorded_by r; window = window; is_down = down }
+
+pub seen_as : (s t : SetupView) (who : Who) (r q : Record) (window : Window) (down : Bool) → s ≡ t → r ≡ q → seen s who r window down ≡ seen t who q window down
+seen_as s t who r q window down e f = ap (λ (x : SetupView). seen x who r window down) e ∙ ap (λ (x : Record). seen t who x window down) f
 
 module _ {K : Type 0} (facts : KeeperFacts K) (old new : View) (next : Recorded) (outputs : List Message) (later : Window) (before now : K) (sent : List ℕ) (spelled : IsSpelled old.me.stamp old.setup.delay next (Some sent)) (written : IsWritten old.me.stamp old.setup.delay next (Some sent)) (once : facts.leaves before sent now) where
   wrote : facts.kept now ≡ Some sent → (facts.kept now ≡ facts.kept before) ⊎ IsWritten old.me.stamp old.setup.delay next (facts.kept now)

@@ -32,7 +32,7 @@ pub record PlansTo (r : Rules) (before : List Move) (m : Move) (window : Window)
   pub count : length moves ≡ length before + 1 + n
 
 -- at the end it is the plan of the next record
-pub planned : (r : Rules) (old : Recorded) (m : Move) (window : Window) (n : ℕ) (p : Plan) → PlansTo r old.moves m window n p.moves.items p.standing p.verdict → length p.moves.items ≤ most_moves → record { moves = p.moves.items; verdict = p.verdict } ≡ advance r old.moves m window → IsPlan r old m window p
+pub planned : (r : Rules) (old : Recorded) (m : Move) (window : Window) (n : ℕ) (p : Plan) → PlansTo r old.moves m window n (old.moves ++ p.moves.items) p.standing p.verdict → length (old.moves ++ p.moves.items) ≤ most_moves → record { moves = old.moves ++ p.moves.items; verdict = p.verdict } ≡ advance r old.moves m window → IsPlan r old m window p
 planned r old m window n p h short e = record { advanced = e; at = h.at; short = short; more = let count = h.count in omega arith }
 
 take_whole : (moves rest : List Move) → take (length moves) (moves ++ rest) ≡ moves

@@ -1,5 +1,5 @@
 -- What is answered to a move, by its number.
-use Rattle.std.proofs.Common.{◌≡◌, ℕ, ◌<◌, ◌≤◌, ◌+◌, ◌-◌, Bool, true, false, ◌||◌, List, [], ◌∷◌, ◌++◌, None, Ok, Err, refl, sym, ap, ◌∙◌, subst, arith}
+use Rattle.std.proofs.Common.{◌≡◌, ℕ, ◌<◌, ◌≤◌, ◌+◌, ◌-◌, Bool, true, false, ◌||◌, List, [], ◌∷◌, ◌++◌, length, None, Ok, Err, refl, sym, ap, ◌∙◌, subst, arith}
 use Rattle.std.specs.Prelude.{is_some, nat_lt}
 use Rattle.std.proofs.lemmas.Bool.{lt-ltb}
 use Rattle.board_core.specs.declared.moves.Move.{Move as Moves}
@@ -7,6 +7,7 @@ use Rattle.judge_core.specs.Games.{position_after_all}
 use Rattle.move_msg.specs.declared.message.Message.{Message}
 use Rattle.move_msg.specs.declared.message.Message.TheVariants.{Ack}
 use Rattle.move_msg.specs.Numbers.{most_moves}
+use Rattle.move_msg.specs.declared.record_bytes.Record.{Record}
 use Rattle.arbiter_core.specs.declared.fault.DeliverFault.TheVariants.{IllegalMove, TooFarAhead, TooLong}
 use Rattle.arbiter_core.specs.Keeping.{KeeperFacts}
 use Rattle.arbiter_core.specs.Recording.{count_of}
@@ -40,6 +41,15 @@ module _ {K : Type 0} (facts : KeeperFacts K) (old : View) (keeper : K) (number 
 or_true : (a b : Bool) → b ≡ true → (a || b) ≡ true
 or_true true b h = refl
 or_true false b h = h
+
+-- ---- what is read off the record that an arbiter lends itself
+
+module _ {lent own : Record} (same : lent ≡ own) where
+  pub some_in : (ruled : Bool) → ruled ≡ is_some lent.verdict → ruled ≡ is_some own.verdict
+  some_in ruled is = is ∙ ap (λ (r : Record). is_some r.verdict) same
+
+  pub count_in : (count : ℕ) → count ≡ length lent.moves → count ≡ length own.moves
+  count_in count is = is ∙ ap (λ (r : Record). length r.moves) same
 
 -- ---- what is read off the fields of an arbiter holds of its view
 

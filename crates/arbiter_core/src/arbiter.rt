@@ -15,7 +15,7 @@ ghost use Rattle.arbiter_core.specs.Inside.Playing.{IsInOrder, IsNext, recorded_
 
 use crate::fault::DeliverFault;
 use crate::keeper::Keeper;
-use crate::planning::play_on;
+use crate::planning::plan_on;
 use crate::played::Played;
 use crate::resting::Resting;
 use crate::setup::Setup;
@@ -110,8 +110,7 @@ impl<'a> Arbiter<'a> {
         requires keeps { Keeps (K.facts.kept keeper.old) self.old }
         ensures { Answers K.facts (moment self.old keeper.old) (answer_to_next self.old m.now) (result_map_both (λ o. o.items) (λ e. e) result) (moment self.new keeper.new) }
     {
-        let count = self.played.record.moves.as_slice().len();
-        let Ok(next) = play_on(
+        let Ok(plan) = plan_on(
             alloc,
             &mut self.setup,
             &self.played,
@@ -121,29 +120,32 @@ impl<'a> Arbiter<'a> {
         ) else {
             return Err(DeliverFault::OutOfMemory);
         };
-        let Ok(bytes) = next.record.encode(alloc) else {
+        let more = plan.moves.len();
+        let count = self.played.record.as_record().moves.as_slice().len();
+        let Ok(()) = self.played.record.go_on(alloc, &plan.moves, plan.verdict) else {
             return Err(DeliverFault::OutOfMemory);
         };
-        let more = next.record.moves.as_slice().len() - count;
-        let window = if next.record.verdict.is_some() {
+        let window = if plan.verdict.is_some() {
             Window::empty()
         } else {
             self.window.after(more)
         };
+        let record = self.played.record.as_record();
         let outputs = tell(
             alloc,
-            self.played.record.stamp,
+            record.stamp,
             self.who,
-            next.record.moves.count(),
-            next.record.verdict,
+            record.moves.count(),
+            plan.verdict,
         );
-        match keeper.put(&bytes) {
+        match keeper.put(self.played.record.as_bytes()) {
             Ok(()) => {
-                self.played = next;
+                self.played.standing = plan.standing;
                 self.window = window;
                 Ok(outputs)
             }
             Err(_) => {
+                self.played.record.cut_back(count);
                 self.down = true;
                 Err(DeliverFault::KeeperFailed)
             }
@@ -171,22 +173,17 @@ impl<'a> Arbiter<'a> {
         if number >= 4096 {
             return Err(DeliverFault::TooLong);
         }
-        let count = self.played.record.moves.count();
-        if self.played.record.verdict.is_some() || number < count.number() {
-            return Ok(tell(
-                alloc,
-                self.played.record.stamp,
-                self.who,
-                count,
-                self.played.record.verdict,
-            ));
+        let record = self.played.record.as_record();
+        let count = record.moves.count();
+        if record.verdict.is_some() || number < count.number() {
+            return Ok(tell(alloc, record.stamp, self.who, count, record.verdict));
         }
         if number >= count.number() + 32 {
             return Err(DeliverFault::TooFarAhead);
         }
         if number > count.number() {
             self.window.wait((number - count.number() - 1) as usize, *m);
-            return Ok(tell(alloc, self.played.record.stamp, self.who, count, None));
+            return Ok(tell(alloc, record.stamp, self.who, count, None));
         }
         let Some(position) = self.position_after(*m) else {
             return Err(DeliverFault::IllegalMove);
@@ -200,7 +197,7 @@ impl<'a> Arbiter<'a> {
     {
         match Message::decode(bytes) {
             Ok(message) => {
-                if message.stamp() == self.played.record.stamp {
+                if message.stamp() == self.played.record.as_record().stamp {
                     Ok(message)
                 } else {
                     Err(DeliverFault::Stranger)
@@ -216,12 +213,13 @@ impl<'a> Arbiter<'a> {
         ensures ok { IfOk result (λ o. o.items ≡ fetched self.now.me self.now.kept number wanted) }
         ensures inline { IsErr result → 4 < length (fetched self.now.me self.now.kept number wanted) }
     {
-        let moves = self.played.record.moves.as_slice();
+        let record = self.played.record.as_record();
+        let moves = record.moves.as_slice();
         let first = (number.number() as usize).min(moves.len());
         let last = (first + wanted.number() as usize).min(moves.len());
         sent(
             alloc,
-            self.played.record.stamp,
+            record.stamp,
             self.who,
             number.number(),
             &moves[first..last],
@@ -233,12 +231,13 @@ impl<'a> Arbiter<'a> {
     pub fn ask(&self) -> Option<Message>
         ensures { result ≡ cond self.now.is_down None (asked self.now.me self.now.kept) }
     {
-        let count = self.played.record.moves.count();
-        if self.down || self.played.record.verdict.is_some() || count.number() >= 4096 {
+        let record = self.played.record.as_record();
+        let count = record.moves.count();
+        if self.down || record.verdict.is_some() || count.number() >= 4096 {
             return None;
         }
         Some(Message::Fetch {
-            stamp: self.played.record.stamp,
+            stamp: record.stamp,
             who: self.who,
             number: count,
             wanted: Wanted::most(),
@@ -401,7 +400,7 @@ impl<'a> Arbiter<'a> {
         ensures moves { result.now ≡ self.now.kept.moves }
         ensures few { length result.now ≤ most_moves }
     {
-        self.played.record.moves.as_slice()
+        self.played.record.as_record().moves.as_slice()
     }
 
     /// How many moves are recorded, 0 to 4096.
@@ -409,14 +408,14 @@ impl<'a> Arbiter<'a> {
         ensures is { result ≡ count_of self.now.kept }
         ensures few { result ≤ most_moves }
     {
-        self.played.record.moves.as_slice().len() as u32
+        self.played.record.as_record().moves.as_slice().len() as u32
     }
 
     /// The verdict that is recorded.
     pub fn verdict(&self) -> Option<Verdict>
         ensures { result ≡ self.now.kept.verdict }
     {
-        self.played.record.verdict
+        self.played.record.as_record().verdict
     }
 
     /// Whether the keeper has failed; then the arbiter is to be closed and opened again.

@@ -7,7 +7,7 @@ ghost use Rattle.move_msg.specs.declared.who.Who.{Who};
 ghost use Rattle.judge_core.specs.Answers.{ListsMovesForVerdict};
 ghost use Rattle.arbiter_core.specs.Opens.{OpensIfGood, IsResumed, IsBadKept, IsWhole, at_end, first_record};
 ghost use Rattle.arbiter_core.specs.Delivers.{IsKept};
-ghost use Rattle.arbiter_core.specs.Inside.Playing.{IsPlayed, recorded_in};
+ghost use Rattle.arbiter_core.specs.Inside.Playing.{IsPlayed, played_of, recorded_in};
 ghost use Rattle.arbiter_core.specs.Inside.Starting.{IsNotResumed, IsPutFirst, OpensAsEither, recorded_by};
 
 use crate::arbiter::Arbiter;
@@ -15,8 +15,8 @@ use crate::fault::OpenFault;
 use crate::keeper::{KeepFault, Keeper};
 use crate::played::Played;
 use crate::setup::Setup;
-use judge_core::{GameOutcome, Verdict};
-use move_msg::{MoveList, Record, RecordFault, Stamp, Who};
+use judge_core::{GameOutcome, Standing, Verdict};
+use move_msg::{MoveList, Record, RecordFault, Stamp, Who, WrittenRecord};
 use std::alloc::{AllocError, Global};
 
 /// Why an arbiter was not opened, and the setup as it was given, but for its cache.
@@ -76,24 +76,25 @@ fn go_on_from(
     alloc: Global,
     setup: &mut Setup<'_>,
     stamp: Stamp,
-    kept: Record,
+    kept: WrittenRecord,
 ) -> Result<Played, OpenFault>
     requires { setup.old.delay ≤ 8 }
     ensures same { setup.new ≡ setup.old }
     ensures ok { IfOk result (λ p. IsPlayed (setup_view setup.old) stamp p × (p.record ≡ kept) × IsWhole (rules_at (setup_view setup.old)) (recorded_by kept)) }
     ensures err { IfErr result (IsNotResumed (rules_at (setup_view setup.old)) stamp kept) }
 {
-    if !is_of_game(&kept, stamp, setup.delay) {
+    let record = kept.as_record();
+    if !is_of_game(record, stamp, setup.delay) {
         return Err(OpenFault::OtherStamp);
     }
-    let moves = kept.moves.as_slice();
+    let moves = record.moves.as_slice();
     let Ok(followed) = setup.set.follow(alloc, &setup.start, moves, setup.delay) else {
         return Err(OpenFault::OutOfMemory);
     };
     let Some(verdict) = at_end(followed.outcome, moves.len()) else {
         return Err(OpenFault::BadRecord);
     };
-    if kept.verdict != verdict {
+    if record.verdict != verdict {
         return Err(OpenFault::BadRecord);
     }
     Ok(Played {
@@ -114,7 +115,7 @@ fn resume(
     ensures ok { IfOk result (λ p. IsPlayed (setup_view setup.old) stamp p × IsResumed (rules_at (setup_view setup.old)) stamp bytes.now (recorded_in p)) }
     ensures err { IfErr result (IsBadKept (rules_at (setup_view setup.old)) stamp bytes.now) }
 {
-    match Record::decode(alloc, bytes) {
+    match WrittenRecord::read(alloc, bytes) {
         Ok(record) => go_on_from(alloc, setup, stamp, record),
         Err(fault) => match fault {
             RecordFault::OutOfMemory => Err(OpenFault::OutOfMemory),
@@ -123,12 +124,16 @@ fn resume(
     }
 }
 
-/// The recorded state before the first move. The error comes only where memory for a list of moves is refused, while
-/// the start is judged.
-fn first(alloc: Global, setup: &mut Setup<'_>, stamp: Stamp) -> Result<Played, AllocError>
+/// The record before the first move, and where the game stands. The error comes only where memory for a list of moves is
+/// refused, while the start is judged.
+fn first(
+    alloc: Global,
+    setup: &mut Setup<'_>,
+    stamp: Stamp,
+) -> Result<(Record, Standing), AllocError>
     requires { setup.old.delay ≤ 8 }
     ensures same { setup.new ≡ setup.old }
-    ensures ok { IfOk result (λ p. IsPlayed (setup_view setup.old) stamp p × (recorded_in p ≡ first_record (rules_at (setup_view setup.old)))) }
+    ensures ok { IfOk result (λ f. IsPlayed (setup_view setup.old) stamp (played_of f.0 f.1) × (recorded_by f.0 ≡ first_record (rules_at (setup_view setup.old)))) }
     ensures memory { OnErr result (ListsMovesForVerdict setup.old.set.tables setup.old.start) }
 {
     let standing = setup.set.begin(alloc, &setup.start)?;
@@ -139,7 +144,7 @@ fn first(alloc: Global, setup: &mut Setup<'_>, stamp: Stamp) -> Result<Played, A
         verdict,
         moves: MoveList::from_vec(Vec::new(alloc)),
     };
-    Ok(Played { record, standing })
+    Ok((record, standing))
 }
 
 /// Puts the first record with the keeper.
@@ -153,14 +158,14 @@ fn put_first<K: Keeper>(
     ensures same { setup.new ≡ setup.old }
     ensures put { (who : Who) → IsPutFirst K.facts (setup_view setup.old) (record { stamp = stamp; who = who }) keeper.old keeper.new result }
 {
-    let Ok(played) = first(alloc, setup, stamp) else {
+    let Ok((record, standing)) = first(alloc, setup, stamp) else {
         return Err(OpenFault::OutOfMemory);
     };
-    let Ok(bytes) = played.record.encode(alloc) else {
+    let Ok(record) = WrittenRecord::of(alloc, record) else {
         return Err(OpenFault::OutOfMemory);
     };
-    match keeper.put(&bytes) {
-        Ok(()) => Ok(played),
+    match keeper.put(record.as_bytes()) {
+        Ok(()) => Ok(Played { record, standing }),
         Err(_) => Err(OpenFault::KeeperFailed),
     }
 }

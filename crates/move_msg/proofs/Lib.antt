@@ -2,6 +2,7 @@ pub mod WordLaws
 pub mod MessageLaws
 pub mod WordsLaws
 pub mod RecordLaws
+pub mod WrittenLaws
 pub mod HeardLaws
 pub mod StreamLaws
 pub mod CutBytes

@@ -41,6 +41,14 @@ old_frame stamp body = 83 ∷ 82 ∷ 1 ∷ stamp ++ body
 abbrev pub IsRecord : Record → Type 0
 IsRecord r = (r.delay ≤ most_delay) × (length r.moves ≤ most_moves) × (length r.stamp.0 ≡ 16)
 
+-- the record with further moves, and with this verdict after them
+abbrev pub gone_on : Record → List Move → Option Verdict → Record
+gone_on r more verdict = record { stamp = r.stamp; delay = r.delay; verdict = verdict; moves = r.moves ++ more }
+
+-- the record of its first moves, so many, without a verdict
+abbrev pub cut_back : Record → ℕ → Record
+cut_back r count = record { stamp = r.stamp; delay = r.delay; verdict = None; moves = take count r.moves }
+
 -- the bytes are the verdict and the moves of the record
 pub record SpellsBody (t : List ℕ) (r : Record) : Type 0 where
   pub words : List ℕ

@@ -22,6 +22,7 @@ mod table_name;
 mod told;
 mod who;
 mod words;
+mod written_record;
 
 pub use board_core::Verdict;
 pub use count::{Count, MOST_MOVES, Wanted};
@@ -37,3 +38,4 @@ pub use table_name::is_file_name;
 pub use told::Manifest;
 pub use who::{Sender, Who};
 pub use words::{of_word, word};
+pub use written_record::WrittenRecord;

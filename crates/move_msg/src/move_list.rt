@@ -1,10 +1,11 @@
 //! The moves of a game.
 
-ghost use Rattle.std.specs.Prelude.{◌≡◌, ◌≤◌, length};
+ghost use Rattle.std.specs.Prelude.{◌≡◌, ◌+◌, ◌≤◌, ◌++◌, length, take, cond, is_ok};
 ghost use Rattle.move_msg.specs.Numbers.{most_moves};
 
 use crate::count::Count;
 use board_core::Move;
+use std::alloc::AllocError;
 use std::marker::Model;
 
 /// The moves of a game from its start, at most 4096; contracts see the list.
@@ -56,5 +57,24 @@ impl MoveList {
         ensures few { length self.now ≤ most_moves }
     {
         self.moves.as_slice()
+    }
+
+    /// Appends moves. Where there is too little room it grows by 64 moves more than it has to, and no further. The
+    /// error comes only where memory is refused, and leaves the list as it was.
+    pub(crate) fn append(&mut self, more: &[Move]) -> Result<(), AllocError>
+        requires { length self.old + length more.now ≤ most_moves }
+        ensures { self.new ≡ cond (is_ok result) (self.old ++ more.now) self.old }
+    {
+        if self.moves.capacity() - self.moves.len() < more.len() {
+            self.moves.reserve_exact(more.len() + 64)?;
+        }
+        self.moves.extend_from_slice(more)
+    }
+
+    /// Keeps the first moves alone, so many.
+    pub(crate) fn truncate(&mut self, count: usize)
+        ensures { self.new ≡ take count self.old }
+    {
+        self.moves.truncate(count);
     }
 }

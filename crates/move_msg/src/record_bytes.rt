@@ -72,7 +72,7 @@ impl From<AllocError> for RecordFault {
 }
 
 /// The code of a verdict, 1 to 7; 0 for none.
-fn code_or_none(verdict: Option<Verdict>) -> u8
+pub(crate) fn code_or_none(verdict: Option<Verdict>) -> u8
     ensures { result ≡ code_or_none verdict }
 {
     match verdict {
@@ -100,7 +100,7 @@ fn push_word(m: Move, out: &mut Vec<u8>) -> Result<(), AllocError>
 }
 
 /// Appends the words of moves.
-fn push_words(moves: &[Move], out: &mut Vec<u8>) -> Result<(), AllocError>
+pub(crate) fn push_words(moves: &[Move], out: &mut Vec<u8>) -> Result<(), AllocError>
     ensures { OnOk result (AppendsMoves out.old.items out.new.items moves.now) }
 {
     for m in moves {

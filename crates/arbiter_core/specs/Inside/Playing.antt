@@ -6,8 +6,9 @@ use Rattle.board_core.specs.declared.moves.Move.{Move}
 use Rattle.board_core.specs.declared.parts.Parts.{Parts}
 use Rattle.judge_core.specs.Answers.{ListsMovesForVerdict}
 use Rattle.judge_core.specs.Games.{Rules, position_after_all, verdict_after}
-use Rattle.judge_core.specs.Standings.{IsAt}
+use Rattle.judge_core.specs.Standings.{IsAt, Reached}
 use Rattle.move_msg.specs.Numbers.{most_moves}
+use Rattle.move_msg.specs.declared.record_bytes.Record.{Record}
 use Rattle.move_msg.specs.declared.stamp.Stamp.{Stamp}
 use Rattle.arbiter_core.specs.declared.planning.Plan.{Plan}
 use Rattle.arbiter_core.specs.declared.played.Played.{Played}
@@ -17,6 +18,9 @@ use Rattle.arbiter_core.specs.Views.{IsNear}
 
 abbrev pub recorded_in : Played → Recorded
 recorded_in p = record { moves = p.record.moves; verdict = p.record.verdict }
+
+abbrev pub played_of : Record → Reached → Played
+played_of r standing = record { «record» = r; standing = standing }
 
 -- what is recorded for this stamp is whole, and the game stands so after its moves
 pub record IsPlayed (setup : SetupView) (stamp : Stamp) (p : Played) : Type 0 where
@@ -39,12 +43,12 @@ pub record IsNext (rules : Rules) (old : Recorded) (m : Move) (position : Parts)
   pub legal : position_after_all rules.start (old.moves ++ m ∷ []) ≡ Some position
   pub short : length old.moves < most_moves
 
--- the plan is of the record after this move and those that wait behind it
+-- the plan adds this move and those that wait behind it
 pub record IsPlan (rules : Rules) (old : Recorded) (m : Move) (window : Window) (p : Plan) : Type 0 where
-  pub advanced : record { moves = p.moves.items; verdict = p.verdict } ≡ advance rules old.moves m window
-  pub at : IsAt rules p.moves.items p.standing
-  pub short : length p.moves.items ≤ most_moves
-  pub more : length old.moves < length p.moves.items
+  pub advanced : record { moves = old.moves ++ p.moves.items; verdict = p.verdict } ≡ advance rules old.moves m window
+  pub at : IsAt rules (old.moves ++ p.moves.items) p.standing
+  pub short : length (old.moves ++ p.moves.items) ≤ most_moves
+  pub more : length old.moves < length (old.moves ++ p.moves.items)
 
 -- after this move, or one of those that wait behind it, the game stands at a position of which a verdict lists moves
 abbrev pub ListsMovesAhead : Rules → List Move → Move → Window → Type 0

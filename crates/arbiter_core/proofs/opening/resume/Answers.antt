@@ -13,5 +13,5 @@ pub returns-in_default : goal.returns-in_default
 returns-in_default c = record {
   same = refl;
   ok = tt;
-  err = inl (no_record c.args.bytes.now c.decode.result c.in-Err.fault c.in-Err.is c.in_default.not-OutOfMemory c.decode.ensures.only);
+  err = inl (no_record c.args.bytes.now c.read.result c.in-Err.fault c.in-Err.is c.in_default.not-OutOfMemory c.read.ensures.only);
 }

@@ -1,4 +1,4 @@
-use Rattle.std.proofs.Common.{◌≡◌, ℕ, ◌+◌, ◌<◌, ◌≤◌, List, [], ◌∷◌, ◌++◌, length, length-append, get_or, Option, Some, None, Result, Ok, Err, arith, refl, sym, ◌∙◌, ap, subst}
+use Rattle.std.proofs.Common.{◌≡◌, ℕ, ◌+◌, ◌<◌, ◌≤◌, List, [], ◌∷◌, ◌++◌, length, length-append, get_or, Option, Some, None, Result, Ok, Err, arith, refl, sym, ◌∙◌, ap, subst, append_assoc}
 use Rattle.std.specs.Prelude.{OnErr}
 use Rattle.board_core.specs.declared.parts.Parts.{Parts}
 use Rattle.board_core.specs.declared.moves.Move.{Move}
@@ -27,16 +27,17 @@ loop-slot-init c =
     let next = c.requires.next in
     let legal : position_after c.args.played.now.standing.position m ≡ Some c.args.position = sym (next_position r before c.args.played.now.standing m own.at) ∙ next.legal in
     let reached = reach_next r before m c.args.played.now.standing c.args.position c.args.played.now.record.verdict own.at own.ruled next.unruled own.reached legal in
-    let pushed : c.push_reserved.new.self.items ≡ before ++ m ∷ [] = c.push_reserved.ensures.items ∙ ap (λ (xs : List Move). xs ++ m ∷ []) c.requires.copied in
+    let one : c.push_reserved.new.self.items ≡ m ∷ [] = c.push_reserved.ensures.items ∙ ap (λ (xs : List Move). xs ++ m ∷ []) c.requires.none in
+    let pushed : before ++ c.push_reserved.new.self.items ≡ before ++ m ∷ [] = ap (λ (xs : List Move). before ++ xs) one in
     let room = c.requires.room in
     let capacity = c.push_reserved.ensures.capacity in
-    let copied = ap length c.requires.copied in
-    let size : length c.push_reserved.new.self.items ≡ length before + 1 = ap length pushed ∙ simp length-append in
+    let size : length (before ++ c.push_reserved.new.self.items) ≡ length before + 1 = ap length pushed ∙ simp length-append in
     let short = next.short in
     let at : IsAt r (before ++ m ∷ []) c.in_ok-standing.standing = c.in_ok-standing.ensures.at r before m refl own.at legal in
     record {
       same = same_setup c.args.setup.now c.args.setup.now _ c.in_ok-standing.ensures.unchanged refl;
       room = omega arith;
+      filled = ap length one;
       short = omega arith;
       plan = plan_starts r before m c.args.window.now _ _ _ pushed at (c.verdict-verdict.ensures r (before ++ m ∷ []) refl at) reached;
     }
@@ -71,7 +72,9 @@ pub loop-slot-preserved : goal.loop-slot-preserved
 loop-slot-preserved c =
     let r : Rules = rules_at (setup_view c.args.setup.now) in
     let m : Move = c.in-Some.m in
-    let moves : List Move = c.loop-slot.plan.moves.items in
+    let before : List Move = c.args.played.now.record.moves in
+    let added : List Move = c.loop-slot.plan.moves.items in
+    let moves : List Move = before ++ added in
     let slot = slot_is c.args.window.now _ _ _ (Some m) c.places-slot-items.ensures.places c.loop-slot-test.true c.slot-item.is c.in-Some.is in
     let tables = sym (ap (λ (s : Setup). s.set.tables) c.loop-slot.invariant.same) in
     let legal : position_after c.loop-slot.plan.standing.position m ≡ Some c.in-Some-play.position =
@@ -79,13 +82,17 @@ loop-slot-preserved c =
     let at : IsAt r (moves ++ m ∷ []) c.in_ok-plan.field-0 = c.in_ok-plan.ensures.at r moves m tables c.loop-slot.invariant.plan.at legal in
     let near : length c.args.played.now.record.moves + 1 + c.loop-slot.slot-index < most_moves = c.requires.in_order.near c.loop-slot.slot-index m slot.1 in
     let count = c.loop-slot.invariant.plan.count in
-    let pushed = c.push_reserved-in-loop-slot.ensures.items in
+    let one : c.push_reserved-in-loop-slot.new.self.items ≡ added ++ m ∷ [] = c.push_reserved-in-loop-slot.ensures.items in
+    let pushed : before ++ c.push_reserved-in-loop-slot.new.self.items ≡ moves ++ m ∷ [] = ap (λ (xs : List Move). before ++ xs) one ∙ sym (append_assoc before added (m ∷ [])) in
     let room = c.loop-slot.invariant.room in
+    let filled = c.loop-slot.invariant.filled in
     let capacity = c.push_reserved-in-loop-slot.ensures.capacity in
-    let size : length c.push_reserved-in-loop-slot.new.self.items ≡ length c.loop-slot.plan.moves.items + 1 = ap length pushed ∙ simp length-append in
+    let size : length (before ++ c.push_reserved-in-loop-slot.new.self.items) ≡ length moves + 1 = ap length pushed ∙ simp length-append in
+    let more : length c.push_reserved-in-loop-slot.new.self.items ≡ length added + 1 = ap length one ∙ simp length-append in
     record {
       same = same_setup c.loop-slot.setup c.args.setup.now _ c.in_ok-plan.ensures.unchanged c.loop-slot.invariant.same;
       room = omega arith;
+      filled = omega arith;
       short = omega arith;
       plan = rw pushed (goes_on _ _ _ _ _ _ _ _ m _ _ c.loop-slot.invariant.plan (sym c.is_some.ensures ∙ c.if-is_some.false) slot.0 slot.1 at (c.verdict-plan.ensures r (moves ++ m ∷ []) refl at));
     }

@@ -1,63 +1,97 @@
-use Rattle.std.proofs.Common.{◌≡◌, ℕ, ◌+◌, ◌-◌, ◌<◌, ◌≤◌, List, length, Some, cond, sym, ap, ◌∙◌, subst, arith, refl}
+use Rattle.std.proofs.Common.{◌≡◌, ℕ, ◌+◌, ◌-◌, ◌<◌, true, List, length, length-append, Option, Some, None, cond, sym, ap, ◌∙◌, subst, arith, refl}
 use Rattle.std.specs.Prelude.{is_some}
 use Rattle.std.proofs.lemmas.Bool.{cond-true, cond-false}
-use Rattle.move_msg.specs.Records.{SpellsRecord, WritesRecord}
+use Rattle.board_core.specs.declared.moves.Move.{Move}
+use Rattle.board_core.specs.declared.verdict.Verdict.{Verdict}
+use Rattle.move_msg.specs.Records.{gone_on}
+use Rattle.move_msg.specs.declared.stamp.Stamp.{Stamp}
+use Rattle.move_msg.specs.declared.record_bytes.Record.{Record}
+use Rattle.arbiter_core.specs.declared.played.Played.{Played}
 use Rattle.arbiter_core.specs.Recording.{Recorded, Window, count_of}
 use Rattle.arbiter_core.specs.Answering.{still_waits, nothing_waits, told_now, told_of}
 use Rattle.arbiter_core.specs.Setups.{rules_at, setup_view}
 use Rattle.arbiter_core.specs.Views.{View, IsNear}
 use Rattle.arbiter_core.specs.Inside.Fields.{view_of}
-use Rattle.arbiter_core.specs.Inside.Playing.{IsNext, recorded_in}
+use Rattle.arbiter_core.specs.Inside.Playing.{IsNext, played_of}
+use Rattle.arbiter_core.specs.Inside.Starting.{recorded_by}
 use Rattle.arbiter_core.proofs.Settling.{near_still, near_nothing}
 use Rattle.arbiter_core.proofs.Opened.{kept_so, wrote_so}
-use Rattle.arbiter_core.proofs.Going.{new_is, down_is, goes_ok, goes_err, next_in_order}
+use Rattle.arbiter_core.proofs.Going.{new_is, seen_as, goes_ok, goes_err, next_in_order, played_on, still_in_order, taken_back}
 use Rattle.arbiter_core.proofs.arbiter.Arbiter.go_on.Goals as goal
 use Rattle.arbiter_core.proofs.arbiter.Arbiter.go_on.Goals.{then-is_some, else-is_some}
 
-pub play_on-requires-clause-next : goal.play_on-requires-clause-next
-play_on-requires-clause-next g c = subst (λ (v : View). IsNext (rules_at v.setup) v.kept c.args.m.now c.args.position.now) (sym c.self.view_is) c.requires.next
-
-pub put-requires : goal.put-requires
-put-requires g c = subst (λ (t : List ℕ). length t ≤ 8217) (sym c.deref.ensures.value) c.in-Ok-encode.ensures.size
+pub plan_on-requires-clause-next : goal.plan_on-requires-clause-next
+plan_on-requires-clause-next g c = subst (λ (v : View). IsNext (rules_at v.setup) v.kept c.args.m.now c.args.position.now) (sym c.self.view_is) c.requires.next
 
 pub invariant_of-self-in-Ok-put : goal.invariant_of-self-in-Ok-put
 invariant_of-self-in-Ok-put g c =
-    let old = c.self.inside.played.record.moves in
-    let n : ℕ = length c.in-Ok.next.record.moves in
-    let on = c.in-Ok.ensures.played_on in
-    let count : length c.as_slice-count.result.now ≡ length old = ap length c.as_slice-count.ensures.moves in
-    let size : length c.as_slice.result.now ≡ n = ap length c.as_slice.ensures.moves in
-    let more : length old < n = on.more in
+    let old : Record = c.self.inside.played.record in
+    let n : ℕ = length c.go_on.new.self.moves in
+    let added : List Move = c.in-Ok.plan.moves.items in
+    let is : c.go_on.new.self ≡ gone_on old added c.in-Ok.plan.verdict = c.in-Ok-go_on.ensures.ok ∙ ap (λ (ms : List Move). gone_on old ms c.in-Ok.plan.verdict) c.deref.ensures.value in
+    let on = played_on (setup_view c.self.inside.setup) c.self.inside.played c.args.m.now c.self.inside.window c.in-Ok.plan c.go_on.new.self c.self.invariant is c.in-Ok.ensures.planned in
+    let grown : n ≡ length old.moves + length added = ap (λ (r : Record). length r.moves) is ∙ length-append old.moves added in
+    let more : c.len-more.result ≡ n - length old.moves = omega (arith, grown, c.len-more.ensures) in
+    let above : length old.moves < n = on.more in
     let near : IsNear c.if-is_some.window (n + 1) =
     elim c.if-is_some.branch [
       | then-is_some w ↦ subst (λ (x : Window). IsNear x (n + 1)) (sym (w.window-is ∙ w.empty-window.ensures)) (near_nothing (n + 1))
-      | else-is_some w ↦ subst (λ (x : Window). IsNear x (n + 1)) (sym w.window-is)
-          (rw (w.after-window.ensures, size, count) (near_still c.self.inside.window (length old) n (omega arith) c.self.invariant.near))
+      | else-is_some w ↦ subst (λ (x : Window). IsNear x (n + 1)) (sym (w.window-is ∙ w.after-window.ensures ∙ ap (still_waits c.self.inside.window) more))
+          (near_still c.self.inside.window (length old.moves) n (omega arith) c.self.invariant.near)
     ] in
-    next_in_order (setup_view c.self.inside.setup) _ c.self.inside.played c.in-Ok.next c.args.m.now c.self.inside.window c.if-is_some.window (ap setup_view c.in-Ok.ensures.same) c.self.invariant on near
+    next_in_order (setup_view c.self.inside.setup) _ c.self.inside.played (played_of c.go_on.new.self c.in-Ok.plan.standing) c.args.m.now c.self.inside.window c.if-is_some.window (ap setup_view c.in-Ok.ensures.same) c.self.invariant on near
 
 pub returns-in-Ok-put : goal.returns-in-Ok-put
 returns-in-Ok-put g c =
     let v : View = view_of c.self.inside in
-    let next : Recorded = recorded_in c.in-Ok.next in
-    let on = c.in-Ok.ensures.played_on in
-    let told : c.tell-outputs.result.items ≡ told_now v.me next = c.tell-outputs.ensures ∙ ap (λ (n : ℕ). told_of v.me n next.verdict) c.count.ensures in
-    let count : length c.as_slice-count.result.now ≡ count_of v.kept = ap length c.as_slice-count.ensures.moves in
-    let size : length c.as_slice.result.now ≡ count_of next = ap length c.as_slice.ensures.moves in
+    let old : Record = c.self.inside.played.record in
+    let next : Recorded = recorded_by c.go_on.new.self in
+    let added : List Move = c.in-Ok.plan.moves.items in
+    let is : c.go_on.new.self ≡ gone_on old added c.in-Ok.plan.verdict = c.in-Ok-go_on.ensures.ok ∙ ap (λ (ms : List Move). gone_on old ms c.in-Ok.plan.verdict) c.deref.ensures.value in
+    let on = played_on (setup_view c.self.inside.setup) c.self.inside.played c.args.m.now c.self.inside.window c.in-Ok.plan c.go_on.new.self c.self.invariant is c.in-Ok.ensures.planned in
+    let ruled : next.verdict ≡ c.in-Ok.plan.verdict = ap (λ (r : Record). r.verdict) is in
+    let counted : c.count.result ≡ count_of next = c.count.ensures ∙ ap (λ (r : Record). length r.moves) c.as_record-record.ensures in
+    let told : c.tell-outputs.result.items ≡ told_now v.me next =
+    c.tell-outputs.ensures
+    ∙ ap (λ (r : Record). told_of (record { stamp = r.stamp; who = c.self.inside.who }) c.count.result c.in-Ok.plan.verdict) c.as_record-record.ensures
+    ∙ ap (λ (s : Stamp). told_of (record { stamp = s; who = c.self.inside.who }) c.count.result c.in-Ok.plan.verdict) on.played.stamp_is
+    ∙ ap (λ (n : ℕ). told_of v.me n c.in-Ok.plan.verdict) counted
+    ∙ ap (λ (o : Option Verdict). told_of v.me (count_of next) o) (sym ruled) in
+    let grown : count_of next ≡ length old.moves + length added = ap (λ (r : Record). length r.moves) is ∙ length-append old.moves added in
+    let more : c.len-more.result ≡ count_of next - count_of v.kept = omega (arith, grown, c.len-more.ensures) in
     let later : c.if-is_some.window ≡ cond (is_some next.verdict) nothing_waits (still_waits v.window (count_of next - count_of v.kept)) =
     elim c.if-is_some.branch [
-      | then-is_some w ↦ w.window-is ∙ w.empty-window.ensures ∙ sym (cond-true (is_some next.verdict) nothing_waits (still_waits v.window (count_of next - count_of v.kept)) (sym c.is_some.ensures ∙ w.if-is_some.true))
-      | else-is_some w ↦ w.window-is ∙ w.after-window.ensures ∙ rw (size, count) (sym (cond-false (is_some next.verdict) nothing_waits (still_waits v.window (count_of next - count_of v.kept)) (sym c.is_some.ensures ∙ w.if-is_some.false)))
+      | then-is_some w ↦ w.window-is ∙ w.empty-window.ensures ∙ sym (cond-true (is_some next.verdict) nothing_waits (still_waits v.window (count_of next - count_of v.kept)) (ap (λ (o : Option Verdict). is_some o) ruled ∙ sym c.is_some.ensures ∙ w.if-is_some.true))
+      | else-is_some w ↦ w.window-is ∙ w.after-window.ensures ∙ ap (still_waits v.window) more ∙ sym (cond-false (is_some next.verdict) nothing_waits (still_waits v.window (count_of next - count_of v.kept)) (ap (λ (o : Option Verdict). is_some o) ruled ∙ sym c.is_some.ensures ∙ w.if-is_some.false))
     ] in
-    let spelled = kept_so v.me.stamp v.setup.delay c.in-Ok.next next c.deref.result.now (Some c.deref.result.now) on.played.stamp_is on.played.delay_is refl (subst (λ (t : List ℕ). SpellsRecord t c.in-Ok.next.record) (sym c.deref.ensures.value) c.in-Ok-encode.ensures.spelled) refl in
-    let written = wrote_so v.me.stamp v.setup.delay c.in-Ok.next next c.deref.result.now (Some c.deref.result.now) on.played.stamp_is on.played.delay_is refl (subst (λ (t : List ℕ). WritesRecord t c.in-Ok.next.record) (sym c.deref.ensures.value) c.in-Ok-encode.ensures.written) refl in
-    goes_ok g.K.Keeper.facts v c.args.self.now c.args.m.now next c.args.keeper.now c.put.new.self _ c.deref.result.now c.self.view_is on.advanced spelled written c.in-Ok-put.ensures.once _ _ c.if-is_some.window c.in-Ok-put.ensures.outcome told later (new_is v _ _ next _ _ (ap setup_view c.in-Ok.ensures.same) on.played.stamp_is refl)
+    let bytes : List ℕ = c.as_bytes.result.now in
+    let p : Played = played_of c.go_on.new.self c.in-Ok.plan.standing in
+    let spelled = kept_so v.me.stamp v.setup.delay p next bytes (Some bytes) on.played.stamp_is on.played.delay_is refl c.as_bytes.ensures.spelled refl in
+    let written = wrote_so v.me.stamp v.setup.delay p next bytes (Some bytes) on.played.stamp_is on.played.delay_is refl c.as_bytes.ensures.written refl in
+    goes_ok g.K.Keeper.facts v c.args.self.now c.args.m.now next c.args.keeper.now c.put.new.self _ bytes c.self.view_is on.advanced spelled written c.in-Ok-put.ensures.once _ _ c.if-is_some.window c.in-Ok-put.ensures.outcome told later (new_is v _ _ next _ _ (ap setup_view c.in-Ok.ensures.same) on.played.stamp_is refl)
 
-pub returns-in-Err : goal.returns-in-Err
-returns-in-Err g c =
+pub invariant_of-self-in-Err : goal.invariant_of-self-in-Err
+invariant_of-self-in-Err g c =
+    let old : Record = c.self.inside.played.record in
+    let unruled : old.verdict ≡ None = ap (λ (v : View). v.kept.verdict) c.self.view_is ∙ c.requires.next.unruled in
+    let is : c.go_on.new.self ≡ gone_on old c.in-Ok.plan.moves.items c.in-Ok.plan.verdict = c.in-Ok-go_on.ensures.ok ∙ ap (λ (ms : List Move). gone_on old ms c.in-Ok.plan.verdict) c.deref.ensures.value in
+    let all : length c.as_slice-count.result.now ≡ length old.moves = ap length c.as_slice-count.ensures.moves ∙ ap (λ (r : Record). length r.moves) c.as_record.ensures in
+    let back : c.cut_back.new.self ≡ old = taken_back old c.go_on.new.self c.cut_back.new.self c.in-Ok.plan.moves.items c.in-Ok.plan.verdict _ unruled is c.cut_back.ensures all in
+    still_in_order (setup_view c.self.inside.setup) _ c.self.inside.played c.cut_back.new.self c.self.inside.window (ap setup_view c.in-Ok.ensures.same) back c.self.invariant
+
+pub returns : goal.returns
+returns g c =
     let v : View = view_of c.self.inside in
-    let next : Recorded = recorded_in c.in-Ok.next in
-    let on = c.in-Ok.ensures.played_on in
-    let spelled = kept_so v.me.stamp v.setup.delay c.in-Ok.next next c.deref.result.now (Some c.deref.result.now) on.played.stamp_is on.played.delay_is refl (subst (λ (t : List ℕ). SpellsRecord t c.in-Ok.next.record) (sym c.deref.ensures.value) c.in-Ok-encode.ensures.spelled) refl in
-    let written = wrote_so v.me.stamp v.setup.delay c.in-Ok.next next c.deref.result.now (Some c.deref.result.now) on.played.stamp_is on.played.delay_is refl (subst (λ (t : List ℕ). WritesRecord t c.in-Ok.next.record) (sym c.deref.ensures.value) c.in-Ok-encode.ensures.written) refl in
-    goes_err g.K.Keeper.facts v c.args.self.now c.args.m.now next c.args.keeper.now c.put.new.self _ c.deref.result.now c.self.view_is on.advanced spelled written c.in-Err.ensures.once _ c.in-Err.ensures.outcome c.in-Err.ensures.cause (down_is v _ (ap setup_view c.in-Ok.ensures.same))
+    let old : Record = c.self.inside.played.record in
+    let next : Recorded = recorded_by c.go_on.new.self in
+    let unruled : old.verdict ≡ None = ap (λ (u : View). u.kept.verdict) c.self.view_is ∙ c.requires.next.unruled in
+    let is : c.go_on.new.self ≡ gone_on old c.in-Ok.plan.moves.items c.in-Ok.plan.verdict = c.in-Ok-go_on.ensures.ok ∙ ap (λ (ms : List Move). gone_on old ms c.in-Ok.plan.verdict) c.deref.ensures.value in
+    let all : length c.as_slice-count.result.now ≡ length old.moves = ap length c.as_slice-count.ensures.moves ∙ ap (λ (r : Record). length r.moves) c.as_record.ensures in
+    let back : c.cut_back.new.self ≡ old = taken_back old c.go_on.new.self c.cut_back.new.self c.in-Ok.plan.moves.items c.in-Ok.plan.verdict _ unruled is c.cut_back.ensures all in
+    let on = played_on (setup_view c.self.inside.setup) c.self.inside.played c.args.m.now c.self.inside.window c.in-Ok.plan c.go_on.new.self c.self.invariant is c.in-Ok.ensures.planned in
+    let bytes : List ℕ = c.as_bytes.result.now in
+    let p : Played = played_of c.go_on.new.self c.in-Ok.plan.standing in
+    let spelled = kept_so v.me.stamp v.setup.delay p next bytes (Some bytes) on.played.stamp_is on.played.delay_is refl c.as_bytes.ensures.spelled refl in
+    let written = wrote_so v.me.stamp v.setup.delay p next bytes (Some bytes) on.played.stamp_is on.played.delay_is refl c.as_bytes.ensures.written refl in
+    goes_err g.K.Keeper.facts v c.args.self.now c.args.m.now next c.args.keeper.now c.put.new.self _ bytes c.self.view_is on.advanced spelled written c.in-Err.ensures.once _ c.in-Err.ensures.outcome c.in-Err.ensures.cause
+    (seen_as (setup_view c.plan_on.new.setup) (setup_view c.self.inside.setup) c.self.inside.who c.cut_back.new.self old c.self.inside.window true (ap setup_view c.in-Ok.ensures.same) back)

@@ -1,6 +1,7 @@
 use Rattle.std.proofs.Common.{◌≡◌, ℕ, ◌+◌, ◌-◌, ◌<◌, ◌≤◌, true, ◌||◌, None, arith, ap, sym, ◌∙◌, subst}
 use Rattle.std.specs.Prelude.{is_some, nat_lt}
 use Rattle.move_msg.specs.Numbers.{most_moves}
+use Rattle.move_msg.specs.declared.record_bytes.Record.{Record}
 use Rattle.arbiter_core.specs.Recording.{count_of}
 use Rattle.arbiter_core.specs.Answering.{told_now, told_of, waits_too}
 use Rattle.arbiter_core.specs.Views.{View}
@@ -8,7 +9,7 @@ use Rattle.arbiter_core.specs.Delivers.{answer_to_next, answer_to_numbered, with
 use Rattle.arbiter_core.specs.Inside.Fields.{view_of}
 use Rattle.arbiter_core.proofs.Hearing.{answers_as, turn_is}
 use Rattle.arbiter_core.proofs.PlanLaws.{none_of}
-use Rattle.arbiter_core.proofs.Taking.{below, counts, goes_on, illegal, is_turn, of_fields, ruled, tells, told, too_far, too_long, waits}
+use Rattle.arbiter_core.proofs.Taking.{below, count_in, counts, goes_on, illegal, is_turn, of_fields, ruled, some_in, tells, told, too_far, too_long, waits}
 use Rattle.arbiter_core.proofs.arbiter.Arbiter.take_move.Goals as goal
 use Rattle.arbiter_core.proofs.arbiter.Arbiter.take_move.Goals.{then-is_some-via-then-is_some, then-is_some-via-else-is_some+then-number}
 
@@ -18,46 +19,51 @@ returns-then-number-ge4096 g c = too_long g.K.Keeper.facts c.args.self.now c.arg
 pub returns-then-number-2 : goal.returns-then-number-2
 returns-then-number-2 g c =
     too_far g.K.Keeper.facts c.args.self.now c.args.keeper.now c.args.number c.args.m.now c.if-number-ge4096.false
-    (goes_on c.self.view_is _ c.is_some.ensures c.if-is_some.false)
-    (subst (λ (n : ℕ). n + 32 ≤ c.args.number) (counts c.self.view_is _ _ c.number-2.ensures.value c.count-count.ensures) c.if-number-2.true)
+    (goes_on c.self.view_is _ (some_in c.as_record-record.ensures _ c.is_some.ensures) c.if-is_some.false)
+    (subst (λ (n : ℕ). n + 32 ≤ c.args.number) (counts c.self.view_is _ _ c.number-2.ensures.value (count_in c.as_record-record.ensures _ c.count-count.ensures)) c.if-number-2.true)
 
 pub returns-then-is_some : goal.returns-then-is_some
 returns-then-is_some g c =
     let late : (is_some c.args.self.now.kept.verdict || nat_lt c.args.number (count_of c.args.self.now.kept)) ≡ true =
     elim c.then-is_some.branch [
-      | then-is_some-via-then-is_some w ↦ ruled c.self.view_is _ c.args.number c.is_some.ensures w.if-is_some.true
-      | then-is_some-via-else-is_some+then-number w ↦ below c.self.view_is c.args.number _ _ w.number.ensures.value c.count-count.ensures w.if-number.true
+      | then-is_some-via-then-is_some w ↦ ruled c.self.view_is _ c.args.number (some_in c.as_record-record.ensures _ c.is_some.ensures) w.if-is_some.true
+      | then-is_some-via-else-is_some+then-number w ↦ below c.self.view_is c.args.number _ _ w.number.ensures.value (count_in c.as_record-record.ensures _ c.count-count.ensures) w.if-number.true
     ] in
-    let is : c.tell.result.items ≡ told_now (view_of c.self.inside).me (view_of c.self.inside).kept = c.tell.ensures ∙ ap (λ (n : ℕ). told_of (view_of c.self.inside).me n (view_of c.self.inside).kept.verdict) c.count-count.ensures in
+    let is : c.tell.result.items ≡ told_now (view_of c.self.inside).me (view_of c.self.inside).kept =
+    c.tell.ensures
+    ∙ ap (λ (r : Record). told_of (record { stamp = r.stamp; who = c.self.inside.who }) c.count-count.result r.verdict) c.as_record-record.ensures
+    ∙ ap (λ (n : ℕ). told_of (view_of c.self.inside).me n (view_of c.self.inside).kept.verdict) (count_in c.as_record-record.ensures _ c.count-count.ensures) in
     told g.K.Keeper.facts c.args.self.now c.args.keeper.now c.args.number c.args.m.now c.tell.result.items c.if-number-ge4096.false late (tells c.self.view_is _ is)
 
 pub returns-then-number-3 : goal.returns-then-number-3
 returns-then-number-3 g c =
     let v : View = view_of c.self.inside in
     let k : ℕ = count_of v.kept in
-    let low : c.number.result ≡ k = c.number.ensures.value ∙ c.count-count.ensures in
-    let high : c.number-2.result ≡ k = c.number-2.ensures.value ∙ c.count-count.ensures in
-    let at : c.number-3.result ≡ k = c.number-3.ensures.value ∙ c.count-count.ensures in
-    let from : c.number-then-number-3.result ≡ k = c.number-then-number-3.ensures.value ∙ c.count-count.ensures in
+    let low : c.number.result ≡ k = c.number.ensures.value ∙ (count_in c.as_record-record.ensures _ c.count-count.ensures) in
+    let high : c.number-2.result ≡ k = c.number-2.ensures.value ∙ (count_in c.as_record-record.ensures _ c.count-count.ensures) in
+    let at : c.number-3.result ≡ k = c.number-3.ensures.value ∙ (count_in c.as_record-record.ensures _ c.count-count.ensures) in
+    let from : c.number-then-number-3.result ≡ k = c.number-then-number-3.ensures.value ∙ (count_in c.as_record-record.ensures _ c.count-count.ensures) in
     let place : c.args.number - c.number-then-number-3.result - 1 ≡ c.args.number - (k + 1) = omega (arith, from) in
     of_fields c.self.view_is g.K.Keeper.facts c.args.keeper.now c.args.number c.args.m.now c.tell-then-number-3.result.items _
     (waits g.K.Keeper.facts v c.args.keeper.now c.args.number c.args.m.now c.tell-then-number-3.result.items _ c.if-number-ge4096.false
-    (sym c.is_some.ensures ∙ c.if-is_some.false) (subst (λ (n : ℕ). n < c.args.number) at c.if-number-3.true) (subst (λ (n : ℕ). c.args.number < n + 32) high c.if-number-2.false)
-    (c.tell-then-number-3.ensures ∙ ap (λ (n : ℕ). told_of v.me n None) c.count-count.ensures)
+    (sym (some_in c.as_record-record.ensures _ c.is_some.ensures) ∙ c.if-is_some.false) (subst (λ (n : ℕ). n < c.args.number) at c.if-number-3.true) (subst (λ (n : ℕ). c.args.number < n + 32) high c.if-number-2.false)
+    (c.tell-then-number-3.ensures
+    ∙ ap (λ (r : Record). told_of (record { stamp = r.stamp; who = c.self.inside.who }) c.count-count.result None) c.as_record-record.ensures
+    ∙ ap (λ (n : ℕ). told_of v.me n None) (count_in c.as_record-record.ensures _ c.count-count.ensures))
     (ap (with_window v) (c.wait.ensures ∙ ap (λ (n : ℕ). waits_too v.window n c.args.m.now) place)))
 
 pub returns-in_default : goal.returns-in_default
 returns-in_default g c =
     illegal g.K.Keeper.facts c.args.self.now c.args.keeper.now c.args.number c.args.m.now c.if-number-ge4096.false
-    (goes_on c.self.view_is _ c.is_some.ensures c.if-is_some.false)
-    (is_turn c.self.view_is _ _ _ _ c.number.ensures.value c.number-3.ensures.value c.count-count.ensures c.if-number.false c.if-number-3.false)
+    (goes_on c.self.view_is _ (some_in c.as_record-record.ensures _ c.is_some.ensures) c.if-is_some.false)
+    (is_turn c.self.view_is _ _ _ _ c.number.ensures.value c.number-3.ensures.value (count_in c.as_record-record.ensures _ c.count-count.ensures) c.if-number.false c.if-number-3.false)
     (sym c.position_after.ensures ∙ c.in_default.is)
 
 pub go_on-requires-clause-next : goal.go_on-requires-clause-next
 go_on-requires-clause-next g c =
-    let turn = is_turn c.self.view_is _ _ _ _ c.number.ensures.value c.number-3.ensures.value c.count-count.ensures c.if-number.false c.if-number-3.false in
+    let turn = is_turn c.self.view_is _ _ _ _ c.number.ensures.value c.number-3.ensures.value (count_in c.as_record-record.ensures _ c.count-count.ensures) c.if-number.false c.if-number-3.false in
     record {
-      unruled = none_of _ (goes_on c.self.view_is _ c.is_some.ensures c.if-is_some.false);
+      unruled = none_of _ (goes_on c.self.view_is _ (some_in c.as_record-record.ensures _ c.is_some.ensures) c.if-is_some.false);
       legal = sym c.position_after.ensures ∙ c.in-Some.is;
       short = subst (λ (n : ℕ). n < most_moves) turn c.if-number-ge4096.false;
     }
@@ -66,7 +72,7 @@ pub returns : goal.returns
 returns g c =
     answers_as g.K.Keeper.facts _ _ _ (answer_to_numbered c.args.self.now c.args.number c.args.m.now) (answer_to_next c.args.self.now c.args.m.now)
     (turn_is c.args.self.now c.in-Some.position c.args.number c.args.m.now c.if-number-ge4096.false
-    (goes_on c.self.view_is _ c.is_some.ensures c.if-is_some.false)
-    (is_turn c.self.view_is _ _ _ _ c.number.ensures.value c.number-3.ensures.value c.count-count.ensures c.if-number.false c.if-number-3.false)
+    (goes_on c.self.view_is _ (some_in c.as_record-record.ensures _ c.is_some.ensures) c.if-is_some.false)
+    (is_turn c.self.view_is _ _ _ _ c.number.ensures.value c.number-3.ensures.value (count_in c.as_record-record.ensures _ c.count-count.ensures) c.if-number.false c.if-number-3.false)
     (sym c.position_after.ensures ∙ c.in-Some.is))
     c.go_on.ensures
