@@ -149,10 +149,10 @@ stands : {K : Type 0} (s : Keepers K) (game : Judged) (who : Who) (deeds : List 
 stands s game who deeds site end r at common life led = subst (λ l. IsAt s.facts l site) (one_end s game.stamp.0 Fresh (acts_of game.stamp.0 (last_run deeds)) end life r.common common r.goes led) at
 
 pub hosts_are_worlds : {K L : Type 0} (a : Keepers K) (b : Keepers L) → HostsAreWorlds a b
-hosts_are_worlds a b game steps net runs_a runs_b w =
-    let x = all_go a game A (first_run (deeds_a steps)) (later_runs (deeds_a steps)) runs_a in
-    let y = all_go b game B (first_run (deeds_b steps)) (later_runs (deeds_b steps)) runs_b in
-    let c = comes a b game x.0 y.0 steps Fresh Fresh (first_net game) net refl refl x.1 y.1 w in
+hosts_are_worlds a b game steps net w =
+    let x = all_go a game A (first_run (deeds_a steps)) (later_runs (deeds_a steps)) w.runs_a in
+    let y = all_go b game B (first_run (deeds_b steps)) (later_runs (deeds_b steps)) w.runs_b in
+    let c = comes a b game x.0 y.0 steps Fresh Fresh (first_net game) net refl refl x.1 y.1 w.weaves in
     record {
       world = arbiters_are_worlds seen_facts game c.acts net c.goes;
       at_a = stands a game A (deeds_a steps) net.a x.0 x.2 c.at_a;

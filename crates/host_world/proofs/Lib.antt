@@ -2,3 +2,4 @@ pub mod Seeing
 pub mod Weaving
 pub mod Stopping
 pub mod Joining
+pub mod Acking

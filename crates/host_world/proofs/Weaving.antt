@@ -2,7 +2,6 @@
 use Rattle.std.proofs.Common.{◌≡◌, ◌∙◌, ℕ, ◌<◌, ◌≤◌, Bool, true, false, cond, List, [], ◌∷◌, ◌++◌, Option, Some, None, inl, inr, refl, sym, ap, subst, arith}
 use Rattle.std.specs.Prelude.{◌⊎◌, IfSome, Ok, Err}
 use Rattle.std.proofs.lemmas.Bool.{cases_lt}
-use Rattle.std.specs.List.{AllByRecursion}
 use Rattle.std.proofs.lemmas.List.{append-nil}
 use Rattle.board_core.specs.declared.parts.Parts.{Parts}
 use Rattle.board_core.specs.Delays.{most_delay}
@@ -15,7 +14,6 @@ use Rattle.move_msg.specs.declared.who.Who.{Who}
 use Rattle.move_msg.specs.declared.who.Who.TheVariants.{A, B}
 use Rattle.move_msg.specs.Senders.{who_number}
 use Rattle.move_msg.specs.Stamps.{stamp_of}
-use Rattle.move_msg.proofs.RecordLaws.{is_spelled}
 use Rattle.arbiter_core.specs.declared.fault.DeliverFault.{DeliverFault}
 use Rattle.arbiter_core.specs.declared.fault.DeliverFault.TheVariants as deliver
 use Rattle.arbiter_core.specs.declared.fault.OpenFault.{OpenFault}
@@ -24,10 +22,9 @@ use Rattle.arbiter_core.specs.declared.keeper.Keep.{Keep}
 use Rattle.arbiter_core.specs.declared.keeper.Keep.TheVariants.{Good, FailsOld, FailsNew}
 use Rattle.arbiter_core.specs.Keeping.{KeeperFacts}
 use Rattle.arbiter_core.specs.Setups.{IsGood, IsIdentity, SetupView, rules_at}
-use Rattle.arbiter_core.specs.Views.{View, spelled_as}
-use Rattle.arbiter_core.specs.Recording.{Recorded, Window}
+use Rattle.arbiter_core.specs.Views.{View}
 use Rattle.arbiter_core.specs.Answering.{Answer, Identity, Puts, Refuses, Sends}
-use Rattle.arbiter_core.specs.Delivers.{Delivers, Exchange, IsSpelled, IsWritten, Lands, Moment, PutsIfAny, RefusesOrSends, Told, answer_at, downed, exchange, moment}
+use Rattle.arbiter_core.specs.Delivers.{Delivers, Exchange, Lands, Moment, PutsIfAny, Told, answer_at}
 use Rattle.arbiter_core.specs.Opens as opening
 use Rattle.arbiter_core.specs.Opens.{FirstLands, Opens, OpensIfGood, OpensOver, first_record, running}
 use Rattle.game_host.specs.Folders.{Keepers}
@@ -38,7 +35,7 @@ use Rattle.game_host.specs.Games.{CommonView, Fresh, Goes, GoesOn, Life, Open, O
 use Rattle.relay_world.specs.Worlds.{Judged, identity}
 use Rattle.relay_world.specs.Nets as nets
 use Rattle.relay_world.specs.Nets.{AnswersOne, ClosesOne, FoundAnswered, FoundOpened, IsToBePut, Net, OpensOne, Site, arbiter_in, changed, first_net, sent_with, site_of}
-use Rattle.host_world.specs.Weaves.{AreRunsOf, AtA, AtB, Deed, Does, Ends, Finds, GivesFor, GivesIf, GivesOwn, Hears, IsAt, IsCutAtFirst, IsCutAtPut, IsHostOf, IsRunOf, StandsAt, Step, Stops, Weaves, closed_with, deeds_a, deeds_b, first_run, if_up, last_of, last_run, later_runs, open_with}
+use Rattle.host_world.specs.Weaves.{Finds, GivesIf, GivesOwn, Hears, IsAt, IsHostOf, closed_with, open_with}
 use Rattle.host_world.proofs.Seeing.{Seen, seen, seen_delivers, seen_exchange, seen_facts, seen_opens}
 
 -- ---- nets

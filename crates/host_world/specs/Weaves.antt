@@ -2,20 +2,23 @@
 --
 -- Of each run of a host its contract is known (`IsHosted` of game_host, which `serve_games` ensures). It gives the setup of each
 -- opening, what opening and delivering leave, from where each delivery starts, and that a game that is opened wasn't open. What no
--- contract can give is a premise. All premises about what is outside stand in the three records `Finds`, `Hears` and `Stops`:
--- the game that was found under the stamp is this one, no message of it is made up, and keepers keep.
+-- contract can give is a premise. `IsHostOf` says which hosts these are. All premises about what is outside stand in three records,
+-- `Finds`, `Hears` and `Stops`: the game that was found under the stamp is this one, no message of it is made up, and keepers keep.
 --
 -- A real run meets them. Let the keepers of a game at a host be over one file, to which nobody else writes, and let its sites be as
 -- `changed` has them, with what is in that file after each act. Then `kept` and `is_found` hold by what reading and replacing a file
 -- do (`Premises.antt` of system_io), mostly by `inl refl`. `came` holds where datagrams come from the source and from the two, and
 -- `start` and `delay` where no other game of the same stamp was entered.
-use Rattle.std.specs.Prelude.{◌≡◌, ◌⊎◌, ℕ, Bool, true, false, cond, List, [], ◌∷◌, ◌++◌, Option, Some, None, Ok, Err, IfSome}
+use Rattle.std.specs.Prelude.{◌≡◌, ◌⊎◌, ℕ, Bool, true, false, cond, List, [], ◌∷◌, ◌++◌, ◌≤◌, Option, Some, None, Ok, Err, IfSome, slice_get}
 use Rattle.std.specs.List.{AllByRecursion}
 use Rattle.move_msg.specs.declared.who.Who.{Who}
 use Rattle.move_msg.specs.declared.who.Who.TheVariants.{A, B}
 use Rattle.move_msg.specs.declared.message.Message.{Message}
+use Rattle.move_msg.specs.declared.message.Message.TheVariants.{Ack}
+use Rattle.move_msg.specs.declared.stamp.Stamp.{Stamp}
 use Rattle.move_msg.specs.Senders.{who_number}
 use Rattle.arbiter_core.specs.Keeping.{KeeperFacts}
+use Rattle.arbiter_core.specs.Recording.{Recorded, count_of}
 use Rattle.arbiter_core.specs.Setups.{SetupView, rules_at}
 use Rattle.arbiter_core.specs.Views.{View}
 use Rattle.arbiter_core.specs.Delivers.{Exchange, IsWritten, answer_at}
@@ -25,6 +28,7 @@ use Rattle.game_host.specs.Acts.{Act, Unread, Strange, Refuses, Opens, Answers, 
 use Rattle.game_host.specs.Games.{CommonView, Fresh, Goes, Life, Open, Shut}
 use Rattle.game_host.specs.Hosts.{IsHosted}
 use Rattle.relay_world.specs.Worlds.{Judged}
+use Rattle.relay_world.specs.Headline.{IsFrontOf}
 use Rattle.relay_world.specs.Nets.{FoundAnswered, FoundOpened, IsNoForgery, IsOfWorld, IsSetupOf, IsToBePut, Net, Site, arbiter_in, changed, first_net, sent_with, site_of}
 
 -- ---- what happens, in the order of time
@@ -190,11 +194,23 @@ pub record AreOfWorld {K L : Type 0} (a : Keepers K) (b : Keepers L) (game : Jud
   pub at_a : StandsAt a game (deeds_a steps) net.a
   pub at_b : StandsAt b game (deeds_b steps) net.b
 
--- Wherever two hosts come, by runs as their contracts have them and in whichever order, a schedule leads to what is found there.
+-- two hosts come there: by runs as their contracts have them, woven in any order, and by what the outside gives at each step
+pub record AreWoven {K L : Type 0} (a : Keepers K) (b : Keepers L) (game : Judged) (steps : List (Step K L)) (net : Net) : Type 0 where
+  pub runs_a : AreRunsOf a game A (deeds_a steps)
+  pub runs_b : AreRunsOf b game B (deeds_b steps)
+  pub weaves : Weaves a.facts b.facts game (first_net game) steps net
+
+-- Wherever two hosts come, a schedule leads to what is found there.
 abbrev pub HostsAreWorlds : {K L : Type 0} → Keepers K → Keepers L → Type 0
-HostsAreWorlds {K = K} {L = L} a b =
-    (game : Judged) (steps : List (Step K L)) (net : Net)
-    → AreRunsOf a game A (deeds_a steps)
-    → AreRunsOf b game B (deeds_b steps)
-    → Weaves a.facts b.facts game (first_net game) steps net
-    → AreOfWorld a b game steps net
+HostsAreWorlds {K = K} {L = L} a b = (game : Judged) (steps : List (Step K L)) (net : Net) → AreWoven a b game steps net → AreOfWorld a b game steps net
+
+-- a record is found of the game's first moves, so many at least; or nothing, where these are none
+abbrev pub HasMoves : Judged → ℕ → Option (List ℕ) → Type 0
+HasMoves game n None = n ≡ 0
+HasMoves game n (Some bytes) = (kept : Recorded) × IsWritten game.stamp game.rules.delay kept (Some bytes) × IsFrontOf game.rules game.moves kept × (n ≤ count_of kept)
+
+-- As many moves as a host ever acknowledged are found there, then and later: all that was ever sent stays in the log.
+abbrev pub AcksAreFound : {K L : Type 0} → Keepers K → Keepers L → Type 0
+AcksAreFound {K = K} {L = L} a b =
+    (game : Judged) (steps : List (Step K L)) (net : Net) → AreWoven a b game steps net
+    → (i : ℕ) (stamp : Stamp) (who : Who) (n : ℕ) → slice_get net.log i ≡ Some (Ack stamp who n) → HasMoves game n (site_of net who).kept

@@ -5,7 +5,7 @@
 #![tactic(auto)]
 
 ghost use Rattle.game_host.specs.Folders.{keepers};
-ghost use Rattle.host_world.specs.Weaves.{HostsAreWorlds};
+ghost use Rattle.host_world.specs.Weaves.{AcksAreFound, HostsAreWorlds};
 
 use game_host::Games;
 
@@ -14,4 +14,9 @@ use game_host::Games;
 /// premises are those about the outside alone: see `specs/Weaves.antt`.
 pub fn hosts_are_worlds<G: Games, H: Games>(_first: &G, _second: &H)
     ensures { HostsAreWorlds (keepers G.Keeper.facts G.facts) (keepers H.Keeper.facts H.facts) }
+{}
+
+/// As many moves as a host ever acknowledged are found there, then and later, over all of its runs: the game's first ones.
+pub fn acks_are_found<G: Games, H: Games>(_first: &G, _second: &H)
+    ensures { AcksAreFound (keepers G.Keeper.facts G.facts) (keepers H.Keeper.facts H.facts) }
 {}
