@@ -4,6 +4,8 @@ use Rattle.std.specs.Prelude.{Result, Ok, Err, IfOk}
 use Rattle.std.specs.List.{flat_map}
 use Rattle.std.proofs.lemmas.List.{length-map, map-append}
 use Rattle.std.proofs.lemmas.List.Concat.{flat_map-append}
+use Rattle.judge_core.specs.Tables.{Holding}
+use Rattle.arbiter_core.specs.Keeping.{KeeperFacts}
 use Rattle.system_io.specs.Ports.{Came, Passed, Passing, PortFacts}
 use Rattle.arbiter_service.specs.Serving.{handed}
 use Rattle.system_io.specs.Failures.{Risen}
@@ -13,12 +15,13 @@ use Rattle.arbiter_service.specs.ServedLines.{refused_port}
 use Rattle.arbiter_service.proofs.PortLaws.{Passed-nil, Passed-on, Passed-trans, Risen-later}
 use Rattle.arbiter_service.proofs.GoingLaws.{cut_later, go_join, none_out}
 use Rattle.game_host.specs.declared.seat.Seat.{Seat}
-use Rattle.game_host.specs.Folders.{Gives, Keepers}
+use Rattle.game_host.specs.Folders.{FolderFacts, Gives, Keepers, keepers, keepers_at}
 use Rattle.game_host.specs.Acts.{Reply, passing_at}
-use Rattle.game_host.specs.Games.{CommonView, Fresh}
+use Rattle.game_host.specs.declared.seat.Common.{Common}
+use Rattle.game_host.specs.Games.{CommonView, Fresh, common_with}
 use Rattle.game_host.specs.Seats.{At, AreSeated, Stands}
 use Rattle.game_host.specs.Hosts.{Ends, Hosts, all_lines, all_passing, lost_line, missed_if}
-use Rattle.game_host.specs.Turns.{Leads, LeadsFrom, Receives, TakesTurn}
+use Rattle.game_host.specs.Turns.{AreOpen, Leads, LeadsFrom, Receives, TakesTurn, Turns}
 use Rattle.game_host.proofs.Turning.{leads_join}
 
 -- a datagram came, and then what is answered was sent
@@ -169,3 +172,17 @@ module _ {K W : Type 0} (s : Keepers K) (t : CommonView) (w : Writers W) (old ne
   ends_by_cut n few told fault x is =
       let lines : LastIsCut w out (x.line ∷ []) out' = subst (λ (r : Result Bool WriteFault). LinesEnd w out (x.line ∷ []) out' r) is x.lines in
       hosts_cut s t w old new at at' port now later first out out' k n had few x.line fault x.lost x.received lines
+
+-- with the tables and the folder of the start
+module _ {G K : Type 0} (facts : KeeperFacts K) (folder : FolderFacts G K) (common : Common) (start now : G) (place : folder.place now ≡ folder.place start) (first tables : Holding) (set : tables ≡ first) (at : At K) where
+  pub turn_from : {W : Type 0} (w : Writers W) (later : G) (at' : At K) (port port' : PortFacts) (out out' : W) (told : Result Bool WriteFault)
+      → TakesTurn (Turns facts folder (common_with common tables) now at later at') w port port' out out' told
+      → TakesTurn (LeadsFrom (keepers facts folder start) (common_with common first) (folder.gives now) at (folder.gives later) at') w port port' out out' told
+  turn_from w later at' port port' out out' told taken =
+      subst (λ (p : folder.Place). TakesTurn (LeadsFrom (keepers_at facts folder p) (common_with common first) (folder.gives now) at (folder.gives later) at') w port port' out out' told) place
+      (subst (λ (x : Holding). TakesTurn (Turns facts folder (common_with common x) now at later at') w port port' out out' told) set taken)
+
+  pub open_now : AreSeated (keepers facts folder start) (common_with common first) (folder.gives now) at → AreOpen facts folder (common_with common tables) now at
+  open_now seated =
+      subst (λ (x : Holding). AreOpen facts folder (common_with common x) now at) (sym set)
+      (subst (λ (p : folder.Place). AreSeated (keepers_at facts folder p) (common_with common first) (folder.gives now) at) (sym place) seated)

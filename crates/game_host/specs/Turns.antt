@@ -35,11 +35,11 @@ LeadsFrom {K = K} s t gives at gives' at' replies = (lives : Lives K) → AreLiv
 
 -- the same of a folder before and after
 abbrev pub Turns : {G K : Type 0} → KeeperFacts K → FolderFacts G K → CommonView → G → At K → G → At K → List Reply → Type 0
-Turns facts folder t games at games' at' replies = LeadsFrom (keepers facts folder) t (folder.gives games) at (folder.gives games') at' replies
+Turns facts folder t games at games' at' replies = LeadsFrom (keepers facts folder games) t (folder.gives games) at (folder.gives games') at' replies
 
 -- the open games stand for some lives
 abbrev pub AreOpen : {G K : Type 0} → KeeperFacts K → FolderFacts G K → CommonView → G → At K → Type 0
-AreOpen facts folder t games at = AreSeated (keepers facts folder) t (folder.gives games) at
+AreOpen facts folder t games at = AreSeated (keepers facts folder games) t (folder.gives games) at
 
 -- a game that isn't open is opened, and in hand
 pub record OpensSeat {G K : Type 0} (facts : KeeperFacts K) (folder : FolderFacts G K) (t : CommonView) (games games' : G) (stamp : List ℕ) (seat : Seat K) : Type 0 where

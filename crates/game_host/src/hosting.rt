@@ -31,6 +31,7 @@ fn receive<'a, G: Games, P: Port>(
 ) -> (Line, bool, Set<'a>)
     requires { AreOpen G.Keeper.facts G.facts (common_with common.now set) games.old (at_stamp seats.old.entries) }
     ensures set { result.2 ≡ set.entry }
+    ensures place { G.facts.place games.new ≡ G.facts.place games.old }
     ensures received { Receives (Turns G.Keeper.facts G.facts (common_with common.now set.entry) games.old (at_stamp seats.old.entries) games.new (at_stamp seats.new.entries)) (P.facts port.old) (P.facts port.new) (line_words result.0) result.1 }
 {
     let mut buffer = [0u8; 64];
@@ -56,6 +57,7 @@ fn turn<'a, G: Games, P: Port, W: Output>(
 ) -> (Result<bool, WriteFault>, Set<'a>)
     requires { AreOpen G.Keeper.facts G.facts (common_with common.now set) games.old (at_stamp seats.old.entries) }
     ensures set { result.1 ≡ set.entry }
+    ensures place { G.facts.place games.new ≡ G.facts.place games.old }
     ensures taken { TakesTurn (Turns G.Keeper.facts G.facts (common_with common.now set.entry) games.old (at_stamp seats.old.entries) games.new (at_stamp seats.new.entries)) (writers W.Write.contents W.facts) (P.facts port.old) (P.facts port.new) out.old out.new result.0 }
 {
     let (line, lost, set) = receive(alloc, common, games, seats, set, port);
@@ -86,7 +88,7 @@ pub fn serve_games<'a, G: Games, P: Port, W: Output>(
     n: u64,
     out: &mut W,
 ) -> Result<Result<u8, AllocError>, WriteFault>
-    ensures { HostsIfRoom (keepers G.Keeper.facts G.facts) (common_with common.now set.entry) (writers W.Write.contents W.facts) n (P.facts port.old) (P.facts port.new) out.old out.new result }
+    ensures { HostsIfRoom (keepers G.Keeper.facts G.facts games.old) (common_with common.now set.entry) (writers W.Write.contents W.facts) n (P.facts port.old) (P.facts port.new) out.old out.new result }
 {
     let mut seats: LruCache<[u8; 16], Seat<'a, G::Keeper>> = match LruCache::new(alloc, at_once) {
         Ok(seats) => seats,

@@ -14,7 +14,8 @@ use lru::LruCache;
 
 /// Closes a game: its keeper is given back.
 pub(crate) fn close<'a, G: Games>(games: &mut G, stamp: &[u8; 16], seat: Seat<'a, G::Keeper>)
-    ensures { Closes G.facts games.old games.new stamp.now seat.entry.keeper }
+    ensures closes { Closes G.facts games.old games.new stamp.now seat.entry.keeper }
+    ensures place { G.facts.place games.new ≡ G.facts.place games.old }
 {
     let Seat { resting: _, keeper } = seat;
     games.give_back(stamp, keeper);
@@ -24,6 +25,7 @@ pub(crate) fn close<'a, G: Games>(games: &mut G, stamp: &[u8; 16], seat: Seat<'a
 fn make_room<'a, G: Games>(games: &mut G, seats: &mut LruCache<[u8; 16], Seat<'a, G::Keeper>>)
     ensures closes { Evicts G.facts.follows (G.facts.gives games.old) (at_stamp seats.old.entries) (G.facts.gives games.new) (at_stamp seats.new.entries) }
     ensures room { length seats.new.entries < seats.new.cap }
+    ensures place { G.facts.place games.new ≡ G.facts.place games.old }
 {
     match least_used(seats) {
         None => {}
@@ -44,6 +46,7 @@ pub(crate) fn settle<'a, G: Games>(
     requires { at_stamp seats.old.entries stamp.now ≡ None }
     ensures runs { seat.entry.resting.is_down ≡ false → (t : CommonView) → Turns G.Keeper.facts G.facts t games.old (in_hand stamp.now (Some seat.entry) (at_stamp seats.old.entries)) games.new (at_stamp seats.new.entries) [] }
     ensures down { seat.entry.resting.is_down ≡ true → Closes G.facts games.old games.new stamp.now seat.entry.keeper × (seats.new ≡ seats.old) }
+    ensures place { G.facts.place games.new ≡ G.facts.place games.old }
 {
     if seat.resting.is_down() {
         close(games, stamp, seat);

@@ -8,6 +8,7 @@ use Rattle.game_host.proofs.hosting.serve_games.Given as goal
 
 abbrev pub invariant-loop : goal.invariant-loop
 invariant-loop g l = record {
-  hosted : HasHosted (keepers g.G.Keeper.Keeper.facts g.G.Games.facts) (common_with l.fn.common l.fn.set) (writers g.W.Write.contents g.W.Output.facts) (g.G.Games.facts.gives l.games) (at_stamp l.seats.entries) (g.P.Port.facts l.fn.port) (g.P.Port.facts l.port) l.fn.out l.out l.counter;
+  hosted : HasHosted (keepers g.G.Keeper.Keeper.facts g.G.Games.facts l.fn.games) (common_with l.fn.common l.fn.set) (writers g.W.Write.contents g.W.Output.facts) (g.G.Games.facts.gives l.games) (at_stamp l.seats.entries) (g.P.Port.facts l.fn.port) (g.P.Port.facts l.port) l.fn.out l.out l.counter;
   set : l.tables ≡ l.fn.set;
+  place : g.G.Games.facts.place l.games ≡ g.G.Games.facts.place l.fn.games;
 }
