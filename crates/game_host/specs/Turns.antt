@@ -13,7 +13,8 @@ use Rattle.game_host.specs.Folders.{FolderFacts, Gives, GivesOthers, Keepers, ke
 use Rattle.game_host.specs.declared.turn.Answered.{Answered}
 use Rattle.game_host.specs.Told.{line_words}
 use Rattle.game_host.specs.Acts.{Act, IsSorted, Reply, acts_of, all_replies, passing_at, stamp_for, unopened}
-use Rattle.game_host.specs.Games.{CommonView, Goes}
+use Rattle.game_host.specs.Games.{CommonView, Fresh, Goes}
+use Rattle.game_host.specs.Hosts.{Ends, all_lines, all_passing}
 use Rattle.game_host.specs.Seats.{At, AreLives, AreSeated, IsSeated, Lives, in_hand}
 
 -- the acts of each game lead from its old life to its new one, whatever stands between them
@@ -64,10 +65,10 @@ reply_of datagram r = record { datagram = datagram; outputs = r.outputs.items; l
 abbrev pub Going : Type 1
 Going = List Reply → Type 0
 
--- a datagram came and was answered, and this is its line; or the port is lost
+-- a datagram came and was answered, and this is its line; or the port is lost, and nothing is done
 abbrev pub Receives : Going → PortFacts → PortFacts → List ℕ → Bool → Type 0
 Receives turns port port' line false = (r : Reply) × turns (r ∷ []) × (line ≡ r.line) × Passed port port' (passing_at port.addresses r)
-Receives turns port port' line true = (line ≡ refused_port) × Passed port port' (Missed ∷ []) × Risen port.faults port'.faults
+Receives turns port port' line true = turns [] × (line ≡ refused_port) × Passed port port' (Missed ∷ []) × Risen port.faults port'.faults
 
 -- so it was, and the line has gone out or was cut short
 pub record TakesTurn {W : Type 0} (turns : Going) (w : Writers W) (port port' : PortFacts) (out out' : W) (told : Result Bool WriteFault) : Type 0 where
@@ -76,3 +77,13 @@ pub record TakesTurn {W : Type 0} (turns : Going) (w : Writers W) (port port' : 
   pub received : Receives turns port port' line lost
   pub lines : LinesEnd w out (line ∷ []) out' told
   pub is : IfOk told (λ x. x ≡ lost)
+
+-- a run for n datagrams, before the games that are open then are closed
+pub record HasServed {K W : Type 0} (s : Keepers K) (t : CommonView) (w : Writers W) (n : ℕ) (gives : Gives K) (at : At K) (port port' : PortFacts) (out out' : W) (ended : Result ℕ WriteFault) : Type 0 where
+  pub replies : List Reply
+  pub leads : Leads s t (λ stamp. Fresh) gives at replies
+  pub lost : Bool
+  pub passed : Passed port port' (all_passing port.addresses replies lost)
+  pub cause : lost ≡ true → Risen port.faults port'.faults
+  pub ends : Ends n replies lost ended
+  pub lines : LinesEnd w out (all_lines replies lost) out' ended

@@ -1,17 +1,18 @@
 //! All datagrams.
 
-ghost use Rattle.std.specs.Prelude.{◌≡◌, ◌∷◌, [], ℕ, List};
+ghost use Rattle.std.specs.Prelude.{◌≡◌, ◌∷◌, [], ℕ, List, None};
 ghost use Rattle.arbiter_service.specs.GoingOut.{writers};
 ghost use Rattle.game_host.specs.Told.{line_words};
 ghost use Rattle.game_host.specs.Room.{at_stamp};
 ghost use Rattle.game_host.specs.Folders.{keepers};
 ghost use Rattle.game_host.specs.Games.{common_with};
 ghost use Rattle.game_host.specs.Hosts.{HostsIfRoom};
-ghost use Rattle.game_host.specs.Turns.{AreOpen, Receives, TakesTurn, Turns};
+ghost use Rattle.game_host.specs.Turns.{AreOpen, HasServed, Receives, TakesTurn, Turns};
 
 use crate::games::Games;
 use crate::line::Line;
 use crate::seat::{Common, Seat};
+use crate::settling::close_all;
 use crate::turn::hear;
 use arbiter_service::{put_line, send_all};
 use judge_core::Set;
@@ -67,8 +68,39 @@ fn turn<'a, G: Games, P: Port, W: Output>(
     }
 }
 
+/// Answers so many datagrams where no game is open yet; tells the status, 0 where all came.
+fn serve_open<'a, G: Games, P: Port, W: Output>(
+    alloc: Global,
+    common: &Common<'a>,
+    games: &mut G,
+    seats: &mut LruCache<[u8; 16], Seat<'a, G::Keeper>>,
+    set: Set<'a>,
+    port: &mut P,
+    n: u64,
+    out: &mut W,
+) -> Result<u8, WriteFault>
+    requires { (stamp : List ℕ) → at_stamp seats.old.entries stamp ≡ None }
+    ensures served { HasServed (keepers G.Keeper.facts G.facts games.old) (common_with common.now set.entry) (writers W.Write.contents W.facts) n (G.facts.gives games.new) (at_stamp seats.new.entries) (P.facts port.old) (P.facts port.new) out.old out.new result }
+    ensures place { G.facts.place games.new ≡ G.facts.place games.old }
+{
+    let mut tables = set;
+    for _ in 0..n {
+        let (told, later) = turn(alloc, common, games, seats, tables, port, out);
+        tables = later;
+        match told {
+            Ok(lost) => {
+                if lost {
+                    return Ok(1);
+                }
+            }
+            Err(fault) => return Err(fault),
+        }
+    }
+    Ok(0)
+}
+
 /// Answers so many datagrams of a port, each by the arbiter of its game, with so many of them open at once; tells the status, 0
-/// where all came.
+/// where all came. All games are closed at the end.
 ///
 /// A line is written for each datagram, and goes out at once. For a message it begins with the stamp of its game, in 32 lower-case
 /// hexadecimal digits: then comes what `arbiter_service::serve` tells, or why the game isn't open, `refused NoGame`, `refused
@@ -94,18 +126,10 @@ pub fn serve_games<'a, G: Games, P: Port, W: Output>(
         Ok(seats) => seats,
         Err(_) => return Ok(Err(AllocError)),
     };
-    let mut tables = set;
-    for _ in 0..n {
-        let (told, later) = turn(alloc, common, games, &mut seats, tables, port, out);
-        tables = later;
-        match told {
-            Ok(lost) => {
-                if lost {
-                    return Ok(Ok(1));
-                }
-            }
-            Err(fault) => return Err(fault),
-        }
+    let ended = serve_open(alloc, common, games, &mut seats, set, port, n, out);
+    close_all(games, &mut seats);
+    match ended {
+        Ok(status) => Ok(Ok(status)),
+        Err(fault) => Err(fault),
     }
-    Ok(Ok(0))
 }

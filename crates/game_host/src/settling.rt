@@ -8,7 +8,7 @@ ghost use Rattle.game_host.specs.Seats.{Evicts, in_hand};
 ghost use Rattle.game_host.specs.Turns.{Closes, Turns};
 
 use crate::games::Games;
-use crate::room::{least_used, put_in};
+use crate::room::{least_used, put_in, take_last};
 use crate::seat::Seat;
 use lru::LruCache;
 
@@ -33,6 +33,20 @@ fn make_room<'a, G: Games>(games: &mut G, seats: &mut LruCache<[u8; 16], Seat<'a
             let stamp = least.0;
             close(games, &stamp, least.1);
         }
+    }
+}
+
+/// Closes all games that are open, the one that was used least recently first.
+pub(crate) fn close_all<'a, G: Games>(
+    games: &mut G,
+    seats: &mut LruCache<[u8; 16], Seat<'a, G::Keeper>>,
+)
+    ensures closes { (t : CommonView) → Turns G.Keeper.facts G.facts t games.old (at_stamp seats.old.entries) games.new (at_stamp seats.new.entries) [] }
+    ensures none { (stamp : List ℕ) → at_stamp seats.new.entries stamp ≡ None }
+{
+    while let Some(last) = take_last(seats) {
+        let closed = last.0;
+        close(games, &closed, last.1);
     }
 }
 

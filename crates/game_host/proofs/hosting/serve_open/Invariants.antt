@@ -4,7 +4,7 @@ use Rattle.game_host.specs.Folders.{keepers}
 use Rattle.game_host.specs.Games.{common_with}
 use Rattle.game_host.specs.Room.{at_stamp}
 use Rattle.game_host.proofs.Hosted.{HasHosted}
-use Rattle.game_host.proofs.hosting.serve_games.Given as goal
+use Rattle.game_host.proofs.hosting.serve_open.Given as goal
 
 abbrev pub invariant-loop : goal.invariant-loop
 invariant-loop g l = record {
