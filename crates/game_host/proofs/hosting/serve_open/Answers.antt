@@ -18,7 +18,7 @@ loop-preserved g c =
     let taken = turn_from g.G.Keeper.Keeper.facts g.G.Games.facts c.args.common.now c.args.games.now c.loop.games c.loop.invariant.place c.args.set c.loop.tables c.loop.invariant.set (at_stamp c.loop.seats.entries) (writers g.W.Write.contents g.W.Output.facts) c.turn-told.new.games _ _ _ _ _ _ c.turn-told.ensures.taken in
     record {
       hosted = more_by_turn (keepers g.G.Keeper.Keeper.facts g.G.Games.facts c.args.games.now) (common_with c.args.common.now c.args.set) (writers g.W.Write.contents g.W.Output.facts) (g.G.Games.facts.gives c.loop.games) (g.G.Games.facts.gives c.turn-told.new.games) (at_stamp c.loop.seats.entries) (at_stamp c.turn-told.new.seats.entries) _ _ _ _ _ _ _ c.loop.invariant.hosted
-          c.turn-told.result.0 c.in-Ok-told.lost taken c.in-Ok-told.is c.if-lost.false;
+          c.turn-told.result.0 c.in-Ok.lost taken c.in-Ok.is c.if-lost.false;
       set = c.turn-told.ensures.set ∙ c.loop.invariant.set;
       place = c.turn-told.ensures.place ∙ c.loop.invariant.place;
     }
@@ -32,13 +32,13 @@ pub returns-then-lost-clause-served : goal.returns-then-lost-clause-served
 returns-then-lost-clause-served g c =
     let taken = turn_from g.G.Keeper.Keeper.facts g.G.Games.facts c.args.common.now c.args.games.now c.loop.games c.loop.invariant.place c.args.set c.loop.tables c.loop.invariant.set (at_stamp c.loop.seats.entries) (writers g.W.Write.contents g.W.Output.facts) c.turn-told.new.games _ _ _ _ _ _ c.turn-told.ensures.taken in
     ends_by_loss (keepers g.G.Keeper.Keeper.facts g.G.Games.facts c.args.games.now) (common_with c.args.common.now c.args.set) (writers g.W.Write.contents g.W.Output.facts) (g.G.Games.facts.gives c.loop.games) (g.G.Games.facts.gives c.turn-told.new.games) (at_stamp c.loop.seats.entries) (at_stamp c.turn-told.new.seats.entries) _ _ _ _ _ _ _ c.loop.invariant.hosted
-    c.args.n c.loop-test.true c.turn-told.result.0 c.in-Ok-told.lost taken c.in-Ok-told.is c.if-lost.true
+    c.args.n c.loop-test.true c.turn-told.result.0 c.in-Ok.lost taken c.in-Ok.is c.if-lost.true
 
-pub returns-in-Err-told-clause-served : goal.returns-in-Err-told-clause-served
-returns-in-Err-told-clause-served g c =
+pub returns-in-Err-clause-served : goal.returns-in-Err-clause-served
+returns-in-Err-clause-served g c =
     let taken = turn_from g.G.Keeper.Keeper.facts g.G.Games.facts c.args.common.now c.args.games.now c.loop.games c.loop.invariant.place c.args.set c.loop.tables c.loop.invariant.set (at_stamp c.loop.seats.entries) (writers g.W.Write.contents g.W.Output.facts) c.turn-told.new.games _ _ _ _ _ _ c.turn-told.ensures.taken in
     ends_by_cut (keepers g.G.Keeper.Keeper.facts g.G.Games.facts c.args.games.now) (common_with c.args.common.now c.args.set) (writers g.W.Write.contents g.W.Output.facts) (g.G.Games.facts.gives c.loop.games) (g.G.Games.facts.gives c.turn-told.new.games) (at_stamp c.loop.seats.entries) (at_stamp c.turn-told.new.seats.entries) _ _ _ _ _ _ _ c.loop.invariant.hosted
-    c.args.n c.loop-test.true c.turn-told.result.0 c.in-Err-told.fault taken c.in-Err-told.is
+    c.args.n c.loop-test.true c.turn-told.result.0 c.in-Err.fault taken c.in-Err.is
 
 pub returns-clause-served : goal.returns-clause-served
 returns-clause-served g c =
@@ -50,8 +50,8 @@ returns-clause-served g c =
 pub returns-then-lost-clause-place : goal.returns-then-lost-clause-place
 returns-then-lost-clause-place g c = c.turn-told.ensures.place ∙ c.loop.invariant.place
 
-pub returns-in-Err-told-clause-place : goal.returns-in-Err-told-clause-place
-returns-in-Err-told-clause-place g c = c.turn-told.ensures.place ∙ c.loop.invariant.place
+pub returns-in-Err-clause-place : goal.returns-in-Err-clause-place
+returns-in-Err-clause-place g c = c.turn-told.ensures.place ∙ c.loop.invariant.place
 
 pub returns-clause-place : goal.returns-clause-place
 returns-clause-place g c = c.loop.invariant.place
