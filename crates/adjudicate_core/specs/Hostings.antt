@@ -7,6 +7,7 @@ use Rattle.move_msg.specs.Files.{entries_of}
 use Rattle.move_msg.specs.Manifests.{SpellsManifest}
 use Rattle.move_msg.specs.Senders.{who_number}
 use Rattle.move_msg.specs.TextLines.{ended, text_of}
+use Rattle.system_io.specs.Disks.{DiskFacts}
 use Rattle.system_io.specs.Failures.{Risen}
 use Rattle.system_io.specs.Ports.{Passed, PortFacts}
 use Rattle.system_io.specs.declared.host.BindFault.TheVariants as bind
@@ -14,6 +15,7 @@ use Rattle.system_io.specs.declared.output.WriteFault.{WriteFault}
 use Rattle.arbiter_service.specs.GoingOut.{GoOut, LastIsCut, Writers}
 use Rattle.arbiter_service.specs.ServedLines.{refused_port}
 use Rattle.game_host.specs.Acts.{Act, all_replies}
+use Rattle.game_host.specs.DiskGames.{disk_keepers}
 use Rattle.game_host.specs.Folders.{Keepers}
 use Rattle.game_host.specs.Games.{CommonView}
 use Rattle.game_host.specs.Hosts.{Ends, Hosts, IsHosted, all_lines, all_passing}
@@ -88,3 +90,21 @@ pub data HostsGames {P F T : Type 0} (host : Hosted P F) (seen : Seen T) (h : Ho
   BadTables : (words : List ℕ) → gathered given ≡ Err words → TellsIf words (seen.written old) (seen.written new) r → HostsGames host seen h given old new r
   NoRoom : TellsIf refused_memory (seen.written old) (seen.written new) r → HostsGames host seen h given old new r
   Hosting : (set : Holding) → Ok set.tables ≡ gathered given → (manifest : List ℕ) → SpellsManifest manifest (entries_of given.files) → BindsAndHosts host seen h (common_for h set manifest) old new r → HostsGames host seen h given old new r
+
+-- ---- with the writer
+
+-- over a disk and a host, and to this writer: each line has gone out before the next one
+abbrev pub writing : {P F W : Type 0} → DiskFacts → Hosted P F → Writers W → Result ℕ WriteFault → Seen W
+writing disk host w r = seen_by (disk_keepers disk host.host host.file) w r
+
+abbrev pub HostsAndTells : {P F W : Type 0} → DiskFacts → Hosted P F → Writers W → HostGames → CommonView → PortFacts → PortFacts → W → W → Result ℕ WriteFault → Type 0
+HostsAndTells disk host w h t port port' out out' r = HostsNow (writing disk host w r) h t port port' out out' r
+
+abbrev pub StartsAndHosts : {P F W : Type 0} → DiskFacts → Hosted P F → Writers W → HostGames → CommonView → P → PortFacts → W → W → Result ℕ WriteFault → Type 0
+StartsAndHosts disk host w h t port port' out out' r = HostsAt host (writing disk host w r) h t port port' out out' r
+
+abbrev pub BindsAndTells : {P F W : Type 0} → DiskFacts → Hosted P F → Writers W → HostGames → CommonView → W → W → Result ℕ WriteFault → Type 0
+BindsAndTells disk host w h t out out' r = BindsAndHosts host (writing disk host w r) h t out out' r
+
+abbrev pub GamesAndTells : {P F W : Type 0} → DiskFacts → Hosted P F → Writers W → HostGames → Given → W → W → Result ℕ WriteFault → Type 0
+GamesAndTells disk host w h given out out' r = HostsGames host (writing disk host w r) h given out out' r

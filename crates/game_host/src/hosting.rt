@@ -7,7 +7,7 @@ ghost use Rattle.game_host.specs.Room.{at_stamp};
 ghost use Rattle.game_host.specs.Folders.{keepers};
 ghost use Rattle.game_host.specs.Games.{common_with};
 ghost use Rattle.game_host.specs.Hosts.{HostsIfRoom};
-ghost use Rattle.game_host.specs.Turns.{AreOpen, HasServed, Receives, TakesTurn, Turns};
+ghost use Rattle.game_host.specs.Turns.{AreOpen, Receives, ServesOpen, TakesTurn, going};
 
 use crate::games::Games;
 use crate::line::Line;
@@ -33,7 +33,7 @@ fn receive<'a, G: Games, P: Port>(
     requires { AreOpen G.Keeper.facts G.facts (common_with common.now set) games.old (at_stamp seats.old.entries) }
     ensures set { result.2 ≡ set.entry }
     ensures place { G.facts.place games.new ≡ G.facts.place games.old }
-    ensures received { Receives (Turns G.Keeper.facts G.facts (common_with common.now set.entry) games.old (at_stamp seats.old.entries) games.new (at_stamp seats.new.entries)) (P.facts port.old) (P.facts port.new) (line_words result.0) result.1 }
+    ensures received { Receives (going G.Keeper.facts G.facts common.now set.entry games.old seats.old.entries games.new seats.new.entries) (P.facts port.old) (P.facts port.new) (line_words result.0) result.1 }
 {
     let mut buffer = [0u8; 64];
     match port.receive(&mut buffer) {
@@ -59,7 +59,7 @@ fn turn<'a, G: Games, P: Port, W: Output>(
     requires { AreOpen G.Keeper.facts G.facts (common_with common.now set) games.old (at_stamp seats.old.entries) }
     ensures set { result.1 ≡ set.entry }
     ensures place { G.facts.place games.new ≡ G.facts.place games.old }
-    ensures taken { TakesTurn (Turns G.Keeper.facts G.facts (common_with common.now set.entry) games.old (at_stamp seats.old.entries) games.new (at_stamp seats.new.entries)) (writers W.Write.contents W.facts) (P.facts port.old) (P.facts port.new) out.old out.new result.0 }
+    ensures taken { TakesTurn (going G.Keeper.facts G.facts common.now set.entry games.old seats.old.entries games.new seats.new.entries) (writers W.Write.contents W.facts) (P.facts port.old) (P.facts port.new) out.old out.new result.0 }
 {
     let (line, lost, set) = receive(alloc, common, games, seats, set, port);
     match put_line(out, line.text().as_slice()) {
@@ -80,7 +80,7 @@ fn serve_open<'a, G: Games, P: Port, W: Output>(
     out: &mut W,
 ) -> Result<u8, WriteFault>
     requires { (stamp : List ℕ) → at_stamp seats.old.entries stamp ≡ None }
-    ensures served { HasServed (keepers G.Keeper.facts G.facts games.old) (common_with common.now set.entry) (writers W.Write.contents W.facts) n (G.facts.gives games.new) (at_stamp seats.new.entries) (P.facts port.old) (P.facts port.new) out.old out.new result }
+    ensures served { ServesOpen G.Keeper.facts G.facts common.now set.entry (writers W.Write.contents W.facts) n games.old games.new seats.new.entries (P.facts port.old) (P.facts port.new) out.old out.new result }
     ensures place { G.facts.place games.new ≡ G.facts.place games.old }
 {
     let mut tables = set;

@@ -1,11 +1,10 @@
 //! How a game is closed, and how it stays open.
 
-ghost use Rattle.std.specs.Prelude.{◌≡◌, ◌<◌, [], ℕ, List, None, Some, length, false, true};
+ghost use Rattle.std.specs.Prelude.{◌≡◌, ◌<◌, ℕ, List, None, Some, length, false, true};
 ghost use Rattle.game_host.specs.Folders.{GivesOthers};
 ghost use Rattle.game_host.specs.Room.{at_stamp};
-ghost use Rattle.game_host.specs.Games.{CommonView};
 ghost use Rattle.game_host.specs.Seats.{Evicts, in_hand};
-ghost use Rattle.game_host.specs.Turns.{Closes, Turns};
+ghost use Rattle.game_host.specs.Turns.{Closes, TurnsAnyhow};
 
 use crate::games::Games;
 use crate::room::{least_used, put_in, take_last};
@@ -41,7 +40,7 @@ pub(crate) fn close_all<'a, G: Games>(
     games: &mut G,
     seats: &mut LruCache<[u8; 16], Seat<'a, G::Keeper>>,
 )
-    ensures closes { (t : CommonView) → Turns G.Keeper.facts G.facts t games.old (at_stamp seats.old.entries) games.new (at_stamp seats.new.entries) [] }
+    ensures closes { TurnsAnyhow G.Keeper.facts G.facts games.old (at_stamp seats.old.entries) games.new (at_stamp seats.new.entries) }
     ensures none { (stamp : List ℕ) → at_stamp seats.new.entries stamp ≡ None }
 {
     while let Some(last) = take_last(seats) {
@@ -58,7 +57,7 @@ pub(crate) fn settle<'a, G: Games>(
     seat: Seat<'a, G::Keeper>,
 )
     requires { at_stamp seats.old.entries stamp.now ≡ None }
-    ensures runs { seat.entry.resting.is_down ≡ false → (t : CommonView) → Turns G.Keeper.facts G.facts t games.old (in_hand stamp.now (Some seat.entry) (at_stamp seats.old.entries)) games.new (at_stamp seats.new.entries) [] }
+    ensures runs { seat.entry.resting.is_down ≡ false → TurnsAnyhow G.Keeper.facts G.facts games.old (in_hand stamp.now (Some seat.entry) (at_stamp seats.old.entries)) games.new (at_stamp seats.new.entries) }
     ensures down { seat.entry.resting.is_down ≡ true → Closes G.facts games.old games.new stamp.now seat.entry.keeper × (seats.new ≡ seats.old) }
     ensures place { G.facts.place games.new ≡ G.facts.place games.old }
 {

@@ -1,12 +1,12 @@
 //! One datagram.
 
-ghost use Rattle.std.specs.Prelude.{◌≡◌, ◌↔◌, ◌∷◌, [], ℕ, List, None, Some, Ok, IfOk, IfErr, IsTrue};
-ghost use Rattle.game_host.specs.Acts.{stamp_for, unopened};
+ghost use Rattle.std.specs.Prelude.{◌≡◌, ◌↔◌, ◌∷◌, [], None, Some, Ok, IfOk, IfErr, IsTrue};
+ghost use Rattle.game_host.specs.Acts.{stamp_for};
 ghost use Rattle.game_host.specs.Room.{at_stamp};
 ghost use Rattle.game_host.specs.Folders.{keepers};
 ghost use Rattle.game_host.specs.Games.{CommonView, IsGameOf, IsSetupOf, IsStrange, common_with};
 ghost use Rattle.game_host.specs.Seats.{IsSeated, in_hand};
-ghost use Rattle.game_host.specs.Turns.{AreOpen, OpensSeat, RefusesSeat, Turns, reply_of};
+ghost use Rattle.game_host.specs.Turns.{AreOpen, OpensSeat, Refuses, RefusesSeat, Replies, TakesSeat, Turns, reply_of};
 ghost use Rattle.arbiter_core.specs.Setups.{setup_view};
 
 use crate::fault::Unopened;
@@ -119,8 +119,8 @@ fn seat_for<'a, G: Games>(
     ensures place { G.facts.place games.new ≡ G.facts.place games.old }
     ensures absent { at_stamp seats.new.entries stamp.now ≡ None }
     ensures seated { IfOk result.0 (IsSeated G.Keeper.facts set.entry) }
-    ensures opened { IfOk result.0 (λ seat. Turns G.Keeper.facts G.facts (common_with common.now set.entry) games.old (at_stamp seats.old.entries) games.new (in_hand stamp.now (Some seat) (at_stamp seats.new.entries)) []) }
-    ensures unopened { IfErr result.0 (λ why. (datagram : List ℕ) → stamp_for datagram ≡ Some stamp.now → Turns G.Keeper.facts G.facts (common_with common.now set.entry) games.old (at_stamp seats.old.entries) games.new (at_stamp seats.new.entries) (unopened stamp.now datagram why ∷ [])) }
+    ensures opened { IfOk result.0 (TakesSeat G.Keeper.facts G.facts (common_with common.now set.entry) games.old (at_stamp seats.old.entries) games.new (at_stamp seats.new.entries) stamp.now) }
+    ensures unopened { IfErr result.0 (Refuses G.Keeper.facts G.facts (common_with common.now set.entry) games.old (at_stamp seats.old.entries) games.new (at_stamp seats.new.entries) stamp.now) }
 {
     match take_out(seats, stamp) {
         Some(seat) => (Ok(seat), set),
@@ -143,7 +143,7 @@ fn answer_at<'a, G: Games>(
     requires seated { IsSeated G.Keeper.facts set seat }
     ensures set { result.1 ≡ set.entry }
     ensures place { G.facts.place games.new ≡ G.facts.place games.old }
-    ensures turns { (t : CommonView) → t.set ≡ set.entry → Turns G.Keeper.facts G.facts t games.old (in_hand stamp.now (Some seat.entry) (at_stamp seats.old.entries)) games.new (at_stamp seats.new.entries) (reply_of bytes.now result.0 ∷ []) }
+    ensures turns { Replies G.Keeper.facts G.facts set.entry games.old (in_hand stamp.now (Some seat.entry) (at_stamp seats.old.entries)) games.new (at_stamp seats.new.entries) (reply_of bytes.now result.0) }
 {
     let (answer, seat, set) = deliver(alloc, seat, set, bytes);
     settle(games, seats, stamp, seat);
