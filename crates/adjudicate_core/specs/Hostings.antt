@@ -9,21 +9,25 @@ use Rattle.move_msg.specs.Senders.{who_number}
 use Rattle.move_msg.specs.TextLines.{ended, text_of}
 use Rattle.system_io.specs.Disks.{DiskFacts}
 use Rattle.system_io.specs.Failures.{Risen}
+use Rattle.system_io.specs.Hosts.{HostFacts}
+use Rattle.system_io.specs.KeptFiles.{KeptFacts}
+use Rattle.system_io.specs.Outputs.{OutputFacts}
 use Rattle.system_io.specs.Ports.{Passed, PortFacts}
 use Rattle.system_io.specs.declared.host.BindFault.TheVariants as bind
 use Rattle.system_io.specs.declared.output.WriteFault.{WriteFault}
-use Rattle.arbiter_service.specs.GoingOut.{GoOut, LastIsCut, Writers}
+use Rattle.arbiter_service.specs.GoingOut.{GoOut, LastIsCut, Writers, writers}
 use Rattle.arbiter_service.specs.ServedLines.{refused_port}
 use Rattle.game_host.specs.Acts.{Act, all_replies}
+use Rattle.game_host.specs.declared.seat.Common.{Common}
 use Rattle.game_host.specs.DiskGames.{disk_keepers}
 use Rattle.game_host.specs.Folders.{Keepers}
-use Rattle.game_host.specs.Games.{CommonView}
+use Rattle.game_host.specs.Games.{CommonView, common_with}
 use Rattle.game_host.specs.Hosts.{Ends, Hosts, IsHosted, all_lines, all_passing}
 use Rattle.adjudicate_core.specs.Addresses.{addresses_of}
 use Rattle.adjudicate_core.specs.declared.commands.host.HostGames.{HostGames}
 use Rattle.adjudicate_core.specs.Given.{Given}
 use Rattle.adjudicate_core.specs.Lines.{ready_words}
-use Rattle.adjudicate_core.specs.Listens.{Hosted, LacksRoomToBind}
+use Rattle.adjudicate_core.specs.Listens.{Hosted, LacksRoomToBind, hosted}
 use Rattle.adjudicate_core.specs.Looks.{gathered}
 use Rattle.adjudicate_core.specs.Telling.{TellsIf}
 use Rattle.adjudicate_core.specs.ToldLines.{refused_memory}
@@ -93,18 +97,27 @@ pub data HostsGames {P F T : Type 0} (host : Hosted P F) (seen : Seen T) (h : Ho
 
 -- ---- with the writer
 
--- over a disk and a host, and to this writer: each line has gone out before the next one
-abbrev pub writing : {P F W : Type 0} → DiskFacts → Hosted P F → Writers W → Result ℕ WriteFault → Seen W
-writing disk host w r = seen_by (disk_keepers disk host.host host.file) w r
+-- what is known of a disk, a host and a writer
+pub record Around (P F W : Type 0) : Type 1 where
+  pub disk : DiskFacts
+  pub host : Hosted P F
+  pub writer : Writers W
 
-abbrev pub HostsAndTells : {P F W : Type 0} → DiskFacts → Hosted P F → Writers W → HostGames → CommonView → PortFacts → PortFacts → W → W → Result ℕ WriteFault → Type 0
-HostsAndTells disk host w h t port port' out out' r = HostsNow (writing disk host w r) h t port port' out out' r
+abbrev pub around : {P F W : Type 0} → DiskFacts → HostFacts P F → (P → PortFacts) → (F → KeptFacts) → (W → Option (List ℕ)) → (W → OutputFacts) → Around P F W
+around disk host port file written output = record { disk = disk; host = hosted host port file; writer = writers written output }
 
-abbrev pub StartsAndHosts : {P F W : Type 0} → DiskFacts → Hosted P F → Writers W → HostGames → CommonView → P → PortFacts → W → W → Result ℕ WriteFault → Type 0
-StartsAndHosts disk host w h t port port' out out' r = HostsAt host (writing disk host w r) h t port port' out out' r
+-- each line has gone out before the next one
+abbrev pub writing : {P F W : Type 0} → Around P F W → Result ℕ WriteFault → Seen W
+writing a r = seen_by (disk_keepers a.disk a.host.host a.host.file) a.writer r
 
-abbrev pub BindsAndTells : {P F W : Type 0} → DiskFacts → Hosted P F → Writers W → HostGames → CommonView → W → W → Result ℕ WriteFault → Type 0
-BindsAndTells disk host w h t out out' r = BindsAndHosts host (writing disk host w r) h t out out' r
+abbrev pub WritesNow : {P F W : Type 0} → Around P F W → HostGames → Common → Holding → PortFacts → PortFacts → W → W → Result ℕ WriteFault → Type 0
+WritesNow a h common set port port' out out' r = HostsNow (writing a r) h (common_with common set) port port' out out' r
 
-abbrev pub GamesAndTells : {P F W : Type 0} → DiskFacts → Hosted P F → Writers W → HostGames → Given → W → W → Result ℕ WriteFault → Type 0
-GamesAndTells disk host w h given out out' r = HostsGames host (writing disk host w r) h given out out' r
+abbrev pub WritesAt : {P F W : Type 0} → Around P F W → HostGames → Common → Holding → P → PortFacts → W → W → Result ℕ WriteFault → Type 0
+WritesAt a h common set port port' out out' r = HostsAt a.host (writing a r) h (common_with common set) port port' out out' r
+
+abbrev pub BindsAndWrites : {P F W : Type 0} → Around P F W → HostGames → CommonView → W → W → Result ℕ WriteFault → Type 0
+BindsAndWrites a h t out out' r = BindsAndHosts a.host (writing a r) h t out out' r
+
+abbrev pub HostsAndTells : {P F W : Type 0} → Around P F W → HostGames → Given → W → W → Result ℕ WriteFault → Type 0
+HostsAndTells a h given out out' r = HostsGames a.host (writing a r) h given out out' r
