@@ -4,12 +4,11 @@ use Rattle.std.specs.Prelude.{Result, Ok, Err, IfOk}
 use Rattle.std.specs.Io.KnownBytes.{Appends}
 use Rattle.std.proofs.KnownBytes.{Appends-nil, Appends-trans}
 use Rattle.move_msg.specs.TextLines.{ended, text_of}
-use Rattle.system_io.specs.KeptFiles.{KeptFacts}
 use Rattle.system_io.specs.Ports.{PortFacts}
 use Rattle.system_io.specs.declared.output.WriteFault.{WriteFault}
 use Rattle.arbiter_service.specs.GoingOut.{GoOut, Writers}
 use Rattle.game_host.specs.Acts.{all_replies}
-use Rattle.game_host.specs.DiskGames.{file_keepers}
+use Rattle.game_host.specs.Folders.{Keepers}
 use Rattle.game_host.specs.Games.{CommonView}
 use Rattle.game_host.specs.Hosts.{Hosts, all_lines}
 use Rattle.adjudicate_core.specs.declared.commands.host.HostGames.{HostGames}
@@ -28,9 +27,9 @@ line_written : {W : Type 0} (w : Writers W) (out now : W) (line : List ℕ) → 
 unfolding GoOut
 line_written w out now line (next, goes, same) = subst (λ x. Appends (w.written out) (w.written x) (ended line)) (sym same) goes.whole
 
-module _ {P F W : Type 0} (host : Hosted P F) (w : Writers W) (status : ℕ) (h : HostGames) where
-  served_done : (t : CommonView) (n : ℕ) (port port' : PortFacts) (out out' : W) → Hosts (file_keepers host.file) t w n port port' out out' (Ok status) → HostsAndWrites host.file t n port port' (w.written out) (w.written out') status
-  served_done t n port port' out out' run = record {
+module _ {P F K W : Type 0} (folders : List ℕ → Keepers K) (host : Hosted P F) (w : Writers W) (status : ℕ) (h : HostGames) where
+  served_done : (s : Keepers K) (t : CommonView) (n : ℕ) (port port' : PortFacts) (out out' : W) → Hosts s t w n port port' out out' (Ok status) → HostsAndWrites s t n port port' (w.written out) (w.written out') status
+  served_done s t n port port' out out' run = record {
     acts = run.acts;
     hosted = run.hosted;
     lost = run.lost;
@@ -40,26 +39,26 @@ module _ {P F W : Type 0} (host : Hosted P F) (w : Writers W) (status : ℕ) (h 
     written = lines_written w out out' (all_lines (all_replies run.acts) run.lost) run.lines;
   }
 
-  now_done : (t : CommonView) (port port' : PortFacts) (out out' : W) → HostsNow (seen_by host.file w (Ok status)) h t port port' out out' (Ok status) → HostsNow (seen_as host.file (Ok status)) h t port port' (w.written out) (w.written out') (Ok status)
-  now_done t port port' out out' (Served run) = Served (served_done t h.datagrams port port' out out' run)
+  now_done : (t : CommonView) (port port' : PortFacts) (out out' : W) → HostsNow (seen_by folders w (Ok status)) h t port port' out out' (Ok status) → HostsNow (seen_as folders (Ok status)) h t port port' (w.written out) (w.written out') (Ok status)
+  now_done t port port' out out' (Served run) = Served (served_done (folders h.games.now) t h.datagrams port port' out out' run)
   now_done t port port' out out' (NoRoomForGames same told) = NoRoomForGames same told
 
-  at_done : (t : CommonView) (port : P) (port' : PortFacts) (out out' : W) → HostsAt host (seen_by host.file w (Ok status)) h t port port' out out' (Ok status) → HostsAt host (seen_as host.file (Ok status)) h t port port' (w.written out) (w.written out') (Ok status)
+  at_done : (t : CommonView) (port : P) (port' : PortFacts) (out out' : W) → HostsAt host (seen_by folders w (Ok status)) h t port port' out out' (Ok status) → HostsAt host (seen_as folders (Ok status)) h t port port' (w.written out) (w.written out') (Ok status)
   at_done t port port' out out' (NoAddress none nothing told) = NoAddress none nothing told
   at_done t port port' out out' (NoRoomForLine nothing told) = NoRoomForLine nothing told
   at_done t port port' out out' (Ready own is mid gone run) = Ready own is (w.written mid) (line_written w out mid (ready_words own) gone) (now_done t (host.port port) port' mid out' run)
   at_done t port port' out out' (Unready own is nothing cut fault failed) = Unready own is nothing tt fault failed
 
-  bound_done : (t : CommonView) (out out' : W) → BindsAndHosts host (seen_by host.file w (Ok status)) h t out out' (Ok status) → BindsAndHosts host (seen_as host.file (Ok status)) h t (w.written out) (w.written out') (Ok status)
+  bound_done : (t : CommonView) (out out' : W) → BindsAndHosts host (seen_by folders w (Ok status)) h t out out' (Ok status) → BindsAndHosts host (seen_as folders (Ok status)) h t (w.written out) (w.written out') (Ok status)
   bound_done t out out' (Unbound why told) = Unbound why told
   bound_done t out out' (NoRoomToBind why told) = NoRoomToBind why told
   bound_done t out out' (Bound port port' bound each run) = Bound port port' bound each (at_done t port (host.port port') out out' run)
 
-  all_done : (given : Given) (out out' : W) → HostsGames host (seen_by host.file w (Ok status)) h given out out' (Ok status) → HostsGames host (seen_as host.file (Ok status)) h given (w.written out) (w.written out') (Ok status)
+  all_done : (given : Given) (out out' : W) → HostsGames host (seen_by folders w (Ok status)) h given out out' (Ok status) → HostsGames host (seen_as folders (Ok status)) h given (w.written out) (w.written out') (Ok status)
   all_done given out out' (BadTables words refused told) = BadTables words refused told
   all_done given out out' (NoRoom told) = NoRoom told
   all_done given out out' (Hosting set tables manifest is run) = Hosting set tables manifest is (bound_done (common_for h set manifest) out out' run)
 
-pub hosted_games : {P F W : Type 0} (host : Hosted P F) (w : Writers W) (out out' : W) (h : HostGames) (given : Given) (r : Result ℕ WriteFault) → HostsGames host (seen_by host.file w r) h given out out' r → IfOk r (λ status. HostsGames host (seen_as host.file (Ok status)) h given (w.written out) (w.written out') (Ok status))
-hosted_games host w out out' h given (Ok status) run = all_done host w status h given out out' run
-hosted_games host w out out' h given (Err fault) run = tt
+pub hosted_games : {P F K W : Type 0} (folders : List ℕ → Keepers K) (host : Hosted P F) (w : Writers W) (out out' : W) (h : HostGames) (given : Given) (r : Result ℕ WriteFault) → HostsGames host (seen_by folders w r) h given out out' r → IfOk r (λ status. HostsGames host (seen_as folders (Ok status)) h given (w.written out) (w.written out') (Ok status))
+hosted_games folders host w out out' h given (Ok status) run = all_done folders host w status h given out out' run
+hosted_games folders host w out out' h given (Err fault) run = tt

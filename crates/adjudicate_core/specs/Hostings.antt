@@ -7,23 +7,27 @@ use Rattle.move_msg.specs.Files.{entries_of}
 use Rattle.move_msg.specs.Manifests.{SpellsManifest}
 use Rattle.move_msg.specs.Senders.{who_number}
 use Rattle.move_msg.specs.TextLines.{ended, text_of}
+use Rattle.system_io.specs.Disks.{DiskFacts}
 use Rattle.system_io.specs.Failures.{Risen}
+use Rattle.system_io.specs.Hosts.{HostFacts}
 use Rattle.system_io.specs.KeptFiles.{KeptFacts}
+use Rattle.system_io.specs.Outputs.{OutputFacts}
 use Rattle.system_io.specs.Ports.{Passed, PortFacts}
 use Rattle.system_io.specs.declared.host.BindFault.TheVariants as bind
 use Rattle.system_io.specs.declared.output.WriteFault.{WriteFault}
-use Rattle.arbiter_service.specs.GoingOut.{GoOut, LastIsCut, Writers}
+use Rattle.arbiter_service.specs.GoingOut.{GoOut, LastIsCut, Writers, writers}
 use Rattle.arbiter_service.specs.ServedLines.{refused_port}
-use Rattle.arbiter_service.specs.declared.file_keeper.FileKeeper.{FileKeeper}
 use Rattle.game_host.specs.Acts.{Act, all_replies}
-use Rattle.game_host.specs.DiskGames.{file_keepers}
-use Rattle.game_host.specs.Games.{CommonView}
+use Rattle.game_host.specs.declared.seat.Common.{Common}
+use Rattle.game_host.specs.DiskGames.{disk_keepers}
+use Rattle.game_host.specs.Folders.{Keepers}
+use Rattle.game_host.specs.Games.{CommonView, common_with}
 use Rattle.game_host.specs.Hosts.{Ends, Hosts, IsHosted, all_lines, all_passing}
 use Rattle.adjudicate_core.specs.Addresses.{addresses_of}
 use Rattle.adjudicate_core.specs.declared.commands.host.HostGames.{HostGames}
 use Rattle.task_files.specs.Given.{Given}
 use Rattle.adjudicate_core.specs.Lines.{ready_words}
-use Rattle.adjudicate_core.specs.Listens.{Hosted, LacksRoomToBind}
+use Rattle.adjudicate_core.specs.Listens.{Hosted, LacksRoomToBind, hosted}
 use Rattle.adjudicate_core.specs.Looks.{gathered}
 use Rattle.adjudicate_core.specs.Telling.{TellsIf}
 use Rattle.line_teller.specs.ToldLines.{refused_memory}
@@ -36,40 +40,40 @@ common_for h set manifest = record { manifest = manifest; number = who_number h.
 
 -- a host's run for n datagrams up to a status, by what is written: each game goes its own way, all that passes at the port are the
 -- datagrams and what is answered, and the lines are those of the datagrams
-pub record HostsAndWrites {F : Type 0} (files : F → KeptFacts) (t : CommonView) (n : ℕ) (port port' : PortFacts) (old new : Option (List ℕ)) (status : ℕ) : Type 0 where
-  pub acts : List (Act (FileKeeper F))
-  pub hosted : IsHosted (file_keepers files) t acts
+pub record HostsAndWrites {K : Type 0} (s : Keepers K) (t : CommonView) (n : ℕ) (port port' : PortFacts) (old new : Option (List ℕ)) (status : ℕ) : Type 0 where
+  pub acts : List (Act K)
+  pub hosted : IsHosted s t acts
   pub lost : Bool
   pub passed : Passed port port' (all_passing port.addresses (all_replies acts) lost)
   pub cause : lost ≡ true → Risen port.faults port'.faults
   pub ends : Ends n (all_replies acts) lost (Ok status)
   pub written : Appends old new (text_of (all_lines (all_replies acts) lost))
 
-abbrev pub HostsIfDone : {F : Type 0} → (F → KeptFacts) → CommonView → ℕ → PortFacts → PortFacts → Option (List ℕ) → Option (List ℕ) → Result ℕ WriteFault → Type 0
-HostsIfDone files t n port port' old new (Ok status) = HostsAndWrites files t n port port' old new status
-HostsIfDone files t n port port' old new (Err fault) = Unit {0}
+abbrev pub HostsIfDone : {K : Type 0} → Keepers K → CommonView → ℕ → PortFacts → PortFacts → Option (List ℕ) → Option (List ℕ) → Result ℕ WriteFault → Type 0
+HostsIfDone s t n port port' old new (Ok status) = HostsAndWrites s t n port port' old new status
+HostsIfDone s t n port port' old new (Err fault) = Unit {0}
 
 -- a run from moments of a type: what is written by then; that this line, and nothing else, went out between two of them; that it was
--- cut short; and that games are hosted between them
+-- cut short; and that the games of the folder at a path are hosted between them
 pub record Seen (T : Type 0) : Type 1 where
   pub written : T → Option (List ℕ)
   pub told : T → List ℕ → T → Type 0
   pub cut : T → List ℕ → T → Type 0
-  pub hosts : CommonView → ℕ → PortFacts → PortFacts → T → T → Type 0
+  pub hosts : List ℕ → CommonView → ℕ → PortFacts → PortFacts → T → T → Type 0
 
--- by what is written
-abbrev pub seen_as : {F : Type 0} → (F → KeptFacts) → Result ℕ WriteFault → Seen (Option (List ℕ))
-seen_as files r = record { written = λ t. t; told = λ old line new. Appends old new (ended line); cut = λ old line new. Unit {0}; hosts = λ t n port port' old new. HostsIfDone files t n port port' old new r }
+-- by what is written, with these folders
+abbrev pub seen_as : {K : Type 0} → (List ℕ → Keepers K) → Result ℕ WriteFault → Seen (Option (List ℕ))
+seen_as folders r = record { written = λ t. t; told = λ old line new. Appends old new (ended line); cut = λ old line new. Unit {0}; hosts = λ path t n port port' old new. HostsIfDone (folders path) t n port port' old new r }
 
 -- by the writer: each line has gone out before the next comes
-abbrev pub seen_by : {F W : Type 0} → (F → KeptFacts) → Writers W → Result ℕ WriteFault → Seen W
-seen_by files w r = record { written = w.written; told = λ out line now. GoOut w out (line ∷ []) now; cut = λ out line now. LastIsCut w out (line ∷ []) now; hosts = λ t n port port' out now. Hosts (file_keepers files) t w n port port' out now r }
+abbrev pub seen_by : {K W : Type 0} → (List ℕ → Keepers K) → Writers W → Result ℕ WriteFault → Seen W
+seen_by folders w r = record { written = w.written; told = λ out line now. GoOut w out (line ∷ []) now; cut = λ out line now. LastIsCut w out (line ∷ []) now; hosts = λ path t n port port' out now. Hosts (folders path) t w n port port' out now r }
 
 -- ---- all of it
 
--- the games are hosted; or memory for those that are open was refused, and no datagram was received
+-- the games of the folder that the words name are hosted; or memory for those that are open was refused, and no datagram was received
 pub data HostsNow {T : Type 0} (seen : Seen T) (h : HostGames) (t : CommonView) (port port' : PortFacts) (old new : T) (r : Result ℕ WriteFault) : Type 0 where
-  Served : seen.hosts t h.datagrams port port' old new → HostsNow seen h t port port' old new r
+  Served : seen.hosts h.games.now t h.datagrams port port' old new → HostsNow seen h t port port' old new r
   NoRoomForGames : port' ≡ port → TellsIf refused_memory (seen.written old) (seen.written new) r → HostsNow seen h t port port' old new r
 
 -- at a port that is bound: the address at which it listens isn't told; or its line goes out before all else; or that is cut short
@@ -90,3 +94,30 @@ pub data HostsGames {P F T : Type 0} (host : Hosted P F) (seen : Seen T) (h : Ho
   BadTables : (words : List ℕ) → gathered given ≡ Err words → TellsIf words (seen.written old) (seen.written new) r → HostsGames host seen h given old new r
   NoRoom : TellsIf refused_memory (seen.written old) (seen.written new) r → HostsGames host seen h given old new r
   Hosting : (set : Holding) → Ok set.tables ≡ gathered given → (manifest : List ℕ) → SpellsManifest manifest (entries_of given.files) → BindsAndHosts host seen h (common_for h set manifest) old new r → HostsGames host seen h given old new r
+
+-- ---- with the writer
+
+-- what is known of a disk, a host and a writer
+pub record Around (P F W : Type 0) : Type 1 where
+  pub disk : DiskFacts
+  pub host : Hosted P F
+  pub writer : Writers W
+
+abbrev pub around : {P F W : Type 0} → DiskFacts → HostFacts P F → (P → PortFacts) → (F → KeptFacts) → (W → Option (List ℕ)) → (W → OutputFacts) → Around P F W
+around disk host port file written output = record { disk = disk; host = hosted host port file; writer = writers written output }
+
+-- each line has gone out before the next one
+abbrev pub writing : {P F W : Type 0} → Around P F W → Result ℕ WriteFault → Seen W
+writing a r = seen_by (disk_keepers a.disk a.host.host a.host.file) a.writer r
+
+abbrev pub WritesNow : {P F W : Type 0} → Around P F W → HostGames → Common → Holding → PortFacts → PortFacts → W → W → Result ℕ WriteFault → Type 0
+WritesNow a h common set port port' out out' r = HostsNow (writing a r) h (common_with common set) port port' out out' r
+
+abbrev pub WritesAt : {P F W : Type 0} → Around P F W → HostGames → Common → Holding → P → PortFacts → W → W → Result ℕ WriteFault → Type 0
+WritesAt a h common set port port' out out' r = HostsAt a.host (writing a r) h (common_with common set) port port' out out' r
+
+abbrev pub BindsAndWrites : {P F W : Type 0} → Around P F W → HostGames → CommonView → W → W → Result ℕ WriteFault → Type 0
+BindsAndWrites a h t out out' r = BindsAndHosts a.host (writing a r) h t out out' r
+
+abbrev pub HostsAndTells : {P F W : Type 0} → Around P F W → HostGames → Given → W → W → Result ℕ WriteFault → Type 0
+HostsAndTells a h given out out' r = HostsGames a.host (writing a r) h given out out' r

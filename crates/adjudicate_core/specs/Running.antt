@@ -18,6 +18,7 @@ use Rattle.system_io.specs.Ports.{PortFacts}
 use Rattle.adjudicate_core.specs.Listens.{Hosted, Listens, hosted, seen_as}
 use Rattle.adjudicate_core.specs.Sends.{Sends}
 use Rattle.adjudicate_core.specs.Enters.{Enters}
+use Rattle.game_host.specs.DiskGames.{disk_keepers}
 use Rattle.adjudicate_core.specs.Hostings.{HostsGames, seen_as as seen_hosting}
 use Rattle.task_files.specs.Sources.{CannotRead, IsGiven, TakesMemory}
 use Rattle.adjudicate_core.specs.Commands.Judge as judges
@@ -67,7 +68,7 @@ AnswersFrom disk source host (task.Audit t) given old new status = AnswersOnce (
 AnswersFrom disk source host (task.Version t) given old new status = versions.Answers old new status
 AnswersFrom disk source host (task.Send t) given old new status = Sends disk source host t old new (Ok status)
 AnswersFrom disk source host (task.Enter t) given old new status = Enters disk host t old new (Ok status)
-AnswersFrom disk source host (task.Host t) given old new status = HostsGames host (seen_hosting host.file (Ok status)) t given old new (Ok status)
+AnswersFrom disk source host (task.Host t) given old new status = HostsGames host (seen_hosting (disk_keepers disk host.host host.file) (Ok status)) t given old new (Ok status)
 
 -- to a task the program answers from what it reads; or something that it reads for it can't be read; or memory was refused while
 -- it read

@@ -1,10 +1,8 @@
 //! Arbiters of any number of games, from their words to their status.
 
 ghost use Rattle.std.specs.Prelude.{◌≡◌, Ok, Some};
-ghost use Rattle.arbiter_service.specs.GoingOut.{writers};
 ghost use Rattle.game_host.specs.Games.{common_with};
-ghost use Rattle.adjudicate_core.specs.Hostings.{BindsAndHosts, HostsAt, HostsGames, HostsNow, common_for, seen_by};
-ghost use Rattle.adjudicate_core.specs.Listens.{hosted};
+ghost use Rattle.adjudicate_core.specs.Hostings.{BindsAndWrites, HostsAndTells, WritesAt, WritesNow, around, common_for};
 ghost use Rattle.adjudicate_core.specs.Looks.{gathered};
 
 use crate::binding::bind;
@@ -32,7 +30,7 @@ fn serve_at<'a, D: Disk, H: Host, W: Output>(
     port: &mut H::Port,
     out: &mut W,
 ) -> Result<u8, WriteFault>
-    ensures { HostsNow (seen_by H.File.facts (writers W.contents W.facts) result) task.now (common_with common.now set.entry) (H.Port.facts port.old) (H.Port.facts port.new) out.old out.new result }
+    ensures { WritesNow (around (D.facts disk.now) (H.facts host.now) H.Port.facts H.File.facts W.contents W.facts) task.now common.now set.entry (H.Port.facts port.old) (H.Port.facts port.new) out.old out.new result }
 {
     let mut games = DiskGames {
         disk,
@@ -68,7 +66,7 @@ fn tell_and_serve<'a, D: Disk, H: Host, W: Output>(
     out: &mut W,
 ) -> Result<u8, WriteFault>
     requires { (H.facts host.now).listens port.old (Some own) }
-    ensures { HostsAt (hosted (H.facts host.now) H.Port.facts H.File.facts) (seen_by H.File.facts (writers W.contents W.facts) result) task.now (common_with common.now set.entry) port.old (H.Port.facts port.new) out.old out.new result }
+    ensures { WritesAt (around (D.facts disk.now) (H.facts host.now) H.Port.facts H.File.facts W.contents W.facts) task.now common.now set.entry port.old (H.Port.facts port.new) out.old out.new result }
 {
     let Ok(line) = ready_line(alloc, own) else {
         return put_refusal(out, Refusal::Memory);
@@ -90,7 +88,7 @@ fn start_at<'a, D: Disk, H: Host, W: Output>(
     port: &mut H::Port,
     out: &mut W,
 ) -> Result<u8, WriteFault>
-    ensures { HostsAt (hosted (H.facts host.now) H.Port.facts H.File.facts) (seen_by H.File.facts (writers W.contents W.facts) result) task.now (common_with common.now set.entry) port.old (H.Port.facts port.new) out.old out.new result }
+    ensures { WritesAt (around (D.facts disk.now) (H.facts host.now) H.Port.facts H.File.facts W.contents W.facts) task.now common.now set.entry port.old (H.Port.facts port.new) out.old out.new result }
 {
     match host.own_address(port) {
         Some(own) => tell_and_serve(alloc, task, common, set, disk, host, port, own, out),
@@ -108,7 +106,7 @@ fn bind_and_serve<'a, D: Disk, H: Host, W: Output>(
     host: &H,
     out: &mut W,
 ) -> Result<u8, WriteFault>
-    ensures { BindsAndHosts (hosted (H.facts host.now) H.Port.facts H.File.facts) (seen_by H.File.facts (writers W.contents W.facts) result) task.now (common_with common.now set.entry) out.old out.new result }
+    ensures { BindsAndWrites (around (D.facts disk.now) (H.facts host.now) H.Port.facts H.File.facts W.contents W.facts) task.now (common_with common.now set.entry) out.old out.new result }
 {
     match bind(alloc, host, task.bind, task.to) {
         Ok(mut port) => start_at(alloc, task, common, set, disk, host, &mut port, out),
@@ -127,7 +125,7 @@ fn host_with<'a, D: Disk, H: Host, W: Output>(
     host: &H,
     out: &mut W,
 ) -> Result<u8, WriteFault>
-    ensures { BindsAndHosts (hosted (H.facts host.now) H.Port.facts H.File.facts) (seen_by H.File.facts (writers W.contents W.facts) result) task.now (common_for task.now set.entry manifest.entry.now) out.old out.new result }
+    ensures { BindsAndWrites (around (D.facts disk.now) (H.facts host.now) H.Port.facts H.File.facts W.contents W.facts) task.now (common_for task.now set.entry manifest.entry.now) out.old out.new result }
 {
     let common = Common {
         manifest,
@@ -147,7 +145,7 @@ fn host_by<'a, D: Disk, H: Host, W: Output>(
     out: &mut W,
 ) -> Result<u8, WriteFault>
     requires { Ok set.tables ≡ gathered sources.now }
-    ensures { HostsGames (hosted (H.facts host.now) H.Port.facts H.File.facts) (seen_by H.File.facts (writers W.contents W.facts) result) task.now sources.now out.old out.new result }
+    ensures { HostsAndTells (around (D.facts disk.now) (H.facts host.now) H.Port.facts H.File.facts W.contents W.facts) task.now sources.now out.old out.new result }
 {
     let manifest = match manifest_for(alloc, sources) {
         Ok(manifest) => manifest,
@@ -169,7 +167,7 @@ pub fn host_games<'a, D: Disk, H: Host, W: Output>(
     host: &H,
     out: &mut W,
 ) -> Result<u8, WriteFault>
-    ensures { HostsGames (hosted (H.facts host.now) H.Port.facts H.File.facts) (seen_by H.File.facts (writers W.contents W.facts) result) task.now sources.now out.old out.new result }
+    ensures { HostsAndTells (around (D.facts disk.now) (H.facts host.now) H.Port.facts H.File.facts W.contents W.facts) task.now sources.now out.old out.new result }
 {
     match gather(alloc, sources, task.cache) {
         Ok(Ok(set)) => host_by(alloc, task, sources, set, disk, host, out),

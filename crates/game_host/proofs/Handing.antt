@@ -73,7 +73,7 @@ module _ {K : Type 0} (s : Keepers K) (t : CommonView) where
   after_room old mid new at at1 at' stamp seat absent room more = λ lives stand.
       leads_join s t mid new (in_hand stamp (Some seat) at1) at' lives [] [] (evicting old mid at at1 stamp seat absent room lives stand) more
 
-  not_open : (gives : K → Type 0) (life : Life K) → Stands s t gives None life → IsNotOpen life
+  pub not_open : (gives : K → Type 0) (life : Life K) → Stands s t gives None life → IsNotOpen life
   not_open gives Fresh stand = tt
   not_open gives (Shut left) stand = tt
   not_open gives (Open at) stand = stand

@@ -4,6 +4,8 @@ use Rattle.std.specs.Prelude.{Result, Ok, Err, IfOk}
 use Rattle.std.specs.List.{flat_map}
 use Rattle.std.proofs.lemmas.List.{length-map, map-append}
 use Rattle.std.proofs.lemmas.List.Concat.{flat_map-append}
+use Rattle.judge_core.specs.Tables.{Holding}
+use Rattle.arbiter_core.specs.Keeping.{KeeperFacts}
 use Rattle.system_io.specs.Ports.{Came, Passed, Passing, PortFacts}
 use Rattle.arbiter_service.specs.Serving.{handed}
 use Rattle.system_io.specs.Failures.{Risen}
@@ -13,13 +15,15 @@ use Rattle.arbiter_service.specs.ServedLines.{refused_port}
 use Rattle.arbiter_service.proofs.PortLaws.{Passed-nil, Passed-on, Passed-trans, Risen-later}
 use Rattle.arbiter_service.proofs.GoingLaws.{cut_later, go_join, none_out}
 use Rattle.game_host.specs.declared.seat.Seat.{Seat}
-use Rattle.game_host.specs.Folders.{Gives, Keepers}
+use Rattle.game_host.specs.Folders.{FolderFacts, Gives, Keepers, keepers, keepers_at}
 use Rattle.game_host.specs.Acts.{Reply, passing_at}
-use Rattle.game_host.specs.Games.{CommonView, Fresh}
+use Rattle.game_host.specs.declared.seat.Common.{Common}
+use Rattle.game_host.specs.Games.{CommonView, Fresh, common_with}
 use Rattle.game_host.specs.Seats.{At, AreSeated, Stands}
-use Rattle.game_host.specs.Hosts.{Ends, Hosts, all_lines, all_passing, lost_line, missed_if}
-use Rattle.game_host.specs.Turns.{Leads, LeadsFrom, Receives, TakesTurn}
-use Rattle.game_host.proofs.Turning.{leads_join}
+use Rattle.game_host.specs.Hosts.{Ends, Hosts, all_lines, all_passing, missed_if}
+use Rattle.game_host.specs.Turns.{AreOpen, HasServed, Leads, LeadsFrom, Receives, TakesTurn, Turns}
+use Rattle.game_host.proofs.Turning.{goes_still, leads_join}
+use Rattle.game_host.proofs.Handing.{not_open}
 
 -- a datagram came, and then what is answered was sent
 pub came_and_sent : (a b c : PortFacts) (r : Reply) → Passed a b (Came r.datagram ∷ []) → Passed b c (flat_map (handed b.addresses) r.outputs) → Passed a c (passing_at a.addresses r)
@@ -77,75 +81,68 @@ module _ {K W : Type 0} (s : Keepers K) (t : CommonView) (w : Writers W) where
   seated_so gives at port now first out n h = (h.leads.new, h.leads.stand)
 
   -- all of a run, by what was hosted
-  hosts : (gives : Gives K) (at : At K) (port now later : PortFacts) (first out out' : W) (k n : ℕ) (lost : Bool) (ended : Result ℕ WriteFault) → (had : HasHosted s t w gives at port now first out k)
-      → Passed now later (missed_if lost) → (lost ≡ true → Risen now.faults later.faults) → Ends n had.replies lost ended → LinesEnd w first (map (λ (r : Reply). r.line) had.replies ++ lost_line lost) out' ended
-      → Hosts s t w n port later first out' ended
-  hosts gives at port now later first out out' k n lost ended had missed cause ends lines =
-      let count = had.passed.count in
+  served : (gives : Gives K) (at : At K) (port now later : PortFacts) (first out' : W) (n : ℕ) (replies : List Reply) (lost : Bool) (ended : Result ℕ WriteFault)
+      → Leads s t (λ stamp. Fresh) gives at replies → Passed port now (flat_map (passing_at port.addresses) replies)
+      → Passed now later (missed_if lost) → (lost ≡ true → Risen now.faults later.faults) → Ends n replies lost ended → LinesEnd w first (all_lines replies lost) out' ended
+      → HasServed s t w n gives at port later first out' ended
+  served gives at port now later first out' n replies lost ended leads passed missed cause ends lines =
+      let count = passed.count in
       record {
-        acts = had.leads.acts;
-        hosted = record { games = had.leads.new; each = had.leads.turns.each; sorted = had.leads.turns.sorted };
+        replies = replies;
+        leads = leads;
         lost = lost;
-        passed = subst (λ (rs : List Reply). Passed port later (all_passing port.addresses rs lost)) (sym had.leads.replies_are) (Passed-trans port now later _ (missed_if lost) had.passed missed);
+        passed = Passed-trans port now later _ (missed_if lost) passed missed;
         cause = λ is. Risen-later port.faults now.faults later.faults count (cause is);
-        ends = subst (λ (rs : List Reply). Ends n rs lost ended) (sym had.leads.replies_are) ends;
-        lines = subst (λ (rs : List Reply). LinesEnd w first (all_lines rs lost) out' ended) (sym had.leads.replies_are) lines;
+        ends = ends;
+        lines = lines;
       }
 
   never_lost : (a b : ℕ) → false ≡ true → Risen a b
   never_lost a b e = absurd (let wrong : false ≡ true = e in cc)
 
   -- all came
-  pub hosts_all : (gives : Gives K) (at : At K) (port now : PortFacts) (first out : W) (n : ℕ) → HasHosted s t w gives at port now first out n → Hosts s t w n port now first out (Ok 0)
-  hosts_all gives at port now first out n had =
-      hosts gives at port now now first out out n n false (Ok 0) had (Passed-nil now) (never_lost now.faults now.faults) (had.came, refl)
+  pub served_all : (gives : Gives K) (at : At K) (port now : PortFacts) (first out : W) (n : ℕ) → HasHosted s t w gives at port now first out n → HasServed s t w n gives at port now first out (Ok 0)
+  served_all gives at port now first out n had =
+      served gives at port now now first out n had.replies false (Ok 0) had.leads had.passed (Passed-nil now) (never_lost now.faults now.faults) (had.came, refl)
       (subst (λ (ls : List (List ℕ)). GoOut w first ls out) (sym (append-nil (map (λ (r : Reply). r.line) had.replies))) had.lines)
 
-  module _ (gives : Gives K) (at : At K) (port now later : PortFacts) (first out out' : W) (k n : ℕ) (had : HasHosted s t w gives at port now first out k) (few : k < n) (line : List ℕ) where
+  module _ (old new : Gives K) (at at' : At K) (port now later : PortFacts) (first out out' : W) (k n : ℕ) (had : HasHosted s t w old at port now first out k) (few : k < n) (line : List ℕ) where
     -- the port is lost
-    pub hosts_until : (T : List Reply → Type 0) → Receives T now later line true → GoOut w out (line ∷ []) out' → Hosts s t w n port later first out' (Ok 1)
-    hosts_until T one went =
+    served_until : Receives (LeadsFrom s t old at new at') now later line true → GoOut w out (line ∷ []) out' → HasServed s t w n new at' port later first out' (Ok 1)
+    served_until one went =
         let came = had.came in
-        hosts gives at port now later first out out' k n true (Ok 1) had one.1 (λ _. one.2) (omega (arith, few, came), refl)
-        (go_join w first out out' _ (refused_port ∷ []) had.lines (subst (λ (l : List ℕ). GoOut w out (l ∷ []) out') one.0 went))
+        served new at' port now later first out' n had.replies true (Ok 1) (goes_still s t old new at at' (λ stamp. Fresh) had.replies had.leads one.0) had.passed one.2 (λ _. one.3) (omega (arith, few, came), refl)
+        (go_join w first out out' _ (refused_port ∷ []) had.lines (subst (λ (l : List ℕ). GoOut w out (l ∷ []) out') one.1 went))
 
     -- the line of a port that is lost is cut short
-    cut_at_loss : (T : List Reply → Type 0) (fault : WriteFault) → Receives T now later line true → LastIsCut w out (line ∷ []) out' → Hosts s t w n port later first out' (Err fault)
-    cut_at_loss T fault one cut =
+    cut_at_loss : (fault : WriteFault) → Receives (LeadsFrom s t old at new at') now later line true → LastIsCut w out (line ∷ []) out' → HasServed s t w n new at' port later first out' (Err fault)
+    cut_at_loss fault one cut =
         let came = had.came in
         let size : length (map (λ (r : Reply). r.line) had.replies) ≡ length had.replies = length-map had.replies (λ (r : Reply). r.line) in
         let all : length (map (λ (r : Reply). r.line) had.replies ++ refused_port ∷ []) ≡ length (map (λ (r : Reply). r.line) had.replies) + 1 = length-append (map (λ (r : Reply). r.line) had.replies) (refused_port ∷ []) in
-        hosts gives at port now later first out out' k n true (Err fault) had one.1 (λ _. one.2) (omega (arith, few, came, size, all))
-        (cut_later w first out out' _ (refused_port ∷ []) had.lines (subst (λ (l : List ℕ). LastIsCut w out (l ∷ []) out') one.0 cut))
+        served new at' port now later first out' n had.replies true (Err fault) (goes_still s t old new at at' (λ stamp. Fresh) had.replies had.leads one.0) had.passed one.2 (λ _. one.3) (omega (arith, few, came, size, all))
+        (cut_later w first out out' _ (refused_port ∷ []) had.lines (subst (λ (l : List ℕ). LastIsCut w out (l ∷ []) out') one.1 cut))
 
-  -- the line of a datagram is cut short
-  cut_at_reply : (old new : Gives K) (at at' : At K) (port now later : PortFacts) (first out out' : W) (k n : ℕ) → HasHosted s t w old at port now first out k → k < n → (line : List ℕ) (fault : WriteFault)
-      → Receives (LeadsFrom s t old at new at') now later line false → LastIsCut w out (line ∷ []) out' → Hosts s t w n port later first out' (Err fault)
-  cut_at_reply old new at at' port now later first out out' k n had few line fault one cut =
-      let r = one.0 in
-      let came = had.came in
-      let all : List Reply = had.replies ++ r ∷ [] in
-      let leads : Leads s t (λ stamp. Fresh) new at' all = leads_join s t old new at at' (λ stamp. Fresh) had.replies (r ∷ []) had.leads one.1 in
-      let passed : Passed port later (flat_map (passing_at port.addresses) all) = passed_more port now later had.replies r had.passed one.3 in
-      let lines : LastIsCut w first (map (λ (x : Reply). x.line) all) out' =
-      subst (λ (ls : List (List ℕ)). LastIsCut w first ls out') (sym (lines_more had.replies r)) (cut_later w first out out' _ (r.line ∷ []) had.lines (subst (λ (l : List ℕ). LastIsCut w out (l ∷ []) out') one.2 cut)) in
-      let size : length (map (λ (x : Reply). x.line) all) ≡ length all = length-map all (λ (x : Reply). x.line) in
-      let one_more : length all ≡ length had.replies + 1 = length-append had.replies (r ∷ []) in
-      let ends : length (map (λ (x : Reply). x.line) all) ≤ n = omega (arith, few, came, size, one_more) in
-      record {
-        acts = leads.acts;
-        hosted = record { games = leads.new; each = leads.turns.each; sorted = leads.turns.sorted };
-        lost = false;
-        passed = subst (λ (rs : List Reply). Passed port later (all_passing port.addresses rs false)) (sym leads.replies_are) (subst (Passed port later) (sym (append-nil (flat_map (passing_at port.addresses) all))) passed);
-        cause = never_lost port.faults later.faults;
-        ends = subst (λ (rs : List Reply). Ends n rs false (Err fault)) (sym leads.replies_are) (subst (λ (ls : List (List ℕ)). length ls ≤ n) (sym (append-nil (map (λ (x : Reply). x.line) all))) ends);
-        lines = subst (λ (rs : List Reply). LastIsCut w first (all_lines rs false) out') (sym leads.replies_are) (subst (λ (ls : List (List ℕ)). LastIsCut w first ls out') (sym (append-nil (map (λ (x : Reply). x.line) all))) lines);
-      }
+    -- the line of a datagram is cut short
+    cut_at_reply : (fault : WriteFault) → Receives (LeadsFrom s t old at new at') now later line false → LastIsCut w out (line ∷ []) out' → HasServed s t w n new at' port later first out' (Err fault)
+    cut_at_reply fault one cut =
+        let r = one.0 in
+        let came = had.came in
+        let all : List Reply = had.replies ++ r ∷ [] in
+        let lines : LastIsCut w first (map (λ (x : Reply). x.line) all) out' =
+        subst (λ (ls : List (List ℕ)). LastIsCut w first ls out') (sym (lines_more had.replies r)) (cut_later w first out out' _ (r.line ∷ []) had.lines (subst (λ (l : List ℕ). LastIsCut w out (l ∷ []) out') one.2 cut)) in
+        let size : length (map (λ (x : Reply). x.line) all) ≡ length all = length-map all (λ (x : Reply). x.line) in
+        let one_more : length all ≡ length had.replies + 1 = length-append had.replies (r ∷ []) in
+        let ends : length (map (λ (x : Reply). x.line) all) ≤ n = omega (arith, few, came, size, one_more) in
+        let none : map (λ (x : Reply). x.line) all ++ [] ≡ map (λ (x : Reply). x.line) all = append-nil (map (λ (x : Reply). x.line) all) in
+        served new at' port later later first out' n all false (Err fault) (leads_join s t old new at at' (λ stamp. Fresh) had.replies (r ∷ []) had.leads one.1)
+        (passed_more port now later had.replies r had.passed one.3) (Passed-nil later) (never_lost later.faults later.faults)
+        (subst (λ (ls : List (List ℕ)). length ls ≤ n) (sym none) ends)
+        (subst (λ (ls : List (List ℕ)). LastIsCut w first ls out') (sym none) lines)
 
-  pub hosts_cut : (old new : Gives K) (at at' : At K) (port now later : PortFacts) (first out out' : W) (k n : ℕ) → HasHosted s t w old at port now first out k → k < n → (line : List ℕ) (fault : WriteFault)
-      → (lost : Bool) → Receives (LeadsFrom s t old at new at') now later line lost → LastIsCut w out (line ∷ []) out' → Hosts s t w n port later first out' (Err fault)
-  hosts_cut old new at at' port now later first out out' k n had few line fault true one cut = cut_at_loss old at port now later first out out' k n had few line (LeadsFrom s t old at new at') fault one cut
-  hosts_cut old new at at' port now later first out out' k n had few line fault false one cut = cut_at_reply old new at at' port now later first out out' k n had few line fault one cut
+    served_cut : (fault : WriteFault) (lost : Bool) → Receives (LeadsFrom s t old at new at') now later line lost → LastIsCut w out (line ∷ []) out' → HasServed s t w n new at' port later first out' (Err fault)
+    served_cut fault true one cut = cut_at_loss fault one cut
+    served_cut fault false one cut = cut_at_reply fault one cut
 
 module _ {K W : Type 0} (s : Keepers K) (t : CommonView) (w : Writers W) (old new : Gives K) (at at' : At K) (port now later : PortFacts) (first out out' : W) (k : ℕ) (had : HasHosted s t w old at port now first out k) where
   -- a turn after which the run goes on
@@ -157,15 +154,49 @@ module _ {K W : Type 0} (s : Keepers K) (t : CommonView) (w : Writers W) (old ne
       more_hosted s t w old new at at' port now later first out out' k had x.line received lines
 
   -- one at which the port is lost
-  pub ends_by_loss : (n : ℕ) → k < n → (told : Result Bool WriteFault) (lost : Bool) → TakesTurn (LeadsFrom s t old at new at') w now later out out' told → told ≡ Ok lost → lost ≡ true → Hosts s t w n port later first out' (Ok 1)
+  pub ends_by_loss : (n : ℕ) → k < n → (told : Result Bool WriteFault) (lost : Bool) → TakesTurn (LeadsFrom s t old at new at') w now later out out' told → told ≡ Ok lost → lost ≡ true → HasServed s t w n new at' port later first out' (Ok 1)
   ends_by_loss n few told lost x is off =
       let lines : GoOut w out (x.line ∷ []) out' = subst (λ (r : Result Bool WriteFault). LinesEnd w out (x.line ∷ []) out' r) is x.lines in
       let same : lost ≡ x.lost = subst (λ (r : Result Bool WriteFault). IfOk r (λ b. b ≡ x.lost)) is x.is in
       let received : Receives (LeadsFrom s t old at new at') now later x.line true = subst (λ (b : Bool). Receives (LeadsFrom s t old at new at') now later x.line b) (sym same ∙ off) x.received in
-      hosts_until s t w old at port now later first out out' k n had few x.line (LeadsFrom s t old at new at') received lines
+      served_until s t w old new at at' port now later first out out' k n had few x.line received lines
 
   -- one whose line is cut short
-  pub ends_by_cut : (n : ℕ) → k < n → (told : Result Bool WriteFault) (fault : WriteFault) → TakesTurn (LeadsFrom s t old at new at') w now later out out' told → told ≡ Err fault → Hosts s t w n port later first out' (Err fault)
+  pub ends_by_cut : (n : ℕ) → k < n → (told : Result Bool WriteFault) (fault : WriteFault) → TakesTurn (LeadsFrom s t old at new at') w now later out out' told → told ≡ Err fault → HasServed s t w n new at' port later first out' (Err fault)
   ends_by_cut n few told fault x is =
       let lines : LastIsCut w out (x.line ∷ []) out' = subst (λ (r : Result Bool WriteFault). LinesEnd w out (x.line ∷ []) out' r) is x.lines in
-      hosts_cut s t w old new at at' port now later first out out' k n had few x.line fault x.lost x.received lines
+      served_cut s t w old new at at' port now later first out out' k n had few x.line fault x.lost x.received lines
+
+-- the games that are open are closed
+pub hosts_closed : {K W : Type 0} (s : Keepers K) (t : CommonView) (w : Writers W) (n : ℕ) (gives gives' : Gives K) (at at' : At K) (port port' : PortFacts) (out out' : W) (ended : Result ℕ WriteFault)
+    → HasServed s t w n gives at port port' out out' ended → LeadsFrom s t gives at gives' at' [] → ((stamp : List ℕ) → at' stamp ≡ None) → Hosts s t w n port port' out out' ended
+hosts_closed {K = K} s t w n gives gives' at at' port port' out out' ended had closing none =
+    let leads : Leads s t (λ stamp. Fresh) gives' at' had.replies = goes_still s t gives gives' at at' (λ stamp. Fresh) had.replies had.leads closing in
+    record {
+      acts = leads.acts;
+      hosted = record {
+        games = leads.new;
+        each = leads.turns.each;
+        sorted = leads.turns.sorted;
+        closed = λ stamp. not_open s t (gives' stamp) (leads.new stamp) (subst (λ (o : Option (Seat K)). Stands s t (gives' stamp) o (leads.new stamp)) (none stamp) (leads.stand stamp));
+      };
+      lost = had.lost;
+      passed = subst (λ (rs : List Reply). Passed port port' (all_passing port.addresses rs had.lost)) (sym leads.replies_are) had.passed;
+      cause = had.cause;
+      ends = subst (λ (rs : List Reply). Ends n rs had.lost ended) (sym leads.replies_are) had.ends;
+      lines = subst (λ (rs : List Reply). LinesEnd w out (all_lines rs had.lost) out' ended) (sym leads.replies_are) had.lines;
+    }
+
+-- with the tables and the folder of the start
+module _ {G K : Type 0} (facts : KeeperFacts K) (folder : FolderFacts G K) (common : Common) (start now : G) (place : folder.place now ≡ folder.place start) (first tables : Holding) (set : tables ≡ first) (at : At K) where
+  pub turn_from : {W : Type 0} (w : Writers W) (later : G) (at' : At K) (port port' : PortFacts) (out out' : W) (told : Result Bool WriteFault)
+      → TakesTurn (Turns facts folder (common_with common tables) now at later at') w port port' out out' told
+      → TakesTurn (LeadsFrom (keepers facts folder start) (common_with common first) (folder.gives now) at (folder.gives later) at') w port port' out out' told
+  turn_from w later at' port port' out out' told taken =
+      subst (λ (p : folder.Place). TakesTurn (LeadsFrom (keepers_at facts folder p) (common_with common first) (folder.gives now) at (folder.gives later) at') w port port' out out' told) place
+      (subst (λ (x : Holding). TakesTurn (Turns facts folder (common_with common x) now at later at') w port port' out out' told) set taken)
+
+  pub open_now : AreSeated (keepers facts folder start) (common_with common first) (folder.gives now) at → AreOpen facts folder (common_with common tables) now at
+  open_now seated =
+      subst (λ (x : Holding). AreOpen facts folder (common_with common x) now at) (sym set)
+      (subst (λ (p : folder.Place). AreSeated (keepers_at facts folder p) (common_with common first) (folder.gives now) at) (sym place) seated)

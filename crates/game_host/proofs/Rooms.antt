@@ -1,6 +1,6 @@
 -- What is found by a stamp after an entry is taken out or put in.
-use Rattle.std.proofs.Common.{◌≡◌, ℕ, ◌-◌, ◌≤◌, ◌<◌, true, false, cond, zero, suc, List, [], ◌∷◌, ◌++◌, length, take, Option, Some, None, refl, sym, ap, subst, ◌∙◌, arith}
-use Rattle.std.specs.Prelude.{slice_get}
+use Rattle.std.proofs.Common.{◌≡◌, ℕ, ◌+◌, ◌-◌, ◌≤◌, ◌<◌, true, false, cond, zero, suc, List, [], ◌∷◌, ◌++◌, length, take, Option, Some, None, refl, sym, ap, subst, ◌∙◌, arith, length-append}
+use Rattle.std.specs.Prelude.{slice_get, IfNone, IfSome}
 use Rattle.std.specs.List.{IsDistinct, AllByRecursion}
 use Rattle.std.specs.Map.{lookup_entry, remove_entry, keys_of}
 use Rattle.std.specs.Str.{bytes_eq}
@@ -10,6 +10,14 @@ use Rattle.std.proofs.lemmas.Bool.{cond-true, cond-false}
 use Rattle.std.proofs.lemmas.Map.{lookup-remove_entry}
 use Rattle.lru.specs.LruCache.{LruCache, last_entry, put_entries}
 use Rattle.game_host.specs.Room.{at_stamp}
+
+pub if_some : {A : Type 0} (P : A → Type 0) (o : Option A) → ((x : A) → o ≡ Some x → P x) → IfSome o P
+if_some P None h = tt
+if_some P (Some x) h = h x refl
+
+pub if_none : {A : Type 0} (P : Type 0) (o : Option A) → (o ≡ None → P) → IfNone o P
+if_none P None h = h refl
+if_none P (Some x) h = tt
 
 module _ {S : Type 0} where
   pub taken : (es : List (List ℕ × S)) (stamp other : List ℕ) → IsDistinct bytes_eq (keys_of es) → at_stamp (remove_entry (bytes_eq stamp) es) other ≡ cond (bytes_eq stamp other) None (at_stamp es other)
@@ -59,6 +67,23 @@ module _ {S : Type 0} where
       let e = split_last es x h in
       gone_last (take (length es - 1) es) x other (subst (λ (l : List (List ℕ × S)). IsDistinct bytes_eq (keys_of l)) e apart)
       ∙ ap (λ (l : List (List ℕ × S)). cond (bytes_eq x.0 other) None (at_stamp l other)) (sym e)
+
+  has_last : (e : List ℕ × S) (es : List (List ℕ × S)) → last_entry (e ∷ es) ≡ None → ⊥
+  has_last e [] h = cc
+  has_last e (f ∷ es) h =
+      let n : length (e ∷ f ∷ es) - 1 ≡ suc (length (f ∷ es) - 1) = omega arith in
+      has_last f es (rw n at h)
+
+  -- where there is no last one, there is none
+  pub none_left : (es less : List (List ℕ × S)) (stamp : List ℕ) → less ≡ take (length es - 1) es → last_entry es ≡ None → (at_stamp es stamp ≡ None) × (at_stamp less stamp ≡ None)
+  none_left [] less stamp is h = (refl, ap (λ (l : List (List ℕ × S)). at_stamp l stamp) is)
+  none_left (e ∷ es) less stamp is h = absurd (has_last e es h)
+
+  pub fewer_left : (es less : List (List ℕ × S)) (x : List ℕ × S) → less ≡ take (length es - 1) es → last_entry es ≡ Some x → length less < length es
+  fewer_left es less x is h =
+      let e : length es ≡ length (take (length es - 1) es) + 1 = ap (λ (l : List (List ℕ × S)). length l) (split_last es x h) ∙ length-append (take (length es - 1) es) (x ∷ []) in
+      let same : length less ≡ length (take (length es - 1) es) = ap (λ (l : List (List ℕ × S)). length l) is in
+      omega (arith, e, same)
 
   no_entry : (es : List (List ℕ × S)) (stamp : List ℕ) → at_stamp es stamp ≡ None → lookup_entry (bytes_eq stamp) es ≡ None
   no_entry [] stamp h = refl

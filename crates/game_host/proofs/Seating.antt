@@ -2,8 +2,9 @@
 use Rattle.std.proofs.Common.{◌≡◌, ℕ, true, false, cond, List, ◌++◌, Option, Some, None, refl, sym, subst, ◌∙◌}
 use Rattle.std.specs.Str.{bytes_eq}
 use Rattle.std.proofs.lemmas.Bool.{cond-true, cond-false}
+use Rattle.arbiter_core.specs.Keeping.{KeeperFacts}
 use Rattle.game_host.specs.declared.seat.Seat.{Seat}
-use Rattle.game_host.specs.Folders.{Gives, Keepers}
+use Rattle.game_host.specs.Folders.{FolderFacts, Gives, Keepers, keepers, keepers_at}
 use Rattle.game_host.specs.Acts.{Reply}
 use Rattle.game_host.specs.Games.{CommonView}
 use Rattle.game_host.specs.Seats.{At, AreSeated, IsSeated, Stands, in_hand}
@@ -41,3 +42,9 @@ module _ {K : Type 0} (s : Keepers K) (t : CommonView) where
 
   pub goes_into : (old mid new : Gives K) (at at1 at' : At K) (xs ys : List Reply) → LeadsFrom s t old at mid at1 xs → LeadsFrom s t mid at1 new at' ys → LeadsFrom s t old at new at' (xs ++ ys)
   goes_into old mid new at at1 at' xs ys one more = λ lives stand. leads_join s t mid new at1 at' lives xs ys (one lives stand) more
+
+-- a folder that is where it was at the start has the keepers that it had then
+pub from_place : {G K : Type 0} (facts : KeeperFacts K) (folder : FolderFacts G K) (start now : G) → folder.place now ≡ folder.place start → (t : CommonView) (old new : Gives K) (at at' : At K) (replies : List Reply)
+    → LeadsFrom (keepers facts folder now) t old at new at' replies → LeadsFrom (keepers facts folder start) t old at new at' replies
+from_place facts folder start now same t old new at at' replies leads =
+    subst (λ (p : folder.Place). LeadsFrom (keepers_at facts folder p) t old at new at' replies) same leads

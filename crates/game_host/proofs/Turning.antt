@@ -85,6 +85,10 @@ module _ {K : Type 0} (s : Keepers K) (t : CommonView) where
         replies_are = flat_map-append replies_of one.acts two.acts ∙ ap (λ (rs : List Reply). rs ++ all_replies two.acts) one.replies_are ∙ ap (λ (rs : List Reply). xs ++ rs) two.replies_are;
       }
 
+  -- with no reply more
+  pub goes_still : (mid new : Gives K) (at at' : At K) (lives : Lives K) (replies : List Reply) → Leads s t lives mid at replies → LeadsFrom s t mid at new at' [] → Leads s t lives new at' replies
+  goes_still mid new at at' lives replies one more = subst (λ (rs : List Reply). Leads s t lives new at' rs) (append-nil replies) (leads_join mid new at at' lives replies [] one more)
+
   -- a game that is open is closed
   pub closes : (old new : Gives K) (at at' : At K) (stamp : List ℕ) (seat : Seat K)
       → at stamp ≡ Some seat → ((other : List ℕ) → at' other ≡ cond (bytes_eq stamp other) None (at other))

@@ -11,10 +11,9 @@ use Rattle.game_host.specs.declared.fault.Unopened.{Unopened}
 use Rattle.game_host.specs.declared.fault.Unopened.TheVariants as unopened
 use Rattle.game_host.specs.declared.folder.FindFault.{FindFault}
 use Rattle.game_host.specs.declared.folder.FindFault.TheVariants.{NoGame, BadFile, OutOfMemory}
-use Rattle.game_host.specs.declared.games.Found.{Found}
 use Rattle.game_host.specs.Folders.{FolderFacts, Keepers}
-use Rattle.game_host.specs.GameFiles.{SpellsGame, line_number, told}
-use Rattle.game_host.specs.GameFolders.{LacksGame, kept_path}
+use Rattle.game_host.specs.GameFiles.{line_number, told}
+use Rattle.game_host.specs.GameFolders.{HasGame, LacksGame, kept_path}
 
 abbrev pub unopened_by : FindFault → Unopened
 unopened_by NoGame = unopened.NoGame
@@ -43,32 +42,25 @@ pub record CannotStart {P F : Type 0} (host : HostFacts P F) (files : F → Kept
 abbrev pub IsUnkept : {P F : Type 0} → HostFacts P F → (F → KeptFacts) → List ℕ → List ℕ → Unopened → Type 0
 IsUnkept host files folder stamp why = ((why ≡ unopened.Keeper) × CannotStart host files folder stamp) ⊎ (why ≡ unopened.OutOfMemory)
 
--- some text tells this game
-pub record IsTold (game : Found) : Type 0 where
-  pub text : List ℕ
-  pub spells : SpellsGame text (told game.name.items game.start game.delay)
-
--- a keeper has started over some file
-pub record HasStarted {F : Type 0} (files : F → KeptFacts) (keeper : FileKeeper F) : Type 0 where
-  pub file : F
-  pub starts : StartsOver files file keeper
-
--- What a host knows of such a folder. Which files these are, the calls of the folder say. That a keeper which is opened later finds
--- what an earlier one left in the file is a premise about the system's files: here any keeper may follow any other.
-abbrev pub file_keepers : {F : Type 0} → (F → KeptFacts) → Keepers (FileKeeper F)
-file_keepers files = record {
+-- What a host knows of a folder on this disk and at this host. That a keeper which is opened later finds what an earlier one left in
+-- the file is a premise about the system's files: here any keeper may follow any other.
+abbrev pub disk_keepers : {P F : Type 0} → DiskFacts → HostFacts P F → (F → KeptFacts) → List ℕ → Keepers (FileKeeper F)
+disk_keepers disk host files folder = record {
   facts = keeper_over files;
-  tells = λ stamp game. IsTold game;
-  refuses = λ stamp why. Unit {0};
-  is_of = λ stamp keeper. HasStarted files keeper;
+  tells = λ stamp game. HasGame disk folder stamp (told game.name.items game.start game.delay);
+  refuses = λ stamp why. Lacks disk folder stamp why ⊎ IsUnkept host files folder stamp why;
+  is_of = IsOverFile host files folder;
   follows = λ left next. Unit {0};
 }
 
-abbrev pub disk_facts : {D H F : Type 0} → (F → KeptFacts) → FolderFacts (DiskGames D H) (FileKeeper F)
-disk_facts files = record {
-  tells = (file_keepers files).tells;
-  refuses = (file_keepers files).refuses;
-  is_of = (file_keepers files).is_of;
-  follows = (file_keepers files).follows;
+abbrev pub disk_facts : {D H P F : Type 0} → (D → DiskFacts) → (H → HostFacts P F) → (F → KeptFacts) → FolderFacts (DiskGames D H) (FileKeeper F)
+disk_facts {D = D} {H = H} disk host files = record {
+  Place = DiskGames D H;
+  place = λ games. games;
+  tells = λ at. (disk_keepers (disk at.disk.now) (host at.host.now) files at.folder.now).tells;
+  lacks = λ at. Lacks (disk at.disk.now) at.folder.now;
+  withholds = λ at. IsUnkept (host at.host.now) files at.folder.now;
+  is_of = λ at. IsOverFile (host at.host.now) files at.folder.now;
+  follows = λ left next. Unit {0};
   gives = λ games stamp next. Unit {0};
 }

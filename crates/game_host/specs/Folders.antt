@@ -1,5 +1,5 @@
 -- What a folder of games tells and gives (this project's own).
-use Rattle.std.specs.Prelude.{◌≡◌, ℕ, false, List}
+use Rattle.std.specs.Prelude.{◌≡◌, ◌⊎◌, ℕ, false, List}
 use Rattle.std.specs.Str.{bytes_eq}
 use Rattle.arbiter_core.specs.Keeping.{KeeperFacts}
 use Rattle.game_host.specs.declared.fault.Unopened.{Unopened}
@@ -19,24 +19,39 @@ GivesLess {K = K} old new = (other : List ℕ) (keeper : K) → new other keeper
 
 -- what is known of folders of a type, with keepers of a type
 pub record FolderFacts (G K : Type 0) : Type 1 where
+  -- what of a folder stays as it is while games are opened and closed
+  pub Place : Type 0
+  pub place : G → Place
   -- it may tell this of the game with this stamp
-  pub tells : List ℕ → Found → Type 0
-  -- it may refuse the game with this stamp so
-  pub refuses : List ℕ → Unopened → Type 0
+  pub tells : Place → List ℕ → Found → Type 0
+  -- why it may have no game with this stamp
+  pub lacks : Place → List ℕ → Unopened → Type 0
+  -- why it may give no keeper of the game with this stamp
+  pub withholds : Place → List ℕ → Unopened → Type 0
   -- it is a keeper of the game with this stamp
-  pub is_of : List ℕ → K → Type 0
+  pub is_of : Place → List ℕ → K → Type 0
   -- the second is a keeper over what the first one left
   pub follows : K → K → Type 0
   -- which keeper the folder may give next
   pub gives : G → Gives K
 
--- the same of keepers alone, with what they tell of themselves
+-- the same of a folder where it is, with what its keepers tell of themselves
 pub record Keepers (K : Type 0) : Type 1 where
   pub facts : KeeperFacts K
   pub tells : List ℕ → Found → Type 0
+  -- it lacks the game, or withholds its keeper
   pub refuses : List ℕ → Unopened → Type 0
   pub is_of : List ℕ → K → Type 0
   pub follows : K → K → Type 0
 
-abbrev pub keepers : {G K : Type 0} → KeeperFacts K → FolderFacts G K → Keepers K
-keepers facts folder = record { facts = facts; tells = folder.tells; refuses = folder.refuses; is_of = folder.is_of; follows = folder.follows }
+abbrev pub keepers_at : {G K : Type 0} → KeeperFacts K → (folder : FolderFacts G K) → folder.Place → Keepers K
+keepers_at facts folder place = record {
+  facts = facts;
+  tells = folder.tells place;
+  refuses = λ stamp why. folder.lacks place stamp why ⊎ folder.withholds place stamp why;
+  is_of = folder.is_of place;
+  follows = folder.follows;
+}
+
+abbrev pub keepers : {G K : Type 0} → KeeperFacts K → FolderFacts G K → G → Keepers K
+keepers facts folder games = keepers_at facts folder (folder.place games)

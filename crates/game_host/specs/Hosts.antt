@@ -8,14 +8,15 @@ use Rattle.arbiter_service.specs.GoingOut.{LinesEnd, Writers}
 use Rattle.arbiter_service.specs.ServedLines.{refused_port}
 use Rattle.game_host.specs.Folders.{Keepers}
 use Rattle.game_host.specs.Acts.{Act, IsSorted, Reply, acts_of, all_replies, passing_at}
-use Rattle.game_host.specs.Games.{CommonView, Fresh, Goes, Life}
+use Rattle.game_host.specs.Games.{CommonView, Fresh, Goes, IsNotOpen, Life}
 
--- each game's own acts lead from where it was never opened to where it is now, by the steps of an arbiter alone; and each act is of
--- the game that its datagram names
+-- each game's own acts lead from where it was never opened to where it is now, by the steps of an arbiter alone; each act is of the
+-- game that its datagram names; and no game is open then
 pub record IsHosted {K : Type 0} (s : Keepers K) (t : CommonView) (acts : List (Act K)) : Type 0 where
   pub games : List ℕ → Life K
   pub each : (stamp : List ℕ) → Goes s t stamp Fresh (acts_of stamp acts) (games stamp)
   pub sorted : AllByRecursion IsSorted acts
+  pub closed : (stamp : List ℕ) → IsNotOpen (games stamp)
 
 -- a receive that failed comes last at the port, and its line last
 abbrev pub missed_if : Bool → List Passing

@@ -35,23 +35,14 @@ fn unopened_by(fault: FindFault) -> Unopened
 }
 
 impl<'f, D: Disk, H: Host> Games for DiskGames<'f, D, H> {
-    ghost use Rattle.std.specs.Prelude.{IfErr, IfOk};
-    ghost use Rattle.game_host.specs.DiskGames.{IsOverFile, IsUnkept, Lacks, disk_facts, file_keepers};
-    ghost use Rattle.game_host.specs.Folders.{GivesLess};
-    ghost use Rattle.game_host.specs.GameFiles.{told};
-    ghost use Rattle.game_host.specs.GameFolders.{HasGame};
+    ghost use Rattle.game_host.specs.DiskGames.{disk_facts};
 
     type Keeper = FileKeeper<H::File>;
 
-    ghost facts = { disk_facts H.File.facts };
+    ghost facts = { disk_facts D.facts H.facts H.File.facts };
 
     /// What the file of the game with this stamp tells, or why it tells nothing.
-    fn find(&self, alloc: Global, stamp: &[u8; 16]) -> Result<Found, Unopened>
-        ensures told { IfOk result ((file_keepers H.File.facts).tells stamp.now) }
-        ensures refused { IfErr result ((file_keepers H.File.facts).refuses stamp.now) }
-        ensures there { IfOk result (λ game. HasGame (D.facts self.now.disk.now) self.now.folder.now stamp.now (told game.name.items game.start game.delay)) }
-        ensures lacks { IfErr result (Lacks (D.facts self.now.disk.now) self.now.folder.now stamp.now) }
-    {
+    fn find(&self, alloc: Global, stamp: &[u8; 16]) -> Result<Found, Unopened> {
         match find_game(alloc, self.disk, self.folder, Stamp(*stamp)) {
             Ok(game) => Ok(Found {
                 name: game.name,
@@ -63,14 +54,7 @@ impl<'f, D: Disk, H: Host> Games for DiskGames<'f, D, H> {
     }
 
     /// A keeper over the file of the record of the game with this stamp, or why there is none.
-    fn take(&mut self, alloc: Global, stamp: &[u8; 16]) -> Result<FileKeeper<H::File>, Unopened>
-        ensures of { IfOk result ((file_keepers H.File.facts).is_of stamp.now) }
-        ensures given { IfOk result ((disk_facts H.File.facts).gives self.old stamp.now) }
-        ensures refused { IfErr result ((file_keepers H.File.facts).refuses stamp.now) }
-        ensures same { GivesLess ((disk_facts H.File.facts).gives self.old) ((disk_facts H.File.facts).gives self.new) }
-        ensures at { IfOk result (IsOverFile (H.facts self.old.host.now) H.File.facts self.old.folder.now stamp.now) }
-        ensures unkept { IfErr result (IsUnkept (H.facts self.old.host.now) H.File.facts self.old.folder.now stamp.now) }
-    {
+    fn take(&mut self, alloc: Global, stamp: &[u8; 16]) -> Result<FileKeeper<H::File>, Unopened> {
         let Ok(path) = kept_path(alloc, self.folder, Stamp(*stamp)) else {
             return Err(Unopened::OutOfMemory);
         };

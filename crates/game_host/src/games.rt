@@ -25,23 +25,26 @@ pub trait Games {
     /// Where a record is kept.
     type Keeper: Keeper + Drop;
 
-    /// What it tells and refuses, whose its keepers are, and which one it may give next.
+    /// What it tells, lacks and withholds, whose its keepers are, and which one it may give next. All but the last depends on a part
+    /// of it alone that no call changes (`place`).
     ghost facts: { FolderFacts Self Self.Keeper };
 
     /// What it tells of the game with this stamp.
     fn find(&self, alloc: Global, stamp: &[u8; 16]) -> Result<Found, Unopened>
-        ensures told { IfOk result (facts.tells stamp.now) }
-        ensures refused { IfErr result (facts.refuses stamp.now) };
+        ensures told { IfOk result (facts.tells (facts.place self.now) stamp.now) }
+        ensures refused { IfErr result (facts.lacks (facts.place self.now) stamp.now) };
 
     /// The keeper of the game with this stamp.
     fn take(&mut self, alloc: Global, stamp: &[u8; 16]) -> Result<Self::Keeper, Unopened>
-        ensures of { IfOk result (facts.is_of stamp.now) }
+        ensures of { IfOk result (facts.is_of (facts.place self.old) stamp.now) }
         ensures given { IfOk result (facts.gives self.old stamp.now) }
-        ensures refused { IfErr result (facts.refuses stamp.now) }
-        ensures same { GivesLess (facts.gives self.old) (facts.gives self.new) };
+        ensures refused { IfErr result (facts.withholds (facts.place self.old) stamp.now) }
+        ensures same { GivesLess (facts.gives self.old) (facts.gives self.new) }
+        ensures place { facts.place self.new ≡ facts.place self.old };
 
     /// Gives the keeper of a game back: what it gives next of this game is a keeper over what this one left.
     fn give_back(&mut self, stamp: &[u8; 16], keeper: Self::Keeper)
         ensures left { (next : Self.Keeper) → facts.gives self.new stamp.now next → facts.follows keeper next }
-        ensures others { GivesOthers stamp.now (facts.gives self.old) (facts.gives self.new) };
+        ensures others { GivesOthers stamp.now (facts.gives self.old) (facts.gives self.new) }
+        ensures place { facts.place self.new ≡ facts.place self.old };
 }

@@ -12,5 +12,5 @@ pub fn own_replies<G: Games>(_games: &G)
 
 /// At each moment of a game the next delivery leaves the record as it was, or adds moves to it.
 pub fn records_go_on<G: Games>(_games: &G)
-    ensures { RecordsGoOn (keepers G.Keeper.facts G.facts) }
+    ensures { (games : G) → RecordsGoOn (keepers G.Keeper.facts G.facts games) }
 {}

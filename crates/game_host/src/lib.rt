@@ -7,7 +7,7 @@
 //!
 //! `write_game` and `read_game` are the text of a game's file, and `game_path` and `kept_path` the paths of its files.
 //!
-//! Its tests stand in `checks_games`.
+//! `tools/host_games` tries it over files, by the program's `host`.
 #![tactic(auto)]
 
 mod disk_games;

@@ -28,6 +28,17 @@ pub(crate) fn least_used<S: Drop>(seats: &mut LruCache<[u8; 16], S>) -> Option<(
     seats.pop_lru()
 }
 
+/// Takes the game out that was used least recently, if there is one.
+pub(crate) fn take_last<S: Drop>(seats: &mut LruCache<[u8; 16], S>) -> Option<([u8; 16], S)>
+    ensures none { IfNone result ((stamp : List ℕ) → (at_stamp seats.old.entries stamp ≡ None) × (at_stamp seats.new.entries stamp ≡ None)) }
+    ensures was { IfSome result (λ x. at_stamp seats.old.entries x.0 ≡ Some x.1) }
+    ensures after { IfSome result (λ x. (other : List ℕ) → at_stamp seats.new.entries other ≡ cond (bytes_eq x.0 other) None (at_stamp seats.old.entries other)) }
+    ensures fewer { IfSome result (λ x. length seats.new.entries < length seats.old.entries) }
+{
+    let _valid = seats.len();
+    seats.pop_lru()
+}
+
 /// Puts a game in, for which there is room.
 pub(crate) fn put_in<S: Drop>(
     seats: &mut LruCache<[u8; 16], S>,

@@ -1,20 +1,20 @@
 //! How a game is closed, and how it stays open.
 
-ghost use Rattle.std.specs.Prelude.{◌≡◌, ◌<◌, [], ℕ, List, None, Some, length, false, true};
+ghost use Rattle.std.specs.Prelude.{◌≡◌, ◌<◌, ℕ, List, None, Some, length, false, true};
 ghost use Rattle.game_host.specs.Folders.{GivesOthers};
 ghost use Rattle.game_host.specs.Room.{at_stamp};
-ghost use Rattle.game_host.specs.Games.{CommonView};
 ghost use Rattle.game_host.specs.Seats.{Evicts, in_hand};
-ghost use Rattle.game_host.specs.Turns.{Closes, Turns};
+ghost use Rattle.game_host.specs.Turns.{Closes, TurnsAnyhow};
 
 use crate::games::Games;
-use crate::room::{least_used, put_in};
+use crate::room::{least_used, put_in, take_last};
 use crate::seat::Seat;
 use lru::LruCache;
 
 /// Closes a game: its keeper is given back.
 pub(crate) fn close<'a, G: Games>(games: &mut G, stamp: &[u8; 16], seat: Seat<'a, G::Keeper>)
-    ensures { Closes G.facts games.old games.new stamp.now seat.entry.keeper }
+    ensures closes { Closes G.facts games.old games.new stamp.now seat.entry.keeper }
+    ensures place { G.facts.place games.new ≡ G.facts.place games.old }
 {
     let Seat { resting: _, keeper } = seat;
     games.give_back(stamp, keeper);
@@ -24,6 +24,7 @@ pub(crate) fn close<'a, G: Games>(games: &mut G, stamp: &[u8; 16], seat: Seat<'a
 fn make_room<'a, G: Games>(games: &mut G, seats: &mut LruCache<[u8; 16], Seat<'a, G::Keeper>>)
     ensures closes { Evicts G.facts.follows (G.facts.gives games.old) (at_stamp seats.old.entries) (G.facts.gives games.new) (at_stamp seats.new.entries) }
     ensures room { length seats.new.entries < seats.new.cap }
+    ensures place { G.facts.place games.new ≡ G.facts.place games.old }
 {
     match least_used(seats) {
         None => {}
@@ -31,6 +32,20 @@ fn make_room<'a, G: Games>(games: &mut G, seats: &mut LruCache<[u8; 16], Seat<'a
             let stamp = least.0;
             close(games, &stamp, least.1);
         }
+    }
+}
+
+/// Closes all games that are open, the one that was used least recently first.
+pub(crate) fn close_all<'a, G: Games>(
+    games: &mut G,
+    seats: &mut LruCache<[u8; 16], Seat<'a, G::Keeper>>,
+)
+    ensures closes { TurnsAnyhow G.Keeper.facts G.facts games.old (at_stamp seats.old.entries) games.new (at_stamp seats.new.entries) }
+    ensures none { (stamp : List ℕ) → at_stamp seats.new.entries stamp ≡ None }
+{
+    while let Some(last) = take_last(seats) {
+        let closed = last.0;
+        close(games, &closed, last.1);
     }
 }
 
@@ -42,8 +57,9 @@ pub(crate) fn settle<'a, G: Games>(
     seat: Seat<'a, G::Keeper>,
 )
     requires { at_stamp seats.old.entries stamp.now ≡ None }
-    ensures runs { seat.entry.resting.is_down ≡ false → (t : CommonView) → Turns G.Keeper.facts G.facts t games.old (in_hand stamp.now (Some seat.entry) (at_stamp seats.old.entries)) games.new (at_stamp seats.new.entries) [] }
+    ensures runs { seat.entry.resting.is_down ≡ false → TurnsAnyhow G.Keeper.facts G.facts games.old (in_hand stamp.now (Some seat.entry) (at_stamp seats.old.entries)) games.new (at_stamp seats.new.entries) }
     ensures down { seat.entry.resting.is_down ≡ true → Closes G.facts games.old games.new stamp.now seat.entry.keeper × (seats.new ≡ seats.old) }
+    ensures place { G.facts.place games.new ≡ G.facts.place games.old }
 {
     if seat.resting.is_down() {
         close(games, stamp, seat);

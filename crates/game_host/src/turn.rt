@@ -1,12 +1,12 @@
 //! One datagram.
 
-ghost use Rattle.std.specs.Prelude.{◌≡◌, ◌↔◌, ◌∷◌, [], ℕ, List, None, Some, Ok, IfOk, IfErr, IsTrue};
-ghost use Rattle.game_host.specs.Acts.{stamp_for, unopened};
+ghost use Rattle.std.specs.Prelude.{◌≡◌, ◌↔◌, ◌∷◌, [], None, Some, Ok, IfOk, IfErr, IsTrue};
+ghost use Rattle.game_host.specs.Acts.{stamp_for};
 ghost use Rattle.game_host.specs.Room.{at_stamp};
 ghost use Rattle.game_host.specs.Folders.{keepers};
 ghost use Rattle.game_host.specs.Games.{CommonView, IsGameOf, IsSetupOf, IsStrange, common_with};
 ghost use Rattle.game_host.specs.Seats.{IsSeated, in_hand};
-ghost use Rattle.game_host.specs.Turns.{AreOpen, OpensSeat, RefusesSeat, Turns, reply_of};
+ghost use Rattle.game_host.specs.Turns.{AreOpen, OpensSeat, Refuses, RefusesSeat, Replies, TakesSeat, Turns, reply_of};
 ghost use Rattle.arbiter_core.specs.Setups.{setup_view};
 
 use crate::fault::Unopened;
@@ -44,7 +44,7 @@ fn found<G: Games>(
     stamp: &[u8; 16],
 ) -> Result<Found, Unopened>
     ensures ok { IfOk result (λ game. IsGameOf common.now.manifest.now stamp.now game.name.items game.start game.delay) }
-    ensures err { IfErr result (IsStrange (keepers G.Keeper.facts G.facts) common.now.manifest.now stamp.now) }
+    ensures err { IfErr result (IsStrange (keepers G.Keeper.facts G.facts games.now) common.now.manifest.now stamp.now) }
 {
     let game = match games.find(alloc, stamp) {
         Ok(game) => game,
@@ -68,6 +68,7 @@ fn open_over<'a, G: Games>(
     stamp: &[u8; 16],
 ) -> (Result<Seat<'a, G::Keeper>, Unopened>, Set<'a>)
     ensures set { result.1 ≡ (setup_view setup.entry).set }
+    ensures place { G.facts.place games.new ≡ G.facts.place games.old }
     ensures opened { IfOk result.0 (λ seat. (t : CommonView) → IsSetupOf t stamp.now (setup_view setup.entry) → OpensSeat G.Keeper.facts G.facts t games.old games.new stamp.now seat) }
     ensures unopened { IfErr result.0 (λ why. (t : CommonView) → IsSetupOf t stamp.now (setup_view setup.entry) → RefusesSeat G.Keeper.facts G.facts t games.old games.new stamp.now why) }
 {
@@ -94,6 +95,7 @@ fn open_game<'a, G: Games>(
     stamp: &[u8; 16],
 ) -> (Result<Seat<'a, G::Keeper>, Unopened>, Set<'a>)
     ensures set { result.1 ≡ set.entry }
+    ensures place { G.facts.place games.new ≡ G.facts.place games.old }
     ensures opened { IfOk result.0 (OpensSeat G.Keeper.facts G.facts (common_with common.now set.entry) games.old games.new stamp.now) }
     ensures unopened { IfErr result.0 (RefusesSeat G.Keeper.facts G.facts (common_with common.now set.entry) games.old games.new stamp.now) }
 {
@@ -114,10 +116,11 @@ fn seat_for<'a, G: Games>(
 ) -> (Result<Seat<'a, G::Keeper>, Unopened>, Set<'a>)
     requires { AreOpen G.Keeper.facts G.facts (common_with common.now set) games.old (at_stamp seats.old.entries) }
     ensures set { result.1 ≡ set.entry }
+    ensures place { G.facts.place games.new ≡ G.facts.place games.old }
     ensures absent { at_stamp seats.new.entries stamp.now ≡ None }
     ensures seated { IfOk result.0 (IsSeated G.Keeper.facts set.entry) }
-    ensures opened { IfOk result.0 (λ seat. Turns G.Keeper.facts G.facts (common_with common.now set.entry) games.old (at_stamp seats.old.entries) games.new (in_hand stamp.now (Some seat) (at_stamp seats.new.entries)) []) }
-    ensures unopened { IfErr result.0 (λ why. (datagram : List ℕ) → stamp_for datagram ≡ Some stamp.now → Turns G.Keeper.facts G.facts (common_with common.now set.entry) games.old (at_stamp seats.old.entries) games.new (at_stamp seats.new.entries) (unopened stamp.now datagram why ∷ [])) }
+    ensures opened { IfOk result.0 (TakesSeat G.Keeper.facts G.facts (common_with common.now set.entry) games.old (at_stamp seats.old.entries) games.new (at_stamp seats.new.entries) stamp.now) }
+    ensures unopened { IfErr result.0 (Refuses G.Keeper.facts G.facts (common_with common.now set.entry) games.old (at_stamp seats.old.entries) games.new (at_stamp seats.new.entries) stamp.now) }
 {
     match take_out(seats, stamp) {
         Some(seat) => (Ok(seat), set),
@@ -139,7 +142,8 @@ fn answer_at<'a, G: Games>(
     requires absent { at_stamp seats.old.entries stamp.now ≡ None }
     requires seated { IsSeated G.Keeper.facts set seat }
     ensures set { result.1 ≡ set.entry }
-    ensures turns { (t : CommonView) → t.set ≡ set.entry → Turns G.Keeper.facts G.facts t games.old (in_hand stamp.now (Some seat.entry) (at_stamp seats.old.entries)) games.new (at_stamp seats.new.entries) (reply_of bytes.now result.0 ∷ []) }
+    ensures place { G.facts.place games.new ≡ G.facts.place games.old }
+    ensures turns { Replies G.Keeper.facts G.facts set.entry games.old (in_hand stamp.now (Some seat.entry) (at_stamp seats.old.entries)) games.new (at_stamp seats.new.entries) (reply_of bytes.now result.0) }
 {
     let (answer, seat, set) = deliver(alloc, seat, set, bytes);
     settle(games, seats, stamp, seat);
@@ -177,6 +181,7 @@ fn answer<'a, G: Games>(
     requires sorted { stamp_for bytes.now ≡ Some stamp.now }
     requires stand { AreOpen G.Keeper.facts G.facts (common_with common.now set) games.old (at_stamp seats.old.entries) }
     ensures set { result.1 ≡ set.entry }
+    ensures place { G.facts.place games.new ≡ G.facts.place games.old }
     ensures turns { Turns G.Keeper.facts G.facts (common_with common.now set.entry) games.old (at_stamp seats.old.entries) games.new (at_stamp seats.new.entries) (reply_of bytes.now result.0 ∷ []) }
 {
     let (found, set) = seat_for(alloc, common, games, seats, set, stamp);
@@ -197,6 +202,7 @@ pub(crate) fn hear<'a, G: Games>(
 ) -> (Answered, Set<'a>)
     requires { AreOpen G.Keeper.facts G.facts (common_with common.now set) games.old (at_stamp seats.old.entries) }
     ensures set { result.1 ≡ set.entry }
+    ensures place { G.facts.place games.new ≡ G.facts.place games.old }
     ensures turns { Turns G.Keeper.facts G.facts (common_with common.now set.entry) games.old (at_stamp seats.old.entries) games.new (at_stamp seats.new.entries) (reply_of bytes.now result.0 ∷ []) }
 {
     match Message::decode(bytes) {

@@ -1,50 +1,23 @@
-use Rattle.std.proofs.Common.{◌≡◌, arith, ℕ, List, ap, refl, subst, sym, ◌∙◌}
-use Rattle.judge_core.specs.Tables.{Holding}
+use Rattle.std.proofs.Common.{ℕ, List, ap, refl}
 use Rattle.lru.specs.LruCache.{LruCache}
 use Rattle.arbiter_service.specs.GoingOut.{writers}
 use Rattle.game_host.specs.declared.seat.Seat.{Seat}
 use Rattle.game_host.specs.Folders.{keepers}
 use Rattle.game_host.specs.Games.{common_with}
 use Rattle.game_host.specs.Room.{at_stamp}
-use Rattle.game_host.specs.Turns.{AreOpen, TakesTurn, Turns}
-use Rattle.game_host.proofs.Hosted.{HasHosted, ends_by_cut, ends_by_loss, hosts_all, more_by_turn, none_hosted, seated_so}
+use Rattle.game_host.proofs.Hosted.{hosts_closed}
+use Rattle.game_host.proofs.Seating.{from_place}
 use Rattle.game_host.proofs.hosting.serve_games.Goals as goal
 
-pub loop-init : goal.loop-init
-loop-init g c = record {
-  hosted = none_hosted _ _ _ _ (at_stamp c.in-Ok.seats.entries) _ _ (λ stamp. ap (λ (l : LruCache (List ℕ) (Seat g.row.G-Keeper.Denot)). at_stamp l.entries stamp) c.in-Ok.ensures);
-  set = refl;
-}
+pub serve_open-ended-requires : goal.serve_open-ended-requires
+serve_open-ended-requires g c = λ stamp. ap (λ (l : LruCache (List ℕ) (Seat g.row.G-Keeper.Denot)). at_stamp l.entries stamp) c.in-Ok.ensures
 
-pub loop-preserved : goal.loop-preserved
-loop-preserved g c =
-    let taken = subst (λ (x : Holding). TakesTurn (Turns g.G.Keeper.Keeper.facts g.G.Games.facts (common_with c.args.common.now x) c.loop.games (at_stamp c.loop.seats.entries) c.turn-told.new.games (at_stamp c.turn-told.new.seats.entries)) (writers g.W.Write.contents g.W.Output.facts) (g.P.Port.facts c.loop.port) (g.P.Port.facts c.turn-told.new.port) c.loop.out c.turn-told.new.out c.turn-told.result.0) c.loop.invariant.set c.turn-told.ensures.taken in
-    record {
-      hosted = more_by_turn (keepers g.G.Keeper.Keeper.facts g.G.Games.facts) (common_with c.args.common.now c.args.set) (writers g.W.Write.contents g.W.Output.facts) (g.G.Games.facts.gives c.loop.games) (g.G.Games.facts.gives c.turn-told.new.games) (at_stamp c.loop.seats.entries) (at_stamp c.turn-told.new.seats.entries) _ _ _ _ _ _ _ c.loop.invariant.hosted
-          c.turn-told.result.0 c.in-Ok-told.lost taken c.in-Ok-told.is c.if-lost.false;
-      set = c.turn-told.ensures.set ∙ c.loop.invariant.set;
-    }
-
-pub turn-told-requires : goal.turn-told-requires
-turn-told-requires g c =
-    let seated = seated_so (keepers g.G.Keeper.Keeper.facts g.G.Games.facts) (common_with c.args.common.now c.args.set) _ (g.G.Games.facts.gives c.loop.games) (at_stamp c.loop.seats.entries) _ _ _ _ _ c.loop.invariant.hosted in
-    subst (λ (x : Holding). AreOpen g.G.Keeper.Keeper.facts g.G.Games.facts (common_with c.args.common.now x) c.loop.games (at_stamp c.loop.seats.entries)) (sym c.loop.invariant.set) seated
-
-pub returns-then-lost : goal.returns-then-lost
-returns-then-lost g c =
-    let taken = subst (λ (x : Holding). TakesTurn (Turns g.G.Keeper.Keeper.facts g.G.Games.facts (common_with c.args.common.now x) c.loop.games (at_stamp c.loop.seats.entries) c.turn-told.new.games (at_stamp c.turn-told.new.seats.entries)) (writers g.W.Write.contents g.W.Output.facts) (g.P.Port.facts c.loop.port) (g.P.Port.facts c.turn-told.new.port) c.loop.out c.turn-told.new.out c.turn-told.result.0) c.loop.invariant.set c.turn-told.ensures.taken in
-    ends_by_loss (keepers g.G.Keeper.Keeper.facts g.G.Games.facts) (common_with c.args.common.now c.args.set) (writers g.W.Write.contents g.W.Output.facts) (g.G.Games.facts.gives c.loop.games) (g.G.Games.facts.gives c.turn-told.new.games) (at_stamp c.loop.seats.entries) (at_stamp c.turn-told.new.seats.entries) _ _ _ _ _ _ _ c.loop.invariant.hosted
-    c.args.n c.loop-test.true c.turn-told.result.0 c.in-Ok-told.lost taken c.in-Ok-told.is c.if-lost.true
-
-pub returns-in-Err-told : goal.returns-in-Err-told
-returns-in-Err-told g c =
-    let taken = subst (λ (x : Holding). TakesTurn (Turns g.G.Keeper.Keeper.facts g.G.Games.facts (common_with c.args.common.now x) c.loop.games (at_stamp c.loop.seats.entries) c.turn-told.new.games (at_stamp c.turn-told.new.seats.entries)) (writers g.W.Write.contents g.W.Output.facts) (g.P.Port.facts c.loop.port) (g.P.Port.facts c.turn-told.new.port) c.loop.out c.turn-told.new.out c.turn-told.result.0) c.loop.invariant.set c.turn-told.ensures.taken in
-    ends_by_cut (keepers g.G.Keeper.Keeper.facts g.G.Games.facts) (common_with c.args.common.now c.args.set) (writers g.W.Write.contents g.W.Output.facts) (g.G.Games.facts.gives c.loop.games) (g.G.Games.facts.gives c.turn-told.new.games) (at_stamp c.loop.seats.entries) (at_stamp c.turn-told.new.seats.entries) _ _ _ _ _ _ _ c.loop.invariant.hosted
-    c.args.n c.loop-test.true c.turn-told.result.0 c.in-Err-told.fault taken c.in-Err-told.is
+pub returns-in-Ok-ended : goal.returns-in-Ok-ended
+returns-in-Ok-ended g c =
+    hosts_closed (keepers g.G.Keeper.Keeper.facts g.G.Games.facts c.args.games.now) (common_with c.args.common.now c.args.set) (writers g.W.Write.contents g.W.Output.facts) c.args.n (g.G.Games.facts.gives c.serve_open-ended.new.games) (g.G.Games.facts.gives c.close_all.new.games) (at_stamp c.serve_open-ended.new.seats.entries) (at_stamp c.close_all.new.seats.entries) _ _ _ _ _
+    c.in-Ok-ended.ensures.served (from_place g.G.Keeper.Keeper.facts g.G.Games.facts c.args.games.now c.serve_open-ended.new.games c.serve_open-ended.ensures.place (common_with c.args.common.now c.args.set) _ _ _ _ _ (c.close_all.ensures.closes (common_with c.args.common.now c.args.set))) c.close_all.ensures.none
 
 pub returns : goal.returns
 returns g c =
-    let few = c.loop.auto.counter-end in
-    let all : c.loop.counter ≡ c.args.n = omega (arith, c.loop-test.false, few) in
-    hosts_all (keepers g.G.Keeper.Keeper.facts g.G.Games.facts) (common_with c.args.common.now c.args.set) (writers g.W.Write.contents g.W.Output.facts) (g.G.Games.facts.gives c.loop.games) (at_stamp c.loop.seats.entries) (g.P.Port.facts c.args.port.now) (g.P.Port.facts c.loop.port) c.args.out.now c.loop.out c.args.n
-    (subst (λ n. HasHosted (keepers g.G.Keeper.Keeper.facts g.G.Games.facts) (common_with c.args.common.now c.args.set) (writers g.W.Write.contents g.W.Output.facts) (g.G.Games.facts.gives c.loop.games) (at_stamp c.loop.seats.entries) (g.P.Port.facts c.args.port.now) (g.P.Port.facts c.loop.port) c.args.out.now c.loop.out n) all c.loop.invariant.hosted)
+    hosts_closed (keepers g.G.Keeper.Keeper.facts g.G.Games.facts c.args.games.now) (common_with c.args.common.now c.args.set) (writers g.W.Write.contents g.W.Output.facts) c.args.n (g.G.Games.facts.gives c.serve_open-ended.new.games) (g.G.Games.facts.gives c.close_all.new.games) (at_stamp c.serve_open-ended.new.seats.entries) (at_stamp c.close_all.new.seats.entries) _ _ _ _ _
+    c.in-Err-ended.ensures.served (from_place g.G.Keeper.Keeper.facts g.G.Games.facts c.args.games.now c.serve_open-ended.new.games c.serve_open-ended.ensures.place (common_with c.args.common.now c.args.set) _ _ _ _ _ (c.close_all.ensures.closes (common_with c.args.common.now c.args.set))) c.close_all.ensures.none

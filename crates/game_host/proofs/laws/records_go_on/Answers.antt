@@ -3,4 +3,4 @@ use Rattle.game_host.proofs.Histories.{records_go_on}
 use Rattle.game_host.proofs.laws.records_go_on.Goals as goal
 
 pub returns : goal.returns
-returns g c = records_go_on (keepers g.G.Keeper.Keeper.facts g.G.Games.facts)
+returns g c = λ games. records_go_on (keepers g.G.Keeper.Keeper.facts g.G.Games.facts games)

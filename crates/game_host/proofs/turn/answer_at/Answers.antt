@@ -9,7 +9,7 @@ use Rattle.game_host.proofs.turn.answer_at.Goals as goal
 
 pub returns-clause-turns : goal.returns-clause-turns
 returns-clause-turns g c = λ t e.
-    answers_reply (keepers g.G.Keeper.Keeper.facts g.G.Games.facts) t c.args.set e (g.G.Games.facts.gives c.args.games.now) (g.G.Games.facts.gives c.settle.new.games) (at_stamp c.args.seats.now.entries) (at_stamp c.settle.new.seats.entries) c.args.stamp.now c.args.bytes.now c.args.seat c.deliver-answer.result.1
+    answers_reply (keepers g.G.Keeper.Keeper.facts g.G.Games.facts c.args.games.now) t c.args.set e (g.G.Games.facts.gives c.args.games.now) (g.G.Games.facts.gives c.settle.new.games) (at_stamp c.args.seats.now.entries) (at_stamp c.settle.new.seats.entries) c.args.stamp.now c.args.bytes.now c.args.seat c.deliver-answer.result.1
     c.deliver-answer.result.0.outputs.items (heard_line c.deliver-answer.result.0.heard) c.requires.sorted c.requires.absent c.deliver-answer.ensures.rests c.deliver-answer.ensures.answered
     (λ runs. c.settle.ensures.runs runs t)
     (λ down. let closed = c.settle.ensures.down down in (closed.0.next, closed.0.others, λ other. ap (λ (l : LruCache (List ℕ) (Seat g.row.G-Keeper.Denot)). at_stamp l.entries other) closed.1))

@@ -1,11 +1,11 @@
-use Rattle.std.proofs.Common.{◌≡◌, ℕ, List, false, true, ap, refl, subst, sym, ◌∙◌}
+use Rattle.std.proofs.Common.{◌≡◌, ℕ, List, false, true, ap, inl, refl, subst, sym, ◌∙◌}
 use Rattle.fen_text.specs.Written.{fen_of}
 use Rattle.move_msg.specs.Stamps.{IsGameName, stamp_of}
 use Rattle.game_host.specs.Games.{IsAnother, IsRefused}
 use Rattle.game_host.proofs.turn.found.Goals as goal
 
 pub returns-in-Err-clause-err : goal.returns-in-Err-clause-err
-returns-in-Err-clause-err g c = IsRefused c.in-Err.ensures.refused
+returns-in-Err-clause-err g c = IsRefused (inl c.in-Err.ensures.refused)
 
 pub returns-in_default-clause-err : goal.returns-in_default-clause-err
 returns-in_default-clause-err g c =

@@ -13,4 +13,4 @@ answer-requires-clause-sorted g c = ap stamp_by (sym c.in-Ok.ensures.computed) â
 pub returns-in-Err-clause-turns : goal.returns-in-Err-clause-turns
 returns-in-Err-clause-turns g c =
     rw (c.told_alone.ensures.outputs, c.told_alone.ensures.line)
-    (unread_to (keepers g.G.Keeper.Keeper.facts g.G.Games.facts) (common_with c.args.common.now c.args.set) _ (at_stamp c.args.seats.now.entries) c.args.bytes.now c.in-Err.fault (sym c.in-Err.ensures.computed))
+    (unread_to (keepers g.G.Keeper.Keeper.facts g.G.Games.facts c.args.games.now) (common_with c.args.common.now c.args.set) _ (at_stamp c.args.seats.now.entries) c.args.bytes.now c.in-Err.fault (sym c.in-Err.ensures.computed))

@@ -18,4 +18,4 @@ returns-in-Ok-clause-unopened g c =
 
 pub returns-in-Err-clause-unopened : goal.returns-in-Err-clause-unopened
 returns-in-Err-clause-unopened g c = λ at datagram absent sorted.
-    strange_to (keepers g.G.Keeper.Keeper.facts g.G.Games.facts) (common_with c.args.common.now c.args.set) _ _ at c.args.stamp.now datagram c.in-Err.why sorted absent c.in-Err.ensures.err (λ other keeper given. given)
+    strange_to (keepers g.G.Keeper.Keeper.facts g.G.Games.facts c.args.games.now) (common_with c.args.common.now c.args.set) _ _ at c.args.stamp.now datagram c.in-Err.why sorted absent c.in-Err.ensures.err (λ other keeper given. given)

@@ -13,11 +13,11 @@ returns-in-Some-clause-absent g c = taken_absent c.args.stamp.now (at_stamp c.ar
 
 pub returns-in-Some-clause-seated : goal.returns-in-Some-clause-seated
 returns-in-Some-clause-seated g c =
-    seated_at (keepers g.G.Keeper.Keeper.facts g.G.Games.facts) (common_with c.args.common.now c.args.set) (g.G.Games.facts.gives c.args.games.now) (at_stamp c.args.seats.now.entries) c.args.stamp.now c.in-Some.seat c.requires (sym c.in-Some.ensures.value)
+    seated_at (keepers g.G.Keeper.Keeper.facts g.G.Games.facts c.args.games.now) (common_with c.args.common.now c.args.set) (g.G.Games.facts.gives c.args.games.now) (at_stamp c.args.seats.now.entries) c.args.stamp.now c.in-Some.seat c.requires (sym c.in-Some.ensures.value)
 
 pub returns-in-Some-clause-opened : goal.returns-in-Some-clause-opened
 returns-in-Some-clause-opened g c =
-    leads_not (keepers g.G.Keeper.Keeper.facts g.G.Games.facts) (common_with c.args.common.now c.args.set) _ _ (at_stamp c.args.seats.now.entries) _ (λ other keeper given. given)
+    leads_not (keepers g.G.Keeper.Keeper.facts g.G.Games.facts c.args.games.now) (common_with c.args.common.now c.args.set) _ _ (at_stamp c.args.seats.now.entries) _ (λ other keeper given. given)
     (taken_is c.args.stamp.now c.in-Some.seat (at_stamp c.args.seats.now.entries) (at_stamp c.take_out.new.seats.entries) (sym c.in-Some.ensures.value) c.take_out.ensures.after)
 
 pub returns-in-None-clause-absent : goal.returns-in-None-clause-absent
@@ -28,12 +28,12 @@ returns-in-None-clause-seated g c = IfOk-weaker c.open_game.result.0 _ _ (λ sea
 
 pub returns-in-None-clause-opened : goal.returns-in-None-clause-opened
 returns-in-None-clause-opened g c =
-    IfOk-weaker c.open_game.result.0 _ _ (λ seat h. from_same (keepers g.G.Keeper.Keeper.facts g.G.Games.facts) (common_with c.args.common.now c.args.set) _ _ (at_stamp c.args.seats.now.entries) (at_stamp c.take_out.new.seats.entries) _ []
+    IfOk-weaker c.open_game.result.0 _ _ (λ seat h. from_same (keepers g.G.Keeper.Keeper.facts g.G.Games.facts c.args.games.now) (common_with c.args.common.now c.args.set) _ _ (at_stamp c.args.seats.now.entries) (at_stamp c.take_out.new.seats.entries) _ []
     (not_taken c.args.stamp.now (at_stamp c.args.seats.now.entries) (at_stamp c.take_out.new.seats.entries) (sym c.in-None.ensures.value) c.take_out.ensures.after)
     (h.turns (at_stamp c.take_out.new.seats.entries) (taken_absent c.args.stamp.now (at_stamp c.args.seats.now.entries) (at_stamp c.take_out.new.seats.entries) c.take_out.ensures.after))) c.open_game.ensures.opened
 
 pub returns-in-None-clause-unopened : goal.returns-in-None-clause-unopened
 returns-in-None-clause-unopened g c =
-    IfErr-weaker c.open_game.result.0 _ _ (λ why h. λ datagram sorted. from_same (keepers g.G.Keeper.Keeper.facts g.G.Games.facts) (common_with c.args.common.now c.args.set) _ _ (at_stamp c.args.seats.now.entries) (at_stamp c.take_out.new.seats.entries) _ (unopened c.args.stamp.now datagram why ∷ [])
+    IfErr-weaker c.open_game.result.0 _ _ (λ why h. λ datagram sorted. from_same (keepers g.G.Keeper.Keeper.facts g.G.Games.facts c.args.games.now) (common_with c.args.common.now c.args.set) _ _ (at_stamp c.args.seats.now.entries) (at_stamp c.take_out.new.seats.entries) _ (unopened c.args.stamp.now datagram why ∷ [])
     (not_taken c.args.stamp.now (at_stamp c.args.seats.now.entries) (at_stamp c.take_out.new.seats.entries) (sym c.in-None.ensures.value) c.take_out.ensures.after)
     (h (at_stamp c.take_out.new.seats.entries) datagram (taken_absent c.args.stamp.now (at_stamp c.args.seats.now.entries) (at_stamp c.take_out.new.seats.entries) c.take_out.ensures.after) sorted)) c.open_game.ensures.unopened
