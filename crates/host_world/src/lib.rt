@@ -13,10 +13,10 @@ use game_host::Games;
 /// and however often each of them is stopped and run again. So each law of `relay_world` is about what they keep and send. The
 /// premises are those about the outside alone: see `specs/Weaves.antt`.
 pub fn hosts_are_worlds<G: Games, H: Games>(_first: &G, _second: &H)
-    ensures { HostsAreWorlds (keepers G.Keeper.facts G.facts) (keepers H.Keeper.facts H.facts) }
+    ensures { (first : G) (second : H) → HostsAreWorlds (keepers G.Keeper.facts G.facts first) (keepers H.Keeper.facts H.facts second) }
 {}
 
 /// As many moves as a host ever acknowledged are found there, then and later, over all of its runs: the game's first ones.
 pub fn acks_are_found<G: Games, H: Games>(_first: &G, _second: &H)
-    ensures { AcksAreFound (keepers G.Keeper.facts G.facts) (keepers H.Keeper.facts H.facts) }
+    ensures { (first : G) (second : H) → AcksAreFound (keepers G.Keeper.facts G.facts first) (keepers H.Keeper.facts H.facts second) }
 {}
