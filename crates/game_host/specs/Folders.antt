@@ -35,7 +35,7 @@ pub record FolderFacts (G K : Type 0) : Type 1 where
   -- which keeper the folder may give next
   pub gives : G → Gives K
 
--- the same of a folder where it is, with what its keepers tell of themselves
+-- what is known of one folder, where it is, and what its keepers tell of themselves
 pub record Keepers (K : Type 0) : Type 1 where
   pub facts : KeeperFacts K
   pub tells : List ℕ → Found → Type 0

@@ -37,7 +37,7 @@ pub record Leads {K : Type 0} (s : Keepers K) (t : CommonView) (old : Lives K) (
 abbrev pub LeadsFrom : {K : Type 0} → Keepers K → CommonView → Gives K → At K → Gives K → At K → List Reply → Type 0
 LeadsFrom {K = K} s t gives at gives' at' replies = (lives : Lives K) → AreLives s t gives at lives → Leads s t lives gives' at' replies
 
--- the same of a folder before and after
+-- from a folder to a later one, by the keepers of where it was first
 abbrev pub Turns : {G K : Type 0} → KeeperFacts K → FolderFacts G K → CommonView → G → At K → G → At K → List Reply → Type 0
 Turns facts folder t games at games' at' replies = LeadsFrom (keepers facts folder games) t (folder.gives games) at (folder.gives games') at' replies
 
@@ -115,6 +115,6 @@ pub record HasServed {K W : Type 0} (s : Keepers K) (t : CommonView) (w : Writer
   pub ends : Ends n replies lost ended
   pub lines : LinesEnd w out (all_lines replies lost) out' ended
 
--- the same from a folder to a later one and the games that are open then
+-- such a run from a folder to a later one and the games that are open then
 abbrev pub ServesOpen : {G K W : Type 0} → KeeperFacts K → FolderFacts G K → Common → Holding → Writers W → ℕ → G → G → Entries K → PortFacts → PortFacts → W → W → Result ℕ WriteFault → Type 0
 ServesOpen facts folder common set w n games games' seats' port port' out out' ended = HasServed (keepers facts folder games) (common_with common set) w n (folder.gives games') (at_stamp seats') port port' out out' ended
