@@ -73,8 +73,17 @@ abbrev pub life_after : {K : Type 0} → K → Told → Life K
 life_after now (Ok arbiter) = Open (moment arbiter now)
 life_after now (Err fault) = Shut now
 
+-- under the stamp the folder tells a game of this name, start and delay
+pub record IsToldAs {K : Type 0} (s : Keepers K) (stamp : List ℕ) (setup : SetupView) : Type 0 where
+  pub game : Found
+  pub told : s.tells stamp game
+  pub name : setup.name ≡ game.name.items
+  pub start : setup.start ≡ game.start
+  pub delay : setup.delay ≡ game.delay
+
 pub record OpensTo {K : Type 0} (s : Keepers K) (t : CommonView) (stamp : List ℕ) (old : Life K) (o : Opening K) (told : Told) (new : Life K) : Type 0 where
   pub over : IsOver s stamp old o.before
+  pub tells : IsToldAs s stamp o.setup
   pub game : IsSetupOf t stamp o.setup
   pub opening : IsOpening s.facts o.setup o.before o.now told
   pub new_is : new ≡ life_after o.now told

@@ -3,6 +3,7 @@ use Rattle.std.specs.Prelude.{◌≡◌, ℕ, Bool, true, false, List, [], ◌�
 use Rattle.std.specs.List.{AllByRecursion}
 use Rattle.judge_core.specs.Tables.{Holding}
 use Rattle.arbiter_core.specs.Keeping.{KeeperFacts}
+use Rattle.arbiter_core.specs.Setups.{SetupView}
 use Rattle.system_io.specs.Failures.{Risen}
 use Rattle.system_io.specs.Ports.{Missed, Passed, PortFacts}
 use Rattle.system_io.specs.declared.output.WriteFault.{WriteFault}
@@ -15,7 +16,7 @@ use Rattle.game_host.specs.Folders.{FolderFacts, Gives, GivesOthers, Keepers, ke
 use Rattle.game_host.specs.declared.turn.Answered.{Answered}
 use Rattle.game_host.specs.Told.{line_words}
 use Rattle.game_host.specs.Acts.{Act, IsSorted, Reply, acts_of, all_replies, passing_at, stamp_for, unopened}
-use Rattle.game_host.specs.Games.{CommonView, Fresh, Goes, common_with}
+use Rattle.game_host.specs.Games.{CommonView, Fresh, Goes, IsSetupOf, IsToldAs, common_with}
 use Rattle.game_host.specs.Room.{at_stamp}
 use Rattle.game_host.specs.Hosts.{Ends, all_lines, all_passing}
 use Rattle.game_host.specs.Seats.{At, AreLives, AreSeated, IsSeated, Lives, in_hand}
@@ -66,10 +67,22 @@ pub record OpensSeat {G K : Type 0} (facts : KeeperFacts K) (folder : FolderFact
   pub seated : IsSeated facts t.set seat
   pub turns : (at : At K) → at stamp ≡ None → Turns facts folder t games at games' (in_hand stamp (Some seat) at) []
 
+-- it is the setup of the game with this stamp, as the folder tells it
+pub record IsFoundAs {G K : Type 0} (facts : KeeperFacts K) (folder : FolderFacts G K) (t : CommonView) (games : G) (stamp : List ℕ) (setup : SetupView) : Type 0 where
+  pub game : IsSetupOf t stamp setup
+  pub told : IsToldAs (keepers facts folder games) stamp setup
+
 -- or it isn't, and its datagram is refused so
 abbrev pub RefusesSeat : {G K : Type 0} → KeeperFacts K → FolderFacts G K → CommonView → G → G → List ℕ → Unopened → Type 0
 RefusesSeat {K = K} facts folder t games games' stamp why =
     (at : At K) (datagram : List ℕ) → at stamp ≡ None → stamp_for datagram ≡ Some stamp → Turns facts folder t games at games' at (unopened stamp datagram why ∷ [])
+
+-- so it is of each setup that is found so
+abbrev pub OpensFound : {G K : Type 0} → KeeperFacts K → FolderFacts G K → G → G → List ℕ → SetupView → Seat K → Type 0
+OpensFound facts folder games games' stamp setup seat = (t : CommonView) → IsFoundAs facts folder t games stamp setup → OpensSeat facts folder t games games' stamp seat
+
+abbrev pub RefusesFound : {G K : Type 0} → KeeperFacts K → FolderFacts G K → G → G → List ℕ → SetupView → Unopened → Type 0
+RefusesFound facts folder games games' stamp setup why = (t : CommonView) → IsFoundAs facts folder t games stamp setup → RefusesSeat facts folder t games games' stamp why
 
 -- which games are open, by their stamps
 abbrev pub Entries : Type 0 → Type 0

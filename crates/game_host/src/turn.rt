@@ -4,9 +4,9 @@ ghost use Rattle.std.specs.Prelude.{◌≡◌, ◌↔◌, ◌∷◌, [], None, S
 ghost use Rattle.game_host.specs.Acts.{stamp_for};
 ghost use Rattle.game_host.specs.Room.{at_stamp};
 ghost use Rattle.game_host.specs.Folders.{keepers};
-ghost use Rattle.game_host.specs.Games.{CommonView, IsGameOf, IsSetupOf, IsStrange, common_with};
+ghost use Rattle.game_host.specs.Games.{CommonView, IsGameOf, IsStrange, common_with};
 ghost use Rattle.game_host.specs.Seats.{IsSeated, in_hand};
-ghost use Rattle.game_host.specs.Turns.{AreOpen, OpensSeat, Refuses, RefusesSeat, Replies, TakesSeat, Turns, reply_of};
+ghost use Rattle.game_host.specs.Turns.{AreOpen, OpensFound, OpensSeat, Refuses, RefusesFound, RefusesSeat, Replies, TakesSeat, Turns, reply_of};
 ghost use Rattle.arbiter_core.specs.Setups.{setup_view};
 
 use crate::fault::Unopened;
@@ -44,6 +44,7 @@ fn found<G: Games>(
     stamp: &[u8; 16],
 ) -> Result<Found, Unopened>
     ensures ok { IfOk result (λ game. IsGameOf common.now.manifest.now stamp.now game.name.items game.start game.delay) }
+    ensures told { IfOk result ((keepers G.Keeper.facts G.facts games.now).tells stamp.now) }
     ensures err { IfErr result (IsStrange (keepers G.Keeper.facts G.facts games.now) common.now.manifest.now stamp.now) }
 {
     let game = match games.find(alloc, stamp) {
@@ -69,8 +70,8 @@ fn open_over<'a, G: Games>(
 ) -> (Result<Seat<'a, G::Keeper>, Unopened>, Set<'a>)
     ensures set { result.1 ≡ (setup_view setup.entry).set }
     ensures place { G.facts.place games.new ≡ G.facts.place games.old }
-    ensures opened { IfOk result.0 (λ seat. (t : CommonView) → IsSetupOf t stamp.now (setup_view setup.entry) → OpensSeat G.Keeper.facts G.facts t games.old games.new stamp.now seat) }
-    ensures unopened { IfErr result.0 (λ why. (t : CommonView) → IsSetupOf t stamp.now (setup_view setup.entry) → RefusesSeat G.Keeper.facts G.facts t games.old games.new stamp.now why) }
+    ensures opened { IfOk result.0 (OpensFound G.Keeper.facts G.facts games.old games.new stamp.now (setup_view setup.entry)) }
+    ensures unopened { IfErr result.0 (RefusesFound G.Keeper.facts G.facts games.old games.new stamp.now (setup_view setup.entry)) }
 {
     let mut keeper = match games.take(alloc, stamp) {
         Ok(keeper) => keeper,

@@ -2,19 +2,21 @@ use Rattle.std.proofs.lemmas.Result.{IfOk-weaker, IfErr-weaker}
 use Rattle.arbiter_core.specs.Setups.{setup_view}
 use Rattle.game_host.specs.Folders.{keepers}
 use Rattle.game_host.specs.Games.{common_with}
-use Rattle.game_host.proofs.Opening.{its_setup}
+use Rattle.game_host.proofs.Opening.{found_as}
 use Rattle.game_host.proofs.Handing.{strange_to}
 use Rattle.game_host.proofs.turn.open_game.Goals as goal
 
 pub returns-in-Ok-clause-opened : goal.returns-in-Ok-clause-opened
 returns-in-Ok-clause-opened g c =
     let t = common_with c.args.common.now c.args.set in
-    IfOk-weaker c.open_over.result.0 _ _ (λ seat h. h t (its_setup t c.args.stamp.now c.in-Ok.game.name.items c.in-Ok.game.start c.in-Ok.game.delay (setup_view c.setup_for.result) c.setup_for.ensures c.in-Ok.ensures.ok)) c.open_over.ensures.opened
+    let is = found_as g.G.Keeper.Keeper.facts g.G.Games.facts t c.args.games.now c.args.stamp.now c.in-Ok.game (setup_view c.setup_for.result) c.setup_for.ensures c.in-Ok.ensures.ok c.in-Ok.ensures.told in
+    IfOk-weaker c.open_over.result.0 _ _ (λ seat h. h t is) c.open_over.ensures.opened
 
 pub returns-in-Ok-clause-unopened : goal.returns-in-Ok-clause-unopened
 returns-in-Ok-clause-unopened g c =
     let t = common_with c.args.common.now c.args.set in
-    IfErr-weaker c.open_over.result.0 _ _ (λ why h. h t (its_setup t c.args.stamp.now c.in-Ok.game.name.items c.in-Ok.game.start c.in-Ok.game.delay (setup_view c.setup_for.result) c.setup_for.ensures c.in-Ok.ensures.ok)) c.open_over.ensures.unopened
+    let is = found_as g.G.Keeper.Keeper.facts g.G.Games.facts t c.args.games.now c.args.stamp.now c.in-Ok.game (setup_view c.setup_for.result) c.setup_for.ensures c.in-Ok.ensures.ok c.in-Ok.ensures.told in
+    IfErr-weaker c.open_over.result.0 _ _ (λ why h. h t is) c.open_over.ensures.unopened
 
 pub returns-in-Err-clause-unopened : goal.returns-in-Err-clause-unopened
 returns-in-Err-clause-unopened g c = λ at datagram absent sorted.
