@@ -28,7 +28,7 @@ unfolding GoOut
 line_written w out now line (next, goes, same) = subst (λ x. Appends (w.written out) (w.written x) (ended line)) (sym same) goes.whole
 
 module _ {P F K W : Type 0} (folders : List ℕ → Keepers K) (host : Hosted P F) (w : Writers W) (status : ℕ) (h : HostGames) where
-  served_done : (s : Keepers K) (t : CommonView) (n : ℕ) (port port' : PortFacts) (out out' : W) → Hosts s t w n port port' out out' (Ok status) → HostsAndWrites s t n port port' (w.written out) (w.written out') status
+  served_done : (s : Keepers K) (t : CommonView) (n : ℕ) (port port' : PortFacts) (out out' : W) → Hosts s t w n (λ stamp next. Unit {0}) port port' out out' (Ok status) → HostsAndWrites s t n port port' (w.written out) (w.written out') status
   served_done s t n port port' out out' run = record {
     acts = run.acts;
     hosted = run.hosted;

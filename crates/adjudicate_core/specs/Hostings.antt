@@ -67,7 +67,7 @@ seen_as folders r = record { written = λ t. t; told = λ old line new. Appends 
 
 -- by the writer: each line has gone out before the next comes
 abbrev pub seen_by : {K W : Type 0} → (List ℕ → Keepers K) → Writers W → Result ℕ WriteFault → Seen W
-seen_by folders w r = record { written = w.written; told = λ out line now. GoOut w out (line ∷ []) now; cut = λ out line now. LastIsCut w out (line ∷ []) now; hosts = λ path t n port port' out now. Hosts (folders path) t w n port port' out now r }
+seen_by folders w r = record { written = w.written; told = λ out line now. GoOut w out (line ∷ []) now; cut = λ out line now. LastIsCut w out (line ∷ []) now; hosts = λ path t n port port' out now. Hosts (folders path) t w n (λ stamp next. Unit {0}) port port' out now r }
 
 -- ---- all of it
 

@@ -18,9 +18,9 @@ use Rattle.game_host.specs.declared.seat.Seat.{Seat}
 use Rattle.game_host.specs.Folders.{FolderFacts, Gives, Keepers, keepers, keepers_at}
 use Rattle.game_host.specs.Acts.{Reply, passing_at}
 use Rattle.game_host.specs.declared.seat.Common.{Common}
-use Rattle.game_host.specs.Games.{CommonView, Fresh, common_with}
+use Rattle.game_host.specs.Games.{CommonView, Fresh, Life, Open, Shut, common_with}
 use Rattle.game_host.specs.Seats.{At, AreSeated, Stands}
-use Rattle.game_host.specs.Hosts.{Ends, Hosts, all_lines, all_passing, missed_if}
+use Rattle.game_host.specs.Hosts.{Ends, Hosts, IsLeft, all_lines, all_passing, missed_if}
 use Rattle.game_host.specs.Turns.{AreOpen, HasServed, Leads, LeadsFrom, Receives, TakesTurn, Turns}
 use Rattle.game_host.proofs.Turning.{goes_still, leads_join}
 use Rattle.game_host.proofs.Handing.{not_open}
@@ -167,19 +167,26 @@ module _ {K W : Type 0} (s : Keepers K) (t : CommonView) (w : Writers W) (old ne
       let lines : LastIsCut w out (x.line ∷ []) out' = subst (λ (r : Result Bool WriteFault). LinesEnd w out (x.line ∷ []) out' r) is x.lines in
       served_cut s t w old new at at' port now later first out out' k n had few x.line fault x.lost x.received lines
 
+left_so : {K : Type 0} (s : Keepers K) (t : CommonView) (gives : K → Type 0) (life : Life K) → Stands s t gives None life → IsLeft s gives life
+left_so s t gives Fresh h = tt
+left_so s t gives (Shut left) h = h
+left_so s t gives (Open at) h = h
+
 -- the games that are open are closed
 pub hosts_closed : {K W : Type 0} (s : Keepers K) (t : CommonView) (w : Writers W) (n : ℕ) (gives gives' : Gives K) (at at' : At K) (port port' : PortFacts) (out out' : W) (ended : Result ℕ WriteFault)
-    → HasServed s t w n gives at port port' out out' ended → LeadsFrom s t gives at gives' at' [] → ((stamp : List ℕ) → at' stamp ≡ None) → Hosts s t w n port port' out out' ended
+    → HasServed s t w n gives at port port' out out' ended → LeadsFrom s t gives at gives' at' [] → ((stamp : List ℕ) → at' stamp ≡ None) → Hosts s t w n gives' port port' out out' ended
 hosts_closed {K = K} s t w n gives gives' at at' port port' out out' ended had closing none =
     let leads : Leads s t (λ stamp. Fresh) gives' at' had.replies = goes_still s t gives gives' at at' (λ stamp. Fresh) had.replies had.leads closing in
+    let shut : (stamp : List ℕ) → Stands s t (gives' stamp) None (leads.new stamp) = λ stamp. subst (λ (o : Option (Seat K)). Stands s t (gives' stamp) o (leads.new stamp)) (none stamp) (leads.stand stamp) in
     record {
       acts = leads.acts;
       hosted = record {
         games = leads.new;
         each = leads.turns.each;
         sorted = leads.turns.sorted;
-        closed = λ stamp. not_open s t (gives' stamp) (leads.new stamp) (subst (λ (o : Option (Seat K)). Stands s t (gives' stamp) o (leads.new stamp)) (none stamp) (leads.stand stamp));
+        closed = λ stamp. not_open s t (gives' stamp) (leads.new stamp) (shut stamp);
       };
+      left = λ stamp. left_so s t (gives' stamp) (leads.new stamp) (shut stamp);
       lost = had.lost;
       passed = subst (λ (rs : List Reply). Passed port port' (all_passing port.addresses rs had.lost)) (sym leads.replies_are) had.passed;
       cause = had.cause;

@@ -6,9 +6,9 @@ use Rattle.system_io.specs.Ports.{Passing, Missed, Passed, PortFacts}
 use Rattle.system_io.specs.declared.output.WriteFault.{WriteFault}
 use Rattle.arbiter_service.specs.GoingOut.{LinesEnd, Writers}
 use Rattle.arbiter_service.specs.ServedLines.{refused_port}
-use Rattle.game_host.specs.Folders.{Keepers}
+use Rattle.game_host.specs.Folders.{Gives, Keepers}
 use Rattle.game_host.specs.Acts.{Act, IsSorted, Reply, acts_of, all_replies, passing_at}
-use Rattle.game_host.specs.Games.{CommonView, Fresh, Goes, IsNotOpen, Life}
+use Rattle.game_host.specs.Games.{CommonView, Fresh, Goes, IsNotOpen, Life, Open, Shut}
 
 -- each game's own acts lead from where it was never opened to where it is now, by the steps of an arbiter alone; each act is of the
 -- game that its datagram names; and no game is open then
@@ -42,11 +42,19 @@ Ends n replies false (Ok status) = (length replies ≡ n) × (status ≡ 0)
 Ends n replies true (Ok status) = (length replies < n) × (status ≡ 1)
 Ends n replies lost (Err fault) = length (all_lines replies lost) ≤ n
 
+-- of a game that was closed a folder gives from now on a keeper over what was left
+abbrev pub IsLeft : {K : Type 0} → Keepers K → (K → Type 0) → Life K → Type 0
+IsLeft s gives Fresh = Unit {0}
+IsLeft {K = K} s gives (Shut left) = (next : K) → gives next → s.follows left next
+IsLeft s gives (Open at) = ⊥
+
 -- A host's run for n datagrams: some acts, by which each game goes its own way. All that passes at the port are the datagrams and
--- what is answered, the lines are those of the datagrams, and each has gone out before the next datagram is awaited.
-pub record Hosts {K W : Type 0} (s : Keepers K) (t : CommonView) (w : Writers W) (n : ℕ) (port port' : PortFacts) (out out' : W) (ended : Result ℕ WriteFault) : Type 0 where
+-- what is answered, the lines are those of the datagrams, and each has gone out before the next datagram is awaited. These keepers
+-- may be given after it.
+pub record Hosts {K W : Type 0} (s : Keepers K) (t : CommonView) (w : Writers W) (n : ℕ) (gives : Gives K) (port port' : PortFacts) (out out' : W) (ended : Result ℕ WriteFault) : Type 0 where
   pub acts : List (Act K)
   pub hosted : IsHosted s t acts
+  pub left : (stamp : List ℕ) → IsLeft s (gives stamp) (hosted.games stamp)
   pub lost : Bool
   pub passed : Passed port port' (all_passing port.addresses (all_replies acts) lost)
   pub cause : lost ≡ true → Risen port.faults port'.faults
@@ -54,7 +62,7 @@ pub record Hosts {K W : Type 0} (s : Keepers K) (t : CommonView) (w : Writers W)
   pub lines : LinesEnd w out (all_lines (all_replies acts) lost) out' ended
 
 -- so it hosts; or memory for the open games was refused, and nothing was done
-abbrev pub HostsIfRoom : {K W E : Type 0} → Keepers K → CommonView → Writers W → ℕ → PortFacts → PortFacts → W → W → Result (Result ℕ E) WriteFault → Type 0
-HostsIfRoom s t w n port port' out out' (Ok (Ok status)) = Hosts s t w n port port' out out' (Ok status)
-HostsIfRoom s t w n port port' out out' (Ok (Err e)) = (port' ≡ port) × (out' ≡ out)
-HostsIfRoom s t w n port port' out out' (Err fault) = Hosts s t w n port port' out out' (Err fault)
+abbrev pub HostsIfRoom : {K W E : Type 0} → Keepers K → CommonView → Writers W → ℕ → Gives K → PortFacts → PortFacts → W → W → Result (Result ℕ E) WriteFault → Type 0
+HostsIfRoom s t w n gives port port' out out' (Ok (Ok status)) = Hosts s t w n gives port port' out out' (Ok status)
+HostsIfRoom s t w n gives port port' out out' (Ok (Err e)) = (port' ≡ port) × (out' ≡ out)
+HostsIfRoom s t w n gives port port' out out' (Err fault) = Hosts s t w n gives port port' out out' (Err fault)

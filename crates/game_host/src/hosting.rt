@@ -120,7 +120,8 @@ pub fn serve_games<'a, G: Games, P: Port, W: Output>(
     n: u64,
     out: &mut W,
 ) -> Result<Result<u8, AllocError>, WriteFault>
-    ensures { HostsIfRoom (keepers G.Keeper.facts G.facts games.old) (common_with common.now set.entry) (writers W.Write.contents W.facts) n (P.facts port.old) (P.facts port.new) out.old out.new result }
+    ensures hosts { HostsIfRoom (keepers G.Keeper.facts G.facts games.old) (common_with common.now set.entry) (writers W.Write.contents W.facts) n (G.facts.gives games.new) (P.facts port.old) (P.facts port.new) out.old out.new result }
+    ensures place { G.facts.place games.new ≡ G.facts.place games.old }
 {
     let mut seats: LruCache<[u8; 16], Seat<'a, G::Keeper>> = match LruCache::new(alloc, at_once) {
         Ok(seats) => seats,

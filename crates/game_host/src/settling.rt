@@ -42,6 +42,7 @@ pub(crate) fn close_all<'a, G: Games>(
 )
     ensures closes { TurnsAnyhow G.Keeper.facts G.facts games.old (at_stamp seats.old.entries) games.new (at_stamp seats.new.entries) }
     ensures none { (stamp : List ℕ) → at_stamp seats.new.entries stamp ≡ None }
+    ensures place { G.facts.place games.new ≡ G.facts.place games.old }
 {
     while let Some(last) = take_last(seats) {
         let closed = last.0;

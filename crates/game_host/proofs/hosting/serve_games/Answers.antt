@@ -12,12 +12,12 @@ use Rattle.game_host.proofs.hosting.serve_games.Goals as goal
 pub serve_open-ended-requires : goal.serve_open-ended-requires
 serve_open-ended-requires g c = λ stamp. ap (λ (l : LruCache (List ℕ) (Seat g.row.G-Keeper.Denot)). at_stamp l.entries stamp) c.in-Ok.ensures
 
-pub returns-in-Ok-ended : goal.returns-in-Ok-ended
-returns-in-Ok-ended g c =
+pub returns-in-Ok-ended-clause-hosts : goal.returns-in-Ok-ended-clause-hosts
+returns-in-Ok-ended-clause-hosts g c =
     hosts_closed (keepers g.G.Keeper.Keeper.facts g.G.Games.facts c.args.games.now) (common_with c.args.common.now c.args.set) (writers g.W.Write.contents g.W.Output.facts) c.args.n (g.G.Games.facts.gives c.serve_open-ended.new.games) (g.G.Games.facts.gives c.close_all.new.games) (at_stamp c.serve_open-ended.new.seats.entries) (at_stamp c.close_all.new.seats.entries) _ _ _ _ _
     c.in-Ok-ended.ensures.served (from_place g.G.Keeper.Keeper.facts g.G.Games.facts c.args.games.now c.serve_open-ended.new.games c.serve_open-ended.ensures.place (common_with c.args.common.now c.args.set) _ _ _ _ _ (c.close_all.ensures.closes (common_with c.args.common.now c.args.set))) c.close_all.ensures.none
 
-pub returns : goal.returns
-returns g c =
+pub returns-clause-hosts : goal.returns-clause-hosts
+returns-clause-hosts g c =
     hosts_closed (keepers g.G.Keeper.Keeper.facts g.G.Games.facts c.args.games.now) (common_with c.args.common.now c.args.set) (writers g.W.Write.contents g.W.Output.facts) c.args.n (g.G.Games.facts.gives c.serve_open-ended.new.games) (g.G.Games.facts.gives c.close_all.new.games) (at_stamp c.serve_open-ended.new.seats.entries) (at_stamp c.close_all.new.seats.entries) _ _ _ _ _
     c.in-Err-ended.ensures.served (from_place g.G.Keeper.Keeper.facts g.G.Games.facts c.args.games.now c.serve_open-ended.new.games c.serve_open-ended.ensures.place (common_with c.args.common.now c.args.set) _ _ _ _ _ (c.close_all.ensures.closes (common_with c.args.common.now c.args.set))) c.close_all.ensures.none

@@ -1,4 +1,4 @@
-use Rattle.std.proofs.Common.{[], length}
+use Rattle.std.proofs.Common.{◌≡◌, [], length}
 use Rattle.game_host.specs.Folders.{keepers}
 use Rattle.game_host.specs.Games.{CommonView}
 use Rattle.game_host.specs.Room.{at_stamp}
@@ -7,7 +7,10 @@ use Rattle.game_host.proofs.settling.close_all.Given as goal
 
 abbrev pub invariant-loop-last : goal.invariant-loop-last
 invariant-loop-last g l =
-    (t : CommonView) → LeadsFrom (keepers g.G.Keeper.Keeper.facts g.G.Games.facts l.fn.games) t (g.G.Games.facts.gives l.fn.games) (at_stamp l.fn.seats.entries) (g.G.Games.facts.gives l.games) (at_stamp l.seats.entries) []
+    record {
+      leads : (t : CommonView) → LeadsFrom (keepers g.G.Keeper.Keeper.facts g.G.Games.facts l.fn.games) t (g.G.Games.facts.gives l.fn.games) (at_stamp l.fn.seats.entries) (g.G.Games.facts.gives l.games) (at_stamp l.seats.entries) [];
+      place : g.G.Games.facts.place l.games ≡ g.G.Games.facts.place l.fn.games;
+    }
 
 abbrev pub decreases-loop-last : goal.decreases-loop-last
 decreases-loop-last g l = length l.seats.entries
