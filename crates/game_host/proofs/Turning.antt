@@ -44,7 +44,7 @@ module _ {K : Type 0} (s : Keepers K) (t : CommonView) where
   less_stands old new None (Open at) less h = h
   less_stands old new (Some seat) life less h = h
 
-  -- the same games are open, and the folder gives no more
+  -- each game that is open stays open, no other is opened, and the folder gives no more than before
   pub leads_not : (old new : Gives K) (at at' : At K) → GivesLess old new → ((other : List ℕ) → at' other ≡ at other) → LeadsFrom s t old at new at' []
   leads_not old new at at' less same = λ lives stand. record {
     acts = [];

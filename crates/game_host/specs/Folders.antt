@@ -44,6 +44,7 @@ pub record Keepers (K : Type 0) : Type 1 where
   pub is_of : List ℕ → K → Type 0
   pub follows : K → K → Type 0
 
+-- what is known of a folder at this place
 abbrev pub keepers_at : {G K : Type 0} → KeeperFacts K → (folder : FolderFacts G K) → folder.Place → Keepers K
 keepers_at facts folder place = record {
   facts = facts;
@@ -53,5 +54,6 @@ keepers_at facts folder place = record {
   follows = folder.follows;
 }
 
+-- what is known of this folder, where it is now
 abbrev pub keepers : {G K : Type 0} → KeeperFacts K → FolderFacts G K → G → Keepers K
 keepers facts folder games = keepers_at facts folder (folder.place games)

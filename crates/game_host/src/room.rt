@@ -11,6 +11,7 @@ pub(crate) fn take_out<S: Drop>(seats: &mut LruCache<[u8; 16], S>, stamp: &[u8; 
     ensures value { result ≡ at_stamp seats.old.entries stamp.now }
     ensures after { (other : List ℕ) → at_stamp seats.new.entries other ≡ cond (bytes_eq stamp.now other) None (at_stamp seats.old.entries other) }
 {
+    // Called for its contract: it brings the map's invariant into the proof.
     let _valid = seats.len();
     seats.pop(stamp)
 }
@@ -35,6 +36,7 @@ pub(crate) fn take_last<S: Drop>(seats: &mut LruCache<[u8; 16], S>) -> Option<([
     ensures after { IfSome result (λ x. (other : List ℕ) → at_stamp seats.new.entries other ≡ cond (bytes_eq x.0 other) None (at_stamp seats.old.entries other)) }
     ensures fewer { IfSome result (λ x. length seats.new.entries < length seats.old.entries) }
 {
+    // Called for its contract: it brings the map's invariant into the proof.
     let _valid = seats.len();
     seats.pop_lru()
 }

@@ -1,9 +1,13 @@
--- Two hosts and a game that both have, woven together: what each of them does, in the order of time (this project's own).
+-- Two hosts and a game that both have, woven together: what each of them does, in the order of time (this project's own). A weave
+-- is an interleaving of what both do.
 --
 -- Of each run of a host its contract is known (`IsHosted` of game_host, which `serve_games` ensures). It gives the setup of each
 -- opening, what opening and delivering leave, from where each delivery starts, and that a game that is opened wasn't open. What no
--- contract can give is a premise. `IsHostOf` says which hosts these are. All premises about what is outside stand in three records,
--- `Finds`, `Hears` and `Stops`: the game that was found under the stamp is this one, no message of it is made up, and keepers keep.
+-- contract can give is a premise, and stands here:
+-- - `IsHostOf`: which hosts these are.
+-- - `rest` of `IsRunOf`: a run that was stopped is a front of one that returns.
+-- - `Finds`, `Hears` and `Stops`: the game that was found under the stamp is this one, no message of it is made up, and keepers keep.
+-- - `GivesOwn` and `GivesIf`: a datagram without a keeper, a closing, and an act of another game leave what is found.
 --
 -- A real run meets them. Let the keepers of a game at a host be over one file, to which nobody else writes, and let its sites be as
 -- `changed` has them, with what is in that file after each act. Then `kept` and `is_found` hold by what reading and replacing a file
@@ -82,7 +86,7 @@ pub record IsHostOf (game : Judged) (who : Who) (t : CommonView) : Type 0 where
   pub number : t.number ≡ who_number who
 
 -- These acts are what a run of it has done so far: with what is still to come, if anything, they are the acts of a run that returns, as
--- the contract of `serve_games` has them. A run that was stopped is the front of one that is to answer as many datagrams as came.
+-- the contract of `serve_games` has them. Premise: a run that was stopped is a front of one that returns.
 pub record IsRunOf {K : Type 0} (s : Keepers K) (game : Judged) (who : Who) (acts : List (Act K)) : Type 0 where
   pub common : CommonView
   pub of : IsHostOf game who common
@@ -149,7 +153,7 @@ pub record Stops (game : Judged) (old : Net) (who : Who) (new : Net) : Type 0 wh
   pub is_found : (found ≡ (site_of old who).kept) ⊎ (IsCutAtPut game old.log (site_of old who) found ⊎ IsCutAtFirst game who (site_of old who) found)
   pub net : new ≡ changed old who (closed_with found) []
 
--- an act of the game; a datagram changes nothing while there is no keeper
+-- an act of the game; premise: a datagram without a keeper changes nothing, and a closing leaves what is found
 abbrev pub GivesOwn : {K : Type 0} → KeeperFacts K → Judged → Net → Who → Act K → Net → Type 0
 GivesOwn facts game old who (Unread datagram fault) new = new ≡ old
 GivesOwn facts game old who (Strange stamp datagram why) new = new ≡ old
@@ -158,7 +162,7 @@ GivesOwn facts game old who (Opens stamp o arbiter) new = Finds facts game old w
 GivesOwn facts game old who (Answers stamp e) new = Hears facts game old who e new
 GivesOwn facts game old who (Closes stamp left) new = new ≡ changed old who (closed_with (site_of old who).kept) []
 
--- an act of the game, or of another one, of which the net has nothing
+-- an act of the game; premise: an act of another one changes nothing of this one
 abbrev pub GivesIf : {K : Type 0} → Bool → KeeperFacts K → Judged → Net → Who → Act K → Net → Type 0
 GivesIf true facts game old who act new = GivesOwn facts game old who act new
 GivesIf false facts game old who act new = new ≡ old
