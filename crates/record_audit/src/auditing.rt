@@ -1,9 +1,12 @@
 //! Kept files held to the rules of a game, and two of them to one another.
 
-ghost use Rattle.std.specs.Prelude.{◌≡◌, ◌≤◌, ◌<◌, ◌^◌, ◌&&◌, IfOk, IfSome, IfNone, List, ℕ, length, min, take};
+ghost use Rattle.std.specs.Prelude.{◌≡◌, ◌≤◌, ◌<◌, ◌^◌, ◌&&◌, IfOk, IfSome, IfNone, OnErr, List, ℕ, length, min, take};
 ghost use Rattle.board_core.specs.Delays.{most_delay};
 ghost use Rattle.move_msg.specs.declared.record_bytes.Record.{Record as Records};
 ghost use Rattle.move_msg.specs.Records.{SpellsRecord};
+ghost use Rattle.judge_core.specs.Standings.{ListsMovesInGame};
+ghost use Rattle.arbiter_core.specs.Opens.{IsBadKept, IsOfGame};
+ghost use Rattle.arbiter_core.specs.declared.fault.OpenFault.TheVariants as OpenFault;
 ghost use Rattle.record_audit.specs.Findings.{AreCompared, AreOfOneGame, IsComparison, IsFound, agree, is_whole};
 ghost use Rattle.record_audit.specs.Findings.{IsAuditedAs, rules_of};
 ghost use Rattle.record_audit.specs.Inside.Auditing.{ArePartedAt, EndsPart, IsFoundBy, IsHeldTo, PartsAfter};
@@ -118,6 +121,7 @@ fn judge_record(
 ) -> Result<Finding, AllocError>
     requires { auditor.old.delay ≤ most_delay }
     ensures found { IfOk result (λ finding. (bytes : List ℕ) → SpellsRecord bytes kept.now → IsFound (rules_of auditor.old) auditor.old.stamp bytes finding) }
+    ensures memory { OnErr result (IsOfGame (rules_of auditor.old) auditor.old.stamp kept.now × ListsMovesInGame (rules_of auditor.old) kept.now.moves) }
     ensures same { auditor.new ≡ auditor.old }
 {
     if kept.stamp != auditor.stamp || kept.delay != auditor.delay {
@@ -130,12 +134,13 @@ fn judge_record(
     Ok(found_by(outcome, moves.len(), kept.verdict))
 }
 
-/// The finding on a file's bytes, and their record.
+/// The finding on a file's bytes, and their record. The error comes only where an opening over these bytes may want memory.
 pub fn audit(alloc: Global, auditor: &mut Auditor<'_>, bytes: &[u8]) -> Result<Audited, AllocError>
     requires { auditor.old.delay ≤ most_delay }
     ensures found { IfOk result (λ a. IsFound (rules_of auditor.old) auditor.old.stamp bytes.now a.finding) }
     ensures spelled { IfOk result (λ a. IfSome a.kept (SpellsRecord bytes.now)) }
     ensures none { IfOk result (λ a. IfNone a.kept ((r : Records) → SpellsRecord bytes.now r → ⊥)) }
+    ensures memory { OnErr result (IsBadKept (rules_of auditor.old) auditor.old.stamp bytes.now OpenFault.OutOfMemory) }
     ensures same { auditor.new ≡ auditor.old }
 {
     match Record::decode(alloc, bytes) {
