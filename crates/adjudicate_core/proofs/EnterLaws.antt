@@ -1,6 +1,6 @@
 -- A game's file by what was found in it.
-use Rattle.std.proofs.Common.{◌≡◌, ◌≢◌, ℕ, List, Option, subst, sym}
-use Rattle.std.specs.Prelude.{Result, Some}
+use Rattle.std.proofs.Common.{ℕ, List, Option, subst, sym}
+use Rattle.std.specs.Prelude.{Result}
 use Rattle.system_io.specs.declared.output.WriteFault.{WriteFault}
 use Rattle.system_io.specs.KeptFiles.{IsOneOfFound, KeptFacts}
 use Rattle.adjudicate_core.specs.Enters.{Failed, KeepsGame, Left, Put}

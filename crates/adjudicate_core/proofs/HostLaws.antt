@@ -1,5 +1,5 @@
 -- What `host` leaves, by what is written.
-use Rattle.std.proofs.Common.{ℕ, List, [], ◌∷◌, Option, refl, subst, sym}
+use Rattle.std.proofs.Common.{ℕ, List, [], ◌∷◌, subst, sym}
 use Rattle.std.specs.Prelude.{Result, Ok, Err, IfOk}
 use Rattle.std.specs.Io.KnownBytes.{Appends}
 use Rattle.std.proofs.KnownBytes.{Appends-nil, Appends-trans}

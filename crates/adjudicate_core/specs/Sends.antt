@@ -1,5 +1,5 @@
 -- The behaviour of `send` by its words and by what it reads (this project's own).
-use Rattle.std.specs.Prelude.{◌≡◌, ℕ, List, Option, Some, None, Result, IfSome, length, option_map, []}
+use Rattle.std.specs.Prelude.{◌≡◌, ℕ, List, Option, Result, IfSome, length, option_map, []}
 use Rattle.board_core.specs.declared.parts.Parts.{Parts}
 use Rattle.board_core.specs.Position.{IsPosition}
 use Rattle.fen_text.specs.declared.fault.FenFault.{FenFault}

@@ -1,7 +1,4 @@
-use Rattle.std.proofs.Common.{◌≡◌, ◌∙◌, ℕ, List, subst, sym}
-use Rattle.game_host.specs.GameFolders.{game_path, stamp_for}
-use Rattle.game_host.specs.GameFiles.{SpellsGame, told}
-use Rattle.adjudicate_core.specs.Enters.{Entered, KeepsAt, NoRoom, game_of}
+use Rattle.adjudicate_core.specs.Enters.{Entered, NoRoom}
 use Rattle.adjudicate_core.proofs.entering.enter_by.Goals as goal
 
 pub returns-in_default : goal.returns-in_default

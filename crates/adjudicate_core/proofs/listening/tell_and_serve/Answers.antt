@@ -1,4 +1,4 @@
-use Rattle.std.proofs.Common.{◌∙◌, refl, sym}
+use Rattle.std.proofs.Common.{◌∙◌, refl}
 use Rattle.adjudicate_core.specs.Listens.{NoRoomForLine, Ready, Unready}
 use Rattle.arbiter_service.proofs.PortLaws.{Passed-nil}
 use Rattle.adjudicate_core.specs.Lines.{ready_words}
