@@ -233,8 +233,7 @@ size_t hofsjurd_verdict_name(uint32_t verdict, char *room, size_t length);
 /* the FEN text of the position that a game has reached; empty, and nothing written, where there is no game */
 size_t hofsjurd_game_fen(hofsjurd_game *game, char *room, size_t length);
 
-/* two lines with a line feed between: the library's name and version, and the toolchain that it is proved with, as `rt
- * version` prints it */
+/* the library's name and version: "hofsjurd 1.0.0" */
 size_t hofsjurd_version(char *room, size_t length);
 
 #ifdef __cplusplus

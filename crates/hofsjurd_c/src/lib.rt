@@ -380,7 +380,7 @@ pub extern "C" fn hofsjurd_verdict_name(number: u32, room: &mut [u8]) -> usize
     probe_api::put_text(probe_api::verdict_name(number).as_bytes(), room)
 }
 
-/// Writes the version: a line of the library, and one of the toolchain that it is proved with.
+/// Writes the library's name and version.
 #[unsafe(no_mangle)]
 pub extern "C" fn hofsjurd_version(room: &mut [u8]) -> usize
     ensures { PutsText version room.old result room.new }

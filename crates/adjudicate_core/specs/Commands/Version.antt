@@ -1,4 +1,4 @@
--- `version`: the program's version, and that of the toolchain that it was proved with (this project's own).
+-- `version`: the program's version (this project's own).
 use Rattle.std.specs.Prelude.{◌≡◌, ℕ, List, [], Option, codes}
 use Rattle.std.specs.Io.KnownBytes.{Appends}
 use Rattle.clap.specs.Words.{Rule}
@@ -16,9 +16,9 @@ faults = []
 abbrev pub named : Named
 named = nothing
 
--- two lines
+-- one line
 abbrev pub version_text : List ℕ
-version_text = codes "adjudicate 1.0.0\nrattle-kit-13b logic dac8208d650f15bf\n"
+version_text = codes "adjudicate 1.0.0\n"
 
 abbrev pub Answers : Option (List ℕ) → Option (List ℕ) → ℕ → Type 0
 Answers old new status = Appends old new version_text × (status ≡ 0)

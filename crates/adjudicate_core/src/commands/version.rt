@@ -1,4 +1,4 @@
-//! `version`: the program's version, and that of the toolchain that it was proved with.
+//! `version`: the program's version.
 
 ghost use Rattle.std.specs.Prelude.{◌≡◌, IfOk};
 ghost use Rattle.adjudicate_core.specs.Commands.Version.{Answers, named};
@@ -12,9 +12,8 @@ use task_files::Places;
 #[derive(Clone, Copy)]
 pub struct Version;
 
-/// The program's version, and the line that `rt version` prints of the toolchain.
+/// The program's version.
 const TEXT: &str = "adjudicate 1.0.0
-rattle-kit-13b logic dac8208d650f15bf
 ";
 
 impl Version {
@@ -25,7 +24,7 @@ impl Version {
         Places::none()
     }
 
-    /// Writes both versions, a line each, and returns the status 0.
+    /// Writes the version as a line, and returns the status 0.
     pub(crate) fn answer<W: Write>(&self, out: &mut W) -> Result<u8, WriteFault>
         ensures { IfOk result (Answers (W.contents out.old) (W.contents out.new)) }
     {
