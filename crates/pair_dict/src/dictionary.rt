@@ -10,9 +10,10 @@ ghost use Rattle.pair_dict.specs.declared.fault.DictFault.TheVariants.{OutOfMemo
 ghost use Rattle.pair_dict.specs.Blocks.{block_values, BlockIsComputed, BlockBeginsWithValues};
 
 use crate::codes::{LongCodes, code_in, firsts_of};
-use crate::counts::counts_of;
+use crate::counts::{Settled, bytes_of, settle_all};
 use crate::fault::{Damaged, DictFault};
 use crate::layout::Layout;
+use crate::nodes::{Node, Parts};
 use crate::places::Place;
 use crate::runs::{CodeRun, RunSum, run_width, runs_of};
 use crate::symbols::{MOST_VALUES, Symbol, symbol_at};
@@ -26,7 +27,7 @@ const RUNS_IN_WORD: u32 = 4;
 /// The symbols of a table and their codes.
 ///
 /// It borrows the bytes that it was read from. Beside them it keeps a number for each code length, the runs of short
-/// codes by their first bits, and each symbol's number of values.
+/// codes by their first bits, and of each symbol how many values it has and what they are.
 #[derive(Drop)]
 pub struct Dictionary<'a> {
     least: u32,
@@ -36,7 +37,9 @@ pub struct Dictionary<'a> {
     run_width: u32,
     runs: Vec<CodeRun>,
     symbols: &'a [u8],
-    counts: Vec<u16>,
+    // How many values each symbol has, less one.
+    counts: Vec<u8>,
+    nodes: Vec<Node>,
 }
 
 impl<'a> Model for Dictionary<'a> {
@@ -65,7 +68,7 @@ impl<'a> Dictionary<'a> {
         ensures memory { IfErr result (λ e. e ≡ OutOfMemory → IsOk (layout_at bytes.now)) }
     {
         let layout = Layout::read(bytes)?;
-        let counts = counts_of(alloc, layout.symbols)?;
+        let Settled { counts, nodes } = settle_all(alloc, layout.symbols)?;
         let firsts = firsts_of(alloc, layout.least, layout.lowest)?;
         let run_width = run_width(counts.len());
         let runs = runs_of(alloc, &layout, &firsts, &counts, run_width)?;
@@ -77,7 +80,8 @@ impl<'a> Dictionary<'a> {
             run_width,
             runs,
             symbols: layout.symbols,
-            counts,
+            counts: bytes_of(alloc, &counts)?,
+            nodes,
         };
         Ok((dictionary, layout.taken))
     }
@@ -117,7 +121,7 @@ impl<'a> Dictionary<'a> {
         ensures is { result ≡ length (values_of self.now.symbols symbol) }
         ensures some { 1 ≤ result }
     {
-        self.counts[symbol] as usize
+        self.counts[symbol] as usize + 1
     }
 
     /// One value of a symbol.
@@ -129,14 +133,13 @@ impl<'a> Dictionary<'a> {
         let mut symbol = symbol;
         let mut left = offset;
         'down: loop {
-            match symbol_at(self.symbols, symbol) {
-                Symbol::Leaf(value) => return value,
-                Symbol::Pair(first, second) => {
-                    let skipped = self.counts[first as usize] as usize;
-                    if left < skipped {
+            match self.nodes[symbol].parts() {
+                Parts::Equal(value) => return value,
+                Parts::Pair(first, second, skipped) => {
+                    if left < skipped as usize {
                         symbol = first as usize;
                     } else {
-                        left -= skipped;
+                        left -= skipped as usize;
                         symbol = second as usize;
                     }
                 }

@@ -3,6 +3,7 @@ use Rattle.std.specs.Prelude.{◌≡◌, ◌+◌, ◌^◌, ◌≤◌, length}
 use Rattle.pair_dict.specs.Codes.{Pairing}
 use Rattle.pair_dict.specs.Reading.{words}
 use Rattle.pair_dict.specs.Inside.Counts.{AreCounts}
+use Rattle.pair_dict.specs.Inside.Nodes.{AreNodes, counts_in}
 use Rattle.pair_dict.specs.Inside.Windows.{AreFirsts, AreLong}
 use Rattle.pair_dict.specs.Inside.Runs.{AreRuns}
 use Rattle.pair_dict.specs.declared.dictionary.Dictionary.TheInside.{Inside}
@@ -16,7 +17,8 @@ pub record IsKept (a : Inside) : Type 0 where
   pub greatest : a.least + length (words a.lowest.now) ≤ 33
   pub firsts : AreFirsts a.least (words a.lowest.now) a.firsts.items
   pub long_codes : AreLong a.firsts.items a.long_codes
-  pub counts : AreCounts a.symbols.now a.counts.items
+  pub counts : AreCounts a.symbols.now (counts_in a.counts.items)
+  pub nodes : AreNodes a.symbols.now a.nodes.items
   pub some_bits : 1 ≤ a.run_width
   pub few_bits : a.run_width ≤ 13
   pub all_runs : length a.runs.items ≡ 2 ^ a.run_width
