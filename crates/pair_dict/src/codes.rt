@@ -1,28 +1,28 @@
 //! Codes of symbols.
 
-ghost use Rattle.std.specs.Prelude.{◌≡◌, ◌+◌, ◌*◌, ◌^◌, ◌<◌, ◌≤◌, List, ℕ, length, true, nat_lt, IfOk, IfSome, if◌then◌else◌};
+ghost use Rattle.std.specs.Prelude.{◌≡◌, ◌+◌, ◌*◌, ◌/◌, ◌%◌, ◌^◌, ◌<◌, ◌≤◌, List, ℕ, length, slice_index, true, nat_lt, IfOk, IfSome, if◌then◌else◌};
 ghost use Rattle.pair_dict.specs.Codes.{bases, code_from};
 ghost use Rattle.pair_dict.specs.Reading.{falls, words};
-ghost use Rattle.pair_dict.specs.Inside.Windows.{AreFirsts, AreLong, IsFirst, IsSound};
+ghost use Rattle.pair_dict.specs.Inside.Windows.{AreFirsts, AreLong, IsFirst, IsSound, firsts_in, lowest_in};
 
 use crate::two_bytes::word_of;
 use crate::window::{room_at, window};
 use std::alloc::{AllocError, Global};
 
-/// The base of a length at the top of 63 bits, or 2^63 where no code has that length.
+/// The base of a length at the top of 32 bits, or 2^32 where no code has that length.
 #[inline]
 fn first_of(length: u32, base: u64) -> u64
     requires { length ≤ 32 }
     ensures { IsFirst length base result }
 {
     if base < 1 << length {
-        base << (63 - length)
+        base << (32 - length)
     } else {
-        1 << 63
+        1 << 32
     }
 }
 
-/// The base of each length at the top of 63 bits, found from the greatest length down (Syzygy table format, the codes of
+/// The base of each length at the top of 32 bits, found from the greatest length down (Syzygy table format, the codes of
 /// a size record).
 pub(crate) fn firsts_of(alloc: Global, least: u32, lowest: &[u8]) -> Result<Vec<u64>, AllocError>
     requires least { 1 ≤ least }
@@ -40,6 +40,61 @@ pub(crate) fn firsts_of(alloc: Global, least: u32, lowest: &[u8]) -> Result<Vec<
         firsts[i - 1] = first_of(least + i as u32 - 1, base);
     }
     Ok(firsts)
+}
+
+/// The codes of one length: the first number whose front they are, of 32 bits, or 2^32 where there are none, and their
+/// lowest symbol.
+#[derive(Clone, Copy)]
+pub(crate) struct CodeLength {
+    // The first number times 65536 plus the lowest symbol, so that one read gives both.
+    packed: u64,
+}
+
+impl CodeLength {
+    /// The codes from this first number and this lowest symbol on.
+    fn of(first: u64, lowest: u16) -> CodeLength
+        requires { first ≤ 2 ^ 32 }
+        ensures first { result.packed / 65536 ≡ first }
+        ensures lowest { result.packed % 65536 ≡ lowest }
+    {
+        CodeLength {
+            packed: first * 65536 + lowest as u64,
+        }
+    }
+
+    /// The first number.
+    #[inline]
+    fn first(self) -> u64
+        ensures { result ≡ self.packed / 65536 }
+    {
+        self.packed / 65536
+    }
+
+    /// The lowest symbol.
+    #[inline]
+    fn lowest(self) -> u16
+        ensures { result ≡ self.packed % 65536 }
+    {
+        (self.packed % 65536) as u16
+    }
+}
+
+/// Each first number with the lowest symbol of its length.
+pub(crate) fn code_lengths(
+    alloc: Global,
+    firsts: &[u64],
+    lowest: &[u8],
+) -> Result<Vec<CodeLength>, AllocError>
+    requires lengths { length firsts.now ≡ length (words lowest.now) }
+    requires few { (i : ℕ) → i < length firsts.now → slice_index firsts.now i ≤ 2 ^ 32 }
+    ensures firsts { IfOk result (λ codes. firsts_in codes.items ≡ firsts.now) }
+    ensures lowest { IfOk result (λ codes. lowest_in codes.items ≡ words lowest.now) }
+{
+    let mut codes = Vec::with_capacity(alloc, firsts.len())?;
+    for i in 0..firsts.len() {
+        codes.push(CodeLength::of(firsts[i], word_of(lowest, i)))?;
+    }
+    Ok(codes)
 }
 
 /// Where the search for a long code begins: bits below `first` are no code of the lengths before the place `from`.
@@ -63,7 +118,7 @@ impl LongCodes {
         LongCodes { from, first }
     }
 
-    /// The place of the least code length that bits may have; the bits stand at the top of 63 bits.
+    /// The place of the least code length that bits may have; the bits stand at the top of 32 bits.
     #[inline]
     fn start(self, front: u64) -> usize
         ensures { result ≡ if nat_lt front self.first then self.from else 0 }
@@ -78,27 +133,27 @@ pub(crate) fn code_in(
     block: &[u8],
     at: usize,
     least: u32,
-    firsts: &[u64],
-    lowest: &[u8],
+    codes: &[CodeLength],
     long: LongCodes,
 ) -> Option<(usize, u32)>
     requires at { at ≤ 8 * length block.now }
     requires least { 1 ≤ least }
-    requires greatest { least + length (words lowest.now) ≤ 33 }
-    requires firsts { AreFirsts least (words lowest.now) firsts.now }
-    requires long { AreLong firsts.now long }
-    ensures is { result ≡ code_from limit block.now at least (bases (words lowest.now)) (words lowest.now) }
+    requires greatest { least + length codes.now ≤ 33 }
+    requires firsts { AreFirsts least (lowest_in codes.now) (firsts_in codes.now) }
+    requires long { AreLong (firsts_in codes.now) long }
+    ensures is { result ≡ code_from limit block.now at least (bases (lowest_in codes.now)) (lowest_in codes.now) }
     ensures sound { IfSome result (λ code. IsSound limit block.now at code) }
 {
-    let front = window(block, at) >> 1;
-    for i in long.start(front)..firsts.len() {
-        if firsts[i] <= front {
+    let front = window(block, at) >> 32;
+    for i in long.start(front)..codes.len() {
+        let first = codes[i].first();
+        if first <= front {
             let length = least + i as u32;
             if length as usize > room_at(block, at) {
                 return None;
             }
-            let above = ((front - firsts[i]) >> (63 - length)) as usize;
-            let symbol = word_of(lowest, i) as usize + above;
+            let above = ((front - first) >> (32 - length)) as usize;
+            let symbol = codes[i].lowest() as usize + above;
             return if symbol < limit {
                 Some((symbol, length))
             } else {

@@ -8,4 +8,4 @@ pub returns-clause-is : goal.returns-clause-is
 unfolding code_at
 returns-clause-is c =
     let all : c.len.result ≡ symbol_count c.self.inside.symbols.now = omega (arith, c.len.ensures, c.self.inside.counts.ok.0, c.self.invariant.counts.lengths, length-counts_in c.self.inside.counts.items) in
-    rw (← c.self.view_is) (rw all at c.code_in.ensures.is)
+    rw (← c.self.view_is) (rw (all, c.deref.ensures.value) at c.code_in.ensures.is)
