@@ -7,7 +7,7 @@ use Rattle.std.proofs.Math.Nat.{le-div_iff_mul-le, div-lt_iff_lt-mul, add-mul-di
 use Rattle.pair_dict.specs.Codes.{bases, bits, code_from}
 use Rattle.pair_dict.specs.Inside.Windows.{IsWindow, IsFirst, AreFirsts, AreLong, firsts_in, lowest_in}
 use Rattle.pair_dict.specs.declared.codes.CodeLength.{CodeLength}
-use Rattle.pair_dict.specs.declared.codes.LongCodes.{LongCodes}
+use Rattle.pair_dict.specs.declared.codes.CodeSearch.{CodeSearch}
 use Rattle.pair_dict.proofs.WordLemmas.{base_last, length-bases}
 use Rattle.pair_dict.proofs.CodeLemmas.{code_next}
 
@@ -112,7 +112,7 @@ module _ (limit : ℕ) (block : List ℕ) (at least word : ℕ) (lowest firsts :
       (λ fits. missed_at block at word (least + i) (get_or (bases lowest) i 0) (get_or firsts i 0) (are.each i lt) window small (omega (arith, lt, most)) fits (missed i (omega arith))))
       ∙ passed_to i (omega arith) (λ j before. missed j (omega arith)))
 
-  pub started : (long : LongCodes) (start : ℕ) → AreLong firsts long → start ≡ cond (ltb (word / 2 ^ 32) long.first) long.from 0
+  pub started : (long : CodeSearch) (start : ℕ) → AreLong firsts long → start ≡ cond (ltb (word / 2 ^ 32) long.first) long.from 0
       → code_from limit block at (least + start) (drop start (bases lowest)) (drop start lowest) ≡ code_from limit block at least (bases lowest) lowest
   started long start is e = elim (cases_lt (word / 2 ^ 32) long.first) [
     | inl below ↦

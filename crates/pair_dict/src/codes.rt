@@ -97,25 +97,38 @@ pub(crate) fn code_lengths(
     Ok(codes)
 }
 
-/// Where the search for a long code begins: bits below `first` are no code of the lengths before the place `from`.
+/// How the codes of a dictionary are looked up, in eight bytes.
 #[derive(Clone, Copy)]
-pub(crate) struct LongCodes {
-    pub(crate) from: usize,
-    pub(crate) first: u64,
+pub(crate) struct CodeSearch {
+    /// Bits below this number are no code of the lengths before the place `from`, where the search for a long code begins.
+    pub(crate) first: u32,
+    pub(crate) from: u8,
+    /// The least length of a code.
+    pub(crate) least: u8,
+    /// By how many bits runs are looked up; they hold no longer code.
+    pub(crate) run_width: u8,
 }
 
-impl LongCodes {
-    /// The codes longer than this number of bits.
-    pub(crate) fn above(width: u32, least: u32, firsts: &[u64]) -> LongCodes
-        requires { width ≤ 13 }
-        ensures { AreLong firsts.now result }
+impl CodeSearch {
+    /// The search for codes of this least length, where runs are looked up by so many bits.
+    pub(crate) fn new(run_width: u32, least: u32, firsts: &[u64]) -> CodeSearch
+        requires width { run_width ≤ 13 }
+        requires least { least ≤ 32 }
+        ensures long { AreLong firsts.now result }
+        ensures least { result.least ≡ least }
+        ensures width { result.run_width ≡ run_width }
     {
-        let from = ((width + 1).saturating_sub(least) as usize).min(firsts.len());
-        let mut first = u64::MAX;
+        let from = ((run_width + 1).saturating_sub(least) as usize).min(firsts.len());
+        let mut first = u32::MAX as u64;
         for i in 0..from {
             first = first.min(firsts[i]);
         }
-        LongCodes { from, first }
+        CodeSearch {
+            first: first as u32,
+            from: from as u8,
+            least: least as u8,
+            run_width: run_width as u8,
+        }
     }
 
     /// The place of the least code length that bits may have; the bits stand at the top of 32 bits.
@@ -123,7 +136,11 @@ impl LongCodes {
     fn start(self, front: u64) -> usize
         ensures { result ≡ if nat_lt front self.first then self.from else 0 }
     {
-        if front < self.first { self.from } else { 0 }
+        if front < self.first as u64 {
+            self.from as usize
+        } else {
+            0
+        }
     }
 }
 
@@ -132,23 +149,22 @@ pub(crate) fn code_in(
     limit: usize,
     block: &[u8],
     at: usize,
-    least: u32,
     codes: &[CodeLength],
-    long: LongCodes,
+    search: CodeSearch,
 ) -> Option<(usize, u32)>
     requires at { at ≤ 8 * length block.now }
-    requires least { 1 ≤ least }
-    requires greatest { least + length codes.now ≤ 33 }
-    requires firsts { AreFirsts least (lowest_in codes.now) (firsts_in codes.now) }
-    requires long { AreLong (firsts_in codes.now) long }
-    ensures is { result ≡ code_from limit block.now at least (bases (lowest_in codes.now)) (lowest_in codes.now) }
+    requires least { 1 ≤ search.least }
+    requires greatest { search.least + length codes.now ≤ 33 }
+    requires firsts { AreFirsts search.least (lowest_in codes.now) (firsts_in codes.now) }
+    requires long { AreLong (firsts_in codes.now) search }
+    ensures is { result ≡ code_from limit block.now at search.least (bases (lowest_in codes.now)) (lowest_in codes.now) }
     ensures sound { IfSome result (λ code. IsSound limit block.now at code) }
 {
     let front = window(block, at) >> 32;
-    for i in long.start(front)..codes.len() {
+    for i in search.start(front)..codes.len() {
         let first = codes[i].first();
         if first <= front {
-            let length = least + i as u32;
+            let length = search.least as u32 + i as u32;
             if length as usize > room_at(block, at) {
                 return None;
             }

@@ -12,7 +12,7 @@ ghost use Rattle.pair_dict.specs.Reading.{Gives, layout_at, dictionary_at};
 ghost use Rattle.pair_dict.specs.declared.fault.DictFault.TheVariants.{OutOfMemory};
 ghost use Rattle.pair_dict.specs.Blocks.{block_values, BlockIsComputed, BlockBeginsWithValues};
 
-use crate::codes::{CodeLength, LongCodes, code_in, code_lengths, firsts_of};
+use crate::codes::{CodeLength, CodeSearch, code_in, code_lengths, firsts_of};
 use crate::counts::{Settled, bytes_of, settle_all};
 use crate::fault::{Damaged, DictFault};
 use crate::layout::Layout;
@@ -33,10 +33,8 @@ const RUNS_IN_WORD: u32 = 4;
 /// codes by their first bits, and of each symbol how many values it has and what they are.
 #[derive(Drop)]
 pub struct Dictionary<'a> {
-    least: u32,
+    search: CodeSearch,
     codes: Vec<CodeLength>,
-    long_codes: LongCodes,
-    run_width: u32,
     runs: Vec<CodeRun>,
     symbols: &'a [u8],
     // How many values each symbol has, less one.
@@ -105,10 +103,8 @@ impl<'a> Dictionary<'a> {
         let codes = code_lengths(alloc, &firsts, layout.lowest)?;
         let counts = bytes_of(alloc, &counts)?;
         Ok(Dictionary {
-            least: layout.least,
+            search: CodeSearch::new(run_width, layout.least, &firsts),
             codes,
-            long_codes: LongCodes::above(run_width, layout.least, &firsts),
-            run_width,
             runs,
             symbols: layout.symbols,
             counts,
@@ -123,7 +119,7 @@ impl<'a> Dictionary<'a> {
             → IsRunAt self.now block p (run_values result) (run_bits result) }
         ensures few { run_bits result ≤ 13 }
     {
-        self.runs[buffer.front(self.run_width)]
+        self.runs[buffer.front(self.search.run_width as u32)]
     }
 
     /// The symbol and the length of the code at a bit of a block.
@@ -133,14 +129,7 @@ impl<'a> Dictionary<'a> {
         ensures is { result ≡ code_at self.now block.now at }
         ensures sound { IfSome result (λ code. IsSound (symbol_count self.now.symbols) block.now at code) }
     {
-        code_in(
-            self.counts.len(),
-            block,
-            at,
-            self.least,
-            &self.codes,
-            self.long_codes,
-        )
+        code_in(self.counts.len(), block, at, &self.codes, self.search)
     }
 
     /// How many values a symbol has.
@@ -341,7 +330,7 @@ impl<'a> Dictionary<'a> {
         ensures small { result ≤ 2048 * length block.now }
     {
         // Each code has `least` bits or more, and each symbol 256 values or fewer.
-        let most = block.len().saturating_mul(8 * MOST_VALUES) / self.least as usize;
+        let most = block.len().saturating_mul(8 * MOST_VALUES) / self.search.least as usize;
         most.min(count as usize)
     }
 
@@ -375,6 +364,6 @@ impl<'a> Dictionary<'a> {
         ensures computed { BlockIsComputed self.now block.now }
         ensures front { BlockBeginsWithValues self.now block.now }
     {
-        let _ = &self.least;
+        let _ = &self.search;
     }
 }

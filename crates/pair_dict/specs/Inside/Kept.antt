@@ -8,17 +8,17 @@ use Rattle.pair_dict.specs.Inside.Runs.{AreRuns}
 use Rattle.pair_dict.specs.declared.dictionary.Dictionary.TheInside.{Inside}
 
 abbrev pub pairing_of : Inside → Pairing
-pairing_of a = record { least = a.least; lowest = lowest_in a.codes.items; symbols = a.symbols.now }
+pairing_of a = record { least = a.search.least; lowest = lowest_in a.codes.items; symbols = a.symbols.now }
 
 pub record IsKept (a : Inside) : Type 0 where
-  pub least : 1 ≤ a.least
+  pub least : 1 ≤ a.search.least
   pub some : 1 ≤ length a.codes.items
-  pub greatest : a.least + length a.codes.items ≤ 33
-  pub firsts : AreFirsts a.least (lowest_in a.codes.items) (firsts_in a.codes.items)
-  pub long_codes : AreLong (firsts_in a.codes.items) a.long_codes
+  pub greatest : a.search.least + length a.codes.items ≤ 33
+  pub firsts : AreFirsts a.search.least (lowest_in a.codes.items) (firsts_in a.codes.items)
+  pub long_codes : AreLong (firsts_in a.codes.items) a.search
   pub counts : AreCounts a.symbols.now (counts_in a.counts.items)
   pub nodes : AreNodes a.symbols.now a.nodes.items
-  pub some_bits : 1 ≤ a.run_width
-  pub few_bits : a.run_width ≤ 13
-  pub all_runs : length a.runs.items ≡ 2 ^ a.run_width
-  pub runs : AreRuns (pairing_of a) a.run_width a.runs.items
+  pub some_bits : 1 ≤ a.search.run_width
+  pub few_bits : a.search.run_width ≤ 13
+  pub all_runs : length a.runs.items ≡ 2 ^ a.search.run_width
+  pub runs : AreRuns (pairing_of a) a.search.run_width a.runs.items

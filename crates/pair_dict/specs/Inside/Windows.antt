@@ -3,7 +3,7 @@ use Rattle.std.specs.Prelude.{◌≡◌, ℕ, ◌+◌, ◌-◌, ◌*◌, ◌/◌
 use Rattle.pair_dict.specs.Codes.{bases, bits, number_of}
 use Rattle.pair_dict.specs.declared.window.BitBuffer.{BitBuffer}
 use Rattle.pair_dict.specs.declared.codes.CodeLength.{CodeLength}
-use Rattle.pair_dict.specs.declared.codes.LongCodes.{LongCodes}
+use Rattle.pair_dict.specs.declared.codes.CodeSearch.{CodeSearch}
 
 -- the highest n bits of the word are the first n bits of the bytes
 abbrev pub IsWord : List ℕ → ℕ → Type 0
@@ -38,7 +38,7 @@ abbrev pub lowest_in : List CodeLength → List ℕ
 lowest_in codes = map (λ c. c.packed % 65536) codes
 
 -- bits below the number `first` are no code of the lengths before the place `from`
-pub record AreLong (firsts : List ℕ) (long : LongCodes) : Type 0 where
+pub record AreLong (firsts : List ℕ) (long : CodeSearch) : Type 0 where
   pub within : long.from ≤ length firsts
   pub above : (i : ℕ) → i < long.from → long.first ≤ slice_index firsts i
 
