@@ -150,14 +150,14 @@ pub(crate) fn code_in(
     block: &[u8],
     at: usize,
     codes: &[CodeLength],
-    search: CodeSearch,
+    search: &CodeSearch,
 ) -> Option<(usize, u32)>
     requires at { at ≤ 8 * length block.now }
-    requires least { 1 ≤ search.least }
-    requires greatest { search.least + length codes.now ≤ 33 }
-    requires firsts { AreFirsts search.least (lowest_in codes.now) (firsts_in codes.now) }
-    requires long { AreLong (firsts_in codes.now) search }
-    ensures is { result ≡ code_from limit block.now at search.least (bases (lowest_in codes.now)) (lowest_in codes.now) }
+    requires least { 1 ≤ search.now.least }
+    requires greatest { search.now.least + length codes.now ≤ 33 }
+    requires firsts { AreFirsts search.now.least (lowest_in codes.now) (firsts_in codes.now) }
+    requires long { AreLong (firsts_in codes.now) search.now }
+    ensures is { result ≡ code_from limit block.now at search.now.least (bases (lowest_in codes.now)) (lowest_in codes.now) }
     ensures sound { IfSome result (λ code. IsSound limit block.now at code) }
 {
     let front = window(block, at) >> 32;

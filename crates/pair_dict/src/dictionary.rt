@@ -36,10 +36,11 @@ pub struct Dictionary<'a> {
     search: CodeSearch,
     codes: Vec<CodeLength>,
     runs: Vec<CodeRun>,
-    symbols: &'a [u8],
+    nodes: Vec<Node>,
     // How many values each symbol has, less one.
     counts: Vec<u8>,
-    nodes: Vec<Node>,
+    // Last, since a single value needs none of them.
+    symbols: &'a [u8],
 }
 
 impl<'a> Model for Dictionary<'a> {
@@ -106,9 +107,9 @@ impl<'a> Dictionary<'a> {
             search: CodeSearch::new(run_width, layout.least, &firsts),
             codes,
             runs,
-            symbols: layout.symbols,
-            counts,
             nodes,
+            counts,
+            symbols: layout.symbols,
         })
     }
 
@@ -129,7 +130,7 @@ impl<'a> Dictionary<'a> {
         ensures is { result ≡ code_at self.now block.now at }
         ensures sound { IfSome result (λ code. IsSound (symbol_count self.now.symbols) block.now at code) }
     {
-        code_in(self.counts.len(), block, at, &self.codes, self.search)
+        code_in(self.nodes.len(), block, at, &self.codes, &self.search)
     }
 
     /// How many values a symbol has.

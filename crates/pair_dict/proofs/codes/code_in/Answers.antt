@@ -10,7 +10,7 @@ pub returns-then-length-room_at-clause-is : goal.returns-then-length-room_at-cla
 returns-then-length-room_at-clause-is c =
     let ws = lowest_in c.args.codes.now in
     let len = length-bases ws in
-    let n = c.args.search.least + c.loop-i.i in
+    let n = c.args.search.now.least + c.loop-i.i in
     sym (code_too_long c.args.limit c.args.block.now c.args.at n (bases ws) ws c.loop-i.i len (omega (arith, len, length-firsts_in c.args.codes.now, length-lowest_in c.args.codes.now, c.loop-i-test.true))
     (c.room_at.ensures.past n (omega (arith, length-firsts_in c.args.codes.now, length-lowest_in c.args.codes.now, c.loop-i-test.true, c.requires.greatest)) c.if-length-room_at.true))
     ∙ c.loop-i.invariant
@@ -20,7 +20,7 @@ returns-then-symbol-limit-clause-is c =
     let ws = lowest_in c.args.codes.now in
     let len = length-bases ws in
     let i = c.loop-i.i in
-    let n = c.args.search.least + i in
+    let n = c.args.search.now.least + i in
     let lt : i < length ws = omega (arith, length-firsts_in c.args.codes.now, length-lowest_in c.args.codes.now, c.loop-i-test.true) in
     let few : n ≤ 32 = omega (arith, lt, c.requires.greatest) in
     let fits : c.args.at + n ≤ 8 * length c.args.block.now = c.room_at.ensures.fits n c.if-length-room_at.false in
@@ -36,7 +36,7 @@ returns-then-symbol-limit-clause-sound c = record {
   known = c.if-symbol-limit.true;
   some = omega (arith, c.requires.least);
   short = omega (arith, length-firsts_in c.args.codes.now, length-lowest_in c.args.codes.now, c.loop-i-test.true, c.requires.greatest);
-  within = c.room_at.ensures.fits (c.args.search.least + c.loop-i.i) c.if-length-room_at.false;
+  within = c.room_at.ensures.fits (c.args.search.now.least + c.loop-i.i) c.if-length-room_at.false;
 }
 
 pub returns-else-symbol-limit-clause-is : goal.returns-else-symbol-limit-clause-is
@@ -44,7 +44,7 @@ returns-else-symbol-limit-clause-is c =
     let ws = lowest_in c.args.codes.now in
     let len = length-bases ws in
     let i = c.loop-i.i in
-    let n = c.args.search.least + i in
+    let n = c.args.search.now.least + i in
     let lt : i < length ws = omega (arith, length-firsts_in c.args.codes.now, length-lowest_in c.args.codes.now, c.loop-i-test.true) in
     let few : n ≤ 32 = omega (arith, lt, c.requires.greatest) in
     let fits : c.args.at + n ≤ 8 * length c.args.block.now = c.room_at.ensures.fits n c.if-length-room_at.false in
@@ -60,11 +60,11 @@ loop-i-preserved c =
     let ws = lowest_in c.args.codes.now in
     let len = length-bases ws in
     let i = c.loop-i.i in
-    let n = c.args.search.least + i in
+    let n = c.args.search.now.least + i in
     let lt : i < length ws = omega (arith, length-firsts_in c.args.codes.now, length-lowest_in c.args.codes.now, c.loop-i-test.true) in
     let few : n ≤ 32 = omega (arith, lt, c.requires.greatest) in
     let first-is : c.first-first.result ≡ get_or (firsts_in c.args.codes.now) i 0 = c.first-first.ensures ∙ sym (first_at c.args.codes.now i c.loop-i-test.true) in
-    let e : n + 1 ≡ c.args.search.least + (i + 1) = omega arith in
+    let e : n + 1 ≡ c.args.search.now.least + (i + 1) = omega arith in
     rw (← e) (sym (code_next c.args.limit c.args.block.now c.args.at n (bases ws) ws i len (omega (arith, len, lt))
     (λ fits. missed_at c.args.block.now c.args.at c.window-front.result n (get_or (bases ws) i 0) c.first-first.result (rw (← first-is) at (c.requires.firsts.each i lt)) c.window-front.ensures (omega arith) few fits c.if-first-front.false))
     ∙ c.loop-i.invariant)
@@ -73,9 +73,9 @@ pub returns-clause-is : goal.returns-clause-is
 returns-clause-is c =
     let ws = lowest_in c.args.codes.now in
     let len = length-bases ws in
-    sym (code_none c.args.limit c.args.block.now c.args.at (c.args.search.least + c.loop-i.i) (bases ws) ws c.loop-i.i len (omega (arith, len, length-firsts_in c.args.codes.now, length-lowest_in c.args.codes.now, c.loop-i-test.false)))
+    sym (code_none c.args.limit c.args.block.now c.args.at (c.args.search.now.least + c.loop-i.i) (bases ws) ws c.loop-i.i len (omega (arith, len, length-firsts_in c.args.codes.now, length-lowest_in c.args.codes.now, c.loop-i-test.false)))
     ∙ c.loop-i.invariant
 
 pub loop-i-init : goal.loop-i-init
 loop-i-init c =
-    started c.args.limit c.args.block.now c.args.at c.args.search.least c.window-front.result (lowest_in c.args.codes.now) (firsts_in c.args.codes.now) c.requires.firsts c.window-front.ensures (omega arith) (omega (arith, length-lowest_in c.args.codes.now, c.requires.greatest)) c.args.search c.start-i.result c.requires.long c.start-i.ensures
+    started c.args.limit c.args.block.now c.args.at c.args.search.now.least c.window-front.result (lowest_in c.args.codes.now) (firsts_in c.args.codes.now) c.requires.firsts c.window-front.ensures (omega arith) (omega (arith, length-lowest_in c.args.codes.now, c.requires.greatest)) c.args.search.now c.start-i.result c.requires.long c.start-i.ensures
