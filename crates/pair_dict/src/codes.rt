@@ -133,8 +133,8 @@ impl CodeSearch {
 
     /// The place of the least code length that bits may have; the bits stand at the top of 32 bits.
     #[inline]
-    fn start(self, front: u64) -> usize
-        ensures { result ≡ if nat_lt front self.first then self.from else 0 }
+    fn start(&self, front: u64) -> usize
+        ensures { result ≡ if nat_lt front self.now.first then self.now.from else 0 }
     {
         if front < self.first as u64 {
             self.from as usize
