@@ -4,6 +4,7 @@ pub mod SymbolValues
 pub mod BlockValues
 pub mod Settling
 pub mod ValueCounts
+pub mod NodeLemmas
 pub mod WordLemmas
 pub mod Longest
 pub mod BufferLemmas

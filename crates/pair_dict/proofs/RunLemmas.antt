@@ -13,7 +13,7 @@ use Rattle.pair_dict.specs.declared.window.BitBuffer.{BitBuffer}
 use Rattle.pair_dict.specs.declared.runs.CodeRun.{CodeRun}
 use Rattle.pair_dict.proofs.Longest.{code_complete}
 use Rattle.pair_dict.proofs.BufferLemmas.{shows_after}
-use Rattle.pair_dict.proofs.FirstLemmas.{first_missed, split_63}
+use Rattle.pair_dict.proofs.FirstLemmas.{first_missed, split_32}
 use Rattle.pair_dict.proofs.SymbolValues.{length-values_of}
 use Rattle.pair_dict.proofs.BlockValues.{left_next}
 
@@ -105,32 +105,32 @@ code_run d counts code s n single h some is bits-is small values-is = record {
 }
 
 -- a code stands below the top, and at least at the first number of its length
-code_within : (code top n : ℕ) → n ≤ 63 → top ≤ 2 ^ 63 → code < top / 2 ^ (63 - n) → (code * 2 ^ (63 - n) < top) × (code < 2 ^ n)
+code_within : (code top n : ℕ) → n ≤ 32 → top ≤ 2 ^ 32 → code < top / 2 ^ (32 - n) → (code * 2 ^ (32 - n) < top) × (code < 2 ^ n)
 code_within code top n few small before =
-    let w = 2 ^ (63 - n) in
-    let up : (code + 1) * w ≤ top = (le-div_iff_mul-le {k = w} {x = code + 1} {y = top} (pow_pos (63 - n))).0 (omega arith) in
+    let w = 2 ^ (32 - n) in
+    let up : (code + 1) * w ≤ top = (le-div_iff_mul-le {k = w} {x = code + 1} {y = top} (pow_pos (32 - n))).0 (omega arith) in
     let one : (code + 1) * w ≡ code * w + w = omega arith in
-    let below : code * w < top = omega (arith, up, one, pow_pos (63 - n)) in
-    let under : code * w < 2 ^ n * w = omega (arith, below, small, split_63 n few) in
-    (below, rw (shl-shr code (63 - n)) at ((div-lt_iff_lt-mul {k = w} {x = code * w} {y = 2 ^ n} (pow_pos (63 - n))).1 under))
+    let below : code * w < top = omega (arith, up, one, pow_pos (32 - n)) in
+    let under : code * w < 2 ^ n * w = omega (arith, below, small, split_32 n few) in
+    (below, rw (shl-shr code (32 - n)) at ((div-lt_iff_lt-mul {k = w} {x = code * w} {y = 2 ^ n} (pow_pos (32 - n))).1 under))
 
-code_base : (n base first code : ℕ) → IsFirst n base first → n ≤ 63 → code < 2 ^ n → first / 2 ^ (63 - n) ≤ code → first / 2 ^ (63 - n) ≡ base
+code_base : (n base first code : ℕ) → IsFirst n base first → n ≤ 32 → code < 2 ^ n → first / 2 ^ (32 - n) ≤ code → first / 2 ^ (32 - n) ≡ base
 code_base n base first code is few high from =
     elim (cases_lt base (2 ^ n)) [
-      | inl lt ↦ ap (λ (x : ℕ). x / 2 ^ (63 - n)) (is.possible lt) ∙ shl-shr base (63 - n)
+      | inl lt ↦ ap (λ (x : ℕ). x / 2 ^ (32 - n)) (is.possible lt) ∙ shl-shr base (32 - n)
       | inr past ↦
-          let all : first / 2 ^ (63 - n) ≡ 2 ^ n = ap (λ (x : ℕ). x / 2 ^ (63 - n)) (is.impossible past ∙ split_63 n few) ∙ shl-shr (2 ^ n) (63 - n) in
+          let all : first / 2 ^ (32 - n) ≡ 2 ^ n = ap (λ (x : ℕ). x / 2 ^ (32 - n)) (is.impossible past ∙ split_32 n few) ∙ shl-shr (2 ^ n) (32 - n) in
           absurd (omega (arith, all, from, high))
     ]
 
 -- numbers between the first ones of a length and of all lesser lengths are codes
 pub is_code : (d : Pairing) (firsts : List ℕ) (i top code low : ℕ) → AreFirsts d.least d.lowest firsts → IsTop firsts i top → i < length firsts → d.least + i ≤ 13
-    → get_or firsts i 0 / 2 ^ (63 - (d.least + i)) ≤ code → code < top / 2 ^ (63 - (d.least + i)) → low ≡ get_or d.lowest i 0
-    → low + (code - get_or firsts i 0 / 2 ^ (63 - (d.least + i))) < symbol_count d.symbols → IsCode d (d.least + i) code (low + (code - get_or firsts i 0 / 2 ^ (63 - (d.least + i))))
+    → get_or firsts i 0 / 2 ^ (32 - (d.least + i)) ≤ code → code < top / 2 ^ (32 - (d.least + i)) → low ≡ get_or d.lowest i 0
+    → low + (code - get_or firsts i 0 / 2 ^ (32 - (d.least + i))) < symbol_count d.symbols → IsCode d (d.least + i) code (low + (code - get_or firsts i 0 / 2 ^ (32 - (d.least + i))))
 is_code d firsts i top code low are is-top lt few from before low-is known =
     let n = d.least + i in
     let within = code_within code top n (omega arith) is-top.few before in
-    let base-is : get_or firsts i 0 / 2 ^ (63 - n) ≡ get_or (bases d.lowest) i 0 = code_base n (get_or (bases d.lowest) i 0) (get_or firsts i 0) code (are.each i (omega (arith, are.lengths))) (omega arith) within.1 from in
+    let base-is : get_or firsts i 0 / 2 ^ (32 - n) ≡ get_or (bases d.lowest) i 0 = code_base n (get_or (bases d.lowest) i 0) (get_or firsts i 0) code (are.each i (omega (arith, are.lengths))) (omega arith) within.1 from in
     let i-is : n - d.least ≡ i = omega arith in
     record {
       longest = omega (arith, are.lengths);
@@ -140,11 +140,11 @@ is_code d firsts i top code low are is-top lt few from before low-is known =
       first = λ m ge m-lt.
           let j = m - d.least in
           let m-is : d.least + j ≡ m = omega arith in
-          let up : 63 - m ≡ (63 - n) + (n - m) = omega arith in
+          let up : 32 - m ≡ (32 - n) + (n - m) = omega arith in
           let is-first : IsFirst m (get_or (bases d.lowest) j 0) (get_or firsts j 0) = rw m-is at (are.each j (omega (arith, are.lengths))) in
-          let missed = first_missed m (get_or (bases d.lowest) j 0) (get_or firsts j 0) (code * 2 ^ (63 - n)) is-first (omega arith) (omega (arith, within.0, is-top.few)) (omega (arith, within.0, is-top.below j (omega arith))) in
-          let same : code * 2 ^ (63 - n) / 2 ^ (63 - m) ≡ code / 2 ^ (n - m) =
-          ap (λ (x : ℕ). code * 2 ^ (63 - n) / 2 ^ x) up ∙ sym (shr-shr (code * 2 ^ (63 - n)) (63 - n) (n - m)) ∙ ap (λ (x : ℕ). x / 2 ^ (n - m)) (shl-shr code (63 - n)) in
+          let missed = first_missed m (get_or (bases d.lowest) j 0) (get_or firsts j 0) (code * 2 ^ (32 - n)) is-first (omega arith) (omega (arith, within.0, is-top.few)) (omega (arith, within.0, is-top.below j (omega arith))) in
+          let same : code * 2 ^ (32 - n) / 2 ^ (32 - m) ≡ code / 2 ^ (n - m) =
+          ap (λ (x : ℕ). code * 2 ^ (32 - n) / 2 ^ x) up ∙ sym (shr-shr (code * 2 ^ (32 - n)) (32 - n) (n - m)) ∙ ap (λ (x : ℕ). x / 2 ^ (n - m)) (shl-shr code (32 - n)) in
           rw same at missed;
       symbol = rw i-is (omega (arith, low-is, base-is, from));
       known = known;

@@ -4,3 +4,4 @@ pub mod Counts
 pub mod Windows
 pub mod Runs
 pub mod Kept
+pub mod Nodes

@@ -3,16 +3,20 @@
 ghost use Rattle.std.specs.Prelude.{◌≡◌, ℕ, List, ◌+◌, ◌*◌, ◌<◌, ◌≤◌, ◌++◌, ◌-◌, ◌/◌, ◌^◌, length, slice_index, slice_get, take, vec_len, vec_capacity, Some, IsOk, IfOk, IfErr, OnErr, IfSome};
 ghost use Rattle.pair_dict.specs.Symbols.{symbol_count, values_of, AllHaveValues};
 ghost use Rattle.pair_dict.specs.Codes.{code_at};
+ghost use Rattle.pair_dict.specs.Inside.Counts.{AreCounts};
+ghost use Rattle.pair_dict.specs.Inside.Layouts.{pairing_in, IsLayout};
+ghost use Rattle.pair_dict.specs.Inside.Nodes.{AreNodes};
 ghost use Rattle.pair_dict.specs.Inside.Windows.{IsSound, Shows};
 ghost use Rattle.pair_dict.specs.Inside.Runs.{run_values, run_bits, sum_values, sum_bits, IsLeft, IsRunAt, IsFurther};
 ghost use Rattle.pair_dict.specs.Reading.{Gives, layout_at, dictionary_at};
 ghost use Rattle.pair_dict.specs.declared.fault.DictFault.TheVariants.{OutOfMemory};
 ghost use Rattle.pair_dict.specs.Blocks.{block_values, BlockIsComputed, BlockBeginsWithValues};
 
-use crate::codes::{LongCodes, code_in, firsts_of};
-use crate::counts::counts_of;
+use crate::codes::{CodeLength, CodeSearch, code_in, code_lengths, firsts_of};
+use crate::counts::{Settled, bytes_of, settle_all};
 use crate::fault::{Damaged, DictFault};
 use crate::layout::Layout;
+use crate::nodes::{Node, Parts};
 use crate::places::Place;
 use crate::runs::{CodeRun, RunSum, run_width, runs_of};
 use crate::symbols::{MOST_VALUES, Symbol, symbol_at};
@@ -25,18 +29,18 @@ const RUNS_IN_WORD: u32 = 4;
 
 /// The symbols of a table and their codes.
 ///
-/// It borrows the bytes that it was read from. Beside them it keeps a number for each code length, the runs of short
-/// codes by their first bits, and each symbol's number of values.
+/// It borrows the bytes that it was read from. Beside them it keeps two numbers for each code length, the runs of short
+/// codes by their first bits, and of each symbol how many values it has and what they are.
 #[derive(Drop)]
 pub struct Dictionary<'a> {
-    least: u32,
-    lowest: &'a [u8],
-    firsts: Vec<u64>,
-    long_codes: LongCodes,
-    run_width: u32,
+    search: CodeSearch,
+    codes: Vec<CodeLength>,
     runs: Vec<CodeRun>,
+    nodes: Vec<Node>,
+    // How many values each symbol has, less one.
+    counts: Vec<u8>,
+    // Last, since a single value needs none of them.
     symbols: &'a [u8],
-    counts: Vec<u16>,
 }
 
 impl<'a> Model for Dictionary<'a> {
@@ -58,28 +62,55 @@ impl<'a> Dictionary<'a> {
     /// Each part is checked once it is complete, in the order of the bytes, and the first fault is reported:
     /// `Truncated`, `BadCode` or `BadSymbol`. `OutOfMemory`, where memory is refused, comes only after all symbols are
     /// present. The time is linear in the number of symbols, whatever their order.
-    pub fn read(alloc: Global, bytes: &'a [u8]) -> Result<(Dictionary<'a>, usize), DictFault>
+    ///
+    /// Values are found by a table of at most 2^`most_bits` entries of two bytes, `most_bits` from 1 to 13. A larger table
+    /// makes fewer steps and misses the cache more often.
+    pub fn read(
+        alloc: Global,
+        bytes: &'a [u8],
+        most_bits: u32,
+    ) -> Result<(Dictionary<'a>, usize), DictFault>
+        requires some { 1 ≤ most_bits }
+        requires few { most_bits ≤ 13 }
         ensures is { Gives (λ x. (x.0, x.1)) result (dictionary_at bytes.now) }
         ensures values { IfOk result (λ x. AllHaveValues x.0.symbols) }
         ensures fits { IfOk result (λ x. x.1 ≤ length bytes.now) }
         ensures memory { IfErr result (λ e. e ≡ OutOfMemory → IsOk (layout_at bytes.now)) }
     {
         let layout = Layout::read(bytes)?;
-        let counts = counts_of(alloc, layout.symbols)?;
-        let firsts = firsts_of(alloc, layout.least, layout.lowest)?;
-        let run_width = run_width(counts.len());
-        let runs = runs_of(alloc, &layout, &firsts, &counts, run_width)?;
-        let dictionary = Dictionary {
-            least: layout.least,
-            lowest: layout.lowest,
-            long_codes: LongCodes::above(run_width, layout.least, &firsts),
-            firsts,
-            run_width,
-            runs,
-            symbols: layout.symbols,
-            counts,
-        };
+        let settled = settle_all(alloc, layout.symbols)?;
+        let dictionary = Dictionary::of(alloc, &layout, settled, most_bits)?;
         Ok((dictionary, layout.taken))
+    }
+
+    /// The dictionary of a layout whose symbols are settled. The only error is that memory is refused.
+    fn of(
+        alloc: Global,
+        layout: &Layout<'a>,
+        settled: Settled,
+        most_bits: u32,
+    ) -> Result<Dictionary<'a>, AllocError>
+        requires layout { IsLayout layout.now }
+        requires counts { AreCounts layout.now.symbols.now settled.counts.items }
+        requires nodes { AreNodes layout.now.symbols.now settled.nodes.items }
+        requires some { 1 ≤ most_bits }
+        requires few { most_bits ≤ 13 }
+        ensures { IfOk result (λ d. d ≡ (pairing_in layout.now).0) }
+    {
+        let Settled { counts, nodes } = settled;
+        let firsts = firsts_of(alloc, layout.least, layout.lowest)?;
+        let run_width = run_width(counts.len(), most_bits);
+        let runs = runs_of(alloc, layout, &firsts, &counts, run_width)?;
+        let codes = code_lengths(alloc, &firsts, layout.lowest)?;
+        let counts = bytes_of(alloc, &counts)?;
+        Ok(Dictionary {
+            search: CodeSearch::new(run_width, layout.least, &firsts),
+            codes,
+            runs,
+            nodes,
+            counts,
+            symbols: layout.symbols,
+        })
     }
 
     /// The run of codes at the front of a buffer's bits.
@@ -89,7 +120,7 @@ impl<'a> Dictionary<'a> {
             → IsRunAt self.now block p (run_values result) (run_bits result) }
         ensures few { run_bits result ≤ 13 }
     {
-        self.runs[buffer.front(self.run_width)]
+        self.runs[buffer.front(self.search.run_width as u32)]
     }
 
     /// The symbol and the length of the code at a bit of a block.
@@ -99,15 +130,7 @@ impl<'a> Dictionary<'a> {
         ensures is { result ≡ code_at self.now block.now at }
         ensures sound { IfSome result (λ code. IsSound (symbol_count self.now.symbols) block.now at code) }
     {
-        code_in(
-            self.counts.len(),
-            block,
-            at,
-            self.least,
-            &self.firsts,
-            self.lowest,
-            self.long_codes,
-        )
+        code_in(self.nodes.len(), block, at, &self.codes, &self.search)
     }
 
     /// How many values a symbol has.
@@ -117,7 +140,7 @@ impl<'a> Dictionary<'a> {
         ensures is { result ≡ length (values_of self.now.symbols symbol) }
         ensures some { 1 ≤ result }
     {
-        self.counts[symbol] as usize
+        self.counts[symbol] as usize + 1
     }
 
     /// One value of a symbol.
@@ -129,14 +152,13 @@ impl<'a> Dictionary<'a> {
         let mut symbol = symbol;
         let mut left = offset;
         'down: loop {
-            match symbol_at(self.symbols, symbol) {
-                Symbol::Leaf(value) => return value,
-                Symbol::Pair(first, second) => {
-                    let skipped = self.counts[first as usize] as usize;
-                    if left < skipped {
+            match self.nodes[symbol].parts() {
+                Parts::Equal(value) => return value,
+                Parts::Pair(first, second, skipped) => {
+                    if left < skipped as usize {
                         symbol = first as usize;
                     } else {
-                        left -= skipped;
+                        left -= skipped as usize;
                         symbol = second as usize;
                     }
                 }
@@ -309,7 +331,7 @@ impl<'a> Dictionary<'a> {
         ensures small { result ≤ 2048 * length block.now }
     {
         // Each code has `least` bits or more, and each symbol 256 values or fewer.
-        let most = block.len().saturating_mul(8 * MOST_VALUES) / self.least as usize;
+        let most = block.len().saturating_mul(8 * MOST_VALUES) / self.search.least as usize;
         most.min(count as usize)
     }
 
@@ -343,6 +365,6 @@ impl<'a> Dictionary<'a> {
         ensures computed { BlockIsComputed self.now block.now }
         ensures front { BlockBeginsWithValues self.now block.now }
     {
-        let _ = &self.least;
+        let _ = &self.search;
     }
 }

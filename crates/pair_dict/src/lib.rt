@@ -10,6 +10,7 @@ mod dictionary;
 mod fault;
 mod laws;
 mod layout;
+mod nodes;
 mod places;
 mod runs;
 mod symbols;

@@ -12,25 +12,24 @@ use crate::layout::Layout;
 use crate::two_bytes::word_of;
 use std::alloc::{AllocError, Global};
 
-/// The most bits that runs are looked up by.
-const MOST_BITS: u32 = 13;
-
 /// Runs are looked up by this many more bits than the symbols' numbers have. More bits make fewer steps, but a larger
 /// table that misses the cache more often.
 const MORE_BITS: u32 = 1;
 
 /// By how many bits runs are looked up for this number of symbols: `MORE_BITS` more than the symbols' numbers have, up
-/// to `MOST_BITS`.
-pub(crate) fn run_width(symbols: usize) -> u32
+/// to `most`.
+pub(crate) fn run_width(symbols: usize, most: u32) -> u32
+    requires some { 1 ≤ most }
+    requires few { most ≤ 13 }
     ensures some { 1 ≤ result }
     ensures few { result ≤ 13 }
 {
-    for bits in 0..MOST_BITS - MORE_BITS {
+    for bits in 0..most - MORE_BITS {
         if symbols < 1 << bits {
             return bits + MORE_BITS;
         }
     }
-    MOST_BITS
+    most
 }
 
 /// The most values that a run stands for.
@@ -219,8 +218,8 @@ fn join_length(
     ensures lengths { length runs.new ≡ length runs.old }
 {
     let length = layout.least + i as u32;
-    let base = (firsts[i] >> (63 - length)) as usize;
-    let end = (top >> (63 - length)) as usize;
+    let base = (firsts[i] >> (32 - length)) as usize;
+    let end = (top >> (32 - length)) as usize;
     let lowest = word_of(layout.lowest, i) as usize;
     for code in base..end {
         let symbol = lowest + (code - base);
@@ -248,7 +247,7 @@ fn join_width(layout: &Layout<'_>, firsts: &[u64], counts: &[u16], width: u32, r
     ensures joined { AreJoined (pairing_in layout.now).0 runs.new }
     ensures lengths { length runs.new ≡ length runs.old }
 {
-    let mut top: u64 = 1 << 63;
+    let mut top: u64 = 1 << 32;
     for i in 0..firsts.len() {
         if layout.least as usize + i > width as usize {
             return;

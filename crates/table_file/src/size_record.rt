@@ -1,6 +1,6 @@
 //! Size records.
 
-ghost use Rattle.std.specs.Prelude.{◌≡◌, ◌≢◌, IfErr};
+ghost use Rattle.std.specs.Prelude.{◌≡◌, ◌≢◌, ◌≤◌, IfErr};
 ghost use Rattle.table_file.specs.declared.fault.TableFault.TheVariants.{OutOfMemory};
 ghost use Rattle.table_file.specs.Reading.{Gives};
 ghost use Rattle.table_file.specs.Dictionaries.{fault_of, pairing_at};
@@ -39,15 +39,28 @@ fn fault_of(fault: DictFault) -> TableFault
     }
 }
 
+/// By how many bits the codes of a dictionary are looked up at most. A WDL probe reads a few of its entries and then goes to
+/// another table, so more of them have to stay in the cache. A DTZ probe reads many entries of one dictionary.
+fn most_bits(kind: TableKind) -> u32
+    ensures some { 1 ≤ result }
+    ensures few { result ≤ 13 }
+{
+    match kind {
+        TableKind::Wdl => 11,
+        TableKind::Dtz => 13,
+    }
+}
+
 /// The dictionary at the front, and what is left.
 #[tactic(auto, unfolding(crate::specs::Dictionaries::pairing_at))]
 fn dictionary_of<'a>(
     alloc: Global,
+    kind: TableKind,
     bytes: &'a [u8],
 ) -> Result<(Dictionary<'a>, &'a [u8]), TableFault>
     ensures { Gives (λ x. (x.0, x.1.now)) result (pairing_at bytes.now) }
 {
-    match Dictionary::read(alloc, bytes) {
+    match Dictionary::read(alloc, bytes, most_bits(kind)) {
         Ok((dictionary, taken)) => {
             let (_, rest) = bytes.split_at(taken);
             Ok((dictionary, rest))
@@ -58,14 +71,18 @@ fn dictionary_of<'a>(
 
 /// The lines of a size record that has blocks, behind its flags.
 #[tactic(auto, unfolding(crate::specs::SizeRecords::codes_at))]
-fn codes_of<'a>(alloc: Global, bytes: &'a [u8]) -> Result<(Codes<'a>, &'a [u8]), TableFault>
+fn codes_of<'a>(
+    alloc: Global,
+    kind: TableKind,
+    bytes: &'a [u8],
+) -> Result<(Codes<'a>, &'a [u8]), TableFault>
     ensures { Gives (λ x. (x.0, x.1.now)) result (codes_at bytes.now) }
 {
     let (block_exponent, rest) = exponent(0, 24, bytes)?;
     let (span_exponent, rest) = exponent(1, 31, rest)?;
     let (padding, rest) = byte(rest)?;
     let (blocks, rest) = number(rest)?;
-    let (dictionary, rest) = dictionary_of(alloc, rest)?;
+    let (dictionary, rest) = dictionary_of(alloc, kind, rest)?;
     let codes = Codes::new(block_exponent, span_exponent, padding, blocks, dictionary);
     Ok((codes, rest))
 }
@@ -103,7 +120,7 @@ fn coding_of<'a>(
         let (value, rest) = single_of(kind, bytes)?;
         Ok((Coding::Single(value), rest))
     } else {
-        let (codes, rest) = codes_of(alloc, bytes)?;
+        let (codes, rest) = codes_of(alloc, kind, bytes)?;
         Ok((Coding::Pairs(codes), rest))
     }
 }

@@ -9,6 +9,11 @@ abbrev pub IsSymbol : List ℕ → ℕ → Symbol → Type 0
 IsSymbol symbols s (Leaf value) = (right symbols s ≡ 4095) × (value ≡ left symbols s)
 IsSymbol symbols s (Pair a b) = (right symbols s ≢ 4095) × (a ≡ left symbols s) × (b ≡ right symbols s)
 
+-- numbers of twelve bits
+abbrev pub IsShort : Symbol → Type 0
+IsShort (Leaf value) = value < 4096
+IsShort (Pair a b) = (a < 4096) × (b < 4096)
+
 -- a leaf has one value
 pub record IsLeafCount (symbols counts : List ℕ) (s : ℕ) : Type 0 where
   pub is_leaf : right symbols s ≡ 4095

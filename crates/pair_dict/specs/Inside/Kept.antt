@@ -1,23 +1,24 @@
 -- A dictionary as it is kept.
 use Rattle.std.specs.Prelude.{◌≡◌, ◌+◌, ◌^◌, ◌≤◌, length}
 use Rattle.pair_dict.specs.Codes.{Pairing}
-use Rattle.pair_dict.specs.Reading.{words}
 use Rattle.pair_dict.specs.Inside.Counts.{AreCounts}
-use Rattle.pair_dict.specs.Inside.Windows.{AreFirsts, AreLong}
+use Rattle.pair_dict.specs.Inside.Nodes.{AreNodes, counts_in}
+use Rattle.pair_dict.specs.Inside.Windows.{AreFirsts, AreLong, firsts_in, lowest_in}
 use Rattle.pair_dict.specs.Inside.Runs.{AreRuns}
 use Rattle.pair_dict.specs.declared.dictionary.Dictionary.TheInside.{Inside}
 
 abbrev pub pairing_of : Inside → Pairing
-pairing_of a = record { least = a.least; lowest = words a.lowest.now; symbols = a.symbols.now }
+pairing_of a = record { least = a.search.least; lowest = lowest_in a.codes.items; symbols = a.symbols.now }
 
 pub record IsKept (a : Inside) : Type 0 where
-  pub least : 1 ≤ a.least
-  pub some : 1 ≤ length (words a.lowest.now)
-  pub greatest : a.least + length (words a.lowest.now) ≤ 33
-  pub firsts : AreFirsts a.least (words a.lowest.now) a.firsts.items
-  pub long_codes : AreLong a.firsts.items a.long_codes
-  pub counts : AreCounts a.symbols.now a.counts.items
-  pub some_bits : 1 ≤ a.run_width
-  pub few_bits : a.run_width ≤ 13
-  pub all_runs : length a.runs.items ≡ 2 ^ a.run_width
-  pub runs : AreRuns (pairing_of a) a.run_width a.runs.items
+  pub least : 1 ≤ a.search.least
+  pub some : 1 ≤ length a.codes.items
+  pub greatest : a.search.least + length a.codes.items ≤ 33
+  pub firsts : AreFirsts a.search.least (lowest_in a.codes.items) (firsts_in a.codes.items)
+  pub long_codes : AreLong (firsts_in a.codes.items) a.search
+  pub counts : AreCounts a.symbols.now (counts_in a.counts.items)
+  pub nodes : AreNodes a.symbols.now a.nodes.items
+  pub some_bits : 1 ≤ a.search.run_width
+  pub few_bits : a.search.run_width ≤ 13
+  pub all_runs : length a.runs.items ≡ 2 ^ a.search.run_width
+  pub runs : AreRuns (pairing_of a) a.search.run_width a.runs.items

@@ -57,9 +57,9 @@ pub record IsCodeRun (d : Pairing) (code : ℕ) (run : CodeRun) : Type 0 where
   pub some : 1 ≤ run_bits run
   pub alone : IsRun d (run_bits run) code run
 
--- numbers of 63 bits below `top` are no code of the lengths before the place i
+-- numbers of 32 bits below `top` are no code of the lengths before the place i
 pub record IsTop (firsts : List ℕ) (i top : ℕ) : Type 0 where
-  pub few : top ≤ 2 ^ 63
+  pub few : top ≤ 2 ^ 32
   pub below : (j : ℕ) → j < i → top ≤ slice_index firsts j
 
 -- those of n bits stand from the place 2^n on

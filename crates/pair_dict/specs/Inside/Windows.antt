@@ -1,8 +1,9 @@
 -- A few bits of a block at the top of a word.
-use Rattle.std.specs.Prelude.{◌≡◌, ℕ, ◌+◌, ◌-◌, ◌*◌, ◌/◌, ◌^◌, ◌<◌, ◌≤◌, List, length, slice_index}
+use Rattle.std.specs.Prelude.{◌≡◌, ℕ, ◌+◌, ◌-◌, ◌*◌, ◌/◌, ◌%◌, ◌^◌, ◌<◌, ◌≤◌, List, length, slice_index, map}
 use Rattle.pair_dict.specs.Codes.{bases, bits, number_of}
 use Rattle.pair_dict.specs.declared.window.BitBuffer.{BitBuffer}
-use Rattle.pair_dict.specs.declared.codes.LongCodes.{LongCodes}
+use Rattle.pair_dict.specs.declared.codes.CodeLength.{CodeLength}
+use Rattle.pair_dict.specs.declared.codes.CodeSearch.{CodeSearch}
 
 -- the highest n bits of the word are the first n bits of the bytes
 abbrev pub IsWord : List ℕ → ℕ → Type 0
@@ -19,18 +20,25 @@ pub record Shows (block : List ℕ) (p : ℕ) (b : BitBuffer) : Type 0 where
   pub within : p + b.held ≤ 8 * length block
   pub same : (n : ℕ) → n ≤ b.held → b.bits / 2 ^ (64 - n) ≡ bits block p n
 
--- the least number of 63 bits whose first n bits are at least the base, or 2^63 where n bits are never
+-- the least number of 32 bits whose first n bits are at least the base, or 2^32 where n bits are never
 pub record IsFirst (n base first : ℕ) : Type 0 where
-  pub possible : base < 2 ^ n → first ≡ base * 2 ^ (63 - n)
-  pub impossible : 2 ^ n ≤ base → first ≡ 2 ^ 63
+  pub possible : base < 2 ^ n → first ≡ base * 2 ^ (32 - n)
+  pub impossible : 2 ^ n ≤ base → first ≡ 2 ^ 32
 
 -- the first number of each length from the least on
 pub record AreFirsts (least : ℕ) (lowest firsts : List ℕ) : Type 0 where
   pub lengths : length firsts ≡ length lowest
   pub each : (i : ℕ) → i < length lowest → IsFirst (least + i) (slice_index (bases lowest) i) (slice_index firsts i)
 
+-- the first numbers of code lengths, and their lowest symbols
+abbrev pub firsts_in : List CodeLength → List ℕ
+firsts_in codes = map (λ c. c.packed / 65536) codes
+
+abbrev pub lowest_in : List CodeLength → List ℕ
+lowest_in codes = map (λ c. c.packed % 65536) codes
+
 -- bits below the number `first` are no code of the lengths before the place `from`
-pub record AreLong (firsts : List ℕ) (long : LongCodes) : Type 0 where
+pub record AreLong (firsts : List ℕ) (long : CodeSearch) : Type 0 where
   pub within : long.from ≤ length firsts
   pub above : (i : ℕ) → i < long.from → long.first ≤ slice_index firsts i
 

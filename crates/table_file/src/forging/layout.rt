@@ -152,7 +152,8 @@ fn have_values(
     requires spelled { bytes.now ≡ dictionary_bytes plan.now }
     ensures { IfOk result (λ b. IsTrue b ↔ AllHaveValues (symbol_bytes plan.now)) }
 {
-    match Dictionary::read(alloc, bytes) {
+    // No value is looked up.
+    match Dictionary::read(alloc, bytes, 1) {
         Ok(_) => Ok(true),
         Err(DictFault::OutOfMemory) => Err(AllocError),
         Err(DictFault::Truncated) => Ok(false),

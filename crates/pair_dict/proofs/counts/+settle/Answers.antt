@@ -1,6 +1,7 @@
 use Rattle.std.proofs.Common.{◌≢◌, ◌+◌, ◌-◌, ◌∙◌, sym, refl, arith, inl, inr, get_or}
 use Rattle.std.proofs.lemmas.Result.{err_from_is_err_and}
 use Rattle.pair_dict.proofs.Settling.{has_some, no_reference, more_left, more_right, too_many, put_pair}
+use Rattle.pair_dict.proofs.NodeLemmas.{pair_put}
 use Rattle.pair_dict.proofs.counts.+settle.Goals as goal
 use Rattle.pair_dict.proofs.counts.+settle.Goals.{then-left-counts-via-then-left-counts, then-left-counts-via-else-left-counts+then-right-counts}
 
@@ -8,39 +9,39 @@ pub returns-then-most-eq0-clause-none : goal.returns-then-most-eq0-clause-none
 returns-then-most-eq0-clause-none t c = λ vs has. omega (arith, has_some has, c.if-most-eq0.true)
 
 pub returns-then-left-counts-clause-none : goal.returns-then-left-counts-clause-none
-returns-then-left-counts-clause-none t c = λ vs has. absurd (no_reference c.in-Pair.ensures.0 (elim c.then-left-counts.branch [
-  | then-left-counts-via-then-left-counts w ↦ inl (omega (arith, w.if-left-counts.true, c.in-Pair.ensures.1, c.requires.settled.lengths))
-  | then-left-counts-via-else-left-counts+then-right-counts w ↦ inr (omega (arith, w.if-right-counts.true, c.in-Pair.ensures.2, c.requires.settled.lengths))
+returns-then-left-counts-clause-none t c = λ vs has. absurd (no_reference c.in-Pair.ensures.is.0 (elim c.then-left-counts.branch [
+  | then-left-counts-via-then-left-counts w ↦ inl (omega (arith, w.if-left-counts.true, c.in-Pair.ensures.is.1, c.requires.settled.lengths))
+  | then-left-counts-via-else-left-counts+then-right-counts w ↦ inr (omega (arith, w.if-right-counts.true, c.in-Pair.ensures.is.2, c.requires.settled.lengths))
 ]) has)
 
 pub returns-in_err-settle-in-Pair-clause-none : goal.returns-in_err-settle-in-Pair-clause-none
 returns-in_err-settle-in-Pair-clause-none t c =
     let p = err_from_is_err_and c.from_residual.result c.from_residual.ensures.1 in
-    rw (p.1) (λ vs has. omega (arith, more_left (c.args.most - 1) c.in-Pair.ensures.0 (rw c.in-Pair.ensures.1 at c.in_err-settle-in-Pair.ensures.none) has))
+    rw (p.1) (λ vs has. omega (arith, more_left (c.args.most - 1) c.in-Pair.ensures.is.0 (rw c.in-Pair.ensures.is.1 at c.in_err-settle-in-Pair.ensures.none) has))
 
 pub returns-in_err-settle-in-Pair-2-clause-none : goal.returns-in_err-settle-in-Pair-2-clause-none
 returns-in_err-settle-in-Pair-2-clause-none t c =
     let p = err_from_is_err_and c.from_residual-in_err-settle-in-Pair-2.result c.from_residual-in_err-settle-in-Pair-2.ensures.1 in
-    rw (p.1) (λ vs has. omega (arith, more_right (c.args.most - 1) c.in-Pair.ensures.0 (rw c.in-Pair.ensures.2 at c.in_err-settle-in-Pair-2.ensures.none) has))
+    rw (p.1) (λ vs has. omega (arith, more_right (c.args.most - 1) c.in-Pair.ensures.is.0 (rw c.in-Pair.ensures.is.2 at c.in_err-settle-in-Pair-2.ensures.none) has))
 
 pub returns-then-count-gt-MOST_VALUES-clause-none : goal.returns-then-count-gt-MOST_VALUES-clause-none
 returns-then-count-gt-MOST_VALUES-clause-none t c = λ vs has.
     let counts = c.settle-in-Pair.new.counts in
     let kept = c.in_ok-settle-in-Pair-2.ensures.kept c.in-Pair.left c.in_ok-settle-in-Pair.ensures.counted in
     let first : get_or counts c.in-Pair.left 0 ≢ 0 = λ z. c.in_ok-settle-in-Pair.ensures.counted (sym kept ∙ z) in
-    let more = rw (c.in-Pair.ensures.1, c.in-Pair.ensures.2) at c.if-count-gt-MOST_VALUES.true in
+    let more = rw (c.in-Pair.ensures.is.1, c.in-Pair.ensures.is.2) at c.if-count-gt-MOST_VALUES.true in
     omega (
       arith,
       c.requires.few,
-      too_many counts c.in_ok-settle-in-Pair-2.ensures.settled c.in-Pair.ensures.0
-          (rw c.in-Pair.ensures.1 at first) (rw c.in-Pair.ensures.2 at c.in_ok-settle-in-Pair-2.ensures.counted) more has,
+      too_many counts c.in_ok-settle-in-Pair-2.ensures.settled c.in-Pair.ensures.is.0
+          (rw c.in-Pair.ensures.is.1 at first) (rw c.in-Pair.ensures.is.2 at c.in_ok-settle-in-Pair-2.ensures.counted) more has,
     )
 
 pub returns-else-count-gt-MOST_VALUES-clause-settled : goal.returns-else-count-gt-MOST_VALUES-clause-settled
 returns-else-count-gt-MOST_VALUES-clause-settled t c =
     (put_pair c.args.symbols.now c.args.counts.now c.settle.new.counts c.settle-in-Pair.new.counts c.args.symbol c.in-Pair.left c.in-Pair.right
     (get_or c.settle-in-Pair.new.counts c.in-Pair.left 0 + get_or c.settle-in-Pair.new.counts c.in-Pair.right 0)
-    c.requires.known c.in-Pair.ensures.0 c.in-Pair.ensures.1 c.in-Pair.ensures.2
+    c.requires.known c.in-Pair.ensures.is.0 c.in-Pair.ensures.is.1 c.in-Pair.ensures.is.2
     (omega (arith, c.if-left-counts.false, c.requires.settled.lengths)) (omega (arith, c.if-right-counts.false, c.requires.settled.lengths))
     c.in_ok-settle-in-Pair.ensures.kept c.in_ok-settle-in-Pair.ensures.counted c.in_ok-settle-in-Pair-2.ensures.kept c.in_ok-settle-in-Pair-2.ensures.counted
     c.in_ok-settle-in-Pair-2.ensures.settled refl c.if-count-gt-MOST_VALUES.false).settled
@@ -49,7 +50,15 @@ pub returns-else-count-gt-MOST_VALUES-clause-kept : goal.returns-else-count-gt-M
 returns-else-count-gt-MOST_VALUES-clause-kept t c =
     (put_pair c.args.symbols.now c.args.counts.now c.settle.new.counts c.settle-in-Pair.new.counts c.args.symbol c.in-Pair.left c.in-Pair.right
     (get_or c.settle-in-Pair.new.counts c.in-Pair.left 0 + get_or c.settle-in-Pair.new.counts c.in-Pair.right 0)
-    c.requires.known c.in-Pair.ensures.0 c.in-Pair.ensures.1 c.in-Pair.ensures.2
+    c.requires.known c.in-Pair.ensures.is.0 c.in-Pair.ensures.is.1 c.in-Pair.ensures.is.2
     (omega (arith, c.if-left-counts.false, c.requires.settled.lengths)) (omega (arith, c.if-right-counts.false, c.requires.settled.lengths))
     c.in_ok-settle-in-Pair.ensures.kept c.in_ok-settle-in-Pair.ensures.counted c.in_ok-settle-in-Pair-2.ensures.kept c.in_ok-settle-in-Pair-2.ensures.counted
     c.in_ok-settle-in-Pair-2.ensures.settled refl c.if-count-gt-MOST_VALUES.false).kept
+
+pub returns-else-count-gt-MOST_VALUES-clause-nodes : goal.returns-else-count-gt-MOST_VALUES-clause-nodes
+returns-else-count-gt-MOST_VALUES-clause-nodes t c =
+    pair_put c.args.symbols.now c.settle.new.counts c.settle-in-Pair.new.counts c.settle-in-Pair.new.nodes c.args.symbol c.in-Pair.left c.in-Pair.right _
+    (get_or c.settle-in-Pair.new.counts c.in-Pair.left 0 + get_or c.settle-in-Pair.new.counts c.in-Pair.right 0) c.joined.result
+    c.requires.known c.in-Pair.ensures.is.0 c.in-Pair.ensures.is.1 c.in-Pair.ensures.is.2
+    (omega (arith, c.if-left-counts.false, c.requires.settled.lengths)) (omega (arith, c.if-right-counts.false, c.requires.settled.lengths))
+    c.in_ok-settle-in-Pair.ensures.counted c.in_ok-settle-in-Pair-2.ensures.kept c.in_ok-settle-in-Pair-2.ensures.counted c.in_ok-settle-in-Pair-2.ensures.settled c.in_ok-settle-in-Pair-2.ensures.nodes refl c.joined.ensures

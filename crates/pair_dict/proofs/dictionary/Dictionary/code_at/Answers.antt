@@ -6,5 +6,5 @@ use Rattle.pair_dict.proofs.dictionary.Dictionary.code_at.Goals as goal
 pub returns-clause-is : goal.returns-clause-is
 unfolding code_at
 returns-clause-is c =
-    let all : c.len.result ≡ symbol_count c.self.inside.symbols.now = omega (arith, c.len.ensures, c.self.inside.counts.ok.0, c.self.invariant.counts.lengths) in
-    rw (← c.self.view_is) (rw all at c.code_in.ensures.is)
+    let all : c.len.result ≡ symbol_count c.self.inside.symbols.now = omega (arith, c.len.ensures, c.self.inside.nodes.ok.0, c.self.invariant.nodes.lengths) in
+    rw (← c.self.view_is) (rw (all, c.deref.ensures.value) at c.code_in.ensures.is)

@@ -10,10 +10,10 @@ returns-in_err-layout-clause-is c =
     let p = err_from_is_err_and c.from_residual.result c.from_residual.ensures.1 in
     rw (p.1, p.2) (layout_fails c.args.bytes.now c.in_err-layout.field-0.0 c.in_err-layout.ensures.is)
 
-pub returns-in_err-counts-clause-is : goal.returns-in_err-counts-clause-is
-returns-in_err-counts-clause-is c =
-    let p = err_from_is_err_and c.from_residual-in_err-counts.result c.from_residual-in_err-counts.ensures.1 in
-    rw (p.1, p.2) (elim c.in_err-counts.ensures.bad [
+pub returns-in_err-settled-clause-is : goal.returns-in_err-settled-clause-is
+returns-in_err-settled-clause-is c =
+    let p = err_from_is_err_and c.from_residual-in_err-settled.result c.from_residual-in_err-settled.ensures.1 in
+    rw (p.1, p.2) (elim c.in_err-settled.ensures.bad [
       | inl memory ↦ rw memory tt
       | inr bad ↦ rw bad.0 (without_values c.args.bytes.now (pairing_in c.in_ok-layout.layout) c.in_ok-layout.ensures.is bad.1)
     ])
@@ -24,7 +24,7 @@ returns-in_err-layout-clause-memory c =
     rw (p.1, p.2) (λ memory. absurd (layout_wants_none c.args.bytes.now c.in_err-layout.field-0.0 c.in_err-layout.ensures.is memory))
 
 pub returns-clause-is : goal.returns-clause-is
-returns-clause-is c = with_all_values c.args.bytes.now (pairing_in c.in_ok-layout.layout) c.in_ok-layout.ensures.is c.in_ok-counts.ensures.good
+returns-clause-is c = rw c.in_ok-dictionary.ensures (with_all_values c.args.bytes.now (pairing_in c.in_ok-layout.layout) c.in_ok-layout.ensures.is c.in_ok-settled.ensures.good)
 
 pub returns-clause-values : goal.returns-clause-values
-returns-clause-values c = all_have c.in_ok-layout.layout.symbols.now c.in_ok-counts.ensures.good
+returns-clause-values c = rw c.in_ok-dictionary.ensures (all_have c.in_ok-layout.layout.symbols.now c.in_ok-settled.ensures.good)

@@ -1,6 +1,7 @@
-use Rattle.std.proofs.Common.{◌≡◌, ◌≢◌, ◌<◌, ◌≤◌, refl, sym, ◌∙◌, arith, get_or}
-use Rattle.pair_dict.specs.Symbols.{right}
-use Rattle.pair_dict.proofs.SymbolValues.{length-values_of, read_count, leaf_value, value_left, value_right, pair_at}
+use Rattle.std.proofs.Common.{◌<◌, ◌≤◌, refl, sym, ◌∙◌, arith, get_or}
+use Rattle.pair_dict.specs.Inside.Nodes.{counts_in}
+use Rattle.pair_dict.proofs.NodeLemmas.{value_equal, pair_here, skipped_is}
+use Rattle.pair_dict.proofs.SymbolValues.{length-values_of, value_left, value_right, pair_at}
 use Rattle.pair_dict.proofs.dictionary.Dictionary.value_in.Goals as goal
 
 pub down-init : goal.down-init
@@ -9,48 +10,47 @@ down-init c =
     let lt = rw (← c.self.view_is) at c.requires.known in
     record {
       known = lt;
-      within = rw (length-values_of symbols c.self.inside.counts.items c.self.invariant.counts c.args.symbol lt) at (rw (← c.self.view_is) at c.requires.within);
+      within = rw (length-values_of symbols (counts_in c.self.inside.counts.items) c.self.invariant.counts c.args.symbol lt) at (rw (← c.self.view_is) at c.requires.within);
       same = refl;
     }
 
-pub returns-in-Leaf : goal.returns-in-Leaf
-returns-in-Leaf c =
+pub returns-in-Equal : goal.returns-in-Equal
+returns-in-Equal c =
     let symbols = c.self.inside.symbols.now in
-    rw (← c.self.view_is) (c.in-Leaf.ensures.1
-    ∙ leaf_value symbols c.self.inside.counts.items c.self.invariant.counts c.down.symbol c.down.left c.down.invariant.known c.in-Leaf.ensures.0 c.down.invariant.within
-    ∙ c.down.invariant.same)
+    let i = c.self.invariant in
+    rw (← c.self.view_is) (value_equal symbols (counts_in c.self.inside.counts.items) i.counts c.self.inside.nodes.items i.nodes c.down.symbol c.down.invariant.known c.index.result.now c.index.ensures
+    c.in-Equal.value c.down.left c.in-Equal.ensures c.down.invariant.within ∙ c.down.invariant.same)
 
 pub down-preserved-then-left-skipped : goal.down-preserved-then-left-skipped
 down-preserved-then-left-skipped c =
     let symbols = c.self.inside.symbols.now in
-    let counts = c.self.inside.counts.items in
-    let h = c.self.invariant.counts in
+    let counts = counts_in c.self.inside.counts.items in
+    let i = c.self.invariant in
     let s = c.down.symbol in
-    let ne : right symbols s ≢ 4095 = c.in-Pair.ensures.0 in
-    let two = pair_at symbols counts h s c.down.invariant.known ne in
-    let known = rw (← c.in-Pair.ensures.1) at two.left_known in
-    let skipped = read_count symbols counts h c.in-Pair.first c.index.result.now known c.index.ensures in
-    let within : c.down.left < get_or counts c.in-Pair.first 0 = omega (arith, skipped) in
+    let lt = c.down.invariant.known in
+    let two = pair_here symbols counts i.counts c.self.inside.nodes.items i.nodes s lt c.index.result.now c.index.ensures c.in-Pair.first c.in-Pair.second c.in-Pair.skipped c.in-Pair.ensures in
+    let skipped = skipped_is symbols counts i.counts c.self.inside.nodes.items i.nodes s lt c.index.result.now c.index.ensures c.in-Pair.first c.in-Pair.second c.in-Pair.skipped two in
+    let within : c.down.left < get_or counts c.in-Pair.first 0 = omega (arith, skipped, c.if-left-skipped.true) in
     record {
-      known = known;
+      known = rw two.left_is (pair_at symbols counts i.counts s lt two.is_pair).left_known;
       within = within;
-      same = rw c.in-Pair.ensures.1 (sym (value_left symbols counts h s c.down.left c.down.invariant.known ne (rw c.in-Pair.ensures.1 at within)) ∙ c.down.invariant.same);
+      same = rw two.left_is (sym (value_left symbols counts i.counts s c.down.left lt two.is_pair (rw two.left_is at within)) ∙ c.down.invariant.same);
     }
 
 pub down-preserved : goal.down-preserved
 down-preserved c =
     let symbols = c.self.inside.symbols.now in
-    let counts = c.self.inside.counts.items in
-    let h = c.self.invariant.counts in
+    let counts = counts_in c.self.inside.counts.items in
+    let i = c.self.invariant in
     let s = c.down.symbol in
-    let ne : right symbols s ≢ 4095 = c.in-Pair.ensures.0 in
-    let two = pair_at symbols counts h s c.down.invariant.known ne in
-    let known = rw (← c.in-Pair.ensures.1) at two.left_known in
-    let skipped : c.index.result.now ≡ get_or counts c.in-Pair.first 0 = read_count symbols counts h c.in-Pair.first c.index.result.now known c.index.ensures in
-    let le : get_or counts c.in-Pair.first 0 ≤ c.down.left = omega (arith, skipped) in
-    let both = rw (← c.in-Pair.ensures.1, ← c.in-Pair.ensures.2) at two.both in
+    let lt = c.down.invariant.known in
+    let two = pair_here symbols counts i.counts c.self.inside.nodes.items i.nodes s lt c.index.result.now c.index.ensures c.in-Pair.first c.in-Pair.second c.in-Pair.skipped c.in-Pair.ensures in
+    let skipped = skipped_is symbols counts i.counts c.self.inside.nodes.items i.nodes s lt c.index.result.now c.index.ensures c.in-Pair.first c.in-Pair.second c.in-Pair.skipped two in
+    let le : get_or counts c.in-Pair.first 0 ≤ c.down.left = omega (arith, skipped, c.if-left-skipped.false) in
+    let pair = pair_at symbols counts i.counts s lt two.is_pair in
+    let both = rw (← two.left_is, ← two.right_is) at pair.both in
     record {
-      known = rw (← c.in-Pair.ensures.2) at two.right_known;
+      known = rw two.right_is pair.right_known;
       within = omega (arith, skipped, both, c.down.invariant.within);
-      same = rw (skipped, c.in-Pair.ensures.1, c.in-Pair.ensures.2) (sym (value_right symbols counts h s c.down.left c.down.invariant.known ne (rw c.in-Pair.ensures.1 at le)) ∙ c.down.invariant.same);
+      same = rw (skipped, two.left_is, two.right_is) (sym (value_right symbols counts i.counts s c.down.left lt two.is_pair (rw two.left_is at le)) ∙ c.down.invariant.same);
     }

@@ -1,0 +1,6 @@
+use Rattle.std.proofs.Common.{◌≡◌, take}
+use Rattle.pair_dict.specs.Inside.Nodes.{counts_in}
+use Rattle.pair_dict.proofs.counts.bytes_of.Given as goal
+
+abbrev pub invariant-loop-i : goal.invariant-loop-i
+invariant-loop-i l = counts_in l.bytes.items ≡ take l.i l.counts

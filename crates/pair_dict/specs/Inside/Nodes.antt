@@ -1,0 +1,61 @@
+-- Symbols as they are kept for going down to one of their values.
+use Rattle.std.specs.Prelude.{◌≡◌, ◌≢◌, ℕ, ◌+◌, ◌/◌, ◌%◌, ◌<◌, ◌==◌, List, length, slice_index, map, if◌then◌else◌}
+use Rattle.std.proofs.Common.{get_or}
+use Rattle.pair_dict.specs.Symbols.{symbol_count, left, right, HasValues}
+use Rattle.pair_dict.specs.declared.nodes.Node.{Node}
+use Rattle.pair_dict.specs.declared.nodes.Parts.{Parts}
+use Rattle.pair_dict.specs.declared.nodes.Parts.TheVariants.{Equal, Pair}
+
+-- what the bits of a node say
+abbrev pub parts_of : Node → Parts
+parts_of node =
+    if node.packed / 4096 % 4096 == 4095
+    then Equal (node.packed % 4096)
+    else Pair (node.packed % 4096) (node.packed / 4096 % 4096) (node.packed / 16777216)
+
+-- all values of a symbol are equal to this one
+abbrev pub AreEqual : List ℕ → ℕ → ℕ → Type 0
+AreEqual symbols s value = (vs : List ℕ) → HasValues symbols s vs → (i : ℕ) → i < length vs → slice_index vs i ≡ value
+
+-- a symbol has so many values
+abbrev pub HasMany : List ℕ → ℕ → ℕ → Type 0
+HasMany symbols s n = (vs : List ℕ) → HasValues symbols s vs → length vs ≡ n
+
+-- the two symbols of a pair, and how many values the left one has
+pub record IsPair (symbols : List ℕ) (s a b skipped : ℕ) : Type 0 where
+  pub is_pair : right symbols s ≢ 4095
+  pub left_is : a ≡ left symbols s
+  pub right_is : b ≡ right symbols s
+  pub many : HasMany symbols a skipped
+
+-- what the values of a symbol are
+abbrev pub AreParts : List ℕ → ℕ → Parts → Type 0
+AreParts symbols s (Equal value) = AreEqual symbols s value
+AreParts symbols s (Pair a b skipped) = IsPair symbols s a b skipped
+
+abbrev pub IsNode : List ℕ → ℕ → Node → Type 0
+IsNode symbols s node = AreParts symbols s (parts_of node)
+
+-- the nodes of all symbols
+pub record AreNodes (symbols : List ℕ) (nodes : List Node) : Type 0 where
+  pub lengths : length nodes ≡ symbol_count symbols
+  pub each : (s : ℕ) (other : Node) → s < symbol_count symbols → IsNode symbols s (get_or nodes s other)
+
+-- counts that are kept less one
+abbrev pub counts_in : List ℕ → List ℕ
+counts_in bytes = map (λ n. n + 1) bytes
+
+-- ---- while they are found; a symbol that isn't counted yet has no node
+
+pub record AreKnownNodes (symbols counts : List ℕ) (nodes : List Node) : Type 0 where
+  pub lengths : length nodes ≡ symbol_count symbols
+  pub each :
+      (s : ℕ) (other : Node) → s < symbol_count symbols → slice_index counts s ≢ 0
+      → IsNode symbols s (get_or nodes s other)
+
+-- a node is that of the pair of two symbols with these nodes, the left one with so many values
+abbrev pub Joins : List Node → ℕ → ℕ → ℕ → Node → Type 0
+Joins nodes a b skipped node =
+    (symbols : List ℕ) (s : ℕ) (other : Node) → right symbols s ≢ 4095 → a ≡ left symbols s → b ≡ right symbols s
+    → IsNode symbols a (get_or nodes a other) → IsNode symbols b (get_or nodes b other) → HasMany symbols a skipped
+    → IsNode symbols s node
