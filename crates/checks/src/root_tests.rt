@@ -14,6 +14,7 @@ const MATE_ROW: &str = "7k/8/6K1/8/8/8/8/5Q2 w - - 99 1";
 const HANGING_ROW: &str = "7K/8/8/4k3/3Q4/8/8/8 b - - 0 1";
 
 /// What the first root move should be.
+#[derive(Clone, Copy)]
 struct Wanted {
     played: &'static str,
     effect: Effect,

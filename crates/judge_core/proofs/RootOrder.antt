@@ -1,5 +1,5 @@
 -- The first of the root moves has the least rank, and what follows from that.
-use Rattle.std.proofs.Common.{◌≡◌, ◌∙◌, sym, ap, refl, subst, ℕ, zero, suc, ◌+◌, ◌-◌, ◌<◌, ◌≤◌, nat_lt, ◌==◌, ℤ, pos, negsuc, ◌≤ℤ◌, ◌<ℤ◌, Bool, true, false, cond, List, [], ◌∷◌, map, filter_map, fold, Option, Some, None, Result, Ok, Err, length, get_or, arith}
+use Rattle.std.proofs.Common.{◌≡◌, ◌∙◌, sym, ap, refl, subst, ℕ, ◌-◌, ◌≤◌, nat_lt, ◌==◌, ℤ, pos, ◌≤ℤ◌, ◌<ℤ◌, Bool, true, false, cond, List, ◌∷◌, Some, Result, Ok, Err, arith}
 use Rattle.std.specs.declared.cmp.Ordering.{Ordering}
 use Rattle.std.specs.declared.cmp.Ordering.TheVariants.{Less, Equal, Greater}
 use Rattle.std.specs.Ordering.{nat_cmp, int_cmp, ordering_then, is_lt}
@@ -19,9 +19,8 @@ use Rattle.judge_core.specs.declared.wdl.Wdl.{Wdl}
 use Rattle.judge_core.specs.declared.wdl.Wdl.TheVariants.{Loss, BlessedLoss, Draw, CursedWin, Win}
 use Rattle.judge_core.specs.Values.{Reading, points, of_points}
 use Rattle.judge_core.specs.Tables.{Tables}
-use Rattle.judge_core.specs.Probing.{wdl_of}
 use Rattle.judge_core.specs.Root.{IsRoot, root_moves, rank, rank_cmp, below_win, distance_or_most}
-use Rattle.judge_core.specs.RootLaws.{FirstMoveIsBest, FirstMoveWinsWithinRule, IsWithinRule, FirstMoveKeepsTheValue}
+use Rattle.judge_core.specs.RootLaws.{FirstMoveIsBest, FirstMoveWinsWithinRule, FirstMoveKeepsTheValue}
 
 rank_total : IsTotalOrder rank_cmp
 rank_total = then_total (on_total (λ (r : ℕ × ℤ). r.0) nat_cmp_total) (on_total (λ (r : ℕ × ℤ). r.1) int_cmp_total)

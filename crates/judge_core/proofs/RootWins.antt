@@ -1,6 +1,6 @@
 -- The nearest win by a move that neither takes a man nor moves a pawn.
-use Rattle.std.proofs.Common.{◌≡◌, ◌∙◌, sym, ap, refl, ℕ, Bool, true, false, not, ◌&&◌, List, [], ◌∷◌, Option, Some, None, Result, Ok, Err, filter, filter_map, fold, if◌then◌else◌}
-use Rattle.std.specs.Prelude.{IsTrue, ◌+◌, pos, neg_ℤ}
+use Rattle.std.proofs.Common.{◌≡◌, ◌∙◌, sym, ap, refl, ℕ, Bool, true, false, not, ◌&&◌, List, [], ◌∷◌, Option, Some, None, Ok, Err, filter, filter_map, fold, if◌then◌else◌}
+use Rattle.std.specs.Prelude.{◌+◌, pos, neg_ℤ}
 use native.Mathlib.Numerals.{unary_clauses}
 use Rattle.board_core.specs.declared.parts.Parts.{Parts}
 use Rattle.board_core.specs.declared.moves.Move.{Move}
@@ -9,14 +9,13 @@ use Rattle.board_core.specs.ComputedMoves.{position_after, legal_moves, is_en_pa
 use Rattle.table_file.specs.declared.outcome.Outcome.{Outcome}
 use Rattle.judge_core.specs.declared.distance.Distance.TheVariants.{Draw, Win, Loss}
 use Rattle.judge_core.specs.declared.fault.ValueFault.{ValueFault}
-use Rattle.judge_core.specs.declared.root_move.BoardState.{BoardState}
 use Rattle.judge_core.specs.Tables.{Tables}
 use Rattle.judge_core.specs.Asked.{asked, fault_in, unless}
 use Rattle.judge_core.specs.Answers.{signed_in}
 use Rattle.judge_core.specs.Ends.{has_no_move, is_mate}
 use Rattle.judge_core.specs.Distances.{Reach, is_won, is_quiet, moves_pawn, counted, move_counts, count_in, lesser, least, won_in, by_counts, dtz_of}
 use Rattle.judge_core.specs.FiveRules.{counts_after}
-use Rattle.judge_core.specs.Root.{effect_of, zeroes_clock, state_of, state_by, is_checkmate, before, reach_by, root_move, root_move_of, root_moves}
+use Rattle.judge_core.specs.Root.{effect_of, zeroes_clock, state_of, state_by, is_checkmate, before, root_move, root_move_of, root_moves}
 use Rattle.judge_core.specs.RootLaws.{plies_won, quiet_win, NearestWinIsTheDistance}
 use Rattle.judge_core.proofs.Captures.{passant_is_capture}
 use Rattle.judge_core.proofs.Effects.{effect_by}

@@ -1,6 +1,6 @@
 -- The legal moves of a position, each with its value and its distance, the best first (Syzygy tables, as engines read them
 -- at the root of a search).
-use Rattle.std.specs.Prelude.{◌≡◌, ℕ, ℤ, pos, ◌+◌, ◌-◌, Bool, true, false, List, Option, Some, None, option_map, Result, Ok, Err, filter_map, if◌then◌else◌}
+use Rattle.std.specs.Prelude.{ℕ, ℤ, pos, ◌+◌, ◌-◌, Bool, true, false, List, Option, Some, None, option_map, Result, Ok, Err, filter_map, if◌then◌else◌}
 use Rattle.std.specs.declared.cmp.Ordering.{Ordering}
 use Rattle.std.specs.Ordering.{nat_cmp, int_cmp, ordering_then}
 use Rattle.std.specs.List.Sorted.{IsPermutation, IsSortedByKey, IsStableByKey}
@@ -15,7 +15,6 @@ use Rattle.judge_core.specs.declared.root_move.BoardState.TheVariants.{Open, Che
 use Rattle.judge_core.specs.declared.root_move.RootMove.{RootMove}
 use Rattle.judge_core.specs.declared.distance.Distance.{Distance}
 use Rattle.judge_core.specs.declared.distance.Distance.TheVariants.{Draw, Win, Loss}
-use Rattle.judge_core.specs.declared.wdl.Wdl.{Wdl}
 use Rattle.judge_core.specs.declared.wdl.Wdl.TheVariants.{Win as Won}
 use Rattle.judge_core.specs.declared.fault.ValueFault.{ValueFault}
 use Rattle.table_file.specs.declared.outcome.Outcome.{Outcome}
@@ -25,7 +24,6 @@ use Rattle.judge_core.specs.Probing.{wdl_of}
 use Rattle.judge_core.specs.Distances.{Reach, moves_pawn, zeroing, towards, dtz_of}
 use Rattle.judge_core.specs.Answers.{signed_in}
 use Rattle.judge_core.specs.Ends.{has_no_move}
-use Rattle.judge_core.specs.Ruling.{is_out_of_scope}
 
 -- ---- what a move does
 

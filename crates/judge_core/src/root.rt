@@ -57,14 +57,12 @@ fn signed(reach: &Result<Distance, ValueFault>) -> Result<i32, ValueFault>
     }
 }
 
-/// Adds a move to a list.
-fn add(found: &mut Vec<RootMove>, root_move: RootMove) -> Result<(), AllocError>
-    ensures { OnOk result (found.new.items ≡ found.old.items ++ root_move ∷ []) }
+/// Adds an item to a list.
+fn add<T: Copy>(list: &mut Vec<T>, item: T) -> Result<(), AllocError>
+    ensures { OnOk result (list.new.items ≡ list.old.items ++ item ∷ []) }
 {
-    match found.push(root_move) {
-        Ok(()) => Ok(()),
-        Err(_) => Err(AllocError),
-    }
+    list.push(item)?;
+    Ok(())
 }
 
 impl<'a> Set<'a> {

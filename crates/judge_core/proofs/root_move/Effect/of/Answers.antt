@@ -1,4 +1,4 @@
-use Rattle.std.proofs.Common.{◌∙◌, sym, ap}
+use Rattle.std.proofs.Common.{◌∙◌, sym}
 use Rattle.judge_core.proofs.Effects.{by_capture, by_quiet, by_pawn, by_passant}
 use Rattle.judge_core.proofs.root_move.Effect.of.Goals as goal
 

@@ -8,6 +8,6 @@ pub returns-clause-moves : goal.returns-clause-moves
 returns-clause-moves c = (
   sym c.is_out_of_scope.ensures.is ∙ c.if-is_out_of_scope.false,
   is_root c.args.self.now.tables c.args.position.now c.in_ok-moves.moves.items _ c.in_ok-moves.ensures.is c.in_ok-sort_by_key.ensures.permutation
-  (c.in_ok-sort_by_key.ensures.sorted rank (answers_always _ _ _ (λ f a r g h. search rules)))
-  (c.in_ok-sort_by_key.ensures.stable rank (answers_always _ _ _ (λ f a r g h. search rules))),
+      (c.in_ok-sort_by_key.ensures.sorted rank (answers_always _ _ _ (λ f a r g h. search rules)))
+      (c.in_ok-sort_by_key.ensures.stable rank (answers_always _ _ _ (λ f a r g h. search rules))),
 )
