@@ -34,7 +34,7 @@ pub(crate) struct Readings {
 }
 
 /// The number that a WDL probe returns for this value, or its fault.
-fn number_in(value: &Result<Wdl, ValueFault>) -> Result<i32, ProbeFault>
+pub(crate) fn number_in(value: &Result<Wdl, ValueFault>) -> Result<i32, ProbeFault>
     ensures { result ≡ as_probe number_of value.now }
 {
     match value {

@@ -3,11 +3,15 @@
 ghost use Rattle.std.specs.Prelude.{◌≡◌, Some};
 ghost use Rattle.board_core.specs.declared.parts.Parts.{Parts};
 ghost use Rattle.board_core.specs.ComputedMoves.{position_after};
+ghost use Rattle.judge_core.specs.Answers.{as_probe};
+ghost use Rattle.judge_core.specs.Probed.{number_of};
 ghost use Rattle.judge_core.specs.Root.{effect_of, state_by, state_of, zeroes_clock, captures, is_checkmate, below_win, distance_or_most, rank};
 
+use crate::answering::number_in;
 use crate::fault::ValueFault;
 use crate::mobility::has_no_move;
 use crate::moving::{lands_empty, moves_pawn, stays_on_file};
+use crate::probed::Probed;
 use crate::wdl::Wdl;
 use board_core::{Move, Position};
 
@@ -155,5 +159,19 @@ impl RootMove {
         ensures { result ≡ rank self.now }
     {
         (below_win(&self.wdl), distance_or_most(&self.dtz))
+    }
+
+    /// Its value and its distance as numbers, as probes give them.
+    pub fn probed(&self) -> Probed
+        ensures wdl { result.wdl ≡ as_probe number_of self.now.wdl }
+        ensures dtz { result.dtz ≡ as_probe (λ n. n) self.now.dtz }
+    {
+        Probed {
+            wdl: number_in(&self.wdl),
+            dtz: match &self.dtz {
+                Ok(distance) => Ok(*distance),
+                Err(fault) => Err(fault.of_probe()),
+            },
+        }
     }
 }
