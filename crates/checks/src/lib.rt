@@ -24,4 +24,6 @@ mod record_tests;
 #[cfg(test)]
 mod refusal_tests;
 #[cfg(test)]
+mod root_tests;
+#[cfg(test)]
 mod seeded_tests;

@@ -32,7 +32,7 @@ none_not_some : (o : Option Piece) → is_none o ≡ true → is_some o ≡ true
 none_not_some None a b = cc
 none_not_some (Some x) a b = cc
 
-passant_lands : (p : Parts) (m : Move) → is_en_passant p m ≡ true → lands_empty p m ≡ true
+pub passant_lands : (p : Parts) (m : Move) → is_en_passant p m ≡ true → lands_empty p m ≡ true
 unfolding is_en_passant lands_empty
 passant_lands p m h = (and_parts _ _ (and_parts _ _ h).0).1
 
@@ -44,7 +44,7 @@ passant_is_capture p m h = step (is_some (man_at p.men m.to))
     step false = h
 
 -- a capture that goes to an empty square is en passant
-lands_passant : (p : Parts) (m : Move) → is_capture p m ≡ true → lands_empty p m ≡ true → is_en_passant p m ≡ true
+pub lands_passant : (p : Parts) (m : Move) → is_capture p m ≡ true → lands_empty p m ≡ true → is_en_passant p m ≡ true
 unfolding lands_empty
 lands_passant p m c e = step (man_at p.men m.to) c e
   where

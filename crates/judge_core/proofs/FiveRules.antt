@@ -136,7 +136,7 @@ module _ (tables : Tables) (reach : Parts → Reach) (p : Parts) where
   stored_is : (w : Weighed) (outcome : Outcome) (key : ℕ) (t : Contents) (n : Option ℕ) → IsLeft tables p w outcome → IsOwnTable tables p key t true → distance_in t (placed_of key p) outcome ≡ n → dtz_by tables reach p ≡ stored key outcome n
   stored_is w outcome key t n left own e = own_is w outcome left ∙ table_is outcome key (Some t) own.material own.table ∙ rw (own.stored, e) refl
 
-  moves_are : (outcome : Outcome) (key : ℕ) (f : Option ValueFault) → IsLeftToMoves tables p outcome key → fault_in (counts_after reach p outcome) ≡ f → dtz_by tables reach p ≡ unless f (by_counts key outcome (counts_after reach p outcome))
+  pub moves_are : (outcome : Outcome) (key : ℕ) (f : Option ValueFault) → IsLeftToMoves tables p outcome key → fault_in (counts_after reach p outcome) ≡ f → dtz_by tables reach p ≡ unless f (by_counts key outcome (counts_after reach p outcome))
   unfolding by_quiet_moves
   moves_are outcome key f left e = own_is left.w outcome left.left ∙ table_is outcome key (Some left.t) left.own.material left.own.table ∙ rw (left.own.stored, e) refl
 

@@ -19,3 +19,7 @@ pub mod LookUp
 pub mod Entries
 pub mod ByReadings
 pub mod Placing
+pub mod Effects
+pub mod RootList
+pub mod RootOrder
+pub mod RootWins

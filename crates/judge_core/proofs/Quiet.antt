@@ -26,12 +26,12 @@ use Rattle.judge_core.proofs.Asking.{passing}
 -- ---- quiet moves
 
 -- a move of no pawn isn't en passant
-not_passant : (p : Parts) (m : Move) → moves_pawn p m ≡ false → is_en_passant p m ≡ false
+pub not_passant : (p : Parts) (m : Move) → moves_pawn p m ≡ false → is_en_passant p m ≡ false
 unfolding is_en_passant
 not_passant p m e = rw e refl
 
 -- it takes a man where one stands on its square
-takes : (p : Parts) (m : Move) → moves_pawn p m ≡ false → is_capture p m ≡ not (lands_empty p m)
+pub takes : (p : Parts) (m : Move) → moves_pawn p m ≡ false → is_capture p m ≡ not (lands_empty p m)
 unfolding lands_empty
 takes p m e = by_man (man_at p.men m.to)
   where
@@ -77,7 +77,7 @@ on_file : (side : Side) (n from to : ℕ) → Along (forward side) n from to →
 on_file White n from to a = sym a.0
 on_file Black n from to a = sym a.0
 
-same_file_takes_nothing : (p : Parts) (m : Move) → file_of m.from ≡ file_of m.to → lands_empty p m ≡ true → is_capture p m ≡ false
+pub same_file_takes_nothing : (p : Parts) (m : Move) → file_of m.from ≡ file_of m.to → lands_empty p m ≡ true → is_capture p m ≡ false
 unfolding lands_empty
 same_file_takes_nothing p m f e = by_man (man_at p.men m.to) e
   where
@@ -93,7 +93,7 @@ kind_in None = King
 kind_in (Some man) = man.kind
 
 -- a pawn that takes nothing stays on its file
-stays : (p : Parts) (m : Move) (c : MoveCase) → IsMove p m c → moves_pawn p m ≡ true → is_capture p m ≡ false → file_of m.from ≡ file_of m.to
+pub stays : (p : Parts) (m : Move) (c : MoveCase) → IsMove p m c → moves_pawn p m ≡ true → is_capture p m ≡ false → file_of m.from ≡ file_of m.to
 stays p m Plain r a b = absurd (r.no_pawn (ap kind_in (sym r.stands ∙ (Decides-pawn_of p.side (man_at p.men m.from)).0 a)))
 stays p m Advance r a b = on_file p.side 1 m.from m.to r.ahead
 stays p m DoubleStep r a b = on_file p.side 2 m.from m.to r.ahead

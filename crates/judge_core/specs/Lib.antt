@@ -11,7 +11,9 @@ pub mod Games
 pub mod Standings
 pub mod Answers
 pub mod Probed
+pub mod Root
 pub mod Words
 pub mod Laws
 pub mod FiveRules
+pub mod RootLaws
 pub mod Inside

@@ -3,9 +3,10 @@
 ghost use Rattle.std.specs.Prelude.{◌≡◌, ◌≤◌, false, Some, IfOk, OnErr, if◌then◌else◌};
 ghost use Rattle.board_core.specs.ComputedMoves.{legal_moves};
 ghost use Rattle.judge_core.specs.Answers.{ListsMoves, as_probe, signed_in};
-ghost use Rattle.judge_core.specs.Distances.{plies};
+ghost use Rattle.judge_core.specs.Distances.{plies, dtz_of};
 ghost use Rattle.judge_core.specs.Ends.{has_no_move};
 ghost use Rattle.judge_core.specs.Probed.{IsProbed, number_of};
+ghost use Rattle.judge_core.specs.Probing.{wdl_of};
 ghost use Rattle.judge_core.specs.Ruling.{end_of, is_out_of_scope, ruling, ruling_by};
 ghost use Rattle.judge_core.specs.Tables.{AreFiled};
 
@@ -33,7 +34,7 @@ pub(crate) struct Readings {
 }
 
 /// The number that a WDL probe returns for this value, or its fault.
-fn number_in(value: &Result<Wdl, ValueFault>) -> Result<i32, ProbeFault>
+pub(crate) fn number_in(value: &Result<Wdl, ValueFault>) -> Result<i32, ProbeFault>
     ensures { result ≡ as_probe number_of value.now }
 {
     match value {
@@ -85,7 +86,34 @@ impl Readings {
 }
 
 impl<'a> Set<'a> {
-    /// The three columns of a position in scope, from one pass over its captures.
+    /// The value and the distance of the position, from one pass over its captures.
+    pub(crate) fn readings(
+        &mut self,
+        alloc: Global,
+        position: &Position,
+    ) -> Result<Readings, AllocError>
+        ensures wdl { IfOk result (λ r. r.wdl ≡ wdl_of self.old.tables position.now) }
+        ensures dtz { IfOk result (λ r. r.dtz ≡ dtz_of self.old.tables position.now) }
+        ensures within { IfOk result (λ r. IfOk r.dtz (λ d. plies d ≤ 131173)) }
+        ensures memory { OnErr result (ListsMoves self.old.tables position.now) }
+        ensures unchanged { self.new ≡ self.old }
+    {
+        if is_bare(position) {
+            return Ok(Readings {
+                wdl: Ok(Wdl::Draw),
+                dtz: Ok(Distance::Draw),
+            });
+        }
+        let probe = Probe::of(position);
+        let weighed = self.weigh(alloc, &probe);
+        let dtz = self.by_weighed(alloc, &probe, &weighed, 1)?;
+        Ok(Readings {
+            wdl: worth_in(weighed),
+            dtz,
+        })
+    }
+
+    /// The three columns of a position in scope.
     fn columns(&mut self, alloc: Global, position: &Position) -> Result<Columns, AllocError>
         requires scope { is_out_of_scope position.now ≡ false }
         ensures told { IfOk result (λ columns. IsProbed self.old.tables position.now columns.probed) }
@@ -93,21 +121,10 @@ impl<'a> Set<'a> {
         ensures memory { OnErr result (ListsMoves self.old.tables position.now) }
         ensures unchanged { self.new ≡ self.old }
     {
-        if is_bare(position) {
-            let bare = Readings {
-                wdl: Ok(Wdl::Draw),
-                dtz: Ok(Distance::Draw),
-            };
-            return Ok(bare.columns(position));
+        match self.readings(alloc, position) {
+            Ok(readings) => Ok(readings.columns(position)),
+            Err(fault) => Err(fault),
         }
-        let probe = Probe::of(position);
-        let weighed = self.weigh(alloc, &probe);
-        let dtz = self.by_weighed(alloc, &probe, &weighed, 1)?;
-        let readings = Readings {
-            wdl: worth_in(weighed),
-            dtz,
-        };
-        Ok(readings.columns(position))
     }
 
     /// Both probes of the position, as `probe` gives them, and the verdict on it, as `judge` gives it. Its captures are

@@ -8,8 +8,8 @@ ghost use Rattle.judge_core.specs.Asked.{first_fault, no_faults, with_fault};
 use place_index::Material;
 
 /// Why the tables give no value of a position.
-#[derive(Clone, Copy)]
-pub(crate) enum ValueFault {
+#[derive(Clone, Copy, PartialEq, Eq, Debug)]
+pub enum ValueFault {
     /// The set has no table for these men.
     NotCovered(Material),
     /// The table for these men has no value there.

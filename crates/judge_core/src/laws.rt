@@ -1,6 +1,7 @@
 //! Laws over the definitions of specs/, for proofs above: each function carries one law and does nothing.
 
 ghost use Rattle.judge_core.specs.FiveRules.{DistanceByFiveRules};
+ghost use Rattle.judge_core.specs.RootLaws.{FirstMoveIsBest, FirstMoveWinsWithinRule, FirstMoveKeepsTheValue, NearestWinIsTheDistance};
 ghost use Rattle.judge_core.specs.Laws.{WdlMeetsItsRule, DtzMeetsItsRules, GameHasOneOutcome, NoDelayIsTheRuling, FirstVerdictInWords, FirstVerdictLooksBack, IllegalStaysIllegal, OneMoveMore};
 
 use place_index::few_men_have_tables;
@@ -54,4 +55,25 @@ pub fn illegal_stays_illegal()
 /// One move more is played from the position that the moves before it lead to.
 pub fn one_move_more()
     ensures { OneMoveMore }
+{}
+
+/// The first root move has a value wherever some move has one, and no move has a better one.
+pub fn first_move_is_best()
+    ensures { FirstMoveIsBest }
+{}
+
+/// Where some move wins within the rule of fifty moves, the first root move wins, and no later.
+pub fn first_move_wins_within_rule()
+    ensures { FirstMoveWinsWithinRule }
+{}
+
+/// Where the tables agree at a position, the first root move keeps its value, and so a win.
+pub fn first_move_keeps_the_value()
+    ensures { FirstMoveKeepsTheValue }
+{}
+
+/// A win whose distance comes from the moves that neither take a man nor move a pawn is as far as the nearest win by
+/// one of them, whatever the bytes of the tables are.
+pub fn nearest_win_is_the_distance()
+    ensures { NearestWinIsTheDistance }
 {}

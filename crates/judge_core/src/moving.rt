@@ -46,14 +46,14 @@ pub(crate) fn lands_empty(position: &Position, m: &Move) -> bool
 }
 
 /// Whether a pawn of the side to move leaves the move's square.
-fn moves_pawn(position: &Position, m: &Move) -> bool
+pub(crate) fn moves_pawn(position: &Position, m: &Move) -> bool
     ensures { result ≡ moves_pawn position.now m.now }
 {
     is_pawn_of(position.side(), position.piece_at(m.from))
 }
 
 /// Whether the move ends on the file on which it begins.
-fn stays_on_file(m: &Move) -> bool
+pub(crate) fn stays_on_file(m: &Move) -> bool
     ensures { IsTrue result ↔ (file_of m.now.from ≡ file_of m.now.to) }
 {
     m.from.file() == m.to.file()
