@@ -19,3 +19,4 @@ pub mod LookUp
 pub mod Entries
 pub mod ByReadings
 pub mod Placing
+pub mod Looking

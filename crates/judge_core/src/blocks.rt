@@ -57,6 +57,8 @@ pub(crate) struct Blocks {
     pub(crate) askings: u32,
     /// How many requests may pass between two requests for one block.
     recent: u32,
+    /// What looks ahead came to. It is never read, and makes the looks something that is done.
+    ahead: u32,
 }
 
 impl Blocks {
@@ -88,6 +90,7 @@ impl Blocks {
             asked,
             askings: 0,
             recent,
+            ahead: 0,
         })
     }
 
@@ -96,6 +99,14 @@ impl Blocks {
         ensures { result ≤ self.now.kept.cap }
     {
         self.kept.len()
+    }
+
+    /// Takes what looks ahead came to.
+    pub(crate) fn note(&mut self, sum: u32)
+        ensures kept { self.new.kept ≡ self.old.kept }
+        ensures asked { self.new.asked ≡ self.old.asked }
+    {
+        self.ahead = self.ahead.wrapping_add(sum);
     }
 
     /// Where a key is remembered. The number of places is a power of two.
