@@ -38,6 +38,10 @@ as_probe say (Err fault) = Err (probe_fault fault)
 abbrev pub wdl_answer : Tables → Parts → Result Wdl ProbeFault
 wdl_answer tables p = if is_out_of_scope p then Err OutOfScope else as_probe (λ v. v) (wdl_of tables p)
 
+-- it is what the tables say or out of scope, and never want of memory
+abbrev pub IsWdlProbe : Tables → Parts → Result Wdl ProbeFault → Type 0
+IsWdlProbe tables p wdl = (wdl ≢ Err OutOfMemory) × IsProbe wdl (is_out_of_scope p) (wdl_of tables p)
+
 -- what is weighed is there, no draw, and not by a capture
 abbrev pub IsLeftOpen : Result Weighed ValueFault → Type 0
 IsLeftOpen (Ok w) = (worth w ≢ Draw) × (is_by_capture w ≡ false)

@@ -1,7 +1,8 @@
 //! WDL probes of many positions, whose tables are read side by side.
 
 ghost use Rattle.std.specs.Prelude.{◌≡◌, map, All, IfOk};
-ghost use Rattle.judge_core.specs.Answers.{wdl_answer};
+ghost use Rattle.board_core.specs.declared.parts.Parts.{Parts};
+ghost use Rattle.judge_core.specs.Answers.{IsWdlProbe, wdl_answer};
 ghost use Rattle.judge_core.specs.Blocks.{AreRight};
 ghost use Rattle.judge_core.specs.Inside.Placing.{IsOwnPlace};
 ghost use Rattle.judge_core.specs.Tables.{table_value};
@@ -110,6 +111,7 @@ impl<'a> Set<'a> {
         positions: &[Position],
     ) -> Result<Vec<Result<Wdl, ProbeFault>>, AllocError>
         ensures each { IfOk result (λ values. values.items ≡ map (wdl_answer self.old.tables) positions.now) }
+        ensures probe { (p : Parts) → IsWdlProbe self.old.tables p (wdl_answer self.old.tables p) }
         ensures unchanged { self.new ≡ self.old }
     {
         let probes = probes_of(alloc, positions)?;

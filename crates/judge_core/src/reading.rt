@@ -124,7 +124,7 @@ impl<'a> Shelf<'a> {
         ensures right { AreRight self.now blocks.new }
     {
         let asking = blocks.ask(key);
-        if asking != Asking::First {
+        if blocks.may_keep(asking) {
             if let Some(value) = self.kept_value(blocks, part, &key, offset) {
                 return value;
             }
