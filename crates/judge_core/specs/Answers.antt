@@ -1,5 +1,5 @@
 -- What the calls of a set answer.
-use Rattle.std.specs.Prelude.{◌≡◌, ◌≢◌, ◌⊎◌, ◌<◌, ℕ, ℤ, Bool, true, false, List, Result, Ok, Err, codes}
+use Rattle.std.specs.Prelude.{◌≡◌, ◌≢◌, ◌⊎◌, ◌<◌, ℕ, ℤ, Bool, true, false, List, Result, Ok, Err, codes, if◌then◌else◌}
 use Rattle.board_core.specs.declared.parts.Parts.{Parts}
 use Rattle.board_core.specs.ComputedMoves.{legal_moves, count_of_men}
 use Rattle.judge_core.specs.declared.fault.ValueFault.{ValueFault}
@@ -7,6 +7,7 @@ use Rattle.judge_core.specs.declared.found.Weighed.{Weighed}
 use Rattle.judge_core.specs.declared.fault.ValueFault.TheVariants as value
 use Rattle.judge_core.specs.declared.fault.ProbeFault.{ProbeFault}
 use Rattle.judge_core.specs.declared.fault.ProbeFault.TheVariants.{OutOfScope, NotCovered, Damaged, OutOfMemory}
+use Rattle.judge_core.specs.declared.wdl.Wdl.{Wdl}
 use Rattle.judge_core.specs.declared.wdl.Wdl.TheVariants.{Loss, Draw, Win}
 use Rattle.judge_core.specs.Values.{Reading}
 use Rattle.judge_core.specs.Tables.{Tables}
@@ -32,6 +33,14 @@ probe_fault (value.Damaged key) = Damaged key
 abbrev pub as_probe : {X Y : Type 0} → (X → Y) → Result X ValueFault → Result Y ProbeFault
 as_probe say (Ok x) = Ok (say x)
 as_probe say (Err fault) = Err (probe_fault fault)
+
+-- what a WDL probe returns
+abbrev pub wdl_answer : Tables → Parts → Result Wdl ProbeFault
+wdl_answer tables p = if is_out_of_scope p then Err OutOfScope else as_probe (λ v. v) (wdl_of tables p)
+
+-- it is what the tables say or out of scope, and never want of memory
+abbrev pub IsWdlProbe : Tables → Parts → Result Wdl ProbeFault → Type 0
+IsWdlProbe tables p wdl = (wdl ≢ Err OutOfMemory) × IsProbe wdl (is_out_of_scope p) (wdl_of tables p)
 
 -- what is weighed is there, no draw, and not by a capture
 abbrev pub IsLeftOpen : Result Weighed ValueFault → Type 0

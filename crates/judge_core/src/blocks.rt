@@ -20,13 +20,27 @@ pub(crate) struct BlockKey {
     pub(crate) block: u32,
 }
 
-/// A requested block: its key, the number of its last request, and how often in a row it was requested since it was new
-/// or decoded.
+/// A requested block: a mark of its key, how often in a row it was requested since it was new or decoded, and the number of its
+/// last request. Two blocks of one mark count as one, which may decode a block early and changes no answer.
 #[derive(Clone, Copy)]
 pub(crate) struct Asked {
-    key: BlockKey,
-    when: u32,
-    times: u32,
+    mark: u8,
+    times: u8,
+    when: u16,
+}
+
+impl BlockKey {
+    /// A number of the key, whose low bits find its place and whose next ones mark it there.
+    fn mixed(&self) -> usize {
+        let part = 613 * self.slot as usize + 307 * self.side as usize + 151 * self.file as usize;
+        let high = (part / 8) ^ (self.block as usize / 256);
+        part + self.block as usize + 65536 * high
+    }
+
+    /// The mark of the key.
+    fn mark(&self) -> u8 {
+        (self.mixed() / 65536 % 256) as u8
+    }
 }
 
 /// How recently and how often a block was requested.
@@ -40,23 +54,28 @@ pub(crate) enum Asking {
     Often,
 }
 
-/// The least number of requested keys that are remembered for each block that may be kept.
+/// The least number of requested keys that are remembered for each block that may be kept, up to `MOST_REMEMBERED`.
 const REMEMBERED: usize = 16;
 
+/// The most requested keys that are remembered. They take 4 KB, and so leave room beside them in the fastest cache.
+const MOST_REMEMBERED: usize = 1024;
+
 /// A request counts as a repeat where at most this many requests have passed for each block that may be kept.
-const RECENT: u32 = 4;
+const RECENT: u16 = 4;
 
 /// A block is decoded after this many repeats. Decoding takes as long as some hundred single values.
-const OFTEN: u32 = 128;
+const OFTEN: u8 = 128;
 
 /// Decoded blocks, and recently requested keys, each at a place computed from the key.
 #[derive(Drop)]
 pub(crate) struct Blocks {
     pub(crate) kept: LruCache<BlockKey, Vec<u16>>,
     pub(crate) asked: Vec<Asked>,
-    pub(crate) askings: u32,
+    pub(crate) askings: u16,
     /// How many requests may pass between two requests for one block.
-    recent: u32,
+    recent: u16,
+    /// What looks ahead came to. It is never read, and makes the looks something that is done.
+    ahead: u32,
 }
 
 impl Blocks {
@@ -67,17 +86,12 @@ impl Blocks {
         ensures { IfOk result (λ blocks. IsNew most blocks) }
     {
         let none = Asked {
-            key: BlockKey {
-                slot: u16::MAX,
-                side: 0,
-                file: 0,
-                block: 0,
-            },
-            when: 0,
+            mark: 0,
             times: 0,
+            when: 0,
         };
-        let recent = RECENT * most as u32;
-        let places = (REMEMBERED * most).next_power_of_two();
+        let recent = RECENT * most as u16;
+        let places = (REMEMBERED * most).next_power_of_two().min(MOST_REMEMBERED);
         let asked = vec![in alloc; none; places]?;
         let Some(most) = NonZeroUsize::new(most) else {
             unreachable!()
@@ -88,7 +102,13 @@ impl Blocks {
             asked,
             askings: 0,
             recent,
+            ahead: 0,
         })
+    }
+
+    /// Whether a block requested so often may be kept.
+    pub(crate) fn may_keep(&self, asking: Asking) -> bool {
+        asking != Asking::First && !self.kept.is_empty()
     }
 
     /// The number of blocks kept.
@@ -98,18 +118,25 @@ impl Blocks {
         self.kept.len()
     }
 
+    /// Takes what looks ahead came to.
+    pub(crate) fn note(&mut self, sum: u32)
+        ensures kept { self.new.kept ≡ self.old.kept }
+        ensures asked { self.new.asked ≡ self.old.asked }
+    {
+        self.ahead = self.ahead.wrapping_add(sum);
+    }
+
     /// Where a key is remembered. The number of places is a power of two.
     fn place_of(&self, key: BlockKey) -> usize
         requires { 1 ≤ length self.now.asked.items }
         ensures { result < length self.now.asked.items }
     {
-        let place = 613 * key.slot as usize + 307 * key.side as usize + 151 * key.file as usize;
-        (place + key.block as usize) & (self.asked.len() - 1)
+        key.mixed() & (self.asked.len() - 1)
     }
 
     /// How a request counts after the one remembered at its place, which may be for another block.
-    fn next_asking(&self, last: Asked, key: BlockKey, now: u32) -> (Asking, u32) {
-        if last.key != key || now.wrapping_sub(last.when) > self.recent {
+    fn next_asking(&self, last: Asked, mark: u8, now: u16) -> (Asking, u8) {
+        if last.mark != mark || now.wrapping_sub(last.when) > self.recent {
             return (Asking::First, 0);
         }
         if last.times >= OFTEN {
@@ -126,8 +153,9 @@ impl Blocks {
     {
         let place = self.place_of(key);
         let when = self.askings.wrapping_add(1);
-        let (asking, times) = self.next_asking(self.asked[place], key, when);
-        self.asked[place] = Asked { key, when, times };
+        let mark = key.mark();
+        let (asking, times) = self.next_asking(self.asked[place], mark, when);
+        self.asked[place] = Asked { mark, times, when };
         self.askings = when;
         asking
     }

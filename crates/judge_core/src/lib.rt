@@ -18,6 +18,7 @@ mod found;
 mod game;
 mod judging;
 pub mod laws;
+mod many;
 mod mobility;
 mod moving;
 mod probe;

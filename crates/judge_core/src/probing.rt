@@ -4,7 +4,7 @@ ghost use Rattle.std.specs.Prelude.{◌≡◌, ◌≢◌, Err};
 ghost use Rattle.board_core.specs.ComputedMoves.{legal_captures};
 ghost use Rattle.judge_core.specs.Probing.{is_forced, weighed_by, wdl_of};
 ghost use Rattle.judge_core.specs.Ruling.{is_out_of_scope};
-ghost use Rattle.judge_core.specs.Answers.{IsProbe};
+ghost use Rattle.judge_core.specs.Answers.{IsProbe, as_probe, wdl_answer};
 ghost use Rattle.judge_core.specs.declared.fault.ProbeFault.TheVariants.{OutOfMemory};
 ghost use Rattle.judge_core.specs.Inside.Found.{found_in};
 ghost use Rattle.judge_core.specs.Tables.{table_value};
@@ -18,7 +18,6 @@ use crate::verdict::is_out_of_scope;
 use crate::wdl::{Wdl, turned};
 use board_core::Position;
 use std::alloc::Global;
-use table_file::TableKind;
 
 /// Whether each legal move is en passant, and there is one.
 fn is_forced(position: &Position) -> bool
@@ -30,30 +29,24 @@ fn is_forced(position: &Position) -> bool
     }
 }
 
+/// What a probe returns for a reading.
+fn told(reading: &Result<Wdl, ValueFault>) -> Result<Wdl, ProbeFault>
+    ensures { result ≡ as_probe (λ v. v) reading.now }
+{
+    match reading {
+        Ok(value) => Ok(*value),
+        Err(fault) => Err(fault.of_probe()),
+    }
+}
+
 impl<'a> Set<'a> {
     /// The table value of a position: what its own WDL table says about it. Bare kings are a draw.
     fn table_value(&mut self, alloc: Global, probe: &Probe<'_>) -> Result<Wdl, ValueFault>
         ensures is { result ≡ table_value self.old.tables probe.now }
         ensures unchanged { self.new ≡ self.old }
     {
-        let Some(placed) = probe.placed() else {
-            return Ok(Wdl::Draw);
-        };
-        let material = placed.material();
-        let Some(part) = self.shelf.part(TableKind::Wdl, placed) else {
-            return Err(ValueFault::NotCovered(material));
-        };
-        let blocks = &mut self.blocks;
-        let Some(points) = self
-            .shelf
-            .read(blocks, alloc, TableKind::Wdl, &part, placed)
-        else {
-            return Err(ValueFault::Damaged(material));
-        };
-        match Wdl::from_points(points) {
-            Some(value) => Ok(value),
-            None => Err(ValueFault::Damaged(material)),
-        }
+        let own = self.shelf.own_place(probe);
+        self.shelf.own_value(&mut self.blocks, alloc, probe, &own)
     }
 
     /// The values after the captures of the position, found one after the other. It isn't inlined: room for a position
@@ -90,15 +83,30 @@ impl<'a> Set<'a> {
         }
     }
 
+    /// What the captures say about the position, and its own table, which says this.
+    #[cycle(wdl)]
+    fn weigh_with(
+        &mut self,
+        alloc: Global,
+        probe: &Probe<'_>,
+        own: &Result<Wdl, ValueFault>,
+    ) -> Result<Weighed, ValueFault>
+        requires own { own.now ≡ table_value self.old.tables probe.now }
+        ensures is { result ≡ weighed_by self.old.tables (wdl_of self.old.tables) probe.now }
+        ensures unchanged { self.new ≡ self.old }
+    {
+        let found = self.found_in_captures(alloc, probe);
+        found.close(own, is_forced(probe.position()))
+    }
+
     /// What the captures and the own table say about the position.
     #[cycle(wdl)]
     pub(crate) fn weigh(&mut self, alloc: Global, probe: &Probe<'_>) -> Result<Weighed, ValueFault>
         ensures is { result ≡ weighed_by self.old.tables (wdl_of self.old.tables) probe.now }
         ensures unchanged { self.new ≡ self.old }
     {
-        let found = self.found_in_captures(alloc, probe);
         let own = self.table_value(alloc, probe);
-        found.close(&own, is_forced(probe.position()))
+        self.weigh_with(alloc, probe, &own)
     }
 
     /// What the position is worth to the side to move, wherever its tables are there and whole.
@@ -128,9 +136,28 @@ impl<'a> Set<'a> {
             return Err(ProbeFault::OutOfScope);
         }
         let reading = self.wdl_of(alloc, position);
-        match &reading {
-            Ok(value) => Ok(*value),
-            Err(fault) => Err(fault.of_probe()),
+        told(&reading)
+    }
+
+    /// What the position is worth, as `wdl` gives it, where its own table says this.
+    pub(crate) fn wdl_with(
+        &mut self,
+        alloc: Global,
+        probe: &Probe<'_>,
+        own: &Result<Wdl, ValueFault>,
+    ) -> Result<Wdl, ProbeFault>
+        requires own { own.now ≡ table_value self.old.tables probe.now }
+        ensures is { result ≡ wdl_answer self.old.tables probe.now }
+        ensures unchanged { self.new ≡ self.old }
+    {
+        let position = probe.position();
+        if is_out_of_scope(position) {
+            return Err(ProbeFault::OutOfScope);
         }
+        if is_bare(position) {
+            return Ok(Wdl::Draw);
+        }
+        let weighed = self.weigh_with(alloc, probe, own);
+        told(&worth_in(weighed))
     }
 }

@@ -6,17 +6,46 @@ ghost use Rattle.table_file.specs.declared.kind.TableKind.TheVariants.{Dtz};
 ghost use Rattle.table_file.specs.Expansion.{expansion, real_blocks, IsSpot, IsRealSpot, IsPast};
 ghost use Rattle.judge_core.specs.Blocks.{AreRight, IsRight, part_at};
 ghost use Rattle.judge_core.specs.Distances.{distance_in};
-ghost use Rattle.judge_core.specs.Inside.Placing.{IsPartFor, IsValueAt};
-ghost use Rattle.judge_core.specs.Tables.{entry_in};
+ghost use Rattle.judge_core.specs.Inside.Placing.{IsPartFor, IsPlaceIn, IsOwnPlace, IsValueAt};
+ghost use Rattle.judge_core.specs.Tables.{entry_in, table_value};
 
 use crate::blocks::{Asking, BlockKey, Blocks};
+use crate::fault::ValueFault;
+use crate::probe::Probe;
 use crate::shelf::{Shelf, slot};
+use crate::wdl::Wdl;
 use board_core::Side;
 use place_index::{Placed, index};
 use std::alloc::Global;
 use std::marker::Brand;
 use std::sync::ledger::{Blank, Ledger};
 use table_file::{Damaged, Outcome, Spot, Steps, TableKind, TablePart};
+
+/// Where a part has the value of placed men.
+#[derive(Clone, Copy)]
+pub(crate) enum PlaceInPart {
+    /// No block has to be read: the value, or none where it is damaged.
+    Known(Option<u16>),
+    /// In a block, at an offset from its first value.
+    InBlock { key: BlockKey, offset: u32 },
+}
+
+/// Where the own WDL table of a position has its value.
+#[derive(Drop)]
+pub(crate) struct OwnPlace<'t, 'a> {
+    pub(crate) part: TablePart<'t, 'a>,
+    pub(crate) place: PlaceInPart,
+}
+
+impl<'t, 'a> OwnPlace<'t, 'a> {
+    /// Looks at the block before it is read. The number says nothing.
+    pub(crate) fn look_ahead(&self) -> u32 {
+        match self.place {
+            PlaceInPart::Known(_) => 0,
+            PlaceInPart::InBlock { key, .. } => self.part.look_ahead(key.block),
+        }
+    }
+}
 
 /// Where the value of an index stands, with a step counter of its own.
 fn spot_by<L: Ledger>(part: &TablePart<'_, '_>, index: u64, blank: Blank) -> Result<Spot, Damaged>
@@ -95,7 +124,7 @@ impl<'a> Shelf<'a> {
         ensures right { AreRight self.now blocks.new }
     {
         let asking = blocks.ask(key);
-        if asking != Asking::First {
+        if blocks.may_keep(asking) {
             if let Some(value) = self.kept_value(blocks, part, &key, offset) {
                 return value;
             }
@@ -110,8 +139,58 @@ impl<'a> Shelf<'a> {
         part.value_in_block(key.block, offset).ok()
     }
 
+    /// Where the part of a table of this kind has the value of placed men.
+    fn place_in_part(
+        &self,
+        kind: TableKind,
+        part: &TablePart<'_, 'a>,
+        placed: &Placed,
+    ) -> PlaceInPart
+        requires part { IsPartFor self.now.tables kind placed.now part.now }
+        ensures { IsPlaceIn self.now.tables placed.now part.now result }
+    {
+        let _ = self;
+        let index = index(part.shape(), placed);
+        match spot_of(part, index) {
+            Ok(Spot::Single(value)) => PlaceInPart::Known(Some(value)),
+            Ok(Spot::At { block, offset }) => {
+                let key = BlockKey {
+                    slot: slot(kind, placed.material()) as u16,
+                    side: side_number(placed.side()),
+                    file: placed.file().number(),
+                    block,
+                };
+                PlaceInPart::InBlock { key, offset }
+            }
+            Err(_) => PlaceInPart::Known(None),
+        }
+    }
+
+    /// What the part of a table has for placed men, whose place in it this is; none where that is damaged.
+    fn read_at(
+        &self,
+        blocks: &mut Blocks,
+        alloc: Global,
+        part: &TablePart<'_, 'a>,
+        place: PlaceInPart,
+        placed: &Placed,
+    ) -> Option<u16>
+        requires right { AreRight self.now blocks.old }
+        requires place { IsPlaceIn self.now.tables placed.now part.now place }
+        ensures is { result ≡ entry_in part.now.table placed.now }
+        ensures right { AreRight self.now blocks.new }
+    {
+        let _ = placed;
+        match place {
+            PlaceInPart::Known(value) => value,
+            PlaceInPart::InBlock { key, offset } => {
+                self.value_in_block(blocks, alloc, part, key, offset)
+            }
+        }
+    }
+
     /// What the part of a table of this kind for placed men has at their index; none where that is damaged.
-    pub(crate) fn read(
+    fn read(
         &self,
         blocks: &mut Blocks,
         alloc: Global,
@@ -124,19 +203,50 @@ impl<'a> Shelf<'a> {
         ensures is { result ≡ entry_in part.now.table placed.now }
         ensures right { AreRight self.now blocks.new }
     {
-        let index = index(part.shape(), placed);
-        match spot_of(part, index) {
-            Ok(Spot::Single(value)) => Some(value),
-            Ok(Spot::At { block, offset }) => {
-                let key = BlockKey {
-                    slot: slot(kind, placed.material()) as u16,
-                    side: side_number(placed.side()),
-                    file: placed.file().number(),
-                    block,
-                };
-                self.value_in_block(blocks, alloc, part, key, offset)
-            }
-            Err(_) => None,
+        let place = self.place_in_part(kind, part, placed);
+        self.read_at(blocks, alloc, part, place, placed)
+    }
+
+    /// Where the own WDL table of a position has its value; none where there is no such table.
+    pub(crate) fn own_place(&self, probe: &Probe<'_>) -> Option<OwnPlace<'_, 'a>>
+        ensures { IsOwnPlace self.now.tables probe.now result }
+    {
+        let Some(placed) = probe.placed() else {
+            return None;
+        };
+        let Some(part) = self.part(TableKind::Wdl, placed) else {
+            return None;
+        };
+        let place = self.place_in_part(TableKind::Wdl, &part, placed);
+        Some(OwnPlace { part, place })
+    }
+
+    /// What the own WDL table of a position says about it, where this is its place there. Bare kings are a draw.
+    pub(crate) fn own_value(
+        &self,
+        blocks: &mut Blocks,
+        alloc: Global,
+        probe: &Probe<'_>,
+        own: &Option<OwnPlace<'_, 'a>>,
+    ) -> Result<Wdl, ValueFault>
+        requires right { AreRight self.now blocks.old }
+        requires own { IsOwnPlace self.now.tables probe.now own.now }
+        ensures is { result ≡ table_value self.now.tables probe.now }
+        ensures right { AreRight self.now blocks.new }
+    {
+        let Some(placed) = probe.placed() else {
+            return Ok(Wdl::Draw);
+        };
+        let material = placed.material();
+        let Some(own) = own else {
+            return Err(ValueFault::NotCovered(material));
+        };
+        let Some(points) = self.read_at(blocks, alloc, &own.part, own.place, placed) else {
+            return Err(ValueFault::Damaged(material));
+        };
+        match Wdl::from_points(points) {
+            Some(value) => Ok(value),
+            None => Err(ValueFault::Damaged(material)),
         }
     }
 

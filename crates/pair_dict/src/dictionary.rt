@@ -272,6 +272,13 @@ impl<'a> Dictionary<'a> {
         }
     }
 
+    /// The bits of the run at the front of a block, 0 to 13. To read it is to bring the block's front and that run from memory.
+    pub fn first_run_bits(&self, block: &[u8]) -> u32
+        ensures { result ≤ 13 }
+    {
+        self.run(BitBuffer::at(block, 0)).bits()
+    }
+
     /// The value of a block at an offset from its first value, 0 to 4095. It takes no memory. It skips the symbols
     /// before the value by their counts, several codes at a time, and descends into one symbol.
     ///

@@ -1,6 +1,7 @@
 pub mod Adding
 pub mod Batches
 pub mod Boards
+pub mod Inside
 pub mod Moves
 pub mod Names
 pub mod Plays

@@ -2,7 +2,7 @@
 
 ghost use Rattle.std.specs.Prelude.{◌≡◌};
 ghost use Rattle.judge_core.specs.Probed.{numbered};
-ghost use Rattle.probe_api.specs.Replies.{Tells, TellsBoard, TellsText, TellsWdl, TellsDtz, TellsVerdict};
+ghost use Rattle.probe_api.specs.Replies.{probe_reply, Tells, TellsBoard, TellsText, TellsWdl, TellsDtz, TellsVerdict};
 
 use crate::board::{Board, position_on};
 use crate::reply::{Reply, fen_status, position_status, probed, verdict_number};
@@ -32,13 +32,20 @@ fn number_in(wdl: Result<Wdl, ProbeFault>) -> Result<i32, ProbeFault>
     }
 }
 
+/// What a WDL probe tells.
+pub(crate) fn wdl_reply(wdl: Result<Wdl, ProbeFault>) -> Reply
+    ensures { result ≡ probe_reply (numbered wdl) }
+{
+    probed(number_in(wdl))
+}
+
 /// The WDL value.
 fn wdl(alloc: Global, set: &mut Set<'_>, position: &Position) -> Reply
     ensures is { TellsWdl set.old.tables position.now result }
     ensures kept { set.new ≡ set.old }
 {
     let wdl = set.wdl(alloc, position);
-    probed(number_in(wdl))
+    wdl_reply(wdl)
 }
 
 /// The distance in plies.

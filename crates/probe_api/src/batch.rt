@@ -1,13 +1,16 @@
 //! One question asked of many boards.
 
-ghost use Rattle.std.specs.Prelude.{◌≡◌, ◌≢◌, ◌<◌, length, slice_index_or};
+ghost use Rattle.std.specs.Prelude.{◌≡◌, ◌≢◌, ◌<◌, ◌≤◌, length, slice_index_or, IfSome};
 ghost use Rattle.probe_api.specs.declared.board.Board.{Board};
-ghost use Rattle.probe_api.specs.Batches.{TellsBoards};
+ghost use Rattle.probe_api.specs.declared.asking.Question.TheVariants.{Wdl as AsksWdl};
+ghost use Rattle.probe_api.specs.Batches.{AreTold, TellsBoards};
+ghost use Rattle.probe_api.specs.Inside.{AreShown, AreValues};
 
-use crate::asking::{Question, answer_board};
-use crate::board::Board;
+use crate::asking::{Question, answer_board, wdl_reply};
+use crate::board::{Board, position_on};
 use crate::reply::Reply;
-use judge_core::Set;
+use board_core::Position;
+use judge_core::{ProbeFault, Set, Wdl};
 use std::alloc::Global;
 
 fn board_at(boards: &[Board], place: usize) -> &Board
@@ -15,6 +18,111 @@ fn board_at(boards: &[Board], place: usize) -> &Board
     ensures { (other : Board) → slice_index_or boards.now place other ≡ result.now }
 {
     &boards[place]
+}
+
+/// What is asked of each board from one place up to another, in its place.
+fn answer_between(
+    alloc: Global,
+    set: &mut Set<'_>,
+    question: Question,
+    boards: &[Board],
+    from: usize,
+    to: usize,
+    replies: &mut [Reply],
+)
+    requires lengths { length boards.now ≡ length replies.old }
+    requires from { from ≤ to }
+    requires to { to ≤ length boards.now }
+    requires before { AreTold question set.old.tables boards.now replies.old from }
+    ensures places { length replies.new ≡ length replies.old }
+    ensures each { AreTold question set.old.tables boards.now replies.new to }
+    ensures kept { set.new ≡ set.old }
+{
+    for place in from..to {
+        let board = board_at(boards, place);
+        let reply = answer_board(alloc, set, question, board);
+        replies[place] = reply;
+    }
+}
+
+/// How many boards are looked up side by side.
+const SIDE_BY_SIDE: usize = 16;
+
+/// The positions that the boards show; none where one of them shows none, or where memory is refused.
+fn positions_on(alloc: Global, boards: &[Board]) -> Option<Vec<Position>>
+    ensures { IfSome result (λ positions. AreShown boards.now positions.items) }
+{
+    let Ok(mut positions) = Vec::with_capacity(alloc, boards.len()) else {
+        return None;
+    };
+    for place in 0..boards.len() {
+        let Ok(position) = position_on(board_at(boards, place)) else {
+            return None;
+        };
+        let Ok(()) = positions.push(position) else {
+            return None;
+        };
+    }
+    Some(positions)
+}
+
+/// The WDL values of the boards, looked up side by side; none where a board shows no position, or where memory is refused.
+fn values_on(
+    alloc: Global,
+    set: &mut Set<'_>,
+    boards: &[Board],
+) -> Option<Vec<Result<Wdl, ProbeFault>>>
+    ensures are { IfSome result (λ values. AreValues set.old.tables boards.now values.items) }
+    ensures kept { set.new ≡ set.old }
+{
+    let Some(positions) = positions_on(alloc, boards) else {
+        return None;
+    };
+    match set.wdl_each(alloc, &positions) {
+        Ok(values) => Some(values),
+        Err(_) => None,
+    }
+}
+
+/// The WDL value of each board from one place up to another, in its place.
+fn wdl_between(
+    alloc: Global,
+    set: &mut Set<'_>,
+    boards: &[Board],
+    from: usize,
+    to: usize,
+    replies: &mut [Reply],
+)
+    requires lengths { length boards.now ≡ length replies.old }
+    requires from { from ≤ to }
+    requires to { to ≤ length boards.now }
+    requires before { AreTold AsksWdl set.old.tables boards.now replies.old from }
+    ensures places { length replies.new ≡ length replies.old }
+    ensures each { AreTold AsksWdl set.old.tables boards.now replies.new to }
+    ensures kept { set.new ≡ set.old }
+{
+    let Some(values) = values_on(alloc, set, &boards[from..to]) else {
+        answer_between(alloc, set, Question::Wdl, boards, from, to, replies);
+        return;
+    };
+    for i in 0..values.len() {
+        replies[from + i] = wdl_reply(values[i]);
+    }
+}
+
+/// The WDL value of each board, in its place. So many of them at a time are looked up side by side.
+fn wdl_of_each(alloc: Global, set: &mut Set<'_>, boards: &[Board], replies: &mut [Reply])
+    requires { length boards.now ≡ length replies.old }
+    ensures places { length replies.new ≡ length replies.old }
+    ensures each { TellsBoards AsksWdl set.old.tables boards.now replies.new }
+    ensures kept { set.new ≡ set.old }
+{
+    let mut from: usize = 0;
+    'boards: while from < boards.len() {
+        let to = from + SIDE_BY_SIDE.min(boards.len() - from);
+        wdl_between(alloc, set, boards, from, to, replies);
+        from = to;
+    }
 }
 
 /// What is asked of each board, in its place.
@@ -30,10 +138,9 @@ fn answer_each(
     ensures each { TellsBoards question set.old.tables boards.now replies.new }
     ensures kept { set.new ≡ set.old }
 {
-    for place in 0..boards.len() {
-        let board = board_at(boards, place);
-        let reply = answer_board(alloc, set, question, board);
-        replies[place] = reply;
+    match question {
+        Question::Wdl => wdl_of_each(alloc, set, boards, replies),
+        _ => answer_between(alloc, set, question, boards, 0, boards.len(), replies),
     }
 }
 

@@ -237,6 +237,23 @@ pub(crate) fn value_in(view: View<'_, '_>, index: u64) -> Result<u16, Damaged>
     value_by::<Brand>(view, index, Blank::new(1))
 }
 
+/// The bits of the first run of a block; 0 where there is no such block.
+pub(crate) fn look_ahead_in(view: View<'_, '_>, block: usize) -> u32
+    requires { IsChecked view }
+    ensures { result ≤ 13 }
+{
+    match view.coding {
+        Coding::Single(_) => 0,
+        Coding::Pairs(codes) => {
+            if codes.blocks() <= block {
+                return 0;
+            }
+            let block = block_of(codes, view.blocks, block);
+            codes.dictionary().first_run_bits(block)
+        }
+    }
+}
+
 /// The values of a block, cut by its length.
 pub(crate) fn values_in(
     alloc: Global,

@@ -14,7 +14,7 @@ use crate::material::{indices, is_symmetric};
 use crate::outcome::{Outcome, counts_moves, plies};
 use crate::places::side_number;
 use crate::reading::has_bit;
-use crate::spots::{Spot, View, spot_in, value_in, values_in};
+use crate::spots::{Spot, View, look_ahead_in, spot_in, value_in, values_in};
 use crate::steps::Steps;
 use crate::table::{OpenedPart, Table};
 use board_core::Side;
@@ -121,6 +121,14 @@ impl<'t, 'a> TablePart<'t, 'a> {
         ensures few { IfOk result (λ values. length values.items ≤ 65536) }
     {
         values_in(alloc, self.view(), block as usize)
+    }
+
+    /// Looks at the front of a block, so that it has come from memory when it is read: the bits of its first run, 0 to 13,
+    /// and 0 where there is no such block.
+    pub fn look_ahead(&self, block: u32) -> u32
+        ensures few { result ≤ 13 }
+    {
+        look_ahead_in(self.view(), block as usize)
     }
 
     /// Whether a DTZ table has distances for this side to move: its file stores the side, or both sides have the same

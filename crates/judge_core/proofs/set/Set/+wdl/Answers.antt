@@ -2,7 +2,7 @@ use Rattle.std.proofs.Common.{◌≡◌, ◌∙◌, sym, ap, ◌+◌, refl, arit
 use Rattle.board_core.specs.ComputedMoves.{count_of_men}
 use Rattle.judge_core.specs.Values.{turned}
 use Rattle.judge_core.specs.Probing.{is_forced, weighed_by, wdl_of}
-use Rattle.judge_core.specs.Tables.{Holding, table_value}
+use Rattle.judge_core.specs.Tables.{Holding}
 use Rattle.judge_core.proofs.Captures.{is_captured, falls}
 use Rattle.judge_core.proofs.Readings.{walk-begins, walk-goes_on, walk-passes, walk-ends, next_legal, next_illegal, fewer_left, no_captures, with_own}
 use Rattle.judge_core.proofs.Rule.{bare, weighed}
@@ -55,8 +55,6 @@ search_captures-returns-clause-is t c = walk-ends _ _ _ _ c.captures-2.invariant
 pub found_in_captures-returns-else-may_capture-clause-is : goal.found_in_captures-returns-else-may_capture-clause-is
 found_in_captures-returns-else-may_capture-clause-is t c = no_captures _ _ _ c.new.ensures (rw c.position.ensures.is at (c.may_capture.ensures c.if-may_capture.false))
 
-pub weigh-returns-clause-is : goal.weigh-returns-clause-is
-weigh-returns-clause-is t c =
-    with_own c.args.self.now.tables _ c.args.probe.now _ _ _ _ c.found_in_captures-found.ensures.is
-    (c.table_value-own.ensures.is ∙ ap (λ (h : Holding). table_value h.tables c.args.probe.now) c.found_in_captures-found.ensures.unchanged)
-    (c.is_forced.ensures ∙ ap is_forced c.position.ensures.is) c.close.ensures
+pub weigh_with-returns-clause-is : goal.weigh_with-returns-clause-is
+weigh_with-returns-clause-is t c =
+    with_own c.args.self.now.tables _ c.args.probe.now _ _ _ _ c.found_in_captures-found.ensures.is c.requires.own (c.is_forced.ensures ∙ ap is_forced c.position.ensures.is) c.close.ensures

@@ -5,16 +5,19 @@ use Rattle.judge_core.proofs.Readings.{Walked, moves_left}
 use Rattle.judge_core.proofs.set.Set.+wdl.Given as goal
 
 abbrev pub decreases-search_captures : goal.decreases-search_captures
-decreases-search_captures l = 4 * count_of_men l.probe.now
+decreases-search_captures l = 5 * count_of_men l.probe.now
 
 abbrev pub decreases-found_in_captures : goal.decreases-found_in_captures
-decreases-found_in_captures l = 4 * count_of_men l.probe.now + 1
+decreases-found_in_captures l = 5 * count_of_men l.probe.now + 1
 
 abbrev pub decreases-weigh : goal.decreases-weigh
-decreases-weigh l = 4 * count_of_men l.probe.now + 2
+decreases-weigh l = 5 * count_of_men l.probe.now + 3
+
+abbrev pub decreases-weigh_with : goal.decreases-weigh_with
+decreases-weigh_with l = 5 * count_of_men l.probe.now + 2
 
 abbrev pub decreases-wdl_of : goal.decreases-wdl_of
-decreases-wdl_of l = 4 * count_of_men l.position.now + 3
+decreases-wdl_of l = 5 * count_of_men l.position.now + 4
 
 abbrev pub invariant-search_captures-captures : goal.invariant-search_captures-captures
 invariant-search_captures-captures l = Walked (wdl_of l.fn.self.tables) l.probe l.found l.last × (l.self ≡ l.fn.self)

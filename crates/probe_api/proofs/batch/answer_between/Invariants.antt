@@ -1,6 +1,6 @@
 use Rattle.std.proofs.Common.{◌≡◌, length}
 use Rattle.probe_api.specs.Batches.{AreTold}
-use Rattle.probe_api.proofs.batch.answer_each.Given as goal
+use Rattle.probe_api.proofs.batch.answer_between.Given as goal
 
 -- the boards so far are answered, and the set is as it was
 abbrev pub invariant-loop-place : goal.invariant-loop-place

@@ -1,0 +1,29 @@
+use Rattle.std.proofs.Common.{◌∙◌, ap, subst}
+use Rattle.place_index.specs.Placed.{side_number}
+use Rattle.table_file.specs.declared.spots.Spot.{Spot}
+use Rattle.table_file.specs.Expansion.{IsRealSpot, IsSpot}
+use Rattle.judge_core.specs.Tables.{slot}
+use Rattle.judge_core.proofs.Entries.{an_entry, part_named, single_entry, past_entry}
+use Rattle.judge_core.proofs.shelf.Shelf.place_in_part.Goals as goal
+
+pub index-index-requires : goal.index-index-requires
+index-index-requires c = record { fits = c.shape.ensures.fits c.args.placed.now c.requires.part.asked }
+
+pub returns-in-Ok-Single : goal.returns-in-Ok-Single
+returns-in-Ok-Single c =
+    an_entry _ _ c.requires.part.is _ _ _ c.shape.ensures.is c.index-index.ensures.is
+    (single_entry _ _ _ (subst (λ (spot : Spot). IsSpot c.args.part.now c.index-index.result spot) c.in-Ok-Single.field-0-is c.in-Ok-Single.ensures.found))
+
+pub returns-in-Ok-At : goal.returns-in-Ok-At
+returns-in-Ok-At c = record {
+  on =
+      part_named c.args.self.now.tables c.args.kind c.args.placed.now c.args.part.now (record { slot = c.slot.result; side = c.side_number.result; file = c.number.result; block = c.in-Ok-At.block }) c.requires.part
+      (c.slot.ensures.is ∙ ap (slot c.args.kind) c.material.ensures) (c.side_number.ensures ∙ ap side_number c.side.ensures) (c.number.ensures.is ∙ c.file.ensures.is);
+  real = (subst (λ (spot : Spot). IsRealSpot c.args.part.now spot) c.in-Ok-At.field-0-is c.in-Ok-At.ensures.real).0;
+  is = λ value at.
+      an_entry _ _ c.requires.part.is _ _ _ c.shape.ensures.is c.index-index.ensures.is
+      (at c.index-index.result (subst (λ (spot : Spot). IsSpot c.args.part.now c.index-index.result spot) c.in-Ok-At.field-0-is c.in-Ok-At.ensures.found));
+}
+
+pub returns-in-Err : goal.returns-in-Err
+returns-in-Err c = an_entry _ _ c.requires.part.is _ _ _ c.shape.ensures.is c.index-index.ensures.is (past_entry _ _ c.in-Err.ensures.damaged)

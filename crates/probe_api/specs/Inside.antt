@@ -1,0 +1,26 @@
+-- Boards that are looked up side by side.
+use Rattle.std.specs.Prelude.{◌≡◌, List, Result, map, All}
+use Rattle.board_core.specs.declared.parts.Parts.{Parts}
+use Rattle.board_core.specs.declared.position.PositionFault.{PositionFault}
+use Rattle.board_core.specs.Position.{IsPosition, IsFirstFault}
+use Rattle.judge_core.specs.declared.wdl.Wdl.{Wdl}
+use Rattle.judge_core.specs.declared.fault.ProbeFault.{ProbeFault}
+use Rattle.judge_core.specs.Answers.{IsWdlProbe, wdl_answer}
+use Rattle.judge_core.specs.Tables.{Tables}
+use Rattle.probe_api.specs.Boards.{shown}
+use Rattle.probe_api.specs.declared.board.Board.{Board}
+
+-- the board shows a position, and none of the faults
+abbrev pub IsSound : Board → Type 0
+IsSound b = IsPosition (shown b) × ((fault : PositionFault) → IsFirstFault (shown b) fault → ⊥)
+
+-- each board shows a position, and these are they
+pub record AreShown (boards : List Board) (positions : List Parts) : Type 0 where
+  pub are : map shown boards ≡ positions
+  pub sound : All IsSound boards
+
+-- each board shows a position, and these are the values of all
+pub record AreValues (tables : Tables) (boards : List Board) (values : List (Result Wdl ProbeFault)) : Type 0 where
+  pub probe : (p : Parts) → IsWdlProbe tables p (wdl_answer tables p)
+  pub are : values ≡ map (λ (b : Board). wdl_answer tables (shown b)) boards
+  pub sound : All IsSound boards
