@@ -13,11 +13,13 @@ use crate::fault::{ProbeFault, ValueFault};
 use crate::found::{Found, Weighed, worth_in};
 use crate::moving::lands_empty;
 use crate::probe::{Probe, is_bare};
+use crate::reading::value_of;
 use crate::set::Set;
 use crate::verdict::is_out_of_scope;
 use crate::wdl::{Wdl, turned};
 use board_core::Position;
 use std::alloc::Global;
+use table_file::TableKind;
 
 /// Whether each legal move is en passant, and there is one.
 fn is_forced(position: &Position) -> bool
@@ -45,8 +47,18 @@ impl<'a> Set<'a> {
         ensures is { result ≡ table_value self.old.tables probe.now }
         ensures unchanged { self.new ≡ self.old }
     {
-        let own = self.shelf.own_place(probe);
-        self.shelf.own_value(&mut self.blocks, alloc, probe, &own)
+        let Some(placed) = probe.placed() else {
+            return Ok(Wdl::Draw);
+        };
+        let material = placed.material();
+        let Some(part) = self.shelf.part(TableKind::Wdl, placed) else {
+            return Err(ValueFault::NotCovered(material));
+        };
+        let blocks = &mut self.blocks;
+        let points = self
+            .shelf
+            .read(blocks, alloc, TableKind::Wdl, &part, placed);
+        value_of(material, points)
     }
 
     /// The values after the captures of the position, found one after the other. It isn't inlined: room for a position

@@ -1,13 +1,14 @@
 //! Reading tables through decoded blocks: these functions alone see tables and blocks apart.
 
-ghost use Rattle.std.specs.Prelude.{◌≡◌, ◌<◌, ◌≤◌, Some, IfSome, IfOk, OnErr};
+ghost use Rattle.std.specs.Prelude.{◌≡◌, ◌<◌, ◌≤◌, Some, IfSome, IfOk, OnErr, option_and_then};
 ghost use Rattle.place_index.specs.Placed.{side_number};
 ghost use Rattle.table_file.specs.declared.kind.TableKind.TheVariants.{Dtz};
 ghost use Rattle.table_file.specs.Expansion.{expansion, real_blocks, IsSpot, IsRealSpot, IsPast};
 ghost use Rattle.judge_core.specs.Blocks.{AreRight, IsRight, part_at};
 ghost use Rattle.judge_core.specs.Distances.{distance_in};
 ghost use Rattle.judge_core.specs.Inside.Placing.{IsPartFor, IsPlaceIn, IsOwnPlace, IsValueAt};
-ghost use Rattle.judge_core.specs.Tables.{entry_in, table_value};
+ghost use Rattle.judge_core.specs.Tables.{entry_in, slot, table_value, value_or_damaged};
+ghost use Rattle.judge_core.specs.Values.{of_points};
 
 use crate::blocks::{Asking, BlockKey, Blocks};
 use crate::fault::ValueFault;
@@ -15,7 +16,7 @@ use crate::probe::Probe;
 use crate::shelf::{Shelf, slot};
 use crate::wdl::Wdl;
 use board_core::Side;
-use place_index::{Placed, index};
+use place_index::{Material, Placed, index};
 use std::alloc::Global;
 use std::marker::Brand;
 use std::sync::ledger::{Blank, Ledger};
@@ -75,6 +76,34 @@ fn side_number(side: Side) -> u8
     match side {
         Side::White => 0,
         Side::Black => 1,
+    }
+}
+
+/// The value that the entry of a WDL table of this material stands for.
+pub(crate) fn value_of(material: Material, points: Option<u16>) -> Result<Wdl, ValueFault>
+    ensures { result ≡ value_or_damaged material (option_and_then of_points points) }
+{
+    let Some(points) = points else {
+        return Err(ValueFault::Damaged(material));
+    };
+    match Wdl::from_points(points) {
+        Some(value) => Ok(value),
+        None => Err(ValueFault::Damaged(material)),
+    }
+}
+
+/// The key of a block of the part for placed men.
+fn key_of(kind: TableKind, placed: &Placed, block: u32) -> BlockKey
+    ensures slot { result.slot ≡ slot kind placed.now.material }
+    ensures side { result.side ≡ side_number placed.now.side }
+    ensures file { result.file ≡ placed.now.file }
+    ensures block { result.block ≡ block }
+{
+    BlockKey {
+        slot: slot(kind, placed.material()) as u16,
+        side: side_number(placed.side()),
+        file: placed.file().number(),
+        block,
     }
 }
 
@@ -154,12 +183,7 @@ impl<'a> Shelf<'a> {
         match spot_of(part, index) {
             Ok(Spot::Single(value)) => PlaceInPart::Known(Some(value)),
             Ok(Spot::At { block, offset }) => {
-                let key = BlockKey {
-                    slot: slot(kind, placed.material()) as u16,
-                    side: side_number(placed.side()),
-                    file: placed.file().number(),
-                    block,
-                };
+                let key = key_of(kind, placed, block);
                 PlaceInPart::InBlock { key, offset }
             }
             Err(_) => PlaceInPart::Known(None),
@@ -190,7 +214,7 @@ impl<'a> Shelf<'a> {
     }
 
     /// What the part of a table of this kind for placed men has at their index; none where that is damaged.
-    fn read(
+    pub(crate) fn read(
         &self,
         blocks: &mut Blocks,
         alloc: Global,
@@ -203,8 +227,15 @@ impl<'a> Shelf<'a> {
         ensures is { result ≡ entry_in part.now.table placed.now }
         ensures right { AreRight self.now blocks.new }
     {
-        let place = self.place_in_part(kind, part, placed);
-        self.read_at(blocks, alloc, part, place, placed)
+        let index = index(part.shape(), placed);
+        match spot_of(part, index) {
+            Ok(Spot::Single(value)) => Some(value),
+            Ok(Spot::At { block, offset }) => {
+                let key = key_of(kind, placed, block);
+                self.value_in_block(blocks, alloc, part, key, offset)
+            }
+            Err(_) => None,
+        }
     }
 
     /// Where the own WDL table of a position has its value; none where there is no such table.
@@ -241,13 +272,8 @@ impl<'a> Shelf<'a> {
         let Some(own) = own else {
             return Err(ValueFault::NotCovered(material));
         };
-        let Some(points) = self.read_at(blocks, alloc, &own.part, own.place, placed) else {
-            return Err(ValueFault::Damaged(material));
-        };
-        match Wdl::from_points(points) {
-            Some(value) => Ok(value),
-            None => Err(ValueFault::Damaged(material)),
-        }
+        let points = self.read_at(blocks, alloc, &own.part, own.place, placed);
+        value_of(material, points)
     }
 
     /// What the part of a DTZ table for placed men stores for them; none where that is damaged.
