@@ -7,7 +7,7 @@ use crate::comparing::check_same;
 use crate::files::{QUEEN, QUEEN_PLIES, files_of};
 use crate::positions::{moves_of, position_of};
 use board_core::{Move, Verdict};
-use judge_core::{GameOutcome, ProbeFault, Set, SetFault};
+use judge_core::{GameOutcome, ProbeFault, Set, SetFault, Wdl};
 use std::alloc::{AllocError, Global};
 use std::process::Abort;
 use std::test::Fail;
@@ -55,6 +55,21 @@ fn is_added<'a>(
     Ok(is_taken(rt, set, open(alloc, name.as_bytes(), file)?))
 }
 
+/// Three positions side by side: a capture that leaves the kings alone, a table that is there, and one that is missing.
+fn check_side_by_side(rt: &impl Abort, alloc: Global, set: &mut Set<'_>) {
+    let rows = [HANGING_ROW, CHECKING_ROW, ROOK_ROW];
+    let Ok(positions) = Vec::from_array(alloc, rows.map(|row| position_of(rt, row))) else {
+        return;
+    };
+    if let Ok(values) = set.wdl_each(alloc, &positions) {
+        check_same(rt, values.len(), 3, HANGING_ROW);
+        check_same(rt, values[0], Ok(Wdl::Draw), HANGING_ROW);
+        check_same(rt, values[1], Ok(Wdl::Loss), CHECKING_ROW);
+        let is_missing = matches!(values[2], Err(ProbeFault::NotCovered(_)));
+        check_same(rt, is_missing, true, ROOK_ROW);
+    }
+}
+
 /// The value is told before and after the verdict.
 fn check_hanging(rt: &impl Abort, alloc: Global, set: &mut Set<'_>) {
     check_value(rt, alloc, set, HANGING_ROW, Ok(0));
@@ -77,6 +92,7 @@ fn check_values_added<'a>(
 ) -> Result<(), Fail> {
     if is_added(rt, alloc, set, "KQvK.rtbw", file)? {
         check_hanging(rt, alloc, set);
+        check_side_by_side(rt, alloc, set);
     }
     Ok(())
 }
