@@ -5,3 +5,4 @@ pub mod Windows
 pub mod Runs
 pub mod Kept
 pub mod Nodes
+pub mod Tables

@@ -42,8 +42,7 @@ pub(crate) fn firsts_of(alloc: Global, least: u32, lowest: &[u8]) -> Result<Vec<
     Ok(firsts)
 }
 
-/// The codes of one length: the first number whose front they are, of 32 bits, or 2^32 where there are none, and their
-/// lowest symbol.
+/// A length of codes: its base at the top of 32 bits, or 2^32 where no code has that length, and its lowest symbol.
 #[derive(Clone, Copy)]
 pub(crate) struct CodeLength {
     // The first number times 65536 plus the lowest symbol, so that one read gives both.

@@ -88,7 +88,7 @@ pub(crate) struct Settled {
     pub(crate) nodes: Vec<Node>,
 }
 
-/// The number of values of each symbol, and its node.
+/// Counts the values of all symbols, and makes their nodes.
 pub(crate) fn settle_all(alloc: Global, symbols: &[u8]) -> Result<Settled, DictFault>
     requires { symbol_count symbols.now ≤ 4095 }
     ensures found { IfOk result (λ s. AreCounts symbols.now s.counts.items) }

@@ -6,6 +6,7 @@ ghost use Rattle.pair_dict.specs.Codes.{code_at};
 ghost use Rattle.pair_dict.specs.Inside.Counts.{AreCounts};
 ghost use Rattle.pair_dict.specs.Inside.Layouts.{pairing_in, IsLayout};
 ghost use Rattle.pair_dict.specs.Inside.Nodes.{AreNodes};
+ghost use Rattle.pair_dict.specs.Inside.Tables.{AreTables};
 ghost use Rattle.pair_dict.specs.Inside.Windows.{IsSound, Shows};
 ghost use Rattle.pair_dict.specs.Inside.Runs.{run_values, run_bits, sum_values, sum_bits, IsLeft, IsRunAt, IsFurther};
 ghost use Rattle.pair_dict.specs.Reading.{Gives, layout_at, dictionary_at};
@@ -55,6 +56,38 @@ impl<'a> Model for Dictionary<'a> {
     ghost invariant = { IsKept };
 }
 
+/// What codes are found by.
+#[derive(Drop)]
+struct CodeTables {
+    search: CodeSearch,
+    codes: Vec<CodeLength>,
+    runs: Vec<CodeRun>,
+}
+
+/// What the codes of a layout are found by.
+fn code_tables(
+    alloc: Global,
+    layout: &Layout<'_>,
+    counts: &[u16],
+    most_bits: u32,
+) -> Result<CodeTables, AllocError>
+    requires layout { IsLayout layout.now }
+    requires counts { AreCounts layout.now.symbols.now counts.now }
+    requires some { 1 ≤ most_bits }
+    requires few { most_bits ≤ 13 }
+    ensures { IfOk result (λ t. AreTables layout.now t) }
+{
+    let firsts = firsts_of(alloc, layout.least, layout.lowest)?;
+    let run_width = run_width(counts.len(), most_bits);
+    let runs = runs_of(alloc, layout, &firsts, counts, run_width)?;
+    let codes = code_lengths(alloc, &firsts, layout.lowest)?;
+    Ok(CodeTables {
+        search: CodeSearch::new(run_width, layout.least, &firsts),
+        codes,
+        runs,
+    })
+}
+
 impl<'a> Dictionary<'a> {
     /// The dictionary at the front of the bytes, and how many bytes it takes (Syzygy table format, a size record from
     /// its greatest code length on). The fill byte after an odd number of symbols counts.
@@ -97,17 +130,13 @@ impl<'a> Dictionary<'a> {
         requires few { most_bits ≤ 13 }
         ensures { IfOk result (λ d. d ≡ (pairing_in layout.now).0) }
     {
-        let Settled { counts, nodes } = settled;
-        let firsts = firsts_of(alloc, layout.least, layout.lowest)?;
-        let run_width = run_width(counts.len(), most_bits);
-        let runs = runs_of(alloc, layout, &firsts, &counts, run_width)?;
-        let codes = code_lengths(alloc, &firsts, layout.lowest)?;
-        let counts = bytes_of(alloc, &counts)?;
+        let tables = code_tables(alloc, layout, &settled.counts, most_bits)?;
+        let counts = bytes_of(alloc, &settled.counts)?;
         Ok(Dictionary {
-            search: CodeSearch::new(run_width, layout.least, &firsts),
-            codes,
-            runs,
-            nodes,
+            search: tables.search,
+            codes: tables.codes,
+            runs: tables.runs,
+            nodes: settled.nodes,
             counts,
             symbols: layout.symbols,
         })

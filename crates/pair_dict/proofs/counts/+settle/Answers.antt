@@ -1,7 +1,7 @@
 use Rattle.std.proofs.Common.{◌≢◌, ◌+◌, ◌-◌, ◌∙◌, sym, refl, arith, inl, inr, get_or}
 use Rattle.std.proofs.lemmas.Result.{err_from_is_err_and}
-use Rattle.pair_dict.proofs.Settling.{has_some, no_reference, more_left, more_right, too_many, put_pair}
-use Rattle.pair_dict.proofs.NodeLemmas.{pair_put}
+use Rattle.pair_dict.proofs.Settling.{has_some, no_reference, more_left, more_right, too_many, put_leaf, put_pair}
+use Rattle.pair_dict.proofs.NodeLemmas.{leaf_node, node_put, pair_put}
 use Rattle.pair_dict.proofs.counts.+settle.Goals as goal
 use Rattle.pair_dict.proofs.counts.+settle.Goals.{then-left-counts-via-then-left-counts, then-left-counts-via-else-left-counts+then-right-counts}
 
@@ -62,3 +62,17 @@ returns-else-count-gt-MOST_VALUES-clause-nodes t c =
     c.requires.known c.in-Pair.ensures.is.0 c.in-Pair.ensures.is.1 c.in-Pair.ensures.is.2
     (omega (arith, c.if-left-counts.false, c.requires.settled.lengths)) (omega (arith, c.if-right-counts.false, c.requires.settled.lengths))
     c.in_ok-settle-in-Pair.ensures.counted c.in_ok-settle-in-Pair-2.ensures.kept c.in_ok-settle-in-Pair-2.ensures.counted c.in_ok-settle-in-Pair-2.ensures.settled c.in_ok-settle-in-Pair-2.ensures.nodes refl c.joined.ensures
+
+pub returns-in-Leaf-clause-settled : goal.returns-in-Leaf-clause-settled
+returns-in-Leaf-clause-settled t c = (put_leaf c.args.symbols.now c.args.counts.now c.args.symbol c.requires.settled c.requires.known c.in-Leaf.ensures.is.0).settled
+
+pub returns-in-Leaf-clause-kept : goal.returns-in-Leaf-clause-kept
+returns-in-Leaf-clause-kept t c = (put_leaf c.args.symbols.now c.args.counts.now c.args.symbol c.requires.settled c.requires.known c.in-Leaf.ensures.is.0).kept
+
+pub returns-in-Leaf-clause-counted : goal.returns-in-Leaf-clause-counted
+returns-in-Leaf-clause-counted t c = (put_leaf c.args.symbols.now c.args.counts.now c.args.symbol c.requires.settled c.requires.known c.in-Leaf.ensures.is.0).counted
+
+pub returns-in-Leaf-clause-nodes : goal.returns-in-Leaf-clause-nodes
+returns-in-Leaf-clause-nodes t c =
+    node_put c.args.symbols.now c.args.counts.now c.args.nodes.now c.args.symbol 1 c.equal.result c.requires.nodes c.requires.known
+    (leaf_node c.args.symbols.now c.args.symbol c.in-Leaf.value c.equal.result c.equal.ensures c.in-Leaf.ensures.is.0 c.in-Leaf.ensures.is.1)
