@@ -12,7 +12,7 @@ ghost use Rattle.game_host.specs.Games.{IsOpening};
 ghost use Rattle.game_host.specs.Seats.{IsAnswered, IsAtRest, IsSeated, moment_of};
 
 use crate::games::Found;
-use arbiter_core::{Arbiter, DeliverFault, Keeper, OpenFault, Outputs, Refused, Resting, Setup};
+use arbiter_core::{Arbiter, DeliverFault, Keeper, OpenFault, Outputs, Refused, ArbiterState, Setup};
 use arbiter_service::Heard;
 use judge_core::Set;
 use move_msg::Who;
@@ -31,7 +31,7 @@ pub struct Common<'a> {
 /// A game that is open: its arbiter, at rest, and its keeper.
 #[derive(Drop)]
 pub(crate) struct Seat<'a, K: Drop> {
-    pub(crate) resting: Resting<'a>,
+    pub(crate) resting: ArbiterState<'a>,
     pub(crate) keeper: K,
 }
 
@@ -77,7 +77,7 @@ pub(crate) fn open_seat<'a, K: Keeper>(
     alloc: Global,
     setup: Setup<'a>,
     keeper: &mut K,
-) -> (Result<Resting<'a>, OpenFault>, Set<'a>)
+) -> (Result<ArbiterState<'a>, OpenFault>, Set<'a>)
     ensures set { result.1 ≡ (setup_view setup.entry).set }
     ensures wakes { IfOk result.0 (λ r. CanWake r result.1 × (r.is_down ≡ false)) }
     ensures keeps { IfOk result.0 (λ r. IsKept (K.facts.kept keeper.new) (awake r result.1)) }
