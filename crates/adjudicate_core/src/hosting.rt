@@ -32,21 +32,22 @@ fn serve_at<'a, D: Disk, H: Host, W: Output>(
 ) -> Result<u8, WriteFault>
     ensures { WritesNow (around (D.facts disk.now) (H.facts host.now) H.Port.facts H.File.facts W.contents W.facts) task.now common.now set.entry (H.Port.facts port.old) (H.Port.facts port.new) out.old out.new result }
 {
-    let mut games = DiskGames {
+    let games = DiskGames {
         disk,
         host,
         folder: task.games,
     };
-    match serve_games(
+    let (ended, _games) = serve_games(
         alloc,
         common,
-        &mut games,
+        games,
         set,
         task.at_once,
         port,
         task.datagrams,
         out,
-    ) {
+    );
+    match ended {
         Ok(Ok(status)) => Ok(status),
         Ok(Err(_)) => put_refusal(out, Refusal::Memory),
         Err(fault) => Err(fault),

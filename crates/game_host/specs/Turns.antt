@@ -131,3 +131,9 @@ pub record HasServed {K W : Type 0} (s : Keepers K) (t : CommonView) (w : Writer
 -- such a run from a folder to a later one and the games that are open then
 abbrev pub ServesOpen : {G K W : Type 0} → KeeperFacts K → FolderFacts G K → Common → Holding → Writers W → ℕ → G → G → Entries K → PortFacts → PortFacts → W → W → Result ℕ WriteFault → Type 0
 ServesOpen facts folder common set w n games games' seats' port port' out out' ended = HasServed (keepers facts folder games) (common_with common set) w n (folder.gives games') (at_stamp seats') port port' out out' ended
+
+-- what no turn of a server changes: what its games have in common, its tables and where its folder is
+pub record Stays {G K : Type 0} (folder : FolderFacts G K) (common : Common) (set : Holding) (games : G) (common' : Common) (set' : Holding) (games' : G) : Type 0 where
+  pub shared : common' ≡ common
+  pub tables : set' ≡ set
+  pub place : folder.place games' ≡ folder.place games

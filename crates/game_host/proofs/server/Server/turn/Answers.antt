@@ -1,6 +1,6 @@
 use Rattle.std.proofs.Common.{refl, ◌∙◌}
 use Rattle.game_host.specs.Told.{line_words}
-use Rattle.game_host.proofs.hosting.turn.Goals as goal
+use Rattle.game_host.proofs.server.Server.turn.Goals as goal
 
 pub returns-in-Ok-clause-taken : goal.returns-in-Ok-clause-taken
 returns-in-Ok-clause-taken g c = record {

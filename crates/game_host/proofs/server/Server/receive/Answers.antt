@@ -5,12 +5,12 @@ use Rattle.game_host.specs.Room.{at_stamp}
 use Rattle.game_host.specs.Turns.{reply_of}
 use Rattle.game_host.proofs.Hosted.{came_and_sent}
 use Rattle.game_host.proofs.Turning.{leads_not}
-use Rattle.game_host.proofs.hosting.receive.Goals as goal
+use Rattle.game_host.proofs.server.Server.receive.Goals as goal
 
 pub returns-in-Ok-clause-received : goal.returns-in-Ok-clause-received
 returns-in-Ok-clause-received g c =
-    let r = reply_of (take c.in-Ok.length c.receive.new.buffer) c.hear-told.result.0 in
+    let r = reply_of (take c.in-Ok.length c.receive.new.buffer) c.hear-told.result in
     (r, c.hear-told.ensures.turns, refl, came_and_sent (g.P.Port.facts c.args.port.now) (g.P.Port.facts c.receive.new.self) (g.P.Port.facts c.send_all.new.port) r c.in-Ok.ensures.came (rw c.as_slice.ensures at c.send_all.ensures))
 
 pub returns-in-Err-clause-received : goal.returns-in-Err-clause-received
-returns-in-Err-clause-received g c = (leads_not (keepers g.G.Keeper.Keeper.facts g.G.Games.facts c.args.games.now) (common_with c.args.common.now c.args.set) _ _ (at_stamp c.args.seats.now.entries) (at_stamp c.args.seats.now.entries) (λ other keeper given. given) (λ other. refl), refl, c.in-Err.ensures.missed, c.in-Err.ensures.cause)
+returns-in-Err-clause-received g c = (leads_not (keepers g.G.Keeper.Keeper.facts g.G.Games.facts c.args.self.now.games) (common_with c.args.self.now.common c.args.self.now.tables) _ _ (at_stamp c.args.self.now.seats.entries) (at_stamp c.args.self.now.seats.entries) (λ other keeper given. given) (λ other. refl), refl, c.in-Err.ensures.missed, c.in-Err.ensures.cause)
