@@ -1,13 +1,13 @@
 //! An arbiter that answers datagrams, from its words to its status.
 
-ghost use Rattle.std.specs.Prelude.{◌≡◌, true, string_bytes, IfOk, Ok, Some};
+ghost use Rattle.std.specs.Prelude.{◌≡◌, string_bytes, IfErr, IfOk, Ok};
 ghost use Rattle.board_core.specs.Position.{IsPosition};
 ghost use Rattle.fen_text.specs.Fen.{SpellsPosition};
 ghost use Rattle.move_msg.specs.Files.{entries_of};
 ghost use Rattle.move_msg.specs.Manifests.{SpellsManifest};
 ghost use Rattle.move_msg.specs.TextLines.{ended};
 ghost use Rattle.arbiter_core.specs.Setups.{setup_view};
-ghost use Rattle.adjudicate_core.specs.Listens.{BindsAndWrites, KeepsAndWrites, ListensAndWrites, OpensAndWrites, StartsAndWrites, TellsUnopened, WritesAt, hosted, setup_for};
+ghost use Rattle.adjudicate_core.specs.Listens.{BindsAndWrites, KeepsAndWrites, LacksAddress, ListensAndWrites, OpensAndWrites, StartsAndWrites, TellsAddress, TellsUnopened, WritesAt, hosted, setup_for};
 ghost use Rattle.adjudicate_core.specs.Lines.{ready_words};
 ghost use Rattle.adjudicate_core.specs.Looks.{gathered};
 ghost use Rattle.arbiter_service.specs.GoingOut.{writers};
@@ -105,32 +105,28 @@ fn serve_at<H: Host, W: Output>(
 }
 
 /// The line that tells the address at which a port listens.
-pub(crate) fn ready_line(alloc: Global, own: SocketAddr) -> Result<String, AllocError>
+fn ready_line(alloc: Global, own: SocketAddr) -> Result<String, AllocError>
     ensures { IfOk result (λ line. string_bytes line ≡ ended (ready_words own)) }
 {
     format!(in alloc; "ready {own}\n")
 }
 
-/// Tells the address at which the port listens, and serves when that line has gone out.
-fn tell_and_serve<H: Host, W: Output>(
+/// The line that tells the address at which a port listens. The error is `Port` where that isn't known, `Memory` where memory for the
+/// line is refused.
+pub(crate) fn ready_line_at<H: Host>(
     alloc: Global,
-    listening: &Listen<'_>,
-    setup: Setup<'_>,
     host: &H,
-    port: &mut H::Port,
-    own: SocketAddr,
-    out: &mut W,
-) -> Result<u8, WriteFault>
-    requires wanted { listening.now.ready ≡ true }
-    requires own { (H.facts host.now).listens port.old (Some own) }
-    ensures { StartsAndWrites (hosted (H.facts host.now) H.Port.facts H.File.facts) (writers W.contents W.facts) listening.now (setup_view setup.entry) port.old (H.Port.facts port.new) out.old out.new result }
+    port: &H::Port,
+) -> Result<String, Refusal>
+    ensures ok { IfOk result (λ line. TellsAddress (H.facts host.now) port.now (string_bytes line)) }
+    ensures err { IfErr result (LacksAddress (H.facts host.now) port.now) }
 {
-    let Ok(line) = ready_line(alloc, own) else {
-        return put_refusal(out, Refusal::Memory);
+    let Some(own) = host.own_address(port) else {
+        return Err(Refusal::Port);
     };
-    match put_line(out, line.as_str().as_bytes()) {
-        Ok(()) => serve_at(alloc, listening, setup, host, port, out),
-        Err(refused) => Err(refused),
+    match ready_line(alloc, own) {
+        Ok(line) => Ok(line),
+        Err(_) => Err(Refusal::Memory),
     }
 }
 
@@ -149,9 +145,13 @@ fn start_at<H: Host, W: Output>(
     if !listening.ready {
         return serve_at(alloc, listening, setup, host, port, out);
     }
-    match host.own_address(port) {
-        Some(own) => tell_and_serve(alloc, listening, setup, host, port, own, out),
-        None => put_refusal(out, Refusal::Port),
+    let line = match ready_line_at(alloc, host, port) {
+        Ok(line) => line,
+        Err(refusal) => return put_refusal(out, refusal),
+    };
+    match put_line(out, line.as_str().as_bytes()) {
+        Ok(()) => serve_at(alloc, listening, setup, host, port, out),
+        Err(fault) => Err(fault),
     }
 }
 

@@ -85,7 +85,15 @@ impl<'a> Arbiter<'a> {
         // What it was opened from stays.
         ensures setup { self.new.setup ≡ self.old.setup }
     {
-        self.state.deliver(alloc, &mut self.set, keeper, bytes)
+        match Message::decode(bytes) {
+            Ok(message) => self.state.deliver(alloc, &mut self.set, keeper, &message),
+            Err(fault) => {
+                if self.state.is_down() {
+                    return Err(DeliverFault::Down);
+                }
+                Err(DeliverFault::NotAMessage(fault))
+            }
+        }
     }
 
     /// Returns the setup from which the arbiter was opened.

@@ -2,14 +2,16 @@
 
 ghost use Rattle.std.specs.Prelude.{◌≡◌, ◌+◌, ◌<◌, ◌≤◌, ◌∷◌, [], ◌++◌, length, IfOk, IsErr, cond, Option, Some, None};
 ghost use Rattle.std.specs.Result.{result_map_both};
+ghost use Rattle.std.specs.Str.{bytes_eq};
 ghost use Rattle.judge_core.specs.Games.{position_after_all};
+ghost use Rattle.move_msg.specs.Messages.{stamp_in};
 ghost use Rattle.move_msg.specs.Numbers.{most_moves};
 ghost use Rattle.move_msg.specs.declared.who.Sender.{Sender};
 ghost use Rattle.arbiter_core.specs.Recording.{count_of};
 ghost use Rattle.arbiter_core.specs.Answering.{asked, fetched, nothing_waits, sent_by, told_of};
 ghost use Rattle.arbiter_core.specs.Setups.{rules_at};
-ghost use Rattle.arbiter_core.specs.Resting.{CanWake, awake, setup_with};
-ghost use Rattle.arbiter_core.specs.Delivers.{Answers, Delivers, IsKept, Keeps, answer_to_message, answer_to_next, answer_to_numbered, exchange, heard, moment};
+ghost use Rattle.arbiter_core.specs.Resting.{AnswersBy, CanWake, awake, setup_with};
+ghost use Rattle.arbiter_core.specs.Delivers.{IsKept, Keeps, answer_to_any, answer_to_message, answer_to_next, answer_to_numbered};
 ghost use Rattle.arbiter_core.specs.Inside.Playing.{IsNext, IsPlayedFrom};
 
 use crate::fault::DeliverFault;
@@ -108,7 +110,7 @@ impl<'a> ArbiterState<'a> {
         requires keeps { Keeps (K.facts.kept keeper.old) (awake self.old tables.old) }
         ensures same { tables.new ≡ tables.old }
         ensures wakes { CanWake self.new tables.old }
-        ensures answers { Answers K.facts (moment (awake self.old tables.old) keeper.old) (answer_to_next (awake self.old tables.old) m.now) (result_map_both (λ o. o.items) (λ e. e) result) (moment (awake self.new tables.old) keeper.new) }
+        ensures answers { AnswersBy K.facts tables.old self.old keeper.old (answer_to_next (awake self.old tables.old) m.now) (result_map_both (λ o. o.items) (λ e. e) result) self.new keeper.new }
     {
         let Ok(plan) = plan_on(
             alloc,
@@ -174,7 +176,7 @@ impl<'a> ArbiterState<'a> {
         requires keeps { Keeps (K.facts.kept keeper.old) (awake self.old tables.old) }
         ensures same { tables.new ≡ tables.old }
         ensures wakes { CanWake self.new tables.old }
-        ensures answers { Answers K.facts (moment (awake self.old tables.old) keeper.old) (answer_to_numbered (awake self.old tables.old) number m.now) (result_map_both (λ o. o.items) (λ e. e) result) (moment (awake self.new tables.old) keeper.new) }
+        ensures answers { AnswersBy K.facts tables.old self.old keeper.old (answer_to_numbered (awake self.old tables.old) number m.now) (result_map_both (λ o. o.items) (λ e. e) result) self.new keeper.new }
     {
         if number >= 4096 {
             return Err(DeliverFault::TooLong);
@@ -197,20 +199,11 @@ impl<'a> ArbiterState<'a> {
         self.go_on(alloc, tables, keeper, m, &position)
     }
 
-    /// The message of this arbiter's game that bytes encode, or why there is none.
-    fn hear(&self, bytes: &[u8]) -> Result<Message, DeliverFault>
-        ensures { result ≡ heard self.now.me.stamp bytes.now }
+    /// Whether a message is of this arbiter's game.
+    fn is_own(&self, message: &Message) -> bool
+        ensures { result ≡ bytes_eq (stamp_in message.now).0 self.now.me.stamp.0 }
     {
-        match Message::decode(bytes) {
-            Ok(message) => {
-                if message.stamp() == self.played.record.as_record().stamp {
-                    Ok(message)
-                } else {
-                    Err(DeliverFault::Stranger)
-                }
-            }
-            Err(fault) => Err(DeliverFault::NotAMessage(fault)),
-        }
+        message.stamp() == self.played.record.as_record().stamp
     }
 
     /// The recorded moves from this number on, at most `wanted`, as messages of this arbiter. The error comes only
@@ -262,7 +255,7 @@ impl<'a> ArbiterState<'a> {
         requires keeps { Keeps (K.facts.kept keeper.old) (awake self.old tables.old) }
         ensures same { tables.new ≡ tables.old }
         ensures wakes { CanWake self.new tables.old }
-        ensures answers { Answers K.facts (moment (awake self.old tables.old) keeper.old) (answer_to_message (awake self.old tables.old) message.now) (result_map_both (λ o. o.items) (λ e. e) result) (moment (awake self.new tables.old) keeper.new) }
+        ensures answers { AnswersBy K.facts tables.old self.old keeper.old (answer_to_message (awake self.old tables.old) message.now) (result_map_both (λ o. o.items) (λ e. e) result) self.new keeper.new }
     {
         match *message {
             Message::Move { number, m, .. } => self.take_move(alloc, tables, keeper, number, &m),
@@ -275,33 +268,17 @@ impl<'a> ArbiterState<'a> {
         }
     }
 
-    /// Processes a datagram, and returns the messages to send. With k the count of recorded moves, in this order:
+    /// Processes a message by tables that it is lent, and returns the messages to send: the cases, in their order, are those of
+    /// `Arbiter::deliver` for a datagram that encodes the message.
     ///
-    /// 1. An arbiter that is down returns `Down`.
-    /// 2. Bytes that encode no message are `NotAMessage`, a message of another game is `Stranger`.
-    /// 3. An `Ack` or a `Verdict` changes nothing, and nothing is sent. A `Fetch` is answered with the recorded moves
-    ///    from its number on, as many as it requests and there are, as messages of this arbiter. Nothing changes.
-    /// 4. A `Move` of number 4096 or more is `TooLong`.
-    /// 5. Where a verdict is recorded or the number is below k, the count and the verdict, if any, are sent. The move
-    ///    isn't examined.
-    /// 6. A number of k + 32 or more is `TooFarAhead`.
-    /// 7. A move with a number above k waits, unless one waits there already. The count is sent.
-    /// 8. The move with number k is `IllegalMove` where it isn't legal. Otherwise it is played, and then the waiting
-    ///    moves after it without a gap, until there is a verdict. One that isn't legal in its turn is dropped and ends
-    ///    the run. The record is put once. Where that succeeds the new count and the verdict, if any, are sent, and at
-    ///    a verdict no move waits any more. Otherwise it is `KeeperFailed`: the arbiter is down, and its readers give
-    ///    the record from before.
-    ///
-    /// `OutOfMemory` comes only in case 8, before the put, and for a `Fetch` that is answered by more than four moves.
-    /// It leaves the keeper and all of the arbiter but its cache as before, and so does each refusal but
-    /// `KeeperFailed`. The caller ensures that the keeper keeps this arbiter's record while it runs, as `open` and each
-    /// delivery leave it.
+    /// The caller ensures that it can wake with these tables, and that the keeper keeps its record while it runs, as `open` and
+    /// each delivery leave it.
     pub fn deliver<K: Keeper>(
         &mut self,
         alloc: Global,
         tables: &mut Set<'_>,
         keeper: &mut K,
-        bytes: &[u8],
+        message: &Message,
     ) -> Result<Outputs, DeliverFault>
         // By these tables its record is whole.
         requires wakes { CanWake self.old tables.old }
@@ -311,8 +288,8 @@ impl<'a> ArbiterState<'a> {
         // The tables stay as they were, but for their cache.
         ensures same { tables.new ≡ tables.old }
 
-        // The result follows from the datagram and the record, and a record is put where the result says so.
-        ensures delivered { Delivers K.facts (moment (awake self.old tables.old) keeper.old) (exchange bytes.now (result_map_both (λ o. o.items) (λ e. e) result) (moment (awake self.new tables.old) keeper.new)) }
+        // The result follows from the message and the record, and a record is put where the result says so.
+        ensures answers { AnswersBy K.facts tables.old self.old keeper.old (answer_to_any (awake self.old tables.old) message.now) (result_map_both (λ o. o.items) (λ e. e) result) self.new keeper.new }
 
         // By these tables its record is whole afterwards too.
         ensures wakes { CanWake self.new tables.old }
@@ -323,14 +300,13 @@ impl<'a> ArbiterState<'a> {
         // What it was opened from stays.
         ensures setup { setup_with self.new tables.old ≡ setup_with self.old tables.old }
     {
-        let heard = self.hear(bytes);
         if self.down {
             return Err(DeliverFault::Down);
         }
-        match heard {
-            Ok(message) => self.answer(alloc, tables, keeper, &message),
-            Err(fault) => Err(fault),
+        if !self.is_own(message) {
+            return Err(DeliverFault::Stranger);
         }
+        self.answer(alloc, tables, keeper, message)
     }
 
     /// The moves that are recorded.

@@ -1,22 +1,22 @@
-//! A server of games: what they have in common, its tables, its folder and the games that are open.
+//! A server of games: how it is set up, its tables, its folder and the games that are open.
 
-ghost use Rattle.std.specs.Prelude.{◌≡◌, ◌∷◌, [], ℕ, List, None, Some, IfOk, IfErr};
+ghost use Rattle.std.specs.Prelude.{◌≡◌, ◌∷◌, [], None, IfOk, IfErr};
+ghost use Rattle.move_msg.specs.Messages.{stamp_in};
 ghost use Rattle.arbiter_core.specs.Setups.{terms_with};
 ghost use Rattle.arbiter_service.specs.GoingOut.{writers};
 ghost use Rattle.game_host.specs.Told.{line_words};
-ghost use Rattle.game_host.specs.Acts.{stamp_for};
-ghost use Rattle.game_host.specs.Room.{at_stamp};
 ghost use Rattle.game_host.specs.Games.{common_with};
-ghost use Rattle.game_host.specs.Seats.{IsSeated, in_hand};
-ghost use Rattle.game_host.specs.Folders.{keepers};
-ghost use Rattle.game_host.specs.Hosts.{HostsIfRoom};
-ghost use Rattle.game_host.specs.Turns.{AreOpen, OpensFound, OpensSeat, Refuses, RefusesFound, Receives, RefusesSeat, Replies, ServesOpen, Stays, TakesSeat, TakesTurn, Turns, going, reply_of};
+ghost use Rattle.game_host.specs.Room.{at_stamp};
+ghost use Rattle.game_host.specs.Seats.{IsSeated};
+ghost use Rattle.game_host.specs.Servers.{IsIdle, IsNew, ServerHosts, Stays};
+ghost use Rattle.game_host.specs.Turns.{AnswersInHand, AnswersMessage, ComesBack, OpensFound, OpensSeat, Receives, Refuses, RefusesFound, RefusesSeat, ServesOn, TakesSeat, TakesTurn, TurnsTo, reply_of};
 
+use crate::config::ServerConfig;
 use crate::fault::Unopened;
 use crate::games::Games;
 use crate::line::Line;
 use crate::room::take_out;
-use crate::seat::{Common, Seat, terms_for};
+use crate::seat::Seat;
 use crate::settling::{close_all, settle};
 use crate::turn::{Answered, found, told_alone};
 use arbiter_core::{ArbiterState, Terms};
@@ -25,7 +25,7 @@ use judge_core::Set;
 use lru::LruCache;
 use move_msg::Message;
 use std::alloc::{AllocError, Global};
-use std::num::NonZeroUsize;
+use std::marker::Model;
 use system_io::{Output, Port, WriteFault};
 
 /// Opens a game over its keeper in the folder.
@@ -36,8 +36,7 @@ fn open_by<'a, G: Games>(
     terms: Terms<'a>,
     stamp: &[u8; 16],
 ) -> Result<Seat<'a, G::Keeper>, Unopened>
-    ensures same { tables.new ≡ tables.old }
-    ensures place { G.facts.place games.new ≡ G.facts.place games.old }
+    ensures lent { ComesBack G.facts tables.old games.old tables.new games.new }
     ensures opened { IfOk result (OpensFound G.Keeper.facts G.facts games.old games.new stamp.now (terms_with terms.entry tables.old)) }
     ensures unopened { IfErr result (RefusesFound G.Keeper.facts G.facts games.old games.new stamp.now (terms_with terms.entry tables.old)) }
 {
@@ -46,7 +45,7 @@ fn open_by<'a, G: Games>(
         Err(why) => return Err(why),
     };
     match ArbiterState::open(alloc, tables, &mut keeper, terms) {
-        Ok(resting) => Ok(Seat { resting, keeper }),
+        Ok(state) => Ok(Seat { state, keeper }),
         Err(refused) => {
             games.give_back(stamp, keeper);
             Err(Unopened::by(refused.fault))
@@ -57,46 +56,75 @@ fn open_by<'a, G: Games>(
 /// Opens the game with this stamp.
 fn open_told<'a, G: Games>(
     alloc: Global,
-    common: &Common<'a>,
+    config: &ServerConfig<'a>,
     games: &mut G,
     tables: &mut Set<'_>,
     stamp: &[u8; 16],
 ) -> Result<Seat<'a, G::Keeper>, Unopened>
-    ensures same { tables.new ≡ tables.old }
-    ensures place { G.facts.place games.new ≡ G.facts.place games.old }
-    ensures opened { IfOk result (OpensSeat G.Keeper.facts G.facts (common_with common.now tables.old) games.old games.new stamp.now) }
-    ensures unopened { IfErr result (RefusesSeat G.Keeper.facts G.facts (common_with common.now tables.old) games.old games.new stamp.now) }
+    ensures lent { ComesBack G.facts tables.old games.old tables.new games.new }
+    ensures opened { IfOk result (OpensSeat G.Keeper.facts G.facts (common_with config.now tables.old) games.old games.new stamp.now) }
+    ensures unopened { IfErr result (RefusesSeat G.Keeper.facts G.facts (common_with config.now tables.old) games.old games.new stamp.now) }
 {
-    match found(alloc, common, games, stamp) {
-        Ok(game) => open_by(alloc, games, tables, terms_for(common, game), stamp),
+    match found(alloc, config.manifest, games, stamp) {
+        Ok(game) => open_by(alloc, games, tables, config.terms(game), stamp),
         Err(why) => Err(why),
     }
 }
 
-/// A server of games.
+/// A server of games at a port. Each game that is open can answer by its tables, and its keeper keeps its record.
 #[derive(Drop)]
-pub(crate) struct Server<'a, G: Games + Drop> {
-    common: Common<'a>,
+pub struct Server<'a, G: Games + Drop> {
+    config: ServerConfig<'a>,
     tables: Set<'a>,
     games: G,
     seats: LruCache<[u8; 16], Seat<'a, G::Keeper>>,
 }
 
+impl<'a, G: Games + Drop> Model for Server<'a, G> {
+    ghost use Rattle.game_host.specs.Games.{common_with};
+    ghost use Rattle.game_host.specs.Room.{at_stamp};
+    ghost use Rattle.game_host.specs.Seats.{AreSeated};
+    ghost use Rattle.game_host.specs.Servers.{ServerView};
+
+    ghost Value = { ServerView G G.Keeper };
+
+    ghost view = { λ s. record { common = common_with s.config s.tables; games = s.games; seats = s.seats.entries } };
+
+    ghost invariant = { λ s. AreSeated G.Keeper.facts s.tables (at_stamp s.seats.entries) };
+}
+
 impl<'a, G: Games + Drop> Server<'a, G> {
+    /// Opens a server over a folder of games. No game is open yet. The error comes where memory for the open games is refused.
+    pub fn open(
+        alloc: Global,
+        config: ServerConfig<'a>,
+        tables: Set<'a>,
+        games: G,
+    ) -> Result<Server<'a, G>, AllocError>
+        ensures { IfOk result (IsNew (common_with config.entry tables.entry) games) }
+    {
+        match LruCache::new(alloc, config.at_once) {
+            Ok(seats) => Ok(Server {
+                config,
+                tables,
+                games,
+                seats,
+            }),
+            Err(_) => Err(AllocError),
+        }
+    }
+
     /// Takes the game with this stamp out, or opens it.
     fn seat_for(&mut self, alloc: Global, stamp: &[u8; 16]) -> Result<Seat<'a, G::Keeper>, Unopened>
-        requires { AreOpen G.Keeper.facts G.facts (common_with self.old.common self.old.tables) self.old.games (at_stamp self.old.seats.entries) }
-        ensures stays { Stays G.facts self.old.common self.old.tables self.old.games self.new.common self.new.tables self.new.games }
-        ensures absent { at_stamp self.new.seats.entries stamp.now ≡ None }
-        ensures seated { IfOk result (IsSeated G.Keeper.facts self.old.tables) }
-        ensures opened { IfOk result (TakesSeat G.Keeper.facts G.facts (common_with self.old.common self.old.tables) self.old.games (at_stamp self.old.seats.entries) self.new.games (at_stamp self.new.seats.entries) stamp.now) }
-        ensures unopened { IfErr result (Refuses G.Keeper.facts G.facts (common_with self.old.common self.old.tables) self.old.games (at_stamp self.old.seats.entries) self.new.games (at_stamp self.new.seats.entries) stamp.now) }
+        ensures stays { Stays G.facts self.old self.new }
+        ensures opened { IfOk result (TakesSeat G.Keeper.facts G.facts self.old self.new stamp.now) }
+        ensures unopened { IfErr result (Refuses G.Keeper.facts G.facts self.old self.new stamp.now) }
     {
         match take_out(&mut self.seats, stamp) {
             Some(seat) => Ok(seat),
             None => open_told(
                 alloc,
-                &self.common,
+                &self.config,
                 &mut self.games,
                 &mut self.tables,
                 stamp,
@@ -104,63 +132,51 @@ impl<'a, G: Games + Drop> Server<'a, G> {
         }
     }
 
-    /// Lets the arbiter of a game that is in hand answer a datagram.
-    fn answer_at(
-        &mut self,
-        alloc: Global,
-        stamp: &[u8; 16],
-        seat: Seat<'a, G::Keeper>,
-        bytes: &[u8],
-    ) -> Answered
-        requires sorted { stamp_for bytes.now ≡ Some stamp.now }
-        requires absent { at_stamp self.old.seats.entries stamp.now ≡ None }
-        requires seated { IsSeated G.Keeper.facts self.old.tables seat }
-        ensures stays { Stays G.facts self.old.common self.old.tables self.old.games self.new.common self.new.tables self.new.games }
-        ensures turns { Replies G.Keeper.facts G.facts self.old.tables self.old.games (in_hand stamp.now (Some seat.entry) (at_stamp self.old.seats.entries)) self.new.games (at_stamp self.new.seats.entries) (reply_of bytes.now result) }
+    /// Lets the arbiter of a game that is in hand answer a message.
+    fn answer_at(&mut self, alloc: Global, seat: Seat<'a, G::Keeper>, message: &Message) -> Answered
+        requires absent { at_stamp self.old.seats (stamp_in message.now).0 ≡ None }
+        requires seated { IsSeated G.Keeper.facts self.old.common.set seat }
+        ensures stays { Stays G.facts self.old self.new }
+        ensures answers { AnswersInHand G.Keeper.facts G.facts self.old seat.entry message.now self.new result }
     {
+        let stamp = message.stamp().0;
         let mut seat = seat;
-        let answer = seat.deliver(alloc, &mut self.tables, bytes);
-        settle(&mut self.games, &mut self.seats, stamp, seat);
-        let line = Line::Answered(*stamp, answer.heard);
+        let answer = seat.deliver(alloc, &mut self.tables, message);
+        settle(&mut self.games, &mut self.seats, &stamp, seat);
+        let line = Line::Answered(stamp, answer.heard);
         Answered {
             outputs: answer.outputs,
             line,
         }
     }
 
-    /// Lets the arbiter of the game with this stamp answer a datagram, if there is one.
-    fn answer(&mut self, alloc: Global, stamp: &[u8; 16], bytes: &[u8]) -> Answered
-        requires sorted { stamp_for bytes.now ≡ Some stamp.now }
-        requires stand { AreOpen G.Keeper.facts G.facts (common_with self.old.common self.old.tables) self.old.games (at_stamp self.old.seats.entries) }
-        ensures stays { Stays G.facts self.old.common self.old.tables self.old.games self.new.common self.new.tables self.new.games }
-        ensures turns { Turns G.Keeper.facts G.facts (common_with self.old.common self.old.tables) self.old.games (at_stamp self.old.seats.entries) self.new.games (at_stamp self.new.seats.entries) (reply_of bytes.now result ∷ []) }
+    /// Lets the arbiter of the game that a message is of answer it, if there is one.
+    fn answer(&mut self, alloc: Global, message: &Message) -> Answered
+        ensures stays { Stays G.facts self.old self.new }
+        ensures answers { AnswersMessage G.Keeper.facts G.facts self.old message.now self.new result }
     {
-        match self.seat_for(alloc, stamp) {
-            Ok(seat) => self.answer_at(alloc, stamp, seat, bytes),
-            Err(why) => told_alone(alloc, Line::Unopened(*stamp, why)),
+        let stamp = message.stamp().0;
+        match self.seat_for(alloc, &stamp) {
+            Ok(seat) => self.answer_at(alloc, seat, message),
+            Err(why) => told_alone(alloc, Line::Unopened(stamp, why)),
         }
     }
 
     /// Answers a datagram.
     fn hear(&mut self, alloc: Global, bytes: &[u8]) -> Answered
-        requires { AreOpen G.Keeper.facts G.facts (common_with self.old.common self.old.tables) self.old.games (at_stamp self.old.seats.entries) }
-        ensures stays { Stays G.facts self.old.common self.old.tables self.old.games self.new.common self.new.tables self.new.games }
-        ensures turns { Turns G.Keeper.facts G.facts (common_with self.old.common self.old.tables) self.old.games (at_stamp self.old.seats.entries) self.new.games (at_stamp self.new.seats.entries) (reply_of bytes.now result ∷ []) }
+        ensures stays { Stays G.facts self.old self.new }
+        ensures turns { TurnsTo G.Keeper.facts G.facts self.old self.new (reply_of bytes.now result ∷ []) }
     {
         match Message::decode(bytes) {
-            Ok(message) => {
-                let stamp = message.stamp().0;
-                self.answer(alloc, &stamp, bytes)
-            }
+            Ok(message) => self.answer(alloc, &message),
             Err(fault) => told_alone(alloc, Line::Unread(fault)),
         }
     }
 
     /// Receives a datagram and answers it; tells the line for it, and whether the port is lost.
     fn receive<P: Port>(&mut self, alloc: Global, port: &mut P) -> (Line, bool)
-        requires { AreOpen G.Keeper.facts G.facts (common_with self.old.common self.old.tables) self.old.games (at_stamp self.old.seats.entries) }
-        ensures stays { Stays G.facts self.old.common self.old.tables self.old.games self.new.common self.new.tables self.new.games }
-        ensures received { Receives (going G.Keeper.facts G.facts self.old.common self.old.tables self.old.games self.old.seats.entries self.new.games self.new.seats.entries) (P.facts port.old) (P.facts port.new) (line_words result.0) result.1 }
+        ensures stays { Stays G.facts self.old self.new }
+        ensures received { Receives (TurnsTo G.Keeper.facts G.facts self.old self.new) (P.facts port.old) (P.facts port.new) (line_words result.0) result.1 }
     {
         let mut buffer = [0u8; 64];
         match port.receive(&mut buffer) {
@@ -180,9 +196,8 @@ impl<'a, G: Games + Drop> Server<'a, G> {
         port: &mut P,
         out: &mut W,
     ) -> Result<bool, WriteFault>
-        requires { AreOpen G.Keeper.facts G.facts (common_with self.old.common self.old.tables) self.old.games (at_stamp self.old.seats.entries) }
-        ensures stays { Stays G.facts self.old.common self.old.tables self.old.games self.new.common self.new.tables self.new.games }
-        ensures taken { TakesTurn (going G.Keeper.facts G.facts self.old.common self.old.tables self.old.games self.old.seats.entries self.new.games self.new.seats.entries) (writers W.Write.contents W.facts) (P.facts port.old) (P.facts port.new) out.old out.new result }
+        ensures stays { Stays G.facts self.old self.new }
+        ensures taken { TakesTurn (TurnsTo G.Keeper.facts G.facts self.old self.new) (writers W.Write.contents W.facts) (P.facts port.old) (P.facts port.new) out.old out.new result }
     {
         let (line, lost) = self.receive(alloc, port);
         match put_line(out, line.text().as_slice()) {
@@ -192,16 +207,16 @@ impl<'a, G: Games + Drop> Server<'a, G> {
     }
 
     /// Answers so many datagrams where no game is open yet; tells the status, 0 where all came.
-    fn serve<P: Port, W: Output>(
+    fn run<P: Port, W: Output>(
         &mut self,
         alloc: Global,
         port: &mut P,
         n: u64,
         out: &mut W,
     ) -> Result<u8, WriteFault>
-        requires { (stamp : List ℕ) → at_stamp self.old.seats.entries stamp ≡ None }
-        ensures stays { Stays G.facts self.old.common self.old.tables self.old.games self.new.common self.new.tables self.new.games }
-        ensures served { ServesOpen G.Keeper.facts G.facts self.old.common self.old.tables (writers W.Write.contents W.facts) n self.old.games self.new.games self.new.seats.entries (P.facts port.old) (P.facts port.new) out.old out.new result }
+        requires { IsIdle self.old }
+        ensures stays { Stays G.facts self.old self.new }
+        ensures served { ServesOn G.Keeper.facts G.facts (writers W.Write.contents W.facts) n self.old self.new (P.facts port.old) (P.facts port.new) out.old out.new result }
     {
         for _ in 0..n {
             match self.turn(alloc, port, out) {
@@ -215,54 +230,32 @@ impl<'a, G: Games + Drop> Server<'a, G> {
         }
         Ok(0)
     }
-}
 
-/// Answers so many datagrams of a port, each by the arbiter of its game, with so many of them open at once; tells the status, 0
-/// where all came. All games are closed at the end, and the folder comes back.
-///
-/// A line is written for each datagram, and goes out at once. For a message it begins with the stamp of its game, in 32 lower-case
-/// hexadecimal digits: then comes what `arbiter_service::serve` tells, or why the game isn't open, `refused NoGame`, `refused
-/// OtherGame`, `refused game` and a line of its file, `refused keeper` or `refused memory`. For bytes that are no message it is
-/// `- refused NotAMessage` and what is wrong with them. No refusal ends the run: a game whose keeper failed is closed, and opened
-/// again over its file when its next datagram comes. Where no datagram can be received the line is `refused port`, and the status 1.
-///
-/// The inner error comes before the first datagram, where memory for the open games is refused. The outer one comes only where the
-/// writer failed: each line before has gone out whole, of the last one a front may be written.
-pub fn serve_games<'a, G: Games + Drop, P: Port, W: Output>(
-    alloc: Global,
-    common: &Common<'a>,
-    games: G,
-    set: Set<'a>,
-    at_once: NonZeroUsize,
-    port: &mut P,
-    n: u64,
-    out: &mut W,
-) -> (Result<Result<u8, AllocError>, WriteFault>, G)
-    ensures hosts { HostsIfRoom (keepers G.Keeper.facts G.facts games) (common_with common.now set.entry) (writers W.Write.contents W.facts) n (G.facts.gives result.1) (P.facts port.old) (P.facts port.new) out.old out.new result.0 }
-    ensures place { G.facts.place result.1 ≡ G.facts.place games }
-{
-    let seats: LruCache<[u8; 16], Seat<'a, G::Keeper>> = match LruCache::new(alloc, at_once) {
-        Ok(seats) => seats,
-        Err(_) => return (Ok(Err(AllocError)), games),
-    };
-    let mut server = Server {
-        common: *common,
-        tables: set,
-        games,
-        seats,
-    };
-    let ended = server.serve(alloc, port, n, out);
-    let Server {
-        common: _,
-        tables: _,
-        games,
-        seats,
-    } = server;
-    let mut games = games;
-    let mut seats = seats;
-    close_all(&mut games, &mut seats);
-    match ended {
-        Ok(status) => (Ok(Ok(status)), games),
-        Err(fault) => (Err(fault), games),
+    /// Answers so many datagrams of a port, each by the arbiter of its game; tells the status, 0 where all came. No game is open
+    /// before it, as after `open` and after each run, and all are closed at its end.
+    ///
+    /// A line is written for each datagram, and goes out at once. For a message it begins with the stamp of its game, in 32
+    /// lower-case hexadecimal digits: then comes what `arbiter_service::serve` tells, or why the game isn't open, `refused NoGame`,
+    /// `refused OtherGame`, `refused game` and a line of its file, `refused keeper` or `refused memory`. For bytes that are no
+    /// message it is `- refused NotAMessage` and what is wrong with them. No refusal ends the run: a game whose keeper failed is
+    /// closed, and opened again over its file when its next datagram comes. Where no datagram can be received the line is `refused
+    /// port`, and the status 1.
+    ///
+    /// The error comes only where the writer failed: each line before has gone out whole, of the last one a front may be written.
+    pub fn serve<P: Port, W: Output>(
+        &mut self,
+        alloc: Global,
+        port: &mut P,
+        n: u64,
+        out: &mut W,
+    ) -> Result<u8, WriteFault>
+        requires { IsIdle self.old }
+        ensures hosts { ServerHosts G.Keeper.facts G.facts (writers W.Write.contents W.facts) n self.old self.new (P.facts port.old) (P.facts port.new) out.old out.new result }
+        ensures stays { Stays G.facts self.old self.new }
+        ensures idle { IsIdle self.new }
+    {
+        let ended = self.run(alloc, port, n, out);
+        close_all(&mut self.games, &mut self.seats);
+        ended
     }
 }

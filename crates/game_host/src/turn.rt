@@ -7,7 +7,6 @@ ghost use Rattle.game_host.specs.Games.{IsGameOf, IsStrange};
 use crate::fault::Unopened;
 use crate::games::{Found, Games};
 use crate::line::Line;
-use crate::seat::Common;
 use arbiter_core::Outputs;
 use move_msg::Stamp;
 use smallvec::SmallVec;
@@ -30,20 +29,20 @@ fn is_same(a: &[u8; 16], b: &[u8; 16]) -> bool
 /// The game of the folder that has this stamp.
 pub(crate) fn found<G: Games>(
     alloc: Global,
-    common: &Common<'_>,
+    manifest: &[u8],
     games: &G,
     stamp: &[u8; 16],
 ) -> Result<Found, Unopened>
-    ensures ok { IfOk result (λ game. IsGameOf common.now.manifest.now stamp.now game.name.items game.start game.delay) }
+    ensures ok { IfOk result (λ game. IsGameOf manifest.now stamp.now game.name.items game.start game.delay) }
     ensures told { IfOk result ((keepers G.Keeper.facts G.facts games.now).tells stamp.now) }
-    ensures err { IfErr result (IsStrange (keepers G.Keeper.facts G.facts games.now) common.now.manifest.now stamp.now) }
+    ensures err { IfErr result (IsStrange (keepers G.Keeper.facts G.facts games.now) manifest.now stamp.now) }
 {
     let game = match games.find(alloc, stamp) {
         Ok(game) => game,
         Err(why) => return Err(why),
     };
     let name = game.name.as_slice();
-    let Some(own) = Stamp::of(name, &game.start, common.manifest, game.delay) else {
+    let Some(own) = Stamp::of(name, &game.start, manifest, game.delay) else {
         return Err(Unopened::OtherGame);
     };
     if !is_same(&own.0, stamp) {

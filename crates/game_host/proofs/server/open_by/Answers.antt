@@ -17,13 +17,13 @@ pub returns-in-Ok-open-clause-opened : goal.returns-in-Ok-open-clause-opened
 returns-in-Ok-open-clause-opened g c = λ t found.
     let set : Holding = c.args.tables.now in
     let setup : SetupView = terms_with c.args.terms set in
-    let opening = is_opening g.G.Keeper.Keeper.facts setup c.in-Ok.keeper c.open.new.keeper (Ok (awake c.in-Ok-open.resting set)) c.in-Ok-open.ensures.good c.in-Ok-open.ensures.bad in
+    let opening = is_opening g.G.Keeper.Keeper.facts setup c.in-Ok.keeper c.open.new.keeper (Ok (awake c.in-Ok-open.state set)) c.in-Ok-open.ensures.good c.in-Ok-open.ensures.bad in
     record {
       seated = seated_over (keepers g.G.Keeper.Keeper.facts g.G.Games.facts c.args.games.now) t (g.G.Games.facts.gives c.args.games.now) (g.G.Games.facts.gives c.take.new.self) c.args.stamp.now setup c.in-Ok.keeper c.open.new.keeper c.in-Ok.ensures.of c.in-Ok.ensures.given c.take.ensures.same found.told found.game
-          c.in-Ok-open.resting set refl (c.in-Ok-open.ensures.wakes, c.in-Ok-open.ensures.runs) c.in-Ok-open.ensures.keeps;
+          c.in-Ok-open.state set refl (c.in-Ok-open.ensures.wakes, c.in-Ok-open.ensures.runs) c.in-Ok-open.ensures.keeps;
       turns = λ at absent.
           opened_over (keepers g.G.Keeper.Keeper.facts g.G.Games.facts c.args.games.now) t (g.G.Games.facts.gives c.args.games.now) (g.G.Games.facts.gives c.take.new.self) c.args.stamp.now setup c.in-Ok.keeper c.open.new.keeper c.in-Ok.ensures.of c.in-Ok.ensures.given c.take.ensures.same found.told found.game
-          at c.in-Ok-open.resting set absent refl (c.in-Ok-open.ensures.wakes, c.in-Ok-open.ensures.runs) c.in-Ok-open.ensures.keeps opening;
+          at c.in-Ok-open.state set absent refl (c.in-Ok-open.ensures.wakes, c.in-Ok-open.ensures.runs) c.in-Ok-open.ensures.keeps opening;
     }
 
 pub returns-in-Err-open-clause-unopened : goal.returns-in-Err-open-clause-unopened
