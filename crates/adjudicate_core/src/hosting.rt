@@ -16,9 +16,9 @@ use std::alloc::Global;
 use system_io::{BindFault, Disk, Host, Output, WriteFault};
 use task_files::Sources;
 
-/// Games that are to be hosted: by these words, with this setup of the server and these tables, over the files of a disk and a host.
+/// What games are hosted from: the words, how the server is set up, its tables, and where the files are.
 #[derive(Drop)]
-struct Hosting<'h, 'w, 'a, D, H> {
+struct HostPlan<'h, 'w, 'a, D, H> {
     task: &'h HostGames<'w>,
     config: ServerConfig<'a>,
     tables: Set<'a>,
@@ -29,19 +29,19 @@ struct Hosting<'h, 'w, 'a, D, H> {
 /// Serves the games of the folder at a port. Where memory for the open games is refused, that is told.
 fn serve_at<D: Disk, H: Host, W: Output>(
     alloc: Global,
-    hosting: Hosting<'_, '_, '_, D, H>,
+    plan: HostPlan<'_, '_, '_, D, H>,
     port: &mut H::Port,
     out: &mut W,
 ) -> Result<u8, WriteFault>
-    ensures { WritesNow (around_of D.facts H.facts H.Port.facts H.File.facts W.contents W.facts hosting) hosting (H.Port.facts port.old) (H.Port.facts port.new) out.old out.new result }
+    ensures { WritesNow (around_of D.facts H.facts H.Port.facts H.File.facts W.contents W.facts plan.entry) plan.entry (H.Port.facts port.old) (H.Port.facts port.new) out.old out.new result }
 {
-    let Hosting {
+    let HostPlan {
         task,
         config,
         tables,
         disk,
         host,
-    } = hosting;
+    } = plan;
     let games = DiskGames {
         disk,
         host,
@@ -57,18 +57,18 @@ fn serve_at<D: Disk, H: Host, W: Output>(
 /// told as `refused port`.
 fn start_at<D: Disk, H: Host, W: Output>(
     alloc: Global,
-    hosting: Hosting<'_, '_, '_, D, H>,
+    plan: HostPlan<'_, '_, '_, D, H>,
     port: &mut H::Port,
     out: &mut W,
 ) -> Result<u8, WriteFault>
-    ensures { WritesAt (around_of D.facts H.facts H.Port.facts H.File.facts W.contents W.facts hosting) hosting port.old (H.Port.facts port.new) out.old out.new result }
+    ensures { WritesAt (around_of D.facts H.facts H.Port.facts H.File.facts W.contents W.facts plan.entry) plan.entry port.old (H.Port.facts port.new) out.old out.new result }
 {
-    let line = match ready_line_at(alloc, hosting.host, port) {
+    let line = match ready_line_at(alloc, plan.host, port) {
         Ok(line) => line,
         Err(refusal) => return put_refusal(out, refusal),
     };
     match put_line(out, line.as_str().as_bytes()) {
-        Ok(()) => serve_at(alloc, hosting, port, out),
+        Ok(()) => serve_at(alloc, plan, port, out),
         Err(fault) => Err(fault),
     }
 }
@@ -76,13 +76,13 @@ fn start_at<D: Disk, H: Host, W: Output>(
 /// Binds the address that the words name, and serves the games there. An address that can't be bound is told as `refused port`.
 fn bind_and_serve<D: Disk, H: Host, W: Output>(
     alloc: Global,
-    hosting: Hosting<'_, '_, '_, D, H>,
+    plan: HostPlan<'_, '_, '_, D, H>,
     out: &mut W,
 ) -> Result<u8, WriteFault>
-    ensures { BindsAndWrites (around_of D.facts H.facts H.Port.facts H.File.facts W.contents W.facts hosting) hosting out.old out.new result }
+    ensures { BindsAndWrites (around_of D.facts H.facts H.Port.facts H.File.facts W.contents W.facts plan.entry) plan.entry out.old out.new result }
 {
-    match bind(alloc, hosting.host, hosting.task.bind, hosting.task.to) {
-        Ok(mut port) => start_at(alloc, hosting, &mut port, out),
+    match bind(alloc, plan.host, plan.task.bind, plan.task.to) {
+        Ok(mut port) => start_at(alloc, plan, &mut port, out),
         Err(BindFault::Unbound) => put_refusal(out, Refusal::Port),
         Err(BindFault::OutOfMemory) => put_refusal(out, Refusal::Memory),
     }
@@ -117,12 +117,12 @@ pub fn host_games<'a, D: Disk, H: Host, W: Output>(
         me: task.me,
         at_once: task.at_once,
     };
-    let hosting = Hosting {
+    let plan = HostPlan {
         task,
         config,
         tables,
         disk,
         host,
     };
-    bind_and_serve(alloc, hosting, out)
+    bind_and_serve(alloc, plan, out)
 }

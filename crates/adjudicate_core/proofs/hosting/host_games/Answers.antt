@@ -11,7 +11,9 @@ pub returns-in-Err : goal.returns-in-Err
 returns-in-Err g c = NoRoom c.put_refusal-in-Err.ensures
 
 pub returns-in-Err-manifest_for : goal.returns-in-Err-manifest_for
-returns-in-Err-manifest_for g c = ?
+returns-in-Err-manifest_for g c = NoRoom c.put_refusal-in-Err-manifest_for.ensures
 
 pub returns : goal.returns
-returns g c = ?
+returns g c =
+    let tables = rw c.in-Ok-Ok.field-0-is at c.in-Ok-Ok.ensures in
+    Hosting c.in-Ok-Ok.tables tables c.in-Ok.manifest.items c.in-Ok.ensures (rw c.deref.ensures.value at c.bind_and_serve.ensures)

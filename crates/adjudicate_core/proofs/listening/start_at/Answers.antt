@@ -17,10 +17,10 @@ pub returns-in-Ok-put_line : goal.returns-in-Ok-put_line
 returns-in-Ok-put_line g c =
     let tells = c.in-Ok.ensures.ok in
     let line = c.as_bytes.ensures.value ∙ c.as_str.ensures.value ∙ tells.2 in
-    Ready c.if-not-listening.false tells.0 tells.1 _ (c.in-Ok-put_line.ensures _ line) c.serve_at-in-Ok.ensures
+    Ready c.if-not-listening.false tells.0 tells.1 _ (c.in-Ok-put_line.ensures _ line) c.serve_at-in-Ok-put_line.ensures
 
 pub returns-in-Err-put_line : goal.returns-in-Err-put_line
 returns-in-Err-put_line g c =
     let tells = c.in-Ok.ensures.ok in
     let line = c.as_bytes.ensures.value ∙ c.as_str.ensures.value ∙ tells.2 in
-    Unready c.if-not-listening.false tells.0 tells.1 (Passed-nil _) (c.in-Err-put_line.ensures _ line) c.in-Err-put_line.fault refl
+    Unready c.if-not-listening.false tells.0 tells.1 (Passed-nil _) (c.in-Err-put_line.ensures _ line) c.in-Err-put_line.refused refl
