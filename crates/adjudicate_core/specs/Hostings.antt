@@ -18,13 +18,13 @@ use Rattle.system_io.specs.declared.output.WriteFault.{WriteFault}
 use Rattle.arbiter_service.specs.GoingOut.{GoOut, LastIsCut, Writers, writers}
 use Rattle.arbiter_service.specs.ServedLines.{refused_port}
 use Rattle.game_host.specs.Acts.{Act, all_replies}
-use Rattle.game_host.specs.declared.seat.Common.{Common}
 use Rattle.game_host.specs.DiskGames.{disk_keepers}
 use Rattle.game_host.specs.Folders.{Keepers}
 use Rattle.game_host.specs.Games.{CommonView, common_with}
 use Rattle.game_host.specs.Hosts.{Ends, Hosts, IsHosted, all_lines, all_passing}
 use Rattle.adjudicate_core.specs.Addresses.{addresses_of}
 use Rattle.adjudicate_core.specs.declared.commands.host.HostGames.{HostGames}
+use Rattle.adjudicate_core.specs.declared.hosting.HostPlan.{HostPlan}
 use Rattle.task_files.specs.Given.{Given}
 use Rattle.adjudicate_core.specs.Lines.{ready_words}
 use Rattle.adjudicate_core.specs.Listens.{Hosted, LacksRoomToBind, hosted}
@@ -106,18 +106,22 @@ pub record Around (P F W : Type 0) : Type 1 where
 abbrev pub around : {P F W : Type 0} → DiskFacts → HostFacts P F → (P → PortFacts) → (F → KeptFacts) → (W → Option (List ℕ)) → (W → OutputFacts) → Around P F W
 around disk host port file written output = record { disk = disk; host = hosted host port file; writer = writers written output }
 
+-- of the files and the host of some games, and of a writer
+abbrev pub around_of : {D H P F W : Type 0} → (D → DiskFacts) → (H → HostFacts P F) → (P → PortFacts) → (F → KeptFacts) → (W → Option (List ℕ)) → (W → OutputFacts) → HostPlan D H → Around P F W
+around_of disk host port file written output h = around (disk h.disk.now) (host h.host.now) port file written output
+
 -- each line has gone out before the next one
 abbrev pub writing : {P F W : Type 0} → Around P F W → Result ℕ WriteFault → Seen W
 writing a r = seen_by (disk_keepers a.disk a.host.host a.host.file) a.writer r
 
-abbrev pub WritesNow : {P F W : Type 0} → Around P F W → HostGames → Common → Holding → PortFacts → PortFacts → W → W → Result ℕ WriteFault → Type 0
-WritesNow a h common set port port' out out' r = HostsNow (writing a r) h (common_with common set) port port' out out' r
+abbrev pub WritesNow : {D H P F W : Type 0} → Around P F W → HostPlan D H → PortFacts → PortFacts → W → W → Result ℕ WriteFault → Type 0
+WritesNow a h port port' out out' r = HostsNow (writing a r) h.task.now (common_with h.config h.tables) port port' out out' r
 
-abbrev pub WritesAt : {P F W : Type 0} → Around P F W → HostGames → Common → Holding → P → PortFacts → W → W → Result ℕ WriteFault → Type 0
-WritesAt a h common set port port' out out' r = HostsAt a.host (writing a r) h (common_with common set) port port' out out' r
+abbrev pub WritesAt : {D H P F W : Type 0} → Around P F W → HostPlan D H → P → PortFacts → W → W → Result ℕ WriteFault → Type 0
+WritesAt a h port port' out out' r = HostsAt a.host (writing a r) h.task.now (common_with h.config h.tables) port port' out out' r
 
-abbrev pub BindsAndWrites : {P F W : Type 0} → Around P F W → HostGames → CommonView → W → W → Result ℕ WriteFault → Type 0
-BindsAndWrites a h t out out' r = BindsAndHosts a.host (writing a r) h t out out' r
+abbrev pub BindsAndWrites : {D H P F W : Type 0} → Around P F W → HostPlan D H → W → W → Result ℕ WriteFault → Type 0
+BindsAndWrites a h out out' r = BindsAndHosts a.host (writing a r) h.task.now (common_with h.config h.tables) out out' r
 
 abbrev pub HostsAndTells : {P F W : Type 0} → Around P F W → HostGames → Given → W → W → Result ℕ WriteFault → Type 0
 HostsAndTells a h given out out' r = HostsGames a.host (writing a r) h given out out' r

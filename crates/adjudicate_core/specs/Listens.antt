@@ -18,6 +18,8 @@ use Rattle.arbiter_service.specs.OverFiles.{IsOpened, ServesAndWrites, ServesOpe
 use Rattle.arbiter_core.specs.Setups.{SetupView}
 use Rattle.arbiter_service.specs.declared.file_keeper.FileKeeper.{FileKeeper}
 use Rattle.adjudicate_core.specs.Addresses.{addresses_of}
+use Rattle.adjudicate_core.specs.declared.refusals.Refusal.{Refusal}
+use Rattle.adjudicate_core.specs.declared.refusals.Refusal.TheVariants.{Memory, Port}
 use Rattle.adjudicate_core.specs.declared.commands.listen.Listen.{Listen}
 use Rattle.task_files.specs.Given.{Given}
 use Rattle.system_io.specs.KeptFiles.{KeptFacts}
@@ -93,6 +95,14 @@ pub data ServesAt {P F : Type 0} (host : Hosted P F) (S : ServesBy F) (l : Liste
 -- memory for binding is refused: by the host, or for a list of more than one address
 abbrev pub LacksRoomToBind : {P F : Type 0} → HostFacts P F → List ℕ → List ℕ → Type 0
 LacksRoomToBind host address to = host.refuses address bind.OutOfMemory ⊎ (1 < length (addresses_of to))
+
+-- the line tells the address at which a port listens
+abbrev pub TellsAddress : {P F : Type 0} → HostFacts P F → P → List ℕ → Type 0
+TellsAddress host port line = (own : SocketAddr) × host.listens port (Some own) × (line ≡ ended (ready_words own))
+
+-- there is no such line: the address isn't known, or memory was refused
+abbrev pub LacksAddress : {P F : Type 0} → HostFacts P F → P → Refusal → Type 0
+LacksAddress host port why = ((why ≡ Port) × host.listens port None) ⊎ (why ≡ Memory)
 
 -- how a run is seen from moments of a type: what is written by then; that this line, and nothing else, went out between two of them;
 -- that it was cut short; and that an arbiter serves between them

@@ -1,15 +1,14 @@
 //! An arbiter that answers datagrams, from its words to its status.
 
-ghost use Rattle.std.specs.Prelude.{◌≡◌, true, string_bytes, IfOk, Ok, Some};
+ghost use Rattle.std.specs.Prelude.{◌≡◌, string_bytes, IfErr, IfOk};
 ghost use Rattle.board_core.specs.Position.{IsPosition};
 ghost use Rattle.fen_text.specs.Fen.{SpellsPosition};
 ghost use Rattle.move_msg.specs.Files.{entries_of};
 ghost use Rattle.move_msg.specs.Manifests.{SpellsManifest};
 ghost use Rattle.move_msg.specs.TextLines.{ended};
 ghost use Rattle.arbiter_core.specs.Setups.{setup_view};
-ghost use Rattle.adjudicate_core.specs.Listens.{BindsAndWrites, KeepsAndWrites, ListensAndWrites, OpensAndWrites, StartsAndWrites, TellsUnopened, WritesAt, hosted, setup_for};
+ghost use Rattle.adjudicate_core.specs.Listens.{BindsAndWrites, KeepsAndWrites, LacksAddress, ListensAndWrites, OpensAndWrites, StartsAndWrites, TellsAddress, TellsUnopened, WritesAt, hosted};
 ghost use Rattle.adjudicate_core.specs.Lines.{ready_words};
-ghost use Rattle.adjudicate_core.specs.Looks.{gathered};
 ghost use Rattle.arbiter_service.specs.GoingOut.{writers};
 ghost use Rattle.arbiter_service.specs.StoredBytes.{IsInFile};
 
@@ -23,7 +22,6 @@ use arbiter_core::{OpenFault, Setup, name_of};
 use arbiter_service::{FileKeeper, put_line};
 use board_core::Position;
 use fen_text::read;
-use judge_core::Set;
 use move_msg::manifest_of;
 use std::alloc::{AllocError, Global};
 use std::net::SocketAddr;
@@ -105,32 +103,28 @@ fn serve_at<H: Host, W: Output>(
 }
 
 /// The line that tells the address at which a port listens.
-pub(crate) fn ready_line(alloc: Global, own: SocketAddr) -> Result<String, AllocError>
+fn ready_line(alloc: Global, own: SocketAddr) -> Result<String, AllocError>
     ensures { IfOk result (λ line. string_bytes line ≡ ended (ready_words own)) }
 {
     format!(in alloc; "ready {own}\n")
 }
 
-/// Tells the address at which the port listens, and serves when that line has gone out.
-fn tell_and_serve<H: Host, W: Output>(
+/// The line that tells the address at which a port listens. The error is `Port` where that isn't known, `Memory` where memory for the
+/// line is refused.
+pub(crate) fn ready_line_at<H: Host>(
     alloc: Global,
-    listening: &Listen<'_>,
-    setup: Setup<'_>,
     host: &H,
-    port: &mut H::Port,
-    own: SocketAddr,
-    out: &mut W,
-) -> Result<u8, WriteFault>
-    requires wanted { listening.now.ready ≡ true }
-    requires own { (H.facts host.now).listens port.old (Some own) }
-    ensures { StartsAndWrites (hosted (H.facts host.now) H.Port.facts H.File.facts) (writers W.contents W.facts) listening.now (setup_view setup.entry) port.old (H.Port.facts port.new) out.old out.new result }
+    port: &H::Port,
+) -> Result<String, Refusal>
+    ensures ok { IfOk result (λ line. TellsAddress (H.facts host.now) port.now (string_bytes line)) }
+    ensures err { IfErr result (LacksAddress (H.facts host.now) port.now) }
 {
-    let Ok(line) = ready_line(alloc, own) else {
-        return put_refusal(out, Refusal::Memory);
+    let Some(own) = host.own_address(port) else {
+        return Err(Refusal::Port);
     };
-    match put_line(out, line.as_str().as_bytes()) {
-        Ok(()) => serve_at(alloc, listening, setup, host, port, out),
-        Err(refused) => Err(refused),
+    match ready_line(alloc, own) {
+        Ok(line) => Ok(line),
+        Err(_) => Err(Refusal::Memory),
     }
 }
 
@@ -149,9 +143,13 @@ fn start_at<H: Host, W: Output>(
     if !listening.ready {
         return serve_at(alloc, listening, setup, host, port, out);
     }
-    match host.own_address(port) {
-        Some(own) => tell_and_serve(alloc, listening, setup, host, port, own, out),
-        None => put_refusal(out, Refusal::Port),
+    let line = match ready_line_at(alloc, host, port) {
+        Ok(line) => line,
+        Err(refusal) => return put_refusal(out, refusal),
+    };
+    match put_line(out, line.as_str().as_bytes()) {
+        Ok(()) => serve_at(alloc, listening, setup, host, port, out),
+        Err(refused) => Err(refused),
     }
 }
 
@@ -179,49 +177,37 @@ pub(crate) fn manifest_for(alloc: Global, sources: &Sources) -> Result<Vec<u8>, 
     manifest_of(alloc, sources.files())
 }
 
-/// Makes the setup of the game from its tables and their manifest, and serves by it.
-fn listen_with<'a, H: Host, W: Output>(
+/// Serves the game from this position by the tables and their manifest, on which the stamp depends.
+fn listen_from<H: Host, W: Output>(
     alloc: Global,
     listening: &Listen<'_>,
+    sources: &Sources,
     start: Position,
-    manifest: &'a [u8],
-    set: Set<'a>,
     host: &H,
     out: &mut W,
 ) -> Result<u8, WriteFault>
-    ensures { BindsAndWrites (hosted (H.facts host.now) H.Port.facts H.File.facts) (writers W.contents W.facts) listening.now (setup_for listening.now start set.entry manifest.entry.now) out.old out.new result }
+    requires spelled { SpellsPosition listening.now.start.now start }
+    requires position { IsPosition start }
+    ensures { ListensAndWrites (hosted (H.facts host.now) H.Port.facts H.File.facts) (writers W.contents W.facts) listening.now sources.now out.old out.new result }
 {
+    let set = match gather(alloc, sources, CacheSize::usual()) {
+        Ok(Ok(set)) => set,
+        Ok(Err(refusal)) => return put_refusal(out, refusal),
+        Err(_) => return put_refusal(out, Refusal::Memory),
+    };
+    let manifest = match manifest_for(alloc, sources) {
+        Ok(manifest) => manifest,
+        Err(_) => return put_refusal(out, Refusal::Memory),
+    };
     let setup = Setup {
         name: name_of(listening.name.as_bytes()),
         start,
-        manifest,
+        manifest: &manifest,
         me: listening.me.number(),
         delay: listening.delay.plies(),
         set,
     };
     bind_and_serve(alloc, listening, setup, host, out)
-}
-
-/// Writes the manifest of the tables, on which the stamp depends, and serves with it.
-fn listen_by<'a, H: Host, W: Output>(
-    alloc: Global,
-    listening: &Listen<'a>,
-    sources: &Sources,
-    start: Position,
-    set: Set<'a>,
-    host: &H,
-    out: &mut W,
-) -> Result<u8, WriteFault>
-    requires tables { Ok set.tables ≡ gathered sources.now }
-    requires spelled { SpellsPosition listening.now.start.now start }
-    requires position { IsPosition start }
-    ensures { ListensAndWrites (hosted (H.facts host.now) H.Port.facts H.File.facts) (writers W.contents W.facts) listening.now sources.now out.old out.new result }
-{
-    let manifest = match manifest_for(alloc, sources) {
-        Ok(manifest) => manifest,
-        Err(_) => return put_refusal(out, Refusal::Memory),
-    };
-    listen_with(alloc, listening, start, &manifest, set, host, out)
 }
 
 /// Opens an arbiter as its words say, answers datagrams, and returns the status.
@@ -239,13 +225,8 @@ pub fn listen<'a, H: Host, W: Output>(
 ) -> Result<u8, WriteFault>
     ensures { ListensAndWrites (hosted (H.facts host.now) H.Port.facts H.File.facts) (writers W.contents W.facts) listening.now sources.now out.old out.new result }
 {
-    let start = match read(listening.start.as_bytes()) {
-        Ok(start) => start,
-        Err(fault) => return put_refusal(out, Refusal::Fen(fault)),
-    };
-    match gather(alloc, sources, CacheSize::usual()) {
-        Ok(Ok(set)) => listen_by(alloc, listening, sources, start, set, host, out),
-        Ok(Err(refusal)) => put_refusal(out, refusal),
-        Err(_) => put_refusal(out, Refusal::Memory),
+    match read(listening.start.as_bytes()) {
+        Ok(start) => listen_from(alloc, listening, sources, start, host, out),
+        Err(fault) => put_refusal(out, Refusal::Fen(fault)),
     }
 }

@@ -46,29 +46,23 @@ taken_back old r b more v count none on back all =
     ∙ ap₂ (λ (w : Option Verdict) (ms : List Moves). record { stamp = old.stamp; delay = old.delay; verdict = w; moves = ms }) (sym none) (take_at old.moves more count (sym all))
 
 -- with the record as it was all stays in order
-pub still_in_order : (setup now : SetupView) (old : Played) (r : Record) (window : Window) → now ≡ setup → r ≡ old.record → IsInOrder setup old window → IsInOrder now (played_of r old.standing) window
-still_in_order setup now old r window same is order =
-    subst (λ (s : SetupView). IsInOrder s (played_of r old.standing) window) (sym same)
-    (subst (λ (x : Record). IsInOrder setup (played_of x old.standing) window) (sym is) order)
+pub still_in_order : (setup : SetupView) (old : Played) (r : Record) (window : Window) → r ≡ old.record → IsInOrder setup old window → IsInOrder setup (played_of r old.standing) window
+still_in_order setup old r window is order = subst (λ (x : Record). IsInOrder setup (played_of x old.standing) window) (sym is) order
 
 -- what is in order stays so with the next record and what still waits
-pub next_in_order : (setup now : SetupView) (old new : Played) (m : Moves) (window later : Window) → now ≡ setup → IsInOrder setup old window → IsPlayedOn setup old m window new → IsNear later (length new.record.moves + 1) → IsInOrder now new later
-next_in_order setup now old new m window later same order on near =
-    subst (λ (s : SetupView). IsInOrder s new later) (sym same)
-    (record { played = subst (λ (s : Stamp). IsPlayed setup s new) (sym on.played.stamp_is) on.played; near = near; delay = order.delay })
+pub next_in_order : (setup : SetupView) (old new : Played) (m : Moves) (window later : Window) → IsInOrder setup old window → IsPlayedOn setup old m window new → IsNear later (length new.record.moves + 1) → IsInOrder setup new later
+next_in_order setup old new m window later order on near =
+    record { played = subst (λ (s : Stamp). IsPlayed setup s new) (sym on.played.stamp_is) on.played; near = near; delay = order.delay }
 
-pub new_is : (v : View) (s : SetupView) (stamp : Stamp) (n : Recorded) (w later : Window) → s ≡ v.setup → stamp ≡ v.me.stamp → w ≡ later → record { setup = s; me = record { stamp = stamp; who = v.me.who }; kept = n; window = w; is_down = v.is_down } ≡ with_record v n later
-new_is v s stamp n w later e f h =
-    ap (λ (x : SetupView). record { setup = x; me = record { stamp = stamp; who = v.me.who }; kept = n; window = w; is_down = v.is_down }) e
-    ∙ ap (λ (x : Stamp). record { setup = v.setup; me = record { stamp = x; who = v.me.who }; kept = n; window = w; is_down = v.is_down }) f
-    ∙ ap (λ (x : Window). record { setup = v.setup; me = v.me; kept = n; window = x; is_down = v.is_down }) h
+pub new_is : (v : View) (stamp : Stamp) (n : Recorded) (w : Window) → stamp ≡ v.me.stamp → record { setup = v.setup; me = record { stamp = stamp; who = v.me.who }; kept = n; window = w; is_down = v.is_down } ≡ with_record v n w
+new_is v stamp n w f = ap (λ (x : Stamp). record { setup = v.setup; me = record { stamp = x; who = v.me.who }; kept = n; window = w; is_down = v.is_down }) f
 
 -- an arbiter by its setup, its record and what waits
 abbrev pub seen : SetupView → Who → Record → Window → Bool → View
 seen s who r window down = record { setup = s; me = record { stamp = r.stamp; who = who }; kept = recorded_by r; window = window; is_down = down }
 
-pub seen_as : (s t : SetupView) (who : Who) (r q : Record) (window : Window) (down : Bool) → s ≡ t → r ≡ q → seen s who r window down ≡ seen t who q window down
-seen_as s t who r q window down e f = ap (λ (x : SetupView). seen x who r window down) e ∙ ap (λ (x : Record). seen t who x window down) f
+pub seen_as : (s : SetupView) (who : Who) (r q : Record) (window : Window) (down : Bool) → r ≡ q → seen s who r window down ≡ seen s who q window down
+seen_as s who r q window down f = ap (λ (x : Record). seen s who x window down) f
 
 module _ {K : Type 0} (facts : KeeperFacts K) (old new : View) (next : Recorded) (outputs : List Message) (later : Window) (before now : K) (sent : List ℕ) (spelled : IsSpelled old.me.stamp old.setup.delay next (Some sent)) (written : IsWritten old.me.stamp old.setup.delay next (Some sent)) (once : facts.leaves before sent now) where
   wrote : facts.kept now ≡ Some sent → (facts.kept now ≡ facts.kept before) ⊎ IsWritten old.me.stamp old.setup.delay next (facts.kept now)

@@ -1,4 +1,4 @@
--- What bytes say, and the answer to it.
+-- What a message says, and the answer to it.
 use Rattle.std.proofs.Common.{◌≡◌, ℕ, ◌<◌, true, false, List, [], ◌∷◌, ◌++◌, length, suc, Some, None, Result, Ok, Err, inl, inr, refl, sym, ap, ◌∙◌, subst}
 use Rattle.std.specs.Prelude.{is_some, is_none}
 use Rattle.std.proofs.lemmas.Bool.{cond-true, cond-false}
@@ -18,26 +18,21 @@ use Rattle.move_msg.specs.Heard.{heard_in}
 use Rattle.move_msg.specs.Numbers.{most_moves}
 use Rattle.arbiter_core.specs.Keeping.{KeeperFacts}
 use Rattle.arbiter_core.specs.declared.fault.DeliverFault.{DeliverFault}
-use Rattle.arbiter_core.specs.declared.fault.DeliverFault.TheVariants.{NotAMessage, Stranger, IllegalMove, Down, OutOfMemory}
+use Rattle.arbiter_core.specs.declared.fault.DeliverFault.TheVariants.{Stranger, IllegalMove, Down, OutOfMemory}
 use Rattle.arbiter_core.specs.Recording.{Window, count_of, advance}
 use Rattle.arbiter_core.specs.Answering.{Answer, Refuses, Sends, fetched, sent_by, puts, answer_to, answer_to_move, answer_heard}
 use Rattle.arbiter_core.specs.Setups.{rules_at}
 use Rattle.arbiter_core.specs.Views.{View}
-use Rattle.arbiter_core.specs.Delivers.{Answers, Moment, heard, in_game, answer_of, moment, with_window, Told as Outcome}
+use Rattle.arbiter_core.specs.Delivers.{Answers, Moment, in_game, answer_at, answer_of, moment, with_window, Told as Outcome}
 use Rattle.arbiter_core.proofs.Cases.{case_turn}
 
--- ---- what bytes say
+-- ---- whose message it is
 
-pub heard_own : (stamp own : Stamp) (t : List ℕ) (m : Message) → heard_in t ≡ Ok m → own ≡ stamp → bytes_eq (stamp_in m).0 own.0 ≡ true → Ok m ≡ heard stamp t
-heard_own stamp own t m e same is =
-    sym (ap (in_game stamp) e ∙ cond-true (bytes_eq (stamp_in m).0 stamp.0) (Ok m) (Err Stranger) (ap (λ (s : Stamp). bytes_eq (stamp_in m).0 s.0) (sym same) ∙ is))
+pub is_own : (stamp : Stamp) (m : Message) → bytes_eq (stamp_in m).0 stamp.0 ≡ true → Ok m ≡ in_game stamp (Ok m)
+is_own stamp m is = sym (cond-true (bytes_eq (stamp_in m).0 stamp.0) (Ok m) (Err Stranger) is)
 
-pub heard_other : (stamp own : Stamp) (t : List ℕ) (m : Message) → heard_in t ≡ Ok m → own ≡ stamp → bytes_eq (stamp_in m).0 own.0 ≡ false → Err Stranger ≡ heard stamp t
-heard_other stamp own t m e same is =
-    sym (ap (in_game stamp) e ∙ cond-false (bytes_eq (stamp_in m).0 stamp.0) (Ok m) (Err Stranger) (ap (λ (s : Stamp). bytes_eq (stamp_in m).0 s.0) (sym same) ∙ is))
-
-pub heard_none : (stamp : Stamp) (t : List ℕ) (fault : MessageFault) → heard_in t ≡ Err fault → Err (NotAMessage fault) ≡ heard stamp t
-heard_none stamp t fault e = sym (ap (in_game stamp) e)
+pub is_other : (stamp : Stamp) (m : Message) → bytes_eq (stamp_in m).0 stamp.0 ≡ false → Err Stranger ≡ in_game stamp (Ok m)
+is_other stamp m is = sym (cond-false (bytes_eq (stamp_in m).0 stamp.0) (Ok m) (Err Stranger) is)
 
 -- ---- the answer to it
 
@@ -117,6 +112,10 @@ module _ (v : View) (message : Message) where
 
 pub to_fault : (v : View) (fault : DeliverFault) (heard : Result Message DeliverFault) → v.is_down ≡ false → Err fault ≡ heard → answer_of v heard ≡ Refuses fault
 to_fault v fault heard up e = ap (answer_of v) (sym e) ∙ heard_is v (Err fault) up
+
+-- the answer to bytes is the one to what they say
+pub by_bytes : (v : View) (bytes : List ℕ) (said : Result Message MessageFault) → heard_in bytes ≡ said → answer_at v bytes ≡ answer_of v (in_game v.me.stamp said)
+by_bytes v bytes said e = ap (λ (h : Result Message MessageFault). answer_of v (in_game v.me.stamp h)) e
 
 pub length_sent : (stamp : Stamp) (sender : Sender) (number : ℕ) (moves : List Moves) → length (sent_by stamp sender number moves) ≡ length moves
 length_sent stamp sender number [] = refl

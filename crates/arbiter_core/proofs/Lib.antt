@@ -11,3 +11,4 @@ pub mod StillKept
 pub mod InWords
 pub mod WorkedRows
 pub mod Growing
+pub mod Waking

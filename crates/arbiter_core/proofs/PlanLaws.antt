@@ -19,7 +19,7 @@ use Rattle.judge_core.proofs.Plies.{goes_on as after_one}
 use Rattle.move_msg.specs.Numbers.{most_moves}
 use Rattle.arbiter_core.specs.declared.planning.Plan.{Plan}
 use Rattle.arbiter_core.specs.Recording.{Recorded, Window, reaches, record_at, last_ply, advance}
-use Rattle.arbiter_core.specs.Inside.Playing.{IsPlan, ListsMovesAhead}
+use Rattle.arbiter_core.specs.Inside.Playing.{IsPlan, IsPlayedFrom, ListsMovesAhead}
 use Rattle.arbiter_core.specs.Answering.{still_waits, nothing_waits}
 use Rattle.arbiter_core.proofs.Reach.{Step, step_of, step_to, reach_more, last_is}
 
@@ -82,8 +82,12 @@ take_one moves rest w =
     ∙ take_at (moves ++ w ∷ []) rest (suc (length moves)) (simp length-append (omega arith))
 
 -- the position after one move more
+-- the position after one move more, from where the game stands
+pub next_from : (start : Parts) (moves : List Move) (standing : Reached) (w : Move) → IsPlayedFrom start moves standing → position_after_all start (moves ++ w ∷ []) ≡ position_after standing.position w
+next_from start moves standing w at = after_one start moves w ∙ ap (option_and_then (λ q. position_after q w)) at
+
 pub next_position : (r : Rules) (moves : List Move) (standing : Reached) (w : Move) → IsAt r moves standing → position_after_all r.start (moves ++ w ∷ []) ≡ position_after standing.position w
-next_position r moves standing w at = after_one r.start moves w ∙ ap (option_and_then (λ q. position_after q w)) at.position
+next_position r moves standing w at = next_from r.start moves standing w at.position
 
 pub ends_illegal : (r : Rules) (before : List Move) (m : Move) (window : Window) (n : ℕ) (moves : List Move) (standing : Reached) (verdict : Option Verdict) (w : Move) → PlansTo r before m window n moves standing verdict → n < length window → get_or window n None ≡ Some w → position_after standing.position w ≡ None → record { moves = moves; verdict = verdict } ≡ advance r before m window
 ends_illegal r before m window n moves standing verdict w h l e illegal =

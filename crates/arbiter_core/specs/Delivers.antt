@@ -128,7 +128,11 @@ pub record Answers {K : Type 0} (facts : KeeperFacts K) (old : Moment K) (answer
 abbrev pub answer_at : View → List ℕ → Answer
 answer_at v datagram = answer_of v (heard v.me.stamp datagram)
 
--- what a running one answers to a message
+-- to a message, of its game or of another one
+abbrev pub answer_to_any : View → Message → Answer
+answer_to_any v message = answer_of v (in_game v.me.stamp (Ok message))
+
+-- what a running one answers to a message of its game
 abbrev pub answer_to_message : View → Message → Answer
 answer_to_message v message = answer_to (rules_at v.setup) v.me v.kept v.window message
 

@@ -1,4 +1,4 @@
--- An arbiter at rest: all of it but its tables.
+-- An arbiter but its tables.
 use Rattle.std.specs.Prelude.{◌≡◌, ℕ, ◌+◌, ◌≤◌, Bool, true, List}
 use Rattle.board_core.specs.Delays.{most_delay}
 use Rattle.board_core.specs.declared.parts.Parts.{Parts}
@@ -7,7 +7,9 @@ use Rattle.judge_core.specs.Standings.{IsAt, Reached}
 use Rattle.judge_core.specs.Tables.{Holding}
 use Rattle.move_msg.specs.Numbers.{most_moves}
 use Rattle.arbiter_core.specs.Recording.{Recorded, Window, count_of, reaches}
-use Rattle.arbiter_core.specs.Answering.{Identity}
+use Rattle.arbiter_core.specs.Answering.{Answer, Identity}
+use Rattle.arbiter_core.specs.Delivers.{Answers, Told, moment}
+use Rattle.arbiter_core.specs.Keeping.{KeeperFacts}
 use Rattle.arbiter_core.specs.Setups.{SetupView, rules_at}
 use Rattle.arbiter_core.specs.Views.{IsNear, View}
 
@@ -43,3 +45,7 @@ pub record CanWake (r : Rest) (set : Holding) : Type 0 where
   pub near : IsNear r.window (count_of r.kept + 1)
   pub delay : r.delay ≤ most_delay
   pub spelled : r.spelled ≡ r.delay
+
+-- with these tables it returns this where its answer is so, with itself and the keeper in this state afterwards
+abbrev pub AnswersBy : {K : Type 0} → KeeperFacts K → Holding → Rest → K → Answer → Told → Rest → K → Type 0
+AnswersBy facts set old before answer told new now = Answers facts (moment (awake old set) before) answer told (moment (awake new set) now)

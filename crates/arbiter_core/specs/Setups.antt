@@ -8,6 +8,7 @@ use Rattle.move_msg.specs.Senders.{who_number}
 use Rattle.board_core.specs.Delays.{most_delay}
 use Rattle.judge_core.specs.Games.{Rules}
 use Rattle.arbiter_core.specs.declared.setup.Setup.{Setup}
+use Rattle.arbiter_core.specs.declared.setup.Terms.{Terms}
 use Rattle.arbiter_core.specs.Answering.{Identity}
 
 -- a setup, without where its parts lie and without what the cache holds
@@ -21,6 +22,10 @@ pub record SetupView : Type 0 where
 
 abbrev pub setup_view : Setup → SetupView
 setup_view s = record { name = s.name.items; start = s.start; manifest = s.manifest.now; me = s.me; delay = s.delay; set = s.set }
+
+-- terms with tables
+abbrev pub terms_with : Terms → Holding → SetupView
+terms_with t set = record { name = t.name.items; start = t.start; manifest = t.manifest.now; me = t.me; delay = t.delay; set = set }
 
 -- how the game is judged
 abbrev pub rules_at : SetupView → Rules

@@ -1,43 +1,29 @@
-//! A running arbiter.
+//! An arbiter with tables of its own.
 
-ghost use Rattle.std.specs.Prelude.{◌≡◌, ◌+◌, ◌<◌, ◌≤◌, ◌∷◌, [], ◌++◌, length, IfOk, IsErr, cond, Option, None};
+ghost use Rattle.std.specs.Prelude.{◌≡◌, ◌≤◌, length, cond, Option, None};
 ghost use Rattle.std.specs.Result.{result_map_both};
-ghost use Rattle.judge_core.specs.Games.{position_after_all};
 ghost use Rattle.move_msg.specs.Numbers.{most_moves};
-ghost use Rattle.move_msg.specs.declared.who.Sender.{Sender};
 ghost use Rattle.arbiter_core.specs.Recording.{count_of};
-ghost use Rattle.arbiter_core.specs.Answering.{asked, fetched, nothing_waits, sent_by, told_of};
-ghost use Rattle.arbiter_core.specs.Setups.{rules_at, setup_view};
-ghost use Rattle.arbiter_core.specs.Opens.{running};
+ghost use Rattle.arbiter_core.specs.Answering.{asked};
+ghost use Rattle.arbiter_core.specs.Setups.{setup_view};
 ghost use Rattle.arbiter_core.specs.Resting.{CanWake, awake};
-ghost use Rattle.arbiter_core.specs.Delivers.{Answers, Delivers, IsKept, Keeps, answer_to_message, answer_to_next, answer_to_numbered, exchange, heard, moment};
-ghost use Rattle.arbiter_core.specs.Inside.Playing.{IsInOrder, IsNext, recorded_in};
+ghost use Rattle.arbiter_core.specs.Delivers.{Delivers, IsKept, exchange, moment};
 
 use crate::fault::DeliverFault;
 use crate::keeper::Keeper;
-use crate::planning::plan_on;
-use crate::played::Played;
-use crate::resting::Resting;
 use crate::setup::Setup;
-use crate::window::Window;
-use board_core::{Move, Position};
+use crate::state::{ArbiterState, Outputs};
+use board_core::Move;
 use judge_core::{Set, Verdict};
-use move_msg::{Count, Message, Sender, Stamp, Wanted, Who};
-use smallvec::SmallVec;
-use std::alloc::{AllocError, Global};
+use move_msg::Message;
+use std::alloc::Global;
 use std::marker::Model;
 
-/// What a delivery sends: at most two messages, or at most eight for a `Fetch`. Up to four take no memory.
-pub type Outputs = SmallVec<Message, 4>;
-
-/// An open arbiter: it runs, or it is down.
+/// An open arbiter and its tables.
 #[derive(Drop)]
 pub struct Arbiter<'a> {
-    setup: Setup<'a>,
-    who: Who,
-    played: Played,
-    window: Window,
-    down: bool,
+    state: ArbiterState<'a>,
+    set: Set<'a>,
 }
 
 impl<'a> Model for Arbiter<'a> {
@@ -51,218 +37,13 @@ impl<'a> Model for Arbiter<'a> {
     ghost invariant = { AreInOrder };
 }
 
-/// The messages by which an arbiter reports its record.
-fn tell(alloc: Global, stamp: Stamp, who: Who, count: Count, verdict: Option<Verdict>) -> Outputs
-    ensures { result.items ≡ told_of (record { stamp = stamp; who = who }) count verdict }
-{
-    let mut outputs = SmallVec::new(alloc);
-    outputs.push_reserved(Message::Ack { stamp, who, count });
-    if let Some(verdict) = verdict {
-        outputs.push_reserved(Message::Verdict {
-            stamp,
-            who,
-            ply: count,
-            verdict,
-        });
-    }
-    outputs
-}
-
-/// These moves as messages of an arbiter, the first with this number. The error comes only where there are more than
-/// four.
-fn sent(
-    alloc: Global,
-    stamp: Stamp,
-    who: Who,
-    number: u32,
-    moves: &[Move],
-) -> Result<Outputs, AllocError>
-    requires few { length moves.now ≤ 8 }
-    requires in_range { number ≤ 4096 }
-    ensures ok { IfOk result (λ o. o.items ≡ sent_by stamp (Sender.Arbiter who) number moves.now) }
-    ensures inline { IsErr result → 4 < length (sent_by stamp (Sender.Arbiter who) number moves.now) }
-{
-    let mut outputs = SmallVec::new(alloc);
-    for i in 0..moves.len() {
-        let message = Message::Move {
-            stamp,
-            sender: Sender::Arbiter(who),
-            number: number + i as u32,
-            m: moves[i],
-        };
-        let Ok(()) = outputs.push(message) else {
-            return Err(AllocError);
-        };
-    }
-    Ok(outputs)
-}
-
 impl<'a> Arbiter<'a> {
-    /// Plays a legal move and the waiting moves after it, and puts the record with the keeper.
-    fn go_on<K: Keeper>(
-        &mut self,
-        alloc: Global,
-        keeper: &mut K,
-        m: &Move,
-        position: &Position,
-    ) -> Result<Outputs, DeliverFault>
-        requires next { IsNext (rules_at self.old.setup) self.old.kept m.now position.now }
-        requires keeps { Keeps (K.facts.kept keeper.old) self.old }
-        ensures { Answers K.facts (moment self.old keeper.old) (answer_to_next self.old m.now) (result_map_both (λ o. o.items) (λ e. e) result) (moment self.new keeper.new) }
-    {
-        let Ok(plan) = plan_on(
-            alloc,
-            &mut self.setup,
-            &self.played,
-            *m,
-            *position,
-            &self.window,
-        ) else {
-            return Err(DeliverFault::OutOfMemory);
-        };
-        let more = plan.moves.len();
-        let count = self.played.record.as_record().moves.as_slice().len();
-        let Ok(()) = self.played.record.go_on(alloc, &plan.moves, plan.verdict) else {
-            return Err(DeliverFault::OutOfMemory);
-        };
-        let window = if plan.verdict.is_some() {
-            Window::empty()
-        } else {
-            self.window.after(more)
-        };
-        let record = self.played.record.as_record();
-        let outputs = tell(
-            alloc,
-            record.stamp,
-            self.who,
-            record.moves.count(),
-            plan.verdict,
-        );
-        match keeper.put(self.played.record.as_bytes()) {
-            Ok(()) => {
-                self.played.standing = plan.standing;
-                self.window = window;
-                Ok(outputs)
-            }
-            Err(_) => {
-                self.played.record.cut_back(count);
-                self.down = true;
-                Err(DeliverFault::KeeperFailed)
-            }
-        }
-    }
-
-    /// The position after the recorded moves and one more; none where that one isn't legal.
-    fn position_after(&self, m: Move) -> Option<Position>
-        ensures { result ≡ position_after_all self.now.setup.start (self.now.kept.moves ++ m ∷ []) }
-    {
-        self.played.standing.position().play(m)
-    }
-
-    /// Answers a move.
-    fn take_move<K: Keeper>(
-        &mut self,
-        alloc: Global,
-        keeper: &mut K,
-        number: u32,
-        m: &Move,
-    ) -> Result<Outputs, DeliverFault>
-        requires { Keeps (K.facts.kept keeper.old) self.old }
-        ensures { Answers K.facts (moment self.old keeper.old) (answer_to_numbered self.old number m.now) (result_map_both (λ o. o.items) (λ e. e) result) (moment self.new keeper.new) }
-    {
-        if number >= 4096 {
-            return Err(DeliverFault::TooLong);
-        }
-        let record = self.played.record.as_record();
-        let count = record.moves.count();
-        if record.verdict.is_some() || number < count.number() {
-            return Ok(tell(alloc, record.stamp, self.who, count, record.verdict));
-        }
-        if number >= count.number() + 32 {
-            return Err(DeliverFault::TooFarAhead);
-        }
-        if number > count.number() {
-            self.window.wait((number - count.number() - 1) as usize, *m);
-            return Ok(tell(alloc, record.stamp, self.who, count, None));
-        }
-        let Some(position) = self.position_after(*m) else {
-            return Err(DeliverFault::IllegalMove);
-        };
-        self.go_on(alloc, keeper, m, &position)
-    }
-
-    /// The message of this arbiter's game that bytes encode, or why there is none.
-    fn hear(&self, bytes: &[u8]) -> Result<Message, DeliverFault>
-        ensures { result ≡ heard self.now.me.stamp bytes.now }
-    {
-        match Message::decode(bytes) {
-            Ok(message) => {
-                if message.stamp() == self.played.record.as_record().stamp {
-                    Ok(message)
-                } else {
-                    Err(DeliverFault::Stranger)
-                }
-            }
-            Err(fault) => Err(DeliverFault::NotAMessage(fault)),
-        }
-    }
-
-    /// The recorded moves from this number on, at most `wanted`, as messages of this arbiter. The error comes only
-    /// where there are more than four, and memory for them is refused.
-    fn fetched(&self, alloc: Global, number: Count, wanted: Wanted) -> Result<Outputs, AllocError>
-        ensures ok { IfOk result (λ o. o.items ≡ fetched self.now.me self.now.kept number wanted) }
-        ensures inline { IsErr result → 4 < length (fetched self.now.me self.now.kept number wanted) }
-    {
-        let record = self.played.record.as_record();
-        let moves = record.moves.as_slice();
-        let first = (number.number() as usize).min(moves.len());
-        let last = (first + wanted.number() as usize).min(moves.len());
-        sent(
-            alloc,
-            record.stamp,
-            self.who,
-            number.number(),
-            &moves[first..last],
-        )
-    }
-
     /// The request to the other arbiter: a `Fetch` of eight moves from its count on. None where it is down, has a
     /// verdict, or has 4096 moves.
     pub fn ask(&self) -> Option<Message>
         ensures { result ≡ cond self.now.is_down None (asked self.now.me self.now.kept) }
     {
-        let record = self.played.record.as_record();
-        let count = record.moves.count();
-        if self.down || record.verdict.is_some() || count.number() >= 4096 {
-            return None;
-        }
-        Some(Message::Fetch {
-            stamp: record.stamp,
-            who: self.who,
-            number: count,
-            wanted: Wanted::most(),
-        })
-    }
-
-    /// Answers a message.
-    fn answer<K: Keeper>(
-        &mut self,
-        alloc: Global,
-        keeper: &mut K,
-        message: &Message,
-    ) -> Result<Outputs, DeliverFault>
-        requires { Keeps (K.facts.kept keeper.old) self.old }
-        ensures { Answers K.facts (moment self.old keeper.old) (answer_to_message self.old message.now) (result_map_both (λ o. o.items) (λ e. e) result) (moment self.new keeper.new) }
-    {
-        match *message {
-            Message::Move { number, m, .. } => self.take_move(alloc, keeper, number, &m),
-            Message::Ack { .. } => Ok(SmallVec::new(alloc)),
-            Message::Verdict { .. } => Ok(SmallVec::new(alloc)),
-            Message::Fetch { number, wanted, .. } => match self.fetched(alloc, number, wanted) {
-                Ok(outputs) => Ok(outputs),
-                Err(_) => Err(DeliverFault::OutOfMemory),
-            },
-        }
+        self.state.ask()
     }
 
     /// Processes a datagram, and returns the messages to send. With k the count of recorded moves, in this order:
@@ -304,13 +85,14 @@ impl<'a> Arbiter<'a> {
         // What it was opened from stays.
         ensures setup { self.new.setup ≡ self.old.setup }
     {
-        let heard = self.hear(bytes);
-        if self.down {
-            return Err(DeliverFault::Down);
-        }
-        match heard {
-            Ok(message) => self.answer(alloc, keeper, &message),
-            Err(fault) => Err(fault),
+        match Message::decode(bytes) {
+            Ok(message) => self.state.deliver(alloc, &mut self.set, keeper, &message),
+            Err(fault) => {
+                if self.state.is_down() {
+                    return Err(DeliverFault::Down);
+                }
+                Err(DeliverFault::NotAMessage(fault))
+            }
         }
     }
 
@@ -318,80 +100,34 @@ impl<'a> Arbiter<'a> {
     pub fn close(self) -> Setup<'a>
         ensures { setup_view result ≡ self.entry.setup }
     {
-        let Arbiter {
-            setup: given,
+        let Arbiter { state, set } = self;
+        let ArbiterState {
+            terms,
             who: _,
             played: _,
             window: _,
             down: _,
-        } = self;
-        given
+        } = state;
+        terms.with(set)
     }
 
     /// Puts the arbiter to rest: all of it but its tables, and these, which may serve others meanwhile.
-    pub fn rest(self) -> (Resting<'a>, Set<'a>)
+    pub fn rest(self) -> (ArbiterState<'a>, Set<'a>)
         ensures is { awake result.0 result.1 ≡ self.entry }
         ensures wakes { CanWake result.0 result.1 }
     {
-        let Arbiter {
-            setup: opened_from,
-            who,
-            played,
-            window,
-            down,
-        } = self;
-        let Setup {
-            name,
-            start,
-            manifest,
-            me,
-            delay,
-            set,
-        } = opened_from;
-        let resting = Resting {
-            name,
-            start,
-            manifest,
-            number: me,
-            delay,
-            who,
-            played,
-            window,
-            down,
-        };
-        (resting, set)
+        let Arbiter { state, set } = self;
+        (state, set)
     }
 
     /// Wakes an arbiter with the tables that it had, or with others by which its record is whole too.
-    pub fn wake(resting: Resting<'a>, set: Set<'a>) -> Arbiter<'a>
+    pub fn wake(resting: ArbiterState<'a>, set: Set<'a>) -> Arbiter<'a>
         requires { CanWake resting set }
         ensures { result ≡ awake resting.entry set.entry }
     {
-        let Resting {
-            name,
-            start,
-            manifest,
-            number,
-            delay,
-            who,
-            played,
-            window,
-            down,
-        } = resting;
-        let setup = Setup {
-            name,
-            start,
-            manifest,
-            me: number,
-            delay,
-            set,
-        };
         Arbiter {
-            setup,
-            who,
-            played,
-            window,
-            down,
+            state: resting,
+            set,
         }
     }
 
@@ -400,7 +136,7 @@ impl<'a> Arbiter<'a> {
         ensures moves { result.now ≡ self.now.kept.moves }
         ensures few { length result.now ≤ most_moves }
     {
-        self.played.record.as_record().moves.as_slice()
+        self.state.moves()
     }
 
     /// How many moves are recorded, 0 to 4096.
@@ -408,34 +144,20 @@ impl<'a> Arbiter<'a> {
         ensures is { result ≡ count_of self.now.kept }
         ensures few { result ≤ most_moves }
     {
-        self.played.record.as_record().moves.as_slice().len() as u32
+        self.state.count()
     }
 
     /// The verdict that is recorded.
     pub fn verdict(&self) -> Option<Verdict>
         ensures { result ≡ self.now.kept.verdict }
     {
-        self.played.record.as_record().verdict
+        self.state.verdict()
     }
 
     /// Whether the keeper has failed; then the arbiter is to be closed and opened again.
     pub fn is_down(&self) -> bool
         ensures { result ≡ self.now.is_down }
     {
-        self.down
-    }
-
-    /// An arbiter that runs from this record.
-    pub(crate) fn running(setup: Setup<'a>, who: Who, played: Played) -> Arbiter<'a>
-        requires { IsInOrder (setup_view setup) played nothing_waits }
-        ensures { result ≡ running (setup_view setup.entry) (record { stamp = played.record.stamp; who = who }) (recorded_in played) }
-    {
-        Arbiter {
-            setup,
-            who,
-            played,
-            window: Window::empty(),
-            down: false,
-        }
+        self.state.is_down()
     }
 }

@@ -15,13 +15,13 @@ pub mod laws;
 mod opening;
 mod planning;
 mod played;
-mod resting;
 mod setup;
+mod state;
 mod window;
 
-pub use arbiter::{Arbiter, Outputs};
+pub use arbiter::Arbiter;
 pub use fault::{DeliverFault, OpenFault};
 pub use keeper::{Keep, KeepFault, Keeper, MemoryKeeper, copy_of};
-pub use opening::Refused;
-pub use resting::Resting;
-pub use setup::{Name, Setup, name_of};
+pub use opening::{Refused, RefusedTerms};
+pub use setup::{Name, Setup, Terms, name_of};
+pub use state::{ArbiterState, Outputs};

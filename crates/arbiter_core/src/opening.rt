@@ -1,12 +1,14 @@
 //! Opening an arbiter.
 
 ghost use Rattle.std.specs.Prelude.{◌≡◌, ◌≤◌, IfOk, IfErr, IsErr, OnErr, IsTrue, ◌↔◌, IfSome, IfNone, Option, Some, None, Result, Ok, Err, false};
-ghost use Rattle.arbiter_core.specs.Setups.{setup_view, rules_at, IsGood, IsIdentity};
+ghost use Rattle.arbiter_core.specs.Setups.{setup_view, terms_with, rules_at, IsGood, IsIdentity};
 ghost use Rattle.std.specs.Result.{result_map_both};
 ghost use Rattle.move_msg.specs.declared.who.Who.{Who};
 ghost use Rattle.judge_core.specs.Answers.{ListsMovesForVerdict};
 ghost use Rattle.arbiter_core.specs.Opens.{OpensIfGood, IsResumed, IsBadKept, IsWhole, at_end, first_record};
 ghost use Rattle.arbiter_core.specs.Delivers.{IsKept};
+ghost use Rattle.arbiter_core.specs.Resting.{CanWake, awake, setup_with};
+ghost use Rattle.judge_core.specs.Tables.{Holding};
 ghost use Rattle.arbiter_core.specs.Inside.Playing.{IsPlayed, played_of, recorded_in};
 ghost use Rattle.arbiter_core.specs.Inside.Starting.{IsNotResumed, IsPutFirst, OpensAsEither, recorded_by};
 
@@ -14,8 +16,10 @@ use crate::arbiter::Arbiter;
 use crate::fault::OpenFault;
 use crate::keeper::{KeepFault, Keeper};
 use crate::played::Played;
-use crate::setup::Setup;
-use judge_core::{GameOutcome, Standing, Verdict};
+use crate::setup::{Setup, Terms};
+use crate::state::ArbiterState;
+use crate::window::Window;
+use judge_core::{GameOutcome, Set, Standing, Verdict};
 use move_msg::{MoveList, Record, RecordFault, Stamp, Who, WrittenRecord};
 use std::alloc::{AllocError, Global};
 
@@ -29,18 +33,18 @@ pub struct Refused<'a> {
 }
 
 /// The identity of an arbiter by its setup; none where the setup is bad.
-fn identify(setup: &Setup<'_>) -> Option<(Stamp, Who)>
-    ensures some { IfSome result (λ me. IsGood (setup_view setup.now) × IsIdentity (setup_view setup.now) (record { stamp = me.0; who = me.1 })) }
-    ensures none { IfNone result (IsGood (setup_view setup.now) → ⊥) }
+fn identify(terms: &Terms<'_>) -> Option<(Stamp, Who)>
+    ensures some { (set : Holding) → IfSome result (λ me. IsGood (terms_with terms.now set) × IsIdentity (terms_with terms.now set) (record { stamp = me.0; who = me.1 })) }
+    ensures none { (set : Holding) → IfNone result (IsGood (terms_with terms.now set) → ⊥) }
 {
-    if setup.delay > 8 {
+    if terms.delay > 8 {
         return None;
     }
-    let Some(who) = Who::of_number(setup.me) else {
+    let Some(who) = Who::of_number(terms.me) else {
         return None;
     };
-    let name = setup.name.as_slice();
-    let Some(stamp) = Stamp::of(name, &setup.start, setup.manifest, setup.delay) else {
+    let name = terms.name.as_slice();
+    let Some(stamp) = Stamp::of(name, &terms.start, terms.manifest, terms.delay) else {
         return None;
     };
     Some((stamp, who))
@@ -74,21 +78,22 @@ fn is_of_game(kept: &Record, stamp: Stamp, delay: u8) -> bool
 /// where memory for a list of moves is refused, while a record of this game is judged.
 fn go_on_from(
     alloc: Global,
-    setup: &mut Setup<'_>,
+    tables: &mut Set<'_>,
+    terms: &Terms<'_>,
     stamp: Stamp,
     kept: WrittenRecord,
 ) -> Result<Played, OpenFault>
-    requires { setup.old.delay ≤ 8 }
-    ensures same { setup.new ≡ setup.old }
-    ensures ok { IfOk result (λ p. IsPlayed (setup_view setup.old) stamp p × (p.record ≡ kept) × IsWhole (rules_at (setup_view setup.old)) (recorded_by kept)) }
-    ensures err { IfErr result (IsNotResumed (rules_at (setup_view setup.old)) stamp kept) }
+    requires { terms.now.delay ≤ 8 }
+    ensures same { tables.new ≡ tables.old }
+    ensures ok { IfOk result (λ p. IsPlayed (terms_with terms.now tables.old) stamp p × (p.record ≡ kept) × IsWhole (rules_at (terms_with terms.now tables.old)) (recorded_by kept)) }
+    ensures err { IfErr result (IsNotResumed (rules_at (terms_with terms.now tables.old)) stamp kept) }
 {
     let record = kept.as_record();
-    if !is_of_game(record, stamp, setup.delay) {
+    if !is_of_game(record, stamp, terms.delay) {
         return Err(OpenFault::OtherStamp);
     }
     let moves = record.moves.as_slice();
-    let Ok(followed) = setup.set.follow(alloc, &setup.start, moves, setup.delay) else {
+    let Ok(followed) = tables.follow(alloc, &terms.start, moves, terms.delay) else {
         return Err(OpenFault::OutOfMemory);
     };
     let Some(verdict) = at_end(followed.outcome, moves.len()) else {
@@ -106,17 +111,18 @@ fn go_on_from(
 /// The recorded state from kept bytes, if they are a record of this game.
 fn resume(
     alloc: Global,
-    setup: &mut Setup<'_>,
+    tables: &mut Set<'_>,
+    terms: &Terms<'_>,
     stamp: Stamp,
     bytes: &[u8],
 ) -> Result<Played, OpenFault>
-    requires { setup.old.delay ≤ 8 }
-    ensures same { setup.new ≡ setup.old }
-    ensures ok { IfOk result (λ p. IsPlayed (setup_view setup.old) stamp p × IsResumed (rules_at (setup_view setup.old)) stamp bytes.now (recorded_in p)) }
-    ensures err { IfErr result (IsBadKept (rules_at (setup_view setup.old)) stamp bytes.now) }
+    requires { terms.now.delay ≤ 8 }
+    ensures same { tables.new ≡ tables.old }
+    ensures ok { IfOk result (λ p. IsPlayed (terms_with terms.now tables.old) stamp p × IsResumed (rules_at (terms_with terms.now tables.old)) stamp bytes.now (recorded_in p)) }
+    ensures err { IfErr result (IsBadKept (rules_at (terms_with terms.now tables.old)) stamp bytes.now) }
 {
     match WrittenRecord::read(alloc, bytes) {
-        Ok(record) => go_on_from(alloc, setup, stamp, record),
+        Ok(record) => go_on_from(alloc, tables, terms, stamp, record),
         Err(fault) => match fault {
             RecordFault::OutOfMemory => Err(OpenFault::OutOfMemory),
             _ => Err(OpenFault::BadRecord),
@@ -128,19 +134,20 @@ fn resume(
 /// refused, while the start is judged.
 fn first(
     alloc: Global,
-    setup: &mut Setup<'_>,
+    tables: &mut Set<'_>,
+    terms: &Terms<'_>,
     stamp: Stamp,
 ) -> Result<(Record, Standing), AllocError>
-    requires { setup.old.delay ≤ 8 }
-    ensures same { setup.new ≡ setup.old }
-    ensures ok { IfOk result (λ f. IsPlayed (setup_view setup.old) stamp (played_of f.0 f.1) × (recorded_by f.0 ≡ first_record (rules_at (setup_view setup.old)))) }
-    ensures memory { OnErr result (ListsMovesForVerdict setup.old.set.tables setup.old.start) }
+    requires { terms.now.delay ≤ 8 }
+    ensures same { tables.new ≡ tables.old }
+    ensures ok { IfOk result (λ f. IsPlayed (terms_with terms.now tables.old) stamp (played_of f.0 f.1) × (recorded_by f.0 ≡ first_record (rules_at (terms_with terms.now tables.old)))) }
+    ensures memory { OnErr result (ListsMovesForVerdict tables.old.tables terms.now.start) }
 {
-    let standing = setup.set.begin(alloc, &setup.start)?;
-    let verdict = standing.verdict(setup.delay);
+    let standing = tables.begin(alloc, &terms.start)?;
+    let verdict = standing.verdict(terms.delay);
     let record = Record {
         stamp,
-        delay: setup.delay,
+        delay: terms.delay,
         verdict,
         moves: MoveList::from_vec(Vec::new(alloc)),
     };
@@ -151,14 +158,15 @@ fn first(
 fn put_first<K: Keeper>(
     alloc: Global,
     keeper: &mut K,
-    setup: &mut Setup<'_>,
+    tables: &mut Set<'_>,
+    terms: &Terms<'_>,
     stamp: Stamp,
 ) -> Result<Played, OpenFault>
-    requires { setup.old.delay ≤ 8 }
-    ensures same { setup.new ≡ setup.old }
-    ensures put { (who : Who) → IsPutFirst K.facts (setup_view setup.old) (record { stamp = stamp; who = who }) keeper.old keeper.new result }
+    requires { terms.now.delay ≤ 8 }
+    ensures same { tables.new ≡ tables.old }
+    ensures put { (who : Who) → IsPutFirst K.facts (terms_with terms.now tables.old) (record { stamp = stamp; who = who }) keeper.old keeper.new result }
 {
-    let Ok((record, standing)) = first(alloc, setup, stamp) else {
+    let Ok((record, standing)) = first(alloc, tables, terms, stamp) else {
         return Err(OpenFault::OutOfMemory);
     };
     let Ok(record) = WrittenRecord::of(alloc, record) else {
@@ -174,19 +182,69 @@ fn put_first<K: Keeper>(
 fn recorded<K: Keeper>(
     alloc: Global,
     keeper: &mut K,
-    setup: &mut Setup<'_>,
+    tables: &mut Set<'_>,
+    terms: &Terms<'_>,
     stamp: Stamp,
 ) -> Result<Played, OpenFault>
-    requires { setup.old.delay ≤ 8 }
-    ensures same { setup.new ≡ setup.old }
-    ensures played { IfOk result (IsPlayed (setup_view setup.old) stamp) }
-    ensures opens { OpensAsEither K.facts (setup_view setup.old) stamp keeper.old keeper.new result }
+    requires { terms.now.delay ≤ 8 }
+    ensures same { tables.new ≡ tables.old }
+    ensures played { IfOk result (IsPlayed (terms_with terms.now tables.old) stamp) }
+    ensures opens { OpensAsEither K.facts (terms_with terms.now tables.old) stamp keeper.old keeper.new result }
 {
     match keeper.get(alloc) {
-        Ok(Some(bytes)) => resume(alloc, setup, stamp, &bytes),
-        Ok(None) => put_first(alloc, keeper, setup, stamp),
+        Ok(Some(bytes)) => resume(alloc, tables, terms, stamp, &bytes),
+        Ok(None) => put_first(alloc, keeper, tables, terms, stamp),
         Err(KeepFault::Failed) => Err(OpenFault::KeeperFailed),
         Err(KeepFault::OutOfMemory) => Err(OpenFault::OutOfMemory),
+    }
+}
+
+/// Why an arbiter was not opened, and its terms as they were given.
+#[derive(Drop)]
+pub struct RefusedTerms<'a> {
+    /// Why.
+    pub fault: OpenFault,
+    /// The terms.
+    pub terms: Terms<'a>,
+}
+
+impl<'a> ArbiterState<'a> {
+    /// Opens an arbiter by tables that it is lent, as `Arbiter::open`.
+    pub fn open<K: Keeper>(
+        alloc: Global,
+        tables: &mut Set<'_>,
+        keeper: &mut K,
+        terms: Terms<'a>,
+    ) -> Result<ArbiterState<'a>, RefusedTerms<'a>>
+        // The tables stay as they were, but for their cache.
+        ensures same { tables.new ≡ tables.old }
+        ensures back { IfErr result (λ r. r.terms ≡ terms.entry) }
+        // It is opened from these terms, and runs.
+        ensures setup { IfOk result (λ a. setup_with a tables.old ≡ terms_with terms.entry tables.old) }
+        ensures runs { IfOk result (λ a. a.is_down ≡ false) }
+        // By these tables its record is whole.
+        ensures wakes { IfOk result (λ a. CanWake a tables.old) }
+        ensures bad { (IsGood (terms_with terms.entry tables.old) → ⊥) → IfErr result (λ r. r.fault ≡ OpenFault.BadSetup) × IsErr result × (keeper.new ≡ keeper.old) }
+        // The record of a running arbiter is what is kept.
+        ensures keeps { IfOk result (λ a. IsKept (K.facts.kept keeper.new) (awake a tables.old)) }
+        ensures good { OpensIfGood K.facts (terms_with terms.entry tables.old) keeper.old keeper.new (result_map_both (λ a. awake a tables.old) (λ r. r.fault) result) }
+    {
+        let Some((stamp, who)) = identify(&terms) else {
+            return Err(RefusedTerms {
+                fault: OpenFault::BadSetup,
+                terms,
+            });
+        };
+        match recorded(alloc, keeper, tables, &terms, stamp) {
+            Ok(played) => Ok(ArbiterState {
+                terms,
+                who,
+                played,
+                window: Window::empty(),
+                down: false,
+            }),
+            Err(fault) => Err(RefusedTerms { fault, terms }),
+        }
     }
 }
 
@@ -214,16 +272,17 @@ impl<'a> Arbiter<'a> {
         ensures keeps { IfOk result (λ a. IsKept (K.facts.kept keeper.new) a) }
         ensures good { OpensIfGood K.facts (setup_view setup.entry) keeper.old keeper.new (result_map_both (λ a. a) (λ r. r.fault) result) }
     {
-        let Some((stamp, who)) = identify(&setup) else {
-            return Err(Refused {
-                fault: OpenFault::BadSetup,
-                setup,
-            });
-        };
-        let mut setup = setup;
-        match recorded(alloc, keeper, &mut setup, stamp) {
-            Ok(played) => Ok(Arbiter::running(setup, who, played)),
-            Err(fault) => Err(Refused { fault, setup }),
+        let (terms, set) = setup.apart();
+        let mut set = set;
+        match ArbiterState::open(alloc, &mut set, keeper, terms) {
+            Ok(state) => Ok(Arbiter::wake(state, set)),
+            Err(refused) => {
+                let RefusedTerms { fault, terms } = refused;
+                Err(Refused {
+                    fault,
+                    setup: terms.with(set),
+                })
+            }
         }
     }
 }

@@ -1,14 +1,14 @@
 //! A legal move and the waiting moves after it.
 
 ghost use Rattle.std.specs.Prelude.{◌≡◌, ◌≤◌, [], vec_capacity, IfOk, OnErr};
-ghost use Rattle.arbiter_core.specs.Setups.{rules_at, setup_view};
+ghost use Rattle.arbiter_core.specs.Setups.{rules_at, terms_with};
 ghost use Rattle.arbiter_core.specs.Inside.Playing.{IsInOrder, IsNext, IsPlan, ListsMovesAhead, recorded_in};
 
 use crate::played::Played;
-use crate::setup::Setup;
+use crate::setup::Terms;
 use crate::window::Window;
 use board_core::{Move, Position};
-use judge_core::{Standing, Verdict};
+use judge_core::{Set, Standing, Verdict};
 use std::alloc::{AllocError, Global};
 
 /// The plan of a delivery: the moves that it adds to the record, where the game stands after them, and the verdict there.
@@ -23,11 +23,12 @@ pub(crate) struct Plan {
 /// where the next move doesn't wait or isn't legal. They are put into an empty vector with room for them. Each new
 /// position is judged once.
 ///
-/// The error comes only where memory for a list of moves is refused, while one of the new positions is judged. The setup stays
-/// as it was but for the set's cache.
+/// The error comes only where memory for a list of moves is refused, while one of the new positions is judged. The tables stay
+/// as they were but for their cache.
 fn make_plan(
     alloc: Global,
-    setup: &mut Setup<'_>,
+    tables: &mut Set<'_>,
+    terms: &Terms<'_>,
     played: &Played,
     moves: Vec<Move>,
     m: Move,
@@ -36,16 +37,16 @@ fn make_plan(
 ) -> Result<Plan, AllocError>
     requires none { moves.items ≡ [] }
     requires room { 32 ≤ vec_capacity moves }
-    requires in_order { IsInOrder (setup_view setup.old) played.now window.now }
-    requires next { IsNext (rules_at (setup_view setup.old)) (recorded_in played.now) m position }
-    ensures same { setup.new ≡ setup.old }
-    ensures planned { IfOk result (IsPlan (rules_at (setup_view setup.old)) (recorded_in played.now) m window.now) }
-    ensures memory { OnErr result (ListsMovesAhead (rules_at (setup_view setup.old)) played.now.record.moves m window.now) }
+    requires in_order { IsInOrder (terms_with terms.now tables.old) played.now window.now }
+    requires next { IsNext (rules_at (terms_with terms.now tables.old)) (recorded_in played.now) m position }
+    ensures same { tables.new ≡ tables.old }
+    ensures planned { IfOk result (IsPlan (rules_at (terms_with terms.now tables.old)) (recorded_in played.now) m window.now) }
+    ensures memory { OnErr result (ListsMovesAhead (rules_at (terms_with terms.now tables.old)) played.now.record.moves m window.now) }
 {
-    let delay = setup.delay;
+    let delay = terms.delay;
     let mut moves = moves;
     moves.push_reserved(m);
-    let standing = setup.set.move_on(alloc, &played.standing, position)?;
+    let standing = tables.move_on(alloc, &played.standing, position)?;
     let verdict = standing.verdict(delay);
     let mut plan = Plan {
         moves,
@@ -62,7 +63,7 @@ fn make_plan(
         let Some(position) = plan.standing.position().play(*m) else {
             return Ok(plan);
         };
-        plan.standing = setup.set.move_on(alloc, &plan.standing, position)?;
+        plan.standing = tables.move_on(alloc, &plan.standing, position)?;
         plan.verdict = plan.standing.verdict(delay);
         plan.moves.push_reserved(*m);
     }
@@ -72,17 +73,18 @@ fn make_plan(
 /// Plans as `make_plan`. The error comes where memory for the moves, or for a list of moves, is refused.
 pub(crate) fn plan_on(
     alloc: Global,
-    setup: &mut Setup<'_>,
+    tables: &mut Set<'_>,
+    terms: &Terms<'_>,
     played: &Played,
     m: Move,
     position: Position,
     window: &Window,
 ) -> Result<Plan, AllocError>
-    requires in_order { IsInOrder (setup_view setup.old) played.now window.now }
-    requires next { IsNext (rules_at (setup_view setup.old)) (recorded_in played.now) m position }
-    ensures same { setup.new ≡ setup.old }
-    ensures planned { IfOk result (IsPlan (rules_at (setup_view setup.old)) (recorded_in played.now) m window.now) }
+    requires in_order { IsInOrder (terms_with terms.now tables.old) played.now window.now }
+    requires next { IsNext (rules_at (terms_with terms.now tables.old)) (recorded_in played.now) m position }
+    ensures same { tables.new ≡ tables.old }
+    ensures planned { IfOk result (IsPlan (rules_at (terms_with terms.now tables.old)) (recorded_in played.now) m window.now) }
 {
     let moves = Vec::with_capacity(alloc, 32)?;
-    make_plan(alloc, setup, played, moves, m, position, window)
+    make_plan(alloc, tables, terms, played, moves, m, position, window)
 }

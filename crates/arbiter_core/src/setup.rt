@@ -1,6 +1,7 @@
 //! What an arbiter is opened from.
 
 ghost use Rattle.std.specs.Prelude.{◌≡◌, ◌≤◌, length};
+ghost use Rattle.arbiter_core.specs.Setups.{setup_view, terms_with};
 
 use arrayvec::ArrayVec;
 use board_core::Position;
@@ -34,4 +35,66 @@ pub struct Setup<'a> {
     pub delay: u8,
     /// The tables.
     pub set: Set<'a>,
+}
+
+/// All of a setup but its tables.
+#[derive(Drop)]
+pub struct Terms<'a> {
+    /// The name of the game, as in `Setup`.
+    pub name: Name,
+    /// The position before the first move, ply 0.
+    pub start: Position,
+    /// The manifest of the tables.
+    pub manifest: &'a [u8],
+    /// Which of the two arbiters it is, 1 or 2.
+    pub me: u8,
+    /// For how many further plies a verdict by tables must hold, 0 to 8.
+    pub delay: u8,
+}
+
+impl<'a> Setup<'a> {
+    /// The tables, and all else.
+    pub(crate) fn apart(self) -> (Terms<'a>, Set<'a>)
+        ensures { terms_with result.0 result.1 ≡ setup_view self.entry }
+    {
+        let Setup {
+            name,
+            start,
+            manifest,
+            me,
+            delay,
+            set,
+        } = self;
+        let terms = Terms {
+            name,
+            start,
+            manifest,
+            me,
+            delay,
+        };
+        (terms, set)
+    }
+}
+
+impl<'a> Terms<'a> {
+    /// The setup with these tables.
+    pub(crate) fn with(self, set: Set<'a>) -> Setup<'a>
+        ensures { setup_view result ≡ terms_with self.entry set.entry }
+    {
+        let Terms {
+            name,
+            start,
+            manifest,
+            me,
+            delay,
+        } = self;
+        Setup {
+            name,
+            start,
+            manifest,
+            me,
+            delay,
+            set,
+        }
+    }
 }

@@ -1,19 +1,22 @@
 -- A game in hand answers, and is closed or kept.
 use Rattle.std.proofs.Common.{◌≡◌, ℕ, Bool, true, false, cond, List, [], ◌∷◌, Option, Some, None, refl, sym, ap, subst, ◌∙◌}
-use Rattle.std.specs.Prelude.{Err}
+use Rattle.std.specs.Prelude.{Result, Ok, Err}
 use Rattle.std.specs.Str.{bytes_eq}
 use Rattle.std.proofs.lemmas.Bool.{cond-true, cond-false}
 use Rattle.judge_core.specs.Tables.{Holding}
 use Rattle.move_msg.specs.declared.message.MessageFault.{MessageFault}
 use Rattle.move_msg.specs.Heard.{heard_in}
+use Rattle.move_msg.specs.Messages.{stamp_in}
 use Rattle.move_msg.specs.declared.message.Message.{Message}
-use Rattle.arbiter_core.specs.Delivers.{Exchange, Delivers, exchange}
+use Rattle.arbiter_core.specs.Answering.{Answer}
+use Rattle.arbiter_core.specs.Delivers.{Exchange, Delivers, Answers as Answered, answer_at, answer_of, answer_to_any, exchange, in_game}
+use Rattle.arbiter_core.specs.Views.{View}
 use Rattle.arbiter_service.specs.Serving.{outputs_of}
 use Rattle.game_host.specs.Told.{stamped}
 use Rattle.game_host.specs.declared.fault.Unopened.{Unopened}
 use Rattle.game_host.specs.declared.seat.Seat.{Seat}
 use Rattle.game_host.specs.Folders.{Gives, GivesLess, GivesOthers, Keepers}
-use Rattle.game_host.specs.Acts.{Answers, Strange, Unread, answered, stamp_for, unopened, unread}
+use Rattle.game_host.specs.Acts.{Answers, Strange, Unread, answered, stamp_by, stamp_for, unopened, unread}
 use Rattle.game_host.specs.Games.{CommonView, GoesOn, IsNotOpen, IsStrange, Life, Fresh, Shut, Open, life_at}
 use Rattle.game_host.specs.Seats.{At, Evicts, Nothing, One, IsAnswered, IsAtRest, Stands, in_hand, moment_of}
 use Rattle.game_host.specs.Turns.{Leads, LeadsFrom}
@@ -97,18 +100,18 @@ module _ {K : Type 0} (s : Keepers K) (t : CommonView) where
 
 -- ---- a game in hand answers
 
-runs_on : {K : Type 0} (set : Holding) (seat : Seat K) → seat.resting.is_down ≡ false → life_at (moment_of set seat) ≡ Open (moment_of set seat)
-runs_on set seat runs = cond-false seat.resting.is_down (Shut seat.keeper) (Open (moment_of set seat)) runs
+runs_on : {K : Type 0} (set : Holding) (seat : Seat K) → seat.state.is_down ≡ false → life_at (moment_of set seat) ≡ Open (moment_of set seat)
+runs_on set seat runs = cond-false seat.state.is_down (Shut seat.keeper) (Open (moment_of set seat)) runs
 
-is_shut : {K : Type 0} (set : Holding) (seat : Seat K) → seat.resting.is_down ≡ true → life_at (moment_of set seat) ≡ Shut seat.keeper
-is_shut set seat down = cond-true seat.resting.is_down (Shut seat.keeper) (Open (moment_of set seat)) down
+is_shut : {K : Type 0} (set : Holding) (seat : Seat K) → seat.state.is_down ≡ true → life_at (moment_of set seat) ≡ Shut seat.keeper
+is_shut set seat down = cond-true seat.state.is_down (Shut seat.keeper) (Open (moment_of set seat)) down
 
 module _ {K : Type 0} (s : Keepers K) (t : CommonView) (old new : Gives K) (at at' : At K) (stamp : List ℕ) (before after : Seat K) (e : Exchange K) (sorted : stamp_for e.datagram ≡ Some stamp) (delivered : Delivers s.facts (moment_of t.set before) e) (is : e.after ≡ moment_of t.set after) where
   answers_on : (life l : Life K) → life ≡ Open (moment_of t.set before) → l ≡ life_at (moment_of t.set after) → GoesOn s t stamp life (Answers stamp e) l
   answers_on life l was now = subst (λ (x : Life K). GoesOn s t stamp x (Answers stamp e) l) (sym was) (delivered, now ∙ ap life_at (sym is))
 
   -- its keeper still keeps, and it stays in hand
-  pub answers_to : IsAtRest s.facts t.set after → after.resting.is_down ≡ false
+  pub answers_to : IsAtRest s.facts t.set after → after.state.is_down ≡ false
       → LeadsFrom s t old (in_hand stamp (Some after) at) new at' []
       → LeadsFrom s t old (in_hand stamp (Some before) at) new at' (answered stamp e ∷ [])
   answers_to rests runs more = λ lives stand.
@@ -122,7 +125,7 @@ module _ {K : Type 0} (s : Keepers K) (t : CommonView) (old new : Gives K) (at a
       leads_join s t old new (in_hand stamp (Some after) at) at' lives (answered stamp e ∷ []) [] one more
 
   -- its keeper failed, and it is closed
-  pub fails_to : after.resting.is_down ≡ true → at stamp ≡ None → ((other : List ℕ) → at' other ≡ at other) → ((next : K) → new stamp next → s.follows after.keeper next) → GivesOthers stamp old new
+  pub fails_to : after.state.is_down ≡ true → at stamp ≡ None → ((other : List ℕ) → at' other ≡ at other) → ((next : K) → new stamp next → s.follows after.keeper next) → GivesOthers stamp old new
       → LeadsFrom s t old (in_hand stamp (Some before) at) new at' (answered stamp e ∷ [])
   fails_to down absent same left others = λ lives stand.
       let there : Stands s t (old stamp) (Some before) (lives stamp) = subst (λ (x : Option (Seat K)). Stands s t (old stamp) x (lives stamp)) (holds_it stamp before at) (stand stamp) in
@@ -135,25 +138,30 @@ pub runs_not : (b : Bool) → b ≡ true → b ≡ false → ⊥
 runs_not b up down = let wrong : true ≡ false = sym up ∙ down in cc
 
 -- so a game in hand answers, whichever it is
-by_keeper : {K : Type 0} (s : Keepers K) (t : CommonView) (old new : Gives K) (at at' : At K) (stamp : List ℕ) (before after : Seat K) (e : Exchange K) (b : Bool) → after.resting.is_down ≡ b → stamp_for e.datagram ≡ Some stamp → Delivers s.facts (moment_of t.set before) e → e.after ≡ moment_of t.set after
+by_keeper : {K : Type 0} (s : Keepers K) (t : CommonView) (old new : Gives K) (at at' : At K) (stamp : List ℕ) (before after : Seat K) (e : Exchange K) (b : Bool) → after.state.is_down ≡ b → stamp_for e.datagram ≡ Some stamp → Delivers s.facts (moment_of t.set before) e → e.after ≡ moment_of t.set after
     → at stamp ≡ None → IsAtRest s.facts t.set after
-    → (after.resting.is_down ≡ false → LeadsFrom s t old (in_hand stamp (Some after) at) new at' [])
-    → (after.resting.is_down ≡ true → ((next : K) → new stamp next → s.follows after.keeper next) × GivesOthers stamp old new × ((other : List ℕ) → at' other ≡ at other))
+    → (after.state.is_down ≡ false → LeadsFrom s t old (in_hand stamp (Some after) at) new at' [])
+    → (after.state.is_down ≡ true → ((next : K) → new stamp next → s.follows after.keeper next) × GivesOthers stamp old new × ((other : List ℕ) → at' other ≡ at other))
     → LeadsFrom s t old (in_hand stamp (Some before) at) new at' (answered stamp e ∷ [])
 by_keeper s t old new at at' stamp before after e true is sorted delivered later absent rests runs down =
     let d = down is in fails_to s t old new at at' stamp before after e sorted delivered later is absent d.2 d.0 d.1
 by_keeper s t old new at at' stamp before after e false is sorted delivered later absent rests runs down =
     answers_to s t old new at at' stamp before after e sorted delivered later rests is (runs is)
 
-pub answers_reply : {K : Type 0} (s : Keepers K) (t : CommonView) (set : Holding) → t.set ≡ set → (old new : Gives K) (at at' : At K) (stamp datagram : List ℕ) (before after : Seat K) (outputs : List Message) (line : List ℕ) → stamp_for datagram ≡ Some stamp
-    → at stamp ≡ None → IsAtRest s.facts set after → IsAnswered s.facts (moment_of set before) datagram (moment_of set after) outputs line
-    → (after.resting.is_down ≡ false → LeadsFrom s t old (in_hand stamp (Some after) at) new at' [])
-    → (after.resting.is_down ≡ true → ((next : K) → new stamp next → s.follows after.keeper next) × GivesOthers stamp old new × ((other : List ℕ) → at' other ≡ at other))
+-- to whichever datagram says its message
+pub answers_reply : {K : Type 0} (s : Keepers K) (t : CommonView) (old new : Gives K) (at at' : At K) (stamp : List ℕ) (message : Message) (before after : Seat K) (outputs : List Message) (line : List ℕ) → stamp ≡ (stamp_in message).0
+    → at stamp ≡ None → IsAtRest s.facts t.set after → IsAnswered s.facts (moment_of t.set before) message (moment_of t.set after) outputs line
+    → (after.state.is_down ≡ false → LeadsFrom s t old (in_hand stamp (Some after) at) new at' [])
+    → (after.state.is_down ≡ true → ((next : K) → new stamp next → s.follows after.keeper next) × GivesOthers stamp old new × ((other : List ℕ) → at' other ≡ at other))
+    → (datagram : List ℕ) → heard_in datagram ≡ Ok message
     → LeadsFrom s t old (in_hand stamp (Some before) at) new at' (record { datagram = datagram; outputs = outputs; line = stamped stamp line } ∷ [])
-answers_reply {K = K} s t set e old new at at' stamp datagram before after outputs line sorted absent rests answer runs down =
-    let here : IsAnswered s.facts (moment_of t.set before) datagram (moment_of t.set after) outputs line = subst (λ (x : Holding). IsAnswered s.facts (moment_of x before) datagram (moment_of x after) outputs line) (sym e) answer in
+answers_reply {K = K} s t old new at at' stamp message before after outputs line own absent rests here runs down datagram says =
+    let was : View = (moment_of t.set before).arbiter in
+    let same : answer_at was datagram ≡ answer_to_any was message = ap (λ (h : Result Message MessageFault). answer_of was (in_game was.me.stamp h)) says in
+    let sorted : stamp_for datagram ≡ Some stamp = ap stamp_by says ∙ ap Some (sym own) in
     let x : Exchange K = exchange datagram here.told (moment_of t.set after) in
+    let delivered : Delivers s.facts (moment_of t.set before) x = subst (λ (a : Answer). Answered s.facts (moment_of t.set before) a here.told (moment_of t.set after)) (sym same) here.answers in
     let leads : LeadsFrom s t old (in_hand stamp (Some before) at) new at' (answered stamp x ∷ []) =
-    by_keeper s t old new at at' stamp before after x after.resting.is_down refl sorted here.delivered refl absent (subst (λ (h : Holding). IsAtRest s.facts h after) (sym e) rests) runs down in
+    by_keeper s t old new at at' stamp before after x after.state.is_down refl sorted delivered refl absent rests runs down in
     subst (λ (o : List Message). LeadsFrom s t old (in_hand stamp (Some before) at) new at' (record { datagram = datagram; outputs = o; line = stamped stamp line } ∷ [])) (sym here.outputs_are)
     (subst (λ (l : List ℕ). LeadsFrom s t old (in_hand stamp (Some before) at) new at' (record { datagram = datagram; outputs = outputs_of here.told; line = stamped stamp l } ∷ [])) (sym here.line_is) leads)

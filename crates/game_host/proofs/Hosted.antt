@@ -4,7 +4,6 @@ use Rattle.std.specs.Prelude.{Result, Ok, Err, IfOk}
 use Rattle.std.specs.List.{flat_map}
 use Rattle.std.proofs.lemmas.List.{length-map, map-append}
 use Rattle.std.proofs.lemmas.List.Concat.{flat_map-append}
-use Rattle.judge_core.specs.Tables.{Holding}
 use Rattle.arbiter_core.specs.Keeping.{KeeperFacts}
 use Rattle.system_io.specs.Ports.{Came, Passed, Passing, PortFacts}
 use Rattle.arbiter_service.specs.Serving.{handed}
@@ -17,11 +16,12 @@ use Rattle.arbiter_service.proofs.GoingLaws.{cut_later, go_join, none_out}
 use Rattle.game_host.specs.declared.seat.Seat.{Seat}
 use Rattle.game_host.specs.Folders.{FolderFacts, Gives, Keepers, keepers, keepers_at}
 use Rattle.game_host.specs.Acts.{Reply, passing_at}
-use Rattle.game_host.specs.declared.seat.Common.{Common}
-use Rattle.game_host.specs.Games.{CommonView, Fresh, Life, Open, Shut, common_with}
-use Rattle.game_host.specs.Seats.{At, AreSeated, Stands}
+use Rattle.game_host.specs.Games.{CommonView, Fresh, Life, Open, Shut}
+use Rattle.game_host.specs.Room.{at_stamp}
+use Rattle.game_host.specs.Seats.{At, Stands}
+use Rattle.game_host.specs.Servers.{ServerView, Stays}
 use Rattle.game_host.specs.Hosts.{Ends, Hosts, IsLeft, all_lines, all_passing, missed_if}
-use Rattle.game_host.specs.Turns.{AreOpen, HasServed, Leads, LeadsFrom, Receives, TakesTurn, Turns}
+use Rattle.game_host.specs.Turns.{HasServed, Leads, LeadsFrom, Receives, TakesTurn, TurnsTo}
 use Rattle.game_host.proofs.Turning.{goes_still, leads_join}
 use Rattle.game_host.proofs.Handing.{not_open}
 
@@ -76,9 +76,6 @@ module _ {K W : Type 0} (s : Keepers K) (t : CommonView) (w : Writers W) where
           lines = subst (λ (ls : List (List ℕ)). GoOut w first ls out') (sym (lines_more had.replies r)) (go_join w first out out' _ (r.line ∷ []) had.lines (subst (λ (l : List ℕ). GoOut w out (l ∷ []) out') one.2 went));
           came = length-append had.replies (r ∷ []) ∙ omega (arith, before);
         }
-
-  pub seated_so : (gives : Gives K) (at : At K) (port now : PortFacts) (first out : W) (n : ℕ) → HasHosted s t w gives at port now first out n → AreSeated s t gives at
-  seated_so gives at port now first out n h = (h.leads.new, h.leads.stand)
 
   -- all of a run, by what was hosted
   served : (gives : Gives K) (at : At K) (port now later : PortFacts) (first out' : W) (n : ℕ) (replies : List Reply) (lost : Bool) (ended : Result ℕ WriteFault)
@@ -194,16 +191,10 @@ hosts_closed {K = K} s t w n gives gives' at at' port port' out out' ended had c
       lines = subst (λ (rs : List Reply). LinesEnd w out (all_lines rs had.lost) out' ended) (sym leads.replies_are) had.lines;
     }
 
--- with the tables and the folder of the start
-module _ {G K : Type 0} (facts : KeeperFacts K) (folder : FolderFacts G K) (common : Common) (start now : G) (place : folder.place now ≡ folder.place start) (first tables : Holding) (set : tables ≡ first) (at : At K) where
-  pub turn_from : {W : Type 0} (w : Writers W) (later : G) (at' : At K) (port port' : PortFacts) (out out' : W) (told : Result Bool WriteFault)
-      → TakesTurn (Turns facts folder (common_with common tables) now at later at') w port port' out out' told
-      → TakesTurn (LeadsFrom (keepers facts folder start) (common_with common first) (folder.gives now) at (folder.gives later) at') w port port' out out' told
-  turn_from w later at' port port' out out' told taken =
-      subst (λ (p : folder.Place). TakesTurn (LeadsFrom (keepers_at facts folder p) (common_with common first) (folder.gives now) at (folder.gives later) at') w port port' out out' told) place
-      (subst (λ (x : Holding). TakesTurn (Turns facts folder (common_with common x) now at later at') w port port' out out' told) set taken)
-
-  pub open_now : AreSeated (keepers facts folder start) (common_with common first) (folder.gives now) at → AreOpen facts folder (common_with common tables) now at
-  open_now seated =
-      subst (λ (x : Holding). AreOpen facts folder (common_with common x) now at) (sym set)
-      (subst (λ (p : folder.Place). AreSeated (keepers_at facts folder p) (common_with common first) (folder.gives now) at) (sym place) seated)
+-- a turn of a server, by what its games had in common and its folder at the start
+pub turn_from : {G K W : Type 0} (facts : KeeperFacts K) (folder : FolderFacts G K) (w : Writers W) (start now later : ServerView G K) → Stays folder start now → (port port' : PortFacts) (out out' : W) (told : Result Bool WriteFault)
+    → TakesTurn (TurnsTo facts folder now later) w port port' out out' told
+    → TakesTurn (LeadsFrom (keepers facts folder start.games) start.common (folder.gives now.games) (at_stamp now.seats) (folder.gives later.games) (at_stamp later.seats)) w port port' out out' told
+turn_from facts folder w start now later stays port port' out out' told taken =
+    subst (λ (p : folder.Place). TakesTurn (LeadsFrom (keepers_at facts folder p) start.common (folder.gives now.games) (at_stamp now.seats) (folder.gives later.games) (at_stamp later.seats)) w port port' out out' told) stays.place
+    (subst (λ (t : CommonView). TakesTurn (LeadsFrom (keepers facts folder now.games) t (folder.gives now.games) (at_stamp now.seats) (folder.gives later.games) (at_stamp later.seats)) w port port' out out' told) stays.common taken)

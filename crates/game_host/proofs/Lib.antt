@@ -8,7 +8,7 @@ pub mod Lines
 pub mod Turning
 pub mod Handing
 pub mod Opening
-pub mod Answering
 pub mod Seating
 pub mod Hosted
 pub mod Histories
+pub mod Serving

@@ -59,17 +59,17 @@ module _ {K : Type 0} (s : Keepers K) (t : CommonView) where
       here others same stand
 
 module _ {K : Type 0} (s : Keepers K) (t : CommonView) (old mid : Gives K) (stamp : List ℕ) (setup : SetupView) (before now : K) (is : s.is_of stamp before) (given : old stamp before) (same : GivesLess old mid) (told_as : IsToldAs s stamp setup) (game : IsSetupOf t stamp setup) where
-  pub seated_over : (r : Rest) (set : Holding) → set ≡ setup.set → CanWake r set × (r.is_down ≡ false) → IsKept (s.facts.kept now) (awake r set) → IsSeated s.facts t.set (record { resting = r; keeper = now })
+  pub seated_over : (r : Rest) (set : Holding) → set ≡ setup.set → CanWake r set × (r.is_down ≡ false) → IsKept (s.facts.kept now) (awake r set) → IsSeated s.facts t.set (record { state = r; keeper = now })
   seated_over r set set_is wakes keeps =
       let e : set ≡ t.set = set_is ∙ set_in t stamp setup game in
       record { rests = record { wakes = subst (λ (x : Holding). CanWake r x) e wakes.0; keeps = subst (λ (x : Holding). IsKept (s.facts.kept now) (awake r x)) e keeps }; runs = wakes.1 }
 
   pub opened_over : (at : At K) (r : Rest) (set : Holding) → at stamp ≡ None → set ≡ setup.set → CanWake r set × (r.is_down ≡ false) → IsKept (s.facts.kept now) (awake r set)
       → IsOpening s.facts setup before now (Ok (awake r set))
-      → LeadsFrom s t old at mid (in_hand stamp (Some (record { resting = r; keeper = now })) at) []
+      → LeadsFrom s t old at mid (in_hand stamp (Some (record { state = r; keeper = now })) at) []
   opened_over at r set absent set_is wakes keeps opening =
       let e : set ≡ t.set = set_is ∙ set_in t stamp setup game in
-      let seat : Seat K = record { resting = r; keeper = now } in
+      let seat : Seat K = record { state = r; keeper = now } in
       let so : IsOpening s.facts setup before now (Ok (awake r t.set)) = subst (λ (x : Holding). IsOpening s.facts setup before now (Ok (awake r x))) e opening in
       let here : in_hand stamp (Some seat) at stamp ≡ Some seat = cond-true (bytes_eq stamp stamp) (Some seat) (at stamp) (itself stamp) in
       opens_to s t old mid at (in_hand stamp (Some seat) at) stamp (record { setup = setup; before = before; now = now }) (Ok (awake r t.set)) (Opens stamp (record { setup = setup; before = before; now = now }) (awake r t.set)) absent is given told_as game so

@@ -10,7 +10,7 @@ use Rattle.arbiter_core.specs.Keeping.{KeeperFacts}
 use Rattle.arbiter_core.specs.Opens.{OpensIfGood, Told}
 use Rattle.arbiter_core.specs.Delivers.{Delivers, Exchange, Moment, moment}
 use Rattle.arbiter_core.specs.Setups.{SetupView, IsGood}
-use Rattle.game_host.specs.declared.seat.Common.{Common}
+use Rattle.game_host.specs.declared.config.ServerConfig.{ServerConfig}
 use Rattle.game_host.specs.declared.fault.Unopened.{Unopened}
 use Rattle.game_host.specs.declared.fault.Unopened.TheVariants.{OtherGame}
 use Rattle.game_host.specs.declared.games.Found.{Found}
@@ -23,7 +23,7 @@ pub record CommonView : Type 0 where
   pub number : ℕ
   pub set : Holding
 
-abbrev pub common_with : Common → Holding → CommonView
+abbrev pub common_with : ServerConfig → Holding → CommonView
 common_with c set = record { manifest = c.manifest.now; number = who_number c.me; set = set }
 
 abbrev pub setup_of : CommonView → List ℕ → Parts → ℕ → SetupView

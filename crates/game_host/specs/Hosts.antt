@@ -60,9 +60,3 @@ pub record Hosts {K W : Type 0} (s : Keepers K) (t : CommonView) (w : Writers W)
   pub cause : lost ≡ true → Risen port.faults port'.faults
   pub ends : Ends n (all_replies acts) lost ended
   pub lines : LinesEnd w out (all_lines (all_replies acts) lost) out' ended
-
--- so it hosts; or memory for the open games was refused, and nothing was done
-abbrev pub HostsIfRoom : {K W E : Type 0} → Keepers K → CommonView → Writers W → ℕ → Gives K → PortFacts → PortFacts → W → W → Result (Result ℕ E) WriteFault → Type 0
-HostsIfRoom s t w n gives port port' out out' (Ok (Ok status)) = Hosts s t w n gives port port' out out' (Ok status)
-HostsIfRoom s t w n gives port port' out out' (Ok (Err e)) = (port' ≡ port) × (out' ≡ out)
-HostsIfRoom s t w n gives port port' out out' (Err fault) = Hosts s t w n gives port port' out out' (Err fault)

@@ -10,4 +10,5 @@ pub mod Games
 pub mod Hosts
 pub mod Laws
 pub mod Seats
+pub mod Servers
 pub mod Turns

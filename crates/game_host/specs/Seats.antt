@@ -1,40 +1,44 @@
 -- Games that are open, and the others; cited by private clauses alone.
-use Rattle.std.specs.Prelude.{◌≡◌, ℕ, false, cond, List, Option, Some, None}
+use Rattle.std.specs.Prelude.{◌≡◌, ℕ, false, cond, List, Option, Some, None, IfSome}
 use Rattle.std.specs.Str.{bytes_eq}
 use Rattle.judge_core.specs.Tables.{Holding}
 use Rattle.move_msg.specs.declared.message.Message.{Message}
 use Rattle.arbiter_core.specs.Keeping.{KeeperFacts}
-use Rattle.arbiter_core.specs.Delivers.{Delivers, IsKept, Moment, Told, exchange, moment}
+use Rattle.arbiter_core.specs.Delivers.{Answers, IsKept, Moment, Told, answer_to_any, moment}
 use Rattle.arbiter_core.specs.Resting.{CanWake, awake}
 use Rattle.arbiter_service.specs.Serving.{line_for, outputs_of}
 use Rattle.game_host.specs.declared.seat.Seat.{Seat}
 use Rattle.game_host.specs.Folders.{Gives, GivesLess, GivesOthers, Keepers}
 use Rattle.game_host.specs.Games.{CommonView, Life, Fresh, Shut, Open}
 
--- the arbiter of a seat, awake with these tables, and its keeper
+-- the arbiter of a seat, with these tables, and its keeper
 abbrev pub moment_of : {K : Type 0} → Holding → Seat K → Moment K
-moment_of set seat = moment (awake seat.resting set) seat.keeper
+moment_of set seat = moment (awake seat.state set) seat.keeper
 
 -- it can wake, and while it runs its record is the one that is kept
 pub record IsAtRest {K : Type 0} (facts : KeeperFacts K) (set : Holding) (seat : Seat K) : Type 0 where
-  pub wakes : CanWake seat.resting set
-  pub keeps : IsKept (facts.kept seat.keeper) (awake seat.resting set)
+  pub wakes : CanWake seat.state set
+  pub keeps : IsKept (facts.kept seat.keeper) (awake seat.state set)
 
 -- so it is, and it runs
 pub record IsSeated {K : Type 0} (facts : KeeperFacts K) (set : Holding) (seat : Seat K) : Type 0 where
   pub rests : IsAtRest facts set seat
-  pub runs : seat.resting.is_down ≡ false
+  pub runs : seat.state.is_down ≡ false
 
--- the arbiter answers a datagram so, with these messages and this line
-pub record IsAnswered {K : Type 0} (facts : KeeperFacts K) (before : Moment K) (datagram : List ℕ) (after : Moment K) (outputs : List Message) (line : List ℕ) : Type 0 where
+-- the arbiter answers a message so, with these messages and this line
+pub record IsAnswered {K : Type 0} (facts : KeeperFacts K) (before : Moment K) (message : Message) (after : Moment K) (outputs : List Message) (line : List ℕ) : Type 0 where
   pub told : Told
-  pub delivered : Delivers facts before (exchange datagram told after)
+  pub answers : Answers facts before (answer_to_any before.arbiter message) told after
   pub outputs_are : outputs ≡ outputs_of told
   pub line_is : line ≡ line_for told after.arbiter.kept
 
 -- which games are open, by their stamps
 abbrev pub At : Type 0 → Type 0
 At K = List ℕ → Option (Seat K)
+
+-- all of them can answer by these tables
+abbrev pub AreSeated : {K : Type 0} → KeeperFacts K → Holding → At K → Type 0
+AreSeated facts set at = (stamp : List ℕ) → IfSome (at stamp) (IsSeated facts set)
 
 -- where the arbiters of all games are
 abbrev pub Lives : Type 0 → Type 0
@@ -49,10 +53,6 @@ Stands s t gives (Some seat) life = IsSeated s.facts t.set seat × (life ≡ Ope
 
 abbrev pub AreLives : {K : Type 0} → Keepers K → CommonView → Gives K → At K → Lives K → Type 0
 AreLives s t gives at lives = (stamp : List ℕ) → Stands s t (gives stamp) (at stamp) (lives stamp)
-
--- the open games stand for some lives
-abbrev pub AreSeated : {K : Type 0} → Keepers K → CommonView → Gives K → At K → Type 0
-AreSeated {K = K} s t gives at = (lives : Lives K) × AreLives s t gives at lives
 
 -- which games are open, with this one in hand or taken out
 abbrev pub in_hand : {K : Type 0} → List ℕ → Option (Seat K) → At K → At K

@@ -1,7 +1,10 @@
 -- From one moment of a host to a later one; cited by private clauses alone.
-use Rattle.std.specs.Prelude.{◌≡◌, ℕ, Bool, true, false, List, [], ◌∷◌, Some, None, Result, IfOk}
+use Rattle.std.specs.Prelude.{◌≡◌, ℕ, Bool, true, false, List, [], ◌∷◌, Some, None, Result, Ok, IfOk}
 use Rattle.std.specs.List.{AllByRecursion}
 use Rattle.judge_core.specs.Tables.{Holding}
+use Rattle.move_msg.specs.declared.message.Message.{Message}
+use Rattle.move_msg.specs.Heard.{heard_in}
+use Rattle.move_msg.specs.Messages.{stamp_in}
 use Rattle.arbiter_core.specs.Keeping.{KeeperFacts}
 use Rattle.arbiter_core.specs.Setups.{SetupView}
 use Rattle.system_io.specs.Failures.{Risen}
@@ -10,16 +13,16 @@ use Rattle.system_io.specs.declared.output.WriteFault.{WriteFault}
 use Rattle.arbiter_service.specs.GoingOut.{LinesEnd, Writers}
 use Rattle.arbiter_service.specs.ServedLines.{refused_port}
 use Rattle.game_host.specs.declared.fault.Unopened.{Unopened}
-use Rattle.game_host.specs.declared.seat.Common.{Common}
 use Rattle.game_host.specs.declared.seat.Seat.{Seat}
 use Rattle.game_host.specs.Folders.{FolderFacts, Gives, GivesOthers, Keepers, keepers}
 use Rattle.game_host.specs.declared.turn.Answered.{Answered}
 use Rattle.game_host.specs.Told.{line_words}
 use Rattle.game_host.specs.Acts.{Act, IsSorted, Reply, acts_of, all_replies, passing_at, stamp_for, unopened}
-use Rattle.game_host.specs.Games.{CommonView, Fresh, Goes, IsSetupOf, IsToldAs, common_with}
-use Rattle.game_host.specs.Room.{at_stamp}
+use Rattle.game_host.specs.Games.{CommonView, Fresh, Goes, IsSetupOf, IsToldAs}
 use Rattle.game_host.specs.Hosts.{Ends, all_lines, all_passing}
-use Rattle.game_host.specs.Seats.{At, AreLives, AreSeated, IsSeated, Lives, in_hand}
+use Rattle.game_host.specs.Room.{at_stamp}
+use Rattle.game_host.specs.Seats.{At, AreLives, IsSeated, Lives, in_hand}
+use Rattle.game_host.specs.Servers.{ServerView}
 
 -- the acts of each game lead from its old life to its new one, whatever stands between them
 pub record Each {K : Type 0} (s : Keepers K) (t : CommonView) (old new : Lives K) (acts : List (Act K)) : Type 0 where
@@ -46,21 +49,10 @@ Turns facts folder t games at games' at' replies = LeadsFrom (keepers facts fold
 abbrev pub TurnsAnyhow : {G K : Type 0} → KeeperFacts K → FolderFacts G K → G → At K → G → At K → Type 0
 TurnsAnyhow facts folder games at games' at' = (t : CommonView) → Turns facts folder t games at games' at' []
 
--- whatever they have in common but these tables, and with one reply
-abbrev pub Replies : {G K : Type 0} → KeeperFacts K → FolderFacts G K → Holding → G → At K → G → At K → Reply → Type 0
-Replies facts folder set games at games' at' reply = (t : CommonView) → t.set ≡ set → Turns facts folder t games at games' at' (reply ∷ [])
-
--- a game is in hand after it
-abbrev pub TakesSeat : {G K : Type 0} → KeeperFacts K → FolderFacts G K → CommonView → G → At K → G → At K → List ℕ → Seat K → Type 0
-TakesSeat facts folder t games at games' at' stamp seat = Turns facts folder t games at games' (in_hand stamp (Some seat) at') []
-
--- the datagram of a game is refused so
-abbrev pub Refuses : {G K : Type 0} → KeeperFacts K → FolderFacts G K → CommonView → G → At K → G → At K → List ℕ → Unopened → Type 0
-Refuses facts folder t games at games' at' stamp why = (datagram : List ℕ) → stamp_for datagram ≡ Some stamp → Turns facts folder t games at games' at' (unopened stamp datagram why ∷ [])
-
--- the open games stand for some lives
-abbrev pub AreOpen : {G K : Type 0} → KeeperFacts K → FolderFacts G K → CommonView → G → At K → Type 0
-AreOpen facts folder t games at = AreSeated (keepers facts folder games) t (folder.gives games) at
+-- what was lent comes back: the tables as they were, and the folder where it was
+pub record ComesBack {G K : Type 0} (folder : FolderFacts G K) (tables : Holding) (games : G) (tables' : Holding) (games' : G) : Type 0 where
+  pub same : tables' ≡ tables
+  pub place : folder.place games' ≡ folder.place games
 
 -- a game that isn't open is opened, and in hand
 pub record OpensSeat {G K : Type 0} (facts : KeeperFacts K) (folder : FolderFacts G K) (t : CommonView) (games games' : G) (stamp : List ℕ) (seat : Seat K) : Type 0 where
@@ -84,26 +76,43 @@ OpensFound facts folder games games' stamp setup seat = (t : CommonView) → IsF
 abbrev pub RefusesFound : {G K : Type 0} → KeeperFacts K → FolderFacts G K → G → G → List ℕ → SetupView → Unopened → Type 0
 RefusesFound facts folder games games' stamp setup why = (t : CommonView) → IsFoundAs facts folder t games stamp setup → RefusesSeat facts folder t games games' stamp why
 
--- which games are open, by their stamps
-abbrev pub Entries : Type 0 → Type 0
-Entries K = List (List ℕ × Seat K)
-
 -- the keeper of a game is given back: what the folder gives next of it is over what this one left, and of the others no more
 pub record Closes {G K : Type 0} (folder : FolderFacts G K) (games games' : G) (stamp : List ℕ) (left : K) : Type 0 where
   pub next : (next : K) → folder.gives games' stamp next → folder.follows left next
   pub others : GivesOthers stamp (folder.gives games) (folder.gives games')
 
+-- ---- a server
+
+-- from one moment of a server to a later one, with these replies
+abbrev pub TurnsTo : {G K : Type 0} → KeeperFacts K → FolderFacts G K → ServerView G K → ServerView G K → List Reply → Type 0
+TurnsTo facts folder old new replies = Turns facts folder old.common old.games (at_stamp old.seats) new.games (at_stamp new.seats) replies
+
+-- a game is in hand after it
+pub record TakesSeat {G K : Type 0} (facts : KeeperFacts K) (folder : FolderFacts G K) (old new : ServerView G K) (stamp : List ℕ) (seat : Seat K) : Type 0 where
+  pub absent : at_stamp new.seats stamp ≡ None
+  pub seated : IsSeated facts old.common.set seat
+  pub turns : Turns facts folder old.common old.games (at_stamp old.seats) new.games (in_hand stamp (Some seat) (at_stamp new.seats)) []
+
+-- the datagram of a game is refused so
+abbrev pub Refuses : {G K : Type 0} → KeeperFacts K → FolderFacts G K → ServerView G K → ServerView G K → List ℕ → Unopened → Type 0
+Refuses facts folder old new stamp why = (datagram : List ℕ) → stamp_for datagram ≡ Some stamp → TurnsTo facts folder old new (unopened stamp datagram why ∷ [])
+
 -- the reply to a datagram
 abbrev pub reply_of : List ℕ → Answered → Reply
 reply_of datagram r = record { datagram = datagram; outputs = r.outputs.items; line = line_words r.line }
 
+-- a message that comes by any datagram is answered so
+abbrev pub AnswersMessage : {G K : Type 0} → KeeperFacts K → FolderFacts G K → ServerView G K → Message → ServerView G K → Answered → Type 0
+AnswersMessage facts folder old message new r = (datagram : List ℕ) → heard_in datagram ≡ Ok message → TurnsTo facts folder old new (reply_of datagram r ∷ [])
+
+-- so it is by a game that is in hand
+abbrev pub AnswersInHand : {G K : Type 0} → KeeperFacts K → FolderFacts G K → ServerView G K → Seat K → Message → ServerView G K → Answered → Type 0
+AnswersInHand facts folder old seat message new r =
+    (datagram : List ℕ) → heard_in datagram ≡ Ok message → Turns facts folder old.common old.games (in_hand (stamp_in message).0 (Some seat) (at_stamp old.seats)) new.games (at_stamp new.seats) (reply_of datagram r ∷ [])
+
 -- with these replies something goes on
 abbrev pub Going : Type 1
 Going = List Reply → Type 0
-
--- from a folder and the open games to later ones
-abbrev pub going : {G K : Type 0} → KeeperFacts K → FolderFacts G K → Common → Holding → G → Entries K → G → Entries K → Going
-going facts folder common set games seats games' seats' = Turns facts folder (common_with common set) games (at_stamp seats) games' (at_stamp seats')
 
 -- a datagram came and was answered, and this is its line; or the port is lost, and nothing is done
 abbrev pub Receives : Going → PortFacts → PortFacts → List ℕ → Bool → Type 0
@@ -128,6 +137,6 @@ pub record HasServed {K W : Type 0} (s : Keepers K) (t : CommonView) (w : Writer
   pub ends : Ends n replies lost ended
   pub lines : LinesEnd w out (all_lines replies lost) out' ended
 
--- such a run from a folder to a later one and the games that are open then
-abbrev pub ServesOpen : {G K W : Type 0} → KeeperFacts K → FolderFacts G K → Common → Holding → Writers W → ℕ → G → G → Entries K → PortFacts → PortFacts → W → W → Result ℕ WriteFault → Type 0
-ServesOpen facts folder common set w n games games' seats' port port' out out' ended = HasServed (keepers facts folder games) (common_with common set) w n (folder.gives games') (at_stamp seats') port port' out out' ended
+-- such a run of a server
+abbrev pub ServesOn : {G K W : Type 0} → KeeperFacts K → FolderFacts G K → Writers W → ℕ → ServerView G K → ServerView G K → PortFacts → PortFacts → W → W → Result ℕ WriteFault → Type 0
+ServesOn facts folder w n old new port port' out out' ended = HasServed (keepers facts folder old.games) old.common w n (folder.gives new.games) (at_stamp new.seats) port port' out out' ended

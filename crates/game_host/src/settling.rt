@@ -16,7 +16,7 @@ pub(crate) fn close<'a, G: Games>(games: &mut G, stamp: &[u8; 16], seat: Seat<'a
     ensures closes { Closes G.facts games.old games.new stamp.now seat.entry.keeper }
     ensures place { G.facts.place games.new ≡ G.facts.place games.old }
 {
-    let Seat { resting: _, keeper } = seat;
+    let Seat { state: _, keeper } = seat;
     games.give_back(stamp, keeper);
 }
 
@@ -58,11 +58,11 @@ pub(crate) fn settle<'a, G: Games>(
     seat: Seat<'a, G::Keeper>,
 )
     requires { at_stamp seats.old.entries stamp.now ≡ None }
-    ensures runs { seat.entry.resting.is_down ≡ false → TurnsAnyhow G.Keeper.facts G.facts games.old (in_hand stamp.now (Some seat.entry) (at_stamp seats.old.entries)) games.new (at_stamp seats.new.entries) }
-    ensures down { seat.entry.resting.is_down ≡ true → Closes G.facts games.old games.new stamp.now seat.entry.keeper × (seats.new ≡ seats.old) }
+    ensures runs { seat.entry.state.is_down ≡ false → TurnsAnyhow G.Keeper.facts G.facts games.old (in_hand stamp.now (Some seat.entry) (at_stamp seats.old.entries)) games.new (at_stamp seats.new.entries) }
+    ensures down { seat.entry.state.is_down ≡ true → Closes G.facts games.old games.new stamp.now seat.entry.keeper × (seats.new ≡ seats.old) }
     ensures place { G.facts.place games.new ≡ G.facts.place games.old }
 {
-    if seat.resting.is_down() {
+    if seat.state.is_down() {
         close(games, stamp, seat);
         return;
     }

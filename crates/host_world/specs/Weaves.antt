@@ -1,7 +1,7 @@
 -- Two hosts and a game that both have, woven together: what each of them does, in the order of time (this project's own). A weave
 -- is an interleaving of what both do.
 --
--- Of each run of a host its contract is known (`IsHosted` of game_host, which `serve_games` ensures). It gives the setup of each
+-- Of each run of a host its contract is known (`IsHosted` of game_host, which `Server::serve` ensures). It gives the setup of each
 -- opening, what opening and delivering leave, from where each delivery starts, and that a game that is opened wasn't open. What no
 -- contract can give is a premise, and stands here:
 -- - `IsHostOf`: which hosts these are.
@@ -86,7 +86,7 @@ pub record IsHostOf (game : Judged) (who : Who) (t : CommonView) : Type 0 where
   pub number : t.number ≡ who_number who
 
 -- These acts are what a run of it has done so far: with what is still to come, if anything, they are the acts of a run that returns, as
--- the contract of `serve_games` has them. Premise: a run that was stopped is a front of one that returns.
+-- the contract of `Server::serve` has them. Premise: a run that was stopped is a front of one that returns.
 pub record IsRunOf {K : Type 0} (s : Keepers K) (game : Judged) (who : Who) (acts : List (Act K)) : Type 0 where
   pub common : CommonView
   pub of : IsHostOf game who common

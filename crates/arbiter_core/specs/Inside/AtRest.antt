@@ -1,15 +1,15 @@
 -- What the fields of an arbiter at rest stand for.
-use Rattle.arbiter_core.specs.declared.resting.Resting.TheInside.{Inside}
+use Rattle.arbiter_core.specs.declared.state.ArbiterState.TheInside.{Inside}
 use Rattle.arbiter_core.specs.Resting.{Rest}
 use Rattle.arbiter_core.specs.Inside.Playing.{recorded_in}
 
 abbrev pub rest_of : Inside → Rest
 rest_of a = record {
-  name = a.name.items;
-  start = a.start;
-  manifest = a.manifest.now;
-  number = a.number;
-  delay = a.delay;
+  name = a.terms.name.items;
+  start = a.terms.start;
+  manifest = a.terms.manifest.now;
+  number = a.terms.me;
+  delay = a.terms.delay;
   me = record { stamp = a.played.record.stamp; who = a.who };
   kept = recorded_in a.played;
   window = a.window;

@@ -22,6 +22,10 @@ recorded_in p = record { moves = p.record.moves; verdict = p.record.verdict }
 abbrev pub played_of : Record → Reached → Played
 played_of r standing = record { «record» = r; standing = standing }
 
+-- after these moves the game is at the position where it stands
+abbrev pub IsPlayedFrom : Parts → List Move → Reached → Type 0
+IsPlayedFrom start moves standing = position_after_all start moves ≡ Some standing.position
+
 -- what is recorded for this stamp is whole, and the game stands so after its moves
 pub record IsPlayed (setup : SetupView) (stamp : Stamp) (p : Played) : Type 0 where
   pub stamp_is : p.record.stamp ≡ stamp

@@ -1,6 +1,23 @@
-use Rattle.adjudicate_core.specs.Hostings.{NoAddress}
+use Rattle.std.proofs.Common.{◌∙◌, inl, inr, refl}
 use Rattle.arbiter_service.proofs.PortLaws.{Passed-nil}
+use Rattle.adjudicate_core.specs.Hostings.{NoAddress, NoRoomForLine, Ready, Unready}
 use Rattle.adjudicate_core.proofs.hosting.start_at.Goals as goal
 
-pub returns-in-None : goal.returns-in-None
-returns-in-None g c = NoAddress (rw c.in-None.is at c.own_address.ensures.own) (Passed-nil _) c.put_refusal.ensures
+pub returns-in-Err : goal.returns-in-Err
+returns-in-Err g c =
+    elim c.in-Err.ensures.err [
+      | inl port ↦ NoAddress port.1 (Passed-nil _) (rw port.0 at c.put_refusal.ensures)
+      | inr memory ↦ NoRoomForLine (Passed-nil _) (rw memory at c.put_refusal.ensures)
+    ]
+
+pub returns-in-Ok-put_line : goal.returns-in-Ok-put_line
+returns-in-Ok-put_line g c =
+    let tells = c.in-Ok.ensures.ok in
+    let line = c.as_bytes.ensures.value ∙ c.as_str.ensures.value ∙ tells.2 in
+    Ready tells.0 tells.1 _ (c.in-Ok-put_line.ensures _ line) c.serve_at.ensures
+
+pub returns-in-Err-put_line : goal.returns-in-Err-put_line
+returns-in-Err-put_line g c =
+    let tells = c.in-Ok.ensures.ok in
+    let line = c.as_bytes.ensures.value ∙ c.as_str.ensures.value ∙ tells.2 in
+    Unready tells.0 tells.1 (Passed-nil _) (c.in-Err-put_line.ensures _ line) c.in-Err-put_line.fault refl

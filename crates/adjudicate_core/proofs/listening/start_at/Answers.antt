@@ -1,9 +1,26 @@
-use Rattle.adjudicate_core.specs.Listens.{NoAddress, Unasked}
+use Rattle.std.proofs.Common.{◌∙◌, inl, inr, refl}
 use Rattle.arbiter_service.proofs.PortLaws.{Passed-nil}
+use Rattle.adjudicate_core.specs.Listens.{NoAddress, NoRoomForLine, Ready, Unasked, Unready}
 use Rattle.adjudicate_core.proofs.listening.start_at.Goals as goal
 
 pub returns-then-not-listening : goal.returns-then-not-listening
 returns-then-not-listening g c = Unasked c.if-not-listening.true c.serve_at.ensures
 
-pub returns-in-None : goal.returns-in-None
-returns-in-None g c = NoAddress c.if-not-listening.false (rw c.in-None.is at c.own_address.ensures.own) (Passed-nil _) c.put_refusal.ensures
+pub returns-in-Err : goal.returns-in-Err
+returns-in-Err g c =
+    elim c.in-Err.ensures.err [
+      | inl port ↦ NoAddress c.if-not-listening.false port.1 (Passed-nil _) (rw port.0 at c.put_refusal.ensures)
+      | inr memory ↦ NoRoomForLine c.if-not-listening.false (Passed-nil _) (rw memory at c.put_refusal.ensures)
+    ]
+
+pub returns-in-Ok-put_line : goal.returns-in-Ok-put_line
+returns-in-Ok-put_line g c =
+    let tells = c.in-Ok.ensures.ok in
+    let line = c.as_bytes.ensures.value ∙ c.as_str.ensures.value ∙ tells.2 in
+    Ready c.if-not-listening.false tells.0 tells.1 _ (c.in-Ok-put_line.ensures _ line) c.serve_at-in-Ok-put_line.ensures
+
+pub returns-in-Err-put_line : goal.returns-in-Err-put_line
+returns-in-Err-put_line g c =
+    let tells = c.in-Ok.ensures.ok in
+    let line = c.as_bytes.ensures.value ∙ c.as_str.ensures.value ∙ tells.2 in
+    Unready c.if-not-listening.false tells.0 tells.1 (Passed-nil _) (c.in-Err-put_line.ensures _ line) c.in-Err-put_line.refused refl

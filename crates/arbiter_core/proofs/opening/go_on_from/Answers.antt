@@ -6,7 +6,7 @@ use Rattle.move_msg.specs.Numbers.{most_moves}
 use Rattle.move_msg.specs.declared.record_bytes.Record.{Record}
 use Rattle.move_msg.specs.declared.stamp.Stamp.{Stamp}
 use Rattle.arbiter_core.specs.Opens.{at_end}
-use Rattle.arbiter_core.specs.Setups.{rules_at, setup_view}
+use Rattle.arbiter_core.specs.Setups.{rules_at, terms_with}
 use Rattle.arbiter_core.proofs.Opened.{cut_short, is_whole, other_verdict, played_is}
 use Rattle.arbiter_core.proofs.opening.go_on_from.Goals as goal
 
@@ -17,13 +17,13 @@ of_game {stamp = stamp} {delay = delay} same is = subst (λ (r : Record). (r.sta
 pub returns-in_default-clause-err : goal.returns-in_default-clause-err
 returns-in_default-clause-err c = (
   of_game c.as_record-record.ensures (c.if-not-is_of_game.ensures.0 refl),
-  subst (ListsMovesInGame (rules_at (setup_view c.args.setup.now))) (c.as_slice-moves.ensures.moves ∙ ap (λ (r : Record). r.moves) c.as_record-record.ensures) c.in_default.ensures.memory,
+  subst (ListsMovesInGame (rules_at (terms_with c.args.terms.now c.args.tables.now))) (c.as_slice-moves.ensures.moves ∙ ap (λ (r : Record). r.moves) c.as_record-record.ensures) c.in_default.ensures.memory,
 )
 
 pub returns-in_default-at_end-clause-err : goal.returns-in_default-at_end-clause-err
 returns-in_default-at_end-clause-err c =
     let moves = c.as_slice-moves.ensures.moves ∙ ap (λ (r : Record). r.moves) c.as_record-record.ensures in
-    let r = rules_at (setup_view c.args.setup.now) in
+    let r = rules_at (terms_with c.args.terms.now c.args.tables.now) in
     let outcome = subst (λ (ms : List Move). IsOutcome r ms c.in-Ok.followed.outcome) moves c.in-Ok.ensures.value in
     let ends : at_end c.in-Ok.followed.outcome (length c.args.kept.moves) ≡ None =
     ap (λ (ms : List Move). at_end c.in-Ok.followed.outcome (length ms)) (sym moves) ∙ sym c.at_end.ensures ∙ c.in_default-at_end.is in
@@ -32,7 +32,7 @@ returns-in_default-at_end-clause-err c =
 pub returns-then-ne-clause-err : goal.returns-then-ne-clause-err
 returns-then-ne-clause-err c =
     let moves = c.as_slice-moves.ensures.moves ∙ ap (λ (r : Record). r.moves) c.as_record-record.ensures in
-    let r = rules_at (setup_view c.args.setup.now) in
+    let r = rules_at (terms_with c.args.terms.now c.args.tables.now) in
     let outcome = subst (λ (ms : List Move). IsOutcome r ms c.in-Ok.followed.outcome) moves c.in-Ok.ensures.value in
     let ends : at_end c.in-Ok.followed.outcome (length c.args.kept.moves) ≡ Some c.in-Some.verdict =
     ap (λ (ms : List Move). at_end c.in-Ok.followed.outcome (length ms)) (sym moves) ∙ sym c.at_end.ensures ∙ c.in-Some.is in
@@ -41,14 +41,14 @@ returns-then-ne-clause-err c =
 pub returns-clause-ok : goal.returns-clause-ok
 returns-clause-ok c =
     let moves = c.as_slice-moves.ensures.moves ∙ ap (λ (r : Record). r.moves) c.as_record-record.ensures in
-    let r = rules_at (setup_view c.args.setup.now) in
+    let r = rules_at (terms_with c.args.terms.now c.args.tables.now) in
     let outcome = subst (λ (ms : List Move). IsOutcome r ms c.in-Ok.followed.outcome) moves c.in-Ok.ensures.value in
     let standing = subst (λ (ms : List Move). IsAt r (take (plies_to ms c.in-Ok.followed.outcome) ms) c.in-Ok.followed.standing) moves c.in-Ok.ensures.standing in
     let ends : at_end c.in-Ok.followed.outcome (length c.args.kept.moves) ≡ Some c.in-Some.verdict =
     ap (λ (ms : List Move). at_end c.in-Ok.followed.outcome (length ms)) (sym moves) ∙ sym c.at_end.ensures ∙ c.in-Some.is in
     let lent : c.as_record-record.result.now.verdict ≡ c.in-Some.verdict = search rules in
     let ruled : c.args.kept.verdict ≡ c.in-Some.verdict = ap (λ (r : Record). r.verdict) (sym c.as_record-record.ensures) ∙ lent in (
-      played_is (setup_view c.args.setup.now) c.args.stamp _ c.in-Ok.followed.outcome c.in-Some.verdict (of_game c.as_record-record.ensures (c.if-not-is_of_game.ensures.0 refl)).0 outcome ends ruled (of_game c.as_record-record.ensures (c.if-not-is_of_game.ensures.0 refl)).1 standing (subst (λ (r : Record). length r.moves ≤ most_moves) c.as_record-record.ensures c.as_slice-moves.ensures.few),
+      played_is (terms_with c.args.terms.now c.args.tables.now) c.args.stamp _ c.in-Ok.followed.outcome c.in-Some.verdict (of_game c.as_record-record.ensures (c.if-not-is_of_game.ensures.0 refl)).0 outcome ends ruled (of_game c.as_record-record.ensures (c.if-not-is_of_game.ensures.0 refl)).1 standing (subst (λ (r : Record). length r.moves ≤ most_moves) c.as_record-record.ensures c.as_slice-moves.ensures.few),
       refl,
       is_whole r c.args.kept c.in-Ok.followed.outcome outcome c.in-Some.verdict ends ruled,
     )

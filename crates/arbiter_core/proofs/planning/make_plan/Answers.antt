@@ -8,19 +8,15 @@ use Rattle.judge_core.specs.Tables.{Holding, Tables}
 use Rattle.move_msg.specs.Numbers.{most_moves}
 use Rattle.judge_core.specs.Games.{Rules}
 use Rattle.judge_core.specs.Standings.{IsAt}
-use Rattle.arbiter_core.specs.declared.setup.Setup.{Setup}
 use Rattle.arbiter_core.specs.Recording.{Window}
-use Rattle.arbiter_core.specs.Setups.{rules_at, setup_view}
+use Rattle.arbiter_core.specs.Setups.{rules_at, terms_with}
 use Rattle.arbiter_core.proofs.PlanLaws.{plan_starts, planned, ends_ruled, ends_none, ends_past, ends_illegal, goes_on, default_free, lists_first, lists_next, next_position}
 use Rattle.arbiter_core.proofs.Settling.{reach_next}
 use Rattle.arbiter_core.proofs.planning.make_plan.Goals as goal
 
-same_setup : (s t : Setup) (set : Holding) → set ≡ s.set → s ≡ t → record { name = s.name; start = s.start; manifest = s.manifest; me = s.me; delay = s.delay; set = set } ≡ t
-same_setup s t set e f = ap (λ (x : Holding). record { name = s.name; start = s.start; manifest = s.manifest; me = s.me; delay = s.delay; set = x }) e ∙ f
-
 pub loop-slot-init : goal.loop-slot-init
 loop-slot-init c =
-    let r : Rules = rules_at (setup_view c.args.setup.now) in
+    let r : Rules = rules_at (terms_with c.args.terms.now c.args.tables.now) in
     let before : List Move = c.args.played.now.record.moves in
     let m : Move = c.args.m in
     let own = c.requires.in_order.played in
@@ -35,7 +31,7 @@ loop-slot-init c =
     let short = next.short in
     let at : IsAt r (before ++ m ∷ []) c.in_ok-standing.standing = c.in_ok-standing.ensures.at r before m refl own.at legal in
     record {
-      same = same_setup c.args.setup.now c.args.setup.now _ c.in_ok-standing.ensures.unchanged refl;
+      same = c.in_ok-standing.ensures.unchanged;
       room = omega arith;
       filled = ap length one;
       short = omega arith;
@@ -70,13 +66,13 @@ returns-clause-planned c =
 
 pub loop-slot-preserved : goal.loop-slot-preserved
 loop-slot-preserved c =
-    let r : Rules = rules_at (setup_view c.args.setup.now) in
+    let r : Rules = rules_at (terms_with c.args.terms.now c.args.tables.now) in
     let m : Move = c.in-Some.m in
     let before : List Move = c.args.played.now.record.moves in
     let added : List Move = c.loop-slot.plan.moves.items in
     let moves : List Move = before ++ added in
     let slot = slot_is c.args.window.now _ _ _ (Some m) c.places-slot-items.ensures.places c.loop-slot-test.true c.slot-item.is c.in-Some.is in
-    let tables = sym (ap (λ (s : Setup). s.set.tables) c.loop-slot.invariant.same) in
+    let tables = sym (ap (λ (h : Holding). h.tables) c.loop-slot.invariant.same) in
     let legal : position_after c.loop-slot.plan.standing.position m ≡ Some c.in-Some-play.position =
     ap (λ (p : Parts). position_after p m) (sym c.position.ensures) ∙ sym c.play.ensures.computed ∙ c.in-Some-play.is in
     let at : IsAt r (moves ++ m ∷ []) c.in_ok-plan.field-0 = c.in_ok-plan.ensures.at r moves m tables c.loop-slot.invariant.plan.at legal in
@@ -90,7 +86,7 @@ loop-slot-preserved c =
     let size : length (before ++ c.push_reserved-in-loop-slot.new.self.items) ≡ length moves + 1 = ap length pushed ∙ simp length-append in
     let more : length c.push_reserved-in-loop-slot.new.self.items ≡ length added + 1 = ap length one ∙ simp length-append in
     record {
-      same = same_setup c.loop-slot.setup c.args.setup.now _ c.in_ok-plan.ensures.unchanged c.loop-slot.invariant.same;
+      same = c.in_ok-plan.ensures.unchanged ∙ c.loop-slot.invariant.same;
       room = omega arith;
       filled = omega arith;
       short = omega arith;
@@ -104,7 +100,7 @@ owed (Err e) p = p
 -- memory is wanted where the position after the move lists moves
 pub returns-in_err-standing-clause-memory : goal.returns-in_err-standing-clause-memory
 returns-in_err-standing-clause-memory c =
-    let r : Rules = rules_at (setup_view c.args.setup.now) in
+    let r : Rules = rules_at (terms_with c.args.terms.now c.args.tables.now) in
     let before : List Move = c.args.played.now.record.moves in
     let m : Move = c.args.m in
     let own = c.requires.in_order.played in
@@ -119,4 +115,4 @@ returns-in_err-plan-clause-memory c =
     let legal : position_after c.loop-slot.plan.standing.position c.in-Some.m ≡ Some c.in-Some-play.position =
     ap (λ (p : Parts). position_after p c.in-Some.m) (sym c.position.ensures) ∙ sym c.play.ensures.computed ∙ c.in-Some-play.is in
     owed c.from_residual-in_err-plan.result (lists_next _ _ _ _ _ _ _ _ c.in-Some.m c.in-Some-play.position c.loop-slot.invariant.plan (sym c.is_some.ensures ∙ c.if-is_some.false) slot.0 slot.1 legal
-    (subst (λ (t : Tables). ListsMovesForVerdict t c.in-Some-play.position) (ap (λ (s : Setup). s.set.tables) c.loop-slot.invariant.same) c.in_err-plan.ensures.memory))
+    (subst (λ (t : Tables). ListsMovesForVerdict t c.in-Some-play.position) (ap (λ (h : Holding). h.tables) c.loop-slot.invariant.same) c.in_err-plan.ensures.memory))

@@ -14,5 +14,5 @@ returns-in_default-clause-err g c =
 pub returns-then-not-is_same-clause-err : goal.returns-then-not-is_same-clause-err
 returns-then-not-is_same-clause-err g c =
     IsAnother c.in-Ok.game c.in-Ok.ensures.told (λ is.
-    let own = c.in-Some.ensures.some.1 ∙ ap (λ (n : List ℕ). stamp_of n (fen_of c.in-Ok.game.start) c.args.common.now.manifest.now c.in-Ok.game.delay) c.as_slice-name.ensures.value ∙ sym is.stamped in
+    let own = c.in-Some.ensures.some.1 ∙ ap (λ (n : List ℕ). stamp_of n (fen_of c.in-Ok.game.start) c.args.manifest.now c.in-Ok.game.delay) c.as_slice-name.ensures.value ∙ sym is.stamped in
     let wrong : false ≡ true = c.if-not-is_same.ensures.1 own in cc) refl
