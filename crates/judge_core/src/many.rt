@@ -9,10 +9,13 @@ ghost use Rattle.judge_core.specs.Tables.{table_value};
 
 use crate::blocks::Blocks;
 use crate::fault::{ProbeFault, ValueFault};
-use crate::probe::Probe;
+use crate::found::worth_in;
+use crate::probe::{Probe, is_bare};
+use crate::probing::told;
 use crate::reading::OwnPlace;
 use crate::set::Set;
 use crate::shelf::Shelf;
+use crate::verdict::is_out_of_scope;
 use crate::wdl::Wdl;
 use board_core::Position;
 use std::alloc::{AllocError, Global};
@@ -98,6 +101,28 @@ impl<'a> Set<'a> {
         let located = self.shelf.locate_each(alloc, probes)?;
         self.blocks.note(look_ahead(&located));
         self.shelf.read_each(&mut self.blocks, alloc, &located)
+    }
+
+    /// What the position is worth, as `wdl` gives it, where its own table says this.
+    fn wdl_with(
+        &mut self,
+        alloc: Global,
+        probe: &Probe<'_>,
+        own: &Result<Wdl, ValueFault>,
+    ) -> Result<Wdl, ProbeFault>
+        requires own { own.now ≡ table_value self.old.tables probe.now }
+        ensures is { result ≡ wdl_answer self.old.tables probe.now }
+        ensures unchanged { self.new ≡ self.old }
+    {
+        let position = probe.position();
+        if is_out_of_scope(position) {
+            return Err(ProbeFault::OutOfScope);
+        }
+        if is_bare(position) {
+            return Ok(Wdl::Draw);
+        }
+        let weighed = self.weigh_with(alloc, probe, own);
+        told(&worth_in(weighed))
     }
 
     /// The WDL values of the positions, each as `wdl` gives it, in their order. The tables of all are looked up before the

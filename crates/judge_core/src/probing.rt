@@ -4,7 +4,7 @@ ghost use Rattle.std.specs.Prelude.{◌≡◌, ◌≢◌, Err};
 ghost use Rattle.board_core.specs.ComputedMoves.{legal_captures};
 ghost use Rattle.judge_core.specs.Probing.{is_forced, weighed_by, wdl_of};
 ghost use Rattle.judge_core.specs.Ruling.{is_out_of_scope};
-ghost use Rattle.judge_core.specs.Answers.{IsProbe, as_probe, wdl_answer};
+ghost use Rattle.judge_core.specs.Answers.{IsProbe, as_probe};
 ghost use Rattle.judge_core.specs.declared.fault.ProbeFault.TheVariants.{OutOfMemory};
 ghost use Rattle.judge_core.specs.Inside.Found.{found_in};
 ghost use Rattle.judge_core.specs.Tables.{table_value};
@@ -32,7 +32,7 @@ fn is_forced(position: &Position) -> bool
 }
 
 /// What a probe returns for a reading.
-fn told(reading: &Result<Wdl, ValueFault>) -> Result<Wdl, ProbeFault>
+pub(crate) fn told(reading: &Result<Wdl, ValueFault>) -> Result<Wdl, ProbeFault>
     ensures { result ≡ as_probe (λ v. v) reading.now }
 {
     match reading {
@@ -97,7 +97,7 @@ impl<'a> Set<'a> {
 
     /// What the captures say about the position, and its own table, which says this.
     #[cycle(wdl)]
-    fn weigh_with(
+    pub(crate) fn weigh_with(
         &mut self,
         alloc: Global,
         probe: &Probe<'_>,
@@ -149,27 +149,5 @@ impl<'a> Set<'a> {
         }
         let reading = self.wdl_of(alloc, position);
         told(&reading)
-    }
-
-    /// What the position is worth, as `wdl` gives it, where its own table says this.
-    pub(crate) fn wdl_with(
-        &mut self,
-        alloc: Global,
-        probe: &Probe<'_>,
-        own: &Result<Wdl, ValueFault>,
-    ) -> Result<Wdl, ProbeFault>
-        requires own { own.now ≡ table_value self.old.tables probe.now }
-        ensures is { result ≡ wdl_answer self.old.tables probe.now }
-        ensures unchanged { self.new ≡ self.old }
-    {
-        let position = probe.position();
-        if is_out_of_scope(position) {
-            return Err(ProbeFault::OutOfScope);
-        }
-        if is_bare(position) {
-            return Ok(Wdl::Draw);
-        }
-        let weighed = self.weigh_with(alloc, probe, own);
-        told(&worth_in(weighed))
     }
 }
