@@ -91,7 +91,7 @@ fn tell_blocks(
 
 /// Tells how many bytes the dictionary of the input takes, and the values of blocks; or its first fault.
 fn tell_dictionary(alloc: Global, told: &mut String, given: &Given<'_>) -> Result<(), Fault> {
-    match Dictionary::read(alloc, given.input) {
+    match Dictionary::read(alloc, given.input, 13) {
         Ok((dictionary, taken)) => {
             writeln!(told, "taken {taken}")?;
             tell_blocks(alloc, told, given, &dictionary)
