@@ -24,3 +24,4 @@ is_simple name.Version = refl
 is_simple name.Send = refl
 is_simple name.Enter = refl
 is_simple name.Host = refl
+is_simple name.Root = refl

@@ -11,3 +11,4 @@ pub mod MisuseLaws
 pub mod PutLaws
 pub mod BindLaws
 pub mod EnterLaws
+pub mod RootLines

@@ -11,6 +11,7 @@ pub mod Moves
 pub mod Probe
 pub mod Probes
 pub mod Record
+pub mod Root
 pub mod Run
 pub mod Send
 pub mod Show

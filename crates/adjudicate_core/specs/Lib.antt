@@ -5,6 +5,7 @@ pub mod Tasks
 pub mod Misuses
 pub mod Usage
 pub mod Uses
+pub mod LineAnswers
 pub mod Lines
 pub mod Looks
 pub mod Schedules

@@ -1,5 +1,5 @@
 -- The lines that the program writes (this project's own).
-use Rattle.std.specs.Prelude.{ℕ, ℤ, List, ◌++◌, Option, Some, None, Result, codes}
+use Rattle.std.specs.Prelude.{ℕ, ℤ, List, ◌++◌, Option, Some, None, Result, Ok, Err, codes, if◌then◌else◌}
 use Rattle.std.specs.Net.Text.{socket_text}
 use Rattle.std.specs.declared.net.socket_addr.SocketAddr.{SocketAddr}
 use Rattle.std.specs.Fmt.{decimal}
@@ -10,6 +10,14 @@ use Rattle.fen_text.specs.Fen.{fault_name as fen_fault_name}
 use Rattle.fen_text.specs.Coordinates.{move_text}
 use Rattle.table_file.specs.Faults.{table_fault_name}
 use Rattle.judge_core.specs.declared.fault.ProbeFault.{ProbeFault}
+use Rattle.judge_core.specs.declared.probed.Probed.{Probed}
+use Rattle.judge_core.specs.declared.root_move.BoardState.{BoardState}
+use Rattle.judge_core.specs.declared.root_move.BoardState.TheVariants.{Open, Check, Checkmate, Stalemate}
+use Rattle.judge_core.specs.declared.root_move.Effect.{Effect}
+use Rattle.judge_core.specs.declared.root_move.RootMove.{RootMove}
+use Rattle.judge_core.specs.Answers.{as_probe}
+use Rattle.judge_core.specs.Probed.{number_of}
+use Rattle.judge_core.specs.Root.{zeroes_clock}
 use Rattle.judge_core.specs.Words.{column_words, columns_words, outcome_words, verdict_words}
 use Rattle.move_msg.specs.declared.message.MessageFault.{MessageFault}
 use Rattle.move_msg.specs.Messages.{fault_name as message_fault_name}
@@ -25,6 +33,7 @@ use Rattle.adjudicate_core.specs.declared.tables.FileFault.{FileFault}
 use Rattle.adjudicate_core.specs.declared.tables.FileFault.TheVariants.{Missing, Changed, Bad}
 use Rattle.adjudicate_core.specs.declared.lines.KeptCount.{KeptCount}
 use Rattle.adjudicate_core.specs.declared.lines.Line.{Line}
+use Rattle.adjudicate_core.specs.declared.lines.RootLine.{RootLine}
 use Rattle.adjudicate_core.specs.declared.lines.Line.TheVariants as line
 use Rattle.adjudicate_core.specs.declared.refusals.Refusal.{Refusal}
 use Rattle.adjudicate_core.specs.declared.refusals.Refusal.TheVariants as refusal
@@ -126,6 +135,29 @@ abbrev pub compared_words : Option ℕ → List ℕ
 compared_words None = codes "agree"
 compared_words (Some ply) = codes "differ " ++ decimal ply
 
+-- a legal move: mate or stalemate, or whether it sets the halfmove clock to 0
+abbrev pub mark_word : BoardState → Effect → List ℕ
+mark_word Checkmate effect = codes "mate"
+mark_word Stalemate effect = codes "stalemate"
+mark_word Open effect = if zeroes_clock effect then codes "zeroing" else codes "-"
+mark_word Check effect = if zeroes_clock effect then codes "zeroing" else codes "-"
+
+-- its value, its distance and that word, or why it has no value
+abbrev pub valued_words : List ℕ → Result ℤ ProbeFault → Result ℤ ProbeFault → List ℕ → List ℕ
+valued_words played (Ok v) dtz mark = played ++ codes " " ++ column_words (Ok v) ++ codes " " ++ column_words dtz ++ codes " " ++ mark
+valued_words played (Err fault) dtz mark = told_words played (Err fault)
+
+unfoldable pub root_line_words : RootLine → List ℕ
+root_line_words l = valued_words (move_text l.played) l.probed.wdl l.probed.dtz (mark_word l.state l.effect)
+
+-- its value and its distance as numbers
+abbrev pub probed_of : RootMove → Probed
+probed_of m = record { wdl = as_probe number_of m.wdl; dtz = as_probe (λ n. n) m.dtz }
+
+-- a legal move and what tables tell of it
+abbrev pub root_words : RootMove → List ℕ
+root_words m = root_line_words (record { played = m.played; effect = m.effect; state = m.state; probed = probed_of m })
+
 abbrev pub words_of : Line → List ℕ
 words_of (line.Ruling verdict) = verdict_words verdict
 words_of (line.Refused why) = refusal_words why
@@ -140,3 +172,4 @@ words_of (line.Finding finding) = finding_words finding
 words_of (line.Compared compared) = compared_words compared
 words_of (line.Outcome o) = outcome_words o.outcome o.plies
 words_of (line.Columns c) = columns_words c.probed.wdl c.probed.dtz c.verdict
+words_of (line.Root l) = root_line_words l

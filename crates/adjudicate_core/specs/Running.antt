@@ -33,6 +33,7 @@ use Rattle.adjudicate_core.specs.Commands.Record as records
 use Rattle.adjudicate_core.specs.Commands.Audit as audits
 use Rattle.adjudicate_core.specs.Commands.Version as versions
 use Rattle.adjudicate_core.specs.Commands.Probes.{PutsProbes}
+use Rattle.adjudicate_core.specs.Commands.Root as roots
 use Rattle.adjudicate_core.specs.Reply.{AnswersOnce, AnswersRead, IsText}
 use Rattle.adjudicate_core.specs.Telling.{TellsOne}
 use Rattle.adjudicate_core.specs.Tasks.{IsTask, IsMisuse, NamesNone, named_in}
@@ -69,6 +70,7 @@ AnswersFrom disk source host (task.Version t) given old new status = versions.An
 AnswersFrom disk source host (task.Send t) given old new status = Sends disk source host t old new (Ok status)
 AnswersFrom disk source host (task.Enter t) given old new status = Enters disk host t old new (Ok status)
 AnswersFrom disk source host (task.Host t) given old new status = HostsGames host (seen_hosting (disk_keepers disk host.host host.file) (Ok status)) t given old new (Ok status)
+AnswersFrom disk source host (task.Root t) given old new status = roots.Puts source t.fen given old new status
 
 -- to a task the program answers from what it reads; or something that it reads for it can't be read; or memory was refused while
 -- it read

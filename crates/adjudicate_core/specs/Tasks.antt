@@ -16,6 +16,7 @@ use Rattle.adjudicate_core.specs.Commands.Game as games
 use Rattle.adjudicate_core.specs.Commands.Send as sends
 use Rattle.adjudicate_core.specs.Commands.Enter as enters
 use Rattle.adjudicate_core.specs.Commands.Host as hosts
+use Rattle.adjudicate_core.specs.Commands.Root as roots
 use Rattle.adjudicate_core.specs.Commands.Record as records
 use Rattle.adjudicate_core.specs.Commands.Audit as audits
 use Rattle.adjudicate_core.specs.Commands.Version as versions
@@ -48,6 +49,7 @@ word_of name.Version = codes "version"
 word_of name.Send = codes "send"
 word_of name.Enter = codes "enter"
 word_of name.Host = codes "host"
+word_of name.Root = codes "root"
 
 -- what it is given
 abbrev pub rules_of : Name → List Rule
@@ -67,6 +69,7 @@ rules_of name.Version = versions.rules
 rules_of name.Send = sends.rules
 rules_of name.Enter = enters.rules
 rules_of name.Host = hosts.rules
+rules_of name.Root = roots.rules
 
 -- what may be wrong with its values, in the order in which it is told
 abbrev pub faults_of : Name → List Fault
@@ -86,6 +89,7 @@ faults_of name.Version = versions.faults
 faults_of name.Send = sends.faults
 faults_of name.Enter = enters.faults
 faults_of name.Host = hosts.faults
+faults_of name.Root = roots.faults
 
 -- ---- by the task
 
@@ -106,6 +110,7 @@ name_of (task.Version t) = name.Version
 name_of (task.Send t) = name.Send
 name_of (task.Enter t) = name.Enter
 name_of (task.Host t) = name.Host
+name_of (task.Root t) = name.Root
 
 -- it has these values of its command's arguments
 abbrev pub HasValues : (Text → Option Text) → Task → Type 0
@@ -125,6 +130,7 @@ HasValues value (task.Version t) = Unit {0}
 HasValues value (task.Send t) = sends.HasValues value t
 HasValues value (task.Enter t) = enters.HasValues value t
 HasValues value (task.Host t) = hosts.HasValues value t
+HasValues value (task.Root t) = roots.HasValues value t
 
 -- what is read for it
 abbrev pub named_in : Task → Named
@@ -144,6 +150,7 @@ named_in (task.Version t) = versions.named
 named_in (task.Send t) = sends.named
 named_in (task.Enter t) = enters.named
 named_in (task.Host t) = hosts.named t
+named_in (task.Root t) = roots.named t
 
 -- how far it is, is told on the way
 abbrev pub tells_progress : Task → Bool
@@ -163,6 +170,7 @@ tells_progress (task.Version t) = false
 tells_progress (task.Send t) = false
 tells_progress (task.Enter t) = false
 tells_progress (task.Host t) = false
+tells_progress (task.Root t) = false
 
 -- ---- words
 

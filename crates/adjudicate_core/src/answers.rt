@@ -47,7 +47,7 @@ fn put_lines<W: Write>(out: &mut W, lines: &[Line]) -> Result<(), WriteFault>
 }
 
 /// Writes an answer, and returns its status.
-fn put_answer<W: Write>(out: &mut W, answer: &Answer) -> Result<u8, WriteFault>
+pub(crate) fn put_answer<W: Write>(out: &mut W, answer: &Answer) -> Result<u8, WriteFault>
     ensures { IfOk result (WritesReply (W.contents out.old) (W.contents out.new) (reply_of answer.now)) }
 {
     match answer {

@@ -21,6 +21,7 @@ mod moves;
 mod probe;
 mod probes;
 mod record;
+mod root;
 mod run;
 mod send;
 mod show;
@@ -40,6 +41,7 @@ pub use moves::Moves;
 pub use probe::Probe;
 pub use probes::Probes;
 pub use record::ShowRecord;
+pub use root::Root;
 pub use run::RunSchedule;
 pub use send::Send;
 pub use show::Show;
@@ -82,6 +84,8 @@ pub enum Task<'a> {
     Enter(Enter<'a>),
     /// Arbiters of the games of a folder.
     Host(HostGames<'a>),
+    /// The legal moves of a position by their values in the tables.
+    Root(Root<'a>),
 }
 
 /// The commands.
@@ -119,6 +123,8 @@ pub enum Name {
     Enter,
     /// Answers datagrams of any number of games.
     Host,
+    /// Ranks legal moves by tables.
+    Root,
 }
 
 /// How a command gets a value. Whether it is required isn't said here: the command requires it.
@@ -162,6 +168,7 @@ impl Name {
             "send" => Some(Name::Send),
             "enter" => Some(Name::Enter),
             "host" => Some(Name::Host),
+            "root" => Some(Name::Root),
             _ => None,
         }
     }
@@ -187,6 +194,7 @@ impl Name {
             Name::Send => "send",
             Name::Enter => "enter",
             Name::Host => "host",
+            Name::Root => "root",
         }
     }
 
@@ -211,6 +219,7 @@ impl Name {
             Name::Send => &send::VALUES,
             Name::Enter => &enter::VALUES,
             Name::Host => &host::VALUES,
+            Name::Root => &root::VALUES,
         }
     }
 }
@@ -320,6 +329,10 @@ fn task_of<'a>(name: Name, matches: &ArgMatches<'a>) -> Result<Task<'a>, ValueFa
             Ok(task) => Ok(Task::Host(task)),
             Err(fault) => Err(fault),
         },
+        Name::Root => match Root::of(matches) {
+            Ok(task) => Ok(Task::Root(task)),
+            Err(fault) => Err(fault),
+        },
     }
 }
 
@@ -345,6 +358,7 @@ impl<'a> Task<'a> {
             Task::Send(task) => task.places(),
             Task::Enter(task) => task.places(),
             Task::Host(task) => task.places(),
+            Task::Root(task) => task.places(),
         }
     }
 }

@@ -1,7 +1,7 @@
 //! The commands of the adjudicator: words in, lines and a status out.
 //!
 //! `judge FEN` prints the verdict on a position, or `open`; `moves FEN` prints its legal moves; `probe --tables DIR FEN` prints what
-//! tables say of it, and `probes --tables DIR` what they say of each line of standard input, as it comes; `game FEN` prints what the
+//! tables say of it, and `probes --tables DIR` what they say of each line of standard input, as it comes; `root --tables DIR FEN` prints the legal moves by what tables say of them; `game FEN` prints what the
 //! game of the moves on standard input comes to. `list DIR` prints the manifest of a folder's tables, and `check --manifest FILE DIR`
 //! whether they are those of one. `show` prints the messages on standard input; `run` runs the schedule on standard input, and
 //! prints what becomes of its two arbiters. `listen` is an arbiter that answers the datagrams of a socket and keeps its record in a
@@ -22,6 +22,7 @@ mod entering;
 mod game_name;
 mod hosting;
 pub mod laws;
+mod line_answers;
 mod lines;
 mod listening;
 mod manifests;
@@ -36,7 +37,7 @@ mod values;
 
 pub use commands::{
     Audit, Check, Enter, FollowGame, Form, HostGames, Judge, List, Listen, Moves, Name, Probe,
-    Probes, RunSchedule, Send, Show, ShowRecord, Task, Value, Version, parse,
+    Probes, Root, RunSchedule, Send, Show, ShowRecord, Task, Value, Version, parse,
 };
 pub use game_name::GameName;
 pub use numbers::{CacheSize, Delay};

@@ -5,7 +5,8 @@ ghost use Rattle.std.specs.Fmt.{DisplaysOnOk};
 ghost use Rattle.std.specs.Io.KnownBytes.{Appends};
 ghost use Rattle.move_msg.specs.TextLines.{ended};
 ghost use Rattle.arbiter_service.specs.ServedLines.{verdict_or_none};
-ghost use Rattle.adjudicate_core.specs.Lines.{arbiter_words, refusal_words, state_word, told_words, words_of};
+ghost use Rattle.judge_core.specs.Words.{column_words};
+ghost use Rattle.adjudicate_core.specs.Lines.{arbiter_words, mark_word, probed_of, refusal_words, root_line_words, root_words, state_word, told_words, words_of};
 ghost use Rattle.relay_world.specs.Texts.{who_word};
 
 use crate::refusals::Refusal;
@@ -14,7 +15,7 @@ use arbiter_service::verdict_or_none;
 use arrayvec::ArrayString;
 use board_core::{Move, Verdict};
 use fen_text::write_move;
-use judge_core::{Column, Columns, Outcome, verdict_or_open};
+use judge_core::{BoardState, Column, Columns, Effect, Outcome, Probed, RootMove, verdict_or_open};
 use move_msg::{Message, Who};
 use record_audit::Finding;
 use relay_world::State;
@@ -29,6 +30,51 @@ pub(crate) struct KeptCount {
     pub(crate) count: u32,
     /// The verdict, if there is one.
     pub(crate) verdict: Option<Verdict>,
+}
+
+/// A legal move and what tables tell of it.
+#[derive(Clone, Copy)]
+pub(crate) struct RootLine {
+    /// The move.
+    pub(crate) played: Move,
+    /// What it does.
+    pub(crate) effect: Effect,
+    /// How the position after it stands.
+    pub(crate) state: BoardState,
+    /// Its value and its distance.
+    pub(crate) probed: Probed,
+}
+
+impl RootLine {
+    /// What is told of a move.
+    pub(crate) fn of(m: &RootMove) -> RootLine
+        ensures words { root_line_words result ≡ root_words m.now }
+        ensures probed { result.probed ≡ probed_of m.now }
+    {
+        RootLine {
+            played: m.played,
+            effect: m.effect,
+            state: m.state,
+            probed: m.probed(),
+        }
+    }
+
+    /// The word for what becomes of the game or of the halfmove clock.
+    fn mark(&self) -> &'static str
+        ensures { result.now ≡ mark_word self.now.state self.now.effect }
+    {
+        match self.state {
+            BoardState::Checkmate => "mate",
+            BoardState::Stalemate => "stalemate",
+            BoardState::Open | BoardState::Check => {
+                if self.effect.zeroes_clock() {
+                    "zeroing"
+                } else {
+                    "-"
+                }
+            }
+        }
+    }
 }
 
 /// A line, without its line feed.
@@ -60,6 +106,8 @@ pub(crate) enum Line {
     Outcome(Outcome),
     /// Both probes of a position, and the verdict on it.
     Columns(Columns),
+    /// A legal move and what tables tell of it.
+    Root(RootLine),
 }
 
 /// Writes a value of the tables, or why there is none.
@@ -111,6 +159,38 @@ fn fmt_arbiter<W: fmt::Write>(
     }
 }
 
+/// Writes a move with its value, its distance and a word.
+fn fmt_valued<W: fmt::Write>(
+    f: &mut fmt::Formatter<W>,
+    played: &str,
+    wdl: Column,
+    dtz: Column,
+    mark: &str,
+) -> fmt::Result
+    ensures { DisplaysOnOk W.Write.write_str_gives f.old result (Some (played.now ++ codes " " ++ column_words wdl.0 ++ codes " " ++ column_words dtz.0 ++ codes " " ++ mark.now)) f.new }
+{
+    write!(f, "{played} {wdl} {dtz} {mark}")
+}
+
+/// Writes a move, and what tables tell of it.
+#[tactic(auto, unfolding(crate::specs::Lines::root_line_words))]
+fn fmt_root<W: fmt::Write>(f: &mut fmt::Formatter<W>, line: &RootLine) -> fmt::Result
+    ensures { DisplaysOnOk W.Write.write_str_gives f.old result (Some (root_line_words line.now)) f.new }
+{
+    let played = write_move(&line.played);
+    let wdl = Column(line.probed.wdl);
+    match line.probed.wdl {
+        Ok(_) => fmt_valued(
+            f,
+            played.as_str(),
+            wdl,
+            Column(line.probed.dtz),
+            line.mark(),
+        ),
+        Err(_) => fmt_told(f, played.as_str(), wdl),
+    }
+}
+
 /// Writes a name, and a word on it.
 fn fmt_named<W: fmt::Write>(f: &mut fmt::Formatter<W>, name: &str, word: &str) -> fmt::Result
     ensures { DisplaysOnOk W.Write.write_str_gives f.old result (Some (name.now ++ codes " " ++ word.now)) f.new }
@@ -141,6 +221,7 @@ impl fmt::Display for Line {
             Line::Compared(Some(ply)) => write!(f, "differ {ply}"),
             Line::Outcome(outcome) => fmt::Display::fmt(outcome, f),
             Line::Columns(columns) => fmt::Display::fmt(columns, f),
+            Line::Root(line) => fmt_root(f, line),
         }
     }
 }

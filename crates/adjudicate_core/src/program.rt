@@ -66,6 +66,7 @@ fn answer_given<D: Disk, I: Input, H: Host, W: Output, E: Output>(
         Task::Send(task) => send(alloc, task, disk, input, host, out),
         Task::Enter(task) => enter(alloc, task, disk, host, out),
         Task::Host(task) => host_games(alloc, task, sources, disk, host, out),
+        Task::Root(task) => task.answer(alloc, sources, input, out, errors),
     }
 }
 

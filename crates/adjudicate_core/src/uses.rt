@@ -19,6 +19,7 @@ const USAGE: &str = "usage: adjudicate judge [--tables DIR] [--manifest FILE] FE
        adjudicate check --manifest FILE [--progress] DIR
        adjudicate show
        adjudicate probes --tables DIR [--manifest FILE] [--progress]
+       adjudicate root --tables DIR [--manifest FILE] [FEN]
        adjudicate game [--tables DIR] [--manifest FILE] [--delay N] FEN
        adjudicate run [--tables DIR] [--cache N] [--delay N]
        adjudicate listen --name N --start FEN --tables DIR --me M --bind ADDR --to ADDR[,ADDR] --kept FILE

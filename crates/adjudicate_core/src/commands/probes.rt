@@ -4,15 +4,14 @@ ghost use Rattle.std.specs.Prelude.{◌≡◌, false, IfOk, OnErr, IfErr};
 ghost use Rattle.clap.specs.Words.{first_value, found_of};
 ghost use Rattle.board_core.specs.Position.{IsPosition};
 ghost use Rattle.fen_text.specs.Fen.{SpellsPosition};
-ghost use Rattle.adjudicate_core.specs.Commands.Probes.{HasValues, PutsLines, PutsLinesOrNone, PutsProbes, TellsLine, faults, named};
+ghost use Rattle.adjudicate_core.specs.Commands.Probes.{HasValues, PutsProbes, TellsLine, faults, named};
 ghost use Rattle.adjudicate_core.specs.Lines.{words_of};
 ghost use Rattle.adjudicate_core.specs.Misuses.{IsFirst, fault_words};
 ghost use Rattle.task_files.specs.Sources.{named_by};
 ghost use Rattle.adjudicate_core.specs.Reply.{IsText};
-ghost use Rattle.line_teller.specs.ToldLines.{stops_by};
 
 use super::{Form, Value};
-use crate::answers::status_if;
+use crate::line_answers::put_told;
 use crate::lines::{Line, put_line, put_refusal};
 use crate::numbers::{CacheSize, is_set};
 use crate::refusals::Refusal;
@@ -23,10 +22,10 @@ use board_core::Position;
 use clap::ArgMatches;
 use fen_text::read;
 use judge_core::Set;
-use line_teller::{TellFault, Teller, tell_lines};
+use line_teller::{TellFault, Teller};
 use std::alloc::{AllocError, Global};
 use std::io::Write;
-use system_io::{Input, LineReader, Output, WriteFault};
+use system_io::{Input, Output, WriteFault};
 use task_files::{Places, Sources};
 
 /// The values of the positions of the input in tables.
@@ -112,45 +111,6 @@ impl<'a> Teller for Prober<'a> {
     }
 }
 
-/// Writes the answer of a set to each line of an input as it comes, and returns the status. Progress is written if
-/// requested.
-fn put_probes<L: LineReader, W: Output, E: Write>(
-    alloc: Global,
-    set: Set<'_>,
-    lines: &mut L,
-    out: &mut W,
-    errors: &mut E,
-    progress: bool,
-) -> Result<u8, WriteFault>
-    ensures written { IfOk result (PutsLines set.entry.tables (stops_by (L.facts lines.old)) (L.facts lines.old).left (W.contents out.old) (W.contents out.new)) }
-    ensures quiet { progress ≡ false → errors.new ≡ errors.old }
-{
-    let mut prober = Prober { alloc, set };
-    match tell_lines(alloc, &mut prober, lines, out, errors, progress) {
-        Ok(done) => Ok(status_if(done)),
-        Err(fault) => Err(fault),
-    }
-}
-
-/// Reads an input by lines, and writes the answer of a set to each. Where memory for reading is refused, the only line
-/// is `refused memory`.
-fn put_probes_of<I: Input, W: Output, E: Write>(
-    alloc: Global,
-    set: Set<'_>,
-    input: &I,
-    out: &mut W,
-    errors: &mut E,
-    progress: bool,
-) -> Result<u8, WriteFault>
-    ensures written { IfOk result (PutsLinesOrNone set.entry.tables (I.facts input.now) (W.contents out.old) (W.contents out.new)) }
-    ensures quiet { progress ≡ false → errors.new ≡ errors.old }
-{
-    match input.lines(alloc) {
-        Ok(mut lines) => put_probes(alloc, set, &mut lines, out, errors, progress),
-        Err(_) => put_refusal(out, Refusal::Memory),
-    }
-}
-
 impl<'a> Probes<'a> {
     /// The task with these values, or the first thing that is wrong with them.
     pub(crate) fn of(matches: &ArgMatches<'a>) -> Result<Probes<'a>, ValueFault<'a>>
@@ -196,7 +156,10 @@ impl<'a> Probes<'a> {
         ensures quiet { self.now.progress ≡ false → errors.new ≡ errors.old }
     {
         match gather(alloc, sources, CacheSize::usual()) {
-            Ok(Ok(set)) => put_probes_of(alloc, set, input, out, errors, self.progress),
+            Ok(Ok(set)) => {
+                let mut prober = Prober { alloc, set };
+                put_told(alloc, &mut prober, input, out, errors, self.progress)
+            }
             Ok(Err(refusal)) => put_refusal(out, refusal),
             Err(_) => put_refusal(out, Refusal::Memory),
         }

@@ -36,5 +36,8 @@ returns-in-Record c = rw c.in-Record.is c.places-in-Record.ensures
 pub returns-in-Audit : goal.returns-in-Audit
 returns-in-Audit c = rw c.in-Audit.is c.places-in-Audit.ensures
 
+pub returns-in-Root : goal.returns-in-Root
+returns-in-Root c = rw c.in-Root.is c.places-in-Root.ensures
+
 pub returns-in-Version : goal.returns-in-Version
 returns-in-Version c = rw c.in-Version.is c.places-in-Version.ensures
