@@ -23,3 +23,4 @@ pub mod Effects
 pub mod RootList
 pub mod RootOrder
 pub mod RootWins
+pub mod RootCaptures
