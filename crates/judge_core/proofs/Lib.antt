@@ -24,3 +24,4 @@ pub mod RootList
 pub mod RootOrder
 pub mod RootWins
 pub mod Looking
+pub mod RootCaptures

@@ -1,5 +1,5 @@
 -- Laws of root moves. Functions of src/laws.rt carry these.
-use Rattle.std.specs.Prelude.{◌≡◌, ◌≤◌, ◌+◌, ◌≤ℤ◌, ℕ, zero, suc, ℤ, pos, negsuc, IsTrue, IsFalse, List, ◌∷◌, fold, filter_map, Option, Some, None, Result, Ok, Err, if◌then◌else◌}
+use Rattle.std.specs.Prelude.{◌≡◌, ◌≤◌, ◌+◌, ◌≤ℤ◌, ℕ, zero, suc, ℤ, pos, negsuc, IsTrue, IsFalse, true, false, List, ◌∷◌, fold, filter_map, Option, Some, None, Result, Ok, Err, if◌then◌else◌}
 use Rattle.std.specs.List.{Contains}
 use Rattle.board_core.specs.declared.parts.Parts.{Parts}
 use Rattle.board_core.specs.Position.{IsPosition}
@@ -15,7 +15,7 @@ use Rattle.judge_core.specs.Probing.{wdl_of}
 use Rattle.judge_core.specs.Distances.{is_won, lesser, dtz_of}
 use Rattle.judge_core.specs.FiveRules.{IsLeftToMoves}
 use Rattle.judge_core.specs.Ruling.{is_out_of_scope}
-use Rattle.judge_core.specs.Root.{IsRoot, root_moves, zeroes_clock}
+use Rattle.judge_core.specs.Root.{IsRoot, captures, is_checkmate, root_moves, zeroes_clock}
 
 -- The first move has a value wherever some move has one, and no move has a better one.
 abbrev pub FirstMoveIsBest : Type 0
@@ -56,6 +56,12 @@ abbrev pub FirstMoveKeepsTheValue : Type 0
 FirstMoveKeepsTheValue =
     (tables : Tables) (p : Parts) (first : RootMove) (rest : List RootMove)
     → IsRoot tables p (first ∷ rest) → AreConsistent tables p → first.wdl ≡ wdl_of tables p
+
+-- No capture but a mate is worth more than the position, whatever the bytes of the tables are. (A mate wins without a table.)
+abbrev pub NoCaptureIsBetter : Type 0
+NoCaptureIsBetter =
+    (tables : Tables) (p : Parts) (m : RootMove) (u v : Wdl) → IsPosition p → Contains (root_moves tables p) m
+    → captures m.effect ≡ true → is_checkmate m.state ≡ false → m.wdl ≡ Ok u → wdl_of tables p ≡ Ok v → points u ≤ points v
 
 -- the plies in which a move wins
 abbrev pub plies_won : Result ℤ ValueFault → Option ℕ

@@ -1,7 +1,7 @@
 //! Laws over the definitions of specs/, for proofs above: each function carries one law and does nothing.
 
 ghost use Rattle.judge_core.specs.FiveRules.{DistanceByFiveRules};
-ghost use Rattle.judge_core.specs.RootLaws.{FirstMoveIsBest, FirstMoveWinsWithinRule, FirstMoveKeepsTheValue, NearestWinIsTheDistance};
+ghost use Rattle.judge_core.specs.RootLaws.{FirstMoveIsBest, FirstMoveWinsWithinRule, FirstMoveKeepsTheValue, NearestWinIsTheDistance, NoCaptureIsBetter};
 ghost use Rattle.judge_core.specs.Laws.{WdlMeetsItsRule, DtzMeetsItsRules, GameHasOneOutcome, NoDelayIsTheRuling, FirstVerdictInWords, FirstVerdictLooksBack, IllegalStaysIllegal, OneMoveMore};
 
 use place_index::few_men_have_tables;
@@ -70,6 +70,11 @@ pub fn first_move_wins_within_rule()
 /// Where the tables agree at a position, the first root move keeps its value, and so a win.
 pub fn first_move_keeps_the_value()
     ensures { FirstMoveKeepsTheValue }
+{}
+
+/// No capture but a mate is worth more than the position, whatever the bytes of the tables are.
+pub fn no_capture_is_better()
+    ensures { NoCaptureIsBetter }
 {}
 
 /// A win whose distance comes from the moves that neither take a man nor move a pawn is as far as the nearest win by
