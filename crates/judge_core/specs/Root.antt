@@ -1,6 +1,6 @@
 -- The legal moves of a position, each with its value and its distance, the best first (Syzygy tables, as engines read them
 -- at the root of a search).
-use Rattle.std.specs.Prelude.{ℕ, ℤ, pos, ◌+◌, ◌-◌, Bool, true, false, List, Option, Some, None, option_map, Result, Ok, Err, filter_map, if◌then◌else◌}
+use Rattle.std.specs.Prelude.{◌≡◌, ℕ, ℤ, pos, ◌+◌, ◌-◌, Bool, true, false, List, Option, Some, None, option_map, Result, Ok, Err, filter_map, if◌then◌else◌}
 use Rattle.std.specs.declared.cmp.Ordering.{Ordering}
 use Rattle.std.specs.Ordering.{nat_cmp, int_cmp, ordering_then}
 use Rattle.std.specs.List.Sorted.{IsPermutation, IsSortedByKey, IsStableByKey}
@@ -24,6 +24,7 @@ use Rattle.judge_core.specs.Probing.{wdl_of}
 use Rattle.judge_core.specs.Distances.{Reach, moves_pawn, zeroing, towards, dtz_of}
 use Rattle.judge_core.specs.Answers.{signed_in}
 use Rattle.judge_core.specs.Ends.{has_no_move}
+use Rattle.judge_core.specs.Ruling.{is_out_of_scope}
 
 -- ---- what a move does
 
@@ -141,3 +142,8 @@ pub record IsRoot (tables : Tables) (p : Parts) (moves : List RootMove) : Type 0
   pub all : IsPermutation (root_moves tables p) moves
   pub best_first : IsSortedByKey rank rank_cmp moves
   pub stable : IsStableByKey rank rank_cmp (root_moves tables p) moves
+
+-- none where the position is out of scope, and else that list
+abbrev pub IsRootInScope : {V : Type 0} → (V → List RootMove) → Tables → Parts → Option V → Type 0
+IsRootInScope items tables p None = is_out_of_scope p ≡ true
+IsRootInScope items tables p (Some found) = (is_out_of_scope p ≡ false) × IsRoot tables p (items found)

@@ -24,14 +24,14 @@ FirstMoveIsBest =
     → IsRoot tables p (first ∷ rest) → Contains (root_moves tables p) m → m.wdl ≡ Ok v
     → (u : Wdl) × (first.wdl ≡ Ok u) × (points v ≤ points u)
 
--- the move wins, and the halfmove clock is at most 100 when it next comes to 0 or the other side is mated
+-- the move wins, and within the rule of fifty moves as a verdict counts it: a stored distance may be one ply too small
 pub record IsWithinRule (p : Parts) (m : RootMove) : Type 0 where
   pub won : m.wdl ≡ Ok Win
   pub distance : ℕ
   pub is : m.dtz ≡ Ok (pos distance)
-  pub soon : p.halfmove + distance ≤ 100
+  pub soon : p.halfmove + distance ≤ 99
 
--- Where some move wins within the rule of fifty moves, the first move wins, and no later than that move.
+-- Where some move wins within the rule of fifty moves, the first move wins, and its distance is no greater number.
 abbrev pub FirstMoveWinsWithinRule : Type 0
 FirstMoveWinsWithinRule =
     (tables : Tables) (p : Parts) (first : RootMove) (rest : List RootMove) (m : RootMove)

@@ -20,8 +20,9 @@ pub(crate) struct BlockKey {
     pub(crate) block: u32,
 }
 
-/// A requested block: a mark of its key, how often in a row it was requested since it was new or decoded, and the number of its
-/// last request. Two blocks of one mark count as one, which may decode a block early and changes no answer.
+/// A requested block: a mark of its key, how often in a row it was requested since it was new or decoded, and the number of
+/// its last request, which begins anew after 65,535. Two blocks of one place and one mark count as one, and a request long ago
+/// may count as a recent one. Either may decode a block early, and changes no answer.
 #[derive(Clone, Copy)]
 pub(crate) struct Asked {
     mark: u8,
@@ -30,7 +31,8 @@ pub(crate) struct Asked {
 }
 
 impl BlockKey {
-    /// A number of the key, whose low bits find its place and whose next ones mark it there.
+    /// A number of the key. Its low ten bits at most find the key's place, and bits 16 to 23 mark it there. Primes keep the parts
+    /// of a table apart; the high bits come from others than the low ones.
     fn mixed(&self) -> usize {
         let part = 613 * self.slot as usize + 307 * self.side as usize + 151 * self.file as usize;
         let high = (part / 8) ^ (self.block as usize / 256);

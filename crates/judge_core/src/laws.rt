@@ -62,7 +62,7 @@ pub fn first_move_is_best()
     ensures { FirstMoveIsBest }
 {}
 
-/// Where some move wins within the rule of fifty moves, the first root move wins, and no later.
+/// Where some move wins within the rule of fifty moves, the first root move wins, and its distance is no greater number.
 pub fn first_move_wins_within_rule()
     ensures { FirstMoveWinsWithinRule }
 {}

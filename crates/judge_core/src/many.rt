@@ -126,7 +126,7 @@ impl<'a> Set<'a> {
     }
 
     /// The WDL values of the positions, each as `wdl` gives it, in their order. The tables of all are looked up before the
-    /// first value is read, so that they come from memory side by side. That pays for some 16 positions at once.
+    /// first value is read, so that they come from memory side by side. That was measured for 16 at once (docs/SPEED.md).
     ///
     /// The error comes only where memory for lists of so many entries is refused. The set stays as it was but for its
     /// cache.

@@ -213,7 +213,8 @@ impl<'a> Shelf<'a> {
         }
     }
 
-    /// What the part of a table of this kind for placed men has at their index; none where that is damaged.
+    /// What the part of a table of this kind for placed men has at their index; none where that is damaged. It is
+    /// `place_in_part` and `read_at` in one: a probe takes 33 instructions fewer than by the two.
     pub(crate) fn read(
         &self,
         blocks: &mut Blocks,

@@ -1,10 +1,10 @@
 //! All legal moves of a position with their values and distances, the best first.
 
-ghost use Rattle.std.specs.Prelude.{◌≡◌, ◌≤◌, ◌++◌, ◌∷◌, [], Some, false, true, IfOk, OnOk, OnErr, MatchOption, option_to_list};
+ghost use Rattle.std.specs.Prelude.{◌≡◌, ◌≤◌, ◌++◌, ◌∷◌, [], Some, false, true, IfOk, OnOk, OnErr, option_to_list};
 ghost use Rattle.board_core.specs.ComputedMoves.{position_after};
 ghost use Rattle.judge_core.specs.Answers.{signed_in};
 ghost use Rattle.judge_core.specs.Distances.{plies};
-ghost use Rattle.judge_core.specs.Root.{IsRoot, before, effect_of, reach_by, root_move, root_move_of, root_moves, state_of, value_by, zeroed};
+ghost use Rattle.judge_core.specs.Root.{IsRootInScope, before, effect_of, reach_by, root_move, root_move_of, root_moves, state_of, value_by, zeroed};
 ghost use Rattle.judge_core.specs.Ruling.{is_out_of_scope};
 ghost use Rattle.judge_core.specs.Tables.{AreFiled};
 
@@ -57,7 +57,8 @@ fn signed(reach: &Result<Distance, ValueFault>) -> Result<i32, ValueFault>
     }
 }
 
-/// Adds an item to a list.
+/// Adds an item to a list. It is over any type, since the borrow checker doesn't cover a push of a `RootMove`
+/// (docs/PROVING.md).
 fn add<T: Copy>(list: &mut Vec<T>, item: T) -> Result<(), AllocError>
     ensures { OnOk result (list.new.items ≡ list.old.items ++ item ∷ []) }
 {
@@ -171,7 +172,7 @@ impl<'a> Set<'a> {
         alloc: Global,
         position: &Position,
     ) -> Result<Option<Vec<RootMove>>, AllocError>
-        ensures moves { IfOk result (λ found. MatchOption found (is_out_of_scope position.now ≡ true) (λ moves. (is_out_of_scope position.now ≡ false) × IsRoot self.old.tables position.now moves.items)) }
+        ensures moves { IfOk result (IsRootInScope (λ moves. moves.items) self.old.tables position.now) }
         ensures memory { OnErr result (is_out_of_scope position.now ≡ false) }
         ensures filed { AreFiled self.old.tables }
         ensures unchanged { self.new ≡ self.old }

@@ -45,7 +45,7 @@ fn answer_between(
     }
 }
 
-/// How many boards are looked up side by side.
+/// How many boards are looked up side by side. Where one of them shows no position they are answered one by one.
 const SIDE_BY_SIDE: usize = 16;
 
 /// The positions that the boards show; none where one of them shows none, or where memory is refused.
@@ -110,7 +110,7 @@ fn wdl_between(
     }
 }
 
-/// The WDL value of each board, in its place. So many of them at a time are looked up side by side.
+/// The WDL value of each board, in its place. `SIDE_BY_SIDE` of them at a time are looked up side by side.
 fn wdl_of_each(alloc: Global, set: &mut Set<'_>, boards: &[Board], replies: &mut [Reply])
     requires { length boards.now ≡ length replies.old }
     ensures places { length replies.new ≡ length replies.old }
@@ -140,7 +140,9 @@ fn answer_each(
 {
     match question {
         Question::Wdl => wdl_of_each(alloc, set, boards, replies),
-        _ => answer_between(alloc, set, question, boards, 0, boards.len(), replies),
+        Question::Dtz | Question::Verdict => {
+            answer_between(alloc, set, question, boards, 0, boards.len(), replies)
+        }
     }
 }
 
