@@ -5,7 +5,7 @@ use Rattle.game_host.specs.Folders.{keepers}
 use Rattle.game_host.specs.Room.{at_stamp}
 use Rattle.game_host.specs.Games.{CommonView}
 use Rattle.game_host.specs.Seats.{IsSeated}
-use Rattle.game_host.specs.Turns.{Turns, reply_of}
+use Rattle.game_host.specs.Turns.{reply_of}
 use Rattle.game_host.proofs.Seating.{from_place, goes_into}
 use Rattle.game_host.proofs.Serving.{still}
 use Rattle.game_host.proofs.server.Server.answer.Goals as goal

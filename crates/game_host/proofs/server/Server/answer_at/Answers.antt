@@ -1,4 +1,4 @@
-use Rattle.std.proofs.Common.{ℕ, List, ap, refl, subst, sym}
+use Rattle.std.proofs.Common.{ℕ, List, ap, subst, sym}
 use Rattle.lru.specs.LruCache.{LruCache}
 use Rattle.judge_core.specs.Tables.{Holding}
 use Rattle.move_msg.specs.declared.stamp.Stamp.{Stamp}
