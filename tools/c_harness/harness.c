@@ -121,8 +121,61 @@ static hofsjurd_board board_of(const position *p)
     return b;
 }
 
+/* Of one position: each root move against the board after it, in a room that is just large enough; and what is refused. */
+static int check_root(hofsjurd *h, size_t i)
+{
+    hofsjurd_board board = board_of(&positions[i]), after, kept;
+    hofsjurd_move listed[HOFSJURD_MOST_MOVES];
+    hofsjurd_root_move moves[HOFSJURD_MOST_MOVES], of_text[HOFSJURD_MOST_MOVES];
+    memset(moves, 0x5a, sizeof moves);
+    memset(of_text, 0x5a, sizeof of_text);
+    hofsjurd_reply all = hofsjurd_board_moves(&board, listed, HOFSJURD_MOST_MOVES);
+    size_t n = (size_t)all.value;
+    hofsjurd_reply root = hofsjurd_board_root(h, &board, moves, n), text = hofsjurd_root(h, fens[i], strlen(fens[i]), of_text, n);
+    int wrong = root.status || text.status || root.value != all.value || memcmp(moves, of_text, sizeof moves);
+    wrong += ((const unsigned char *)&moves[n])[0] != 0x5a;
+    if (n) wrong += hofsjurd_board_root(h, &board, of_text, n - 1).status != HOFSJURD_NO_ROOM || memcmp(moves, of_text, sizeof moves);
+    hofsjurd_reply whole = hofsjurd_board_wdl(h, &board);
+    if (n && moves[0].wdl.value != whole.value) wrong++;
+    for (size_t k = 0; k < n; k++) {
+        wrong += hofsjurd_board_after(&board, &moves[k].move, &after) != HOFSJURD_OK;
+        hofsjurd_reply wdl = hofsjurd_board_wdl(h, &after), dtz = hofsjurd_board_dtz(h, &after), state = hofsjurd_board_state(&after);
+        int zeroes = moves[k].effect != HOFSJURD_QUIET, mates = state.value == HOFSJURD_CHECKMATED;
+        wrong += wdl.status || state.status || state.value != moves[k].state || moves[k].wdl.value != -wdl.value || (after.side != 0) == (board.side != 0);
+        if (!zeroes && !mates) wrong += moves[k].dtz.value != -dtz.value + (dtz.value < 0) - (dtz.value > 0);
+        if (mates) wrong += moves[k].dtz.value != 1;
+        if (k && (moves[k].wdl.value > moves[k - 1].wdl.value || (moves[k].wdl.value == moves[k - 1].wdl.value && moves[k].dtz.value < moves[k - 1].dtz.value))) wrong++;
+    }
+    hofsjurd_reply value = hofsjurd_board_determined_wdl(h, &board), distance = hofsjurd_determined_dtz(h, fens[i], strlen(fens[i]));
+    wrong += value.status != whole.status || value.value != whole.value || distance.value != hofsjurd_board_dtz(h, &board).value;
+    wrong += hofsjurd_board_determined_root(h, &board, of_text, n).value != root.value || memcmp(moves, of_text, sizeof moves);
+    kept = after = board;
+    hofsjurd_move none = {64, 0, 0}, stays = {0, 0, 0};
+    wrong += hofsjurd_board_after(&board, &none, &after) != HOFSJURD_BAD_MOVE || memcmp(&after, &kept, sizeof after);
+    wrong += hofsjurd_board_after(&board, &stays, &after) != HOFSJURD_ILLEGAL_MOVE || memcmp(&after, &kept, sizeof after);
+    if (wrong) printf("root of %s: %d wrong\n", fens[i], wrong);
+    return wrong;
+}
+
+/* A set without tables misses that of each position. */
+static int check_missing(size_t i)
+{
+    hofsjurd none = HOFSJURD_CLOSED;
+    char name[HOFSJURD_TEXT_ROOM] = "";
+    hofsjurd_board board = board_of(&positions[i]);
+    int wrong = hofsjurd_board_missing(&none, &board, name, sizeof name) != 0 || hofsjurd_open(&none, 1);
+    bool misses = hofsjurd_board_wdl(&none, &board).status == HOFSJURD_NOT_COVERED;
+    size_t length = hofsjurd_board_missing(&none, &board, name, sizeof name);
+    wrong += length != strlen(name) || misses != (length >= 4) || (misses && name[0] != 'K');
+    hofsjurd_close(&none);
+    return wrong;
+}
+
 static int compare(hofsjurd *h)
 {
+    int root_wrong = 0;
+    for (size_t i = 0; i < count; i++) root_wrong += check_root(h, i) + check_missing(i);
+    printf("%zu positions: %d root moves, boards after them, states or missing tables are wrong\n", count, root_wrong);
     size_t wdl_differ = 0, dtz_differ = 0, board_differ = 0, decided = 0, skipped = 0;
     for (size_t i = 0; i < count; i++) {
         const char *s = fens[i];
@@ -156,7 +209,7 @@ static int compare(hofsjurd *h)
     board_differ += many_differ;
     printf("%zu texts, %zu of them no position: %zu WDL values differ, %zu DTZ values differ, ", count, skipped, wdl_differ, dtz_differ);
     printf("%zu board answers differ from the text's; %zu have a verdict\n", board_differ, decided);
-    return wdl_differ + dtz_differ + board_differ != 0;
+    return root_wrong || wdl_differ + dtz_differ + board_differ != 0;
 }
 
 /* every text cut short, in a block of its own length, and with one byte changed; bad files; closed handles */

@@ -1,10 +1,6 @@
-/* probes DIR wdl|root < FENS: what tb_probe_wdl or tb_probe_root tells of each position, by Fathom's numbers, a line each.
- * Built with -lfathom, or with -DCOMPAT over tbprobe_compat.h: nothing else changes. */
-#ifdef COMPAT
-#include "tbprobe_compat.h"
-#else
+/* probes DIR wdl|root|ranks < FENS: what tb_probe_wdl, tb_probe_root with its list, or both calls that rank moves tell of each
+ * position, by Fathom's numbers, a line each. Built with -lfathom, or over contrib/tbprobe.c: nothing else changes. */
 #include <tbprobe.h>
-#endif
 #include <stdio.h>
 #include <string.h>
 
@@ -34,9 +30,23 @@ int main(int argc, char **argv)
             printf("%u\n", tb_probe_wdl(c[0], c[1], t[6], t[5], t[4], t[3], t[2], t[1], 0, *castling != '-', passed, white));
             continue;
         }
-        unsigned root = tb_probe_root(c[0], c[1], t[6], t[5], t[4], t[3], t[2], t[1], clock, *castling != '-', passed, white, NULL);
-        if (root == TB_RESULT_FAILED || root == TB_RESULT_CHECKMATE || root == TB_RESULT_STALEMATE) printf("%u\n", root);
-        else printf("%u %u\n", TB_GET_WDL(root), TB_GET_DTZ(root));
+        if (argv[2][1] == 'o') {
+            unsigned all[TB_MAX_MOVES];
+            unsigned root = tb_probe_root(c[0], c[1], t[6], t[5], t[4], t[3], t[2], t[1], clock, *castling != '-', passed, white, all);
+            printf("%u", root);
+            for (int i = 0; root != TB_RESULT_FAILED && all[i] != TB_RESULT_FAILED; i++) printf(" %u", all[i]);
+            puts("");
+            continue;
+        }
+        for (int way = 0; way < 4; way++) {
+            static struct TbRootMoves moves;
+            int told = way < 2 ? tb_probe_root_dtz(c[0], c[1], t[6], t[5], t[4], t[3], t[2], t[1], clock, *castling != '-', passed, white, way, !way, &moves)
+                               : tb_probe_root_wdl(c[0], c[1], t[6], t[5], t[4], t[3], t[2], t[1], clock, *castling != '-', passed, white, way & 1, &moves);
+            printf("%d", told);
+            for (unsigned i = 0; told && i < moves.size; i++)
+                printf(" %u:%d:%d", moves.moves[i].move, (int)moves.moves[i].tbRank, (int)moves.moves[i].tbScore);
+            puts("");
+        }
     }
     return 0;
 }

@@ -1,4 +1,12 @@
 //! The adjudicator's program: it passes the system to `adjudicate_core`, and ends with the status.
+//!
+//! `main` makes the system's disk, input, host and output, calls `run_program` with the words that the program was called with,
+//! flushes the output by `system_io::end`, and ends with the status. Memory that is refused before that is `refused memory`.
+//!
+//! It is proved safe, and nothing more is proved of it here: what is printed is the contract of `run_program`, what has gone out
+//! that of `end`. It is `main` alone, since each check of a program links all libraries. Its test is the gate's one run of the
+//! program, by two compilers, with the words of `args`; what it prints is compared with `stdout`. To build it proved: `rt run --
+//! judge FEN` here, which leaves it in `out/adjudicate`. Unproved, to try something: `rt try -- judge FEN`.
 #![tactic(auto)]
 
 use adjudicate_core::{WordsFault, refuse_memory, run_program};

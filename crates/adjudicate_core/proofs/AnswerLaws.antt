@@ -11,9 +11,9 @@ use Rattle.move_msg.specs.TextLines.{ended}
 use Rattle.std.specs.Io.KnownBytes.{Appends}
 use Rattle.adjudicate_core.specs.declared.commands.listen.Listen.{Listen}
 use Rattle.arbiter_core.specs.Setups.{SetupView}
-use Rattle.arbiter_service.specs.GoingOut.{GoOut, Writers}
-use Rattle.arbiter_service.specs.Serving.{Scene, scene}
-use Rattle.arbiter_service.specs.declared.file_keeper.FileKeeper.{FileKeeper}
+use Rattle.arbiter_server.specs.GoingOut.{GoOut, Writers}
+use Rattle.arbiter_server.specs.Serving.{Scene, scene}
+use Rattle.arbiter_server.specs.declared.file_keeper.FileKeeper.{FileKeeper}
 use Rattle.system_io.specs.Ports.{PortFacts}
 use Rattle.adjudicate_core.specs.Sends.{Sends}
 use Rattle.adjudicate_core.specs.Enters.{Enters}

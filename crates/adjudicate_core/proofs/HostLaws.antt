@@ -6,11 +6,11 @@ use Rattle.std.proofs.KnownBytes.{Appends-nil, Appends-trans}
 use Rattle.move_msg.specs.TextLines.{ended, text_of}
 use Rattle.system_io.specs.Ports.{PortFacts}
 use Rattle.system_io.specs.declared.output.WriteFault.{WriteFault}
-use Rattle.arbiter_service.specs.GoingOut.{GoOut, Writers}
-use Rattle.game_host.specs.Acts.{all_replies}
-use Rattle.game_host.specs.Folders.{Keepers}
-use Rattle.game_host.specs.Games.{CommonView}
-use Rattle.game_host.specs.Hosts.{Hosts, all_lines}
+use Rattle.arbiter_server.specs.GoingOut.{GoOut, Writers}
+use Rattle.arbiter_server.specs.Acts.{all_replies}
+use Rattle.arbiter_server.specs.Folders.{Keepers}
+use Rattle.arbiter_server.specs.Games.{CommonView}
+use Rattle.arbiter_server.specs.Hosts.{Hosts, all_lines}
 use Rattle.adjudicate_core.specs.declared.commands.host.HostGames.{HostGames}
 use Rattle.task_files.specs.Given.{Given}
 use Rattle.adjudicate_core.specs.Hostings.{BadTables, BindsAndHosts, Bound, Hosting, HostsAndWrites, HostsAt, HostsGames, HostsNow, NoAddress, NoRoom, NoRoomForGames, NoRoomForLine, NoRoomToBind, Ready, Served, Unbound, Unready, common_for, seen_as, seen_by}

@@ -6,9 +6,11 @@ pub mod TextLaws
 pub mod ShowLaws
 pub mod ScheduleLaws
 pub mod HostLaws
+pub mod KeyLaws
 pub mod LookLaws
 pub mod MisuseLaws
 pub mod PutLaws
 pub mod BindLaws
 pub mod EnterLaws
 pub mod RootLines
+pub mod JsonLaws

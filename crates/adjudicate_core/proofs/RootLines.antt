@@ -7,7 +7,7 @@ use Rattle.judge_core.specs.declared.root_move.RootMove.{RootMove}
 use Rattle.judge_core.specs.declared.display.Columns.{Columns}
 use Rattle.board_core.specs.declared.parts.Parts.{Parts}
 use Rattle.board_core.specs.declared.verdict.Verdict.{Verdict}
-use Rattle.judge_core.specs.Probed.{IsProbed, has_both}
+use Rattle.judge_core.specs.Probed.{has_both}
 use Rattle.judge_core.specs.Ruling.{ruling}
 use Rattle.judge_core.specs.Tables.{Tables}
 use Rattle.judge_core.specs.Words.{columns_words}
@@ -15,7 +15,10 @@ use Rattle.move_msg.specs.TextLines.{text_of}
 use Rattle.adjudicate_core.specs.declared.lines.Line.{Line}
 use Rattle.adjudicate_core.specs.declared.lines.Line.TheVariants as line
 use Rattle.adjudicate_core.specs.declared.lines.RootLine.{RootLine}
-use Rattle.adjudicate_core.specs.Commands.Root.{AreMoves, IsTold, told}
+use Rattle.json_lines.specs.Ask.{IsAnswered}
+use Rattle.json_lines.specs.Told.{AreMoves}
+use Rattle.json_lines.specs.declared.ask.Ask.{Ask}
+use Rattle.adjudicate_core.specs.Commands.Root.{IsTold, told}
 use Rattle.adjudicate_core.specs.Lines.{probed_of, root_line_words, root_words, words_of}
 use Rattle.adjudicate_core.specs.Reply.{Reply, status_if}
 
@@ -64,7 +67,7 @@ reply_is ms i lines lines' columns done end so_far all e =
     ∙ ap (λ (b : Bool). record { text = text_of (map root_words ms ++ columns_words columns.probed.wdl columns.probed.dtz columns.verdict ∷ []); status = status_if b }) whole
 
 -- what is told of a position
-pub told_in : (tables : Tables) (p : Parts) (moves : List RootMove) (columns : Columns) (r : Reply) → AreMoves tables p moves → IsProbed tables p columns.probed → columns.verdict ≡ ruling tables p
-    → r ≡ told moves columns.probed (columns_words columns.probed.wdl columns.probed.dtz columns.verdict) → IsTold tables p r
-told_in tables p moves columns r are is verdict e =
+pub told_in : (ask : Ask) (tables : Tables) (p : Parts) (moves : List RootMove) (columns : Columns) (r : Reply) → AreMoves ask tables p moves → IsAnswered ask tables p columns.probed → columns.verdict ≡ ruling tables p
+    → r ≡ told moves columns.probed (columns_words columns.probed.wdl columns.probed.dtz columns.verdict) → IsTold ask tables p r
+told_in ask tables p moves columns r are is verdict e =
     (moves, are, columns.probed, is, e ∙ ap (λ (v : Option Verdict). told moves columns.probed (columns_words columns.probed.wdl columns.probed.dtz v)) verdict)

@@ -11,9 +11,9 @@ use Rattle.system_io.specs.declared.output.WriteFault.{WriteFault}
 use Rattle.system_io.specs.declared.reading.ReadFault.TheVariants as read
 use Rattle.system_io.specs.Disks.{DiskFacts}
 use Rattle.system_io.specs.KeptFiles.{CannotStart, FindsOldOrNew, IsOneOfFound, KeptFacts}
-use Rattle.game_host.specs.GameFolders.{game_path, stamp_for}
-use Rattle.game_host.specs.GameFiles.{SpellsGame, Told, told}
-use Rattle.arbiter_service.specs.ServedLines.{refused_keeper}
+use Rattle.arbiter_server.specs.GameFolders.{game_path, stamp_for}
+use Rattle.arbiter_server.specs.GameFiles.{SpellsGame, Told, told}
+use Rattle.arbiter_server.specs.ServedLines.{refused_keeper}
 use Rattle.adjudicate_core.specs.declared.commands.enter.Enter.{Enter}
 use Rattle.adjudicate_core.specs.Lines.{refused_fen}
 use Rattle.adjudicate_core.specs.Listens.{Hosted}

@@ -15,13 +15,13 @@ use Rattle.system_io.specs.Outputs.{OutputFacts}
 use Rattle.system_io.specs.Ports.{Passed, PortFacts}
 use Rattle.system_io.specs.declared.host.BindFault.TheVariants as bind
 use Rattle.system_io.specs.declared.output.WriteFault.{WriteFault}
-use Rattle.arbiter_service.specs.GoingOut.{GoOut, LastIsCut, Writers, writers}
-use Rattle.arbiter_service.specs.ServedLines.{refused_port}
-use Rattle.game_host.specs.Acts.{Act, all_replies}
-use Rattle.game_host.specs.DiskGames.{disk_keepers}
-use Rattle.game_host.specs.Folders.{Keepers}
-use Rattle.game_host.specs.Games.{CommonView, common_with}
-use Rattle.game_host.specs.Hosts.{Ends, Hosts, IsHosted, all_lines, all_passing}
+use Rattle.arbiter_server.specs.GoingOut.{GoOut, LastIsCut, Writers, writers}
+use Rattle.arbiter_server.specs.ServedLines.{refused_port}
+use Rattle.arbiter_server.specs.Acts.{Act, all_replies}
+use Rattle.arbiter_server.specs.DiskGames.{disk_keepers}
+use Rattle.arbiter_server.specs.Folders.{Keepers}
+use Rattle.arbiter_server.specs.Games.{CommonView, common_with}
+use Rattle.arbiter_server.specs.Hosts.{Ends, Hosts, IsHosted, all_lines, all_passing}
 use Rattle.adjudicate_core.specs.Addresses.{addresses_of}
 use Rattle.adjudicate_core.specs.declared.commands.host.HostGames.{HostGames}
 use Rattle.adjudicate_core.specs.declared.hosting.HostPlan.{HostPlan}

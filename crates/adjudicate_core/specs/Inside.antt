@@ -5,6 +5,7 @@ pub mod Binding
 pub mod Entering
 pub mod Fronts
 pub mod HostingParts
+pub mod Keying
 pub mod ListeningParts
 pub mod Looking
 pub mod Manifesting

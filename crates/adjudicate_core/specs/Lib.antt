@@ -6,11 +6,14 @@ pub mod Misuses
 pub mod Usage
 pub mod Uses
 pub mod LineAnswers
+pub mod TableAnswers
+pub mod JsonAnswers
 pub mod Lines
 pub mod Looks
 pub mod Schedules
 pub mod Reply
 pub mod Telling
+pub mod Keys
 pub mod Running
 pub mod Addresses
 pub mod Listens
@@ -18,6 +21,5 @@ pub mod Manifests
 pub mod Sends
 pub mod Enters
 pub mod Hostings
-pub mod Laws
 pub mod Audits
 pub mod Inside

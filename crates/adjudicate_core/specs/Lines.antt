@@ -28,7 +28,7 @@ use Rattle.move_msg.specs.declared.who.Who.{Who}
 use Rattle.relay_world.specs.declared.world.State.{State}
 use Rattle.relay_world.specs.declared.world.State.TheVariants as state
 use Rattle.relay_world.specs.Texts.{who_word}
-use Rattle.arbiter_service.specs.ServedLines.{refused_keeper, refused_port, verdict_or_none}
+use Rattle.arbiter_server.specs.ServedLines.{refused_keeper, refused_port, verdict_or_none}
 use Rattle.adjudicate_core.specs.declared.tables.FileFault.{FileFault}
 use Rattle.adjudicate_core.specs.declared.tables.FileFault.TheVariants.{Missing, Changed, Bad}
 use Rattle.adjudicate_core.specs.declared.lines.KeptCount.{KeptCount}
@@ -67,6 +67,13 @@ told_words question told = question ++ codes " " ++ column_words told
 -- the refusal of a manifest by the number of its first line at fault, and of a file
 abbrev pub refused_manifest : ℕ → List ℕ
 refused_manifest number = codes "refused manifest " ++ decimal number
+
+-- the refusal of a file of keys: others may use it, or its line with this number is malformed
+abbrev pub refused_shared_key : List ℕ
+refused_shared_key = codes "refused key shared"
+
+abbrev pub refused_key : ℕ → List ℕ
+refused_key number = codes "refused key " ++ decimal number
 
 abbrev pub refused_file : List ℕ → List ℕ → List ℕ
 refused_file name word = codes "refused " ++ name ++ codes " " ++ word
@@ -128,6 +135,8 @@ refusal_words (refusal.Record fault) = refused_record fault
 refusal_words refusal.Port = refused_port
 refusal_words refusal.Keeper = refused_keeper
 refusal_words refusal.Files = refused_files
+refusal_words refusal.SharedKey = refused_shared_key
+refusal_words (refusal.Key number) = refused_key number
 refusal_words refusal.Memory = refused_memory
 
 -- two records are the same, or part at a ply

@@ -13,10 +13,11 @@ use Rattle.move_msg.specs.Senders.{who_number}
 use Rattle.move_msg.specs.TextLines.{ended}
 use Rattle.arbiter_core.specs.declared.fault.OpenFault.{OpenFault}
 use Rattle.arbiter_core.specs.declared.fault.OpenFault.TheVariants.{BadSetup, KeeperFailed, BadRecord, OtherStamp, OutOfMemory}
-use Rattle.arbiter_service.specs.GoingOut.{GoOut, LastIsCut, Writers}
-use Rattle.arbiter_service.specs.OverFiles.{IsOpened, ServesAndWrites, ServesOpened}
+use Rattle.arbiter_core.specs.Opens.{IsOpening}
+use Rattle.arbiter_server.specs.GoingOut.{GoOut, LastIsCut, Writers}
+use Rattle.arbiter_server.specs.OverFiles.{ServesAndWrites, ServesOpened}
 use Rattle.arbiter_core.specs.Setups.{SetupView}
-use Rattle.arbiter_service.specs.declared.file_keeper.FileKeeper.{FileKeeper}
+use Rattle.arbiter_server.specs.declared.file_keeper.FileKeeper.{FileKeeper}
 use Rattle.adjudicate_core.specs.Addresses.{addresses_of}
 use Rattle.adjudicate_core.specs.declared.refusals.Refusal.{Refusal}
 use Rattle.adjudicate_core.specs.declared.refusals.Refusal.TheVariants.{Memory, Port}
@@ -27,14 +28,14 @@ use Rattle.system_io.specs.declared.reading.ReadFault.TheVariants as read
 use Rattle.system_io.specs.declared.host.BindFault.TheVariants as bind
 use Rattle.system_io.specs.Hosts.{HostFacts}
 use Rattle.system_io.specs.declared.output.WriteFault.{WriteFault}
-use Rattle.arbiter_service.specs.ServedLines.{refused_keeper, refused_port}
+use Rattle.arbiter_server.specs.ServedLines.{refused_keeper, refused_port}
 use Rattle.line_teller.specs.ToldLines.{refused_memory}
 use Rattle.adjudicate_core.specs.Lines.{ready_words, refused_fen}
 use Rattle.adjudicate_core.specs.Looks.{gathered}
 use Rattle.system_io.specs.Ports.{Passed, PortFacts}
-use Rattle.arbiter_service.specs.Serving.{Scene, scene}
+use Rattle.arbiter_server.specs.Serving.{Scene, scene}
 use Rattle.adjudicate_core.specs.Reply.{IsText}
-use Rattle.arbiter_service.specs.StoredBytes.{CannotKeep, StartsOver}
+use Rattle.arbiter_server.specs.StoredBytes.{CannotKeep, StartsOver, keeper_over}
 use Rattle.adjudicate_core.specs.Telling.{TellsIf}
 
 -- the setup of the arbiter
@@ -78,7 +79,7 @@ hosted host port file = record { host = host; port = port; file = file }
 -- isn't opened, and nothing is served; the keeper is left so
 pub data OpensAndServes {F : Type 0} (facts : F → KeptFacts) (S : ServesBy F) (l : Listen) (setup : SetupView) (old new : Scene (FileKeeper F)) (r : Result ℕ WriteFault) : Type 0 where
   Served : S setup l.datagrams l.fetch old new → OpensAndServes facts S l setup old new r
-  Unopened : (fault : OpenFault) → IsOpened facts setup old.at new.at (Err fault) → Passed old.port new.port [] → TellsUnopened fault old.written new.written r → OpensAndServes facts S l setup old new r
+  Unopened : (fault : OpenFault) → IsOpening (keeper_over facts) setup old.at new.at (Err fault) → Passed old.port new.port [] → TellsUnopened fault old.written new.written r → OpensAndServes facts S l setup old new r
 
 -- over the file in which the record is kept: it can't be brought to the disk or read; or an arbiter is opened over a keeper that
 -- started over this file, and so has stored one of any two that it said a start finds, and what every later start finds

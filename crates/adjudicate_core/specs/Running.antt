@@ -1,5 +1,5 @@
 -- The answer of the program to its words and to what it reads (this project's own).
-use Rattle.std.specs.Prelude.{◌≡◌, ℕ, List, Option, Result, Ok, Err, drop, map, String, Vec, string_bytes}
+use Rattle.std.specs.Prelude.{◌≡◌, ℕ, List, Option, Some, None, Result, Ok, Err, drop, map, String, Vec, string_bytes}
 use Rattle.std.specs.Borrow.{Bor}
 use Rattle.std.specs.Global.{Global}
 use Rattle.system_io.specs.Disks.{DiskFacts}
@@ -18,7 +18,7 @@ use Rattle.system_io.specs.Ports.{PortFacts}
 use Rattle.adjudicate_core.specs.Listens.{Hosted, Listens, hosted, seen_as}
 use Rattle.adjudicate_core.specs.Sends.{Sends}
 use Rattle.adjudicate_core.specs.Enters.{Enters}
-use Rattle.game_host.specs.DiskGames.{disk_keepers}
+use Rattle.arbiter_server.specs.DiskGames.{disk_keepers}
 use Rattle.adjudicate_core.specs.Hostings.{HostsGames, seen_as as seen_hosting}
 use Rattle.task_files.specs.Sources.{CannotRead, IsGiven, TakesMemory}
 use Rattle.adjudicate_core.specs.Commands.Judge as judges
@@ -32,11 +32,18 @@ use Rattle.adjudicate_core.specs.Commands.Game as games
 use Rattle.adjudicate_core.specs.Commands.Record as records
 use Rattle.adjudicate_core.specs.Commands.Audit as audits
 use Rattle.adjudicate_core.specs.Commands.Version as versions
-use Rattle.adjudicate_core.specs.Commands.Probes.{PutsProbes}
+use Rattle.adjudicate_core.specs.Commands.Probes as of_probes
+use Rattle.adjudicate_core.specs.TableAnswers.{PutsByTables}
+use Rattle.json_lines.specs.Ask.{ask_of}
 use Rattle.adjudicate_core.specs.Commands.Root as roots
+use Rattle.adjudicate_core.specs.Keys.{HasKeys, LacksKeys}
+use Rattle.sealed_port.specs.KeyedHosts.{keyed_host}
+use Rattle.sealed_port.specs.Sealing.{sealed_facts}
+use Rattle.sealed_port.specs.declared.seal_port.Keys.{Keys}
+use Rattle.sealed_port.specs.declared.seal_port.Sealed.{Sealed}
 use Rattle.adjudicate_core.specs.Reply.{AnswersOnce, AnswersRead, IsText}
 use Rattle.adjudicate_core.specs.Telling.{TellsOne}
-use Rattle.adjudicate_core.specs.Tasks.{IsTask, IsMisuse, NamesNone, named_in}
+use Rattle.adjudicate_core.specs.Tasks.{IsTask, IsMisuse, NamesNone, key_in, named_in}
 
 -- what is outside of the program: its disk, its input, and the host of its ports and files
 pub record Outside (P F : Type 0) : Type 1 where
@@ -62,7 +69,7 @@ AnswersFrom disk source host (task.Check t) given old new status = AnswersRead (
 AnswersFrom disk source host (task.Show t) given old new status = shows.Answers given old new status
 AnswersFrom disk source host (task.Run t) given old new status = AnswersOnce (runs.IsReply t given) (Unit {0}) old new status
 AnswersFrom disk source host (task.Listen t) given old new status = Listens host (seen_as host.file (Ok status)) t given old new (Ok status)
-AnswersFrom disk source host (task.Probes t) given old new status = PutsProbes source given old new status
+AnswersFrom disk source host (task.Probes t) given old new status = PutsByTables (of_probes.TellsLineIn t.json (ask_of t.determined)) source given old new status
 AnswersFrom disk source host (task.Game t) given old new status = AnswersOnce (games.IsReply t given) (IsText t.fen.now) old new status
 AnswersFrom disk source host (task.Record t) given old new status = AnswersOnce (records.IsReply given.kept) (records.TakesMemory given.kept) old new status
 AnswersFrom disk source host (task.Audit t) given old new status = AnswersOnce (audits.IsReply t given) (IsText t.start.now) old new status
@@ -70,7 +77,7 @@ AnswersFrom disk source host (task.Version t) given old new status = versions.An
 AnswersFrom disk source host (task.Send t) given old new status = Sends disk source host t old new (Ok status)
 AnswersFrom disk source host (task.Enter t) given old new status = Enters disk host t old new (Ok status)
 AnswersFrom disk source host (task.Host t) given old new status = HostsGames host (seen_hosting (disk_keepers disk host.host host.file) (Ok status)) t given old new (Ok status)
-AnswersFrom disk source host (task.Root t) given old new status = roots.Puts source t.fen given old new status
+AnswersFrom disk source host (task.Root t) given old new status = roots.Puts t.json (ask_of t.determined) source t.fen given old new status
 
 -- to a task the program answers from what it reads; or something that it reads for it can't be read; or memory was refused while
 -- it read
@@ -79,10 +86,22 @@ pub data AnswersTask {P F : Type 0} (out : Outside P F) (t : Task) (old new : Op
   Unread : CannotRead out.disk out.source (named_in t) → TellsOne refused_files old new status → AnswersTask out t old new status
   NoMemory : TakesMemory out.source (named_in t) → TellsOne refused_memory old new status → AnswersTask out t old new status
 
+-- the same with a host whose ports seal by these keys
+abbrev pub sealed_by : {P F : Type 0} → Keys → Outside P F → Outside (Sealed P) F
+sealed_by keys out = outside out.disk out.source (keyed_host keys out.host.host) (sealed_facts out.host.port) out.host.file
+
+-- To a task that names no file of keys the program answers with the host as it is. To one that does it answers with that host's ports
+-- sealed by the keys of the file; or it has none, which is told before all else; or memory for them was refused.
+pub data AnswersByKey {P F : Type 0} (out : Outside P F) (t : Task) (old new : Option (List ℕ)) (status : ℕ) : Type 0 where
+  Bare : key_in t ≡ None → AnswersTask out t old new status → AnswersByKey out t old new status
+  BySeal : (path : List ℕ) → key_in t ≡ Some path → (keys : Keys) → HasKeys out.disk path keys → AnswersTask (sealed_by keys out) t old new status → AnswersByKey out t old new status
+  NoKeys : (path : List ℕ) → key_in t ≡ Some path → (words : List ℕ) → LacksKeys out.disk path words → TellsOne words old new status → AnswersByKey out t old new status
+  NoRoomForKeys : (path : List ℕ) → key_in t ≡ Some path → TellsOne refused_memory old new status → AnswersByKey out t old new status
+
 -- what the program makes of its words: the answer to the task that they name; or they are misused, which is told, and nothing is
 -- written; or memory was refused before there was a task, where they name a command
 pub data Performs {P F : Type 0} (out : Outside P F) (IsTold : Misuse → Type 0) (words : List (List ℕ)) (old new : Option (List ℕ)) (status : ℕ) : Type 0 where
-  ToTask : (t : Task) → IsTask words t → AnswersTask out t old new status → Performs out IsTold words old new status
+  ToTask : (t : Task) → IsTask words t → AnswersByKey out t old new status → Performs out IsTold words old new status
   ToMisuse : (misuse : Misuse) → IsMisuse words misuse → IsTold misuse → new ≡ old → status ≡ 2 → Performs out IsTold words old new status
   ToNone : (NamesNone words → ⊥) → TellsOne refused_memory old new status → Performs out IsTold words old new status
 

@@ -13,7 +13,7 @@ use Rattle.system_io.specs.declared.host.BindFault.TheVariants as bind
 use Rattle.system_io.specs.Inputs.{InputFacts}
 use Rattle.system_io.specs.Ports.{Passed, PortFacts}
 use Rattle.source_core.specs.Sendings.{IsSending, Sending, WritesLines, causes}
-use Rattle.arbiter_service.specs.ServedLines.{refused_port}
+use Rattle.arbiter_server.specs.ServedLines.{refused_port}
 use Rattle.adjudicate_core.specs.Addresses.{addresses_of}
 use Rattle.adjudicate_core.specs.declared.commands.send.Send.{Send}
 use Rattle.adjudicate_core.specs.Lines.{refused_fen}

@@ -1,5 +1,5 @@
 -- Commands and tasks: a list for each thing that the program asks of a command (this project's own).
-use Rattle.std.specs.Prelude.{◌≡◌, Bool, false, List, [], Option, Some, Result, Ok, Err, codes, slice_get}
+use Rattle.std.specs.Prelude.{◌≡◌, ◌⊎◌, Bool, false, List, [], ◌∷◌, Option, Some, None, Result, Ok, Err, codes, option_map, slice_get}
 use Rattle.clap.specs.Words.{App, IsAmong, Rule, Text, kind_of, new_app}
 use Rattle.adjudicate_core.specs.Rules.{fault_in, value_in, with_rules}
 use Rattle.task_files.specs.Sources.{Named}
@@ -152,6 +152,13 @@ named_in (task.Enter t) = enters.named
 named_in (task.Host t) = hosts.named t
 named_in (task.Root t) = roots.named t
 
+-- the file of keys that it names, if it does
+abbrev pub key_in : Task → Option Text
+key_in (task.Listen t) = option_map (λ s. s.now) t.key
+key_in (task.Send t) = option_map (λ s. s.now) t.key
+key_in (task.Host t) = option_map (λ s. s.now) t.key
+key_in _ = None
+
 -- how far it is, is told on the way
 abbrev pub tells_progress : Task → Bool
 tells_progress (task.Judge t) = false
@@ -182,11 +189,15 @@ app_for name = with_rules (new_app (word_of name)) (rules_of name)
 abbrev pub IsTaken : App → List Text → Type 0
 IsTaken app words = fault_in app words ≡ []
 
--- the first word names this command
-abbrev pub Names : List Text → Name → Type 0
-Names words name = slice_get words 0 ≡ Some (word_of name)
+-- the words are `--version` alone
+abbrev pub IsVersion : List Text → Type 0
+IsVersion words = words ≡ codes "--version" ∷ []
 
--- the first word names no command, or there is none
+-- the first word names this command; `--version` alone names `version`
+abbrev pub Names : List Text → Name → Type 0
+Names words n = (slice_get words 0 ≡ Some (word_of n)) ⊎ (IsVersion words × (n ≡ name.Version))
+
+-- the words name no command, or there is none
 abbrev pub NamesNone : List Text → Type 0
 NamesNone words = (name : Name) → Names words name → ⊥
 

@@ -7,8 +7,10 @@ ghost use Rattle.adjudicate_core.specs.Inside.Asked.{PutsAnswered, PutsRead, rep
 ghost use Rattle.adjudicate_core.specs.Lines.{words_of};
 ghost use Rattle.adjudicate_core.specs.Reply.{WritesReply, status_if};
 
+use crate::json_answers::put_json;
 use crate::lines::{Line, put_line, put_refusal};
 use crate::refusals::Refusal;
+use json_lines::JsonLine;
 use std::alloc::AllocError;
 use std::io::Write;
 use system_io::{ReadFault, WriteFault};
@@ -24,6 +26,8 @@ pub(crate) enum Answer {
     Lines(Vec<Line>, bool),
     /// A text; all is done.
     Text(Vec<u8>),
+    /// One object of JSON.
+    Json(JsonLine),
 }
 
 /// The status: 0 where all is done, 1 where something is refused.
@@ -63,6 +67,10 @@ pub(crate) fn put_answer<W: Write>(out: &mut W, answer: &Answer) -> Result<u8, W
         Answer::Text(text) => match out.write_all(text) {
             Ok(()) => Ok(0),
             Err(_) => Err(WriteFault::Io),
+        },
+        Answer::Json(line) => match put_json(out, line) {
+            Ok(()) => Ok(status_if(line.is_done())),
+            Err(fault) => Err(fault),
         },
     }
 }

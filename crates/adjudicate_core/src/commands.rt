@@ -1,13 +1,13 @@
 //! The commands: their names, and command lines as tasks. Each command has a file of its own in `commands/`.
 
-ghost use Rattle.std.specs.Prelude.{◌≡◌, ◌↔◌, IsTrue, map, true, false, IfOk, IfErr, IfSome, IfNone, OnErr, IsErrOf};
+ghost use Rattle.std.specs.Prelude.{◌≡◌, ◌↔◌, IsTrue, map, true, false, IfOk, IfErr, IfSome, IfNone, OnErr, IsErrOf, option_map};
 ghost use Rattle.clap.specs.Words.{HasKind, Text, app_of, is_simple_and_free, found_of, first_value, rule_of, with_rule};
 ghost use Rattle.adjudicate_core.specs.declared.usage.Misuse.{Misuse};
 ghost use Rattle.adjudicate_core.specs.Misuses.{AsksForHelp};
 ghost use Rattle.adjudicate_core.specs.Rules.{fault_in, rule_of_value, value_in};
 ghost use Rattle.adjudicate_core.specs.Inside.Putting.{IsMisuseOf};
 ghost use Rattle.task_files.specs.Sources.{named_by};
-ghost use Rattle.adjudicate_core.specs.Tasks.{IsReadAs, IsTask, IsMisuse, IsTaken, Names, NamesNone, app_for, named_in, rules_of, word_of};
+ghost use Rattle.adjudicate_core.specs.Tasks.{IsReadAs, IsTask, IsMisuse, IsTaken, IsVersion, Names, NamesNone, app_for, key_in, named_in, rules_of, word_of};
 
 mod audit;
 mod check;
@@ -363,6 +363,20 @@ impl<'a> Task<'a> {
     }
 }
 
+impl<'a> Task<'a> {
+    /// The file of the keys by which the datagrams of the task are sealed, if they are.
+    pub(crate) fn key(&self) -> Option<&'a str>
+        ensures { option_map (λ s. s.now) result ≡ key_in self.now }
+    {
+        match self {
+            Task::Listen(task) => task.key,
+            Task::Send(task) => task.key,
+            Task::Host(task) => task.key,
+            _ => None,
+        }
+    }
+}
+
 /// Whether a word asks for help.
 fn asks_for_help(word: &str) -> bool
     ensures { IsTrue result ↔ AsksForHelp word.now }
@@ -381,12 +395,25 @@ fn misuse_of(word: &str) -> Misuse<'_>
     }
 }
 
-/// The command that the first word names, or that there is none.
+/// Whether the words are `--version` alone.
+fn is_version(words: &[&str]) -> bool
+    ensures { IsTrue result ↔ IsVersion (map (λ w. w.now) words.now) }
+{
+    match words {
+        [word] => *word == "--version",
+        _ => false,
+    }
+}
+
+/// The command that the words name, or that they name none.
 fn name_in<'a>(words: &'a [&'a str]) -> Result<Name, Misuse<'a>>
     ensures ok { IfOk result (Names (map (λ w. w.now) words.entry.now)) }
     ensures none { OnErr result (NamesNone (map (λ w. w.now) words.entry.now)) }
     ensures err { IfErr result (IsMisuse (map (λ w. w.now) words.entry.now)) }
 {
+    if is_version(words) {
+        return Ok(Name::Version);
+    }
     match words {
         [] => Err(Misuse::NoCommand),
         [word, ..] => match Name::of(word) {
@@ -410,7 +437,8 @@ fn task_by<'a>(alloc: Global, name: Name, words: &'a [&'a str]) -> Result<Task<'
     }
 }
 
-/// The task that the words name: the first word is the command, and the others are its own.
+/// The task that the words name: the first word is the command, and the others are its own. `--version` alone is
+/// `version`.
 ///
 /// Otherwise the error is the first misuse that applies. There is no word, or the first one asks for help or names no
 /// command. Then come words that the command doesn't have, or a request for help; then the command's values in its own

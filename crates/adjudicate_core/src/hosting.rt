@@ -9,8 +9,7 @@ use crate::lines::put_refusal;
 use crate::listening::{manifest_for, ready_line_at};
 use crate::refusals::Refusal;
 use crate::tables::gather;
-use arbiter_service::put_line;
-use game_host::{DiskGames, Server, ServerConfig};
+use arbiter_server::{DiskGames, Server, ServerConfig, put_line};
 use judge_core::Set;
 use std::alloc::Global;
 use system_io::{BindFault, Disk, Host, Output, WriteFault};
@@ -91,7 +90,7 @@ fn bind_and_serve<D: Disk, H: Host, W: Output>(
 /// Answers the datagrams of any number of games as the words say, each by the arbiter of its game, and tells the status.
 ///
 /// The first line is `ready` and the address at which datagrams come, when that is bound; then a line for each datagram, as
-/// `game_host::Server::serve` has it. What is refused is told in one line, in this order: the tables, and the address. Where memory
+/// `arbiter_server::Server::serve` has it. What is refused is told in one line, in this order: the tables, and the address. Where memory
 /// is refused the line is `refused memory`. The error comes only where the writer failed.
 pub fn host_games<'a, D: Disk, H: Host, W: Output>(
     alloc: Global,

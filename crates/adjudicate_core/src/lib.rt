@@ -1,17 +1,46 @@
 //! The commands of the adjudicator: words in, lines and a status out.
 //!
-//! `judge FEN` prints the verdict on a position, or `open`; `moves FEN` prints its legal moves; `probe --tables DIR FEN` prints what
-//! tables say of it, and `probes --tables DIR` what they say of each line of standard input, as it comes; `root --tables DIR FEN` prints the legal moves by what tables say of them; `game FEN` prints what the
-//! game of the moves on standard input comes to. `list DIR` prints the manifest of a folder's tables, and `check --manifest FILE DIR`
-//! whether they are those of one. `show` prints the messages on standard input; `run` runs the schedule on standard input, and
-//! prints what becomes of its two arbiters. `listen` is an arbiter that answers the datagrams of a socket and keeps its record in a
-//! file, and `send` the source of a game, which sends the moves on standard input to both arbiters. `record` prints what a kept file
-//! says, and `audit` whether it is by the rules of the game; `enter` writes a game's file to a folder of games, and prints its stamp,
-//! and `host` answers datagrams of all games there; `version` prints the program's version.
+//! `parse` makes a task of the words; `Sources::read` of `task_files` reads what it names; each command answers from that.
+//! `program::run` joins these, and `run_program` takes all words that a program was called with. `docs/FORMATS.md`, section 3,
+//! has each command with its lines; the statuses are 0 done, 1 refused, 2 misuse.
 //!
-//! Statuses: 0 done, 1 refused, 2 misuse.
+//! Each command is a file in `commands/`, with its definitions in the file of the same name in `specs/Commands/`. `values`,
+//! `numbers`, `usage`, `uses`, `addresses` read words; `tables` and `manifests` make sets of files; `answers`, `line_answers`,
+//! `lines`, `refusals` write (each line one `Display`); `listening`, `hosting`, `entering`, `sending`, `binding`, `game_name` run
+//! the commands that touch ports and files.
 //!
-//! Its cases stand in `rows`.
+//! Definitions, in reading order: `Rules`, `Tasks`, `Misuses`, `Uses` for words; `Looks`, `Lines`, `Reply`, `Commands`,
+//! `Schedules`, `LineAnswers`, `Audits` for answers; `Listens`, `Manifests`, `Sends`, `Enters`, `Hostings` for runs; `Running`
+//! (`Performs`, `Called`) for all. Its cases stand in `rows`.
+//!
+//! - CLAIM: `parse`, clauses `ok`, `misuse`, `named`: where the words name a task it is what they say, by the matches of `clap`.
+//!   A misuse is reported only where the first word is missing, asks for help or names no command, where the command refuses the
+//!   words, or where a value that the command needs is missing or out of its range. Words that name no command are always a
+//!   misuse.
+//! - CLAIM: `run`, clause `runs`; `run_program`: where a status is returned, the program on its words answers the task that they
+//!   name over what it read, or one of its sources failed (`refused files`), or memory was refused, or the words are misused and
+//!   nothing is written. The definition of each command's answer is in `AnswersFrom`. Of a call that ends with the writer's error
+//!   only `quiet` speaks. For `list`, `check`, `run`, `probes`, `root` and `host` refused memory has no cause.
+//! - CLAIM: `run`, clauses `runs`, `quiet`; `run_program`: for a misuse standard error gets one line of printing bytes (none
+//!   where help is asked for) and then the usage, of which no clause speaks, or as much of these as it takes. It gets bytes for
+//!   nothing else but for a task with progress.
+//! - CLAIM: `run`, clause `runs`: of a schedule the answer of status 0 is of the last of its worlds, in each of which both
+//!   records are true to the game (`IsRun`).
+//! - CLAIM: `run`, clause `runs`: `listen` refuses its start, its tables, its address and its kept file in this order, and
+//!   nothing passes at the port before an arbiter is opened; with `--ready` the line `ready ADDR` is written first. That each
+//!   line has gone out before the next is in the contract of the private `listen` alone.
+//! - CLAIM: `run`, clause `runs`: `host` refuses its tables and its address in this order; then the line `ready ADDR` is written,
+//!   and the games of its folder are hosted by acts as `Server::serve` has them. That each line has gone out before the next is
+//!   in the contract of the private `host_games` alone.
+//! - CLAIM: `run`, clause `runs`: `enter` refuses its start, its manifest and its file in this order; else the game's text is in
+//!   the file of its stamp, and each later start finds it. After a failed write a start finds what was there or the text.
+//! - CLAIM: `run_program`: with `--key` the ports of `listen`, `host` and `send` are sealed by the keys of the file, and all else
+//!   is as without it. What is refused of the file is told before all else, the first of: it can't be read as a regular file of at
+//!   most 130 bytes (`Disk::read_with_mode` of system_io); its group or others have some right; its first malformed line.
+//! - CLAIM: `run`, clause `runs`: `--json` of `probes` and `root` writes one object a line, and `--determined` tells the
+//!   determined values of judge_core in place of the strict ones.
+//! - CLAIM: `CacheSize::of`, clauses `some`, `none`; `Delay::of`, clauses `some`, `none`: the numbers of `--cache` and `--delay`
+//!   are read exactly where they are decimal digits, perhaps after a plus, in their range.
 #![tactic(auto)]
 
 mod addresses;
@@ -21,7 +50,8 @@ mod commands;
 mod entering;
 mod game_name;
 mod hosting;
-pub mod laws;
+mod json_answers;
+mod keys;
 mod line_answers;
 mod lines;
 mod listening;

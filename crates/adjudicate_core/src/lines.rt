@@ -4,14 +4,14 @@ ghost use Rattle.std.specs.Prelude.{◌≡◌, ◌++◌, Some, IfOk, OnOk, codes
 ghost use Rattle.std.specs.Fmt.{DisplaysOnOk};
 ghost use Rattle.std.specs.Io.KnownBytes.{Appends};
 ghost use Rattle.move_msg.specs.TextLines.{ended};
-ghost use Rattle.arbiter_service.specs.ServedLines.{verdict_or_none};
+ghost use Rattle.arbiter_server.specs.ServedLines.{verdict_or_none};
 ghost use Rattle.judge_core.specs.Words.{column_words};
 ghost use Rattle.adjudicate_core.specs.Lines.{arbiter_words, mark_word, probed_of, refusal_words, root_line_words, root_words, state_word, told_words, words_of};
 ghost use Rattle.relay_world.specs.Texts.{who_word};
 
 use crate::refusals::Refusal;
 use crate::tables::FileFault;
-use arbiter_service::verdict_or_none;
+use arbiter_server::verdict_or_none;
 use arrayvec::ArrayString;
 use board_core::{Move, Verdict};
 use fen_text::write_move;

@@ -9,8 +9,8 @@ ghost use Rattle.move_msg.specs.TextLines.{ended};
 ghost use Rattle.arbiter_core.specs.Setups.{setup_view};
 ghost use Rattle.adjudicate_core.specs.Listens.{BindsAndWrites, KeepsAndWrites, LacksAddress, ListensAndWrites, OpensAndWrites, StartsAndWrites, TellsAddress, TellsUnopened, WritesAt, hosted};
 ghost use Rattle.adjudicate_core.specs.Lines.{ready_words};
-ghost use Rattle.arbiter_service.specs.GoingOut.{writers};
-ghost use Rattle.arbiter_service.specs.StoredBytes.{IsInFile};
+ghost use Rattle.arbiter_server.specs.GoingOut.{writers};
+ghost use Rattle.arbiter_server.specs.StoredBytes.{IsInFile};
 
 use crate::binding::bind;
 use crate::commands::Listen;
@@ -19,7 +19,7 @@ use crate::numbers::CacheSize;
 use crate::refusals::Refusal;
 use crate::tables::gather;
 use arbiter_core::{OpenFault, Setup, name_of};
-use arbiter_service::{FileKeeper, put_line};
+use arbiter_server::{FileKeeper, put_line};
 use board_core::Position;
 use fen_text::read;
 use move_msg::manifest_of;
@@ -51,7 +51,7 @@ fn open_and_serve<F: KeptFile + Drop, P: Port, W: Output>(
     requires { IsInFile F.facts keeper.old }
     ensures { OpensAndWrites F.facts (writers W.contents W.facts) listening.now (setup_view setup.entry) keeper.old keeper.new (P.facts port.old) (P.facts port.new) out.old out.new result }
 {
-    match arbiter_service::open_and_serve(
+    match arbiter_server::open_and_serve(
         alloc,
         setup,
         keeper,

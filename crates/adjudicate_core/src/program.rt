@@ -4,7 +4,7 @@ ghost use Rattle.std.specs.Prelude.{◌≡◌, ◌≢◌, ◌⊎◌, drop, map, 
 ghost use Rattle.adjudicate_core.specs.declared.commands.Task.{Task};
 ghost use Rattle.line_teller.specs.ToldLines.{refused_memory};
 ghost use Rattle.adjudicate_core.specs.Listens.{hosted};
-ghost use Rattle.adjudicate_core.specs.Running.{AnswersFrom, AnswersTask, Called, Performs, called_by, outside, texts};
+ghost use Rattle.adjudicate_core.specs.Running.{AnswersByKey, AnswersFrom, AnswersTask, Called, Performs, called_by, outside, texts};
 ghost use Rattle.adjudicate_core.specs.Tasks.{IsTask, tells_progress};
 ghost use Rattle.adjudicate_core.specs.Telling.{TellsOne};
 ghost use Rattle.adjudicate_core.specs.Uses.{TellsMisuse};
@@ -13,12 +13,14 @@ use crate::answers::{put_answered, put_read};
 use crate::commands::{Task, parse};
 use crate::entering::enter;
 use crate::hosting::host_games;
+use crate::keys::keys_at;
 use crate::lines::put_refusal;
 use crate::listening::listen;
 use crate::refusals::Refusal;
 use crate::sending::send;
 use crate::usage::{Misuse, Usage, WordsFault};
 use crate::uses::tell_misuse;
+use sealed_port::Keyed;
 use std::alloc::{AllocError, Global};
 use std::io::Write;
 use system_io::{Disk, Host, Input, Output, ReadFault, WriteFault};
@@ -91,12 +93,39 @@ fn run_task<D: Disk, I: Input, H: Host, W: Output, E: Output>(
     }
 }
 
+/// Answers a task from what it reads. Where it names a file of keys, the ports of the host are sealed by these. The refusal of that
+/// file comes before all others.
+fn run_by_key<D: Disk, I: Input, H: Host, W: Output, E: Output>(
+    alloc: Global,
+    task: &Task,
+    disk: &D,
+    input: &I,
+    host: &H,
+    out: &mut W,
+    errors: &mut E,
+) -> Result<u8, WriteFault>
+    ensures quiet { tells_progress task.now ≡ false → errors.new ≡ errors.old }
+    ensures answered { IfOk result (AnswersByKey (outside (D.facts disk.now) (I.facts input.now) (H.facts host.now) H.Port.facts H.File.facts) task.now (W.contents out.old) (W.contents out.new)) }
+{
+    match task.key() {
+        None => run_task(alloc, task, disk, input, host, out, errors),
+        Some(path) => match keys_at(alloc, disk, path) {
+            Ok(keys) => {
+                let keyed = Keyed::over(host, keys);
+                run_task(alloc, task, disk, input, &keyed, out, errors)
+            }
+            Err(refusal) => put_refusal(out, refusal),
+        },
+    }
+}
+
 /// Runs the program on the words after its own name, and returns the status: 0 done, 1 refused, 2 misuse.
 ///
 /// All that a task names is read before anything is answered: its folder, of which the files of tables are looked at, its
 /// manifest, for `show`, `run` and `game` the input, to its end, and for `record` and `audit` kept files. What can't be read or has
 /// more than 2^30 bytes, a kept file more than 8217, is told as `refused files`. `list` and `check` hold one file at a time, and so
-/// does `send`. `probes` and `send` read the input line by line, and answer each line as it comes. `listen` and `send` open a port;
+/// does `send`. Before that the keys of `listen`, `host` and `send` are read, where a file of keys is named: what is refused of it is
+/// told before all else. `probes` and `send` read the input line by line, and answer each line as it comes. `listen` and `send` open a port;
 /// only `listen` writes a kept file, and `enter` a game's file.
 ///
 /// Answers go to `out`. For a misuse one line on `errors` says what is wrong, followed by the usage. A request for help
@@ -115,7 +144,7 @@ pub fn run<D: Disk, I: Input, H: Host, W: Output, E: Output>(
     ensures runs { IfOk result (Performs (outside (D.facts disk.now) (I.facts input.now) (H.facts host.now) H.Port.facts H.File.facts) (TellsMisuse E.facts E.contents errors.old errors.new) (texts words.now) (W.contents out.old) (W.contents out.new)) }
 {
     match parse(alloc, words) {
-        Ok(task) => run_task(alloc, &task, disk, input, host, out, errors),
+        Ok(task) => run_by_key(alloc, &task, disk, input, host, out, errors),
         Err(Usage::OutOfMemory) => put_refusal(out, Refusal::Memory),
         Err(Usage::Misuse(misuse)) => {
             tell_misuse(alloc, errors, &misuse);

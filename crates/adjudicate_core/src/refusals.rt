@@ -33,6 +33,10 @@ pub(crate) enum Refusal {
     Keeper,
     /// Something can't be read.
     Files,
+    /// The group or others may do anything with the file of keys.
+    SharedKey,
+    /// The first malformed line of a file of keys, by its number, counted from 1.
+    Key(usize),
     /// Memory was refused.
     Memory,
 }
@@ -87,6 +91,8 @@ impl fmt::Display for Refusal {
             Refusal::Port => f.write_str("refused port"),
             Refusal::Keeper => f.write_str("refused keeper"),
             Refusal::Files => f.write_str("refused files"),
+            Refusal::SharedKey => f.write_str("refused key shared"),
+            Refusal::Key(number) => fmt_number(f, "refused key ", *number),
             Refusal::Memory => f.write_str("refused memory"),
         }
     }

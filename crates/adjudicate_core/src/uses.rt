@@ -18,20 +18,21 @@ const USAGE: &str = "usage: adjudicate judge [--tables DIR] [--manifest FILE] FE
        adjudicate list [--progress] DIR
        adjudicate check --manifest FILE [--progress] DIR
        adjudicate show
-       adjudicate probes --tables DIR [--manifest FILE] [--progress]
-       adjudicate root --tables DIR [--manifest FILE] [FEN]
+       adjudicate probes --tables DIR [--manifest FILE] [--json] [--determined] [--progress]
+       adjudicate root --tables DIR [--manifest FILE] [--json] [--determined] [FEN]
        adjudicate game [--tables DIR] [--manifest FILE] [--delay N] FEN
        adjudicate run [--tables DIR] [--cache N] [--delay N]
        adjudicate listen --name N --start FEN --tables DIR --me M --bind ADDR --to ADDR[,ADDR] --kept FILE
-                         [--datagrams N] [--delay N] [--fetch] [--ready]
+                         [--datagrams N] [--delay N] [--fetch] [--ready] [--key FILE]
        adjudicate record FILE
        adjudicate audit --name N --start FEN --tables DIR [--manifest FILE] [--delay N] FILE [FILE]
        adjudicate send --name N --start FEN --tables DIR [--manifest FILE] [--delay N] --bind ADDR --to ADDR[,ADDR]
-                       [--wait MS] [--tries N]
+                       [--wait MS] [--tries N] [--key FILE]
        adjudicate enter --name N --start FEN --tables DIR [--manifest FILE] [--delay N] --games DIR
        adjudicate host --games DIR --tables DIR [--manifest FILE] --me M --bind ADDR --to ADDR[,ADDR]
-                       [--at-once N] [--cache N] [--datagrams N]
+                       [--at-once N] [--cache N] [--datagrams N] [--key FILE]
        adjudicate version
+       adjudicate --version
 ";
 
 /// Whether a byte is printed as it is.

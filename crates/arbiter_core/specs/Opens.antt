@@ -117,3 +117,8 @@ Opens facts setup me before now told =
 -- an arbiter of a good setup is opened so
 abbrev pub OpensIfGood : {K : Type 0} → KeeperFacts K → SetupView → K → K → Told → Type 0
 OpensIfGood facts setup before now told = IsGood setup → (me : Identity) × IsIdentity setup me × Opens facts setup me before now told
+
+-- over this keeper an arbiter of a good setup is opened so, or refused; a bad one is refused, and nothing is put
+pub record IsOpening {K : Type 0} (facts : KeeperFacts K) (setup : SetupView) (before now : K) (told : Told) : Type 0 where
+  pub good : OpensIfGood facts setup before now told
+  pub bad : (IsGood setup → ⊥) → (told ≡ Err BadSetup) × (now ≡ before)

@@ -1,6 +1,17 @@
-//! Tests of arbiters and of worlds by their public calls, of what no contract says and no case of `rows` shows: keepers, ports and
-//! outputs that fail, sockets, and random runs and schedules. They stand in a crate of their own, since a crate is proved a second
-//! time for its tests.
+//! Tests of arbiters and of worlds by their public calls, of what no contract says and no case of `rows` shows.
+//!
+//! - `opening_tests`: keepers that fail
+//! - `serving_tests`: an arbiter in service, over a port in memory, and outputs that fail
+//! - `stopping_tests`: random runs that are stopped
+//! - `udp_tests`: the system's sockets
+//! - `world_tests`: schedules, and what is said of them
+//! - `seeded_world_tests`: random schedules against a plain model
+//!
+//! `positions`, `files`, `arbiters`, `failing` and `comparing` are what the tests share.
+//!
+//! They are in a crate of their own, since a crate is proved a second time for its tests, and use public calls alone. A row of
+//! words and results is a case of `rows` and not a test. `tools/planted` and the edits in `must-fail/` show what the contracts
+//! refuse; tests show what no contract says. One of them: `rt test -- NAME` here.
 #![tactic(auto)]
 
 #[cfg(test)]

@@ -4,7 +4,7 @@ use crate::arbiters::{NAME, record_of, setup_of, stamp_of};
 use crate::comparing::{check_bytes, check_same};
 use crate::positions::{START, position_of};
 use arbiter_core::{Arbiter, KeepFault, Keeper, Name, OpenFault, Refused, Setup, name_of};
-use arbiter_service::FileKeeper;
+use arbiter_server::FileKeeper;
 use board_core::Position;
 use std::alloc::Global;
 use std::process::Abort;

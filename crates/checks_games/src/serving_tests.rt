@@ -7,7 +7,7 @@ use crate::comparing::{check_bytes, check_same, push_bytes};
 use crate::failing::Failing;
 use crate::positions::START;
 use arbiter_core::{Arbiter, Keep, MemoryKeeper};
-use arbiter_service::{FileKeeper, open_and_serve, serve};
+use arbiter_server::{FileKeeper, open_and_serve, serve};
 use std::alloc::Global;
 use std::process::Abort;
 use system_io::{MemoryCalls, MemoryPort, Output, Passage, Traced, Turn, WriteFault};

@@ -3,7 +3,7 @@
 use crate::arbiters::{Sent, message_of, record_of, setup_of, stamp_of};
 use crate::comparing::{check_bytes, check_same};
 use crate::positions::START;
-use arbiter_service::run_after;
+use arbiter_server::run_after;
 use board_core::Verdict;
 use move_msg::{Message, Record};
 use std::alloc::Global;

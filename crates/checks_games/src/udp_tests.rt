@@ -4,7 +4,7 @@ use crate::arbiters::{empty_keeper, game, open_first, text_of};
 use crate::comparing::{check_bytes, check_same, check_text};
 use crate::positions::START;
 use arbiter_core::MemoryKeeper;
-use arbiter_service::serve;
+use arbiter_server::serve;
 use move_msg::Message;
 use std::alloc::Global;
 use std::net::{Net, SocketAddr, UdpSocket};

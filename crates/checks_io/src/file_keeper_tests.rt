@@ -2,7 +2,7 @@
 
 use crate::comparing::check_same;
 use arbiter_core::{KeepFault, Keeper};
-use arbiter_service::FileKeeper;
+use arbiter_server::FileKeeper;
 use std::alloc::Global;
 use std::process::Abort;
 use system_io::{Choice, DiskFile, KeptFile, Outcome, ReadFault, read_after};

@@ -4,7 +4,7 @@ ghost use Rattle.std.specs.Prelude.{◌≤◌, length};
 
 use crate::comparing::check_same;
 use arbiter_core::{KeepFault, Keeper};
-use arbiter_service::FileKeeper;
+use arbiter_server::FileKeeper;
 use std::alloc::Global;
 use std::fs;
 use std::process::Abort;

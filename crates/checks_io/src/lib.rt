@@ -1,6 +1,16 @@
-//! Tests of files, ports and sources by their public calls, of what no contract says and no case of `rows` shows: calls, reads and
-//! writes that fail, the system's own files and sockets, and a source whose datagrams are lost. They stand in a crate of their own,
-//! since a crate is proved a second time for its tests.
+//! Tests of files, ports and sources by their public calls, of what no contract says and no case of `rows` shows.
+//!
+//! - `calls_tests`, `file_keeper_tests`: files in memory that fail and lose power
+//! - `kept_tests`: the system's files
+//! - `port_tests`: the system's sockets, over the loopback
+//! - `source_tests`: a source whose datagrams are lost (over `source_port`)
+//! - `output_tests`: reads and writes that fail
+//!
+//! `positions`, `failing` and `comparing` are what the tests share.
+//!
+//! They are in a crate of their own, since a crate is proved a second time for its tests, and use public calls alone. A row of
+//! words and results is a case of `rows` and not a test. `tools/planted` and the edits in `must-fail/` show what the contracts
+//! refuse; tests show what no contract says. One of them: `rt test -- NAME` here.
 #![tactic(auto)]
 
 #[cfg(test)]
@@ -14,11 +24,15 @@ mod file_keeper_tests;
 #[cfg(test)]
 mod kept_tests;
 #[cfg(test)]
+mod mode_tests;
+#[cfg(test)]
 mod output_tests;
 #[cfg(test)]
 mod port_tests;
 #[cfg(test)]
 mod positions;
+#[cfg(test)]
+mod sealed_tests;
 #[cfg(test)]
 mod source_port;
 #[cfg(test)]

@@ -1,7 +1,23 @@
-//! FEN text of positions (PGN standard, section 16.1) and coordinate text of moves, both ways, and numbers in decimal digits.
+//! FEN text of positions (PGN standard, section 16.1), coordinate text of moves, and numbers in decimal digits, both ways.
 //!
-//! Each position has one text and each accepted text is the text of one position. No call takes
-//! memory.
+//! Bytes go in; a position or a move comes out, or the first fault of the text. A position or a move goes in; its one text comes
+//! out. No call takes memory. Which positions are valid is for `board_core` to say; here is only what a text spells. Inside:
+//! `cuts` (a text cut at each place of a byte), `placement`, `fields`, `counters`, `reading`, `writing`, `coordinates`, `fault`.
+//!
+//! Definitions, in reading order: `Cuts`, `Placement`, `Numbers`, `Fields`, `Fen` (`SpellsPosition`, `IsFirstFenFault`),
+//! `Written` (`fen_of`), `Coordinates` (`move_text`, `SpellsMove`). Its cases stand in `positions.txt` of `rows`; positions of
+//! the tests of `checks` are read by it.
+//!
+//! - CLAIM: `read`, clauses `ok`, `position`, `only`, `err`, `only_fault`: a position is answered exactly where the text spells
+//!   it, and otherwise the first fault in order.
+//! - CLAIM: `write`, clause `text`; `read`, clauses `written`, `one_text`; `laws::one_text`; `laws::one_position`: a position has
+//!   one text, which reads back as it; an accepted text is what is written again.
+//! - CLAIM: `cut_first`, clauses `some`, `none`: a text is cut at the first place of a byte.
+//! - CLAIM: `read_number`, clauses `some`, `none`: a number is read exactly from its decimal digits, without needless zeros and
+//!   at most as great as is said.
+//! - CLAIM: `read_move`, clauses `some`, `only`; `write_move`; `laws::one_move`: moves are read exactly where they are spelled,
+//!   and written so.
+//! - CLAIM: `FenFault::name`: the name of a fault.
 #![tactic(auto)]
 
 mod coordinates;

@@ -25,6 +25,12 @@
 #include <stddef.h>
 #include <stdint.h>
 
+/* The version of this header: that of the library that came with it, which hofsjurd_version tells. tools/build_c compares them. */
+#define HOFSJURD_VERSION_MAJOR 1
+#define HOFSJURD_VERSION_MINOR 0
+#define HOFSJURD_VERSION_PATCH 0
+#define HOFSJURD_VERSION "hofsjurd 1.0.0"
+
 #ifdef __cplusplus
 extern "C" {
 #endif
@@ -187,6 +193,62 @@ typedef struct {
 hofsjurd_reply hofsjurd_moves(const char *fen, size_t length, hofsjurd_move *moves, size_t room);
 hofsjurd_reply hofsjurd_board_moves(const hofsjurd_board *board, hofsjurd_move *moves, size_t room);
 
+/* what a move does to the men */
+enum {
+    HOFSJURD_QUIET = 0,      /* it neither takes a man nor moves a pawn; each of the others sets the halfmove clock to 0 */
+    HOFSJURD_PAWN_MOVE = 1,  /* a pawn moves and takes nothing */
+    HOFSJURD_CAPTURE = 2,    /* it takes what stands on its square */
+    HOFSJURD_EN_PASSANT = 3
+};
+
+/* how a position stands for its side to move */
+enum {
+    HOFSJURD_STANDS_OPEN = 0, /* there is a legal move, and no check */
+    HOFSJURD_IN_CHECK = 1,    /* there is a check, and a legal move */
+    HOFSJURD_CHECKMATED = 2,
+    HOFSJURD_STALEMATED = 3
+};
+
+/* A legal move with what it does and what it is worth to the side that makes it. Each value has a status of its own. */
+typedef struct {
+    hofsjurd_move move;
+    uint8_t effect;     /* HOFSJURD_QUIET to HOFSJURD_EN_PASSANT */
+    uint8_t state;      /* of the position after it, for the other side: HOFSJURD_STANDS_OPEN to HOFSJURD_STALEMATED */
+    hofsjurd_reply wdl; /* HOFSJURD_LOSS to HOFSJURD_WIN, with a halfmove clock of 0; a mating move wins */
+    hofsjurd_reply dtz; /* from before the move, in plies: 1 for a mating move; 1, 101, 0, -101 or -1 for any other capture or pawn
+                         * move, by its value; else from n after it: -n - 1 where n is above 0, -n + 1 where it is below, 0 at a draw */
+} hofsjurd_root_move;
+
+/* Writes the legal moves of a position at the front of the caller's array, the best first, and tells how many there are. A
+ * better value comes first; of one value the nearer win and the farther loss; moves that are equal in this are in the order of
+ * hofsjurd_moves. A move whose table is missing or damaged has the status of that: without a value it comes
+ * last, without a distance after those of its value. It changes no other move.
+ * Where `room` is less than the number of moves, the status is HOFSJURD_NO_ROOM with their number as the value; and then, as
+ * with any other status, nothing is written. */
+hofsjurd_reply hofsjurd_root(hofsjurd *handle, const char *fen, size_t length, hofsjurd_root_move *moves, size_t room);
+hofsjurd_reply hofsjurd_board_root(hofsjurd *handle, const hofsjurd_board *board, hofsjurd_root_move *moves, size_t room);
+
+/* The same three questions, answered also where a table that is needed is missing, if the answer is the same whatever that table
+ * holds: a capture that wins already, say. Each table that is there is read, and one that is damaged stays so. Where the calls above
+ * have an answer, it is this one, unless memory is refused.
+ *
+ * The WDL value is told exactly where it is determined. A distance is told at least where the determined value is a draw, or comes by
+ * a capture. Otherwise the status is that of the calls above. No verdict is told so: it needs the tables themselves. */
+hofsjurd_reply hofsjurd_determined_wdl(hofsjurd *handle, const char *fen, size_t length);
+hofsjurd_reply hofsjurd_determined_dtz(hofsjurd *handle, const char *fen, size_t length);
+hofsjurd_reply hofsjurd_determined_root(hofsjurd *handle, const char *fen, size_t length, hofsjurd_root_move *moves, size_t room);
+hofsjurd_reply hofsjurd_board_determined_wdl(hofsjurd *handle, const hofsjurd_board *board);
+hofsjurd_reply hofsjurd_board_determined_dtz(hofsjurd *handle, const hofsjurd_board *board);
+hofsjurd_reply hofsjurd_board_determined_root(hofsjurd *handle, const hofsjurd_board *board, hofsjurd_root_move *moves, size_t room);
+
+/* Writes the board after a move, each man in the set of his side and of his kind alone. Any other status than HOFSJURD_OK
+ * writes nothing: the first fault of what the board shows, HOFSJURD_BAD_MOVE, HOFSJURD_ILLEGAL_MOVE, in this order. No tables
+ * are needed. */
+uint32_t hofsjurd_board_after(const hofsjurd_board *board, const hofsjurd_move *move, hofsjurd_board *after);
+
+/* How the position stands for its side to move, HOFSJURD_STANDS_OPEN to HOFSJURD_STALEMATED. No tables are needed. */
+hofsjurd_reply hofsjurd_board_state(const hofsjurd_board *board);
+
 /* --------------------------------------------------------------------------------------------------------------- games */
 
 /* A game that is told move by move, or none. Neither field is to be read or written. */
@@ -229,6 +291,10 @@ size_t hofsjurd_status_name(uint32_t status, char *room, size_t length);
 
 /* the name of a verdict by its number ("TableWhite"), `open` for 0; empty for any other number */
 size_t hofsjurd_verdict_name(uint32_t verdict, char *room, size_t length);
+
+/* the name of the first table that the WDL probe of a board needs and the set lacks ("KQvK"), where that tells
+ * HOFSJURD_NOT_COVERED; empty otherwise, and nothing written where the handle is closed */
+size_t hofsjurd_board_missing(hofsjurd *handle, const hofsjurd_board *board, char *room, size_t length);
 
 /* the FEN text of the position that a game has reached; empty, and nothing written, where there is no game */
 size_t hofsjurd_game_fen(hofsjurd_game *game, char *room, size_t length);

@@ -1,7 +1,27 @@
 //! The tables for programs in C: a static library over `probe_api`, with the header `include/hofsjurd.h`.
 //!
-//! A caller keeps a handle for a set of tables, and one for each game that it tells move by move. The header says what the
-//! caller owes; `docs/C_LIBRARY.md` is the guide.
+//! What C passes goes in: handles, pointers with lengths, numbers. Each export takes what the handle owns out, calls one function
+//! of `probe_api`, and puts it back. A caller keeps a handle for a set of tables, and one for each game that it tells move by
+//! move. The header says what the caller owes; `docs/C_LIBRARY.md` is the guide, "What is proved" there has the exports one by
+//! one. `tools/build_c` builds the library, and `contrib/` has C files over it. No call is undefined for any bytes and numbers,
+//! and each returns, given what the caller owes.
+//!
+//! Inside: `handle`, `game_handle` and `held` (what they own), `seat`, `game_seat` (a pointer as C keeps it), `loose` (a box as
+//! its pointer), `asking`, `move_calls`, `determined_calls`. This is the only crate with `extern` functions and unsafe code.
+//!
+//! Definitions: `Owned` (which box a handle's pointer owns), `Beginning`. It is tried by `tools/c_harness/run`: values beside
+//! libfathom's, cut and changed files, each allocation refused in turn.
+//!
+//! - CLAIM: `hofsjurd_open`, clauses `opened`, `refused`, `memory`; `hofsjurd_close`; `hofsjurd_game_end`: a handle holds one set
+//!   of tables or none, a game's handle one game or none. Closing leaves it empty, and opening replaces what it held; that this
+//!   is freed is no clause.
+//! - CLAIM: `hofsjurd_add`, clauses `closed`, `is`, `open`; `hofsjurd_wdl`, clauses `closed`, `is`, `kept`;
+//!   `hofsjurd_boards_wdl`, clauses `lengths`, `refused`: these exports, and the others as `docs/C_LIBRARY.md` lists them, answer
+//!   as `probe_api` does for what the handle holds. A closed handle is status 1, no game status 6 (for `hofsjurd_game_fen` the
+//!   length 0). A probe leaves the handle as it was.
+//! - CLAIM: `hofsjurd_game_begin`, clause `is`; `hofsjurd_game_move`, clauses `no_game`, `closed`, `is`, `open`, `kept`;
+//!   `hofsjurd_game_move_text`, clauses `no_game`, `closed`, `is`, `open`, `kept`: after a move a game's handle holds the game
+//!   after it, or the same game where the status isn't 0.
 #![tactic(auto)]
 
 ghost use Rattle.std.specs.Prelude.{◌≡◌, ◌≢◌, ◌<◌, ◌≤◌, None, Some, length, replicate, pos};
@@ -21,11 +41,13 @@ ghost use Rattle.hofsjurd_c.specs.declared.held.HeldGame.{HeldGame};
 ghost use Rattle.hofsjurd_c.specs.Beginning.{BeginsIn};
 
 mod asking;
+mod determined_calls;
 mod game_handle;
 mod game_seat;
 mod handle;
 mod held;
 mod loose;
+mod move_calls;
 mod seat;
 
 use asking::{ask_board, ask_boards, ask_text};

@@ -18,17 +18,17 @@ use Rattle.judge_core.specs.Probed.{IsProbed, number_of, numbered}
 use Rattle.judge_core.specs.Values.{Reading}
 use Rattle.judge_core.proofs.Reaching.{few_men}
 
-answered : {X : Type 0} (r : Result X ValueFault) → as_probe (λ x. x) r ≢ Err OutOfMemory
+pub answered : {X : Type 0} (r : Result X ValueFault) → as_probe (λ x. x) r ≢ Err OutOfMemory
 answered (Ok x) e = absurd cc
 answered (Err (NotCovered key)) e = absurd cc
 answered (Err (Damaged key)) e = absurd cc
 
-is_probe : {X : Type 0} (r reading : Result X ValueFault) (outside : Bool) → outside ≡ false → r ≡ reading → IsProbe (as_probe (λ x. x) r) outside reading
+pub is_probe : {X : Type 0} (r reading : Result X ValueFault) (outside : Bool) → outside ≡ false → r ≡ reading → IsProbe (as_probe (λ x. x) r) outside reading
 is_probe (Ok x) reading outside scope e = (scope, sym e)
 is_probe (Err (NotCovered key)) reading outside scope e = (scope, sym e)
 is_probe (Err (Damaged key)) reading outside scope e = (scope, sym e)
 
-is_numbered : (value : Reading) → numbered (as_probe (λ x. x) value) ≡ as_probe number_of value
+pub is_numbered : (value : Reading) → numbered (as_probe (λ x. x) value) ≡ as_probe number_of value
 is_numbered (Ok v) = refl
 is_numbered (Err fault) = refl
 

@@ -25,3 +25,8 @@ pub mod RootOrder
 pub mod RootWins
 pub mod Looking
 pub mod RootCaptures
+pub mod Rising
+pub mod Completed
+pub mod Kept
+pub mod Zeroing
+pub mod Told

@@ -16,7 +16,7 @@ use Rattle.judge_core.specs.declared.found.Weighed.{Weighed}
 use Rattle.judge_core.specs.Values.{Reading, turned, greater}
 use Rattle.judge_core.specs.Tables.{Tables, table_value}
 use Rattle.judge_core.specs.Asked.{faults_in, first_fault, unless}
-use Rattle.judge_core.specs.Probing.{after, greatest, value_or_loss, is_forced, weighed_by}
+use Rattle.judge_core.specs.Probing.{after, greatest, value_or_loss, is_forced, weighed_by, weighed_where}
 use Rattle.judge_core.specs.declared.fault.Faults.{Faults}
 use Rattle.judge_core.proofs.Asking.{asked-append, faults-append, faults_more}
 use Rattle.judge_core.specs.Inside.Found.{lands_empty, found_in, nothing_found, found_with, closed}
@@ -133,12 +133,16 @@ walk-ends value p found last w none = w.so_far ∙ ap (found_in value p) (sym (a
 pub no_captures : (value : Parts → Reading) (p : Parts) (found : Found) → found ≡ nothing_found → captures_after p None ≡ [] → found ≡ found_in value p (legal_captures p)
 no_captures value p found e none = walk-ends value p found None (walk-begins value p found e) none
 
-pub with_own : (tables : Tables) (value : Parts → Reading) (p : Parts) (found : Found) (own : Reading) (b : Bool) (w : Result Weighed ValueFault) → found ≡ found_in value p (legal_captures p) → own ≡ table_value tables p → b ≡ is_forced p → w ≡ closed found own b → w ≡ weighed_by tables value p
-unfolding found_in weighed_by
-with_own tables value p found own b w f o i c =
+pub with_own_where : (said : Parts → Reading) (value : Parts → Reading) (p : Parts) (found : Found) (own : Reading) (b : Bool) (w : Result Weighed ValueFault) → found ≡ found_in value p (legal_captures p) → own ≡ said p → b ≡ is_forced p → w ≡ closed found own b → w ≡ weighed_where said value p
+unfolding found_in weighed_where
+with_own_where said value p found own b w f o i c =
     c ∙ rw (f, o, i, passants p, others p) (ap (λ (x : Faults). unless (first_fault x) (Ok (record {
       capture = greatest (after value p (filter (λ m. not (is_en_passant p m)) (legal_captures p)));
       passant = greatest (after value p (filter (is_en_passant p) (legal_captures p)));
-      own = value_or_loss (table_value tables p);
+      own = value_or_loss (said p);
       forced = is_forced p;
-    }))) (sym (faults-append (after value p (legal_captures p)) (table_value tables p ∷ []))))
+    }))) (sym (faults-append (after value p (legal_captures p)) (said p ∷ []))))
+
+pub with_own : (tables : Tables) (value : Parts → Reading) (p : Parts) (found : Found) (own : Reading) (b : Bool) (w : Result Weighed ValueFault) → found ≡ found_in value p (legal_captures p) → own ≡ table_value tables p → b ≡ is_forced p → w ≡ closed found own b → w ≡ weighed_by tables value p
+unfolding weighed_by
+with_own tables value p found own b w f o i c = with_own_where (table_value tables) value p found own b w f o i c

@@ -17,11 +17,11 @@ use Rattle.judge_core.specs.declared.wdl.Wdl.TheVariants.{Loss, Draw}
 use Rattle.judge_core.specs.Values.{Reading, points, greater, turned}
 use Rattle.judge_core.specs.Tables.{Tables, table_value}
 use Rattle.judge_core.specs.Asked.{asked, fault_in, unless}
-use Rattle.judge_core.specs.Probing.{after, greatest, value_or_loss, is_forced, are_en_passant, weighed_by, worth, worth_in, wdl_of}
-use Rattle.judge_core.specs.Root.{effect_of, captures, is_checkmate, root_move, root_move_of, root_moves}
+use Rattle.judge_core.specs.Probing.{after, greatest, value_or_loss, is_forced, are_en_passant, weighed_by, weighed_where, worth, worth_in, wdl_of}
+use Rattle.judge_core.specs.Root.{effect_of, captures, is_checkmate, root_move_by, root_move_at, root_moves_by}
 use Rattle.judge_core.specs.RootLaws.{NoCaptureIsBetter}
 use Rattle.judge_core.proofs.Captures.{falls, passant_is_capture}
-use Rattle.judge_core.specs.Distances.{moves_pawn}
+use Rattle.judge_core.specs.Distances.{moves_pawn, dtz_of}
 use Rattle.judge_core.proofs.Effects.{effect_by}
 use Rattle.judge_core.proofs.Rule.{meets_rule, still}
 
@@ -65,7 +65,7 @@ passes_there t (y ∷ ys) x has e = elim (Contains-append_cases (y ∷ []) ys x 
 
 -- ---- the greatest of some values
 
-greater_left : (a b : Wdl) → points a ≤ points (greater a b)
+pub greater_left : (a b : Wdl) → points a ≤ points (greater a b)
 unfolding greater
 greater_left a b = step (nat_lt (points a) (points b)) refl
   where
@@ -73,7 +73,7 @@ greater_left a b = step (nat_lt (points a) (points b)) refl
     step true e = (let lt = ltb-true (points a) (points b) e in omega (arith, lt))
     step false e = omega arith
 
-greater_right : (a b : Wdl) → points b ≤ points (greater a b)
+pub greater_right : (a b : Wdl) → points b ≤ points (greater a b)
 unfolding greater
 greater_right a b = step (nat_lt (points a) (points b)) refl
   where
@@ -167,7 +167,7 @@ module _ (tables : Tables) (p : Parts) (m : Move) (q : Parts) (u : Wdl) (has : C
 
 module _ (tables : Tables) (p : Parts) (position : IsPosition p) where
   whole_value : (m : Move) (q : Parts) (u v : Wdl) → Contains (legal_moves p) m → is_capture p m ≡ true → position_after p m ≡ Some q → turned (wdl_of tables q) ≡ Ok u → wdl_of tables p ≡ Ok v → points u ≤ points v
-  unfolding weighed_by
+  unfolding weighed_by weighed_where
   whole_value m q u v has takes eq eu ev =
       let men = men_of_position q (still p q m position eq) in
       let less = falls p q m position takes eq in
@@ -181,18 +181,18 @@ module _ (tables : Tables) (p : Parts) (position : IsPosition p) where
       } in
       weighed_most tables p m q u has takes eq eu (fault_in (after (wdl_of tables) p (legal_captures p) ++ table_value tables p ∷ [])) w v (worth_most tables p m q u has takes eq eu w refl refl refl) rule
 
-  of_move : (r : RootMove) (m : Move) (u v : Wdl) (o : Option Parts) → position_after p m ≡ o → Contains (legal_moves p) m → option_map (root_move tables p m) o ≡ Some r
+  of_move : (r : RootMove) (m : Move) (u v : Wdl) (o : Option Parts) → position_after p m ≡ o → Contains (legal_moves p) m → option_map (root_move_by (wdl_of tables) (dtz_of tables) p m) o ≡ Some r
       → captures r.effect ≡ true → is_checkmate r.state ≡ false → r.wdl ≡ Ok u → wdl_of tables p ≡ Ok v → points u ≤ points v
   of_move r m u v None eo has er takes going eu ev = absurd cc
   of_move r m u v (Some q) eo has er takes going eu ev =
-      let same : root_move tables p m q ≡ r = cc in
+      let same : root_move_by (wdl_of tables) (dtz_of tables) p m q ≡ r = cc in
       let takes' = ap (λ (x : RootMove). captures x.effect) same ∙ takes in
       let going' = ap (λ (x : RootMove). is_checkmate x.state) same ∙ going in
       let eu' = ap (λ (x : RootMove). x.wdl) same ∙ eu in
       whole_value m q u v has (taken p m takes') eo (rw going' at eu') ev
 
 pub no_capture_is_better : NoCaptureIsBetter
-unfolding root_moves
+unfolding root_moves_by
 no_capture_is_better tables p r u v position has takes going eu ev =
-    let found = from_item (root_move_of tables p) (legal_moves p) r has in
+    let found = from_item (root_move_at (wdl_of tables) (dtz_of tables) p) (legal_moves p) r has in
     of_move tables p position r found.0 u v (position_after p found.0) refl found.1 found.2 takes going eu ev

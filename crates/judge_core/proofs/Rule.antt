@@ -1,5 +1,5 @@
 -- The value of a position meets its rule: the bound on captures in a row cuts nothing off, since each takes a man.
-use Rattle.std.proofs.Common.{◌≡◌, ◌∙◌, sym, ap, refl, ℕ, zero, suc, ◌<◌, ◌≤◌, nat_le, Bool, true, false, cond, not, List, [], ◌∷◌, Option, Some, None, option_map, filter, arith, Result, Ok}
+use Rattle.std.proofs.Common.{◌≡◌, ◌∙◌, sym, ap, refl, ℕ, zero, suc, ◌<◌, ◌≤◌, Bool, true, false, cond, not, List, [], ◌∷◌, Option, Some, None, option_map, filter, arith, Result, Ok}
 use Rattle.std.proofs.lemmas.Bool.{le-leb, lt-leb}
 use Rattle.std.specs.Prelude.{OnErr, Err}
 use Rattle.board_core.specs.declared.parts.Parts.{Parts}
@@ -13,8 +13,8 @@ use Rattle.judge_core.specs.declared.wdl.Wdl.TheVariants.{Draw}
 use Rattle.judge_core.specs.declared.fault.ValueFault.{ValueFault}
 use Rattle.judge_core.specs.declared.found.Weighed.{Weighed}
 use Rattle.judge_core.specs.Values.{Reading, turned}
-use Rattle.judge_core.specs.Tables.{Tables}
-use Rattle.judge_core.specs.Probing.{after, weighed_by, wdl_by, wdl_to, wdl_of, worth_in}
+use Rattle.judge_core.specs.Tables.{Tables, table_value}
+use Rattle.judge_core.specs.Probing.{after, weighed_where, weighed_by, wdl_by_weighed, wdl_by, wdl_to, wdl_where, wdl_of, worth_in}
 use Rattle.judge_core.proofs.Captures.{falls}
 
 -- two ways to tell a value agree after each capture
@@ -43,44 +43,57 @@ module _ (f g : Parts → Reading) (p : Parts) (agree : Agree f g p) where
       step rest true false e et = rw (e, et) rest
       step rest false t e et = rw e rest
 
-  pub same_weighed : (tables : Tables) → weighed_by tables f p ≡ weighed_by tables g p
-  unfolding weighed_by
-  same_weighed tables =
+  pub same_weighed : (own : Parts → Reading) → weighed_where own f p ≡ weighed_where own g p
+  unfolding weighed_where
+  same_weighed own =
       rw (same_all (legal_moves p), same_some (λ m. not (is_en_passant p m)) (legal_moves p), same_some (is_en_passant p) (legal_moves p)) refl
 
-same_rule : (tables : Tables) (f g : Parts → Reading) (p : Parts) → Agree f g p → wdl_by tables f p ≡ wdl_by tables g p
-same_rule tables f g p agree = ap (λ w. cond (nat_le (count_of_men p) 2) (Ok Draw) (worth_in w)) (same_weighed f g p agree tables)
+same_rule : (own f g : Parts → Reading) (p : Parts) → Agree f g p → wdl_by_weighed p (weighed_where own f p) ≡ wdl_by_weighed p (weighed_where own g p)
+same_rule own f g p agree = ap (wdl_by_weighed p) (same_weighed f g p agree own)
 
 pub still : (p q : Parts) (m : Move) → IsPosition p → position_after p m ≡ Some q → IsPosition q
 still p q m position e = IsPosition-play p m q position (position_legal p m q e)
 
 -- more captures in a row than men are the same as so many
-enough : (tables : Tables) (n k : ℕ) (p : Parts) → IsPosition p → count_of_men p ≤ n → count_of_men p ≤ k → wdl_to tables n p ≡ wdl_to tables k p
+enough : (own : Parts → Reading) (n k : ℕ) (p : Parts) → IsPosition p → count_of_men p ≤ n → count_of_men p ≤ k → wdl_to own n p ≡ wdl_to own k p
 unfolding wdl_to
-enough tables zero k p position a b = absurd (let two = men_of_position p position in omega arith)
-enough tables (suc n) zero p position a b = absurd (let two = men_of_position p position in omega arith)
-enough tables (suc n) (suc k) p position a b =
-    same_rule tables (wdl_to tables n) (wdl_to tables k) p (λ m q c e. (let less = falls p q m position c e in enough tables n k q (still p q m position e) (omega arith) (omega arith)))
+enough own zero k p position a b = absurd (let two = men_of_position p position in omega arith)
+enough own (suc n) zero p position a b = absurd (let two = men_of_position p position in omega arith)
+enough own (suc n) (suc k) p position a b =
+    same_rule own (wdl_to own n) (wdl_to own k) p (λ m q c e. (let less = falls p q m position c e in enough own n k q (still p q m position e) (omega arith) (omega arith)))
 
-step_in : (tables : Tables) (n : ℕ) (p : Parts) → IsPosition p → n ≡ count_of_men p → wdl_to tables n p ≡ wdl_by tables (wdl_of tables) p
-unfolding wdl_to wdl_of
-step_in tables zero p position e = absurd (let two = men_of_position p position in omega arith)
-step_in tables (suc n) p position e =
-    same_rule tables (wdl_to tables n) (wdl_of tables) p (λ m q c a. (let less = falls p q m position c a in enough tables n (count_of_men q) q (still p q m position a) (omega arith) (omega arith)))
+step_in : (own : Parts → Reading) (n : ℕ) (p : Parts) → IsPosition p → n ≡ count_of_men p → wdl_to own n p ≡ wdl_by_weighed p (weighed_where own (wdl_where own) p)
+unfolding wdl_to wdl_where
+step_in own zero p position e = absurd (let two = men_of_position p position in omega arith)
+step_in own (suc n) p position e =
+    same_rule own (wdl_to own n) (wdl_where own) p (λ m q c a. (let less = falls p q m position c a in enough own n (count_of_men q) q (still p q m position a) (omega arith) (omega arith)))
 
-opened : (tables : Tables) (p : Parts) → wdl_of tables p ≡ wdl_to tables (count_of_men p) p
-unfolding wdl_of
-opened tables p = refl
+opened : (own : Parts → Reading) (p : Parts) → wdl_where own p ≡ wdl_to own (count_of_men p) p
+unfolding wdl_where
+opened own p = refl
+
+-- by whatever the own tables say
+pub where_meets_rule : (own : Parts → Reading) (p : Parts) → IsPosition p → wdl_where own p ≡ wdl_by_weighed p (weighed_where own (wdl_where own) p)
+where_meets_rule own p position = opened own p ∙ step_in own (count_of_men p) p position refl
 
 pub meets_rule : (tables : Tables) (p : Parts) → IsPosition p → wdl_of tables p ≡ wdl_by tables (wdl_of tables) p
-meets_rule tables p position = opened tables p ∙ step_in tables (count_of_men p) p position refl
+unfolding wdl_of weighed_by
+meets_rule tables p position = where_meets_rule (table_value tables) p position
 
 -- a position of two men, and one of more
+pub where_bare : (own : Parts → Reading) (p : Parts) → IsPosition p → count_of_men p ≤ 2 → Ok Draw ≡ wdl_where own p
+where_bare own p position few = sym (where_meets_rule own p position ∙ ap (λ b. cond b (Ok Draw) (worth_in (weighed_where own (wdl_where own) p))) (le-leb (count_of_men p) 2 few))
+
+pub where_weighed : (own : Parts → Reading) (p : Parts) (w : Result Weighed ValueFault) → IsPosition p → 2 < count_of_men p → w ≡ weighed_where own (wdl_where own) p → worth_in w ≡ wdl_where own p
+where_weighed own p w position many e = sym (where_meets_rule own p position ∙ ap (λ b. cond b (Ok Draw) (worth_in (weighed_where own (wdl_where own) p))) (lt-leb (count_of_men p) 2 many) ∙ ap worth_in (sym e))
+
 pub bare : (tables : Tables) (p : Parts) → IsPosition p → count_of_men p ≤ 2 → Ok Draw ≡ wdl_of tables p
-bare tables p position few = sym (meets_rule tables p position ∙ ap (λ b. cond b (Ok Draw) (worth_in (weighed_by tables (wdl_of tables) p))) (le-leb (count_of_men p) 2 few))
+unfolding wdl_of
+bare tables p position few = where_bare (table_value tables) p position few
 
 pub weighed : (tables : Tables) (p : Parts) (w : Result Weighed ValueFault) → IsPosition p → 2 < count_of_men p → w ≡ weighed_by tables (wdl_of tables) p → worth_in w ≡ wdl_of tables p
-weighed tables p w position many e = sym (meets_rule tables p position ∙ ap (λ b. cond b (Ok Draw) (worth_in (weighed_by tables (wdl_of tables) p))) (lt-leb (count_of_men p) 2 many) ∙ ap worth_in (sym e))
+unfolding wdl_of weighed_by
+weighed tables p w position many e = where_weighed (table_value tables) p w position many e
 
 -- what holds at all holds where there is an error
 pub always_err : {A E : Type 0} {X : Type 0} (r : Result A E) → X → OnErr r X

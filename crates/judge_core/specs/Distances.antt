@@ -86,12 +86,16 @@ abbrev pub is_value : Wdl → Reading → Bool
 is_value v (Ok u) = is_same u v
 is_value v (Err fault) = false
 
--- whether some pawn move that takes nothing reaches this value; the values after all such moves are needed, promotions
--- among them
-unfoldable pub pawns_reach : Tables → Parts → Wdl → Result Bool ValueFault
-pawns_reach tables p v =
-    let steps = after (wdl_of tables) p (filter (is_pawn_step p) (legal_moves p)) in
+-- whether some pawn move that takes nothing reaches this value, where `value` gives those of positions; the values after all
+-- such moves are needed, promotions among them
+unfoldable pub pawns_reach_where : (Parts → Reading) → Parts → Wdl → Result Bool ValueFault
+pawns_reach_where value p v =
+    let steps = after value p (filter (is_pawn_step p) (legal_moves p)) in
     unless (fault_in steps) (Ok (list_any (is_value v) steps))
+
+-- ... by the tables of a set
+abbrev pub pawns_reach : Tables → Parts → Wdl → Result Bool ValueFault
+pawns_reach tables p v = pawns_reach_where (wdl_of tables) p v
 
 -- ---- moves that neither take a man nor move a pawn
 

@@ -4,3 +4,4 @@ pub mod Counts
 pub mod Kept
 pub mod Placing
 pub mod Following
+pub mod Determined

@@ -12,6 +12,7 @@ pub mod Standings
 pub mod Answers
 pub mod Probed
 pub mod Root
+pub mod Determined
 pub mod Words
 pub mod Laws
 pub mod FiveRules

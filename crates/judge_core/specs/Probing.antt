@@ -39,16 +39,20 @@ abbrev pub value_or_loss : Reading → Wdl
 value_or_loss (Ok v) = v
 value_or_loss (Err fault) = Loss
 
--- The best capture other than en passant, the best en passant, and the own table, or the first fault among them. Captures
--- come in the order of moves, the own table last.
-unfoldable pub weighed_by : Tables → (Parts → Reading) → Parts → Result Weighed ValueFault
-weighed_by tables value p =
-    unless (fault_in (after value p (legal_captures p) ++ table_value tables p ∷ [])) (Ok (record {
+-- The best capture other than en passant, the best en passant, and the own table's value, or the first fault among them.
+-- Captures come in the order of moves, the own table last. `own` gives what the own tables of positions say.
+unfoldable pub weighed_where : (Parts → Reading) → (Parts → Reading) → Parts → Result Weighed ValueFault
+weighed_where own value p =
+    unless (fault_in (after value p (legal_captures p) ++ own p ∷ [])) (Ok (record {
       capture = greatest (after value p (filter (λ m. not (is_en_passant p m)) (legal_captures p)));
       passant = greatest (after value p (filter (is_en_passant p) (legal_captures p)));
-      own = value_or_loss (table_value tables p);
+      own = value_or_loss (own p);
       forced = is_forced p;
     }))
+
+-- ... by the tables of a set
+unfoldable pub weighed_by : Tables → (Parts → Reading) → Parts → Result Weighed ValueFault
+weighed_by tables value p = weighed_where (table_value tables) value p
 
 -- en passant where there is no other move, else the best of all
 abbrev pub worth : Weighed → Wdl
@@ -58,17 +62,25 @@ abbrev pub worth_in : Result Weighed ValueFault → Reading
 worth_in (Ok w) = Ok (worth w)
 worth_in (Err fault) = Err fault
 
+-- the value of a position: a draw for bare kings, else by what is weighed
+abbrev pub wdl_by_weighed : Parts → Result Weighed ValueFault → Reading
+wdl_by_weighed p w = if nat_le (count_of_men p) 2 then Ok Draw else worth_in w
+
 -- the value of a position, where `value` gives those of the positions after its captures
 abbrev pub wdl_by : Tables → (Parts → Reading) → Parts → Reading
-wdl_by tables value p = if nat_le (count_of_men p) 2 then Ok Draw else worth_in (weighed_by tables value p)
+wdl_by tables value p = wdl_by_weighed p (weighed_by tables value p)
 
 -- ---- captures in a row
 
--- the value, where at most so many captures in a row are visited
-unfoldable pub wdl_to : Tables → ℕ → Parts → Reading
-wdl_to tables zero p = Ok Draw
-wdl_to tables (suc n) p = wdl_by tables (wdl_to tables n) p
+-- the value by what the own tables say, where at most so many captures in a row are visited
+unfoldable pub wdl_to : (Parts → Reading) → ℕ → Parts → Reading
+wdl_to own zero p = Ok Draw
+wdl_to own (suc n) p = wdl_by_weighed p (weighed_where own (wdl_to own n) p)
 
--- The WDL value. Each capture takes a man, so that there are no more captures in a row than men.
+-- The value by what the own tables say. Each capture takes a man, so that there are no more captures in a row than men.
+unfoldable pub wdl_where : (Parts → Reading) → Parts → Reading
+wdl_where own p = wdl_to own (count_of_men p) p
+
+-- the WDL value, by the tables of a set
 unfoldable pub wdl_of : Tables → Parts → Reading
-wdl_of tables p = wdl_to tables (count_of_men p) p
+wdl_of tables p = wdl_where (table_value tables) p

@@ -68,10 +68,10 @@ is_checkmate Stalemate = false
 
 -- ---- what a move is worth
 
--- The value of a move for the side that makes it, from how the position after it stands. A mating move wins, and needs no
--- table.
-abbrev pub value_by : Tables → BoardState → Parts → Reading
-value_by tables state q = if is_checkmate state then Ok Won else turned (wdl_of tables q)
+-- The value of a move for the side that makes it, from how the position after it stands, and its value there. A mating move
+-- wins, and needs no table.
+abbrev pub value_before : BoardState → Reading → Reading
+value_before state reading = if is_checkmate state then Ok Won else turned reading
 
 -- a capture or a pawn move: one ply, and 100 more where the rule of fifty moves comes before the end; none at a draw
 abbrev pub zeroing_of : Option Outcome → Distance
@@ -94,28 +94,32 @@ before (Err fault) = Err fault
 
 -- The distance from before a move for the side that makes it: 1 for a mating move, the value's for a move that sets the clock
 -- to 0, else one ply more than after it.
-abbrev pub reach_by : Tables → BoardState → Bool → Parts → Reach
-reach_by tables state zeroes q =
+abbrev pub reach_before : BoardState → Bool → Reading → Reach → Reach
+reach_before state zeroes reading reach =
     if is_checkmate state then Ok (Win 1)
-    else if zeroes then zeroed (turned (wdl_of tables q))
-    else before (dtz_of tables q)
+    else if zeroes then zeroed (turned reading)
+    else before reach
 
--- a move with all that is told of it, where this position is the one after it
-abbrev pub root_move : Tables → Parts → Move → Parts → RootMove
-root_move tables p m q = record {
+-- a move with all that is told of it, where this position is the one after it, and these give values and distances
+abbrev pub root_move_by : (Parts → Reading) → (Parts → Reach) → Parts → Move → Parts → RootMove
+root_move_by value reach p m q = record {
   played = m;
   effect = effect_of p m;
   state = state_of q;
-  wdl = value_by tables (state_of q) q;
-  dtz = signed_in (reach_by tables (state_of q) (zeroes_clock (effect_of p m)) q);
+  wdl = value_before (state_of q) (value q);
+  dtz = signed_in (reach_before (state_of q) (zeroes_clock (effect_of p m)) (value q) (reach q));
 }
 
-abbrev pub root_move_of : Tables → Parts → Move → Option RootMove
-root_move_of tables p m = option_map (root_move tables p m) (position_after p m)
+abbrev pub root_move_at : (Parts → Reading) → (Parts → Reach) → Parts → Move → Option RootMove
+root_move_at value reach p m = option_map (root_move_by value reach p m) (position_after p m)
 
 -- all legal moves, in the order of moves
-unfoldable pub root_moves : Tables → Parts → List RootMove
-root_moves tables p = filter_map (root_move_of tables p) (legal_moves p)
+unfoldable pub root_moves_by : (Parts → Reading) → (Parts → Reach) → Parts → List RootMove
+root_moves_by value reach p = filter_map (root_move_at value reach p) (legal_moves p)
+
+-- ... by the tables of a set
+abbrev pub root_moves : Tables → Parts → List RootMove
+root_moves tables = root_moves_by (wdl_of tables) (dtz_of tables)
 
 -- ---- the order
 
@@ -138,12 +142,20 @@ abbrev pub rank_cmp : ℕ × ℤ → ℕ × ℤ → Ordering
 rank_cmp a b = ordering_then (nat_cmp a.0 b.0) (int_cmp a.1 b.1)
 
 -- all legal moves, the best first; moves of one rank stay in the order of moves
-pub record IsRoot (tables : Tables) (p : Parts) (moves : List RootMove) : Type 0 where
-  pub all : IsPermutation (root_moves tables p) moves
+pub record IsRootBy (value : Parts → Reading) (reach : Parts → Reach) (p : Parts) (moves : List RootMove) : Type 0 where
+  pub all : IsPermutation (root_moves_by value reach p) moves
   pub best_first : IsSortedByKey rank rank_cmp moves
-  pub stable : IsStableByKey rank rank_cmp (root_moves tables p) moves
+  pub stable : IsStableByKey rank rank_cmp (root_moves_by value reach p) moves
+
+-- ... by the tables of a set
+abbrev pub IsRoot : Tables → Parts → List RootMove → Type 0
+IsRoot tables = IsRootBy (wdl_of tables) (dtz_of tables)
+
+-- none where the position is out of scope, and else a list of which this holds
+abbrev pub IsInScope : {V : Type 0} → (V → Type 0) → Parts → Option V → Type 0
+IsInScope holds p None = is_out_of_scope p ≡ true
+IsInScope holds p (Some found) = (is_out_of_scope p ≡ false) × holds found
 
 -- none where the position is out of scope, and else that list
 abbrev pub IsRootInScope : {V : Type 0} → (V → List RootMove) → Tables → Parts → Option V → Type 0
-IsRootInScope items tables p None = is_out_of_scope p ≡ true
-IsRootInScope items tables p (Some found) = (is_out_of_scope p ≡ false) × IsRoot tables p (items found)
+IsRootInScope items tables p found = IsInScope (λ v. IsRoot tables p (items v)) p found

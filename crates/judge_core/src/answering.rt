@@ -1,8 +1,9 @@
 //! Both probes of a position and the verdict on it, from one pass over its captures.
 
-ghost use Rattle.std.specs.Prelude.{◌≡◌, ◌≤◌, false, Some, IfOk, OnErr, if◌then◌else◌};
+ghost use Rattle.std.specs.Prelude.{◌≡◌, ◌≤◌, false, Some, None, Err, IfOk, OnErr, if◌then◌else◌};
 ghost use Rattle.board_core.specs.ComputedMoves.{legal_moves};
 ghost use Rattle.judge_core.specs.Answers.{ListsMoves, as_probe, signed_in};
+ghost use Rattle.judge_core.specs.declared.fault.ProbeFault.TheVariants.{OutOfScope};
 ghost use Rattle.judge_core.specs.Distances.{plies, dtz_of};
 ghost use Rattle.judge_core.specs.Ends.{has_no_move};
 ghost use Rattle.judge_core.specs.Probed.{IsProbed, number_of};
@@ -54,6 +55,20 @@ fn end_or(position: &Position, verdict: Option<Verdict>) -> Option<Verdict>
     }
 }
 
+/// The three columns of a position out of scope.
+pub(crate) fn columns_outside(position: &Position) -> Columns
+    ensures probed { result.probed ≡ record { wdl = Err OutOfScope; dtz = Err OutOfScope } }
+    ensures verdict { result.verdict ≡ if has_no_move (legal_moves position.now) then Some (end_of position.now) else None }
+{
+    Columns {
+        probed: Probed {
+            wdl: Err(ProbeFault::OutOfScope),
+            dtz: Err(ProbeFault::OutOfScope),
+        },
+        verdict: end_or(position, None),
+    }
+}
+
 impl Readings {
     /// The verdict that follows from both readings.
     fn verdict(&self, position: &Position) -> Option<Verdict>
@@ -67,6 +82,32 @@ impl Readings {
         }
     }
 
+    /// Both as numbers, or why there is none.
+    fn probed(&self) -> Probed
+        requires { IfOk self.now.dtz (λ d. plies d ≤ 1000000) }
+        ensures wdl { result.wdl ≡ as_probe number_of self.now.wdl }
+        ensures dtz { result.dtz ≡ as_probe (λ n. n) (signed_in self.now.dtz) }
+    {
+        Probed {
+            wdl: number_in(&self.wdl),
+            dtz: signed_in(&self.dtz),
+        }
+    }
+
+    /// The three columns of a position in scope that has these readings, where these others are told.
+    pub(crate) fn columns_telling(&self, position: &Position, told: &Readings) -> Columns
+        requires own { IfOk self.now.dtz (λ d. plies d ≤ 1000000) }
+        requires told { IfOk told.now.dtz (λ d. plies d ≤ 1000000) }
+        ensures wdl { result.probed.wdl ≡ as_probe number_of told.now.wdl }
+        ensures dtz { result.probed.dtz ≡ as_probe (λ n. n) (signed_in told.now.dtz) }
+        ensures verdict { result.verdict ≡ if has_no_move (legal_moves position.now) then Some (end_of position.now) else ruling_by position.now self.now.wdl self.now.dtz }
+    {
+        Columns {
+            probed: told.probed(),
+            verdict: end_or(position, self.verdict(position)),
+        }
+    }
+
     /// The three columns of a position in scope that has these readings.
     fn columns(&self, position: &Position) -> Columns
         requires { IfOk self.now.dtz (λ d. plies d ≤ 1000000) }
@@ -74,14 +115,7 @@ impl Readings {
         ensures dtz { result.probed.dtz ≡ as_probe (λ n. n) (signed_in self.now.dtz) }
         ensures verdict { result.verdict ≡ if has_no_move (legal_moves position.now) then Some (end_of position.now) else ruling_by position.now self.now.wdl self.now.dtz }
     {
-        let probed = Probed {
-            wdl: number_in(&self.wdl),
-            dtz: signed_in(&self.dtz),
-        };
-        Columns {
-            probed,
-            verdict: end_or(position, self.verdict(position)),
-        }
+        self.columns_telling(position, self)
     }
 }
 
@@ -142,13 +176,7 @@ impl<'a> Set<'a> {
         // Called for its contract: each table is in its slot.
         let _cache = self.cache();
         if is_out_of_scope(position) {
-            return Ok(Columns {
-                probed: Probed {
-                    wdl: Err(ProbeFault::OutOfScope),
-                    dtz: Err(ProbeFault::OutOfScope),
-                },
-                verdict: end_or(position, None),
-            });
+            return Ok(columns_outside(position));
         }
         self.columns(alloc, position)
     }

@@ -2,12 +2,14 @@
 
 ghost use Rattle.std.specs.Prelude.{◌≡◌, ◌<◌, ◌≤◌, ◌+◌, ◌-◌, IfOk, IfSome, OnErr, Some, Err};
 ghost use Rattle.judge_core.specs.Tables.{AreFiled};
-ghost use Rattle.judge_core.specs.Distances.{plies, pawns_reach, move_counts, by_quiet_moves, stored, by_own_table, by_moves, by_weighed, dtz_to, dtz_of};
+ghost use Rattle.judge_core.specs.Distances.{plies, pawns_reach_where, move_counts, by_quiet_moves, stored, by_own_table, by_moves, by_weighed, dtz_to, dtz_of};
 ghost use Rattle.judge_core.specs.Ruling.{is_out_of_scope};
 ghost use Rattle.judge_core.specs.Answers.{IsLeftOpen, IsProbe, ListsMoves, as_probe, signed_in};
 ghost use Rattle.judge_core.specs.declared.fault.ProbeFault.TheVariants.{OutOfMemory};
+ghost use Rattle.judge_core.specs.Inside.Determined.{step_value_as};
 
 use crate::counts::{Counts, Steps};
+use crate::determined::Ask;
 use crate::distance::{Distance, counted, is_won, towards, zeroing};
 use crate::fault::{ProbeFault, ValueFault};
 use crate::found::Weighed;
@@ -49,13 +51,14 @@ impl<'a> Set<'a> {
     /// Whether some pawn move that takes nothing reaches the value, or the fault of the values after these moves. It
     /// isn't inlined, since its locals are large.
     #[inline(never)]
-    fn pawns_reach(
+    pub(crate) fn pawns_reach(
         &mut self,
         alloc: Global,
         position: &Position,
         value: Wdl,
+        ask: Ask,
     ) -> Result<Result<bool, ValueFault>, AllocError>
-        ensures is { IfOk result (λ reached. reached ≡ pawns_reach self.old.tables position.now value) }
+        ensures is { IfOk result (λ reached. reached ≡ pawns_reach_where (step_value_as ask self.old.tables value) position.now value) }
         ensures unchanged { self.new ≡ self.old }
     {
         if !has_pawn(position) {
@@ -65,7 +68,7 @@ impl<'a> Set<'a> {
         let mut steps = Steps::new();
         for m in &moves {
             if let Some(after) = after_pawn_step(position, m) {
-                let reading = self.wdl_of(alloc, &after);
+                let reading = self.step_value(alloc, &after, value, ask);
                 steps = steps.with(value, &turned(reading));
             }
         }
@@ -168,7 +171,7 @@ impl<'a> Set<'a> {
         ensures unchanged { self.new ≡ self.old }
     {
         if is_won(outcome) {
-            let found = self.pawns_reach(alloc, probe.position(), value)?;
+            let found = self.pawns_reach(alloc, probe.position(), value, Ask::Strict)?;
             let reached = match found {
                 Ok(reached) => reached,
                 Err(fault) => return Ok(Err(fault)),

@@ -1,15 +1,61 @@
 //! What a set of tables says about a position, and the verdict on it.
 //!
-//! A set finds a table by its material and its kind, and reads it at the index of the position. The value of a position
-//! is the best of its own table's and of those after its captures. The tables may hold less where a capture does
-//! better, and ignore en passant (Syzygy WDL tables). The distance is that to the next move that sets the halfmove
-//! clock to 0. Its tables store one side alone, and the other side's follows from the positions after its moves (Syzygy
-//! DTZ tables). Probes, verdicts and outcomes of games are printed here too, each in one way.
+//! Opened tables go into a set. A position's value is the best of its own table's and of those after its captures: a table may
+//! hold less where a capture does better, and ignores en passant. The distance is that to the next move that sets the halfmove
+//! clock to 0; a DTZ table may store one side alone, and the other's follows from the positions after its moves. `Standing` keeps
+//! where a game stands: each position is judged once, and only this crate knows the rule of delay.
+//!
+//! Inside: `shelf` (tables in their slots), `blocks` (decoded blocks), `reading` (of both), `probe` (a position as its table sees
+//! it); `probing`, `found`, `many` for WDL; `determined`, `determined_dtz` where tables are missing; `dtz`, `counts`, `distance`,
+//! `moving`, `mobility`; `judging`, `answering` (all three at once), `root`, `root_move`, `standing`, `game`, `display`. Words of
+//! Stockfish: `Set::wdl` is `search`, `Set::dtz` `probe_dtz`, a distance before a move that zeroes the clock `dtz_before_zeroing`,
+//! `Set::root` `root_probe`.
+//!
+//! Definitions, in reading order: `LookUp`, `Tables`, `Values`, `Asked`, `Probing` (`wdl_of`), `FiveRules`, `Distances`
+//! (`dtz_of`), `Ends`, `Ruling`, `Games`, `Standings`, `Answers`, `Probed`, `Root`, `Determined`.
+//!
+//! - CLAIM: `Set::new`; `Set::add`, clauses `added`, `refused`, `duplicate`, `no_memory`; `Set::cache`, clause `is`;
+//!   `Set::kept_blocks`: a set holds a table for each kind and material. A second one is `Duplicate` and changes nothing; adding
+//!   never reports lack of memory. `kept_blocks` gives at most `cache`; no other clause speaks of kept blocks.
+//! - CLAIM: `Set::wdl`, clauses `answer`, `unchanged`, `no_memory`; `laws::wdl_meets_its_rule`; `Set::wdl_each`, clauses `each`,
+//!   `probe`, `unchanged`: the WDL value is the definition's over whole expanded tables, a missing table before a damaged one,
+//!   and lack of memory is never reported; of many positions likewise, but the error of `wdl_each` has no cause.
+//! - CLAIM: `Set::dtz`, clauses `answer`, `memory`, `unchanged`, `filed`; `laws::distance_by_five_rules`;
+//!   `laws::dtz_meets_its_rules`: the DTZ value of a position in scope is what the five rules give, each with its faults. For a
+//!   set's tables the bound of two positions in a row cuts nothing off, whatever their bytes are. Lack of memory is reported only
+//!   where the WDL value is there, no draw, and not by a capture.
+//! - CLAIM: `Set::judge`, clauses `value`, `memory`, `unchanged`; `Set::answers`, clauses `told`, `verdict`, `memory`, `filed`,
+//!   `unchanged`; `Set::probe`, clauses `told`, `memory`, `filed`, `unchanged`: the verdict is the ruling, a win by the halfmove
+//!   clock and the distance. `judge` reports lack of memory only at a position in scope with a legal move, whose value is a win
+//!   or a loss, not by a capture. `answers` gives both probes and the verdict, `probe` the probes; they report it as `dtz` does.
+//! - CLAIM: `Set::judge_game`, clauses `value`, `memory`, `unchanged`; `laws::game_has_one_outcome`;
+//!   `laws::first_verdict_in_words`; `laws::no_delay_is_the_ruling`; `laws::first_verdict_looks_back`: of a whole game the first
+//!   verdict, or the first illegal move, or that it goes on, and one of these alone. The first verdict is that of the least ply
+//!   whose ruling is a mate or a stalemate, or has held for the delay. It depends on earlier moves alone.
+//! - CLAIM: `Set::begin`, clauses `at`, `memory`; `Set::move_on`, clauses `at`, `memory`; `Set::follow`, clause `standing`;
+//!   `Standing::verdict`; `laws::one_move_more`: where a game stands is carried on move by move; the verdict at the last ply is
+//!   the definition's over all plies.
+//! - CLAIM: `Set::root`, clauses `moves`, `memory`, `filed`, `unchanged`; `RootMove::probed`, clauses `wdl`, `dtz`;
+//!   `Effect::captures`; `BoardState::of`: the legal moves with value and distance or their faults, what each does and leaves,
+//!   the best first, equal ones in order of moves. Lack of memory is reported only at a position in scope.
+//! - CLAIM: `laws::first_move_is_best`; `laws::first_move_wins_within_rule`; `laws::first_move_keeps_the_value`;
+//!   `laws::no_capture_is_better`; `laws::nearest_win_is_the_distance`: the first move has a value wherever one has, and none a
+//!   better one. Where one wins within the rule of fifty moves, so does the first, at no greater distance. Where the tables agree
+//!   at a position (its value is the best of its moves), it keeps the value. Whatever the bytes of the tables are, no capture but
+//!   a mate is worth more than the position, and a win whose distance comes from quiet moves is as far as the nearest of these.
+//! - CLAIM: `Set::determined_wdl`, clauses `answer`, `unchanged`: the value that every completion of the missing WDL tables gives;
+//!   the strict fault exactly where none is given. Lack of memory is never reported.
+//! - CLAIM: `Set::determined_dtz`, clauses `answer`, `unchanged`; `Set::determined_answers`, clauses `told`, `verdict`, `memory`;
+//!   `Set::determined_root`, clauses `moves`, `memory`: a distance that every set with more tables gives, told at least where the
+//!   value is a draw or by a capture; both with the strict verdict; the root moves by these values.
+//! - CLAIM: `verdict_or_open`; `ProbeFault::name`; `Columns`, clause `output`; `Outcome`, clause `output`: as text.
 #![tactic(auto)]
 
 mod answering;
 mod blocks;
 mod counts;
+mod determined;
+mod determined_dtz;
 mod display;
 mod distance;
 mod dtz;

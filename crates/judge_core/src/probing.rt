@@ -22,7 +22,7 @@ use std::alloc::Global;
 use table_file::TableKind;
 
 /// Whether each legal move is en passant, and there is one.
-fn is_forced(position: &Position) -> bool
+pub(crate) fn is_forced(position: &Position) -> bool
     ensures { result ≡ is_forced position.now }
 {
     match position.en_passant() {
@@ -43,7 +43,11 @@ pub(crate) fn told(reading: &Result<Wdl, ValueFault>) -> Result<Wdl, ProbeFault>
 
 impl<'a> Set<'a> {
     /// The table value of a position: what its own WDL table says about it. Bare kings are a draw.
-    fn table_value(&mut self, alloc: Global, probe: &Probe<'_>) -> Result<Wdl, ValueFault>
+    pub(crate) fn table_value(
+        &mut self,
+        alloc: Global,
+        probe: &Probe<'_>,
+    ) -> Result<Wdl, ValueFault>
         ensures is { result ≡ table_value self.old.tables probe.now }
         ensures unchanged { self.new ≡ self.old }
     {

@@ -3,12 +3,15 @@
 ghost use Rattle.std.specs.Prelude.{◌≡◌, ◌≤◌, ◌++◌, ◌∷◌, [], Some, false, true, IfOk, OnOk, OnErr, option_to_list};
 ghost use Rattle.board_core.specs.ComputedMoves.{position_after};
 ghost use Rattle.judge_core.specs.Answers.{signed_in};
+ghost use Rattle.judge_core.specs.Determined.{IsDeterminedRoot};
 ghost use Rattle.judge_core.specs.Distances.{plies};
-ghost use Rattle.judge_core.specs.Root.{IsRootInScope, before, effect_of, reach_by, root_move, root_move_of, root_moves, state_of, value_by, zeroed};
+ghost use Rattle.judge_core.specs.Inside.Determined.{reach_as, value_as};
+ghost use Rattle.judge_core.specs.Root.{IsInScope, IsRootBy, IsRootInScope, before, effect_of, reach_before, root_move_by, root_move_at, root_moves_by, state_of, value_before, zeroed};
 ghost use Rattle.judge_core.specs.Ruling.{is_out_of_scope};
 ghost use Rattle.judge_core.specs.Tables.{AreFiled};
 
 use crate::answering::Readings;
+use crate::determined::Ask;
 use crate::distance::{Distance, towards, zeroing};
 use crate::fault::ValueFault;
 use crate::root_move::{BoardState, Effect, RootMove};
@@ -74,9 +77,10 @@ impl<'a> Set<'a> {
         after: &Position,
         state: BoardState,
         zeroes: bool,
+        ask: Ask,
     ) -> Result<Readings, AllocError>
-        ensures wdl { IfOk result (λ r. r.wdl ≡ value_by self.old.tables state after.now) }
-        ensures dtz { IfOk result (λ r. r.dtz ≡ reach_by self.old.tables state zeroes after.now) }
+        ensures wdl { IfOk result (λ r. r.wdl ≡ value_before state (value_as ask self.old.tables after.now)) }
+        ensures dtz { IfOk result (λ r. r.dtz ≡ reach_before state zeroes (value_as ask self.old.tables after.now) (reach_as ask self.old.tables after.now)) }
         ensures within { IfOk result (λ r. IfOk r.dtz (λ d. plies d ≤ 131174)) }
         ensures unchanged { self.new ≡ self.old }
     {
@@ -87,11 +91,11 @@ impl<'a> Set<'a> {
             });
         }
         if zeroes {
-            let wdl = turned(self.wdl_of(alloc, after));
+            let wdl = turned(self.value_as(alloc, after, ask));
             let dtz = zeroed(&wdl);
             return Ok(Readings { wdl, dtz });
         }
-        let readings = self.readings(alloc, after)?;
+        let readings = self.readings_as(alloc, after, ask)?;
         Ok(Readings {
             wdl: turned(readings.wdl),
             dtz: before(&readings.dtz),
@@ -105,14 +109,15 @@ impl<'a> Set<'a> {
         position: &Position,
         m: &Move,
         after: &Position,
+        ask: Ask,
     ) -> Result<RootMove, AllocError>
         requires { position_after position.now m.now ≡ Some after.now }
-        ensures is { IfOk result (λ r. r ≡ root_move self.old.tables position.now m.now after.now) }
+        ensures is { IfOk result (λ r. r ≡ root_move_by (value_as ask self.old.tables) (reach_as ask self.old.tables) position.now m.now after.now) }
         ensures unchanged { self.new ≡ self.old }
     {
         let effect = Effect::of(position, m);
         let state = BoardState::of(after);
-        let readings = self.readings_before(alloc, after, state, effect.zeroes_clock())?;
+        let readings = self.readings_before(alloc, after, state, effect.zeroes_clock(), ask)?;
         Ok(RootMove {
             played: *m,
             effect,
@@ -129,14 +134,15 @@ impl<'a> Set<'a> {
         position: &Position,
         m: &Move,
         found: &mut Vec<RootMove>,
+        ask: Ask,
     ) -> Result<(), AllocError>
-        ensures added { OnOk result (found.new.items ≡ found.old.items ++ option_to_list (root_move_of self.old.tables position.now m.now)) }
+        ensures added { OnOk result (found.new.items ≡ found.old.items ++ option_to_list (root_move_at (value_as ask self.old.tables) (reach_as ask self.old.tables) position.now m.now)) }
         ensures unchanged { self.new ≡ self.old }
     {
         let Some(after) = position.play(*m) else {
             return Ok(());
         };
-        match self.root_move(alloc, position, m, &after) {
+        match self.root_move(alloc, position, m, &after, ask) {
             Ok(root_move) => add(found, root_move),
             Err(fault) => Err(fault),
         }
@@ -147,16 +153,37 @@ impl<'a> Set<'a> {
         &mut self,
         alloc: Global,
         position: &Position,
+        ask: Ask,
     ) -> Result<Vec<RootMove>, AllocError>
-        ensures is { IfOk result (λ found. found.items ≡ root_moves self.old.tables position.now) }
+        ensures is { IfOk result (λ found. found.items ≡ root_moves_by (value_as ask self.old.tables) (reach_as ask self.old.tables) position.now) }
         ensures unchanged { self.new ≡ self.old }
     {
         let moves = position.legal(alloc)?;
         let mut found = Vec::new(alloc);
         for m in &moves {
-            self.add_root_move(alloc, position, m, &mut found)?;
+            self.add_root_move(alloc, position, m, &mut found, ask)?;
         }
         Ok(found)
+    }
+
+    /// All legal moves of the position, the best first, by the values and distances that are asked for; none where it is
+    /// out of scope.
+    fn root_as(
+        &mut self,
+        alloc: Global,
+        position: &Position,
+        ask: Ask,
+    ) -> Result<Option<Vec<RootMove>>, AllocError>
+        ensures moves { IfOk result (IsInScope (λ moves. IsRootBy (value_as ask self.old.tables) (reach_as ask self.old.tables) position.now moves.items) position.now) }
+        ensures memory { OnErr result (is_out_of_scope position.now ≡ false) }
+        ensures unchanged { self.new ≡ self.old }
+    {
+        if is_out_of_scope(position) {
+            return Ok(None);
+        }
+        let mut moves = self.root_moves(alloc, position, ask)?;
+        moves.sort_by_key(|m| m.rank())?;
+        Ok(Some(moves))
     }
 
     /// All legal moves of the position with what each is worth, the best first; none where the position is out of scope
@@ -179,11 +206,27 @@ impl<'a> Set<'a> {
     {
         // Called for its contract: each table is in its slot.
         let _cache = self.cache();
-        if is_out_of_scope(position) {
-            return Ok(None);
-        }
-        let mut moves = self.root_moves(alloc, position)?;
-        moves.sort_by_key(|m| m.rank())?;
-        Ok(Some(moves))
+        self.root_as(alloc, position, Ask::Strict)
+    }
+
+    /// All legal moves of the position, as `root` gives them, each by the value and the distance that are the same
+    /// whatever the missing tables hold, as `determined_wdl` and `determined_dtz` give them for the position after it.
+    ///
+    /// A move has a fault only where no such value, or no such distance that they tell, is there. The order is that of
+    /// `root`. The error comes only where memory for a list of moves is refused. The set stays as it was but for its
+    /// cache.
+    pub fn determined_root(
+        &mut self,
+        alloc: Global,
+        position: &Position,
+    ) -> Result<Option<Vec<RootMove>>, AllocError>
+        ensures moves { IfOk result (IsInScope (λ moves. IsDeterminedRoot self.old.tables position.now moves.items) position.now) }
+        ensures memory { OnErr result (is_out_of_scope position.now ≡ false) }
+        ensures filed { AreFiled self.old.tables }
+        ensures unchanged { self.new ≡ self.old }
+    {
+        // Called for its contract: each table is in its slot.
+        let _cache = self.cache();
+        self.root_as(alloc, position, Ask::Determined)
     }
 }

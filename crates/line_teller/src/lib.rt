@@ -1,6 +1,20 @@
 //! The answers to the lines of an input, a line each, as they come.
 //!
-//! Its cases stand in `rows`.
+//! `tell_lines` gives each line of a `LineReader` to a `Teller`, which writes the answer; what was written goes out before the
+//! next line is awaited. Where the next line has come already, nothing is flushed for it. With progress a line on the second
+//! writer says how many are done after every 10,000. It is one file, `told_lines`.
+//!
+//! Definitions: `ToldLines` (`TellsLines`, `WritesRead`, `WritesText`). Its cases stand in `lines.txt` and `many.txt` of `rows`;
+//! `tools/ask_probes` tries that each answer comes before the next line is written.
+//!
+//! - CLAIM: `tell_lines`, clauses `written`, `same`: where an answer is returned, the answers to the lines that were read are
+//!   written in turn, up to the input's end. Or a refusal follows the whole lines before and nothing after it: `refused memory`
+//!   at a line that takes memory or for whose bytes there was none, `refused files` where the input fails or after 2^64 - 1
+//!   lines. That the error comes only of a writer that failed is no clause.
+//! - CLAIM: `tell_lines`, clause `same_text`: where the input's bytes are known these are the lines of the whole text.
+//! - CLAIM: `tell_lines`, clause `turns`: before each line that came, a whole one had come already or all answers had gone out.
+//!   Of the last wait, at which the input ends or fails, this is no clause.
+//! - CLAIM: `tell_lines`, clause `quiet`: without progress nothing is written to the second writer.
 #![tactic(auto)]
 
 mod told_lines;

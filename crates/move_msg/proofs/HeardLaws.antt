@@ -3,6 +3,8 @@ use Rattle.std.proofs.Common.{◌≡◌, ℕ, Bool, true, false, cond, ◌/◌, 
 use Rattle.std.specs.Prelude.{◌==◌, ◌&&◌, ◌||◌, option_map, option_and_then}
 use Rattle.std.specs.Option.{ok_or}
 use Rattle.std.specs.Int.{w32, from_be_bytes}
+use Rattle.std.specs.Str.{bytes_eq}
+use Rattle.std.proofs.lemmas.Slice.Eq.{bytes_eq-Decides}
 use Rattle.std.proofs.lemmas.Bool.{eqb-true, leb-true, le-leb}
 use Rattle.board_core.specs.declared.piece.Promotion.{Promotion}
 use Rattle.board_core.specs.declared.piece.Promotion.TheVariants.{Queen, Rook, Bishop, Knight}
@@ -17,16 +19,16 @@ use Rattle.move_msg.specs.declared.who.Sender.TheVariants.{Source, Arbiter}
 use Rattle.move_msg.specs.declared.message.Message.{Message}
 use Rattle.move_msg.specs.declared.message.Message.TheVariants.{Move, Ack, Verdict, Fetch}
 use Rattle.move_msg.specs.declared.message.MessageFault.{MessageFault}
-use Rattle.move_msg.specs.declared.message.MessageFault.TheVariants.{BadLength, BadHead, BadKind, BadField}
+use Rattle.move_msg.specs.declared.message.MessageFault.TheVariants.{NoTag, BadLength, BadHead, BadKind, BadField}
 use Rattle.move_msg.specs.declared.coding.MessageKind.{MessageKind}
 use Rattle.move_msg.specs.declared.coding.MessageKind.TheVariants as kind
 use Rattle.move_msg.specs.declared.coding.Fields.{Fields}
 use Rattle.move_msg.specs.Numbers.{most_moves, most_wanted}
 use Rattle.move_msg.specs.Senders.{who_number, sender_number}
 use Rattle.move_msg.specs.Words.{SpellsWord, promotion_number, word_of}
-use Rattle.move_msg.specs.Messages.{SpellsMessage, IsInRange, IsFirstMessageFault, HasHead, HasKind, version_of, kind_of, stamp_in, sender_of, number_of, word_in}
+use Rattle.move_msg.specs.Messages.{no_tag, SpellsMessage, IsInRange, IsFirstMessageFault, HasHead, HasKind, version_of, kind_of, stamp_in, sender_of, number_of, word_in}
 use Rattle.move_msg.specs.Inside.Layouts.{HasFields, fields_at, kind_number, version_number}
-use Rattle.move_msg.specs.Heard.{arbiters, numbered, promotions, verdicts, who_with, verdict_with, promotion_with, move_with, given, move_heard, relayed_heard, ack_heard, verdict_heard, fetch_heard, reader_of, heard_by, heard_in}
+use Rattle.move_msg.specs.Heard.{arbiters, numbered, promotions, verdicts, who_with, verdict_with, promotion_with, move_with, given, move_heard, relayed_heard, ack_heard, verdict_heard, fetch_heard, reader_of, heard_by, heard_in, length_fault}
 use Rattle.move_msg.proofs.MessageLaws.{IsBytes, IsBytes-drop, IsBytes-take, IsKind, laid_out, found, no_fault, one_fault, one_of_five}
 
 -- what is found by a number has it
@@ -182,15 +184,15 @@ heard_back (Fetch s a n w) h =
 abbrev head_test : ℕ → ℕ → ℕ → Bool
 head_test x y v = x == 83 && (y == 65 && (v == 1 || v == 2))
 
-abbrev whole : ℕ → ℕ → ℕ → ℕ → ℕ → Fields → Result Message MessageFault
-whole len x y v k f = cond (len == 27) (cond (head_test x y v) (heard_by (reader_of v k) f.stamp f.sender f.number f.word) (Err BadHead)) (Err BadLength)
+abbrev whole : MessageFault → ℕ → ℕ → ℕ → ℕ → ℕ → Fields → Result Message MessageFault
+whole e len x y v k f = cond (len == 27) (cond (head_test x y v) (heard_by (reader_of v k) f.stamp f.sender f.number f.word) (Err BadHead)) (Err e)
 
-is_whole : (t : List ℕ) → heard_in t ≡ whole (length t) (slice_index t 0) (slice_index t 1) (slice_index t 2) (slice_index t 3) (fields_at t)
+is_whole : (t : List ℕ) → heard_in t ≡ whole (length_fault t) (length t) (slice_index t 0) (slice_index t 1) (slice_index t 2) (slice_index t 3) (fields_at t)
 unfolding heard_in fields_at
 is_whole t = refl
 
-whole_is : (l l' x x' y y' v v' k k' : ℕ) (f f' : Fields) → l ≡ l' → x ≡ x' → y ≡ y' → v ≡ v' → k ≡ k' → f ≡ f' → whole l x y v k f ≡ whole l' x' y' v' k' f'
-whole_is l l' x x' y y' v v' k k' f f' el ex ey ev ek ef = λ i. whole (el i) (ex i) (ey i) (ev i) (ek i) (ef i)
+whole_is : (e : MessageFault) (l l' x x' y y' v v' k k' : ℕ) (f f' : Fields) → l ≡ l' → x ≡ x' → y ≡ y' → v ≡ v' → k ≡ k' → f ≡ f' → whole e l x y v k f ≡ whole e l' x' y' v' k' f'
+whole_is e l l' x x' y y' v v' k k' f f' el ex ey ev ek ef = λ i. whole e (el i) (ex i) (ey i) (ev i) (ek i) (ef i)
 
 known : (v : ℕ) → (v ≡ 1) ⊎ (v ≡ 2) → head_test 83 65 v ≡ true
 known v (inl one) = ap (head_test 83 65) one
@@ -206,7 +208,7 @@ heard t m h =
     let v = version_of m in
     let known_version : (v ≡ 1) ⊎ (v ≡ 2) = subst (λ (x : ℕ). (x ≡ 1) ⊎ (x ≡ 2)) p.version p.head.2 in
     is_whole t
-    ∙ whole_is _ 27 _ 83 _ 65 _ v _ (kind_of m) _ f p.len p.head.0 p.head.1 p.version p.kind p.fields
+    ∙ whole_is (length_fault t) _ 27 _ 83 _ 65 _ v _ (kind_of m) _ f p.len p.head.0 p.head.1 p.version p.kind p.fields
     ∙ ap (λ (b : Bool). cond b (heard_by (reader_of v (kind_of m)) f.stamp f.sender f.number f.word) (Err BadHead)) (known v known_version)
     ∙ heard_back m h.in_range
 
@@ -328,10 +330,18 @@ right_head t fits len false e =
           (len, λ head. let yes : head_test (slice_index t 0) (slice_index t 1) (slice_index t 2) ≡ true = has_head _ _ _ head in absurd cc);
     }
 
-right_length : (t : List ℕ) → IsBytes t → (b : Bool) → (length t == 27) ≡ b → IsRight t (cond b (cond (head_test (slice_index t 0) (slice_index t 1) (slice_index t 2)) (by_kind (slice_index t 2) (slice_index t 3) (fields_at t)) (Err BadHead)) (Err BadLength))
+-- bytes that are not 27 are those that stand for a missing tag, or have the wrong length
+fault_of_length : (t : List ℕ) → (length t ≡ 27 → ⊥) → IsFirstMessageFault t (length_fault t)
+fault_of_length t other = by_test (bytes_eq t no_tag) refl
+  where
+    by_test : (b : Bool) → bytes_eq t no_tag ≡ b → IsFirstMessageFault t (cond b NoTag BadLength)
+    by_test true e = (bytes_eq-Decides t no_tag).0 e
+    by_test false e = (λ is. let yes : bytes_eq t no_tag ≡ true = (bytes_eq-Decides t no_tag).1 is in absurd cc, other)
+
+right_length : (t : List ℕ) → IsBytes t → (b : Bool) → (length t == 27) ≡ b → IsRight t (cond b (cond (head_test (slice_index t 0) (slice_index t 1) (slice_index t 2)) (by_kind (slice_index t 2) (slice_index t 3) (fields_at t)) (Err BadHead)) (Err (length_fault t)))
 right_length t fits true e = right_head t fits (eqb-true _ 27 e) (head_test (slice_index t 0) (slice_index t 1) (slice_index t 2)) refl
 right_length t fits false e =
-    record { good = λ m e. absurd cc; bad = λ fault is _. subst (IsFirstMessageFault t) (only_fault _ _ is) (differ (length t) 27 refl e) }
+    record { good = λ m e. absurd cc; bad = λ fault is _. subst (IsFirstMessageFault t) (only_fault _ _ is) (fault_of_length t (differ (length t) 27 refl e)) }
 
 right : (t : List ℕ) → IsBytes t → IsRight t (heard_in t)
 right t fits = subst (IsRight t) (sym (is_whole t)) (right_length t fits (length t == 27) refl)

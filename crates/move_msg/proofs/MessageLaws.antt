@@ -13,13 +13,13 @@ use Rattle.move_msg.specs.declared.who.Sender.TheVariants.{Source, Arbiter}
 use Rattle.move_msg.specs.declared.message.Message.{Message}
 use Rattle.move_msg.specs.declared.message.Message.TheVariants.{Move, Ack, Verdict, Fetch}
 use Rattle.move_msg.specs.declared.message.MessageFault.{MessageFault}
-use Rattle.move_msg.specs.declared.message.MessageFault.TheVariants.{BadLength, BadHead, BadKind, BadField}
+use Rattle.move_msg.specs.declared.message.MessageFault.TheVariants.{NoTag, BadLength, BadHead, BadKind, BadField}
 use Rattle.move_msg.specs.declared.coding.MessageKind.{MessageKind}
 use Rattle.move_msg.specs.declared.coding.MessageKind.TheVariants as kind
 use Rattle.move_msg.specs.declared.coding.Fields.{Fields}
 use Rattle.move_msg.specs.Senders.{who_number, sender_number}
 use Rattle.board_core.specs.Verdicts.{code_of}
-use Rattle.move_msg.specs.Messages.{SpellsMessage, IsInRange, IsFirstMessageFault, HasHead, HasKind, frame, version_by, version_of, kind_of, stamp_in, sender_of, number_of, word_in}
+use Rattle.move_msg.specs.Messages.{no_tag, SpellsMessage, IsInRange, IsFirstMessageFault, HasHead, HasKind, frame, version_by, version_of, kind_of, stamp_in, sender_of, number_of, word_in}
 use Rattle.move_msg.specs.Inside.Layouts.{HasFields, fields_at, kind_number, version_number}
 use Rattle.board_core.specs.declared.moves.Move.{Move as Moves}
 use Rattle.move_msg.specs.Numbers.{most_moves, most_wanted}
@@ -212,9 +212,14 @@ found t k m fits len head version is f =
       text = is_frame t fits len head ∙ frame_is _ _ _ _ _ _ _ _ _ _ _ _ (version ∙ sym f.version) (is ∙ sym f.kind) stamp_is (sym f.sender) (sym f.number) (sym f.word);
     }
 
+-- what stands for a missing tag has another length than a message
+not_27 : (t : List ℕ) → t ≡ no_tag → length t ≡ 27 → ⊥
+not_27 t e len = let long : length t ≡ 64 = ap length e in absurd (omega arith)
+
 -- bytes that spell a message have no fault
 pub no_fault : (t : List ℕ) (m : Message) (fault : MessageFault) → SpellsMessage t m → IsFirstMessageFault t fault → ⊥
-no_fault t m BadLength h fault = fault (laid_out t m h).len
+no_fault t m NoTag h fault = let len = (laid_out t m h).len in not_27 t fault len
+no_fault t m BadLength h fault = fault.1 (laid_out t m h).len
 no_fault t m BadHead h fault = fault.1 (laid_out t m h).head
 no_fault t m BadKind h fault =
     let p = laid_out t m h in
@@ -223,19 +228,28 @@ no_fault t m BadField h fault = fault.3 m h
 
 -- bytes have one first fault
 pub one_fault : (t : List ℕ) (a b : MessageFault) → IsFirstMessageFault t a → IsFirstMessageFault t b → a ≡ b
+one_fault t NoTag NoTag h l = refl
+one_fault t NoTag BadLength h l = absurd (l.0 h)
+one_fault t NoTag BadHead h l = absurd (not_27 t h l.0)
+one_fault t NoTag BadKind h l = absurd (not_27 t h l.0)
+one_fault t NoTag BadField h l = absurd (not_27 t h l.0)
+one_fault t BadLength NoTag h l = absurd (h.0 l)
 one_fault t BadLength BadLength h l = refl
-one_fault t BadLength BadHead h l = absurd (h l.0)
-one_fault t BadLength BadKind h l = absurd (h l.0)
-one_fault t BadLength BadField h l = absurd (h l.0)
-one_fault t BadHead BadLength h l = absurd (l h.0)
+one_fault t BadLength BadHead h l = absurd (h.1 l.0)
+one_fault t BadLength BadKind h l = absurd (h.1 l.0)
+one_fault t BadLength BadField h l = absurd (h.1 l.0)
+one_fault t BadHead NoTag h l = absurd (not_27 t l h.0)
+one_fault t BadHead BadLength h l = absurd (l.1 h.0)
 one_fault t BadHead BadHead h l = refl
 one_fault t BadHead BadKind h l = absurd (h.1 l.1)
 one_fault t BadHead BadField h l = absurd (h.1 l.1)
-one_fault t BadKind BadLength h l = absurd (l h.0)
+one_fault t BadKind NoTag h l = absurd (not_27 t l h.0)
+one_fault t BadKind BadLength h l = absurd (l.1 h.0)
 one_fault t BadKind BadHead h l = absurd (l.1 h.1)
 one_fault t BadKind BadKind h l = refl
 one_fault t BadKind BadField h l = absurd (h.2 l.2)
-one_fault t BadField BadLength h l = absurd (l h.0)
+one_fault t BadField NoTag h l = absurd (not_27 t l h.0)
+one_fault t BadField BadLength h l = absurd (l.1 h.0)
 one_fault t BadField BadHead h l = absurd (l.1 h.1)
 one_fault t BadField BadKind h l = absurd (l.2 h.2)
 one_fault t BadField BadField h l = refl

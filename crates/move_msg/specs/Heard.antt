@@ -1,6 +1,7 @@
 -- The message that bytes encode, computed (message format, versions 1 and 2).
 use Rattle.std.specs.Prelude.{◌/◌, ◌%◌, ◌==◌, ◌&&◌, ◌||◌, if◌then◌else◌, nat_le, ℕ, Bool, List, [], ◌∷◌, Option, Some, None, Result, Err, length, take, drop, slice_index, find, option_map, option_and_then}
 use Rattle.std.specs.Option.{ok_or}
+use Rattle.std.specs.Str.{bytes_eq}
 use Rattle.std.specs.Int.{w16, w32, from_be_bytes}
 use Rattle.board_core.specs.declared.piece.Promotion.{Promotion}
 use Rattle.board_core.specs.declared.piece.Promotion.TheVariants.{Queen, Rook, Bishop, Knight}
@@ -15,7 +16,8 @@ use Rattle.move_msg.specs.declared.who.Sender.TheVariants.{Source, Arbiter}
 use Rattle.move_msg.specs.declared.message.Message.{Message}
 use Rattle.move_msg.specs.declared.message.Message.TheVariants.{Move, Ack, Verdict, Fetch}
 use Rattle.move_msg.specs.declared.message.MessageFault.{MessageFault}
-use Rattle.move_msg.specs.declared.message.MessageFault.TheVariants.{BadLength, BadHead, BadKind, BadField}
+use Rattle.move_msg.specs.declared.message.MessageFault.TheVariants.{NoTag, BadLength, BadHead, BadKind, BadField}
+use Rattle.move_msg.specs.Messages.{no_tag}
 use Rattle.move_msg.specs.Numbers.{most_moves, most_wanted}
 use Rattle.move_msg.specs.Senders.{who_number}
 use Rattle.move_msg.specs.Words.{promotion_number}
@@ -93,6 +95,10 @@ abbrev pub heard_there : List ℕ → Result Message MessageFault
 heard_there t =
     heard_by (reader_of (slice_index t 2) (slice_index t 3)) (record { 0 = take 16 (drop 4 t) }) (slice_index t 20) (from_be_bytes w32 (take 4 (drop 21 t))) (from_be_bytes w16 (drop 25 t))
 
+-- the fault of bytes that are not 27
+abbrev pub length_fault : List ℕ → MessageFault
+length_fault t = if bytes_eq t no_tag then NoTag else BadLength
+
 -- the message that the bytes encode, or their first fault
 unfoldable pub heard_in : List ℕ → Result Message MessageFault
-heard_in t = if length t == 27 then (if begins_well t then heard_there t else Err BadHead) else Err BadLength
+heard_in t = if length t == 27 then (if begins_well t then heard_there t else Err BadHead) else Err (length_fault t)

@@ -8,7 +8,7 @@ use Rattle.move_msg.specs.declared.who.Sender.TheVariants.{Source, Arbiter}
 use Rattle.move_msg.specs.declared.message.Message.{Message}
 use Rattle.move_msg.specs.declared.message.Message.TheVariants.{Move, Ack, Verdict, Fetch}
 use Rattle.move_msg.specs.declared.message.MessageFault.{MessageFault}
-use Rattle.move_msg.specs.declared.message.MessageFault.TheVariants.{BadLength, BadHead, BadKind, BadField}
+use Rattle.move_msg.specs.declared.message.MessageFault.TheVariants.{NoTag, BadLength, BadHead, BadKind, BadField}
 use Rattle.move_msg.specs.Words.{SpellsWord, word_of}
 use Rattle.move_msg.specs.Numbers.{most_moves, most_wanted}
 use Rattle.move_msg.specs.Senders.{sender_number}
@@ -94,15 +94,21 @@ HasKind t =
     ((slice_index t 2 ≡ 1) × (1 ≤ slice_index t 3) × (slice_index t 3 ≤ 3))
     ⊎ ((slice_index t 2 ≡ 2) × ((slice_index t 3 ≡ 1) ⊎ (slice_index t 3 ≡ 4)))
 
--- the first thing that bytes lack: the length, the head, the kind, and last the fields of a message of the kind
+-- what a port with keys passes on for a datagram without a right tag
+abbrev pub no_tag : List ℕ
+no_tag = replicate 64 0
+
+-- the first thing that bytes lack: a tag, the length, the head, the kind, and last the fields of a message of the kind
 abbrev pub IsFirstMessageFault : List ℕ → MessageFault → Type 0
-IsFirstMessageFault t BadLength = length t ≢ 27
+IsFirstMessageFault t NoTag = t ≡ no_tag
+IsFirstMessageFault t BadLength = (t ≢ no_tag) × (length t ≢ 27)
 IsFirstMessageFault t BadHead = (length t ≡ 27) × (HasHead t → ⊥)
 IsFirstMessageFault t BadKind = (length t ≡ 27) × HasHead t × (HasKind t → ⊥)
 IsFirstMessageFault t BadField = (length t ≡ 27) × HasHead t × HasKind t × ((m : Message) → SpellsMessage t m → ⊥)
 
 -- the names of the faults
 abbrev pub fault_name : MessageFault → List ℕ
+fault_name NoTag = codes "NoTag"
 fault_name BadLength = codes "BadLength"
 fault_name BadHead = codes "BadHead"
 fault_name BadKind = codes "BadKind"

@@ -1,6 +1,6 @@
 //! Messages as bytes.
 
-ghost use Rattle.std.specs.Prelude.{◌≡◌, ◌<◌, ◌^◌, length, slice_index, IfSome, IfOk, IfErr, Ok, Err, Some};
+ghost use Rattle.std.specs.Prelude.{◌≡◌, ◌≢◌, ◌<◌, ◌^◌, length, slice_index, IfSome, IfOk, IfErr, Ok, Err, Some};
 ghost use Rattle.move_msg.specs.Messages.{SpellsMessage, IsFirstMessageFault, HasHead, frame, version_by};
 ghost use Rattle.move_msg.specs.Heard.{heard_in};
 ghost use Rattle.move_msg.specs.Inside.Layouts.{HasFields, fields_at, kind_number, version_number};
@@ -163,6 +163,22 @@ fn fetch_of(fields: &Fields) -> Option<Message>
     })
 }
 
+/// What stands for a datagram without a right tag.
+const NO_TAG: [u8; 64] = [0; 64];
+
+/// The fault of bytes that are not 27.
+fn length_fault(bytes: &[u8]) -> MessageFault
+    requires { length bytes.now ≢ 27 }
+    ensures is { IsFirstMessageFault bytes.now result }
+    ensures other { result ≡ MessageFault.BadField → ⊥ }
+{
+    if bytes == NO_TAG.as_slice() {
+        MessageFault::NoTag
+    } else {
+        MessageFault::BadLength
+    }
+}
+
 /// The kind of 27 bytes that begin like a message.
 fn kind_in(bytes: &[u8]) -> Result<MessageKind, MessageFault>
     ensures ok { IfOk result (λ kind. (length bytes.now ≡ 27) × HasHead bytes.now × (slice_index bytes.now 2 ≡ version_number kind) × (slice_index bytes.now 3 ≡ kind_number kind)) }
@@ -170,7 +186,7 @@ fn kind_in(bytes: &[u8]) -> Result<MessageKind, MessageFault>
     ensures other { IfErr result (λ fault. fault ≡ MessageFault.BadField → ⊥) }
 {
     if bytes.len() != 27 {
-        return Err(MessageFault::BadLength);
+        return Err(length_fault(bytes));
     }
     if !(bytes[0] == b'S' && bytes[1] == b'A' && (bytes[2] == 1 || bytes[2] == 2)) {
         return Err(MessageFault::BadHead);
@@ -303,8 +319,8 @@ impl Message {
         }
     }
 
-    /// The message that the bytes encode (message format), or their first fault: `BadLength`, `BadHead`, `BadKind` or
-    /// `BadField`.
+    /// The message that the bytes encode (message format), or their first fault: `NoTag`, `BadLength`, `BadHead`,
+    /// `BadKind` or `BadField`.
     pub fn decode(bytes: &[u8]) -> Result<Message, MessageFault>
         ensures ok { IfOk result (SpellsMessage bytes.now) }
         ensures only { (m : Message) → SpellsMessage bytes.now m → result ≡ Ok m }

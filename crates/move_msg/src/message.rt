@@ -101,6 +101,9 @@ impl Default for Message {
 /// Why bytes are no message, in the order in which faults are reported.
 #[derive(Clone, Copy, PartialEq, Eq, Debug)]
 pub enum MessageFault {
+    /// There are 64 bytes that are zero. So a port with keys passes on a datagram without a right tag, and no other port passes
+    /// on these.
+    NoTag,
     /// There are not exactly 27 bytes.
     BadLength,
     /// They don't begin with `SA` and the version 1 or 2.
@@ -117,6 +120,7 @@ impl MessageFault {
         ensures { result.now ≡ fault_name self }
     {
         match self {
+            MessageFault::NoTag => "NoTag",
             MessageFault::BadLength => "BadLength",
             MessageFault::BadHead => "BadHead",
             MessageFault::BadKind => "BadKind",

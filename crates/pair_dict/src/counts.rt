@@ -12,6 +12,7 @@ use crate::symbols::{MOST_VALUES, Symbol, symbol_at};
 use std::alloc::{AllocError, Global};
 
 /// The node of the pair of two symbols whose nodes are known, the left one with so many values.
+#[inline(always)]
 fn joined(nodes: &[Node], left: u16, right: u16, skipped: u16) -> Node
     requires left { left < length nodes.now }
     requires right { right < length nodes.now }
@@ -29,10 +30,9 @@ fn joined(nodes: &[Node], left: u16, right: u16, skipped: u16) -> Node
     Node::pair(left, right, skipped)
 }
 
-/// Counts the values of a symbol, and of each one below it that isn't counted yet, and sets their nodes.
-///
-/// It goes down at most `most` levels: a symbol that is deeper has more values than that, or leads back to itself and has
-/// none. So each symbol is settled once, in whatever order they stand.
+/// Counts the values of a symbol, if it isn't counted yet, and of those below it.
+#[cycle(settle)]
+#[inline(always)]
 fn settle(
     symbols: &[u8],
     counts: &mut [u16],
@@ -55,6 +55,34 @@ fn settle(
     if counts[symbol] != 0 {
         return Ok(());
     }
+    count(symbols, counts, nodes, symbol, most)
+}
+
+/// Counts the values of a symbol, and of each one below it that isn't counted yet, and sets their nodes.
+///
+/// It goes down at most `most` levels: a symbol that is deeper has more values than that, or leads back to itself and has
+/// none. So each symbol is settled once, in whatever order they stand.
+#[cycle(settle)]
+#[inline(never)]
+fn count(
+    symbols: &[u8],
+    counts: &mut [u16],
+    nodes: &mut [Node],
+    symbol: usize,
+    most: usize,
+) -> Result<(), DictFault>
+    requires known { symbol < symbol_count symbols.now }
+    requires short { symbol_count symbols.now ≤ 4095 }
+    requires settled { AreSettled symbols.now counts.old }
+    requires nodes { AreKnownNodes symbols.now counts.old nodes.old }
+    requires few { most ≤ 256 }
+    ensures settled { OnOk result (AreSettled symbols.now counts.new) }
+    ensures nodes { OnOk result (AreKnownNodes symbols.now counts.new nodes.new) }
+    ensures kept { OnOk result (KeepsKnown counts.old counts.new) }
+    ensures counted { OnOk result (slice_index counts.new symbol ≢ 0) }
+    ensures fault { IfErr result (λ e. e ≡ BadSymbol) }
+    ensures none { OnErr result ((vs : List ℕ) → HasValues symbols.now symbol vs → most < length vs) }
+{
     if most == 0 {
         return Err(DictFault::BadSymbol);
     }

@@ -1,7 +1,26 @@
 //! Pair dictionaries of Syzygy tables: the codes of a table's blocks, and the values that their symbols stand for.
 //!
-//! A dictionary is read once from the bytes of a table file, which it borrows. It then gives single values of a block,
-//! or decodes a block's first values.
+//! The bytes of a table file from the greatest code length on go in; a dictionary that borrows them comes out, with how many
+//! bytes it took, or the first refusal. It gives a block's value at an offset (`value`) or its first values (`decode`). Inside:
+//! `layout`, `symbols`, `nodes`, `counts`, `codes` for what is read; `window`, `runs`, `places` for the loop over a block;
+//! `dictionary`, `fault`.
+//!
+//! Words of Stockfish: a symbol's pair is `btree`, its count `symlen` (one less), the least and greatest code length `minSymLen`
+//! and `maxSymLen`, first symbol and base `lowestSym` and `base64`; `Dictionary::read` is `set_sizes`.
+//!
+//! Definitions, in reading order: `Symbols` (`HasValues`: the least relation; a symbol in a cycle has none), `Codes` (`IsCode`),
+//! `Blocks` (`block_values`), `Beginnings`, `Reading` (`SpellsDictionary`), `FirstFault`. Its cases stand in `dictionaries.txt`
+//! of `rows`: the worked dictionary, chains of 256 and 257 values, codes of 32 bits, bases that no code can have.
+//!
+//! - CLAIM: `Dictionary::read`, clauses `is`, `values`, `fits`, `memory`; `reads_what_is_spelled`; `first_fault_is_told`: a
+//!   dictionary is read exactly from the bytes that spell one, otherwise the first fault from the left is reported, exactly where
+//!   it is the first. Lack of memory is reported only once the layout is there and in order.
+//! - CLAIM: `Dictionary::value`, clauses `found`, `damaged`: it is the block's value at an offset, and `Damaged` exactly at and
+//!   past the end of its values.
+//! - CLAIM: `Dictionary::decode`, clauses `values`, `asked`, `room`, `none`: it gives the block's first values, and reserves at
+//!   most as many as are requested and 2048 for each byte of the block. A request for none is never refused.
+//! - CLAIM: `Dictionary::block_is_computed`, clauses `computed`, `front`; `values_are_computed`; `values_are_unique`;
+//!   `values_are_tested`: a block's values are those of the longest list of symbols whose codes begin it.
 #![tactic(auto)]
 
 mod codes;

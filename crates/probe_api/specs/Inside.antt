@@ -1,13 +1,17 @@
--- Boards that are looked up side by side.
-use Rattle.std.specs.Prelude.{◌≡◌, List, Result, map, All}
+-- What no public contract cites: boards that are looked up side by side, and men who are sought.
+use Rattle.std.specs.Prelude.{◌≡◌, Bool, List, Option, Result, map, All}
 use Rattle.board_core.specs.declared.parts.Parts.{Parts}
 use Rattle.board_core.specs.declared.position.PositionFault.{PositionFault}
-use Rattle.board_core.specs.Position.{IsPosition, IsFirstFault}
+use Rattle.board_core.specs.Position.{IsPosition, IsFirstFault, is_of}
 use Rattle.judge_core.specs.declared.wdl.Wdl.{Wdl}
 use Rattle.judge_core.specs.declared.fault.ProbeFault.{ProbeFault}
 use Rattle.judge_core.specs.Answers.{IsWdlProbe, wdl_answer}
 use Rattle.judge_core.specs.Tables.{Tables}
+use Rattle.board_core.specs.declared.piece.Piece.{Piece}
+use Rattle.probe_api.specs.Afters.{is_kind}
 use Rattle.probe_api.specs.Boards.{shown}
+use Rattle.probe_api.specs.declared.after.Sought.{Sought}
+use Rattle.probe_api.specs.declared.after.Sought.TheVariants.{Side as OfSide, Kind as OfKind}
 use Rattle.probe_api.specs.declared.board.Board.{Board}
 
 -- the board shows a position, and none of the faults
@@ -24,3 +28,8 @@ pub record AreValues (tables : Tables) (boards : List Board) (values : List (Res
   pub probe : (p : Parts) → IsWdlProbe tables p (wdl_answer tables p)
   pub are : values ≡ map (λ (b : Board). wdl_answer tables (shown b)) boards
   pub sound : All IsSound boards
+
+-- a man who is sought stands there
+abbrev pub shows : Sought → Option Piece → Bool
+shows (OfSide side) man = is_of side man
+shows (OfKind sought) man = is_kind sought man

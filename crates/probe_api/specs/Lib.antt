@@ -1,10 +1,13 @@
 pub mod Adding
+pub mod Afters
 pub mod Batches
 pub mod Boards
 pub mod Inside
+pub mod Missing
 pub mod Moves
 pub mod Names
 pub mod Plays
 pub mod Replies
+pub mod Roots
 pub mod Texts
 pub mod Version

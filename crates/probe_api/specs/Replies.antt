@@ -18,6 +18,7 @@ use Rattle.judge_core.specs.declared.wdl.Wdl.{Wdl}
 use Rattle.judge_core.specs.declared.fault.ProbeFault.{ProbeFault}
 use Rattle.judge_core.specs.declared.fault.ProbeFault.TheVariants.{OutOfScope, NotCovered, Damaged, OutOfMemory as NoMemory}
 use Rattle.judge_core.specs.Answers.{IsProbe, ListsMoves, signed_in}
+use Rattle.judge_core.specs.Determined.{IsDeterminedWdl, IsDeterminedDtz}
 use Rattle.judge_core.specs.Distances.{dtz_of}
 use Rattle.judge_core.specs.Probing.{wdl_of}
 use Rattle.judge_core.specs.Ruling.{is_out_of_scope, ruling}
@@ -26,7 +27,7 @@ use Rattle.judge_core.specs.Probed.{numbered}
 use Rattle.probe_api.specs.Boards.{shown}
 use Rattle.probe_api.specs.declared.board.Board.{Board}
 use Rattle.probe_api.specs.declared.asking.Question.{Question}
-use Rattle.probe_api.specs.declared.asking.Question.TheVariants.{Wdl as AsksWdl, Dtz as AsksDtz, Verdict as AsksVerdict}
+use Rattle.probe_api.specs.declared.asking.Question.TheVariants.{Wdl as AsksWdl, Dtz as AsksDtz, Verdict as AsksVerdict, DeterminedWdl as AsksDeterminedWdl, DeterminedDtz as AsksDeterminedDtz}
 use Rattle.probe_api.specs.declared.reply.Reply.{Reply}
 
 abbrev pub told : ℤ → Reply
@@ -89,10 +90,24 @@ pub record TellsVerdict (tables : Tables) (p : Parts) (reply : Reply) : Type 0 w
   pub told : reply ≢ refused 5 → reply ≡ told (pos (verdict_number (ruling tables p)))
   pub memory : reply ≡ refused 5 → ListsMoves tables p
 
+-- the value that is the same whatever the missing tables hold, the set's own where it has one,
+pub record TellsDeterminedWdl (tables : Tables) (p : Parts) (reply : Reply) : Type 0 where
+  pub wdl : Result Wdl ProbeFault
+  pub is : IsDeterminedWdl tables p wdl
+  pub told : reply ≡ probe_reply (numbered wdl)
+
+-- and such a distance, wherever one is told
+pub record TellsDeterminedDtz (tables : Tables) (p : Parts) (reply : Reply) : Type 0 where
+  pub dtz : Result ℤ ProbeFault
+  pub is : IsDeterminedDtz tables p dtz
+  pub told : reply ≡ probe_reply dtz
+
 abbrev pub Tells : Question → Tables → Parts → Reply → Type 0
 Tells AsksWdl tables p reply = TellsWdl tables p reply
 Tells AsksDtz tables p reply = TellsDtz tables p reply
 Tells AsksVerdict tables p reply = TellsVerdict tables p reply
+Tells AsksDeterminedWdl tables p reply = TellsDeterminedWdl tables p reply
+Tells AsksDeterminedDtz tables p reply = TellsDeterminedDtz tables p reply
 
 -- what the caller is told of a text: of the position that it spells, or the first fault; and each text has one of these
 pub record TellsText (question : Question) (tables : Tables) (text : List ℕ) (reply : Reply) : Type 0 where

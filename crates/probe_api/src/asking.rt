@@ -2,7 +2,7 @@
 
 ghost use Rattle.std.specs.Prelude.{◌≡◌};
 ghost use Rattle.judge_core.specs.Probed.{numbered};
-ghost use Rattle.probe_api.specs.Replies.{probe_reply, Tells, TellsBoard, TellsText, TellsWdl, TellsDtz, TellsVerdict};
+ghost use Rattle.probe_api.specs.Replies.{probe_reply, Tells, TellsBoard, TellsText, TellsWdl, TellsDtz, TellsVerdict, TellsDeterminedWdl, TellsDeterminedDtz};
 
 use crate::board::{Board, position_on};
 use crate::reply::{Reply, fen_status, position_status, probed, verdict_number};
@@ -20,6 +20,10 @@ pub enum Question {
     Dtz,
     /// The verdict.
     Verdict,
+    /// The value that is the same whatever the missing tables hold.
+    DeterminedWdl,
+    /// The distance that is the same whatever the missing tables hold.
+    DeterminedDtz,
 }
 
 /// The number that a WDL probe tells.
@@ -68,6 +72,24 @@ fn verdict(alloc: Global, set: &mut Set<'_>, position: &Position) -> Reply
     }
 }
 
+/// The WDL value, by the tables or else whatever the missing ones hold.
+fn determined_wdl(alloc: Global, set: &mut Set<'_>, position: &Position) -> Reply
+    ensures is { TellsDeterminedWdl set.old.tables position.now result }
+    ensures kept { set.new ≡ set.old }
+{
+    let wdl = set.determined_wdl(alloc, position);
+    wdl_reply(wdl)
+}
+
+/// The distance in plies, by the tables or else whatever the missing ones hold.
+fn determined_dtz(alloc: Global, set: &mut Set<'_>, position: &Position) -> Reply
+    ensures is { TellsDeterminedDtz set.old.tables position.now result }
+    ensures kept { set.new ≡ set.old }
+{
+    let dtz = set.determined_dtz(alloc, position);
+    probed(dtz)
+}
+
 /// What is asked of a position.
 pub(crate) fn answer(
     alloc: Global,
@@ -82,6 +104,8 @@ pub(crate) fn answer(
         Question::Wdl => wdl(alloc, set, position),
         Question::Dtz => dtz(alloc, set, position),
         Question::Verdict => verdict(alloc, set, position),
+        Question::DeterminedWdl => determined_wdl(alloc, set, position),
+        Question::DeterminedDtz => determined_dtz(alloc, set, position),
     }
 }
 

@@ -140,7 +140,7 @@ fn answer_each(
 {
     match question {
         Question::Wdl => wdl_of_each(alloc, set, boards, replies),
-        Question::Dtz | Question::Verdict => {
+        Question::Dtz | Question::Verdict | Question::DeterminedWdl | Question::DeterminedDtz => {
             answer_between(alloc, set, question, boards, 0, boards.len(), replies)
         }
     }

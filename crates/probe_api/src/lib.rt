@@ -1,27 +1,61 @@
 //! What is asked of a set of tables, of a game and of a position, answered in plain numbers, for callers in other languages.
 //!
-//! A question comes as a FEN text or as sets of squares, and the answer is a status and a number. Nothing here is a pointer: what
-//! crosses to C stands in `hofsjurd_c`.
+//! A question comes as a FEN text or as sets of squares (`Board`), a move as text or as three numbers (`PlainMove`); the answer
+//! is a status and a value (`Reply`). Nothing here is a pointer, so that all is proved by the usual means; what crosses to C
+//! stands in `hofsjurd_c`.
+//!
+//! Inside: `reply` and `naming` (statuses, their names, the version), `adding` (a table more), `asking` (values and verdicts),
+//! `batch` (of many boards), `board` (a position by `Position::from_sets`), `listing` and `plain_move` (legal moves), `game`
+//! (move by move, over `Standing`), `root` (legal moves by value), `after` (the board after a move), `missing` (a table's name),
+//! `text` (a text and a byte 0 into a caller's array).
+//!
+//! Definitions, in reading order: `Replies`, `Boards`, `Batches`, `Adding`, `Moves`, `Plays`, `Roots`, `Afters`, `Missing`, `Texts`, `Names`. It is tried by
+//! `tools/c_harness/run`, beside libfathom.
+//!
+//! - CLAIM: `answer_text`, clauses `is`, `kept`; `answer_board`, clauses `is`, `kept`: of the position that a text spells or a
+//!   board shows, the WDL value, the DTZ value or the verdict of `judge_core`, or else the first fault. Lack of memory is never
+//!   reported of a WDL value. The set stays as it was.
+//! - CLAIM: `answer_boards`, clauses `is`, `lengths`, `refused`, `kept`: of many boards each reply is that of its board. The
+//!   status is 0 where there are as many replies as boards, and else 82, and none is written.
+//! - CLAIM: `add`, clause `is`: a file is added as the table that it is, or refused by its first fault or as one that is there; a
+//!   refusal changes nothing.
+//! - CLAIM: `moves_of_text`; `moves_of_board`; `PlainMove::of`; `PlainMove::to_move`, clauses `some`, `only`: the legal moves go
+//!   to the front of the caller's array, each once and in order, where all fit; else, and with status 5, which has no cause here,
+//!   it stays as it was.
+//! - CLAIM: `begin_game`, clauses `is`, `kept`; `tell_text`, clauses `is`, `kept`; `tell_numbers`, clauses `is`, `kept`;
+//!   `Game::verdict`: a game goes on by its move, and its verdict is the first one of the whole game. A refusal leaves it as it
+//!   was. Status 5 comes only where a verdict lists moves.
+//! - CLAIM: `root_of_text`, clauses `is`, `kept`; `root_of_board`, clauses `is`, `kept`: the legal moves with value and distance, the
+//!   best first, where all fit into the caller's array; else it stays as it was.
+//! - CLAIM: `board_after`; `state_of_board`; `put_missing`, clauses `is`, `kept`: the board after a legal move, how a board stands,
+//!   and the name of the first table that its value lacks.
+//! - CLAIM: `status_name`; `verdict_name`; `version`; `put_text`: names, the version, and a text in the caller's array.
 #![tactic(auto)]
 
 mod adding;
+mod after;
 mod asking;
 mod batch;
 mod board;
 mod game;
 mod listing;
+mod missing;
 mod naming;
 mod plain_move;
 mod reply;
+mod root;
 mod text;
 
 pub use adding::add;
+pub use after::board_after;
 pub use asking::{Question, answer_board, answer_text};
 pub use batch::answer_boards;
 pub use board::Board;
 pub use game::{Game, begin_game, tell_numbers, tell_text};
 pub use listing::{moves_of_board, moves_of_text};
+pub use missing::put_missing;
 pub use naming::{status_name, verdict_name, version};
 pub use plain_move::PlainMove;
 pub use reply::Reply;
+pub use root::{PlainRootMove, RootValues, root_of_board, root_of_text, state_of_board};
 pub use text::put_text;

@@ -12,7 +12,7 @@ use Rattle.move_msg.specs.Records.{IsFirstRecordFault, SpellsRecord, record_faul
 use Rattle.arbiter_core.specs.declared.fault.OpenFault.TheVariants as opening
 use Rattle.arbiter_core.specs.Opens.{IsBadKept, IsOfGame, IsResumed, at_end}
 use Rattle.arbiter_core.specs.Recording.{Recorded, count_of}
-use Rattle.arbiter_service.specs.ServedLines.{heard_words, verdict_or_none}
+use Rattle.arbiter_server.specs.ServedLines.{heard_words, verdict_or_none}
 use Rattle.record_audit.specs.declared.auditing.Auditor.{Auditor}
 use Rattle.record_audit.specs.declared.auditing.Audited.{Audited}
 use Rattle.record_audit.specs.declared.auditing.Finding.{Finding}

@@ -11,7 +11,7 @@ ghost use Rattle.record_audit.specs.Findings.{AreCompared, AreOfOneGame, IsCompa
 ghost use Rattle.record_audit.specs.Findings.{IsAuditedAs, rules_of};
 ghost use Rattle.record_audit.specs.Inside.Auditing.{ArePartedAt, EndsPart, IsFoundBy, IsHeldTo, PartsAfter};
 
-use arbiter_service::verdict_or_none;
+use arbiter_server::verdict_or_none;
 use board_core::{Move, Position, Verdict};
 use judge_core::{GameOutcome, Set};
 use move_msg::{Record, RecordFault, Stamp};

@@ -5,7 +5,6 @@ pub mod Stamped
 pub mod Hearing
 pub mod Reopening
 pub mod Pairing
-pub mod Netting
 pub mod Faithful
 pub mod Gathered
 pub mod FileNames

@@ -23,7 +23,7 @@ use Rattle.judge_core.specs.Ends.{has_no_move}
 use Rattle.judge_core.specs.Games.{Rules, is_end, judged_after, position_after_all, verdict_after}
 use Rattle.judge_core.specs.Laws.{FirstVerdictInWords, IsLeastRuled, IsRuledAt}
 use Rattle.judge_core.specs.LookUp.{material_of}
-use Rattle.judge_core.specs.Probing.{after, weighed_by, wdl_of}
+use Rattle.judge_core.specs.Probing.{after, weighed_by, weighed_where, wdl_of}
 use Rattle.judge_core.specs.Ruling.{end_of, is_out_of_scope, mate_of, ruling, ruling_by}
 use Rattle.judge_core.specs.Tables.{Tables, slot, table_at, table_value, value_in, value_of}
 use Rattle.judge_core.specs.Values.{Reading}
@@ -74,7 +74,7 @@ unfolding table_value
 no_value tables p key none m = ap (λ o. value_of tables o p) m ∙ rw (none Wdl key) refl
 
 not_weighed : (tables : Tables) (value : Parts → Reading) (p : Parts) (key : ℕ) → table_value tables p ≡ no_table key p → (k : ℕ) × (weighed_by tables value p ≡ unless (fault_of (Some k) None) (weighed_by tables value p))
-unfolding weighed_by
+unfolding weighed_by weighed_where
 not_weighed tables value p key e =
     let f = missing (after value p (legal_captures p)) p key in
     (f.0, rw (e, f.1) refl)

@@ -7,5 +7,4 @@ pub mod Gathering
 pub mod Runs
 pub mod Texts
 pub mod FileNames
-pub mod Nets
 pub mod Inside

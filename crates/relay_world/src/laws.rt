@@ -5,13 +5,11 @@ ghost use Rattle.relay_world.specs.declared.event.Event.{Event};
 ghost use Rattle.relay_world.specs.Worlds.{Judged, World, after, worlds, first_world, AreStamped};
 ghost use Rattle.relay_world.specs.Headline.{IsFaithful};
 ghost use Rattle.relay_world.specs.Laws.{AcksAreKept, CountsGrow, InOrderKeepsAll, InOrderKeepsOne, LastPlyIsOutcome, MovesAreTheGames, NoDelayIsLeastRuling, NoFilesAreNoTables, NoTablesIsTheBoard, ReachedPlies, RisingOrder, RunsTellOne, SourceSendsTheGame, VerdictsAreFirst, VerdictsStay, WholeRecordsAreOne};
-ghost use Rattle.relay_world.specs.Nets.{ArbitersAreWorlds};
 ghost use Rattle.relay_world.specs.Runs.{AreWorlds};
 ghost use Rattle.relay_world.specs.declared.schedule.Schedule.{Schedule};
 ghost use Rattle.relay_world.specs.Texts.{IsFirstBadLine, IsSameSchedule, SpellsSchedule};
 ghost use Rattle.relay_world.specs.FileNames.{FileNamesAreThoseOfTables};
 
-use arbiter_core::Keeper;
 use fen_text::laws::{one_move, one_position};
 use judge_core::laws::{first_verdict_in_words, no_delay_is_the_ruling};
 use place_index::{few_men_have_tables, tables_are_numbered};
@@ -139,10 +137,3 @@ pub fn one_schedule()
     one_position();
     one_move();
 }
-
-/// Two arbiters of one game over any keepers, each step of theirs as the contracts of `open` and `deliver` have it, come to what a
-/// schedule comes to: so each law here is about what they keep and send. The premises are in the steps: a datagram that is a
-/// message of the game was sent before, and an opening finds what was kept or, after a put that failed, what was to be kept.
-pub fn arbiters_are_worlds<K: Keeper>(_keeper: &K)
-    ensures { ArbitersAreWorlds K.facts }
-{}

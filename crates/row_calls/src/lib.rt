@@ -1,6 +1,15 @@
-//! The calls of the libraries that the cases of `rows` make, each told as lines: what no command shows.
+//! The calls of the libraries that the cases of `rows` make (`call NAME`), each told as lines: what no command shows.
 //!
-//! It is a crate of its own, so that it is proved beside the commands and not after them.
+//! Words go in, lines come out: counted ways to play, parts of positions, indices, dictionaries, table files, messages, records,
+//! deliveries. `tell_call` finds the call of a name and writes its result. `crates/rows/data/README.md`, "Calls", has each with
+//! its words.
+//!
+//! Inside: `calls` (the names), `positions`, `tables`, `files`, `texts`, `rounds` (a value written and read again), `deliveries`.
+//!
+//! To run these cases alone without any proof: `rt try -- data/indices.txt data/dictionaries.txt` in `crates/rows`. It is a crate
+//! of its own, so that it is proved beside the commands and not after them. A result is compared with the text of a case, and no
+//! contract states it. To add a call, add its name to `calls`, a function to the file of its library, a line to the README of the
+//! cases, and a case.
 #![tactic(auto)]
 
 mod calls;

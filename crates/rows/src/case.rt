@@ -250,8 +250,8 @@ impl<'t> Case<'t> {
     }
 }
 
-/// Whether a paragraph is a case: it says something, and neither of a file nor of a folder.
+/// Whether a paragraph is a case: it says something, and not of a file, its mode or a folder.
 pub(crate) fn is_case(paragraph: &str) -> bool {
     let (word, _) = parted(head_of(paragraph));
-    !matches!(word, "" | "file" | "folder")
+    !matches!(word, "" | "file" | "mode" | "folder")
 }

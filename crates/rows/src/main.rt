@@ -2,7 +2,14 @@
 //!
 //! A case is the words of a command, what lies in the folder and on standard input, and what must be printed, with which status.
 //! `data/README.md` says how one is written. A case is data: it costs no proof. It runs through `adjudicate_core` as the program
-//! does, over a disk, an input and a host in memory.
+//! does, over a disk, an input and a host in memory, or through `row_calls`.
+//!
+//! To add a case, write it into a file of `data/`. The gate runs the files that `args` names; `rt try -- data/disk.txt` here runs
+//! one file without any proof.
+//!
+//! Inside: `case`, `pieces`, `shelf` (a case, the bytes of its lines, the files and folders), `running`, `report`, `memory_host`,
+//! `slow_input` and `paper` (host, input and output in memory), `counting` (a teller), `system` (what the system's folders and
+//! files are read as). `data/wrong.txt` has cases with a wrong expectation, and is run by hand alone: each must be reported.
 //!
 //! The last line is `N cases, D differ`. The status is 0 only where there are cases, none differs, and each file can be read.
 #![tactic(auto)]
@@ -177,6 +184,7 @@ fn run_files(
     let folders = shelf.folders(rt.alloc())?;
     let disk = MemoryDisk {
         files: &on_shelf,
+        modes: shelf.modes(),
         folders: &folders,
         failing: &[],
     };

@@ -22,6 +22,7 @@ struct Folder<'t> {
 #[derive(Drop)]
 pub(crate) struct Shelf<'t> {
     files: Vec<Stored<'t>>,
+    modes: Vec<AtPath<'t, u32>>,
     folders: Vec<Folder<'t>>,
 }
 
@@ -50,6 +51,7 @@ impl<'t> Shelf<'t> {
     pub(crate) fn new(alloc: Global) -> Shelf<'t> {
         Shelf {
             files: Vec::new(alloc),
+            modes: Vec::new(alloc),
             folders: Vec::new(alloc),
         }
     }
@@ -105,11 +107,29 @@ impl<'t> Shelf<'t> {
         }
     }
 
-    /// Adds the file or the folder of a paragraph, if it has one.
+    /// Adds the mode of a file, in octal digits, by its path.
+    fn add_mode(&mut self, text: &'t str) -> Result<(), Fault> {
+        let (path, digits) = parted(text);
+        let Ok(holds) = u32::from_str_radix(digits, 8) else {
+            return Err(Fault::Line);
+        };
+        match self.modes.push(AtPath { path, holds }) {
+            Ok(()) => Ok(()),
+            Err(_) => Err(Fault::Memory),
+        }
+    }
+
+    /// The modes of files by their paths.
+    pub(crate) fn modes(&self) -> &[AtPath<'t, u32>] {
+        &self.modes
+    }
+
+    /// Adds the file, the mode or the folder of a paragraph, if it has one.
     pub(crate) fn add(&mut self, alloc: Global, paragraph: &'t str) -> Result<(), Fault> {
         let (word, text) = parted(head_of(paragraph));
         match word {
             "file" => self.add_file(alloc, text, paragraph),
+            "mode" => self.add_mode(text),
             "folder" => self.add_folder(alloc, text),
             _ => Ok(()),
         }

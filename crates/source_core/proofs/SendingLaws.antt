@@ -54,7 +54,7 @@ course_at after known m = record { position = after; known = known; last = Some 
 turned : (cause : ReadFault → Type 0) (stamp : Stamp) (most : ℕ) (input input' : Option (List ℕ)) (line : List ℕ) (position after : Parts) (m : Moves) (known known' : Known) (port port' : PortFacts) (turn : Turn) (tries : List (List Passing)) (before : List Passing) (moves : List Moves)
     → ReadsLine input input' line → IsPlayed position (length moves) line m after → IsTurn stamp most (length moves) m port port' known known' turn tries → Knows stamp before known
     → StepsSo cause (record { stamp = stamp; addresses = port.addresses; most = most }) (record { input = input; position = position; moves = moves; passed = before }) input' (course_at after known' m) port port' (end_by turn)
-unfolding StepsSo
+unfolding StepsSo last_move
 turned cause stamp most input input' line position after m known known' port port' at_turn.Acked tries before moves read r t k =
     let done = t.ends before k in
     let sent : List Passing = tries_of port.addresses (message_text (move_message stamp (length moves) m)) tries in (
@@ -67,13 +67,13 @@ turned cause stamp most input input' line position after m known known' port por
       done.1,
     )
 turned cause stamp most input input' line position after m known known' port port' (at_turn.Ruled r') tries before moves read r t k =
-    (m ∷ [], _, Sent (last_move _ _ input' line after m known known' port port' (at_turn.Ruled r') tries read r t) (t.ends before k), t.passed)
+    (m ∷ [], _, Sent (last_move _ _ input' line after m known known' port port' (at_turn.Ruled r') tries read r t) (t.ends before k) (λ e. absurd (let x : at_end.Ruled r' ≡ at_end.Lost = e in cc)), t.passed)
 turned cause stamp most input input' line position after m known known' port port' (at_turn.Clashed c) tries before moves read r t k =
-    (m ∷ [], _, Sent (last_move _ _ input' line after m known known' port port' (at_turn.Clashed c) tries read r t) (t.ends before k), t.passed)
+    (m ∷ [], _, Sent (last_move _ _ input' line after m known known' port port' (at_turn.Clashed c) tries read r t) (t.ends before k) (λ e. absurd (let x : at_end.Clashed c ≡ at_end.Lost = e in cc)), t.passed)
 turned cause stamp most input input' line position after m known known' port port' at_turn.Lost tries before moves read r t k =
-    (m ∷ [], _, Sent (last_move _ _ input' line after m known known' port port' at_turn.Lost tries read r t) (t.ends before k), t.passed)
+    (m ∷ [], _, Sent (last_move _ _ input' line after m known known' port port' at_turn.Lost tries read r t) (t.ends before k) (λ e. t.lost refl), t.passed)
 turned cause stamp most input input' line position after m known known' port port' at_turn.PortLost tries before moves read r t k =
-    (m ∷ [], _, Sent (last_move _ _ input' line after m known known' port port' at_turn.PortLost tries read r t) (t.ends before k), t.passed)
+    (m ∷ [], _, Sent (last_move _ _ input' line after m known known' port port' at_turn.PortLost tries read r t) (t.ends before k) (λ e. absurd (let x : at_end.PortLost ≡ at_end.Lost = e in cc)), t.passed)
 
 pub steps_on : (stamp : Stamp) (most number : ℕ) (line : List ℕ) (course course' : Course) (after : Parts) (m : Moves) (known' : Known) (port port' : PortFacts) (turn : Turn) (o : Option End)
     → course' ≡ course_at after known' m → IsPlayed course.position number line m after → (tries : List (List Passing)) × IsTurn stamp most number m port port' course.known known' turn tries → o ≡ end_by turn
@@ -135,7 +135,7 @@ still_ends : (U V : ReadFault → Type 0) (g : Game) (at : At) (input : Option (
 still_ends U V g at input sent more end f (Unread none nothing why) = Unread none nothing (still_unread U V end f why)
 still_ends U V g at input sent more end f (Refused line none nothing read why) = Refused line none nothing read why
 still_ends U V g at input sent more end f (Closed none done closed) = Closed none done closed
-still_ends U V g at input sent more end f (Sent one is) = Sent one is
+still_ends U V g at input sent more end f (Sent one is all) = Sent one is all
 
 still_steps : (U V : ReadFault → Type 0) (g : Game) (at : At) (input : Option (List ℕ)) (course : Course) (port port' : PortFacts) (o : Option End) → ((fault : ReadFault) → U fault → V fault) → StepsSo U g at input course port port' o → StepsSo V g at input course port port' o
 unfolding StepsSo
@@ -371,7 +371,7 @@ ended_hands : (cause : ReadFault → Type 0) (g : Game) (at : At) (input : Optio
 ended_hands cause g at input sent more end (Unread no_moves none why) h = nothing_hands g.stamp at.moves sent at.passed more no_moves none h
 ended_hands cause g at input sent more end (Refused line no_moves none read why) h = nothing_hands g.stamp at.moves sent at.passed more no_moves none h
 ended_hands cause g at input sent more end (Closed no_moves done closed) h = closed_hands g at.moves sent at.passed more end no_moves closed h
-ended_hands cause g at input sent more end (Sent t is) h =
+ended_hands cause g at input sent more end (Sent t is all) h =
     subst (λ l. OnlyHands g.stamp (at.moves ++ l) (at.passed ++ more)) (sym t.only) (subst (λ l. OnlyHands g.stamp (at.moves ++ t.move ∷ []) (at.passed ++ l)) (sym t.passed) (hands_more g.stamp g.addresses at.moves t.move at.passed t.tries h t.spelling t.are.1))
 
 run_ended : (cause : ReadFault → Type 0) (g : Game) (start : Parts) (input0 input1 input2 : Option (List ℕ)) (c1 c2 : Course) (port0 port1 port2 : PortFacts) (k : ℕ) (end : End) (h : HasSent g start input0 input1 c1 port0 port1 k) → StepsSo cause g (record { input = input1; position = c1.position; moves = h.moves; passed = h.passed }) input2 c2 port1 port2 (Some end) → (s : Sending) × IsSending cause g start input0 input2 port0 port2 s × (s.turns ≡ h.turns) × (s.end ≡ Some end)

@@ -159,6 +159,10 @@ pub record IsClosed (g : Game) (moves : List Moves) (before more : List Passing)
   pub waited : (count : ℕ) → end ≡ at_end.Open count → HasWaited came
   pub stands : ClosesSo g.stamp (length moves) (before ++ more) end
 
+-- it was sent as often as it may be, and each try has waited
+abbrev pub IsTriedOut : Game → List (List Passing) → Type 0
+IsTriedOut g tries = (length tries ≡ g.most) × AllByRecursion HasWaited tries
+
 -- with what a run ends, and what was sent and passed after the acknowledged moves
 pub data EndsWith (cause : ReadFault → Type 0) (g : Game) (at : At) (input : Option (List ℕ)) (sent : List Moves) (more : List Passing) (end : End) : Type 0 where
   -- no further line is read
@@ -167,8 +171,8 @@ pub data EndsWith (cause : ReadFault → Type 0) (g : Game) (at : At) (input : O
   Refused : (line : List ℕ) → sent ≡ [] → more ≡ [] → ReadsLine at.input input line → IsRefusedLine at.position (length at.moves) line end → EndsWith cause g at input sent more end
   -- the input has ended
   Closed : sent ≡ [] → IsAtEnd at.input → IsClosed g at.moves at.passed more end → EndsWith cause g at input sent more end
-  -- one more move is sent
-  Sent : IsLastMove g at input sent more → IsSentLast g.stamp (length at.moves) (at.passed ++ more) end → EndsWith cause g at input sent more end
+  -- one more move is sent; an arbiter counts as silent only when all tries are used up
+  Sent : (last : IsLastMove g at input sent more) → IsSentLast g.stamp (length at.moves) (at.passed ++ more) end → (end ≡ at_end.Lost → IsTriedOut g last.tries) → EndsWith cause g at input sent more end
 
 abbrev pub EndsIfAny : (ReadFault → Type 0) → Game → At → Option (List ℕ) → List Moves → List Passing → Option End → Type 0
 EndsIfAny cause g at input sent more None = (sent ≡ []) × (more ≡ [])

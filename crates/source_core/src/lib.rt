@@ -1,6 +1,26 @@
 //! The source of a live game: it sends the game's moves to the two arbiters as they are played.
 //!
-//! Its tests stand in `checks_io`.
+//! Lines go in, a move each; datagrams go out to each address of a port until both arbiters have acknowledged the move, and a
+//! line is written for each. `Known` keeps what the arbiters have reported, a count and a verdict for each; `Report` is what a
+//! datagram of the game reports. After the input's end the last move is sent once more. What it sends is the list of moves with
+//! which a world begins (`theorems::sends_the_log`).
+//!
+//! Inside: `sending` (a run), `turn` (one move), `known`, `report`, `lines`, `laws`.
+//!
+//! Definitions, in reading order: `Reports`, `Turns`, `Sendings` (`IsSending`, `OnlyHands`), `Lines`, `Laws`. How long a datagram
+//! is awaited is a clause of the private `wait_at` (`IsWait`). Its tests stand in `checks_io` (`source_tests`).
+//!
+//! - CLAIM: `send_game`, clause `sends`: a run sends the legal moves of its input, each with its number to each address, at most
+//!   as often as the terms say. It ends with the stated line, and its status is that of the line. Each datagram is the move of
+//!   its number from one list.
+//! - CLAIM: `send_game`, clause `gone`: all lines have gone out at the end.
+//! - CLAIM: `take_turn`: a turn sends one move until both arbiters have acknowledged it, both have reported a verdict, two
+//!   verdicts differ, the tries are used up, or the port is lost.
+//! - CLAIM: `report_of`, clauses `some`, `only`: a datagram is a report of the game exactly where it encodes an acknowledgement
+//!   or a verdict with its stamp.
+//! - CLAIM: `Known::add`, clauses `added`, `clash`, `same`; `Known::standing`: a report is added to what is known, and a verdict
+//!   that differs from a known one is a clash.
+//! - CLAIM: `laws::one_move`: one number never has two moves.
 #![tactic(auto)]
 
 mod known;

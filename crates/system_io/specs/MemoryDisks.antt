@@ -30,6 +30,10 @@ abbrev pub CannotRead : MemoryDisk → Source → Type 0
 CannotRead d (AtFolder at) = (CanBeRead d at → ⊥) ⊎ IsNowhere (λ row. row.path.now) d.folders.now at
 CannotRead d (AtFile at) = ((CanBeRead d at → ⊥) ⊎ IsNowhere (λ row. row.path.now) d.files.now at) ⊎ ((bytes : List ℕ) × IsFileAt d at bytes × (most_bytes < length bytes))
 
+-- the mode of the file at this path: the stated one, or that of a file that its owner alone may read and write
+abbrev pub HasMode : MemoryDisk → List ℕ → ℕ → Type 0
+HasMode d at mode = IsFoundAt (λ row. row.path.now) (λ row. row.holds) d.modes.now at mode ⊎ (IsNowhere (λ row. row.path.now) d.modes.now at × (mode ≡ 0o100600))
+
 -- the facts of a disk in memory
 abbrev pub disk_of : MemoryDisk → DiskFacts
 disk_of d = record {
@@ -37,4 +41,6 @@ disk_of d = record {
   lists = λ at names. IsFolderAt d at names × CanBeRead d at;
   holds = λ at bytes. IsFileAt d at bytes × (length bytes ≤ most_bytes) × CanBeRead d at;
   fails = CannotRead d;
+  has_mode = HasMode d;
+  is_irregular = λ at. ⊥;
 }

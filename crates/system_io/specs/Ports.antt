@@ -1,5 +1,5 @@
 -- The traffic at a port (this project's own).
-use Rattle.std.specs.Prelude.{◌≡◌, ◌++◌, ◌≤◌, ℕ, zero, suc, List, [], ◌∷◌, Option}
+use Rattle.std.specs.Prelude.{◌≡◌, ◌++◌, ◌≤◌, ℕ, zero, suc, List, [], ◌∷◌, Option, replicate}
 pub use Rattle.system_io.specs.Histories.{Passes}
 
 pub data Passing : Type 0 where
@@ -11,6 +11,10 @@ pub data Passing : Type 0 where
   Missed : Passing
   -- a datagram was given to the system for the address at this place, whether or not it went out
   Handed : (to : ℕ) (bytes : List ℕ) → Passing
+
+-- what a sealed port passes on for a datagram without a right tag
+abbrev pub no_tag : List ℕ
+no_tag = replicate 64 0
 
 -- the facts of a port: its traffic so far, in order, none where it isn't recorded; the count of its failures; the number of
 -- addresses to which it sends

@@ -14,9 +14,17 @@ use Rattle.system_io.specs.Traces.{IsAmong}
 use Rattle.system_io.specs.Hosts.{HostFacts}
 use Rattle.system_io.specs.Places.{IsAtPath, IsBound, ListensAt}
 
--- DISK: the names of a folder and the bytes of a file are those that the system gives, and what it refuses can't be read
+-- DISK: the names of a folder and the bytes of a file are those that the system gives, and what it refuses can't be read.
+-- PRIVATE: the mode of a file is what the system says of it when it is open, and what it says to be no regular file is none
 abbrev pub system_disk : DiskFacts
-system_disk = record { is_told = false; lists = λ _ _. Unit {0}; holds = λ _ _. Unit {0}; fails = λ _. Unit {0} }
+system_disk = record {
+  is_told = false;
+  lists = λ _ _. Unit {0};
+  holds = λ _ _. Unit {0};
+  fails = λ _. Unit {0};
+  has_mode = λ _ _. Unit {0};
+  is_irregular = λ _. Unit {0};
+}
 
 -- INPUT: the bytes of standard input are those that the system gives. An input that it refuses can't be read. Where it says
 -- that memory was refused, memory was refused.
@@ -32,7 +40,7 @@ system_lines left ahead = record { left = left; ahead = ahead; fails = Unit {0};
 abbrev pub system_output : List ℕ → Bool → OutputFacts
 system_output waiting is_stuck = record { gone = (waiting ≡ []) × (is_stuck ≡ false); stuck = is_stuck ≡ true; refuses = Unit {0} }
 
--- DATAGRAMS: what the socket receives came, and what is passed to it is on its way to each address. Failed calls and
+-- DATAGRAMS: what the socket receives came (63 bytes of 64 that are all zero), and what is passed to it is on its way to each address. Failed calls and
 -- addresses are counted.
 abbrev pub system_port : ℕ → ℕ → PortFacts
 system_port faults addresses = record { passed = None; faults = faults; addresses = addresses }

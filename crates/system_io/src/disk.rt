@@ -1,10 +1,19 @@
 //! Folders and files, as they are read.
 
 ghost use Rattle.std.specs.Prelude.{◌≡◌, ◌≤◌, ◌⊎◌, true, length, map, string_bytes, IfOk, IsErrOf};
-ghost use Rattle.system_io.specs.Disks.{DiskFacts, AtFile, AtFolder, HasMore, HoldsOne, most_bytes};
+ghost use Rattle.system_io.specs.Disks.{DiskFacts, AtFile, AtFolder, IsNoSmallFile, HasMore, HoldsOne, most_bytes};
 
 use crate::reading::ReadFault;
 use std::alloc::Global;
+
+/// The bytes of a regular file, and its mode: in its last nine bits what its owner, its group and others may do with it.
+#[derive(Drop)]
+pub struct FileWithMode {
+    /// All its bytes.
+    pub bytes: Vec<u8>,
+    /// The mode, as `stat` has it.
+    pub mode: u32,
+}
 
 /// Where folders and files are read.
 pub trait Disk {
@@ -27,6 +36,19 @@ pub trait Disk {
         ensures bytes { IfOk result (λ bytes. (facts self.now).holds path.now bytes.items) }
         ensures short { IfOk result (λ bytes. length bytes.items ≤ most) }
         ensures cause { IsErrOf result ReadFault.Unreadable → (facts self.now).fails (AtFile path.now) ⊎ HasMore (facts self.now) path.now most };
+
+    /// All bytes of a regular file of at most this many, and the mode that it has while it is open. What is no regular file, such as
+    /// a folder, a device or a named pipe, isn't waited for: it can't be read. A link is followed.
+    fn read_with_mode(
+        &self,
+        alloc: Global,
+        path: &str,
+        most: u64,
+    ) -> Result<FileWithMode, ReadFault>
+        ensures bytes { IfOk result (λ f. (facts self.now).holds path.now f.bytes.items) }
+        ensures short { IfOk result (λ f. length f.bytes.items ≤ most) }
+        ensures mode { IfOk result (λ f. (facts self.now).has_mode path.now f.mode) }
+        ensures cause { IsErrOf result ReadFault.Unreadable → IsNoSmallFile (facts self.now) path.now most };
 
     /// A disk whose contents are stated has one list for each folder and one content for each file.
     ghost one: { (d : Self) → (facts d).is_told ≡ true → HoldsOne (facts d) };

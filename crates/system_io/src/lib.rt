@@ -1,9 +1,34 @@
-//! Traits for the outside: folders and files, an input and an output, datagrams, and a file in which a record is kept.
+//! Where the outside comes in: folders and files, an input and an output, datagrams, a file that is replaced by another, and a
+//! host that opens ports and files.
 //!
-//! The `facts` of a trait are all that a proof sees of it. Each has an instance over the system's calls.
-//! `specs/Premises.antt` states what is trusted of the system.
+//! Each is a trait (`Disk`, `Input` with `LineReader`, `Output`, `Port`, `KeptFile`, `Host`). Its `facts`, a record with named
+//! fields, are all that a proof sees of it. Beside each stand the system's own instance (`SystemDisk`, `SystemInput`,
+//! `BufferedOutput`, `UdpPort`, `SystemFile`, `SystemHost`) and one in memory for tests, which fails on request.
+//! `specs/Premises.antt` says what is trusted of the system. `SystemFile` is `Traced` over the system's calls (`FileCalls`): what
+//! a start finds follows from the calls that it made and their results. `DiskFile` is a file in memory, on a disk that loses
+//! power. A `Port` sends each datagram to each of its addresses in turn, and a send that fails keeps none of the others back.
 //!
-//! Its tests stand in `checks_io`.
+//! Definitions, in reading order: `Disks`, `Inputs`, `LineReaders`, `Outputs`, `Ports`, `KeptFiles`, `PowerLosses`, `FileCalls`,
+//! `Traces`, `Hosts`, `Premises`. Its tests stand in `checks_io`.
+//!
+//! - CLAIM: `end`: the output is flushed last, also where an answer was not written to its end. The status is the answer's where
+//!   all has gone out; it is 1 in its place only where some can't, or an answer was cut.
+//! - CLAIM: `read_at_most`, clauses `whole`, `short`: bytes are read to their end (of a reader that tells what remains), and
+//!   never more than so many. Why reading fails is no clause.
+//! - CLAIM: `LineReader::next_line`, clauses `read`, `cause`, `same`: a line is what stood before the first line feed, or all
+//!   that was left, and nothing after it was taken. Reading fails only where the input fails.
+//! - CLAIM: `replace`, clauses `ok`, `err`; `replace_in_part`, clause `cut`: bytes take the place of those in a file by four
+//!   calls, so ordered that a start finds the old bytes or the new, wherever the calls stop.
+//! - CLAIM: `begin`, clauses `one`, `lasts`: where the file says of two contents that each start finds one or the other, what is
+//!   read is one of the two, and every later start finds it.
+//! - CLAIM: `DiskFile`, clauses `facts`, `one`; `DiskFile::stop`, clauses `left`, `rest`, `same`; `read_after`, clauses `left`,
+//!   `one`: a file on a disk that loses power does what `KeptFile` says, and what is read after a loss of power is what it left.
+//! - CLAIM: `Traced`, clauses `facts`, `one`; `read_as_told`: the system's file does what `KeptFile` says by its calls. Under
+//!   `IsAsTold` a start reads one of any two contents of which the file said that each start finds one or the other.
+//! - CLAIM: `Host::own_address`, clause `own`; `UdpPort::own_address`: a host says at which address a port listens, or that it
+//!   doesn't know.
+//! - CLAIM: `Host::bind`, clause `each`: a port sends to as many addresses as it was bound for. What passes at the system's port
+//!   it doesn't report.
 #![tactic(auto)]
 
 mod disk;
@@ -27,7 +52,7 @@ mod texts;
 mod traced_file;
 mod udp_port;
 
-pub use disk::Disk;
+pub use disk::{Disk, FileWithMode};
 pub use disk_file::{Choice, DiskFile, Outcome, read_after};
 pub use host::{BindFault, Host};
 pub use input::Input;
@@ -38,7 +63,7 @@ pub use memory_disk::{AtPath, MemoryDisk};
 pub use memory_input::{MemoryInput, MemoryLines};
 pub use memory_port::{MemoryPort, Passage, Turn};
 pub use output::{BufferedOutput, Output, WriteFault, end};
-pub use port::{Port, PortFault};
+pub use port::{NO_TAG, Port, PortFault};
 pub use reading::{ReadFault, read_at_most};
 pub use system_disk::SystemDisk;
 pub use system_file::{SystemCalls, SystemFile};

@@ -2,9 +2,9 @@
 
 ghost use Rattle.std.specs.Prelude.{◌↔◌, IfNone, IfSome, IsTrue};
 ghost use Rattle.system_io.specs.Disks.{AtFile};
-ghost use Rattle.system_io.specs.MemoryDisks.{IsFoundAt, IsNowhere, disk_of};
+ghost use Rattle.system_io.specs.MemoryDisks.{HasMode, IsFoundAt, IsNowhere, disk_of};
 
-use crate::disk::Disk;
+use crate::disk::{Disk, FileWithMode};
 use crate::reading::{MOST_BYTES, ReadFault};
 use crate::texts::owned;
 use std::alloc::Global;
@@ -49,11 +49,16 @@ fn is_other(paths: &[&str], path: &str) -> bool
     }
 }
 
-/// Files and folders by their paths, and the paths that can't be read. Of two entries for one path the first counts. A
-/// folder may list a name without a file at its path; that one can't be read.
+/// The mode of a file for which none is stated: a regular one that its owner alone may read and write.
+const OWN_MODE: u32 = 0o100600;
+
+/// Files, their modes and folders by their paths, and the paths that can't be read. Of two entries for one path the first
+/// counts. A file for which no mode is stated has 100600, in octal digits. A folder may list a name without a file at its
+/// path; that one can't be read.
 #[derive(Clone, Copy)]
 pub struct MemoryDisk<'a> {
     pub files: &'a [AtPath<'a, &'a [u8]>],
+    pub modes: &'a [AtPath<'a, u32>],
     pub folders: &'a [AtPath<'a, &'a [&'a str]>],
     pub failing: &'a [&'a str],
 }
@@ -72,6 +77,16 @@ impl<'a> MemoryDisk<'a> {
             return None;
         }
         Some(bytes)
+    }
+
+    /// The mode of the file at a path, if there is one.
+    fn mode_at(&self, path: &str) -> u32
+        ensures { HasMode self.now path.now result }
+    {
+        match found(self.modes, path) {
+            Some(mode) => mode,
+            None => OWN_MODE,
+        }
     }
 }
 
@@ -104,6 +119,21 @@ impl<'a> Disk for MemoryDisk<'a> {
         match self.file_at(path) {
             Some(bytes) if bytes.len() as u64 <= most => Ok(Vec::from_slice(alloc, bytes)?),
             _ => Err(ReadFault::Unreadable),
+        }
+    }
+
+    fn read_with_mode(
+        &self,
+        alloc: Global,
+        path: &str,
+        most: u64,
+    ) -> Result<FileWithMode, ReadFault> {
+        match self.read_within(alloc, path, most) {
+            Ok(bytes) => Ok(FileWithMode {
+                bytes,
+                mode: self.mode_at(path),
+            }),
+            Err(fault) => Err(fault),
         }
     }
 }

@@ -6,6 +6,10 @@ ghost use Rattle.system_io.specs.Ports.{PortFacts, Came, Quiet, Missed, Passed, 
 
 use std::time::Duration;
 
+/// What a sealed port passes on for a datagram without a right tag: 64 bytes that are zero. A port of the system never passes
+/// them on.
+pub const NO_TAG: [u8; 64] = [0; 64];
+
 /// Why a call of a port failed.
 #[derive(Clone, Copy)]
 pub enum PortFault {

@@ -1,9 +1,10 @@
 //! Folders and files of the system.
 
-use crate::disk::Disk;
+use crate::disk::{Disk, FileWithMode};
 use crate::reading::{MOST_BYTES, ReadFault, read_at_most};
 use std::alloc::Global;
 use std::fs::{DirEntry, OpenFile};
+use std::os::unix::fs::MetadataExt;
 use std::rt::Files;
 use std::{fs, io};
 
@@ -68,5 +69,27 @@ impl<'a, R: Files + AllocGlobal + Clone + Drop> Disk for SystemDisk<'a, R> {
         let file = fs::open(self.rt, path)?;
         let length = file.metadata()?.len();
         read_at_most(alloc, file, length, most.min(MOST_BYTES))
+    }
+
+    fn read_with_mode(
+        &self,
+        alloc: Global,
+        path: &str,
+        most: u64,
+    ) -> Result<FileWithMode, ReadFault> {
+        // To open a named pipe would wait for its other end.
+        if !fs::metadata(self.rt, path)?.is_file() {
+            return Err(ReadFault::Unreadable);
+        }
+        let file = fs::open(self.rt, path)?;
+        let metadata = file.metadata()?;
+        if !metadata.is_file() {
+            return Err(ReadFault::Unreadable);
+        }
+        let bytes = read_at_most(alloc, file, metadata.len(), most.min(MOST_BYTES))?;
+        Ok(FileWithMode {
+            bytes,
+            mode: metadata.mode(),
+        })
     }
 }

@@ -1,10 +1,11 @@
 //! A UDP port of the system.
 
-ghost use Rattle.std.specs.Prelude.{◌≡◌, ◌≤◌, map, string_bytes, IfOk};
+ghost use Rattle.std.specs.Prelude.{◌≡◌, ◌≢◌, ◌≤◌, length, map, string_bytes, take, IfOk};
 ghost use Rattle.system_io.specs.Failures.{Risen};
 ghost use Rattle.system_io.specs.Places.{IsBound, ListensAt};
+ghost use Rattle.system_io.specs.Ports.{no_tag};
 
-use crate::port::{Port, PortFault};
+use crate::port::{NO_TAG, Port, PortFault};
 use crate::texts::owned;
 use std::alloc::Global;
 use std::io;
@@ -29,6 +30,20 @@ fn is_quiet(error: &io::Error) -> bool {
         error.kind(),
         io::ErrorKind::WouldBlock | io::ErrorKind::TimedOut
     )
+}
+
+/// How many bytes of a datagram are passed on: all of them, but 63 of 64 that are all zero. These are how a sealed port passes on
+/// a datagram without a right tag.
+fn passed_on(bytes: &[u8]) -> usize
+    ensures fits { result ≤ length bytes.now }
+    ensures unmarked { take result bytes.now ≢ no_tag }
+    ensures all { bytes.now ≢ no_tag → result ≡ length bytes.now }
+{
+    if bytes == NO_TAG.as_slice() {
+        bytes.len() - 1
+    } else {
+        bytes.len()
+    }
 }
 
 /// The address at which a socket listens, where it tells that.
@@ -96,12 +111,13 @@ impl UdpPort {
     /// Waits for a datagram at most this long; none means without limit.
     fn receive_within(&mut self, wait: Option<Duration>, buffer: &mut [u8; 64]) -> io::Result<usize>
         ensures length { IfOk result (λ n. n ≤ 64) }
+        ensures unmarked { IfOk result (λ n. take n buffer.new ≢ no_tag) }
         ensures same { self.new.to ≡ self.old.to }
         ensures failures { self.new.failures ≡ self.old.failures }
     {
         self.wait_for(wait)?;
         let (length, _) = self.socket.recv_from(buffer)?;
-        Ok(length)
+        Ok(passed_on(&buffer[..length]))
     }
 }
 

@@ -1,7 +1,41 @@
 //! Syzygy table files: what a file says, checked once when it is opened, and single values and blocks read from it.
 //!
-//! A table borrows the bytes of its file, and keeps beside them what its size records say. Its tests stand in
-//! `checks`.
+//! The name and the bytes of a file go in; a table that borrows them comes out, or the first refusal. What `open` checked is the
+//! table's invariant, and nothing is checked again. `Table::part` gives the part for a side to move and a leading pawn's file,
+//! and has no condition on these. A part gives a single value, the spot of one (`locate`), or the values of a block (`unpack`).
+//! `forge` takes a plan and writes a file, for tests.
+//!
+//! What a file says: `kind`, `material`, `parts`, `places`, `size_record`, `codes`, `maps`, `reading`. Where a value is: `sparse`
+//! (the check of the sparse entries, linear by sums), `spots`, `steps` (the count of block lengths), `at_spot`. The rest:
+//! `table`, `table_part`, `outcome`, `plan`, `forging`, `laws`, `fault`.
+//!
+//! Words of Stockfish: a table is `TBTable`, a part `PairsData`, flags `TBFlag`, block lengths `blockLength`, a block's size
+//! `sizeofBlock`, sparse entries `sparseIndex`, value maps `set_dtz_map`, `map_score`; `TablePart::stores` is `check_dtz_stm`.
+//! The wide map: `maps_of` and `Maps::entry`; an entry is `map_entry` in `specs/Distances.antt`.
+//!
+//! Definitions, in reading order: `Layouts` (`IsLayout`: the one to read), `FirstFaults`, `Tables`, `Expansion` (`expansion`),
+//! `Distances`, then `Plan`, `PlannedFile`, `Forged` for the writer. Its tests stand in `checks` (`forge_tests`); cases in
+//! `forged.txt` and `table_files.txt` of `rows`.
+//!
+//! - CLAIM: `open`, clauses `is`, `found`, `only`, `first`, `memory`; `reads_what_is_laid_out`; `tells_first_fault`: exactly the
+//!   files are accepted that have parts by the layout. Otherwise the first fault in the file's order is reported, and lack of
+//!   memory only once name, size, magic and flags are good.
+//! - CLAIM: `TablePart::value`, clauses `found`, `damaged`: it is the entry of the expanded table, `Damaged` exactly where there
+//!   is none or it is damaged.
+//! - CLAIM: `TablePart::stores`; `TablePart::dtz`, clauses `found`, `damaged`, `most`; `a_side_is_stored`: whether a DTZ table
+//!   has values for a side, and the distance in plies through the value map, doubled where it counts moves. A file stores one
+//!   side at least.
+//! - CLAIM: `TablePart::locate`, clauses `found`, `real`, `damaged`, `cost`: the single value, or a real block and offset of the
+//!   entry. Below the size it reads at most half a span and 65536 block lengths.
+//! - CLAIM: `TablePart::unpack`, clauses `is`, `few`; `TablePart::value_in_block`, clauses `found`, `damaged`;
+//!   `TablePart::value_among`; `TablePart::plies_of`, clauses `found`, `damaged`, `most`: a block's values, at most 65536, and a
+//!   value or a distance from them or at a spot.
+//! - CLAIM: `forge`, clauses `ok`, `good`: where it answers Ok, it wrote exactly the bytes of the plan's definition, which open
+//!   under the plan's name with its values.
+//! - CLAIM: `forge`, clauses `good`, `io`, `bad`, `untouched`: a plan that breaks a rule of `specs/Plan.antt` is never written;
+//!   `BadPlan` comes only for a plan that can't be forged, `Io` only for one that can. `BadPlan` and `OutOfMemory` leave the
+//!   writer as it was.
+//! - CLAIM: `TableFault::name`: the name of a fault.
 #![tactic(auto)]
 
 mod at_spot;

@@ -11,17 +11,19 @@ use crate::size_record::Coding;
 use std::alloc::{AllocError, Global};
 
 /// How many values stand before each block, the one past the last included.
+#[inline(never)]
 fn sums_of(alloc: Global, lengths: &[u8]) -> Result<Vec<u64>, AllocError>
     requires { length lengths.now ≤ 2 ^ 35 }
     ensures length { IfOk result (λ v. length v.items ≡ length lengths.now / 2 + 1) }
     ensures each { IfOk result (λ v. (b : ℕ) → b ≤ length lengths.now / 2 → (slice_index v.items b ≡ values_before (sizes_of lengths.now) b) × (slice_index v.items b ≤ 2 ^ 51)) }
 {
-    let mut sums = Vec::new(alloc);
+    let blocks = lengths.len() / 2;
+    let mut sums = Vec::with_capacity(alloc, blocks + 1)?;
     let mut sum: u64 = 0;
-    sums.push(0)?;
-    for i in 0..lengths.len() / 2 {
+    sums.push_reserved(0);
+    for i in 0..blocks {
         sum += word_at(lengths, 2 * i) as u64 + 1;
-        sums.push(sum)?;
+        sums.push_reserved(sum);
     }
     Ok(sums)
 }
@@ -56,6 +58,7 @@ fn is_entry(entries: &[u8], sums: &[u64], span: u64, k: usize, lengths: &[u8]) -
 
 /// Whether each of the first n entries names the value in the middle of its span. The time is linear in the number of
 /// entries and of lengths, whatever blocks the entries name.
+#[inline(never)]
 fn are_entries(
     alloc: Global,
     span: u64,

@@ -1,5 +1,5 @@
--- `host --games DIR --tables DIR [--manifest FILE] --bind ADDR --to ADDR[,ADDR] --me M [--at-once N] [--cache N] [--datagrams N]`:
--- arbiters of any number of games; specs/Hostings.antt has what it makes of them (this project's own).
+-- `host --games DIR --tables DIR [--manifest FILE] --bind ADDR --to ADDR[,ADDR] --me M [--at-once N] [--cache N] [--datagrams N]
+-- [--key FILE]`: arbiters of any number of games; specs/Hostings.antt has what it makes of them (this project's own).
 use Rattle.std.specs.Prelude.{◌≡◌, ◌++◌, false, List, [], ◌∷◌, Option, Some, None, codes, option_map}
 use Rattle.clap.specs.Words.{Rule, Text}
 use Rattle.adjudicate_core.specs.Addresses.{AreAddresses}
@@ -21,7 +21,8 @@ rules =
     ∷ rule_of_form form.Option (codes "me")
     ∷ rule_of_form form.Option (codes "at-once")
     ∷ rule_of_form form.Option (codes "cache")
-    ∷ rule_of_form form.Option (codes "datagrams") ∷ []
+    ∷ rule_of_form form.Option (codes "datagrams")
+    ∷ rule_of_form form.Option (codes "key") ∷ []
 
 -- the values of its arguments
 pub record HasValues (value : Text → Option Text) (h : HostGames) : Type 0 where
@@ -35,6 +36,7 @@ pub record HasValues (value : Text → Option Text) (h : HostGames) : Type 0 whe
   pub at_once : IsAtOnce (value (codes "at-once")) h.at_once.value
   pub cache : IsCache (value (codes "cache")) h.cache
   pub datagrams : IsDatagrams (value (codes "datagrams")) h.datagrams
+  pub key : option_map (λ s. s.now) h.key ≡ value (codes "key")
 
 -- what may be wrong with its values, in the order in which it is told: with the folders and the addresses, the numbers
 abbrev pub end_faults : List Fault

@@ -1,6 +1,6 @@
 -- `listen --name N --start FEN --tables DIR --me M --bind ADDR --to ADDR[,ADDR] --kept FILE [--datagrams N] [--delay N] [--fetch]
--- [--ready]`: an arbiter that answers datagrams; specs/Listens.antt has what it makes of them (this project's own).
-use Rattle.std.specs.Prelude.{◌≡◌, ◌++◌, false, List, [], ◌∷◌, Option, Some, None, codes}
+-- [--ready] [--key FILE]`: an arbiter that answers datagrams; specs/Listens.antt has what it makes of them (this project's own).
+use Rattle.std.specs.Prelude.{◌≡◌, ◌++◌, false, List, [], ◌∷◌, Option, Some, None, codes, option_map}
 use Rattle.clap.specs.Words.{Rule, Text}
 use Rattle.adjudicate_core.specs.Addresses.{AreAddresses}
 use Rattle.adjudicate_core.specs.Rules.{rule_of_form}
@@ -23,7 +23,8 @@ rules =
     ∷ rule_of_form form.Option (codes "datagrams")
     ∷ rule_of_form form.Option (codes "delay")
     ∷ rule_of_form form.Flag (codes "fetch")
-    ∷ rule_of_form form.Flag (codes "ready") ∷ []
+    ∷ rule_of_form form.Flag (codes "ready")
+    ∷ rule_of_form form.Option (codes "key") ∷ []
 
 -- the values of its arguments
 pub record IsListening (value : Text → Option Text) (l : Listen) : Type 0 where
@@ -39,6 +40,7 @@ pub record IsListening (value : Text → Option Text) (l : Listen) : Type 0 wher
   pub delay : IsDelay (value (codes "delay")) l.delay
   pub fetch : l.fetch ≡ is_set (value (codes "fetch"))
   pub ready : l.ready ≡ is_set (value (codes "ready"))
+  pub key : option_map (λ s. s.now) l.key ≡ value (codes "key")
 
 -- what may be wrong with its values, in the order in which it is told: with the words on the game, the addresses and the kept
 -- file, the numbers

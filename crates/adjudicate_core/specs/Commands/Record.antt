@@ -11,7 +11,7 @@ use Rattle.move_msg.specs.declared.record_bytes.Record.{Record as Records}
 use Rattle.move_msg.specs.declared.record_bytes.RecordFault.{RecordFault}
 use Rattle.move_msg.specs.Records.{HasRecordLayout, IsFirstRecordFault, SpellsRecord}
 use Rattle.move_msg.specs.TextLines.{text_of}
-use Rattle.arbiter_service.specs.ServedLines.{verdict_or_none}
+use Rattle.arbiter_server.specs.ServedLines.{verdict_or_none}
 use Rattle.clap.specs.Words.{Rule, Text}
 use Rattle.adjudicate_core.specs.Rules.{rule_of_form}
 use Rattle.adjudicate_core.specs.declared.commands.Form.TheVariants as form

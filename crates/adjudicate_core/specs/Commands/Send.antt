@@ -1,5 +1,5 @@
--- `send --name N --start FEN --tables DIR [--manifest FILE] [--delay N] --bind ADDR --to ADDR[,ADDR] [--wait MS] [--tries N]`: the
--- source of a game at a port; specs/Sends.antt has what it makes of its input (this project's own).
+-- `send --name N --start FEN --tables DIR [--manifest FILE] [--delay N] --bind ADDR --to ADDR[,ADDR] [--wait MS] [--tries N]
+-- [--key FILE]`: the source of a game at a port; specs/Sends.antt has what it makes of its input (this project's own).
 use Rattle.std.specs.Prelude.{◌≡◌, ◌++◌, List, [], ◌∷◌, Option, Some, codes, option_map}
 use Rattle.clap.specs.Words.{Rule, Text}
 use Rattle.adjudicate_core.specs.Addresses.{AreAddresses}
@@ -21,7 +21,8 @@ rules =
     ∷ rule_of_form form.Option (codes "bind")
     ∷ rule_of_form form.Option (codes "to")
     ∷ rule_of_form form.Option (codes "wait")
-    ∷ rule_of_form form.Option (codes "tries") ∷ []
+    ∷ rule_of_form form.Option (codes "tries")
+    ∷ rule_of_form form.Option (codes "key") ∷ []
 
 -- the values of its arguments, of which the name is that of a game
 pub record HasValues (value : Text → Option Text) (t : Send) : Type 0 where
@@ -33,6 +34,7 @@ pub record HasValues (value : Text → Option Text) (t : Send) : Type 0 where
   pub delay : IsDelay (value (codes "delay")) t.delay
   pub wait : IsHundredOr (value (codes "wait")) t.wait
   pub tries : IsHundredOr (value (codes "tries")) t.tries
+  pub key : option_map (λ s. s.now) t.key ≡ value (codes "key")
 
 -- what may be wrong with its values, in the order in which it is told
 abbrev pub end_faults : List Fault

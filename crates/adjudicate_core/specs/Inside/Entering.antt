@@ -2,7 +2,7 @@
 use Rattle.std.specs.Prelude.{◌≡◌, ◌≢◌, ℕ, List, Option, Some, Result}
 use Rattle.system_io.specs.declared.output.WriteFault.{WriteFault}
 use Rattle.system_io.specs.KeptFiles.{FindsOldOrNew, KeptFacts}
-use Rattle.arbiter_service.specs.ServedLines.{refused_keeper}
+use Rattle.arbiter_server.specs.ServedLines.{refused_keeper}
 use Rattle.adjudicate_core.specs.Enters.{TellsStamp}
 use Rattle.adjudicate_core.specs.Telling.{TellsIf}
 

@@ -36,10 +36,12 @@ pub struct HostGames<'a> {
     pub cache: CacheSize,
     /// How many datagrams are answered.
     pub datagrams: u64,
+    /// The file of the keys by which datagrams are sealed, if they are.
+    pub key: Option<&'a str>,
 }
 
 /// The values of `host`.
-pub(crate) const VALUES: [Value; 9] = [
+pub(crate) const VALUES: [Value; 10] = [
     Value {
         name: "games",
         form: Form::Option,
@@ -74,6 +76,10 @@ pub(crate) const VALUES: [Value; 9] = [
     },
     Value {
         name: "datagrams",
+        form: Form::Option,
+    },
+    Value {
+        name: "key",
         form: Form::Option,
     },
 ];
@@ -147,6 +153,7 @@ impl<'a> HostGames<'a> {
             at_once: terms.at_once,
             cache: terms.cache,
             datagrams: terms.datagrams,
+            key: matches.get_str("key"),
         })
     }
 

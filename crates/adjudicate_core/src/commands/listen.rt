@@ -40,10 +40,12 @@ pub struct Listen<'a> {
     pub fetch: bool,
     /// Whether the address at which datagrams come is told first.
     pub ready: bool,
+    /// The file of the keys by which datagrams are sealed, if they are.
+    pub key: Option<&'a str>,
 }
 
 /// The values of `listen`.
-pub(crate) const VALUES: [Value; 11] = [
+pub(crate) const VALUES: [Value; 12] = [
     Value {
         name: "name",
         form: Form::Option,
@@ -87,6 +89,10 @@ pub(crate) const VALUES: [Value; 11] = [
     Value {
         name: "ready",
         form: Form::Flag,
+    },
+    Value {
+        name: "key",
+        form: Form::Option,
     },
 ];
 
@@ -171,6 +177,7 @@ impl<'a> Listen<'a> {
             delay: terms.delay,
             fetch: terms.fetch,
             ready: terms.ready,
+            key: matches.get_str("key"),
         })
     }
 

@@ -4,13 +4,17 @@ ghost use Rattle.std.specs.Prelude.{◌≡◌, false, IfOk, OnErr, IfErr};
 ghost use Rattle.clap.specs.Words.{first_value, found_of};
 ghost use Rattle.board_core.specs.Position.{IsPosition};
 ghost use Rattle.fen_text.specs.Fen.{SpellsPosition};
-ghost use Rattle.adjudicate_core.specs.Commands.Probes.{HasValues, PutsProbes, TellsLine, faults, named};
+ghost use Rattle.adjudicate_core.specs.Commands.Probes.{HasValues, TellsLine, TellsLineIn, faults, named};
+ghost use Rattle.adjudicate_core.specs.LineAnswers.{PutsLinesOrNone};
 ghost use Rattle.adjudicate_core.specs.Lines.{words_of};
 ghost use Rattle.adjudicate_core.specs.Misuses.{IsFirst, fault_words};
+ghost use Rattle.json_lines.specs.Ask.{ask_of};
 ghost use Rattle.task_files.specs.Sources.{named_by};
 ghost use Rattle.adjudicate_core.specs.Reply.{IsText};
+ghost use Rattle.adjudicate_core.specs.TableAnswers.{PutsByTables};
 
 use super::{Form, Value};
+use crate::json_answers::JsonTeller;
 use crate::line_answers::put_told;
 use crate::lines::{Line, put_line, put_refusal};
 use crate::numbers::{CacheSize, is_set};
@@ -21,6 +25,7 @@ use crate::values::option_in;
 use board_core::Position;
 use clap::ArgMatches;
 use fen_text::read;
+use json_lines::Ask;
 use judge_core::Set;
 use line_teller::{TellFault, Teller};
 use std::alloc::{AllocError, Global};
@@ -35,12 +40,16 @@ pub struct Probes<'a> {
     pub tables: &'a str,
     /// The file of the manifest that the tables are held to, if one is named.
     pub manifest: Option<&'a str>,
+    /// Whether the answers are written as JSON.
+    pub json: bool,
+    /// Whether values are wanted that are the same whatever the missing tables hold.
+    pub determined: bool,
     /// Whether the progress is written.
     pub progress: bool,
 }
 
 /// The values of `probes`.
-pub(crate) const VALUES: [Value; 3] = [
+pub(crate) const VALUES: [Value; 5] = [
     Value {
         name: "tables",
         form: Form::Option,
@@ -50,6 +59,14 @@ pub(crate) const VALUES: [Value; 3] = [
         form: Form::Option,
     },
     Value {
+        name: "json",
+        form: Form::Flag,
+    },
+    Value {
+        name: "determined",
+        form: Form::Flag,
+    },
+    Value {
         name: "progress",
         form: Form::Flag,
     },
@@ -57,6 +74,7 @@ pub(crate) const VALUES: [Value; 3] = [
 
 /// The values of a position in the tables, in columns, and whether both are there.
 fn columns(
+    ask: Ask,
     alloc: Global,
     set: &mut Set<'_>,
     text: &[u8],
@@ -64,21 +82,26 @@ fn columns(
 ) -> Result<(Line, bool), AllocError>
     requires spelled { SpellsPosition text.now position.now }
     requires position { IsPosition position.now }
-    ensures told { IfOk result (λ told. TellsLine set.old.tables text.now (record { words = words_of told.0; done = told.1 })) }
+    ensures told { IfOk result (λ told. TellsLine ask set.old.tables text.now (record { words = words_of told.0; done = told.1 })) }
     ensures unchanged { set.new.tables ≡ set.old.tables }
 {
-    let columns = set.answers(alloc, position)?;
+    let columns = ask.answers(alloc, set, position)?;
     Ok((Line::Columns(columns), columns.probed.has_both()))
 }
 
 /// The answer to a line, and whether it is complete.
-fn probe_line(alloc: Global, set: &mut Set<'_>, text: &[u8]) -> Result<(Line, bool), AllocError>
-    ensures told { IfOk result (λ told. TellsLine set.old.tables text.now (record { words = words_of told.0; done = told.1 })) }
+fn probe_line(
+    ask: Ask,
+    alloc: Global,
+    set: &mut Set<'_>,
+    text: &[u8],
+) -> Result<(Line, bool), AllocError>
+    ensures told { IfOk result (λ told. TellsLine ask set.old.tables text.now (record { words = words_of told.0; done = told.1 })) }
     ensures unchanged { set.new.tables ≡ set.old.tables }
     ensures memory { OnErr result (IsText text.now) }
 {
     match read(text) {
-        Ok(position) => columns(alloc, set, text, &position),
+        Ok(position) => columns(ask, alloc, set, text, &position),
         Err(fault) => Ok((Line::Refused(Refusal::Fen(fault)), false)),
     }
 }
@@ -86,6 +109,8 @@ fn probe_line(alloc: Global, set: &mut Set<'_>, text: &[u8]) -> Result<(Line, bo
 /// Answers a line with the values of its position in tables.
 #[derive(Drop)]
 struct Prober<'a> {
+    /// How the tables are asked.
+    ask: Ask,
     /// The allocator.
     alloc: Global,
     /// The tables.
@@ -96,12 +121,12 @@ impl<'a> Teller for Prober<'a> {
     ghost use Rattle.adjudicate_core.specs.Reply.{IsText};
     ghost use Rattle.adjudicate_core.specs.Commands.Probes.{TellsLine};
 
-    ghost tells = { λ p. TellsLine p.set.tables };
+    ghost tells = { λ p. TellsLine p.ask p.set.tables };
 
     ghost takes_memory = { IsText };
 
     fn tell<W: Write>(&mut self, line: &[u8], out: &mut W) -> Result<bool, TellFault> {
-        match probe_line(self.alloc, &mut self.set, line) {
+        match probe_line(self.ask, self.alloc, &mut self.set, line) {
             Ok((told, is_told)) => match put_line(out, &told) {
                 Ok(()) => Ok(is_told),
                 Err(_) => Err(TellFault::Io),
@@ -120,6 +145,8 @@ impl<'a> Probes<'a> {
         Ok(Probes {
             tables: option_in(matches, "tables")?,
             manifest: matches.get_str("manifest"),
+            json: is_set(matches.get_str("json")),
+            determined: is_set(matches.get_str("determined")),
             progress: is_set(matches.get_str("progress")),
         })
     }
@@ -137,8 +164,38 @@ impl<'a> Probes<'a> {
         }
     }
 
+    /// Writes the answer to each line of the input as it comes, by tables.
+    fn answer_lines<I: Input, W: Output, E: Write>(
+        &self,
+        alloc: Global,
+        set: Set<'_>,
+        input: &I,
+        out: &mut W,
+        errors: &mut E,
+    ) -> Result<u8, WriteFault>
+        ensures written { IfOk result (PutsLinesOrNone (TellsLineIn self.now.json (ask_of self.now.determined) set.entry.tables) IsText (I.facts input.now) (W.contents out.old) (W.contents out.new)) }
+        ensures quiet { self.now.progress ≡ false → errors.new ≡ errors.old }
+    {
+        let ask = Ask::of(self.determined);
+        if self.json {
+            let with_moves = false;
+            let mut teller = JsonTeller {
+                alloc,
+                set,
+                ask,
+                with_moves,
+            };
+            put_told(alloc, &mut teller, input, out, errors, self.progress)
+        } else {
+            let mut prober = Prober { ask, alloc, set };
+            put_told(alloc, &mut prober, input, out, errors, self.progress)
+        }
+    }
+
     /// Writes the answer to each line of the input as it comes, by the tables of files, or the refusal of the tables.
-    /// Returns the status, 0 where all answers are complete, else 1.
+    /// Returns the status, 0 where all answers are complete, else 1. With `--json` an answer is one object (RFC 8259).
+    /// With `--determined` values and distances are also those that are the same whatever the missing tables hold; the
+    /// verdict stays.
     ///
     /// Each line is answered before the next one has to arrive, and memory is that of the longest line. Where memory is
     /// refused, the line `refused memory` follows the whole lines before it; where the input fails, `refused files`.
@@ -152,14 +209,11 @@ impl<'a> Probes<'a> {
         out: &mut W,
         errors: &mut E,
     ) -> Result<u8, WriteFault>
-        ensures written { IfOk result (PutsProbes (I.facts input.now) sources.now (W.contents out.old) (W.contents out.new)) }
+        ensures written { IfOk result (PutsByTables (TellsLineIn self.now.json (ask_of self.now.determined)) (I.facts input.now) sources.now (W.contents out.old) (W.contents out.new)) }
         ensures quiet { self.now.progress ≡ false → errors.new ≡ errors.old }
     {
         match gather(alloc, sources, CacheSize::usual()) {
-            Ok(Ok(set)) => {
-                let mut prober = Prober { alloc, set };
-                put_told(alloc, &mut prober, input, out, errors, self.progress)
-            }
+            Ok(Ok(set)) => self.answer_lines(alloc, set, input, out, errors),
             Ok(Err(refusal)) => put_refusal(out, refusal),
             Err(_) => put_refusal(out, Refusal::Memory),
         }

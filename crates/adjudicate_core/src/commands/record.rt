@@ -15,7 +15,7 @@ use crate::lines::put_refusal;
 use crate::refusals::Refusal;
 use crate::usage::ValueFault;
 use crate::values::word_in;
-use arbiter_service::verdict_or_none;
+use arbiter_server::verdict_or_none;
 use board_core::{Move, Verdict};
 use clap::ArgMatches;
 use fen_text::write_move;

@@ -3,27 +3,33 @@
 ghost use Rattle.std.specs.Prelude.{◌≡◌, ◌==◌, IfOk, OnErr, IfErr, IsErrOf};
 ghost use Rattle.std.specs.Io.KnownBytes.{Appends};
 ghost use Rattle.clap.specs.Words.{first_value, found_of};
-ghost use Rattle.adjudicate_core.specs.Commands.Root.{HasValues, IsTold, Puts, PutsLines, faults, named, told};
+ghost use Rattle.adjudicate_core.specs.Commands.Root.{HasValues, IsTold, IsToldIn, Puts, TellsLineIn, faults, named, told};
 ghost use Rattle.adjudicate_core.specs.Inside.Asked.{reply_of};
+ghost use Rattle.adjudicate_core.specs.JsonAnswers.{IsForTextIn, IsJsonTold, refused_in};
+ghost use Rattle.adjudicate_core.specs.LineAnswers.{PutsLinesOrNone};
 ghost use Rattle.adjudicate_core.specs.Looks.{gathered};
 ghost use Rattle.adjudicate_core.specs.Misuses.{IsFirst, fault_words};
 ghost use Rattle.adjudicate_core.specs.Reply.{ByTables, IsForText, IsText};
+ghost use Rattle.adjudicate_core.specs.TableAnswers.{PutsByTables};
+ghost use Rattle.json_lines.specs.Ask.{ask_of};
 ghost use Rattle.judge_core.specs.Words.{columns_words};
 ghost use Rattle.move_msg.specs.TextLines.{ended};
 ghost use Rattle.task_files.specs.Sources.{named_by};
 
 use super::{Form, Value};
 use crate::answers::{Answer, put_answer, put_answered};
+use crate::json_answers::JsonTeller;
 use crate::line_answers::put_told;
 use crate::lines::{Line, RootLine, put_refusal};
-use crate::numbers::CacheSize;
+use crate::numbers::{CacheSize, is_set};
 use crate::refusals::Refusal;
 use crate::tables::gather;
 use crate::usage::ValueFault;
 use crate::values::option_in;
 use board_core::Position;
 use clap::ArgMatches;
-use fen_text::read;
+use fen_text::{FenFault, read};
+use json_lines::{Ask, JsonLine};
 use judge_core::{Columns, RootMove, Set};
 use line_teller::{TellFault, Teller};
 use std::alloc::{AllocError, Global};
@@ -38,12 +44,16 @@ pub struct Root<'a> {
     pub tables: &'a str,
     /// The file of the manifest that the tables are held to, if one is named.
     pub manifest: Option<&'a str>,
+    /// Whether the answers are written as JSON.
+    pub json: bool,
+    /// Whether values are wanted that are the same whatever the missing tables hold.
+    pub determined: bool,
     /// The position's FEN text; without it the input has a position a line.
     pub fen: Option<&'a str>,
 }
 
 /// The values of `root`.
-pub(crate) const VALUES: [Value; 3] = [
+pub(crate) const VALUES: [Value; 5] = [
     Value {
         name: "tables",
         form: Form::Option,
@@ -51,6 +61,14 @@ pub(crate) const VALUES: [Value; 3] = [
     Value {
         name: "manifest",
         form: Form::Option,
+    },
+    Value {
+        name: "json",
+        form: Form::Flag,
+    },
+    Value {
+        name: "determined",
+        form: Form::Flag,
     },
     Value {
         name: "FEN",
@@ -74,12 +92,17 @@ fn lines_of(alloc: Global, moves: &[RootMove], columns: Columns) -> Result<Answe
 }
 
 /// What the tables tell of the legal moves of a position, and of the position.
-fn told_by(alloc: Global, set: &mut Set<'_>, position: &Position) -> Result<Answer, AllocError>
-    ensures told { IfOk result (λ a. IsTold set.old.tables position.now (reply_of a)) }
+fn told_by(
+    ask: Ask,
+    alloc: Global,
+    set: &mut Set<'_>,
+    position: &Position,
+) -> Result<Answer, AllocError>
+    ensures told { IfOk result (λ a. IsTold ask set.old.tables position.now (reply_of a)) }
     ensures unchanged { set.new.tables ≡ set.old.tables }
 {
-    let columns = set.answers(alloc, position)?;
-    match set.root(alloc, position) {
+    let columns = ask.answers(alloc, set, position)?;
+    match ask.root(alloc, set, position) {
         Ok(Some(moves)) => lines_of(alloc, &moves, columns),
         Ok(None) => lines_of(alloc, &[], columns),
         Err(fault) => Err(fault),
@@ -87,37 +110,98 @@ fn told_by(alloc: Global, set: &mut Set<'_>, position: &Position) -> Result<Answ
 }
 
 /// The answer to a line of the input.
-fn answer_line(alloc: Global, set: &mut Set<'_>, text: &[u8]) -> Result<Answer, AllocError>
-    ensures told { IfOk result (λ a. IsForText text.now (IsTold set.old.tables) (reply_of a)) }
+fn answer_line(
+    ask: Ask,
+    alloc: Global,
+    set: &mut Set<'_>,
+    text: &[u8],
+) -> Result<Answer, AllocError>
+    ensures told { IfOk result (λ a. IsForText text.now (IsTold ask set.old.tables) (reply_of a)) }
     ensures memory { OnErr result (IsText text.now) }
     ensures unchanged { set.new.tables ≡ set.old.tables }
 {
     match read(text) {
         Err(fault) => Ok(Answer::Refused(Refusal::Fen(fault))),
-        Ok(position) => told_by(alloc, set, &position),
+        Ok(position) => told_by(ask, alloc, set, &position),
+    }
+}
+
+/// What the tables tell of the legal moves of a position, and of the position, as JSON.
+fn told_as_json(
+    ask: Ask,
+    alloc: Global,
+    set: &mut Set<'_>,
+    position: &Position,
+) -> Result<Answer, AllocError>
+    ensures { IfOk result (λ a. IsJsonTold ask set.old.tables position.now (reply_of a)) }
+{
+    let with_moves = true;
+    match JsonLine::of_position(alloc, set, position, ask, with_moves) {
+        Ok(line) => Ok(Answer::Json(line)),
+        Err(fault) => Err(fault),
+    }
+}
+
+/// What the tables tell of the legal moves of a position, and of the position, as JSON or in lines.
+fn told_in(
+    ask: Ask,
+    alloc: Global,
+    set: &mut Set<'_>,
+    position: &Position,
+    json: bool,
+) -> Result<Answer, AllocError>
+    ensures { IfOk result (λ a. IsToldIn json ask set.old.tables position.now (reply_of a)) }
+{
+    if json {
+        told_as_json(ask, alloc, set, position)
+    } else {
+        told_by(ask, alloc, set, position)
     }
 }
 
 /// What the tables of files tell of the legal moves of a position, or the refusal of these: of a malformed manifest,
 /// then of the first file at fault.
-fn told_of(alloc: Global, sources: &Sources, position: &Position) -> Result<Answer, AllocError>
-    ensures { IfOk result (λ a. ByTables (gathered sources.now) IsTold position.now (reply_of a)) }
+fn told_of(
+    ask: Ask,
+    alloc: Global,
+    sources: &Sources,
+    position: &Position,
+    json: bool,
+) -> Result<Answer, AllocError>
+    ensures { IfOk result (λ a. ByTables (gathered sources.now) (IsToldIn json ask) position.now (reply_of a)) }
 {
     match gather(alloc, sources, CacheSize::usual()) {
-        Ok(Ok(mut set)) => told_by(alloc, &mut set, position),
+        Ok(Ok(mut set)) => told_in(ask, alloc, &mut set, position, json),
         Ok(Err(refusal)) => Ok(Answer::Refused(refusal)),
         Err(_) => Err(AllocError),
     }
 }
 
-/// The answer to the text of a position. A text that is no position is refused first.
-fn answer_text(alloc: Global, sources: &Sources, text: &str) -> Result<Answer, AllocError>
-    ensures ok { IfOk result (λ a. IsForText text.now (ByTables (gathered sources.now) IsTold) (reply_of a)) }
+/// The refusal of a text that is no position, as JSON or as a line.
+fn refused_in(fault: FenFault, json: bool) -> Answer
+    ensures { reply_of result ≡ refused_in json fault }
+{
+    if json {
+        Answer::Json(JsonLine::Fault(fault))
+    } else {
+        Answer::Refused(Refusal::Fen(fault))
+    }
+}
+
+/// The answer to the text of a position, as JSON or in lines. A text that is no position is refused first.
+fn answer_text(
+    ask: Ask,
+    alloc: Global,
+    sources: &Sources,
+    text: &str,
+    json: bool,
+) -> Result<Answer, AllocError>
+    ensures ok { IfOk result (λ a. IsForTextIn json text.now (ByTables (gathered sources.now) (IsToldIn json ask)) (reply_of a)) }
     ensures memory { OnErr result (IsText text.now) }
 {
     match read(text.as_bytes()) {
-        Err(fault) => Ok(Answer::Refused(Refusal::Fen(fault))),
-        Ok(position) => told_of(alloc, sources, &position),
+        Err(fault) => Ok(refused_in(fault, json)),
+        Ok(position) => told_of(ask, alloc, sources, &position, json),
     }
 }
 
@@ -138,6 +222,8 @@ fn put_with_empty_line<W: Write>(out: &mut W, answer: &Answer) -> Result<bool, T
 /// Answers a line with the legal moves of its position by their values in tables.
 #[derive(Drop)]
 struct Ranker<'a> {
+    /// How the tables are asked.
+    ask: Ask,
     /// The allocator.
     alloc: Global,
     /// The tables.
@@ -148,36 +234,15 @@ impl<'a> Teller for Ranker<'a> {
     ghost use Rattle.adjudicate_core.specs.Reply.{IsText};
     ghost use Rattle.adjudicate_core.specs.Commands.Root.{TellsLine};
 
-    ghost tells = { λ p. TellsLine p.set.tables };
+    ghost tells = { λ p. TellsLine p.ask p.set.tables };
 
     ghost takes_memory = { IsText };
 
     fn tell<W: Write>(&mut self, line: &[u8], out: &mut W) -> Result<bool, TellFault> {
-        match answer_line(self.alloc, &mut self.set, line) {
+        match answer_line(self.ask, self.alloc, &mut self.set, line) {
             Ok(answer) => put_with_empty_line(out, &answer),
             Err(_) => Err(TellFault::OutOfMemory),
         }
-    }
-}
-
-/// Writes the answer to each line of the input as it comes, by the tables of files, or the refusal of the tables.
-fn put_answers<I: Input, W: Output, E: Write>(
-    alloc: Global,
-    sources: &Sources,
-    input: &I,
-    out: &mut W,
-    errors: &mut E,
-) -> Result<u8, WriteFault>
-    ensures written { IfOk result (PutsLines (I.facts input.now) sources.now (W.contents out.old) (W.contents out.new)) }
-    ensures quiet { errors.new ≡ errors.old }
-{
-    match gather(alloc, sources, CacheSize::usual()) {
-        Ok(Ok(set)) => {
-            let mut ranker = Ranker { alloc, set };
-            put_told(alloc, &mut ranker, input, out, errors, false)
-        }
-        Ok(Err(refusal)) => put_refusal(out, refusal),
-        Err(_) => put_refusal(out, Refusal::Memory),
     }
 }
 
@@ -190,6 +255,8 @@ impl<'a> Root<'a> {
         Ok(Root {
             tables: option_in(matches, "tables")?,
             manifest: matches.get_str("manifest"),
+            json: is_set(matches.get_str("json")),
+            determined: is_set(matches.get_str("determined")),
             fen: matches.get_str("FEN"),
         })
     }
@@ -207,9 +274,58 @@ impl<'a> Root<'a> {
         }
     }
 
+    /// Writes the answer to each line of the input as it comes, by tables.
+    fn answer_lines<I: Input, W: Output, E: Write>(
+        &self,
+        alloc: Global,
+        set: Set<'_>,
+        input: &I,
+        out: &mut W,
+        errors: &mut E,
+    ) -> Result<u8, WriteFault>
+        ensures written { IfOk result (PutsLinesOrNone (TellsLineIn self.now.json (ask_of self.now.determined) set.entry.tables) IsText (I.facts input.now) (W.contents out.old) (W.contents out.new)) }
+        ensures quiet { errors.new ≡ errors.old }
+    {
+        let ask = Ask::of(self.determined);
+        if self.json {
+            let with_moves = true;
+            let mut teller = JsonTeller {
+                alloc,
+                set,
+                ask,
+                with_moves,
+            };
+            put_told(alloc, &mut teller, input, out, errors, false)
+        } else {
+            let mut ranker = Ranker { ask, alloc, set };
+            put_told(alloc, &mut ranker, input, out, errors, false)
+        }
+    }
+
+    /// Writes the answer to each line of the input as it comes, by the tables of files, or the refusal of the tables.
+    fn answer_input<I: Input, W: Output, E: Write>(
+        &self,
+        alloc: Global,
+        sources: &Sources,
+        input: &I,
+        out: &mut W,
+        errors: &mut E,
+    ) -> Result<u8, WriteFault>
+        ensures written { IfOk result (PutsByTables (TellsLineIn self.now.json (ask_of self.now.determined)) (I.facts input.now) sources.now (W.contents out.old) (W.contents out.new)) }
+        ensures quiet { errors.new ≡ errors.old }
+    {
+        match gather(alloc, sources, CacheSize::usual()) {
+            Ok(Ok(set)) => self.answer_lines(alloc, set, input, out, errors),
+            Ok(Err(refusal)) => put_refusal(out, refusal),
+            Err(_) => put_refusal(out, Refusal::Memory),
+        }
+    }
+
     /// Writes what the tables of files tell of the position of the text: a line for each legal move, the best first,
     /// and then the line of `probes`. Without a text it does so for each line of the input as it comes, with an empty
-    /// line after each answer. Returns the status, 0 where all answers are complete, else 1.
+    /// line after each answer. With `--json` an answer is one object (RFC 8259), and no empty line follows. With
+    /// `--determined` values and distances are also those that are the same whatever the missing tables hold. Returns the
+    /// status, 0 where all answers are complete, else 1.
     ///
     /// A text that is no position is refused before the tables are. Without a text a refusal of the tables comes before
     /// all lines. Refused memory and an input that fails are told as for `probes`. Nothing is written to `errors`.
@@ -221,12 +337,15 @@ impl<'a> Root<'a> {
         out: &mut W,
         errors: &mut E,
     ) -> Result<u8, WriteFault>
-        ensures written { IfOk result (Puts (I.facts input.now) self.now.fen sources.now (W.contents out.old) (W.contents out.new)) }
+        ensures written { IfOk result (Puts self.now.json (ask_of self.now.determined) (I.facts input.now) self.now.fen sources.now (W.contents out.old) (W.contents out.new)) }
         ensures quiet { errors.new ≡ errors.old }
     {
         match self.fen {
-            Some(text) => put_answered(out, answer_text(alloc, sources, text)),
-            None => put_answers(alloc, sources, input, out, errors),
+            Some(text) => {
+                let ask = Ask::of(self.determined);
+                put_answered(out, answer_text(ask, alloc, sources, text, self.json))
+            }
+            None => self.answer_input(alloc, sources, input, out, errors),
         }
     }
 }

@@ -35,10 +35,12 @@ pub struct Send<'a> {
     pub wait: u16,
     /// How often a move is sent at most.
     pub tries: u16,
+    /// The file of the keys by which datagrams are sealed, if they are.
+    pub key: Option<&'a str>,
 }
 
 /// The values of `send`.
-pub(crate) const VALUES: [Value; 9] = [
+pub(crate) const VALUES: [Value; 10] = [
     Value {
         name: "name",
         form: Form::Option,
@@ -73,6 +75,10 @@ pub(crate) const VALUES: [Value; 9] = [
     },
     Value {
         name: "tries",
+        form: Form::Option,
+    },
+    Value {
+        name: "key",
         form: Form::Option,
     },
 ];
@@ -141,6 +147,7 @@ impl<'a> Send<'a> {
             to: ends.to,
             wait: terms.wait,
             tries: terms.tries,
+            key: matches.get_str("key"),
         })
     }
 

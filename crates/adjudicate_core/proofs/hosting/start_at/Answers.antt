@@ -1,5 +1,5 @@
 use Rattle.std.proofs.Common.{◌∙◌, inl, inr, refl}
-use Rattle.arbiter_service.proofs.PortLaws.{Passed-nil}
+use Rattle.arbiter_server.proofs.PortLaws.{Passed-nil}
 use Rattle.adjudicate_core.specs.Hostings.{NoAddress, NoRoomForLine, Ready, Unready}
 use Rattle.adjudicate_core.proofs.hosting.start_at.Goals as goal
 

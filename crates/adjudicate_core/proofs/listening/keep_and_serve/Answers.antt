@@ -1,5 +1,5 @@
 use Rattle.adjudicate_core.specs.Listens.{Kept, NoRoomToKeep, Unreadable}
-use Rattle.arbiter_service.proofs.PortLaws.{Passed-nil}
+use Rattle.arbiter_server.proofs.PortLaws.{Passed-nil}
 use Rattle.adjudicate_core.proofs.listening.keep_and_serve.Goals as goal
 
 pub returns-in-Ok : goal.returns-in-Ok

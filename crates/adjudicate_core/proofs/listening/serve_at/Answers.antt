@@ -1,5 +1,5 @@
 use Rattle.adjudicate_core.specs.Listens.{AtFile, NoRoomForFile}
-use Rattle.arbiter_service.proofs.PortLaws.{Passed-nil}
+use Rattle.arbiter_server.proofs.PortLaws.{Passed-nil}
 use Rattle.adjudicate_core.proofs.listening.serve_at.Goals as goal
 
 pub returns-in-Ok : goal.returns-in-Ok

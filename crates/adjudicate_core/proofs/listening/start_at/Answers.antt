@@ -1,5 +1,5 @@
 use Rattle.std.proofs.Common.{◌∙◌, inl, inr, refl}
-use Rattle.arbiter_service.proofs.PortLaws.{Passed-nil}
+use Rattle.arbiter_server.proofs.PortLaws.{Passed-nil}
 use Rattle.adjudicate_core.specs.Listens.{NoAddress, NoRoomForLine, Ready, Unasked, Unready}
 use Rattle.adjudicate_core.proofs.listening.start_at.Goals as goal
 

@@ -9,8 +9,8 @@ not_quiet false quiet differ = absurd (differ (quiet refl))
 
 pub returns-in-Ok : goal.returns-in-Ok
 returns-in-Ok g c = record {
-  runs = IfOk-weaker c.run_task.result _ _ (λ status h. ToTask c.in-Ok.task c.in-Ok.ensures.ok h) c.run_task.ensures.answered;
-  quiet = λ differ. inr (c.in-Ok.task, c.in-Ok.ensures.ok, not_quiet _ c.run_task.ensures.quiet differ);
+  runs = IfOk-weaker c.run_by_key.result _ _ (λ status h. ToTask c.in-Ok.task c.in-Ok.ensures.ok h) c.run_by_key.ensures.answered;
+  quiet = λ differ. inr (c.in-Ok.task, c.in-Ok.ensures.ok, not_quiet _ c.run_by_key.ensures.quiet differ);
 }
 
 pub returns-in-Err-Misuse-clause-runs : goal.returns-in-Err-Misuse-clause-runs

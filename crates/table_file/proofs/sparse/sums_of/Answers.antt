@@ -18,8 +18,9 @@ loop-i-preserved c =
     let high = c.type_inv.lengths (2 * i + 1) in
     let small : v ≤ 65536 * (i + 1) = omega (arith, inv.small, low, high, c.word_at.ensures) in
     record {
-      len = ap length c.in_ok-push-2.ensures.items ∙ length_push c.loop-i.sums.items v ∙ omega (arith, inv.len);
+      len = ap length c.push_reserved-in-loop-i.ensures.items ∙ length_push c.loop-i.sums.items v ∙ omega (arith, inv.len);
+      room = omega (arith, inv.room, c.push_reserved-in-loop-i.ensures.capacity);
       total = v-is;
       small = small;
-      each = rw c.in_ok-push-2.ensures.items (sums_more (values_before (sizes_of bytes)) c.loop-i.sums.items v i inv.len v-is small inv.each);
+      each = rw c.push_reserved-in-loop-i.ensures.items (sums_more (values_before (sizes_of bytes)) c.loop-i.sums.items v i inv.len v-is small inv.each);
     }

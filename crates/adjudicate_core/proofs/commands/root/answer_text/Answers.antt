@@ -1,14 +1,13 @@
-use Rattle.adjudicate_core.specs.Inside.Asked.{reply_of}
-use Rattle.adjudicate_core.proofs.TextLaws.{for_memory, for_none, for_position}
+use Rattle.std.proofs.lemmas.Result.{IfOk-weaker}
+use Rattle.adjudicate_core.proofs.TextLaws.{anyhow}
+use Rattle.adjudicate_core.proofs.JsonLaws.{in_none, in_position, is_text}
 use Rattle.adjudicate_core.proofs.commands.root.answer_text.Goals as goal
 
 pub returns-in-Err-clause-ok : goal.returns-in-Err-clause-ok
-returns-in-Err-clause-ok c = for_none _ _ _ c.in-Err.fault c.as_bytes.ensures.value c.in-Err.ensures.err
+returns-in-Err-clause-ok c = in_none c.args.json _ _ _ c.in-Err.fault _ c.as_bytes.ensures.value c.in-Err.ensures.err c.refused_in.ensures
 
 pub returns-in-Ok-clause-ok : goal.returns-in-Ok-clause-ok
-returns-in-Ok-clause-ok c =
-    for_position reply_of c.told_of.result _ _ c.in-Ok.position c.as_bytes.ensures.value c.in-Ok.ensures.ok c.in-Ok.ensures.position _ c.told_of.ensures
+returns-in-Ok-clause-ok c = IfOk-weaker c.told_of.result _ _ (λ a h. in_position c.args.json _ _ _ c.in-Ok.position _ c.as_bytes.ensures.value c.in-Ok.ensures.ok c.in-Ok.ensures.position h) c.told_of.ensures
 
 pub returns-in-Ok-clause-memory : goal.returns-in-Ok-clause-memory
-returns-in-Ok-clause-memory c =
-    for_memory reply_of c.told_of.result _ _ c.in-Ok.position c.as_bytes.ensures.value c.in-Ok.ensures.ok c.in-Ok.ensures.position
+returns-in-Ok-clause-memory c = anyhow c.told_of.result (is_text _ _ c.in-Ok.position c.as_bytes.ensures.value c.in-Ok.ensures.ok c.in-Ok.ensures.position)

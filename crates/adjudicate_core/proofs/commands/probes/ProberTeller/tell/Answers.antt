@@ -3,10 +3,10 @@ use Rattle.adjudicate_core.specs.Commands.Probes.{TellsLine}
 use Rattle.adjudicate_core.proofs.commands.probes.ProberTeller.tell.Goals as goal
 
 pub returns-in-Ok-put_line-clause-same : goal.returns-in-Ok-put_line-clause-same
-returns-in-Ok-put_line-clause-same g c = λ line told h. subst (λ tables. TellsLine tables line told) c.probe_line.ensures.unchanged h
+returns-in-Ok-put_line-clause-same g c = λ line told h. subst (λ tables. TellsLine c.args.self.now.ask tables line told) c.probe_line.ensures.unchanged h
 
 pub returns-in-Err-put_line-clause-same : goal.returns-in-Err-put_line-clause-same
-returns-in-Err-put_line-clause-same g c = λ line told h. subst (λ tables. TellsLine tables line told) c.probe_line.ensures.unchanged h
+returns-in-Err-put_line-clause-same g c = λ line told h. subst (λ tables. TellsLine c.args.self.now.ask tables line told) c.probe_line.ensures.unchanged h
 
 pub returns-in-Err-clause-same : goal.returns-in-Err-clause-same
-returns-in-Err-clause-same g c = λ line told h. subst (λ tables. TellsLine tables line told) c.probe_line.ensures.unchanged h
+returns-in-Err-clause-same g c = λ line told h. subst (λ tables. TellsLine c.args.self.now.ask tables line told) c.probe_line.ensures.unchanged h

@@ -5,10 +5,10 @@ use Rattle.adjudicate_core.specs.Commands.Root.{TellsLine}
 use Rattle.adjudicate_core.proofs.commands.root.RankerTeller.tell.Goals as goal
 
 pub returns-in-Ok-clause-same : goal.returns-in-Ok-clause-same
-returns-in-Ok-clause-same g c = λ line told h. subst (λ tables. TellsLine tables line told) c.answer_line.ensures.unchanged h
+returns-in-Ok-clause-same g c = λ line told h. subst (λ tables. TellsLine c.args.self.now.ask tables line told) c.answer_line.ensures.unchanged h
 
 pub returns-in-Err-clause-same : goal.returns-in-Err-clause-same
-returns-in-Err-clause-same g c = λ line told h. subst (λ tables. TellsLine tables line told) c.answer_line.ensures.unchanged h
+returns-in-Err-clause-same g c = λ line told h. subst (λ tables. TellsLine c.args.self.now.ask tables line told) c.answer_line.ensures.unchanged h
 
 pub returns-in-Ok-clause-told : goal.returns-in-Ok-clause-told
 returns-in-Ok-clause-told g c =

@@ -6,4 +6,4 @@ pub returns-in-Some : goal.returns-in-Some
 returns-in-Some g c = record { written = rw c.in-Some.is (once c.answer_text.result _ c.answer_text.ensures.ok c.put_answered.result _ _ c.put_answered.ensures _ c.answer_text.ensures.memory); quiet = refl }
 
 pub returns-in-None : goal.returns-in-None
-returns-in-None g c = record { written = rw c.in-None.is c.put_answers.ensures.written; quiet = c.put_answers.ensures.quiet }
+returns-in-None g c = record { written = rw c.in-None.is c.answer_input.ensures.written; quiet = c.answer_input.ensures.quiet }

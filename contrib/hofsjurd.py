@@ -1,0 +1,230 @@
+"""Syzygy tables of three to five men in Python, in the manner of python-chess's chess.syzygy, over libhofsjurd.so.
+
+    import hofsjurd
+    with hofsjurd.open_tablebase("DIR") as tables:
+        tables.probe_wdl("7k/8/6K1/8/8/8/8/1Q6 w - - 0 1")      # 2
+        tables.probe_dtz("7k/8/6K1/8/8/8/8/1Q6 w - - 0 1")      # 1
+        tables.root("7k/8/6K1/8/8/8/8/1Q6 w - - 0 1")[0].uci()  # 'b1b8'
+
+A position is a FEN text of six fields, or anything whose `fen()` gives one, as a chess.Board. The shared library is the file that
+the environment names by HOFSJURD_LIBRARY, or libhofsjurd.so.1 of the folder that tools/build_c made, or the system's.
+
+One file, and nothing but Python's own modules (3.8 or later). An open Tablebase serves one thread at a time: open one for each.
+"""
+import ctypes
+import os
+from pathlib import Path
+
+__all__ = ["MissingTableError", "OutOfScopeError", "ProbeError", "RootMove", "Tablebase", "open_tablebase", "version"]
+
+_OK, _OUT_OF_SCOPE, _NOT_COVERED, _OUT_OF_MEMORY = 0, 2, 3, 5
+_MOST_MOVES = 256
+_PROMOTIONS = ("", "q", "r", "b", "n")
+_EFFECTS = ("quiet", "pawn move", "capture", "en passant")
+_STATES = ("open", "check", "checkmate", "stalemate")
+
+
+class _Handle(ctypes.Structure):
+    _fields_ = [("is_open", ctypes.c_bool), ("seat", ctypes.c_void_p)]
+
+
+class _Reply(ctypes.Structure):
+    _fields_ = [("status", ctypes.c_uint32), ("value", ctypes.c_int32)]
+
+
+class _RootMove(ctypes.Structure):
+    _fields_ = [(name, ctypes.c_uint8) for name in ("start", "end", "promotion", "effect", "state")]
+    _fields_ += [("wdl", _Reply), ("dtz", _Reply)]
+
+
+class _File(ctypes.Structure):
+    _fields_ = [("name", ctypes.c_char * 12), ("bytes", ctypes.c_void_p), ("length", ctypes.c_size_t)]
+
+
+class _Folder(ctypes.Structure):
+    _fields_ = [("count", ctypes.c_size_t), ("files", _File * 290)]
+
+
+_Teller = ctypes.CFUNCTYPE(ctypes.c_bool, ctypes.c_void_p, ctypes.c_char_p, ctypes.c_char_p, ctypes.c_uint32, ctypes.c_int)
+
+
+def _load():
+    beside = Path(__file__).resolve().parent.parent.parent / "lib" / "libhofsjurd.so.1"
+    name = os.environ.get("HOFSJURD_LIBRARY") or (str(beside) if beside.is_file() else "libhofsjurd.so.1")
+    library = ctypes.CDLL(name)
+    handle, text, size = ctypes.POINTER(_Handle), ctypes.c_char_p, ctypes.c_size_t
+    folder = ctypes.POINTER(_Folder)
+    for call, result, *given in (
+        ("hofsjurd_open", ctypes.c_uint32, handle, size),
+        ("hofsjurd_add", ctypes.c_uint32, handle, text, size, ctypes.c_void_p, size),
+        ("hofsjurd_close", None, handle),
+        ("hofsjurd_wdl", _Reply, handle, text, size),
+        ("hofsjurd_dtz", _Reply, handle, text, size),
+        ("hofsjurd_root", _Reply, handle, text, size, ctypes.POINTER(_RootMove), size),
+        ("hofsjurd_status_name", size, ctypes.c_uint32, text, size),
+        ("hofsjurd_version", size, text, size),
+        ("hofsjurd_folder_map_telling", ctypes.c_uint32, folder, text, _Teller, ctypes.c_void_p),
+        ("hofsjurd_folder_unmap", None, folder),
+    ):
+        function = getattr(library, call)
+        function.restype, function.argtypes = result, given
+    return library
+
+
+_library = _load()
+
+
+def _text(call, *given):
+    """The text that a call writes into its caller's room."""
+    room = ctypes.create_string_buffer(96)
+    call(*given, room, len(room))
+    return room.value.decode()
+
+
+def version():
+    """The library's name and version."""
+    return _text(_library.hofsjurd_version)
+
+
+class ProbeError(Exception):
+    """A probe that has no answer. `status` is the library's number for it; the text is its name."""
+
+    def __init__(self, status):
+        super().__init__(_text(_library.hofsjurd_status_name, status))
+        self.status = status
+
+    def __str__(self):
+        return self.args[0]  # (that of a KeyError would be in quotes)
+
+
+class MissingTableError(ProbeError, KeyError):
+    """A table that the probe needs is missing."""
+
+
+class OutOfScopeError(ProbeError, KeyError):
+    """A right to castle, or more than five men."""
+
+
+def _error(status):
+    return {_NOT_COVERED: MissingTableError, _OUT_OF_SCOPE: OutOfScopeError}.get(status, ProbeError)(status)
+
+
+def _value(reply):
+    if reply.status != _OK:
+        raise _error(reply.status)
+    return reply.value
+
+
+def _square(number):
+    return "abcdefgh"[number % 8] + str(number // 8 + 1)
+
+
+class RootMove:
+    """A legal move with what it does and what it is worth to the side that makes it."""
+
+    def __init__(self, plain):
+        self.from_square, self.to_square = plain.start, plain.end
+        self.promotion = _PROMOTIONS[plain.promotion]
+        self.effect, self.state = _EFFECTS[plain.effect], _STATES[plain.state]
+        self._wdl, self._dtz = (plain.wdl.status, plain.wdl.value), (plain.dtz.status, plain.dtz.value)
+
+    @property
+    def wdl(self):
+        """-2 to 2; None where a table is missing or damaged."""
+        return None if self._wdl[0] else self._wdl[1]
+
+    @property
+    def dtz(self):
+        """From before the move in plies; None where a table is missing or damaged."""
+        return None if self._dtz[0] else self._dtz[1]
+
+    def uci(self):
+        """The move in coordinates, as e7e8q."""
+        return _square(self.from_square) + _square(self.to_square) + self.promotion
+
+    def __repr__(self):
+        return f"RootMove({self.uci()}, wdl={self.wdl}, dtz={self.dtz})"
+
+
+class Tablebase:
+    """Tables of folders, mapped into memory. It is closed by `close`, or at the end of a `with`."""
+
+    def __init__(self, cache=64):
+        self._handle, self._folder = _Handle(), _Folder()
+        status = _library.hofsjurd_open(self._handle, cache)
+        if status:
+            raise _error(status)
+
+    def add_directory(self, directory, *, strict=False):
+        """Adds the tables of a folder and returns how many were new. A folder that can't be read is an OSError. A file that isn't
+        taken is passed over; with `strict` it is an OSError or a ProbeError. Those before it stay added."""
+        refused = []
+
+        def tell(_with, path, name, status, error):
+            where = os.path.join(os.fsdecode(path), os.fsdecode(name or b""))
+            refused.append(OSError(error, os.strerror(error), where) if error else ProbeError(status))
+            return not strict and name is not None
+
+        before = self._folder.count
+        status = _library.hofsjurd_folder_map_telling(self._folder, os.fsencode(directory), _Teller(tell), None)
+        for file in self._folder.files[before : self._folder.count]:
+            added = _library.hofsjurd_add(self._handle, file.name, len(file.name), file.bytes, file.length)
+            if added:
+                raise _error(added)
+        if status:
+            raise _error(status) if status == _OUT_OF_MEMORY or not refused else refused[-1]  # (the first isn't told)
+        return self._folder.count - before
+
+    def probe_wdl(self, board):
+        """-2 loss, -1 blessed loss, 0 draw, 1 cursed win, 2 win, for the side to move. A ProbeError where there is no answer."""
+        return _value(self._asked(_library.hofsjurd_wdl, board))
+
+    def probe_dtz(self, board):
+        """Plies to the next capture or pawn move, above 0 where the side to move wins. A ProbeError where there is no answer."""
+        return _value(self._asked(_library.hofsjurd_dtz, board))
+
+    def get_wdl(self, board, default=None):
+        """As `probe_wdl`, with a default where a table is missing or the position out of scope."""
+        try:
+            return self.probe_wdl(board)
+        except KeyError:
+            return default
+
+    def get_dtz(self, board, default=None):
+        """As `probe_dtz`, with a default where a table is missing or the position out of scope."""
+        try:
+            return self.probe_dtz(board)
+        except KeyError:
+            return default
+
+    def root(self, board):
+        """All legal moves as RootMove, the best first. A ProbeError where the position is out of scope or breaks a rule."""
+        moves = (_RootMove * _MOST_MOVES)()
+        count = _value(self._asked(_library.hofsjurd_root, board, moves, _MOST_MOVES))
+        return [RootMove(it) for it in moves[:count]]
+
+    def _asked(self, call, board, *given):
+        fen = (board if isinstance(board, str) else board.fen()).encode()
+        return call(self._handle, fen, len(fen), *given)
+
+    def close(self):
+        """Frees the set, then unmaps its files. Each probe fails afterwards."""
+        _library.hofsjurd_close(self._handle)
+        _library.hofsjurd_folder_unmap(self._folder)
+
+    def __enter__(self):
+        return self
+
+    def __exit__(self, *_):
+        self.close()
+
+
+def open_tablebase(directory, *, cache=64, strict=False):
+    """A Tablebase with the tables of a folder."""
+    tables = Tablebase(cache)
+    try:
+        tables.add_directory(directory, strict=strict)
+    except Exception:
+        tables.close()
+        raise
+    return tables

@@ -1,0 +1,167 @@
+-- A game in hand answers, and is closed or kept.
+use Rattle.std.proofs.Common.{◌≡◌, ℕ, Bool, true, false, cond, List, [], ◌∷◌, Option, Some, None, refl, sym, ap, subst, ◌∙◌}
+use Rattle.std.specs.Prelude.{Result, Ok, Err}
+use Rattle.std.specs.Str.{bytes_eq}
+use Rattle.std.proofs.lemmas.Bool.{cond-true, cond-false}
+use Rattle.judge_core.specs.Tables.{Holding}
+use Rattle.move_msg.specs.declared.message.MessageFault.{MessageFault}
+use Rattle.move_msg.specs.Heard.{heard_in}
+use Rattle.move_msg.specs.Messages.{stamp_in}
+use Rattle.move_msg.specs.declared.message.Message.{Message}
+use Rattle.arbiter_core.specs.Answering.{Answer}
+use Rattle.arbiter_core.specs.Delivers.{Exchange, Delivers, Answers as Answered, answer_at, answer_of, answer_to_any, exchange, in_game}
+use Rattle.arbiter_core.specs.Views.{View}
+use Rattle.arbiter_server.specs.Serving.{outputs_of}
+use Rattle.arbiter_server.specs.Told.{stamped}
+use Rattle.arbiter_server.specs.declared.fault.Unopened.{Unopened}
+use Rattle.arbiter_server.specs.declared.seat.Seat.{Seat}
+use Rattle.arbiter_server.specs.Folders.{Gives, GivesLess, GivesOthers, Keepers}
+use Rattle.arbiter_server.specs.Acts.{Answers, Strange, Unread, answered, stamp_by, stamp_for, unopened, unread}
+use Rattle.arbiter_server.specs.Games.{CommonView, GoesOn, IsNotOpen, IsStrange, Life, Fresh, Shut, Open, life_at}
+use Rattle.arbiter_server.specs.Seats.{At, Evicts, Nothing, One, IsAnswered, IsAtRest, Stands, in_hand, moment_of}
+use Rattle.arbiter_server.specs.Turns.{Leads, LeadsFrom}
+use Rattle.arbiter_server.proofs.Turning.{closes, itself, leads_join, leads_not, leads_one, less_stands, same_stamp}
+
+module _ {K : Type 0} where
+  -- one that isn't open is not the one that is in hand
+  apart_from : (at : At K) (stamp other : List ℕ) (seat : Seat K) → at stamp ≡ None → at other ≡ Some seat → bytes_eq stamp other ≡ false
+  apart_from at stamp other seat absent there = (elim (bytes_eq stamp other) as (λ b. bytes_eq stamp other ≡ b → b ≡ false) [
+    | true ↦ λ e. absurd (let none : at other ≡ None = subst (λ (o : List ℕ). at o ≡ None) (same_stamp stamp other e) absent in let both : Some seat ≡ None = sym there ∙ none in cc)
+    | false ↦ λ e. refl
+  ]) refl
+
+  pub absent_still : (follows : K → K → Type 0) (old new : Gives K) (at at' : At K) (stamp : List ℕ) → at stamp ≡ None → Evicts follows old at new at' → at' stamp ≡ None
+  absent_still follows old new at at' stamp absent (Nothing less same) = same stamp ∙ absent
+  absent_still follows old new at at' stamp absent (One gone seat was after left others) = after stamp ∙ cond_none (bytes_eq gone stamp)
+    where
+      cond_none : (b : Bool) → cond b None (at stamp) ≡ None
+      cond_none true = refl
+      cond_none false = absent
+
+  -- with the game out of hand again
+  pub out_of_hand : (stamp : List ℕ) (seat : Seat K) (at : At K) → at stamp ≡ None → (other : List ℕ) → at other ≡ cond (bytes_eq stamp other) None (in_hand stamp (Some seat) at other)
+  out_of_hand stamp seat at absent other = (elim (bytes_eq stamp other) as (λ b. bytes_eq stamp other ≡ b → at other ≡ cond b None (cond b (Some seat) (at other))) [
+    | true ↦ λ e. subst (λ (o : List ℕ). at o ≡ None) (same_stamp stamp other e) absent
+    | false ↦ λ e. refl
+  ]) refl
+
+  holds_it : (stamp : List ℕ) (seat : Seat K) (at : At K) → in_hand stamp (Some seat) at stamp ≡ Some seat
+  holds_it stamp seat at = cond-true (bytes_eq stamp stamp) (Some seat) (at stamp) (itself stamp)
+
+module _ {K : Type 0} (s : Keepers K) (t : CommonView) where
+  pub evicting : (old new : Gives K) (at at' : At K) (stamp : List ℕ) (seat : Seat K) → at stamp ≡ None → Evicts s.follows old at new at' → LeadsFrom s t old (in_hand stamp (Some seat) at) new (in_hand stamp (Some seat) at') []
+  evicting old new at at' stamp seat absent (Nothing less same) =
+      leads_not s t old new _ _ less (λ other. ap (λ (o : Option (Seat K)). cond (bytes_eq stamp other) (Some seat) o) (same other))
+  evicting old new at at' stamp seat absent (One gone least was after left others) =
+      let apart = apart_from at stamp gone least absent was in
+      closes s t old new _ _ gone least (cond-false (bytes_eq stamp gone) (Some seat) (at gone) apart ∙ was)
+      (λ other. ap (λ (o : Option (Seat K)). cond (bytes_eq stamp other) (Some seat) o) (after other) ∙ swap other apart) left others
+    where
+      swap : (other : List ℕ) → bytes_eq stamp gone ≡ false → cond (bytes_eq stamp other) (Some seat) (cond (bytes_eq gone other) None (at other)) ≡ cond (bytes_eq gone other) None (cond (bytes_eq stamp other) (Some seat) (at other))
+      swap other apart = (elim (bytes_eq gone other) as (λ b. bytes_eq gone other ≡ b → cond (bytes_eq stamp other) (Some seat) (cond b None (at other)) ≡ cond b None (cond (bytes_eq stamp other) (Some seat) (at other))) [
+        | true ↦ λ e. cond-false (bytes_eq stamp other) (Some seat) None (subst (λ (o : List ℕ). bytes_eq stamp o ≡ false) (same_stamp gone other e) apart)
+        | false ↦ λ e. refl
+      ]) refl
+
+  -- a game in hand is closed
+  pub hand_closes : (old new : Gives K) (at at' : At K) (stamp : List ℕ) (seat : Seat K) → at stamp ≡ None → ((other : List ℕ) → at' other ≡ at other) → ((next : K) → new stamp next → s.follows seat.keeper next) → GivesOthers stamp old new → LeadsFrom s t old (in_hand stamp (Some seat) at) new at' []
+  hand_closes old new at at' stamp seat absent same left others =
+      closes s t old new (in_hand stamp (Some seat) at) at' stamp seat (holds_it stamp seat at) (λ other. same other ∙ out_of_hand stamp seat at absent other) left others
+
+  -- it stays open
+  pub hand_stays : (old : Gives K) (at at' : At K) (stamp : List ℕ) (seat : Seat K) → ((other : List ℕ) → at' other ≡ cond (bytes_eq stamp other) (Some seat) (at other)) → LeadsFrom s t old (in_hand stamp (Some seat) at) old at' []
+  hand_stays old at at' stamp seat put = leads_not s t old old (in_hand stamp (Some seat) at) at' (λ other keeper given. given) put
+
+  pub after_room : (old mid new : Gives K) (at at1 at' : At K) (stamp : List ℕ) (seat : Seat K) → at stamp ≡ None → Evicts s.follows old at mid at1 → LeadsFrom s t mid (in_hand stamp (Some seat) at1) new at' [] → LeadsFrom s t old (in_hand stamp (Some seat) at) new at' []
+  after_room old mid new at at1 at' stamp seat absent room more = λ lives stand.
+      leads_join s t mid new (in_hand stamp (Some seat) at1) at' lives [] [] (evicting old mid at at1 stamp seat absent room lives stand) more
+
+  pub not_open : (gives : K → Type 0) (life : Life K) → Stands s t gives None life → IsNotOpen life
+  not_open gives Fresh stand = tt
+  not_open gives (Shut left) stand = tt
+  not_open gives (Open at) stand = stand
+
+  -- a message of a game that isn't open, and of which there is no keeper
+  pub strange_to : (old new : Gives K) (at : At K) (stamp datagram : List ℕ) (why : Unopened) → stamp_for datagram ≡ Some stamp → at stamp ≡ None → IsStrange s t.manifest stamp why → GivesLess old new → LeadsFrom s t old at new at (unopened stamp datagram why ∷ [])
+  strange_to old new at stamp datagram why sorted absent strange less = λ lives stand.
+      let there : Stands s t (old stamp) None (lives stamp) = subst (λ (x : Option (Seat K)). Stands s t (old stamp) x (lives stamp)) absent (stand stamp) in
+      leads_one s t old new at at lives stamp (Strange stamp datagram why) (lives stamp) refl sorted (not_open (old stamp) (lives stamp) there, strange, refl)
+      (less_stands s t (old stamp) (new stamp) (at stamp) (lives stamp) (less stamp) (stand stamp)) (λ other _. less other) (λ other _. refl) stand
+
+  -- bytes that are no message
+  pub unread_to : (gives : Gives K) (at : At K) (datagram : List ℕ) (fault : MessageFault) → heard_in datagram ≡ Err fault → LeadsFrom s t gives at gives at (unread datagram fault ∷ [])
+  unread_to gives at datagram fault is = λ lives stand. record {
+    acts = Unread datagram fault ∷ [];
+    new = lives;
+    turns = record { each = λ stamp. refl; sorted = (is, tt) };
+    stand = stand;
+    replies_are = refl;
+  }
+
+-- ---- a game in hand answers
+
+runs_on : {K : Type 0} (set : Holding) (seat : Seat K) → seat.state.is_down ≡ false → life_at (moment_of set seat) ≡ Open (moment_of set seat)
+runs_on set seat runs = cond-false seat.state.is_down (Shut seat.keeper) (Open (moment_of set seat)) runs
+
+is_shut : {K : Type 0} (set : Holding) (seat : Seat K) → seat.state.is_down ≡ true → life_at (moment_of set seat) ≡ Shut seat.keeper
+is_shut set seat down = cond-true seat.state.is_down (Shut seat.keeper) (Open (moment_of set seat)) down
+
+module _ {K : Type 0} (s : Keepers K) (t : CommonView) (old new : Gives K) (at at' : At K) (stamp : List ℕ) (before after : Seat K) (e : Exchange K) (sorted : stamp_for e.datagram ≡ Some stamp) (delivered : Delivers s.facts (moment_of t.set before) e) (is : e.after ≡ moment_of t.set after) where
+  answers_on : (life l : Life K) → life ≡ Open (moment_of t.set before) → l ≡ life_at (moment_of t.set after) → GoesOn s t stamp life (Answers stamp e) l
+  answers_on life l was now = subst (λ (x : Life K). GoesOn s t stamp x (Answers stamp e) l) (sym was) (delivered, now ∙ ap life_at (sym is))
+
+  -- its keeper still keeps, and it stays in hand
+  pub answers_to : IsAtRest s.facts t.set after → after.state.is_down ≡ false
+      → LeadsFrom s t old (in_hand stamp (Some after) at) new at' []
+      → LeadsFrom s t old (in_hand stamp (Some before) at) new at' (answered stamp e ∷ [])
+  answers_to rests runs more = λ lives stand.
+      let there : Stands s t (old stamp) (Some before) (lives stamp) = subst (λ (x : Option (Seat K)). Stands s t (old stamp) x (lives stamp)) (holds_it stamp before at) (stand stamp) in
+      let one : Leads s t lives old (in_hand stamp (Some after) at) (answered stamp e ∷ []) =
+      leads_one s t old old (in_hand stamp (Some before) at) (in_hand stamp (Some after) at) lives stamp (Answers stamp e) (Open (moment_of t.set after)) refl sorted
+      (answers_on (lives stamp) (Open (moment_of t.set after)) there.1 (sym (runs_on t.set after runs)))
+      (subst (λ (x : Option (Seat K)). Stands s t (old stamp) x (Open (moment_of t.set after))) (sym (holds_it stamp after at)) (record { rests = rests; runs = runs }, refl))
+      (λ other _ keeper given. given)
+      (λ other e. cond-false (bytes_eq stamp other) (Some after) (at other) e ∙ sym (cond-false (bytes_eq stamp other) (Some before) (at other) e)) stand in
+      leads_join s t old new (in_hand stamp (Some after) at) at' lives (answered stamp e ∷ []) [] one more
+
+  -- its keeper failed, and it is closed
+  pub fails_to : after.state.is_down ≡ true → at stamp ≡ None → ((other : List ℕ) → at' other ≡ at other) → ((next : K) → new stamp next → s.follows after.keeper next) → GivesOthers stamp old new
+      → LeadsFrom s t old (in_hand stamp (Some before) at) new at' (answered stamp e ∷ [])
+  fails_to down absent same left others = λ lives stand.
+      let there : Stands s t (old stamp) (Some before) (lives stamp) = subst (λ (x : Option (Seat K)). Stands s t (old stamp) x (lives stamp)) (holds_it stamp before at) (stand stamp) in
+      leads_one s t old new (in_hand stamp (Some before) at) at' lives stamp (Answers stamp e) (Shut after.keeper) refl sorted
+      (answers_on (lives stamp) (Shut after.keeper) there.1 (sym (is_shut t.set after down)))
+      (subst (λ (x : Option (Seat K)). Stands s t (new stamp) x (Shut after.keeper)) (sym (same stamp ∙ absent)) left)
+      others (λ other e. same other ∙ sym (cond-false (bytes_eq stamp other) (Some before) (at other) e)) stand
+
+pub runs_not : (b : Bool) → b ≡ true → b ≡ false → ⊥
+runs_not b up down = let wrong : true ≡ false = sym up ∙ down in cc
+
+-- so a game in hand answers, whichever it is
+by_keeper : {K : Type 0} (s : Keepers K) (t : CommonView) (old new : Gives K) (at at' : At K) (stamp : List ℕ) (before after : Seat K) (e : Exchange K) (b : Bool) → after.state.is_down ≡ b → stamp_for e.datagram ≡ Some stamp → Delivers s.facts (moment_of t.set before) e → e.after ≡ moment_of t.set after
+    → at stamp ≡ None → IsAtRest s.facts t.set after
+    → (after.state.is_down ≡ false → LeadsFrom s t old (in_hand stamp (Some after) at) new at' [])
+    → (after.state.is_down ≡ true → ((next : K) → new stamp next → s.follows after.keeper next) × GivesOthers stamp old new × ((other : List ℕ) → at' other ≡ at other))
+    → LeadsFrom s t old (in_hand stamp (Some before) at) new at' (answered stamp e ∷ [])
+by_keeper s t old new at at' stamp before after e true is sorted delivered later absent rests runs down =
+    let d = down is in fails_to s t old new at at' stamp before after e sorted delivered later is absent d.2 d.0 d.1
+by_keeper s t old new at at' stamp before after e false is sorted delivered later absent rests runs down =
+    answers_to s t old new at at' stamp before after e sorted delivered later rests is (runs is)
+
+-- to whichever datagram says its message
+pub answers_reply : {K : Type 0} (s : Keepers K) (t : CommonView) (old new : Gives K) (at at' : At K) (stamp : List ℕ) (message : Message) (before after : Seat K) (outputs : List Message) (line : List ℕ) → stamp ≡ (stamp_in message).0
+    → at stamp ≡ None → IsAtRest s.facts t.set after → IsAnswered s.facts (moment_of t.set before) message (moment_of t.set after) outputs line
+    → (after.state.is_down ≡ false → LeadsFrom s t old (in_hand stamp (Some after) at) new at' [])
+    → (after.state.is_down ≡ true → ((next : K) → new stamp next → s.follows after.keeper next) × GivesOthers stamp old new × ((other : List ℕ) → at' other ≡ at other))
+    → (datagram : List ℕ) → heard_in datagram ≡ Ok message
+    → LeadsFrom s t old (in_hand stamp (Some before) at) new at' (record { datagram = datagram; outputs = outputs; line = stamped stamp line } ∷ [])
+answers_reply {K = K} s t old new at at' stamp message before after outputs line own absent rests here runs down datagram says =
+    let was : View = (moment_of t.set before).arbiter in
+    let same : answer_at was datagram ≡ answer_to_any was message = ap (λ (h : Result Message MessageFault). answer_of was (in_game was.me.stamp h)) says in
+    let sorted : stamp_for datagram ≡ Some stamp = ap stamp_by says ∙ ap Some (sym own) in
+    let x : Exchange K = exchange datagram here.told (moment_of t.set after) in
+    let delivered : Delivers s.facts (moment_of t.set before) x = subst (λ (a : Answer). Answered s.facts (moment_of t.set before) a here.told (moment_of t.set after)) (sym same) here.answers in
+    let leads : LeadsFrom s t old (in_hand stamp (Some before) at) new at' (answered stamp x ∷ []) =
+    by_keeper s t old new at at' stamp before after x after.state.is_down refl sorted delivered refl absent rests runs down in
+    subst (λ (o : List Message). LeadsFrom s t old (in_hand stamp (Some before) at) new at' (record { datagram = datagram; outputs = o; line = stamped stamp line } ∷ [])) (sym here.outputs_are)
+    (subst (λ (l : List ℕ). LeadsFrom s t old (in_hand stamp (Some before) at) new at' (record { datagram = datagram; outputs = outputs_of here.told; line = stamped stamp l } ∷ [])) (sym here.line_is) leads)

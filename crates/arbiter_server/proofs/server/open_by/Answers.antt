@@ -1,0 +1,35 @@
+use Rattle.std.proofs.Common.{refl, inr}
+use Rattle.std.specs.Prelude.{Ok, Err}
+use Rattle.judge_core.specs.Tables.{Holding}
+use Rattle.arbiter_core.specs.Resting.{awake}
+use Rattle.arbiter_server.specs.Folders.{keepers}
+use Rattle.arbiter_core.specs.Setups.{SetupView, terms_with}
+use Rattle.arbiter_server.specs.Games.{IsRefused}
+use Rattle.arbiter_server.proofs.Opening.{is_opening, opened_over, refused_over, seated_over}
+use Rattle.arbiter_server.proofs.Handing.{strange_to}
+use Rattle.arbiter_server.proofs.server.open_by.Goals as goal
+
+pub returns-in-Err-clause-unopened : goal.returns-in-Err-clause-unopened
+returns-in-Err-clause-unopened g c = λ t found at datagram absent sorted.
+    strange_to (keepers g.G.Keeper.Keeper.facts g.G.Games.facts c.args.games.now) t (g.G.Games.facts.gives c.args.games.now) (g.G.Games.facts.gives c.take.new.self) at c.args.stamp.now datagram c.in-Err.why sorted absent (IsRefused (inr c.in-Err.ensures.refused)) c.take.ensures.same
+
+pub returns-in-Ok-open-clause-opened : goal.returns-in-Ok-open-clause-opened
+returns-in-Ok-open-clause-opened g c = λ t found.
+    let set : Holding = c.args.tables.now in
+    let setup : SetupView = terms_with c.args.terms set in
+    let opening = is_opening g.G.Keeper.Keeper.facts setup c.in-Ok.keeper c.open.new.keeper (Ok (awake c.in-Ok-open.state set)) c.in-Ok-open.ensures.good c.in-Ok-open.ensures.bad in
+    record {
+      seated = seated_over (keepers g.G.Keeper.Keeper.facts g.G.Games.facts c.args.games.now) t (g.G.Games.facts.gives c.args.games.now) (g.G.Games.facts.gives c.take.new.self) c.args.stamp.now setup c.in-Ok.keeper c.open.new.keeper c.in-Ok.ensures.of c.in-Ok.ensures.given c.take.ensures.same found.told found.game
+          c.in-Ok-open.state set refl (c.in-Ok-open.ensures.wakes, c.in-Ok-open.ensures.runs) c.in-Ok-open.ensures.keeps;
+      turns = λ at absent.
+          opened_over (keepers g.G.Keeper.Keeper.facts g.G.Games.facts c.args.games.now) t (g.G.Games.facts.gives c.args.games.now) (g.G.Games.facts.gives c.take.new.self) c.args.stamp.now setup c.in-Ok.keeper c.open.new.keeper c.in-Ok.ensures.of c.in-Ok.ensures.given c.take.ensures.same found.told found.game
+          at c.in-Ok-open.state set absent refl (c.in-Ok-open.ensures.wakes, c.in-Ok-open.ensures.runs) c.in-Ok-open.ensures.keeps opening;
+    }
+
+pub returns-clause-unopened : goal.returns-clause-unopened
+returns-clause-unopened g c = λ t found at datagram absent sorted.
+    let setup : SetupView = terms_with c.args.terms c.args.tables.now in
+    let opening = is_opening g.G.Keeper.Keeper.facts setup c.in-Ok.keeper c.open.new.keeper (Err c.in-Err-open.refused.fault) c.in-Err-open.ensures.good c.in-Err-open.ensures.bad in
+    rw c.by.ensures
+    (refused_over (keepers g.G.Keeper.Keeper.facts g.G.Games.facts c.args.games.now) t (g.G.Games.facts.gives c.args.games.now) (g.G.Games.facts.gives c.take.new.self) c.args.stamp.now setup c.in-Ok.keeper c.open.new.keeper c.in-Ok.ensures.of c.in-Ok.ensures.given c.take.ensures.same found.told found.game
+    (g.G.Games.facts.gives c.give_back.new.self) c.in-Err-open.refused.fault opening c.give_back.ensures.left c.give_back.ensures.others at datagram absent sorted)

@@ -1,0 +1,59 @@
+-- What a folder of games tells and gives (this project's own).
+use Rattle.std.specs.Prelude.{◌≡◌, ◌⊎◌, ℕ, false, List}
+use Rattle.std.specs.Str.{bytes_eq}
+use Rattle.arbiter_core.specs.Keeping.{KeeperFacts}
+use Rattle.arbiter_server.specs.declared.fault.Unopened.{Unopened}
+use Rattle.arbiter_server.specs.declared.games.Found.{Found}
+
+-- which keepers may be given next, by stamps
+abbrev pub Gives : Type 0 → Type 1
+Gives K = List ℕ → K → Type 0
+
+-- all games but this one are given as before, or less
+abbrev pub GivesOthers : {K : Type 0} → List ℕ → Gives K → Gives K → Type 0
+GivesOthers {K = K} stamp old new = (other : List ℕ) → bytes_eq stamp other ≡ false → (keeper : K) → new other keeper → old other keeper
+
+-- all are
+abbrev pub GivesLess : {K : Type 0} → Gives K → Gives K → Type 0
+GivesLess {K = K} old new = (other : List ℕ) (keeper : K) → new other keeper → old other keeper
+
+-- what is known of folders of a type, with keepers of a type
+pub record FolderFacts (G K : Type 0) : Type 1 where
+  -- what of a folder stays as it is while games are opened and closed
+  pub Place : Type 0
+  pub place : G → Place
+  -- it may tell this of the game with this stamp
+  pub tells : Place → List ℕ → Found → Type 0
+  -- why it may have no game with this stamp
+  pub lacks : Place → List ℕ → Unopened → Type 0
+  -- why it may give no keeper of the game with this stamp
+  pub withholds : Place → List ℕ → Unopened → Type 0
+  -- it is a keeper of the game with this stamp
+  pub is_of : Place → List ℕ → K → Type 0
+  -- the second is a keeper over what the first one left
+  pub follows : K → K → Type 0
+  -- which keeper the folder may give next
+  pub gives : G → Gives K
+
+-- what is known of one folder, where it is, and what its keepers tell of themselves
+pub record Keepers (K : Type 0) : Type 1 where
+  pub facts : KeeperFacts K
+  pub tells : List ℕ → Found → Type 0
+  -- it lacks the game, or withholds its keeper
+  pub refuses : List ℕ → Unopened → Type 0
+  pub is_of : List ℕ → K → Type 0
+  pub follows : K → K → Type 0
+
+-- what is known of a folder at this place
+abbrev pub keepers_at : {G K : Type 0} → KeeperFacts K → (folder : FolderFacts G K) → folder.Place → Keepers K
+keepers_at facts folder place = record {
+  facts = facts;
+  tells = folder.tells place;
+  refuses = λ stamp why. folder.lacks place stamp why ⊎ folder.withholds place stamp why;
+  is_of = folder.is_of place;
+  follows = folder.follows;
+}
+
+-- what is known of this folder, where it is now
+abbrev pub keepers : {G K : Type 0} → KeeperFacts K → FolderFacts G K → G → Keepers K
+keepers facts folder games = keepers_at facts folder (folder.place games)

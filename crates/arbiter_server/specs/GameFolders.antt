@@ -1,0 +1,46 @@
+-- A folder of games (this project's own): of each game its file and its record, by its stamp.
+use Rattle.std.specs.Prelude.{◌⊎◌, ◌++◌, ◌∷◌, ℕ, List, codes}
+use Rattle.hex.specs.Hex.{encode_lower}
+use Rattle.fen_text.specs.Written.{fen_of}
+use Rattle.move_msg.specs.Stamps.{stamp_of}
+use Rattle.system_io.specs.Disks.{AtFile, DiskFacts, HasMore}
+use Rattle.arbiter_server.specs.declared.folder.FindFault.{FindFault}
+use Rattle.arbiter_server.specs.declared.folder.FindFault.TheVariants.{NoGame, BadFile, OutOfMemory}
+use Rattle.arbiter_server.specs.GameFiles.{IsFirstGameFault, SpellsGame, Told}
+
+-- ---- paths
+
+-- the file of this stamp and ending in the folder: the stamp in lower-case hexadecimal digits
+abbrev pub path_of : List ℕ → List ℕ → List ℕ → List ℕ
+path_of folder stamp ending = folder ++ 47 ∷ encode_lower stamp ++ ending
+
+-- where a game's file is, and where its record is kept
+abbrev pub game_path : List ℕ → List ℕ → List ℕ
+game_path folder stamp = path_of folder stamp (codes ".game")
+
+abbrev pub kept_path : List ℕ → List ℕ → List ℕ
+kept_path folder stamp = path_of folder stamp (codes ".kept")
+
+-- ---- a game's file
+
+-- a game's file has at most so many bytes
+abbrev pub most_game_bytes : ℕ
+most_game_bytes = 192
+
+-- the stamp of a game, by the manifest of its tables
+abbrev pub stamp_for : Told → List ℕ → List ℕ
+stamp_for g manifest = stamp_of g.name (fen_of g.start) manifest g.delay
+
+-- the folder has the file of this game under this stamp
+pub record HasGame (disk : DiskFacts) (folder stamp : List ℕ) (g : Told) : Type 0 where
+  pub text : List ℕ
+  pub held : disk.holds (game_path folder stamp) text
+  pub spells : SpellsGame text g
+
+-- why it has none: the file can't be read, or has more bytes than a game's; a line is at fault; or memory was refused
+abbrev pub LacksGame : DiskFacts → List ℕ → List ℕ → FindFault → Type 0
+LacksGame disk folder stamp NoGame =
+    disk.fails (AtFile (game_path folder stamp)) ⊎ HasMore disk (game_path folder stamp) most_game_bytes
+LacksGame disk folder stamp (BadFile fault) =
+    (text : List ℕ) × disk.holds (game_path folder stamp) text × IsFirstGameFault text fault
+LacksGame disk folder stamp OutOfMemory = Unit {0}

@@ -1,0 +1,113 @@
+-- What a game goes through at a host (this project's own).
+use Rattle.std.specs.Prelude.{◌≡◌, ℕ, List, [], ◌∷◌, cond, Ok, Err}
+use Rattle.board_core.specs.declared.parts.Parts.{Parts}
+use Rattle.fen_text.specs.Written.{fen_of}
+use Rattle.judge_core.specs.Tables.{Holding}
+use Rattle.move_msg.specs.Senders.{who_number}
+use Rattle.move_msg.specs.Stamps.{IsGameName, stamp_of}
+use Rattle.arbiter_core.specs.Keeping.{KeeperFacts}
+use Rattle.arbiter_core.specs.Opens.{IsOpening, Told}
+use Rattle.arbiter_core.specs.Delivers.{Delivers, Exchange, Moment, moment}
+use Rattle.arbiter_core.specs.Setups.{SetupView}
+use Rattle.arbiter_server.specs.declared.config.ServerConfig.{ServerConfig}
+use Rattle.arbiter_server.specs.declared.fault.Unopened.{Unopened}
+use Rattle.arbiter_server.specs.declared.fault.Unopened.TheVariants.{OtherGame}
+use Rattle.arbiter_server.specs.declared.games.Found.{Found}
+use Rattle.arbiter_server.specs.Folders.{Keepers}
+use Rattle.arbiter_server.specs.Acts.{Act, Unread, Strange, Refuses, Opens, Answers, Closes, Opening}
+
+-- what all games of a host have in common
+pub record CommonView : Type 0 where
+  pub manifest : List ℕ
+  pub number : ℕ
+  pub set : Holding
+
+abbrev pub common_with : ServerConfig → Holding → CommonView
+common_with c set = record { manifest = c.manifest.now; number = who_number c.me; set = set }
+
+abbrev pub setup_of : CommonView → List ℕ → Parts → ℕ → SetupView
+setup_of t name start delay = record { name = name; start = start; manifest = t.manifest; me = t.number; delay = delay; set = t.set }
+
+-- by tables with this manifest a game of this name, start and delay has this stamp
+pub record IsGameOf (manifest stamp name : List ℕ) (start : Parts) (delay : ℕ) : Type 0 where
+  pub is_name : IsGameName name
+  pub stamped : stamp ≡ stamp_of name (fen_of start) manifest delay
+
+-- it is the setup of the game with this stamp
+pub record IsSetupOf (t : CommonView) (stamp : List ℕ) (setup : SetupView) : Type 0 where
+  pub common : setup ≡ setup_of t setup.name setup.start setup.delay
+  pub game : IsGameOf t.manifest stamp setup.name setup.start setup.delay
+
+-- why there is no keeper of a game: the folder refuses it so, or what it tells of it is no game or another one
+pub data IsStrange {K : Type 0} (s : Keepers K) (manifest stamp : List ℕ) (why : Unopened) : Type 0 where
+  IsRefused : s.refuses stamp why → IsStrange s manifest stamp why
+  IsAnother : (game : Found) → s.tells stamp game → (IsGameOf manifest stamp game.name.items game.start game.delay → ⊥) → why ≡ OtherGame → IsStrange s manifest stamp why
+
+-- where the arbiter of a game is
+pub data Life (K : Type 0) : Type 0 where
+  -- it was never opened
+  Fresh : Life K
+  -- it is closed, and its keeper left so
+  Shut : (left : K) → Life K
+  -- it is open
+  Open : (at : Moment K) → Life K
+
+abbrev pub IsNotOpen : {K : Type 0} → Life K → Type 0
+IsNotOpen Fresh = Unit {0}
+IsNotOpen (Shut left) = Unit {0}
+IsNotOpen (Open at) = ⊥
+
+-- a keeper over which it may be opened: one of this game, and over what was left
+abbrev pub IsOver : {K : Type 0} → Keepers K → List ℕ → Life K → K → Type 0
+IsOver s stamp Fresh keeper = s.is_of stamp keeper
+IsOver s stamp (Shut left) keeper = s.is_of stamp keeper × s.follows left keeper
+IsOver s stamp (Open at) keeper = ⊥
+
+abbrev pub life_after : {K : Type 0} → K → Told → Life K
+life_after now (Ok arbiter) = Open (moment arbiter now)
+life_after now (Err fault) = Shut now
+
+-- under the stamp the folder tells a game of this name, start and delay
+pub record IsToldAs {K : Type 0} (s : Keepers K) (stamp : List ℕ) (setup : SetupView) : Type 0 where
+  pub game : Found
+  pub told : s.tells stamp game
+  pub name : setup.name ≡ game.name.items
+  pub start : setup.start ≡ game.start
+  pub delay : setup.delay ≡ game.delay
+
+pub record OpensTo {K : Type 0} (s : Keepers K) (t : CommonView) (stamp : List ℕ) (old : Life K) (o : Opening K) (told : Told) (new : Life K) : Type 0 where
+  pub over : IsOver s stamp old o.before
+  pub tells : IsToldAs s stamp o.setup
+  pub game : IsSetupOf t stamp o.setup
+  pub opening : IsOpening s.facts o.setup o.before o.now told
+  pub new_is : new ≡ life_after o.now told
+
+-- an arbiter whose keeper failed is closed at once
+abbrev pub life_at : {K : Type 0} → Moment K → Life K
+life_at at = cond at.arbiter.is_down (Shut at.keeper) (Open at)
+
+-- a delivery begins where the one before it, or the opening, left the arbiter and its keeper
+abbrev pub AnswersTo : {K : Type 0} → Keepers K → Life K → Exchange K → Life K → Type 0
+AnswersTo s Fresh e new = ⊥
+AnswersTo s (Shut left) e new = ⊥
+AnswersTo s (Open at) e new = Delivers s.facts at e × (new ≡ life_at e.after)
+
+-- closing an arbiter does nothing to its keeper
+abbrev pub ClosesTo : {K : Type 0} → Life K → K → Life K → Type 0
+ClosesTo Fresh left new = ⊥
+ClosesTo (Shut before) left new = ⊥
+ClosesTo (Open at) left new = (left ≡ at.keeper) × (new ≡ Shut left)
+
+-- one act of a game
+abbrev pub GoesOn : {K : Type 0} → Keepers K → CommonView → List ℕ → Life K → Act K → Life K → Type 0
+GoesOn s t stamp old (Unread datagram fault) new = ⊥
+GoesOn s t stamp old (Strange of datagram why) new = IsNotOpen old × IsStrange s t.manifest stamp why × (new ≡ old)
+GoesOn s t stamp old (Refuses of datagram o fault) new = OpensTo s t stamp old o (Err fault) new
+GoesOn s t stamp old (Opens of o arbiter) new = OpensTo s t stamp old o (Ok arbiter) new
+GoesOn s t stamp old (Answers of e) new = AnswersTo s old e new
+GoesOn s t stamp old (Closes of left) new = ClosesTo old left new
+
+-- acts of a game in turn
+abbrev pub Goes : {K : Type 0} → Keepers K → CommonView → List ℕ → Life K → List (Act K) → Life K → Type 0
+Goes s t stamp old [] new = new ≡ old
+Goes {K = K} s t stamp old (act ∷ acts) new = (mid : Life K) × GoesOn s t stamp old act mid × Goes s t stamp mid acts new

@@ -1,0 +1,3 @@
+-- What functions find on the way; cited by private clauses alone.
+pub mod Steps
+pub mod ValueLines

@@ -1,0 +1,36 @@
+-- One step of serving; cited by private functions alone.
+use Rattle.std.specs.Prelude.{◌≡◌, ℕ, Bool, true, false, List, [], ◌∷◌, length, Result}
+use Rattle.std.specs.List.{flat_map}
+use Rattle.std.specs.Result.{result_map_both}
+use Rattle.arbiter_core.specs.Keeping.{KeeperFacts}
+use Rattle.arbiter_core.specs.Delivers.{Delivers, Moment, Told}
+use Rattle.arbiter_server.specs.declared.heard.Heard.{Heard}
+use Rattle.arbiter_server.specs.declared.serving.Next.{Next}
+use Rattle.arbiter_server.specs.declared.serving.Next.TheVariants.{GoesOn, Stops}
+use Rattle.arbiter_server.specs.ServedLines.{heard_line}
+use Rattle.system_io.specs.Ports.{Passed, PortFacts}
+use Rattle.system_io.specs.declared.output.WriteFault.{WriteFault}
+use Rattle.arbiter_server.specs.Serving.{Session, IsStatus, exchanges_of, handed, lines_of, line_for, loses_keeper, outputs_of}
+
+abbrev pub stops : Next → Bool
+stops GoesOn = false
+stops Stops = true
+
+abbrev pub status_by : Next → ℕ
+status_by GoesOn = 0
+status_by Stops = 1
+
+abbrev pub status_in : Result Next WriteFault → Result ℕ WriteFault
+status_in told = result_map_both status_by (λ e. e) told
+
+-- a datagram is delivered, and its outputs are handed over
+pub record Hears {K : Type 0} (s : KeeperFacts K) (old new : Moment K) (port port' : PortFacts) (bytes : List ℕ) (line : Heard) (next : Next) : Type 0 where
+  pub told : Told
+  pub delivered : Delivers s old (record { datagram = bytes; told = told; after = new })
+  pub passed : Passed port port' (flat_map (handed port.addresses) (outputs_of told))
+  pub words : heard_line line ≡ line_for told new.arbiter.kept
+  pub stop : stops next ≡ loses_keeper told
+
+-- a run of one datagram has this line, and goes on or stops so
+abbrev pub IsOneStep : {K : Type 0} → Session K → Heard → Next → Type 0
+IsOneStep run line next = (lines_of run ≡ heard_line line ∷ []) × IsStatus run.loss 1 (length (exchanges_of run)) (status_by next)

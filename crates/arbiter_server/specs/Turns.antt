@@ -1,0 +1,146 @@
+-- From one moment of a host to a later one; cited by private clauses alone.
+use Rattle.std.specs.Prelude.{◌≡◌, ℕ, Bool, true, false, List, [], ◌∷◌, Some, None, Result, Ok, IfOk}
+use Rattle.std.specs.List.{AllByRecursion}
+use Rattle.judge_core.specs.Tables.{Holding}
+use Rattle.move_msg.specs.declared.message.Message.{Message}
+use Rattle.move_msg.specs.Heard.{heard_in}
+use Rattle.move_msg.specs.Messages.{stamp_in}
+use Rattle.arbiter_core.specs.Keeping.{KeeperFacts}
+use Rattle.arbiter_core.specs.Setups.{SetupView}
+use Rattle.system_io.specs.Failures.{Risen}
+use Rattle.system_io.specs.Ports.{Missed, Passed, PortFacts}
+use Rattle.system_io.specs.declared.output.WriteFault.{WriteFault}
+use Rattle.arbiter_server.specs.GoingOut.{LinesEnd, Writers}
+use Rattle.arbiter_server.specs.ServedLines.{refused_port}
+use Rattle.arbiter_server.specs.declared.fault.Unopened.{Unopened}
+use Rattle.arbiter_server.specs.declared.seat.Seat.{Seat}
+use Rattle.arbiter_server.specs.Folders.{FolderFacts, Gives, GivesOthers, Keepers, keepers}
+use Rattle.arbiter_server.specs.declared.turn.Answered.{Answered}
+use Rattle.arbiter_server.specs.Told.{line_words}
+use Rattle.arbiter_server.specs.Acts.{Act, IsSorted, Reply, acts_of, all_replies, passing_at, stamp_for, unopened}
+use Rattle.arbiter_server.specs.Games.{CommonView, Fresh, Goes, IsSetupOf, IsToldAs}
+use Rattle.arbiter_server.specs.Hosts.{Ends, all_lines, all_passing}
+use Rattle.arbiter_server.specs.Room.{at_stamp}
+use Rattle.arbiter_server.specs.Seats.{At, AreLives, IsSeated, Lives, in_hand}
+use Rattle.arbiter_server.specs.Servers.{ServerView}
+
+-- the acts of each game lead from its old life to its new one, whatever stands between them
+pub record Each {K : Type 0} (s : Keepers K) (t : CommonView) (old new : Lives K) (acts : List (Act K)) : Type 0 where
+  pub each : (stamp : List ℕ) → Goes s t stamp (old stamp) (acts_of stamp acts) (new stamp)
+  pub sorted : AllByRecursion IsSorted acts
+
+-- some acts lead from these lives to where the games are now, with these replies
+pub record Leads {K : Type 0} (s : Keepers K) (t : CommonView) (old : Lives K) (gives : Gives K) (at : At K) (replies : List Reply) : Type 0 where
+  pub acts : List (Act K)
+  pub new : Lives K
+  pub turns : Each s t old new acts
+  pub stand : AreLives s t gives at new
+  pub replies_are : all_replies acts ≡ replies
+
+-- so they do for all lives for which the games stood before
+abbrev pub LeadsFrom : {K : Type 0} → Keepers K → CommonView → Gives K → At K → Gives K → At K → List Reply → Type 0
+LeadsFrom {K = K} s t gives at gives' at' replies = (lives : Lives K) → AreLives s t gives at lives → Leads s t lives gives' at' replies
+
+-- from a folder to a later one, by the keepers of where it was first
+abbrev pub Turns : {G K : Type 0} → KeeperFacts K → FolderFacts G K → CommonView → G → At K → G → At K → List Reply → Type 0
+Turns facts folder t games at games' at' replies = LeadsFrom (keepers facts folder games) t (folder.gives games) at (folder.gives games') at' replies
+
+-- whatever the games have in common, and with no reply
+abbrev pub TurnsAnyhow : {G K : Type 0} → KeeperFacts K → FolderFacts G K → G → At K → G → At K → Type 0
+TurnsAnyhow facts folder games at games' at' = (t : CommonView) → Turns facts folder t games at games' at' []
+
+-- so it does from where this game is in hand
+abbrev pub TurnsInHand : {G K : Type 0} → KeeperFacts K → FolderFacts G K → G → At K → List ℕ → Seat K → G → At K → Type 0
+TurnsInHand facts folder games at stamp seat games' at' = TurnsAnyhow facts folder games (in_hand stamp (Some seat) at) games' at'
+
+-- what was lent comes back: the tables as they were, and the folder where it was
+pub record ComesBack {G K : Type 0} (folder : FolderFacts G K) (tables : Holding) (games : G) (tables' : Holding) (games' : G) : Type 0 where
+  pub same : tables' ≡ tables
+  pub place : folder.place games' ≡ folder.place games
+
+-- a game that isn't open is opened, and in hand
+pub record OpensSeat {G K : Type 0} (facts : KeeperFacts K) (folder : FolderFacts G K) (t : CommonView) (games games' : G) (stamp : List ℕ) (seat : Seat K) : Type 0 where
+  pub seated : IsSeated facts t.set seat
+  pub turns : (at : At K) → at stamp ≡ None → Turns facts folder t games at games' (in_hand stamp (Some seat) at) []
+
+-- it is the setup of the game with this stamp, as the folder tells it
+pub record IsFoundAs {G K : Type 0} (facts : KeeperFacts K) (folder : FolderFacts G K) (t : CommonView) (games : G) (stamp : List ℕ) (setup : SetupView) : Type 0 where
+  pub game : IsSetupOf t stamp setup
+  pub told : IsToldAs (keepers facts folder games) stamp setup
+
+-- or it isn't, and its datagram is refused so
+abbrev pub RefusesSeat : {G K : Type 0} → KeeperFacts K → FolderFacts G K → CommonView → G → G → List ℕ → Unopened → Type 0
+RefusesSeat {K = K} facts folder t games games' stamp why =
+    (at : At K) (datagram : List ℕ) → at stamp ≡ None → stamp_for datagram ≡ Some stamp → Turns facts folder t games at games' at (unopened stamp datagram why ∷ [])
+
+-- so it is of each setup that is found so
+abbrev pub OpensFound : {G K : Type 0} → KeeperFacts K → FolderFacts G K → G → G → List ℕ → SetupView → Seat K → Type 0
+OpensFound facts folder games games' stamp setup seat = (t : CommonView) → IsFoundAs facts folder t games stamp setup → OpensSeat facts folder t games games' stamp seat
+
+abbrev pub RefusesFound : {G K : Type 0} → KeeperFacts K → FolderFacts G K → G → G → List ℕ → SetupView → Unopened → Type 0
+RefusesFound facts folder games games' stamp setup why = (t : CommonView) → IsFoundAs facts folder t games stamp setup → RefusesSeat facts folder t games games' stamp why
+
+-- the keeper of a game is given back: what the folder gives next of it is over what this one left, and of the others no more
+pub record Closes {G K : Type 0} (folder : FolderFacts G K) (games games' : G) (stamp : List ℕ) (left : K) : Type 0 where
+  pub next : (next : K) → folder.gives games' stamp next → folder.follows left next
+  pub others : GivesOthers stamp (folder.gives games) (folder.gives games')
+
+-- ---- a server
+
+-- from one moment of a server to a later one, with these replies
+abbrev pub TurnsTo : {G K : Type 0} → KeeperFacts K → FolderFacts G K → ServerView G K → ServerView G K → List Reply → Type 0
+TurnsTo facts folder old new replies = Turns facts folder old.common old.games (at_stamp old.seats) new.games (at_stamp new.seats) replies
+
+-- a game is in hand after it
+pub record TakesSeat {G K : Type 0} (facts : KeeperFacts K) (folder : FolderFacts G K) (old new : ServerView G K) (stamp : List ℕ) (seat : Seat K) : Type 0 where
+  pub absent : at_stamp new.seats stamp ≡ None
+  pub seated : IsSeated facts old.common.set seat
+  pub turns : Turns facts folder old.common old.games (at_stamp old.seats) new.games (in_hand stamp (Some seat) (at_stamp new.seats)) []
+
+-- the datagram of a game is refused so
+abbrev pub Refuses : {G K : Type 0} → KeeperFacts K → FolderFacts G K → ServerView G K → ServerView G K → List ℕ → Unopened → Type 0
+Refuses facts folder old new stamp why = (datagram : List ℕ) → stamp_for datagram ≡ Some stamp → TurnsTo facts folder old new (unopened stamp datagram why ∷ [])
+
+-- the reply to a datagram
+abbrev pub reply_of : List ℕ → Answered → Reply
+reply_of datagram r = record { datagram = datagram; outputs = r.outputs.items; line = line_words r.line }
+
+-- a message that comes by any datagram is answered so
+abbrev pub AnswersMessage : {G K : Type 0} → KeeperFacts K → FolderFacts G K → ServerView G K → Message → ServerView G K → Answered → Type 0
+AnswersMessage facts folder old message new r = (datagram : List ℕ) → heard_in datagram ≡ Ok message → TurnsTo facts folder old new (reply_of datagram r ∷ [])
+
+-- so it is by a game that is in hand
+abbrev pub AnswersInHand : {G K : Type 0} → KeeperFacts K → FolderFacts G K → ServerView G K → Seat K → Message → ServerView G K → Answered → Type 0
+AnswersInHand facts folder old seat message new r =
+    (datagram : List ℕ) → heard_in datagram ≡ Ok message → Turns facts folder old.common old.games (in_hand (stamp_in message).0 (Some seat) (at_stamp old.seats)) new.games (at_stamp new.seats) (reply_of datagram r ∷ [])
+
+-- with these replies something goes on
+abbrev pub Going : Type 1
+Going = List Reply → Type 0
+
+-- a datagram came and was answered, and this is its line; or the port is lost, and nothing is done
+abbrev pub Receives : Going → PortFacts → PortFacts → List ℕ → Bool → Type 0
+Receives turns port port' line false = (r : Reply) × turns (r ∷ []) × (line ≡ r.line) × Passed port port' (passing_at port.addresses r)
+Receives turns port port' line true = turns [] × (line ≡ refused_port) × Passed port port' (Missed ∷ []) × Risen port.faults port'.faults
+
+-- so it was, and the line has gone out or was cut short
+pub record TakesTurn {W : Type 0} (turns : Going) (w : Writers W) (port port' : PortFacts) (out out' : W) (told : Result Bool WriteFault) : Type 0 where
+  pub line : List ℕ
+  pub lost : Bool
+  pub received : Receives turns port port' line lost
+  pub lines : LinesEnd w out (line ∷ []) out' told
+  pub is : IfOk told (λ x. x ≡ lost)
+
+-- a run for n datagrams, before the games that are open then are closed
+pub record HasServed {K W : Type 0} (s : Keepers K) (t : CommonView) (w : Writers W) (n : ℕ) (gives : Gives K) (at : At K) (port port' : PortFacts) (out out' : W) (ended : Result ℕ WriteFault) : Type 0 where
+  pub replies : List Reply
+  pub leads : Leads s t (λ stamp. Fresh) gives at replies
+  pub lost : Bool
+  pub passed : Passed port port' (all_passing port.addresses replies lost)
+  pub cause : lost ≡ true → Risen port.faults port'.faults
+  pub ends : Ends n replies lost ended
+  pub lines : LinesEnd w out (all_lines replies lost) out' ended
+
+-- such a run of a server
+abbrev pub ServesOn : {G K W : Type 0} → KeeperFacts K → FolderFacts G K → Writers W → ℕ → ServerView G K → ServerView G K → PortFacts → PortFacts → W → W → Result ℕ WriteFault → Type 0
+ServesOn facts folder w n old new port port' out out' ended = HasServed (keepers facts folder old.games) old.common w n (folder.gives new.games) (at_stamp new.seats) port port' out out' ended

@@ -1,0 +1,72 @@
+//! Games whose files are in a folder.
+
+ghost use Rattle.std.specs.Prelude.{◌≡◌};
+ghost use Rattle.arbiter_server.specs.DiskGames.{unopened_by};
+
+use crate::fault::Unopened;
+use crate::file_keeper::FileKeeper;
+use crate::folder::{FindFault, find_game, kept_path};
+use crate::games::{Found, Games};
+use move_msg::Stamp;
+use std::alloc::Global;
+use system_io::{Disk, Host, ReadFault};
+
+/// The games of a folder: of each the file that tells it, `FOLDER/STAMP.game`, and the file of its record, `FOLDER/STAMP.kept`. A
+/// game may be entered there at any time.
+#[derive(Clone, Copy)]
+pub struct DiskGames<'f, D, H> {
+    /// Where the files of games are read.
+    pub disk: &'f D,
+    /// Where the files of records are opened.
+    pub host: &'f H,
+    /// The path of the folder.
+    pub folder: &'f str,
+}
+
+/// Why a game isn't open whose file can't be had.
+fn unopened_by(fault: FindFault) -> Unopened
+    ensures { result ≡ unopened_by fault }
+{
+    match fault {
+        FindFault::NoGame => Unopened::NoGame,
+        FindFault::BadFile(fault) => Unopened::BadGame(u32::from(fault.line())),
+        FindFault::OutOfMemory => Unopened::OutOfMemory,
+    }
+}
+
+impl<'f, D: Disk, H: Host> Games for DiskGames<'f, D, H> {
+    ghost use Rattle.arbiter_server.specs.DiskGames.{disk_facts};
+
+    type Keeper = FileKeeper<H::File>;
+
+    ghost facts = { disk_facts D.facts H.facts H.File.facts };
+
+    /// What the file of the game with this stamp tells, or why it tells nothing.
+    fn find(&self, alloc: Global, stamp: &[u8; 16]) -> Result<Found, Unopened> {
+        match find_game(alloc, self.disk, self.folder, Stamp(*stamp)) {
+            Ok(game) => Ok(Found {
+                name: game.name,
+                start: game.start,
+                delay: game.delay,
+            }),
+            Err(fault) => Err(unopened_by(fault)),
+        }
+    }
+
+    /// A keeper over the file of the record of the game with this stamp, or why there is none.
+    fn take(&mut self, alloc: Global, stamp: &[u8; 16]) -> Result<FileKeeper<H::File>, Unopened> {
+        let Ok(path) = kept_path(alloc, self.folder, Stamp(*stamp)) else {
+            return Err(Unopened::OutOfMemory);
+        };
+        let Ok(file) = self.host.file(alloc, path.as_str()) else {
+            return Err(Unopened::OutOfMemory);
+        };
+        match FileKeeper::new(alloc, file) {
+            Ok(keeper) => Ok(keeper),
+            Err(ReadFault::Unreadable) => Err(Unopened::Keeper),
+            Err(ReadFault::OutOfMemory) => Err(Unopened::OutOfMemory),
+        }
+    }
+
+    fn give_back(&mut self, _stamp: &[u8; 16], _keeper: &FileKeeper<H::File>) {}
+}

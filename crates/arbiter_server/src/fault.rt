@@ -1,0 +1,36 @@
+//! Why a game isn't open.
+
+ghost use Rattle.std.specs.Prelude.{◌≡◌};
+ghost use Rattle.arbiter_server.specs.Told.{unopened_by};
+
+use arbiter_core::OpenFault;
+
+/// Why a game isn't open.
+#[derive(Clone, Copy)]
+pub enum Unopened {
+    /// The folder has no game with this stamp.
+    NoGame,
+    /// The game or the record that the folder has under this stamp is another game's.
+    OtherGame,
+    /// This line of its file, counted from 1, is none of a game.
+    BadGame(u32),
+    /// Its record can't be had or kept, or is none from which an arbiter runs.
+    Keeper,
+    /// Memory was refused.
+    OutOfMemory,
+}
+
+impl Unopened {
+    /// What is told of a game whose arbiter can't be opened.
+    pub(crate) fn by(fault: OpenFault) -> Unopened
+        ensures { result ≡ unopened_by fault }
+    {
+        match fault {
+            OpenFault::OtherStamp => Unopened::OtherGame,
+            OpenFault::OutOfMemory => Unopened::OutOfMemory,
+            OpenFault::BadSetup | OpenFault::KeeperFailed | OpenFault::BadRecord => {
+                Unopened::Keeper
+            }
+        }
+    }
+}

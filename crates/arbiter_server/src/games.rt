@@ -1,0 +1,51 @@
+//! Where games are told and kept.
+
+ghost use Rattle.std.specs.Prelude.{◌≡◌, ℕ, List, IfOk, IfErr, false};
+ghost use Rattle.std.specs.Str.{bytes_eq};
+ghost use Rattle.arbiter_server.specs.Folders.{FolderFacts, GivesLess, GivesOthers};
+
+use crate::fault::Unopened;
+use arbiter_core::{Keeper, Name};
+use board_core::Position;
+use std::alloc::Global;
+
+/// What a folder tells of a game.
+#[derive(Drop)]
+pub struct Found {
+    /// Its name, which need not be one of a game.
+    pub name: Name,
+    /// The position before its first move.
+    pub start: Position,
+    /// For how many further plies a verdict by tables must hold, 0 to 8.
+    pub delay: u8,
+}
+
+/// A folder of games, each under its stamp: what is told of it, and its keeper.
+pub trait Games {
+    /// Where a record is kept.
+    type Keeper: Keeper + Drop;
+
+    /// What it tells, lacks and withholds, whose its keepers are, and which one it may give next. All but the last depends on a part
+    /// of it alone that no call changes (`place`).
+    ghost facts: { FolderFacts Self Self.Keeper };
+
+    /// What it tells of the game with this stamp.
+    fn find(&self, alloc: Global, stamp: &[u8; 16]) -> Result<Found, Unopened>
+        ensures told { IfOk result (facts.tells (facts.place self.now) stamp.now) }
+        ensures refused { IfErr result (facts.lacks (facts.place self.now) stamp.now) };
+
+    /// The keeper of the game with this stamp.
+    fn take(&mut self, alloc: Global, stamp: &[u8; 16]) -> Result<Self::Keeper, Unopened>
+        ensures of { IfOk result (facts.is_of (facts.place self.old) stamp.now) }
+        ensures given { IfOk result (facts.gives self.old stamp.now) }
+        ensures refused { IfErr result (facts.withholds (facts.place self.old) stamp.now) }
+        ensures same { GivesLess (facts.gives self.old) (facts.gives self.new) }
+        ensures place { facts.place self.new ≡ facts.place self.old };
+
+    /// Shows the keeper of a game that is closed now, to look at and not to write: what it gives next of this game is a keeper over
+    /// what this one left.
+    fn give_back(&mut self, stamp: &[u8; 16], keeper: &Self::Keeper)
+        ensures left { (next : Self.Keeper) → facts.gives self.new stamp.now next → facts.follows keeper.now next }
+        ensures others { GivesOthers stamp.now (facts.gives self.old) (facts.gives self.new) }
+        ensures place { facts.place self.new ≡ facts.place self.old };
+}

@@ -1,0 +1,80 @@
+//! A server of games: it answers the datagrams that come to a port, each by the arbiter of its game.
+//!
+//! `arbiter_core` decides what is answered and recorded; ports, files and folders are those of `system_io`. There are two ways.
+//!
+//! - **One game**: `serve` answers the datagrams of a port by one arbiter, over any keeper; `open_and_serve` does so over a
+//!   record in a file (`FileKeeper`), and `run_after` over what a stop left of it.
+//! - **Any number of games**: a message names its game by a stamp. `Server` looks up a game that isn't open by its stamp: its
+//!   name, its start, its delay and its keeper (`Games`; in a folder of files, `DiskGames`). Where no room is left, the one used
+//!   least recently is closed (which, when, and how many are open is no clause). All judge by one set of tables, lent to the one
+//!   that answers. What it does for a game is a list of its openings, deliveries and closings (`Hosts`).
+//!
+//! For one game: `file_keeper`, `heard` (lines), `serving`, `over_file`, `stopping`. For many: `config`, `server`, `turn`, `seat`
+//! (an open game), `settling`, `room`, `line`, `games`, `disk_games`, `folder`, `game_file`, `game_lines`, `fault`.
+//!
+//! Definitions, in reading order: `StoredBytes`, `ServedLines`, `GoingOut`, `Serving`, `OverFiles`, `AfterStops`, `Lives` for one
+//! game; `GameFiles`, `GameFolders`, `DiskGames`, `Folders`, `Told`, `Acts`, `Games`, `Hosts`, `Servers`, `Laws` for many.
+//!
+//! - CLAIM: `serve`, clauses `run`, `keeps`: each datagram that came is answered by one `deliver`, in order. All that passed at
+//!   the port is one request, if it is asked for, and each datagram with the messages of its answer, each once for each address
+//!   (of a port that reports it). The status is 0 only where all datagrams came and were answered; `refused keeper` and `refused
+//!   port` come only where the keeper or a receive failed.
+//! - CLAIM: `FileKeeper::new`, clauses `one`, `found`; `FileKeeper`, clause `facts`: a put that succeeds is found at a start;
+//!   after one that fails a start finds what stood there or the bytes. Where the file said of two contents that each start finds
+//!   one of them, one of the two is stored at the start, and later starts find it.
+//! - CLAIM: `open_and_serve`, clause `served`: a start between two datagrams finds the arbiter's record, whole and of its game,
+//!   or after a failed put the one that was to be kept.
+//! - CLAIM: `laws::keeps_what_it_told`; `laws::disk_keeps_what_it_told`; `laws::traced_file_keeps_what_it_told`; `run_after`,
+//!   clauses `one`, `there`: what was announced stays, over any runs of one setup, wherever each of them stopped: as many moves
+//!   as were acknowledged, the same ones, and a verdict at its ply. Of the system's file it rests on `IsAsTold`. A run over a
+//!   disk after a loss of power is such a run.
+//! - CLAIM: `Server::open`; `Server::serve`, clauses `hosts`, `stays`, `idle`: a server begins with no game open (the error of
+//!   `open` has no cause). Each datagram is answered by acts of the game that it names. The acts of a game lead on from one
+//!   another by the steps of one arbiter, over keepers of this game, with the setup that the folder tells. A datagram gets no
+//!   arbiter only where the folder refuses its game, gives a game of another stamp, or `ArbiterState::open` refuses. The acts end
+//!   with no game open, the folder is where it was, and the status is 0 only where all datagrams came. The lines and the traffic
+//!   are those of the answers, and each line is out before the next.
+//! - CLAIM: `laws::own_replies`; `laws::records_go_on`: a game's replies are those to the datagrams that name it, and each
+//!   delivery leaves its record or adds to it.
+//! - CLAIM: `read_game`, clauses `ok`, `err`, `only`; `write_game`, clauses `text`, `spells`; `GameFileFault::line`: a game's
+//!   file is read exactly where it spells a game, and otherwise the first line at fault is reported.
+//! - CLAIM: `game_path`; `kept_path`; `find_game`, clauses `ok`, `err`: a game is found only where its file spells it; otherwise
+//!   the file can't be read, has more than 192 bytes, or is at fault at this line, or memory was refused.
+//! - CLAIM: `DiskGames`, clause `facts`: `NoGame` is said only where the file of the stamp can't be read or is too long, and a
+//!   line's number only where it is the first at fault; a keeper has started over `STAMP.kept`. Any keeper may follow any other,
+//!   and refused memory has no cause.
+#![tactic(auto)]
+
+mod config;
+mod disk_games;
+mod fault;
+mod file_keeper;
+mod folder;
+mod game_file;
+mod game_lines;
+mod games;
+mod heard;
+pub mod laws;
+mod line;
+mod over_file;
+mod room;
+mod seat;
+mod server;
+mod serving;
+mod settling;
+mod stopping;
+mod turn;
+
+pub use config::ServerConfig;
+pub use disk_games::DiskGames;
+pub use fault::Unopened;
+pub use file_keeper::FileKeeper;
+pub use folder::{FindFault, find_game, game_path, kept_path};
+pub use game_file::{Game, MOST_GAME_BYTES, read_game, write_game};
+pub use game_lines::GameFileFault;
+pub use games::{Found, Games};
+pub use heard::{Heard, HeardText, verdict_or_none};
+pub use over_file::open_and_serve;
+pub use server::Server;
+pub use serving::{put_line, send_all, serve};
+pub use stopping::run_after;

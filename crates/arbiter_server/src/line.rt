@@ -1,0 +1,119 @@
+//! What is told of a datagram, as a line.
+
+ghost use Rattle.std.specs.Prelude.{◌≡◌, ◌≤◌, ◌+◌, ◌++◌, ℕ, List, codes, length};
+ghost use Rattle.arrayvec.specs.ArrayVec.{array_vec_len};
+ghost use Rattle.hex.specs.Hex.{encode_lower};
+ghost use Rattle.move_msg.specs.TextLines.{ended};
+ghost use Rattle.arbiter_server.specs.Told.{line_words, stamped, unopened_words};
+
+use crate::fault::Unopened;
+use crate::heard::Heard;
+use arbiter_core::DeliverFault;
+use arrayvec::ArrayVec;
+use itoa::Buffer;
+use move_msg::MessageFault;
+
+/// What is told of a datagram; its text has no line feed.
+#[derive(Clone, Copy)]
+pub(crate) enum Line {
+    /// What the arbiter of the game with this stamp tells.
+    Answered([u8; 16], Heard),
+    /// Why the game with this stamp isn't open.
+    Unopened([u8; 16], Unopened),
+    /// Why the bytes are no message.
+    Unread(MessageFault),
+    /// None can be received.
+    PortLost,
+}
+
+/// The bytes of a line, with its line feed. They take no memory, so that no line is lost for want of it.
+pub(crate) type LineText = ArrayVec<u8, 128>;
+
+/// Puts bytes behind a text.
+fn add(text: &mut LineText, more: &[u8])
+    requires { array_vec_len text.old + length more.now ≤ 128 }
+    ensures { text.new.items ≡ text.old.items ++ more.now }
+{
+    let _fits = text.try_extend_from_slice(more);
+}
+
+/// One text behind another.
+fn joined(first: &[u8], second: &[u8]) -> LineText
+    requires { length first.now + length second.now ≤ 128 }
+    ensures { result.items ≡ first.now ++ second.now }
+{
+    let mut text = ArrayVec::new();
+    add(&mut text, first);
+    add(&mut text, second);
+    text
+}
+
+/// A stamp in lower-case hexadecimal digits, and a space.
+fn marked(stamp: &[u8; 16]) -> LineText
+    ensures is { result.items ≡ encode_lower stamp.now ++ codes " " }
+    ensures size { array_vec_len result ≡ 33 }
+{
+    let mut digits = [0; 32];
+    hex::encode_to_slice(stamp, &mut digits).unwrap();
+    joined(&digits, b" ")
+}
+
+/// A line of the game with this stamp.
+fn stamped(stamp: &[u8; 16], words: &[u8]) -> LineText
+    requires { length words.now ≤ 64 }
+    ensures { (line : List ℕ) → words.now ≡ ended line → result.items ≡ ended (stamped stamp.now line) }
+{
+    joined(&marked(stamp), words)
+}
+
+/// The words for a game file that can't be read, with their line feed.
+fn bad_game(number: u32) -> LineText
+    ensures is { result.items ≡ ended (unopened_words (Unopened.BadGame number)) }
+    ensures size { array_vec_len result ≤ 64 }
+{
+    let mut digits = Buffer::new();
+    let words = joined(b"refused game ", digits.format(number).as_bytes());
+    joined(&words, b"\n")
+}
+
+/// The line for a game that isn't open.
+fn unopened_line(stamp: &[u8; 16], why: Unopened) -> LineText
+    ensures { result.items ≡ ended (stamped stamp.now (unopened_words why)) }
+{
+    match why {
+        Unopened::NoGame => stamped(stamp, b"refused NoGame\n"),
+        Unopened::OtherGame => stamped(stamp, b"refused OtherGame\n"),
+        Unopened::BadGame(number) => stamped(stamp, &bad_game(number)),
+        Unopened::Keeper => stamped(stamp, b"refused keeper\n"),
+        Unopened::OutOfMemory => stamped(stamp, b"refused memory\n"),
+    }
+}
+
+/// The line for what an arbiter tells.
+fn heard_line(stamp: &[u8; 16], heard: Heard) -> LineText
+    ensures { result.items ≡ ended (line_words (Line.Answered stamp.now heard)) }
+{
+    stamped(stamp, heard.line().as_str().as_bytes())
+}
+
+/// The line for bytes that are no message.
+fn unread_line(fault: MessageFault) -> LineText
+    ensures { result.items ≡ ended (line_words (Line.Unread fault)) }
+{
+    let heard = Heard::Refused(DeliverFault::NotAMessage(fault));
+    joined(b"- ", heard.line().as_str().as_bytes())
+}
+
+impl Line {
+    /// The line.
+    pub(crate) fn text(self) -> LineText
+        ensures { result.items ≡ ended (line_words self) }
+    {
+        match self {
+            Line::Answered(stamp, heard) => heard_line(&stamp, heard),
+            Line::Unopened(stamp, why) => unopened_line(&stamp, why),
+            Line::Unread(fault) => unread_line(fault),
+            Line::PortLost => joined(Heard::PortLost.line().as_str().as_bytes(), b""),
+        }
+    }
+}

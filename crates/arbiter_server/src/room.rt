@@ -1,0 +1,62 @@
+//! Games that are open, found by their stamps, the one used least recently last.
+
+ghost use Rattle.std.specs.Prelude.{◌≡◌, ◌<◌, ℕ, List, length, cond, None, Some, IfNone, IfSome, IfOk, IfErr, OnOk, OnErr};
+ghost use Rattle.std.specs.Str.{bytes_eq};
+ghost use Rattle.arbiter_server.specs.Room.{at_stamp};
+
+use lru::LruCache;
+
+/// Takes the game with this stamp out.
+pub(crate) fn take_out<S: Drop>(seats: &mut LruCache<[u8; 16], S>, stamp: &[u8; 16]) -> Option<S>
+    ensures value { result ≡ at_stamp seats.old.entries stamp.now }
+    ensures after { (other : List ℕ) → at_stamp seats.new.entries other ≡ cond (bytes_eq stamp.now other) None (at_stamp seats.old.entries other) }
+{
+    // Called for its contract: it brings the map's invariant into the proof.
+    let _valid = seats.len();
+    seats.pop(stamp)
+}
+
+/// Takes the game out that was used least recently, where there is no room for one more.
+pub(crate) fn least_used<S: Drop>(seats: &mut LruCache<[u8; 16], S>) -> Option<([u8; 16], S)>
+    ensures none { IfNone result (seats.new ≡ seats.old) }
+    ensures was { IfSome result (λ x. at_stamp seats.old.entries x.0 ≡ Some x.1) }
+    ensures after { IfSome result (λ x. (other : List ℕ) → at_stamp seats.new.entries other ≡ cond (bytes_eq x.0 other) None (at_stamp seats.old.entries other)) }
+    ensures room { length seats.new.entries < seats.new.cap }
+{
+    if seats.len() < seats.cap().get() {
+        return None;
+    }
+    seats.pop_lru()
+}
+
+/// Takes the game out that was used least recently, if there is one.
+pub(crate) fn take_last<S: Drop>(seats: &mut LruCache<[u8; 16], S>) -> Option<([u8; 16], S)>
+    ensures none { IfNone result ((stamp : List ℕ) → (at_stamp seats.old.entries stamp ≡ None) × (at_stamp seats.new.entries stamp ≡ None)) }
+    ensures was { IfSome result (λ x. at_stamp seats.old.entries x.0 ≡ Some x.1) }
+    ensures after { IfSome result (λ x. (other : List ℕ) → at_stamp seats.new.entries other ≡ cond (bytes_eq x.0 other) None (at_stamp seats.old.entries other)) }
+    ensures fewer { IfSome result (λ x. length seats.new.entries < length seats.old.entries) }
+{
+    // Called for its contract: it brings the map's invariant into the proof.
+    let _valid = seats.len();
+    seats.pop_lru()
+}
+
+/// Puts a game in, for which there is room.
+pub(crate) fn put_in<S: Drop>(
+    seats: &mut LruCache<[u8; 16], S>,
+    stamp: [u8; 16],
+    seat: S,
+) -> Result<(), S>
+    requires absent { at_stamp seats.old.entries stamp ≡ None }
+    requires room { length seats.old.entries < seats.old.cap }
+    ensures ok { OnOk result ((other : List ℕ) → at_stamp seats.new.entries other ≡ cond (bytes_eq stamp other) (Some seat) (at_stamp seats.old.entries other)) }
+    ensures err { IfErr result (λ back. (back ≡ seat) × (seats.new ≡ seats.old)) }
+{
+    match seats.put(stamp, seat) {
+        Ok(_) => Ok(()),
+        Err(refused) => {
+            let (_, back) = refused.value;
+            Err(back)
+        }
+    }
+}

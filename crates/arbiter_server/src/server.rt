@@ -1,0 +1,261 @@
+//! A server of games: how it is set up, its tables, its folder and the games that are open.
+
+ghost use Rattle.std.specs.Prelude.{◌≡◌, ◌∷◌, [], None, IfOk, IfErr};
+ghost use Rattle.move_msg.specs.Messages.{stamp_in};
+ghost use Rattle.arbiter_core.specs.Setups.{terms_with};
+ghost use Rattle.arbiter_server.specs.GoingOut.{writers};
+ghost use Rattle.arbiter_server.specs.Told.{line_words};
+ghost use Rattle.arbiter_server.specs.Games.{common_with};
+ghost use Rattle.arbiter_server.specs.Room.{at_stamp};
+ghost use Rattle.arbiter_server.specs.Seats.{IsSeated};
+ghost use Rattle.arbiter_server.specs.Servers.{IsIdle, IsNew, ServerHosts, Stays};
+ghost use Rattle.arbiter_server.specs.Turns.{AnswersInHand, AnswersMessage, ComesBack, OpensFound, OpensSeat, Receives, Refuses, RefusesFound, RefusesSeat, ServesOn, TakesSeat, TakesTurn, TurnsTo, reply_of};
+
+use crate::config::ServerConfig;
+use crate::fault::Unopened;
+use crate::games::Games;
+use crate::line::Line;
+use crate::room::take_out;
+use crate::seat::Seat;
+use crate::serving::{put_line, send_all};
+use crate::settling::{close_all, settle};
+use crate::turn::{Answered, found, told_alone};
+use arbiter_core::{ArbiterState, Terms};
+use judge_core::Set;
+use lru::LruCache;
+use move_msg::Message;
+use std::alloc::{AllocError, Global};
+use std::marker::Model;
+use system_io::{Output, Port, WriteFault};
+
+/// Opens a game over its keeper in the folder.
+fn open_by<'a, G: Games>(
+    alloc: Global,
+    games: &mut G,
+    tables: &mut Set<'_>,
+    terms: Terms<'a>,
+    stamp: &[u8; 16],
+) -> Result<Seat<'a, G::Keeper>, Unopened>
+    ensures lent { ComesBack G.facts tables.old games.old tables.new games.new }
+    ensures opened { IfOk result (OpensFound G.Keeper.facts G.facts games.old games.new stamp.now (terms_with terms.entry tables.old)) }
+    ensures unopened { IfErr result (RefusesFound G.Keeper.facts G.facts games.old games.new stamp.now (terms_with terms.entry tables.old)) }
+{
+    let mut keeper = match games.take(alloc, stamp) {
+        Ok(keeper) => keeper,
+        Err(why) => return Err(why),
+    };
+    match ArbiterState::open(alloc, tables, &mut keeper, terms) {
+        Ok(state) => Ok(Seat { state, keeper }),
+        Err(refused) => {
+            games.give_back(stamp, &keeper);
+            Err(Unopened::by(refused.fault))
+        }
+    }
+}
+
+/// Opens the game with this stamp.
+fn open_told<'a, G: Games>(
+    alloc: Global,
+    config: &ServerConfig<'a>,
+    games: &mut G,
+    tables: &mut Set<'_>,
+    stamp: &[u8; 16],
+) -> Result<Seat<'a, G::Keeper>, Unopened>
+    ensures lent { ComesBack G.facts tables.old games.old tables.new games.new }
+    ensures opened { IfOk result (OpensSeat G.Keeper.facts G.facts (common_with config.now tables.old) games.old games.new stamp.now) }
+    ensures unopened { IfErr result (RefusesSeat G.Keeper.facts G.facts (common_with config.now tables.old) games.old games.new stamp.now) }
+{
+    match found(alloc, config.manifest, games, stamp) {
+        Ok(game) => open_by(alloc, games, tables, config.terms(game), stamp),
+        Err(why) => Err(why),
+    }
+}
+
+/// A server of games at a port. Each game that is open can answer by its tables, and its keeper keeps its record.
+#[derive(Drop)]
+pub struct Server<'a, G: Games + Drop> {
+    config: ServerConfig<'a>,
+    tables: Set<'a>,
+    games: G,
+    seats: LruCache<[u8; 16], Seat<'a, G::Keeper>>,
+}
+
+impl<'a, G: Games + Drop> Model for Server<'a, G> {
+    ghost use Rattle.arbiter_server.specs.Games.{common_with};
+    ghost use Rattle.arbiter_server.specs.Room.{at_stamp};
+    ghost use Rattle.arbiter_server.specs.Seats.{AreSeated};
+    ghost use Rattle.arbiter_server.specs.Servers.{ServerView};
+
+    ghost Value = { ServerView G G.Keeper };
+
+    ghost view = { λ s. record { common = common_with s.config s.tables; games = s.games; seats = s.seats.entries } };
+
+    ghost invariant = { λ s. AreSeated G.Keeper.facts s.tables (at_stamp s.seats.entries) };
+}
+
+impl<'a, G: Games + Drop> Server<'a, G> {
+    /// Opens a server over a folder of games. No game is open yet. The error comes where memory for the open games is refused.
+    pub fn open(
+        alloc: Global,
+        config: ServerConfig<'a>,
+        tables: Set<'a>,
+        games: G,
+    ) -> Result<Server<'a, G>, AllocError>
+        ensures { IfOk result (IsNew (common_with config.entry tables.entry) games) }
+    {
+        match LruCache::new(alloc, config.at_once) {
+            Ok(seats) => Ok(Server {
+                config,
+                tables,
+                games,
+                seats,
+            }),
+            Err(_) => Err(AllocError),
+        }
+    }
+
+    /// Takes the game with this stamp out, or opens it.
+    fn seat_for(&mut self, alloc: Global, stamp: &[u8; 16]) -> Result<Seat<'a, G::Keeper>, Unopened>
+        ensures stays { Stays G.facts self.old self.new }
+        ensures opened { IfOk result (TakesSeat G.Keeper.facts G.facts self.old self.new stamp.now) }
+        ensures unopened { IfErr result (Refuses G.Keeper.facts G.facts self.old self.new stamp.now) }
+    {
+        match take_out(&mut self.seats, stamp) {
+            Some(seat) => Ok(seat),
+            None => open_told(
+                alloc,
+                &self.config,
+                &mut self.games,
+                &mut self.tables,
+                stamp,
+            ),
+        }
+    }
+
+    /// Lets the arbiter of a game that is in hand answer a message.
+    fn answer_at(&mut self, alloc: Global, seat: Seat<'a, G::Keeper>, message: &Message) -> Answered
+        requires absent { at_stamp self.old.seats (stamp_in message.now).0 ≡ None }
+        requires seated { IsSeated G.Keeper.facts self.old.common.set seat }
+        ensures stays { Stays G.facts self.old self.new }
+        ensures answers { AnswersInHand G.Keeper.facts G.facts self.old seat.entry message.now self.new result }
+    {
+        let stamp = message.stamp().0;
+        let mut seat = seat;
+        let answer = seat.deliver(alloc, &mut self.tables, message);
+        settle(&mut self.games, &mut self.seats, &stamp, seat);
+        let line = Line::Answered(stamp, answer.heard);
+        Answered {
+            outputs: answer.outputs,
+            line,
+        }
+    }
+
+    /// Lets the arbiter of the game that a message is of answer it, if there is one.
+    fn answer(&mut self, alloc: Global, message: &Message) -> Answered
+        ensures stays { Stays G.facts self.old self.new }
+        ensures answers { AnswersMessage G.Keeper.facts G.facts self.old message.now self.new result }
+    {
+        let stamp = message.stamp().0;
+        match self.seat_for(alloc, &stamp) {
+            Ok(seat) => self.answer_at(alloc, seat, message),
+            Err(why) => told_alone(alloc, Line::Unopened(stamp, why)),
+        }
+    }
+
+    /// Answers a datagram.
+    fn hear(&mut self, alloc: Global, bytes: &[u8]) -> Answered
+        ensures stays { Stays G.facts self.old self.new }
+        ensures turns { TurnsTo G.Keeper.facts G.facts self.old self.new (reply_of bytes.now result ∷ []) }
+    {
+        match Message::decode(bytes) {
+            Ok(message) => self.answer(alloc, &message),
+            Err(fault) => told_alone(alloc, Line::Unread(fault)),
+        }
+    }
+
+    /// Receives a datagram and answers it; tells the line for it, and whether the port is lost.
+    fn receive<P: Port>(&mut self, alloc: Global, port: &mut P) -> (Line, bool)
+        ensures stays { Stays G.facts self.old self.new }
+        ensures received { Receives (TurnsTo G.Keeper.facts G.facts self.old self.new) (P.facts port.old) (P.facts port.new) (line_words result.0) result.1 }
+    {
+        let mut buffer = [0u8; 64];
+        match port.receive(&mut buffer) {
+            Ok(length) => {
+                let told = self.hear(alloc, &buffer[..length]);
+                send_all(port, told.outputs.as_slice());
+                (told.line, false)
+            }
+            Err(_) => (Line::PortLost, true),
+        }
+    }
+
+    /// Receives a datagram, answers it and writes the line for it; tells whether the port is lost.
+    fn turn<P: Port, W: Output>(
+        &mut self,
+        alloc: Global,
+        port: &mut P,
+        out: &mut W,
+    ) -> Result<bool, WriteFault>
+        ensures stays { Stays G.facts self.old self.new }
+        ensures taken { TakesTurn (TurnsTo G.Keeper.facts G.facts self.old self.new) (writers W.Write.contents W.facts) (P.facts port.old) (P.facts port.new) out.old out.new result }
+    {
+        let (line, lost) = self.receive(alloc, port);
+        match put_line(out, line.text().as_slice()) {
+            Ok(()) => Ok(lost),
+            Err(fault) => Err(fault),
+        }
+    }
+
+    /// Answers so many datagrams where no game is open yet; tells the status, 0 where all came.
+    fn run<P: Port, W: Output>(
+        &mut self,
+        alloc: Global,
+        port: &mut P,
+        n: u64,
+        out: &mut W,
+    ) -> Result<u8, WriteFault>
+        requires { IsIdle self.old }
+        ensures stays { Stays G.facts self.old self.new }
+        ensures served { ServesOn G.Keeper.facts G.facts (writers W.Write.contents W.facts) n self.old self.new (P.facts port.old) (P.facts port.new) out.old out.new result }
+    {
+        for _ in 0..n {
+            match self.turn(alloc, port, out) {
+                Ok(lost) => {
+                    if lost {
+                        return Ok(1);
+                    }
+                }
+                Err(fault) => return Err(fault),
+            }
+        }
+        Ok(0)
+    }
+
+    /// Answers so many datagrams of a port, each by the arbiter of its game; tells the status, 0 where all came. No game is open
+    /// before it, as after `open` and after each run, and all are closed at its end.
+    ///
+    /// A line is written for each datagram, and goes out at once. For a message it begins with the stamp of its game, in 32
+    /// lower-case hexadecimal digits: then comes what `serve` tells, or why the game isn't open, `refused NoGame`,
+    /// `refused OtherGame`, `refused game` and a line of its file, `refused keeper` or `refused memory`. For bytes that are no
+    /// message it is `- refused NotAMessage` and what is wrong with them. No refusal ends the run: a game whose keeper failed is
+    /// closed, and opened again over its file when its next datagram comes. Where no datagram can be received the line is `refused
+    /// port`, and the status 1.
+    ///
+    /// The error comes only where the writer failed: each line before has gone out whole, of the last one a front may be written.
+    pub fn serve<P: Port, W: Output>(
+        &mut self,
+        alloc: Global,
+        port: &mut P,
+        n: u64,
+        out: &mut W,
+    ) -> Result<u8, WriteFault>
+        requires { IsIdle self.old }
+        ensures hosts { ServerHosts G.Keeper.facts G.facts (writers W.Write.contents W.facts) n self.old self.new (P.facts port.old) (P.facts port.new) out.old out.new result }
+        ensures stays { Stays G.facts self.old self.new }
+        ensures idle { IsIdle self.new }
+    {
+        let ended = self.run(alloc, port, n, out);
+        close_all(&mut self.games, &mut self.seats);
+        ended
+    }
+}

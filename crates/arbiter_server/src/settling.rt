@@ -1,0 +1,74 @@
+//! How a game is closed, and how it stays open.
+
+ghost use Rattle.std.specs.Prelude.{◌≡◌, ◌<◌, ℕ, List, None, Some, length, false, true};
+ghost use Rattle.arbiter_server.specs.Folders.{GivesOthers};
+ghost use Rattle.arbiter_server.specs.Room.{at_stamp};
+ghost use Rattle.arbiter_server.specs.Seats.{Evicts};
+ghost use Rattle.arbiter_server.specs.Turns.{Closes, TurnsAnyhow, TurnsInHand};
+
+use crate::games::Games;
+use crate::room::{least_used, put_in, take_last};
+use crate::seat::Seat;
+use lru::LruCache;
+
+/// Closes a game: its keeper is given back.
+pub(crate) fn close<'a, G: Games>(games: &mut G, stamp: &[u8; 16], seat: Seat<'a, G::Keeper>)
+    ensures closes { Closes G.facts games.old games.new stamp.now seat.entry.keeper }
+    ensures place { G.facts.place games.new ≡ G.facts.place games.old }
+{
+    let Seat { state: _, keeper } = seat;
+    games.give_back(stamp, &keeper);
+}
+
+/// Closes the game that was used least recently, where there is no room for one more.
+fn make_room<'a, G: Games>(games: &mut G, seats: &mut LruCache<[u8; 16], Seat<'a, G::Keeper>>)
+    ensures closes { Evicts G.facts.follows (G.facts.gives games.old) (at_stamp seats.old.entries) (G.facts.gives games.new) (at_stamp seats.new.entries) }
+    ensures room { length seats.new.entries < seats.new.cap }
+    ensures place { G.facts.place games.new ≡ G.facts.place games.old }
+{
+    match least_used(seats) {
+        None => {}
+        Some(least) => {
+            let stamp = least.0;
+            close(games, &stamp, least.1);
+        }
+    }
+}
+
+/// Closes all games that are open, the one that was used least recently first.
+pub(crate) fn close_all<'a, G: Games>(
+    games: &mut G,
+    seats: &mut LruCache<[u8; 16], Seat<'a, G::Keeper>>,
+)
+    ensures closes { TurnsAnyhow G.Keeper.facts G.facts games.old (at_stamp seats.old.entries) games.new (at_stamp seats.new.entries) }
+    ensures none { (stamp : List ℕ) → at_stamp seats.new.entries stamp ≡ None }
+    ensures place { G.facts.place games.new ≡ G.facts.place games.old }
+{
+    while let Some(last) = take_last(seats) {
+        let closed = last.0;
+        close(games, &closed, last.1);
+    }
+}
+
+/// Keeps a game open that has answered; or closes it where its keeper failed, or memory for it is refused.
+pub(crate) fn settle<'a, G: Games>(
+    games: &mut G,
+    seats: &mut LruCache<[u8; 16], Seat<'a, G::Keeper>>,
+    stamp: &[u8; 16],
+    seat: Seat<'a, G::Keeper>,
+)
+    requires { at_stamp seats.old.entries stamp.now ≡ None }
+    ensures runs { seat.entry.state.is_down ≡ false → TurnsInHand G.Keeper.facts G.facts games.old (at_stamp seats.old.entries) stamp.now seat.entry games.new (at_stamp seats.new.entries) }
+    ensures down { seat.entry.state.is_down ≡ true → Closes G.facts games.old games.new stamp.now seat.entry.keeper × (seats.new ≡ seats.old) }
+    ensures place { G.facts.place games.new ≡ G.facts.place games.old }
+{
+    if seat.state.is_down() {
+        close(games, stamp, seat);
+        return;
+    }
+    make_room(games, seats);
+    match put_in(seats, *stamp, seat) {
+        Ok(()) => {}
+        Err(seat) => close(games, stamp, seat),
+    }
+}

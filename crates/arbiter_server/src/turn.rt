@@ -1,0 +1,63 @@
+//! One datagram.
+
+ghost use Rattle.std.specs.Prelude.{◌≡◌, ◌↔◌, [], IfOk, IfErr, IsTrue};
+ghost use Rattle.arbiter_server.specs.Folders.{keepers};
+ghost use Rattle.arbiter_server.specs.Games.{IsGameOf, IsStrange};
+
+use crate::fault::Unopened;
+use crate::games::{Found, Games};
+use crate::line::Line;
+use arbiter_core::Outputs;
+use move_msg::Stamp;
+use smallvec::SmallVec;
+use std::alloc::Global;
+
+/// What a datagram is answered: the messages that are sent, and the line that is told.
+#[derive(Drop)]
+pub(crate) struct Answered {
+    pub(crate) outputs: Outputs,
+    pub(crate) line: Line,
+}
+
+/// Whether two stamps are one.
+fn is_same(a: &[u8; 16], b: &[u8; 16]) -> bool
+    ensures { IsTrue result ↔ (a.now ≡ b.now) }
+{
+    *a == *b
+}
+
+/// The game of the folder that has this stamp.
+pub(crate) fn found<G: Games>(
+    alloc: Global,
+    manifest: &[u8],
+    games: &G,
+    stamp: &[u8; 16],
+) -> Result<Found, Unopened>
+    ensures ok { IfOk result (λ game. IsGameOf manifest.now stamp.now game.name.items game.start game.delay) }
+    ensures told { IfOk result ((keepers G.Keeper.facts G.facts games.now).tells stamp.now) }
+    ensures err { IfErr result (IsStrange (keepers G.Keeper.facts G.facts games.now) manifest.now stamp.now) }
+{
+    let game = match games.find(alloc, stamp) {
+        Ok(game) => game,
+        Err(why) => return Err(why),
+    };
+    let name = game.name.as_slice();
+    let Some(own) = Stamp::of(name, &game.start, manifest, game.delay) else {
+        return Err(Unopened::OtherGame);
+    };
+    if !is_same(&own.0, stamp) {
+        return Err(Unopened::OtherGame);
+    }
+    Ok(game)
+}
+
+/// What is answered where a game isn't open, or bytes are no message: the line alone.
+pub(crate) fn told_alone(alloc: Global, line: Line) -> Answered
+    ensures outputs { result.outputs.items ≡ [] }
+    ensures line { result.line ≡ line }
+{
+    Answered {
+        outputs: SmallVec::new(alloc),
+        line,
+    }
+}

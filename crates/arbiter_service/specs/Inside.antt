@@ -1,2 +1,0 @@
--- What functions find on the way; cited by private clauses alone.
-pub mod Steps

@@ -1,6 +1,0 @@
-use Rattle.game_host.specs.Seats.{One}
-use Rattle.game_host.proofs.settling.make_room.Goals as goal
-
-pub returns-in-Some-clause-closes : goal.returns-in-Some-clause-closes
-returns-in-Some-clause-closes g c =
-    One c.in-Some.least.0 c.in-Some.least.1 c.in-Some.ensures.was c.in-Some.ensures.after c.close.ensures.closes.next c.close.ensures.closes.others

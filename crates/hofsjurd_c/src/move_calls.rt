@@ -1,0 +1,91 @@
+//! Calls about the moves of a position: what each is worth, and the board after one.
+
+ghost use Rattle.std.specs.Prelude.{◌≡◌, None, Some};
+ghost use Rattle.hofsjurd_c.specs.declared.held.Held.{Held};
+ghost use Rattle.probe_api.specs.declared.root.RootValues.TheVariants.{OfTables};
+ghost use Rattle.probe_api.specs.Afters.{TellsAfter};
+ghost use Rattle.probe_api.specs.Missing.{PutsMissing};
+ghost use Rattle.probe_api.specs.Replies.{refused};
+ghost use Rattle.probe_api.specs.Roots.{PutsRootOfBoard, PutsRootOfText, TellsState};
+
+use crate::handle::Handle;
+use probe_api::{Board, PlainMove, PlainRootMove, Reply, RootValues};
+use std::alloc::Global;
+
+/// Puts the legal moves of the position that a FEN text spells into the caller's room, the best first, with what each does and what
+/// it is worth, and tells how many there are.
+#[unsafe(no_mangle)]
+pub extern "C" fn hofsjurd_root(
+    alloc: Global,
+    handle: &mut Handle,
+    fen: &[u8],
+    room: &mut [PlainRootMove],
+) -> Reply
+    ensures closed { handle.old.seat.value ≡ None → (result ≡ refused 1) × (room.new ≡ room.old) }
+    ensures is { (held : Held) → handle.old.seat.value ≡ Some held → PutsRootOfText OfTables held.set.tables fen.now room.old result room.new }
+    ensures kept { handle.new.seat.value ≡ handle.old.seat.value }
+{
+    let Some(mut held) = handle.take(alloc) else {
+        return Reply::refused(1);
+    };
+    let reply = probe_api::root_of_text(alloc, &mut held.set, RootValues::OfTables, fen, room);
+    *handle = Handle::open(held);
+    reply
+}
+
+/// The legal moves of the position that a board shows, the best first.
+#[unsafe(no_mangle)]
+pub extern "C" fn hofsjurd_board_root(
+    alloc: Global,
+    handle: &mut Handle,
+    board: &Board,
+    room: &mut [PlainRootMove],
+) -> Reply
+    ensures closed { handle.old.seat.value ≡ None → (result ≡ refused 1) × (room.new ≡ room.old) }
+    ensures is { (held : Held) → handle.old.seat.value ≡ Some held → PutsRootOfBoard OfTables held.set.tables board.now room.old result room.new }
+    ensures kept { handle.new.seat.value ≡ handle.old.seat.value }
+{
+    let Some(mut held) = handle.take(alloc) else {
+        return Reply::refused(1);
+    };
+    let reply = probe_api::root_of_board(alloc, &mut held.set, RootValues::OfTables, board, room);
+    *handle = Handle::open(held);
+    reply
+}
+
+/// Puts the board after a move into the caller's room. A move that isn't legal is refused, and the room stays as it was.
+#[unsafe(no_mangle)]
+pub extern "C" fn hofsjurd_board_after(board: &Board, m: &PlainMove, room: &mut Board) -> u32
+    ensures { TellsAfter board.now m.now room.old result room.new }
+{
+    probe_api::board_after(board, *m, room)
+}
+
+/// How the position that a board shows stands for its side to move: 0 open, 1 check, 2 checkmate, 3 stalemate.
+#[unsafe(no_mangle)]
+pub extern "C" fn hofsjurd_board_state(board: &Board) -> Reply
+    ensures { TellsState board.now result }
+{
+    probe_api::state_of_board(board)
+}
+
+/// Puts the name of the table that the WDL probe of a board misses, as `KQvK`, and a byte 0 after it into the caller's room, where both
+/// fit, and tells the length of the name; the name is empty where the probe misses none, and nothing is told of a closed handle.
+#[unsafe(no_mangle)]
+pub extern "C" fn hofsjurd_board_missing(
+    alloc: Global,
+    handle: &mut Handle,
+    board: &Board,
+    room: &mut [u8],
+) -> usize
+    ensures closed { handle.old.seat.value ≡ None → (result ≡ 0) × (room.new ≡ room.old) }
+    ensures is { (held : Held) → handle.old.seat.value ≡ Some held → PutsMissing held.set.tables board.now room.old result room.new }
+    ensures kept { handle.new.seat.value ≡ handle.old.seat.value }
+{
+    let Some(mut held) = handle.take(alloc) else {
+        return 0;
+    };
+    let length = probe_api::put_missing(alloc, &mut held.set, board, room);
+    *handle = Handle::open(held);
+    length
+}

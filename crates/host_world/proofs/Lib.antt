@@ -1,5 +1,0 @@
-pub mod Seeing
-pub mod Weaving
-pub mod Stopping
-pub mod Joining
-pub mod Acking

@@ -1,6 +1,0 @@
-use Rattle.game_host.specs.Folders.{keepers}
-use Rattle.host_world.proofs.Joining.{hosts_are_worlds}
-use Rattle.host_world.proofs.hosts_are_worlds.Goals as goal
-
-pub returns : goal.returns
-returns g c = λ first second. hosts_are_worlds (keepers g.G.Keeper.Keeper.facts g.G.Games.facts first) (keepers g.H.Keeper.Keeper.facts g.H.Games.facts second)

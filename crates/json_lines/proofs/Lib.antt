@@ -1,0 +1,4 @@
+pub mod Pieces
+pub mod Squares
+pub mod Whole
+pub mod Playing

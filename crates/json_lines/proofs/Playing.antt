@@ -1,0 +1,101 @@
+-- Moves of a list, told one after the other.
+use Rattle.std.proofs.Common.{◌≡◌, ◌∙◌, sym, ap, refl, subst, ℕ, suc, zero, ◌+◌, ◌<◌, ◌≤◌, Bool, true, false, ◌&&◌, List, [], ◌∷◌, ◌++◌, length, take, get_or, Option, Some, None, filter_map, option_map, arith}
+use Rattle.std.specs.Prelude.{unwrap_or, Result, Ok, Err, OnErr}
+use Rattle.std.specs.List.{All, list_all}
+use Rattle.std.proofs.lemmas.List.{take_more, take_all}
+use Rattle.std.proofs.lemmas.List.Elements.{All-append, All-get_or, All-nil, All-from_get_or}
+use Rattle.std.proofs.lemmas.List.Folds.{list_all-append}
+use Rattle.std.proofs.lemmas.List.Sorted.{All-permutation}
+use Rattle.board_core.specs.declared.parts.Parts.{Parts}
+use Rattle.board_core.specs.declared.moves.Move.{Move}
+use Rattle.board_core.specs.ComputedMoves.{legal_moves, position_after}
+use Rattle.judge_core.specs.declared.root_move.RootMove.{RootMove}
+use Rattle.judge_core.specs.Probed.{has_both}
+use Rattle.judge_core.specs.Distances.{Reach, dtz_of}
+use Rattle.judge_core.specs.Probing.{wdl_of}
+use Rattle.judge_core.specs.Root.{IsRootBy, root_move_at, root_move_by, root_moves_by}
+use Rattle.judge_core.specs.Tables.{Tables}
+use Rattle.judge_core.specs.Values.{Reading}
+use Rattle.json_lines.specs.Ask.{IsRanked}
+use Rattle.json_lines.specs.declared.ask.Ask.{Ask}
+use Rattle.json_lines.specs.declared.ask.Ask.TheVariants.{Strict, Determined}
+use Rattle.json_lines.specs.declared.told.MoveTold.{MoveTold}
+use Rattle.json_lines.specs.Inside.Playing.{IsPlayable}
+use Rattle.json_lines.specs.Told.{AreMovesTold, IsMoveTold}
+
+-- ---- root moves can be played
+
+head_all : {X : Type 0} (P : X → Type 0) (x : X) (xs : List X) → P x → All P xs → All P (x ∷ xs)
+head_all P x xs h hs = All-append P (x ∷ []) xs (All-from_get_or P (x ∷ []) x (λ i lt. subst (λ n. P (get_or (x ∷ []) n x)) (let e : 0 ≡ i = omega (arith, lt) in e) h)) hs
+
+module _ (value : Parts → Reading) (reach : Parts → Reach) (p : Parts) where
+  of_after : (m : Move) (o : Option Parts) (r : RootMove) → position_after p m ≡ o → option_map (root_move_by value reach p m) o ≡ Some r → IsPlayable p r
+  of_after m None r e is = absurd (cc)
+  of_after m (Some q) r e is =
+      let made : root_move_by value reach p m q ≡ r = ap (λ (o : Option RootMove). unwrap_or o r) is in
+      (q, ap (λ (x : RootMove). position_after p x.played) (sym made) ∙ e)
+
+  of_moves : (ms : List Move) → All (IsPlayable p) (filter_map (root_move_at value reach p) ms)
+  of_moves [] = All-nil (IsPlayable p)
+  of_moves (m ∷ ms) = by_after (position_after p m) refl (of_moves ms)
+    where
+      by_after : (o : Option Parts) → position_after p m ≡ o → All (IsPlayable p) (filter_map (root_move_at value reach p) ms) → All (IsPlayable p) (filter_map (root_move_at value reach p) (m ∷ ms))
+      by_after None e rest = rw e rest
+      by_after (Some q) e rest = rw e (head_all (IsPlayable p) (root_move_by value reach p m q) _ (q, e) rest)
+
+  playable_by : (moves : List RootMove) → IsRootBy value reach p moves → All (IsPlayable p) moves
+  unfolding root_moves_by
+  playable_by moves root = All-permutation (IsPlayable p) (root_moves_by value reach p) moves root.all (of_moves (legal_moves p))
+
+pub are_playable : (ask : Ask) (tables : Tables) (p : Parts) (moves : List RootMove) → IsRanked ask tables p moves → All (IsPlayable p) moves
+are_playable Strict tables p moves root = playable_by (wdl_of tables) (dtz_of tables) p moves root
+are_playable Determined tables p moves root = playable_by root.value root.reach p moves root.root
+
+module _ (ask : Ask) (tables : Tables) (p : Parts) where
+  -- ---- one move more
+
+  both_told : (ms ns : List RootMove) (ts us : List MoveTold) → AreMovesTold ask tables p ms ts → AreMovesTold ask tables p ns us → AreMovesTold ask tables p (ms ++ ns) (ts ++ us)
+  both_told [] ns [] us h k = k
+  both_told [] ns (t ∷ ts) us h k = absurd h
+  both_told (m ∷ ms) ns [] us h k = absurd h
+  both_told (m ∷ ms) ns (t ∷ ts) us h k = (h.0, both_told ms ns ts us h.1 k)
+
+  pub one_more_told : (moves : List RootMove) (i : ℕ) (m : RootMove) (ts ts' : List MoveTold) (t : MoveTold) → i < length moves → m ≡ get_or moves i m → AreMovesTold ask tables p (take i moves) ts → IsMoveTold ask tables p m t → ts' ≡ ts ++ t ∷ [] → AreMovesTold ask tables p (take (i + 1) moves) ts'
+  one_more_told moves i m ts ts' t lt is so_far one e =
+      let more = take_more moves i m lt ∙ ap (λ x. take i moves ++ x ∷ []) (sym is) in
+      subst (λ xs. AreMovesTold ask tables p xs ts') (sym more) (subst (λ us. AreMovesTold ask tables p (take i moves ++ m ∷ []) us) (sym e) (both_told (take i moves) (m ∷ []) ts (t ∷ []) so_far (one, tt)))
+
+  pub none_are_told : (ts : List MoveTold) → ts ≡ [] → AreMovesTold ask tables p [] ts
+  none_are_told ts e = subst (λ us. AreMovesTold ask tables p [] us) (sym e) tt
+
+  pub all_are_told : (moves : List RootMove) (i : ℕ) (ts : List MoveTold) → length moves ≤ i → AreMovesTold ask tables p (take i moves) ts → AreMovesTold ask tables p moves ts
+  all_are_told moves i ts end h = subst (λ xs. AreMovesTold ask tables p xs ts) (take_all i moves end) h
+
+pub playable_at : (p : Parts) (moves : List RootMove) (i : ℕ) (m : RootMove) → i < length moves → m ≡ get_or moves i m → All (IsPlayable p) moves → IsPlayable p m
+playable_at p moves i m lt is all = subst (IsPlayable p) (sym is) (All-get_or (IsPlayable p) moves i m lt all)
+
+-- ---- all values are there
+
+-- both values of a move are there
+abbrev pub is_told : MoveTold → Bool
+is_told t = has_both t.probed
+
+and-true : (a : Bool) → (a && true) ≡ a
+and-true true = refl
+and-true false = refl
+
+pub one_more_both : (moves : List MoveTold) (i : ℕ) (m : MoveTold) (all here : Bool) → i < length moves → m ≡ get_or moves i m → all ≡ list_all is_told (take i moves) → here ≡ is_told m → (all && here) ≡ list_all is_told (take (i + 1) moves)
+one_more_both moves i m all here lt is so_far h =
+    let more = take_more moves i m lt ∙ ap (λ x. take i moves ++ x ∷ []) (sym is) in
+    ap (λ (b : Bool). b && here) so_far
+    ∙ ap (λ (b : Bool). list_all is_told (take i moves) && b) (h ∙ sym (and-true (is_told m)))
+    ∙ sym (list_all-append is_told (take i moves) (m ∷ []))
+    ∙ ap (list_all is_told) (sym more)
+
+pub all_both : (moves : List MoveTold) (i : ℕ) (all : Bool) → length moves ≤ i → all ≡ list_all is_told (take i moves) → all ≡ list_all is_told moves
+all_both moves i all end h = h ∙ ap (list_all is_told) (take_all i moves end)
+
+-- what holds anyhow holds where there is an error
+pub anyhow : {A E X : Type 0} (r : Result A E) → X → OnErr r X
+anyhow (Ok a) x = tt
+anyhow (Err e) x = x

@@ -1,0 +1,7 @@
+use Rattle.json_lines.proofs.ask.Ask.answers.Goals as goal
+
+pub returns-in-Strict-clause-told : goal.returns-in-Strict-clause-told
+returns-in-Strict-clause-told c = rw c.in-Strict.is c.answers.ensures.told
+
+pub returns-in-Determined-clause-told : goal.returns-in-Determined-clause-told
+returns-in-Determined-clause-told c = rw c.in-Determined.is c.determined_answers.ensures.told

@@ -1,0 +1,21 @@
+use Rattle.std.proofs.Common.{List, false, subst}
+use Rattle.std.specs.Prelude.{OnOk}
+use Rattle.std.proofs.lemmas.Result.{on_ok_weaker}
+use Rattle.json.specs.Tree.{json_tokens}
+use Rattle.json_lines.specs.declared.told.JsonLine.TheVariants as line
+use Rattle.json_lines.specs.declared.told.MoveTold.{MoveTold}
+use Rattle.json_lines.specs.Inside.Members.{Writes}
+use Rattle.json_lines.specs.Objects.{root_json}
+use Rattle.json_lines.proofs.Whole.{line_reads_back}
+use Rattle.json_lines.proofs.writing.put_json_line.Goals as goal
+
+pub returns-in-Fault-clause-reads_back : goal.returns-in-Fault-clause-reads_back
+returns-in-Fault-clause-reads_back g c = rw c.in-Fault.is (on_ok_weaker c.put_fen_error.result (λ h. line_reads_back (line.Fault c.in-Fault.fault) _ _ h) c.put_fen_error.ensures)
+
+pub returns-in-Position-clause-reads_back : goal.returns-in-Position-clause-reads_back
+returns-in-Position-clause-reads_back g c = rw c.in-Position.is (on_ok_weaker c.put_alone.result (λ h. line_reads_back (line.Position c.in-Position.told) _ _ h) c.put_alone.ensures)
+
+pub returns-in-Root-clause-reads_back : goal.returns-in-Root-clause-reads_back
+returns-in-Root-clause-reads_back g c =
+    let written = subst (λ (ms : List MoveTold). OnOk c.put_root.result (Writes false (json_tokens (root_json c.in-Root.told ms)) (g.W.Write.contents c.args.out.now) (g.W.Write.contents c.put_root.new.out))) c.deref.ensures.value c.put_root.ensures in
+    rw c.in-Root.is (on_ok_weaker c.put_root.result (λ h. line_reads_back (line.Root c.in-Root.told c.in-Root.moves) _ _ h) written)

@@ -1,0 +1,25 @@
+-- How tables are asked for values (this project's own).
+use Rattle.std.specs.Prelude.{Bool, true, false, List}
+use Rattle.board_core.specs.declared.parts.Parts.{Parts}
+use Rattle.judge_core.specs.declared.probed.Probed.{Probed}
+use Rattle.judge_core.specs.declared.root_move.RootMove.{RootMove}
+use Rattle.judge_core.specs.Determined.{AreDetermined, IsDeterminedRoot}
+use Rattle.judge_core.specs.Probed.{IsProbed}
+use Rattle.judge_core.specs.Root.{IsRoot}
+use Rattle.judge_core.specs.Tables.{Tables}
+use Rattle.json_lines.specs.declared.ask.Ask.{Ask}
+use Rattle.json_lines.specs.declared.ask.Ask.TheVariants.{Strict, Determined}
+
+-- both values of a position
+abbrev pub IsAnswered : Ask → Tables → Parts → Probed → Type 0
+IsAnswered Strict = IsProbed
+IsAnswered Determined = AreDetermined
+
+-- its legal moves, the best first
+abbrev pub IsRanked : Ask → Tables → Parts → List RootMove → Type 0
+IsRanked Strict = IsRoot
+IsRanked Determined = IsDeterminedRoot
+
+abbrev pub ask_of : Bool → Ask
+ask_of true = Determined
+ask_of false = Strict

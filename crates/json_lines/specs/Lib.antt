@@ -1,0 +1,5 @@
+pub mod Ask
+pub mod Objects
+pub mod Material
+pub mod Told
+pub mod Inside

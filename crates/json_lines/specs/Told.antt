@@ -1,0 +1,80 @@
+-- What is told of a position and of its legal moves (this project's own).
+use Rattle.std.specs.Prelude.{◌≡◌, ◌⊎◌, ◌&&◌, ℕ, pos, negsuc, Bool, true, false, List, [], ◌∷◌, Some, Ok, Err}
+use Rattle.std.specs.List.{list_all}
+use Rattle.board_core.specs.declared.parts.Parts.{Parts}
+use Rattle.board_core.specs.Position.{IsPosition}
+use Rattle.board_core.specs.ComputedMoves.{position_after}
+use Rattle.fen_text.specs.declared.fault.FenFault.{FenFault}
+use Rattle.fen_text.specs.Fen.{SpellsPosition, IsFirstFenFault}
+use Rattle.judge_core.specs.declared.probed.Probed.{Probed}
+use Rattle.judge_core.specs.declared.root_move.RootMove.{RootMove}
+use Rattle.judge_core.specs.Probed.{has_both}
+use Rattle.judge_core.specs.Root.{is_checkmate}
+use Rattle.judge_core.specs.Ruling.{is_out_of_scope, ruling}
+use Rattle.judge_core.specs.Tables.{Tables}
+use Rattle.json_lines.specs.Ask.{IsAnswered, IsRanked}
+use Rattle.json_lines.specs.declared.ask.Ask.{Ask}
+use Rattle.json_lines.specs.declared.told.JsonLine.{JsonLine}
+use Rattle.json_lines.specs.declared.told.JsonLine.TheVariants as line
+use Rattle.json_lines.specs.declared.told.MoveTold.{MoveTold}
+use Rattle.json_lines.specs.declared.told.PositionTold.{PositionTold}
+
+-- both probes of the position, and the verdict on it
+pub record IsPositionTold (ask : Ask) (tables : Tables) (p : Parts) (t : PositionTold) : Type 0 where
+  pub position : t.position ≡ p
+  pub probed : IsAnswered ask tables p t.columns.probed
+  pub verdict : t.columns.verdict ≡ ruling tables p
+
+-- the legal moves by value, none where the position is out of scope
+abbrev pub AreMoves : Ask → Tables → Parts → List RootMove → Type 0
+AreMoves ask tables p moves = ((is_out_of_scope p ≡ true) × (moves ≡ [])) ⊎ ((is_out_of_scope p ≡ false) × IsRanked ask tables p moves)
+
+-- a side that is mated has lost, and needs no table
+abbrev pub mated : Probed
+mated = record { wdl = Ok (negsuc 1); dtz = Ok (negsuc 0) }
+
+-- what both probes tell of the position after a move; a mated side has lost without a table
+abbrev pub IsProbedAfter : Ask → Tables → Bool → Parts → Probed → Type 0
+IsProbedAfter ask tables true q probed = probed ≡ mated
+IsProbedAfter ask tables false q probed = IsAnswered ask tables q probed
+
+-- a move, and what is told of the position after it
+pub record IsMoveTold (ask : Ask) (tables : Tables) (p : Parts) (m : RootMove) (t : MoveTold) : Type 0 where
+  pub root : t.root ≡ m
+  pub after : position_after p m.played ≡ Some t.after
+  pub probed : IsProbedAfter ask tables (is_checkmate m.state) t.after t.probed
+
+abbrev pub AreMovesTold : Ask → Tables → Parts → List RootMove → List MoveTold → Type 0
+AreMovesTold ask tables p [] [] = Unit {0}
+AreMovesTold ask tables p [] (t ∷ ts) = ⊥
+AreMovesTold ask tables p (m ∷ ms) [] = ⊥
+AreMovesTold ask tables p (m ∷ ms) (t ∷ ts) = IsMoveTold ask tables p m t × AreMovesTold ask tables p ms ts
+
+-- all legal moves, the best first
+pub record IsRootTold (ask : Ask) (tables : Tables) (p : Parts) (ts : List MoveTold) : Type 0 where
+  pub moves : List RootMove
+  pub are : AreMoves ask tables p moves
+  pub told : AreMovesTold ask tables p moves ts
+
+-- the line of a position, with its moves or without
+abbrev pub IsLineOf : Ask → Bool → Tables → Parts → JsonLine → Type 0
+IsLineOf ask with_moves tables p (line.Fault fault) = ⊥
+IsLineOf ask false tables p (line.Position t) = IsPositionTold ask tables p t
+IsLineOf ask true tables p (line.Position t) = ⊥
+IsLineOf ask false tables p (line.Root t moves) = ⊥
+IsLineOf ask true tables p (line.Root t moves) = IsPositionTold ask tables p t × IsRootTold ask tables p moves.items
+
+-- the line of the position that a text spells, or that of the text's fault
+pub data IsLineFor (text : List ℕ) (IsLine : Parts → JsonLine → Type 0) (l : JsonLine) : Type 0 where
+  ForPosition : (p : Parts) → SpellsPosition text p → IsPosition p → IsLine p l → IsLineFor text IsLine l
+  ForNone : (fault : FenFault) → IsFirstFenFault text fault → l ≡ line.Fault fault → IsLineFor text IsLine l
+
+-- all that is told of is there
+abbrev pub is_done : JsonLine → Bool
+is_done (line.Fault fault) = false
+is_done (line.Position t) = has_both t.columns.probed
+is_done (line.Root t moves) = has_both t.columns.probed && list_all (λ m. has_both m.probed) moves.items
+
+-- the text spells a position
+abbrev pub IsText : List ℕ → Type 0
+IsText text = (p : Parts) × SpellsPosition text p × IsPosition p

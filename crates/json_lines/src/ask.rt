@@ -1,0 +1,67 @@
+//! How tables are asked for values.
+
+ghost use Rattle.std.specs.Prelude.{◌≡◌, IfOk};
+ghost use Rattle.judge_core.specs.Root.{IsInScope};
+ghost use Rattle.judge_core.specs.Ruling.{ruling};
+ghost use Rattle.json_lines.specs.Ask.{IsAnswered, IsRanked, ask_of};
+
+use board_core::Position;
+use judge_core::{Columns, RootMove, Set};
+use std::alloc::{AllocError, Global};
+
+/// How tables are asked for values.
+#[derive(Clone, Copy)]
+pub enum Ask {
+    /// For the values that follow from the tables that are there.
+    Strict,
+    /// Also for those that are the same whatever the missing tables hold.
+    Determined,
+}
+
+impl Ask {
+    /// For determined values too, or for the others alone.
+    pub fn of(determined: bool) -> Ask
+        ensures { result ≡ ask_of determined }
+    {
+        if determined {
+            Ask::Determined
+        } else {
+            Ask::Strict
+        }
+    }
+
+    /// Both probes of the position, as `Set::answers` or `Set::determined_answers` gives them, and the verdict on it, which is
+    /// the same for both. The error comes only where memory is refused. The set stays as it was but for its cache.
+    pub fn answers(
+        self,
+        alloc: Global,
+        set: &mut Set<'_>,
+        position: &Position,
+    ) -> Result<Columns, AllocError>
+        ensures told { IfOk result (λ columns. IsAnswered self set.old.tables position.now columns.probed) }
+        ensures verdict { IfOk result (λ columns. columns.verdict ≡ ruling set.old.tables position.now) }
+        ensures unchanged { set.new ≡ set.old }
+    {
+        match self {
+            Ask::Strict => set.answers(alloc, position),
+            Ask::Determined => set.determined_answers(alloc, position),
+        }
+    }
+
+    /// The legal moves, the best first, as `Set::root` or `Set::determined_root` gives them; none where the position is out
+    /// of scope. The error comes only where memory is refused. The set stays as it was but for its cache.
+    pub fn root(
+        self,
+        alloc: Global,
+        set: &mut Set<'_>,
+        position: &Position,
+    ) -> Result<Option<Vec<RootMove>>, AllocError>
+        ensures moves { IfOk result (IsInScope (λ moves. IsRanked self set.old.tables position.now moves.items) position.now) }
+        ensures unchanged { set.new ≡ set.old }
+    {
+        match self {
+            Ask::Strict => set.root(alloc, position),
+            Ask::Determined => set.determined_root(alloc, position),
+        }
+    }
+}

@@ -1,0 +1,245 @@
+//! What tables tell of a position and of its legal moves.
+
+ghost use Rattle.std.specs.Prelude.{◌≡◌, ◌++◌, ◌∷◌, [], IfOk, OnErr, OnOk};
+ghost use Rattle.std.specs.List.{All, list_all};
+ghost use Rattle.judge_core.specs.Probed.{has_both};
+ghost use Rattle.judge_core.specs.Root.{is_checkmate};
+ghost use Rattle.json_lines.specs.declared.told.MoveTold.{MoveTold};
+ghost use Rattle.json_lines.specs.Inside.Playing.{IsPlayable};
+ghost use Rattle.json_lines.specs.Told.{AreMovesTold, IsLineFor, IsLineOf, IsMoveTold, IsPositionTold, IsProbedAfter, IsRootTold, IsText, is_done};
+
+use crate::ask::Ask;
+use board_core::Position;
+use fen_text::{FenFault, read};
+use judge_core::{Columns, Probed, RootMove, Set};
+use std::alloc::{AllocError, Global};
+
+/// Both probes of a position and the verdict on it.
+#[derive(Clone, Copy)]
+pub struct PositionTold {
+    /// The position.
+    pub position: Position,
+    /// Its values and its verdict.
+    pub columns: Columns,
+}
+
+/// A legal move, and both probes of the position after it.
+#[derive(Clone, Copy)]
+pub struct MoveTold {
+    /// The move.
+    pub root: RootMove,
+    /// The position after it.
+    pub after: Position,
+    /// The values of that position, from the view of its side to move. A side that is mated has -2 and -1.
+    pub probed: Probed,
+}
+
+/// What one line tells.
+#[derive(Drop)]
+pub enum JsonLine {
+    /// Why a text is no position.
+    Fault(FenFault),
+    /// A position.
+    Position(PositionTold),
+    /// A position and its legal moves, the best first.
+    Root(PositionTold, Vec<MoveTold>),
+}
+
+/// The values of the position after a move. Where it is mate they need no table.
+fn probed_after(
+    ask: Ask,
+    alloc: Global,
+    set: &mut Set<'_>,
+    m: &RootMove,
+    after: &Position,
+) -> Result<Probed, AllocError>
+    ensures told { IfOk result (IsProbedAfter ask set.old.tables (is_checkmate m.now.state) after.now) }
+    ensures unchanged { set.new ≡ set.old }
+{
+    if m.state.is_checkmate() {
+        return Ok(Probed {
+            wdl: Ok(-2),
+            dtz: Ok(-1),
+        });
+    }
+    match ask.answers(alloc, set, after) {
+        Ok(columns) => Ok(columns.probed),
+        Err(fault) => Err(fault),
+    }
+}
+
+/// A legal move with what is told of it.
+fn move_told(
+    ask: Ask,
+    alloc: Global,
+    set: &mut Set<'_>,
+    position: &Position,
+    m: &RootMove,
+) -> Result<MoveTold, AllocError>
+    requires { IsPlayable position.now m.now }
+    ensures told { IfOk result (IsMoveTold ask set.old.tables position.now m.now) }
+    ensures unchanged { set.new ≡ set.old }
+{
+    match position.play(m.played) {
+        Some(after) => match probed_after(ask, alloc, set, m, &after) {
+            Ok(probed) => Ok(MoveTold {
+                root: *m,
+                after,
+                probed,
+            }),
+            Err(fault) => Err(fault),
+        },
+        None => unreachable!(),
+    }
+}
+
+/// Adds an item to a list. It is over any type, since the borrow checker doesn't cover a push of a `MoveTold`
+/// (docs/PROVING.md).
+fn add<T: Copy>(list: &mut Vec<T>, item: T) -> Result<(), AllocError>
+    ensures { OnOk result (list.new.items ≡ list.old.items ++ item ∷ []) }
+{
+    list.push(item)?;
+    Ok(())
+}
+
+/// Adds a legal move with what is told of it.
+fn add_move_told(
+    ask: Ask,
+    alloc: Global,
+    set: &mut Set<'_>,
+    position: &Position,
+    m: &RootMove,
+    told: &mut Vec<MoveTold>,
+) -> Result<(), AllocError>
+    requires { IsPlayable position.now m.now }
+    ensures added { OnOk result ((t : MoveTold) × IsMoveTold ask set.old.tables position.now m.now t × (told.new.items ≡ told.old.items ++ t ∷ [])) }
+    ensures unchanged { set.new ≡ set.old }
+{
+    match move_told(ask, alloc, set, position, m) {
+        Ok(one) => add(told, one),
+        Err(fault) => Err(fault),
+    }
+}
+
+/// All legal moves with what is told of them.
+fn moves_told(
+    ask: Ask,
+    alloc: Global,
+    set: &mut Set<'_>,
+    position: &Position,
+    moves: &[RootMove],
+) -> Result<Vec<MoveTold>, AllocError>
+    requires { All (IsPlayable position.now) moves.now }
+    ensures told { IfOk result (λ told. AreMovesTold ask set.old.tables position.now moves.now told.items) }
+    ensures unchanged { set.new ≡ set.old }
+{
+    let mut told = Vec::new(alloc);
+    for m in moves {
+        add_move_told(ask, alloc, set, position, m, &mut told)?;
+    }
+    Ok(told)
+}
+
+/// All legal moves of a position with what is told of them, the best first.
+fn root_told(
+    ask: Ask,
+    alloc: Global,
+    set: &mut Set<'_>,
+    position: &Position,
+) -> Result<Vec<MoveTold>, AllocError>
+    ensures told { IfOk result (λ told. IsRootTold ask set.old.tables position.now told.items) }
+    ensures unchanged { set.new ≡ set.old }
+{
+    match ask.root(alloc, set, position) {
+        Ok(Some(moves)) => moves_told(ask, alloc, set, position, &moves),
+        Ok(None) => Ok(Vec::new(alloc)),
+        Err(fault) => Err(fault),
+    }
+}
+
+/// A position with both probes and its verdict.
+fn position_told(
+    ask: Ask,
+    alloc: Global,
+    set: &mut Set<'_>,
+    position: &Position,
+) -> Result<PositionTold, AllocError>
+    ensures told { IfOk result (IsPositionTold ask set.old.tables position.now) }
+    ensures unchanged { set.new ≡ set.old }
+{
+    match ask.answers(alloc, set, position) {
+        Ok(columns) => Ok(PositionTold {
+            position: *position,
+            columns,
+        }),
+        Err(fault) => Err(fault),
+    }
+}
+
+impl JsonLine {
+    /// What tables tell of a position, with its legal moves if they are wanted, the best first.
+    ///
+    /// Values and verdict are those of `Ask::answers`, the moves those of `Ask::root`. The values of a move are those of
+    /// `Ask::answers` for the position after it. A position that is out of scope has no move. The error comes only where
+    /// memory is refused. The tables stay as they were.
+    pub fn of_position(
+        alloc: Global,
+        set: &mut Set<'_>,
+        position: &Position,
+        ask: Ask,
+        with_moves: bool,
+    ) -> Result<JsonLine, AllocError>
+        ensures told { IfOk result (IsLineOf ask with_moves set.old.tables position.now) }
+        ensures unchanged { set.new ≡ set.old }
+    {
+        let told = position_told(ask, alloc, set, position)?;
+        if with_moves {
+            let moves = root_told(ask, alloc, set, position)?;
+            Ok(JsonLine::Root(told, moves))
+        } else {
+            Ok(JsonLine::Position(told))
+        }
+    }
+
+    /// What tables tell of the position of a text, as `of_position` does, or why the text is none.
+    ///
+    /// The error comes only where memory is refused for a text that is a position.
+    pub fn of_text(
+        alloc: Global,
+        set: &mut Set<'_>,
+        text: &[u8],
+        ask: Ask,
+        with_moves: bool,
+    ) -> Result<JsonLine, AllocError>
+        ensures told { IfOk result (IsLineFor text.now (IsLineOf ask with_moves set.old.tables)) }
+        ensures memory { OnErr result (IsText text.now) }
+        ensures unchanged { set.new ≡ set.old }
+    {
+        match read(text) {
+            Ok(position) => JsonLine::of_position(alloc, set, &position, ask, with_moves),
+            Err(fault) => Ok(JsonLine::Fault(fault)),
+        }
+    }
+
+    /// Whether the text is a position and no value that is told of is refused.
+    pub fn is_done(&self) -> bool
+        ensures { result ≡ is_done self.now }
+    {
+        match self {
+            JsonLine::Fault(_) => false,
+            JsonLine::Position(told) => told.columns.probed.has_both(),
+            JsonLine::Root(told, moves) => told.columns.probed.has_both() && have_both(moves),
+        }
+    }
+}
+
+/// Whether no value of these moves is refused.
+fn have_both(moves: &[MoveTold]) -> bool
+    ensures { result ≡ list_all (λ m. has_both m.probed) moves.now }
+{
+    let mut all = true;
+    for m in moves {
+        all &= m.probed.has_both();
+    }
+    all
+}

@@ -1,0 +1,398 @@
+//! The line of a position, written.
+
+ghost use Rattle.std.specs.Prelude.{◌≡◌, ◌++◌, ◌∷◌, ◌<◌, [], Bool, false, true, codes, length, Some, OnOk};
+ghost use Rattle.std.specs.Io.KnownBytes.{Appends};
+ghost use Rattle.json.specs.Json.{array, document, string};
+ghost use Rattle.json.specs.Token.{begin_array, begin_object, end_array, end_object, key};
+ghost use Rattle.json.specs.Tree.{json_tokens};
+ghost use Rattle.json_lines.specs.Inside.Members.{Writes, members_of, open_items, open_tokens, value_json};
+ghost use Rattle.fen_text.specs.Coordinates.{move_text};
+ghost use Rattle.judge_core.specs.Words.{fault_words};
+ghost use Rattle.place_index.specs.Material.{men_of, name_of};
+ghost use Rattle.json_lines.specs.Objects.{after_members, category, error_members, fault_json, fen_error, first_fault, followed_by, is_stalemate, json_text, line_json, move_json, move_members, moves_items, number_or_null, position_json, position_members, root_json, verdict_or_null};
+
+use crate::material::is_insufficient;
+use crate::members::{Member, Value, put_comma, put_key, put_member, put_members};
+use crate::text::put;
+use crate::told::{JsonLine, MoveTold, PositionTold};
+use board_core::Verdict;
+use fen_text::{FenFault, write, write_move};
+use judge_core::{BoardState, ProbeFault, Probed};
+use place_index::Material;
+use std::io::Write;
+use system_io::WriteFault;
+
+/// A number of the tables, or null where there is none.
+fn number_or_null<'a>(told: &Result<i32, ProbeFault>) -> Value<'a>
+    ensures { value_json result ≡ number_or_null told.now }
+{
+    match told {
+        Ok(number) => Value::Number(*number),
+        Err(_) => Value::Null,
+    }
+}
+
+/// The verdict's name, or null where the game goes on.
+fn verdict_or_null<'a>(verdict: Option<Verdict>) -> Value<'a>
+    ensures { value_json result ≡ verdict_or_null verdict }
+{
+    match verdict {
+        Some(verdict) => Value::Text(verdict.name()),
+        None => Value::Null,
+    }
+}
+
+/// The WDL value in a word.
+fn category<'a>(wdl: &Result<i32, ProbeFault>) -> &'a str
+    ensures { result.now ≡ category wdl.now }
+{
+    match wdl {
+        Err(_) => "unknown",
+        Ok(number) => {
+            if *number == 2 {
+                "win"
+            } else if *number == 1 {
+                "cursed-win"
+            } else if *number == 0 {
+                "draw"
+            } else if *number == -1 {
+                "blessed-loss"
+            } else {
+                "loss"
+            }
+        }
+    }
+}
+
+/// Whether the side to move is stalemated.
+fn is_stalemate(state: BoardState) -> bool
+    ensures { result ≡ is_stalemate state }
+{
+    match state {
+        BoardState::Stalemate => true,
+        BoardState::Open | BoardState::Check | BoardState::Checkmate => false,
+    }
+}
+
+/// Why a value is missing, the WDL value's fault first.
+fn first_fault(probed: &Probed) -> Option<ProbeFault>
+    ensures { result ≡ first_fault probed.now.wdl probed.now.dtz }
+{
+    match (probed.wdl, probed.dtz) {
+        (Err(fault), _) => Some(fault),
+        (Ok(_), Err(fault)) => Some(fault),
+        (Ok(_), Ok(_)) => None,
+    }
+}
+
+/// Writes a fault and its table as a member.
+fn put_fault_of_table<W: Write>(
+    out: &mut W,
+    name: &str,
+    material: Material,
+) -> Result<(), WriteFault>
+    ensures { OnOk result (Writes true (key (codes "error") ∷ json_tokens (string (name.now ++ name_of (men_of material)))) (W.contents out.old) (W.contents out.new)) }
+{
+    let table = material.name();
+    let member = Member {
+        name: "error",
+        value: Value::Words(name, table.as_str()),
+    };
+    put_member(out, true, &member)
+}
+
+/// Writes a fault as a member.
+fn put_fault<W: Write>(out: &mut W, fault: ProbeFault) -> Result<(), WriteFault>
+    ensures { OnOk result (Writes true (key (codes "error") ∷ json_tokens (string (fault_words fault))) (W.contents out.old) (W.contents out.new)) }
+{
+    match fault {
+        ProbeFault::NotCovered(material) => put_fault_of_table(out, "NotCovered ", material),
+        ProbeFault::Damaged(material) => put_fault_of_table(out, "Damaged ", material),
+        ProbeFault::OutOfScope | ProbeFault::OutOfMemory => {
+            let member = Member {
+                name: "error",
+                value: Value::Text(fault.name()),
+            };
+            put_member(out, true, &member)
+        }
+    }
+}
+
+/// Writes why a value is missing, where one is.
+fn put_error<W: Write>(out: &mut W, probed: &Probed) -> Result<(), WriteFault>
+    ensures { OnOk result (Writes true (open_tokens (error_members probed.now)) (W.contents out.old) (W.contents out.new)) }
+{
+    match first_fault(probed) {
+        None => Ok(()),
+        Some(fault) => put_fault(out, fault),
+    }
+}
+
+/// Writes an opening brace.
+fn put_begin<W: Write>(out: &mut W, later: bool) -> Result<(), WriteFault>
+    ensures { OnOk result (Writes later (begin_object ∷ []) (W.contents out.old) (W.contents out.new)) }
+{
+    match put_comma(out, later) {
+        Ok(()) => put(out, b"{"),
+        Err(fault) => Err(fault),
+    }
+}
+
+/// Writes a closing brace.
+fn put_end<W: Write>(out: &mut W) -> Result<(), WriteFault>
+    ensures { OnOk result (Writes true (end_object ∷ []) (W.contents out.old) (W.contents out.new)) }
+{
+    put(out, b"}")
+}
+
+/// Writes members, and why a value is missing, where one is.
+fn put_told<W: Write>(
+    out: &mut W,
+    later: bool,
+    members: &[Member<'_>],
+    probed: &Probed,
+) -> Result<(), WriteFault>
+    requires { 0 < length members.now }
+    ensures { OnOk result (Writes later (open_tokens (followed_by (members_of members.now) (error_members probed.now))) (W.contents out.old) (W.contents out.new)) }
+{
+    match put_members(out, later, members) {
+        Ok(()) => put_error(out, probed),
+        Err(fault) => Err(fault),
+    }
+}
+
+/// Writes an object but for its closing brace: members, and why a value is missing, where one is.
+fn put_facts<W: Write>(
+    out: &mut W,
+    members: &[Member<'_>],
+    probed: &Probed,
+) -> Result<(), WriteFault>
+    requires { 0 < length members.now }
+    ensures { OnOk result (Writes false (begin_object ∷ open_tokens (followed_by (members_of members.now) (error_members probed.now))) (W.contents out.old) (W.contents out.new)) }
+{
+    match put_begin(out, false) {
+        Ok(()) => put_told(out, false, members, probed),
+        Err(fault) => Err(fault),
+    }
+}
+
+/// Writes the object of a position but for its closing brace.
+fn put_position<W: Write>(out: &mut W, told: &PositionTold) -> Result<(), WriteFault>
+    ensures { OnOk result (Writes false (begin_object ∷ open_tokens (position_members told.now.position told.now.columns.probed told.now.columns.verdict)) (W.contents out.old) (W.contents out.new)) }
+{
+    let fen = write(&told.position);
+    let state = BoardState::of(&told.position);
+    let probed = &told.columns.probed;
+    let members = [
+        Member {
+            name: "fen",
+            value: Value::Text(fen.as_str()),
+        },
+        Member {
+            name: "wdl",
+            value: number_or_null(&probed.wdl),
+        },
+        Member {
+            name: "dtz",
+            value: number_or_null(&probed.dtz),
+        },
+        Member {
+            name: "verdict",
+            value: verdict_or_null(told.columns.verdict),
+        },
+        Member {
+            name: "category",
+            value: Value::Text(category(&probed.wdl)),
+        },
+        Member {
+            name: "checkmate",
+            value: Value::Boolean(state.is_checkmate()),
+        },
+        Member {
+            name: "stalemate",
+            value: Value::Boolean(is_stalemate(state)),
+        },
+        Member {
+            name: "insufficient_material",
+            value: Value::Boolean(is_insufficient(&told.position)),
+        },
+    ];
+    put_facts(out, &members, probed)
+}
+
+/// Writes the member that has a move.
+fn put_uci<W: Write>(out: &mut W, told: &MoveTold) -> Result<(), WriteFault>
+    ensures { OnOk result (Writes false (key (codes "uci") ∷ json_tokens (string (move_text told.now.root.played))) (W.contents out.old) (W.contents out.new)) }
+{
+    let played = write_move(&told.root.played);
+    let member = Member {
+        name: "uci",
+        value: Value::Text(played.as_str()),
+    };
+    put_member(out, false, &member)
+}
+
+/// Writes what is told of the position after a move, behind the move.
+fn put_after<W: Write>(out: &mut W, told: &MoveTold) -> Result<(), WriteFault>
+    ensures { OnOk result (Writes true (open_tokens (after_members told.now)) (W.contents out.old) (W.contents out.new)) }
+{
+    let fen = write(&told.after);
+    let state = told.root.state;
+    let members = [
+        Member {
+            name: "fen",
+            value: Value::Text(fen.as_str()),
+        },
+        Member {
+            name: "wdl",
+            value: number_or_null(&told.probed.wdl),
+        },
+        Member {
+            name: "dtz",
+            value: number_or_null(&told.probed.dtz),
+        },
+        Member {
+            name: "category",
+            value: Value::Text(category(&told.probed.wdl)),
+        },
+        Member {
+            name: "zeroing",
+            value: Value::Boolean(told.root.effect.zeroes_clock()),
+        },
+        Member {
+            name: "checkmate",
+            value: Value::Boolean(state.is_checkmate()),
+        },
+        Member {
+            name: "stalemate",
+            value: Value::Boolean(is_stalemate(state)),
+        },
+    ];
+    put_told(out, true, &members, &told.probed)
+}
+
+/// Writes the object of a move but for its closing brace.
+fn put_move_facts<W: Write>(out: &mut W, later: bool, told: &MoveTold) -> Result<(), WriteFault>
+    ensures { OnOk result (Writes later (begin_object ∷ open_tokens (move_members told.now)) (W.contents out.old) (W.contents out.new)) }
+{
+    put_begin(out, later)?;
+    put_uci(out, told)?;
+    put_after(out, told)
+}
+
+/// Writes the object of a move.
+fn put_move<W: Write>(out: &mut W, later: bool, told: &MoveTold) -> Result<(), WriteFault>
+    ensures { OnOk result (Writes later (json_tokens (move_json told.now)) (W.contents out.old) (W.contents out.new)) }
+{
+    match put_move_facts(out, later, told) {
+        Ok(()) => put_end(out),
+        Err(fault) => Err(fault),
+    }
+}
+
+/// Writes the objects of moves, with commas between.
+fn put_moves<W: Write>(out: &mut W, later: bool, moves: &[MoveTold]) -> Result<(), WriteFault>
+    ensures { OnOk result (Writes later (open_items (moves_items moves.now)) (W.contents out.old) (W.contents out.new)) }
+{
+    match moves.split_first() {
+        None => Ok(()),
+        Some((told, rest)) => match put_move(out, later, told) {
+            Ok(()) => put_moves(out, true, rest),
+            Err(fault) => Err(fault),
+        },
+    }
+}
+
+/// Writes the opening bracket of a list.
+fn put_begin_list<W: Write>(out: &mut W) -> Result<(), WriteFault>
+    ensures { OnOk result (Writes false (begin_array ∷ []) (W.contents out.old) (W.contents out.new)) }
+{
+    put(out, b"[")
+}
+
+/// Writes the closing bracket of a list.
+fn put_end_list<W: Write>(out: &mut W) -> Result<(), WriteFault>
+    ensures { OnOk result ((later : Bool) → Writes later (end_array ∷ []) (W.contents out.old) (W.contents out.new)) }
+{
+    put(out, b"]")
+}
+
+/// Writes the list of moves.
+fn put_list<W: Write>(out: &mut W, moves: &[MoveTold]) -> Result<(), WriteFault>
+    ensures { OnOk result (Writes false (json_tokens (array (moves_items moves.now))) (W.contents out.old) (W.contents out.new)) }
+{
+    put_begin_list(out)?;
+    put_moves(out, false, moves)?;
+    put_end_list(out)
+}
+
+/// Writes the member that has the moves.
+fn put_moves_member<W: Write>(out: &mut W, moves: &[MoveTold]) -> Result<(), WriteFault>
+    ensures { OnOk result (Writes true (key (codes "moves") ∷ json_tokens (array (moves_items moves.now))) (W.contents out.old) (W.contents out.new)) }
+{
+    match put_key(out, true, "moves") {
+        Ok(()) => put_list(out, moves),
+        Err(fault) => Err(fault),
+    }
+}
+
+/// Writes a position and its moves.
+fn put_root<W: Write>(
+    out: &mut W,
+    told: &PositionTold,
+    moves: &[MoveTold],
+) -> Result<(), WriteFault>
+    ensures { OnOk result (Writes false (json_tokens (root_json told.now moves.now)) (W.contents out.old) (W.contents out.new)) }
+{
+    put_position(out, told)?;
+    put_moves_member(out, moves)?;
+    put_end(out)
+}
+
+/// Writes a position without its moves.
+fn put_alone<W: Write>(out: &mut W, told: &PositionTold) -> Result<(), WriteFault>
+    ensures { OnOk result (Writes false (json_tokens (position_json told.now)) (W.contents out.old) (W.contents out.new)) }
+{
+    match put_position(out, told) {
+        Ok(()) => put_end(out),
+        Err(fault) => Err(fault),
+    }
+}
+
+/// Why a text is no position, as a value.
+fn fen_error<'a>(fault: &FenFault) -> Value<'a>
+    ensures { value_json result ≡ string (fen_error fault.now) }
+{
+    match fault {
+        FenFault::BadPosition(position) => Value::Words("FEN BadPosition ", position.name()),
+        _ => Value::Words("FEN ", fault.name()),
+    }
+}
+
+/// Writes why a text is no position.
+fn put_fen_error<W: Write>(out: &mut W, fault: &FenFault) -> Result<(), WriteFault>
+    ensures { OnOk result (Writes false (json_tokens (fault_json fault.now)) (W.contents out.old) (W.contents out.new)) }
+{
+    let member = Member {
+        name: "error",
+        value: fen_error(fault),
+    };
+    put_begin(out, false)?;
+    put_member(out, false, &member)?;
+    put_end(out)
+}
+
+/// Writes a line as one JSON object (RFC 8259), without spaces and without a line feed.
+///
+/// What was written reads back as the value that it stands for: `Value::parse` of the crate `json` gives it. After an
+/// error a part of the line may be written.
+pub fn put_json_line<W: Write>(out: &mut W, line: &JsonLine) -> Result<(), WriteFault>
+    ensures written { OnOk result (Appends (W.contents out.old) (W.contents out.new) (json_text (line_json line.now))) }
+    ensures reads_back { OnOk result (document (json_text (line_json line.now)) ≡ Some (line_json line.now)) }
+{
+    match line {
+        JsonLine::Fault(fault) => put_fen_error(out, fault),
+        JsonLine::Position(told) => put_alone(out, told),
+        JsonLine::Root(told, moves) => put_root(out, told, moves),
+    }
+}

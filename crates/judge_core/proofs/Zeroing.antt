@@ -1,0 +1,438 @@
+-- Distances that are told by the two completions between which all others lie.
+use Rattle.std.proofs.Common.{◌≡◌, ◌∙◌, sym, ap, refl, subst, ◌<◌, ◌≤◌, nat_le, nat_lt, Bool, true, false, not, ◌&&◌, ◌||◌, cond, if◌then◌else◌, List, [], ◌∷◌, Option, Some, None, filter, Result, Ok, Err, arith}
+use Rattle.std.specs.List.{list_any}
+use Rattle.std.proofs.lemmas.Bool.{ltb-true, ltb-false, lt-ltb, le-ltb, eqb-true, eq-eqb, false≢true}
+use Rattle.board_core.specs.declared.parts.Parts.{Parts}
+use Rattle.board_core.specs.declared.moves.Move.{Move}
+use Rattle.board_core.specs.Position.{IsPosition}
+use Rattle.board_core.specs.ComputedMoves.{position_after, legal_moves, count_of_men}
+use Rattle.table_file.specs.declared.outcome.Outcome.{Outcome}
+use Rattle.judge_core.specs.declared.distance.Distance.{Distance}
+use Rattle.judge_core.specs.declared.distance.Distance.TheVariants.{Draw as NoDistance}
+use Rattle.judge_core.specs.declared.fault.ValueFault.{ValueFault}
+use Rattle.judge_core.specs.declared.found.Weighed.{Weighed}
+use Rattle.judge_core.specs.declared.wdl.Wdl.{Wdl}
+use Rattle.judge_core.specs.declared.wdl.Wdl.TheVariants.{Loss, BlessedLoss, Draw, CursedWin, Win as Best}
+use Rattle.judge_core.specs.Values.{Reading, points, opposite, turned, greater, is_same, is_below, is_winning, outcome_of}
+use Rattle.judge_core.specs.Tables.{Tables, table_value}
+use Rattle.judge_core.specs.Asked.{asked, fault_in, unless}
+use Rattle.judge_core.specs.Probing.{after, weighed_where, weighed_by, wdl_where, wdl_of, worth, worth_in}
+use Rattle.judge_core.specs.Distances.{Reach, is_won, is_value, is_pawn_step, is_by_capture, pawns_reach_where, unless_reached, by_own_table, by_moves, by_outcome, by_weighed, zeroing, towards, dtz_by, dtz_to, dtz_of}
+use Rattle.judge_core.specs.Determined.{IsCompletion, IsCompletedBy, IsDetermined, IsDeterminedDistance, IsDeterminedReading, IsDeterminedReach, IsByCapture}
+use Rattle.judge_core.specs.Inside.Determined.{extreme, extreme_value, extreme_weighed, agreed, or_agreed, in_both, value_in_both, pawns_reach_in_both, is_reached, zeroing_distance, agreed_distance, or_agreed_distance, determined_value, determined_reach, is_won_here}
+use Rattle.judge_core.proofs.Rule.{where_meets_rule, still}
+use Rattle.judge_core.proofs.Rising.{WeighsAtMost, same_points, points_most, greater_rises, worth_rises}
+use Rattle.judge_core.proofs.RootCaptures.{greater_left, greater_right}
+use Rattle.judge_core.proofs.Completed.{extreme-completes, IsWeighedBound, IsBound, weighed_bound, value_bound, is_same-true, is_same-refl, determined, undetermined}
+use Rattle.judge_core.proofs.Kept.{unless_ok, no_fault_more, strict_value, strict_weighed, strict_distance, weighed_is, value_is}
+
+-- ---- values
+
+pub is_determined : (tables : Tables) (p : Parts) → IsPosition p → IsDeterminedReading tables p (determined_value tables p)
+unfolding determined_value
+is_determined tables p position = record {
+  kept = kept;
+  determined = λ v. told (wdl_of tables p) refl (agreed (extreme_value tables true p) (extreme_value tables false p)) refl v;
+  fault_is = faulty (wdl_of tables p) refl (agreed (extreme_value tables true p) (extreme_value tables false p)) refl;
+}
+  where
+    kept : (v : Wdl) → wdl_of tables p ≡ Ok v → or_agreed (wdl_of tables p) (agreed (extreme_value tables true p) (extreme_value tables false p)) ≡ Ok v
+    kept v e = rw e refl
+
+    told : (r : Reading) → wdl_of tables p ≡ r → (o : Option Wdl) → agreed (extreme_value tables true p) (extreme_value tables false p) ≡ o → (v : Wdl) → or_agreed r o ≡ Ok v → IsDetermined tables p v
+    told (Ok u) er o eo v e = λ own completes. strict_value tables own completes p position v (er ∙ e)
+    told (Err fault) er None eo v e = absurd (cc)
+    told (Err fault) er (Some u) eo v e = (let same : u ≡ v = cc in determined tables p v position (eo ∙ ap (λ (x : Wdl). Some x) same))
+
+    faulty : (r : Reading) → wdl_of tables p ≡ r → (o : Option Wdl) → agreed (extreme_value tables true p) (extreme_value tables false p) ≡ o → (fault : ValueFault) → or_agreed r o ≡ Err fault → (wdl_of tables p ≡ Err fault) × ((v : Wdl) → IsDetermined tables p v → ⊥)
+    faulty (Ok u) er o eo fault e = absurd (cc)
+    faulty (Err other) er None eo fault e = (er ∙ e, undetermined tables p eo)
+    faulty (Err other) er (Some u) eo fault e = absurd (cc)
+
+-- ---- a capture between two
+
+greater_least : (a b : Wdl) (v : Wdl) → points a ≤ points v → points b ≤ points v → points (greater a b) ≤ points v
+unfolding greater
+greater_least a b v left right = step (nat_lt (points a) (points b))
+  where
+    step : (t : Bool) → points (cond t b a) ≤ points v
+    step true = right
+    step false = left
+
+-- the ways in which a value is that of a capture, where other moves are legal
+data ByCapture (w : Weighed) : Type 0 where
+  Wins : points (greater w.capture w.passant) ≡ 4 → ByCapture w
+  Passes : points (greater w.capture w.own) < points w.passant → ByCapture w
+  Suffices : points w.own ≤ points (greater w.capture w.passant) → 2 < points (greater w.capture w.passant) → ByCapture w
+
+by_capture-from : (w : Weighed) → w.forced ≡ false → is_by_capture w ≡ true → ByCapture w
+by_capture-from w f e = step (is_same (greater w.capture w.passant) Best) (is_below (greater w.capture w.own) w.passant) (is_below (greater w.capture w.passant) w.own) (is_winning (greater w.capture w.passant)) refl refl refl refl (rw f at e)
+  where
+    step : (a b c d : Bool) → is_same (greater w.capture w.passant) Best ≡ a → is_below (greater w.capture w.own) w.passant ≡ b → is_below (greater w.capture w.passant) w.own ≡ c → is_winning (greater w.capture w.passant) ≡ d
+        → (a || b || (not c && d)) ≡ true → ByCapture w
+    step true b c d ea eb ec ed e = Wins (eqb-true (points (greater w.capture w.passant)) 4 ea)
+    step false true c d ea eb ec ed e = Passes (ltb-true (points (greater w.capture w.own)) (points w.passant) eb)
+    step false false true d ea eb ec ed e = absurd (false≢true e)
+    step false false false true ea eb ec ed e = Suffices (ltb-false (points (greater w.capture w.passant)) (points w.own) ec) (ltb-true 2 (points (greater w.capture w.passant)) ed)
+    step false false false false ea eb ec ed e = absurd (false≢true e)
+
+or_first : (f a b c : Bool) → a ≡ true → (f || a || b || c) ≡ true
+or_first true a b c e = refl
+or_first false a b c e = rw e refl
+
+or_second : (f a b c : Bool) → b ≡ true → (f || a || b || c) ≡ true
+or_second true a b c e = refl
+or_second false true b c e = refl
+or_second false false b c e = rw e refl
+
+or_third : (f a b c : Bool) → c ≡ true → (f || a || b || c) ≡ true
+or_third true a b c e = refl
+or_third false true b c e = refl
+or_third false false true c e = refl
+or_third false false false c e = e
+
+by_capture-to : (w : Weighed) → ByCapture w → is_by_capture w ≡ true
+by_capture-to w (Wins e) = or_first w.forced _ _ _ (eq-eqb (points (greater w.capture w.passant)) 4 e)
+by_capture-to w (Passes e) = or_second w.forced (is_same (greater w.capture w.passant) Best) _ _ (lt-ltb (points (greater w.capture w.own)) (points w.passant) e)
+by_capture-to w (Suffices le lt) =
+    or_third w.forced (is_same (greater w.capture w.passant) Best) (is_below (greater w.capture w.own) w.passant) (not (is_below (greater w.capture w.passant) w.own) && is_winning (greater w.capture w.passant))
+    (rw (le-ltb (points (greater w.capture w.passant)) (points w.own) le, lt-ltb 2 (points (greater w.capture w.passant)) lt) refl)
+
+module _ (low mid high : Weighed) (below : WeighsAtMost low mid) (above : WeighsAtMost mid high) (same : worth low ≡ worth high) where
+  free : low.forced ≡ false → mid.forced ≡ false
+  free f = sym below.forced ∙ f
+
+  free_high : low.forced ≡ false → high.forced ≡ false
+  free_high f = sym above.forced ∙ free f
+
+  -- the best of captures
+  best : Weighed → Wdl
+  best w = greater w.capture w.passant
+
+  best_of : (w : Weighed) → w.forced ≡ false → points (greater (greater w.capture w.passant) w.own) ≡ points (worth w)
+  best_of w f = rw f refl
+
+  mid_capture : low.forced ≡ false → ByCapture low → ByCapture high → ByCapture mid
+  mid_capture f (Wins e) h =
+      let up = greater_rises low.capture low.passant mid.capture mid.passant below.capture below.passant in
+      let most = points_most (greater mid.capture mid.passant) in
+      Wins (omega (arith, e, up, most))
+  mid_capture f (Suffices le lt) h =
+      let up = greater_rises low.capture low.passant mid.capture mid.passant below.capture below.passant in
+      let whole = greater_least (greater low.capture low.passant) low.own (greater low.capture low.passant) (omega arith) le in
+      let el = best_of low f in
+      let eh = best_of high (free_high f) in
+      let es = ap points same in
+      let own = greater_right (greater high.capture high.passant) high.own in
+      let most = above.own in
+      Suffices (omega (arith, up, whole, el, eh, es, own, most)) (omega (arith, up, lt))
+  mid_capture f (Passes lt) h = by_high h
+    where
+      -- what the low one is worth is its en passant
+      low_is : points (worth low) ≤ points low.passant
+      low_is =
+          let left = greater_left low.capture low.own in
+          let right = greater_right low.capture low.own in
+          let best_is = greater_least low.capture low.passant low.passant (omega (arith, left, lt)) (omega arith) in
+          let whole = greater_least (greater low.capture low.passant) low.own low.passant best_is (omega (arith, right, lt)) in
+          let el = best_of low f in
+          omega (arith, whole, el)
+
+      by_high : ByCapture high → ByCapture mid
+      by_high (Wins e) =
+          let whole = greater_left (greater high.capture high.passant) high.own in
+          let eh = best_of high (free_high f) in
+          let es = ap points same in
+          let up = greater_right mid.capture mid.passant in
+          let most = points_most (greater mid.capture mid.passant) in
+          let le = below.passant in
+          Wins (omega (arith, e, whole, eh, es, up, most, le, low_is))
+      by_high (Passes lt') =
+          let down = greater_rises mid.capture mid.own high.capture high.own above.capture above.own in
+          let eh = best_of high (free_high f) in
+          let es = ap points same in
+          let pass = greater_right high.capture high.passant in
+          let whole = greater_left (greater high.capture high.passant) high.own in
+          let le = below.passant in
+          Passes (omega (arith, lt', down, eh, es, pass, whole, le, low_is))
+      by_high (Suffices le' lt') =
+          let whole = greater_left (greater high.capture high.passant) high.own in
+          let own = greater_right (greater high.capture high.passant) high.own in
+          let eh = best_of high (free_high f) in
+          let es = ap points same in
+          let up = greater_right mid.capture mid.passant in
+          let le = below.passant in
+          let most = above.own in
+          Suffices (omega (arith, own, eh, es, up, le, most, low_is)) (omega (arith, lt', whole, eh, es, up, le, low_is))
+
+  pub capture_between : is_by_capture low ≡ true → is_by_capture high ≡ true → is_by_capture mid ≡ true
+  capture_between el eh = step low.forced refl
+    where
+      step : (t : Bool) → low.forced ≡ t → is_by_capture mid ≡ true
+      step true f = rw (sym below.forced ∙ f) refl
+      step false f = by_capture-to mid (mid_capture f (by_capture-from low f el) (by_capture-from high (free_high f) eh))
+
+  pub worth_between : worth mid ≡ worth low
+  worth_between =
+      let up = worth_rises low mid below in
+      let down = worth_rises mid high above in
+      let es = ap points same in
+      same_points (worth mid) (worth low) (omega (arith, up, down, es))
+
+-- ---- what is weighed in a completion
+
+-- it lies between these two
+pub record LiesBetween (a b w : Weighed) : Type 0 where
+  pub worth_is : worth w ≡ worth a
+  pub capture : is_by_capture a ≡ true → is_by_capture b ≡ true → is_by_capture w ≡ true
+
+from_bounds : (won : Bool) (w : Result Weighed ValueFault) (a b : Weighed) → worth a ≡ worth b → IsWeighedBound won w (Ok a) → IsWeighedBound (not won) w (Ok b) → (x : Weighed) × (w ≡ Ok x) × LiesBetween a b x
+from_bounds true (Ok w) a b same ha hb = (w, refl, record { worth_is = worth_between b w a hb ha (sym same) ∙ sym same; capture = λ ea eb. capture_between b w a hb ha (sym same) eb ea })
+from_bounds false (Ok w) a b same ha hb = (w, refl, record { worth_is = worth_between a w b ha hb same; capture = λ ea eb. capture_between a w b ha hb same ea eb })
+from_bounds true (Err fault) a b same ha hb = absurd ha
+from_bounds false (Err fault) a b same ha hb = absurd ha
+
+module _ (tables : Tables) (p : Parts) (position : IsPosition p) (a b : Weighed) (ea : extreme_weighed tables true p ≡ Ok a) (eb : extreme_weighed tables false p ≡ Ok b) (same : worth a ≡ worth b) where
+  pub weighed_between : (own : Parts → Reading) → IsCompletion tables own → (w : Weighed) × (weighed_where own (wdl_where own) p ≡ Ok w) × LiesBetween a b w
+  weighed_between own completes =
+      from_bounds (is_won_here true (count_of_men p)) (weighed_where own (wdl_where own) p) a b same
+      (subst (λ r. IsWeighedBound (is_won_here true (count_of_men p)) (weighed_where own (wdl_where own) p) r) ea (weighed_bound tables own completes true p position))
+      (subst (λ r. IsWeighedBound (is_won_here false (count_of_men p)) (weighed_where own (wdl_where own) p) r) eb (weighed_bound tables own completes false p position))
+
+-- ---- pawn moves
+
+-- the second has a value where the first has, and reaches this one where the first does
+abbrev Reaches : Wdl → Reading → Reading → Type 0
+Reaches v r s = (x : Wdl) → r ≡ Ok x → (y : Wdl) × (s ≡ Ok y) × (is_value v (Ok x) ≡ true → is_value v (Ok y) ≡ true)
+
+module _ (v : Wdl) (say say' : Parts → Reading) (p : Parts) (t : Move → Bool) (h : (m : Move) (q : Parts) → t m ≡ true → position_after p m ≡ Some q → Reaches v (say q) (say' q)) where
+  abbrev AlsoReached : List Reading → List Reading → Type 0
+  AlsoReached rs ss = (fault_in ss ≡ None) × (list_any (is_value v) rs ≡ true → list_any (is_value v) ss ≡ true)
+
+  one_value : (rs ss : List Reading) (r s : Reading) → Reaches v r s → fault_in (r ∷ rs) ≡ None → (fault_in rs ≡ None → AlsoReached rs ss) → AlsoReached (r ∷ rs) (s ∷ ss)
+  one_value rs ss r s reaches none rest =
+      let there = no_fault_more r rs none in
+      let after = rest there.1 in
+      let it = reaches there.0.0 there.0.1 in
+      (rw it.1 after.0, λ any. (let any' = rw there.0.1 at any in rw it.1 (either there.0.0 it.0 (is_value v (Ok there.0.0)) refl any' it.2 after.1)))
+    where
+      or_true : (a b : Bool) → b ≡ true → (a || b) ≡ true
+      or_true true b e = refl
+      or_true false b e = e
+
+      either : (x y : Wdl) (b : Bool) → is_value v (Ok x) ≡ b → (is_value v (Ok x) || list_any (is_value v) rs) ≡ true → (is_value v (Ok x) ≡ true → is_value v (Ok y) ≡ true) → (list_any (is_value v) rs ≡ true → list_any (is_value v) ss ≡ true) → (is_value v (Ok y) || list_any (is_value v) ss) ≡ true
+      either x y true e any one more = rw (one e) refl
+      either x y false e any one more = or_true _ _ (more (rw e at any))
+
+  all_reached : (ms : List Move) → fault_in (asked say p (filter t ms)) ≡ None → AlsoReached (asked say p (filter t ms)) (asked say' p (filter t ms))
+  all_reached [] none = (refl, λ e. e)
+  all_reached (m ∷ ms) none = step (all_reached ms) (t m) (position_after p m) refl refl none
+    where
+      step : (fault_in (asked say p (filter t ms)) ≡ None → AlsoReached (asked say p (filter t ms)) (asked say' p (filter t ms))) → (b : Bool) (o : Option Parts) → t m ≡ b → position_after p m ≡ o → fault_in (asked say p (filter t (m ∷ ms))) ≡ None
+          → AlsoReached (asked say p (filter t (m ∷ ms))) (asked say' p (filter t (m ∷ ms)))
+      step rest false o et eo none = rw et (rest (rw et at none))
+      step rest true None et eo none = rw (et, eo) (rest (rw (et, eo) at none))
+      step rest true (Some q) et eo none = rw (et, eo) (one_value (asked say p (filter t ms)) (asked say' p (filter t ms)) (say q) (say' q) (h m q et eo) (rw (et, eo) at none) rest)
+
+reached_of : (o : Option ValueFault) (b : Bool) → unless o (Ok b) ≡ Ok true → b ≡ true
+reached_of None b e = cc
+reached_of (Some fault) b e = absurd (cc)
+
+is_reached-true : (r : Result Bool ValueFault) → is_reached r ≡ true → r ≡ Ok true
+is_reached-true (Ok b) e = ap (λ (x : Bool). Ok x) e
+is_reached-true (Err fault) e = absurd (false≢true e)
+
+-- only where both have it
+in_both-ok : (v : Wdl) (a b : Reading) (x : Wdl) → in_both v a b ≡ Ok x → (u : Wdl) × (w : Wdl) × (a ≡ Ok u) × (b ≡ Ok w) × (x ≡ v → (u ≡ v) × (w ≡ v))
+in_both-ok v (Ok u) (Ok w) x e = (u, w, refl, refl, λ is. step (is_same u v) refl e is)
+  where
+    step : (t : Bool) → is_same u v ≡ t → in_both v (Ok u) (Ok w) ≡ Ok x → x ≡ v → (u ≡ v) × (w ≡ v)
+    step true es e is = (let e' = rw es at e in let same : w ≡ x = cc in (is_same-true u v es, same ∙ is))
+    step false es e is = (let e' = rw es at e in let same : u ≡ x = cc in absurd (false≢true (sym es ∙ ap (λ (y : Wdl). is_same y v) (same ∙ is) ∙ is_same-refl v)))
+in_both-ok v (Ok u) (Err fault) x e = absurd (cc)
+in_both-ok v (Err fault) b x e = absurd (cc)
+
+from_values : (won : Bool) (r : Reading) (u w : Wdl) → IsBound won r (Ok u) → IsBound (not won) r (Ok w) → (y : Wdl) × (r ≡ Ok y) × ((v : Wdl) → u ≡ v → w ≡ v → y ≡ v)
+from_values true (Ok y) u w hu hw = (y, refl, λ v eu ew. same_points y v (let pu = ap points eu in let pw = ap points ew in omega (arith, hu, hw, pu, pw)))
+from_values false (Ok y) u w hu hw = (y, refl, λ v eu ew. same_points y v (let pu = ap points eu in let pw = ap points ew in omega (arith, hu, hw, pu, pw)))
+from_values true (Err fault) u w hu hw = absurd hu
+from_values false (Err fault) u w hu hw = absurd hu
+
+opposite-twice : (v : Wdl) → opposite (opposite v) ≡ v
+opposite-twice Loss = refl
+opposite-twice BlessedLoss = refl
+opposite-twice Draw = refl
+opposite-twice CursedWin = refl
+opposite-twice Best = refl
+
+module _ (tables more : Tables) (c : IsCompletedBy tables more) (v : Wdl) where
+  both_reach : (q : Parts) → IsPosition q → Reaches v (turned (value_in_both tables (opposite v) q)) (turned (wdl_of more q))
+  unfolding value_in_both
+  both_reach q position x e = from_turned (in_both (opposite v) (extreme_value tables true q) (extreme_value tables false q)) refl e
+    where
+      from_turned : (r : Reading) → in_both (opposite v) (extreme_value tables true q) (extreme_value tables false q) ≡ r → turned r ≡ Ok x → (y : Wdl) × (turned (wdl_of more q) ≡ Ok y) × (is_value v (Ok x) ≡ true → is_value v (Ok y) ≡ true)
+      from_turned (Err fault) er e = absurd (cc)
+      from_turned (Ok z) er e =
+          let parts = in_both-ok (opposite v) (extreme_value tables true q) (extreme_value tables false q) z er in
+          let it = from_values (is_won_here true (count_of_men q)) (wdl_where (table_value more) q) parts.0 parts.1
+          (subst (λ r. IsBound (is_won_here true (count_of_men q)) (wdl_where (table_value more) q) r) parts.2 (value_bound tables (table_value more) c.values true q position))
+          (subst (λ r. IsBound (is_won_here false (count_of_men q)) (wdl_where (table_value more) q) r) parts.3 (value_bound tables (table_value more) c.values false q position)) in
+          let turn : opposite z ≡ x = cc in (
+            opposite it.0,
+            ap turned (value_is more q ∙ it.1),
+            λ is. (
+                let ex : x ≡ v = is_same-true x v is in
+                let ez : z ≡ opposite v = sym (opposite-twice z) ∙ ap opposite (turn ∙ ex) in
+                let both = parts.4 ez in
+                let ey = it.2 (opposite v) both.0 both.1 in
+                ap (λ (y : Wdl). is_same y v) (ap opposite ey ∙ opposite-twice v) ∙ is_same-refl v),
+          )
+
+  pub pawns_between : (p : Parts) → IsPosition p → pawns_reach_in_both tables p v ≡ Ok true → pawns_reach_where (wdl_of more) p v ≡ Ok true
+  unfolding pawns_reach_where
+  pawns_between p position e =
+      let parts = unless_ok _ _ true e in
+      let any : list_any (is_value v) (after (value_in_both tables (opposite v)) p (filter (is_pawn_step p) (legal_moves p))) ≡ true = reached_of _ _ e in
+      let all = all_reached v (λ q. turned (value_in_both tables (opposite v) q)) (λ q. turned (wdl_of more q)) p (is_pawn_step p) (λ m q t a. both_reach q (still p q m position a)) (legal_moves p) parts.0 in
+      rw (all.0, all.1 any) refl
+
+-- ---- the distance
+
+-- of three or more men
+abbrev IsMany : Parts → Type 0
+IsMany p = nat_le (count_of_men p) 2 ≡ false
+
+opened : (tables : Tables) (p : Parts) → dtz_of tables p ≡ dtz_by tables (dtz_to tables 1) p
+unfolding dtz_of dtz_to
+opened tables p = refl
+
+many_by : (tables : Tables) (p : Parts) → IsMany p → dtz_of tables p ≡ by_weighed tables (dtz_to tables 1) p (weighed_by tables (wdl_of tables) p)
+many_by tables p many = opened tables p ∙ rw many refl
+
+module _ (tables : Tables) (p : Parts) (position : IsPosition p) (many : IsMany p) where
+  module _ (a b : Weighed) (ea : extreme_weighed tables true p ≡ Ok a) (eb : extreme_weighed tables false p ≡ Ok b) (same : worth a ≡ worth b) (more : Tables) (c : IsCompletedBy tables more) where
+    by_pawns : (w : Weighed) (outcome : Outcome) → worth w ≡ worth a → is_won outcome ≡ true → pawns_reach_in_both tables p (worth a) ≡ Ok true → by_moves more (dtz_to more 1) p (worth w) outcome ≡ Ok (towards outcome (zeroing outcome))
+    unfolding by_moves
+    by_pawns w outcome ew won reached =
+        let own = by_own_table more (dtz_to more 1) p outcome in
+        ap (λ (v : Wdl). by_moves more (dtz_to more 1) p v outcome) ew
+        ∙ ap (λ (t : Bool). if t then unless_reached (pawns_reach_where (wdl_of more) p (worth a)) outcome own else own) won
+        ∙ ap (λ (r : Result Bool ValueFault). unless_reached r outcome own) (pawns_between tables more c (worth a) p position reached)
+
+    by_weighed_there : (o : Option Outcome) → outcome_of (worth a) ≡ o → (d : Distance) → zeroing_distance tables p a b o ≡ Some d → dtz_of more p ≡ Ok d
+    by_weighed_there o eo d e =
+        let w = weighed_between tables p position a b ea eb same (table_value more) c.values in
+        let is = weighed_is more p ∙ w.1 in
+        let eo' = ap outcome_of w.2.worth_is ∙ eo in
+        many_by more p many ∙ ap (by_weighed more (dtz_to more 1) p) is ∙ ap (by_outcome more (dtz_to more 1) p w.0) eo' ∙ by_kind w.0 w.2 o eo e
+      where
+        by_pawn : (w : Weighed) → LiesBetween a b w → (outcome : Outcome) → is_won outcome ≡ true → is_reached (pawns_reach_in_both tables p (worth a)) ≡ true → Some (towards outcome (zeroing outcome)) ≡ Some d → by_outcome more (dtz_to more 1) p w (Some outcome) ≡ Ok d
+        by_pawn w lies outcome ew er e =
+            let is : towards outcome (zeroing outcome) ≡ d = cc in
+            step (is_by_capture w) (by_pawns w outcome lies.worth_is ew (is_reached-true _ er)) ∙ ap (λ (x : Distance). Ok x) is
+          where
+            step : (t : Bool) → by_moves more (dtz_to more 1) p (worth w) outcome ≡ Ok (towards outcome (zeroing outcome)) → cond t (Ok (towards outcome (zeroing outcome))) (by_moves more (dtz_to more 1) p (worth w) outcome) ≡ Ok (towards outcome (zeroing outcome))
+            step true h = refl
+            step false h = h
+
+        by_zeroing : (w : Weighed) → LiesBetween a b w → (outcome : Outcome) (ca cb won reached : Bool) → is_by_capture a ≡ ca → is_by_capture b ≡ cb → is_won outcome ≡ won → is_reached (pawns_reach_in_both tables p (worth a)) ≡ reached
+            → cond ((ca && cb) || (won && reached)) (Some (towards outcome (zeroing outcome))) None ≡ Some d → by_outcome more (dtz_to more 1) p w (Some outcome) ≡ Ok d
+        by_zeroing w lies outcome true true won reached eca ecb ew er e = (let is : towards outcome (zeroing outcome) ≡ d = cc in rw (lies.capture eca ecb) (ap (λ (x : Distance). Ok x) is))
+        by_zeroing w lies outcome true false true true eca ecb ew er e = by_pawn w lies outcome ew er e
+        by_zeroing w lies outcome true false true false eca ecb ew er e = absurd (cc)
+        by_zeroing w lies outcome true false false reached eca ecb ew er e = absurd (cc)
+        by_zeroing w lies outcome false cb true true eca ecb ew er e = by_pawn w lies outcome ew er e
+        by_zeroing w lies outcome false cb true false eca ecb ew er e = absurd (cc)
+        by_zeroing w lies outcome false cb false reached eca ecb ew er e = absurd (cc)
+
+        by_kind : (w : Weighed) → LiesBetween a b w → (o : Option Outcome) → outcome_of (worth a) ≡ o → zeroing_distance tables p a b o ≡ Some d → by_outcome more (dtz_to more 1) p w o ≡ Ok d
+        by_kind w lies None eo e = (let is : NoDistance ≡ d = cc in ap (λ (x : Distance). Ok x) is)
+        by_kind w lies (Some outcome) eo e = by_zeroing w lies outcome (is_by_capture a) (is_by_capture b) (is_won outcome) (is_reached (pawns_reach_in_both tables p (worth a))) refl refl refl refl e
+
+  told : (a b : Result Weighed ValueFault) → extreme_weighed tables true p ≡ a → extreme_weighed tables false p ≡ b → (d : Distance) → agreed_distance tables p a b ≡ Some d → IsDeterminedDistance tables p d
+  told (Ok a) (Ok b) ea eb d e = λ more c. step more c (is_same (worth a) (worth b)) refl e
+    where
+      step : (more : Tables) → IsCompletedBy tables more → (t : Bool) → is_same (worth a) (worth b) ≡ t → cond t (zeroing_distance tables p a b (outcome_of (worth a))) None ≡ Some d → dtz_of more p ≡ Ok d
+      step more c true is e = by_weighed_there a b ea eb (is_same-true (worth a) (worth b) is) more c (outcome_of (worth a)) refl d e
+      step more c false is e = absurd (cc)
+  told (Ok a) (Err fault) ea eb d e = absurd (cc)
+  told (Err fault) b ea eb d e = absurd (cc)
+
+-- ---- what both are worth
+
+-- the value in a completion is that of what is weighed there
+from_worth : (own : Parts → Reading) (p : Parts) (v : Wdl) → IsPosition p → IsMany p → wdl_where own p ≡ Ok v → (w : Weighed) × (weighed_where own (wdl_where own) p ≡ Ok w) × (worth w ≡ v)
+from_worth own p v position many e = step (weighed_where own (wdl_where own) p) refl (sym (where_meets_rule own p position ∙ rw many refl) ∙ e)
+  where
+    step : (r : Result Weighed ValueFault) → weighed_where own (wdl_where own) p ≡ r → worth_in r ≡ Ok v → (w : Weighed) × (weighed_where own (wdl_where own) p ≡ Ok w) × (worth w ≡ v)
+    step (Ok w) er e = (w, er, cc)
+    step (Err fault) er e = absurd (cc)
+
+-- where a value is determined, a distance that is told only by it is told
+module _ (tables : Tables) (p : Parts) (position : IsPosition p) (v : Wdl) (is : IsDetermined tables p v) (d : Distance)
+    (by_both : (a b : Weighed) → worth a ≡ v → worth b ≡ v → extreme_weighed tables true p ≡ Ok a → extreme_weighed tables false p ≡ Ok b → zeroing_distance tables p a b (outcome_of v) ≡ Some d)
+    (by_one : (w : Weighed) (reach : Parts → Reach) → worth w ≡ v → extreme_weighed tables true p ≡ Ok w → by_outcome tables reach p w (outcome_of v) ≡ Ok d)
+    (few : nat_le (count_of_men p) 2 ≡ true → d ≡ NoDistance) where
+  strict_is : (x : Distance) → IsMany p → dtz_of tables p ≡ Ok x → x ≡ d
+  strict_is x many e = step (weighed_by tables (wdl_of tables) p) refl (sym (many_by tables p many) ∙ e)
+    where
+      step : (r : Result Weighed ValueFault) → weighed_by tables (wdl_of tables) p ≡ r → by_weighed tables (dtz_to tables 1) p r ≡ Ok x → x ≡ d
+      step (Ok w) er e =
+          let there = strict_weighed tables (extreme tables true) (extreme-completes tables true) p position w er in
+          let found = from_worth (extreme tables true) p v position many (is (extreme tables true) (extreme-completes tables true)) in
+          let one : Ok found.0 ≡ Ok w = sym found.1 ∙ there in
+          let same : found.0 ≡ w = cc in
+          let worth_is : worth w ≡ v = ap worth (sym same) ∙ found.2 in
+          let known = by_one w (dtz_to tables 1) worth_is there in
+          let both : Ok x ≡ Ok d = sym e ∙ ap (by_outcome tables (dtz_to tables 1) p w) (ap outcome_of worth_is) ∙ known in
+          cc
+      step (Err fault) er e = absurd (cc)
+
+  told_by_value : (t : Bool) → nat_le (count_of_men p) 2 ≡ t → (r : Reach) → dtz_of tables p ≡ r → or_agreed_distance r (agreed_distance tables p (extreme_weighed tables true p) (extreme_weighed tables false p)) ≡ Ok d
+  told_by_value true et r er = (let none : Ok NoDistance ≡ r = sym (opened tables p ∙ rw et refl) ∙ er in rw (← none) (ap (λ (x : Distance). Ok x) (sym (few et))))
+  told_by_value false et (Ok x) er = ap (λ (y : Distance). Ok y) (strict_is x et er)
+  told_by_value false et (Err fault) er =
+      let a = from_worth (extreme tables true) p v position et (is (extreme tables true) (extreme-completes tables true)) in
+      let b = from_worth (extreme tables false) p v position et (is (extreme tables false) (extreme-completes tables false)) in
+      let same = ap (λ (x : Wdl). is_same x (worth b.0)) (a.2 ∙ sym b.2) ∙ is_same-refl (worth b.0) in
+      let some = by_both a.0 b.0 a.2 b.2 a.1 b.1 in
+      rw (a.1, b.1, same, a.2, some) refl
+
+pub is_determined_reach : (tables : Tables) (p : Parts) → IsPosition p → IsDeterminedReach tables p (determined_reach tables p)
+unfolding determined_reach
+is_determined_reach tables p position = record {
+  kept = kept;
+  determined = λ d. told_in (dtz_of tables p) refl (nat_le (count_of_men p) 2) refl (agreed_distance tables p (extreme_weighed tables true p) (extreme_weighed tables false p)) refl d;
+  fault_is = faulty (dtz_of tables p) refl (agreed_distance tables p (extreme_weighed tables true p) (extreme_weighed tables false p));
+  draw = λ is. told_by_value tables p position Draw is NoDistance (λ a b ea eb xa xb. refl) (λ w reach ew xw. refl) (λ f. refl) (nat_le (count_of_men p) 2) refl (dtz_of tables p) refl;
+  capture = by_capture;
+}
+  where
+    kept : (d : Distance) → dtz_of tables p ≡ Ok d → or_agreed_distance (dtz_of tables p) (agreed_distance tables p (extreme_weighed tables true p) (extreme_weighed tables false p)) ≡ Ok d
+    kept d e = rw e refl
+
+    told_in : (r : Reach) → dtz_of tables p ≡ r → (t : Bool) → nat_le (count_of_men p) 2 ≡ t → (o : Option Distance) → agreed_distance tables p (extreme_weighed tables true p) (extreme_weighed tables false p) ≡ o → (d : Distance) → or_agreed_distance r o ≡ Ok d → IsDeterminedDistance tables p d
+    told_in (Ok x) er t et o eo d e = λ more c. strict_distance tables more p position c d (er ∙ e)
+    told_in (Err fault) er true et o eo d e = (let none : Ok NoDistance ≡ Err fault = sym (opened tables p ∙ rw et refl) ∙ er in absurd (cc))
+    told_in (Err fault) er false et None eo d e = absurd (cc)
+    told_in (Err fault) er false et (Some x) eo d e = (let same : x ≡ d = cc in told tables p position et (extreme_weighed tables true p) (extreme_weighed tables false p) refl refl d (eo ∙ ap (λ (y : Distance). Some y) same))
+
+    faulty : (r : Reach) → dtz_of tables p ≡ r → (o : Option Distance) → (fault : ValueFault) → or_agreed_distance r o ≡ Err fault → dtz_of tables p ≡ Err fault
+    faulty (Ok x) er o fault e = absurd (cc)
+    faulty (Err other) er None fault e = er ∙ e
+    faulty (Err other) er (Some x) fault e = absurd (cc)
+
+    by_capture : (v : Wdl) (outcome : Outcome) → IsDetermined tables p v → outcome_of v ≡ Some outcome → IsByCapture tables p → or_agreed_distance (dtz_of tables p) (agreed_distance tables p (extreme_weighed tables true p) (extreme_weighed tables false p)) ≡ Ok (towards outcome (zeroing outcome))
+    by_capture v outcome is eo captures =
+        told_by_value tables p position v is (towards outcome (zeroing outcome))
+        (λ a b ea eb xa xb. rw (eo, captures (extreme tables true) a (extreme-completes tables true) xa, captures (extreme tables false) b (extreme-completes tables false) xb) refl)
+        (λ w reach ew xw. rw (eo, captures (extreme tables true) w (extreme-completes tables true) xw) refl)
+        (λ few. no_outcome few) (nat_le (count_of_men p) 2) refl (dtz_of tables p) refl
+      where
+        -- bare kings are a draw
+        no_outcome : nat_le (count_of_men p) 2 ≡ true → towards outcome (zeroing outcome) ≡ NoDistance
+        no_outcome few =
+            let bare : Ok v ≡ Ok Draw = sym (is (extreme tables true) (extreme-completes tables true)) ∙ where_meets_rule (extreme tables true) p position ∙ rw few refl in
+            let same : v ≡ Draw = cc in
+            let none : None ≡ Some outcome = ap outcome_of (sym same) ∙ eo in
+            absurd (cc)

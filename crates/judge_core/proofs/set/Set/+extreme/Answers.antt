@@ -1,0 +1,61 @@
+use Rattle.std.proofs.Common.{◌≡◌, ◌∙◌, sym, ap, ◌+◌, refl, arith}
+use Rattle.board_core.specs.ComputedMoves.{count_of_men}
+use Rattle.judge_core.specs.Values.{turned}
+use Rattle.judge_core.specs.Probing.{is_forced}
+use Rattle.judge_core.specs.Inside.Determined.{extreme, extreme_value, extreme_weighed}
+use Rattle.judge_core.specs.Tables.{Holding}
+use Rattle.judge_core.specs.Inside.Found.{found_in}
+use Rattle.board_core.specs.ComputedMoves.{legal_captures}
+use Rattle.judge_core.proofs.Captures.{is_captured, falls}
+use Rattle.judge_core.proofs.Readings.{walk-begins, walk-goes_on, walk-passes, walk-ends, next_legal, next_illegal, fewer_left, with_own_where}
+use Rattle.judge_core.proofs.Rule.{where_bare, where_weighed}
+use Rattle.judge_core.proofs.set.Set.+extreme.Goals.{search_extreme-in-Some-play, search_extreme-in_default-play}
+use Rattle.judge_core.proofs.set.Set.+extreme.Goals as goal
+
+pub wdl_extreme-returns-then-is_bare-clause-is : goal.wdl_extreme-returns-then-is_bare-clause-is
+wdl_extreme-returns-then-is_bare-clause-is t c = where_bare (extreme c.args.self.now.tables c.args.odd_wins) _ c.is_bare.ensures.position (c.is_bare.ensures.bare c.if-is_bare.true)
+
+pub wdl_extreme-returns-clause-is : goal.wdl_extreme-returns-clause-is
+wdl_extreme-returns-clause-is t c =
+    c.worth_in.ensures
+    ∙ where_weighed (extreme c.args.self.now.tables c.args.odd_wins) c.args.position.now c.weigh_extreme-weighed.result c.is_bare.ensures.position (c.is_bare.ensures.more c.if-is_bare.false) (c.weigh_extreme-weighed.ensures.is ∙ ap (extreme_weighed c.args.self.now.tables c.args.odd_wins) c.of.ensures)
+
+pub search_extreme-captures-init : goal.search_extreme-captures-init
+search_extreme-captures-init t c = (walk-begins _ _ _ c.new-found.ensures, refl)
+
+pub search_extreme-captures-preserved : goal.search_extreme-captures-preserved
+search_extreme-captures-preserved t c =
+    let p = c.position-position.ensures.is in
+    let next = rw p at c.in-Some.ensures.next in
+    let tables = c.captures-2.invariant.1 in
+    elim c.match-play.branch [
+      | search_extreme-in-Some-play w ↦ (
+        let e = rw p at (sym c.play.ensures.computed ∙ w.in-Some-play.is) in
+            let after = w.wdl_extreme-reading.ensures.is ∙ ap (λ (h : Holding). extreme_value h.tables c.args.odd_wins w.in-Some-play.after) tables in
+            walk-goes_on _ _ _ _ _ _ _ _ _ c.captures-2.invariant.0 (next_legal _ _ _ _ next e) e (w.turned.ensures ∙ ap turned after) (rw p at w.lands_empty.ensures) (w.found-is ∙ w.with-found.ensures),
+        w.self-is ∙ w.wdl_extreme-reading.ensures.unchanged ∙ tables,
+      )
+      | search_extreme-in_default-play w ↦ (
+        rw w.found-is (walk-passes _ _ _ _ _ c.captures-2.invariant.0 (next_illegal _ _ _ next (rw p at (sym c.play.ensures.computed ∙ w.in_default-play.is)))),
+        w.self-is ∙ tables,
+      )
+    ]
+
+pub search_extreme-captures-smaller : goal.search_extreme-captures-smaller
+search_extreme-captures-smaller t c = fewer_left _ _ c.in-Some.ensures.later c.in-Some.ensures.below
+
+pub search_extreme-wdl_extreme-reading-requires : goal.search_extreme-wdl_extreme-reading-requires
+search_extreme-wdl_extreme-reading-requires t c =
+    let p = c.position-position.ensures.is in
+    let e = rw p at (sym c.play.ensures.computed ∙ c.in-Some-play.is) in
+    let m = is_captured _ _ _ _ (next_legal _ _ _ _ (rw p at c.in-Some.ensures.next) e) in
+    let less : count_of_men c.in-Some-play.after + 1 ≡ count_of_men c.args.probe.now = falls _ _ _ c.position-position.ensures.position m e in
+    (omega (arith, c.decreases), tt)
+
+pub search_extreme-returns-clause-is : goal.search_extreme-returns-clause-is
+search_extreme-returns-clause-is t c = walk-ends _ _ _ _ c.captures-2.invariant.0 (rw c.position-position.ensures.is at c.in_default.ensures.none)
+
+pub weigh_extreme-returns-clause-is : goal.weigh_extreme-returns-clause-is
+weigh_extreme-returns-clause-is t c =
+    let found = c.search_extreme-found.ensures.is ∙ ap (λ (h : Holding). found_in (extreme_value h.tables c.args.odd_wins) c.args.probe.now (legal_captures c.args.probe.now)) c.extreme-own.ensures.unchanged in
+    with_own_where (extreme c.args.self.now.tables c.args.odd_wins) _ c.args.probe.now _ _ _ _ found c.extreme-own.ensures.is (c.is_forced.ensures ∙ ap is_forced c.position.ensures.is) c.close.ensures

@@ -1,0 +1,113 @@
+-- Values and distances that are the same whatever the missing tables of a set hold.
+use Rattle.std.specs.Prelude.{◌≡◌, ◌≢◌, ℕ, ℤ, IsTrue, true, List, Some, Result, Ok, Err}
+use Rattle.std.specs.Result.{is_ok}
+use Rattle.board_core.specs.declared.parts.Parts.{Parts}
+use Rattle.board_core.specs.Position.{IsPosition}
+use Rattle.table_file.specs.declared.kind.TableKind.TheVariants.{Dtz}
+use Rattle.table_file.specs.declared.outcome.Outcome.{Outcome}
+use Rattle.table_file.specs.Tables.{Contents}
+use Rattle.judge_core.specs.declared.wdl.Wdl.{Wdl}
+use Rattle.judge_core.specs.declared.wdl.Wdl.TheVariants.{Draw}
+use Rattle.judge_core.specs.declared.distance.Distance.{Distance}
+use Rattle.judge_core.specs.declared.distance.Distance.TheVariants.{Draw as NoDistance}
+use Rattle.judge_core.specs.declared.found.Weighed.{Weighed}
+use Rattle.judge_core.specs.declared.fault.ValueFault.{ValueFault}
+use Rattle.judge_core.specs.declared.fault.ValueFault.TheVariants.{NotCovered, Damaged}
+use Rattle.judge_core.specs.declared.fault.ProbeFault.{ProbeFault}
+use Rattle.judge_core.specs.declared.fault.ProbeFault.TheVariants.{OutOfMemory}
+use Rattle.judge_core.specs.declared.probed.Probed.{Probed}
+use Rattle.judge_core.specs.declared.root_move.RootMove.{RootMove}
+use Rattle.judge_core.specs.Values.{Reading, outcome_of}
+use Rattle.judge_core.specs.Tables.{Tables, table_at, table_value}
+use Rattle.judge_core.specs.Probing.{weighed_where, wdl_where, wdl_of}
+use Rattle.judge_core.specs.Distances.{Reach, is_by_capture, towards, zeroing, dtz_of}
+use Rattle.judge_core.specs.Answers.{IsProbe, signed_in}
+use Rattle.judge_core.specs.Probed.{numbered}
+use Rattle.judge_core.specs.Root.{IsRootBy}
+use Rattle.judge_core.specs.Ruling.{is_out_of_scope}
+
+-- ---- completions
+
+-- what an own table may say in a completion: what it says in the set, or any value where it is missing
+abbrev pub Completes : Reading → Reading → Type 0
+Completes (Ok v) r = r ≡ Ok v
+Completes (Err (NotCovered key)) r = IsTrue (is_ok r)
+Completes (Err (Damaged key)) r = r ≡ Err (Damaged key)
+
+-- A completion of the WDL tables: what the own tables of positions say where the missing ones are there and whole. A table that
+-- is damaged stays so.
+abbrev pub IsCompletion : Tables → (Parts → Reading) → Type 0
+IsCompletion tables own = (p : Parts) → Completes (table_value tables p) (own p)
+
+-- every completion gives the position this value
+abbrev pub IsDetermined : Tables → Parts → Wdl → Type 0
+IsDetermined tables p v = (own : Parts → Reading) → IsCompletion tables own → wdl_where own p ≡ Ok v
+
+-- no value comes from every completion
+abbrev pub IsUndetermined : Tables → Parts → Type 0
+IsUndetermined tables p = (v : Wdl) → ¬ IsDetermined tables p v
+
+-- the first set with more tables: a completion of its WDL tables, and its DTZ tables with any others
+pub record IsCompletedBy (tables more : Tables) : Type 0 where
+  pub values : IsCompletion tables (table_value more)
+  pub distances : (key : ℕ) (t : Contents) → table_at tables Dtz key ≡ Some t → table_at more Dtz key ≡ Some t
+
+-- every set with more tables gives the position this distance
+abbrev pub IsDeterminedDistance : Tables → Parts → Distance → Type 0
+IsDeterminedDistance tables p d = (more : Tables) → IsCompletedBy tables more → dtz_of more p ≡ Ok d
+
+-- the value is by a capture in every completion
+abbrev pub IsByCapture : Tables → Parts → Type 0
+IsByCapture tables p =
+    (own : Parts → Reading) (w : Weighed) → IsCompletion tables own → weighed_where own (wdl_where own) p ≡ Ok w → is_by_capture w ≡ true
+
+-- ---- readings
+
+-- The value of the set, or else the one that is determined. There is none only where none is determined; then the fault is the
+-- set's.
+pub record IsDeterminedReading (tables : Tables) (p : Parts) (reading : Reading) : Type 0 where
+  pub kept : (v : Wdl) → wdl_of tables p ≡ Ok v → reading ≡ Ok v
+  pub determined : (v : Wdl) → reading ≡ Ok v → IsDetermined tables p v
+  pub fault_is : (fault : ValueFault) → reading ≡ Err fault → (wdl_of tables p ≡ Err fault) × IsUndetermined tables p
+
+-- The distance of the set, or else one that is determined, at least where the value is a draw or by a capture. Else the fault
+-- is the set's.
+pub record IsDeterminedReach (tables : Tables) (p : Parts) (reach : Reach) : Type 0 where
+  pub kept : (d : Distance) → dtz_of tables p ≡ Ok d → reach ≡ Ok d
+  pub determined : (d : Distance) → reach ≡ Ok d → IsDeterminedDistance tables p d
+  pub fault_is : (fault : ValueFault) → reach ≡ Err fault → dtz_of tables p ≡ Err fault
+  pub draw : IsDetermined tables p Draw → reach ≡ Ok NoDistance
+  pub capture :
+      (v : Wdl) (outcome : Outcome) → IsDetermined tables p v → outcome_of v ≡ Some outcome → IsByCapture tables p
+      → reach ≡ Ok (towards outcome (zeroing outcome))
+
+-- ---- answers
+
+-- what a probe returns for the determined value, and never want of memory
+pub record IsDeterminedWdl (tables : Tables) (p : Parts) (wdl : Result Wdl ProbeFault) : Type 0 where
+  pub reading : Reading
+  pub is : IsDeterminedReading tables p reading
+  pub told : IsProbe wdl (is_out_of_scope p) reading
+  pub answered : wdl ≢ Err OutOfMemory
+
+-- what a probe returns for the determined distance
+pub record IsDeterminedDtz (tables : Tables) (p : Parts) (dtz : Result ℤ ProbeFault) : Type 0 where
+  pub reach : Reach
+  pub is : IsDeterminedReach tables p reach
+  pub told : IsProbe dtz (is_out_of_scope p) (signed_in reach)
+
+-- both, as numbers
+pub record AreDetermined (tables : Tables) (p : Parts) (probed : Probed) : Type 0 where
+  pub wdl : Result Wdl ProbeFault
+  pub dtz : Result ℤ ProbeFault
+  pub wdl_is : IsDeterminedWdl tables p wdl
+  pub dtz_is : IsDeterminedDtz tables p dtz
+  pub told : probed ≡ record { wdl = numbered wdl; dtz = dtz }
+
+-- the root moves, by determined values and distances of the positions after them
+pub record IsDeterminedRoot (tables : Tables) (p : Parts) (moves : List RootMove) : Type 0 where
+  pub value : Parts → Reading
+  pub reach : Parts → Reach
+  pub values : (q : Parts) → IsPosition q → IsDeterminedReading tables q (value q)
+  pub reaches : (q : Parts) → IsPosition q → IsDeterminedReach tables q (reach q)
+  pub root : IsRootBy value reach p moves

@@ -1,0 +1,113 @@
+-- The two completions between which all others lie, and what follows from both.
+use Rattle.std.specs.Prelude.{ℕ, ◌%◌, ◌==◌, Bool, true, false, not, ◌&&◌, ◌||◌, Option, Some, None, Result, Ok, Err, if◌then◌else◌}
+use Rattle.board_core.specs.declared.parts.Parts.{Parts}
+use Rattle.board_core.specs.ComputedMoves.{count_of_men}
+use Rattle.table_file.specs.declared.outcome.Outcome.{Outcome}
+use Rattle.judge_core.specs.declared.determined.Ask.{Ask}
+use Rattle.judge_core.specs.declared.determined.Ask.TheVariants.{Strict, Determined}
+use Rattle.judge_core.specs.declared.wdl.Wdl.{Wdl}
+use Rattle.judge_core.specs.declared.wdl.Wdl.TheVariants.{Loss, Win}
+use Rattle.judge_core.specs.declared.distance.Distance.{Distance}
+use Rattle.judge_core.specs.declared.distance.Distance.TheVariants.{Draw}
+use Rattle.judge_core.specs.declared.found.Weighed.{Weighed}
+use Rattle.judge_core.specs.declared.fault.ValueFault.{ValueFault}
+use Rattle.judge_core.specs.declared.fault.ValueFault.TheVariants.{NotCovered, Damaged}
+use Rattle.judge_core.specs.Values.{Reading, is_same, opposite, outcome_of}
+use Rattle.judge_core.specs.Tables.{Tables, table_value}
+use Rattle.judge_core.specs.Probing.{weighed_where, wdl_where, wdl_of, worth}
+use Rattle.judge_core.specs.Distances.{Reach, is_by_capture, is_won, towards, zeroing, pawns_reach_where, dtz_of}
+
+-- ---- values
+
+-- A missing table wins for the side to move where the number of men is odd, and loses where it is even, or the other way round.
+-- A capture takes a man, so that one side wins by all missing tables that are met.
+abbrev pub is_won_here : Bool → ℕ → Bool
+is_won_here true men = men % 2 == 1
+is_won_here false men = not (men % 2 == 1)
+
+abbrev pub fill : Bool → ℕ → Wdl
+fill odd_wins men = if is_won_here odd_wins men then Win else Loss
+
+abbrev pub in_stead : Reading → Wdl → Reading
+in_stead (Ok v) other = Ok v
+in_stead (Err (NotCovered key)) other = Ok other
+in_stead (Err (Damaged key)) other = Err (Damaged key)
+
+unfoldable pub extreme : Tables → Bool → Parts → Reading
+extreme tables odd_wins p = in_stead (table_value tables p) (fill odd_wins (count_of_men p))
+
+-- what the position is worth there
+abbrev pub extreme_value : Tables → Bool → Parts → Reading
+extreme_value tables odd_wins = wdl_where (extreme tables odd_wins)
+
+abbrev pub extreme_weighed : Tables → Bool → Parts → Result Weighed ValueFault
+extreme_weighed tables odd_wins p = weighed_where (extreme tables odd_wins) (extreme_value tables odd_wins) p
+
+-- the value that both have
+abbrev pub agreed : Reading → Reading → Option Wdl
+agreed (Ok u) (Ok v) = if is_same u v then Some u else None
+agreed (Ok u) (Err fault) = None
+agreed (Err fault) r = None
+
+abbrev pub or_agreed : Reading → Option Wdl → Reading
+or_agreed (Ok v) other = Ok v
+or_agreed (Err fault) None = Err fault
+or_agreed (Err fault) (Some v) = Ok v
+
+unfoldable pub determined_value : Tables → Parts → Reading
+determined_value tables p = or_agreed (wdl_of tables p) (agreed (extreme_value tables true p) (extreme_value tables false p))
+
+-- ---- distances
+
+-- this value only where both have it, and a fault where one has
+abbrev pub in_both : Wdl → Reading → Reading → Reading
+in_both v (Ok a) (Ok b) = if is_same a v then Ok b else Ok a
+in_both v (Ok a) (Err fault) = Err fault
+in_both v (Err fault) r = Err fault
+
+unfoldable pub value_in_both : Tables → Wdl → Parts → Reading
+value_in_both tables v p = in_both v (extreme_value tables true p) (extreme_value tables false p)
+
+-- whether some pawn move reaches the value in both
+abbrev pub pawns_reach_in_both : Tables → Parts → Wdl → Result Bool ValueFault
+pawns_reach_in_both tables p v = pawns_reach_where (value_in_both tables (opposite v)) p v
+
+abbrev pub is_reached : Result Bool ValueFault → Bool
+is_reached (Ok reached) = reached
+is_reached (Err fault) = false
+
+-- by a capture in both, or a win by a pawn move
+abbrev pub is_zeroing : Tables → Parts → Weighed → Weighed → Outcome → Bool
+is_zeroing tables p a b outcome = (is_by_capture a && is_by_capture b) || (is_won outcome && is_reached (pawns_reach_in_both tables p (worth a)))
+
+abbrev pub zeroing_distance : Tables → Parts → Weighed → Weighed → Option Outcome → Option Distance
+zeroing_distance tables p a b None = Some Draw
+zeroing_distance tables p a b (Some outcome) = if is_zeroing tables p a b outcome then Some (towards outcome (zeroing outcome)) else None
+
+abbrev pub agreed_distance : Tables → Parts → Result Weighed ValueFault → Result Weighed ValueFault → Option Distance
+agreed_distance tables p (Ok a) (Ok b) = if is_same (worth a) (worth b) then zeroing_distance tables p a b (outcome_of (worth a)) else None
+agreed_distance tables p (Ok a) (Err fault) = None
+agreed_distance tables p (Err fault) r = None
+
+abbrev pub or_agreed_distance : Reach → Option Distance → Reach
+or_agreed_distance (Ok d) other = Ok d
+or_agreed_distance (Err fault) None = Err fault
+or_agreed_distance (Err fault) (Some d) = Ok d
+
+unfoldable pub determined_reach : Tables → Parts → Reach
+determined_reach tables p = or_agreed_distance (dtz_of tables p) (agreed_distance tables p (extreme_weighed tables true p) (extreme_weighed tables false p))
+
+-- ---- what is asked for
+
+abbrev pub value_as : Ask → Tables → Parts → Reading
+value_as Strict tables = wdl_of tables
+value_as Determined tables = determined_value tables
+
+abbrev pub reach_as : Ask → Tables → Parts → Reach
+reach_as Strict tables = dtz_of tables
+reach_as Determined tables = determined_reach tables
+
+-- the values in which pawn moves are to reach this one
+abbrev pub step_value_as : Ask → Tables → Wdl → Parts → Reading
+step_value_as Strict tables v = wdl_of tables
+step_value_as Determined tables v = value_in_both tables (opposite v)

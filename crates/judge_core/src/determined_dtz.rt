@@ -1,0 +1,243 @@
+//! Distances that are the same whatever the missing tables hold.
+
+ghost use Rattle.std.specs.Prelude.{◌≡◌, ◌≤◌, true, false, IfOk, IfSome, OnErr};
+ghost use Rattle.board_core.specs.Position.{IsPosition};
+ghost use Rattle.judge_core.specs.Determined.{AreDetermined, IsDeterminedDtz};
+ghost use Rattle.judge_core.specs.Distances.{dtz_of, plies};
+ghost use Rattle.judge_core.specs.Inside.Determined.{agreed_distance, determined_reach, determined_value, extreme_weighed, is_zeroing, or_agreed_distance, reach_as, value_as, zeroing_distance};
+ghost use Rattle.judge_core.specs.Probing.{wdl_of, worth};
+ghost use Rattle.judge_core.specs.Ruling.{is_out_of_scope, ruling};
+ghost use Rattle.judge_core.specs.Tables.{AreFiled};
+ghost use Rattle.judge_core.specs.Values.{outcome_of};
+
+use crate::answering::{Readings, columns_outside};
+use crate::determined::Ask;
+use crate::display::Columns;
+use crate::distance::{Distance, is_won, towards, zeroing};
+use crate::dtz::signed_in;
+use crate::fault::{ProbeFault, ValueFault};
+use crate::found::Weighed;
+use crate::probe::Probe;
+use crate::set::Set;
+use crate::verdict::is_out_of_scope;
+use board_core::Position;
+use std::alloc::{AllocError, Global};
+use table_file::Outcome;
+
+impl<'a> Set<'a> {
+    /// Whether the value is that of a capture in both sets, or a win by a pawn move.
+    fn is_zeroing(
+        &mut self,
+        alloc: Global,
+        position: &Position,
+        odd: &Weighed,
+        even: &Weighed,
+        outcome: Outcome,
+    ) -> Result<bool, AllocError>
+        ensures is { IfOk result (λ b. b ≡ is_zeroing self.old.tables position.now odd.now even.now outcome) }
+        ensures unchanged { self.new ≡ self.old }
+    {
+        if odd.is_by_capture() && even.is_by_capture() {
+            return Ok(true);
+        }
+        if !is_won(outcome) {
+            return Ok(false);
+        }
+        match self.pawns_reach(alloc, position, odd.worth(), Ask::Determined)? {
+            Ok(reached) => Ok(reached),
+            Err(_) => Ok(false),
+        }
+    }
+
+    /// The distance of a position that is worth the same in both sets, if what is weighed there tells it.
+    fn zeroing_distance(
+        &mut self,
+        alloc: Global,
+        position: &Position,
+        odd: &Weighed,
+        even: &Weighed,
+    ) -> Result<Option<Distance>, AllocError>
+        ensures is { IfOk result (λ d. d ≡ zeroing_distance self.old.tables position.now odd.now even.now (outcome_of (worth odd.now))) }
+        ensures within { IfOk result (λ o. IfSome o (λ d. plies d ≤ 101)) }
+        ensures unchanged { self.new ≡ self.old }
+    {
+        let Some(outcome) = odd.worth().outcome() else {
+            return Ok(Some(Distance::Draw));
+        };
+        if self.is_zeroing(alloc, position, odd, even, outcome)? {
+            Ok(Some(towards(outcome, zeroing(outcome))))
+        } else {
+            Ok(None)
+        }
+    }
+
+    /// The distance that the position has in both sets, if what is weighed there tells it.
+    fn agreed_distance(
+        &mut self,
+        alloc: Global,
+        position: &Position,
+    ) -> Result<Option<Distance>, AllocError>
+        ensures is { IfOk result (λ d. d ≡ agreed_distance self.old.tables position.now (extreme_weighed self.old.tables true position.now) (extreme_weighed self.old.tables false position.now)) }
+        ensures within { IfOk result (λ o. IfSome o (λ d. plies d ≤ 101)) }
+        ensures unchanged { self.new ≡ self.old }
+    {
+        let probe = Probe::of(position);
+        let odd = self.weigh_extreme(alloc, &probe, true);
+        let even = self.weigh_extreme(alloc, &probe, false);
+        let Ok(odd) = odd else {
+            return Ok(None);
+        };
+        let Ok(even) = even else {
+            return Ok(None);
+        };
+        if odd.worth().is_same(even.worth()) {
+            self.zeroing_distance(alloc, position, &odd, &even)
+        } else {
+            Ok(None)
+        }
+    }
+
+    /// These readings, and where they are faults, what is the same in both sets.
+    fn determine(
+        &mut self,
+        alloc: Global,
+        position: &Position,
+        strict: &Readings,
+    ) -> Result<Readings, AllocError>
+        requires wdl { strict.now.wdl ≡ wdl_of self.old.tables position.now }
+        requires dtz { strict.now.dtz ≡ dtz_of self.old.tables position.now }
+        requires within { IfOk strict.now.dtz (λ d. plies d ≤ 131173) }
+        ensures wdl { IfOk result (λ r. r.wdl ≡ determined_value self.old.tables position.now) }
+        ensures dtz { IfOk result (λ r. r.dtz ≡ determined_reach self.old.tables position.now) }
+        ensures within { IfOk result (λ r. IfOk r.dtz (λ d. plies d ≤ 131173)) }
+        ensures unchanged { self.new ≡ self.old }
+    {
+        let wdl = self.or_agreed(alloc, position, &strict.wdl);
+        let dtz = self.or_agreed_distance(alloc, position, &strict.dtz)?;
+        Ok(Readings { wdl, dtz })
+    }
+
+    /// This distance, or else the one that the position has in both sets.
+    fn or_agreed_distance(
+        &mut self,
+        alloc: Global,
+        position: &Position,
+        strict: &Result<Distance, ValueFault>,
+    ) -> Result<Result<Distance, ValueFault>, AllocError>
+        requires within { IfOk strict.now (λ d. plies d ≤ 131173) }
+        ensures is { IfOk result (λ r. r ≡ or_agreed_distance strict.now (agreed_distance self.old.tables position.now (extreme_weighed self.old.tables true position.now) (extreme_weighed self.old.tables false position.now))) }
+        ensures within { IfOk result (λ r. IfOk r (λ d. plies d ≤ 131173)) }
+        ensures unchanged { self.new ≡ self.old }
+    {
+        let fault = match strict {
+            Ok(distance) => return Ok(Ok(*distance)),
+            Err(fault) => *fault,
+        };
+        match self.agreed_distance(alloc, position)? {
+            Some(distance) => Ok(Ok(distance)),
+            None => Ok(Err(fault)),
+        }
+    }
+
+    /// The value and the distance, as they are asked for.
+    pub(crate) fn readings_as(
+        &mut self,
+        alloc: Global,
+        position: &Position,
+        ask: Ask,
+    ) -> Result<Readings, AllocError>
+        ensures wdl { IfOk result (λ r. r.wdl ≡ value_as ask self.old.tables position.now) }
+        ensures dtz { IfOk result (λ r. r.dtz ≡ reach_as ask self.old.tables position.now) }
+        ensures within { IfOk result (λ r. IfOk r.dtz (λ d. plies d ≤ 131173)) }
+        ensures unchanged { self.new ≡ self.old }
+    {
+        let strict = self.readings(alloc, position)?;
+        match ask {
+            Ask::Strict => Ok(strict),
+            Ask::Determined => self.determine(alloc, position, &strict),
+        }
+    }
+
+    /// The distance of a position, as `dtz` gives it, or where that is a fault, one that is the same whatever the missing
+    /// tables hold.
+    ///
+    /// It tells the distance where the value is the same whatever they hold, and is a draw or by a capture. It may tell
+    /// that of a win by a pawn move, of which no clause speaks. No other missing table is made up for. Else the error is that of `dtz`. The set stays as it was but
+    /// for its cache.
+    pub fn determined_dtz(&mut self, alloc: Global, position: &Position) -> Result<i32, ProbeFault>
+        ensures answer { IsDeterminedDtz self.old.tables position.now result }
+        ensures unchanged { self.new ≡ self.old }
+    {
+        if is_out_of_scope(position) {
+            return Err(ProbeFault::OutOfScope);
+        }
+        let Ok(readings) = self.readings_as(alloc, position, Ask::Determined) else {
+            return Err(ProbeFault::OutOfMemory);
+        };
+        signed_in(&readings.dtz)
+    }
+
+    /// The columns of a position in scope that has these readings, where determined ones are told.
+    fn columns_from(
+        &mut self,
+        alloc: Global,
+        position: &Position,
+        strict: &Readings,
+    ) -> Result<Columns, AllocError>
+        requires position { IsPosition position.now }
+        requires scope { is_out_of_scope position.now ≡ false }
+        requires wdl { strict.now.wdl ≡ wdl_of self.old.tables position.now }
+        requires dtz { strict.now.dtz ≡ dtz_of self.old.tables position.now }
+        requires within { IfOk strict.now.dtz (λ d. plies d ≤ 131173) }
+        ensures told { IfOk result (λ answers. AreDetermined self.old.tables position.now answers.probed) }
+        ensures verdict { IfOk result (λ answers. answers.verdict ≡ ruling self.old.tables position.now) }
+        ensures unchanged { self.new ≡ self.old }
+    {
+        match self.determine(alloc, position, strict) {
+            Ok(determined) => Ok(strict.columns_telling(position, &determined)),
+            Err(fault) => Err(fault),
+        }
+    }
+
+    /// Both probes of a position in scope, as `determined_wdl` and `determined_dtz` give them, and the verdict on it.
+    fn determined_columns(
+        &mut self,
+        alloc: Global,
+        position: &Position,
+    ) -> Result<Columns, AllocError>
+        requires position { IsPosition position.now }
+        requires scope { is_out_of_scope position.now ≡ false }
+        ensures told { IfOk result (λ answers. AreDetermined self.old.tables position.now answers.probed) }
+        ensures verdict { IfOk result (λ answers. answers.verdict ≡ ruling self.old.tables position.now) }
+        ensures unchanged { self.new ≡ self.old }
+    {
+        match self.readings(alloc, position) {
+            Ok(strict) => self.columns_from(alloc, position, &strict),
+            Err(fault) => Err(fault),
+        }
+    }
+
+    /// Both probes of the position, as `determined_wdl` and `determined_dtz` give them, and the verdict on it, as `judge`
+    /// gives it: a verdict needs the tables themselves.
+    ///
+    /// The error comes only where memory for a list of moves is refused, and the position is then in scope. The set
+    /// stays as it was but for its cache.
+    pub fn determined_answers(
+        &mut self,
+        alloc: Global,
+        position: &Position,
+    ) -> Result<Columns, AllocError>
+        ensures told { IfOk result (λ answers. AreDetermined self.old.tables position.now answers.probed) }
+        ensures verdict { IfOk result (λ answers. answers.verdict ≡ ruling self.old.tables position.now) }
+        ensures memory { OnErr result (is_out_of_scope position.now ≡ false) }
+        ensures filed { AreFiled self.old.tables }
+        ensures unchanged { self.new ≡ self.old }
+    {
+        // Called for its contract: each table is in its slot.
+        let _cache = self.cache();
+        if is_out_of_scope(position) {
+            return Ok(columns_outside(position));
+        }
+        self.determined_columns(alloc, position)
+    }
+}

@@ -1,0 +1,46 @@
+//! The table that a probe misses.
+
+ghost use Rattle.std.specs.Prelude.{◌≡◌};
+ghost use Rattle.place_index.specs.Material.{name_of, men_of};
+ghost use Rattle.probe_api.specs.Missing.{PutsMissing, PutsMissingOf};
+ghost use Rattle.probe_api.specs.Texts.{PutsText};
+
+use crate::board::{Board, position_on};
+use crate::text::put_text;
+use board_core::Position;
+use judge_core::{ProbeFault, Set};
+use place_index::Material;
+use std::alloc::Global;
+
+/// Puts the name of a table.
+fn put_name(material: &Material, room: &mut [u8]) -> usize
+    ensures { PutsText (name_of (men_of material.now)) room.old result room.new }
+{
+    let name = material.name();
+    put_text(name.as_str().as_bytes(), room)
+}
+
+/// Puts the name of the table that the WDL probe of a position misses.
+fn put_missing_of(alloc: Global, set: &mut Set<'_>, position: &Position, room: &mut [u8]) -> usize
+    ensures is { PutsMissingOf set.old.tables position.now room.old result room.new }
+    ensures kept { set.new ≡ set.old }
+{
+    let probed = set.wdl(alloc, position);
+    match &probed {
+        Err(ProbeFault::NotCovered(material)) => put_name(material, room),
+        _ => put_text(b"", room),
+    }
+}
+
+/// Puts the name of the first table that the WDL probe of a board needs and the set lacks, as `KQvK`, and a byte 0 after it at the
+/// front of the room, where both fit; otherwise it writes nothing. The result is the length of the name, at most 6. The name is empty
+/// where the probe misses no table, or the board shows no position. The set stays as it was but for its cache.
+pub fn put_missing(alloc: Global, set: &mut Set<'_>, board: &Board, room: &mut [u8]) -> usize
+    ensures is { PutsMissing set.old.tables board.now room.old result room.new }
+    ensures kept { set.new ≡ set.old }
+{
+    match position_on(board) {
+        Ok(position) => put_missing_of(alloc, set, &position, room),
+        Err(_) => put_text(b"", room),
+    }
+}

@@ -1,0 +1,58 @@
+//! A host whose ports are sealed.
+
+ghost use Rattle.std.specs.Prelude.{◌≡◌, true, length, map, IfErr, IfOk, OnErr};
+
+use crate::seal_port::{Keys, Sealed};
+use std::alloc::{AllocError, Global};
+use std::net::SocketAddr;
+use system_io::{BindFault, Host};
+
+/// A host over another one: its ports seal by these keys, and its files are those of the other.
+#[derive(Drop)]
+pub struct Keyed<'a, H> {
+    host: &'a H,
+    keys: Keys,
+}
+
+impl<'a, H: Host> Keyed<'a, H> {
+    ghost use Rattle.sealed_port.specs.KeyedHosts.{IsKeyed};
+
+    /// The host whose ports seal by these keys.
+    pub fn over(host: &'a H, keys: Keys) -> Keyed<'a, H>
+        ensures { IsKeyed host.entry.now keys result }
+    {
+        Keyed { host, keys }
+    }
+}
+
+impl<'a, H: Host> Host for Keyed<'a, H> {
+    ghost use Rattle.sealed_port.specs.KeyedHosts.{keyed_facts, keyed_one};
+
+    type Port = Sealed<H::Port>;
+
+    type File = H::File;
+
+    ghost facts = { keyed_facts H.facts };
+
+    ghost one = { λ k told. keyed_one k.keys (H.facts k.host.now) (H.one k.host.now told) };
+
+    fn bind(
+        &self,
+        alloc: Global,
+        address: &str,
+        to: &[&str],
+    ) -> Result<Sealed<H::Port>, BindFault> {
+        match self.host.bind(alloc, address, to) {
+            Ok(port) => Ok(Sealed::over(port, &self.keys)),
+            Err(fault) => Err(fault),
+        }
+    }
+
+    fn own_address(&self, port: &Sealed<H::Port>) -> Option<SocketAddr> {
+        self.host.own_address(port.below())
+    }
+
+    fn file(&self, alloc: Global, path: &str) -> Result<H::File, AllocError> {
+        self.host.file(alloc, path)
+    }
+}

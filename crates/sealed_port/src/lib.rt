@@ -1,0 +1,31 @@
+//! A port whose datagrams carry a tag, by which only those who have the key can make them.
+//!
+//! `Sealed` is a port over another one. What it sends goes out with a tag behind it: the first 16 bytes of the HMAC-SHA-256 (RFC
+//! 2104, over FIPS 180-4) of the bytes under the first key. What comes is passed on without its tag where that is right under one of
+//! the keys. For any other datagram it passes on 64 bytes that are zero, which `move_msg` reads as `NoTag`. `Keyed` is a host
+//! whose ports are so; its files are those of the host below.
+//!
+//! `Keys::read` reads a file of keys: one line or two, each of 64 lower-case hexadecimal digits (FORMATS, section 8). `MacKey` keeps
+//! both digests of a key as they stand behind its block. Tags are compared without an early end (`is_same`); no clause says so, since
+//! a clause says nothing of time.
+//!
+//! Definitions, in reading order: `Hmac`, `Sealing`, `KeyFiles`, `KeyedHosts`, `Laws`. Its tests stand in `checks_io`; cases are in
+//! `sealed.txt` of `rows`, and `tools/forge` tries a forger against real arbiters.
+//!
+//! - CLAIM: `MacKey::hmac`: the HMAC of a text is that of RFC 2104 over SHA-256.
+//! - CLAIM: `laws::only_sealed_is_passed_on`; `laws::sealed_is_passed_on`: nothing but 64 zeros is passed on for a datagram that isn't
+//!   sealed by one of the keys, and what is sealed is passed on.
+//! - CLAIM: `Keys::read`, clauses `ok`, `err`: a file of keys is read exactly where it has one line or two of 64 lower-case
+//!   hexadecimal digits; else the first fault is told.
+#![tactic(auto)]
+
+mod key_file;
+mod keyed_host;
+pub mod laws;
+mod mac;
+mod seal_port;
+
+pub use key_file::{KeyFault, MOST_KEY_BYTES};
+pub use keyed_host::Keyed;
+pub use mac::MacKey;
+pub use seal_port::{Keys, MOST_BYTES, Sealed};

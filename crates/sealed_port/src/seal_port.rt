@@ -1,0 +1,183 @@
+//! A port whose datagrams carry a tag.
+
+ghost use Rattle.std.specs.Prelude.{◌≡◌, ◌≤◌, ◌↔◌, length, take, true, IsTrue};
+ghost use Rattle.sealed_port.specs.Sealing.{is_sealed, is_sealed_by, keys_in, opened, sealed, tag_of};
+
+use crate::mac::MacKey;
+use arrayvec::ArrayVec;
+use std::time::Duration;
+use system_io::{NO_TAG, Port, PortFault};
+
+/// The most bytes of a datagram before its tag.
+pub const MOST_BYTES: usize = 48;
+
+/// The keys of a port: it seals by the first, and opens by either. Where there is one key, both are that key.
+#[derive(Clone, Copy)]
+pub struct Keys {
+    /// The key by which datagrams are sealed.
+    pub first: [u8; 32],
+    /// The other key by which they are opened.
+    pub second: [u8; 32],
+}
+
+/// A port over another one: it gives each datagram a tag, and passes on without it what carries a right one. For any other
+/// datagram it passes on 64 bytes that are zero (`NO_TAG`).
+///
+/// A datagram of more than 48 bytes isn't sent, and from then on the traffic isn't known.
+#[derive(Drop)]
+pub struct Sealed<P: Drop> {
+    port: P,
+    first: MacKey,
+    second: MacKey,
+    is_told: bool,
+}
+
+/// The tag of bytes under a key.
+fn tag_of(key: &MacKey, bytes: &[u8]) -> [u8; 16]
+    ensures { result ≡ tag_of key.now bytes.now }
+{
+    let mut tag = [0u8; 16];
+    tag.copy_from_slice(&key.hmac(bytes)[..16]);
+    tag
+}
+
+/// Whether two tags are one. All bytes are looked at, whichever differ.
+fn is_same(a: &[u8; 16], b: &[u8]) -> bool
+    requires { length b.now ≡ 16 }
+    ensures { IsTrue result ↔ (a.now ≡ b.now) }
+{
+    let mut other = 0u8;
+    for i in 0..16 {
+        other |= a[i] ^ b[i];
+    }
+    other == 0
+}
+
+/// Whether a datagram ends with the tag of what stands before it.
+fn is_sealed(key: &MacKey, datagram: &[u8]) -> bool
+    ensures is { result ≡ is_sealed key.now datagram.now }
+    ensures long { IsTrue result → 16 ≤ length datagram.now }
+{
+    if datagram.len() < 16 {
+        return false;
+    }
+    let (bytes, tag) = datagram.split_at(datagram.len() - 16);
+    is_same(&tag_of(key, bytes), tag)
+}
+
+/// Bytes with their tag behind them.
+fn with_tag(key: &MacKey, bytes: &[u8]) -> ArrayVec<u8, 64>
+    requires { length bytes.now ≤ 48 }
+    ensures { result.items ≡ sealed key.now bytes.now }
+{
+    let mut datagram = ArrayVec::new();
+    let _fits = datagram.try_extend_from_slice(bytes);
+    let _tag_fits = datagram.try_extend_from_slice(&tag_of(key, bytes));
+    datagram
+}
+
+impl<P: Port + Drop> Sealed<P> {
+    /// A port that seals by these keys over another one.
+    pub fn over(port: P, keys: &Keys) -> Sealed<P>
+        ensures port { result.port ≡ port }
+        ensures keys { keys_in result ≡ keys.now }
+        ensures told { result.is_told ≡ true }
+    {
+        Sealed {
+            port,
+            first: MacKey::of(&keys.first),
+            second: MacKey::of(&keys.second),
+            is_told: true,
+        }
+    }
+
+    /// The port below.
+    pub fn below(&self) -> &P
+        ensures { result.now ≡ self.now.port }
+    {
+        &self.port
+    }
+
+    /// Whether a datagram ends with a right tag, under one of the keys.
+    fn is_right(&self, datagram: &[u8]) -> bool
+        ensures is { result ≡ is_sealed_by (keys_in self.now) datagram.now }
+        ensures long { IsTrue result → 16 ≤ length datagram.now }
+    {
+        is_sealed(&self.first, datagram) || is_sealed(&self.second, datagram)
+    }
+
+    /// Opens the datagram that has the first so many bytes of a buffer: what is passed on stands at its front then. Returns how
+    /// many bytes that are.
+    fn open(&self, buffer: &mut [u8; 64], length: usize) -> usize
+        requires { length ≤ 64 }
+        ensures fits { result ≤ 64 }
+        ensures is { take result buffer.new ≡ opened (is_sealed_by (keys_in self.now) (take length buffer.old)) (take length buffer.old) }
+    {
+        if self.is_right(&buffer[..length]) {
+            length - 16
+        } else {
+            *buffer = NO_TAG;
+            buffer.len()
+        }
+    }
+}
+
+impl<P: Port + Drop> Port for Sealed<P> {
+    ghost use Rattle.std.specs.Prelude.{◌≡◌, ◌≤◌, [], ◌∷◌, None, Ok, length, take, IfOk, IfSome, OnErr};
+    ghost use Rattle.system_io.specs.Failures.{Risen};
+    ghost use Rattle.system_io.specs.Ports.{Came, Quiet, Missed, Passed, to_each};
+    ghost use Rattle.sealed_port.specs.Sealing.{keys_in, sealed_facts};
+
+    ghost facts = { sealed_facts P.facts };
+
+    fn receive(&mut self, buffer: &mut [u8; 64]) -> Result<usize, PortFault>
+        ensures length { IfOk result (λ n. n ≤ 64) }
+        ensures came { IfOk result (λ n. Passed (sealed_facts P.facts self.old) (sealed_facts P.facts self.new) (Came (take n buffer.new) ∷ [])) }
+        ensures missed { OnErr result (Passed (sealed_facts P.facts self.old) (sealed_facts P.facts self.new) (Missed ∷ [])) }
+        ensures cause { OnErr result (Risen (sealed_facts P.facts self.old).faults (sealed_facts P.facts self.new).faults) }
+        ensures told { self.new.is_told ≡ self.old.is_told }
+        ensures keys { keys_in self.new ≡ keys_in self.old }
+    {
+        match self.port.receive(buffer) {
+            Ok(length) => Ok(self.open(buffer, length)),
+            Err(fault) => Err(fault),
+        }
+    }
+
+    fn receive_in_time(
+        &mut self,
+        wait: Duration,
+        buffer: &mut [u8; 64],
+    ) -> Result<Option<usize>, PortFault>
+        ensures length { IfOk result (λ got. IfSome got (λ n. n ≤ 64)) }
+        ensures came { IfOk result (λ got. IfSome got (λ n. Passed (sealed_facts P.facts self.old) (sealed_facts P.facts self.new) (Came (take n buffer.new) ∷ []))) }
+        ensures quiet { result ≡ Ok None → Passed (sealed_facts P.facts self.old) (sealed_facts P.facts self.new) (Quiet ∷ []) }
+        ensures missed { OnErr result (Passed (sealed_facts P.facts self.old) (sealed_facts P.facts self.new) (Missed ∷ [])) }
+        ensures cause { OnErr result (Risen (sealed_facts P.facts self.old).faults (sealed_facts P.facts self.new).faults) }
+        ensures told { self.new.is_told ≡ self.old.is_told }
+        ensures keys { keys_in self.new ≡ keys_in self.old }
+    {
+        match self.port.receive_in_time(wait, buffer) {
+            Ok(Some(length)) => Ok(Some(self.open(buffer, length))),
+            Ok(None) => Ok(None),
+            Err(fault) => Err(fault),
+        }
+    }
+
+    fn send(&mut self, bytes: &[u8]) -> Result<(), PortFault>
+        ensures handed { Passed (sealed_facts P.facts self.old) (sealed_facts P.facts self.new) (to_each (sealed_facts P.facts self.old).addresses bytes.now) }
+        ensures cause { OnErr result (Risen (sealed_facts P.facts self.old).faults (sealed_facts P.facts self.new).faults) }
+        ensures told { length bytes.now ≤ 48 → self.new.is_told ≡ self.old.is_told }
+        ensures keys { keys_in self.new ≡ keys_in self.old }
+    {
+        if bytes.len() > MOST_BYTES {
+            self.is_told = false;
+            return Ok(());
+        }
+        self.port.send(&with_tag(&self.first, bytes))
+    }
+
+    fn failures(&self) -> u64 {
+        self.port.failures()
+    }
+}

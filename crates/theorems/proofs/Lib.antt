@@ -1,0 +1,6 @@
+pub mod Netting
+pub mod Seeing
+pub mod Weaving
+pub mod Stopping
+pub mod Joining
+pub mod Acking

@@ -1,0 +1,4 @@
+pub mod Nets
+pub mod Weaves
+pub mod Sources
+pub mod Seals

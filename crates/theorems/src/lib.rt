@@ -1,0 +1,40 @@
+//! Theorems over the crates: what two arbiters, two servers and a source come to together.
+//!
+//! `arbiter_core` proves what one arbiter does, `arbiter_server` what one server does for each of its games, `source_core` what a
+//! source sends, and `relay_world` what holds of each schedule of deliveries, losses, repeats and restarts. Here the first three
+//! are tied to the fourth: what arbiters, servers and sources keep and send for a game is what the world of some schedule keeps
+//! and has sent, so that each law of `relay_world` holds of them. Each function carries one law and does nothing.
+//!
+//! What the outside gives is a premise, act by act, in `specs/Nets.antt` and `specs/Weaves.antt`; nothing that a contract gives
+//! is stated there again. Of two hosts these are: which hosts they are and what their tables mean (`IsHostOf`); that the game
+//! found under the stamp is this one, that no message of it is made up, and that keepers keep (`Finds`, `Hears`, `Stops`); that a
+//! stopped run is a front of one that returns (`rest` of `IsRunOf`); that a closing, an act of another game and a datagram
+//! without a keeper leave what is found (`GivesOwn`, `GivesIf`).
+//!
+//! In `proofs/`: `Netting` (arbiters), `Seeing` (keepers of any type, seen as what they keep), `Weaving` (an act of a host as
+//! steps of an arbiter), `Stopping`, `Joining`, `Acking`.
+//!
+//! Definitions, in reading order: `Nets`, `Weaves`, `Sources`, `Seals`.
+//!
+//! - CLAIM: `arbiters_are_worlds`: two arbiters of one game over keepers of any one type, by steps as the contracts of `open` and
+//!   `deliver` have them, come to a world, which is faithful to the game.
+//! - CLAIM: `hosts_are_worlds`: two hosts that have one game, each with any number of runs, their acts in any order and those of
+//!   other games among them, come to a world. While the game is open, its arbiter runs and its keeper keeps what is found there.
+//! - CLAIM: `acks_are_found`: as many moves as a host ever acknowledged are found there, then and later: the game's first ones.
+//! - CLAIM: `sends_the_log`: each datagram that a run of `send` passes on is a message of the log with which the worlds of its
+//!   moves begin.
+//! - CLAIM: `sources_tell_the_truth`: what a source goes by is true, where all that came of the game was sent in a world of it: a
+//!   verdict that both reported is the first, no two differ, and a move that both acknowledged is kept by both. That it prints
+//!   this is `send_game`, clause `sends`.
+//! - CLAIM: `no_tag_no_forgery`: where no datagram has a forged tag, a port with keys passes on no forged message.
+#![tactic(auto)]
+
+mod arbiters;
+mod hosts;
+mod seals;
+mod sources;
+
+pub use arbiters::arbiters_are_worlds;
+pub use hosts::{acks_are_found, hosts_are_worlds};
+pub use seals::no_tag_no_forgery;
+pub use sources::{sends_the_log, sources_tell_the_truth};
