@@ -1,9 +1,12 @@
 //! Forged table files of 80 bytes, by the bytes that aren't zero at their end: single values for both sides, and for all files
 //! where there are pawns.
 
-use crate::comparing::push_bytes;
+use crate::comparing::{check_same, push_bytes};
+use judge_core::{Set, SetFault};
 use std::alloc::Global;
 use std::process::Abort;
+use std::test::Fail;
+use table_file::{Table, open};
 
 /// A knight draws.
 pub(crate) const KNIGHT: [u8; 14] = [
@@ -122,4 +125,26 @@ pub(crate) fn queen_file(rt: &impl Abort, alloc: Global) -> Vec<u8> {
     push_blocks(rt, &mut bytes);
     fill(rt, &mut bytes, 3984, 0);
     bytes
+}
+
+/// Whether the table is added, which takes no memory.
+fn is_taken<'a>(rt: &impl Abort, set: &mut Set<'a>, table: Table<'a>) -> bool {
+    match set.add(table) {
+        Ok(()) => true,
+        Err(fault) => {
+            check_same(rt, fault, SetFault::OutOfMemory, "a table");
+            false
+        }
+    }
+}
+
+/// Whether the table of this file is added.
+pub(crate) fn is_added<'a>(
+    rt: &impl Abort,
+    alloc: Global,
+    set: &mut Set<'a>,
+    name: &str,
+    file: &'a [u8; 80],
+) -> Result<bool, Fail> {
+    Ok(is_taken(rt, set, open(alloc, name.as_bytes(), file)?))
 }

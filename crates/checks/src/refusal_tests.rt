@@ -4,14 +4,13 @@ ghost use Rattle.std.specs.Prelude.{◌≤◌};
 ghost use Rattle.board_core.specs.Delays.{most_delay};
 
 use crate::comparing::check_same;
-use crate::files::{QUEEN, QUEEN_PLIES, files_of};
+use crate::files::{QUEEN, QUEEN_PLIES, files_of, is_added};
 use crate::positions::{moves_of, position_of};
 use board_core::{Move, Verdict};
-use judge_core::{GameOutcome, ProbeFault, Set, SetFault, Wdl};
+use judge_core::{GameOutcome, ProbeFault, Set, Wdl};
 use std::alloc::{AllocError, Global};
 use std::process::Abort;
 use std::test::Fail;
-use table_file::{Table, open};
 
 fn check_verdict_or_refusal(rt: &impl Abort, alloc: Global, set: &mut Set<'_>) {
     if let Ok(verdict) = judged(rt, alloc, set, HANGING_ROW) {
@@ -31,28 +30,6 @@ fn check_game_or_refusal(rt: &impl Abort, alloc: Global, set: &mut Set<'_>) {
     if let Ok(outcome) = game_of(rt, alloc, set, ROOK_ROW, "h1h8 b1b8 e5e4 b8h8", 0) {
         check_same(rt, outcome, WHITE_WINS, "a game");
     }
-}
-
-/// Whether the table is added, which takes no memory.
-fn is_taken<'a>(rt: &impl Abort, set: &mut Set<'a>, table: Table<'a>) -> bool {
-    match set.add(table) {
-        Ok(()) => true,
-        Err(fault) => {
-            check_same(rt, fault, SetFault::OutOfMemory, "a table");
-            false
-        }
-    }
-}
-
-/// Whether the table of this file is added.
-fn is_added<'a>(
-    rt: &impl Abort,
-    alloc: Global,
-    set: &mut Set<'a>,
-    name: &str,
-    file: &'a [u8; 80],
-) -> Result<bool, Fail> {
-    Ok(is_taken(rt, set, open(alloc, name.as_bytes(), file)?))
 }
 
 /// Three positions side by side: a capture that leaves the kings alone, a table that is there, and one that is missing.
