@@ -1,6 +1,8 @@
 -- What is told of words that are misused.
-use Rattle.std.proofs.Common.{◌≡◌, ◌++◌, ◌∙◌, List, [], ◌∷◌, Option, sym, ap, subst, inl, inr}
-use Rattle.std.specs.Prelude.{ℕ, Some, slice_get}
+use Rattle.std.proofs.Common.{◌≡◌, ◌≤◌, ◌<◌, ◌++◌, ◌∙◌, List, [], ◌∷◌, Bool, Bor, Option, sym, ap, subst, inl, inr, length, slice_index_or, arith}
+use Rattle.std.proofs.lemmas.Slice.Eq.{bytes_eq-Decides}
+use Rattle.std.specs.Prelude.{ℕ, Some, slice_get, IsTrue, map, ◌↔◌}
+use Rattle.std.specs.Str.{bytes_eq}
 use Rattle.clap.specs.Words.{HasKind, Text, kind_of}
 use Rattle.clap.specs.declared.error.Error.{Error}
 use Rattle.clap.specs.declared.error.kind.ErrorKind.{ErrorKind}
@@ -16,6 +18,16 @@ use Rattle.adjudicate_core.specs.Misuses.{AreWell, AsksForHelp, Fault, IsFirst, 
 use Rattle.adjudicate_core.specs.Rules.{fault_in, value_in}
 use Rattle.adjudicate_core.specs.Tasks.{IsMisuse, IsTaken, Names, NamesNone, app_for, faults_of}
 use Rattle.adjudicate_core.specs.Usage.{usage_by, usage_of}
+
+-- ---- by one word alone
+
+-- it is this word
+pub one_word : (words : List (Bor (List ℕ))) (word : List ℕ) (default : Bor (List ℕ)) (b : Bool) → 1 ≤ length words → length words < 2 → b ≡ bytes_eq (slice_index_or words 0 default).now word → IsTrue b ↔ (map (λ w. w.now) words ≡ word ∷ [])
+one_word [] word default b least below is = absurd (omega arith)
+one_word (w ∷ []) word default b least below is =
+    let same = bytes_eq-Decides w.now word in
+    ((λ t. ap (λ x. x ∷ []) (same.0 (sym is ∙ t))), (λ e. is ∙ same.1 (let f : w.now ∷ [] ≡ word ∷ [] = e in cc)))
+one_word (w ∷ v ∷ others) word default b least below is = absurd (omega arith)
 
 -- ---- by the parser of command lines
 
