@@ -77,12 +77,25 @@ const TAG: [u8; 16] = [
     0x4a, 0x26, 0xfb, 0x68, 0x72, 0x4a, 0xa9, 0x35, 0x5b, 0xe1, 0x7d, 0xa7, 0x59, 0xe7, 0x93, 0x9b,
 ];
 
-/// That message with its tag.
-fn sealed_move() -> [u8; 43] {
+/// That message with a tag behind it.
+fn move_with(tag: &[u8; 16]) -> [u8; 43] {
     let mut datagram = [0; 43];
     datagram[..27].copy_from_slice(&MOVE);
-    datagram[27..].copy_from_slice(&TAG);
+    datagram[27..].copy_from_slice(tag);
     datagram
+}
+
+/// That message with its tag.
+fn sealed_move() -> [u8; 43] {
+    move_with(&TAG)
+}
+
+/// The tag of a message under a key.
+fn tag_of(key: &MacKey, message: &[u8]) -> [u8; 16] {
+    let mac = key.hmac(message);
+    let mut tag = [0; 16];
+    tag.copy_from_slice(&mac[..16]);
+    tag
 }
 
 /// The keys of which the first or the second is that one.
@@ -166,8 +179,7 @@ fn opens_nothing_with_another_tag(rt: HostRuntime) {
     let key = MacKey::of(&key_of(&rt, KEY));
     let mut other = MOVE;
     other[4] = 8;
-    let mut datagram = sealed_move();
-    datagram[27..].copy_from_slice(&key.hmac(&other)[..16]);
+    let datagram = move_with(&tag_of(&key, &other));
     check_passed(&rt, rt.alloc(), &datagram, &keys(&rt, true), &NO_TAG);
 }
 
