@@ -1,7 +1,8 @@
 //! The adjudicator's program: it passes the system to `adjudicate_core`, and ends with the status.
 //!
-//! `main` makes the system's disk, input, host and output, calls `run_program` with the words that the program was called with,
-//! flushes the output by `system_io::end`, and ends with the status. Memory that is refused before that is `refused memory`.
+//! `main` first sees to it that the descriptors 0 to 2 are open. Then it makes the system's disk, input, host and output, calls
+//! `run_program` with the words that the program was called with, flushes the output by `system_io::end`, and ends with the status.
+//! Memory that is refused before that is `refused memory`.
 //!
 //! It is proved safe, and nothing more is proved of it here: what is printed is the contract of `run_program`, what has gone out
 //! that of `end`. It is `main` alone, since each check of a program links all libraries. Its test is the gate's one run of the
@@ -13,7 +14,7 @@ use adjudicate_core::{WordsFault, refuse_memory, run_program};
 use std::env::{Env, FillError};
 use std::process::ExitCode;
 use std::{env, io};
-use system_io::{BufferedOutput, SystemDisk, SystemHost, SystemInput, end};
+use system_io::{BufferedOutput, SystemDisk, SystemHost, SystemInput, end, open_above_standard};
 
 /// The bytes of the word at a place, its own name being at 0; none where there are fewer words.
 fn bytes_of(rt: &HostRuntime, place: usize) -> Result<Option<Vec<u8>>, WordsFault> {
@@ -55,8 +56,12 @@ fn words_of(rt: &HostRuntime) -> Result<Vec<String>, WordsFault> {
     }
 }
 
-/// Runs the program, and ends with its status, 1 where the output can't be written. Its output is buffered.
+/// Runs the program, and ends with its status, 1 where the output can't be written. Its output is buffered. Nothing that it opens
+/// gets a descriptor of standard input, output or errors, also where it was started without one.
 fn main(rt: HostRuntime) -> ExitCode {
+    if open_above_standard(&rt).is_err() {
+        return ExitCode::from(1);
+    }
     let Ok(mut out) = BufferedOutput::new(rt.alloc(), io::writer(&rt)) else {
         return ExitCode::from(refuse_memory(&mut io::writer(&rt)).unwrap_or(1));
     };

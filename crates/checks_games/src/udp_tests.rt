@@ -9,14 +9,15 @@ use move_msg::Message;
 use std::alloc::Global;
 use std::net::{Net, SocketAddr, UdpSocket};
 use std::process::Abort;
-use system_io::{Output, UdpPort, WriteFault};
+use std::time::Clock;
+use system_io::{Output, Port, UdpPort, WriteFault};
 
 /// How a port is served for six datagrams by the first arbiter of the game over a keeper.
-fn serve_six<W: Output>(
+fn serve_six<P: Port, W: Output>(
     rt: &impl Abort,
     alloc: Global,
     keeper: &mut MemoryKeeper,
-    port: &mut UdpPort,
+    port: &mut P,
     out: &mut W,
 ) -> Result<u8, WriteFault> {
     let mut arbiter = open_first(rt, alloc, keeper, START, 0);
@@ -24,10 +25,10 @@ fn serve_six<W: Output>(
 }
 
 /// What an arbiter over a keeper that keeps nothing so far does with the datagrams.
-fn served<W: Output>(
+fn served<P: Port, W: Output>(
     rt: &impl Abort,
     alloc: Global,
-    port: &mut UdpPort,
+    port: &mut P,
     out: &mut W,
 ) -> Result<u8, WriteFault> {
     serve_six(rt, alloc, &mut empty_keeper(rt, alloc), port, out)
@@ -72,14 +73,23 @@ fn text_at(rt: &impl Abort, alloc: Global, socket: &UdpSocket) -> String {
 }
 
 /// A port over a socket, which sends to another.
-fn port_over(rt: &impl Abort, alloc: Global, socket: UdpSocket, client: &UdpSocket) -> UdpPort {
+fn port_over<'a, R: Clock + Abort>(
+    rt: &'a R,
+    alloc: Global,
+    socket: UdpSocket,
+    client: &UdpSocket,
+) -> UdpPort<'a, R> {
     let address = text_at(rt, alloc, &socket);
     let to = text_at(rt, alloc, client);
-    UdpPort::over(alloc, socket, address.as_str(), &[to.as_str()]).expect(rt, "memory")
+    UdpPort::over(rt, alloc, socket, address.as_str(), &[to.as_str()]).expect(rt, "memory")
 }
 
 /// A port at which the game's moves wait, and what is no message.
-fn port_with_game<R: Net + Abort>(rt: &R, alloc: Global, client: &UdpSocket) -> UdpPort {
+fn port_with_game<'a, R: Net + Clock + Abort>(
+    rt: &'a R,
+    alloc: Global,
+    client: &UdpSocket,
+) -> UdpPort<'a, R> {
     let socket = bound(rt);
     let to = address_of(rt, &socket);
     send_game(rt, client, to);
@@ -107,7 +117,7 @@ const LINES: &str =
     "ok 1 none\nok 2 none\nok 3 none\nrefused NotAMessage BadLength\nrefused NotAMessage BadLength\nrefused NotAMessage BadLength\n";
 
 /// That a port over a socket is served, at which the game's moves wait and what is no message.
-fn expect_served_at_socket<R: Net + Abort>(rt: &R, alloc: Global, client: &UdpSocket) {
+fn expect_served_at_socket<R: Net + Clock + Abort>(rt: &R, alloc: Global, client: &UdpSocket) {
     let mut port = port_with_game(rt, alloc, client);
     let mut lines = Vec::new(alloc);
     let ended = served(rt, alloc, &mut port, &mut lines);

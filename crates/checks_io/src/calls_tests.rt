@@ -150,7 +150,7 @@ fn a_lost_name_stays_lost(rt: HostRuntime) {
 }
 
 /// Whether the system's file at a path can be brought to the disk.
-fn is_settled<R: Files + AllocGlobal + Abort>(rt: &R, path: &str) -> bool {
+fn is_settled<R: Files<File = fs::File> + AllocGlobal + Abort>(rt: &R, path: &str) -> bool {
     let mut file = SystemFile::at(rt, rt.alloc(), path).expect(rt, "memory");
     file.settle().is_ok()
 }

@@ -7,6 +7,7 @@ use arbiter_core::{KeepFault, Keeper};
 use arbiter_server::FileKeeper;
 use std::alloc::Global;
 use std::fs;
+use std::os::unix::fs::symlink;
 use std::process::Abort;
 use std::rt::Files;
 use system_io::{KeptFile, ReadFault, SystemFile};
@@ -46,12 +47,15 @@ const KEPT: &str = "/tmp/checks-test-kept/kept";
 const BESIDE: &str = "/tmp/checks-test-kept/kept.new";
 
 /// A file of the system.
-fn file_at<'a, R: Files + AllocGlobal + Abort>(rt: &'a R, path: &str) -> SystemFile<'a, R> {
+fn file_at<'a, R: Files<File = fs::File> + AllocGlobal + Abort>(
+    rt: &'a R,
+    path: &str,
+) -> SystemFile<'a, R> {
     SystemFile::at(rt, rt.alloc(), path).expect(rt, "memory")
 }
 
 /// A keeper over it, or why there is none.
-fn keeper_at<'a, R: Files + AllocGlobal + Abort>(
+fn keeper_at<'a, R: Files<File = fs::File> + AllocGlobal + Abort>(
     rt: &'a R,
     path: &str,
 ) -> Result<FileKeeper<SystemFile<'a, R>>, ReadFault> {
@@ -59,12 +63,14 @@ fn keeper_at<'a, R: Files + AllocGlobal + Abort>(
 }
 
 /// A keeper over the kept file.
-fn kept_at<'a, R: Files + AllocGlobal + Abort>(rt: &'a R) -> FileKeeper<SystemFile<'a, R>> {
+fn kept_at<'a, R: Files<File = fs::File> + AllocGlobal + Abort>(
+    rt: &'a R,
+) -> FileKeeper<SystemFile<'a, R>> {
     keeper_at(rt, KEPT).ok().expect(rt, "a file that is read")
 }
 
 /// That the kept file is read as these bytes.
-fn expect_read<R: Files + AllocGlobal + Abort>(rt: &R, bytes: Option<&[u8]>) {
+fn expect_read<R: Files<File = fs::File> + AllocGlobal + Abort>(rt: &R, bytes: Option<&[u8]>) {
     expect_kept(rt, rt.alloc(), &mut kept_at(rt), bytes);
 }
 
@@ -74,20 +80,23 @@ fn is_unreadable<F: KeptFile + Drop>(keeper: &Result<FileKeeper<F>, ReadFault>) 
 }
 
 /// That what stands at a path is refused.
-fn expect_unread<R: Files + AllocGlobal + Abort>(rt: &R, path: &str) {
+fn expect_unread<R: Files<File = fs::File> + AllocGlobal + Abort>(rt: &R, path: &str) {
     let keeper = keeper_at(rt, path);
     check_same(rt, is_unreadable(&keeper), true, path);
 }
 
 /// Puts bytes into the kept file.
-fn put_at<R: Files + AllocGlobal + Abort>(rt: &R, bytes: &[u8]) -> Result<(), KeepFault>
+fn put_at<R: Files<File = fs::File> + AllocGlobal + Abort>(
+    rt: &R,
+    bytes: &[u8],
+) -> Result<(), KeepFault>
     requires { length bytes.now ≤ 8217 }
 {
     put_into(&mut kept_at(rt), bytes)
 }
 
 /// That bytes are put into the kept file, and read again.
-fn expect_put_at<R: Files + AllocGlobal + Abort>(rt: &R, bytes: &[u8])
+fn expect_put_at<R: Files<File = fs::File> + AllocGlobal + Abort>(rt: &R, bytes: &[u8])
     requires { length bytes.now ≤ 8217 }
 {
     check_same(rt, put_at(rt, bytes), Ok(()), "a put");
@@ -110,7 +119,29 @@ fn leave_beside<R: Files + AllocGlobal + Abort>(rt: &R) {
     fs::write(rt, BESIDE, "left over").expect(rt, "a file");
 }
 
-/// A file that isn't there is nothing kept; what is put is read again; what an earlier run left beside it changes nothing.
+/// That nothing stands beside.
+fn expect_none_beside<R: Files + AllocGlobal + Abort>(rt: &R) {
+    let stands = fs::exists(rt, BESIDE).expect(rt, "a folder");
+    check_same(rt, stands, false, BESIDE);
+}
+
+/// A file of the folder to which a link leads.
+const AIM: &str = "/tmp/checks-test-kept/aim";
+
+/// Makes a link beside.
+fn link_beside<R: Files + AllocGlobal + Abort>(rt: &R) {
+    fs::write(rt, AIM, "another's").expect(rt, "a file");
+    symlink(rt, AIM, BESIDE).expect(rt, "a link");
+}
+
+/// That the file to which the link leads is as it was.
+fn expect_aim<R: Files + AllocGlobal + Abort>(rt: &R) {
+    let bytes = fs::read(rt, AIM).expect(rt, "a file");
+    check_same(rt, bytes.as_slice(), b"another's".as_slice(), AIM);
+}
+
+/// A file that isn't there is nothing kept; what is put is read again; what an earlier run left beside it changes nothing, and a put
+/// removes it; a link that stands there is not followed.
 #[test]
 fn keeps_a_file_of_the_system(rt: HostRuntime) {
     make_folder(&rt, FOLDER);
@@ -121,7 +152,11 @@ fn keeps_a_file_of_the_system(rt: HostRuntime) {
     expect_put_at(&rt, b"second, and longer");
     leave_beside(&rt);
     expect_read(&rt, Some(b"second, and longer"));
+    expect_put_at(&rt, b"third");
+    expect_none_beside(&rt);
+    link_beside(&rt);
     expect_put_at(&rt, b"3");
+    expect_aim(&rt);
     remove_folder(&rt, FOLDER);
 }
 

@@ -7,7 +7,7 @@ use std::net::{Net, UdpSocket};
 use std::os::unix::fs::{PermissionsExt, symlink};
 use std::process::Abort;
 use std::rt::Files;
-use std::time::Duration;
+use std::time::{Clock, Duration};
 use system_io::{AtPath, Disk, MemoryDisk, NO_TAG, Port, SystemDisk, UdpPort};
 
 /// A file of six bytes at a path is read with its mode where it may have so many, and not within five.
@@ -20,12 +20,16 @@ fn check_file<D: Disk>(rt: &impl Abort, alloc: Global, disk: &D, path: &str, mod
 
 /// Whether what stands at a path isn't read as a file of at most five bytes.
 fn is_refused<D: Disk>(alloc: Global, disk: &D, path: &str) -> bool {
-    disk.read_with_mode(alloc, path, 5).is_err()
+    disk.read_with_mode(alloc, path, 5).is_err() && disk.read_within(alloc, path, 5).is_err()
 }
 
 #[test]
 fn a_disk_in_memory_has_modes(rt: HostRuntime) {
-    let files: [AtPath<'_, &[u8]>; 2] = [
+    let files: [AtPath<'_, &[u8]>; 3] = [
+        AtPath {
+            path: "pipe",
+            holds: b"secret",
+        },
         AtPath {
             path: "own",
             holds: b"secret",
@@ -35,10 +39,16 @@ fn a_disk_in_memory_has_modes(rt: HostRuntime) {
             holds: b"secret",
         },
     ];
-    let modes = [AtPath {
-        path: "shared",
-        holds: 0o100644u32,
-    }];
+    let modes = [
+        AtPath {
+            path: "shared",
+            holds: 0o100644u32,
+        },
+        AtPath {
+            path: "pipe",
+            holds: 0o010600,
+        },
+    ];
     let disk = MemoryDisk {
         files: &files,
         modes: &modes,
@@ -47,12 +57,10 @@ fn a_disk_in_memory_has_modes(rt: HostRuntime) {
     };
     check_file(&rt, rt.alloc(), &disk, "own", 0o100600);
     check_file(&rt, rt.alloc(), &disk, "shared", 0o100644);
-    check_same(
-        &rt,
-        is_refused(rt.alloc(), &disk, "nowhere"),
-        true,
-        "nowhere",
-    );
+    for path in ["nowhere", "pipe"] {
+        check_same(&rt, is_refused(rt.alloc(), &disk, path), true, path);
+        check_same(&rt, disk.read(rt.alloc(), path).is_err(), true, path);
+    }
 }
 
 const FOLDER: &str = "/tmp/checks-test-modes";
@@ -97,11 +105,15 @@ fn reads_no_irregular_file(rt: HostRuntime) {
     ] {
         let disk = SystemDisk::new(&rt);
         check_same(&rt, is_refused(rt.alloc(), &disk, path), true, path);
+        check_same(&rt, disk.read(rt.alloc(), path).is_err(), true, path);
     }
 }
 
 /// A port of the loopback to which these are sent.
-fn port_with<R: Net + AllocGlobal + Abort>(rt: &R, datagrams: &[&[u8]]) -> UdpPort {
+fn port_with<'a, R: Net + Clock + AllocGlobal + Abort>(
+    rt: &'a R,
+    datagrams: &[&[u8]],
+) -> UdpPort<'a, R> {
     let port = UdpPort::bind(rt, rt.alloc(), "127.0.0.1:0", &[]).expect(rt, "a port");
     let own = port.own_address().expect(rt, "an address");
     let client = UdpSocket::bind(rt, "127.0.0.1:0").expect(rt, "a socket");
@@ -112,7 +124,7 @@ fn port_with<R: Net + AllocGlobal + Abort>(rt: &R, datagrams: &[&[u8]]) -> UdpPo
 }
 
 /// How many bytes come next.
-fn next_length(rt: &impl Abort, port: &mut UdpPort) -> usize {
+fn next_length(rt: &impl Abort, port: &mut impl Port) -> usize {
     let received = port.receive_in_time(Duration::from_secs(10), &mut [0; 64]);
     received
         .ok()

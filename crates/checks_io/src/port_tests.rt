@@ -2,10 +2,11 @@
 
 use crate::comparing::{check_bytes, check_same, push_bytes};
 use std::alloc::Global;
+use std::fs::File;
 use std::net::{Net, UdpSocket};
 use std::process::Abort;
 use std::rt::Files;
-use std::time::Duration;
+use std::time::{Clock, Duration};
 use system_io::{BindFault, Host, MemoryPort, Passage, Port, SystemHost, Turn, UdpPort};
 
 const DATAGRAMS: [&[u8]; 3] = [b"a", b"b", b"c"];
@@ -69,7 +70,10 @@ fn text_at(rt: &impl Abort, alloc: Global, socket: &UdpSocket) -> String {
 }
 
 /// That no port is bound to an address.
-fn expect_unbound<R: Files + Net + AllocGlobal + Abort>(rt: &R, address: &str) {
+fn expect_unbound<R: Files<File = File> + Net + Clock + AllocGlobal + Abort>(
+    rt: &R,
+    address: &str,
+) {
     let port = SystemHost::new(rt).bind(rt.alloc(), address, &[]);
     check_same(rt, matches!(port, Err(BindFault::Unbound)), true, address);
 }
@@ -84,12 +88,15 @@ fn binds_no_taken_or_bad_address(rt: HostRuntime) {
 }
 
 /// A port of the loopback that sends to these.
-fn port_to<R: Net + AllocGlobal + Abort>(rt: &R, to: &[&str]) -> UdpPort {
+fn port_to<'a, R: Net + Clock + AllocGlobal + Abort>(rt: &'a R, to: &[&str]) -> UdpPort<'a, R> {
     UdpPort::bind(rt, rt.alloc(), "127.0.0.1:0", to).expect(rt, "a port")
 }
 
 /// A port that sends to an address that is none, and then to a socket's.
-fn port_to_two<R: Net + AllocGlobal + Abort>(rt: &R, socket: &UdpSocket) -> UdpPort {
+fn port_to_two<'a, R: Net + Clock + AllocGlobal + Abort>(
+    rt: &'a R,
+    socket: &UdpSocket,
+) -> UdpPort<'a, R> {
     port_to(
         rt,
         &["127.0.0.1:65536", text_at(rt, rt.alloc(), socket).as_str()],

@@ -34,9 +34,9 @@ IsReceived Quiet = Unit {0}
 IsReceived Missed = Unit {0}
 IsReceived (Handed to bytes) = ⊥
 
--- how many datagrams one try receives at most
+-- how many datagrams one try receives at most, 2^64 - 1
 abbrev pub most_answers : ℕ
-most_answers = 256
+most_answers = 18_446_744_073_709_551_615
 
 -- a try has waited until nothing came in time, or has received as many datagrams as it may
 abbrev pub HasWaited : List Passing → Type 0

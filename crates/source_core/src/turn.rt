@@ -15,8 +15,9 @@ use move_msg::{Message, Sender, Stamp};
 use std::time::Duration;
 use system_io::Port;
 
-/// How many datagrams one try receives at most.
-const MOST_ANSWERS: u32 = 256;
+/// How many datagrams one try receives at most: more than come in any time. So it is the port's wait that ends a try, and datagrams of
+/// strangers don't use it up.
+const MOST_ANSWERS: u64 = u64::MAX;
 
 /// The terms on which the moves of a game are sent.
 #[derive(Clone, Copy)]
@@ -26,9 +27,9 @@ pub struct Terms {
     /// How often a turn sends its move at most, each time to all addresses: 1 to 2^32 - 1 times. The last acknowledged move is sent
     /// once more at the input's end. With 0 nothing is sent, and a move that isn't acknowledged already is lost.
     pub tries: u32,
-    /// How long a datagram is awaited, above 0, as precisely as the port's clock allows. Where both arbiters have
-    /// acknowledged the move, a verdict is awaited for two milliseconds instead. A try awaits up to 256 datagrams one
-    /// after the other, so it may take 256 times as long.
+    /// How long datagrams are awaited in a try, above 0, as precisely as the port's clock allows. Where both arbiters have
+    /// acknowledged the move, a verdict is awaited for two milliseconds instead, and once one has reported it, that of the other for
+    /// `wait` again. At a port of the system a try takes no longer than these together, whatever comes.
     pub wait: Duration,
 }
 
@@ -118,8 +119,7 @@ fn wait_at(terms: Terms, number: u32, known: &Known) -> Duration
     }
 }
 
-/// Receives datagrams and adds their reports, until none comes in time, both have reported a verdict, or a try's number
-/// of datagrams came.
+/// Receives datagrams and adds their reports, until none comes in time, both have reported a verdict, or 2^64 - 1 datagrams came.
 pub(crate) fn receive_all<P: Port>(
     terms: Terms,
     number: u32,

@@ -21,8 +21,8 @@ pub record DiskFacts : Type 1 where
   -- what stands at this path is no regular file
   pub is_irregular : List ℕ → Type 0
 
--- in each folder it lists one list of names, in any order, and in each file it holds one list of bytes, where it doesn't fail; and each
--- regular file has one mode
+-- in each folder it lists one list of names, in any order, and in each file it holds one list of bytes, where it doesn't fail; each
+-- regular file has one mode; and what is no regular file, such as a named pipe, gives no bytes
 pub record HoldsOne (disk : DiskFacts) : Type 0 where
   pub names : (folder : List ℕ) (a b : List (List ℕ)) → disk.lists folder a → disk.lists folder b → IsPermutation a b
   pub bytes : (path a b : List ℕ) → disk.holds path a → disk.holds path b → a ≡ b
@@ -30,6 +30,7 @@ pub record HoldsOne (disk : DiskFacts) : Type 0 where
   pub held : (path bytes : List ℕ) → disk.holds path bytes → disk.fails (AtFile path) → ⊥
   pub mode : (path : List ℕ) (a b : ℕ) → disk.has_mode path a → disk.has_mode path b → a ≡ b
   pub regular : (path : List ℕ) (mode : ℕ) → disk.has_mode path mode → disk.is_irregular path → ⊥
+  pub file : (path bytes : List ℕ) → disk.holds path bytes → disk.is_irregular path → ⊥
 
 -- the file at this path has more bytes than so many
 abbrev pub HasMore : DiskFacts → List ℕ → ℕ → Type 0

@@ -1,6 +1,7 @@
 pub mod Failures
 pub mod Histories
 pub mod Reading
+pub mod Descriptors
 pub mod Disks
 pub mod MemoryDisks
 pub mod MemoryDiskLaws

@@ -4,7 +4,7 @@ use Rattle.std.proofs.Common.{◌∙◌, inl, inr, ⊎_elim, sym, subst, arith}
 use Rattle.std.proofs.lemmas.List.Sorted.{IsPermutation-refl}
 use Rattle.system_io.specs.declared.memory_disk.MemoryDisk.{MemoryDisk}
 use Rattle.system_io.specs.Disks.{HoldsOne, most_bytes}
-use Rattle.system_io.specs.MemoryDisks.{HasMode, IsFoundAt, IsNowhere, disk_of}
+use Rattle.system_io.specs.MemoryDisks.{HasMode, HasRegular, IsFoundAt, IsIrregularAt, IsNowhere, IsRegular, disk_of}
 
 -- one thing is found at a path
 found_once : {A B : Type 0} (path : A → List ℕ) (holds : A → B) (rows : List A) (at : List ℕ) (u v : B) → IsFoundAt path holds rows at u → IsFoundAt path holds rows at v → u ≡ v
@@ -27,6 +27,10 @@ one_mode d at a b (inl p) (inr q) = absurd (found_there _ _ d.modes.now at a p q
 one_mode d at a b (inr p) (inl q) = absurd (found_there _ _ d.modes.now at b q p.0)
 one_mode d at a b (inr p) (inr q) = p.1 ∙ sym q.1
 
+-- and it is of one kind
+one_kind : (d : MemoryDisk) (at : List ℕ) (mode : ℕ) → HasRegular d at mode → IsIrregularAt d at → ⊥
+one_kind d at mode p q = q.2 (subst IsRegular (one_mode d at mode q.0 p.0 q.1) p.1)
+
 too_long : (a b : List ℕ) → a ≡ b → length a ≤ most_bytes → most_bytes < length b → ⊥
 too_long a b same short long =
     let short' : length b ≤ most_bytes = subst (λ (l : List ℕ). length l ≤ most_bytes) same short in
@@ -37,7 +41,8 @@ holds_one d = record {
   names = λ at a b p q. subst (IsPermutation a) (found_once _ _ d.folders.now at a b p.0 q.0) (IsPermutation-refl a);
   bytes = λ at a b p q. found_once _ _ d.files.now at a b p.0 q.0;
   listed = λ at names p fails. ⊎_elim (λ x. x p.1) (λ x. found_there _ _ d.folders.now at names p.0 x) fails;
-  held = λ at bytes p fails. ⊎_elim (λ x. ⊎_elim (λ y. y p.2) (λ y. found_there _ _ d.files.now at bytes p.0 y) x) (λ x. too_long bytes x.0 (found_once _ _ d.files.now at bytes x.0 p.0 x.1) p.1 x.2) fails;
-  mode = λ at a b p q. one_mode d at a b p q;
-  regular = λ at mode p none. none;
+  held = λ at bytes p fails. ⊎_elim (λ x. ⊎_elim (λ y. y p.2) (λ y. found_there _ _ d.files.now at bytes p.0 y) x) (λ x. ⊎_elim (λ y. too_long bytes y.0 (found_once _ _ d.files.now at bytes y.0 p.0 y.1) p.1 y.2) (λ y. one_kind d at p.3.0 p.3.1 y) x) fails;
+  mode = λ at a b p q. one_mode d at a b p.0 q.0;
+  regular = λ at mode p q. one_kind d at mode p q;
+  file = λ at bytes p q. one_kind d at p.3.0 p.3.1 q;
 }

@@ -6,18 +6,18 @@ use Rattle.system_io.specs.declared.traced_file.Traced.{Traced}
 use Rattle.system_io.specs.declared.udp_port.UdpPort.{UdpPort}
 
 -- the port was bound to this address, and sends to those
-pub record IsBound (address : List ℕ) (to : List (List ℕ)) (port : UdpPort) : Type 0 where
+pub record IsBound {X : Type 0} (address : List ℕ) (to : List (List ℕ)) (port : UdpPort X) : Type 0 where
   pub at : string_bytes port.address ≡ address
   pub sends : map string_bytes port.to.items ≡ to
 
 -- the address that the socket told as its own when it was bound, if it did
-abbrev pub ListensAt : UdpPort → Option SocketAddr → Type 0
+abbrev pub ListensAt : {X : Type 0} → UdpPort X → Option SocketAddr → Type 0
 ListensAt port own = own ≡ port.own
 
 -- the calls are those for the file at this path
-abbrev pub AreFor : {X Y Z : Type 0} → List ℕ → SystemCalls X Y Z → Type 0
+abbrev pub AreFor : {X Y : Type 0} → List ℕ → SystemCalls X Y → Type 0
 AreFor path calls = string_bytes calls.path ≡ path
 
 -- the file is the one at this path
-abbrev pub IsAtPath : {X Y Z : Type 0} → List ℕ → Traced (SystemCalls X Y Z) → Type 0
+abbrev pub IsAtPath : {X Y : Type 0} → List ℕ → Traced (SystemCalls X Y) → Type 0
 IsAtPath path file = AreFor path file.calls

@@ -15,7 +15,8 @@ use Rattle.system_io.specs.Hosts.{HostFacts}
 use Rattle.system_io.specs.Places.{IsAtPath, IsBound, ListensAt}
 
 -- DISK: the names of a folder and the bytes of a file are those that the system gives, and what it refuses can't be read.
--- PRIVATE: the mode of a file is what the system says of it when it is open, and what it says to be no regular file is none
+-- PRIVATE: the mode of a file is what the system says of it when it is open, and what it says to be no regular file is none.
+-- REGULAR: what it says to be a regular file stays one until it is open, so that to open it waits for nobody
 abbrev pub system_disk : DiskFacts
 system_disk = record {
   is_told = false;
@@ -45,6 +46,8 @@ system_output waiting is_stuck = record { gone = (waiting ≡ []) × (is_stuck �
 abbrev pub system_port : ℕ → ℕ → PortFacts
 system_port faults addresses = record { passed = None; faults = faults; addresses = addresses }
 
+-- BESIDE: a file that is made where nothing stands, and then locked, is written by no other process while it is locked; nothing else is
+-- opened to be written
 -- CALLS: a read or a sync that the system refuses can't be done, and where it says that memory was refused, memory was
 -- refused
 abbrev pub system_calls : CallFacts
@@ -59,5 +62,5 @@ pub record IsAsTold {C : Type 0} (left : Traced C) (read : Option (List ℕ)) : 
 -- HOST: a socket that was made for an address is bound to it, and listens at the address that it tells as its own; the calls for a
 -- path are made at that path; an address that the system refuses can't be bound, and where it tells that memory was refused, memory
 -- was refused
-abbrev pub system_host : {X Y Z : Type 0} → HostFacts UdpPort (Traced (SystemCalls X Y Z))
+abbrev pub system_host : {X Y : Type 0} → HostFacts (UdpPort X) (Traced (SystemCalls X Y))
 system_host = record { is_told = true; binds = IsBound; listens = ListensAt; refuses = λ _ _. Unit {0}; is_at = IsAtPath; takes_memory = λ _. Unit {0} }

@@ -52,7 +52,7 @@ pub trait KeptFile {
         ensures short { IfOk result (λ got. IfSome got (λ v. length v.items ≤ 8217)) }
         ensures cause { IfErr result (facts self.now).cannot_read };
 
-    /// Writes bytes to the file beside, replacing what an earlier run may have left there.
+    /// Writes bytes to a file beside, in place of what an earlier run may have left there. Nothing else is written.
     fn write_beside(&mut self, bytes: &[u8]) -> io::Result<()>
         ensures written { OnOk result ((facts self.new).reached Written bytes.now) }
         ensures same { (a b : Option (List ℕ)) → (facts self.old).finds a b → (facts self.new).finds a b }

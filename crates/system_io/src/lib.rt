@@ -6,10 +6,12 @@
 //! `BufferedOutput`, `UdpPort`, `SystemFile`, `SystemHost`) and one in memory for tests, which fails on request.
 //! `specs/Premises.antt` says what is trusted of the system. `SystemFile` is `Traced` over the system's calls (`FileCalls`): what
 //! a start finds follows from the calls that it made and their results. `DiskFile` is a file in memory, on a disk that loses
-//! power. A `Port` sends each datagram to each of its addresses in turn, and a send that fails keeps none of the others back.
+//! power. Of the system's files what is no regular one is refused before it is opened (`opening`), and what is opened to be written is
+//! made where nothing stands (`beside_file`). A `Port` sends each datagram to each of its addresses in turn, and a send that fails
+//! keeps none of the others back.
 //!
-//! Definitions, in reading order: `Disks`, `Inputs`, `LineReaders`, `Outputs`, `Ports`, `KeptFiles`, `PowerLosses`, `FileCalls`,
-//! `Traces`, `Hosts`, `Premises`. Its tests stand in `checks_io`.
+//! Definitions, in reading order: `Descriptors`, `Disks`, `Inputs`, `LineReaders`, `Outputs`, `Ports`, `KeptFiles`, `PowerLosses`,
+//! `FileCalls`, `Traces`, `Hosts`, `Premises`. Its tests stand in `checks_io`.
 //!
 //! - CLAIM: `end`: the output is flushed last, also where an answer was not written to its end. The status is the answer's where
 //!   all has gone out; it is 1 in its place only where some can't, or an answer was cut.
@@ -25,12 +27,17 @@
 //!   `one`: a file on a disk that loses power does what `KeptFile` says, and what is read after a loss of power is what it left.
 //! - CLAIM: `Traced`, clauses `facts`, `one`; `read_as_told`: the system's file does what `KeptFile` says by its calls. Under
 //!   `IsAsTold` a start reads one of any two contents of which the file said that each start finds one or the other.
+//! - CLAIM: `Disk`, clause `one`; `Disk::read`, clause `bytes`: what is no regular file gives no bytes (`HoldsOne`, field `file`).
+//! - CLAIM: `open_above_standard`: it returns a file whose descriptor is above 2, so that 0 to 2 are open.
 //! - CLAIM: `Host::own_address`, clause `own`; `UdpPort::own_address`: a host says at which address a port listens, or that it
 //!   doesn't know.
 //! - CLAIM: `Host::bind`, clause `each`: a port sends to as many addresses as it was bound for. What passes at the system's port
 //!   it doesn't report.
 #![tactic(auto)]
 
+mod beside_file;
+mod bounded_lines;
+mod descriptors;
 mod disk;
 mod disk_file;
 mod host;
@@ -41,6 +48,7 @@ mod memory_calls;
 mod memory_disk;
 mod memory_input;
 mod memory_port;
+mod opening;
 mod output;
 mod port;
 mod reading;
@@ -52,6 +60,8 @@ mod texts;
 mod traced_file;
 mod udp_port;
 
+pub use bounded_lines::BoundedLines;
+pub use descriptors::open_above_standard;
 pub use disk::{Disk, FileWithMode};
 pub use disk_file::{Choice, DiskFile, Outcome, read_after};
 pub use host::{BindFault, Host};

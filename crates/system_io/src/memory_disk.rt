@@ -2,7 +2,7 @@
 
 ghost use Rattle.std.specs.Prelude.{◌↔◌, IfNone, IfSome, IsTrue};
 ghost use Rattle.system_io.specs.Disks.{AtFile};
-ghost use Rattle.system_io.specs.MemoryDisks.{HasMode, IsFoundAt, IsNowhere, disk_of};
+ghost use Rattle.system_io.specs.MemoryDisks.{HasMode, HasRegular, IsFoundAt, IsIrregularAt, IsNowhere, IsRegular, disk_of};
 
 use crate::disk::{Disk, FileWithMode};
 use crate::reading::{MOST_BYTES, ReadFault};
@@ -52,9 +52,21 @@ fn is_other(paths: &[&str], path: &str) -> bool
 /// The mode of a file for which none is stated: a regular one that its owner alone may read and write.
 const OWN_MODE: u32 = 0o100600;
 
+/// The bits of a mode that tell the kind of a file, and what they are for a regular one.
+const KIND: u32 = 0o170000;
+
+const REGULAR: u32 = 0o100000;
+
+/// Whether a mode is that of a regular file.
+fn is_regular(mode: u32) -> bool
+    ensures { IsTrue result ↔ IsRegular mode }
+{
+    mode & KIND == REGULAR
+}
+
 /// Files, their modes and folders by their paths, and the paths that can't be read. Of two entries for one path the first
-/// counts. A file for which no mode is stated has 100600, in octal digits. A folder may list a name without a file at its
-/// path; that one can't be read.
+/// counts. A file for which no mode is stated has 100600, in octal digits. One whose mode is that of another kind, such as 010600 of a
+/// named pipe, can't be read. A folder may list a name without a file at its path; that one can't be read.
 #[derive(Clone, Copy)]
 pub struct MemoryDisk<'a> {
     pub files: &'a [AtPath<'a, &'a [u8]>],
@@ -72,11 +84,21 @@ impl<'a> MemoryDisk<'a> {
         if !is_other(self.failing, path) {
             return None;
         }
+        let _mode = self.regular_at(path)?;
         let bytes = found(self.files, path)?;
         if bytes.len() as u64 > MOST_BYTES {
             return None;
         }
         Some(bytes)
+    }
+
+    /// The mode of the regular file at a path, if there is one; none where it is the mode of another kind.
+    fn regular_at(&self, path: &str) -> Option<u32>
+        ensures some { IfSome result (HasRegular self.now path.now) }
+        ensures none { IfNone result (IsIrregularAt self.now path.now) }
+    {
+        let mode = self.mode_at(path);
+        if is_regular(mode) { Some(mode) } else { None }
     }
 
     /// The mode of the file at a path, if there is one.
@@ -128,11 +150,11 @@ impl<'a> Disk for MemoryDisk<'a> {
         path: &str,
         most: u64,
     ) -> Result<FileWithMode, ReadFault> {
+        let Some(mode) = self.regular_at(path) else {
+            return Err(ReadFault::Unreadable);
+        };
         match self.read_within(alloc, path, most) {
-            Ok(bytes) => Ok(FileWithMode {
-                bytes,
-                mode: self.mode_at(path),
-            }),
+            Ok(bytes) => Ok(FileWithMode { bytes, mode }),
             Err(fault) => Err(fault),
         }
     }

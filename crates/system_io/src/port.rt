@@ -33,6 +33,9 @@ pub trait Port {
         ensures cause { OnErr result (Risen (facts self.old).faults (facts self.new).faults) };
 
     /// As `receive`, but waits at most `wait`, which is above 0. None where nothing came in time.
+    ///
+    /// At a port of the system receives that follow one another with the same `wait`, with nothing sent between them and none of them
+    /// without a datagram, wait so long together: the wait ends also where datagrams go on coming.
     fn receive_in_time(
         &mut self,
         wait: Duration,

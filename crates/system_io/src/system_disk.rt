@@ -1,10 +1,13 @@
 //! Folders and files of the system.
 
+ghost use Rattle.std.specs.Prelude.{◌≤◌, length, IfOk};
+ghost use Rattle.system_io.specs.Disks.{most_bytes};
+
 use crate::disk::{Disk, FileWithMode};
+use crate::opening::{Regular, open_regular, unopened};
 use crate::reading::{MOST_BYTES, ReadFault, read_at_most};
 use std::alloc::Global;
-use std::fs::{DirEntry, OpenFile};
-use std::os::unix::fs::MetadataExt;
+use std::fs::DirEntry;
 use std::rt::Files;
 use std::{fs, io};
 
@@ -47,6 +50,23 @@ fn names_in<R: Files + AllocGlobal + Clone + Drop>(
     Ok(names)
 }
 
+/// All bytes of the regular file at a path, at most `most` and 2^30, and what it is when it is open.
+fn bytes_at<R: Files>(
+    rt: &R,
+    alloc: Global,
+    path: &str,
+    most: u64,
+) -> Result<(Vec<u8>, Regular), ReadFault>
+    ensures { IfOk result (λ r. (length r.0.items ≤ most) × (length r.0.items ≤ most_bytes)) }
+{
+    let (file, regular) = match open_regular(rt, path) {
+        Ok(opened) => opened,
+        Err(error) => return Err(unopened(error)),
+    };
+    let bytes = read_at_most(alloc, file, regular.len(), most.min(MOST_BYTES))?;
+    Ok((bytes, regular))
+}
+
 impl<'a, R: Files + AllocGlobal + Clone + Drop> Disk for SystemDisk<'a, R> {
     ghost use Rattle.system_io.specs.OutputLaws.{untold};
     ghost use Rattle.system_io.specs.Premises.{system_disk};
@@ -56,19 +76,17 @@ impl<'a, R: Files + AllocGlobal + Clone + Drop> Disk for SystemDisk<'a, R> {
     ghost one = { λ _ told. untold told };
 
     fn names(&self, _alloc: Global, folder: &str) -> Result<Vec<String>, ReadFault> {
-        Ok(names_in(self.rt, folder)?)
+        names_in(self.rt, folder).map_err(unopened)
     }
 
     fn read(&self, alloc: Global, path: &str) -> Result<Vec<u8>, ReadFault> {
-        let file = fs::open(self.rt, path)?;
-        let length = file.metadata()?.len();
-        read_at_most(alloc, file, length, MOST_BYTES)
+        let (bytes, _) = bytes_at(self.rt, alloc, path, MOST_BYTES)?;
+        Ok(bytes)
     }
 
     fn read_within(&self, alloc: Global, path: &str, most: u64) -> Result<Vec<u8>, ReadFault> {
-        let file = fs::open(self.rt, path)?;
-        let length = file.metadata()?.len();
-        read_at_most(alloc, file, length, most.min(MOST_BYTES))
+        let (bytes, _) = bytes_at(self.rt, alloc, path, most)?;
+        Ok(bytes)
     }
 
     fn read_with_mode(
@@ -77,19 +95,10 @@ impl<'a, R: Files + AllocGlobal + Clone + Drop> Disk for SystemDisk<'a, R> {
         path: &str,
         most: u64,
     ) -> Result<FileWithMode, ReadFault> {
-        // To open a named pipe would wait for its other end.
-        if !fs::metadata(self.rt, path)?.is_file() {
-            return Err(ReadFault::Unreadable);
-        }
-        let file = fs::open(self.rt, path)?;
-        let metadata = file.metadata()?;
-        if !metadata.is_file() {
-            return Err(ReadFault::Unreadable);
-        }
-        let bytes = read_at_most(alloc, file, metadata.len(), most.min(MOST_BYTES))?;
+        let (bytes, regular) = bytes_at(self.rt, alloc, path, most)?;
         Ok(FileWithMode {
             bytes,
-            mode: metadata.mode(),
+            mode: regular.mode(),
         })
     }
 }

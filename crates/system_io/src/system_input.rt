@@ -1,11 +1,12 @@
 //! The standard input.
 
+use crate::bounded_lines::BoundedLines;
 use crate::input::Input as Source;
 use crate::reading::{MOST_BYTES, ReadFault, read_at_most};
 use std::alloc::{AllocError, Global};
 use std::io::{BufReader, Input};
 
-/// The standard input of the system.
+/// The standard input of the system. Its lines can't be read on past one of more than 2^30 bytes.
 #[derive(Drop)]
 pub struct SystemInput<'a, R: Input + Drop> {
     rt: &'a R,
@@ -19,7 +20,7 @@ impl<'a, R: Input + Drop> SystemInput<'a, R> {
 }
 
 impl<'a, R: Input + Drop> Source for SystemInput<'a, R> {
-    type Lines = BufReader<R::Reader, Global>;
+    type Lines = BufReader<BoundedLines<R::Reader>, Global>;
 
     ghost use Rattle.system_io.specs.OutputLaws.{untold};
     ghost use Rattle.system_io.specs.Premises.{system_input};
@@ -32,8 +33,8 @@ impl<'a, R: Input + Drop> Source for SystemInput<'a, R> {
         read_at_most(alloc, self.rt.reader(), 0, MOST_BYTES)
     }
 
-    fn lines(&self, alloc: Global) -> Result<BufReader<R::Reader, Global>, AllocError> {
-        match BufReader::new(alloc, self.rt.reader()) {
+    fn lines(&self, alloc: Global) -> Result<Self::Lines, AllocError> {
+        match BufReader::new(alloc, BoundedLines::new(self.rt.reader())) {
             Ok(lines) => Ok(lines),
             Err(_) => Err(AllocError),
         }

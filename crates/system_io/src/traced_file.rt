@@ -30,7 +30,7 @@ pub trait FileCalls {
         ensures cause { IfErr result (facts self.old).fails }
         ensures still { (fault : ReadFault) → (facts self.new).fails fault → (facts self.old).fails fault };
 
-    /// Writes the file beside, replacing its contents.
+    /// Makes the file beside anew, and writes it.
     fn write(&mut self, bytes: &[u8]) -> io::Result<()>
         ensures { Passes (facts self.old).made (facts self.new).made (answered result (Wrote bytes.now) Failed ∷ []) };
 
