@@ -1,13 +1,11 @@
 -- What a sealed port passes on, and what it doesn't.
 use Rattle.system_io.specs.Ports.{no_tag}
-use Rattle.std.proofs.Common.{◌≡◌, ◌≢◌, ◌⊎◌, inl, inr, ◌∷◌, [], ◌++◌, ◌-◌, ◌&&◌, ℕ, Bool, true, false, List, length, take, drop, cond, refl, sym, ap, ◌∙◌, arith}
-use Rattle.std.specs.Str.{bytes_eq}
+use Rattle.std.proofs.Common.{◌≡◌, ◌≢◌, inl, inr, ◌++◌, ◌-◌, ◌&&◌, ℕ, Bool, true, false, List, length, cond, refl, sym, ap, ◌∙◌, arith}
 use Rattle.std.proofs.lemmas.List.{take-append-drop}
 use Rattle.std.proofs.lemmas.Slice.Eq.{bytes_eq-Decides}
-use Rattle.std.proofs.lemmas.Grind.{common_steps}
-use Rattle.sealed_port.proofs.Opening.{before_sealed, is_sealed_sealed, length-tag_of, opens_sealed}
+use Rattle.sealed_port.proofs.Opening.{before_sealed, is_sealed_sealed, length-tag_of}
 use Rattle.sealed_port.specs.Laws.{IsSealedAs}
-use Rattle.sealed_port.specs.Sealing.{before_tag, is_sealed, is_sealed_by, opened, sealed, tag_in, tag_of}
+use Rattle.sealed_port.specs.Sealing.{before_tag, is_sealed, is_sealed_by, opened, sealed, tag_of}
 use Rattle.sealed_port.specs.declared.seal_port.Keys.{Keys}
 
 second_holds : (a b : Bool) → (a && b) ≡ true → b ≡ true

@@ -1,29 +1,27 @@
 -- Hosts whose ports are sealed (this project's own).
 use Rattle.std.specs.Prelude.{◌≡◌, true}
 use Rattle.system_io.specs.Hosts.{HostFacts, PlacesOne}
-use Rattle.sealed_port.specs.Sealing.{keys_in}
-use Rattle.sealed_port.specs.declared.keyed_host.Keyed.{Keyed}
+use Rattle.sealed_port.specs.Sealing.{SealedView}
 use Rattle.sealed_port.specs.declared.seal_port.Keys.{Keys}
-use Rattle.sealed_port.specs.declared.seal_port.Sealed.{Sealed}
 
 -- each port is a sealed one over a port of the host below
-abbrev pub keyed_host : {P F : Type 0} → Keys → HostFacts P F → HostFacts (Sealed P) F
+abbrev pub keyed_host : {P F : Type 0} → Keys → HostFacts P F → HostFacts (SealedView P) F
 keyed_host keys h = record {
   is_told = h.is_told;
-  binds = λ address to s. h.binds address to s.port × (keys_in s ≡ keys) × (s.is_told ≡ true);
+  binds = λ address to s. h.binds address to s.port × (s.keys ≡ keys) × (s.is_told ≡ true) × (s.left_out ≡ 0);
   listens = λ s own. h.listens s.port own;
   refuses = h.refuses;
   is_at = h.is_at;
   takes_memory = h.takes_memory;
 }
 
-abbrev pub keyed_facts : {H P F : Type 0} → (H → HostFacts P F) → Keyed H → HostFacts (Sealed P) F
-keyed_facts facts k = keyed_host k.keys (facts k.host.now)
+-- what contracts see of it: the host below, and the keys
+pub record KeyedView (H : Type 0) : Type 0 where
+  pub host : H
+  pub keys : Keys
 
--- it is over this host
-pub record IsKeyed {H : Type 0} (host : H) (keys : Keys) (k : Keyed H) : Type 0 where
-  pub over : k.host.now ≡ host
-  pub by : k.keys ≡ keys
+abbrev pub keyed_facts : {H P F : Type 0} → (H → HostFacts P F) → KeyedView H → HostFacts (SealedView P) F
+keyed_facts facts k = keyed_host k.keys (facts k.host)
 
 pub keyed_one : {P F : Type 0} (keys : Keys) (h : HostFacts P F) → PlacesOne h → PlacesOne (keyed_host keys h)
 keyed_one keys h one = record {

@@ -1,10 +1,9 @@
 -- Datagrams that carry a tag (this project's own).
-use Rattle.std.specs.Prelude.{◌≡◌, ◌++◌, ◌-◌, ◌&&◌, ℕ, Bool, true, false, List, [], ◌∷◌, Option, Some, None, length, map, take, drop, cond, nat_le, option_map}
+use Rattle.std.specs.Prelude.{◌≡◌, ◌++◌, ◌+◌, ◌-◌, ◌^◌, ◌&&◌, ℕ, Bool, true, false, List, Option, None, length, map, min, take, drop, cond, nat_le, option_map}
 use Rattle.std.specs.Str.{bytes_eq}
-use Rattle.system_io.specs.Ports.{Passing, Came, Quiet, Missed, Handed, PortFacts, no_tag}
+use Rattle.system_io.specs.Ports.{Passing, Came, Quiet, Missed, Handed, Passed, PortFacts, no_tag, to_each}
 use Rattle.sealed_port.specs.Hmac.{hmac}
 use Rattle.sealed_port.specs.declared.seal_port.Keys.{Keys}
-use Rattle.sealed_port.specs.declared.seal_port.Sealed.{Sealed}
 
 -- the tag of bytes: the first 16 bytes of their HMAC
 abbrev pub tag_of : List ℕ → List ℕ → List ℕ
@@ -43,12 +42,39 @@ unsealed keys (Handed to bytes) = Handed to (opened (is_sealed keys.first bytes)
 abbrev pub all_unsealed : Keys → Option (List Passing) → Option (List Passing)
 all_unsealed keys passed = option_map (map (unsealed keys)) passed
 
-abbrev pub unsealed_facts : Keys → Bool → PortFacts → PortFacts
-unsealed_facts keys is_told f = record { passed = cond is_told (all_unsealed keys f.passed) None; faults = f.faults; addresses = f.addresses }
+-- a count, which stays at its greatest value
+abbrev pub counted : ℕ → ℕ
+counted n = min n (2 ^ 64 - 1)
 
--- the keys of a port
-abbrev pub keys_in : {P : Type 0} → Sealed P → Keys
-keys_in s = record { first = s.first; second = s.second }
+-- what contracts see of a sealed port: the port below it, its keys, whether its traffic is known, and how many datagrams it left out
+pub record SealedView (P : Type 0) : Type 0 where
+  pub port : P
+  pub keys : Keys
+  pub is_told : Bool
+  pub left_out : ℕ
 
-abbrev pub sealed_facts : {P : Type 0} → (P → PortFacts) → Sealed P → PortFacts
-sealed_facts facts s = unsealed_facts (keys_in s) s.is_told (facts s.port)
+-- at first its traffic is known, and no datagram is left out
+abbrev pub over_port : {P : Type 0} → P → Keys → SealedView P
+over_port port keys = record { port = port; keys = keys; is_told = true; left_out = 0 }
+
+-- its facts by those of the port below it; its failures are those below and the datagrams that it left out
+abbrev pub unsealed_facts : Keys → Bool → ℕ → PortFacts → PortFacts
+unsealed_facts keys is_told left_out f = record { passed = cond is_told (all_unsealed keys f.passed) None; faults = counted (f.faults + left_out); addresses = f.addresses }
+
+abbrev pub sealed_facts : {P : Type 0} → (P → PortFacts) → SealedView P → PortFacts
+sealed_facts facts s = unsealed_facts s.keys s.is_told s.left_out (facts s.port)
+
+-- what a call leaves but for the port below: the keys, whether the traffic is known, and the datagrams that were left out
+pub record Stays {P : Type 0} (old new : SealedView P) : Type 0 where
+  pub keys : new.keys ≡ old.keys
+  pub told : new.is_told ≡ old.is_told
+  pub left_out : new.left_out ≡ old.left_out
+
+-- to each address these bytes went with their tag under the first key, and nothing else passed below
+pub record SendsSealed {P : Type 0} (facts : P → PortFacts) (old new : SealedView P) (bytes : List ℕ) : Type 0 where
+  pub below : Passed (facts old.port) (facts new.port) (to_each (facts old.port).addresses (sealed old.keys.first bytes))
+  pub stays : Stays old new
+
+-- a datagram is left out: nothing passes below, the traffic isn't known from then on, and it is counted
+abbrev pub LeavesOut : {P : Type 0} → SealedView P → SealedView P → Type 0
+LeavesOut old new = new ≡ record { port = old.port; keys = old.keys; is_told = false; left_out = counted (old.left_out + 1) }

@@ -4,6 +4,7 @@ ghost use Rattle.std.specs.Prelude.{◌≡◌, true, length, map, IfErr, IfOk, O
 
 use crate::seal_port::{Keys, Sealed};
 use std::alloc::{AllocError, Global};
+use std::marker::Model;
 use std::net::SocketAddr;
 use system_io::{BindFault, Host};
 
@@ -14,12 +15,18 @@ pub struct Keyed<'a, H> {
     keys: Keys,
 }
 
-impl<'a, H: Host> Keyed<'a, H> {
-    ghost use Rattle.sealed_port.specs.KeyedHosts.{IsKeyed};
+impl<'a, H> Model for Keyed<'a, H> {
+    ghost use Rattle.sealed_port.specs.KeyedHosts.{KeyedView};
 
+    ghost Value = { KeyedView H };
+
+    ghost view = { λ k. record { host = k.host.now; keys = k.keys } };
+}
+
+impl<'a, H: Host> Keyed<'a, H> {
     /// The host whose ports seal by these keys.
     pub fn over(host: &'a H, keys: Keys) -> Keyed<'a, H>
-        ensures { IsKeyed host.entry.now keys result }
+        ensures { result ≡ record { host = host.entry.now; keys = keys } }
     {
         Keyed { host, keys }
     }
@@ -34,7 +41,7 @@ impl<'a, H: Host> Host for Keyed<'a, H> {
 
     ghost facts = { keyed_facts H.facts };
 
-    ghost one = { λ k told. keyed_one k.keys (H.facts k.host.now) (H.one k.host.now told) };
+    ghost one = { λ k told. keyed_one k.keys (H.facts k.host) (H.one k.host told) };
 
     fn bind(
         &self,

@@ -15,6 +15,8 @@
 //! - CLAIM: `MacKey::hmac`: the HMAC of a text is that of RFC 2104 over SHA-256.
 //! - CLAIM: `laws::only_sealed_is_passed_on`; `laws::sealed_is_passed_on`: nothing but 64 zeros is passed on for a datagram that isn't
 //!   sealed by one of the keys, and what is sealed is passed on.
+//! - CLAIM: `Sealed::send`, clauses `short`, `long`: bytes go to each address with their tag under the first key, and nothing else
+//!   goes out. Of more than 48 bytes nothing goes out, and the call fails and is counted.
 //! - CLAIM: `Keys::read`, clauses `ok`, `err`: a file of keys is read exactly where it has one line or two of 64 lower-case
 //!   hexadecimal digits; else the first fault is told.
 #![tactic(auto)]

@@ -1,10 +1,11 @@
 //! A port whose datagrams carry a tag.
 
 ghost use Rattle.std.specs.Prelude.{◌≡◌, ◌≤◌, ◌↔◌, length, take, true, IsTrue};
-ghost use Rattle.sealed_port.specs.Sealing.{is_sealed, is_sealed_by, keys_in, opened, sealed, tag_of};
+ghost use Rattle.sealed_port.specs.Sealing.{LeavesOut, is_sealed, is_sealed_by, opened, over_port, sealed, tag_of};
 
 use crate::mac::MacKey;
 use arrayvec::ArrayVec;
+use std::marker::Model;
 use std::time::Duration;
 use system_io::{NO_TAG, Port, PortFault};
 
@@ -23,13 +24,23 @@ pub struct Keys {
 /// A port over another one: it gives each datagram a tag, and passes on without it what carries a right one. For any other
 /// datagram it passes on 64 bytes that are zero (`NO_TAG`).
 ///
-/// A datagram of more than 48 bytes isn't sent, and from then on the traffic isn't known.
+/// A datagram of more than 48 bytes is left out: it goes to nobody, the call fails, and the failure is counted. From then on the
+/// traffic isn't known.
 #[derive(Drop)]
 pub struct Sealed<P: Drop> {
     port: P,
     first: MacKey,
     second: MacKey,
     is_told: bool,
+    left_out: u64,
+}
+
+impl<P: Drop> Model for Sealed<P> {
+    ghost use Rattle.sealed_port.specs.Sealing.{SealedView};
+
+    ghost Value = { SealedView P };
+
+    ghost view = { λ s. record { port = s.port; keys = record { first = s.first; second = s.second }; is_told = s.is_told; left_out = s.left_out } };
 }
 
 /// The tag of bytes under a key.
@@ -79,15 +90,14 @@ fn with_tag(key: &MacKey, bytes: &[u8]) -> ArrayVec<u8, 64>
 impl<P: Port + Drop> Sealed<P> {
     /// A port that seals by these keys over another one.
     pub fn over(port: P, keys: &Keys) -> Sealed<P>
-        ensures port { result.port ≡ port }
-        ensures keys { keys_in result ≡ keys.now }
-        ensures told { result.is_told ≡ true }
+        ensures { result ≡ over_port port keys.now }
     {
         Sealed {
             port,
             first: MacKey::of(&keys.first),
             second: MacKey::of(&keys.second),
             is_told: true,
+            left_out: 0,
         }
     }
 
@@ -100,7 +110,7 @@ impl<P: Port + Drop> Sealed<P> {
 
     /// Whether a datagram ends with a right tag, under one of the keys.
     fn is_right(&self, datagram: &[u8]) -> bool
-        ensures is { result ≡ is_sealed_by (keys_in self.now) datagram.now }
+        ensures is { result ≡ is_sealed_by self.now.keys datagram.now }
         ensures long { IsTrue result → 16 ≤ length datagram.now }
     {
         is_sealed(&self.first, datagram) || is_sealed(&self.second, datagram)
@@ -111,7 +121,7 @@ impl<P: Port + Drop> Sealed<P> {
     fn open(&self, buffer: &mut [u8; 64], length: usize) -> usize
         requires { length ≤ 64 }
         ensures fits { result ≤ 64 }
-        ensures is { take result buffer.new ≡ opened (is_sealed_by (keys_in self.now) (take length buffer.old)) (take length buffer.old) }
+        ensures is { take result buffer.new ≡ opened (is_sealed_by self.now.keys (take length buffer.old)) (take length buffer.old) }
     {
         if self.is_right(&buffer[..length]) {
             length - 16
@@ -120,13 +130,23 @@ impl<P: Port + Drop> Sealed<P> {
             buffer.len()
         }
     }
+
+    /// Leaves a datagram out, which is counted.
+    fn leave_out(&mut self) -> PortFault
+        ensures { LeavesOut self.old self.new }
+    {
+        self.is_told = false;
+        self.left_out = self.left_out.saturating_add(1);
+        PortFault::Failed
+    }
 }
 
 impl<P: Port + Drop> Port for Sealed<P> {
-    ghost use Rattle.std.specs.Prelude.{◌≡◌, ◌≤◌, [], ◌∷◌, None, Ok, length, take, IfOk, IfSome, OnErr};
+    ghost use Rattle.std.specs.Prelude.{◌≡◌, ◌<◌, ◌≤◌, [], ◌∷◌, None, Ok, Err, length, take, IfOk, IfSome, OnErr};
     ghost use Rattle.system_io.specs.Failures.{Risen};
     ghost use Rattle.system_io.specs.Ports.{Came, Quiet, Missed, Passed, to_each};
-    ghost use Rattle.sealed_port.specs.Sealing.{keys_in, sealed_facts};
+    ghost use Rattle.system_io.specs.declared.port.PortFault.TheVariants.{Failed};
+    ghost use Rattle.sealed_port.specs.Sealing.{LeavesOut, SendsSealed, Stays, sealed_facts};
 
     ghost facts = { sealed_facts P.facts };
 
@@ -135,8 +155,7 @@ impl<P: Port + Drop> Port for Sealed<P> {
         ensures came { IfOk result (λ n. Passed (sealed_facts P.facts self.old) (sealed_facts P.facts self.new) (Came (take n buffer.new) ∷ [])) }
         ensures missed { OnErr result (Passed (sealed_facts P.facts self.old) (sealed_facts P.facts self.new) (Missed ∷ [])) }
         ensures cause { OnErr result (Risen (sealed_facts P.facts self.old).faults (sealed_facts P.facts self.new).faults) }
-        ensures told { self.new.is_told ≡ self.old.is_told }
-        ensures keys { keys_in self.new ≡ keys_in self.old }
+        ensures stays { Stays self.old self.new }
     {
         match self.port.receive(buffer) {
             Ok(length) => Ok(self.open(buffer, length)),
@@ -154,8 +173,7 @@ impl<P: Port + Drop> Port for Sealed<P> {
         ensures quiet { result ≡ Ok None → Passed (sealed_facts P.facts self.old) (sealed_facts P.facts self.new) (Quiet ∷ []) }
         ensures missed { OnErr result (Passed (sealed_facts P.facts self.old) (sealed_facts P.facts self.new) (Missed ∷ [])) }
         ensures cause { OnErr result (Risen (sealed_facts P.facts self.old).faults (sealed_facts P.facts self.new).faults) }
-        ensures told { self.new.is_told ≡ self.old.is_told }
-        ensures keys { keys_in self.new ≡ keys_in self.old }
+        ensures stays { Stays self.old self.new }
     {
         match self.port.receive_in_time(wait, buffer) {
             Ok(Some(length)) => Ok(Some(self.open(buffer, length))),
@@ -167,17 +185,16 @@ impl<P: Port + Drop> Port for Sealed<P> {
     fn send(&mut self, bytes: &[u8]) -> Result<(), PortFault>
         ensures handed { Passed (sealed_facts P.facts self.old) (sealed_facts P.facts self.new) (to_each (sealed_facts P.facts self.old).addresses bytes.now) }
         ensures cause { OnErr result (Risen (sealed_facts P.facts self.old).faults (sealed_facts P.facts self.new).faults) }
-        ensures told { length bytes.now ≤ 48 → self.new.is_told ≡ self.old.is_told }
-        ensures keys { keys_in self.new ≡ keys_in self.old }
+        ensures short { length bytes.now ≤ 48 → SendsSealed P.facts self.old self.new bytes.now }
+        ensures long { 48 < length bytes.now → (result ≡ Err Failed) × LeavesOut self.old self.new }
     {
         if bytes.len() > MOST_BYTES {
-            self.is_told = false;
-            return Ok(());
+            return Err(self.leave_out());
         }
         self.port.send(&with_tag(&self.first, bytes))
     }
 
     fn failures(&self) -> u64 {
-        self.port.failures()
+        self.port.failures().saturating_add(self.left_out)
     }
 }

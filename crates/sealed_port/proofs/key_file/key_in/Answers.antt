@@ -1,7 +1,4 @@
-use Rattle.std.proofs.Common.{◌≡◌, ◌++◌, ◌∷◌, [], ℕ, length, ap, arith, ◌∙◌}
-use Rattle.std.proofs.lemmas.List.{length-append}
-use Rattle.hex.specs.Hex.{encode_lower}
-use Rattle.sealed_port.specs.KeyFiles.{key_line}
+use Rattle.std.proofs.Common.{◌≡◌, length, ap, arith, ◌∙◌}
 use Rattle.sealed_port.proofs.KeyLines.{length-key_line}
 use Rattle.sealed_port.proofs.key_file.key_in.Goals as goal
 
