@@ -1,5 +1,6 @@
-/* Fathom's interface over libhofsjurd_c. Every value, every distance and every legal move is the library's. What is here is the order,
- * the ranks and the scores in which Fathom tells them, the sets of squares of the helpers (tb_*_attacks), and the mapped files. */
+/* Fathom's interface over libhofsjurd_c. Every WDL value, every distance and every legal move is the library's. What is here is the
+ * order, the ranks and the scores in which Fathom tells them, the value of a root move by its distance and the clock (value_by_clock),
+ * the sets of squares of the helpers (tb_*_attacks), and the mapped files. */
 #define _POSIX_C_SOURCE 200809L
 #ifdef TB_IS_LIBRARY
 #define TB_API extern __attribute__((visibility("default")))

@@ -139,6 +139,13 @@ uint32_t hofsjurd_add(hofsjurd *handle, const char *name, size_t name_length, co
 /* Frees what the handle holds. A closed one stays closed. */
 void hofsjurd_close(hofsjurd *handle);
 
+/* Whether the set has the table for a material ("KQvK"), 1 or 0: its WDL table (.rtbw) where `kind` is 0, and its DTZ table
+ * (.rtbz) where it is any other number. HOFSJURD_FILE_BAD_NAME for a text that names none of the 145 materials. */
+hofsjurd_reply hofsjurd_has(hofsjurd *handle, const char *material, size_t length, uint8_t kind);
+
+/* The largest number of men of a table in the set, kings included; 0 without a table. */
+hofsjurd_reply hofsjurd_largest(hofsjurd *handle);
+
 /* ----------------------------------------------------------------------------------------------------------- positions */
 
 /* Of the position that a FEN text spells. The text has six fields and no byte more, and needs no 0 at its end:
@@ -232,8 +239,8 @@ hofsjurd_reply hofsjurd_board_root(hofsjurd *handle, const hofsjurd_board *board
  * holds: a capture that wins already, say. Each table that is there is read, and one that is damaged stays so. Where the calls above
  * have an answer, it is this one, unless memory is refused.
  *
- * The WDL value is told exactly where it is determined. A distance is told at least where the determined value is a draw, or comes by
- * a capture. Otherwise the status is that of the calls above. No verdict is told so: it needs the tables themselves. */
+ * The WDL value is told exactly where it is determined. A distance is told at least where the determined value is a draw, comes by a
+ * capture, or is a win by a pawn move. Otherwise the status is that of the calls above. No verdict is told so: it needs the tables themselves. */
 hofsjurd_reply hofsjurd_determined_wdl(hofsjurd *handle, const char *fen, size_t length);
 hofsjurd_reply hofsjurd_determined_dtz(hofsjurd *handle, const char *fen, size_t length);
 hofsjurd_reply hofsjurd_determined_root(hofsjurd *handle, const char *fen, size_t length, hofsjurd_root_move *moves, size_t room);

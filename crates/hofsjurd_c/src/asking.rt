@@ -4,9 +4,13 @@ ghost use Rattle.std.specs.Prelude.{◌≡◌, ◌≢◌, None, Some, length};
 ghost use Rattle.hofsjurd_c.specs.declared.held.Held.{Held};
 ghost use Rattle.probe_api.specs.Batches.{TellsBoards};
 ghost use Rattle.probe_api.specs.Replies.{TellsBoard, TellsText, refused};
+ghost use Rattle.probe_api.specs.Roots.{PutsRootOfBoard, PutsRootOfText};
 
 use crate::handle::Handle;
-use probe_api::{Board, Question, Reply, answer_board, answer_boards, answer_text};
+use probe_api::{
+    Board, PlainRootMove, Question, Reply, RootValues, answer_board, answer_boards, answer_text,
+    root_of_board, root_of_text,
+};
 use std::alloc::Global;
 
 /// What is asked of the position that a text spells, by the tables of the handle.
@@ -63,4 +67,44 @@ pub(crate) fn ask_boards(
     let status = answer_boards(alloc, &mut held.set, question, boards, replies);
     *handle = Handle::open(held);
     status
+}
+
+/// Puts the root moves of the position that a text spells into the room, by the tables of the handle.
+pub(crate) fn ask_root_of_text(
+    alloc: Global,
+    handle: &mut Handle,
+    values: RootValues,
+    text: &[u8],
+    room: &mut [PlainRootMove],
+) -> Reply
+    ensures closed { handle.old.seat.value ≡ None → (result ≡ refused 1) × (room.new ≡ room.old) }
+    ensures is { (held : Held) → handle.old.seat.value ≡ Some held → PutsRootOfText values held.set.tables text.now room.old result room.new }
+    ensures kept { handle.new.seat.value ≡ handle.old.seat.value }
+{
+    let Some(mut held) = handle.take(alloc) else {
+        return Reply::refused(1);
+    };
+    let reply = root_of_text(alloc, &mut held.set, values, text, room);
+    *handle = Handle::open(held);
+    reply
+}
+
+/// Puts the root moves of the position that a board shows into the room, by the tables of the handle.
+pub(crate) fn ask_root_of_board(
+    alloc: Global,
+    handle: &mut Handle,
+    values: RootValues,
+    board: &Board,
+    room: &mut [PlainRootMove],
+) -> Reply
+    ensures closed { handle.old.seat.value ≡ None → (result ≡ refused 1) × (room.new ≡ room.old) }
+    ensures is { (held : Held) → handle.old.seat.value ≡ Some held → PutsRootOfBoard values held.set.tables board.now room.old result room.new }
+    ensures kept { handle.new.seat.value ≡ handle.old.seat.value }
+{
+    let Some(mut held) = handle.take(alloc) else {
+        return Reply::refused(1);
+    };
+    let reply = root_of_board(alloc, &mut held.set, values, board, room);
+    *handle = Handle::open(held);
+    reply
 }

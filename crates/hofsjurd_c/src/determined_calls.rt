@@ -7,7 +7,7 @@ ghost use Rattle.probe_api.specs.declared.root.RootValues.TheVariants.{Determine
 ghost use Rattle.probe_api.specs.Replies.{TellsBoard, TellsText, refused};
 ghost use Rattle.probe_api.specs.Roots.{PutsRootOfBoard, PutsRootOfText};
 
-use crate::asking::{ask_board, ask_text};
+use crate::asking::{ask_board, ask_root_of_board, ask_root_of_text, ask_text};
 use crate::handle::Handle;
 use probe_api::{Board, PlainRootMove, Question, Reply, RootValues};
 use std::alloc::Global;
@@ -73,12 +73,7 @@ pub extern "C" fn hofsjurd_determined_root(
     ensures is { (held : Held) → handle.old.seat.value ≡ Some held → PutsRootOfText Determined held.set.tables fen.now room.old result room.new }
     ensures kept { handle.new.seat.value ≡ handle.old.seat.value }
 {
-    let Some(mut held) = handle.take(alloc) else {
-        return Reply::refused(1);
-    };
-    let reply = probe_api::root_of_text(alloc, &mut held.set, RootValues::Determined, fen, room);
-    *handle = Handle::open(held);
-    reply
+    ask_root_of_text(alloc, handle, RootValues::Determined, fen, room)
 }
 
 /// The legal moves of the position that a board shows, by determined values, the best first.
@@ -93,10 +88,5 @@ pub extern "C" fn hofsjurd_board_determined_root(
     ensures is { (held : Held) → handle.old.seat.value ≡ Some held → PutsRootOfBoard Determined held.set.tables board.now room.old result room.new }
     ensures kept { handle.new.seat.value ≡ handle.old.seat.value }
 {
-    let Some(mut held) = handle.take(alloc) else {
-        return Reply::refused(1);
-    };
-    let reply = probe_api::root_of_board(alloc, &mut held.set, RootValues::Determined, board, room);
-    *handle = Handle::open(held);
-    reply
+    ask_root_of_board(alloc, handle, RootValues::Determined, board, room)
 }

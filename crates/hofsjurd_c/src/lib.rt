@@ -7,7 +7,7 @@
 //! and each returns, given what the caller owes.
 //!
 //! Inside: `handle`, `game_handle` and `held` (what they own), `seat`, `game_seat` (a pointer as C keeps it), `loose` (a box as
-//! its pointer), `asking`, `move_calls`, `determined_calls`. This is the only crate with `extern` functions and unsafe code.
+//! its pointer), `asking`, `move_calls`, `determined_calls`, `holding_calls`. This is the only crate with `extern` functions and unsafe code.
 //!
 //! Definitions: `Owned` (which box a handle's pointer owns), `Beginning`. It is tried by `tools/c_harness/run`: values beside
 //! libfathom's, cut and changed files, each allocation refused in turn.
@@ -46,6 +46,7 @@ mod game_handle;
 mod game_seat;
 mod handle;
 mod held;
+mod holding_calls;
 mod loose;
 mod move_calls;
 mod seat;

@@ -8,6 +8,7 @@ ghost use Rattle.probe_api.specs.Missing.{PutsMissing};
 ghost use Rattle.probe_api.specs.Replies.{refused};
 ghost use Rattle.probe_api.specs.Roots.{PutsRootOfBoard, PutsRootOfText, TellsState};
 
+use crate::asking::{ask_root_of_board, ask_root_of_text};
 use crate::handle::Handle;
 use probe_api::{Board, PlainMove, PlainRootMove, Reply, RootValues};
 use std::alloc::Global;
@@ -25,12 +26,7 @@ pub extern "C" fn hofsjurd_root(
     ensures is { (held : Held) → handle.old.seat.value ≡ Some held → PutsRootOfText OfTables held.set.tables fen.now room.old result room.new }
     ensures kept { handle.new.seat.value ≡ handle.old.seat.value }
 {
-    let Some(mut held) = handle.take(alloc) else {
-        return Reply::refused(1);
-    };
-    let reply = probe_api::root_of_text(alloc, &mut held.set, RootValues::OfTables, fen, room);
-    *handle = Handle::open(held);
-    reply
+    ask_root_of_text(alloc, handle, RootValues::OfTables, fen, room)
 }
 
 /// The legal moves of the position that a board shows, the best first.
@@ -45,12 +41,7 @@ pub extern "C" fn hofsjurd_board_root(
     ensures is { (held : Held) → handle.old.seat.value ≡ Some held → PutsRootOfBoard OfTables held.set.tables board.now room.old result room.new }
     ensures kept { handle.new.seat.value ≡ handle.old.seat.value }
 {
-    let Some(mut held) = handle.take(alloc) else {
-        return Reply::refused(1);
-    };
-    let reply = probe_api::root_of_board(alloc, &mut held.set, RootValues::OfTables, board, room);
-    *handle = Handle::open(held);
-    reply
+    ask_root_of_board(alloc, handle, RootValues::OfTables, board, room)
 }
 
 /// Puts the board after a move into the caller's room. A move that isn't legal is refused, and the room stays as it was.

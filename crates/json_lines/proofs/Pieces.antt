@@ -1,6 +1,5 @@
 -- Tokens that are written one after the other.
 use Rattle.std.proofs.Common.{◌≡◌, ◌∙◌, sym, ap, refl, subst, ℕ, ℤ, ◌<◌, ◌^◌, ◌≤◌, ◌++◌, Bool, true, false, cond, List, [], ◌∷◌, Option, Some, append_assoc, append-nil, option_and_then, arith, ◌+◌, length, take, get_or}
-use Rattle.std.specs.Prelude.{⊤}
 use Rattle.std.specs.Fmt.{signed_decimal}
 use Rattle.std.specs.Int.Signed.{mag}
 use Rattle.std.specs.Io.KnownBytes.{Appends}
@@ -8,10 +7,10 @@ use Rattle.std.proofs.KnownBytes.{Appends-nil, Appends-trans}
 use Rattle.std.proofs.lemmas.List.Sums.{fold-append}
 use Rattle.std.proofs.lemmas.Grind.{flat_map-append}
 use Rattle.std.proofs.lemmas.List.{take_more}
-use Rattle.std.specs.List.{IsFirstAndRest, fold}
-use Rattle.json.specs.Token.{Token, begin_object, end_object, begin_array, end_array, key}
+use Rattle.std.specs.List.{IsFirstAndRest}
+use Rattle.json.specs.Token.{Token, end_object, end_array, key}
 use Rattle.json.specs.Json.{Json, null, boolean, number, string, array, object, Items, no_items, item, Members, no_members, member, max_depth, document, value, if_last}
-use Rattle.json.specs.Print.{ArePrintable, IsPrintable, begins, ends, escape, escape_byte, print, print_from, quoted, separator, token_text}
+use Rattle.json.specs.Print.{ArePrintable, IsPrintable, escape, escape_byte, print_from, quoted, separator, token_text}
 use Rattle.json.specs.Tree.{json_tokens, items_tokens, members_tokens, depth}
 use Rattle.json.proofs.Printed.Decimals.{IsNumber-signed_decimal}
 use Rattle.json.proofs.Printed.Tokens.{print_from-append, tokens-print}

@@ -1,6 +1,6 @@
 -- Moves of a list, told one after the other.
-use Rattle.std.proofs.Common.{◌≡◌, ◌∙◌, sym, ap, refl, subst, ℕ, suc, zero, ◌+◌, ◌<◌, ◌≤◌, Bool, true, false, ◌&&◌, List, [], ◌∷◌, ◌++◌, length, take, get_or, Option, Some, None, filter_map, option_map, arith}
-use Rattle.std.specs.Prelude.{unwrap_or, Result, Ok, Err, OnErr}
+use Rattle.std.proofs.Common.{◌≡◌, ◌∙◌, sym, ap, refl, subst, ℕ, ◌+◌, ◌<◌, ◌≤◌, Bool, true, false, ◌&&◌, List, [], ◌∷◌, ◌++◌, length, take, get_or, Option, Some, None, filter_map, option_map, arith}
+use Rattle.std.specs.Prelude.{unwrap_or, Result, Ok, IfOk}
 use Rattle.std.specs.List.{All, list_all}
 use Rattle.std.proofs.lemmas.List.{take_more, take_all}
 use Rattle.std.proofs.lemmas.List.Elements.{All-append, All-get_or, All-nil, All-from_get_or}
@@ -21,7 +21,10 @@ use Rattle.json_lines.specs.declared.ask.Ask.{Ask}
 use Rattle.json_lines.specs.declared.ask.Ask.TheVariants.{Strict, Determined}
 use Rattle.json_lines.specs.declared.told.MoveTold.{MoveTold}
 use Rattle.json_lines.specs.Inside.Playing.{IsPlayable}
-use Rattle.json_lines.specs.Told.{AreMovesTold, IsMoveTold}
+use Rattle.json_lines.specs.Told.{AreMovesTold, IsMoveTold, OfText}
+use Rattle.board_core.specs.Position.{IsPosition}
+use Rattle.fen_text.specs.declared.fault.FenFault.{FenFault}
+use Rattle.fen_text.specs.Fen.{SpellsPosition}
 
 -- ---- root moves can be played
 
@@ -95,7 +98,8 @@ one_more_both moves i m all here lt is so_far h =
 pub all_both : (moves : List MoveTold) (i : ℕ) (all : Bool) → length moves ≤ i → all ≡ list_all is_told (take i moves) → all ≡ list_all is_told moves
 all_both moves i all end h = h ∙ ap (list_all is_told) (take_all i moves end)
 
--- what holds anyhow holds where there is an error
-pub anyhow : {A E X : Type 0} (r : Result A E) → X → OnErr r X
-anyhow (Ok a) x = tt
-anyhow (Err e) x = x
+-- ---- texts
+
+-- what holds of the position that a text is read as holds of the one that it spells
+pub of_the_text : (P : Parts → Type 0) (text : List ℕ) (read : Result Parts FenFault) (position : Parts) → read ≡ Ok position → ((p : Parts) → IsPosition p → SpellsPosition text p → read ≡ Ok p) → P position → OfText text P
+of_the_text P text read position is only holds p good same = subst (λ r. IfOk r P) (only p good same) (subst (λ r. IfOk r P) (sym is) holds)

@@ -1,5 +1,5 @@
 -- Squares, one more.
-use Rattle.std.proofs.Common.{◌≡◌, ◌∙◌, sym, ap, refl, subst, ℕ, suc, ◌+◌, ◌<◌, ◌≤◌, Bool, false, ◌||◌, List, Option, arith}
+use Rattle.std.proofs.Common.{◌≡◌, ◌∙◌, ap, refl, subst, ℕ, suc, ◌+◌, Bool, false, ◌||◌, List, Option, arith}
 use Rattle.board_core.specs.declared.piece.Piece.{Piece}
 use Rattle.board_core.specs.Attack.{man_at}
 use Rattle.json_lines.specs.declared.material.Sought.{Sought}

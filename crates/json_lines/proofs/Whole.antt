@@ -1,5 +1,5 @@
 -- Objects and lists that are written whole.
-use Rattle.std.proofs.Common.{◌≡◌, ◌∙◌, sym, ap, refl, subst, ℕ, suc, ℤ, ◌<◌, ◌≤◌, max, Bool, true, false, cond, List, [], ◌∷◌, ◌++◌, length, Option, Some, None, append-nil, arith}
+use Rattle.std.proofs.Common.{◌≡◌, ◌∙◌, sym, refl, subst, ℕ, ℤ, ◌<◌, ◌≤◌, max, Bool, true, false, cond, List, [], ◌∷◌, ◌++◌, length, Option, Some, None, append-nil, arith}
 use Rattle.std.specs.Prelude.{Result, Ok, Err, codes, ⊤}
 use Rattle.std.specs.List.{IsFirstAndRest}
 use Rattle.std.specs.Io.KnownBytes.{Appends}
@@ -9,9 +9,8 @@ use Rattle.board_core.specs.declared.verdict.Verdict.{Verdict}
 use Rattle.judge_core.specs.declared.fault.ProbeFault.{ProbeFault}
 use Rattle.judge_core.specs.declared.probed.Probed.{Probed}
 use Rattle.judge_core.specs.Words.{fault_words}
-use Rattle.json.specs.Token.{Token, begin_array, begin_object, end_array, end_object, key}
-use Rattle.json.specs.Json.{Json, array, object, string, Items, item, Members, no_members, member, max_depth, document}
-use Rattle.json.specs.Print.{separator}
+use Rattle.json.specs.Token.{begin_array, begin_object, end_array, end_object, key}
+use Rattle.json.specs.Json.{Json, array, object, string, Items, Members, no_members, member, document}
 use Rattle.json.specs.Tree.{depth, items_depth, json_tokens, members_depth}
 use Rattle.json_lines.specs.declared.members.Member.{Member}
 use Rattle.json_lines.specs.declared.told.JsonLine.{JsonLine}

@@ -1,11 +1,13 @@
 -- How tables are asked for values (this project's own).
-use Rattle.std.specs.Prelude.{Bool, true, false, List}
+use Rattle.std.specs.Prelude.{◌≡◌, Bool, true, false, List}
 use Rattle.board_core.specs.declared.parts.Parts.{Parts}
 use Rattle.judge_core.specs.declared.probed.Probed.{Probed}
 use Rattle.judge_core.specs.declared.root_move.RootMove.{RootMove}
-use Rattle.judge_core.specs.Determined.{AreDetermined, IsDeterminedRoot}
+use Rattle.judge_core.specs.Answers.{ListsMoves}
+use Rattle.judge_core.specs.Determined.{AreDetermined, IsDeterminedRoot, ListsMovesDetermined}
 use Rattle.judge_core.specs.Probed.{IsProbed}
 use Rattle.judge_core.specs.Root.{IsRoot}
+use Rattle.judge_core.specs.Ruling.{is_out_of_scope}
 use Rattle.judge_core.specs.Tables.{Tables}
 use Rattle.json_lines.specs.declared.ask.Ask.{Ask}
 use Rattle.json_lines.specs.declared.ask.Ask.TheVariants.{Strict, Determined}
@@ -14,6 +16,11 @@ use Rattle.json_lines.specs.declared.ask.Ask.TheVariants.{Strict, Determined}
 abbrev pub IsAnswered : Ask → Tables → Parts → Probed → Type 0
 IsAnswered Strict = IsProbed
 IsAnswered Determined = AreDetermined
+
+-- moves are listed for the values of a position in scope: only then memory for them may be refused
+abbrev pub MayLack : Ask → Tables → Parts → Type 0
+MayLack Strict tables p = (is_out_of_scope p ≡ false) × ListsMoves tables p
+MayLack Determined tables p = (is_out_of_scope p ≡ false) × ListsMovesDetermined tables p
 
 -- its legal moves, the best first
 abbrev pub IsRanked : Ask → Tables → Parts → List RootMove → Type 0

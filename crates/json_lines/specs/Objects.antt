@@ -64,6 +64,13 @@ category (Ok n) =
     else codes "loss"
 category (Err fault) = codes "unknown"
 
+-- a side that is mated has lost, and one in stalemate has a draw, whatever the tables say; else the WDL value
+abbrev pub category_of : BoardState → Result ℤ ProbeFault → List ℕ
+category_of Open wdl = category wdl
+category_of Check wdl = category wdl
+category_of Checkmate wdl = codes "loss"
+category_of Stalemate wdl = codes "draw"
+
 -- why a value is missing, the WDL value's fault first
 abbrev pub first_fault : Result ℤ ProbeFault → Result ℤ ProbeFault → Option ProbeFault
 first_fault (Ok wdl) (Ok dtz) = None
@@ -87,7 +94,7 @@ position_members p probed verdict =
     (member (codes "wdl") (number_or_null probed.wdl)
     (member (codes "dtz") (number_or_null probed.dtz)
     (member (codes "verdict") (verdict_or_null verdict)
-    (member (codes "category") (string (category probed.wdl))
+    (member (codes "category") (string (category_of (state_of p) probed.wdl))
     (member (codes "checkmate") (boolean (is_checkmate (state_of p)))
     (member (codes "stalemate") (boolean (is_stalemate (state_of p)))
     (member (codes "insufficient_material") (boolean (is_insufficient p)) no_members))))))))
@@ -100,7 +107,7 @@ after_members t =
     (member (codes "fen") (string (fen_of t.after))
     (member (codes "wdl") (number_or_null t.probed.wdl)
     (member (codes "dtz") (number_or_null t.probed.dtz)
-    (member (codes "category") (string (category t.probed.wdl))
+    (member (codes "category") (string (category_of t.root.state t.probed.wdl))
     (member (codes "zeroing") (boolean (zeroes_clock t.root.effect))
     (member (codes "checkmate") (boolean (is_checkmate t.root.state))
     (member (codes "stalemate") (boolean (is_stalemate t.root.state)) no_members)))))))

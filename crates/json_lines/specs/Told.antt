@@ -1,5 +1,5 @@
 -- What is told of a position and of its legal moves (this project's own).
-use Rattle.std.specs.Prelude.{◌≡◌, ◌⊎◌, ◌&&◌, ℕ, pos, negsuc, Bool, true, false, List, [], ◌∷◌, Some, Ok, Err}
+use Rattle.std.specs.Prelude.{◌≡◌, ◌⊎◌, ◌&&◌, ℕ, negsuc, Bool, true, false, List, [], ◌∷◌, Some, Ok}
 use Rattle.std.specs.List.{list_all}
 use Rattle.board_core.specs.declared.parts.Parts.{Parts}
 use Rattle.board_core.specs.Position.{IsPosition}
@@ -12,7 +12,7 @@ use Rattle.judge_core.specs.Probed.{has_both}
 use Rattle.judge_core.specs.Root.{is_checkmate}
 use Rattle.judge_core.specs.Ruling.{is_out_of_scope, ruling}
 use Rattle.judge_core.specs.Tables.{Tables}
-use Rattle.json_lines.specs.Ask.{IsAnswered, IsRanked}
+use Rattle.json_lines.specs.Ask.{IsAnswered, IsRanked, MayLack}
 use Rattle.json_lines.specs.declared.ask.Ask.{Ask}
 use Rattle.json_lines.specs.declared.told.JsonLine.{JsonLine}
 use Rattle.json_lines.specs.declared.told.JsonLine.TheVariants as line
@@ -64,6 +64,11 @@ IsLineOf ask true tables p (line.Position t) = ⊥
 IsLineOf ask false tables p (line.Root t moves) = ⊥
 IsLineOf ask true tables p (line.Root t moves) = IsPositionTold ask tables p t × IsRootTold ask tables p moves.items
 
+-- where memory may be refused for the line of a position: in scope, and without its moves only where its values list moves
+pub record MayLackLine (ask : Ask) (with_moves : Bool) (tables : Tables) (p : Parts) : Type 0 where
+  pub scope : is_out_of_scope p ≡ false
+  pub values : with_moves ≡ false → MayLack ask tables p
+
 -- the line of the position that a text spells, or that of the text's fault
 pub data IsLineFor (text : List ℕ) (IsLine : Parts → JsonLine → Type 0) (l : JsonLine) : Type 0 where
   ForPosition : (p : Parts) → SpellsPosition text p → IsPosition p → IsLine p l → IsLineFor text IsLine l
@@ -78,3 +83,7 @@ is_done (line.Root t moves) = has_both t.columns.probed && list_all (λ m. has_b
 -- the text spells a position
 abbrev pub IsText : List ℕ → Type 0
 IsText text = (p : Parts) × SpellsPosition text p × IsPosition p
+
+-- this holds of the position that the text spells
+abbrev pub OfText : List ℕ → (Parts → Type 0) → Type 0
+OfText text holds = (p : Parts) → IsPosition p → SpellsPosition text p → holds p

@@ -1,9 +1,9 @@
 //! How tables are asked for values.
 
-ghost use Rattle.std.specs.Prelude.{◌≡◌, IfOk};
+ghost use Rattle.std.specs.Prelude.{◌≡◌, IfOk, OnErr, false};
 ghost use Rattle.judge_core.specs.Root.{IsInScope};
-ghost use Rattle.judge_core.specs.Ruling.{ruling};
-ghost use Rattle.json_lines.specs.Ask.{IsAnswered, IsRanked, ask_of};
+ghost use Rattle.judge_core.specs.Ruling.{is_out_of_scope, ruling};
+ghost use Rattle.json_lines.specs.Ask.{IsAnswered, IsRanked, MayLack, ask_of};
 
 use board_core::Position;
 use judge_core::{Columns, RootMove, Set};
@@ -31,7 +31,8 @@ impl Ask {
     }
 
     /// Both probes of the position, as `Set::answers` or `Set::determined_answers` gives them, and the verdict on it, which is
-    /// the same for both. The error comes only where memory is refused. The set stays as it was but for its cache.
+    /// the same for both. The error comes only where those calls give it, at a position in scope. The set stays as it was
+    /// but for its cache.
     pub fn answers(
         self,
         alloc: Global,
@@ -40,6 +41,7 @@ impl Ask {
     ) -> Result<Columns, AllocError>
         ensures told { IfOk result (λ columns. IsAnswered self set.old.tables position.now columns.probed) }
         ensures verdict { IfOk result (λ columns. columns.verdict ≡ ruling set.old.tables position.now) }
+        ensures memory { OnErr result (MayLack self set.old.tables position.now) }
         ensures unchanged { set.new ≡ set.old }
     {
         match self {
@@ -49,7 +51,8 @@ impl Ask {
     }
 
     /// The legal moves, the best first, as `Set::root` or `Set::determined_root` gives them; none where the position is out
-    /// of scope. The error comes only where memory is refused. The set stays as it was but for its cache.
+    /// of scope. The error comes only where memory is refused, at a position in scope. The set stays as it was but for its
+    /// cache.
     pub fn root(
         self,
         alloc: Global,
@@ -57,6 +60,7 @@ impl Ask {
         position: &Position,
     ) -> Result<Option<Vec<RootMove>>, AllocError>
         ensures moves { IfOk result (IsInScope (λ moves. IsRanked self set.old.tables position.now moves.items) position.now) }
+        ensures memory { OnErr result (is_out_of_scope position.now ≡ false) }
         ensures unchanged { set.new ≡ set.old }
     {
         match self {

@@ -12,8 +12,9 @@
 //! toolchain's `json` (`print`, `json_tokens`). Its cases stand in `rows`.
 //!
 //! - CLAIM: `put_json_line`, clauses `written`, `reads_back`: the text is that of the line's object, and a JSON parser reads it back.
-//! - CLAIM: `JsonLine::of_text`, clauses `told`, `memory`, `unchanged`; `JsonLine::of_position`, clauses `told`, `unchanged`;
-//!   `JsonLine::is_done`: the line tells what the set's calls tell of the position that the text spells, or the text's first fault.
+//! - CLAIM: `JsonLine::of_text`, clauses `told`, `memory`, `lack`, `unchanged`; `JsonLine::of_position`, clauses `told`, `memory`,
+//!   `unchanged`; `JsonLine::is_done`: the line tells what the set's calls tell of the position that the text spells, or the text's
+//!   first fault. Lack of memory is told only at a position in scope; without moves only where its values list moves.
 #![tactic(auto)]
 
 mod ask;

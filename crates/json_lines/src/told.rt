@@ -1,12 +1,14 @@
 //! What tables tell of a position and of its legal moves.
 
-ghost use Rattle.std.specs.Prelude.{◌≡◌, ◌++◌, ◌∷◌, [], IfOk, OnErr, OnOk};
+ghost use Rattle.std.specs.Prelude.{◌≡◌, ◌++◌, ◌∷◌, [], false, IfOk, OnErr, OnOk};
 ghost use Rattle.std.specs.List.{All, list_all};
 ghost use Rattle.judge_core.specs.Probed.{has_both};
 ghost use Rattle.judge_core.specs.Root.{is_checkmate};
+ghost use Rattle.judge_core.specs.Ruling.{is_out_of_scope};
 ghost use Rattle.json_lines.specs.declared.told.MoveTold.{MoveTold};
 ghost use Rattle.json_lines.specs.Inside.Playing.{IsPlayable};
-ghost use Rattle.json_lines.specs.Told.{AreMovesTold, IsLineFor, IsLineOf, IsMoveTold, IsPositionTold, IsProbedAfter, IsRootTold, IsText, is_done};
+ghost use Rattle.json_lines.specs.Ask.{MayLack};
+ghost use Rattle.json_lines.specs.Told.{AreMovesTold, IsLineFor, IsLineOf, IsMoveTold, IsPositionTold, IsProbedAfter, IsRootTold, IsText, MayLackLine, OfText, is_done};
 
 use crate::ask::Ask;
 use board_core::Position;
@@ -148,6 +150,7 @@ fn root_told(
     position: &Position,
 ) -> Result<Vec<MoveTold>, AllocError>
     ensures told { IfOk result (λ told. IsRootTold ask set.old.tables position.now told.items) }
+    ensures memory { OnErr result (is_out_of_scope position.now ≡ false) }
     ensures unchanged { set.new ≡ set.old }
 {
     match ask.root(alloc, set, position) {
@@ -165,6 +168,7 @@ fn position_told(
     position: &Position,
 ) -> Result<PositionTold, AllocError>
     ensures told { IfOk result (IsPositionTold ask set.old.tables position.now) }
+    ensures memory { OnErr result (MayLack ask set.old.tables position.now) }
     ensures unchanged { set.new ≡ set.old }
 {
     match ask.answers(alloc, set, position) {
@@ -181,7 +185,8 @@ impl JsonLine {
     ///
     /// Values and verdict are those of `Ask::answers`, the moves those of `Ask::root`. The values of a move are those of
     /// `Ask::answers` for the position after it. A position that is out of scope has no move. The error comes only where
-    /// memory is refused. The tables stay as they were.
+    /// memory is refused, at a position in scope; without moves only where `Ask::answers` may give it. The tables stay as
+    /// they were.
     pub fn of_position(
         alloc: Global,
         set: &mut Set<'_>,
@@ -190,6 +195,7 @@ impl JsonLine {
         with_moves: bool,
     ) -> Result<JsonLine, AllocError>
         ensures told { IfOk result (IsLineOf ask with_moves set.old.tables position.now) }
+        ensures memory { OnErr result (MayLackLine ask with_moves set.old.tables position.now) }
         ensures unchanged { set.new ≡ set.old }
     {
         let told = position_told(ask, alloc, set, position)?;
@@ -203,7 +209,7 @@ impl JsonLine {
 
     /// What tables tell of the position of a text, as `of_position` does, or why the text is none.
     ///
-    /// The error comes only where memory is refused for a text that is a position.
+    /// The error comes only where the text is a position and `of_position` may give it there.
     pub fn of_text(
         alloc: Global,
         set: &mut Set<'_>,
@@ -213,6 +219,7 @@ impl JsonLine {
     ) -> Result<JsonLine, AllocError>
         ensures told { IfOk result (IsLineFor text.now (IsLineOf ask with_moves set.old.tables)) }
         ensures memory { OnErr result (IsText text.now) }
+        ensures lack { OnErr result (OfText text.now (MayLackLine ask with_moves set.old.tables)) }
         ensures unchanged { set.new ≡ set.old }
     {
         match read(text) {

@@ -9,7 +9,7 @@ ghost use Rattle.json_lines.specs.Inside.Members.{Writes, members_of, open_items
 ghost use Rattle.fen_text.specs.Coordinates.{move_text};
 ghost use Rattle.judge_core.specs.Words.{fault_words};
 ghost use Rattle.place_index.specs.Material.{men_of, name_of};
-ghost use Rattle.json_lines.specs.Objects.{after_members, category, error_members, fault_json, fen_error, first_fault, followed_by, is_stalemate, json_text, line_json, move_json, move_members, moves_items, number_or_null, position_json, position_members, root_json, verdict_or_null};
+ghost use Rattle.json_lines.specs.Objects.{after_members, category, category_of, error_members, fault_json, fen_error, first_fault, followed_by, is_stalemate, json_text, line_json, move_json, move_members, moves_items, number_or_null, position_json, position_members, root_json, verdict_or_null};
 
 use crate::material::is_insufficient;
 use crate::members::{Member, Value, put_comma, put_key, put_member, put_members};
@@ -61,6 +61,17 @@ fn category<'a>(wdl: &Result<i32, ProbeFault>) -> &'a str
                 "loss"
             }
         }
+    }
+}
+
+/// How the game ends for a side without a legal move, in a word, or else the WDL value.
+fn category_of<'a>(state: BoardState, wdl: &Result<i32, ProbeFault>) -> &'a str
+    ensures { result.now ≡ category_of state wdl.now }
+{
+    match state {
+        BoardState::Checkmate => "loss",
+        BoardState::Stalemate => "draw",
+        BoardState::Open | BoardState::Check => category(wdl),
     }
 }
 
@@ -176,6 +187,13 @@ fn put_facts<W: Write>(
     }
 }
 
+/// A member with this name and this value.
+fn member<'a>(name: &'static str, value: Value<'a>) -> Member<'a>
+    ensures { result ≡ record { name = name.entry; value = value.entry } }
+{
+    Member { name, value }
+}
+
 /// Writes the object of a position but for its closing brace.
 fn put_position<W: Write>(out: &mut W, told: &PositionTold) -> Result<(), WriteFault>
     ensures { OnOk result (Writes false (begin_object ∷ open_tokens (position_members told.now.position told.now.columns.probed told.now.columns.verdict)) (W.contents out.old) (W.contents out.new)) }
@@ -184,38 +202,17 @@ fn put_position<W: Write>(out: &mut W, told: &PositionTold) -> Result<(), WriteF
     let state = BoardState::of(&told.position);
     let probed = &told.columns.probed;
     let members = [
-        Member {
-            name: "fen",
-            value: Value::Text(fen.as_str()),
-        },
-        Member {
-            name: "wdl",
-            value: number_or_null(&probed.wdl),
-        },
-        Member {
-            name: "dtz",
-            value: number_or_null(&probed.dtz),
-        },
-        Member {
-            name: "verdict",
-            value: verdict_or_null(told.columns.verdict),
-        },
-        Member {
-            name: "category",
-            value: Value::Text(category(&probed.wdl)),
-        },
-        Member {
-            name: "checkmate",
-            value: Value::Boolean(state.is_checkmate()),
-        },
-        Member {
-            name: "stalemate",
-            value: Value::Boolean(is_stalemate(state)),
-        },
-        Member {
-            name: "insufficient_material",
-            value: Value::Boolean(is_insufficient(&told.position)),
-        },
+        member("fen", Value::Text(fen.as_str())),
+        member("wdl", number_or_null(&probed.wdl)),
+        member("dtz", number_or_null(&probed.dtz)),
+        member("verdict", verdict_or_null(told.columns.verdict)),
+        member("category", Value::Text(category_of(state, &probed.wdl))),
+        member("checkmate", Value::Boolean(state.is_checkmate())),
+        member("stalemate", Value::Boolean(is_stalemate(state))),
+        member(
+            "insufficient_material",
+            Value::Boolean(is_insufficient(&told.position)),
+        ),
     ];
     put_facts(out, &members, probed)
 }
@@ -253,7 +250,7 @@ fn put_after<W: Write>(out: &mut W, told: &MoveTold) -> Result<(), WriteFault>
         },
         Member {
             name: "category",
-            value: Value::Text(category(&told.probed.wdl)),
+            value: Value::Text(category_of(state, &told.probed.wdl)),
         },
         Member {
             name: "zeroing",

@@ -28,5 +28,8 @@ pub mod RootCaptures
 pub mod Rising
 pub mod Completed
 pub mod Kept
+pub mod PawnWins
 pub mod Zeroing
+pub mod AskedPawns
+pub mod Completing
 pub mod Told

@@ -20,17 +20,22 @@ use Rattle.judge_core.specs.declared.wdl.Wdl.TheVariants.{Loss, BlessedLoss, Dra
 use Rattle.judge_core.specs.Values.{Reading, points, of_points}
 use Rattle.judge_core.specs.Tables.{Tables}
 use Rattle.judge_core.specs.Root.{IsRoot, root_moves, rank, rank_cmp, below_win, distance_or_most}
-use Rattle.judge_core.specs.RootLaws.{FirstMoveIsBest, FirstMoveWinsWithinRule, FirstMoveKeepsTheValue}
+use Rattle.std.specs.List.Sorted.{IsSortedByKey}
+use Rattle.judge_core.specs.DeterminedLaws.{FirstDeterminedMoveIsBest, FirstDeterminedMoveWinsWithinRule}
+use Rattle.judge_core.specs.RootLaws.{IsWithinRule, FirstMoveIsBest, FirstMoveWinsWithinRule, FirstMoveKeepsTheValue}
 
 rank_total : IsTotalOrder rank_cmp
 rank_total = then_total (on_total (λ (r : ℕ × ℤ). r.0) nat_cmp_total) (on_total (λ (r : ℕ × ℤ). r.1) int_cmp_total)
 
--- no move ranks before the first one
-first_is_least : (tables : Tables) (p : Parts) (first : RootMove) (rest : List RootMove) (m : RootMove) → IsRoot tables p (first ∷ rest) → Contains (root_moves tables p) m → is_lt (rank_cmp (rank m) (rank first)) ≡ false
-first_is_least tables p first rest m root has =
-    let at = Contains-permutation (root_moves tables p) (first ∷ rest) m root.all has in
+-- no move of a sorted list ranks before the first one
+least_of_sorted : (first : RootMove) (rest : List RootMove) (m : RootMove) → IsSortedByKey rank rank_cmp (first ∷ rest) → Contains (first ∷ rest) m → is_lt (rank_cmp (rank m) (rank first)) ≡ false
+least_of_sorted first rest m sorted at =
     subst (λ (x : RootMove). is_lt (rank_cmp (rank x) (rank first)) ≡ false) at.2
-    (sorted_far (λ a b. is_lt (rank_cmp (rank a) (rank b))) (ranks_by rank_total rank) (first ∷ rest) root.best_first 0 at.0 m (omega arith) at.1)
+    (sorted_far (λ a b. is_lt (rank_cmp (rank a) (rank b))) (ranks_by rank_total rank) (first ∷ rest) sorted 0 at.0 m (omega arith) at.1)
+
+-- no root move does
+first_is_least : (tables : Tables) (p : Parts) (first : RootMove) (rest : List RootMove) (m : RootMove) → IsRoot tables p (first ∷ rest) → Contains (root_moves tables p) m → is_lt (rank_cmp (rank m) (rank first)) ≡ false
+first_is_least tables p first rest m root has = least_of_sorted first rest m root.best_first (Contains-permutation (root_moves tables p) (first ∷ rest) m root.all has)
 
 not_below : (a b : ℕ) (o : Ordering) → is_lt (ordering_then (nat_cmp a b) o) ≡ false → b ≤ a
 not_below a b o e = step (nat_lt a b) refl e
@@ -51,10 +56,17 @@ at_least : (r : Reading) (v : Wdl) → below_win r ≤ 4 - points v → (u : Wdl
 at_least (Ok u) v h = (u, refl, (let four = below_five v in omega (arith, h, four)))
 at_least (Err fault) v h = absurd (omega (arith, h))
 
-pub first_is_best : FirstMoveIsBest
-first_is_best tables p first rest m v root has e =
-    let low = not_below (below_win m.wdl) (below_win first.wdl) _ (first_is_least tables p first rest m root has) in
+-- of two moves the one that doesn't rank after the other has a value where that has one, and it is as good
+as_good : (first m : RootMove) (v : Wdl) → is_lt (rank_cmp (rank m) (rank first)) ≡ false → m.wdl ≡ Ok v → (u : Wdl) × (first.wdl ≡ Ok u) × (points v ≤ points u)
+as_good first m v least e =
+    let low = not_below (below_win m.wdl) (below_win first.wdl) _ least in
     at_least first.wdl v (subst (λ (r : Reading). below_win first.wdl ≤ below_win r) e low)
+
+pub first_is_best : FirstMoveIsBest
+first_is_best tables p first rest m v root has e = as_good first m v (first_is_least tables p first rest m root has) e
+
+pub first_determined_is_best : FirstDeterminedMoveIsBest
+first_determined_is_best tables p first rest m v root has e = as_good first m v (least_of_sorted first rest m root.root.best_first has) e
 
 points_back : (v : Wdl) → of_points (points v) ≡ Some v
 points_back Loss = refl
@@ -101,11 +113,16 @@ win_from r h = (let u = at_least r Win h in u.1 ∙ ap (λ (v : Wdl). Ok v) (bes
 both_win : (a b : Reading) (x y : ℤ) → a ≡ Ok Win → b ≡ Ok Win → is_lt (ordering_then (nat_cmp (below_win a) (below_win b)) (int_cmp x y)) ≡ false → is_lt (int_cmp x y) ≡ false
 both_win a b x y ea eb h = rw (ea, eb) at h
 
-pub wins_within_rule : FirstMoveWinsWithinRule
-wins_within_rule tables p first rest m root has within =
-    let least = first_is_least tables p first rest m root has in
+as_near : (p : Parts) (first m : RootMove) → is_lt (rank_cmp (rank m) (rank first)) ≡ false → (within : IsWithinRule p m) → (distance : ℤ) × (first.wdl ≡ Ok Win) × (first.dtz ≡ Ok distance) × (distance ≤ℤ pos within.distance)
+as_near p first m least within =
     let low = not_below (below_win m.wdl) (below_win first.wdl) _ least in
     let won = win_from first.wdl (subst (λ (r : Reading). below_win first.wdl ≤ below_win r) within.won low) in
     let near = both_win m.wdl first.wdl (distance_or_most m.dtz) (distance_or_most first.dtz) within.won won least in
     let found = there within.distance first.dtz (let s = within.soon in omega (arith, s)) (subst (λ (r : Result ℤ ValueFault). is_lt (int_cmp (distance_or_most r) (distance_or_most first.dtz)) ≡ false) within.is near) in
     (found.0, won, found.1, found.2)
+
+pub wins_within_rule : FirstMoveWinsWithinRule
+wins_within_rule tables p first rest m root has within = as_near p first m (first_is_least tables p first rest m root has) within
+
+pub determined_wins_within_rule : FirstDeterminedMoveWinsWithinRule
+determined_wins_within_rule tables p first rest m root has within = as_near p first m (least_of_sorted first rest m root.root.best_first has) within

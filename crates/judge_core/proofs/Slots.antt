@@ -1,12 +1,12 @@
 -- Tables in their slots.
-use Rattle.std.proofs.Common.{◌≡◌, ◌∙◌, sym, ap, subst, refl, ℕ, zero, suc, ◌<◌, ◌≤◌, length, Option, Some, None, inl, inr, arith, set, get_or, replicate, is_some, IsSome, true}
+use Rattle.std.proofs.Common.{◌≡◌, ◌∙◌, sym, ap, subst, refl, ℕ, zero, suc, ◌<◌, ◌≤◌, length, Option, Some, None, inl, inr, arith, set, get_or, replicate, is_some, IsSome, true, fold, map, max, take}
 use Rattle.std.proofs.lemmas.Bool.{cases_eq}
 use Rattle.std.proofs.lemmas.List.{get_or_read, get_or-set_same, get_or-set_other}
 use Rattle.std.proofs.Math.ListN.{length-set, length-replicate}
 use Rattle.table_file.specs.declared.kind.TableKind.{TableKind}
 use Rattle.table_file.specs.declared.kind.TableKind.TheVariants.{Wdl, Dtz}
 use Rattle.table_file.specs.Tables.{Contents}
-use Rattle.judge_core.specs.Tables.{Tables, AreFiled, slot}
+use Rattle.judge_core.specs.Tables.{Tables, AreFiled, slot, men_of_slot, largest_of}
 use Rattle.judge_core.specs.declared.shelf.Shelf.TheInside.{Inside}
 use Rattle.judge_core.specs.Inside.Kept.{IsKept}
 
@@ -71,3 +71,9 @@ more_kept a b t k kept is lt below e g = record {
 
 pub at_slot : (a b : TableKind) (j k n : ℕ) → n ≡ slot a j → a ≡ b → j ≡ k → n ≡ slot b k
 at_slot a b j k n e f g = e ∙ ap (λ (x : TableKind). slot x j) f ∙ ap (slot b) g
+
+-- ---- men
+
+pub largest-is : (tables items : Tables) (n : ℕ) (largest : ℕ) → items ≡ tables → take n items ≡ items → largest ≡ fold max 0 (map men_of_slot (take n items)) → largest ≡ largest_of tables
+unfolding largest_of
+largest-is tables items n largest e all is = is ∙ ap (λ (xs : Tables). fold max 0 (map men_of_slot xs)) (all ∙ e)

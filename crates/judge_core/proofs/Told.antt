@@ -67,6 +67,7 @@ module _ (tables : Tables) (p : Parts) where
       dtz = Err OutOfScope;
       wdl_is = wdl_outside outside;
       dtz_is = dtz_outside outside;
+      dtz_answered = λ o. absurd cc;
       told = e;
     }
 
@@ -77,6 +78,7 @@ module _ (tables : Tables) (p : Parts) where
       dtz = as_probe (λ x. x) (signed_in reach);
       wdl_is = wdl_inside value (as_probe (λ x. x) value) inside ev refl;
       dtz_is = dtz_inside reach (as_probe (λ x. x) (signed_in reach)) inside er refl;
+      dtz_answered = answered (signed_in reach);
       told = (let w = ew ∙ sym (is_numbered value) in rw (← w, ← ed) refl);
     }
 

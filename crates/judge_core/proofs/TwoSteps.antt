@@ -127,7 +127,7 @@ found_below f from (suc n) k e = by_first (λ h. found_below f (from + 1) n k h)
     by_first rest true h = let here : Some from ≡ Some k = rw h at e in let same : from ≡ k = cc in omega arith
     by_first rest false h = let later = rest (rw h at e) in omega arith
 
-known_key : (p : Parts) (key : ℕ) → material_of p ≡ Some key → key < 145
+pub known_key : (p : Parts) (key : ℕ) → material_of p ≡ Some key → key < 145
 unfolding material_of
 known_key p key e = found_below (is_material (men_on p.men)) 0 145 key e
 

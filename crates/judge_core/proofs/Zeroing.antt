@@ -18,12 +18,13 @@ use Rattle.judge_core.specs.Tables.{Tables, table_value}
 use Rattle.judge_core.specs.Asked.{asked, fault_in, unless}
 use Rattle.judge_core.specs.Probing.{after, weighed_where, weighed_by, wdl_where, wdl_of, worth, worth_in}
 use Rattle.judge_core.specs.Distances.{Reach, is_won, is_value, is_pawn_step, is_by_capture, pawns_reach_where, unless_reached, by_own_table, by_moves, by_outcome, by_weighed, zeroing, towards, dtz_by, dtz_to, dtz_of}
-use Rattle.judge_core.specs.Determined.{IsCompletion, IsCompletedBy, IsDetermined, IsDeterminedDistance, IsDeterminedReading, IsDeterminedReach, IsByCapture}
+use Rattle.judge_core.specs.Determined.{IsCompletion, IsCompletedBy, IsDetermined, IsDeterminedDistance, IsDeterminedReading, IsDeterminedReach, IsByCapture, IsByPawnMove}
 use Rattle.judge_core.specs.Inside.Determined.{extreme, extreme_value, extreme_weighed, agreed, or_agreed, in_both, value_in_both, pawns_reach_in_both, is_reached, zeroing_distance, agreed_distance, or_agreed_distance, determined_value, determined_reach, is_won_here}
 use Rattle.judge_core.proofs.Rule.{where_meets_rule, still}
 use Rattle.judge_core.proofs.Rising.{WeighsAtMost, same_points, points_most, greater_rises, worth_rises}
 use Rattle.judge_core.proofs.RootCaptures.{greater_left, greater_right}
 use Rattle.judge_core.proofs.Completed.{extreme-completes, IsWeighedBound, IsBound, weighed_bound, value_bound, is_same-true, is_same-refl, determined, undetermined}
+use Rattle.judge_core.proofs.PawnWins.{reached_in_both, reached_in_set}
 use Rattle.judge_core.proofs.Kept.{unless_ok, no_fault_more, strict_value, strict_weighed, strict_distance, weighed_is, value_is}
 
 -- ---- values
@@ -299,10 +300,10 @@ module _ (tables more : Tables) (c : IsCompletedBy tables more) (v : Wdl) where
 -- ---- the distance
 
 -- of three or more men
-abbrev IsMany : Parts → Type 0
+abbrev pub IsMany : Parts → Type 0
 IsMany p = nat_le (count_of_men p) 2 ≡ false
 
-opened : (tables : Tables) (p : Parts) → dtz_of tables p ≡ dtz_by tables (dtz_to tables 1) p
+pub opened : (tables : Tables) (p : Parts) → dtz_of tables p ≡ dtz_by tables (dtz_to tables 1) p
 unfolding dtz_of dtz_to
 opened tables p = refl
 
@@ -371,7 +372,7 @@ from_worth own p v position many e = step (weighed_where own (wdl_where own) p) 
 -- where a value is determined, a distance that is told only by it is told
 module _ (tables : Tables) (p : Parts) (position : IsPosition p) (v : Wdl) (is : IsDetermined tables p v) (d : Distance)
     (by_both : (a b : Weighed) → worth a ≡ v → worth b ≡ v → extreme_weighed tables true p ≡ Ok a → extreme_weighed tables false p ≡ Ok b → zeroing_distance tables p a b (outcome_of v) ≡ Some d)
-    (by_one : (w : Weighed) (reach : Parts → Reach) → worth w ≡ v → extreme_weighed tables true p ≡ Ok w → by_outcome tables reach p w (outcome_of v) ≡ Ok d)
+    (by_one : (w : Weighed) (reach : Parts → Reach) (x : Distance) → worth w ≡ v → extreme_weighed tables true p ≡ Ok w → by_outcome tables reach p w (outcome_of v) ≡ Ok x → x ≡ d)
     (few : nat_le (count_of_men p) 2 ≡ true → d ≡ NoDistance) where
   strict_is : (x : Distance) → IsMany p → dtz_of tables p ≡ Ok x → x ≡ d
   strict_is x many e = step (weighed_by tables (wdl_of tables) p) refl (sym (many_by tables p many) ∙ e)
@@ -383,9 +384,7 @@ module _ (tables : Tables) (p : Parts) (position : IsPosition p) (v : Wdl) (is :
           let one : Ok found.0 ≡ Ok w = sym found.1 ∙ there in
           let same : found.0 ≡ w = cc in
           let worth_is : worth w ≡ v = ap worth (sym same) ∙ found.2 in
-          let known = by_one w (dtz_to tables 1) worth_is there in
-          let both : Ok x ≡ Ok d = sym e ∙ ap (by_outcome tables (dtz_to tables 1) p w) (ap outcome_of worth_is) ∙ known in
-          cc
+          by_one w (dtz_to tables 1) x worth_is there (sym (ap (by_outcome tables (dtz_to tables 1) p w) (ap outcome_of worth_is)) ∙ e)
       step (Err fault) er e = absurd (cc)
 
   told_by_value : (t : Bool) → nat_le (count_of_men p) 2 ≡ t → (r : Reach) → dtz_of tables p ≡ r → or_agreed_distance r (agreed_distance tables p (extreme_weighed tables true p) (extreme_weighed tables false p)) ≡ Ok d
@@ -398,14 +397,41 @@ module _ (tables : Tables) (p : Parts) (position : IsPosition p) (v : Wdl) (is :
       let some = by_both a.0 b.0 a.2 b.2 a.1 b.1 in
       rw (a.1, b.1, same, a.2, some) refl
 
+one_ok : (d x : Distance) (r : Reach) → r ≡ Ok d → r ≡ Ok x → x ≡ d
+one_ok d x r ed ex = (let both : Ok d ≡ Ok x = sym ed ∙ ex in cc)
+
+-- bare kings are a draw
+no_outcome : (tables : Tables) (p : Parts) → IsPosition p → (v : Wdl) (outcome : Outcome) → IsDetermined tables p v → outcome_of v ≡ Some outcome → nat_le (count_of_men p) 2 ≡ true → towards outcome (zeroing outcome) ≡ NoDistance
+no_outcome tables p position v outcome is eo few =
+    let bare : Ok v ≡ Ok Draw = sym (is (extreme tables true) (extreme-completes tables true)) ∙ where_meets_rule (extreme tables true) p position ∙ rw few refl in
+    let same : v ≡ Draw = cc in
+    let none : None ≡ Some outcome = ap outcome_of (sym same) ∙ eo in
+    absurd (cc)
+
+-- a pawn move that brings the value about in every completion does so in the set, if that tells a distance
+by_pawn_in_set : (tables : Tables) (p : Parts) → IsPosition p → (v : Wdl) → IsByPawnMove tables p v → (outcome : Outcome) → is_won outcome ≡ true
+    → (w : Weighed) (reach : Parts → Reach) (x : Distance) → worth w ≡ v → by_outcome tables reach p w (Some outcome) ≡ Ok x → x ≡ towards outcome (zeroing outcome)
+unfolding by_moves
+by_pawn_in_set tables p position v by outcome won w reach x ew e = step (is_by_capture w) (rw ew at e)
+  where
+    by_steps : (r : Result Bool ValueFault) → pawns_reach_where (wdl_of tables) p v ≡ r → unless_reached r outcome (by_own_table tables reach p outcome) ≡ Ok x → x ≡ towards outcome (zeroing outcome)
+    by_steps (Ok true) er e = one_ok (towards outcome (zeroing outcome)) x (Ok (towards outcome (zeroing outcome))) refl e
+    by_steps (Ok false) er e = absurd (reached_in_set tables p position v by er)
+    by_steps (Err fault) er e = absurd (cc)
+
+    step : (t : Bool) → cond t (Ok (towards outcome (zeroing outcome))) (by_moves tables reach p v outcome) ≡ Ok x → x ≡ towards outcome (zeroing outcome)
+    step true e = one_ok (towards outcome (zeroing outcome)) x (Ok (towards outcome (zeroing outcome))) refl e
+    step false e = by_steps (pawns_reach_where (wdl_of tables) p v) refl (rw won at e)
+
 pub is_determined_reach : (tables : Tables) (p : Parts) → IsPosition p → IsDeterminedReach tables p (determined_reach tables p)
 unfolding determined_reach
 is_determined_reach tables p position = record {
   kept = kept;
   determined = λ d. told_in (dtz_of tables p) refl (nat_le (count_of_men p) 2) refl (agreed_distance tables p (extreme_weighed tables true p) (extreme_weighed tables false p)) refl d;
   fault_is = faulty (dtz_of tables p) refl (agreed_distance tables p (extreme_weighed tables true p) (extreme_weighed tables false p));
-  draw = λ is. told_by_value tables p position Draw is NoDistance (λ a b ea eb xa xb. refl) (λ w reach ew xw. refl) (λ f. refl) (nat_le (count_of_men p) 2) refl (dtz_of tables p) refl;
+  draw = λ is. told_by_value tables p position Draw is NoDistance (λ a b ea eb xa xb. refl) (λ w reach x ew xw e. one_ok NoDistance x (Ok NoDistance) refl e) (λ f. refl) (nat_le (count_of_men p) 2) refl (dtz_of tables p) refl;
   capture = by_capture;
+  pawn = by_pawn;
 }
   where
     kept : (d : Distance) → dtz_of tables p ≡ Ok d → or_agreed_distance (dtz_of tables p) (agreed_distance tables p (extreme_weighed tables true p) (extreme_weighed tables false p)) ≡ Ok d
@@ -426,13 +452,19 @@ is_determined_reach tables p position = record {
     by_capture v outcome is eo captures =
         told_by_value tables p position v is (towards outcome (zeroing outcome))
         (λ a b ea eb xa xb. rw (eo, captures (extreme tables true) a (extreme-completes tables true) xa, captures (extreme tables false) b (extreme-completes tables false) xb) refl)
-        (λ w reach ew xw. rw (eo, captures (extreme tables true) w (extreme-completes tables true) xw) refl)
-        (λ few. no_outcome few) (nat_le (count_of_men p) 2) refl (dtz_of tables p) refl
+        (λ w reach x ew xw e. one_ok (towards outcome (zeroing outcome)) x (Ok (towards outcome (zeroing outcome))) refl (rw (eo, captures (extreme tables true) w (extreme-completes tables true) xw) at e))
+        (no_outcome tables p position v outcome is eo) (nat_le (count_of_men p) 2) refl (dtz_of tables p) refl
+
+    by_pawn : (v : Wdl) (outcome : Outcome) → IsDetermined tables p v → outcome_of v ≡ Some outcome → is_won outcome ≡ true → IsByPawnMove tables p v
+        → or_agreed_distance (dtz_of tables p) (agreed_distance tables p (extreme_weighed tables true p) (extreme_weighed tables false p)) ≡ Ok (towards outcome (zeroing outcome))
+    by_pawn v outcome is eo won by =
+        told_by_value tables p position v is (towards outcome (zeroing outcome)) in_both_so (λ w reach x ew xw e. by_pawn_in_set tables p position v by outcome won w reach x ew (rw eo at e)) (no_outcome tables p position v outcome is eo) (nat_le (count_of_men p) 2) refl (dtz_of tables p) refl
       where
-        -- bare kings are a draw
-        no_outcome : nat_le (count_of_men p) 2 ≡ true → towards outcome (zeroing outcome) ≡ NoDistance
-        no_outcome few =
-            let bare : Ok v ≡ Ok Draw = sym (is (extreme tables true) (extreme-completes tables true)) ∙ where_meets_rule (extreme tables true) p position ∙ rw few refl in
-            let same : v ≡ Draw = cc in
-            let none : None ≡ Some outcome = ap outcome_of (sym same) ∙ eo in
-            absurd (cc)
+        either : (x y : Bool) → y ≡ true → cond (x || y) (Some (towards outcome (zeroing outcome))) None ≡ Some (towards outcome (zeroing outcome))
+        either true y e = refl
+        either false y e = rw e refl
+
+        in_both_so : (a b : Weighed) → worth a ≡ v → worth b ≡ v → extreme_weighed tables true p ≡ Ok a → extreme_weighed tables false p ≡ Ok b → zeroing_distance tables p a b (outcome_of v) ≡ Some (towards outcome (zeroing outcome))
+        in_both_so a b ea eb xa xb =
+            let reached : is_reached (pawns_reach_in_both tables p (worth a)) ≡ true = ap (λ (u : Wdl). is_reached (pawns_reach_in_both tables p u)) ea ∙ ap is_reached (reached_in_both tables p position v by) in
+            rw eo (either (is_by_capture a && is_by_capture b) (is_won outcome && is_reached (pawns_reach_in_both tables p (worth a))) (rw (won, reached) refl))

@@ -1,7 +1,10 @@
 -- Values and distances that are the same whatever the missing tables of a set hold.
-use Rattle.std.specs.Prelude.{◌≡◌, ◌≢◌, ℕ, ℤ, IsTrue, true, List, Some, Result, Ok, Err}
+use Rattle.std.specs.Prelude.{◌≡◌, ◌≢◌, ◌⊎◌, ℕ, ℤ, IsTrue, true, List, None, Some, Result, Ok, Err, filter}
+use Rattle.std.specs.List.{Contains}
 use Rattle.std.specs.Result.{is_ok}
 use Rattle.board_core.specs.declared.parts.Parts.{Parts}
+use Rattle.board_core.specs.declared.moves.Move.{Move}
+use Rattle.board_core.specs.ComputedMoves.{legal_moves, position_after}
 use Rattle.board_core.specs.Position.{IsPosition}
 use Rattle.table_file.specs.declared.kind.TableKind.TheVariants.{Dtz}
 use Rattle.table_file.specs.declared.outcome.Outcome.{Outcome}
@@ -17,11 +20,12 @@ use Rattle.judge_core.specs.declared.fault.ProbeFault.{ProbeFault}
 use Rattle.judge_core.specs.declared.fault.ProbeFault.TheVariants.{OutOfMemory}
 use Rattle.judge_core.specs.declared.probed.Probed.{Probed}
 use Rattle.judge_core.specs.declared.root_move.RootMove.{RootMove}
-use Rattle.judge_core.specs.Values.{Reading, outcome_of}
+use Rattle.judge_core.specs.Values.{Reading, is_winning, opposite, outcome_of}
 use Rattle.judge_core.specs.Tables.{Tables, table_at, table_value}
-use Rattle.judge_core.specs.Probing.{weighed_where, wdl_where, wdl_of}
-use Rattle.judge_core.specs.Distances.{Reach, is_by_capture, towards, zeroing, dtz_of}
-use Rattle.judge_core.specs.Answers.{IsProbe, signed_in}
+use Rattle.judge_core.specs.Asked.{fault_in}
+use Rattle.judge_core.specs.Probing.{after, weighed_where, wdl_where, wdl_of}
+use Rattle.judge_core.specs.Distances.{Reach, is_by_capture, is_pawn_step, is_won, towards, zeroing, dtz_of}
+use Rattle.judge_core.specs.Answers.{IsProbe, ListsMoves, signed_in}
 use Rattle.judge_core.specs.Probed.{numbered}
 use Rattle.judge_core.specs.Root.{IsRootBy}
 use Rattle.judge_core.specs.Ruling.{is_out_of_scope}
@@ -61,6 +65,18 @@ abbrev pub IsByCapture : Tables → Parts → Type 0
 IsByCapture tables p =
     (own : Parts → Reading) (w : Weighed) → IsCompletion tables own → weighed_where own (wdl_where own) p ≡ Ok w → is_by_capture w ≡ true
 
+-- A pawn move that takes nothing brings this value about in every completion, and the values after all such moves are there.
+pub record IsByPawnMove (tables : Tables) (p : Parts) (v : Wdl) : Type 0 where
+  pub step : Move
+  pub legal : Contains (legal_moves p) step
+  pub pawn : is_pawn_step p step ≡ true
+  pub next : Parts
+  pub leads : position_after p step ≡ Some next
+  pub value : IsDetermined tables next (opposite v)
+  pub whole :
+      (own : Parts → Reading) → IsCompletion tables own
+      → fault_in (after (wdl_where own) p (filter (is_pawn_step p) (legal_moves p))) ≡ None
+
 -- ---- readings
 
 -- The value of the set, or else the one that is determined. There is none only where none is determined; then the fault is the
@@ -70,8 +86,8 @@ pub record IsDeterminedReading (tables : Tables) (p : Parts) (reading : Reading)
   pub determined : (v : Wdl) → reading ≡ Ok v → IsDetermined tables p v
   pub fault_is : (fault : ValueFault) → reading ≡ Err fault → (wdl_of tables p ≡ Err fault) × IsUndetermined tables p
 
--- The distance of the set, or else one that is determined, at least where the value is a draw or by a capture. Else the fault
--- is the set's.
+-- The distance of the set, or else one that is determined, at least where the value is a draw, by a capture, or a win by a pawn
+-- move. Else the fault is the set's.
 pub record IsDeterminedReach (tables : Tables) (p : Parts) (reach : Reach) : Type 0 where
   pub kept : (d : Distance) → dtz_of tables p ≡ Ok d → reach ≡ Ok d
   pub determined : (d : Distance) → reach ≡ Ok d → IsDeterminedDistance tables p d
@@ -80,6 +96,24 @@ pub record IsDeterminedReach (tables : Tables) (p : Parts) (reach : Reach) : Typ
   pub capture :
       (v : Wdl) (outcome : Outcome) → IsDetermined tables p v → outcome_of v ≡ Some outcome → IsByCapture tables p
       → reach ≡ Ok (towards outcome (zeroing outcome))
+  pub pawn :
+      (v : Wdl) (outcome : Outcome) → IsDetermined tables p v → outcome_of v ≡ Some outcome → is_won outcome ≡ true
+      → IsByPawnMove tables p v → reach ≡ Ok (towards outcome (zeroing outcome))
+
+-- ---- lists of moves
+
+-- The set tells no distance, and the value is determined, a win, and not by a capture in every completion: only then the pawn
+-- moves are asked whether one wins.
+pub record AsksPawnMoves (tables : Tables) (p : Parts) : Type 0 where
+  pub lacking : (d : Distance) → dtz_of tables p ≢ Ok d
+  pub value : Wdl
+  pub is : IsDetermined tables p value
+  pub won : is_winning value ≡ true
+  pub no_capture : ¬ IsByCapture tables p
+
+-- moves are listed for the distance of the set, or for the pawn moves of a win that is determined
+abbrev pub ListsMovesDetermined : Tables → Parts → Type 0
+ListsMovesDetermined tables p = ListsMoves tables p ⊎ AsksPawnMoves tables p
 
 -- ---- answers
 
@@ -96,12 +130,13 @@ pub record IsDeterminedDtz (tables : Tables) (p : Parts) (dtz : Result ℤ Probe
   pub is : IsDeterminedReach tables p reach
   pub told : IsProbe dtz (is_out_of_scope p) (signed_in reach)
 
--- both, as numbers
+-- both, as numbers, and neither want of memory
 pub record AreDetermined (tables : Tables) (p : Parts) (probed : Probed) : Type 0 where
   pub wdl : Result Wdl ProbeFault
   pub dtz : Result ℤ ProbeFault
   pub wdl_is : IsDeterminedWdl tables p wdl
   pub dtz_is : IsDeterminedDtz tables p dtz
+  pub dtz_answered : dtz ≢ Err OutOfMemory
   pub told : probed ≡ record { wdl = numbered wdl; dtz = dtz }
 
 -- the root moves, by determined values and distances of the positions after them

@@ -17,4 +17,5 @@ pub mod Words
 pub mod Laws
 pub mod FiveRules
 pub mod RootLaws
+pub mod DeterminedLaws
 pub mod Inside

@@ -1,6 +1,7 @@
 -- The tables of a set, and the value that a position's own table has.
-use Rattle.std.specs.Prelude.{◌≡◌, ℕ, ◌+◌, ◌<◌, List, Option, Some, None, Ok, Err, slice_index_or, option_and_then}
+use Rattle.std.specs.Prelude.{◌≡◌, ℕ, ◌+◌, ◌<◌, max, List, fold, length, map, Option, Some, None, Ok, Err, slice_index_or, option_and_then}
 use Rattle.board_core.specs.declared.parts.Parts.{Parts}
+use Rattle.place_index.specs.Material.{men_of}
 use Rattle.place_index.specs.Shape.{Layout}
 use Rattle.place_index.specs.Index.{index_of}
 use Rattle.place_index.specs.Placed.{Placement}
@@ -34,6 +35,20 @@ AreFiled tables = (kind : TableKind) (key : ℕ) (t : Contents) → key < 145 �
 pub record Holding : Type 0 where
   pub tables : Tables
   pub cache : ℕ
+
+-- ---- men of tables
+
+-- the men of the table with this key, kings included
+abbrev pub men_count : ℕ → ℕ
+men_count key = 2 + length (men_of key).first + length (men_of key).second
+
+abbrev pub men_of_slot : Option Contents → ℕ
+men_of_slot None = 0
+men_of_slot (Some t) = men_count t.material
+
+-- the largest number of men of a table, 0 without one
+unfoldable pub largest_of : Tables → ℕ
+largest_of tables = fold max 0 (map men_of_slot tables)
 
 -- ---- table value
 

@@ -8,7 +8,7 @@
 ghost use Rattle.std.specs.Prelude.{◌≡◌, ◌≢◌, true, false};
 ghost use Rattle.board_core.specs.ComputedMoves.{legal_captures};
 ghost use Rattle.judge_core.specs.Determined.{IsDeterminedWdl};
-ghost use Rattle.judge_core.specs.Inside.Determined.{is_won_here, fill, in_stead, extreme, extreme_value, extreme_weighed, agreed, or_agreed, in_both, value_in_both, determined_value, value_as, step_value_as};
+ghost use Rattle.judge_core.specs.Inside.Determined.{is_won_here, fill, in_stead, extreme, extreme_value, extreme_weighed, agreed, value_of_both, or_agreed, in_both, value_in_both, determined_value, value_as, step_value_as};
 ghost use Rattle.judge_core.specs.Inside.Found.{found_in};
 
 use crate::fault::{ProbeFault, ValueFault};
@@ -166,7 +166,7 @@ impl<'a> Set<'a> {
         position: &Position,
         strict: &Result<Wdl, ValueFault>,
     ) -> Result<Wdl, ValueFault>
-        ensures is { result ≡ or_agreed strict.now (agreed (extreme_value self.old.tables true position.now) (extreme_value self.old.tables false position.now)) }
+        ensures is { result ≡ or_agreed strict.now (value_of_both self.old.tables position.now) }
         ensures unchanged { self.new ≡ self.old }
     {
         let fault = match strict {

@@ -1,10 +1,12 @@
 //! Distances that are the same whatever the missing tables hold.
 
-ghost use Rattle.std.specs.Prelude.{◌≡◌, ◌≤◌, true, false, IfOk, IfSome, OnErr};
+ghost use Rattle.std.specs.Prelude.{◌≡◌, ◌≤◌, ◌&&◌, true, false, Err, IfOk, IfSome, OnErr};
 ghost use Rattle.board_core.specs.Position.{IsPosition};
-ghost use Rattle.judge_core.specs.Determined.{AreDetermined, IsDeterminedDtz};
-ghost use Rattle.judge_core.specs.Distances.{dtz_of, plies};
-ghost use Rattle.judge_core.specs.Inside.Determined.{agreed_distance, determined_reach, determined_value, extreme_weighed, is_zeroing, or_agreed_distance, reach_as, value_as, zeroing_distance};
+ghost use Rattle.judge_core.specs.Answers.{ListsMoves};
+ghost use Rattle.judge_core.specs.Determined.{AreDetermined, IsDeterminedDtz, ListsMovesDetermined};
+ghost use Rattle.judge_core.specs.declared.fault.ProbeFault.TheVariants.{OutOfMemory};
+ghost use Rattle.judge_core.specs.Distances.{dtz_of, is_by_capture, is_won, plies};
+ghost use Rattle.judge_core.specs.Inside.Determined.{AskPawns, BothAskPawns, LackAndAsk, ListsMovesInside, determined_reach, determined_value, distance_in_both, is_zeroing, or_agreed_distance, reach_as, value_as, zeroing_distance};
 ghost use Rattle.judge_core.specs.Probing.{wdl_of, worth};
 ghost use Rattle.judge_core.specs.Ruling.{is_out_of_scope, ruling};
 ghost use Rattle.judge_core.specs.Tables.{AreFiled};
@@ -35,6 +37,8 @@ impl<'a> Set<'a> {
         outcome: Outcome,
     ) -> Result<bool, AllocError>
         ensures is { IfOk result (λ b. b ≡ is_zeroing self.old.tables position.now odd.now even.now outcome) }
+        ensures won { OnErr result (is_won outcome ≡ true) }
+        ensures no_capture { OnErr result ((is_by_capture odd.now && is_by_capture even.now) ≡ false) }
         ensures unchanged { self.new ≡ self.old }
     {
         if odd.is_by_capture() && even.is_by_capture() {
@@ -58,6 +62,7 @@ impl<'a> Set<'a> {
         even: &Weighed,
     ) -> Result<Option<Distance>, AllocError>
         ensures is { IfOk result (λ d. d ≡ zeroing_distance self.old.tables position.now odd.now even.now (outcome_of (worth odd.now))) }
+        ensures memory { OnErr result (AskPawns odd.now even.now) }
         ensures within { IfOk result (λ o. IfSome o (λ d. plies d ≤ 101)) }
         ensures unchanged { self.new ≡ self.old }
     {
@@ -77,7 +82,8 @@ impl<'a> Set<'a> {
         alloc: Global,
         position: &Position,
     ) -> Result<Option<Distance>, AllocError>
-        ensures is { IfOk result (λ d. d ≡ agreed_distance self.old.tables position.now (extreme_weighed self.old.tables true position.now) (extreme_weighed self.old.tables false position.now)) }
+        ensures is { IfOk result (λ d. d ≡ distance_in_both self.old.tables position.now) }
+        ensures memory { OnErr result (BothAskPawns self.old.tables position.now) }
         ensures within { IfOk result (λ o. IfSome o (λ d. plies d ≤ 101)) }
         ensures unchanged { self.new ≡ self.old }
     {
@@ -109,6 +115,7 @@ impl<'a> Set<'a> {
         requires within { IfOk strict.now.dtz (λ d. plies d ≤ 131173) }
         ensures wdl { IfOk result (λ r. r.wdl ≡ determined_value self.old.tables position.now) }
         ensures dtz { IfOk result (λ r. r.dtz ≡ determined_reach self.old.tables position.now) }
+        ensures memory { OnErr result (LackAndAsk self.old.tables position.now (dtz_of self.old.tables position.now)) }
         ensures within { IfOk result (λ r. IfOk r.dtz (λ d. plies d ≤ 131173)) }
         ensures unchanged { self.new ≡ self.old }
     {
@@ -125,7 +132,8 @@ impl<'a> Set<'a> {
         strict: &Result<Distance, ValueFault>,
     ) -> Result<Result<Distance, ValueFault>, AllocError>
         requires within { IfOk strict.now (λ d. plies d ≤ 131173) }
-        ensures is { IfOk result (λ r. r ≡ or_agreed_distance strict.now (agreed_distance self.old.tables position.now (extreme_weighed self.old.tables true position.now) (extreme_weighed self.old.tables false position.now))) }
+        ensures is { IfOk result (λ r. r ≡ or_agreed_distance strict.now (distance_in_both self.old.tables position.now)) }
+        ensures memory { OnErr result (LackAndAsk self.old.tables position.now strict.now) }
         ensures within { IfOk result (λ r. IfOk r (λ d. plies d ≤ 131173)) }
         ensures unchanged { self.new ≡ self.old }
     {
@@ -148,6 +156,7 @@ impl<'a> Set<'a> {
     ) -> Result<Readings, AllocError>
         ensures wdl { IfOk result (λ r. r.wdl ≡ value_as ask self.old.tables position.now) }
         ensures dtz { IfOk result (λ r. r.dtz ≡ reach_as ask self.old.tables position.now) }
+        ensures memory { OnErr result (ListsMovesInside self.old.tables position.now) }
         ensures within { IfOk result (λ r. IfOk r.dtz (λ d. plies d ≤ 131173)) }
         ensures unchanged { self.new ≡ self.old }
     {
@@ -161,11 +170,13 @@ impl<'a> Set<'a> {
     /// The distance of a position, as `dtz` gives it, or where that is a fault, one that is the same whatever the missing
     /// tables hold.
     ///
-    /// It tells the distance where the value is the same whatever they hold, and is a draw or by a capture. It may tell
-    /// that of a win by a pawn move, of which no clause speaks. No other missing table is made up for. Else the error is that of `dtz`. The set stays as it was but
-    /// for its cache.
+    /// It tells the distance where the value is the same whatever they hold, and is a draw, by a capture, or a win by a
+    /// pawn move. No other missing table is made up for. Else the error is that of `dtz`. `OutOfMemory` comes only where
+    /// memory for a list of moves is refused: where `dtz` reports it, and where the value is a win that is not by a
+    /// capture and `dtz` has a fault. The set stays as it was but for its cache.
     pub fn determined_dtz(&mut self, alloc: Global, position: &Position) -> Result<i32, ProbeFault>
         ensures answer { IsDeterminedDtz self.old.tables position.now result }
+        ensures memory { result ≡ Err OutOfMemory → ListsMovesDetermined self.old.tables position.now }
         ensures unchanged { self.new ≡ self.old }
     {
         if is_out_of_scope(position) {
@@ -191,6 +202,7 @@ impl<'a> Set<'a> {
         requires within { IfOk strict.now.dtz (λ d. plies d ≤ 131173) }
         ensures told { IfOk result (λ answers. AreDetermined self.old.tables position.now answers.probed) }
         ensures verdict { IfOk result (λ answers. answers.verdict ≡ ruling self.old.tables position.now) }
+        ensures memory { OnErr result (ListsMovesDetermined self.old.tables position.now) }
         ensures unchanged { self.new ≡ self.old }
     {
         match self.determine(alloc, position, strict) {
@@ -209,6 +221,7 @@ impl<'a> Set<'a> {
         requires scope { is_out_of_scope position.now ≡ false }
         ensures told { IfOk result (λ answers. AreDetermined self.old.tables position.now answers.probed) }
         ensures verdict { IfOk result (λ answers. answers.verdict ≡ ruling self.old.tables position.now) }
+        ensures memory { OnErr result (ListsMovesDetermined self.old.tables position.now) }
         ensures unchanged { self.new ≡ self.old }
     {
         match self.readings(alloc, position) {
@@ -220,8 +233,8 @@ impl<'a> Set<'a> {
     /// Both probes of the position, as `determined_wdl` and `determined_dtz` give them, and the verdict on it, as `judge`
     /// gives it: a verdict needs the tables themselves.
     ///
-    /// The error comes only where memory for a list of moves is refused, and the position is then in scope. The set
-    /// stays as it was but for its cache.
+    /// The error comes only where memory for a list of moves is refused. The position is then in scope, and
+    /// `determined_dtz` may report it there. The set stays as it was but for its cache.
     pub fn determined_answers(
         &mut self,
         alloc: Global,
@@ -229,7 +242,7 @@ impl<'a> Set<'a> {
     ) -> Result<Columns, AllocError>
         ensures told { IfOk result (λ answers. AreDetermined self.old.tables position.now answers.probed) }
         ensures verdict { IfOk result (λ answers. answers.verdict ≡ ruling self.old.tables position.now) }
-        ensures memory { OnErr result (is_out_of_scope position.now ≡ false) }
+        ensures memory { OnErr result ((is_out_of_scope position.now ≡ false) × ListsMovesDetermined self.old.tables position.now) }
         ensures filed { AreFiled self.old.tables }
         ensures unchanged { self.new ≡ self.old }
     {

@@ -1,6 +1,7 @@
 //! Laws over the definitions of specs/, for proofs above: each function carries one law and does nothing.
 
 ghost use Rattle.judge_core.specs.FiveRules.{DistanceByFiveRules};
+ghost use Rattle.judge_core.specs.DeterminedLaws.{CompletionsExist, DeterminedDistanceIsOne, DeterminedValueIsOne, FirstDeterminedMoveIsBest, FirstDeterminedMoveWinsWithinRule};
 ghost use Rattle.judge_core.specs.RootLaws.{FirstMoveIsBest, FirstMoveWinsWithinRule, FirstMoveKeepsTheValue, NearestWinIsTheDistance, NoCaptureIsBetter};
 ghost use Rattle.judge_core.specs.Laws.{WdlMeetsItsRule, DtzMeetsItsRules, GameHasOneOutcome, NoDelayIsTheRuling, FirstVerdictInWords, FirstVerdictLooksBack, IllegalStaysIllegal, OneMoveMore};
 
@@ -81,4 +82,30 @@ pub fn no_capture_is_better()
 /// one of them, whatever the bytes of the tables are.
 pub fn nearest_win_is_the_distance()
     ensures { NearestWinIsTheDistance }
+{}
+
+/// Every set can be completed by more tables.
+pub fn completions_exist()
+    ensures { CompletionsExist }
+{}
+
+/// A position has one determined value at most.
+pub fn determined_value_is_one()
+    ensures { DeterminedValueIsOne }
+{}
+
+/// A position has one determined distance at most.
+pub fn determined_distance_is_one()
+    ensures { DeterminedDistanceIsOne }
+{}
+
+/// The first of the determined root moves has a value wherever some move has one, and no move has a better one.
+pub fn first_determined_move_is_best()
+    ensures { FirstDeterminedMoveIsBest }
+{}
+
+/// Where some determined root move wins within the rule of fifty moves, the first one wins, and its distance is no
+/// greater number.
+pub fn first_determined_move_wins_within_rule()
+    ensures { FirstDeterminedMoveWinsWithinRule }
 {}

@@ -15,8 +15,9 @@
 //! (`dtz_of`), `Ends`, `Ruling`, `Games`, `Standings`, `Answers`, `Probed`, `Root`, `Determined`.
 //!
 //! - CLAIM: `Set::new`; `Set::add`, clauses `added`, `refused`, `duplicate`, `no_memory`; `Set::cache`, clause `is`;
-//!   `Set::kept_blocks`: a set holds a table for each kind and material. A second one is `Duplicate` and changes nothing; adding
-//!   never reports lack of memory. `kept_blocks` gives at most `cache`; no other clause speaks of kept blocks.
+//!   `Set::kept_blocks`; `Set::has`; `Set::largest`, clauses `is`, `few`: a set holds a table for each kind and material. A second one is `Duplicate`
+//!   and changes nothing; adding never reports lack of memory. `has` tells whether a table is there, `largest` the largest number
+//!   of men of one. `kept_blocks` gives at most `cache`; no other clause speaks of kept blocks.
 //! - CLAIM: `Set::wdl`, clauses `answer`, `unchanged`, `no_memory`; `laws::wdl_meets_its_rule`; `Set::wdl_each`, clauses `each`,
 //!   `probe`, `unchanged`: the WDL value is the definition's over whole expanded tables, a missing table before a damaged one,
 //!   and lack of memory is never reported; of many positions likewise, but the error of `wdl_each` has no cause.
@@ -43,11 +44,16 @@
 //!   better one. Where one wins within the rule of fifty moves, so does the first, at no greater distance. Where the tables agree
 //!   at a position (its value is the best of its moves), it keeps the value. Whatever the bytes of the tables are, no capture but
 //!   a mate is worth more than the position, and a win whose distance comes from quiet moves is as far as the nearest of these.
-//! - CLAIM: `Set::determined_wdl`, clauses `answer`, `unchanged`: the value that every completion of the missing WDL tables gives;
-//!   the strict fault exactly where none is given. Lack of memory is never reported.
-//! - CLAIM: `Set::determined_dtz`, clauses `answer`, `unchanged`; `Set::determined_answers`, clauses `told`, `verdict`, `memory`;
-//!   `Set::determined_root`, clauses `moves`, `memory`: a distance that every set with more tables gives, told at least where the
-//!   value is a draw or by a capture; both with the strict verdict; the root moves by these values.
+//! - CLAIM: `Set::determined_wdl`, clauses `answer`, `unchanged`; `laws::completions_exist`; `laws::determined_value_is_one`: the
+//!   value that every completion of the missing WDL tables gives; the strict fault exactly where none is given. Every set has a
+//!   completion, so there is one such value at most. Lack of memory is never reported.
+//! - CLAIM: `Set::determined_dtz`, clauses `answer`, `memory`, `unchanged`; `Set::determined_answers`, clauses `told`, `verdict`,
+//!   `memory`; `laws::determined_distance_is_one`: a distance that every set with more tables gives, and one at most,
+//!   told at least where the value is a draw, by a capture, or a win by a pawn move; both with the strict verdict. Lack of memory
+//!   is reported only where `dtz` reports it, or where the value is a win, not by a capture, whose strict distance is a fault.
+//! - CLAIM: `Set::determined_root`, clauses `moves`, `memory`; `laws::first_determined_move_is_best`;
+//!   `laws::first_determined_move_wins_within_rule`: the root moves by these values. The first has a value wherever one has, and
+//!   none a better one; where one wins within the rule of fifty moves, so does the first, at no greater distance.
 //! - CLAIM: `verdict_or_open`; `ProbeFault::name`; `Columns`, clause `output`; `Outcome`, clause `output`: as text.
 #![tactic(auto)]
 

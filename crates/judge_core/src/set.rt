@@ -1,15 +1,16 @@
 //! Sets of tables.
 
-ghost use Rattle.std.specs.Prelude.{◌≡◌, ◌≢◌, ◌↔◌, ◌≤◌, IfOk, IsSome, OnOk, OnErr, None, Some, Err, replicate, slice_set};
+ghost use Rattle.std.specs.Prelude.{◌≡◌, ◌≢◌, ◌↔◌, ◌≤◌, IfOk, IsSome, is_some, OnOk, OnErr, None, Some, Err, replicate, slice_set};
 ghost use Rattle.judge_core.specs.declared.fault.SetFault.TheVariants.{Duplicate, OutOfMemory};
-ghost use Rattle.judge_core.specs.Tables.{AreFiled, slot, table_at};
+ghost use Rattle.judge_core.specs.Tables.{AreFiled, largest_of, slot, table_at};
 
 use crate::blocks::Blocks;
 use crate::fault::SetFault;
 use crate::shelf::Shelf;
+use place_index::Material;
 use std::alloc::{AllocError, Global};
 use std::marker::Model;
-use table_file::Table;
+use table_file::{Table, TableKind};
 
 /// Opened tables, each found by its kind and its material without a search, and some of their blocks, decoded. It borrows the
 /// bytes of their files.
@@ -63,6 +64,21 @@ impl<'a> Set<'a> {
         ensures { result ≤ self.now.cache }
     {
         self.blocks.len()
+    }
+
+    /// Whether the set has a table of this kind for the material.
+    pub fn has(&self, kind: TableKind, material: Material) -> bool
+        ensures { result ≡ is_some (table_at self.now.tables kind material) }
+    {
+        self.shelf.has(kind, material)
+    }
+
+    /// The largest number of men of a table in the set, kings included, 0 without a table.
+    pub fn largest(&self) -> usize
+        ensures is { result ≡ largest_of self.now.tables }
+        ensures few { result ≤ 5 }
+    {
+        self.shelf.largest()
     }
 
     /// Adds a table. One that is refused is dropped, and the set stays as it was.

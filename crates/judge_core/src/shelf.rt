@@ -1,12 +1,12 @@
 //! Tables in their slots.
 
-ghost use Rattle.std.specs.Prelude.{◌≡◌, ◌≢◌, ◌↔◌, ◌<◌, ◌≤◌, IfNone, IfOk, IfSome, IsSome, OnOk, OnErr, None, Some, Err, replicate, slice_set};
+ghost use Rattle.std.specs.Prelude.{◌≡◌, ◌≢◌, ◌↔◌, ◌<◌, ◌≤◌, IfNone, IfOk, IfSome, IsSome, is_some, OnOk, OnErr, None, Some, Err, replicate, slice_set};
 ghost use Rattle.judge_core.specs.declared.fault.SetFault.TheVariants.{Duplicate, OutOfMemory};
 ghost use Rattle.judge_core.specs.Inside.Placing.{IsPartFor};
-ghost use Rattle.judge_core.specs.Tables.{AreFiled, slot, table_at};
+ghost use Rattle.judge_core.specs.Tables.{AreFiled, largest_of, men_count, men_of_slot, slot, table_at};
 
 use crate::fault::SetFault;
-use place_index::{Material, Placed};
+use place_index::{Material, Placed, tables_are_numbered};
 use std::alloc::{AllocError, Global};
 use std::marker::Model;
 use table_file::{Table, TableKind, TablePart};
@@ -49,6 +49,27 @@ pub(crate) fn slot(kind: TableKind, material: Material) -> usize
     }
 }
 
+/// The number of men of a table with this material.
+fn men_of(material: &Material) -> usize
+    ensures is { result ≡ men_count material.now }
+    ensures few { result ≤ 5 }
+{
+    tables_are_numbered();
+    let _key = material.key();
+    material.name().len() - 1
+}
+
+/// The number of men of the table in a slot, 0 for an empty one.
+fn men_in(slot: &Option<Table<'_>>) -> usize
+    ensures is { result ≡ men_of_slot slot.now }
+    ensures few { result ≤ 5 }
+{
+    match slot {
+        Some(table) => men_of(table.material()),
+        None => 0,
+    }
+}
+
 impl<'a> Shelf<'a> {
     /// A shelf without tables, for this many decoded blocks, 1 to 4096. The error comes where memory for its slots is
     /// refused.
@@ -73,6 +94,25 @@ impl<'a> Shelf<'a> {
         ensures filed { AreFiled self.now.tables }
     {
         self.cache
+    }
+
+    /// Whether there is a table of this kind for the material.
+    pub(crate) fn has(&self, kind: TableKind, material: Material) -> bool
+        ensures { result ≡ is_some (table_at self.now.tables kind material) }
+    {
+        self.tables[slot(kind, material)].is_some()
+    }
+
+    /// The largest number of men of a table, 0 without one.
+    pub(crate) fn largest(&self) -> usize
+        ensures is { result ≡ largest_of self.now.tables }
+        ensures few { result ≤ 5 }
+    {
+        let mut largest: usize = 0;
+        for table in &self.tables {
+            largest = largest.max(men_in(table));
+        }
+        largest
     }
 
     /// Puts a table into its slot.

@@ -1,5 +1,5 @@
 -- Boards whose WDL values are looked up side by side.
-use Rattle.std.proofs.Common.{◌≡◌, ◌<◌, ◌≤◌, ◌+◌, ◌-◌, ◌∙◌, ℕ, List, Result, length, get_or, map, set, take, drop, inl, sym, ap, subst, arith}
+use Rattle.std.proofs.Common.{◌≡◌, ◌<◌, ◌≤◌, ◌+◌, ◌-◌, ◌∙◌, ℕ, List, Result, length, get_or, set, drop, inl, sym, ap, subst, arith}
 use Rattle.std.specs.Prelude.{slice_range}
 use Rattle.std.proofs.lemmas.List.{get_or-map, get_or_default, get_or-drop, get_or-take, length-map, length-take-le, length-drop}
 use Rattle.judge_core.specs.declared.wdl.Wdl.{Wdl}

@@ -2,6 +2,7 @@ pub mod Adding
 pub mod Afters
 pub mod Batches
 pub mod Boards
+pub mod Holds
 pub mod Inside
 pub mod Missing
 pub mod Moves

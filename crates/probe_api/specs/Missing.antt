@@ -1,5 +1,5 @@
 -- The table that a probe misses.
-use Rattle.std.specs.Prelude.{◌≡◌, ◌⊎◌, ℕ, List, [], Result, Ok, Err}
+use Rattle.std.specs.Prelude.{◌⊎◌, ℕ, List, [], Result, Ok, Err}
 use Rattle.board_core.specs.declared.parts.Parts.{Parts}
 use Rattle.board_core.specs.declared.position.PositionFault.{PositionFault}
 use Rattle.board_core.specs.Position.{IsPosition, IsFirstFault}

@@ -17,8 +17,8 @@ use Rattle.table_file.specs.declared.fault.TableFault.TheVariants.{BadName, BadS
 use Rattle.judge_core.specs.declared.wdl.Wdl.{Wdl}
 use Rattle.judge_core.specs.declared.fault.ProbeFault.{ProbeFault}
 use Rattle.judge_core.specs.declared.fault.ProbeFault.TheVariants.{OutOfScope, NotCovered, Damaged, OutOfMemory as NoMemory}
-use Rattle.judge_core.specs.Answers.{IsProbe, ListsMoves, signed_in}
-use Rattle.judge_core.specs.Determined.{IsDeterminedWdl, IsDeterminedDtz}
+use Rattle.judge_core.specs.Answers.{IsProbe, ListsMoves, ListsMovesForVerdict, signed_in}
+use Rattle.judge_core.specs.Determined.{IsDeterminedWdl, IsDeterminedDtz, ListsMovesDetermined}
 use Rattle.judge_core.specs.Distances.{dtz_of}
 use Rattle.judge_core.specs.Probing.{wdl_of}
 use Rattle.judge_core.specs.Ruling.{is_out_of_scope, ruling}
@@ -88,7 +88,7 @@ pub record TellsDtz (tables : Tables) (p : Parts) (reply : Reply) : Type 0 where
 -- or the verdict, unless memory for a list of moves was refused
 pub record TellsVerdict (tables : Tables) (p : Parts) (reply : Reply) : Type 0 where
   pub told : reply ≢ refused 5 → reply ≡ told (pos (verdict_number (ruling tables p)))
-  pub memory : reply ≡ refused 5 → ListsMoves tables p
+  pub memory : reply ≡ refused 5 → ListsMovesForVerdict tables p
 
 -- the value that is the same whatever the missing tables hold, the set's own where it has one,
 pub record TellsDeterminedWdl (tables : Tables) (p : Parts) (reply : Reply) : Type 0 where
@@ -100,6 +100,7 @@ pub record TellsDeterminedWdl (tables : Tables) (p : Parts) (reply : Reply) : Ty
 pub record TellsDeterminedDtz (tables : Tables) (p : Parts) (reply : Reply) : Type 0 where
   pub dtz : Result ℤ ProbeFault
   pub is : IsDeterminedDtz tables p dtz
+  pub memory : dtz ≡ Err NoMemory → ListsMovesDetermined tables p
   pub told : reply ≡ probe_reply dtz
 
 abbrev pub Tells : Question → Tables → Parts → Reply → Type 0

@@ -62,6 +62,7 @@ pub record ArePutFirst (moves : List RootMove) (old : List PlainRootMove) (reply
 pub record PutsRoot (values : RootValues) (tables : Tables) (p : Parts) (old : List PlainRootMove) (reply : Reply) (new : List PlainRootMove) : Type 0 where
   pub outside : is_out_of_scope p ≡ true → reply ≡ refused 2
   pub moves : is_out_of_scope p ≡ false → reply ≢ refused 5 → (moves : List RootMove) × IsRootWith values tables p moves × ArePutFirst moves old reply new
+  pub memory : reply ≡ refused 5 → is_out_of_scope p ≡ false
   pub kept : reply.status ≢ 0 → new ≡ old
 
 -- those of the position that a text spells, or the first fault of the text

@@ -7,14 +7,14 @@
 //! Inside: `reply` and `naming` (statuses, their names, the version), `adding` (a table more), `asking` (values and verdicts),
 //! `batch` (of many boards), `board` (a position by `Position::from_sets`), `listing` and `plain_move` (legal moves), `game`
 //! (move by move, over `Standing`), `root` (legal moves by value), `after` (the board after a move), `missing` (a table's name),
-//! `text` (a text and a byte 0 into a caller's array).
+//! `holding` (which tables a set has), `text` (a text and a byte 0 into a caller's array).
 //!
-//! Definitions, in reading order: `Replies`, `Boards`, `Batches`, `Adding`, `Moves`, `Plays`, `Roots`, `Afters`, `Missing`, `Texts`, `Names`. It is tried by
-//! `tools/c_harness/run`, beside libfathom.
+//! Definitions, in reading order: `Replies`, `Boards`, `Batches`, `Adding`, `Moves`, `Plays`, `Roots`, `Afters`, `Missing`, `Holds`,
+//! `Texts`, `Names`. It is tried by `tools/c_harness/run`, beside libfathom.
 //!
 //! - CLAIM: `answer_text`, clauses `is`, `kept`; `answer_board`, clauses `is`, `kept`: of the position that a text spells or a
 //!   board shows, the WDL value, the DTZ value or the verdict of `judge_core`, or else the first fault. Lack of memory is never
-//!   reported of a WDL value. The set stays as it was.
+//!   reported of a WDL value, and of a distance or a verdict only where moves are listed for it. The set stays as it was.
 //! - CLAIM: `answer_boards`, clauses `is`, `lengths`, `refused`, `kept`: of many boards each reply is that of its board. The
 //!   status is 0 where there are as many replies as boards, and else 82, and none is written.
 //! - CLAIM: `add`, clause `is`: a file is added as the table that it is, or refused by its first fault or as one that is there; a
@@ -26,9 +26,11 @@
 //!   `Game::verdict`: a game goes on by its move, and its verdict is the first one of the whole game. A refusal leaves it as it
 //!   was. Status 5 comes only where a verdict lists moves.
 //! - CLAIM: `root_of_text`, clauses `is`, `kept`; `root_of_board`, clauses `is`, `kept`: the legal moves with value and distance, the
-//!   best first, where all fit into the caller's array; else it stays as it was.
+//!   best first, where all fit into the caller's array; else it stays as it was. Status 5 comes only at a position in scope.
 //! - CLAIM: `board_after`; `state_of_board`; `put_missing`, clauses `is`, `kept`: the board after a legal move, how a board stands,
 //!   and the name of the first table that its value lacks.
+//! - CLAIM: `has`; `largest`: whether a set has the table of a kind for a material that a text names, and the largest number of men
+//!   of a table in it.
 //! - CLAIM: `status_name`; `verdict_name`; `version`; `put_text`: names, the version, and a text in the caller's array.
 #![tactic(auto)]
 
@@ -38,6 +40,7 @@ mod asking;
 mod batch;
 mod board;
 mod game;
+mod holding;
 mod listing;
 mod missing;
 mod naming;
@@ -52,6 +55,7 @@ pub use asking::{Question, answer_board, answer_text};
 pub use batch::answer_boards;
 pub use board::Board;
 pub use game::{Game, begin_game, tell_numbers, tell_text};
+pub use holding::{has, largest};
 pub use listing::{moves_of_board, moves_of_text};
 pub use missing::put_missing;
 pub use naming::{status_name, verdict_name, version};

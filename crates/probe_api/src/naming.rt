@@ -1,8 +1,36 @@
 //! The names of statuses and of verdicts, and the version.
 
 ghost use Rattle.std.specs.Prelude.{◌≡◌};
-ghost use Rattle.probe_api.specs.Names.{status_name, verdict_name};
+ghost use Rattle.probe_api.specs.Names.{name_in, refusal_names, status_name, verdict_name};
 ghost use Rattle.probe_api.specs.Version.{version};
+
+/// The name of the fault of a table file, or of what a set, a buffer or a game refuses; nothing where no such status has this number.
+fn refusal_name(status: u32) -> &'static str
+    ensures { result.now ≡ name_in refusal_names status }
+{
+    match status {
+        64 => "BadName",
+        65 => "BadSize",
+        66 => "BadMagic",
+        67 => "BadFlags",
+        68 => "BadPieces",
+        69 => "BadOrder",
+        70 => "Truncated",
+        71 => "BadExponent",
+        72 => "BadCode",
+        73 => "BadSymbol",
+        74 => "BadSparse",
+        80 => "Duplicate",
+        81 => "BadCache",
+        82 => "LengthsDiffer",
+        83 => "NoRoom",
+        84 => "GameOver",
+        85 => "BadMove",
+        86 => "IllegalMove",
+        87 => "BadDelay",
+        _ => "",
+    }
+}
 
 /// The name of a status, without spaces; nothing where no status has this number.
 #[tactic(auto, unfolding(crate::specs::Names::status_name))]
@@ -30,26 +58,7 @@ pub fn status_name(status: u32) -> &'static str
         36 => "BadEnPassant",
         37 => "OpponentInCheck",
         38 => "BadCounter",
-        64 => "BadName",
-        65 => "BadSize",
-        66 => "BadMagic",
-        67 => "BadFlags",
-        68 => "BadPieces",
-        69 => "BadOrder",
-        70 => "Truncated",
-        71 => "BadExponent",
-        72 => "BadCode",
-        73 => "BadSymbol",
-        74 => "BadSparse",
-        80 => "Duplicate",
-        81 => "BadCache",
-        82 => "LengthsDiffer",
-        83 => "NoRoom",
-        84 => "GameOver",
-        85 => "BadMove",
-        86 => "IllegalMove",
-        87 => "BadDelay",
-        _ => "",
+        _ => refusal_name(status),
     }
 }
 

@@ -1,5 +1,5 @@
 -- The two completions between which all others lie, and what follows from both.
-use Rattle.std.specs.Prelude.{ℕ, ◌%◌, ◌==◌, Bool, true, false, not, ◌&&◌, ◌||◌, Option, Some, None, Result, Ok, Err, if◌then◌else◌}
+use Rattle.std.specs.Prelude.{◌≡◌, ◌⊎◌, ℕ, ◌%◌, ◌==◌, Bool, true, false, not, ◌&&◌, ◌||◌, Option, Some, None, Result, Ok, Err, if◌then◌else◌}
 use Rattle.board_core.specs.declared.parts.Parts.{Parts}
 use Rattle.board_core.specs.ComputedMoves.{count_of_men}
 use Rattle.table_file.specs.declared.outcome.Outcome.{Outcome}
@@ -15,6 +15,7 @@ use Rattle.judge_core.specs.declared.fault.ValueFault.TheVariants.{NotCovered, D
 use Rattle.judge_core.specs.Values.{Reading, is_same, opposite, outcome_of}
 use Rattle.judge_core.specs.Tables.{Tables, table_value}
 use Rattle.judge_core.specs.Probing.{weighed_where, wdl_where, wdl_of, worth}
+use Rattle.judge_core.specs.Answers.{ListsMoves}
 use Rattle.judge_core.specs.Distances.{Reach, is_by_capture, is_won, towards, zeroing, pawns_reach_where, dtz_of}
 
 -- ---- values
@@ -43,11 +44,15 @@ extreme_value tables odd_wins = wdl_where (extreme tables odd_wins)
 abbrev pub extreme_weighed : Tables → Bool → Parts → Result Weighed ValueFault
 extreme_weighed tables odd_wins p = weighed_where (extreme tables odd_wins) (extreme_value tables odd_wins) p
 
--- the value that both have
+-- the value that two readings have
 abbrev pub agreed : Reading → Reading → Option Wdl
 agreed (Ok u) (Ok v) = if is_same u v then Some u else None
 agreed (Ok u) (Err fault) = None
 agreed (Err fault) r = None
+
+-- the value that both have
+abbrev pub value_of_both : Tables → Parts → Option Wdl
+value_of_both tables p = agreed (extreme_value tables true p) (extreme_value tables false p)
 
 abbrev pub or_agreed : Reading → Option Wdl → Reading
 or_agreed (Ok v) other = Ok v
@@ -55,7 +60,7 @@ or_agreed (Err fault) None = Err fault
 or_agreed (Err fault) (Some v) = Ok v
 
 unfoldable pub determined_value : Tables → Parts → Reading
-determined_value tables p = or_agreed (wdl_of tables p) (agreed (extreme_value tables true p) (extreme_value tables false p))
+determined_value tables p = or_agreed (wdl_of tables p) (value_of_both tables p)
 
 -- ---- distances
 
@@ -89,13 +94,48 @@ agreed_distance tables p (Ok a) (Ok b) = if is_same (worth a) (worth b) then zer
 agreed_distance tables p (Ok a) (Err fault) = None
 agreed_distance tables p (Err fault) r = None
 
+-- the distance that both have
+abbrev pub distance_in_both : Tables → Parts → Option Distance
+distance_in_both tables p = agreed_distance tables p (extreme_weighed tables true p) (extreme_weighed tables false p)
+
 abbrev pub or_agreed_distance : Reach → Option Distance → Reach
 or_agreed_distance (Ok d) other = Ok d
 or_agreed_distance (Err fault) None = Err fault
 or_agreed_distance (Err fault) (Some d) = Ok d
 
 unfoldable pub determined_reach : Tables → Parts → Reach
-determined_reach tables p = or_agreed_distance (dtz_of tables p) (agreed_distance tables p (extreme_weighed tables true p) (extreme_weighed tables false p))
+determined_reach tables p = or_agreed_distance (dtz_of tables p) (distance_in_both tables p)
+
+-- ---- lists of moves
+
+-- a win, and not by a capture in both: only then the pawn moves are asked
+pub record AskPawns (a b : Weighed) : Type 0 where
+  pub outcome : Outcome
+  pub is : outcome_of (worth a) ≡ Some outcome
+  pub won : is_won outcome ≡ true
+  pub no_capture : (is_by_capture a && is_by_capture b) ≡ false
+
+-- what is weighed in both is there, and worth the same
+abbrev pub AgreedAskPawns : Result Weighed ValueFault → Result Weighed ValueFault → Type 0
+AgreedAskPawns (Ok a) (Ok b) = (worth a ≡ worth b) × AskPawns a b
+AgreedAskPawns (Ok a) (Err fault) = ⊥
+AgreedAskPawns (Err fault) r = ⊥
+
+abbrev pub is_lacking : Reach → Bool
+is_lacking (Ok d) = false
+is_lacking (Err fault) = true
+
+abbrev pub BothAskPawns : Tables → Parts → Type 0
+BothAskPawns tables p = AgreedAskPawns (extreme_weighed tables true p) (extreme_weighed tables false p)
+
+-- the set tells no distance, and the pawn moves are asked
+pub record LackAndAsk (tables : Tables) (p : Parts) (strict : Reach) : Type 0 where
+  pub lacking : is_lacking strict ≡ true
+  pub ask : BothAskPawns tables p
+
+-- ... of a position
+abbrev pub ListsMovesInside : Tables → Parts → Type 0
+ListsMovesInside tables p = ListsMoves tables p ⊎ LackAndAsk tables p (dtz_of tables p)
 
 -- ---- what is asked for
 

@@ -1,4 +1,4 @@
-use Rattle.std.proofs.Common.{rules, arith}
+use Rattle.std.proofs.Common.{arith}
 use Rattle.json_lines.proofs.Pieces.{plain_more}
 use Rattle.json_lines.proofs.text.are_plain.Goals as goal
 

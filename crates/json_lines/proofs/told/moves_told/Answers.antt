@@ -1,6 +1,5 @@
-use Rattle.std.proofs.Common.{◌≡◌, ◌∙◌, ◌∷◌, ◌++◌, [], subst}
+use Rattle.std.proofs.Common.{◌∙◌, subst}
 use Rattle.judge_core.specs.Tables.{Holding}
-use Rattle.json_lines.specs.declared.told.MoveTold.{MoveTold}
 use Rattle.json_lines.specs.Told.{IsMoveTold}
 use Rattle.json_lines.proofs.Playing.{all_are_told, one_more_told, playable_at}
 use Rattle.json_lines.proofs.told.moves_told.Goals as goal

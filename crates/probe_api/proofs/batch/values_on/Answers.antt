@@ -1,6 +1,5 @@
-use Rattle.std.proofs.Common.{◌≡◌, ◌∙◌, List, map, sym, ap}
+use Rattle.std.proofs.Common.{◌∙◌, map, sym, ap}
 use Rattle.std.proofs.lemmas.Simd.{map-map}
-use Rattle.board_core.specs.declared.parts.Parts.{Parts}
 use Rattle.judge_core.specs.Answers.{wdl_answer}
 use Rattle.probe_api.specs.Boards.{shown}
 use Rattle.probe_api.proofs.batch.values_on.Goals as goal

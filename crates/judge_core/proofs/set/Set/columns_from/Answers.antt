@@ -1,3 +1,5 @@
+use Rattle.std.proofs.Common.{inr}
+use Rattle.judge_core.proofs.AskedPawns.{asks}
 use Rattle.judge_core.proofs.ByReadings.{ruled_inside}
 use Rattle.judge_core.proofs.Told.{both_inside}
 use Rattle.judge_core.proofs.set.Set.columns_from.Goals as goal
@@ -9,3 +11,6 @@ returns-in-Ok-clause-told c =
 pub returns-in-Ok-clause-verdict : goal.returns-in-Ok-clause-verdict
 returns-in-Ok-clause-verdict c =
     ruled_inside c.args.self.now.tables c.args.position.now c.args.strict.now.wdl c.args.strict.now.dtz c.columns_telling.result.verdict c.requires.scope c.requires.wdl c.requires.dtz c.columns_telling.ensures.verdict
+
+pub returns-in-Err-clause-memory : goal.returns-in-Err-clause-memory
+returns-in-Err-clause-memory c = inr (asks c.args.self.now.tables c.args.position.now c.requires.position c.in-Err.ensures.memory)

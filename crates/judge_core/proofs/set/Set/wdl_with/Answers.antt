@@ -1,4 +1,4 @@
-use Rattle.std.proofs.Common.{◌≡◌, ◌∙◌, sym, ap, refl}
+use Rattle.std.proofs.Common.{◌∙◌, sym, ap, refl}
 use Rattle.judge_core.specs.Answers.{wdl_answer}
 use Rattle.judge_core.specs.Probing.{wdl_of, weighed_by}
 use Rattle.judge_core.proofs.Looking.{answered}
