@@ -2,7 +2,7 @@
 use Rattle.std.proofs.Common.{◌≡◌, ◌<◌, ◌≤◌, ◌+◌, ◌-◌, ◌^◌, ℕ, suc, cond, Bool, true, false, not, List, [], ◌∷◌, ◌++◌, length, arith, refl, sym, ap, subst, ◌∙◌, append_assoc}
 use Rattle.std.specs.Prelude.{◌==◌}
 use Rattle.std.proofs.lemmas.List.{length-append, length-drop}
-use Rattle.std.specs.List.{AllByRecursion, after_first, before_first, onto_first, position_or_len, slice_split}
+use Rattle.std.specs.List.{AllByRecursion, Contains, after_first, before_first, onto_first, position_or_len, slice_split}
 use Rattle.std.proofs.lemmas.List.Splits.{length-slice_split, slice_split_first, slice_split-cons_no}
 use Rattle.fen_text.specs.Cuts.{cut_at}
 use Rattle.adjudicate_core.specs.Addresses.{AreAddresses, IsAddress, addresses_of}
@@ -63,8 +63,8 @@ cut_more text rest more h is_more some = record { front = h.front ++ before_firs
 same_port : (text rest : List ℕ) → IsBehindColon text rest → (a : IsAddress text) → a.port ≡ rest
 same_port text rest h a = last_same a.front h.front a.port rest (sym a.parts ∙ h.parts)
 
-pub address_so : (text rest : List ℕ) (n : ℕ) → IsBehindColon text rest → 2 ≤ length text - length rest → IsNumber rest n → n < 2 ^ 16 → IsAddress text
-address_so text rest n h more is within = record { front = h.front; port = rest; number = n; parts = h.parts; host = (let w = h.within in omega (arith, more, w)); is = is; within = within }
+pub address_so : (text rest : List ℕ) (n : ℕ) → (Contains text 32 → ⊥) → IsBehindColon text rest → 2 ≤ length text - length rest → IsNumber rest n → n < 2 ^ 16 → IsAddress text
+address_so text rest n solid h more is within = record { solid = solid; front = h.front; port = rest; number = n; parts = h.parts; host = (let w = h.within in omega (arith, more, w)); is = is; within = within }
 
 pub not_long : (text rest : List ℕ) → IsBehindColon text rest → length text - length rest < 2 → IsAddress text → ⊥
 not_long text rest h short a = let host = a.host in let same : length a.port ≡ length rest = ap length (same_port text rest h a) in absurd (omega (arith, host, same, short))

@@ -25,3 +25,4 @@ is_simple name.Send = refl
 is_simple name.Enter = refl
 is_simple name.Host = refl
 is_simple name.Root = refl
+is_simple name.Follow = refl

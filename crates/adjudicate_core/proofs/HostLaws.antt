@@ -1,9 +1,10 @@
 -- What `host` leaves, by what is written.
-use Rattle.std.proofs.Common.{ℕ, List, [], ◌∷◌, subst, sym}
+use Rattle.std.proofs.Common.{◌≡◌, ℕ, List, [], ◌∷◌, inl, inr, subst, sym}
 use Rattle.std.specs.Prelude.{Result, Ok, Err, IfOk}
 use Rattle.std.specs.Io.KnownBytes.{Appends}
 use Rattle.std.proofs.KnownBytes.{Appends-nil, Appends-trans}
 use Rattle.move_msg.specs.TextLines.{ended, text_of}
+use Rattle.system_io.specs.Disks.{DiskFacts}
 use Rattle.system_io.specs.Ports.{PortFacts}
 use Rattle.system_io.specs.declared.output.WriteFault.{WriteFault}
 use Rattle.arbiter_server.specs.GoingOut.{GoOut, Writers}
@@ -13,9 +14,14 @@ use Rattle.arbiter_server.specs.Games.{CommonView}
 use Rattle.arbiter_server.specs.Hosts.{Hosts, all_lines}
 use Rattle.adjudicate_core.specs.declared.commands.host.HostGames.{HostGames}
 use Rattle.task_files.specs.Given.{Given}
-use Rattle.adjudicate_core.specs.Hostings.{BadTables, BindsAndHosts, Bound, Hosting, HostsAndWrites, HostsAt, HostsGames, HostsNow, NoAddress, NoRoom, NoRoomForGames, NoRoomForLine, NoRoomToBind, Ready, Served, Unbound, Unready, common_for, seen_as, seen_by}
-use Rattle.adjudicate_core.specs.Lines.{ready_words}
+use Rattle.adjudicate_core.specs.Hostings.{BadTables, BindsAndHosts, Bound, Hosting, HostsAndWrites, HostsAt, HostsGames, HostsNow, NoAddress, NoFolder, NoRoom, NoRoomForGames, NoRoomForLine, NoRoomToBind, Ready, Served, Unbound, Unready, common_for, Seen, seen_as, seen_by}
+use Rattle.adjudicate_core.specs.Inside.HostingParts.{IsUnlisted}
+use Rattle.adjudicate_core.specs.Lines.{ready_words, refusal_words}
 use Rattle.adjudicate_core.specs.Listens.{Hosted}
+use Rattle.adjudicate_core.specs.Looks.{gathered}
+use Rattle.adjudicate_core.specs.Telling.{TellsIf}
+use Rattle.adjudicate_core.specs.declared.refusals.Refusal.{Refusal}
+use Rattle.judge_core.specs.Tables.{Holding}
 
 -- lines that went out were appended
 lines_written : {W : Type 0} (w : Writers W) (out now : W) (lines : List (List ℕ)) → GoOut w out lines now → Appends (w.written out) (w.written now) (text_of lines)
@@ -54,11 +60,18 @@ module _ {P F K W : Type 0} (folders : List ℕ → Keepers K) (host : Hosted P 
   bound_done t out out' (NoRoomToBind why told) = NoRoomToBind why told
   bound_done t out out' (Bound port port' bound each run) = Bound port port' bound each (at_done t port (host.port port') out out' run)
 
-  all_done : (given : Given) (out out' : W) → HostsGames host (seen_by folders w (Ok status)) h given out out' (Ok status) → HostsGames host (seen_as folders (Ok status)) h given (w.written out) (w.written out') (Ok status)
-  all_done given out out' (BadTables words refused told) = BadTables words refused told
-  all_done given out out' (NoRoom told) = NoRoom told
-  all_done given out out' (Hosting set tables manifest is run) = Hosting set tables manifest is (bound_done (common_for h set manifest) out out' run)
+  all_done : (disk : DiskFacts) (given : Given) (out out' : W) → HostsGames disk host (seen_by folders w (Ok status)) h given out out' (Ok status) → HostsGames disk host (seen_as folders (Ok status)) h given (w.written out) (w.written out') (Ok status)
+  all_done disk given out out' (BadTables words refused told) = BadTables words refused told
+  all_done disk given out out' (NoFolder set tables fails told) = NoFolder set tables fails told
+  all_done disk given out out' (NoRoom told) = NoRoom told
+  all_done disk given out out' (Hosting set tables names lists manifest is run) = Hosting set tables names lists manifest is (bound_done (common_for h set manifest) out out' run)
 
-pub hosted_games : {P F K W : Type 0} (folders : List ℕ → Keepers K) (host : Hosted P F) (w : Writers W) (out out' : W) (h : HostGames) (given : Given) (r : Result ℕ WriteFault) → HostsGames host (seen_by folders w r) h given out out' r → IfOk r (λ status. HostsGames host (seen_as folders (Ok status)) h given (w.written out) (w.written out') (Ok status))
-hosted_games folders host w out out' h given (Ok status) run = all_done folders host w status h given out out' run
-hosted_games folders host w out out' h given (Err fault) run = tt
+pub hosted_games : {P F K W : Type 0} (disk : DiskFacts) (folders : List ℕ → Keepers K) (host : Hosted P F) (w : Writers W) (out out' : W) (h : HostGames) (given : Given) (r : Result ℕ WriteFault) → HostsGames disk host (seen_by folders w r) h given out out' r → IfOk r (λ status. HostsGames disk host (seen_as folders (Ok status)) h given (w.written out) (w.written out') (Ok status))
+hosted_games disk folders host w out out' h given (Ok status) run = all_done folders host w status h disk given out out' run
+hosted_games disk folders host w out out' h given (Err fault) run = tt
+
+-- a folder of games that isn't listed
+pub unlisted : {P F T : Type 0} (disk : DiskFacts) (host : Hosted P F) (seen : Seen T) (h : HostGames) (given : Given) (old new : T) (r : Result ℕ WriteFault) (refusal : Refusal) (set : Holding) → Ok set.tables ≡ gathered given → IsUnlisted disk h.games.now refusal
+    → TellsIf (refusal_words refusal) (seen.written old) (seen.written new) r → HostsGames disk host seen h given old new r
+unlisted disk host seen h given old new r refusal set tables (inl (is, fails)) told = NoFolder set tables fails (subst (λ x. TellsIf (refusal_words x) (seen.written old) (seen.written new) r) is told)
+unlisted disk host seen h given old new r refusal set tables (inr is) told = NoRoom (subst (λ x. TellsIf (refusal_words x) (seen.written old) (seen.written new) r) is told)

@@ -6,6 +6,7 @@ pub mod TextLaws
 pub mod ShowLaws
 pub mod ScheduleLaws
 pub mod HostLaws
+pub mod InputLaws
 pub mod KeyLaws
 pub mod LookLaws
 pub mod MisuseLaws

@@ -1,6 +1,6 @@
 -- Addresses in one word (this project's own).
 use Rattle.std.specs.Prelude.{◌≡◌, ◌<◌, ◌+◌, ◌++◌, ◌^◌, ℕ, List, [], ◌∷◌, length}
-use Rattle.std.specs.List.{AllByRecursion}
+use Rattle.std.specs.List.{AllByRecursion, Contains}
 use Rattle.fen_text.specs.Cuts.{cut_at}
 use Rattle.adjudicate_core.specs.Numbers.{IsNumber}
 
@@ -8,8 +8,10 @@ use Rattle.adjudicate_core.specs.Numbers.{IsNumber}
 abbrev pub addresses_of : List ℕ → List (List ℕ)
 addresses_of = cut_at 44
 
--- an address: behind its last colon is a port, a number from 0 to 65535, and before that colon something stands, the host
+-- an address: no space stands in it; behind its last colon is a port, a number from 0 to 65535, and before that colon something stands,
+-- the host
 pub record IsAddress (text : List ℕ) : Type 0 where
+  pub solid : Contains text 32 → ⊥
   pub front : List (List ℕ)
   pub port : List ℕ
   pub number : ℕ

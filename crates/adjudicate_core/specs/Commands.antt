@@ -2,6 +2,7 @@
 pub mod Audit
 pub mod Check
 pub mod Enter
+pub mod Follow
 pub mod Game
 pub mod Host
 pub mod Judge

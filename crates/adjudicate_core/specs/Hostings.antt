@@ -7,7 +7,7 @@ use Rattle.move_msg.specs.Files.{entries_of}
 use Rattle.move_msg.specs.Manifests.{SpellsManifest}
 use Rattle.move_msg.specs.Senders.{who_number}
 use Rattle.move_msg.specs.TextLines.{ended, text_of}
-use Rattle.system_io.specs.Disks.{DiskFacts}
+use Rattle.system_io.specs.Disks.{AtFolder, DiskFacts}
 use Rattle.system_io.specs.Failures.{Risen}
 use Rattle.system_io.specs.Hosts.{HostFacts}
 use Rattle.system_io.specs.KeptFiles.{KeptFacts}
@@ -30,7 +30,7 @@ use Rattle.adjudicate_core.specs.Lines.{ready_words}
 use Rattle.adjudicate_core.specs.Listens.{Hosted, LacksRoomToBind, hosted}
 use Rattle.adjudicate_core.specs.Looks.{gathered}
 use Rattle.adjudicate_core.specs.Telling.{TellsIf}
-use Rattle.line_teller.specs.ToldLines.{refused_memory}
+use Rattle.line_teller.specs.ToldLines.{refused_files, refused_memory}
 
 -- what the games have in common
 abbrev pub common_for : HostGames → Holding → List ℕ → CommonView
@@ -89,11 +89,12 @@ pub data BindsAndHosts {P F T : Type 0} (host : Hosted P F) (seen : Seen T) (h :
   NoRoomToBind : LacksRoomToBind host.host h.bind.now h.to.now → TellsIf refused_memory (seen.written old) (seen.written new) r → BindsAndHosts host seen h t old new r
   Bound : (port port' : P) → host.host.binds h.bind.now (addresses_of h.to.now) port → (host.port port).addresses ≡ length (addresses_of h.to.now) → HostsAt host seen h t port (host.port port') old new r → BindsAndHosts host seen h t old new r
 
--- hosting: a table is refused; or else what follows, with the manifest of the tables' files
-pub data HostsGames {P F T : Type 0} (host : Hosted P F) (seen : Seen T) (h : HostGames) (given : Given) (old new : T) (r : Result ℕ WriteFault) : Type 0 where
-  BadTables : (words : List ℕ) → gathered given ≡ Err words → TellsIf words (seen.written old) (seen.written new) r → HostsGames host seen h given old new r
-  NoRoom : TellsIf refused_memory (seen.written old) (seen.written new) r → HostsGames host seen h given old new r
-  Hosting : (set : Holding) → Ok set.tables ≡ gathered given → (manifest : List ℕ) → SpellsManifest manifest (entries_of given.files) → BindsAndHosts host seen h (common_for h set manifest) old new r → HostsGames host seen h given old new r
+-- hosting: a table is refused; or else the folder of games can't be listed; or else what follows, with the manifest of the tables' files
+pub data HostsGames {P F T : Type 0} (disk : DiskFacts) (host : Hosted P F) (seen : Seen T) (h : HostGames) (given : Given) (old new : T) (r : Result ℕ WriteFault) : Type 0 where
+  BadTables : (words : List ℕ) → gathered given ≡ Err words → TellsIf words (seen.written old) (seen.written new) r → HostsGames disk host seen h given old new r
+  NoFolder : (set : Holding) → Ok set.tables ≡ gathered given → disk.fails (AtFolder h.games.now) → TellsIf refused_files (seen.written old) (seen.written new) r → HostsGames disk host seen h given old new r
+  NoRoom : TellsIf refused_memory (seen.written old) (seen.written new) r → HostsGames disk host seen h given old new r
+  Hosting : (set : Holding) → Ok set.tables ≡ gathered given → (names : List (List ℕ)) → disk.lists h.games.now names → (manifest : List ℕ) → SpellsManifest manifest (entries_of given.files) → BindsAndHosts host seen h (common_for h set manifest) old new r → HostsGames disk host seen h given old new r
 
 -- ---- with the writer
 
@@ -124,4 +125,4 @@ abbrev pub BindsAndWrites : {D H P F W : Type 0} → Around P F W → HostPlan D
 BindsAndWrites a h out out' r = BindsAndHosts a.host (writing a r) h.task.now (common_with h.config h.tables) out out' r
 
 abbrev pub HostsAndTells : {P F W : Type 0} → Around P F W → HostGames → Given → W → W → Result ℕ WriteFault → Type 0
-HostsAndTells a h given out out' r = HostsGames a.host (writing a r) h given out out' r
+HostsAndTells a h given out out' r = HostsGames a.disk a.host (writing a r) h given out out' r

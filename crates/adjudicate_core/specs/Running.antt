@@ -36,11 +36,11 @@ use Rattle.adjudicate_core.specs.Commands.Probes as of_probes
 use Rattle.adjudicate_core.specs.TableAnswers.{PutsByTables}
 use Rattle.json_lines.specs.Ask.{ask_of}
 use Rattle.adjudicate_core.specs.Commands.Root as roots
+use Rattle.adjudicate_core.specs.Commands.Follow as follows
 use Rattle.adjudicate_core.specs.Keys.{HasKeys, LacksKeys}
 use Rattle.sealed_port.specs.KeyedHosts.{keyed_host}
-use Rattle.sealed_port.specs.Sealing.{sealed_facts}
+use Rattle.sealed_port.specs.Sealing.{SealedView, sealed_facts}
 use Rattle.sealed_port.specs.declared.seal_port.Keys.{Keys}
-use Rattle.sealed_port.specs.declared.seal_port.Sealed.{Sealed}
 use Rattle.adjudicate_core.specs.Reply.{AnswersOnce, AnswersRead, IsText}
 use Rattle.adjudicate_core.specs.Telling.{TellsOne}
 use Rattle.adjudicate_core.specs.Tasks.{IsTask, IsMisuse, NamesNone, key_in, named_in}
@@ -76,8 +76,9 @@ AnswersFrom disk source host (task.Audit t) given old new status = AnswersOnce (
 AnswersFrom disk source host (task.Version t) given old new status = versions.Answers old new status
 AnswersFrom disk source host (task.Send t) given old new status = Sends disk source host t old new (Ok status)
 AnswersFrom disk source host (task.Enter t) given old new status = Enters disk host t old new (Ok status)
-AnswersFrom disk source host (task.Host t) given old new status = HostsGames host (seen_hosting (disk_keepers disk host.host host.file) (Ok status)) t given old new (Ok status)
+AnswersFrom disk source host (task.Host t) given old new status = HostsGames disk host (seen_hosting (disk_keepers disk host.host host.file) (Ok status)) t given old new (Ok status)
 AnswersFrom disk source host (task.Root t) given old new status = roots.Puts t.json (ask_of t.determined) source t.fen given old new status
+AnswersFrom disk source host (task.Follow t) given old new status = follows.Puts source t given old new status
 
 -- to a task the program answers from what it reads; or something that it reads for it can't be read; or memory was refused while
 -- it read
@@ -87,7 +88,7 @@ pub data AnswersTask {P F : Type 0} (out : Outside P F) (t : Task) (old new : Op
   NoMemory : TakesMemory out.source (named_in t) → TellsOne refused_memory old new status → AnswersTask out t old new status
 
 -- the same with a host whose ports seal by these keys
-abbrev pub sealed_by : {P F : Type 0} → Keys → Outside P F → Outside (Sealed P) F
+abbrev pub sealed_by : {P F : Type 0} → Keys → Outside P F → Outside (SealedView P) F
 sealed_by keys out = outside out.disk out.source (keyed_host keys out.host.host) (sealed_facts out.host.port) out.host.file
 
 -- To a task that names no file of keys the program answers with the host as it is. To one that does it answers with that host's ports

@@ -17,6 +17,7 @@ use Rattle.adjudicate_core.specs.Commands.Send as sends
 use Rattle.adjudicate_core.specs.Commands.Enter as enters
 use Rattle.adjudicate_core.specs.Commands.Host as hosts
 use Rattle.adjudicate_core.specs.Commands.Root as roots
+use Rattle.adjudicate_core.specs.Commands.Follow as follows
 use Rattle.adjudicate_core.specs.Commands.Record as records
 use Rattle.adjudicate_core.specs.Commands.Audit as audits
 use Rattle.adjudicate_core.specs.Commands.Version as versions
@@ -50,6 +51,7 @@ word_of name.Send = codes "send"
 word_of name.Enter = codes "enter"
 word_of name.Host = codes "host"
 word_of name.Root = codes "root"
+word_of name.Follow = codes "follow"
 
 -- what it is given
 abbrev pub rules_of : Name → List Rule
@@ -70,6 +72,7 @@ rules_of name.Send = sends.rules
 rules_of name.Enter = enters.rules
 rules_of name.Host = hosts.rules
 rules_of name.Root = roots.rules
+rules_of name.Follow = follows.rules
 
 -- what may be wrong with its values, in the order in which it is told
 abbrev pub faults_of : Name → List Fault
@@ -90,6 +93,7 @@ faults_of name.Send = sends.faults
 faults_of name.Enter = enters.faults
 faults_of name.Host = hosts.faults
 faults_of name.Root = roots.faults
+faults_of name.Follow = follows.faults
 
 -- ---- by the task
 
@@ -111,6 +115,7 @@ name_of (task.Send t) = name.Send
 name_of (task.Enter t) = name.Enter
 name_of (task.Host t) = name.Host
 name_of (task.Root t) = name.Root
+name_of (task.Follow t) = name.Follow
 
 -- it has these values of its command's arguments
 abbrev pub HasValues : (Text → Option Text) → Task → Type 0
@@ -131,6 +136,7 @@ HasValues value (task.Send t) = sends.HasValues value t
 HasValues value (task.Enter t) = enters.HasValues value t
 HasValues value (task.Host t) = hosts.HasValues value t
 HasValues value (task.Root t) = roots.HasValues value t
+HasValues value (task.Follow t) = follows.HasValues value t
 
 -- what is read for it
 abbrev pub named_in : Task → Named
@@ -151,6 +157,7 @@ named_in (task.Send t) = sends.named
 named_in (task.Enter t) = enters.named
 named_in (task.Host t) = hosts.named t
 named_in (task.Root t) = roots.named t
+named_in (task.Follow t) = follows.named t
 
 -- the file of keys that it names, if it does
 abbrev pub key_in : Task → Option Text
@@ -178,6 +185,7 @@ tells_progress (task.Send t) = false
 tells_progress (task.Enter t) = false
 tells_progress (task.Host t) = false
 tells_progress (task.Root t) = false
+tells_progress (task.Follow t) = false
 
 -- ---- words
 

@@ -1,6 +1,7 @@
 //! Addresses in one word.
 
-ghost use Rattle.std.specs.Prelude.{◌≡◌, ◌<◌, ◌^◌, ℕ, [], ◌∷◌, length, map, false, IfNone, IfOk, IfSome, IsTrue};
+ghost use Rattle.std.specs.Prelude.{◌≡◌, ◌↔◌, ◌<◌, ◌^◌, ℕ, [], ◌∷◌, length, map, false, IfNone, IfOk, IfSome, IsTrue};
+ghost use Rattle.std.specs.List.{Contains};
 ghost use Rattle.adjudicate_core.specs.Addresses.{AreAddresses, IsAddress, addresses_of};
 ghost use Rattle.adjudicate_core.specs.Inside.Behind.{IsBehindColon};
 ghost use Rattle.adjudicate_core.specs.Numbers.{IsNumber};
@@ -54,11 +55,21 @@ fn port_of(text: &str) -> Option<u16>
     }
 }
 
+/// Whether a space stands in a text.
+fn has_space(text: &str) -> bool
+    ensures { IsTrue result ↔ Contains text.now 32 }
+{
+    text.as_bytes().contains(&b' ')
+}
+
 /// Whether a text is an address.
 fn is_address(text: &str) -> bool
     ensures some { IsTrue result → IsAddress text.now }
     ensures none { result ≡ false → IsAddress text.now → ⊥ }
 {
+    if has_space(text) {
+        return false;
+    }
     let port = behind_colon(text);
     if text.len() - port.len() < 2 {
         return false;

@@ -12,6 +12,7 @@ ghost use Rattle.adjudicate_core.specs.Tasks.{IsReadAs, IsTask, IsMisuse, IsTake
 mod audit;
 mod check;
 mod enter;
+mod follow;
 mod game;
 mod host;
 mod judge;
@@ -32,6 +33,7 @@ pub use audit::Audit;
 pub use check::Check;
 use clap::{Arg, ArgAction, ArgMatches, Command};
 pub use enter::Enter;
+pub use follow::Follow;
 pub use game::FollowGame;
 pub use host::HostGames;
 pub use judge::Judge;
@@ -86,6 +88,8 @@ pub enum Task<'a> {
     Host(HostGames<'a>),
     /// The legal moves of a position by their values in the tables.
     Root(Root<'a>),
+    /// The game of the input, ply by ply.
+    Follow(Follow<'a>),
 }
 
 /// The commands.
@@ -125,6 +129,8 @@ pub enum Name {
     Host,
     /// Ranks legal moves by tables.
     Root,
+    /// Judges a game ply by ply.
+    Follow,
 }
 
 /// How a command gets a value. Whether it is required isn't said here: the command requires it.
@@ -169,6 +175,7 @@ impl Name {
             "enter" => Some(Name::Enter),
             "host" => Some(Name::Host),
             "root" => Some(Name::Root),
+            "follow" => Some(Name::Follow),
             _ => None,
         }
     }
@@ -195,6 +202,7 @@ impl Name {
             Name::Enter => "enter",
             Name::Host => "host",
             Name::Root => "root",
+            Name::Follow => "follow",
         }
     }
 
@@ -220,6 +228,7 @@ impl Name {
             Name::Enter => &enter::VALUES,
             Name::Host => &host::VALUES,
             Name::Root => &root::VALUES,
+            Name::Follow => &follow::VALUES,
         }
     }
 }
@@ -333,6 +342,10 @@ fn task_of<'a>(name: Name, matches: &ArgMatches<'a>) -> Result<Task<'a>, ValueFa
             Ok(task) => Ok(Task::Root(task)),
             Err(fault) => Err(fault),
         },
+        Name::Follow => match Follow::of(matches) {
+            Ok(task) => Ok(Task::Follow(task)),
+            Err(fault) => Err(fault),
+        },
     }
 }
 
@@ -359,6 +372,7 @@ impl<'a> Task<'a> {
             Task::Enter(task) => task.places(),
             Task::Host(task) => task.places(),
             Task::Root(task) => task.places(),
+            Task::Follow(task) => task.places(),
         }
     }
 }

@@ -1,7 +1,8 @@
 //! Arbiters of any number of games, from their words to their status.
 
-ghost use Rattle.std.specs.Prelude.{◌≡◌};
+ghost use Rattle.std.specs.Prelude.{◌≡◌, IfErr, IfOk, List, ℕ};
 ghost use Rattle.adjudicate_core.specs.Hostings.{BindsAndWrites, HostsAndTells, WritesAt, WritesNow, around, around_of};
+ghost use Rattle.adjudicate_core.specs.Inside.HostingParts.{IsUnlisted};
 
 use crate::binding::bind;
 use crate::commands::HostGames;
@@ -12,7 +13,7 @@ use crate::tables::gather;
 use arbiter_server::{DiskGames, Server, ServerConfig, put_line};
 use judge_core::Set;
 use std::alloc::Global;
-use system_io::{BindFault, Disk, Host, Output, WriteFault};
+use system_io::{BindFault, Disk, Host, Output, ReadFault, WriteFault};
 use task_files::Sources;
 
 /// What games are hosted from: the words, how the server is set up, its tables, and where the files are.
@@ -87,10 +88,22 @@ fn bind_and_serve<D: Disk, H: Host, W: Output>(
     }
 }
 
+/// Lists a folder of games, whose names aren't used: what can't be listed is no such folder.
+fn list_games<D: Disk>(alloc: Global, disk: &D, folder: &str) -> Result<(), Refusal>
+    ensures ok { IfOk result (λ _. (names : List (List ℕ)) × (D.facts disk.now).lists folder.now names) }
+    ensures err { IfErr result (IsUnlisted (D.facts disk.now) folder.now) }
+{
+    match disk.names(alloc, folder) {
+        Ok(_names) => Ok(()),
+        Err(ReadFault::Unreadable) => Err(Refusal::Files),
+        Err(ReadFault::OutOfMemory) => Err(Refusal::Memory),
+    }
+}
+
 /// Answers the datagrams of any number of games as the words say, each by the arbiter of its game, and tells the status.
 ///
 /// The first line is `ready` and the address at which datagrams come, when that is bound; then a line for each datagram, as
-/// `arbiter_server::Server::serve` has it. What is refused is told in one line, in this order: the tables, and the address. Where memory
+/// `arbiter_server::Server::serve` has it. What is refused is told in one line, in this order: the tables, the folder of games, and the address. Where memory
 /// is refused the line is `refused memory`. The error comes only where the writer failed.
 pub fn host_games<'a, D: Disk, H: Host, W: Output>(
     alloc: Global,
@@ -107,6 +120,10 @@ pub fn host_games<'a, D: Disk, H: Host, W: Output>(
         Ok(Err(refusal)) => return put_refusal(out, refusal),
         Err(_) => return put_refusal(out, Refusal::Memory),
     };
+    match list_games(alloc, disk, task.games) {
+        Ok(()) => {}
+        Err(refusal) => return put_refusal(out, refusal),
+    }
     let manifest = match manifest_for(alloc, sources) {
         Ok(manifest) => manifest,
         Err(_) => return put_refusal(out, Refusal::Memory),

@@ -29,9 +29,9 @@
 //! - CLAIM: `run`, clause `runs`: `listen` refuses its start, its tables, its address and its kept file in this order, and
 //!   nothing passes at the port before an arbiter is opened; with `--ready` the line `ready ADDR` is written first. That each
 //!   line has gone out before the next is in the contract of the private `listen` alone.
-//! - CLAIM: `run`, clause `runs`: `host` refuses its tables and its address in this order; then the line `ready ADDR` is written,
-//!   and the games of its folder are hosted by acts as `Server::serve` has them. That each line has gone out before the next is
-//!   in the contract of the private `host_games` alone.
+//! - CLAIM: `run`, clause `runs`: `host` refuses its tables, its folder of games where it can't be listed, and its address in this
+//!   order; then the line `ready ADDR` is written, and the games of its folder are hosted by acts as `Server::serve` has them. That
+//!   each line has gone out before the next is in the contract of the private `host_games` alone.
 //! - CLAIM: `run`, clause `runs`: `enter` refuses its start, its manifest and its file in this order; else the game's text is in
 //!   the file of its stamp, and each later start finds it. After a failed write a start finds what was there or the text.
 //! - CLAIM: `run_program`: with `--key` the ports of `listen`, `host` and `send` are sealed by the keys of the file, and all else
@@ -39,6 +39,9 @@
 //!   most 130 bytes (`Disk::read_with_mode` of system_io); its group or others have some right; its first malformed line.
 //! - CLAIM: `run`, clause `runs`: `--json` of `probes` and `root` writes one object a line, and `--determined` tells the
 //!   determined values of judge_core in place of the strict ones.
+//! - CLAIM: `run`, clause `runs`: `follow` refuses the text of its start and its tables in this order; then each ply of the game is
+//!   told as `game_teller::follow_game` has it, by what `game` tells of the same moves. That each line has gone out before the next
+//!   move is awaited is in the contract of that function alone.
 //! - CLAIM: `CacheSize::of`, clauses `some`, `none`; `Delay::of`, clauses `some`, `none`: the numbers of `--cache` and `--delay`
 //!   are read exactly where they are decimal digits, perhaps after a plus, in their range.
 #![tactic(auto)]
@@ -66,8 +69,8 @@ mod uses;
 mod values;
 
 pub use commands::{
-    Audit, Check, Enter, FollowGame, Form, HostGames, Judge, List, Listen, Moves, Name, Probe,
-    Probes, Root, RunSchedule, Send, Show, ShowRecord, Task, Value, Version, parse,
+    Audit, Check, Enter, Follow, FollowGame, Form, HostGames, Judge, List, Listen, Moves, Name,
+    Probe, Probes, Root, RunSchedule, Send, Show, ShowRecord, Task, Value, Version, parse,
 };
 pub use game_name::GameName;
 pub use numbers::{CacheSize, Delay};

@@ -69,6 +69,7 @@ fn answer_given<D: Disk, I: Input, H: Host, W: Output, E: Output>(
         Task::Enter(task) => enter(alloc, task, disk, host, out),
         Task::Host(task) => host_games(alloc, task, sources, disk, host, out),
         Task::Root(task) => task.answer(alloc, sources, input, out, errors),
+        Task::Follow(task) => task.answer(alloc, sources, input, out),
     }
 }
 
@@ -110,12 +111,21 @@ fn run_by_key<D: Disk, I: Input, H: Host, W: Output, E: Output>(
     match task.key() {
         None => run_task(alloc, task, disk, input, host, out, errors),
         Some(path) => match keys_at(alloc, disk, path) {
-            Ok(keys) => {
+            Ok(Ok(keys)) => {
                 let keyed = Keyed::over(host, keys);
                 run_task(alloc, task, disk, input, &keyed, out, errors)
             }
-            Err(refusal) => put_refusal(out, refusal),
+            Ok(Err(refusal)) => put_refusal(out, refusal),
+            Err(_) => put_refusal(out, Refusal::Memory),
         },
+    }
+}
+
+/// The first word, or an empty one.
+fn first_of<'a>(words: &[&'a str]) -> &'a str {
+    match words {
+        [word, ..] => *word,
+        [] => "",
     }
 }
 
@@ -125,11 +135,11 @@ fn run_by_key<D: Disk, I: Input, H: Host, W: Output, E: Output>(
 /// manifest, for `show`, `run` and `game` the input, to its end, and for `record` and `audit` kept files. What can't be read or has
 /// more than 2^30 bytes, a kept file more than 8217, is told as `refused files`. `list` and `check` hold one file at a time, and so
 /// does `send`. Before that the keys of `listen`, `host` and `send` are read, where a file of keys is named: what is refused of it is
-/// told before all else. `probes` and `send` read the input line by line, and answer each line as it comes. `listen` and `send` open a port;
+/// told before all else. `probes`, `follow` and `send` read the input line by line, and answer each line as it comes. `listen` and `send` open a port;
 /// only `listen` writes a kept file, and `enter` a game's file.
 ///
 /// Answers go to `out`. For a misuse one line on `errors` says what is wrong, followed by the usage. A request for help
-/// gets the usage alone. The progress of a task with `--progress` goes there too, and nothing else. A failure of
+/// gets the usage alone, after a command that of the command. The progress of a task with `--progress` goes there too, and nothing else. A failure of
 /// `errors` changes nothing. The error comes only where `out` failed.
 pub fn run<D: Disk, I: Input, H: Host, W: Output, E: Output>(
     alloc: Global,
@@ -147,7 +157,7 @@ pub fn run<D: Disk, I: Input, H: Host, W: Output, E: Output>(
         Ok(task) => run_by_key(alloc, &task, disk, input, host, out, errors),
         Err(Usage::OutOfMemory) => put_refusal(out, Refusal::Memory),
         Err(Usage::Misuse(misuse)) => {
-            tell_misuse(alloc, errors, &misuse);
+            tell_misuse(alloc, errors, &misuse, first_of(words));
             Ok(2)
         }
     }
@@ -200,7 +210,7 @@ pub fn run_program<D: Disk, I: Input, H: Host, W: Output, E: Output>(
             Err(_) => refuse_memory(out),
         },
         Err(WordsFault::NoText(word)) => {
-            tell_misuse(alloc, errors, &Misuse::NoText(word.as_slice()));
+            tell_misuse(alloc, errors, &Misuse::NoText(word.as_slice()), "");
             Ok(2)
         }
         Err(WordsFault::OutOfMemory) => refuse_memory(out),

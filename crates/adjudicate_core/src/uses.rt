@@ -8,7 +8,7 @@ ghost use Rattle.adjudicate_core.specs.Uses.{GoesOut, TellsMisuse, is_plain, sho
 
 use crate::usage::{Misuse, ValueFault};
 use clap::error::ErrorKind;
-use std::alloc::Global;
+use std::alloc::{AllocError, Global};
 use system_io::{Output, WriteFault};
 
 /// The usage: all command lines.
@@ -21,6 +21,7 @@ const USAGE: &str = "usage: adjudicate judge [--tables DIR] [--manifest FILE] FE
        adjudicate probes --tables DIR [--manifest FILE] [--json] [--determined] [--progress]
        adjudicate root --tables DIR [--manifest FILE] [--json] [--determined] [FEN]
        adjudicate game [--tables DIR] [--manifest FILE] [--delay N] FEN
+       adjudicate follow [--tables DIR] [--manifest FILE] [--delay N] FEN
        adjudicate run [--tables DIR] [--cache N] [--delay N]
        adjudicate listen --name N --start FEN --tables DIR --me M --bind ADDR --to ADDR[,ADDR] --kept FILE
                          [--datagrams N] [--delay N] [--fetch] [--ready] [--key FILE]
@@ -134,15 +135,65 @@ fn put_line<E: Output>(
     }
 }
 
-/// Writes the usage.
-fn tell_usage<E: Output>(errors: &mut E)
+/// Writes a text of the usage.
+fn tell_text<E: Output>(errors: &mut E, text: &str)
     ensures { (usage : List ℕ) × GoesOut E.facts E.contents errors.old errors.new usage }
 {
-    match put(errors, USAGE.as_bytes()) {
+    match put(errors, text.as_bytes()) {
         Ok(()) => {
             let _out = errors.flush_all().is_ok();
         }
         Err(_) => {}
+    }
+}
+
+/// Writes the usage.
+fn tell_usage<E: Output>(errors: &mut E)
+    ensures { (usage : List ℕ) × GoesOut E.facts E.contents errors.old errors.new usage }
+{
+    tell_text(errors, USAGE)
+}
+
+/// Whether a line of the usage is of this command. A line without a command is of that of the line before.
+fn is_of(line: &str, command: &str, before: bool) -> bool {
+    let Some((_indent, words)) = line.split_once("adjudicate ") else {
+        return before;
+    };
+    match words.split_once(' ') {
+        Some((name, _values)) => name == command,
+        None => words == command,
+    }
+}
+
+/// A line of the usage from its command on; all of a line without one.
+fn from_command(line: &str) -> &str {
+    match line.split_once("adjudicate ") {
+        Some((indent, _words)) => line.strip_prefix(indent).unwrap_or(line),
+        None => line,
+    }
+}
+
+/// The lines of the usage for a command.
+fn usage_of(alloc: Global, command: &str) -> Result<String, AllocError> {
+    let mut usage = String::from_str(alloc, "usage: ")?;
+    let mut is_its = false;
+    for line in USAGE.lines() {
+        is_its = is_of(line, command, is_its);
+        if is_its {
+            usage.push_str(from_command(line))?;
+            usage.push_str("\n")?;
+        }
+    }
+    Ok(usage)
+}
+
+/// Writes the usage of a command, or all of it where memory for that is refused.
+fn tell_usage_of<E: Output>(alloc: Global, errors: &mut E, command: &str)
+    ensures { (usage : List ℕ) × GoesOut E.facts E.contents errors.old errors.new usage }
+{
+    match usage_of(alloc, command) {
+        Ok(usage) => tell_text(errors, usage.as_str()),
+        Err(_) => tell_usage(errors),
     }
 }
 
@@ -189,11 +240,17 @@ fn tell_fault<E: Output>(errors: &mut E, fault: &ValueFault<'_>)
     }
 }
 
-/// Writes the fault of the words in one line, and the usage. For a request for help it writes the usage alone.
+/// Writes the fault of the words in one line, and the usage. For a request for help it writes the usage alone, after a command
+/// that of the command.
 ///
 /// A byte outside those from the space to the tilde is printed by its number, as `\x0a`, and so is a backslash. All of
 /// it is flushed. A failure of `errors` changes nothing.
-pub(crate) fn tell_misuse<E: Output>(alloc: Global, errors: &mut E, misuse: &Misuse<'_>)
+pub(crate) fn tell_misuse<E: Output>(
+    alloc: Global,
+    errors: &mut E,
+    misuse: &Misuse<'_>,
+    command: &str,
+)
     ensures { TellsMisuse E.facts E.contents errors.old errors.new misuse.now }
 {
     match misuse {
@@ -202,7 +259,7 @@ pub(crate) fn tell_misuse<E: Output>(alloc: Global, errors: &mut E, misuse: &Mis
         Misuse::NoText(word) => tell_line(errors, "no text ", word, ""),
         Misuse::UnknownCommand(word) => tell_line(errors, "no command ", word.as_bytes(), ""),
         Misuse::Refused(error) => match error.kind() {
-            ErrorKind::DisplayHelp => tell_usage(errors),
+            ErrorKind::DisplayHelp => tell_usage_of(alloc, errors, command),
             _ => tell_refused(alloc, errors, error),
         },
         Misuse::Value(fault) => tell_fault(errors, fault),

@@ -175,7 +175,7 @@ unfolding lines_in
 no_lines = refl
 
 -- one line of a text was read
-read_one : (text : List ℕ) (mid : Option (List ℕ)) (line : List ℕ) → ReadsLine (Some text) mid line → (rest : List ℕ) × (mid ≡ Some rest) × (lines_in text ≡ line ∷ lines_in rest)
+pub read_one : (text : List ℕ) (mid : Option (List ℕ)) (line : List ℕ) → ReadsLine (Some text) mid line → (rest : List ℕ) × (mid ≡ Some rest) × (lines_in text ≡ line ∷ lines_in rest)
 read_one text None line h = absurd h.taken
 read_one text (Some rest) line h = (
   rest,
@@ -187,7 +187,7 @@ read_one text (Some rest) line h = (
 )
 
 -- the first lines of a text were read
-read_front : (text : List ℕ) (lines : List (List ℕ)) (now : Option (List ℕ)) → AreRead (Some text) lines now → (rest : List ℕ) × (now ≡ Some rest) × (lines_in text ≡ lines ++ lines_in rest)
+pub read_front : (text : List ℕ) (lines : List (List ℕ)) (now : Option (List ℕ)) → AreRead (Some text) lines now → (rest : List ℕ) × (now ≡ Some rest) × (lines_in text ≡ lines ++ lines_in rest)
 unfolding AreRead
 read_front text [] now h = (text, h, refl)
 read_front text (line ∷ lines) now (mid, first, others) =

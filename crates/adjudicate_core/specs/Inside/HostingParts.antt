@@ -1,7 +1,10 @@
 -- The words of `host`, part by part; cited by private functions alone.
-use Rattle.std.specs.Prelude.{◌≡◌, ℕ, List, Option, Some, codes}
+use Rattle.std.specs.Prelude.{◌≡◌, ◌⊎◌, ℕ, List, Option, Some, codes}
 use Rattle.clap.specs.Words.{Text}
 use Rattle.move_msg.specs.declared.who.Who.{Who}
+use Rattle.system_io.specs.Disks.{AtFolder, DiskFacts}
+use Rattle.adjudicate_core.specs.declared.refusals.Refusal.{Refusal}
+use Rattle.adjudicate_core.specs.declared.refusals.Refusal.TheVariants.{Files, Memory}
 use Rattle.adjudicate_core.specs.Addresses.{AreAddresses}
 use Rattle.adjudicate_core.specs.Numbers.{IsAtOnce, IsCache, IsDatagrams, IsMe}
 
@@ -12,3 +15,7 @@ AreEnds value games tables bind to =
 abbrev pub AreTerms : (Text → Option Text) → Who → ℕ → ℕ → ℕ → Type 0
 AreTerms value me at_once cache datagrams =
     IsMe (value (codes "me")) me × IsAtOnce (value (codes "at-once")) at_once × IsCache (value (codes "cache")) cache × IsDatagrams (value (codes "datagrams")) datagrams
+
+-- why a folder isn't listed: it can't be, or memory for its names was refused
+abbrev pub IsUnlisted : DiskFacts → List ℕ → Refusal → Type 0
+IsUnlisted disk folder refusal = ((refusal ≡ Files) × disk.fails (AtFolder folder)) ⊎ (refusal ≡ Memory)

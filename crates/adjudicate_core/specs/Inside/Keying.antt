@@ -1,11 +1,11 @@
--- Why there are no keys; cited by private functions alone.
-use Rattle.std.specs.Prelude.{◌≡◌, ◌⊎◌, ℕ, List}
+-- The keys of a file, or why there are none; cited by private functions alone.
+use Rattle.std.specs.Prelude.{ℕ, List, Result, Ok, Err}
+use Rattle.sealed_port.specs.declared.seal_port.Keys.{Keys}
 use Rattle.system_io.specs.Disks.{DiskFacts}
 use Rattle.adjudicate_core.specs.declared.refusals.Refusal.{Refusal}
-use Rattle.adjudicate_core.specs.declared.refusals.Refusal.TheVariants as refusal
-use Rattle.adjudicate_core.specs.Keys.{LacksKeys}
+use Rattle.adjudicate_core.specs.Keys.{HasKeys, LacksKeys}
 use Rattle.adjudicate_core.specs.Lines.{refusal_words}
 
--- memory was refused, or there are none
-abbrev pub LacksKeysOrRoom : DiskFacts → List ℕ → Refusal → Type 0
-LacksKeysOrRoom disk path r = (r ≡ refusal.Memory) ⊎ LacksKeys disk path (refusal_words r)
+abbrev pub GivesKeys : DiskFacts → List ℕ → Result Keys Refusal → Type 0
+GivesKeys disk path (Ok keys) = HasKeys disk path keys
+GivesKeys disk path (Err r) = LacksKeys disk path (refusal_words r)

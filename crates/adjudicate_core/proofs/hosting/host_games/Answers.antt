@@ -1,5 +1,6 @@
 use Rattle.std.proofs.Common.{sym}
 use Rattle.adjudicate_core.specs.Hostings.{BadTables, Hosting, NoRoom}
+use Rattle.adjudicate_core.proofs.HostLaws.{unlisted}
 use Rattle.adjudicate_core.proofs.hosting.host_games.Goals as goal
 
 pub returns-in-Ok-Err : goal.returns-in-Ok-Err
@@ -10,10 +11,15 @@ returns-in-Ok-Err g c =
 pub returns-in-Err : goal.returns-in-Err
 returns-in-Err g c = NoRoom c.put_refusal-in-Err.ensures
 
+pub returns-in-Err-list_games : goal.returns-in-Err-list_games
+returns-in-Err-list_games g c =
+    let tables = rw c.in-Ok-Ok.field-0-is at c.in-Ok-Ok.ensures in
+    unlisted _ _ _ _ _ _ _ _ c.in-Err-list_games.refusal c.in-Ok-Ok.tables tables c.in-Err-list_games.ensures.err c.put_refusal-in-Err-list_games.ensures
+
 pub returns-in-Err-manifest_for : goal.returns-in-Err-manifest_for
 returns-in-Err-manifest_for g c = NoRoom c.put_refusal-in-Err-manifest_for.ensures
 
 pub returns : goal.returns
 returns g c =
     let tables = rw c.in-Ok-Ok.field-0-is at c.in-Ok-Ok.ensures in
-    Hosting c.in-Ok-Ok.tables tables c.in-Ok.manifest.items c.in-Ok.ensures (rw c.deref.ensures.value at c.bind_and_serve.ensures)
+    Hosting c.in-Ok-Ok.tables tables c.in-Ok.ensures.ok.0 c.in-Ok.ensures.ok.1 c.in-Ok-manifest_for.manifest.items c.in-Ok-manifest_for.ensures (rw c.deref.ensures.value at c.bind_and_serve.ensures)

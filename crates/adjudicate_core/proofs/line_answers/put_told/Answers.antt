@@ -1,18 +1,11 @@
 use Rattle.std.proofs.Common.{ℕ, List, Option}
 use Rattle.std.proofs.lemmas.Result.{IfOk-weaker}
-use Rattle.system_io.specs.Inputs.{InputFacts}
-use Rattle.system_io.specs.LineReaders.{LineFacts}
 use Rattle.system_io.specs.declared.reading.ReadFault.{ReadFault}
-use Rattle.system_io.specs.declared.reading.ReadFault.TheVariants as read
-use Rattle.line_teller.specs.ToldLines.{LineTold, stops_by}
-use Rattle.adjudicate_core.specs.LineAnswers.{PutsLines, PutsSome, source_stops}
+use Rattle.line_teller.specs.ToldLines.{LineTold}
+use Rattle.adjudicate_core.specs.LineAnswers.{PutsLines, PutsSome}
 use Rattle.line_teller.proofs.TellLaws.{fails_so, same_if_known}
+use Rattle.adjudicate_core.proofs.InputLaws.{lines_stop}
 use Rattle.adjudicate_core.proofs.line_answers.put_told.Goals as goal
-
--- what stops the lines of an input stops it
-lines_stop : (lines : LineFacts) (source : InputFacts) → (lines.fails → source.fails) → (lines.takes_memory → source.takes_memory) → (fault : ReadFault) → stops_by lines fault → source_stops source fault
-lines_stop lines source fails room read.Unreadable h = fails h
-lines_stop lines source fails room read.OutOfMemory h = room h
 
 -- another reason for a failure
 puts_so : (Tells : List ℕ → LineTold → Type 0) (Takes : List ℕ → Type 0) (Now Fails : ReadFault → Type 0) (left old new : Option (List ℕ)) (status : ℕ) → ((fault : ReadFault) → Now fault → Fails fault) → PutsLines Tells Takes Now left old new status → PutsLines Tells Takes Fails left old new status

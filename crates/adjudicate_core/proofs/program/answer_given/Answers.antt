@@ -50,7 +50,10 @@ pub returns-in-Enter : goal.returns-in-Enter
 returns-in-Enter g c = record { answered = rw c.in-Enter.is (entered _ _ _ _ _ c.enter.result c.enter.ensures); quiet = λ unasked. refl }
 
 pub returns-in-Host : goal.returns-in-Host
-returns-in-Host g c = record { answered = rw c.in-Host.is (hosted_games _ _ _ _ _ _ _ c.host_games.result c.host_games.ensures); quiet = λ unasked. refl }
+returns-in-Host g c = record { answered = rw c.in-Host.is (hosted_games _ _ _ _ _ _ _ _ c.host_games.result c.host_games.ensures); quiet = λ unasked. refl }
 
 pub returns-in-Root : goal.returns-in-Root
 returns-in-Root g c = record { answered = rw c.in-Root.is c.answer-in-Root.ensures.written; quiet = λ unasked. c.answer-in-Root.ensures.quiet }
+
+pub returns-in-Follow : goal.returns-in-Follow
+returns-in-Follow g c = record { answered = rw c.in-Follow.is c.answer-in-Follow.ensures; quiet = λ unasked. refl }

@@ -1,9 +1,11 @@
-use Rattle.std.proofs.Common.{◌≡◌, ◌∙◌, Some, None, ap, refl, sym}
+use Rattle.std.proofs.Common.{◌≡◌, ◌∙◌, Some, None, ap, refl, subst, sym}
 use Rattle.std.specs.Prelude.{option_map}
 use Rattle.std.proofs.lemmas.Result.{IfOk-weaker}
-use Rattle.adjudicate_core.specs.Running.{Bare, BySeal}
+use Rattle.adjudicate_core.specs.Inside.Keying.{GivesKeys}
+use Rattle.adjudicate_core.specs.Lines.{refusal_words}
+use Rattle.adjudicate_core.specs.Running.{Bare, BySeal, NoKeys, NoRoomForKeys}
 use Rattle.adjudicate_core.specs.Tasks.{key_in}
-use Rattle.adjudicate_core.proofs.KeyLaws.{over_keyed, without_keys}
+use Rattle.adjudicate_core.proofs.KeyLaws.{over_keyed}
 use Rattle.adjudicate_core.proofs.program.run_by_key.Goals as goal
 
 pub returns-in-None : goal.returns-in-None
@@ -11,15 +13,30 @@ returns-in-None g c =
     let none : key_in c.args.task.now ≡ None = sym c.key.ensures ∙ ap (option_map (λ s. s.now)) c.in-None.is in
     record { answered = IfOk-weaker c.run_task.result _ _ (λ status h. Bare none h) c.run_task.ensures.answered; quiet = c.run_task.ensures.quiet }
 
-pub returns-in-Ok : goal.returns-in-Ok
-returns-in-Ok g c =
+pub returns-in-Ok-Ok : goal.returns-in-Ok-Ok
+returns-in-Ok-Ok g c =
     let named : key_in c.args.task.now ≡ Some c.in-Some.path.now = sym c.key.ensures ∙ ap (option_map (λ s. s.now)) c.in-Some.is in
+    let keys = c.in-Ok-Ok.keys in
+    let has = subst (GivesKeys (g.D.Disk.facts c.args.disk.now) c.in-Some.path.now) c.in-Ok-Ok.field-0-is c.in-Ok-Ok.ensures in
+    let over = over_keyed (g.D.Disk.facts c.args.disk.now) (g.I.Input.facts c.args.input.now) g.H.Host.facts g.H.Port.Port.facts g.H.File.KeptFile.facts c.args.host.now keys c.over-keyed.result in
     record {
-      answered = IfOk-weaker c.run_task-in-Ok.result _ _ (λ status h. BySeal c.in-Some.path.now named c.in-Ok.keys c.in-Ok.ensures.ok (over_keyed _ _ g.H.Host.facts g.H.Port.Port.facts g.H.File.KeptFile.facts c.args.host.now c.in-Ok.keys c.over-keyed.result _ _ _ _ c.over-keyed.ensures h)) c.run_task-in-Ok.ensures.answered;
-      quiet = c.run_task-in-Ok.ensures.quiet;
+      answered = IfOk-weaker c.run_task-in-Ok-Ok.result _ _ (λ status h. BySeal c.in-Some.path.now named keys has (over _ _ _ _ c.over-keyed.ensures h)) c.run_task-in-Ok-Ok.ensures.answered;
+      quiet = c.run_task-in-Ok-Ok.ensures.quiet;
+    }
+
+pub returns-in-Ok-Err : goal.returns-in-Ok-Err
+returns-in-Ok-Err g c =
+    let named : key_in c.args.task.now ≡ Some c.in-Some.path.now = sym c.key.ensures ∙ ap (option_map (λ s. s.now)) c.in-Some.is in
+    let lacks = subst (GivesKeys (g.D.Disk.facts c.args.disk.now) c.in-Some.path.now) c.in-Ok-Err.field-0-is c.in-Ok-Err.ensures in
+    record {
+      answered = IfOk-weaker c.put_refusal.result _ _ (λ status h. NoKeys c.in-Some.path.now named (refusal_words c.in-Ok-Err.refusal) lacks h) c.put_refusal.ensures;
+      quiet = λ unasked. refl;
     }
 
 pub returns-in-Err : goal.returns-in-Err
 returns-in-Err g c =
     let named : key_in c.args.task.now ≡ Some c.in-Some.path.now = sym c.key.ensures ∙ ap (option_map (λ s. s.now)) c.in-Some.is in
-    record { answered = IfOk-weaker c.put_refusal.result _ _ (λ status h. without_keys _ _ c.in-Some.path.now c.in-Err.refusal _ _ status named c.in-Err.ensures.err h) c.put_refusal.ensures; quiet = λ unasked. refl }
+    record {
+      answered = IfOk-weaker c.put_refusal-in-Err.result _ _ (λ status h. NoRoomForKeys c.in-Some.path.now named h) c.put_refusal-in-Err.ensures;
+      quiet = λ unasked. refl;
+    }

@@ -21,4 +21,4 @@ returns-in-UnknownCommand g c =
 
 pub returns-in-DisplayHelp : goal.returns-in-DisplayHelp
 returns-in-DisplayHelp g c =
-    rw c.in-Refused.is (usage_alone g.E.Output.facts g.E.Write.contents _ _ (misuse.Refused c.in-Refused.error) c.tell_usage-in-DisplayHelp.ensures (inl (search rules, refl)))
+    rw c.in-Refused.is (usage_alone g.E.Output.facts g.E.Write.contents _ _ (misuse.Refused c.in-Refused.error) c.tell_usage_of.ensures (inl (search rules, refl)))

@@ -41,3 +41,6 @@ returns-in-Root c = rw c.in-Root.is c.places-in-Root.ensures
 
 pub returns-in-Version : goal.returns-in-Version
 returns-in-Version c = rw c.in-Version.is c.places-in-Version.ensures
+
+pub returns-in-Follow : goal.returns-in-Follow
+returns-in-Follow c = rw c.in-Follow.is c.places-in-Follow.ensures

@@ -1,0 +1,2 @@
+pub mod FollowLaws
+pub mod AgreeLaws

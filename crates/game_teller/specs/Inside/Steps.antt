@@ -1,0 +1,76 @@
+-- One line of a game that is told ply by ply.
+use Rattle.std.specs.Prelude.{◌≡◌, ◌⊎◌, ◌++◌, ◌+◌, ℕ, List, [], ◌∷◌, Option, Some, None, Result, Ok, Err}
+use Rattle.std.specs.Io.KnownBytes.{Appends, IsAtEnd}
+use Rattle.board_core.specs.declared.parts.Parts.{Parts}
+use Rattle.board_core.specs.declared.moves.Move.{Move as Moves}
+use Rattle.board_core.specs.ComputedMoves.{position_after}
+use Rattle.board_core.specs.declared.verdict.Verdict.{Verdict}
+use Rattle.fen_text.specs.Coordinates.{SpellsMove}
+use Rattle.judge_core.specs.Answers.{ListsMovesForVerdict}
+use Rattle.judge_core.specs.Games.{Rules, verdict_after}
+use Rattle.judge_core.specs.Standings.{IsAt, Reached}
+use Rattle.judge_core.specs.Tables.{Tables}
+use Rattle.move_msg.specs.TextLines.{ended}
+use Rattle.system_io.specs.declared.reading.ReadFault.{ReadFault}
+use Rattle.system_io.specs.declared.reading.ReadFault.TheVariants as read
+use Rattle.system_io.specs.LineReaders.{ReadsLine}
+use Rattle.game_teller.specs.declared.lines.Stop.{Stop}
+use Rattle.game_teller.specs.declared.lines.Stop.TheVariants as stop
+use Rattle.game_teller.specs.declared.following.Step.{Step}
+use Rattle.game_teller.specs.declared.following.Step.TheVariants as step
+use Rattle.game_teller.specs.Plies.{ply_words, stop_words}
+
+-- why a line gives no position: it is no move, or no legal one
+abbrev pub IsNoNext : Parts → ℕ → List ℕ → Stop → Type 0
+IsNoNext p number line (stop.NotAMove place) = (place ≡ number) × ((m : Moves) → SpellsMove line m → ⊥)
+IsNoNext p number line (stop.Illegal place) = (place ≡ number) × ((m : Moves) × SpellsMove line m × (position_after p m ≡ None))
+IsNoNext p number line stop.Unread = ⊥
+IsNoNext p number line stop.OutOfMemory = ⊥
+
+-- the same, or memory for the verdict after its move was refused
+abbrev pub IsNoTurn : Tables → Parts → ℕ → List ℕ → Stop → Type 0
+IsNoTurn tables p number line (stop.NotAMove place) = IsNoNext p number line (stop.NotAMove place)
+IsNoTurn tables p number line (stop.Illegal place) = IsNoNext p number line (stop.Illegal place)
+IsNoTurn tables p number line stop.Unread = ⊥
+IsNoTurn tables p number line stop.OutOfMemory = (m : Moves) × (q : Parts) × SpellsMove line m × (position_after p m ≡ Some q) × ListsMovesForVerdict tables q
+
+-- the line spells a legal move, and after it the game stands so
+abbrev pub HasTurned : Tables → Reached → List ℕ → Reached → Type 0
+HasTurned tables old line new =
+    (m : Moves) × (p : Parts) × SpellsMove line m × (position_after old.position m ≡ Some p)
+    × ((rules : Rules) (moves : List Moves) → rules.tables ≡ tables → IsAt rules moves old → IsAt rules (moves ++ m ∷ []) new)
+
+abbrev pub Turns : {T : Type 0} → Tables → ℕ → Reached → List ℕ → Reached → Result T Stop → Type 0
+Turns tables number old line new (Ok x) = HasTurned tables old line new
+Turns tables number old line new (Err why) = IsNoTurn tables old.position number line why
+
+-- a verdict stands there by this delay
+abbrev pub HasVerdict : ℕ → Reached → Option Verdict → Type 0
+HasVerdict delay s verdict = (rules : Rules) (moves : List Moves) → rules.delay ≡ delay → IsAt rules moves s → verdict ≡ verdict_after rules moves
+
+-- where the game stands is told as the ply with this number
+abbrev pub PutsPly : ℕ → ℕ → Reached → Option (List ℕ) → Option (List ℕ) → Option Verdict → Type 0
+PutsPly delay number s old new verdict = HasVerdict delay s verdict × Appends old new (ended (ply_words number verdict s.position))
+
+-- what came of a line that was read
+abbrev pub LineSteps : Tables → ℕ → ℕ → Reached → List ℕ → Reached → Option (List ℕ) → Option (List ℕ) → Step → Type 0
+LineSteps tables delay number old line new out out' (step.Told verdict) = HasTurned tables old line new × PutsPly delay (number + 1) new out out' verdict
+LineSteps tables delay number old line new out out' step.Ended = ⊥
+LineSteps tables delay number old line new out out' step.Stopped = (why : Stop) × IsNoTurn tables old.position number line why × Appends out out' (ended (stop_words why))
+
+-- what an input tells of why no line is read
+abbrev pub stop_by : ReadFault → Stop
+stop_by read.Unreadable = stop.Unread
+stop_by read.OutOfMemory = stop.OutOfMemory
+
+-- what came of the next line
+abbrev pub Steps : (ReadFault → Type 0) → Tables → ℕ → ℕ → Option (List ℕ) → Option (List ℕ) → Reached → Reached → Option (List ℕ) → Option (List ℕ) → Step → Type 0
+Steps Stops tables delay number left now old new out out' (step.Told verdict) = (line : List ℕ) × ReadsLine left now line × HasTurned tables old line new × PutsPly delay (number + 1) new out out' verdict
+Steps Stops tables delay number left now old new out out' step.Ended = IsAtEnd left × (out' ≡ out)
+Steps Stops tables delay number left now old new out out' step.Stopped =
+    ((line : List ℕ) × (why : Stop) × ReadsLine left now line × IsNoTurn tables old.position number line why × Appends out out' (ended (stop_words why)))
+    ⊎ ((fault : ReadFault) × Stops fault × Appends out out' (ended (stop_words (stop_by fault))))
+
+-- the start is told, which has no verdict
+abbrev pub HasBegun : Rules → Reached → Option (List ℕ) → Option (List ℕ) → Type 0
+HasBegun rules s before out = IsAt rules [] s × (verdict_after rules [] ≡ None) × Appends before out (ended (ply_words 0 None s.position))

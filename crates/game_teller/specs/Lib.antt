@@ -1,0 +1,4 @@
+pub mod Plies
+pub mod Followings
+pub mod Agreements
+pub mod Inside

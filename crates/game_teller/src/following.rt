@@ -1,0 +1,256 @@
+//! A game that is told ply by ply as its moves come.
+
+ghost use Rattle.std.specs.Prelude.{◌≡◌, ◌≤◌, ◌<◌, ◌^◌, ◌-◌, IfErr, IfOk, List, OnOk, Option, Some, ℕ};
+ghost use Rattle.board_core.specs.ComputedMoves.{position_after};
+ghost use Rattle.board_core.specs.declared.moves.Move.{Move as Moves};
+ghost use Rattle.board_core.specs.Delays.{most_delay};
+ghost use Rattle.fen_text.specs.Coordinates.{SpellsMove};
+ghost use Rattle.judge_core.specs.Games.{Rules};
+ghost use Rattle.line_teller.specs.ToldLines.{TellsInTurn, stops_by};
+ghost use Rattle.system_io.specs.declared.reading.ReadFault.{ReadFault};
+ghost use Rattle.game_teller.specs.Agreements.{AgreesIfKnown};
+ghost use Rattle.game_teller.specs.Followings.{Follows, FollowsInTurn};
+ghost use Rattle.game_teller.specs.Inside.Steps.{HasBegun, IsNoNext, LineSteps, PutsPly, Steps, Turns, stop_by};
+
+use crate::lines::{Stop, put_ply_now, put_stop};
+use board_core::{Position, Verdict};
+use fen_text::laws::one_move;
+use fen_text::read_move;
+use judge_core::{Set, Standing};
+use std::alloc::Global;
+use system_io::{LineReader, Output, ReadFault, WriteFault};
+
+/// A game that is followed.
+#[derive(Drop)]
+struct Course<'a> {
+    /// The allocator.
+    alloc: Global,
+    /// The tables.
+    set: Set<'a>,
+    /// For how many further plies a verdict by tables must hold.
+    delay: u8,
+    /// Where the game stands.
+    standing: Standing,
+}
+
+/// What came of the next line.
+#[derive(Clone, Copy)]
+pub(crate) enum Step {
+    /// Its move is told, and this verdict of the ply that it leads to, if there is one.
+    Told(Option<Verdict>),
+    /// There is none.
+    Ended,
+    /// It isn't told, and nothing more is.
+    Stopped,
+}
+
+/// The position after the move of a line.
+fn next_position(line: &[u8], position: &Position, number: usize) -> Result<Position, Stop>
+    ensures ok { IfOk result (λ q. (m : Moves) × SpellsMove line.now m × (position_after position.now m ≡ Some q)) }
+    ensures err { IfErr result (IsNoNext position.now number line.now) }
+{
+    let read = read_move(line);
+    let Some(m) = &read else {
+        return Err(Stop::NotAMove(number));
+    };
+    match position.play(*m) {
+        Some(next) => Ok(next),
+        None => Err(Stop::Illegal(number)),
+    }
+}
+
+/// Why no line is read.
+fn stop_by(fault: ReadFault) -> Stop
+    ensures { result ≡ stop_by fault }
+{
+    match fault {
+        ReadFault::Unreadable => Stop::Unread,
+        ReadFault::OutOfMemory => Stop::OutOfMemory,
+    }
+}
+
+impl<'a> Course<'a> {
+    /// Plays the move of a line, and judges the ply that it leads to.
+    fn turn(&mut self, number: usize, line: &[u8]) -> Result<(), Stop>
+        ensures turns { Turns self.old.set.tables number self.old.standing line.now self.new.standing result }
+        ensures set { self.new.set ≡ self.old.set }
+        ensures delay { self.new.delay ≡ self.old.delay }
+    {
+        let position = match next_position(line, self.standing.position(), number) {
+            Ok(position) => position,
+            Err(stop) => return Err(stop),
+        };
+        match self.set.move_on(self.alloc, &self.standing, position) {
+            Ok(standing) => {
+                self.standing = standing;
+                Ok(())
+            }
+            Err(_) => Err(Stop::OutOfMemory),
+        }
+    }
+
+    /// Tells where the game stands, as the ply with this number, and returns its verdict.
+    fn put_standing<W: Output>(
+        &self,
+        number: usize,
+        out: &mut W,
+    ) -> Result<Option<Verdict>, WriteFault>
+        requires { self.now.delay ≤ most_delay }
+        ensures ply { IfOk result (PutsPly self.now.delay number self.now.standing (W.contents out.old) (W.contents out.new)) }
+        ensures gone { OnOk result (W.facts out.new).gone }
+    {
+        let verdict = self.standing.verdict(self.delay);
+        match put_ply_now(out, number, verdict, self.standing.position()) {
+            Ok(()) => Ok(verdict),
+            Err(fault) => Err(fault),
+        }
+    }
+
+    /// Tells the ply after the move of a line, or why there is none.
+    fn tell_line<W: Output>(
+        &mut self,
+        number: usize,
+        line: &[u8],
+        out: &mut W,
+    ) -> Result<Step, WriteFault>
+        requires delay { self.old.delay ≤ most_delay }
+        requires more { number < 2 ^ 64 - 1 }
+        ensures steps { IfOk result (LineSteps self.old.set.tables self.old.delay number self.old.standing line.now self.new.standing (W.contents out.old) (W.contents out.new)) }
+        ensures gone { IfOk result (λ step. (v : Option Verdict) → step ≡ Step.Told v → (W.facts out.new).gone) }
+        ensures set { self.new.set ≡ self.old.set }
+        ensures delay { self.new.delay ≡ self.old.delay }
+    {
+        match self.turn(number, line) {
+            Ok(()) => match self.put_standing(number + 1, out) {
+                Ok(verdict) => Ok(Step::Told(verdict)),
+                Err(fault) => Err(fault),
+            },
+            Err(stop) => match put_stop(out, stop) {
+                Ok(()) => Ok(Step::Stopped),
+                Err(fault) => Err(fault),
+            },
+        }
+    }
+
+    /// Reads the next line, and tells the ply after its move, or why there is none.
+    fn tell_next<L: LineReader, W: Output>(
+        &mut self,
+        number: usize,
+        reader: &mut L,
+        line: &mut Vec<u8>,
+        out: &mut W,
+    ) -> Result<Step, WriteFault>
+        requires delay { self.old.delay ≤ most_delay }
+        requires more { number < 2 ^ 64 - 1 }
+        // No line is awaited before what was told has gone out.
+        requires gone { (W.facts out.old).gone }
+        ensures steps { IfOk result (Steps (stops_by (L.facts reader.old)) self.old.set.tables self.old.delay number (L.facts reader.old).left (L.facts reader.new).left self.old.standing self.new.standing (W.contents out.old) (W.contents out.new)) }
+        ensures gone { IfOk result (λ step. (v : Option Verdict) → step ≡ Step.Told v → (W.facts out.new).gone) }
+        ensures reader { (fault : ReadFault) → stops_by (L.facts reader.new) fault → stops_by (L.facts reader.old) fault }
+        ensures set { self.new.set ≡ self.old.set }
+        ensures delay { self.new.delay ≡ self.old.delay }
+    {
+        match reader.next_line(line) {
+            Ok(true) => self.tell_line(number, line, out),
+            Ok(false) => Ok(Step::Ended),
+            Err(fault) => match put_stop(out, stop_by(fault)) {
+                Ok(()) => Ok(Step::Stopped),
+                Err(fault) => Err(fault),
+            },
+        }
+    }
+
+    /// Tells the plies after the moves of an input as they come, to a verdict or the input's end, and returns whether it
+    /// came to either.
+    fn follow<L: LineReader, W: Output>(
+        &mut self,
+        reader: &mut L,
+        out: &mut W,
+    ) -> Result<bool, WriteFault>
+        requires delay { self.old.delay ≤ most_delay }
+        requires gone { (W.facts out.old).gone }
+        ensures follows { (rules : Rules) (before : Option (List ℕ)) → rules.tables ≡ self.old.set.tables → rules.delay ≡ self.old.delay
+            → HasBegun rules self.old.standing before (W.contents out.old) → IfOk result (Follows rules (stops_by (L.facts reader.old)) (L.facts reader.old).left before (W.contents out.new)) }
+        ensures turns { OnOk result (TellsInTurn L.facts W.facts W.contents reader.old out.old out.new) }
+    {
+        let mut line = Vec::new(self.alloc);
+        for number in 0..usize::MAX {
+            match self.tell_next(number, reader, &mut line, out) {
+                Ok(Step::Told(None)) => {}
+                Ok(Step::Told(Some(_))) => return Ok(true),
+                Ok(Step::Ended) => return Ok(true),
+                Ok(Step::Stopped) => return Ok(false),
+                Err(fault) => return Err(fault),
+            }
+        }
+        match put_stop(out, Stop::Unread) {
+            Ok(()) => Ok(false),
+            Err(fault) => Err(fault),
+        }
+    }
+}
+
+/// Tells a game ply by ply: its start, and then the ply after each move of an input.
+fn follow_moves<L: LineReader, W: Output>(
+    alloc: Global,
+    mut set: Set<'_>,
+    start: &Position,
+    delay: u8,
+    reader: &mut L,
+    out: &mut W,
+) -> Result<bool, WriteFault>
+    requires { delay ≤ most_delay }
+    ensures follows { IfOk result (Follows (record { start = start.now; tables = set.entry.tables; delay = delay }) (stops_by (L.facts reader.old)) (L.facts reader.old).left (W.contents out.old) (W.contents out.new)) }
+    ensures turns { OnOk result (FollowsInTurn L.facts W.facts W.contents reader.old out.old out.new) }
+{
+    let standing = match set.begin(alloc, start) {
+        Ok(standing) => standing,
+        Err(_) => {
+            return match put_stop(out, Stop::OutOfMemory) {
+                Ok(()) => Ok(false),
+                Err(fault) => Err(fault),
+            };
+        }
+    };
+    let mut course = Course {
+        alloc,
+        set,
+        delay,
+        standing,
+    };
+    match course.put_standing(0, out) {
+        Ok(None) => course.follow(reader, out),
+        Ok(Some(_)) => Ok(true),
+        Err(fault) => Err(fault),
+    }
+}
+
+/// Tells a game ply by ply: at once the start, and then, as each move of the input comes, the position after it. Returns whether
+/// the game came to a verdict or to the input's end.
+///
+/// A line is the number of the ply, its verdict or `open`, and the position's FEN text. Moves are in coordinates, one a line. Nothing
+/// is read after the line of a verdict. Each line has gone out before the next move is awaited. The result is false after one of
+/// these last lines. `refused move 2`: the line at this place, counted from 0, is no move. `illegal 2`: its move isn't legal.
+/// `refused files`: the input can't be read, or has more than 2^64 - 1 moves. `refused memory`. The error comes only where the
+/// writer failed.
+pub fn follow_game<L: LineReader, W: Output>(
+    alloc: Global,
+    set: Set<'_>,
+    start: &Position,
+    delay: u8,
+    reader: &mut L,
+    out: &mut W,
+) -> Result<bool, WriteFault>
+    requires { delay ≤ most_delay }
+    // Each ply is told up to the first verdict.
+    ensures follows { IfOk result (Follows (record { start = start.now; tables = set.entry.tables; delay = delay }) (stops_by (L.facts reader.old)) (L.facts reader.old).left (W.contents out.old) (W.contents out.new)) }
+
+    // The last line is that of the outcome of the whole game.
+    ensures as_game { IfOk result (λ done. AgreesIfKnown (record { start = start.now; tables = set.entry.tables; delay = delay }) (L.facts reader.old).left (W.contents out.old) (W.contents out.new)) }
+
+    // Each line has gone out before the next move is awaited.
+    ensures turns { OnOk result (FollowsInTurn L.facts W.facts W.contents reader.old out.old out.new) }
+{
+    one_move();
+    follow_moves(alloc, set, start, delay, reader, out)
+}
