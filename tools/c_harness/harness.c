@@ -171,9 +171,23 @@ static int check_missing(size_t i)
     return wrong;
 }
 
+/* The tables that the set has, beside Fathom's largest number of men, and what no table is. */
+static int check_held(hofsjurd *h)
+{
+    hofsjurd none = HOFSJURD_CLOSED;
+    int wrong = hofsjurd_has(&none, "KQvK", 4, 0).status != HOFSJURD_HANDLE_CLOSED || hofsjurd_largest(&none).status != HOFSJURD_HANDLE_CLOSED;
+    wrong += hofsjurd_open(&none, 1) || hofsjurd_largest(&none).value || hofsjurd_has(&none, "KQvK", 4, 0).value || hofsjurd_has(&none, "KQvK", 4, 1).value;
+    wrong += hofsjurd_has(&none, "KvK", 3, 0).status != HOFSJURD_FILE_BAD_NAME || hofsjurd_has(&none, "KQvK.rtbw", 9, 0).status != HOFSJURD_FILE_BAD_NAME;
+    hofsjurd_close(&none);
+    hofsjurd_reply most = hofsjurd_largest(h);
+    wrong += most.status || most.value != (int)TB_LARGEST || hofsjurd_has(h, "KQvK", 4, 0).value != 1;
+    if (wrong) printf("tables held: %d wrong\n", wrong);
+    return wrong;
+}
+
 static int compare(hofsjurd *h)
 {
-    int root_wrong = 0;
+    int root_wrong = check_held(h);
     for (size_t i = 0; i < count; i++) root_wrong += check_root(h, i) + check_missing(i);
     printf("%zu positions: %d root moves, boards after them, states or missing tables are wrong\n", count, root_wrong);
     size_t wdl_differ = 0, dtz_differ = 0, board_differ = 0, decided = 0, skipped = 0;
