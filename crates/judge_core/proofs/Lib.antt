@@ -30,6 +30,8 @@ pub mod Completed
 pub mod Kept
 pub mod PawnWins
 pub mod Zeroing
+pub mod ByValue
+pub mod DeterminedReach
 pub mod AskedPawns
 pub mod Completing
 pub mod Told

@@ -20,7 +20,8 @@ use Rattle.judge_core.specs.Ruling.{is_out_of_scope}
 use Rattle.judge_core.specs.Determined.{IsDeterminedWdl, IsDeterminedDtz, AreDetermined, IsDeterminedRoot}
 use Rattle.judge_core.specs.Inside.Determined.{agreed, or_agreed, extreme_value, extreme_weighed, agreed_distance, or_agreed_distance, determined_value, determined_reach, value_as, reach_as}
 use Rattle.judge_core.proofs.ByReadings.{answered, is_probe, is_numbered}
-use Rattle.judge_core.proofs.Zeroing.{is_determined, is_determined_reach}
+use Rattle.judge_core.proofs.Zeroing.{is_determined}
+use Rattle.judge_core.proofs.DeterminedReach.{is_determined_reach}
 
 module _ (tables : Tables) (p : Parts) where
   pub value_from : (strict r : Reading) → strict ≡ wdl_of tables p → r ≡ or_agreed strict (agreed (extreme_value tables true p) (extreme_value tables false p)) → r ≡ determined_value tables p

@@ -203,11 +203,11 @@ module _ (tables : Tables) (p : Parts) (position : IsPosition p) (a b : Weighed)
 -- ---- pawn moves
 
 -- the second has a value where the first has, and reaches this one where the first does
-abbrev Reaches : Wdl → Reading → Reading → Type 0
+abbrev pub Reaches : Wdl → Reading → Reading → Type 0
 Reaches v r s = (x : Wdl) → r ≡ Ok x → (y : Wdl) × (s ≡ Ok y) × (is_value v (Ok x) ≡ true → is_value v (Ok y) ≡ true)
 
 module _ (v : Wdl) (say say' : Parts → Reading) (p : Parts) (t : Move → Bool) (h : (m : Move) (q : Parts) → t m ≡ true → position_after p m ≡ Some q → Reaches v (say q) (say' q)) where
-  abbrev AlsoReached : List Reading → List Reading → Type 0
+  abbrev pub AlsoReached : List Reading → List Reading → Type 0
   AlsoReached rs ss = (fault_in ss ≡ None) × (list_any (is_value v) rs ≡ true → list_any (is_value v) ss ≡ true)
 
   one_value : (rs ss : List Reading) (r s : Reading) → Reaches v r s → fault_in (r ∷ rs) ≡ None → (fault_in rs ≡ None → AlsoReached rs ss) → AlsoReached (r ∷ rs) (s ∷ ss)
@@ -225,7 +225,7 @@ module _ (v : Wdl) (say say' : Parts → Reading) (p : Parts) (t : Move → Bool
       either x y true e any one more = rw (one e) refl
       either x y false e any one more = or_true _ _ (more (rw e at any))
 
-  all_reached : (ms : List Move) → fault_in (asked say p (filter t ms)) ≡ None → AlsoReached (asked say p (filter t ms)) (asked say' p (filter t ms))
+  pub all_reached : (ms : List Move) → fault_in (asked say p (filter t ms)) ≡ None → AlsoReached (asked say p (filter t ms)) (asked say' p (filter t ms))
   all_reached [] none = (refl, λ e. e)
   all_reached (m ∷ ms) none = step (all_reached ms) (t m) (position_after p m) refl refl none
     where
@@ -235,16 +235,16 @@ module _ (v : Wdl) (say say' : Parts → Reading) (p : Parts) (t : Move → Bool
       step rest true None et eo none = rw (et, eo) (rest (rw (et, eo) at none))
       step rest true (Some q) et eo none = rw (et, eo) (one_value (asked say p (filter t ms)) (asked say' p (filter t ms)) (say q) (say' q) (h m q et eo) (rw (et, eo) at none) rest)
 
-reached_of : (o : Option ValueFault) (b : Bool) → unless o (Ok b) ≡ Ok true → b ≡ true
+pub reached_of : (o : Option ValueFault) (b : Bool) → unless o (Ok b) ≡ Ok true → b ≡ true
 reached_of None b e = cc
 reached_of (Some fault) b e = absurd (cc)
 
-is_reached-true : (r : Result Bool ValueFault) → is_reached r ≡ true → r ≡ Ok true
+pub is_reached-true : (r : Result Bool ValueFault) → is_reached r ≡ true → r ≡ Ok true
 is_reached-true (Ok b) e = ap (λ (x : Bool). Ok x) e
 is_reached-true (Err fault) e = absurd (false≢true e)
 
 -- only where both have it
-in_both-ok : (v : Wdl) (a b : Reading) (x : Wdl) → in_both v a b ≡ Ok x → (u : Wdl) × (w : Wdl) × (a ≡ Ok u) × (b ≡ Ok w) × (x ≡ v → (u ≡ v) × (w ≡ v))
+pub in_both-ok : (v : Wdl) (a b : Reading) (x : Wdl) → in_both v a b ≡ Ok x → (u : Wdl) × (w : Wdl) × (a ≡ Ok u) × (b ≡ Ok w) × (x ≡ v → (u ≡ v) × (w ≡ v))
 in_both-ok v (Ok u) (Ok w) x e = (u, w, refl, refl, λ is. step (is_same u v) refl e is)
   where
     step : (t : Bool) → is_same u v ≡ t → in_both v (Ok u) (Ok w) ≡ Ok x → x ≡ v → (u ≡ v) × (w ≡ v)
@@ -259,42 +259,46 @@ from_values false (Ok y) u w hu hw = (y, refl, λ v eu ew. same_points y v (let 
 from_values true (Err fault) u w hu hw = absurd hu
 from_values false (Err fault) u w hu hw = absurd hu
 
-opposite-twice : (v : Wdl) → opposite (opposite v) ≡ v
+pub opposite-twice : (v : Wdl) → opposite (opposite v) ≡ v
 opposite-twice Loss = refl
 opposite-twice BlessedLoss = refl
 opposite-twice Draw = refl
 opposite-twice CursedWin = refl
 opposite-twice Best = refl
 
+-- what a pawn move reaches in both, it reaches in every completion
+pub both_reach : (tables : Tables) (own : Parts → Reading) → IsCompletion tables own → (v : Wdl) (q : Parts) → IsPosition q → Reaches v (turned (value_in_both tables (opposite v) q)) (turned (wdl_where own q))
+unfolding value_in_both
+both_reach tables own completes v q position x e = from_turned (in_both (opposite v) (extreme_value tables true q) (extreme_value tables false q)) refl e
+  where
+    from_turned : (r : Reading) → in_both (opposite v) (extreme_value tables true q) (extreme_value tables false q) ≡ r → turned r ≡ Ok x → (y : Wdl) × (turned (wdl_where own q) ≡ Ok y) × (is_value v (Ok x) ≡ true → is_value v (Ok y) ≡ true)
+    from_turned (Err fault) er e = absurd (cc)
+    from_turned (Ok z) er e =
+        let parts = in_both-ok (opposite v) (extreme_value tables true q) (extreme_value tables false q) z er in
+        let it = from_values (is_won_here true (count_of_men q)) (wdl_where own q) parts.0 parts.1
+        (subst (λ r. IsBound (is_won_here true (count_of_men q)) (wdl_where own q) r) parts.2 (value_bound tables own completes true q position))
+        (subst (λ r. IsBound (is_won_here false (count_of_men q)) (wdl_where own q) r) parts.3 (value_bound tables own completes false q position)) in
+        let turn : opposite z ≡ x = cc in (
+          opposite it.0,
+          ap turned it.1,
+          λ is. (
+              let ex : x ≡ v = is_same-true x v is in
+              let ez : z ≡ opposite v = sym (opposite-twice z) ∙ ap opposite (turn ∙ ex) in
+              let both = parts.4 ez in
+              let ey = it.2 (opposite v) both.0 both.1 in
+              ap (λ (y : Wdl). is_same y v) (ap opposite ey ∙ opposite-twice v) ∙ is_same-refl v),
+        )
+
 module _ (tables more : Tables) (c : IsCompletedBy tables more) (v : Wdl) where
-  both_reach : (q : Parts) → IsPosition q → Reaches v (turned (value_in_both tables (opposite v) q)) (turned (wdl_of more q))
-  unfolding value_in_both
-  both_reach q position x e = from_turned (in_both (opposite v) (extreme_value tables true q) (extreme_value tables false q)) refl e
-    where
-      from_turned : (r : Reading) → in_both (opposite v) (extreme_value tables true q) (extreme_value tables false q) ≡ r → turned r ≡ Ok x → (y : Wdl) × (turned (wdl_of more q) ≡ Ok y) × (is_value v (Ok x) ≡ true → is_value v (Ok y) ≡ true)
-      from_turned (Err fault) er e = absurd (cc)
-      from_turned (Ok z) er e =
-          let parts = in_both-ok (opposite v) (extreme_value tables true q) (extreme_value tables false q) z er in
-          let it = from_values (is_won_here true (count_of_men q)) (wdl_where (table_value more) q) parts.0 parts.1
-          (subst (λ r. IsBound (is_won_here true (count_of_men q)) (wdl_where (table_value more) q) r) parts.2 (value_bound tables (table_value more) c.values true q position))
-          (subst (λ r. IsBound (is_won_here false (count_of_men q)) (wdl_where (table_value more) q) r) parts.3 (value_bound tables (table_value more) c.values false q position)) in
-          let turn : opposite z ≡ x = cc in (
-            opposite it.0,
-            ap turned (value_is more q ∙ it.1),
-            λ is. (
-                let ex : x ≡ v = is_same-true x v is in
-                let ez : z ≡ opposite v = sym (opposite-twice z) ∙ ap opposite (turn ∙ ex) in
-                let both = parts.4 ez in
-                let ey = it.2 (opposite v) both.0 both.1 in
-                ap (λ (y : Wdl). is_same y v) (ap opposite ey ∙ opposite-twice v) ∙ is_same-refl v),
-          )
+  reach_more : (q : Parts) → IsPosition q → Reaches v (turned (value_in_both tables (opposite v) q)) (turned (wdl_of more q))
+  reach_more q position = subst (λ r. Reaches v (turned (value_in_both tables (opposite v) q)) (turned r)) (sym (value_is more q)) (both_reach tables (table_value more) c.values v q position)
 
   pub pawns_between : (p : Parts) → IsPosition p → pawns_reach_in_both tables p v ≡ Ok true → pawns_reach_where (wdl_of more) p v ≡ Ok true
   unfolding pawns_reach_where
   pawns_between p position e =
       let parts = unless_ok _ _ true e in
       let any : list_any (is_value v) (after (value_in_both tables (opposite v)) p (filter (is_pawn_step p) (legal_moves p))) ≡ true = reached_of _ _ e in
-      let all = all_reached v (λ q. turned (value_in_both tables (opposite v) q)) (λ q. turned (wdl_of more q)) p (is_pawn_step p) (λ m q t a. both_reach q (still p q m position a)) (legal_moves p) parts.0 in
+      let all = all_reached v (λ q. turned (value_in_both tables (opposite v) q)) (λ q. turned (wdl_of more q)) p (is_pawn_step p) (λ m q t a. reach_more q (still p q m position a)) (legal_moves p) parts.0 in
       rw (all.0, all.1 any) refl
 
 -- ---- the distance
@@ -307,7 +311,7 @@ pub opened : (tables : Tables) (p : Parts) → dtz_of tables p ≡ dtz_by tables
 unfolding dtz_of dtz_to
 opened tables p = refl
 
-many_by : (tables : Tables) (p : Parts) → IsMany p → dtz_of tables p ≡ by_weighed tables (dtz_to tables 1) p (weighed_by tables (wdl_of tables) p)
+pub many_by : (tables : Tables) (p : Parts) → IsMany p → dtz_of tables p ≡ by_weighed tables (dtz_to tables 1) p (weighed_by tables (wdl_of tables) p)
 many_by tables p many = opened tables p ∙ rw many refl
 
 module _ (tables : Tables) (p : Parts) (position : IsPosition p) (many : IsMany p) where
@@ -358,113 +362,3 @@ module _ (tables : Tables) (p : Parts) (position : IsPosition p) (many : IsMany 
       step more c false is e = absurd (cc)
   told (Ok a) (Err fault) ea eb d e = absurd (cc)
   told (Err fault) b ea eb d e = absurd (cc)
-
--- ---- what both are worth
-
--- the value in a completion is that of what is weighed there
-from_worth : (own : Parts → Reading) (p : Parts) (v : Wdl) → IsPosition p → IsMany p → wdl_where own p ≡ Ok v → (w : Weighed) × (weighed_where own (wdl_where own) p ≡ Ok w) × (worth w ≡ v)
-from_worth own p v position many e = step (weighed_where own (wdl_where own) p) refl (sym (where_meets_rule own p position ∙ rw many refl) ∙ e)
-  where
-    step : (r : Result Weighed ValueFault) → weighed_where own (wdl_where own) p ≡ r → worth_in r ≡ Ok v → (w : Weighed) × (weighed_where own (wdl_where own) p ≡ Ok w) × (worth w ≡ v)
-    step (Ok w) er e = (w, er, cc)
-    step (Err fault) er e = absurd (cc)
-
--- where a value is determined, a distance that is told only by it is told
-module _ (tables : Tables) (p : Parts) (position : IsPosition p) (v : Wdl) (is : IsDetermined tables p v) (d : Distance)
-    (by_both : (a b : Weighed) → worth a ≡ v → worth b ≡ v → extreme_weighed tables true p ≡ Ok a → extreme_weighed tables false p ≡ Ok b → zeroing_distance tables p a b (outcome_of v) ≡ Some d)
-    (by_one : (w : Weighed) (reach : Parts → Reach) (x : Distance) → worth w ≡ v → extreme_weighed tables true p ≡ Ok w → by_outcome tables reach p w (outcome_of v) ≡ Ok x → x ≡ d)
-    (few : nat_le (count_of_men p) 2 ≡ true → d ≡ NoDistance) where
-  strict_is : (x : Distance) → IsMany p → dtz_of tables p ≡ Ok x → x ≡ d
-  strict_is x many e = step (weighed_by tables (wdl_of tables) p) refl (sym (many_by tables p many) ∙ e)
-    where
-      step : (r : Result Weighed ValueFault) → weighed_by tables (wdl_of tables) p ≡ r → by_weighed tables (dtz_to tables 1) p r ≡ Ok x → x ≡ d
-      step (Ok w) er e =
-          let there = strict_weighed tables (extreme tables true) (extreme-completes tables true) p position w er in
-          let found = from_worth (extreme tables true) p v position many (is (extreme tables true) (extreme-completes tables true)) in
-          let one : Ok found.0 ≡ Ok w = sym found.1 ∙ there in
-          let same : found.0 ≡ w = cc in
-          let worth_is : worth w ≡ v = ap worth (sym same) ∙ found.2 in
-          by_one w (dtz_to tables 1) x worth_is there (sym (ap (by_outcome tables (dtz_to tables 1) p w) (ap outcome_of worth_is)) ∙ e)
-      step (Err fault) er e = absurd (cc)
-
-  told_by_value : (t : Bool) → nat_le (count_of_men p) 2 ≡ t → (r : Reach) → dtz_of tables p ≡ r → or_agreed_distance r (agreed_distance tables p (extreme_weighed tables true p) (extreme_weighed tables false p)) ≡ Ok d
-  told_by_value true et r er = (let none : Ok NoDistance ≡ r = sym (opened tables p ∙ rw et refl) ∙ er in rw (← none) (ap (λ (x : Distance). Ok x) (sym (few et))))
-  told_by_value false et (Ok x) er = ap (λ (y : Distance). Ok y) (strict_is x et er)
-  told_by_value false et (Err fault) er =
-      let a = from_worth (extreme tables true) p v position et (is (extreme tables true) (extreme-completes tables true)) in
-      let b = from_worth (extreme tables false) p v position et (is (extreme tables false) (extreme-completes tables false)) in
-      let same = ap (λ (x : Wdl). is_same x (worth b.0)) (a.2 ∙ sym b.2) ∙ is_same-refl (worth b.0) in
-      let some = by_both a.0 b.0 a.2 b.2 a.1 b.1 in
-      rw (a.1, b.1, same, a.2, some) refl
-
-one_ok : (d x : Distance) (r : Reach) → r ≡ Ok d → r ≡ Ok x → x ≡ d
-one_ok d x r ed ex = (let both : Ok d ≡ Ok x = sym ed ∙ ex in cc)
-
--- bare kings are a draw
-no_outcome : (tables : Tables) (p : Parts) → IsPosition p → (v : Wdl) (outcome : Outcome) → IsDetermined tables p v → outcome_of v ≡ Some outcome → nat_le (count_of_men p) 2 ≡ true → towards outcome (zeroing outcome) ≡ NoDistance
-no_outcome tables p position v outcome is eo few =
-    let bare : Ok v ≡ Ok Draw = sym (is (extreme tables true) (extreme-completes tables true)) ∙ where_meets_rule (extreme tables true) p position ∙ rw few refl in
-    let same : v ≡ Draw = cc in
-    let none : None ≡ Some outcome = ap outcome_of (sym same) ∙ eo in
-    absurd (cc)
-
--- a pawn move that brings the value about in every completion does so in the set, if that tells a distance
-by_pawn_in_set : (tables : Tables) (p : Parts) → IsPosition p → (v : Wdl) → IsByPawnMove tables p v → (outcome : Outcome) → is_won outcome ≡ true
-    → (w : Weighed) (reach : Parts → Reach) (x : Distance) → worth w ≡ v → by_outcome tables reach p w (Some outcome) ≡ Ok x → x ≡ towards outcome (zeroing outcome)
-unfolding by_moves
-by_pawn_in_set tables p position v by outcome won w reach x ew e = step (is_by_capture w) (rw ew at e)
-  where
-    by_steps : (r : Result Bool ValueFault) → pawns_reach_where (wdl_of tables) p v ≡ r → unless_reached r outcome (by_own_table tables reach p outcome) ≡ Ok x → x ≡ towards outcome (zeroing outcome)
-    by_steps (Ok true) er e = one_ok (towards outcome (zeroing outcome)) x (Ok (towards outcome (zeroing outcome))) refl e
-    by_steps (Ok false) er e = absurd (reached_in_set tables p position v by er)
-    by_steps (Err fault) er e = absurd (cc)
-
-    step : (t : Bool) → cond t (Ok (towards outcome (zeroing outcome))) (by_moves tables reach p v outcome) ≡ Ok x → x ≡ towards outcome (zeroing outcome)
-    step true e = one_ok (towards outcome (zeroing outcome)) x (Ok (towards outcome (zeroing outcome))) refl e
-    step false e = by_steps (pawns_reach_where (wdl_of tables) p v) refl (rw won at e)
-
-pub is_determined_reach : (tables : Tables) (p : Parts) → IsPosition p → IsDeterminedReach tables p (determined_reach tables p)
-unfolding determined_reach
-is_determined_reach tables p position = record {
-  kept = kept;
-  determined = λ d. told_in (dtz_of tables p) refl (nat_le (count_of_men p) 2) refl (agreed_distance tables p (extreme_weighed tables true p) (extreme_weighed tables false p)) refl d;
-  fault_is = faulty (dtz_of tables p) refl (agreed_distance tables p (extreme_weighed tables true p) (extreme_weighed tables false p));
-  draw = λ is. told_by_value tables p position Draw is NoDistance (λ a b ea eb xa xb. refl) (λ w reach x ew xw e. one_ok NoDistance x (Ok NoDistance) refl e) (λ f. refl) (nat_le (count_of_men p) 2) refl (dtz_of tables p) refl;
-  capture = by_capture;
-  pawn = by_pawn;
-}
-  where
-    kept : (d : Distance) → dtz_of tables p ≡ Ok d → or_agreed_distance (dtz_of tables p) (agreed_distance tables p (extreme_weighed tables true p) (extreme_weighed tables false p)) ≡ Ok d
-    kept d e = rw e refl
-
-    told_in : (r : Reach) → dtz_of tables p ≡ r → (t : Bool) → nat_le (count_of_men p) 2 ≡ t → (o : Option Distance) → agreed_distance tables p (extreme_weighed tables true p) (extreme_weighed tables false p) ≡ o → (d : Distance) → or_agreed_distance r o ≡ Ok d → IsDeterminedDistance tables p d
-    told_in (Ok x) er t et o eo d e = λ more c. strict_distance tables more p position c d (er ∙ e)
-    told_in (Err fault) er true et o eo d e = (let none : Ok NoDistance ≡ Err fault = sym (opened tables p ∙ rw et refl) ∙ er in absurd (cc))
-    told_in (Err fault) er false et None eo d e = absurd (cc)
-    told_in (Err fault) er false et (Some x) eo d e = (let same : x ≡ d = cc in told tables p position et (extreme_weighed tables true p) (extreme_weighed tables false p) refl refl d (eo ∙ ap (λ (y : Distance). Some y) same))
-
-    faulty : (r : Reach) → dtz_of tables p ≡ r → (o : Option Distance) → (fault : ValueFault) → or_agreed_distance r o ≡ Err fault → dtz_of tables p ≡ Err fault
-    faulty (Ok x) er o fault e = absurd (cc)
-    faulty (Err other) er None fault e = er ∙ e
-    faulty (Err other) er (Some x) fault e = absurd (cc)
-
-    by_capture : (v : Wdl) (outcome : Outcome) → IsDetermined tables p v → outcome_of v ≡ Some outcome → IsByCapture tables p → or_agreed_distance (dtz_of tables p) (agreed_distance tables p (extreme_weighed tables true p) (extreme_weighed tables false p)) ≡ Ok (towards outcome (zeroing outcome))
-    by_capture v outcome is eo captures =
-        told_by_value tables p position v is (towards outcome (zeroing outcome))
-        (λ a b ea eb xa xb. rw (eo, captures (extreme tables true) a (extreme-completes tables true) xa, captures (extreme tables false) b (extreme-completes tables false) xb) refl)
-        (λ w reach x ew xw e. one_ok (towards outcome (zeroing outcome)) x (Ok (towards outcome (zeroing outcome))) refl (rw (eo, captures (extreme tables true) w (extreme-completes tables true) xw) at e))
-        (no_outcome tables p position v outcome is eo) (nat_le (count_of_men p) 2) refl (dtz_of tables p) refl
-
-    by_pawn : (v : Wdl) (outcome : Outcome) → IsDetermined tables p v → outcome_of v ≡ Some outcome → is_won outcome ≡ true → IsByPawnMove tables p v
-        → or_agreed_distance (dtz_of tables p) (agreed_distance tables p (extreme_weighed tables true p) (extreme_weighed tables false p)) ≡ Ok (towards outcome (zeroing outcome))
-    by_pawn v outcome is eo won by =
-        told_by_value tables p position v is (towards outcome (zeroing outcome)) in_both_so (λ w reach x ew xw e. by_pawn_in_set tables p position v by outcome won w reach x ew (rw eo at e)) (no_outcome tables p position v outcome is eo) (nat_le (count_of_men p) 2) refl (dtz_of tables p) refl
-      where
-        either : (x y : Bool) → y ≡ true → cond (x || y) (Some (towards outcome (zeroing outcome))) None ≡ Some (towards outcome (zeroing outcome))
-        either true y e = refl
-        either false y e = rw e refl
-
-        in_both_so : (a b : Weighed) → worth a ≡ v → worth b ≡ v → extreme_weighed tables true p ≡ Ok a → extreme_weighed tables false p ≡ Ok b → zeroing_distance tables p a b (outcome_of v) ≡ Some (towards outcome (zeroing outcome))
-        in_both_so a b ea eb xa xb =
-            let reached : is_reached (pawns_reach_in_both tables p (worth a)) ≡ true = ap (λ (u : Wdl). is_reached (pawns_reach_in_both tables p u)) ea ∙ ap is_reached (reached_in_both tables p position v by) in
-            rw eo (either (is_by_capture a && is_by_capture b) (is_won outcome && is_reached (pawns_reach_in_both tables p (worth a))) (rw (won, reached) refl))

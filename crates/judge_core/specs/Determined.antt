@@ -77,6 +77,12 @@ pub record IsByPawnMove (tables : Tables) (p : Parts) (v : Wdl) : Type 0 where
       (own : Parts → Reading) → IsCompletion tables own
       → fault_in (after (wdl_where own) p (filter (is_pawn_step p) (legal_moves p))) ≡ None
 
+-- The value is determined, and a draw, by a capture, or a win by a pawn move: then this is the distance.
+pub data IsDistanceByValue (tables : Tables) (p : Parts) (d : Distance) : Type 0 where
+  OfDraw : IsDetermined tables p Draw → d ≡ NoDistance → IsDistanceByValue tables p d
+  OfCapture : (v : Wdl) (outcome : Outcome) → IsDetermined tables p v → outcome_of v ≡ Some outcome → IsByCapture tables p → d ≡ towards outcome (zeroing outcome) → IsDistanceByValue tables p d
+  OfPawnMove : (v : Wdl) (outcome : Outcome) → IsDetermined tables p v → outcome_of v ≡ Some outcome → is_won outcome ≡ true → IsByPawnMove tables p v → d ≡ towards outcome (zeroing outcome) → IsDistanceByValue tables p d
+
 -- ---- readings
 
 -- The value of the set, or else the one that is determined. There is none only where none is determined; then the fault is the
@@ -86,12 +92,13 @@ pub record IsDeterminedReading (tables : Tables) (p : Parts) (reading : Reading)
   pub determined : (v : Wdl) → reading ≡ Ok v → IsDetermined tables p v
   pub fault_is : (fault : ValueFault) → reading ≡ Err fault → (wdl_of tables p ≡ Err fault) × IsUndetermined tables p
 
--- The distance of the set, or else one that is determined, at least where the value is a draw, by a capture, or a win by a pawn
+-- The distance of the set, or else one that is determined, exactly where the value is a draw, by a capture, or a win by a pawn
 -- move. Else the fault is the set's.
 pub record IsDeterminedReach (tables : Tables) (p : Parts) (reach : Reach) : Type 0 where
   pub kept : (d : Distance) → dtz_of tables p ≡ Ok d → reach ≡ Ok d
   pub determined : (d : Distance) → reach ≡ Ok d → IsDeterminedDistance tables p d
   pub fault_is : (fault : ValueFault) → reach ≡ Err fault → dtz_of tables p ≡ Err fault
+  pub only : (d : Distance) → reach ≡ Ok d → (dtz_of tables p ≡ Ok d) ⊎ IsDistanceByValue tables p d
   pub draw : IsDetermined tables p Draw → reach ≡ Ok NoDistance
   pub capture :
       (v : Wdl) (outcome : Outcome) → IsDetermined tables p v → outcome_of v ≡ Some outcome → IsByCapture tables p

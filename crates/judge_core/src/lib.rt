@@ -82,6 +82,7 @@ mod root_move;
 mod set;
 mod shelf;
 mod standing;
+mod table_slot;
 mod verdict;
 mod wdl;
 

@@ -93,4 +93,18 @@ impl<'a> Set<'a> {
     {
         self.shelf.add(table)
     }
+    /// A second set with the tables that this one has now, and a cache of its own for this many decoded blocks, 1 to 4096.
+    ///
+    /// Neither set has a block of the other. A table that one of them gets later isn't one of the other, and a table is freed with
+    /// the last set that has it. No file is looked at again. The error comes where memory is refused. The set stays as it was.
+    pub fn share(&mut self, alloc: Global, cache: usize) -> Result<Set<'a>, AllocError>
+        requires some { 1 ≤ cache }
+        requires most { cache ≤ 4096 }
+        ensures shared { IfOk result (λ set. set ≡ record { tables = self.old.tables; cache = cache }) }
+        ensures unchanged { self.new ≡ self.old }
+    {
+        let blocks = Blocks::new(alloc, cache)?;
+        let shelf = self.shelf.share(alloc, cache)?;
+        Ok(Set { shelf, blocks })
+    }
 }

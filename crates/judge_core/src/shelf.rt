@@ -1,11 +1,13 @@
 //! Tables in their slots.
 
-ghost use Rattle.std.specs.Prelude.{◌≡◌, ◌≢◌, ◌↔◌, ◌<◌, ◌≤◌, IfNone, IfOk, IfSome, IsSome, is_some, OnOk, OnErr, None, Some, Err, replicate, slice_set};
+ghost use Rattle.std.specs.Prelude.{◌≡◌, ◌≢◌, ◌↔◌, ◌<◌, ◌≤◌, IfNone, IfOk, IfSome, IsSome, is_some, OnOk, OnErr, None, Some, Err, replicate, get_or, slice_set};
 ghost use Rattle.judge_core.specs.declared.fault.SetFault.TheVariants.{Duplicate, OutOfMemory};
+ghost use Rattle.judge_core.specs.Inside.Kept.{table_in};
 ghost use Rattle.judge_core.specs.Inside.Placing.{IsPartFor};
 ghost use Rattle.judge_core.specs.Tables.{AreFiled, largest_of, men_count, men_of_slot, slot, table_at};
 
 use crate::fault::SetFault;
+use crate::table_slot::{SlotPair, TableSlot};
 use place_index::{Material, Placed, tables_are_numbered};
 use std::alloc::{AllocError, Global};
 use std::marker::Model;
@@ -20,7 +22,7 @@ const MATERIALS: usize = 145;
 /// Contracts see a list of 290 slots, the WDL tables by the keys of their materials and then the DTZ tables, and that number.
 #[derive(Drop)]
 pub(crate) struct Shelf<'a> {
-    tables: Vec<Option<Table<'a>>>,
+    tables: Vec<TableSlot<'a>>,
     cache: usize,
 }
 
@@ -60,11 +62,11 @@ fn men_of(material: &Material) -> usize
 }
 
 /// The number of men of the table in a slot, 0 for an empty one.
-fn men_in(slot: &Option<Table<'_>>) -> usize
-    ensures is { result ≡ men_of_slot slot.now }
+fn men_in(slot: &TableSlot<'_>) -> usize
+    ensures is { result ≡ men_of_slot (table_in slot.now) }
     ensures few { result ≤ 5 }
 {
-    match slot {
+    match slot.table() {
         Some(table) => men_of(table.material()),
         None => 0,
     }
@@ -80,7 +82,7 @@ impl<'a> Shelf<'a> {
     {
         let mut tables = Vec::with_capacity(alloc, 2 * MATERIALS)?;
         for _ in 0..2 * MATERIALS {
-            tables.push(None)?;
+            tables.push(TableSlot::Empty)?;
         }
         Ok(Shelf { tables, cache })
     }
@@ -122,7 +124,7 @@ impl<'a> Shelf<'a> {
         requires known { table.material < 145 }
         ensures { self.new ≡ record self.old { tables = slice_set self.old.tables own (Some table.entry) } }
     {
-        self.tables[own] = Some(table);
+        self.tables[own] = TableSlot::Own(table);
     }
 
     /// Adds a table. One that is refused, since there is a table of its kind for its material, is dropped, and the shelf stays
@@ -141,12 +143,43 @@ impl<'a> Shelf<'a> {
         Ok(())
     }
 
+    /// Another slot with the table in this place.
+    fn share_slot(&mut self, alloc: Global, place: usize) -> Result<TableSlot<'a>, AllocError>
+        requires { place < 290 }
+        ensures given { IfOk result (λ slot. table_in slot ≡ get_or self.old.tables place None) }
+        ensures unchanged { self.new ≡ self.old }
+    {
+        let slot = std::mem::replace(&mut self.tables[place], TableSlot::Empty);
+        let SlotPair { kept, given } = slot.twice(alloc);
+        self.tables[place] = kept;
+        match given {
+            Some(given) => Ok(given),
+            None => Err(AllocError),
+        }
+    }
+
+    /// Another shelf with the tables of this one, for this many decoded blocks, 1 to 4096. The error comes where memory is refused.
+    pub(crate) fn share(&mut self, alloc: Global, cache: usize) -> Result<Shelf<'a>, AllocError>
+        requires some { 1 ≤ cache }
+        requires most { cache ≤ 4096 }
+        ensures shared { IfOk result (λ shelf. shelf ≡ record { tables = self.old.tables; cache = cache }) }
+        ensures unchanged { self.new ≡ self.old }
+    {
+        // The condition that there are 290 slots serves the proof alone.
+        let _slots = &self.tables;
+        let mut tables = Vec::with_capacity(alloc, 2 * MATERIALS)?;
+        for place in 0..2 * MATERIALS {
+            tables.push(self.share_slot(alloc, place)?)?;
+        }
+        Ok(Shelf { tables, cache })
+    }
+
     /// The part of the table of this kind for placed men: that for their side to move and the file of their leading pawn.
     pub(crate) fn part(&self, kind: TableKind, placed: &Placed) -> Option<TablePart<'_, 'a>>
         ensures found { IfSome result (IsPartFor self.now.tables kind placed.now) }
         ensures none { IfNone result (table_at self.now.tables kind placed.now.material ≡ None) }
     {
-        match &self.tables[slot(kind, placed.material())] {
+        match self.tables[slot(kind, placed.material())].table() {
             Some(table) => Some(table.part(placed.side(), placed.file())),
             None => None,
         }
