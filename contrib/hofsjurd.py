@@ -61,6 +61,8 @@ def _load():
         ("hofsjurd_wdl", _Reply, handle, text, size),
         ("hofsjurd_dtz", _Reply, handle, text, size),
         ("hofsjurd_root", _Reply, handle, text, size, ctypes.POINTER(_RootMove), size),
+        ("hofsjurd_has", _Reply, handle, text, size, ctypes.c_uint8),
+        ("hofsjurd_largest", _Reply, handle),
         ("hofsjurd_status_name", size, ctypes.c_uint32, text, size),
         ("hofsjurd_version", size, text, size),
         ("hofsjurd_folder_map_telling", ctypes.c_uint32, folder, text, _Teller, ctypes.c_void_p),
@@ -174,6 +176,16 @@ class Tablebase:
         if status:
             raise _error(status) if status == _OUT_OF_MEMORY or not refused else refused[-1]  # (the first isn't told)
         return self._folder.count - before
+
+    def has(self, material, *, dtz=False):
+        """Whether the WDL table for a material, as "KQvK", is there, or its DTZ table. A ProbeError for a text that names none."""
+        name = material.encode()
+        return _value(_library.hofsjurd_has(self._handle, name, len(name), int(dtz))) == 1
+
+    @property
+    def largest(self):
+        """The largest number of men of a table, kings included; 0 without a table."""
+        return _value(_library.hofsjurd_largest(self._handle))
 
     def probe_wdl(self, board):
         """-2 loss, -1 blessed loss, 0 draw, 1 cursed win, 2 win, for the side to move. A ProbeError where there is no answer."""

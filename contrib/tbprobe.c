@@ -24,9 +24,12 @@ int TB_MaxCardinality = 0, TB_MaxCardinalityDTM = 0;
 
 /* ------------------------------------------------------------------------------------------------------------- tables */
 
-/* The files of a tb_init, and who holds them: this module while they are the present ones, and each thread's set. */
+/* The files of a tb_init, a set over them that each thread's set shares its tables with, and who holds both: this module while they
+ * are the present ones, and each thread's set. The shared set is used under `guard`, and at last by the last holder. */
 typedef struct {
     hofsjurd_folder files;
+    hofsjurd shared; /* opened by the first thread that probes: */
+    bool is_open;
     unsigned long holders;
 } mapped_tables;
 
@@ -46,14 +49,18 @@ static pthread_key_t key;
 static bool has_key; /* none where the process has too many of them: then each probe fails */
 static __thread own_set *mine;
 
-static mapped_tables *hold_present(unsigned long *of)
+/* a set that shares the present tables, under `guard` */
+static uint32_t share_present(own_set *own)
 {
-    pthread_mutex_lock(&guard);
-    mapped_tables *tables = present;
-    if (tables) tables->holders++;
-    *of = era;
-    pthread_mutex_unlock(&guard);
-    return tables;
+    if (!present) return hofsjurd_open(&own->set, 64);
+    uint32_t status = HOFSJURD_OK;
+    if (!present->is_open) status = hofsjurd_folder_open(&present->files, &present->shared, 1, NULL);
+    if (!status) present->is_open = true;
+    if (!status) status = hofsjurd_share(&present->shared, &own->set, 64);
+    if (status) return status;
+    present->holders++;
+    own->over = present;
+    return HOFSJURD_OK;
 }
 
 static void let_go(mapped_tables *tables)
@@ -63,6 +70,7 @@ static void let_go(mapped_tables *tables)
     bool is_last = --tables->holders == 0;
     pthread_mutex_unlock(&guard);
     if (!is_last) return;
+    hofsjurd_close(&tables->shared);
     hofsjurd_folder_unmap(&tables->files);
     free(tables);
 }
@@ -106,15 +114,11 @@ static hofsjurd *set_here(void)
     if (own && own->era == __atomic_load_n(&era, __ATOMIC_ACQUIRE)) return &own->set;
     if (!own && !(own = make_set())) return NULL;
     close_set(own);
-    unsigned long of;
-    own->over = hold_present(&of);
-    uint32_t status = own->over ? hofsjurd_folder_open(&own->over->files, &own->set, 64, NULL) : hofsjurd_open(&own->set, 64);
-    if (status) {
-        close_set(own);
-        return NULL;
-    }
-    own->era = of;
-    return &own->set;
+    pthread_mutex_lock(&guard);
+    uint32_t status = share_present(own);
+    own->era = status ? 0 : era;
+    pthread_mutex_unlock(&guard);
+    return status ? NULL : &own->set;
 }
 
 static void replace(mapped_tables *tables)

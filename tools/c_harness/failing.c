@@ -49,6 +49,13 @@ int main(int argc, char **argv)
             if (t && t != HOFSJURD_OUT_OF_MEMORY) wrong++;
             if (t) { refused++; all = false; }
         }
+        hofsjurd other = HOFSJURD_CLOSED;
+        uint32_t shared = hofsjurd_share(&h, &other, 4);
+        if (shared) {
+            if (other.is_open || shared != (s ? HOFSJURD_HANDLE_CLOSED : HOFSJURD_OUT_OF_MEMORY)) wrong++;
+            refused++;
+        } else if (hofsjurd_largest(&other).value != hofsjurd_largest(&h).value) wrong++;
+        hofsjurd_close(&other);
         for (size_t i = 0; i < count && i < 300; i++) {
             const char *text = fens[i];
             size_t m = strlen(fens[i]);

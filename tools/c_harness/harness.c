@@ -185,9 +185,28 @@ static int check_held(hofsjurd *h)
     return wrong;
 }
 
+/* A second handle with the tables of the first answers as it does, also once a third is closed, and with a cache of one block. */
+static int check_shared(hofsjurd *h)
+{
+    hofsjurd closed = HOFSJURD_CLOSED, other = HOFSJURD_CLOSED, third = HOFSJURD_CLOSED;
+    int wrong = hofsjurd_share(&closed, &other, 64) != HOFSJURD_HANDLE_CLOSED || hofsjurd_share(h, &other, 0) != HOFSJURD_BAD_CACHE;
+    wrong += hofsjurd_share(h, &other, 4097) != HOFSJURD_BAD_CACHE || other.is_open;
+    wrong += hofsjurd_share(h, &third, 1) || hofsjurd_share(&third, &other, 1) || hofsjurd_share(h, &other, 1);
+    hofsjurd_close(&third);
+    wrong += hofsjurd_largest(&other).value != hofsjurd_largest(h).value || hofsjurd_has(&other, "KQvK", 4, 0).value != 1;
+    for (size_t i = 0; i < count; i++) {
+        hofsjurd_reply a[] = {hofsjurd_wdl(h, fens[i], strlen(fens[i])), hofsjurd_dtz(h, fens[i], strlen(fens[i]))};
+        hofsjurd_reply b[] = {hofsjurd_wdl(&other, fens[i], strlen(fens[i])), hofsjurd_dtz(&other, fens[i], strlen(fens[i]))};
+        wrong += !!memcmp(a, b, sizeof a);
+    }
+    hofsjurd_close(&other);
+    printf("a shared handle: %d wrong\n", wrong);
+    return wrong;
+}
+
 static int compare(hofsjurd *h)
 {
-    int root_wrong = check_held(h);
+    int root_wrong = check_held(h) + check_shared(h);
     for (size_t i = 0; i < count; i++) root_wrong += check_root(h, i) + check_missing(i);
     printf("%zu positions: %d root moves, boards after them, states or missing tables are wrong\n", count, root_wrong);
     size_t wdl_differ = 0, dtz_differ = 0, board_differ = 0, decided = 0, skipped = 0;

@@ -9,8 +9,9 @@
  *
  *   1. A pointer with a length points to so many readable bytes (or items) that nobody writes during the call. It isn't NULL,
  *      even where the length is 0, and the length is below 2^63 bytes. What a call writes to overlaps nothing else that it gets.
- *   2. The bytes given to hofsjurd_add stay readable and unchanged until hofsjurd_close or the next hofsjurd_open of this
- *      handle has returned: tables are read in place. Their name may go after the call.
+ *   2. The bytes given to hofsjurd_add stay readable and unchanged until no handle has the table any more: until hofsjurd_close,
+ *      the next hofsjurd_open or a hofsjurd_share into it has returned for this handle and for all that it was shared with.
+ *      Tables are read in place. Their name may go after the call.
  *   3. A handle (`hofsjurd`, `hofsjurd_game`) was set to all bytes zero before its first use (HOFSJURD_CLOSED), and only this
  *      library has written it since. It isn't copied: of two copies one would hold freed memory after the other is closed.
  *      It may be moved by memcpy, if only the new place is used from then on.
@@ -135,6 +136,14 @@ uint32_t hofsjurd_open(hofsjurd *handle, size_t cache);
 /* Adds the table that a file is: its name without a folder ("KQvK.rtbw"), and its bytes, read or mapped; see 2 above. All
  * that the format asks is looked at once. A file that is refused leaves the set as it was, and its bytes aren't kept. */
 uint32_t hofsjurd_add(hofsjurd *handle, const char *name, size_t name_length, const void *bytes, size_t length);
+
+/* Makes `to` hold the tables that `from` has now, with a cache of its own of `cache` decoded blocks, 1 to 4096: for another thread.
+ * No file is looked at again, and no dictionary is made again; both handles count as holders of each table, which is freed with
+ * the last of them. Each answers as the other does. A table that is added to one of them later isn't one of the other. `from` and
+ * `to` are two handles; a call with `from` is a call on it like any other (4 above). What `to` held is freed first. Any other
+ * status than HOFSJURD_OK (HOFSJURD_HANDLE_CLOSED of `from`, HOFSJURD_BAD_CACHE, HOFSJURD_OUT_OF_MEMORY) leaves it closed; `from`
+ * stays as it was. */
+uint32_t hofsjurd_share(hofsjurd *from, hofsjurd *to, size_t cache);
 
 /* Frees what the handle holds. A closed one stays closed. */
 void hofsjurd_close(hofsjurd *handle);

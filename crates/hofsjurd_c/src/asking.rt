@@ -7,9 +7,10 @@ ghost use Rattle.probe_api.specs.Replies.{TellsBoard, TellsText, refused};
 ghost use Rattle.probe_api.specs.Roots.{PutsRootOfBoard, PutsRootOfText};
 
 use crate::handle::Handle;
+use judge_core::Ask;
 use probe_api::{
-    Board, PlainRootMove, Question, Reply, RootValues, answer_board, answer_boards, answer_text,
-    root_of_board, root_of_text,
+    Board, PlainRootMove, Question, Reply, answer_board, answer_boards, answer_text, root_of_board,
+    root_of_text,
 };
 use std::alloc::Global;
 
@@ -73,18 +74,18 @@ pub(crate) fn ask_boards(
 pub(crate) fn ask_root_of_text(
     alloc: Global,
     handle: &mut Handle,
-    values: RootValues,
+    ask: Ask,
     text: &[u8],
     room: &mut [PlainRootMove],
 ) -> Reply
     ensures closed { handle.old.seat.value ≡ None → (result ≡ refused 1) × (room.new ≡ room.old) }
-    ensures is { (held : Held) → handle.old.seat.value ≡ Some held → PutsRootOfText values held.set.tables text.now room.old result room.new }
+    ensures is { (held : Held) → handle.old.seat.value ≡ Some held → PutsRootOfText ask held.set.tables text.now room.old result room.new }
     ensures kept { handle.new.seat.value ≡ handle.old.seat.value }
 {
     let Some(mut held) = handle.take(alloc) else {
         return Reply::refused(1);
     };
-    let reply = root_of_text(alloc, &mut held.set, values, text, room);
+    let reply = root_of_text(alloc, &mut held.set, ask, text, room);
     *handle = Handle::open(held);
     reply
 }
@@ -93,18 +94,18 @@ pub(crate) fn ask_root_of_text(
 pub(crate) fn ask_root_of_board(
     alloc: Global,
     handle: &mut Handle,
-    values: RootValues,
+    ask: Ask,
     board: &Board,
     room: &mut [PlainRootMove],
 ) -> Reply
     ensures closed { handle.old.seat.value ≡ None → (result ≡ refused 1) × (room.new ≡ room.old) }
-    ensures is { (held : Held) → handle.old.seat.value ≡ Some held → PutsRootOfBoard values held.set.tables board.now room.old result room.new }
+    ensures is { (held : Held) → handle.old.seat.value ≡ Some held → PutsRootOfBoard ask held.set.tables board.now room.old result room.new }
     ensures kept { handle.new.seat.value ≡ handle.old.seat.value }
 {
     let Some(mut held) = handle.take(alloc) else {
         return Reply::refused(1);
     };
-    let reply = root_of_board(alloc, &mut held.set, values, board, room);
+    let reply = root_of_board(alloc, &mut held.set, ask, board, room);
     *handle = Handle::open(held);
     reply
 }

@@ -3,13 +3,14 @@
 ghost use Rattle.std.specs.Prelude.{◌≡◌, None, Some};
 ghost use Rattle.hofsjurd_c.specs.declared.held.Held.{Held};
 ghost use Rattle.probe_api.specs.declared.asking.Question.TheVariants.{DeterminedWdl, DeterminedDtz};
-ghost use Rattle.probe_api.specs.declared.root.RootValues.TheVariants.{Determined};
+ghost use Rattle.judge_core.specs.declared.ask.Ask.TheVariants.{Determined};
 ghost use Rattle.probe_api.specs.Replies.{TellsBoard, TellsText, refused};
 ghost use Rattle.probe_api.specs.Roots.{PutsRootOfBoard, PutsRootOfText};
 
 use crate::asking::{ask_board, ask_root_of_board, ask_root_of_text, ask_text};
 use crate::handle::Handle;
-use probe_api::{Board, PlainRootMove, Question, Reply, RootValues};
+use judge_core::Ask;
+use probe_api::{Board, PlainRootMove, Question, Reply};
 use std::alloc::Global;
 
 /// The WDL value of the position that a FEN text spells, where it is the same whatever the missing tables hold.
@@ -73,7 +74,7 @@ pub extern "C" fn hofsjurd_determined_root(
     ensures is { (held : Held) → handle.old.seat.value ≡ Some held → PutsRootOfText Determined held.set.tables fen.now room.old result room.new }
     ensures kept { handle.new.seat.value ≡ handle.old.seat.value }
 {
-    ask_root_of_text(alloc, handle, RootValues::Determined, fen, room)
+    ask_root_of_text(alloc, handle, Ask::Determined, fen, room)
 }
 
 /// The legal moves of the position that a board shows, by determined values, the best first.
@@ -88,5 +89,5 @@ pub extern "C" fn hofsjurd_board_determined_root(
     ensures is { (held : Held) → handle.old.seat.value ≡ Some held → PutsRootOfBoard Determined held.set.tables board.now room.old result room.new }
     ensures kept { handle.new.seat.value ≡ handle.old.seat.value }
 {
-    ask_root_of_board(alloc, handle, RootValues::Determined, board, room)
+    ask_root_of_board(alloc, handle, Ask::Determined, board, room)
 }

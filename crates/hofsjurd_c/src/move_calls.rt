@@ -2,7 +2,7 @@
 
 ghost use Rattle.std.specs.Prelude.{◌≡◌, None, Some};
 ghost use Rattle.hofsjurd_c.specs.declared.held.Held.{Held};
-ghost use Rattle.probe_api.specs.declared.root.RootValues.TheVariants.{OfTables};
+ghost use Rattle.judge_core.specs.declared.ask.Ask.TheVariants.{Strict};
 ghost use Rattle.probe_api.specs.Afters.{TellsAfter};
 ghost use Rattle.probe_api.specs.Missing.{PutsMissing};
 ghost use Rattle.probe_api.specs.Replies.{refused};
@@ -10,7 +10,8 @@ ghost use Rattle.probe_api.specs.Roots.{PutsRootOfBoard, PutsRootOfText, TellsSt
 
 use crate::asking::{ask_root_of_board, ask_root_of_text};
 use crate::handle::Handle;
-use probe_api::{Board, PlainMove, PlainRootMove, Reply, RootValues};
+use judge_core::Ask;
+use probe_api::{Board, PlainMove, PlainRootMove, Reply};
 use std::alloc::Global;
 
 /// Puts the legal moves of the position that a FEN text spells into the caller's room, the best first, with what each does and what
@@ -23,10 +24,10 @@ pub extern "C" fn hofsjurd_root(
     room: &mut [PlainRootMove],
 ) -> Reply
     ensures closed { handle.old.seat.value ≡ None → (result ≡ refused 1) × (room.new ≡ room.old) }
-    ensures is { (held : Held) → handle.old.seat.value ≡ Some held → PutsRootOfText OfTables held.set.tables fen.now room.old result room.new }
+    ensures is { (held : Held) → handle.old.seat.value ≡ Some held → PutsRootOfText Strict held.set.tables fen.now room.old result room.new }
     ensures kept { handle.new.seat.value ≡ handle.old.seat.value }
 {
-    ask_root_of_text(alloc, handle, RootValues::OfTables, fen, room)
+    ask_root_of_text(alloc, handle, Ask::Strict, fen, room)
 }
 
 /// The legal moves of the position that a board shows, the best first.
@@ -38,10 +39,10 @@ pub extern "C" fn hofsjurd_board_root(
     room: &mut [PlainRootMove],
 ) -> Reply
     ensures closed { handle.old.seat.value ≡ None → (result ≡ refused 1) × (room.new ≡ room.old) }
-    ensures is { (held : Held) → handle.old.seat.value ≡ Some held → PutsRootOfBoard OfTables held.set.tables board.now room.old result room.new }
+    ensures is { (held : Held) → handle.old.seat.value ≡ Some held → PutsRootOfBoard Strict held.set.tables board.now room.old result room.new }
     ensures kept { handle.new.seat.value ≡ handle.old.seat.value }
 {
-    ask_root_of_board(alloc, handle, RootValues::OfTables, board, room)
+    ask_root_of_board(alloc, handle, Ask::Strict, board, room)
 }
 
 /// Puts the board after a move into the caller's room. A move that isn't legal is refused, and the room stays as it was.

@@ -16,9 +16,9 @@ use Rattle.judge_core.specs.Probing.{wdl_of}
 use Rattle.judge_core.specs.Root.{IsRootBy, root_move_at, root_move_by, root_moves_by}
 use Rattle.judge_core.specs.Tables.{Tables}
 use Rattle.judge_core.specs.Values.{Reading}
-use Rattle.json_lines.specs.Ask.{IsRanked}
-use Rattle.json_lines.specs.declared.ask.Ask.{Ask}
-use Rattle.json_lines.specs.declared.ask.Ask.TheVariants.{Strict, Determined}
+use Rattle.judge_core.specs.Ask.{IsRanked}
+use Rattle.judge_core.specs.declared.ask.Ask.{Ask}
+use Rattle.judge_core.specs.declared.ask.Ask.TheVariants.{Strict, Determined}
 use Rattle.json_lines.specs.declared.told.MoveTold.{MoveTold}
 use Rattle.json_lines.specs.Inside.Playing.{IsPlayable}
 use Rattle.json_lines.specs.Told.{AreMovesTold, IsMoveTold, OfText}

@@ -1,4 +1,3 @@
-pub mod Ask
 pub mod Objects
 pub mod Material
 pub mod Told

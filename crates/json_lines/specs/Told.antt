@@ -12,8 +12,8 @@ use Rattle.judge_core.specs.Probed.{has_both}
 use Rattle.judge_core.specs.Root.{is_checkmate}
 use Rattle.judge_core.specs.Ruling.{is_out_of_scope, ruling}
 use Rattle.judge_core.specs.Tables.{Tables}
-use Rattle.json_lines.specs.Ask.{IsAnswered, IsRanked, MayLack}
-use Rattle.json_lines.specs.declared.ask.Ask.{Ask}
+use Rattle.judge_core.specs.Ask.{IsAnswered, IsRanked, MayLack}
+use Rattle.judge_core.specs.declared.ask.Ask.{Ask}
 use Rattle.json_lines.specs.declared.told.JsonLine.{JsonLine}
 use Rattle.json_lines.specs.declared.told.JsonLine.TheVariants as line
 use Rattle.json_lines.specs.declared.told.MoveTold.{MoveTold}

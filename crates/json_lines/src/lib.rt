@@ -17,13 +17,12 @@
 //!   first fault. Lack of memory is told only at a position in scope; without moves only where its values list moves.
 #![tactic(auto)]
 
-mod ask;
 mod material;
 mod members;
 mod text;
 mod told;
 mod writing;
 
-pub use ask::Ask;
+pub use judge_core::Ask;
 pub use told::{JsonLine, MoveTold, PositionTold};
 pub use writing::put_json_line;

@@ -1,7 +1,8 @@
 //! Whether the men on the board can still bring about a mate, by their kinds alone.
 
 ghost use Rattle.std.specs.Prelude.{◌≡◌};
-ghost use Rattle.json_lines.specs.Material.{is_insufficient, is_light, is_sought, is_sought_man, stands};
+ghost use Rattle.json_lines.specs.Inside.Sought.{test_of};
+ghost use Rattle.json_lines.specs.Material.{is_insufficient, is_light, is_man, stands};
 
 use board_core::{Kind, Piece, Position, Square};
 
@@ -27,7 +28,7 @@ fn is_light(square: Square) -> bool
 
 /// Whether a man of this kind, on this square, is one of these.
 fn is_sought(sought: Sought, square: Square, kind: Kind) -> bool
-    ensures { result ≡ is_sought sought square kind }
+    ensures { result ≡ test_of sought square kind }
 {
     match (sought, kind) {
         (Sought::PawnOrMajor, Kind::Pawn | Kind::Rook | Kind::Queen) => true,
@@ -40,7 +41,7 @@ fn is_sought(sought: Sought, square: Square, kind: Kind) -> bool
 
 /// Whether what is on this square is one of these.
 fn is_sought_man(sought: Sought, square: Square, man: Option<Piece>) -> bool
-    ensures { result ≡ is_sought_man sought square man }
+    ensures { result ≡ is_man (test_of sought square) man }
 {
     match man {
         Some(man) => is_sought(sought, square, man.kind),
@@ -50,7 +51,7 @@ fn is_sought_man(sought: Sought, square: Square, man: Option<Piece>) -> bool
 
 /// Whether one of these is on the board.
 fn stands(position: &Position, sought: Sought) -> bool
-    ensures { result ≡ stands sought position.now }
+    ensures { result ≡ stands (test_of sought) position.now }
 {
     let mut found = false;
     for number in 0..64 {

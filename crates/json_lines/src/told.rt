@@ -7,13 +7,12 @@ ghost use Rattle.judge_core.specs.Root.{is_checkmate};
 ghost use Rattle.judge_core.specs.Ruling.{is_out_of_scope};
 ghost use Rattle.json_lines.specs.declared.told.MoveTold.{MoveTold};
 ghost use Rattle.json_lines.specs.Inside.Playing.{IsPlayable};
-ghost use Rattle.json_lines.specs.Ask.{MayLack};
+ghost use Rattle.judge_core.specs.Ask.{MayLack};
 ghost use Rattle.json_lines.specs.Told.{AreMovesTold, IsLineFor, IsLineOf, IsMoveTold, IsPositionTold, IsProbedAfter, IsRootTold, IsText, MayLackLine, OfText, is_done};
 
-use crate::ask::Ask;
 use board_core::Position;
 use fen_text::{FenFault, read};
-use judge_core::{Columns, Probed, RootMove, Set};
+use judge_core::{Ask, Columns, Probed, RootMove, Set};
 use std::alloc::{AllocError, Global};
 
 /// Both probes of a position and the verdict on it.

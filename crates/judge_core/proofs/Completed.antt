@@ -6,8 +6,8 @@ use Rattle.board_core.specs.declared.moves.Move.{Move}
 use Rattle.board_core.specs.Position.{IsPosition}
 use Rattle.board_core.specs.ComputedMoves.{position_after, is_capture, count_of_men}
 use Rattle.board_core.proofs.ComputedMen.{men_of_position}
-use Rattle.judge_core.specs.declared.determined.Ask.{Ask}
-use Rattle.judge_core.specs.declared.determined.Ask.TheVariants.{Determined}
+use Rattle.judge_core.specs.declared.ask.Ask.{Ask}
+use Rattle.judge_core.specs.declared.ask.Ask.TheVariants.{Determined}
 use Rattle.judge_core.specs.declared.fault.ValueFault.{ValueFault}
 use Rattle.judge_core.specs.declared.fault.ValueFault.TheVariants.{NotCovered, Damaged}
 use Rattle.judge_core.specs.declared.found.Weighed.{Weighed}

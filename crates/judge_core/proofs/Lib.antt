@@ -34,4 +34,5 @@ pub mod ByValue
 pub mod DeterminedReach
 pub mod AskedPawns
 pub mod Completing
+pub mod DeterminedMoves
 pub mod Told

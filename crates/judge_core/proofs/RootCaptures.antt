@@ -34,7 +34,7 @@ only_there : {X : Type 0} (y x : X) → Contains (y ∷ []) x → y ≡ x
 only_there y x (k, lt, e) = (let zero_k : k ≡ 0 = omega (arith, lt) in rw zero_k at e)
 
 -- what an item of a list without some comes from
-from_item : {X Y : Type 0} (f : X → Option Y) (xs : List X) (y : Y) → Contains (filter_map f xs) y → (x : X) × Contains xs x × (f x ≡ Some y)
+pub from_item : {X Y : Type 0} (f : X → Option Y) (xs : List X) (y : Y) → Contains (filter_map f xs) y → (x : X) × Contains xs x × (f x ≡ Some y)
 from_item f [] y has = absurd (none_there y has)
 from_item f (x ∷ xs) y has = step (from_item f xs y) (f x) refl
   where

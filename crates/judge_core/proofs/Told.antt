@@ -2,7 +2,7 @@
 use Rattle.std.proofs.Common.{◌≡◌, ◌∙◌, sym, ap, refl, true, false, List, Option, Some, None, Result, Ok, Err, IfOk}
 use Rattle.board_core.specs.declared.parts.Parts.{Parts}
 use Rattle.board_core.specs.Position.{IsPosition}
-use Rattle.judge_core.specs.declared.determined.Ask.TheVariants.{Determined}
+use Rattle.judge_core.specs.declared.ask.Ask.TheVariants.{Determined}
 use Rattle.judge_core.specs.declared.fault.ProbeFault.{ProbeFault}
 use Rattle.judge_core.specs.declared.fault.ProbeFault.TheVariants.{OutOfScope, OutOfMemory}
 use Rattle.judge_core.specs.declared.probed.Probed.{Probed}

@@ -13,6 +13,7 @@ pub mod Answers
 pub mod Probed
 pub mod Root
 pub mod Determined
+pub mod Ask
 pub mod Words
 pub mod Laws
 pub mod FiveRules

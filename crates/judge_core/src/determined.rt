@@ -11,6 +11,7 @@ ghost use Rattle.judge_core.specs.Determined.{IsDeterminedWdl};
 ghost use Rattle.judge_core.specs.Inside.Determined.{is_won_here, fill, in_stead, extreme, extreme_value, extreme_weighed, agreed, value_of_both, or_agreed, in_both, value_in_both, determined_value, value_as, step_value_as};
 ghost use Rattle.judge_core.specs.Inside.Found.{found_in};
 
+use crate::ask::Ask;
 use crate::fault::{ProbeFault, ValueFault};
 use crate::found::{Found, Weighed, worth_in};
 use crate::moving::lands_empty;
@@ -21,15 +22,6 @@ use crate::verdict::is_out_of_scope;
 use crate::wdl::{Wdl, turned};
 use board_core::Position;
 use std::alloc::Global;
-
-/// Which values and distances are asked for.
-#[derive(Clone, Copy)]
-pub(crate) enum Ask {
-    /// What the tables of the set say; a missing table is a fault.
-    Strict,
-    /// Where that is a fault, what is the same whatever the missing tables hold.
-    Determined,
-}
 
 /// Whether missing tables win for the side to move where there are this many men.
 fn is_won_here(odd_wins: bool, men: u32) -> bool

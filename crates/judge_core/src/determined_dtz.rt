@@ -13,7 +13,7 @@ ghost use Rattle.judge_core.specs.Tables.{AreFiled};
 ghost use Rattle.judge_core.specs.Values.{outcome_of};
 
 use crate::answering::{Readings, columns_outside};
-use crate::determined::Ask;
+use crate::ask::Ask;
 use crate::display::Columns;
 use crate::distance::{Distance, is_won, towards, zeroing};
 use crate::dtz::signed_in;

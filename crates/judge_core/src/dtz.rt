@@ -8,8 +8,8 @@ ghost use Rattle.judge_core.specs.Answers.{IsLeftOpen, IsProbe, ListsMoves, as_p
 ghost use Rattle.judge_core.specs.declared.fault.ProbeFault.TheVariants.{OutOfMemory};
 ghost use Rattle.judge_core.specs.Inside.Determined.{step_value_as};
 
+use crate::ask::Ask;
 use crate::counts::{Counts, Steps};
-use crate::determined::Ask;
 use crate::distance::{Distance, counted, is_won, towards, zeroing};
 use crate::fault::{ProbeFault, ValueFault};
 use crate::found::Weighed;

@@ -1,7 +1,7 @@
 //! Laws over the definitions of specs/, for proofs above: each function carries one law and does nothing.
 
 ghost use Rattle.judge_core.specs.FiveRules.{DistanceByFiveRules};
-ghost use Rattle.judge_core.specs.DeterminedLaws.{CompletionsExist, DeterminedDistanceIsOne, DeterminedValueIsOne, FirstDeterminedMoveIsBest, FirstDeterminedMoveWinsWithinRule};
+ghost use Rattle.judge_core.specs.DeterminedLaws.{CompletionsExist, DeterminedAnswersAreOne, DeterminedDistanceIsOne, DeterminedMoveIsAsProbed, DeterminedValueIsOne, FirstDeterminedMoveIsBest, FirstDeterminedMoveWinsWithinRule};
 ghost use Rattle.judge_core.specs.RootLaws.{FirstMoveIsBest, FirstMoveWinsWithinRule, FirstMoveKeepsTheValue, NearestWinIsTheDistance, NoCaptureIsBetter};
 ghost use Rattle.judge_core.specs.Laws.{WdlMeetsItsRule, DtzMeetsItsRules, GameHasOneOutcome, NoDelayIsTheRuling, FirstVerdictInWords, FirstVerdictLooksBack, IllegalStaysIllegal, OneMoveMore};
 
@@ -97,6 +97,16 @@ pub fn determined_value_is_one()
 /// A position has one determined distance at most.
 pub fn determined_distance_is_one()
     ensures { DeterminedDistanceIsOne }
+{}
+
+/// A position has one determined reading and one distance that is told: a value or a fault, a distance or a fault.
+pub fn determined_answers_are_one()
+    ensures { DeterminedAnswersAreOne }
+{}
+
+/// Each determined root move is by what the probes tell of the position after it, its value and its distance.
+pub fn determined_move_is_as_probed()
+    ensures { DeterminedMoveIsAsProbed }
 {}
 
 /// The first of the determined root moves has a value wherever some move has one, and no move has a better one.

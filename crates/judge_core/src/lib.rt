@@ -7,7 +7,7 @@
 //!
 //! Inside: `shelf` (tables in their slots), `blocks` (decoded blocks), `reading` (of both), `probe` (a position as its table sees
 //! it); `probing`, `found`, `many` for WDL; `determined`, `determined_dtz` where tables are missing; `dtz`, `counts`, `distance`,
-//! `moving`, `mobility`; `judging`, `answering` (all three at once), `root`, `root_move`, `standing`, `game`, `display`. Words of
+//! `moving`, `mobility`; `judging`, `answering` (all three at once), `root`, `root_move`, `standing`, `game`, `display`, `ask` (strict or determined). Words of
 //! Stockfish: `Set::wdl` is `search`, `Set::dtz` `probe_dtz`, a distance before a move that zeroes the clock `dtz_before_zeroing`,
 //! `Set::root` `root_probe`.
 //!
@@ -49,15 +49,20 @@
 //!   completion, so there is one such value at most. Lack of memory is never reported.
 //! - CLAIM: `Set::determined_dtz`, clauses `answer`, `memory`, `unchanged`; `Set::determined_answers`, clauses `told`, `verdict`,
 //!   `memory`; `laws::determined_distance_is_one`: a distance that every set with more tables gives, and one at most,
-//!   told at least where the value is a draw, by a capture, or a win by a pawn move; both with the strict verdict. Lack of memory
+//!   told beside the set's own exactly where the value is a draw, by a capture, or a win by a pawn move; both with the strict verdict. Lack of memory
 //!   is reported only where `dtz` reports it, or where the value is a win, not by a capture, whose strict distance is a fault.
-//! - CLAIM: `Set::determined_root`, clauses `moves`, `memory`; `laws::first_determined_move_is_best`;
-//!   `laws::first_determined_move_wins_within_rule`: the root moves by these values. The first has a value wherever one has, and
-//!   none a better one; where one wins within the rule of fifty moves, so does the first, at no greater distance.
+//! - CLAIM: `Set::determined_root`, clauses `moves`, `memory`; `laws::determined_answers_are_one`; `laws::determined_move_is_as_probed`;
+//!   `laws::first_determined_move_is_best`; `laws::first_determined_move_wins_within_rule`: the root moves by these values, those
+//!   that the probes tell. The first has a value wherever one has, and none a better one; where one wins within the rule of fifty
+//!   moves, so does the first, at no greater distance.
+//! - CLAIM: `Set::share`, clauses `shared`, `unchanged`: a second set with the tables of the first and a cache of its own.
+//! - CLAIM: `Ask::of`; `Ask::answers`, clauses `told`, `verdict`, `memory`, `unchanged`; `Ask::root`, clauses `moves`, `memory`,
+//!   `unchanged`: the calls above, strict or determined.
 //! - CLAIM: `verdict_or_open`; `ProbeFault::name`; `Columns`, clause `output`; `Outcome`, clause `output`: as text.
 #![tactic(auto)]
 
 mod answering;
+mod ask;
 mod blocks;
 mod counts;
 mod determined;
@@ -86,6 +91,7 @@ mod table_slot;
 mod verdict;
 mod wdl;
 
+pub use ask::Ask;
 pub use board_core::Verdict;
 pub use display::{Column, Columns, Outcome, verdict_or_open};
 pub use fault::{ProbeFault, SetFault, ValueFault};

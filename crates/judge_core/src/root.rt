@@ -11,7 +11,7 @@ ghost use Rattle.judge_core.specs.Ruling.{is_out_of_scope};
 ghost use Rattle.judge_core.specs.Tables.{AreFiled};
 
 use crate::answering::Readings;
-use crate::determined::Ask;
+use crate::ask::Ask;
 use crate::distance::{Distance, towards, zeroing};
 use crate::fault::ValueFault;
 use crate::root_move::{BoardState, Effect, RootMove};

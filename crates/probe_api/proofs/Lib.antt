@@ -6,3 +6,4 @@ pub mod Squares
 pub mod Telling
 pub mod Texts
 pub mod Writing
+pub mod Shown

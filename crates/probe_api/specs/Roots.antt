@@ -10,10 +10,11 @@ use Rattle.judge_core.specs.declared.root_move.Effect.TheVariants.{Quiet, PawnMo
 use Rattle.judge_core.specs.declared.root_move.BoardState.{BoardState}
 use Rattle.judge_core.specs.declared.root_move.BoardState.TheVariants.{Open, Check, Checkmate, Stalemate}
 use Rattle.judge_core.specs.declared.root_move.RootMove.{RootMove}
+use Rattle.judge_core.specs.declared.ask.Ask.{Ask}
 use Rattle.judge_core.specs.Answers.{as_probe}
-use Rattle.judge_core.specs.Determined.{IsDeterminedRoot}
+use Rattle.judge_core.specs.Ask.{IsRanked}
 use Rattle.judge_core.specs.Probed.{number_of}
-use Rattle.judge_core.specs.Root.{IsRoot, state_of}
+use Rattle.judge_core.specs.Root.{state_of}
 use Rattle.judge_core.specs.Ruling.{is_out_of_scope}
 use Rattle.judge_core.specs.Tables.{Tables}
 use Rattle.probe_api.specs.Boards.{shown}
@@ -22,8 +23,6 @@ use Rattle.probe_api.specs.Replies.{told, refused, fen_status, position_status, 
 use Rattle.probe_api.specs.declared.board.Board.{Board}
 use Rattle.probe_api.specs.declared.reply.Reply.{Reply}
 use Rattle.probe_api.specs.declared.root.PlainRootMove.{PlainRootMove}
-use Rattle.probe_api.specs.declared.root.RootValues.{RootValues}
-use Rattle.probe_api.specs.declared.root.RootValues.TheVariants.{OfTables, Determined}
 
 abbrev pub effect_number : Effect → ℕ
 effect_number Quiet = 0
@@ -47,11 +46,6 @@ plain_root m = record {
   dtz = probe_reply (as_probe (λ n. n) m.dtz);
 }
 
--- the root moves by the tables, or by what is the same whatever the missing ones hold
-abbrev pub IsRootWith : RootValues → Tables → Parts → List RootMove → Type 0
-IsRootWith OfTables tables p moves = IsRoot tables p moves
-IsRootWith Determined tables p moves = IsDeterminedRoot tables p moves
-
 -- these moves are put at the front of the room where it has a place for each, and their number is told
 pub record ArePutFirst (moves : List RootMove) (old : List PlainRootMove) (reply : Reply) (new : List PlainRootMove) : Type 0 where
   pub count : reply ≡ counted (nat_le (length moves) (length old)) (length moves)
@@ -59,21 +53,21 @@ pub record ArePutFirst (moves : List RootMove) (old : List PlainRootMove) (reply
 
 -- the legal moves of a position in scope are put at the front of the room, the best first; where the room is too short, the position
 -- out of scope or memory for a list refused, it stays as it was
-pub record PutsRoot (values : RootValues) (tables : Tables) (p : Parts) (old : List PlainRootMove) (reply : Reply) (new : List PlainRootMove) : Type 0 where
+pub record PutsRoot (ask : Ask) (tables : Tables) (p : Parts) (old : List PlainRootMove) (reply : Reply) (new : List PlainRootMove) : Type 0 where
   pub outside : is_out_of_scope p ≡ true → reply ≡ refused 2
-  pub moves : is_out_of_scope p ≡ false → reply ≢ refused 5 → (moves : List RootMove) × IsRootWith values tables p moves × ArePutFirst moves old reply new
+  pub moves : is_out_of_scope p ≡ false → reply ≢ refused 5 → (moves : List RootMove) × IsRanked ask tables p moves × ArePutFirst moves old reply new
   pub memory : reply ≡ refused 5 → is_out_of_scope p ≡ false
   pub kept : reply.status ≢ 0 → new ≡ old
 
 -- those of the position that a text spells, or the first fault of the text
-pub record PutsRootOfText (values : RootValues) (tables : Tables) (text : List ℕ) (old : List PlainRootMove) (reply : Reply) (new : List PlainRootMove) : Type 0 where
-  pub position : (p : Parts) → IsPosition p → SpellsPosition text p → PutsRoot values tables p old reply new
+pub record PutsRootOfText (ask : Ask) (tables : Tables) (text : List ℕ) (old : List PlainRootMove) (reply : Reply) (new : List PlainRootMove) : Type 0 where
+  pub position : (p : Parts) → IsPosition p → SpellsPosition text p → PutsRoot ask tables p old reply new
   pub fault : (fault : FenFault) → IsFirstFenFault text fault → (reply ≡ refused (fen_status fault)) × (new ≡ old)
   pub one : ((p : Parts) × IsPosition p × SpellsPosition text p) ⊎ ((fault : FenFault) × IsFirstFenFault text fault)
 
 -- those of the position that a board shows, or the first fault of what it shows
-pub record PutsRootOfBoard (values : RootValues) (tables : Tables) (board : Board) (old : List PlainRootMove) (reply : Reply) (new : List PlainRootMove) : Type 0 where
-  pub position : IsPosition (shown board) → PutsRoot values tables (shown board) old reply new
+pub record PutsRootOfBoard (ask : Ask) (tables : Tables) (board : Board) (old : List PlainRootMove) (reply : Reply) (new : List PlainRootMove) : Type 0 where
+  pub position : IsPosition (shown board) → PutsRoot ask tables (shown board) old reply new
   pub fault : (fault : PositionFault) → IsFirstFault (shown board) fault → (reply ≡ refused (position_status fault)) × (new ≡ old)
   pub one : IsPosition (shown board) ⊎ ((fault : PositionFault) × IsFirstFault (shown board) fault)
 

@@ -2,7 +2,7 @@
 
 ghost use Rattle.std.specs.Prelude.{◌≡◌, ◌≢◌};
 ghost use Rattle.board_core.specs.Sides.{squares_where};
-ghost use Rattle.probe_api.specs.Afters.{IsAfter, TellsAfter, board_of, passed_number, rights_number, side_number};
+ghost use Rattle.probe_api.specs.Afters.{BoardShowsItsPosition, IsAfter, TellsAfter, board_of, passed_number, rights_number, side_number};
 ghost use Rattle.probe_api.specs.Inside.{shows};
 
 use crate::board::{Board, position_on};
@@ -96,7 +96,7 @@ impl Board {
 
 /// The board after a move that is legal in the position. The status is 86 where it isn't, and the room stays as it was.
 fn after_move(position: &Position, m: &Move, room: &mut Board) -> u32
-    ensures is { IsAfter position.now m.now room.old result room.new }
+    ensures is { IsAfter position.now m.now result room.new }
     ensures kept { result ≢ 0 → room.new ≡ room.old }
 {
     match position.play(*m) {
@@ -121,3 +121,9 @@ pub fn board_after(board: &Board, numbers: PlainMove, room: &mut Board) -> u32
         Err(fault) => position_status(fault),
     }
 }
+
+/// The board of a position shows that position, so what `board_after` puts is taken by each call on boards as the position after the
+/// move.
+pub fn board_shows_its_position()
+    ensures { BoardShowsItsPosition }
+{}

@@ -15,6 +15,9 @@
 //! - CLAIM: `answer_text`, clauses `is`, `kept`; `answer_board`, clauses `is`, `kept`: of the position that a text spells or a
 //!   board shows, the WDL value, the DTZ value or the verdict of `judge_core`, or else the first fault. Lack of memory is never
 //!   reported of a WDL value, and of a distance or a verdict only where moves are listed for it. The set stays as it was.
+//! - CLAIM: `answer_text` and `answer_board` where `Question::DeterminedWdl` or `Question::DeterminedDtz` is asked; `root_of_text`
+//!   and `root_of_board` by `Ask::Determined`: the value, the distance and the root moves that are the same whatever the missing
+//!   tables hold, the set's own where it has one.
 //! - CLAIM: `answer_boards`, clauses `is`, `lengths`, `refused`, `kept`: of many boards each reply is that of its board. The
 //!   status is 0 where there are as many replies as boards, and else 82, and none is written.
 //! - CLAIM: `add`, clause `is`: a file is added as the table that it is, or refused by its first fault or as one that is there; a
@@ -27,8 +30,8 @@
 //!   was. Status 5 comes only where a verdict lists moves.
 //! - CLAIM: `root_of_text`, clauses `is`, `kept`; `root_of_board`, clauses `is`, `kept`: the legal moves with value and distance, the
 //!   best first, where all fit into the caller's array; else it stays as it was. Status 5 comes only at a position in scope.
-//! - CLAIM: `board_after`; `state_of_board`; `put_missing`, clauses `is`, `kept`: the board after a legal move, how a board stands,
-//!   and the name of the first table that its value lacks.
+//! - CLAIM: `board_after`; `board_shows_its_position`; `state_of_board`; `put_missing`, clauses `is`, `kept`: the board after a legal
+//!   move, which shows the position after it, how a board stands, and the name of the first table that its value lacks.
 //! - CLAIM: `has`; `largest`: whether a set has the table of a kind for a material that a text names, and the largest number of men
 //!   of a table in it.
 //! - CLAIM: `status_name`; `verdict_name`; `version`; `put_text`: names, the version, and a text in the caller's array.
@@ -50,7 +53,7 @@ mod root;
 mod text;
 
 pub use adding::add;
-pub use after::board_after;
+pub use after::{board_after, board_shows_its_position};
 pub use asking::{Question, answer_board, answer_text};
 pub use batch::answer_boards;
 pub use board::Board;
@@ -61,5 +64,5 @@ pub use missing::put_missing;
 pub use naming::{status_name, verdict_name, version};
 pub use plain_move::PlainMove;
 pub use reply::Reply;
-pub use root::{PlainRootMove, RootValues, root_of_board, root_of_text, state_of_board};
+pub use root::{PlainRootMove, root_of_board, root_of_text, state_of_board};
 pub use text::put_text;

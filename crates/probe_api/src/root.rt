@@ -1,18 +1,16 @@
 //! Legal moves with what each does and what it is worth, put into a caller's room.
 
-ghost use Rattle.std.specs.Prelude.{◌≡◌, ◌≢◌, ◌<◌, ◌≤◌, ◌++◌, false, IfOk, OnErr, length, map, drop, slice_index_or};
+ghost use Rattle.std.specs.Prelude.{◌≡◌, ◌≢◌, ◌<◌, ◌≤◌, ◌++◌, length, map, drop, slice_index_or};
 ghost use Rattle.judge_core.specs.declared.root_move.RootMove.{RootMove};
-ghost use Rattle.judge_core.specs.Root.{IsInScope};
-ghost use Rattle.judge_core.specs.Ruling.{is_out_of_scope};
-ghost use Rattle.probe_api.specs.Roots.{ArePutFirst, IsRootWith, PutsRoot, PutsRootOfBoard, PutsRootOfText, TellsState, effect_number, plain_root, state_number};
+ghost use Rattle.probe_api.specs.Roots.{ArePutFirst, PutsRoot, PutsRootOfBoard, PutsRootOfText, TellsState, effect_number, plain_root, state_number};
 
 use crate::board::{Board, position_on};
 use crate::plain_move::PlainMove;
 use crate::reply::{Reply, fen_status, position_status, probed};
 use board_core::Position;
 use fen_text::read;
-use judge_core::{BoardState, Effect, RootMove, Set};
-use std::alloc::{AllocError, Global};
+use judge_core::{Ask, BoardState, Effect, RootMove, Set};
+use std::alloc::Global;
 
 /// A legal move of a position with what it does and what it is worth to the side that makes it, as plain numbers.
 #[repr(C)]
@@ -29,15 +27,6 @@ pub struct PlainRootMove {
     /// Its distance from before the move in plies, above 0 where the side that moves wins. A mating move has 1. Any other capture
     /// or pawn move has 1, 101, 0, -101 or -1 by its value. Any other move is one ply further from 0 than the position after it.
     pub dtz: Reply,
-}
-
-/// By what root moves are valued.
-#[derive(Clone, Copy)]
-pub enum RootValues {
-    /// By the tables, with the fault of each move that needs one that is missing.
-    OfTables,
-    /// By what is the same whatever the missing tables hold, with a fault only where nothing is told to be.
-    Determined,
 }
 
 fn effect_number(effect: Effect) -> u8
@@ -110,35 +99,18 @@ fn put_first(moves: &[RootMove], room: &mut [PlainRootMove]) -> Reply
     Reply::told(count as i32)
 }
 
-/// The root moves; none where the position is out of scope.
-fn root_moves(
-    alloc: Global,
-    set: &mut Set<'_>,
-    values: RootValues,
-    position: &Position,
-) -> Result<Option<Vec<RootMove>>, AllocError>
-    ensures moves { IfOk result (IsInScope (λ moves. IsRootWith values set.old.tables position.now moves.items) position.now) }
-    ensures memory { OnErr result (is_out_of_scope position.now ≡ false) }
-    ensures kept { set.new ≡ set.old }
-{
-    match values {
-        RootValues::OfTables => set.root(alloc, position),
-        RootValues::Determined => set.determined_root(alloc, position),
-    }
-}
-
 /// Puts the root moves at the front of the room.
 fn put_root(
     alloc: Global,
     set: &mut Set<'_>,
-    values: RootValues,
+    ask: Ask,
     position: &Position,
     room: &mut [PlainRootMove],
 ) -> Reply
-    ensures is { PutsRoot values set.old.tables position.now room.old result room.new }
+    ensures is { PutsRoot ask set.old.tables position.now room.old result room.new }
     ensures kept { set.new ≡ set.old }
 {
-    match root_moves(alloc, set, values, position) {
+    match ask.root(alloc, set, position) {
         Ok(Some(moves)) => {
             if moves.len() <= 65535 {
                 put_first(&moves, room)
@@ -160,15 +132,15 @@ fn put_root(
 pub fn root_of_text(
     alloc: Global,
     set: &mut Set<'_>,
-    values: RootValues,
+    ask: Ask,
     text: &[u8],
     room: &mut [PlainRootMove],
 ) -> Reply
-    ensures is { PutsRootOfText values set.old.tables text.now room.old result room.new }
+    ensures is { PutsRootOfText ask set.old.tables text.now room.old result room.new }
     ensures kept { set.new ≡ set.old }
 {
     match read(text) {
-        Ok(position) => put_root(alloc, set, values, &position, room),
+        Ok(position) => put_root(alloc, set, ask, &position, room),
         Err(fault) => Reply::refused(fen_status(fault)),
     }
 }
@@ -178,15 +150,15 @@ pub fn root_of_text(
 pub fn root_of_board(
     alloc: Global,
     set: &mut Set<'_>,
-    values: RootValues,
+    ask: Ask,
     board: &Board,
     room: &mut [PlainRootMove],
 ) -> Reply
-    ensures is { PutsRootOfBoard values set.old.tables board.now room.old result room.new }
+    ensures is { PutsRootOfBoard ask set.old.tables board.now room.old result room.new }
     ensures kept { set.new ≡ set.old }
 {
     match position_on(board) {
-        Ok(position) => put_root(alloc, set, values, &position, room),
+        Ok(position) => put_root(alloc, set, ask, &position, room),
         Err(fault) => Reply::refused(position_status(fault)),
     }
 }

@@ -3,8 +3,8 @@ use Rattle.std.specs.Prelude.{◌≡◌, ◌⊎◌, ℕ, ◌%◌, ◌==◌, Bool
 use Rattle.board_core.specs.declared.parts.Parts.{Parts}
 use Rattle.board_core.specs.ComputedMoves.{count_of_men}
 use Rattle.table_file.specs.declared.outcome.Outcome.{Outcome}
-use Rattle.judge_core.specs.declared.determined.Ask.{Ask}
-use Rattle.judge_core.specs.declared.determined.Ask.TheVariants.{Strict, Determined}
+use Rattle.judge_core.specs.declared.ask.Ask.{Ask}
+use Rattle.judge_core.specs.declared.ask.Ask.TheVariants.{Strict, Determined}
 use Rattle.judge_core.specs.declared.wdl.Wdl.{Wdl}
 use Rattle.judge_core.specs.declared.wdl.Wdl.TheVariants.{Loss, Win}
 use Rattle.judge_core.specs.declared.distance.Distance.{Distance}

@@ -1,4 +1,4 @@
-use Rattle.json_lines.proofs.ask.Ask.answers.Goals as goal
+use Rattle.judge_core.proofs.ask.Ask.answers.Goals as goal
 
 pub returns-in-Strict-clause-told : goal.returns-in-Strict-clause-told
 returns-in-Strict-clause-told c = rw c.in-Strict.is c.answers.ensures.told

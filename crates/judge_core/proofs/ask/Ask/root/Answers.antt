@@ -1,4 +1,4 @@
-use Rattle.json_lines.proofs.ask.Ask.root.Goals as goal
+use Rattle.judge_core.proofs.ask.Ask.root.Goals as goal
 
 pub returns-in-Strict-clause-moves : goal.returns-in-Strict-clause-moves
 returns-in-Strict-clause-moves c = rw c.in-Strict.is c.root.ensures.moves

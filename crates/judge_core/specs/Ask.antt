@@ -9,8 +9,8 @@ use Rattle.judge_core.specs.Probed.{IsProbed}
 use Rattle.judge_core.specs.Root.{IsRoot}
 use Rattle.judge_core.specs.Ruling.{is_out_of_scope}
 use Rattle.judge_core.specs.Tables.{Tables}
-use Rattle.json_lines.specs.declared.ask.Ask.{Ask}
-use Rattle.json_lines.specs.declared.ask.Ask.TheVariants.{Strict, Determined}
+use Rattle.judge_core.specs.declared.ask.Ask.{Ask}
+use Rattle.judge_core.specs.declared.ask.Ask.TheVariants.{Strict, Determined}
 
 -- both values of a position
 abbrev pub IsAnswered : Ask → Tables → Parts → Probed → Type 0

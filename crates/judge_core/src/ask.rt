@@ -3,18 +3,20 @@
 ghost use Rattle.std.specs.Prelude.{◌≡◌, IfOk, OnErr, false};
 ghost use Rattle.judge_core.specs.Root.{IsInScope};
 ghost use Rattle.judge_core.specs.Ruling.{is_out_of_scope, ruling};
-ghost use Rattle.json_lines.specs.Ask.{IsAnswered, IsRanked, MayLack, ask_of};
+ghost use Rattle.judge_core.specs.Ask.{IsAnswered, IsRanked, MayLack, ask_of};
 
+use crate::display::Columns;
+use crate::root_move::RootMove;
+use crate::set::Set;
 use board_core::Position;
-use judge_core::{Columns, RootMove, Set};
 use std::alloc::{AllocError, Global};
 
 /// How tables are asked for values.
 #[derive(Clone, Copy)]
 pub enum Ask {
-    /// For the values that follow from the tables that are there.
+    /// For what the tables of the set say; a missing table is a fault.
     Strict,
-    /// Also for those that are the same whatever the missing tables hold.
+    /// Where that is a fault, for what is the same whatever the missing tables hold.
     Determined,
 }
 
