@@ -1,3 +1,4 @@
 pub mod GameSeats
 pub mod Seats
 pub mod Values
+pub mod Sending

@@ -7,7 +7,7 @@ ghost use Rattle.hofsjurd_c.specs.declared.held.HeldGame.{HeldGame};
 use crate::held::HeldGame;
 use crate::loose::Loose;
 use std::alloc::Global;
-use std::marker::Model;
+use std::marker::{Model, Send};
 
 /// A pointer without a type. It owns a box where `value` tells one, and nothing otherwise.
 #[repr(C)]
@@ -57,3 +57,6 @@ impl GameSeat {
         }
     }
 }
+
+// It owns a box of what may pass itself: `proofs` has the proof, in `TheSendSync`.
+unsafe impl Send for GameSeat {}

@@ -1,12 +1,14 @@
-//! A second handle with the tables of a first.
+//! A second handle with the tables of a first, and handles that pass from thread to thread.
 
 ghost use Rattle.std.specs.Prelude.{◌≡◌, ◌≢◌, ◌<◌, ◌≤◌, None, Some};
 ghost use Rattle.hofsjurd_c.specs.declared.held.Held.{Held};
 
+use crate::game_handle::GameHandle;
 use crate::handle::Handle;
 use crate::held::Held;
 use judge_core::Set;
 use std::alloc::Global;
+use std::marker::Send;
 
 /// A set with the tables of this one, in a handle of its own.
 fn share_in(alloc: Global, set: &mut Set<'static>, to: &mut Handle, cache: usize) -> u32
@@ -56,4 +58,12 @@ pub extern "C" fn hofsjurd_share(
     };
     *from = Handle::open(held);
     status
+}
+
+fn may_pass<T: Send>(_value: &T) {}
+
+/// Each handle may pass to another thread with all that it holds: this call stands for the proof that both types are `Send`.
+pub fn handles_may_pass(handle: &Handle, game: &GameHandle) {
+    may_pass(handle);
+    may_pass(game);
 }

@@ -1,11 +1,11 @@
 -- A distance that is told by the two completions between which all others lie is that of a draw, a capture or a pawn move.
-use Rattle.std.proofs.Common.{◌≡◌, ◌∙◌, sym, ap, refl, subst, ◌<◌, ◌≤◌, nat_le, nat_lt, Bool, true, false, not, ◌&&◌, ◌||◌, cond, if◌then◌else◌, List, [], ◌∷◌, Option, Some, None, filter, Result, Ok, Err, arith}
+use Rattle.std.proofs.Common.{◌≡◌, ◌∙◌, sym, ap, refl, subst, suc, Bool, true, false, ◌&&◌, ◌||◌, cond, List, [], ◌∷◌, Option, Some, None, filter, Result, Ok, Err, arith}
 use Rattle.std.specs.List.{list_any, Contains}
-use Rattle.std.proofs.lemmas.Bool.{ltb-true, ltb-false, lt-ltb, le-ltb, eqb-true, eq-eqb, false≢true}
+use Rattle.std.proofs.lemmas.Bool.{false≢true}
 use Rattle.board_core.specs.declared.parts.Parts.{Parts}
 use Rattle.board_core.specs.declared.moves.Move.{Move}
 use Rattle.board_core.specs.Position.{IsPosition}
-use Rattle.board_core.specs.ComputedMoves.{position_after, legal_moves, count_of_men}
+use Rattle.board_core.specs.ComputedMoves.{position_after, legal_moves}
 use Rattle.table_file.specs.declared.outcome.Outcome.{Outcome}
 use Rattle.judge_core.specs.declared.distance.Distance.{Distance}
 use Rattle.judge_core.specs.declared.distance.Distance.TheVariants.{Draw as NoDistance}
@@ -13,22 +13,19 @@ use Rattle.judge_core.specs.declared.fault.ValueFault.{ValueFault}
 use Rattle.judge_core.specs.declared.found.Weighed.{Weighed}
 use Rattle.judge_core.specs.declared.wdl.Wdl.{Wdl}
 use Rattle.judge_core.specs.declared.wdl.Wdl.TheVariants.{Loss, BlessedLoss, Draw, CursedWin, Win as Best}
-use Rattle.judge_core.specs.Values.{Reading, points, opposite, turned, greater, is_same, is_below, is_winning, outcome_of}
-use Rattle.judge_core.specs.Tables.{Tables, table_value}
-use Rattle.judge_core.specs.Asked.{asked, fault_in, unless}
-use Rattle.judge_core.specs.Probing.{after, weighed_where, weighed_by, wdl_where, wdl_of, worth, worth_in}
-use Rattle.judge_core.specs.Distances.{Reach, is_won, is_value, is_pawn_step, is_by_capture, pawns_reach_where, unless_reached, by_own_table, by_moves, by_outcome, by_weighed, zeroing, towards, dtz_by, dtz_to, dtz_of}
-use Rattle.judge_core.specs.Determined.{IsCompletion, IsCompletedBy, IsDetermined, IsDeterminedDistance, IsDeterminedReading, IsDeterminedReach, IsByCapture, IsByPawnMove}
-use Rattle.judge_core.specs.Inside.Determined.{extreme, extreme_value, extreme_weighed, agreed, or_agreed, in_both, value_in_both, pawns_reach_in_both, is_reached, zeroing_distance, agreed_distance, or_agreed_distance, determined_value, determined_reach, is_won_here}
+use Rattle.judge_core.specs.Values.{Reading, opposite, turned, is_same, outcome_of}
+use Rattle.judge_core.specs.Tables.{Tables}
+use Rattle.judge_core.specs.Asked.{asked}
+use Rattle.judge_core.specs.Probing.{after, wdl_where, worth}
+use Rattle.judge_core.specs.Distances.{is_won, is_value, is_pawn_step, is_by_capture, pawns_reach_where, zeroing, towards}
+use Rattle.judge_core.specs.Determined.{IsDetermined, IsByCapture, IsByPawnMove}
+use Rattle.judge_core.specs.Inside.Determined.{extreme_value, extreme_weighed, in_both, value_in_both, pawns_reach_in_both, is_reached, zeroing_distance, agreed_distance}
 use Rattle.judge_core.proofs.Rule.{where_meets_rule, still}
-use Rattle.judge_core.proofs.Rising.{WeighsAtMost, same_points, points_most, greater_rises, worth_rises}
-use Rattle.judge_core.proofs.RootCaptures.{greater_left, greater_right}
-use Rattle.judge_core.proofs.Completed.{extreme-completes, IsWeighedBound, IsBound, weighed_bound, value_bound, is_same-true, is_same-refl, determined, undetermined}
-use Rattle.judge_core.proofs.PawnWins.{reached_in_both, reached_in_set}
-use Rattle.judge_core.proofs.Kept.{unless_ok, no_fault_more, strict_value, strict_weighed, strict_distance, weighed_is, value_is}
+use Rattle.judge_core.proofs.Completed.{is_same-true, determined}
+use Rattle.judge_core.proofs.Kept.{unless_ok}
 use Rattle.judge_core.specs.Determined.{IsDistanceByValue, OfDraw, OfCapture, OfPawnMove}
 use Rattle.judge_core.proofs.Completed.{agreed-from}
-use Rattle.judge_core.proofs.Zeroing.{all_reached, reached_of, is_reached-true, in_both-ok, opposite-twice, both_reach, weighed_between, LiesBetween, IsMany}
+use Rattle.judge_core.proofs.Zeroing.{all_reached, reached_of, is_reached-true, in_both-ok, opposite-twice, both_reach, weighed_between, IsMany}
 
 -- ---- the pawn move
 

@@ -1,20 +1,18 @@
 -- Determined answers are one, so the root moves are by what the probes tell.
-use Rattle.std.proofs.Common.{◌≡◌, ◌∙◌, sym, ap, refl, List, Option, Some, None, option_map, Ok, Err, inl, inr}
-use Rattle.std.specs.List.{Contains}
+use Rattle.std.proofs.Common.{◌≡◌, ◌∙◌, sym, ap, refl, Option, Some, None, option_map, Ok, Err, inl, inr}
 use Rattle.std.proofs.lemmas.List.Sorted.{Contains-permutation, IsPermutation-sym}
 use Rattle.board_core.specs.declared.parts.Parts.{Parts}
 use Rattle.board_core.specs.declared.moves.Move.{Move}
-use Rattle.board_core.specs.Position.{IsPosition}
 use Rattle.board_core.specs.ComputedMoves.{position_after, legal_moves}
 use Rattle.judge_core.specs.declared.distance.Distance.{Distance}
 use Rattle.judge_core.specs.declared.root_move.RootMove.{RootMove}
 use Rattle.judge_core.specs.Values.{Reading}
 use Rattle.judge_core.specs.Tables.{Tables}
-use Rattle.judge_core.specs.Distances.{Reach, dtz_of}
+use Rattle.judge_core.specs.Distances.{Reach}
 use Rattle.judge_core.specs.Root.{root_move_at, root_move_by, root_moves_by}
-use Rattle.judge_core.specs.Determined.{IsDeterminedReading, IsDeterminedReach, IsDeterminedRoot, IsDistanceByValue, OfDraw, OfCapture, OfPawnMove}
+use Rattle.judge_core.specs.Determined.{IsDeterminedReading, IsDeterminedReach, IsDistanceByValue, OfDraw, OfCapture, OfPawnMove}
 use Rattle.judge_core.specs.DeterminedLaws.{DeterminedAnswersAreOne, DeterminedMoveIsAsProbed}
-use Rattle.judge_core.proofs.Completing.{one_value, one_distance}
+use Rattle.judge_core.proofs.Completing.{one_value}
 use Rattle.judge_core.proofs.RootCaptures.{from_item}
 use Rattle.judge_core.proofs.Rule.{still}
 

@@ -1,31 +1,25 @@
 -- The distance that is told meets its rule.
-use Rattle.std.proofs.Common.{◌≡◌, ◌∙◌, sym, ap, refl, subst, ◌<◌, ◌≤◌, nat_le, nat_lt, Bool, true, false, not, ◌&&◌, ◌||◌, cond, if◌then◌else◌, List, [], ◌∷◌, Option, Some, None, filter, Result, Ok, Err, arith}
-use Rattle.std.specs.List.{list_any}
-use Rattle.std.proofs.lemmas.Bool.{ltb-true, ltb-false, lt-ltb, le-ltb, eqb-true, eq-eqb, false≢true}
+use Rattle.std.proofs.Common.{◌≡◌, ◌∙◌, ◌⊎◌, inl, inr, sym, ap, refl, nat_le, Bool, true, false, ◌&&◌, ◌||◌, cond, Option, Some, None, Result, Ok, Err}
 use Rattle.board_core.specs.declared.parts.Parts.{Parts}
-use Rattle.board_core.specs.declared.moves.Move.{Move}
 use Rattle.board_core.specs.Position.{IsPosition}
-use Rattle.board_core.specs.ComputedMoves.{position_after, legal_moves, count_of_men}
+use Rattle.board_core.specs.ComputedMoves.{count_of_men}
 use Rattle.table_file.specs.declared.outcome.Outcome.{Outcome}
 use Rattle.judge_core.specs.declared.distance.Distance.{Distance}
 use Rattle.judge_core.specs.declared.distance.Distance.TheVariants.{Draw as NoDistance}
 use Rattle.judge_core.specs.declared.fault.ValueFault.{ValueFault}
 use Rattle.judge_core.specs.declared.found.Weighed.{Weighed}
 use Rattle.judge_core.specs.declared.wdl.Wdl.{Wdl}
-use Rattle.judge_core.specs.declared.wdl.Wdl.TheVariants.{Loss, BlessedLoss, Draw, CursedWin, Win as Best}
-use Rattle.judge_core.specs.Values.{Reading, points, opposite, turned, greater, is_same, is_below, is_winning, outcome_of}
-use Rattle.judge_core.specs.Tables.{Tables, table_value}
-use Rattle.judge_core.specs.Asked.{asked, fault_in, unless}
-use Rattle.judge_core.specs.Probing.{after, weighed_where, weighed_by, wdl_where, wdl_of, worth, worth_in}
-use Rattle.judge_core.specs.Distances.{Reach, is_won, is_value, is_pawn_step, is_by_capture, pawns_reach_where, unless_reached, by_own_table, by_moves, by_outcome, by_weighed, zeroing, towards, dtz_by, dtz_to, dtz_of}
-use Rattle.judge_core.specs.Determined.{IsCompletion, IsCompletedBy, IsDetermined, IsDeterminedDistance, IsDeterminedReading, IsDeterminedReach, IsByCapture, IsByPawnMove}
-use Rattle.judge_core.specs.Inside.Determined.{extreme, extreme_value, extreme_weighed, agreed, or_agreed, in_both, value_in_both, pawns_reach_in_both, is_reached, zeroing_distance, agreed_distance, or_agreed_distance, determined_value, determined_reach, is_won_here}
-use Rattle.judge_core.proofs.Rule.{where_meets_rule, still}
-use Rattle.judge_core.proofs.Rising.{WeighsAtMost, same_points, points_most, greater_rises, worth_rises}
-use Rattle.judge_core.proofs.RootCaptures.{greater_left, greater_right}
-use Rattle.judge_core.proofs.Completed.{extreme-completes, IsWeighedBound, IsBound, weighed_bound, value_bound, is_same-true, is_same-refl, determined, undetermined}
+use Rattle.judge_core.specs.declared.wdl.Wdl.TheVariants.{Draw}
+use Rattle.judge_core.specs.Values.{Reading, is_same, outcome_of}
+use Rattle.judge_core.specs.Tables.{Tables}
+use Rattle.judge_core.specs.Probing.{weighed_where, weighed_by, wdl_where, wdl_of, worth, worth_in}
+use Rattle.judge_core.specs.Distances.{Reach, is_won, is_by_capture, pawns_reach_where, unless_reached, by_own_table, by_moves, by_outcome, by_weighed, zeroing, towards, dtz_to, dtz_of}
+use Rattle.judge_core.specs.Determined.{IsDetermined, IsDeterminedDistance, IsDeterminedReach, IsByCapture, IsByPawnMove}
+use Rattle.judge_core.specs.Inside.Determined.{extreme, extreme_weighed, pawns_reach_in_both, is_reached, zeroing_distance, agreed_distance, or_agreed_distance, determined_reach}
+use Rattle.judge_core.proofs.Rule.{where_meets_rule}
+use Rattle.judge_core.proofs.Completed.{extreme-completes, is_same-refl}
 use Rattle.judge_core.proofs.PawnWins.{reached_in_both, reached_in_set}
-use Rattle.judge_core.proofs.Kept.{unless_ok, no_fault_more, strict_value, strict_weighed, strict_distance, weighed_is, value_is}
+use Rattle.judge_core.proofs.Kept.{strict_weighed, strict_distance}
 use Rattle.judge_core.specs.Determined.{IsDistanceByValue}
 use Rattle.judge_core.proofs.Zeroing.{IsMany, opened, many_by, told}
 use Rattle.judge_core.proofs.ByValue.{by_value}

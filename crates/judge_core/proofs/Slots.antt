@@ -98,7 +98,7 @@ module _ (tables : Tables) (slots : List TableSlot) (n : ℕ) (so_far : tables_i
       ∙ sym (take_more tables n None lt)
 
   pub shared_all : length tables ≤ n → tables_in slots ≡ tables
-  shared_all end = so_far ∙ take_all tables n end
+  shared_all end = so_far ∙ take_all n tables end
 
 pub shared_kept : (a b : Inside) → IsKept a → tables_in b.tables.items ≡ tables_in a.tables.items → 1 ≤ b.cache → b.cache ≤ 4096 → IsKept b
 shared_kept a b kept e some most = record {

@@ -16,16 +16,15 @@ use Rattle.judge_core.specs.declared.wdl.Wdl.TheVariants.{Loss, BlessedLoss, Dra
 use Rattle.judge_core.specs.Values.{Reading, points, opposite, turned, greater, is_same, is_below, is_winning, outcome_of}
 use Rattle.judge_core.specs.Tables.{Tables, table_value}
 use Rattle.judge_core.specs.Asked.{asked, fault_in, unless}
-use Rattle.judge_core.specs.Probing.{after, weighed_where, weighed_by, wdl_where, wdl_of, worth, worth_in}
-use Rattle.judge_core.specs.Distances.{Reach, is_won, is_value, is_pawn_step, is_by_capture, pawns_reach_where, unless_reached, by_own_table, by_moves, by_outcome, by_weighed, zeroing, towards, dtz_by, dtz_to, dtz_of}
-use Rattle.judge_core.specs.Determined.{IsCompletion, IsCompletedBy, IsDetermined, IsDeterminedDistance, IsDeterminedReading, IsDeterminedReach, IsByCapture, IsByPawnMove}
-use Rattle.judge_core.specs.Inside.Determined.{extreme, extreme_value, extreme_weighed, agreed, or_agreed, in_both, value_in_both, pawns_reach_in_both, is_reached, zeroing_distance, agreed_distance, or_agreed_distance, determined_value, determined_reach, is_won_here}
-use Rattle.judge_core.proofs.Rule.{where_meets_rule, still}
+use Rattle.judge_core.specs.Probing.{after, weighed_where, weighed_by, wdl_where, wdl_of, worth}
+use Rattle.judge_core.specs.Distances.{is_won, is_value, is_pawn_step, is_by_capture, pawns_reach_where, unless_reached, by_own_table, by_moves, by_outcome, by_weighed, zeroing, towards, dtz_by, dtz_to, dtz_of}
+use Rattle.judge_core.specs.Determined.{IsCompletion, IsCompletedBy, IsDetermined, IsDeterminedDistance, IsDeterminedReading}
+use Rattle.judge_core.specs.Inside.Determined.{extreme_value, extreme_weighed, agreed, or_agreed, in_both, value_in_both, pawns_reach_in_both, is_reached, zeroing_distance, agreed_distance, determined_value, is_won_here}
+use Rattle.judge_core.proofs.Rule.{still}
 use Rattle.judge_core.proofs.Rising.{WeighsAtMost, same_points, points_most, greater_rises, worth_rises}
 use Rattle.judge_core.proofs.RootCaptures.{greater_left, greater_right}
-use Rattle.judge_core.proofs.Completed.{extreme-completes, IsWeighedBound, IsBound, weighed_bound, value_bound, is_same-true, is_same-refl, determined, undetermined}
-use Rattle.judge_core.proofs.PawnWins.{reached_in_both, reached_in_set}
-use Rattle.judge_core.proofs.Kept.{unless_ok, no_fault_more, strict_value, strict_weighed, strict_distance, weighed_is, value_is}
+use Rattle.judge_core.proofs.Completed.{IsWeighedBound, IsBound, weighed_bound, value_bound, is_same-true, is_same-refl, determined, undetermined}
+use Rattle.judge_core.proofs.Kept.{unless_ok, no_fault_more, strict_value, weighed_is, value_is}
 
 -- ---- values
 
@@ -354,7 +353,7 @@ module _ (tables : Tables) (p : Parts) (position : IsPosition p) (many : IsMany 
         by_kind w lies None eo e = (let is : NoDistance ≡ d = cc in ap (λ (x : Distance). Ok x) is)
         by_kind w lies (Some outcome) eo e = by_zeroing w lies outcome (is_by_capture a) (is_by_capture b) (is_won outcome) (is_reached (pawns_reach_in_both tables p (worth a))) refl refl refl refl e
 
-  told : (a b : Result Weighed ValueFault) → extreme_weighed tables true p ≡ a → extreme_weighed tables false p ≡ b → (d : Distance) → agreed_distance tables p a b ≡ Some d → IsDeterminedDistance tables p d
+  pub told : (a b : Result Weighed ValueFault) → extreme_weighed tables true p ≡ a → extreme_weighed tables false p ≡ b → (d : Distance) → agreed_distance tables p a b ≡ Some d → IsDeterminedDistance tables p d
   told (Ok a) (Ok b) ea eb d e = λ more c. step more c (is_same (worth a) (worth b)) refl e
     where
       step : (more : Tables) → IsCompletedBy tables more → (t : Bool) → is_same (worth a) (worth b) ≡ t → cond t (zeroing_distance tables p a b (outcome_of (worth a))) None ≡ Some d → dtz_of more p ≡ Ok d

@@ -1,4 +1,4 @@
-use Rattle.std.proofs.Common.{◌≡◌, ◌∙◌, sym, ap, arith, get_or, None}
+use Rattle.std.proofs.Common.{◌∙◌, sym, ap, arith, get_or, None}
 use Rattle.judge_core.specs.Tables.{Tables, Holding}
 use Rattle.judge_core.proofs.Slots.{shared_more, shared_all, shared_kept, slot_count}
 use Rattle.judge_core.proofs.shelf.Shelf.share.Goals as goal
