@@ -15,8 +15,8 @@
  *   3. A handle (`hofsjurd`, `hofsjurd_game`) was set to all bytes zero before its first use (HOFSJURD_CLOSED), and only this
  *      library has written it since. It isn't copied: of two copies one would hold freed memory after the other is closed.
  *      It may be moved by memcpy, if only the new place is used from then on.
- *   4. A handle serves one call at a time and stays on the thread that opened it: that it may pass from thread to thread isn't
- *      proved. Open one for each thread; they may share the bytes of the files.
+ *   4. A handle serves one call at a time. It may pass from thread to thread, where a lock, or a thread's start or end, stands
+ *      between the calls. Each thread wants one of its own: hofsjurd_share makes it from a first, without the files.
  *   5. malloc, realloc and free are those of one allocator, and align as malloc does. No call comes from a signal handler, nor
  *      in the forked child of a process with threads. */
 #ifndef HOFSJURD_H
