@@ -15,9 +15,9 @@ use Rattle.move_msg.specs.TextLines.{text_of}
 use Rattle.adjudicate_core.specs.declared.lines.Line.{Line}
 use Rattle.adjudicate_core.specs.declared.lines.Line.TheVariants as line
 use Rattle.adjudicate_core.specs.declared.lines.RootLine.{RootLine}
-use Rattle.json_lines.specs.Ask.{IsAnswered}
+use Rattle.judge_core.specs.Ask.{IsAnswered}
 use Rattle.json_lines.specs.Told.{AreMoves}
-use Rattle.json_lines.specs.declared.ask.Ask.{Ask}
+use Rattle.judge_core.specs.declared.ask.Ask.{Ask}
 use Rattle.adjudicate_core.specs.Commands.Root.{IsTold, told}
 use Rattle.adjudicate_core.specs.Lines.{probed_of, root_line_words, root_words, words_of}
 use Rattle.adjudicate_core.specs.Reply.{Reply, status_if}

@@ -5,7 +5,7 @@ use Rattle.board_core.specs.Position.{IsPosition}
 use Rattle.fen_text.specs.declared.fault.FenFault.{FenFault}
 use Rattle.fen_text.specs.Fen.{SpellsPosition, IsFirstFenFault}
 use Rattle.judge_core.specs.Tables.{Tables}
-use Rattle.json_lines.specs.declared.ask.Ask.{Ask}
+use Rattle.judge_core.specs.declared.ask.Ask.{Ask}
 use Rattle.json_lines.specs.declared.told.JsonLine.{JsonLine}
 use Rattle.json_lines.specs.declared.told.JsonLine.TheVariants as line
 use Rattle.json_lines.specs.Objects.{json_text, line_json}

@@ -34,7 +34,7 @@ use Rattle.adjudicate_core.specs.Commands.Audit as audits
 use Rattle.adjudicate_core.specs.Commands.Version as versions
 use Rattle.adjudicate_core.specs.Commands.Probes as of_probes
 use Rattle.adjudicate_core.specs.TableAnswers.{PutsByTables}
-use Rattle.json_lines.specs.Ask.{ask_of}
+use Rattle.judge_core.specs.Ask.{ask_of}
 use Rattle.adjudicate_core.specs.Commands.Root as roots
 use Rattle.adjudicate_core.specs.Commands.Follow as follows
 use Rattle.adjudicate_core.specs.Keys.{HasKeys, LacksKeys}

@@ -17,8 +17,8 @@ use Rattle.task_files.specs.Sources.{Named}
 use Rattle.adjudicate_core.specs.JsonAnswers.{TellsJson}
 use Rattle.adjudicate_core.specs.Lines.{refused_fen}
 use Rattle.adjudicate_core.specs.Numbers.{is_set}
-use Rattle.json_lines.specs.Ask.{IsAnswered}
-use Rattle.json_lines.specs.declared.ask.Ask.{Ask}
+use Rattle.judge_core.specs.Ask.{IsAnswered}
+use Rattle.judge_core.specs.declared.ask.Ask.{Ask}
 use Rattle.line_teller.specs.ToldLines.{LineTold}
 use Rattle.adjudicate_core.specs.declared.commands.probes.Probes.{Probes}
 

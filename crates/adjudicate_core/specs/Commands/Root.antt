@@ -24,9 +24,9 @@ use Rattle.adjudicate_core.specs.Looks.{gathered}
 use Rattle.adjudicate_core.specs.Numbers.{is_set}
 use Rattle.adjudicate_core.specs.Reply.{AnswersOnce, ByTables, IsForText, IsText, Reply, status_if}
 use Rattle.adjudicate_core.specs.TableAnswers.{PutsByTables}
-use Rattle.json_lines.specs.Ask.{IsAnswered}
+use Rattle.judge_core.specs.Ask.{IsAnswered}
 use Rattle.json_lines.specs.Told.{AreMoves}
-use Rattle.json_lines.specs.declared.ask.Ask.{Ask}
+use Rattle.judge_core.specs.declared.ask.Ask.{Ask}
 use Rattle.line_teller.specs.ToldLines.{LineTold}
 use Rattle.adjudicate_core.specs.declared.commands.root.Root.{Root}
 

@@ -8,7 +8,7 @@ ghost use Rattle.adjudicate_core.specs.Commands.Probes.{HasValues, TellsLine, Te
 ghost use Rattle.adjudicate_core.specs.LineAnswers.{PutsLinesOrNone};
 ghost use Rattle.adjudicate_core.specs.Lines.{words_of};
 ghost use Rattle.adjudicate_core.specs.Misuses.{IsFirst, fault_words};
-ghost use Rattle.json_lines.specs.Ask.{ask_of};
+ghost use Rattle.judge_core.specs.Ask.{ask_of};
 ghost use Rattle.task_files.specs.Sources.{named_by};
 ghost use Rattle.adjudicate_core.specs.Reply.{IsText};
 ghost use Rattle.adjudicate_core.specs.TableAnswers.{PutsByTables};

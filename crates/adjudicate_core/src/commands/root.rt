@@ -11,7 +11,7 @@ ghost use Rattle.adjudicate_core.specs.Looks.{gathered};
 ghost use Rattle.adjudicate_core.specs.Misuses.{IsFirst, fault_words};
 ghost use Rattle.adjudicate_core.specs.Reply.{ByTables, IsForText, IsText};
 ghost use Rattle.adjudicate_core.specs.TableAnswers.{PutsByTables};
-ghost use Rattle.json_lines.specs.Ask.{ask_of};
+ghost use Rattle.judge_core.specs.Ask.{ask_of};
 ghost use Rattle.judge_core.specs.Words.{columns_words};
 ghost use Rattle.move_msg.specs.TextLines.{ended};
 ghost use Rattle.task_files.specs.Sources.{named_by};

@@ -1,7 +1,7 @@
 use Rattle.std.proofs.Common.{List, subst, refl, sym, inl, inr}
 use Rattle.std.proofs.lemmas.Result.{IfOk-weaker}
 use Rattle.judge_core.specs.declared.root_move.RootMove.{RootMove}
-use Rattle.json_lines.specs.Ask.{IsRanked}
+use Rattle.judge_core.specs.Ask.{IsRanked}
 use Rattle.judge_core.specs.Tables.{Holding}
 use Rattle.adjudicate_core.proofs.RootLines.{told_in}
 use Rattle.adjudicate_core.proofs.commands.root.told_by.Goals as goal
