@@ -185,11 +185,11 @@ module _ {K : Type 0} (stamp : List ℕ) where
     | false ↦ omega (arith, h)
   ])
 
-  opening : (b c : Bool) (a : Act K) (acts : List (Act K)) (r : Reply) (rest : List Reply) → c ≡ true → openings acts ≤ asked stamp rest
+  one_more : (b c : Bool) (a : Act K) (acts : List (Act K)) (r : Reply) (rest : List Reply) → c ≡ true → openings acts ≤ asked stamp rest
       → length (filter is_opening (cond b (a ∷ acts_of stamp acts) (acts_of stamp acts))) ≤ length (cond (b && c) (r ∷ filter (opens_this stamp) rest) (filter (opens_this stamp) rest))
-  opening true true a acts r rest e h = one_opening a acts r rest h
-  opening true false a acts r rest e h = absurd (let wrong : false ≡ true = e in cc)
-  opening false c a acts r rest e h = h
+  one_more true true a acts r rest e h = one_opening a acts r rest h
+  one_more true false a acts r rest e h = absurd (let wrong : false ≡ true = e in cc)
+  one_more false c a acts r rest e h = h
 
   still_few : (b : Bool) (a : Act K) (acts : List (Act K)) (rest : List Reply) → is_opening a ≡ false → openings acts ≤ asked stamp rest → length (filter is_opening (cond b (a ∷ acts_of stamp acts) (acts_of stamp acts))) ≤ asked stamp rest
   still_few b a acts rest e h = subst (λ (n : ℕ). n ≤ asked stamp rest) (sym (no_opening b a acts e)) h
@@ -199,7 +199,7 @@ module _ {K : Type 0} (stamp : List ℕ) where
   for_datagram a of datagram acts r rest is sorted opens h =
       subst (λ (d : List ℕ). length (filter is_opening (cond (bytes_eq of stamp) (a ∷ acts_of stamp acts) (acts_of stamp acts))) ≤ length (cond (is_stamp stamp (stamp_for d) && opens_for d) (r ∷ filter (opens_this stamp) rest) (filter (opens_this stamp) rest))) (sym is)
       (subst (λ (o : Option (List ℕ)). length (filter is_opening (cond (bytes_eq of stamp) (a ∷ acts_of stamp acts) (acts_of stamp acts))) ≤ length (cond (is_stamp stamp o && opens_for datagram) (r ∷ filter (opens_this stamp) rest) (filter (opens_this stamp) rest))) (sym sorted)
-      (opening (bytes_eq of stamp) (opens_for datagram) a acts r rest opens h))
+      (one_more (bytes_eq of stamp) (opens_for datagram) a acts r rest opens h))
 
 pub openings_are_few : {K : Type 0} → OpeningsAreFew K
 openings_are_few [] stamp sorted opened = omega arith

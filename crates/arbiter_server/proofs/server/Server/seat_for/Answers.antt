@@ -26,12 +26,15 @@ returns-in-Some-clause-stays g c = rw (sym c.self.view_is) (record { common = re
 pub returns-in-Some-clause-opened : goal.returns-in-Some-clause-opened
 returns-in-Some-clause-opened g c =
     let t = common_with c.self.inside.config c.self.inside.tables in
-    rw (sym c.self.view_is, sym c.stamp.ensures) (record {
-      absent = taken_absent c.stamp.result.0 (at_stamp c.self.inside.seats.entries) (at_stamp c.take_out.new.seats.entries) c.take_out.ensures.after;
-      seated = seated_at g.G.Keeper.Keeper.facts c.self.inside.tables (at_stamp c.self.inside.seats.entries) c.stamp.result.0 c.in-Some.seat c.self.invariant (sym c.in-Some.ensures.value);
+    let stamp = (stamp_in c.args.message.now).0 in
+    let was = rw c.stamp.ensures at (sym c.in-Some.ensures.value) in
+    let after = rw c.stamp.ensures at c.take_out.ensures.after in
+    rw (sym c.self.view_is) (record {
+      absent = taken_absent stamp (at_stamp c.self.inside.seats.entries) (at_stamp c.take_out.new.seats.entries) after;
+      seated = seated_at g.G.Keeper.Keeper.facts c.self.inside.tables (at_stamp c.self.inside.seats.entries) stamp c.in-Some.seat c.self.invariant was;
       comes =
           WasOpen (leads_not (keepers g.G.Keeper.Keeper.facts g.G.Games.facts c.self.inside.games) t _ _ (at_stamp c.self.inside.seats.entries) _ (λ other keeper given. given)
-          (taken_is c.stamp.result.0 c.in-Some.seat (at_stamp c.self.inside.seats.entries) (at_stamp c.take_out.new.seats.entries) (sym c.in-Some.ensures.value) c.take_out.ensures.after));
+          (taken_is stamp c.in-Some.seat (at_stamp c.self.inside.seats.entries) (at_stamp c.take_out.new.seats.entries) was after));
     })
 
 pub returns-in-None-clause-stays : goal.returns-in-None-clause-stays
