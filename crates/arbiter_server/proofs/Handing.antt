@@ -17,10 +17,10 @@ use Rattle.arbiter_server.specs.declared.fault.Unopened.{Unopened}
 use Rattle.arbiter_server.specs.declared.fault.Unopened.TheVariants.{NotOpen}
 use Rattle.arbiter_server.specs.declared.seat.Seat.{Seat}
 use Rattle.arbiter_server.specs.Folders.{Gives, GivesLess, GivesOthers, Keepers}
-use Rattle.arbiter_server.specs.Acts.{Act, AreOpenings, Answers, IsAnsweredNext, Opens, Reply, Strange, Unread, all_replies, answered, opens_by, opens_for, opens_game, replies_of, stamp_by, stamp_for, unopened, unread}
+use Rattle.arbiter_server.specs.Acts.{Act, Answers, IsAnsweredNext, Opens, Reply, Strange, Unread, answered, opens_by, opens_for, opens_game, stamp_by, stamp_for, unopened, unread}
 use Rattle.arbiter_server.specs.Games.{CommonView, GoesOn, IsNotOpen, IsStrange, LacksKeeper, Life, Fresh, Shut, Open, life_at}
 use Rattle.arbiter_server.specs.Seats.{At, Evicts, Lives, Nothing, One, IsAnswered, IsAtRest, Stands, in_hand, moment_of}
-use Rattle.arbiter_server.specs.Turns.{ComesInHand, IsOpened, Leads, LeadsBy, LeadsFrom, LeadsFromBy, LeadsOne, LeadsOpen, LeadsOpenFrom, WasOpen}
+use Rattle.arbiter_server.specs.Turns.{ComesInHand, IsOpened, LeadsBy, LeadsFrom, LeadsFromBy, LeadsOne, LeadsOpenFrom, WasOpen}
 use Rattle.arbiter_server.proofs.Turning.{closes, each_join, itself, leads_join, leads_not, leads_one, less_stands, one_act, same_stamp}
 
 module _ {K : Type 0} where

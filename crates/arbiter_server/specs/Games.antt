@@ -5,7 +5,6 @@ use Rattle.fen_text.specs.Written.{fen_of}
 use Rattle.judge_core.specs.Tables.{Holding}
 use Rattle.move_msg.specs.Senders.{who_number}
 use Rattle.move_msg.specs.Stamps.{IsGameName, stamp_of}
-use Rattle.arbiter_core.specs.Keeping.{KeeperFacts}
 use Rattle.arbiter_core.specs.Opens.{IsOpening, Told}
 use Rattle.arbiter_core.specs.Delivers.{Delivers, Exchange, Moment, moment}
 use Rattle.arbiter_core.specs.Setups.{SetupView}
