@@ -14,13 +14,14 @@ use Rattle.arbiter_core.specs.Views.{View}
 use Rattle.arbiter_server.specs.Serving.{outputs_of}
 use Rattle.arbiter_server.specs.Told.{stamped}
 use Rattle.arbiter_server.specs.declared.fault.Unopened.{Unopened}
+use Rattle.arbiter_server.specs.declared.fault.Unopened.TheVariants.{NotOpen}
 use Rattle.arbiter_server.specs.declared.seat.Seat.{Seat}
 use Rattle.arbiter_server.specs.Folders.{Gives, GivesLess, GivesOthers, Keepers}
-use Rattle.arbiter_server.specs.Acts.{Answers, Strange, Unread, answered, stamp_by, stamp_for, unopened, unread}
-use Rattle.arbiter_server.specs.Games.{CommonView, GoesOn, IsNotOpen, IsStrange, Life, Fresh, Shut, Open, life_at}
-use Rattle.arbiter_server.specs.Seats.{At, Evicts, Nothing, One, IsAnswered, IsAtRest, Stands, in_hand, moment_of}
-use Rattle.arbiter_server.specs.Turns.{Leads, LeadsFrom}
-use Rattle.arbiter_server.proofs.Turning.{closes, itself, leads_join, leads_not, leads_one, less_stands, same_stamp}
+use Rattle.arbiter_server.specs.Acts.{Act, Answers, IsAnsweredNext, Opens, Reply, Strange, Unread, answered, opens_by, opens_for, opens_game, stamp_by, stamp_for, unopened, unread}
+use Rattle.arbiter_server.specs.Games.{CommonView, GoesOn, IsNotOpen, IsStrange, LacksKeeper, Life, Fresh, Shut, Open, life_at}
+use Rattle.arbiter_server.specs.Seats.{At, Evicts, Lives, Nothing, One, IsAnswered, IsAtRest, Stands, in_hand, moment_of}
+use Rattle.arbiter_server.specs.Turns.{ComesInHand, IsOpened, LeadsBy, LeadsFrom, LeadsFromBy, LeadsOne, LeadsOpenFrom, WasOpen}
+use Rattle.arbiter_server.proofs.Turning.{closes, each_join, itself, leads_join, leads_not, leads_one, less_stands, one_act, same_stamp}
 
 module _ {K : Type 0} where
   -- one that isn't open is not the one that is in hand
@@ -81,12 +82,24 @@ module _ {K : Type 0} (s : Keepers K) (t : CommonView) where
   not_open gives (Shut left) stand = tt
   not_open gives (Open at) stand = stand
 
-  -- a message of a game that isn't open, and of which there is no keeper
-  pub strange_to : (old new : Gives K) (at : At K) (stamp datagram : List ℕ) (why : Unopened) → stamp_for datagram ≡ Some stamp → at stamp ≡ None → IsStrange s t.manifest stamp why → GivesLess old new → LeadsFrom s t old at new at (unopened stamp datagram why ∷ [])
+  -- a message of a game that isn't open: it opens none, or there is no keeper
+  pub strange_to : (old new : Gives K) (at : At K) (stamp datagram : List ℕ) (why : Unopened) → stamp_for datagram ≡ Some stamp → at stamp ≡ None → IsStrange s t.manifest stamp (opens_for datagram) why → GivesLess old new → LeadsFrom s t old at new at (unopened stamp datagram why ∷ [])
   strange_to old new at stamp datagram why sorted absent strange less = λ lives stand.
       let there : Stands s t (old stamp) None (lives stamp) = subst (λ (x : Option (Seat K)). Stands s t (old stamp) x (lives stamp)) absent (stand stamp) in
-      leads_one s t old new at at lives stamp (Strange stamp datagram why) (lives stamp) refl sorted (not_open (old stamp) (lives stamp) there, strange, refl)
-      (less_stands s t (old stamp) (new stamp) (at stamp) (lives stamp) (less stamp) (stand stamp)) (λ other _. less other) (λ other _. refl) stand
+      leads_one s t (Strange stamp datagram why) lives new at tt
+      (one_act s t old new at at lives stamp (Strange stamp datagram why) (lives stamp) refl sorted (not_open (old stamp) (lives stamp) there, strange, refl)
+      (less_stands s t (old stamp) (new stamp) (at stamp) (lives stamp) (less stamp) (stand stamp)) (λ other _. less other) (λ other _. refl) stand)
+
+  -- there is no keeper for one that would open it
+  pub lacking_to : (old new : Gives K) (at : At K) (stamp datagram : List ℕ) (why : Unopened) → stamp_for datagram ≡ Some stamp → opens_for datagram ≡ true → at stamp ≡ None → LacksKeeper s t.manifest stamp why → GivesLess old new → LeadsFrom s t old at new at (unopened stamp datagram why ∷ [])
+  lacking_to old new at stamp datagram why sorted opens absent lacks less =
+      strange_to old new at stamp datagram why sorted absent (subst (λ (b : Bool). IsStrange s t.manifest stamp b why) (sym opens) lacks) less
+
+  -- it opens none
+  pub idle_to : (gives : Gives K) (at : At K) (datagram : List ℕ) (message : Message) → heard_in datagram ≡ Ok message → opens_game message ≡ false → at (stamp_in message).0 ≡ None → LeadsFrom s t gives at gives at (unopened (stamp_in message).0 datagram NotOpen ∷ [])
+  idle_to gives at datagram message says opens absent =
+      strange_to gives gives at (stamp_in message).0 datagram NotOpen (ap stamp_by says) absent
+      (subst (λ (b : Bool). IsStrange s t.manifest (stamp_in message).0 b NotOpen) (sym (ap opens_by says ∙ opens)) refl) (λ other keeper given. given)
 
   -- bytes that are no message
   pub unread_to : (gives : Gives K) (at : At K) (datagram : List ℕ) (fault : MessageFault) → heard_in datagram ≡ Err fault → LeadsFrom s t gives at gives at (unread datagram fault ∷ [])
@@ -94,11 +107,64 @@ module _ {K : Type 0} (s : Keepers K) (t : CommonView) where
     acts = Unread datagram fault ∷ [];
     new = lives;
     turns = record { each = λ stamp. refl; sorted = (is, tt) };
+    opened = tt;
     stand = stand;
     replies_are = refl;
   }
 
 -- ---- a game in hand answers
+
+module _ {K : Type 0} (s : Keepers K) (t : CommonView) where
+  -- its answer, and what comes after it
+  answer_rest : (stamp : List ℕ) (e : Exchange K) (mid new : Gives K) (at at' : At K) (lives : Lives K) (ys : List Reply) → LeadsOne s t (Answers stamp e) lives mid at → LeadsFrom s t mid at new at' ys → LeadsBy s t stamp e.datagram lives new at' (answered stamp e ∷ ys)
+  answer_rest stamp e mid new at at' lives ys one more =
+      let two = more one.new one.stand in
+      record {
+        leads = record {
+          acts = Answers stamp e ∷ two.acts;
+          new = two.new;
+          turns = each_join s t lives one.new two.new (Answers stamp e ∷ []) two.acts one.turns two.turns;
+          opened = two.opened;
+          stand = two.stand;
+          replies_are = ap (λ (rs : List Reply). answered stamp e ∷ rs) two.replies_are;
+        };
+        exchange = e;
+        rest = two.acts;
+        acts_are = refl;
+        is = refl;
+      }
+
+  -- its answer alone
+  answer_alone : (stamp : List ℕ) (e : Exchange K) (new : Gives K) (at' : At K) (lives : Lives K) → LeadsOne s t (Answers stamp e) lives new at' → LeadsBy s t stamp e.datagram lives new at' (answered stamp e ∷ [])
+  answer_alone stamp e new at' lives one = record {
+    leads = record { acts = Answers stamp e ∷ []; new = one.new; turns = one.turns; opened = tt; stand = one.stand; replies_are = refl };
+    exchange = e;
+    rest = [];
+    acts_are = refl;
+    is = refl;
+  }
+
+  -- a game is opened for a datagram, which its arbiter answers then
+  opens_then : (stamp datagram : List ℕ) (old mid new : Gives K) (at at1 at' : At K) (ys : List Reply) → opens_for datagram ≡ true → LeadsOpenFrom s t stamp old at mid at1 → LeadsFromBy s t stamp datagram mid at1 new at' ys → LeadsFrom s t old at new at' ys
+  opens_then stamp datagram old mid new at at1 at' ys opens first more = λ lives stand.
+      let a = first lives stand in
+      let b = more a.one.new a.one.stand in
+      let next : IsAnsweredNext stamp b.leads.acts = subst (λ (acts : List (Act K)). IsAnsweredNext stamp acts) (sym b.acts_are) (refl, ap opens_for b.is ∙ opens) in
+      record {
+        acts = Opens stamp a.over a.arbiter ∷ b.leads.acts;
+        new = b.leads.new;
+        turns = each_join s t lives a.one.new b.leads.new (Opens stamp a.over a.arbiter ∷ []) b.leads.acts a.one.turns b.leads.turns;
+        opened = (next, b.leads.opened);
+        stand = b.leads.stand;
+        replies_are = b.leads.replies_are;
+      }
+
+  -- a game comes into hand, and answers
+  pub comes_then : (message : Message) (datagram : List ℕ) (old mid new : Gives K) (at at1 at' : At K) (ys : List Reply) → heard_in datagram ≡ Ok message → ComesInHand s t message old at mid at1 → LeadsFromBy s t (stamp_in message).0 datagram mid at1 new at' ys → LeadsFrom s t old at new at' ys
+  comes_then message datagram old mid new at at1 at' ys says (WasOpen was) more = λ lives stand.
+      leads_join s t mid new at1 at' lives [] ys (was lives stand) (λ m there. let b = more m there in b.leads)
+  comes_then message datagram old mid new at at1 at' ys says (IsOpened opens first) more =
+      opens_then (stamp_in message).0 datagram old mid new at at1 at' ys (ap opens_by says ∙ opens) first more
 
 runs_on : {K : Type 0} (set : Holding) (seat : Seat K) → seat.state.is_down ≡ false → life_at (moment_of set seat) ≡ Open (moment_of set seat)
 runs_on set seat runs = cond-false seat.state.is_down (Shut seat.keeper) (Open (moment_of set seat)) runs
@@ -113,26 +179,27 @@ module _ {K : Type 0} (s : Keepers K) (t : CommonView) (old new : Gives K) (at a
   -- its keeper still keeps, and it stays in hand
   pub answers_to : IsAtRest s.facts t.set after → after.state.is_down ≡ false
       → LeadsFrom s t old (in_hand stamp (Some after) at) new at' []
-      → LeadsFrom s t old (in_hand stamp (Some before) at) new at' (answered stamp e ∷ [])
+      → LeadsFromBy s t stamp e.datagram old (in_hand stamp (Some before) at) new at' (answered stamp e ∷ [])
   answers_to rests runs more = λ lives stand.
       let there : Stands s t (old stamp) (Some before) (lives stamp) = subst (λ (x : Option (Seat K)). Stands s t (old stamp) x (lives stamp)) (holds_it stamp before at) (stand stamp) in
-      let one : Leads s t lives old (in_hand stamp (Some after) at) (answered stamp e ∷ []) =
-      leads_one s t old old (in_hand stamp (Some before) at) (in_hand stamp (Some after) at) lives stamp (Answers stamp e) (Open (moment_of t.set after)) refl sorted
+      let one : LeadsOne s t (Answers stamp e) lives old (in_hand stamp (Some after) at) =
+      one_act s t old old (in_hand stamp (Some before) at) (in_hand stamp (Some after) at) lives stamp (Answers stamp e) (Open (moment_of t.set after)) refl sorted
       (answers_on (lives stamp) (Open (moment_of t.set after)) there.1 (sym (runs_on t.set after runs)))
       (subst (λ (x : Option (Seat K)). Stands s t (old stamp) x (Open (moment_of t.set after))) (sym (holds_it stamp after at)) (record { rests = rests; runs = runs }, refl))
       (λ other _ keeper given. given)
       (λ other e. cond-false (bytes_eq stamp other) (Some after) (at other) e ∙ sym (cond-false (bytes_eq stamp other) (Some before) (at other) e)) stand in
-      leads_join s t old new (in_hand stamp (Some after) at) at' lives (answered stamp e ∷ []) [] one more
+      answer_rest s t stamp e old new (in_hand stamp (Some after) at) at' lives [] one more
 
   -- its keeper failed, and it is closed
   pub fails_to : after.state.is_down ≡ true → at stamp ≡ None → ((other : List ℕ) → at' other ≡ at other) → ((next : K) → new stamp next → s.follows after.keeper next) → GivesOthers stamp old new
-      → LeadsFrom s t old (in_hand stamp (Some before) at) new at' (answered stamp e ∷ [])
+      → LeadsFromBy s t stamp e.datagram old (in_hand stamp (Some before) at) new at' (answered stamp e ∷ [])
   fails_to down absent same left others = λ lives stand.
       let there : Stands s t (old stamp) (Some before) (lives stamp) = subst (λ (x : Option (Seat K)). Stands s t (old stamp) x (lives stamp)) (holds_it stamp before at) (stand stamp) in
-      leads_one s t old new (in_hand stamp (Some before) at) at' lives stamp (Answers stamp e) (Shut after.keeper) refl sorted
+      answer_alone s t stamp e new at' lives
+      (one_act s t old new (in_hand stamp (Some before) at) at' lives stamp (Answers stamp e) (Shut after.keeper) refl sorted
       (answers_on (lives stamp) (Shut after.keeper) there.1 (sym (is_shut t.set after down)))
       (subst (λ (x : Option (Seat K)). Stands s t (new stamp) x (Shut after.keeper)) (sym (same stamp ∙ absent)) left)
-      others (λ other e. same other ∙ sym (cond-false (bytes_eq stamp other) (Some before) (at other) e)) stand
+      others (λ other e. same other ∙ sym (cond-false (bytes_eq stamp other) (Some before) (at other) e)) stand)
 
 pub runs_not : (b : Bool) → b ≡ true → b ≡ false → ⊥
 runs_not b up down = let wrong : true ≡ false = sym up ∙ down in cc
@@ -142,7 +209,7 @@ by_keeper : {K : Type 0} (s : Keepers K) (t : CommonView) (old new : Gives K) (a
     → at stamp ≡ None → IsAtRest s.facts t.set after
     → (after.state.is_down ≡ false → LeadsFrom s t old (in_hand stamp (Some after) at) new at' [])
     → (after.state.is_down ≡ true → ((next : K) → new stamp next → s.follows after.keeper next) × GivesOthers stamp old new × ((other : List ℕ) → at' other ≡ at other))
-    → LeadsFrom s t old (in_hand stamp (Some before) at) new at' (answered stamp e ∷ [])
+    → LeadsFromBy s t stamp e.datagram old (in_hand stamp (Some before) at) new at' (answered stamp e ∷ [])
 by_keeper s t old new at at' stamp before after e true is sorted delivered later absent rests runs down =
     let d = down is in fails_to s t old new at at' stamp before after e sorted delivered later is absent d.2 d.0 d.1
 by_keeper s t old new at at' stamp before after e false is sorted delivered later absent rests runs down =
@@ -154,14 +221,14 @@ pub answers_reply : {K : Type 0} (s : Keepers K) (t : CommonView) (old new : Giv
     → (after.state.is_down ≡ false → LeadsFrom s t old (in_hand stamp (Some after) at) new at' [])
     → (after.state.is_down ≡ true → ((next : K) → new stamp next → s.follows after.keeper next) × GivesOthers stamp old new × ((other : List ℕ) → at' other ≡ at other))
     → (datagram : List ℕ) → heard_in datagram ≡ Ok message
-    → LeadsFrom s t old (in_hand stamp (Some before) at) new at' (record { datagram = datagram; outputs = outputs; line = stamped stamp line } ∷ [])
+    → LeadsFromBy s t stamp datagram old (in_hand stamp (Some before) at) new at' (record { datagram = datagram; outputs = outputs; line = stamped stamp line } ∷ [])
 answers_reply {K = K} s t old new at at' stamp message before after outputs line own absent rests here runs down datagram says =
     let was : View = (moment_of t.set before).arbiter in
     let same : answer_at was datagram ≡ answer_to_any was message = ap (λ (h : Result Message MessageFault). answer_of was (in_game was.me.stamp h)) says in
     let sorted : stamp_for datagram ≡ Some stamp = ap stamp_by says ∙ ap Some (sym own) in
     let x : Exchange K = exchange datagram here.told (moment_of t.set after) in
     let delivered : Delivers s.facts (moment_of t.set before) x = subst (λ (a : Answer). Answered s.facts (moment_of t.set before) a here.told (moment_of t.set after)) (sym same) here.answers in
-    let leads : LeadsFrom s t old (in_hand stamp (Some before) at) new at' (answered stamp x ∷ []) =
+    let leads : LeadsFromBy s t stamp datagram old (in_hand stamp (Some before) at) new at' (answered stamp x ∷ []) =
     by_keeper s t old new at at' stamp before after x after.state.is_down refl sorted delivered refl absent rests runs down in
-    subst (λ (o : List Message). LeadsFrom s t old (in_hand stamp (Some before) at) new at' (record { datagram = datagram; outputs = o; line = stamped stamp line } ∷ [])) (sym here.outputs_are)
-    (subst (λ (l : List ℕ). LeadsFrom s t old (in_hand stamp (Some before) at) new at' (record { datagram = datagram; outputs = outputs_of here.told; line = stamped stamp l } ∷ [])) (sym here.line_is) leads)
+    subst (λ (o : List Message). LeadsFromBy s t stamp datagram old (in_hand stamp (Some before) at) new at' (record { datagram = datagram; outputs = o; line = stamped stamp line } ∷ [])) (sym here.outputs_are)
+    (subst (λ (l : List ℕ). LeadsFromBy s t stamp datagram old (in_hand stamp (Some before) at) new at' (record { datagram = datagram; outputs = outputs_of here.told; line = stamped stamp l } ∷ [])) (sym here.line_is) leads)

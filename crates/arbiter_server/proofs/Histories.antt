@@ -1,5 +1,5 @@
 -- The acts of one game, and its record through them.
-use Rattle.std.proofs.Common.{◌≡◌, ◌∙◌, ℕ, Bool, true, false, cond, List, [], ◌∷◌, ◌++◌, length, take, Option, Some, None, inl, inr, refl, sym, ap, subst, arith}
+use Rattle.std.proofs.Common.{◌≡◌, ◌≤◌, ◌&&◌, ◌∙◌, ℕ, Bool, true, false, cond, List, [], ◌∷◌, ◌++◌, length, take, Option, Some, None, inl, inr, refl, sym, ap, subst, arith}
 use Rattle.std.specs.Prelude.{Ok, Err}
 use Rattle.std.specs.List.{filter}
 use Rattle.std.specs.Str.{bytes_eq}
@@ -25,11 +25,11 @@ use Rattle.arbiter_server.specs.OverFiles.{GoesOn}
 use Rattle.arbiter_server.proofs.OpenedLaws.{good_unless}
 use Rattle.arbiter_server.proofs.Telling.{IsHonest, answer_honest, still_on}
 use Rattle.arbiter_server.specs.Folders.{Keepers}
-use Rattle.arbiter_server.specs.Acts.{Act, Reply, IsSorted, acts_of, all_replies, is_stamp, replies_of, stamp_by, stamp_for}
+use Rattle.arbiter_server.specs.Acts.{Act, Reply, IsSorted, acts_of, all_replies, is_stamp, opens_for, replies_of, stamp_by, stamp_for}
 use Rattle.arbiter_server.specs.Acts as act
 use Rattle.arbiter_server.specs.Games.{CommonView, Fresh, Goes, Life, Open, Shut, life_at}
 use Rattle.arbiter_server.specs.Games as game
-use Rattle.arbiter_server.specs.Laws.{OwnReplies, RecordsGoOn}
+use Rattle.arbiter_server.specs.Laws.{OpeningsAreFew, OwnReplies, RecordsGoOn, is_opening, opens_this}
 
 -- ---- the replies of a game
 
@@ -157,3 +157,63 @@ module _ {K : Type 0} (s : Keepers K) (t : CommonView) (stamp : List ℕ) where
 
 pub records_go_on : {K : Type 0} (s : Keepers K) → RecordsGoOn s
 records_go_on s t stamp acts at e path d = (delivered s.facts at e (all_own s t stamp Fresh acts (Open at) path tt) d).goes_on
+
+-- ---- a game's openings
+
+abbrev asked : List ℕ → List Reply → ℕ
+asked stamp replies = length (filter (opens_this stamp) replies)
+
+at_least : (stamp : List ℕ) (n : ℕ) (r : Reply) (rest : List Reply) → n ≤ asked stamp rest → n ≤ asked stamp (r ∷ rest)
+at_least stamp n r rest h = (elim (opens_this stamp r) as (λ b. n ≤ length (cond b (r ∷ filter (opens_this stamp) rest) (filter (opens_this stamp) rest))) [
+  | true ↦ omega (arith, h)
+  | false ↦ h
+])
+
+module _ {K : Type 0} (stamp : List ℕ) where
+  abbrev openings : List (Act K) → ℕ
+  openings acts = length (filter is_opening (acts_of stamp acts))
+
+  -- with an act that is no opening
+  no_opening : (b : Bool) (a : Act K) (acts : List (Act K)) → is_opening a ≡ false → length (filter is_opening (cond b (a ∷ acts_of stamp acts) (acts_of stamp acts))) ≡ openings acts
+  no_opening true a acts e = ap (λ (x : Bool). length (cond x (a ∷ filter is_opening (acts_of stamp acts)) (filter is_opening (acts_of stamp acts)))) e
+  no_opening false a acts e = refl
+
+  -- with an opening, and a datagram for which games are opened
+  one_opening : (a : Act K) (acts : List (Act K)) (r : Reply) (rest : List Reply) → openings acts ≤ asked stamp rest → length (filter is_opening (a ∷ acts_of stamp acts)) ≤ length (r ∷ filter (opens_this stamp) rest)
+  one_opening a acts r rest h = (elim (is_opening a) as (λ x. length (cond x (a ∷ filter is_opening (acts_of stamp acts)) (filter is_opening (acts_of stamp acts))) ≤ length (r ∷ filter (opens_this stamp) rest)) [
+    | true ↦ omega (arith, h)
+    | false ↦ omega (arith, h)
+  ])
+
+  one_more : (b c : Bool) (a : Act K) (acts : List (Act K)) (r : Reply) (rest : List Reply) → c ≡ true → openings acts ≤ asked stamp rest
+      → length (filter is_opening (cond b (a ∷ acts_of stamp acts) (acts_of stamp acts))) ≤ length (cond (b && c) (r ∷ filter (opens_this stamp) rest) (filter (opens_this stamp) rest))
+  one_more true true a acts r rest e h = one_opening a acts r rest h
+  one_more true false a acts r rest e h = absurd (let wrong : false ≡ true = e in cc)
+  one_more false c a acts r rest e h = h
+
+  still_few : (b : Bool) (a : Act K) (acts : List (Act K)) (rest : List Reply) → is_opening a ≡ false → openings acts ≤ asked stamp rest → length (filter is_opening (cond b (a ∷ acts_of stamp acts) (acts_of stamp acts))) ≤ asked stamp rest
+  still_few b a acts rest e h = subst (λ (n : ℕ). n ≤ asked stamp rest) (sym (no_opening b a acts e)) h
+
+  for_datagram : (a : Act K) (of datagram : List ℕ) (acts : List (Act K)) (r : Reply) (rest : List Reply) → r.datagram ≡ datagram → stamp_for datagram ≡ Some of → opens_for datagram ≡ true → openings acts ≤ asked stamp rest
+      → length (filter is_opening (cond (bytes_eq of stamp) (a ∷ acts_of stamp acts) (acts_of stamp acts))) ≤ asked stamp (r ∷ rest)
+  for_datagram a of datagram acts r rest is sorted opens h =
+      subst (λ (d : List ℕ). length (filter is_opening (cond (bytes_eq of stamp) (a ∷ acts_of stamp acts) (acts_of stamp acts))) ≤ length (cond (is_stamp stamp (stamp_for d) && opens_for d) (r ∷ filter (opens_this stamp) rest) (filter (opens_this stamp) rest))) (sym is)
+      (subst (λ (o : Option (List ℕ)). length (filter is_opening (cond (bytes_eq of stamp) (a ∷ acts_of stamp acts) (acts_of stamp acts))) ≤ length (cond (is_stamp stamp o && opens_for datagram) (r ∷ filter (opens_this stamp) rest) (filter (opens_this stamp) rest))) (sym sorted)
+      (one_more (bytes_eq of stamp) (opens_for datagram) a acts r rest opens h))
+
+pub openings_are_few : {K : Type 0} → OpeningsAreFew K
+openings_are_few [] stamp sorted opened = omega arith
+openings_are_few (act.Unread datagram fault ∷ acts) stamp sorted opened = at_least stamp _ _ (all_replies acts) (openings_are_few acts stamp sorted.1 opened)
+openings_are_few (act.Strange of datagram why ∷ acts) stamp sorted opened = at_least stamp _ _ (all_replies acts) (still_few stamp (bytes_eq of stamp) (act.Strange of datagram why) acts (all_replies acts) refl (openings_are_few acts stamp sorted.1 opened))
+openings_are_few (act.Refuses of datagram over fault ∷ acts) stamp sorted opened = for_datagram stamp (act.Refuses of datagram over fault) of datagram acts _ (all_replies acts) refl sorted.0 opened.0 (openings_are_few acts stamp sorted.1 opened.1)
+openings_are_few (act.Opens of over arbiter ∷ []) stamp sorted opened = absurd opened.0
+openings_are_few (act.Opens of over arbiter ∷ act.Unread datagram fault ∷ acts) stamp sorted opened = absurd opened.0
+openings_are_few (act.Opens of over arbiter ∷ act.Strange other datagram why ∷ acts) stamp sorted opened = absurd opened.0
+openings_are_few (act.Opens of over arbiter ∷ act.Refuses other datagram next fault ∷ acts) stamp sorted opened = absurd opened.0
+openings_are_few (act.Opens of over arbiter ∷ act.Opens other next later ∷ acts) stamp sorted opened = absurd opened.0
+openings_are_few (act.Opens of over arbiter ∷ act.Closes other left ∷ acts) stamp sorted opened = absurd opened.0
+openings_are_few (act.Opens of over arbiter ∷ act.Answers other e ∷ acts) stamp sorted opened =
+    for_datagram stamp (act.Opens of over arbiter) of e.datagram (act.Answers other e ∷ acts) _ (all_replies acts) refl (sorted.1.0 ∙ ap Some opened.0.0) opened.0.1
+    (still_few stamp (bytes_eq other stamp) (act.Answers other e) acts (all_replies acts) refl (openings_are_few acts stamp sorted.1.1 opened.1))
+openings_are_few (act.Answers of e ∷ acts) stamp sorted opened = at_least stamp _ _ (all_replies acts) (still_few stamp (bytes_eq of stamp) (act.Answers of e) acts (all_replies acts) refl (openings_are_few acts stamp sorted.1 opened))
+openings_are_few (act.Closes of left ∷ acts) stamp sorted opened = still_few stamp (bytes_eq of stamp) (act.Closes of left) acts (all_replies acts) refl (openings_are_few acts stamp sorted.1 opened)

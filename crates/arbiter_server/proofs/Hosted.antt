@@ -45,6 +45,7 @@ module _ {K W : Type 0} (s : Keepers K) (t : CommonView) (w : Writers W) where
       acts = [];
       new = λ stamp. Fresh;
       turns = record { each = λ stamp. refl; sorted = tt };
+      opened = tt;
       stand = λ stamp. subst (λ (o : Option (Seat K)). Stands s t (gives stamp) o Fresh) (sym (none stamp)) tt;
       replies_are = refl;
     };
@@ -181,6 +182,7 @@ hosts_closed {K = K} s t w n gives gives' at at' port port' out out' ended had c
         games = leads.new;
         each = leads.turns.each;
         sorted = leads.turns.sorted;
+        opened = leads.opened;
         closed = λ stamp. not_open s t (gives' stamp) (leads.new stamp) (shut stamp);
       };
       left = λ stamp. left_so s t (gives' stamp) (leads.new stamp) (shut stamp);

@@ -1,5 +1,5 @@
 -- A game is opened over its keeper, or refused.
-use Rattle.std.proofs.Common.{◌≡◌, ℕ, false, List, [], ◌∷◌, Option, Some, None, refl, sym, ap, subst, ◌∙◌}
+use Rattle.std.proofs.Common.{◌≡◌, ℕ, true, false, List, [], ◌∷◌, Option, Some, None, refl, sym, ap, subst, ◌∙◌}
 use Rattle.std.specs.Prelude.{Ok, Err, IfErr, IsErr}
 use Rattle.std.specs.Str.{bytes_eq}
 use Rattle.std.proofs.lemmas.Bool.{cond-true, cond-false}
@@ -15,12 +15,12 @@ use Rattle.arbiter_core.specs.Setups.{IsGood, SetupView}
 use Rattle.arbiter_server.specs.declared.games.Found.{Found}
 use Rattle.arbiter_server.specs.declared.seat.Seat.{Seat}
 use Rattle.arbiter_server.specs.Folders.{FolderFacts, Gives, GivesLess, GivesOthers, Keepers, keepers}
-use Rattle.arbiter_server.specs.Acts.{Act, Opening, Opens, Refuses, game_of, IsSorted, replies_of, stamp_for, unopened}
+use Rattle.arbiter_server.specs.Acts.{Act, Opening, Opens, Refuses, game_of, IsSorted, opens_for, stamp_for, unopened}
 use Rattle.arbiter_server.specs.Told.{unopened_by}
 use Rattle.arbiter_server.specs.Games.{CommonView, GoesOn, IsGameOf, IsOver, IsSetupOf, IsToldAs, Life, Fresh, Shut, Open, OpensTo, life_after, setup_of}
-use Rattle.arbiter_server.specs.Seats.{At, IsSeated, Stands, in_hand}
-use Rattle.arbiter_server.specs.Turns.{IsFoundAs, LeadsFrom}
-use Rattle.arbiter_server.proofs.Turning.{itself, leads_one}
+use Rattle.arbiter_server.specs.Seats.{At, AreLives, IsSeated, Lives, Stands, in_hand}
+use Rattle.arbiter_server.specs.Turns.{IsFoundAs, LeadsFrom, LeadsOne, LeadsOpenFrom}
+use Rattle.arbiter_server.proofs.Turning.{itself, leads_one, one_act}
 
 -- what `open` ensures
 pub is_opening : {K : Type 0} (facts : KeeperFacts K) (setup : SetupView) (before now : K) (told : Told) → OpensIfGood facts setup before now told → ((IsGood setup → ⊥) → IfErr told (λ fault. fault ≡ BadSetup) × IsErr told × (now ≡ before)) → IsOpening facts setup before now told
@@ -51,10 +51,10 @@ module _ {K : Type 0} (s : Keepers K) (t : CommonView) where
   opens_to : (old new : Gives K) (at at' : At K) (stamp : List ℕ) (o : Opening K) (told : Told) (act : Act K) → at stamp ≡ None → s.is_of stamp o.before → old stamp o.before → IsToldAs s stamp o.setup → IsSetupOf t stamp o.setup
       → IsOpening s.facts o.setup o.before o.now told → game_of act ≡ Some stamp → IsSorted act → ((old new : Life K) → OpensTo s t stamp old o told new → GoesOn s t stamp old act new)
       → Stands s t (new stamp) (at' stamp) (life_after o.now told) → GivesOthers stamp old new → ((other : List ℕ) → bytes_eq stamp other ≡ false → at' other ≡ at other)
-      → LeadsFrom s t old at new at' (replies_of act)
-  opens_to old new at at' stamp o told act absent is given told_as game opening tag sorted on here others same = λ lives stand.
+      → (lives : Lives K) → AreLives s t old at lives → LeadsOne s t act lives new at'
+  opens_to old new at at' stamp o told act absent is given told_as game opening tag sorted on here others same lives stand =
       let there : Stands s t (old stamp) None (lives stamp) = subst (λ (x : Option (Seat K)). Stands s t (old stamp) x (lives stamp)) absent (stand stamp) in
-      leads_one s t old new at at' lives stamp act (life_after o.now told) tag sorted
+      one_act s t old new at at' lives stamp act (life_after o.now told) tag sorted
       (on (lives stamp) (life_after o.now told) (record { over = over (old stamp) stamp (lives stamp) o.before there is given; tells = told_as; game = game; opening = opening; new_is = refl }))
       here others same stand
 
@@ -66,23 +66,26 @@ module _ {K : Type 0} (s : Keepers K) (t : CommonView) (old mid : Gives K) (stam
 
   pub opened_over : (at : At K) (r : Rest) (set : Holding) → at stamp ≡ None → set ≡ setup.set → CanWake r set × (r.is_down ≡ false) → IsKept (s.facts.kept now) (awake r set)
       → IsOpening s.facts setup before now (Ok (awake r set))
-      → LeadsFrom s t old at mid (in_hand stamp (Some (record { state = r; keeper = now })) at) []
-  opened_over at r set absent set_is wakes keeps opening =
+      → LeadsOpenFrom s t stamp old at mid (in_hand stamp (Some (record { state = r; keeper = now })) at)
+  opened_over at r set absent set_is wakes keeps opening = λ lives stand.
       let e : set ≡ t.set = set_is ∙ set_in t stamp setup game in
       let seat : Seat K = record { state = r; keeper = now } in
       let so : IsOpening s.facts setup before now (Ok (awake r t.set)) = subst (λ (x : Holding). IsOpening s.facts setup before now (Ok (awake r x))) e opening in
       let here : in_hand stamp (Some seat) at stamp ≡ Some seat = cond-true (bytes_eq stamp stamp) (Some seat) (at stamp) (itself stamp) in
+      let one : LeadsOne s t (Opens stamp (record { setup = setup; before = before; now = now }) (awake r t.set)) lives mid (in_hand stamp (Some seat) at) =
       opens_to s t old mid at (in_hand stamp (Some seat) at) stamp (record { setup = setup; before = before; now = now }) (Ok (awake r t.set)) (Opens stamp (record { setup = setup; before = before; now = now }) (awake r t.set)) absent is given told_as game so
       refl tt (λ old new h. h)
       (subst (λ (x : Option (Seat K)). Stands s t (mid stamp) x (Open (moment (awake r t.set) now))) (sym here) (seated_over r set set_is wakes keeps, refl))
       (λ other _ keeper gives. same other keeper gives)
-      (λ other apart. cond-false (bytes_eq stamp other) (Some seat) (at other) apart)
+      (λ other apart. cond-false (bytes_eq stamp other) (Some seat) (at other) apart) lives stand in
+      record { over = record { setup = setup; before = before; now = now }; arbiter = awake r t.set; one = one }
 
   pub refused_over : (new : Gives K) (fault : OpenFault) → IsOpening s.facts setup before now (Err fault)
-      → ((next : K) → new stamp next → s.follows now next) → GivesOthers stamp mid new → (at : At K) (datagram : List ℕ) → at stamp ≡ None → stamp_for datagram ≡ Some stamp → LeadsFrom s t old at new at (unopened stamp datagram (unopened_by fault) ∷ [])
-  refused_over new fault opening left others at datagram absent sorted =
-      opens_to s t old new at at stamp (record { setup = setup; before = before; now = now }) (Err fault) (Refuses stamp datagram (record { setup = setup; before = before; now = now }) fault) absent is given told_as game opening
+      → ((next : K) → new stamp next → s.follows now next) → GivesOthers stamp mid new → (at : At K) (datagram : List ℕ) → at stamp ≡ None → stamp_for datagram ≡ Some stamp → opens_for datagram ≡ true → LeadsFrom s t old at new at (unopened stamp datagram (unopened_by fault) ∷ [])
+  refused_over new fault opening left others at datagram absent sorted opens = λ lives stand.
+      leads_one s t (Refuses stamp datagram (record { setup = setup; before = before; now = now }) fault) lives new at (opens, tt)
+      (opens_to s t old new at at stamp (record { setup = setup; before = before; now = now }) (Err fault) (Refuses stamp datagram (record { setup = setup; before = before; now = now }) fault) absent is given told_as game opening
       refl sorted (λ old new h. h)
       (subst (λ (x : Option (Seat K)). Stands s t (new stamp) x (Shut now)) (sym absent) left)
       (λ other apart keeper gives. same other keeper (others other apart keeper gives))
-      (λ other _. refl)
+      (λ other _. refl) lives stand)

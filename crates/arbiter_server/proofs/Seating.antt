@@ -10,7 +10,7 @@ use Rattle.arbiter_server.specs.Folders.{FolderFacts, Gives, Keepers, keepers, k
 use Rattle.arbiter_server.specs.Acts.{Reply}
 use Rattle.arbiter_server.specs.Games.{CommonView, Life, Fresh, Open}
 use Rattle.arbiter_server.specs.Seats.{At, AreSeated, IsAtRest, IsSeated, Stands, in_hand, moment_of}
-use Rattle.arbiter_server.specs.Turns.{LeadsFrom}
+use Rattle.arbiter_server.specs.Turns.{LeadsFrom, LeadsFromBy, LeadsOpenFrom}
 use Rattle.arbiter_server.proofs.Turning.{itself, leads_join, same_stamp}
 
 module _ {K : Type 0} where
@@ -64,6 +64,10 @@ module _ {K : Type 0} (s : Keepers K) (t : CommonView) where
   from_same old new at at1 at' replies same h = λ lives stand.
       h lives (λ stamp. subst (λ (x : Option (Seat K)). Stands s t (old stamp) x (lives stamp)) (sym (same stamp)) (stand stamp))
 
+  pub opens_same : (stamp : List ℕ) (old new : Gives K) (at at1 at' : At K) → ((other : List ℕ) → at1 other ≡ at other) → LeadsOpenFrom s t stamp old at1 new at' → LeadsOpenFrom s t stamp old at new at'
+  opens_same stamp old new at at1 at' same h = λ lives stand.
+      h lives (λ other. subst (λ (x : Option (Seat K)). Stands s t (old other) x (lives other)) (sym (same other)) (stand other))
+
   pub goes_into : (old mid new : Gives K) (at at1 at' : At K) (xs ys : List Reply) → LeadsFrom s t old at mid at1 xs → LeadsFrom s t mid at1 new at' ys → LeadsFrom s t old at new at' (xs ++ ys)
   goes_into old mid new at at1 at' xs ys one more = λ lives stand. leads_join s t mid new at1 at' lives xs ys (one lives stand) more
 
@@ -103,3 +107,8 @@ pub from_place : {G K : Type 0} (facts : KeeperFacts K) (folder : FolderFacts G 
     → LeadsFrom (keepers facts folder now) t old at new at' replies → LeadsFrom (keepers facts folder start) t old at new at' replies
 from_place facts folder start now same t old new at at' replies leads =
     subst (λ (p : folder.Place). LeadsFrom (keepers_at facts folder p) t old at new at' replies) same leads
+
+pub from_place_by : {G K : Type 0} (facts : KeeperFacts K) (folder : FolderFacts G K) (start now : G) → folder.place now ≡ folder.place start → (t : CommonView) (stamp datagram : List ℕ) (old new : Gives K) (at at' : At K) (replies : List Reply)
+    → LeadsFromBy (keepers facts folder now) t stamp datagram old at new at' replies → LeadsFromBy (keepers facts folder start) t stamp datagram old at new at' replies
+from_place_by facts folder start now same t stamp datagram old new at at' replies leads =
+    subst (λ (p : folder.Place). LeadsFromBy (keepers_at facts folder p) t stamp datagram old at new at' replies) same leads

@@ -1,8 +1,9 @@
 -- What a host does, act by act (this project's own).
-use Rattle.std.specs.Prelude.{◌≡◌, ◌++◌, ℕ, Bool, false, List, [], ◌∷◌, Option, Some, None, Result, Ok, Err, codes}
+use Rattle.std.specs.Prelude.{◌≡◌, ◌++◌, ℕ, Bool, true, false, List, [], ◌∷◌, Option, Some, None, Result, Ok, Err, codes}
 use Rattle.std.specs.List.{filter, flat_map}
 use Rattle.std.specs.Str.{bytes_eq}
 use Rattle.move_msg.specs.declared.message.Message.{Message}
+use Rattle.move_msg.specs.declared.message.Message.TheVariants.{Move, Ack, Verdict, Fetch}
 use Rattle.move_msg.specs.declared.message.MessageFault.{MessageFault}
 use Rattle.move_msg.specs.Messages.{stamp_in}
 use Rattle.move_msg.specs.Heard.{heard_in}
@@ -27,7 +28,7 @@ pub record Opening (K : Type 0) : Type 0 where
 pub data Act (K : Type 0) : Type 0 where
   -- bytes came that are no message
   Unread : (datagram : List ℕ) (fault : MessageFault) → Act K
-  -- a message came of a game that isn't open, and of which there is no keeper
+  -- a message came of a game that isn't open: it opens none, or there is no keeper of the game
   Strange : (stamp : List ℕ) (datagram : List ℕ) (why : Unopened) → Act K
   -- a message came of a game that isn't open, and over its keeper no arbiter can be opened
   Refuses : (stamp : List ℕ) (datagram : List ℕ) (over : Opening K) (fault : OpenFault) → Act K
@@ -73,6 +74,43 @@ IsSorted (Refuses stamp datagram over fault) = stamp_for datagram ≡ Some stamp
 IsSorted (Opens stamp over arbiter) = Unit {0}
 IsSorted (Answers stamp exchange) = stamp_for exchange.datagram ≡ Some stamp
 IsSorted (Closes stamp left) = Unit {0}
+
+-- ---- for which messages games are opened
+
+-- a move and a request for moves: an acknowledgement and a verdict change no record, and nothing is sent for them
+abbrev pub opens_game : Message → Bool
+opens_game (Move stamp sender number m) = true
+opens_game (Ack stamp who count) = false
+opens_game (Verdict stamp who ply verdict) = false
+opens_game (Fetch stamp who number wanted) = true
+
+abbrev pub opens_by : Result Message MessageFault → Bool
+opens_by (Ok message) = opens_game message
+opens_by (Err fault) = false
+
+-- a datagram of such a message
+abbrev pub opens_for : List ℕ → Bool
+opens_for datagram = opens_by (heard_in datagram)
+
+-- the next act is the answer of this game's arbiter to such a datagram
+abbrev pub IsAnsweredNext : {K : Type 0} → List ℕ → List (Act K) → Type 0
+IsAnsweredNext stamp [] = ⊥
+IsAnsweredNext stamp (Unread datagram fault ∷ acts) = ⊥
+IsAnsweredNext stamp (Strange of datagram why ∷ acts) = ⊥
+IsAnsweredNext stamp (Refuses of datagram over fault ∷ acts) = ⊥
+IsAnsweredNext stamp (Opens of over arbiter ∷ acts) = ⊥
+IsAnsweredNext stamp (Answers of exchange ∷ acts) = (of ≡ stamp) × (opens_for exchange.datagram ≡ true)
+IsAnsweredNext stamp (Closes of left ∷ acts) = ⊥
+
+-- each opening is for such a datagram: it is refused, or the arbiter's next act is its answer
+abbrev pub AreOpenings : {K : Type 0} → List (Act K) → Type 0
+AreOpenings [] = Unit {0}
+AreOpenings (Unread datagram fault ∷ acts) = AreOpenings acts
+AreOpenings (Strange of datagram why ∷ acts) = AreOpenings acts
+AreOpenings (Refuses of datagram over fault ∷ acts) = (opens_for datagram ≡ true) × AreOpenings acts
+AreOpenings (Opens of over arbiter ∷ acts) = IsAnsweredNext of acts × AreOpenings acts
+AreOpenings (Answers of exchange ∷ acts) = AreOpenings acts
+AreOpenings (Closes of left ∷ acts) = AreOpenings acts
 
 -- ---- what is answered
 

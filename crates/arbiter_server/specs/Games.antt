@@ -1,20 +1,19 @@
 -- What a game goes through at a host (this project's own).
-use Rattle.std.specs.Prelude.{◌≡◌, ℕ, List, [], ◌∷◌, cond, Ok, Err}
+use Rattle.std.specs.Prelude.{◌≡◌, ℕ, Bool, true, false, List, [], ◌∷◌, cond, Ok, Err}
 use Rattle.board_core.specs.declared.parts.Parts.{Parts}
 use Rattle.fen_text.specs.Written.{fen_of}
 use Rattle.judge_core.specs.Tables.{Holding}
 use Rattle.move_msg.specs.Senders.{who_number}
 use Rattle.move_msg.specs.Stamps.{IsGameName, stamp_of}
-use Rattle.arbiter_core.specs.Keeping.{KeeperFacts}
 use Rattle.arbiter_core.specs.Opens.{IsOpening, Told}
 use Rattle.arbiter_core.specs.Delivers.{Delivers, Exchange, Moment, moment}
 use Rattle.arbiter_core.specs.Setups.{SetupView}
 use Rattle.arbiter_server.specs.declared.config.ServerConfig.{ServerConfig}
 use Rattle.arbiter_server.specs.declared.fault.Unopened.{Unopened}
-use Rattle.arbiter_server.specs.declared.fault.Unopened.TheVariants.{OtherGame}
+use Rattle.arbiter_server.specs.declared.fault.Unopened.TheVariants.{NotOpen, OtherGame}
 use Rattle.arbiter_server.specs.declared.games.Found.{Found}
 use Rattle.arbiter_server.specs.Folders.{Keepers}
-use Rattle.arbiter_server.specs.Acts.{Act, Unread, Strange, Refuses, Opens, Answers, Closes, Opening}
+use Rattle.arbiter_server.specs.Acts.{Act, Unread, Strange, Refuses, Opens, Answers, Closes, Opening, opens_for}
 
 -- what all games of a host have in common
 pub record CommonView : Type 0 where
@@ -39,9 +38,14 @@ pub record IsSetupOf (t : CommonView) (stamp : List ℕ) (setup : SetupView) : T
   pub game : IsGameOf t.manifest stamp setup.name setup.start setup.delay
 
 -- why there is no keeper of a game: the folder refuses it so, or what it tells of it is no game or another one
-pub data IsStrange {K : Type 0} (s : Keepers K) (manifest stamp : List ℕ) (why : Unopened) : Type 0 where
-  IsRefused : s.refuses stamp why → IsStrange s manifest stamp why
-  IsAnother : (game : Found) → s.tells stamp game → (IsGameOf manifest stamp game.name.items game.start game.delay → ⊥) → why ≡ OtherGame → IsStrange s manifest stamp why
+pub data LacksKeeper {K : Type 0} (s : Keepers K) (manifest stamp : List ℕ) (why : Unopened) : Type 0 where
+  IsRefused : s.refuses stamp why → LacksKeeper s manifest stamp why
+  IsAnother : (game : Found) → s.tells stamp game → (IsGameOf manifest stamp game.name.items game.start game.delay → ⊥) → why ≡ OtherGame → LacksKeeper s manifest stamp why
+
+-- why a message of a game that isn't open gets no arbiter: it opens none; or it would, and there is no keeper of the game
+abbrev pub IsStrange : {K : Type 0} → Keepers K → List ℕ → List ℕ → Bool → Unopened → Type 0
+IsStrange s manifest stamp false why = why ≡ NotOpen
+IsStrange s manifest stamp true why = LacksKeeper s manifest stamp why
 
 -- where the arbiter of a game is
 pub data Life (K : Type 0) : Type 0 where
@@ -101,7 +105,7 @@ ClosesTo (Open at) left new = (left ≡ at.keeper) × (new ≡ Shut left)
 -- one act of a game
 abbrev pub GoesOn : {K : Type 0} → Keepers K → CommonView → List ℕ → Life K → Act K → Life K → Type 0
 GoesOn s t stamp old (Unread datagram fault) new = ⊥
-GoesOn s t stamp old (Strange of datagram why) new = IsNotOpen old × IsStrange s t.manifest stamp why × (new ≡ old)
+GoesOn s t stamp old (Strange of datagram why) new = IsNotOpen old × IsStrange s t.manifest stamp (opens_for datagram) why × (new ≡ old)
 GoesOn s t stamp old (Refuses of datagram o fault) new = OpensTo s t stamp old o (Err fault) new
 GoesOn s t stamp old (Opens of o arbiter) new = OpensTo s t stamp old o (Ok arbiter) new
 GoesOn s t stamp old (Answers of e) new = AnswersTo s old e new

@@ -7,15 +7,16 @@ use Rattle.system_io.specs.declared.output.WriteFault.{WriteFault}
 use Rattle.arbiter_server.specs.GoingOut.{LinesEnd, Writers}
 use Rattle.arbiter_server.specs.ServedLines.{refused_port}
 use Rattle.arbiter_server.specs.Folders.{Gives, Keepers}
-use Rattle.arbiter_server.specs.Acts.{Act, IsSorted, Reply, acts_of, all_replies, passing_at}
+use Rattle.arbiter_server.specs.Acts.{Act, AreOpenings, IsSorted, Reply, acts_of, all_replies, passing_at}
 use Rattle.arbiter_server.specs.Games.{CommonView, Fresh, Goes, IsNotOpen, Life, Open, Shut}
 
 -- each game's own acts lead from where it was never opened to where it is now, by the steps of an arbiter alone; each act is of the
--- game that its datagram names; and no game is open then
+-- game that its datagram names; a game is opened for a move or a request of it alone; and no game is open then
 pub record IsHosted {K : Type 0} (s : Keepers K) (t : CommonView) (acts : List (Act K)) : Type 0 where
   pub games : List ℕ → Life K
   pub each : (stamp : List ℕ) → Goes s t stamp Fresh (acts_of stamp acts) (games stamp)
   pub sorted : AllByRecursion IsSorted acts
+  pub opened : AreOpenings acts
   pub closed : (stamp : List ℕ) → IsNotOpen (games stamp)
 
 -- a receive that failed comes last at the port, and its line last

@@ -1,16 +1,34 @@
 -- Laws over a host's acts. The functions of src/laws.rt carry these.
-use Rattle.std.specs.Prelude.{◌≡◌, ℕ, List}
+use Rattle.std.specs.Prelude.{◌≡◌, ◌≤◌, ◌&&◌, ℕ, Bool, true, false, List, length}
 use Rattle.std.specs.List.{AllByRecursion, filter}
 use Rattle.arbiter_core.specs.Delivers.{Delivers, Exchange, Moment}
 use Rattle.arbiter_server.specs.OverFiles.{GoesOn}
 use Rattle.arbiter_server.specs.Folders.{Keepers}
-use Rattle.arbiter_server.specs.Acts.{Act, IsSorted, acts_of, all_replies, is_stamp, stamp_for}
+use Rattle.arbiter_server.specs.Acts.{Act, AreOpenings, IsSorted, Reply, Unread, Strange, Refuses, Opens, Answers, Closes, acts_of, all_replies, is_stamp, opens_for, stamp_for}
 use Rattle.arbiter_server.specs.Games.{CommonView, Fresh, Goes, Open}
 
 -- The replies of a game's acts are exactly those to the datagrams that name it, in their order.
 abbrev pub OwnReplies : Type 0 → Type 0
 OwnReplies K =
     (acts : List (Act K)) (stamp : List ℕ) → AllByRecursion IsSorted acts → all_replies (acts_of stamp acts) ≡ filter (λ r. is_stamp stamp (stamp_for r.datagram)) (all_replies acts)
+
+-- an arbiter of the game is opened, or refused
+abbrev pub is_opening : {K : Type 0} → Act K → Bool
+is_opening (Unread datagram fault) = false
+is_opening (Strange stamp datagram why) = false
+is_opening (Refuses stamp datagram over fault) = true
+is_opening (Opens stamp over arbiter) = true
+is_opening (Answers stamp exchange) = false
+is_opening (Closes stamp left) = false
+
+-- the datagram is a move or a request of this game
+abbrev pub opens_this : List ℕ → Reply → Bool
+opens_this stamp r = is_stamp stamp (stamp_for r.datagram) && opens_for r.datagram
+
+-- A game is opened at most as often as moves and requests of it came.
+abbrev pub OpeningsAreFew : Type 0 → Type 0
+OpeningsAreFew K =
+    (acts : List (Act K)) (stamp : List ℕ) → AllByRecursion IsSorted acts → AreOpenings acts → length (filter is_opening (acts_of stamp acts)) ≤ length (filter (opens_this stamp) (all_replies acts))
 
 -- Wherever the acts of a game have led, the next delivery leaves a record that goes on from the one before.
 abbrev pub RecordsGoOn : {K : Type 0} → Keepers K → Type 0

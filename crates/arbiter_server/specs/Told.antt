@@ -20,6 +20,7 @@ unopened_by open_fault.OtherStamp = unopened.OtherGame
 unopened_by open_fault.OutOfMemory = unopened.OutOfMemory
 
 abbrev pub unopened_words : Unopened → List ℕ
+unopened_words unopened.NotOpen = codes "refused NotOpen"
 unopened_words unopened.NoGame = codes "refused NoGame"
 unopened_words unopened.OtherGame = codes "refused OtherGame"
 unopened_words (unopened.BadGame number) = codes "refused game " ++ decimal number

@@ -5,8 +5,10 @@ use Rattle.judge_core.specs.Tables.{Holding}
 use Rattle.move_msg.specs.declared.message.Message.{Message}
 use Rattle.move_msg.specs.Heard.{heard_in}
 use Rattle.move_msg.specs.Messages.{stamp_in}
+use Rattle.arbiter_core.specs.Delivers.{Exchange}
 use Rattle.arbiter_core.specs.Keeping.{KeeperFacts}
 use Rattle.arbiter_core.specs.Setups.{SetupView}
+use Rattle.arbiter_core.specs.Views.{View}
 use Rattle.system_io.specs.Failures.{Risen}
 use Rattle.system_io.specs.Ports.{Missed, Passed, PortFacts}
 use Rattle.system_io.specs.declared.output.WriteFault.{WriteFault}
@@ -17,7 +19,7 @@ use Rattle.arbiter_server.specs.declared.seat.Seat.{Seat}
 use Rattle.arbiter_server.specs.Folders.{FolderFacts, Gives, GivesOthers, Keepers, keepers}
 use Rattle.arbiter_server.specs.declared.turn.Answered.{Answered}
 use Rattle.arbiter_server.specs.Told.{line_words}
-use Rattle.arbiter_server.specs.Acts.{Act, IsSorted, Reply, acts_of, all_replies, passing_at, stamp_for, unopened}
+use Rattle.arbiter_server.specs.Acts.{Act, Answers, AreOpenings, IsSorted, Opening, Opens, Reply, acts_of, all_replies, opens_for, opens_game, passing_at, stamp_for, unopened}
 use Rattle.arbiter_server.specs.Games.{CommonView, Fresh, Goes, IsSetupOf, IsToldAs}
 use Rattle.arbiter_server.specs.Hosts.{Ends, all_lines, all_passing}
 use Rattle.arbiter_server.specs.Room.{at_stamp}
@@ -34,12 +36,39 @@ pub record Leads {K : Type 0} (s : Keepers K) (t : CommonView) (old : Lives K) (
   pub acts : List (Act K)
   pub new : Lives K
   pub turns : Each s t old new acts
+  pub opened : AreOpenings acts
   pub stand : AreLives s t gives at new
   pub replies_are : all_replies acts ≡ replies
+
+-- so they do, and the first is the answer of this game's arbiter to this datagram
+pub record LeadsBy {K : Type 0} (s : Keepers K) (t : CommonView) (stamp datagram : List ℕ) (old : Lives K) (gives : Gives K) (at : At K) (replies : List Reply) : Type 0 where
+  pub leads : Leads s t old gives at replies
+  pub exchange : Exchange K
+  pub rest : List (Act K)
+  pub acts_are : leads.acts ≡ Answers stamp exchange ∷ rest
+  pub is : exchange.datagram ≡ datagram
+
+-- one act leads from these lives to where the games are now
+pub record LeadsOne {K : Type 0} (s : Keepers K) (t : CommonView) (act : Act K) (old : Lives K) (gives : Gives K) (at : At K) : Type 0 where
+  pub new : Lives K
+  pub turns : Each s t old new (act ∷ [])
+  pub stand : AreLives s t gives at new
+
+-- the opening of this game does
+pub record LeadsOpen {K : Type 0} (s : Keepers K) (t : CommonView) (stamp : List ℕ) (old : Lives K) (gives : Gives K) (at : At K) : Type 0 where
+  pub over : Opening K
+  pub arbiter : View
+  pub one : LeadsOne s t (Opens stamp over arbiter) old gives at
 
 -- so they do for all lives for which the games stood before
 abbrev pub LeadsFrom : {K : Type 0} → Keepers K → CommonView → Gives K → At K → Gives K → At K → List Reply → Type 0
 LeadsFrom {K = K} s t gives at gives' at' replies = (lives : Lives K) → AreLives s t gives at lives → Leads s t lives gives' at' replies
+
+abbrev pub LeadsFromBy : {K : Type 0} → Keepers K → CommonView → List ℕ → List ℕ → Gives K → At K → Gives K → At K → List Reply → Type 0
+LeadsFromBy {K = K} s t stamp datagram gives at gives' at' replies = (lives : Lives K) → AreLives s t gives at lives → LeadsBy s t stamp datagram lives gives' at' replies
+
+abbrev pub LeadsOpenFrom : {K : Type 0} → Keepers K → CommonView → List ℕ → Gives K → At K → Gives K → At K → Type 0
+LeadsOpenFrom {K = K} s t stamp gives at gives' at' = (lives : Lives K) → AreLives s t gives at lives → LeadsOpen s t stamp lives gives' at'
 
 -- from a folder to a later one, by the keepers of where it was first
 abbrev pub Turns : {G K : Type 0} → KeeperFacts K → FolderFacts G K → CommonView → G → At K → G → At K → List Reply → Type 0
@@ -61,7 +90,7 @@ pub record ComesBack {G K : Type 0} (folder : FolderFacts G K) (tables : Holding
 -- a game that isn't open is opened, and in hand
 pub record OpensSeat {G K : Type 0} (facts : KeeperFacts K) (folder : FolderFacts G K) (t : CommonView) (games games' : G) (stamp : List ℕ) (seat : Seat K) : Type 0 where
   pub seated : IsSeated facts t.set seat
-  pub turns : (at : At K) → at stamp ≡ None → Turns facts folder t games at games' (in_hand stamp (Some seat) at) []
+  pub turns : (at : At K) → at stamp ≡ None → LeadsOpenFrom (keepers facts folder games) t stamp (folder.gives games) at (folder.gives games') (in_hand stamp (Some seat) at)
 
 -- it is the setup of the game with this stamp, as the folder tells it
 pub record IsFoundAs {G K : Type 0} (facts : KeeperFacts K) (folder : FolderFacts G K) (t : CommonView) (games : G) (stamp : List ℕ) (setup : SetupView) : Type 0 where
@@ -71,7 +100,7 @@ pub record IsFoundAs {G K : Type 0} (facts : KeeperFacts K) (folder : FolderFact
 -- or it isn't, and its datagram is refused so
 abbrev pub RefusesSeat : {G K : Type 0} → KeeperFacts K → FolderFacts G K → CommonView → G → G → List ℕ → Unopened → Type 0
 RefusesSeat {K = K} facts folder t games games' stamp why =
-    (at : At K) (datagram : List ℕ) → at stamp ≡ None → stamp_for datagram ≡ Some stamp → Turns facts folder t games at games' at (unopened stamp datagram why ∷ [])
+    (at : At K) (datagram : List ℕ) → at stamp ≡ None → stamp_for datagram ≡ Some stamp → opens_for datagram ≡ true → Turns facts folder t games at games' at (unopened stamp datagram why ∷ [])
 
 -- so it is of each setup that is found so
 abbrev pub OpensFound : {G K : Type 0} → KeeperFacts K → FolderFacts G K → G → G → List ℕ → SetupView → Seat K → Type 0
@@ -91,15 +120,30 @@ pub record Closes {G K : Type 0} (folder : FolderFacts G K) (games games' : G) (
 abbrev pub TurnsTo : {G K : Type 0} → KeeperFacts K → FolderFacts G K → ServerView G K → ServerView G K → List Reply → Type 0
 TurnsTo facts folder old new replies = Turns facts folder old.common old.games (at_stamp old.seats) new.games (at_stamp new.seats) replies
 
--- a game is in hand after it
-pub record TakesSeat {G K : Type 0} (facts : KeeperFacts K) (folder : FolderFacts G K) (old new : ServerView G K) (stamp : List ℕ) (seat : Seat K) : Type 0 where
-  pub absent : at_stamp new.seats stamp ≡ None
-  pub seated : IsSeated facts old.common.set seat
-  pub turns : Turns facts folder old.common old.games (at_stamp old.seats) new.games (in_hand stamp (Some seat) (at_stamp new.seats)) []
+-- a game that isn't open is opened for a message, which opens games, and in hand
+pub record OpensFor {G K : Type 0} (facts : KeeperFacts K) (folder : FolderFacts G K) (t : CommonView) (games games' : G) (message : Message) (seat : Seat K) : Type 0 where
+  pub opens : opens_game message ≡ true
+  pub opened : OpensSeat facts folder t games games' (stamp_in message).0 seat
 
--- the datagram of a game is refused so
-abbrev pub Refuses : {G K : Type 0} → KeeperFacts K → FolderFacts G K → ServerView G K → ServerView G K → List ℕ → Unopened → Type 0
-Refuses facts folder old new stamp why = (datagram : List ℕ) → stamp_for datagram ≡ Some stamp → TurnsTo facts folder old new (unopened stamp datagram why ∷ [])
+-- or it isn't, and the message is refused so by whichever datagram it comes
+abbrev pub RefusesFor : {G K : Type 0} → KeeperFacts K → FolderFacts G K → CommonView → G → G → Message → Unopened → Type 0
+RefusesFor {K = K} facts folder t games games' message why =
+    (at : At K) (datagram : List ℕ) → at (stamp_in message).0 ≡ None → heard_in datagram ≡ Ok message → Turns facts folder t games at games' at (unopened (stamp_in message).0 datagram why ∷ [])
+
+-- how a game comes into hand: it was open, or it is opened for a message
+pub data ComesInHand {K : Type 0} (s : Keepers K) (t : CommonView) (message : Message) (gives : Gives K) (at : At K) (gives' : Gives K) (at' : At K) : Type 0 where
+  WasOpen : LeadsFrom s t gives at gives' at' [] → ComesInHand s t message gives at gives' at'
+  IsOpened : opens_game message ≡ true → LeadsOpenFrom s t (stamp_in message).0 gives at gives' at' → ComesInHand s t message gives at gives' at'
+
+-- the game of a message is in hand after it
+pub record TakesSeat {G K : Type 0} (facts : KeeperFacts K) (folder : FolderFacts G K) (old new : ServerView G K) (message : Message) (seat : Seat K) : Type 0 where
+  pub absent : at_stamp new.seats (stamp_in message).0 ≡ None
+  pub seated : IsSeated facts old.common.set seat
+  pub comes : ComesInHand (keepers facts folder old.games) old.common message (folder.gives old.games) (at_stamp old.seats) (folder.gives new.games) (in_hand (stamp_in message).0 (Some seat) (at_stamp new.seats))
+
+-- a message is refused so by whichever datagram it comes
+abbrev pub Refuses : {G K : Type 0} → KeeperFacts K → FolderFacts G K → ServerView G K → ServerView G K → Message → Unopened → Type 0
+Refuses facts folder old new message why = (datagram : List ℕ) → heard_in datagram ≡ Ok message → TurnsTo facts folder old new (unopened (stamp_in message).0 datagram why ∷ [])
 
 -- the reply to a datagram
 abbrev pub reply_of : List ℕ → Answered → Reply
@@ -112,7 +156,7 @@ AnswersMessage facts folder old message new r = (datagram : List ℕ) → heard_
 -- so it is by a game that is in hand
 abbrev pub AnswersInHand : {G K : Type 0} → KeeperFacts K → FolderFacts G K → ServerView G K → Seat K → Message → ServerView G K → Answered → Type 0
 AnswersInHand facts folder old seat message new r =
-    (datagram : List ℕ) → heard_in datagram ≡ Ok message → Turns facts folder old.common old.games (in_hand (stamp_in message).0 (Some seat) (at_stamp old.seats)) new.games (at_stamp new.seats) (reply_of datagram r ∷ [])
+    (datagram : List ℕ) → heard_in datagram ≡ Ok message → LeadsFromBy (keepers facts folder old.games) old.common (stamp_in message).0 datagram (folder.gives old.games) (in_hand (stamp_in message).0 (Some seat) (at_stamp old.seats)) (folder.gives new.games) (at_stamp new.seats) (reply_of datagram r ∷ [])
 
 -- with these replies something goes on
 abbrev pub Going : Type 1

@@ -8,6 +8,8 @@ use arbiter_core::OpenFault;
 /// Why a game isn't open.
 #[derive(Clone, Copy)]
 pub enum Unopened {
+    /// The message is an acknowledgement or a verdict, which opens no game.
+    NotOpen,
     /// The folder has no game with this stamp.
     NoGame,
     /// The game or the record that the folder has under this stamp is another game's.

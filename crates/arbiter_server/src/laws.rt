@@ -3,7 +3,7 @@
 ghost use Rattle.arbiter_server.specs.Lives.{KeepsAsTold, KeepsWhatItTold};
 ghost use Rattle.system_io.specs.PowerLosses.{disk_facts};
 ghost use Rattle.arbiter_server.specs.Folders.{keepers};
-ghost use Rattle.arbiter_server.specs.Laws.{OwnReplies, RecordsGoOn};
+ghost use Rattle.arbiter_server.specs.Laws.{OpeningsAreFew, OwnReplies, RecordsGoOn};
 
 use crate::games::Games;
 use arbiter_core::laws::puts_grow;
@@ -35,6 +35,11 @@ pub fn traced_file_keeps_what_it_told<C: FileCalls + Drop>(_file: &Traced<C>)
 /// The replies of a game's acts are those to the datagrams that name it, in their order: other games' datagrams change nothing.
 pub fn own_replies<G: Games>(_games: &G)
     ensures { OwnReplies G.Keeper }
+{}
+
+/// A game is opened at most as often as moves and requests of it came: no acknowledgement and no verdict opens one.
+pub fn openings_are_few<G: Games>(_games: &G)
+    ensures { OpeningsAreFew G.Keeper }
 {}
 
 /// At each moment of a game the next delivery leaves the record as it was, or adds moves to it.

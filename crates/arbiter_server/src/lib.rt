@@ -31,11 +31,12 @@
 //! - CLAIM: `Server::open`; `Server::serve`, clauses `hosts`, `stays`, `idle`: a server begins with no game open (the error of
 //!   `open` has no cause). Each datagram is answered by acts of the game that it names. The acts of a game lead on from one
 //!   another by the steps of one arbiter, over keepers of this game, with the setup that the folder tells. A datagram gets no
-//!   arbiter only where the folder refuses its game, gives a game of another stamp, or `ArbiterState::open` refuses. The acts end
+//!   arbiter only where it is an acknowledgement or a verdict of a game that isn't open, the folder refuses its game, gives a game of
+//!   another stamp, or `ArbiterState::open` refuses. A game is opened for a move or a request, which it answers next. The acts end
 //!   with no game open, the folder is where it was, and the status is 0 only where all datagrams came. The lines and the traffic
 //!   are those of the answers, and each line is out before the next.
-//! - CLAIM: `laws::own_replies`; `laws::records_go_on`: a game's replies are those to the datagrams that name it, and each
-//!   delivery leaves its record or adds to it.
+//! - CLAIM: `laws::own_replies`; `laws::records_go_on`; `laws::openings_are_few`: a game's replies are those to the datagrams that
+//!   name it, each delivery leaves its record or adds to it, and it is opened at most once for each move and request of it that came.
 //! - CLAIM: `read_game`, clauses `ok`, `err`, `only`; `write_game`, clauses `text`, `spells`; `GameFileFault::line`: a game's
 //!   file is read exactly where it spells a game, and otherwise the first line at fault is reported.
 //! - CLAIM: `game_path`; `kept_path`; `find_game`, clauses `ok`, `err`: a game is found only where its file spells it; otherwise

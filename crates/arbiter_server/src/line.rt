@@ -81,6 +81,7 @@ fn unopened_line(stamp: &[u8; 16], why: Unopened) -> LineText
     ensures { result.items ≡ ended (stamped stamp.now (unopened_words why)) }
 {
     match why {
+        Unopened::NotOpen => stamped(stamp, b"refused NotOpen\n"),
         Unopened::NoGame => stamped(stamp, b"refused NoGame\n"),
         Unopened::OtherGame => stamped(stamp, b"refused OtherGame\n"),
         Unopened::BadGame(number) => stamped(stamp, &bad_game(number)),

@@ -9,7 +9,7 @@ ghost use Rattle.arbiter_server.specs.Games.{common_with};
 ghost use Rattle.arbiter_server.specs.Room.{at_stamp};
 ghost use Rattle.arbiter_server.specs.Seats.{IsSeated};
 ghost use Rattle.arbiter_server.specs.Servers.{IsIdle, IsNew, ServerHosts, Stays};
-ghost use Rattle.arbiter_server.specs.Turns.{AnswersInHand, AnswersMessage, ComesBack, OpensFound, OpensSeat, Receives, Refuses, RefusesFound, RefusesSeat, ServesOn, TakesSeat, TakesTurn, TurnsTo, reply_of};
+ghost use Rattle.arbiter_server.specs.Turns.{AnswersInHand, AnswersMessage, ComesBack, OpensFor, OpensFound, OpensSeat, Receives, Refuses, RefusesFor, RefusesFound, RefusesSeat, ServesOn, TakesSeat, TakesTurn, TurnsTo, reply_of};
 
 use crate::config::ServerConfig;
 use crate::fault::Unopened;
@@ -19,7 +19,7 @@ use crate::room::take_out;
 use crate::seat::Seat;
 use crate::serving::{put_line, send_all};
 use crate::settling::{close_all, settle};
-use crate::turn::{Answered, found, told_alone};
+use crate::turn::{Answered, found, opens_game, told_alone};
 use arbiter_core::{ArbiterState, Terms};
 use judge_core::Set;
 use lru::LruCache;
@@ -71,6 +71,25 @@ fn open_told<'a, G: Games>(
     }
 }
 
+/// Opens the game that a message is of, where it is one that opens games.
+fn open_for<'a, G: Games>(
+    alloc: Global,
+    config: &ServerConfig<'a>,
+    games: &mut G,
+    tables: &mut Set<'_>,
+    message: &Message,
+) -> Result<Seat<'a, G::Keeper>, Unopened>
+    ensures lent { ComesBack G.facts tables.old games.old tables.new games.new }
+    ensures opened { IfOk result (OpensFor G.Keeper.facts G.facts (common_with config.now tables.old) games.old games.new message.now) }
+    ensures unopened { IfErr result (RefusesFor G.Keeper.facts G.facts (common_with config.now tables.old) games.old games.new message.now) }
+{
+    if !opens_game(message) {
+        return Err(Unopened::NotOpen);
+    }
+    let stamp = message.stamp().0;
+    open_told(alloc, config, games, tables, &stamp)
+}
+
 /// A server of games at a port. Each game that is open can answer by its tables, and its keeper keeps its record.
 #[derive(Drop)]
 pub struct Server<'a, G: Games + Drop> {
@@ -114,20 +133,25 @@ impl<'a, G: Games + Drop> Server<'a, G> {
         }
     }
 
-    /// Takes the game with this stamp out, or opens it.
-    fn seat_for(&mut self, alloc: Global, stamp: &[u8; 16]) -> Result<Seat<'a, G::Keeper>, Unopened>
+    /// Takes the game that a message is of out, or opens it.
+    fn seat_for(
+        &mut self,
+        alloc: Global,
+        message: &Message,
+    ) -> Result<Seat<'a, G::Keeper>, Unopened>
         ensures stays { Stays G.facts self.old self.new }
-        ensures opened { IfOk result (TakesSeat G.Keeper.facts G.facts self.old self.new stamp.now) }
-        ensures unopened { IfErr result (Refuses G.Keeper.facts G.facts self.old self.new stamp.now) }
+        ensures opened { IfOk result (TakesSeat G.Keeper.facts G.facts self.old self.new message.now) }
+        ensures unopened { IfErr result (Refuses G.Keeper.facts G.facts self.old self.new message.now) }
     {
-        match take_out(&mut self.seats, stamp) {
+        let stamp = message.stamp().0;
+        match take_out(&mut self.seats, &stamp) {
             Some(seat) => Ok(seat),
-            None => open_told(
+            None => open_for(
                 alloc,
                 &self.config,
                 &mut self.games,
                 &mut self.tables,
-                stamp,
+                message,
             ),
         }
     }
@@ -155,10 +179,9 @@ impl<'a, G: Games + Drop> Server<'a, G> {
         ensures stays { Stays G.facts self.old self.new }
         ensures answers { AnswersMessage G.Keeper.facts G.facts self.old message.now self.new result }
     {
-        let stamp = message.stamp().0;
-        match self.seat_for(alloc, &stamp) {
+        match self.seat_for(alloc, message) {
             Ok(seat) => self.answer_at(alloc, seat, message),
-            Err(why) => told_alone(alloc, Line::Unopened(stamp, why)),
+            Err(why) => told_alone(alloc, Line::Unopened(message.stamp().0, why)),
         }
     }
 
@@ -235,7 +258,7 @@ impl<'a, G: Games + Drop> Server<'a, G> {
     /// before it, as after `open` and after each run, and all are closed at its end.
     ///
     /// A line is written for each datagram, and goes out at once. For a message it begins with the stamp of its game, in 32
-    /// lower-case hexadecimal digits: then comes what `serve` tells, or why the game isn't open, `refused NoGame`,
+    /// lower-case hexadecimal digits: then comes what `serve` tells, or why the game isn't open, `refused NotOpen`, `refused NoGame`,
     /// `refused OtherGame`, `refused game` and a line of its file, `refused keeper` or `refused memory`. For bytes that are no
     /// message it is `- refused NotAMessage` and what is wrong with them. No refusal ends the run: a game whose keeper failed is
     /// closed, and opened again over its file when its next datagram comes. Where no datagram can be received the line is `refused

@@ -2,13 +2,14 @@
 
 ghost use Rattle.std.specs.Prelude.{◌≡◌, ◌↔◌, [], IfOk, IfErr, IsTrue};
 ghost use Rattle.arbiter_server.specs.Folders.{keepers};
-ghost use Rattle.arbiter_server.specs.Games.{IsGameOf, IsStrange};
+ghost use Rattle.arbiter_server.specs.Acts.{opens_game};
+ghost use Rattle.arbiter_server.specs.Games.{IsGameOf, LacksKeeper};
 
 use crate::fault::Unopened;
 use crate::games::{Found, Games};
 use crate::line::Line;
 use arbiter_core::Outputs;
-use move_msg::Stamp;
+use move_msg::{Message, Stamp};
 use smallvec::SmallVec;
 use std::alloc::Global;
 
@@ -26,6 +27,17 @@ fn is_same(a: &[u8; 16], b: &[u8; 16]) -> bool
     *a == *b
 }
 
+/// Whether a game that isn't open is opened for a message: an acknowledgement and a verdict change no record, and nothing is answered
+/// to them.
+pub(crate) fn opens_game(message: &Message) -> bool
+    ensures { result ≡ opens_game message.now }
+{
+    match message {
+        Message::Move { .. } | Message::Fetch { .. } => true,
+        Message::Ack { .. } | Message::Verdict { .. } => false,
+    }
+}
+
 /// The game of the folder that has this stamp.
 pub(crate) fn found<G: Games>(
     alloc: Global,
@@ -35,7 +47,7 @@ pub(crate) fn found<G: Games>(
 ) -> Result<Found, Unopened>
     ensures ok { IfOk result (λ game. IsGameOf manifest.now stamp.now game.name.items game.start game.delay) }
     ensures told { IfOk result ((keepers G.Keeper.facts G.facts games.now).tells stamp.now) }
-    ensures err { IfErr result (IsStrange (keepers G.Keeper.facts G.facts games.now) manifest.now stamp.now) }
+    ensures err { IfErr result (LacksKeeper (keepers G.Keeper.facts G.facts games.now) manifest.now stamp.now) }
 {
     let game = match games.find(alloc, stamp) {
         Ok(game) => game,

@@ -7,7 +7,7 @@
 -- - `IsHostOf`: which hosts these are.
 -- - `rest` of `IsRunOf`: a run that was stopped is a front of one that returns.
 -- - `Finds`, `Hears` and `Stops`: the game that was found under the stamp is this one, no message of it is made up, and keepers keep.
--- - `GivesOwn` and `GivesIf`: a datagram without a keeper, a closing, and an act of another game leave what is found.
+-- - `GivesOwn` and `GivesIf`: a datagram that no arbiter gets, a closing, and an act of another game leave what is found.
 --
 -- A real run meets them. Let the keepers of a game at a host be over one file, to which nobody else writes, and let its sites be as
 -- `changed` has them, with what is in that file after each act. Then `kept` and `is_found` hold by what reading and replacing a file
@@ -153,7 +153,8 @@ pub record Stops (game : Judged) (old : Net) (who : Who) (new : Net) : Type 0 wh
   pub is_found : (found ≡ (site_of old who).kept) ⊎ (IsCutAtPut game old.log (site_of old who) found ⊎ IsCutAtFirst game who (site_of old who) found)
   pub net : new ≡ changed old who (closed_with found) []
 
--- an act of the game; premise: a datagram without a keeper changes nothing, and a closing leaves what is found
+-- an act of the game; premise: a datagram that no arbiter gets changes nothing (so it is of an acknowledgement and a verdict of a game
+-- that isn't open), and a closing leaves what is found
 abbrev pub GivesOwn : {K : Type 0} → KeeperFacts K → Judged → Net → Who → Act K → Net → Type 0
 GivesOwn facts game old who (Unread datagram fault) new = new ≡ old
 GivesOwn facts game old who (Strange stamp datagram why) new = new ≡ old

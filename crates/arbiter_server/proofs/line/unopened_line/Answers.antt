@@ -1,10 +1,13 @@
 use Rattle.std.proofs.Common.{refl, ◌∙◌}
 use Rattle.arbiter_server.specs.Told.{unopened_words}
-use Rattle.arbiter_server.specs.declared.fault.Unopened.TheVariants.{BadGame, Keeper, NoGame, OtherGame, OutOfMemory}
+use Rattle.arbiter_server.specs.declared.fault.Unopened.TheVariants.{BadGame, Keeper, NoGame, NotOpen, OtherGame, OutOfMemory}
 use Rattle.arbiter_server.proofs.line.unopened_line.Goals as goal
 
+pub returns-in-NotOpen : goal.returns-in-NotOpen
+returns-in-NotOpen c = rw c.in-NotOpen.is (c.stamped.ensures (unopened_words NotOpen) refl)
+
 pub returns-in-NoGame : goal.returns-in-NoGame
-returns-in-NoGame c = rw c.in-NoGame.is (c.stamped.ensures (unopened_words NoGame) refl)
+returns-in-NoGame c = rw c.in-NoGame.is (c.stamped-in-NoGame.ensures (unopened_words NoGame) refl)
 
 pub returns-in-OtherGame : goal.returns-in-OtherGame
 returns-in-OtherGame c = rw c.in-OtherGame.is (c.stamped-in-OtherGame.ensures (unopened_words OtherGame) refl)

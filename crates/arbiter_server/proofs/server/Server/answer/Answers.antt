@@ -1,17 +1,17 @@
-use Rattle.std.proofs.Common.{[], ◌∷◌, Some, ap, subst, sym, ◌∙◌}
-use Rattle.move_msg.specs.declared.stamp.Stamp.{Stamp}
-use Rattle.arbiter_server.specs.Acts.{stamp_by}
+use Rattle.std.proofs.Common.{[], ◌∷◌, subst, sym}
+use Rattle.move_msg.specs.Messages.{stamp_in}
 use Rattle.arbiter_server.specs.Folders.{keepers}
 use Rattle.arbiter_server.specs.Room.{at_stamp}
 use Rattle.arbiter_server.specs.Games.{CommonView}
 use Rattle.arbiter_server.specs.Seats.{IsSeated}
 use Rattle.arbiter_server.specs.Turns.{reply_of}
-use Rattle.arbiter_server.proofs.Seating.{from_place, goes_into}
+use Rattle.arbiter_server.proofs.Seating.{from_place_by}
+use Rattle.arbiter_server.proofs.Handing.{comes_then}
 use Rattle.arbiter_server.proofs.WholeRuns.{still}
 use Rattle.arbiter_server.proofs.server.Server.answer.Goals as goal
 
 pub answer_at-requires-clause-absent : goal.answer_at-requires-clause-absent
-answer_at-requires-clause-absent g c = rw c.stamp.ensures at c.in-Ok.ensures.opened.absent
+answer_at-requires-clause-absent g c = c.in-Ok.ensures.opened.absent
 
 pub answer_at-requires-clause-seated : goal.answer_at-requires-clause-seated
 answer_at-requires-clause-seated g c = subst (λ (t : CommonView). IsSeated g.G.Keeper.Keeper.facts t.set c.in-Ok.seat) (sym c.seat_for.ensures.stays.common) c.in-Ok.ensures.opened.seated
@@ -22,12 +22,11 @@ returns-in-Ok-clause-stays g c = still c.answer_at.ensures.stays c.seat_for.ensu
 pub returns-in-Ok-clause-answers : goal.returns-in-Ok-clause-answers
 returns-in-Ok-clause-answers g c = λ datagram says.
     let t = c.args.self.now.common in
-    let opened = rw c.stamp.ensures at c.in-Ok.ensures.opened.turns in
     let answered = c.answer_at.ensures.answers datagram says in
     let so = rw c.seat_for.ensures.stays.common at answered in
-    let one = from_place g.G.Keeper.Keeper.facts g.G.Games.facts c.args.self.now.games c.seat_for.new.self.games c.seat_for.ensures.stays.place t _ _ _ _ _ so in
-    goes_into (keepers g.G.Keeper.Keeper.facts g.G.Games.facts c.args.self.now.games) t _ _ _ (at_stamp c.args.self.now.seats) _ (at_stamp c.answer_at.new.self.seats) [] (reply_of datagram c.answer_at.result ∷ []) opened one
+    let one = from_place_by g.G.Keeper.Keeper.facts g.G.Games.facts c.args.self.now.games c.seat_for.new.self.games c.seat_for.ensures.stays.place t (stamp_in c.args.message.now).0 datagram _ _ _ _ _ so in
+    comes_then (keepers g.G.Keeper.Keeper.facts g.G.Games.facts c.args.self.now.games) t c.args.message.now datagram _ _ _ (at_stamp c.args.self.now.seats) _ (at_stamp c.answer_at.new.self.seats) (reply_of datagram c.answer_at.result ∷ []) says c.in-Ok.ensures.opened.comes one
 
 pub returns-in-Err-clause-answers : goal.returns-in-Err-clause-answers
 returns-in-Err-clause-answers g c = λ datagram says.
-    rw (c.told_alone.ensures.outputs, c.told_alone.ensures.line) (c.in-Err.ensures.unopened datagram (ap stamp_by says ∙ ap (λ (x : Stamp). Some x.0) (sym c.stamp.ensures)))
+    rw (c.told_alone.ensures.outputs, c.told_alone.ensures.line, c.stamp.ensures) (c.in-Err.ensures.unopened datagram says)
