@@ -73,7 +73,7 @@ fn main(rt: HostRuntime) -> ExitCode {
         &words_of(&rt),
         &SystemDisk::new(&rt),
         &SystemInput::new(&rt),
-        &SystemHost::new(&rt),
+        &SystemHost::new(&rt, rt.stderr()),
         &mut out,
         &mut errors,
     );

@@ -7,6 +7,7 @@ use arbiter_core::MemoryKeeper;
 use arbiter_server::serve;
 use move_msg::Message;
 use std::alloc::Global;
+use std::io::{Sink, sink};
 use std::net::{Net, SocketAddr, UdpSocket};
 use std::process::Abort;
 use std::time::Clock;
@@ -73,15 +74,15 @@ fn text_at(rt: &impl Abort, alloc: Global, socket: &UdpSocket) -> String {
 }
 
 /// A port over a socket, which sends to another.
-fn port_over<'a, R: Clock + Abort>(
+fn port_over<'a, R: Net + Clock + Abort>(
     rt: &'a R,
     alloc: Global,
     socket: UdpSocket,
     client: &UdpSocket,
-) -> UdpPort<'a, R> {
+) -> UdpPort<'a, R, UdpSocket, Sink> {
     let address = text_at(rt, alloc, &socket);
     let to = text_at(rt, alloc, client);
-    UdpPort::over(rt, alloc, socket, address.as_str(), &[to.as_str()]).expect(rt, "memory")
+    UdpPort::over(rt, alloc, socket, sink(), address.as_str(), &[to.as_str()]).expect(rt, "memory")
 }
 
 /// A port at which the game's moves wait, and what is no message.
@@ -89,7 +90,7 @@ fn port_with_game<'a, R: Net + Clock + Abort>(
     rt: &'a R,
     alloc: Global,
     client: &UdpSocket,
-) -> UdpPort<'a, R> {
+) -> UdpPort<'a, R, UdpSocket, Sink> {
     let socket = bound(rt);
     let to = address_of(rt, &socket);
     send_game(rt, client, to);

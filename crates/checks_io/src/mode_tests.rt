@@ -3,6 +3,7 @@
 use crate::comparing::{check_bytes, check_same};
 use std::alloc::Global;
 use std::fs;
+use std::io::{Sink, sink};
 use std::net::{Net, UdpSocket};
 use std::os::unix::fs::{PermissionsExt, symlink};
 use std::process::Abort;
@@ -113,8 +114,8 @@ fn reads_no_irregular_file(rt: HostRuntime) {
 fn port_with<'a, R: Net + Clock + AllocGlobal + Abort>(
     rt: &'a R,
     datagrams: &[&[u8]],
-) -> UdpPort<'a, R> {
-    let port = UdpPort::bind(rt, rt.alloc(), "127.0.0.1:0", &[]).expect(rt, "a port");
+) -> UdpPort<'a, R, UdpSocket, Sink> {
+    let port = UdpPort::bind(rt, rt.alloc(), sink(), "127.0.0.1:0", &[]).expect(rt, "a port");
     let own = port.own_address().expect(rt, "an address");
     let client = UdpSocket::bind(rt, "127.0.0.1:0").expect(rt, "a socket");
     for datagram in datagrams {

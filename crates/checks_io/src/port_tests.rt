@@ -3,11 +3,16 @@
 use crate::comparing::{check_bytes, check_same, push_bytes};
 use std::alloc::Global;
 use std::fs::File;
-use std::net::{Net, UdpSocket};
+use std::io;
+use std::io::{Sink, sink};
+use std::net::{IpAddr, Ipv4Addr, Net, SocketAddr, UdpSocket};
 use std::process::Abort;
 use std::rt::Files;
 use std::time::{Clock, Duration};
-use system_io::{BindFault, Host, MemoryPort, Passage, Port, SystemHost, Turn, UdpPort};
+use system_io::{
+    Arrival, BindFault, Host, LockFault, MadeSocketCall, MemoryPort, MemorySocket, Passage, Port,
+    SystemHost, Turn, UdpPort,
+};
 
 const DATAGRAMS: [&[u8]; 3] = [b"a", b"b", b"c"];
 
@@ -70,11 +75,12 @@ fn text_at(rt: &impl Abort, alloc: Global, socket: &UdpSocket) -> String {
 }
 
 /// That no port is bound to an address.
-fn expect_unbound<R: Files<File = File> + Net + Clock + AllocGlobal + Abort>(
-    rt: &R,
-    address: &str,
-) {
-    let port = SystemHost::new(rt).bind(rt.alloc(), address, &[]);
+fn expect_unbound<R, W>(rt: &impl Abort, host: &SystemHost<'_, R, W>, alloc: Global, address: &str)
+where
+    R: Files<File = File> + Net + Clock + AllocGlobal,
+    W: io::Write + Copy + Drop,
+{
+    let port = host.bind(alloc, address, &[]);
     check_same(rt, matches!(port, Err(BindFault::Unbound)), true, address);
 }
 
@@ -82,21 +88,26 @@ fn expect_unbound<R: Files<File = File> + Net + Clock + AllocGlobal + Abort>(
 #[test]
 fn binds_no_taken_or_bad_address(rt: HostRuntime) {
     let socket = bound(&rt);
-    expect_unbound(&rt, text_at(&rt, rt.alloc(), &socket).as_str());
-    expect_unbound(&rt, "127.0.0.1");
-    expect_unbound(&rt, "127.0.0.1:65536");
+    let host = SystemHost::new(&rt, rt.stderr());
+    let taken = text_at(&rt, rt.alloc(), &socket);
+    for address in [taken.as_str(), "127.0.0.1", "127.0.0.1:65536"] {
+        expect_unbound(&rt, &host, rt.alloc(), address);
+    }
 }
 
 /// A port of the loopback that sends to these.
-fn port_to<'a, R: Net + Clock + AllocGlobal + Abort>(rt: &'a R, to: &[&str]) -> UdpPort<'a, R> {
-    UdpPort::bind(rt, rt.alloc(), "127.0.0.1:0", to).expect(rt, "a port")
+fn port_to<'a, R: Net + Clock + AllocGlobal + Abort>(
+    rt: &'a R,
+    to: &[&str],
+) -> UdpPort<'a, R, UdpSocket, Sink> {
+    UdpPort::bind(rt, rt.alloc(), sink(), "127.0.0.1:0", to).expect(rt, "a port")
 }
 
 /// A port that sends to an address that is none, and then to a socket's.
 fn port_to_two<'a, R: Net + Clock + AllocGlobal + Abort>(
     rt: &'a R,
     socket: &UdpSocket,
-) -> UdpPort<'a, R> {
+) -> UdpPort<'a, R, UdpSocket, Sink> {
     port_to(
         rt,
         &["127.0.0.1:65536", text_at(rt, rt.alloc(), socket).as_str()],
@@ -127,4 +138,93 @@ fn waits_no_longer_than_it_should(rt: HostRuntime) {
     let mut port = port_to(&rt, &[]);
     check_same(&rt, is_quiet(&mut port), true, "nothing");
     check_same(&rt, port.failures(), 0, "failures");
+}
+
+/// An address of the loopback, by its port.
+fn at(port: u16) -> SocketAddr {
+    SocketAddr::new(IpAddr::V4(Ipv4Addr::new(127, 0, 0, 1)), port)
+}
+
+/// A call at a socket: the last digit of a port, and the bytes.
+fn push_call(rt: &impl Abort, text: &mut Vec<u8>, call: &MadeSocketCall) {
+    match call {
+        MadeSocketCall::Arrived { from, bytes } => push_at(rt, text, b"<", *from, bytes),
+        MadeSocketCall::NoneCame => push_bytes(rt, text, b"?"),
+        MadeSocketCall::Sent { to, bytes } => push_at(rt, text, b">", *to, bytes),
+    }
+}
+
+/// A sign, the last digit of a port, and bytes.
+fn push_at(rt: &impl Abort, text: &mut Vec<u8>, sign: &[u8], at: SocketAddr, bytes: &[u8]) {
+    push_bytes(rt, text, sign);
+    push_bytes(rt, text, &[b'0' + (at.port() % 10) as u8]);
+    push_bytes(rt, text, bytes);
+}
+
+/// Two datagrams of two senders; a signal comes between.
+fn two_senders() -> [Arrival<'static>; 3] {
+    [
+        Arrival::Comes(at(7001), b"a"),
+        Arrival::Fails(io::ErrorKind::Interrupted),
+        Arrival::Comes(at(7002), b"b"),
+    ]
+}
+
+/// Answers to nobody, to the first sender and to the second one; the third send fails.
+fn answer_twice<P: Port>(port: &mut P) {
+    let _nobody = port.send(b"x");
+    let _a = port.receive(&mut [0; 64]);
+    let _first = port.send(b"y");
+    let _b = port.receive(&mut [0; 64]);
+    let _second = port.send(b"z");
+}
+
+/// Each answer goes to whoever sent the datagram before it, and to the other address; a send that fails, and one that works again, are
+/// told.
+#[test]
+fn answers_go_to_the_sender(rt: HostRuntime) {
+    let arrivals = two_senders();
+    let socket = MemorySocket::new(rt.alloc(), None, &arrivals, Some(0));
+    let mut notes = Vec::new(rt.alloc());
+    let to = ["127.0.0.1:7003", "sender", "127.0.0.1:nobody"];
+    let mut port = UdpPort::over(&rt, rt.alloc(), socket, &mut notes, "here", &to).expect(
+        &rt, "memory",
+    );
+    answer_twice(&mut port);
+    let mut text = Vec::new(rt.alloc());
+    for call in port.socket().made().expect(&rt, "memory") {
+        push_call(&rt, &mut text, call);
+    }
+    check_bytes(&rt, &text, b">3x<1a>3y>1y?<2b>3z>2z", "the calls");
+    check_same(&rt, port.failures(), 4, "failures");
+    drop(port);
+    check_bytes(
+        &rt,
+        &notes,
+        b"to 127.0.0.1:nobody unknown\nlost 127.0.0.1:7003\nback 127.0.0.1:7003\n",
+        "the notes",
+    );
+}
+
+/// A lock is given once at a time, and again where it was let go.
+#[test]
+fn locks_once_at_a_time(rt: HostRuntime) {
+    let host = SystemHost::new(&rt, rt.stderr());
+    let first = host.lock(rt.alloc(), "kept.lock");
+    check_same(&rt, first.is_ok(), true, "a lock");
+    let second = host.lock(rt.alloc(), "kept.lock");
+    check_same(&rt, matches!(second, Err(LockFault::Held)), true, "held");
+    drop(first);
+    check_same(
+        &rt,
+        host.lock(rt.alloc(), "kept.lock").is_ok(),
+        true,
+        "again",
+    );
+    check_same(
+        &rt,
+        host.lock(rt.alloc(), "no/kept.lock").is_err(),
+        true,
+        "no folder",
+    );
 }

@@ -6,7 +6,7 @@ ghost use Rattle.system_io.specs.Failures.{Risen};
 use std::alloc::{AllocError, Global};
 use std::net::{IpAddr, Ipv4Addr, SocketAddr};
 use std::time::Duration;
-use system_io::{BindFault, DiskFile, Host, Outcome, Port, PortFault};
+use system_io::{BindFault, DiskFile, Host, LockFault, Outcome, Port, PortFault};
 
 /// A port at which datagrams wait; what is sent there goes nowhere.
 #[derive(Drop)]
@@ -145,10 +145,13 @@ impl<'a> Host for MemoryHost<'a> {
 
     type File = DiskFile;
 
-    ghost use Rattle.std.specs.Prelude.{false};
+    type Lock = ();
+
+    ghost use Rattle.std.specs.Prelude.{◌≡◌, false};
+    ghost use Rattle.system_io.specs.declared.host.LockFault.TheVariants.{Held};
     ghost use Rattle.system_io.specs.OutputLaws.{untold};
 
-    ghost facts = { λ _. record { is_told = false; binds = λ _ _ _. Unit {0}; listens = λ _ _. Unit {0}; refuses = λ _ _. Unit {0}; is_at = λ _ _. Unit {0}; takes_memory = λ _. Unit {0} } };
+    ghost facts = { λ _. record { is_told = false; binds = λ _ _ _. Unit {0}; listens = λ _ _. Unit {0}; refuses = λ _ _. Unit {0}; is_at = λ _ _. Unit {0}; takes_memory = λ _. Unit {0}; gives_lock = λ _. Unit {0}; bars = λ _ fault. fault ≡ Held } };
 
     ghost one = { λ _ told. untold told };
 
@@ -174,5 +177,9 @@ impl<'a> Host for MemoryHost<'a> {
 
     fn file(&self, alloc: Global, _path: &str) -> Result<DiskFile, AllocError> {
         self.on_disk(alloc)
+    }
+
+    fn lock(&self, _alloc: Global, _path: &str) -> Result<(), LockFault> {
+        Ok(())
     }
 }

@@ -13,6 +13,8 @@ keyed_host keys h = record {
   refuses = h.refuses;
   is_at = h.is_at;
   takes_memory = h.takes_memory;
+  gives_lock = h.gives_lock;
+  bars = h.bars;
 }
 
 -- what contracts see of it: the host below, and the keys

@@ -6,9 +6,9 @@ use crate::seal_port::{Keys, Sealed};
 use std::alloc::{AllocError, Global};
 use std::marker::Model;
 use std::net::SocketAddr;
-use system_io::{BindFault, Host};
+use system_io::{BindFault, Host, LockFault};
 
-/// A host over another one: its ports seal by these keys, and its files are those of the other.
+/// A host over another one: its ports seal by these keys, and its files and locks are those of the other.
 #[derive(Drop)]
 pub struct Keyed<'a, H> {
     host: &'a H,
@@ -39,6 +39,8 @@ impl<'a, H: Host> Host for Keyed<'a, H> {
 
     type File = H::File;
 
+    type Lock = H::Lock;
+
     ghost facts = { keyed_facts H.facts };
 
     ghost one = { λ k told. keyed_one k.keys (H.facts k.host) (H.one k.host told) };
@@ -61,5 +63,9 @@ impl<'a, H: Host> Host for Keyed<'a, H> {
 
     fn file(&self, alloc: Global, path: &str) -> Result<H::File, AllocError> {
         self.host.file(alloc, path)
+    }
+
+    fn lock(&self, alloc: Global, path: &str) -> Result<H::Lock, LockFault> {
+        self.host.lock(alloc, path)
     }
 }

@@ -3,4 +3,7 @@ pub mod LineLaws
 pub mod DiskLaws
 pub mod CallSteps
 pub mod HistoryLaws
+pub mod AnswerLaws
+pub mod HearingLaws
+pub mod RecipientLaws
 pub mod RowLaws

@@ -2,6 +2,7 @@
 use Rattle.std.specs.Prelude.{◌≡◌, ℕ, Bool, List, Option}
 use Rattle.std.specs.declared.net.socket_addr.SocketAddr.{SocketAddr}
 use Rattle.system_io.specs.declared.host.BindFault.{BindFault}
+use Rattle.system_io.specs.declared.host.LockFault.{LockFault}
 
 -- what is known of a host of such ports and files
 pub record HostFacts (P F : Type 0) : Type 1 where
@@ -17,6 +18,10 @@ pub record HostFacts (P F : Type 0) : Type 1 where
   pub is_at : List ℕ → F → Type 0
   -- the file at this path may take memory, which may be refused
   pub takes_memory : List ℕ → Type 0
+  -- the file at this path is locked, and no other process holds its lock
+  pub gives_lock : List ℕ → Type 0
+  -- the file at this path isn't locked, for this reason
+  pub bars : List ℕ → LockFault → Type 0
 
 -- a port is bound to one address, listens at one and sends to one list of addresses, and a file is at one path
 pub record PlacesOne {P F : Type 0} (host : HostFacts P F) : Type 0 where

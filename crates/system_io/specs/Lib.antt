@@ -20,6 +20,11 @@ pub mod MemoryCalls
 pub mod Traces
 pub mod TraceLaws
 pub mod Hosts
+pub mod Recipients
 pub mod Places
 pub mod Premises
+pub mod Sockets
+pub mod MemorySockets
+pub mod UdpPorts
+pub mod Answers
 pub mod HostLaws

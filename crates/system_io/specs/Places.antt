@@ -1,17 +1,21 @@
 -- Where the system's ports and kept files are (this project's own).
 use Rattle.std.specs.Prelude.{◌≡◌, ℕ, List, Option, map, string_bytes}
+use Rattle.std.specs.List.{All}
 use Rattle.std.specs.declared.net.socket_addr.SocketAddr.{SocketAddr}
+use Rattle.system_io.specs.Recipients.{IsAddressed, word_of}
+use Rattle.system_io.specs.declared.lock_file.LockFile.{LockFile}
 use Rattle.system_io.specs.declared.system_file.SystemCalls.{SystemCalls}
 use Rattle.system_io.specs.declared.traced_file.Traced.{Traced}
 use Rattle.system_io.specs.declared.udp_port.UdpPort.{UdpPort}
 
--- the port was bound to this address, and sends to those
-pub record IsBound {X : Type 0} (address : List ℕ) (to : List (List ℕ)) (port : UdpPort X) : Type 0 where
+-- the port was bound to this address, and sends to those whom these words name
+pub record IsBound {C S W : Type 0} (address : List ℕ) (to : List (List ℕ)) (port : UdpPort C S W) : Type 0 where
   pub at : string_bytes port.address ≡ address
-  pub sends : map string_bytes port.to.items ≡ to
+  pub sends : map word_of port.to.items ≡ to
+  pub names : All IsAddressed port.to.items
 
 -- the address that the socket told as its own when it was bound, if it did
-abbrev pub ListensAt : {X : Type 0} → UdpPort X → Option SocketAddr → Type 0
+abbrev pub ListensAt : {C S W : Type 0} → UdpPort C S W → Option SocketAddr → Type 0
 ListensAt port own = own ≡ port.own
 
 -- the calls are those for the file at this path
@@ -21,3 +25,7 @@ AreFor path calls = string_bytes calls.path ≡ path
 -- the file is the one at this path
 abbrev pub IsAtPath : {X Y : Type 0} → List ℕ → Traced (SystemCalls X Y) → Type 0
 IsAtPath path file = AreFor path file.calls
+
+-- the file that is locked is the one at this path
+abbrev pub Locks : List ℕ → LockFile → Type 0
+Locks path lock = string_bytes lock.path ≡ path

@@ -7,6 +7,7 @@ use Rattle.system_io.specs.Inputs.{InputFacts}
 use Rattle.system_io.specs.LineReaders.{LineFacts}
 use Rattle.system_io.specs.Outputs.{OutputFacts}
 use Rattle.system_io.specs.Ports.{PortFacts}
+use Rattle.system_io.specs.declared.host.LockFault.{LockFault}
 use Rattle.system_io.specs.declared.system_file.SystemCalls.{SystemCalls}
 use Rattle.system_io.specs.declared.traced_file.Traced.{Traced}
 use Rattle.system_io.specs.declared.udp_port.UdpPort.{UdpPort}
@@ -47,7 +48,7 @@ abbrev pub system_port : ℕ → ℕ → PortFacts
 system_port faults addresses = record { passed = None; faults = faults; addresses = addresses }
 
 -- BESIDE: a file that is made where nothing stands, and then locked, is written by no other process while it is locked; nothing else is
--- opened to be written
+-- opened to be written, but for files that are locked, to which nothing is written
 -- CALLS: a read or a sync that the system refuses can't be done, and where it says that memory was refused, memory was
 -- refused
 abbrev pub system_calls : CallFacts
@@ -59,8 +60,16 @@ system_calls = record { made = None; fails = λ _. Unit {0} }
 pub record IsAsTold {C : Type 0} (left : Traced C) (read : Option (List ℕ)) : Type 0 where
   pub among : left.is_known ≡ true → IsAmong read (left.stands ∷ left.earlier.items)
 
+-- LOCK: the lock of a file that the system gives to a process it gives to no other one until the process lets it go or ends; where it
+-- says that another one holds it, one does
+abbrev pub system_gives : List ℕ → Type 0
+system_gives path = Unit {0}
+
+abbrev pub system_bars : List ℕ → LockFault → Type 0
+system_bars path fault = Unit {0}
+
 -- HOST: a socket that was made for an address is bound to it, and listens at the address that it tells as its own; the calls for a
 -- path are made at that path; an address that the system refuses can't be bound, and where it tells that memory was refused, memory
 -- was refused
-abbrev pub system_host : {X Y : Type 0} → HostFacts (UdpPort X) (Traced (SystemCalls X Y))
-system_host = record { is_told = true; binds = IsBound; listens = ListensAt; refuses = λ _ _. Unit {0}; is_at = IsAtPath; takes_memory = λ _. Unit {0} }
+abbrev pub system_host : {C S W X Y : Type 0} → HostFacts (UdpPort C S W) (Traced (SystemCalls X Y))
+system_host = record { is_told = true; binds = IsBound; listens = ListensAt; refuses = λ _ _. Unit {0}; is_at = IsAtPath; takes_memory = λ _. Unit {0}; gives_lock = system_gives; bars = system_bars }

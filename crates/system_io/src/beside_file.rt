@@ -30,7 +30,7 @@ fn name_at(alloc: Global, path: &str, place: u32) -> Result<String, AllocError> 
 }
 
 /// How a file is opened to be written: where nothing stands alone, not even a link.
-fn only_new() -> OpenOptions
+pub(crate) fn only_new() -> OpenOptions
     ensures { asks_create_new result ≡ true }
 {
     let mut options = OpenOptions::new();
@@ -39,7 +39,7 @@ fn only_new() -> OpenOptions
 }
 
 /// How a file is opened to be locked: to read and write, which never waits, and with nothing made or cut.
-fn as_it_stands() -> OpenOptions
+pub(crate) fn as_it_stands() -> OpenOptions
     ensures { (asks_create result ≡ false) × (asks_create_new result ≡ false) × (asks_truncate result ≡ false) }
 {
     let mut options = OpenOptions::new();
@@ -48,7 +48,11 @@ fn as_it_stands() -> OpenOptions
 }
 
 /// Whether an open file is the regular file at a path, and no other that a link leads to. It isn't where another process has removed it.
-fn stands_at<R: Files<File = File>>(rt: &R, file: &File, path: &str) -> io::Result<bool> {
+pub(crate) fn stands_at<R: Files<File = File>>(
+    rt: &R,
+    file: &File,
+    path: &str,
+) -> io::Result<bool> {
     let open = file.metadata()?;
     let named = match fs::symlink_metadata(rt, path) {
         Ok(named) => named,

@@ -1,6 +1,6 @@
 //! Where ports and kept files are opened.
 
-ghost use Rattle.std.specs.Prelude.{◌≡◌, true, length, map, IfErr, IfOk, OnErr};
+ghost use Rattle.std.specs.Prelude.{◌≡◌, true, length, map, IfErr, IfOk, OnErr, OnOk};
 ghost use Rattle.system_io.specs.Hosts.{HostFacts, PlacesOne};
 
 use crate::kept_file::KeptFile;
@@ -33,6 +33,17 @@ impl From<io::Error> for BindFault {
     }
 }
 
+/// Why a file wasn't locked.
+#[derive(Clone, Copy)]
+pub enum LockFault {
+    /// Another process holds its lock.
+    Held,
+    /// The file can't be made or locked, or what stands there is no regular file.
+    Failed,
+    /// Memory or a descriptor was refused.
+    OutOfMemory,
+}
+
 /// Where ports and kept files are opened.
 pub trait Host {
     /// A port.
@@ -41,10 +52,14 @@ pub trait Host {
     /// A file in which a record is kept.
     type File: KeptFile + Drop;
 
-    /// Which addresses ports are bound to, and which file is at a path.
+    /// What keeps other processes from a file, until it is dropped or the process ends.
+    type Lock: Drop;
+
+    /// Which addresses ports are bound to, which file is at a path, and which locks are given.
     ghost facts: { Self → HostFacts Self.Port Self.File };
 
-    /// A port that is bound to an address and sends to others.
+    /// A port that is bound to an address and sends to others. Among these the word `sender` stands for the address from which the last
+    /// datagram came.
     fn bind(&self, alloc: Global, address: &str, to: &[&str]) -> Result<Self::Port, BindFault>
         ensures bound { IfOk result ((facts self.now).binds address.now (map (λ s. s.now) to.now)) }
         ensures each { IfOk result (λ port. (Self.Port.facts port).addresses ≡ length to.now) }
@@ -59,6 +74,11 @@ pub trait Host {
     fn file(&self, alloc: Global, path: &str) -> Result<Self::File, AllocError>
         ensures at { IfOk result ((facts self.now).is_at path.now) }
         ensures memory { OnErr result ((facts self.now).takes_memory path.now) };
+
+    /// Locks the file at a path, which is made where nothing stands, and which nothing is written to.
+    fn lock(&self, alloc: Global, path: &str) -> Result<Self::Lock, LockFault>
+        ensures given { OnOk result ((facts self.now).gives_lock path.now) }
+        ensures cause { IfErr result ((facts self.now).bars path.now) };
 
     /// A host whose ports and files have stated places gives each of them one place.
     ghost one: { (h : Self) → (facts h).is_told ≡ true → PlacesOne (facts h) };

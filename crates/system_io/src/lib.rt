@@ -8,10 +8,11 @@
 //! a start finds follows from the calls that it made and their results. `DiskFile` is a file in memory, on a disk that loses
 //! power. Of the system's files what is no regular one is refused before it is opened (`opening`), and what is opened to be written is
 //! made where nothing stands (`beside_file`). A `Port` sends each datagram to each of its addresses in turn, and a send that fails
-//! keeps none of the others back.
+//! keeps none of the others back. `UdpPort` is over a `Socket`, whose calls an instance in memory records; among its addresses
+//! `sender` stands for whoever sent the last datagram.
 //!
 //! Definitions, in reading order: `Descriptors`, `Disks`, `Inputs`, `LineReaders`, `Outputs`, `Ports`, `KeptFiles`, `PowerLosses`,
-//! `FileCalls`, `Traces`, `Hosts`, `Premises`. Its tests stand in `checks_io`.
+//! `FileCalls`, `Traces`, `Hosts`, `Premises`, `Sockets`, `Recipients`, `UdpPorts`, `Answers`. Its tests stand in `checks_io`.
 //!
 //! - CLAIM: `end`: the output is flushed last, also where an answer was not written to its end. The status is the answer's where
 //!   all has gone out; it is 1 in its place only where some can't, or an answer was cut.
@@ -31,8 +32,11 @@
 //! - CLAIM: `open_above_standard`: it returns a file whose descriptor is above 2, so that 0 to 2 are open.
 //! - CLAIM: `Host::own_address`, clause `own`; `UdpPort::own_address`: a host says at which address a port listens, or that it
 //!   doesn't know.
-//! - CLAIM: `Host::bind`, clause `each`: a port sends to as many addresses as it was bound for. What passes at the system's port
-//!   it doesn't report.
+//! - CLAIM: `Host::bind`, clause `each`: a port sends to as many addresses as it was bound for.
+//! - CLAIM: `UdpPort::receive`, `receive_in_time`, clauses `hears`, `deaf`; `send`, clause `sends`; `laws::answers_follow`,
+//!   `nothing_else_is_sent`, `each_is_sent`: by the calls of its socket the answers to a datagram go to the address from which that
+//!   one came, where the words have `sender`, and to each other address that they name, in order, and to nobody else.
+//! - CLAIM: `Host::lock`, clauses `given`, `cause`; `SystemHost::lock`, clause `at`: the file that is locked is the one at the path.
 #![tactic(auto)]
 
 mod beside_file;
@@ -43,15 +47,22 @@ mod disk_file;
 mod host;
 mod input;
 mod kept_file;
+pub mod laws;
 mod line_reader;
+mod lock_file;
 mod memory_calls;
 mod memory_disk;
 mod memory_input;
 mod memory_port;
+mod memory_socket;
+mod notes;
 mod opening;
 mod output;
 mod port;
 mod reading;
+mod recipient;
+mod shared_wait;
+mod socket;
 mod system_disk;
 mod system_file;
 mod system_host;
@@ -64,17 +75,21 @@ pub use bounded_lines::BoundedLines;
 pub use descriptors::open_above_standard;
 pub use disk::{Disk, FileWithMode};
 pub use disk_file::{Choice, DiskFile, Outcome, read_after};
-pub use host::{BindFault, Host};
+pub use host::{BindFault, Host, LockFault};
 pub use input::Input;
 pub use kept_file::{KeptFile, MOST_KEPT_BYTES, begin, replace, replace_in_part};
 pub use line_reader::LineReader;
+pub use lock_file::LockFile;
 pub use memory_calls::{MadeCall, MemoryCalls};
 pub use memory_disk::{AtPath, MemoryDisk};
 pub use memory_input::{MemoryInput, MemoryLines};
 pub use memory_port::{MemoryPort, Passage, Turn};
+pub use memory_socket::{Arrival, MadeSocketCall, MemorySocket};
 pub use output::{BufferedOutput, Output, WriteFault, end};
 pub use port::{NO_TAG, Port, PortFault};
 pub use reading::{ReadFault, read_at_most};
+pub use recipient::{Recipient, SENDER};
+pub use socket::Socket;
 pub use system_disk::SystemDisk;
 pub use system_file::{SystemCalls, SystemFile};
 pub use system_host::SystemHost;

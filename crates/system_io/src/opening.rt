@@ -11,7 +11,7 @@ use std::rt::Files;
 use std::{fs, io};
 
 /// The error of what is no regular file: a folder, a device, a named pipe or a socket.
-fn irregular() -> io::Error {
+pub(crate) fn irregular() -> io::Error {
     io::Error::from(io::ErrorKind::InvalidInput)
 }
 

@@ -1,54 +1,80 @@
 //! Ports and kept files of the system.
 
-use crate::host::{BindFault, Host};
+use crate::host::{BindFault, Host, LockFault};
+use crate::lock_file::LockFile;
 use crate::system_file::SystemFile;
 use crate::udp_port::UdpPort;
 use std::alloc::{AllocError, Global};
 use std::fs::File;
-use std::net::{Net, SocketAddr};
+use std::io::Write;
+use std::net::{Net, SocketAddr, UdpSocket};
 use std::rt::Files;
 use std::time::Clock;
 
-/// The ports and kept files of the system.
+/// The ports, kept files and locks of the system, and a writer for the notes of its ports.
 #[derive(Drop)]
-pub struct SystemHost<'a, R: Files<File = File> + Net + Clock + AllocGlobal> {
+pub struct SystemHost<
+    'a,
+    R: Files<File = File> + Net + Clock + AllocGlobal,
+    W: Write + Copy + Drop,
+> {
     rt: &'a R,
+    notes: W,
 }
 
-impl<'a, R> SystemHost<'a, R>
+impl<'a, R, W> SystemHost<'a, R, W>
 where
     R: Files<File = File> + Net + Clock + AllocGlobal,
+    W: Write + Copy + Drop,
 {
-    /// The ports and kept files of this system.
-    pub fn new(rt: &'a R) -> SystemHost<'a, R> {
-        SystemHost { rt }
+    /// The ports, kept files and locks of this system. Its ports write their notes with this writer.
+    pub fn new(rt: &'a R, notes: W) -> SystemHost<'a, R, W> {
+        SystemHost { rt, notes }
     }
 }
 
-impl<'a, R> Host for SystemHost<'a, R>
+impl<'a, R, W> Host for SystemHost<'a, R, W>
 where
     R: Files<File = File> + Net + Clock + AllocGlobal,
+    W: Write + Copy + Drop,
 {
+    ghost use Rattle.std.specs.Prelude.{IfErr, IfOk, OnOk};
     ghost use Rattle.system_io.specs.HostLaws.{places_one};
-    ghost use Rattle.system_io.specs.Premises.{system_host};
+    ghost use Rattle.system_io.specs.Places.{Locks};
+    ghost use Rattle.system_io.specs.Premises.{system_bars, system_gives, system_host};
 
-    type Port = UdpPort<'a, R>;
+    type Port = UdpPort<'a, R, UdpSocket, W>;
 
     type File = SystemFile<'a, R>;
+
+    type Lock = LockFile;
 
     ghost facts = { λ _. system_host };
 
     ghost one = { λ _ _. places_one };
 
-    fn bind(&self, alloc: Global, address: &str, to: &[&str]) -> Result<UdpPort<'a, R>, BindFault> {
-        Ok(UdpPort::bind(self.rt, alloc, address, to)?)
+    fn bind(
+        &self,
+        alloc: Global,
+        address: &str,
+        to: &[&str],
+    ) -> Result<UdpPort<'a, R, UdpSocket, W>, BindFault> {
+        Ok(UdpPort::bind(self.rt, alloc, self.notes, address, to)?)
     }
 
-    fn own_address(&self, port: &UdpPort<'a, R>) -> Option<SocketAddr> {
+    fn own_address(&self, port: &UdpPort<'a, R, UdpSocket, W>) -> Option<SocketAddr> {
         port.own_address()
     }
 
     fn file(&self, alloc: Global, path: &str) -> Result<SystemFile<'a, R>, AllocError> {
         SystemFile::at(self.rt, alloc, path)
+    }
+
+    fn lock(&self, alloc: Global, path: &str) -> Result<LockFile, LockFault>
+        ensures given { OnOk result (system_gives path.now) }
+        ensures cause { IfErr result (system_bars path.now) }
+        ensures at { IfOk result (Locks path.now) }
+    {
+        LockFile::at(self.rt, alloc, path)
     }
 }

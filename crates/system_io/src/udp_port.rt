@@ -1,58 +1,45 @@
-//! A UDP port of the system.
+//! A UDP port over the calls of a socket.
 
-ghost use Rattle.std.specs.Prelude.{◌≡◌, ◌≢◌, ◌≤◌, length, map, string_bytes, take, IfOk, IfSome};
-ghost use Rattle.system_io.specs.Failures.{Risen};
+ghost use Rattle.std.specs.Prelude.{◌≡◌, ◌≢◌, ◌≤◌, ◌<◌, ◌∷◌, [], Some, None, length, map, take, IfOk, IfSome, OnErr};
+ghost use Rattle.system_io.specs.Failures.{Counts, Risen};
+ghost use Rattle.system_io.specs.Histories.{Passes};
 ghost use Rattle.system_io.specs.Places.{IsBound, ListensAt};
-ghost use Rattle.system_io.specs.Ports.{no_tag};
+ghost use Rattle.system_io.specs.Recipients.{named};
+ghost use Rattle.system_io.specs.Sockets.{Sent};
+ghost use Rattle.system_io.specs.UdpPorts.{Hears, HearsNothing, HearsOrNothing, passed_on, sent_to, udp_facts, who_at};
 
+use crate::notes::Notes;
 use crate::port::{NO_TAG, Port, PortFault};
-use crate::texts::owned;
-use std::alloc::Global;
+use crate::recipient::{Addressed, Recipient, all_addressed};
+use crate::shared_wait::SharedWait;
+use crate::socket::Socket;
+use std::alloc::{AllocError, Global};
 use std::io;
+use std::io::Write;
 use std::net::{Net, SocketAddr, UdpSocket};
 use std::time::{Clock, Duration, Instant};
 
-/// A wait that several receives share.
-#[derive(Clone, Copy)]
-struct Stretch {
-    /// How long they wait together.
-    wait: Duration,
-    /// When it began.
-    began: Instant,
-    /// How many receives there were since it has passed.
-    late: u32,
-}
-
-/// How many datagrams are received after a wait has passed, of those that came already: where the process was stopped meanwhile, what
-/// it waited for may be among them.
-const MOST_LATE: u32 = 256;
-
-/// A socket, a clock for its waits, the address to which it was bound, the one that it told as its own then, and those to which it
+/// A socket, a clock for its waits, the address to which it was bound, the one that it told as its own then, and those to whom it
 /// sends.
+///
+/// Among these `sender` stands for the address from which the last datagram came. Where nothing came yet, nothing goes to it. A host
+/// name is looked up once, when the port is bound. What it names, and when sends to an address begin to fail or work again, is told in
+/// lines by a writer: `to NAME ADDR`, `to NAME unknown`, `lost ADDR`, `back ADDR`.
 #[derive(Drop)]
-pub struct UdpPort<'a, C: Clock> {
+pub struct UdpPort<'a, C: Clock, S: Socket + Drop, W: Write + Drop> {
     clock: &'a C,
-    socket: UdpSocket,
+    socket: S,
     address: String,
     own: Option<SocketAddr>,
-    to: Vec<String>,
-    /// How long the socket waits for a datagram, at 0 not at all; none means without limit.
+    to: Vec<Addressed>,
+    /// The address from which the last datagram came.
+    sender: Option<SocketAddr>,
+    notes: Notes<W>,
+    /// How long the socket waits for a datagram; none means without limit.
     wait: Option<Duration>,
     /// The wait that the last receives have shared, if it goes on.
-    stretch: Option<Stretch>,
+    shared: Option<SharedWait>,
     failures: u64,
-}
-
-/// The wait that a receive at this time shares with those before it, or one that begins.
-fn stretch_at(now: Instant, wait: Duration, before: Option<Stretch>) -> Stretch {
-    match before {
-        Some(stretch) if stretch.wait == wait => stretch,
-        _ => Stretch {
-            wait,
-            began: now,
-            late: 0,
-        },
-    }
 }
 
 /// Whether a receive failed only because nothing came in time.
@@ -72,8 +59,7 @@ fn is_interrupted(error: &io::Error) -> bool {
 /// a datagram without a right tag.
 fn passed_on(bytes: &[u8]) -> usize
     ensures fits { result ≤ length bytes.now }
-    ensures unmarked { take result bytes.now ≢ no_tag }
-    ensures all { bytes.now ≢ no_tag → result ≡ length bytes.now }
+    ensures is { take result bytes.now ≡ passed_on bytes.now }
 {
     if bytes == NO_TAG.as_slice() {
         bytes.len() - 1
@@ -82,45 +68,63 @@ fn passed_on(bytes: &[u8]) -> usize
     }
 }
 
-/// The address at which a socket listens, where it tells that.
-fn own_address_of(socket: &UdpSocket) -> Option<SocketAddr> {
-    match socket.local_addr() {
-        Ok(own) => Some(own),
-        Err(_) => None,
+/// Tells whom the host names among these words name.
+fn tell_names<W: Write + Drop>(notes: &mut Notes<W>, to: &[Addressed]) {
+    for one in to {
+        notes.tell_name(one.word.as_str(), one.who);
     }
 }
 
-impl<'a, C: Clock> UdpPort<'a, C> {
-    /// A port bound to an address that sends to others. Each is an IP address or a host name, a colon and a port
-    /// number. The error comes where the first can't be bound, or memory is refused. Where another can't be reached,
-    /// each send to it fails.
-    pub fn bind(rt: &'a C, alloc: Global, address: &str, to: &[&str]) -> io::Result<UdpPort<'a, C>>
+impl<'a, C: Clock, W: Write + Drop> UdpPort<'a, C, UdpSocket, W> {
+    /// A port bound to an address that sends to those whom these words name: `sender`, or an IP address or a host name, a colon and a
+    /// port number. The address is an IP address or a host name, a colon and a port number too. The error comes where it can't be bound,
+    /// or memory is refused. Where a host name isn't found, each send to it fails.
+    pub fn bind(
+        rt: &'a C,
+        alloc: Global,
+        notes: W,
+        address: &str,
+        to: &[&str],
+    ) -> io::Result<UdpPort<'a, C, UdpSocket, W>>
     where
         C: Net,
         ensures { IfOk result (IsBound address.now (map (λ s. s.now) to.now)) }
     {
-        UdpPort::over(rt, alloc, UdpSocket::bind(rt, address)?, address, to)
+        let socket = UdpSocket::bind(rt, address)?;
+        Ok(UdpPort::over(rt, alloc, socket, notes, address, to)?)
     }
+}
 
-    /// A port over a socket that is already bound to this address, and a clock for its waits.
+impl<'a, C: Clock, S: Socket + Drop, W: Write + Drop> UdpPort<'a, C, S, W> {
+    /// A port over a socket that is already bound to this address, a clock for its waits, and a writer for notes.
     pub fn over(
         clock: &'a C,
         alloc: Global,
-        socket: UdpSocket,
+        socket: S,
+        notes: W,
         address: &str,
         to: &[&str],
-    ) -> io::Result<UdpPort<'a, C>>
-        ensures { IfOk result (IsBound address.now (map (λ s. s.now) to.now)) }
+    ) -> Result<UdpPort<'a, C, S, W>, AllocError>
+    where
+        C: Net,
+        ensures bound { IfOk result (IsBound address.now (map (λ s. s.now) to.now)) }
+        ensures fresh { IfOk result (λ port. ((udp_facts S.calls port).calls ≡ S.calls socket) × ((udp_facts S.calls port).sender ≡ None)) }
     {
-        let own = own_address_of(&socket);
+        let own = socket.own_address();
+        let address = String::from_str(alloc, address)?;
+        let to = all_addressed(clock, alloc, to)?;
+        let mut notes = Notes::new(alloc, notes, to.len())?;
+        tell_names(&mut notes, &to);
         Ok(UdpPort {
             clock,
             socket,
+            address,
             own,
-            address: String::from_str(alloc, address)?,
-            to: owned(alloc, to)?,
+            to,
+            sender: None,
+            notes,
             wait: None,
-            stretch: None,
+            shared: None,
             failures: 0,
         })
     }
@@ -132,72 +136,89 @@ impl<'a, C: Clock> UdpPort<'a, C> {
         self.own
     }
 
+    /// The socket.
+    pub fn socket(&self) -> &S
+        ensures { S.calls result.now ≡ (udp_facts S.calls self.now).calls }
+    {
+        &self.socket
+    }
+
     /// Counts one failure.
     fn fail(&mut self) -> PortFault
         ensures risen { Risen self.old.failures self.new.failures }
         ensures count { self.old.failures ≤ self.new.failures }
+        ensures facts { udp_facts S.calls self.new ≡ udp_facts S.calls self.old }
         ensures same { self.new.to ≡ self.old.to }
     {
         self.failures = self.failures.saturating_add(1);
         PortFault::Failed
     }
 
-    /// Sets how long the socket waits, at 0 not at all; none means without limit.
+    /// Sets how long the socket waits; none means without limit.
     fn wait_for(&mut self, wait: Option<Duration>) -> io::Result<()>
+        ensures facts { udp_facts S.calls self.new ≡ udp_facts S.calls self.old }
         ensures same { self.new.to ≡ self.old.to }
         ensures failures { self.new.failures ≡ self.old.failures }
     {
-        if self.wait == wait {
-            return Ok(());
+        if self.wait != wait {
+            self.socket.wait_for(wait)?;
+            self.wait = wait;
         }
-        if wait == Some(Duration::ZERO) {
-            self.socket.set_nonblocking(true)?;
-        } else {
-            self.socket.set_read_timeout(wait)?;
-            if self.wait == Some(Duration::ZERO) {
-                self.socket.set_nonblocking(false)?;
-            }
-        }
-        self.wait = wait;
         Ok(())
     }
 
-    /// How long the next datagram is awaited, of a wait that the receives share. Where it has passed, that is 0 for some receives,
-    /// and then none.
+    /// How long the next datagram is awaited, of a wait that the receives share. Where it has passed, that is a moment for some
+    /// receives, and then none.
     fn left_of(&mut self, wait: Duration) -> io::Result<Option<Duration>>
+        ensures facts { udp_facts S.calls self.new ≡ udp_facts S.calls self.old }
         ensures same { self.new.to ≡ self.old.to }
         ensures failures { self.new.failures ≡ self.old.failures }
     {
         let now = Instant::now(self.clock)?;
-        let mut stretch = stretch_at(now, wait, self.stretch);
-        let left = wait.saturating_sub(now.duration_since(stretch.began));
-        if left.is_zero() {
-            stretch.late = stretch.late.saturating_add(1);
-        }
-        let is_over = stretch.late > MOST_LATE;
-        self.stretch = Some(stretch);
-        Ok((!is_over).then_some(left))
+        let mut shared = SharedWait::at(now, wait, self.shared);
+        let left = shared.left(now);
+        self.shared = Some(shared);
+        Ok(left)
     }
 
-    /// Waits for a datagram at most this long, at 0 not at all; none means without limit.
+    /// Receives a datagram, and tells how many bytes of it are passed on.
+    fn take_next(&mut self, buffer: &mut [u8; 64]) -> io::Result<usize>
+        ensures length { IfOk result (λ n. n ≤ 64) }
+        ensures hears { IfOk result (λ n. Hears (udp_facts S.calls self.old) (udp_facts S.calls self.new) (take n buffer.new)) }
+        ensures deaf { OnErr result (HearsNothing (udp_facts S.calls self.old) (udp_facts S.calls self.new)) }
+        ensures same { self.new.to ≡ self.old.to }
+        ensures failures { self.new.failures ≡ self.old.failures }
+    {
+        match self.socket.receive(buffer) {
+            Ok((length, from)) => {
+                self.sender = Some(from);
+                Ok(passed_on(&buffer[..length]))
+            }
+            Err(error) => Err(error),
+        }
+    }
+
+    /// Waits for a datagram at most this long; none means without limit.
     fn receive_within(&mut self, wait: Option<Duration>, buffer: &mut [u8; 64]) -> io::Result<usize>
         ensures length { IfOk result (λ n. n ≤ 64) }
-        ensures unmarked { IfOk result (λ n. take n buffer.new ≢ no_tag) }
+        ensures hears { IfOk result (λ n. Hears (udp_facts S.calls self.old) (udp_facts S.calls self.new) (take n buffer.new)) }
+        ensures deaf { OnErr result (HearsNothing (udp_facts S.calls self.old) (udp_facts S.calls self.new)) }
         ensures same { self.new.to ≡ self.old.to }
         ensures failures { self.new.failures ≡ self.old.failures }
     {
         self.wait_for(wait)?;
-        let (length, _) = self.socket.recv_from(buffer)?;
-        Ok(passed_on(&buffer[..length]))
+        self.take_next(buffer)
     }
 
     /// Waits for a datagram for what is left of a wait that the receives share. None where nothing came in time.
-    fn receive_in_stretch(
+    fn receive_in_shared(
         &mut self,
         wait: Duration,
         buffer: &mut [u8; 64],
     ) -> io::Result<Option<usize>>
         ensures length { IfOk result (λ got. IfSome got (λ n. n ≤ 64)) }
+        ensures hears { IfOk result (HearsOrNothing (udp_facts S.calls self.old) (udp_facts S.calls self.new) buffer.new) }
+        ensures deaf { OnErr result (HearsNothing (udp_facts S.calls self.old) (udp_facts S.calls self.new)) }
         ensures same { self.new.to ≡ self.old.to }
         ensures failures { self.new.failures ≡ self.old.failures }
     {
@@ -210,21 +231,63 @@ impl<'a, C: Clock> UdpPort<'a, C> {
             Err(error) => Err(error),
         }
     }
+
+    /// Sends to an address, which is that of the one at this place.
+    fn send_to(&mut self, place: usize, address: SocketAddr, bytes: &[u8]) -> Result<(), PortFault>
+        ensures calls { Passes (S.calls self.old.socket) (S.calls self.new.socket) (Sent address bytes.now ∷ []) }
+        ensures sender { self.new.sender ≡ self.old.sender }
+        ensures same { self.new.to ≡ self.old.to }
+        ensures count { self.old.failures ≤ self.new.failures }
+        ensures counts { Counts result self.old.failures self.new.failures }
+    {
+        let is_taken = self.socket.send(bytes, address).is_ok();
+        self.notes.tell_sent(place, address, is_taken);
+        if is_taken { Ok(()) } else { Err(self.fail()) }
+    }
+
+    /// Sends to the one at a place. Nothing goes to a host name that wasn't found, which is a failure, and to the sender where nothing
+    /// came yet.
+    fn send_one(&mut self, place: usize, bytes: &[u8]) -> Result<(), PortFault>
+        requires { place < length self.old.to.items }
+        ensures calls { Passes (S.calls self.old.socket) (S.calls self.new.socket) (sent_to (named self.old.sender (who_at self.old.to.items place)) bytes.now) }
+        ensures sender { self.new.sender ≡ self.old.sender }
+        ensures same { self.new.to ≡ self.old.to }
+        ensures count { self.old.failures ≤ self.new.failures }
+        ensures counts { Counts result self.old.failures self.new.failures }
+    {
+        match self.to[place].who {
+            Recipient::At(address) => self.send_to(place, address, bytes),
+            Recipient::Unknown => Err(self.fail()),
+            Recipient::Sender => match self.sender {
+                Some(address) => self.send_to(place, address, bytes),
+                None => Ok(()),
+            },
+        }
+    }
 }
 
-impl<'a, C: Clock> Port for UdpPort<'a, C> {
-    ghost use Rattle.std.specs.Prelude.{length};
-    ghost use Rattle.system_io.specs.Premises.{system_port};
+impl<'a, C: Clock, S: Socket + Drop, W: Write + Drop> Port for UdpPort<'a, C, S, W> {
+    ghost use Rattle.std.specs.Prelude.{◌≡◌, ◌≤◌, [], ◌∷◌, None, Ok, take, IfOk, IfSome, OnErr};
+    ghost use Rattle.system_io.specs.Failures.{Risen};
+    ghost use Rattle.system_io.specs.Ports.{Came, Quiet, Missed, Passed, to_each};
+    ghost use Rattle.system_io.specs.UdpPorts.{Hears, HearsNothing, Sends, port_facts, udp_facts};
 
-    ghost facts = { λ p. system_port p.failures (length p.to.items) };
+    ghost facts = { port_facts };
 
     // A receive that a signal interrupts is none: the wait goes on.
-    fn receive(&mut self, buffer: &mut [u8; 64]) -> Result<usize, PortFault> {
+    fn receive(&mut self, buffer: &mut [u8; 64]) -> Result<usize, PortFault>
+        ensures length { IfOk result (λ n. n ≤ 64) }
+        ensures came { IfOk result (λ n. Passed (port_facts self.old) (port_facts self.new) (Came (take n buffer.new) ∷ [])) }
+        ensures missed { OnErr result (Passed (port_facts self.old) (port_facts self.new) (Missed ∷ [])) }
+        ensures cause { OnErr result (Risen (port_facts self.old).faults (port_facts self.new).faults) }
+        ensures hears { IfOk result (λ n. Hears (udp_facts S.calls self.old) (udp_facts S.calls self.new) (take n buffer.new)) }
+        ensures deaf { OnErr result (HearsNothing (udp_facts S.calls self.old) (udp_facts S.calls self.new)) }
+    {
         for _ in 0..u64::MAX {
             match self.receive_within(None, buffer) {
                 Ok(length) => return Ok(length),
                 Err(error) if is_interrupted(&error) => {}
-                Err(_) => break,
+                Err(_) => return Err(self.fail()),
             }
         }
         Err(self.fail())
@@ -234,28 +297,38 @@ impl<'a, C: Clock> Port for UdpPort<'a, C> {
         &mut self,
         wait: Duration,
         buffer: &mut [u8; 64],
-    ) -> Result<Option<usize>, PortFault> {
+    ) -> Result<Option<usize>, PortFault>
+        ensures length { IfOk result (λ got. IfSome got (λ n. n ≤ 64)) }
+        ensures came { IfOk result (λ got. IfSome got (λ n. Passed (port_facts self.old) (port_facts self.new) (Came (take n buffer.new) ∷ []))) }
+        ensures quiet { result ≡ Ok None → Passed (port_facts self.old) (port_facts self.new) (Quiet ∷ []) }
+        ensures missed { OnErr result (Passed (port_facts self.old) (port_facts self.new) (Missed ∷ [])) }
+        ensures cause { OnErr result (Risen (port_facts self.old).faults (port_facts self.new).faults) }
+        ensures hears { IfOk result (HearsOrNothing (udp_facts S.calls self.old) (udp_facts S.calls self.new) buffer.new) }
+        ensures deaf { OnErr result (HearsNothing (udp_facts S.calls self.old) (udp_facts S.calls self.new)) }
+    {
         for _ in 0..u64::MAX {
-            match self.receive_in_stretch(wait, buffer) {
+            match self.receive_in_shared(wait, buffer) {
                 Ok(Some(length)) => return Ok(Some(length)),
                 Ok(None) => {
-                    self.stretch = None;
+                    self.shared = None;
                     return Ok(None);
                 }
                 Err(error) if is_interrupted(&error) => {}
-                Err(_) => break,
+                Err(_) => return Err(self.fail()),
             }
         }
         Err(self.fail())
     }
 
-    fn send(&mut self, bytes: &[u8]) -> Result<(), PortFault> {
-        self.stretch = None;
+    fn send(&mut self, bytes: &[u8]) -> Result<(), PortFault>
+        ensures handed { Passed (port_facts self.old) (port_facts self.new) (to_each (port_facts self.old).addresses bytes.now) }
+        ensures cause { OnErr result (Risen (port_facts self.old).faults (port_facts self.new).faults) }
+        ensures sends { Sends (udp_facts S.calls self.old) (udp_facts S.calls self.new) bytes.now }
+    {
+        self.shared = None;
         let mut sent = Ok(());
-        for i in 0..self.to.len() {
-            if self.socket.send_to(bytes, self.to[i].as_str()).is_err() {
-                sent = Err(self.fail());
-            }
+        for place in 0..self.to.len() {
+            sent = self.send_one(place, bytes).and(sent);
         }
         sent
     }

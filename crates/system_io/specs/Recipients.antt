@@ -1,0 +1,31 @@
+-- Whom the words of a port name (this project's own).
+use Rattle.std.specs.Prelude.{◌≡◌, ◌≢◌, ℕ, List, Option, Some, None, codes, string_bytes}
+use Rattle.std.specs.Net.Grammar.{IsSocketText}
+use Rattle.std.specs.declared.net.socket_addr.SocketAddr.{SocketAddr}
+use Rattle.system_io.specs.declared.recipient.Addressed.{Addressed}
+use Rattle.system_io.specs.declared.recipient.Recipient.{Recipient}
+use Rattle.system_io.specs.declared.recipient.Recipient.TheVariants as recipient
+
+-- the word for whoever sent the datagram that came last
+abbrev pub sender_word : List ℕ
+sender_word = codes "sender"
+
+-- whom a word names: only `sender` names the sender, and an IP address with a port names itself. What a host name names isn't stated
+pub record Names (word : List ℕ) (who : Recipient) : Type 0 where
+  pub sender : word ≡ sender_word → who ≡ recipient.Sender
+  pub only : who ≡ recipient.Sender → word ≡ sender_word
+  pub address : word ≢ sender_word → (a : SocketAddr) → IsSocketText word a → (b : SocketAddr) × (who ≡ recipient.At b) × IsSocketText word b
+
+-- a word of a port, and that it names the one beside it
+abbrev pub word_of : Addressed → List ℕ
+word_of one = string_bytes one.word
+
+abbrev pub IsAddressed : Addressed → Type 0
+IsAddressed one = Names (word_of one) one.who
+
+-- the address of the one that is named, where the last datagram came from this one: none where a name wasn't found, or where nothing
+-- came yet
+abbrev pub named : Option SocketAddr → Recipient → Option SocketAddr
+named sender (recipient.At address) = Some address
+named sender recipient.Unknown = None
+named sender recipient.Sender = sender
