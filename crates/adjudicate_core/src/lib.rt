@@ -70,7 +70,8 @@ mod values;
 
 pub use commands::{
     Audit, Check, Enter, Follow, FollowGame, Form, HostGames, Judge, List, Listen, Moves, Name,
-    Probe, Probes, Root, RunSchedule, Send, Show, ShowRecord, Task, Value, Version, parse,
+    Probe, Probes, Root, RunSchedule, Send, Show, ShowRecord, ShowStatus, Task, Value, Version,
+    parse,
 };
 pub use game_name::GameName;
 pub use numbers::{CacheSize, Delay};
