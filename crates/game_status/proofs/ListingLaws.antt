@@ -1,5 +1,5 @@
 -- Stamps that are found in names, and sets of them.
-use Rattle.std.proofs.Common.{Global, ◌≡◌, ◌≢◌, ◌<◌, ◌+◌, ◌++◌, ◌∙◌, ◌⊎◌, inl, inr, ℕ, Bool, true, false, cond, List, [], ◌∷◌, length, map, take, get_or, refl, sym, ap, subst, slice_index, string_bytes, Option, Some, None, IfSome, IfNone, Ok, arith}
+use Rattle.std.proofs.Common.{Global, ◌≡◌, ◌≢◌, ◌<◌, ◌+◌, ◌++◌, ◌∙◌, ◌⊎◌, inl, inr, ℕ, Bool, true, false, cond, List, [], ◌∷◌, length, map, take, get_or, refl, sym, ap, subst, string_bytes, Option, Some, None, Ok, arith}
 use Rattle.std.specs.Prelude.{Result, String}
 use Rattle.std.specs.Borrow.{Bor}
 use Rattle.std.specs.Option.{MatchOption}
@@ -16,7 +16,7 @@ use Rattle.std.proofs.lemmas.Map.Lookups.{exact_bytes}
 use Rattle.std.proofs.lemmas.Map.Views.{btree_set_contains_iff}
 use Rattle.std.proofs.lemmas.List.{append_cancel_right, map-append, take_more}
 use Rattle.std.proofs.lemmas.List.Elements.{Contains-append_left, Contains-append_right, Contains-append_cases, Contains-push, Contains-push_cases}
-use Rattle.hex.specs.Hex.{decode_of, decode_sized, encode_lower, encode_with, lower_digits}
+use Rattle.hex.specs.Hex.{decode_of, decode_sized, encode_lower, lower_digits}
 use Rattle.hex.proofs.HexLemmas.{decode_of-encode_lower, decode_sized-twice, length-encode_with}
 use Rattle.game_status.specs.Listings.{AddsStamps, AreStampsIn, IsStamp, file_name}
 
@@ -33,9 +33,6 @@ some_front name ending r x is h = subst (λ o. MatchOption o ((front : List ℕ)
 
 pub no_front : (name ending : List ℕ) (r : Option (Bor (List ℕ))) → r ≡ None → MatchOption r ((front : List ℕ) → name ≢ front ++ ending) (λ x. name ≡ x.now ++ ending) → (front : List ℕ) → name ≢ front ++ ending
 no_front name ending r is h = subst (λ o. MatchOption o ((front : List ℕ) → name ≢ front ++ ending) (λ x. name ≡ x.now ++ ending)) is h
-
-pub front_of : (name ending front digits : List ℕ) → name ≡ front ++ ending → name ≡ digits ++ ending → digits ≡ front
-front_of name ending front digits e f = append_cancel_right digits front ending (sym f ∙ e)
 
 some_same : {A E : Type 0} (x y : A) → ◌≡◌ {A = Result A E} (Ok x) (Ok y) → x ≡ y
 some_same x y e = cc

@@ -1,5 +1,5 @@
 -- How far a folder has come with a game, from what it has of it.
-use Rattle.std.proofs.Common.{◌≡◌, ℕ, List, Option, Some, Ok, Err, sym, subst}
+use Rattle.std.proofs.Common.{ℕ, List, Ok, Err, sym, subst}
 use Rattle.std.specs.Prelude.{IfErr, Result, option_map}
 use Rattle.system_io.specs.Disks.{DiskFacts}
 use Rattle.arbiter_server.specs.declared.game_file.Game.{Game}

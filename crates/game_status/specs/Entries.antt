@@ -1,9 +1,7 @@
 -- What a folder has of one game (this project's own): its file, and its record where it lists one.
-use Rattle.std.specs.Prelude.{◌≡◌, ◌⊎◌, ◌++◌, ℕ, List, Option, Some, None, codes}
+use Rattle.std.specs.Prelude.{◌⊎◌, ◌++◌, ℕ, List, Option, Some, None, codes}
 use Rattle.std.specs.List.{Contains}
 use Rattle.std.specs.Fmt.{decimal}
-use Rattle.move_msg.specs.declared.record_bytes.Record.{Record as Records}
-use Rattle.move_msg.specs.Records.{IsFirstRecordFault, SpellsRecord}
 use Rattle.record_audit.specs.Findings.{refused_record}
 use Rattle.system_io.specs.Disks.{AtFile, DiskFacts, HasMore}
 use Rattle.arbiter_server.specs.declared.folder.FindFault.TheVariants as find

@@ -1,5 +1,5 @@
 -- How far the games of a folder, or of two, have come (this project's own).
-use Rattle.std.specs.Prelude.{◌≡◌, ◌++◌, ℕ, Bool, false, List, Option, Some, None, is_some, length, codes}
+use Rattle.std.specs.Prelude.{◌≡◌, ◌++◌, ℕ, Bool, List, Option, Some, None, length, codes}
 use Rattle.std.specs.Fmt.{decimal}
 use Rattle.hex.specs.Hex.{encode_lower}
 use Rattle.move_msg.specs.declared.record_bytes.Record.{Record as Records}

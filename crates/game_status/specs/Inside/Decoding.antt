@@ -1,5 +1,5 @@
 -- What the bytes of a game's record are; cited by private functions alone.
-use Rattle.std.specs.Prelude.{◌≡◌, ℕ, List, Option, Some, None, option_map}
+use Rattle.std.specs.Prelude.{◌≡◌, ℕ, List, Some, option_map}
 use Rattle.move_msg.specs.declared.record_bytes.Record.{Record as Records}
 use Rattle.move_msg.specs.Records.{IsFirstRecordFault, SpellsRecord}
 use Rattle.game_status.specs.declared.entry.Entry.{Entry}

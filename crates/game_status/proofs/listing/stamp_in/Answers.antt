@@ -1,8 +1,8 @@
-use Rattle.std.proofs.Common.{◌∙◌, ap, sym, List, ℕ, ◌++◌}
+use Rattle.std.proofs.Common.{◌∙◌, ap, List, ℕ, ◌++◌}
 use Rattle.std.proofs.lemmas.Bool.Decides.{Decides-eqb}
 use Rattle.std.proofs.lemmas.Option.{IfSome_then}
 use Rattle.std.proofs.lemmas.Slice.Eq.{strip_suffix_is}
-use Rattle.game_status.proofs.ListingLaws.{front_of, no_front, some_front}
+use Rattle.game_status.proofs.ListingLaws.{no_front, some_front}
 use Rattle.game_status.proofs.listing.stamp_in.Goals as goal
 
 pub returns-in-Some-clause-some : goal.returns-in-Some-clause-some
