@@ -26,3 +26,4 @@ is_simple name.Enter = refl
 is_simple name.Host = refl
 is_simple name.Root = refl
 is_simple name.Follow = refl
+is_simple name.Status = refl

@@ -16,4 +16,5 @@ pub mod Root
 pub mod Run
 pub mod Send
 pub mod Show
+pub mod Status
 pub mod Version

@@ -37,6 +37,7 @@ use Rattle.adjudicate_core.specs.TableAnswers.{PutsByTables}
 use Rattle.judge_core.specs.Ask.{ask_of}
 use Rattle.adjudicate_core.specs.Commands.Root as roots
 use Rattle.adjudicate_core.specs.Commands.Follow as follows
+use Rattle.adjudicate_core.specs.Commands.Status as statuses
 use Rattle.adjudicate_core.specs.Keys.{HasKeys, LacksKeys}
 use Rattle.sealed_port.specs.KeyedHosts.{keyed_host}
 use Rattle.sealed_port.specs.Sealing.{SealedView, sealed_facts}
@@ -79,6 +80,7 @@ AnswersFrom disk source host (task.Enter t) given old new status = Enters disk h
 AnswersFrom disk source host (task.Host t) given old new status = HostsGames disk host (seen_hosting (disk_keepers disk host.host host.file) (Ok status)) t given old new (Ok status)
 AnswersFrom disk source host (task.Root t) given old new status = roots.Puts t.json (ask_of t.determined) source t.fen given old new status
 AnswersFrom disk source host (task.Follow t) given old new status = follows.Puts source t given old new status
+AnswersFrom disk source host (task.Status t) given old new status = statuses.Puts disk t old new status
 
 -- to a task the program answers from what it reads; or something that it reads for it can't be read; or memory was refused while
 -- it read

@@ -18,6 +18,7 @@ use Rattle.adjudicate_core.specs.Commands.Enter as enters
 use Rattle.adjudicate_core.specs.Commands.Host as hosts
 use Rattle.adjudicate_core.specs.Commands.Root as roots
 use Rattle.adjudicate_core.specs.Commands.Follow as follows
+use Rattle.adjudicate_core.specs.Commands.Status as statuses
 use Rattle.adjudicate_core.specs.Commands.Record as records
 use Rattle.adjudicate_core.specs.Commands.Audit as audits
 use Rattle.adjudicate_core.specs.Commands.Version as versions
@@ -52,6 +53,7 @@ word_of name.Enter = codes "enter"
 word_of name.Host = codes "host"
 word_of name.Root = codes "root"
 word_of name.Follow = codes "follow"
+word_of name.Status = codes "status"
 
 -- what it is given
 abbrev pub rules_of : Name → List Rule
@@ -73,6 +75,7 @@ rules_of name.Enter = enters.rules
 rules_of name.Host = hosts.rules
 rules_of name.Root = roots.rules
 rules_of name.Follow = follows.rules
+rules_of name.Status = statuses.rules
 
 -- what may be wrong with its values, in the order in which it is told
 abbrev pub faults_of : Name → List Fault
@@ -94,6 +97,7 @@ faults_of name.Enter = enters.faults
 faults_of name.Host = hosts.faults
 faults_of name.Root = roots.faults
 faults_of name.Follow = follows.faults
+faults_of name.Status = statuses.faults
 
 -- ---- by the task
 
@@ -116,6 +120,7 @@ name_of (task.Enter t) = name.Enter
 name_of (task.Host t) = name.Host
 name_of (task.Root t) = name.Root
 name_of (task.Follow t) = name.Follow
+name_of (task.Status t) = name.Status
 
 -- it has these values of its command's arguments
 abbrev pub HasValues : (Text → Option Text) → Task → Type 0
@@ -137,6 +142,7 @@ HasValues value (task.Enter t) = enters.HasValues value t
 HasValues value (task.Host t) = hosts.HasValues value t
 HasValues value (task.Root t) = roots.HasValues value t
 HasValues value (task.Follow t) = follows.HasValues value t
+HasValues value (task.Status t) = statuses.HasValues value t
 
 -- what is read for it
 abbrev pub named_in : Task → Named
@@ -158,6 +164,7 @@ named_in (task.Enter t) = enters.named
 named_in (task.Host t) = hosts.named t
 named_in (task.Root t) = roots.named t
 named_in (task.Follow t) = follows.named t
+named_in (task.Status t) = statuses.named
 
 -- the file of keys that it names, if it does
 abbrev pub key_in : Task → Option Text
@@ -186,6 +193,7 @@ tells_progress (task.Enter t) = false
 tells_progress (task.Host t) = false
 tells_progress (task.Root t) = false
 tells_progress (task.Follow t) = false
+tells_progress (task.Status t) = false
 
 -- ---- words
 

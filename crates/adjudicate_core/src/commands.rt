@@ -26,6 +26,7 @@ mod root;
 mod run;
 mod send;
 mod show;
+mod status;
 mod version;
 
 use crate::usage::{Misuse, Usage, ValueFault};
@@ -47,6 +48,7 @@ pub use root::Root;
 pub use run::RunSchedule;
 pub use send::Send;
 pub use show::Show;
+pub use status::ShowStatus;
 use std::alloc::{AllocError, Global};
 use task_files::Places;
 pub use version::Version;
@@ -90,6 +92,8 @@ pub enum Task<'a> {
     Root(Root<'a>),
     /// The game of the input, ply by ply.
     Follow(Follow<'a>),
+    /// How far the games of a folder have come.
+    Status(ShowStatus<'a>),
 }
 
 /// The commands.
@@ -131,6 +135,8 @@ pub enum Name {
     Root,
     /// Judges a game ply by ply.
     Follow,
+    /// Tells how far games have come.
+    Status,
 }
 
 /// How a command gets a value. Whether it is required isn't said here: the command requires it.
@@ -176,6 +182,7 @@ impl Name {
             "host" => Some(Name::Host),
             "root" => Some(Name::Root),
             "follow" => Some(Name::Follow),
+            "status" => Some(Name::Status),
             _ => None,
         }
     }
@@ -203,6 +210,7 @@ impl Name {
             Name::Host => "host",
             Name::Root => "root",
             Name::Follow => "follow",
+            Name::Status => "status",
         }
     }
 
@@ -229,6 +237,7 @@ impl Name {
             Name::Host => &host::VALUES,
             Name::Root => &root::VALUES,
             Name::Follow => &follow::VALUES,
+            Name::Status => &status::VALUES,
         }
     }
 }
@@ -346,6 +355,10 @@ fn task_of<'a>(name: Name, matches: &ArgMatches<'a>) -> Result<Task<'a>, ValueFa
             Ok(task) => Ok(Task::Follow(task)),
             Err(fault) => Err(fault),
         },
+        Name::Status => match ShowStatus::of(matches) {
+            Ok(task) => Ok(Task::Status(task)),
+            Err(fault) => Err(fault),
+        },
     }
 }
 
@@ -373,6 +386,7 @@ impl<'a> Task<'a> {
             Task::Host(task) => task.places(),
             Task::Root(task) => task.places(),
             Task::Follow(task) => task.places(),
+            Task::Status(task) => task.places(),
         }
     }
 }

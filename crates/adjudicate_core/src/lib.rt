@@ -20,7 +20,7 @@
 //! - CLAIM: `run`, clause `runs`; `run_program`: where a status is returned, the program on its words answers the task that they
 //!   name over what it read, or one of its sources failed (`refused files`), or memory was refused, or the words are misused and
 //!   nothing is written. The definition of each command's answer is in `AnswersFrom`. Of a call that ends with the writer's error
-//!   only `quiet` speaks. For `list`, `check`, `run`, `probes`, `root` and `host` refused memory has no cause.
+//!   only `quiet` speaks. For `list`, `check`, `status`, `run`, `probes`, `root` and `host` refused memory has no cause.
 //! - CLAIM: `run`, clauses `runs`, `quiet`; `run_program`: for a misuse standard error gets one line of printing bytes (none
 //!   where help is asked for) and then the usage, of which no clause speaks, or as much of these as it takes. It gets bytes for
 //!   nothing else but for a task with progress.
@@ -42,6 +42,8 @@
 //! - CLAIM: `run`, clause `runs`: `follow` refuses the text of its start and its tables in this order; then each ply of the game is
 //!   told as `game_teller::follow_game` has it, by what `game` tells of the same moves. That each line has gone out before the next
 //!   move is awaited is in the contract of that function alone.
+//! - CLAIM: `run`, clause `runs`: `status` tells the games of its folders as `game_status::tell_status` has it; the status is 0 only
+//!   where all are told, nothing is at fault and nothing differs.
 //! - CLAIM: `CacheSize::of`, clauses `some`, `none`; `Delay::of`, clauses `some`, `none`: the numbers of `--cache` and `--delay`
 //!   are read exactly where they are decimal digits, perhaps after a plus, in their range.
 #![tactic(auto)]
@@ -70,7 +72,8 @@ mod values;
 
 pub use commands::{
     Audit, Check, Enter, Follow, FollowGame, Form, HostGames, Judge, List, Listen, Moves, Name,
-    Probe, Probes, Root, RunSchedule, Send, Show, ShowRecord, Task, Value, Version, parse,
+    Probe, Probes, Root, RunSchedule, Send, Show, ShowRecord, ShowStatus, Task, Value, Version,
+    parse,
 };
 pub use game_name::GameName;
 pub use numbers::{CacheSize, Delay};

@@ -35,7 +35,7 @@ use task_files::Sources;
 ///
 /// Where memory is refused, the line `refused memory` comes in place of all else, for `probes` after the whole lines
 /// before it, with status 1. A text that is no position takes none, and `show` takes none. The error comes only where
-/// the writer failed. `list` and `check` read their folder here, and hold one file at a time. With `--progress` the
+/// the writer failed. `list`, `check` and `status` read their folder here, and hold one file at a time. With `--progress` the
 /// progress goes to `errors`: for `probes` after every 10,000 lines, for `list` and `check` after each hundred million
 /// bytes. No other task writes there.
 fn answer_given<D: Disk, I: Input, H: Host, W: Output, E: Output>(
@@ -70,6 +70,7 @@ fn answer_given<D: Disk, I: Input, H: Host, W: Output, E: Output>(
         Task::Host(task) => host_games(alloc, task, sources, disk, host, out),
         Task::Root(task) => task.answer(alloc, sources, input, out, errors),
         Task::Follow(task) => task.answer(alloc, sources, input, out),
+        Task::Status(task) => task.answer(alloc, disk, out),
     }
 }
 

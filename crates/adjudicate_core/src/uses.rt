@@ -27,6 +27,7 @@ const USAGE: &str = "usage: adjudicate judge [--tables DIR] [--manifest FILE] FE
                          [--datagrams N] [--delay N] [--fetch] [--ready] [--key FILE]
        adjudicate record FILE
        adjudicate audit --name N --start FEN --tables DIR [--manifest FILE] [--delay N] FILE [FILE]
+       adjudicate status --games DIR [--other DIR]
        adjudicate send --name N --start FEN --tables DIR [--manifest FILE] [--delay N] --bind ADDR --to ADDR[,ADDR]
                        [--wait MS] [--tries N] [--key FILE]
        adjudicate enter --name N --start FEN --tables DIR [--manifest FILE] [--delay N] --games DIR

@@ -220,8 +220,8 @@ fn compare_moves(one: &Record, other: &Record) -> Option<usize>
     }
 }
 
-/// The first ply at which two records part. None where they are equal. Records of different games part at ply 0.
-fn compare(one: &Record, other: &Record) -> Option<usize>
+/// The first ply at which two records part. None where they are equal. Records of different games part at ply 0. It takes no memory.
+pub fn compare_records(one: &Record, other: &Record) -> Option<usize>
     ensures { AreCompared one.now other.now result }
 {
     if one.stamp != other.stamp || one.delay != other.delay {
@@ -235,7 +235,7 @@ pub fn compare_files(one: &Audited, other: &Audited) -> Option<Option<usize>>
     ensures { (bytes its : List ℕ) → IsAuditedAs bytes one.now → IsAuditedAs its other.now → IsComparison bytes its result }
 {
     match (&one.kept, &other.kept) {
-        (Some(one), Some(other)) => Some(compare(one, other)),
+        (Some(one), Some(other)) => Some(compare_records(one, other)),
         _ => None,
     }
 }

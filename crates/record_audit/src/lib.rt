@@ -15,4 +15,6 @@
 
 mod auditing;
 
-pub use auditing::{Audited, Auditor, Finding, are_whole_and_agree, audit, compare_files};
+pub use auditing::{
+    Audited, Auditor, Finding, are_whole_and_agree, audit, compare_files, compare_records,
+};

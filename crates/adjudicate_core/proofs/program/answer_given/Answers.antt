@@ -57,3 +57,6 @@ returns-in-Root g c = record { answered = rw c.in-Root.is c.answer-in-Root.ensur
 
 pub returns-in-Follow : goal.returns-in-Follow
 returns-in-Follow g c = record { answered = rw c.in-Follow.is c.answer-in-Follow.ensures; quiet = λ unasked. refl }
+
+pub returns-in-Status : goal.returns-in-Status
+returns-in-Status g c = record { answered = rw c.in-Status.is c.answer-in-Status.ensures; quiet = λ unasked. refl }

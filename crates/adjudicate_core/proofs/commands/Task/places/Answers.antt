@@ -44,3 +44,6 @@ returns-in-Version c = rw c.in-Version.is c.places-in-Version.ensures
 
 pub returns-in-Follow : goal.returns-in-Follow
 returns-in-Follow c = rw c.in-Follow.is c.places-in-Follow.ensures
+
+pub returns-in-Status : goal.returns-in-Status
+returns-in-Status c = rw c.in-Status.is c.places-in-Status.ensures

@@ -1,0 +1,32 @@
+-- `status --games DIR [--other DIR]`: how far the games of a folder have come, or those of two (this project's own).
+use Rattle.std.specs.Prelude.{◌≡◌, ℕ, Bool, List, [], ◌∷◌, Option, Some, codes, option_map}
+use Rattle.clap.specs.Words.{Rule, Text}
+use Rattle.system_io.specs.Disks.{DiskFacts}
+use Rattle.task_files.specs.Sources.{Named, nothing}
+use Rattle.game_status.specs.Statuses.{TellsStatus}
+use Rattle.adjudicate_core.specs.Rules.{rule_of_form}
+use Rattle.adjudicate_core.specs.declared.commands.Form.TheVariants as form
+use Rattle.adjudicate_core.specs.Misuses.{Fault, NoOption}
+use Rattle.adjudicate_core.specs.Reply.{status_if}
+use Rattle.adjudicate_core.specs.declared.commands.status.ShowStatus.{ShowStatus}
+
+abbrev pub rules : List Rule
+rules =
+    rule_of_form form.Option (codes "games")
+    ∷ rule_of_form form.Option (codes "other") ∷ []
+
+-- the values of its arguments
+abbrev pub HasValues : (Text → Option Text) → ShowStatus → Type 0
+HasValues value t = (Some t.games.now ≡ value (codes "games")) × (option_map (λ s. s.now) t.other ≡ value (codes "other"))
+
+-- what may be wrong with its values, in the order in which it is told
+abbrev pub faults : List Fault
+faults = NoOption (codes "games") ∷ []
+
+-- nothing is read for it before it answers: it reads its folders itself
+abbrev pub named : Named
+named = nothing
+
+-- how far the games have come was told, and the status says whether nothing is at fault and nothing differs
+abbrev pub Puts : DiskFacts → ShowStatus → Option (List ℕ) → Option (List ℕ) → ℕ → Type 0
+Puts disk t old new status = (done : Bool) × TellsStatus disk t.games.now (option_map (λ s. s.now) t.other) old new done × (status ≡ status_if done)

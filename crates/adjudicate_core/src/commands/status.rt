@@ -1,0 +1,75 @@
+//! `status`: how far the games of a folder have come, or those of two.
+
+ghost use Rattle.std.specs.Prelude.{◌≡◌, IfErr, IfOk};
+ghost use Rattle.clap.specs.Words.{first_value, found_of};
+ghost use Rattle.adjudicate_core.specs.Commands.Status.{HasValues, Puts, faults, named};
+ghost use Rattle.adjudicate_core.specs.Misuses.{IsFirst, fault_words};
+ghost use Rattle.task_files.specs.Sources.{named_by};
+
+use super::{Form, Value};
+use crate::answers::status_if;
+use crate::usage::ValueFault;
+use crate::values::option_in;
+use clap::ArgMatches;
+use game_status::tell_status;
+use std::alloc::Global;
+use std::io::Write;
+use system_io::{Disk, WriteFault};
+use task_files::Places;
+
+/// How far the games of a folder have come.
+#[derive(Clone, Copy)]
+pub struct ShowStatus<'a> {
+    /// The folder.
+    pub games: &'a str,
+    /// A second one, if it is named.
+    pub other: Option<&'a str>,
+}
+
+/// The values of `status`.
+pub(crate) const VALUES: [Value; 2] = [
+    Value {
+        name: "games",
+        form: Form::Option,
+    },
+    Value {
+        name: "other",
+        form: Form::Option,
+    },
+];
+
+impl<'a> ShowStatus<'a> {
+    /// The task with these values, or the first thing that is wrong with them.
+    pub(crate) fn of(matches: &ArgMatches<'a>) -> Result<ShowStatus<'a>, ValueFault<'a>>
+        ensures ok { IfOk result (HasValues (first_value (found_of matches.now))) }
+        ensures err { IfErr result (λ fault. IsFirst (first_value (found_of matches.now)) faults (fault_words fault)) }
+    {
+        Ok(ShowStatus {
+            games: option_in(matches, "games")?,
+            other: matches.get_str("other"),
+        })
+    }
+
+    /// What is read for it before it answers: nothing, since it reads its folders itself.
+    pub(crate) fn places(&self) -> Places<'a>
+        ensures { named_by result ≡ named }
+    {
+        Places::none()
+    }
+
+    /// Tells how far the games have come, as `game_status::tell_status` has it. Returns the status, 0 where nothing is at fault and
+    /// nothing differs, else 1.
+    pub(crate) fn answer<D: Disk, W: Write>(
+        &self,
+        alloc: Global,
+        disk: &D,
+        out: &mut W,
+    ) -> Result<u8, WriteFault>
+        ensures { IfOk result (Puts (D.facts disk.now) self.now (W.contents out.old) (W.contents out.new)) }
+    {
+        match tell_status(alloc, disk, self.games, self.other, out) {
+            Ok(done) => Ok(status_if(done)),
+            Err(fault) => Err(fault),
+        }
+    }
+}

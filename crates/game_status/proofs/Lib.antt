@@ -1,0 +1,4 @@
+pub mod ListingLaws
+pub mod TellingLaws
+pub mod SideLaws
+pub mod StatusLaws

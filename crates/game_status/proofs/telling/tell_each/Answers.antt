@@ -1,0 +1,14 @@
+use Rattle.std.proofs.Common.{rules, refl}
+use Rattle.game_status.proofs.TellingLaws.{few, more_told}
+use Rattle.game_status.proofs.telling.tell_each.Goals as goal
+
+pub with-sums-requires : goal.with-sums-requires
+with-sums-requires g c = few (g.T.GameTeller.tells c.args.teller.now) c.args.stamps.now c.loop-stamp.stamp-index _ _ c.loop-stamp.sums c.loop-stamp-test.true (search rules) c.loop-stamp.invariant.told
+
+pub loop-stamp-preserved : goal.loop-stamp-preserved
+loop-stamp-preserved g c =
+    let (words, tells, wrote) = c.in-Ok.ensures.told in
+    record {
+      told = more_told (g.T.GameTeller.tells c.args.teller.now) c.args.stamps.now c.loop-stamp.stamp-index _ _ _ _ _ c.loop-stamp.sums c.with-sums.result c.in-Ok.mark c.loop-stamp-test.true refl c.loop-stamp.invariant.told (words, c.loop-stamp.invariant.same _ _ tells, wrote) c.with-sums.ensures;
+      same = λ stamp told h. c.loop-stamp.invariant.same stamp told (c.in-Ok.ensures.same stamp told h);
+    }

@@ -1,0 +1,7 @@
+pub mod Listings
+pub mod Entries
+pub mod Sides
+pub mod Comparisons
+pub mod Tellings
+pub mod Statuses
+pub mod Inside

@@ -1,0 +1,74 @@
+-- How far the games of a folder, or of two, have come (this project's own).
+use Rattle.std.specs.Prelude.{◌≡◌, ◌++◌, ℕ, Bool, List, Option, Some, None, length, codes}
+use Rattle.std.specs.Fmt.{decimal}
+use Rattle.hex.specs.Hex.{encode_lower}
+use Rattle.move_msg.specs.declared.record_bytes.Record.{Record as Records}
+use Rattle.arbiter_server.specs.ServedLines.{verdict_or_none}
+use Rattle.system_io.specs.Disks.{DiskFacts}
+use Rattle.game_status.specs.declared.comparing.Compared.{Compared}
+use Rattle.game_status.specs.declared.entry.EntryFault.{EntryFault}
+use Rattle.game_status.specs.declared.side.Side.{Side}
+use Rattle.game_status.specs.declared.status_lines.Look.{Look}
+use Rattle.game_status.specs.declared.status_lines.Look.TheVariants as look
+use Rattle.game_status.specs.declared.telling.Mark.TheVariants as mark
+use Rattle.game_status.specs.Comparisons.{IsComparedAs, compared_words, mark_of, mark_of_two}
+use Rattle.game_status.specs.Entries.{fault_words, game_told}
+use Rattle.game_status.specs.Listings.{Listing}
+use Rattle.game_status.specs.Sides.{HasSide, LacksSide}
+use Rattle.game_status.specs.Tellings.{GameTold, TellsFolders}
+
+-- ---- the lines
+
+-- how many moves a record has and its verdict; or that nothing is kept
+abbrev pub kept_words : Option Records → List ℕ
+kept_words None = codes "- none"
+kept_words (Some r) = decimal (length r.moves) ++ codes " " ++ verdict_or_none r.verdict
+
+-- the stamp, what is kept, and the game's name
+abbrev pub line_of_one : List ℕ → Side → List ℕ
+line_of_one stamp side = encode_lower stamp ++ codes " " ++ kept_words side.kept ++ codes " " ++ side.game.name.items
+
+-- the stamp, what is kept in each folder, what comes of comparing it, and the name in the first folder
+abbrev pub line_of_two : List ℕ → Side → Side → Compared → List ℕ
+line_of_two stamp one other compared =
+    encode_lower stamp ++ codes " " ++ (kept_words one.kept ++ codes " " ++ kept_words other.kept ++ codes " " ++ compared_words compared ++ codes " ") ++ one.game.name.items
+
+abbrev pub fault_line : List ℕ → EntryFault → List ℕ
+fault_line stamp fault = encode_lower stamp ++ codes " " ++ fault_words fault
+
+abbrev pub other_fault_line : List ℕ → EntryFault → List ℕ
+other_fault_line stamp fault = encode_lower stamp ++ codes " " ++ codes "other " ++ fault_words fault
+
+-- what is told, and how the game is counted: as ruled where its record has a verdict; of two records where they agree on one
+abbrev pub told_by : List ℕ → Look → GameTold
+told_by stamp (look.One side) = record { words = line_of_one stamp side; mark = mark_of side.kept }
+told_by stamp (look.Both side other compared) = record { words = line_of_two stamp side other compared; mark = mark_of_two side.kept compared }
+told_by stamp (look.AtFault fault) = record { words = fault_line stamp fault; mark = mark.AtFault }
+told_by stamp (look.OtherAtFault fault) = record { words = other_fault_line stamp fault; mark = mark.AtFault }
+
+-- ---- one game
+
+abbrev pub IsSide : DiskFacts → Listing → List ℕ → Side → Type 0
+IsSide disk f stamp side = HasSide disk f stamp (game_told side.game) side.kept
+
+-- beside what the first folder has, the second has this
+abbrev pub IsLookBeside : DiskFacts → Side → Listing → List ℕ → Look → Type 0
+IsLookBeside disk one f stamp (look.One side) = ⊥
+IsLookBeside disk one f stamp (look.Both side other compared) = (side ≡ one) × IsSide disk f stamp other × IsComparedAs side.kept other.kept compared
+IsLookBeside disk one f stamp (look.AtFault fault) = ⊥
+IsLookBeside disk one f stamp (look.OtherAtFault fault) = LacksSide disk f stamp fault
+
+-- what is found of a game in the one folder, and in the second where there is one
+pub data IsLook (disk : DiskFacts) (one : Listing) (other : Option Listing) (stamp : List ℕ) (l : Look) : Type 0 where
+  InOne : (side : Side) → other ≡ None → IsSide disk one stamp side → l ≡ look.One side → IsLook disk one other stamp l
+  InBoth : (side : Side) (second : Listing) → other ≡ Some second → IsSide disk one stamp side → IsLookBeside disk side second stamp l → IsLook disk one other stamp l
+  InNone : (fault : EntryFault) → LacksSide disk one stamp fault → l ≡ look.AtFault fault → IsLook disk one other stamp l
+
+-- what is told of it
+abbrev pub IsStatus : DiskFacts → Listing → Option Listing → List ℕ → GameTold → Type 0
+IsStatus disk one other stamp told = (l : Look) × IsLook disk one other stamp l × (told ≡ told_by stamp l)
+
+-- ---- all of them
+
+abbrev pub TellsStatus : DiskFacts → List ℕ → Option (List ℕ) → Option (List ℕ) → Option (List ℕ) → Bool → Type 0
+TellsStatus disk folder other = TellsFolders disk folder other (IsStatus disk)

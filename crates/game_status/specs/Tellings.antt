@@ -1,0 +1,80 @@
+-- Games that are told one by one, a line each, and counted (this project's own).
+use Rattle.std.specs.Prelude.{◌≡◌, ◌&&◌, ◌==◌, ◌++◌, ℕ, Bool, true, false, List, [], ◌∷◌, Option, is_some, length, filter, map, take, codes, if◌then◌else◌}
+use Rattle.std.specs.Fmt.{decimal}
+use Rattle.std.specs.List.{AllZip}
+use Rattle.std.specs.Io.KnownBytes.{Appends}
+use Rattle.move_msg.specs.TextLines.{ended, text_of}
+use Rattle.line_teller.specs.ToldLines.{refused_files, refused_memory}
+use Rattle.game_status.specs.declared.telling.Mark.{Mark}
+use Rattle.game_status.specs.declared.telling.Mark.TheVariants as mark
+use Rattle.game_status.specs.declared.telling.Sums.{Sums}
+use Rattle.game_status.specs.Listings.{AreListed, CannotList, Listing}
+use Rattle.system_io.specs.Disks.{DiskFacts}
+
+-- what is told of a game, and how it is counted
+pub record GameTold : Type 0 where
+  pub words : List ℕ
+  pub mark : Mark
+
+abbrev pub words_told : List GameTold → List (List ℕ)
+words_told = map (λ t. t.words)
+
+-- what is told of one game was written
+abbrev pub WritesGame : (GameTold → Type 0) → Option (List ℕ) → Option (List ℕ) → Mark → Type 0
+WritesGame IsTold old new mark = (words : List ℕ) × IsTold (record { words = words; mark = mark }) × Appends old new (ended words)
+
+-- the line of what is told was written, and how it is counted
+abbrev pub WritesTold : GameTold → Option (List ℕ) → Option (List ℕ) → Mark → Type 0
+WritesTold told old new mark = (mark ≡ told.mark) × Appends old new (ended told.words)
+
+-- whatever is told later could have been told before
+abbrev pub TellsNoMore : (List ℕ → GameTold → Type 0) → (List ℕ → GameTold → Type 0) → Type 0
+TellsNoMore Before After = (stamp : List ℕ) (told : GameTold) → After stamp told → Before stamp told
+
+-- ---- the sums
+
+abbrev pub is_ruled : Mark → Bool
+is_ruled mark.Ruled = true
+is_ruled _ = false
+
+abbrev pub is_fault : Mark → Bool
+is_fault mark.AtFault = true
+is_fault _ = false
+
+abbrev pub is_apart : Mark → Bool
+is_apart mark.Differs = true
+is_apart _ = false
+
+-- how many are marked so
+abbrev pub count_marked : (Mark → Bool) → List GameTold → ℕ
+count_marked test told = length (filter (λ t. test t.mark) told)
+
+abbrev pub sums_of : List GameTold → Sums
+sums_of told = record { games = length told; ruled = count_marked is_ruled told; faults = count_marked is_fault told; differ = count_marked is_apart told }
+
+abbrev pub counts_words : Sums → List ℕ
+counts_words s = decimal s.games ++ codes " games, " ++ decimal s.ruled ++ codes " with a verdict, " ++ decimal s.faults ++ codes " at fault"
+
+-- where two records of each game are compared
+abbrev pub differ_words : Bool → ℕ → List ℕ
+differ_words compares differ = if compares then codes ", " ++ decimal differ ++ codes " differ" else []
+
+abbrev pub sums_words : Bool → Sums → List ℕ
+sums_words compares s = counts_words s ++ differ_words compares s.differ
+
+-- none is at fault, and none differs
+abbrev pub are_well : Sums → Bool
+are_well s = (s.faults == 0) && (s.differ == 0)
+
+-- ---- all of it
+
+-- the games with these stamps were told in turn, and then their sums; or those until memory was refused for one
+pub data TellsGames (Tells : List ℕ → GameTold → Type 0) (stamps : List (List ℕ)) (compares : Bool) (old new : Option (List ℕ)) (done : Bool) : Type 0 where
+  TellsAll : (told : List GameTold) → AllZip Tells stamps told → Appends old new (text_of (words_told told ++ sums_words compares (sums_of told) ∷ [])) → done ≡ are_well (sums_of told) → TellsGames Tells stamps compares old new done
+  NoRoom : (count : ℕ) (told : List GameTold) → AllZip Tells (take count stamps) told → Appends old new (text_of (words_told told ++ refused_memory ∷ [])) → done ≡ false → TellsGames Tells stamps compares old new done
+
+-- the games of the folders were listed and told; or a folder can't be listed; or memory for the stamps was refused
+pub data TellsFolders (disk : DiskFacts) (folder : List ℕ) (other : Option (List ℕ)) (Tells : Listing → Option Listing → List ℕ → GameTold → Type 0) (old new : Option (List ℕ)) (done : Bool) : Type 0 where
+  AllListed : (one : Listing) (two : Option Listing) (stamps : List (List ℕ)) → AreListed disk folder other one two stamps → TellsGames (Tells one two) stamps (is_some other) old new done → TellsFolders disk folder other Tells old new done
+  Unlisted : CannotList disk folder other → Appends old new (ended refused_files) → done ≡ false → TellsFolders disk folder other Tells old new done
+  NoRoomToList : Appends old new (ended refused_memory) → done ≡ false → TellsFolders disk folder other Tells old new done

@@ -1,0 +1,35 @@
+//! How far the games of a folder have come, or those of two folders, told one by one.
+//!
+//! A game is one whose file a folder lists as `STAMP.game`; its record is `STAMP.kept`, where that is listed too. `tell_status` lists
+//! the folders, reads of one game after the other its file and its record, and writes a line for each and then their sums. No move is
+//! judged and no table is read. Memory is that of the names of a folder, of the stamps, and of one game.
+//!
+//! Inside: `listing` (the stamps that names tell), `entry` (a game's file and the bytes of its record), `side` (the record),
+//! `comparing` (two records), `status_lines`, `telling` (games in turn, and sums: `GameTeller`), `status`.
+//!
+//! Definitions, in reading order: `Listings` (`AreListed`), `Entries` (`HasEntry`, `LacksEntry`), `Sides` (`HasSide`, `LacksSide`),
+//! `Comparisons` (`IsComparedAs`), `Tellings` (`TellsGames`, `TellsFolders`), `Statuses` (`IsStatus`, `TellsStatus`). Its cases stand in
+//! `status.txt` of `rows`.
+//!
+//! - CLAIM: `tell_status`: each stamp whose file a folder lists is told, once and in rising order, by what the folder's files have:
+//!   the moves and the verdict of its record, that none is listed, or the first fault. Of two folders the line says whether the
+//!   records agree, by how many moves one is behind, or the first ply at which they part. The sums count these lines, and nothing is
+//!   well that is at fault or differs. `refused files` comes alone, and only where a folder can't be listed. Refused memory has no
+//!   cause; the whole lines before it stay.
+#![tactic(auto)]
+
+mod comparing;
+mod entry;
+mod listing;
+mod side;
+mod status;
+mod status_lines;
+mod telling;
+
+pub use comparing::Compared;
+pub use entry::{Entry, EntryFault};
+pub use listing::{Folder, Folders};
+pub use side::Side;
+pub use status::tell_status;
+pub use status_lines::Look;
+pub use telling::{GameTeller, Mark, Sums};

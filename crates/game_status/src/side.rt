@@ -1,0 +1,85 @@
+//! How far a folder has come with one game: its record, by the file alone.
+
+ghost use Rattle.std.specs.Prelude.{IfErr, IfOk};
+ghost use Rattle.move_msg.specs.Records.{SpellsRecord};
+ghost use Rattle.game_status.specs.Entries.{HasEntry, game_told};
+ghost use Rattle.game_status.specs.Listings.{listing_of};
+ghost use Rattle.game_status.specs.Sides.{HasSide, IsOfStamp, LacksSide};
+ghost use Rattle.game_status.specs.Inside.Decoding.{AreSides, IsNoRecordOf, IsNoSide};
+
+use crate::entry::{Entry, EntryFault, read_entry};
+use crate::listing::Folder;
+use arbiter_server::Game;
+use move_msg::{Record, RecordFault, Stamp};
+use std::alloc::{AllocError, Global};
+use system_io::Disk;
+
+/// How far a folder has come with a game.
+#[derive(Drop)]
+pub struct Side {
+    /// What the game's file tells.
+    pub game: Game,
+    /// Its record, if one is kept.
+    pub kept: Option<Record>,
+}
+
+/// The record of a stamp and a delay that the bytes are, or why they are none.
+fn record_of(
+    alloc: Global,
+    bytes: &[u8],
+    stamp: Stamp,
+    delay: u8,
+) -> Result<Result<Record, EntryFault>, AllocError>
+    ensures record { IfOk result (λ r. IfOk r (λ kept. SpellsRecord bytes.now kept × IsOfStamp kept stamp.0 delay)) }
+    ensures fault { IfOk result (λ r. IfErr r (IsNoRecordOf bytes.now stamp.0 delay)) }
+{
+    let record = match Record::decode(alloc, bytes) {
+        Ok(record) => record,
+        Err(fault) => match fault {
+            RecordFault::OutOfMemory => return Err(AllocError),
+            _ => return Ok(Err(EntryFault::BadRecord(fault))),
+        },
+    };
+    if record.stamp != stamp || record.delay != delay {
+        return Ok(Err(EntryFault::OtherStamp));
+    }
+    Ok(Ok(record))
+}
+
+/// How far the game has come by what a folder has of it.
+fn side_of(
+    alloc: Global,
+    entry: Entry,
+    stamp: Stamp,
+) -> Result<Result<Side, EntryFault>, AllocError>
+    ensures side { IfOk result (λ r. IfOk r (AreSides entry stamp.0)) }
+    ensures fault { IfOk result (λ r. IfErr r (IsNoSide entry stamp.0)) }
+{
+    let Entry { game, kept } = entry;
+    let Some(bytes) = kept else {
+        return Ok(Ok(Side { game, kept: None }));
+    };
+    match record_of(alloc, &bytes, stamp, game.delay)? {
+        Ok(record) => Ok(Ok(Side {
+            game,
+            kept: Some(record),
+        })),
+        Err(fault) => Ok(Err(fault)),
+    }
+}
+
+/// How far a folder has come with the game of a stamp, or why it can't be told. The error comes only where memory is refused.
+pub(crate) fn read_side<D: Disk>(
+    alloc: Global,
+    disk: &D,
+    folder: &Folder<'_>,
+    stamp: Stamp,
+) -> Result<Result<Side, EntryFault>, AllocError>
+    ensures side { IfOk result (λ r. IfOk r (λ s. HasSide (D.facts disk.now) (listing_of folder.now) stamp.0 (game_told s.game) s.kept)) }
+    ensures fault { IfOk result (λ r. IfErr r (LacksSide (D.facts disk.now) (listing_of folder.now) stamp.0)) }
+{
+    match read_entry(alloc, disk, folder, stamp)? {
+        Ok(entry) => side_of(alloc, entry, stamp),
+        Err(fault) => Ok(Err(fault)),
+    }
+}

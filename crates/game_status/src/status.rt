@@ -1,0 +1,103 @@
+//! How far the games of folders have come.
+
+ghost use Rattle.std.specs.Prelude.{option_map, IfOk};
+ghost use Rattle.game_status.specs.Listings.{listing_of};
+ghost use Rattle.game_status.specs.Statuses.{IsLook, IsLookBeside, TellsStatus};
+
+use crate::comparing::compare_kept;
+use crate::listing::{Folder, list_folders};
+use crate::side::{Side, read_side};
+use crate::status_lines::{Look, put_look};
+use crate::telling::{GameTeller, Mark, put_cut, tell_games};
+use line_teller::TellFault;
+use move_msg::Stamp;
+use std::alloc::{AllocError, Global};
+use std::io::Write;
+use system_io::{Disk, WriteFault};
+
+/// What tells how far games have come.
+#[derive(Clone, Copy)]
+pub(crate) struct StatusTeller<'a, D> {
+    /// The allocator.
+    pub(crate) alloc: Global,
+    /// Where the files are.
+    pub(crate) disk: &'a D,
+    /// The folder.
+    pub(crate) one: &'a Folder<'a>,
+    /// The second folder, if one is named.
+    pub(crate) other: Option<&'a Folder<'a>>,
+}
+
+impl<'a, D: Disk> StatusTeller<'a, D> {
+    /// What is told of a game of which the first folder has this, and the second has the rest.
+    fn look_beside(&self, one: Side, folder: &Folder<'_>, stamp: Stamp) -> Result<Look, AllocError>
+        ensures { IfOk result (IsLookBeside (D.facts self.now.disk.now) one (listing_of folder.now) stamp.0) }
+    {
+        match read_side(self.alloc, self.disk, folder, stamp)? {
+            Ok(other) => {
+                let compared = compare_kept(&one.kept, &other.kept);
+                Ok(Look::Both(one, other, compared))
+            }
+            Err(fault) => Ok(Look::OtherAtFault(fault)),
+        }
+    }
+
+    /// What is told of the game with a stamp. The error comes only where memory is refused.
+    fn look(&self, stamp: Stamp) -> Result<Look, AllocError>
+        ensures { IfOk result (IsLook (D.facts self.now.disk.now) (listing_of self.now.one.now) (option_map (λ f. listing_of f.now) self.now.other) stamp.0) }
+    {
+        match read_side(self.alloc, self.disk, self.one, stamp)? {
+            Ok(one) => match self.other {
+                None => Ok(Look::One(one)),
+                Some(folder) => self.look_beside(one, folder, stamp),
+            },
+            Err(fault) => Ok(Look::AtFault(fault)),
+        }
+    }
+}
+
+impl<'a, D: Disk> GameTeller for StatusTeller<'a, D> {
+    ghost use Rattle.std.specs.Prelude.{option_map};
+    ghost use Rattle.game_status.specs.Listings.{listing_of};
+    ghost use Rattle.game_status.specs.Statuses.{IsStatus};
+
+    ghost tells = { λ t. IsStatus (D.facts t.disk.now) (listing_of t.one.now) (option_map (λ f. listing_of f.now) t.other) };
+
+    fn tell<W: Write>(&mut self, stamp: &[u8; 16], out: &mut W) -> Result<Mark, TellFault> {
+        let Ok(look) = self.look(Stamp(*stamp)) else {
+            return Err(TellFault::OutOfMemory);
+        };
+        match put_look(out, stamp, &look) {
+            Ok(mark) => Ok(mark),
+            Err(_) => Err(TellFault::Io),
+        }
+    }
+}
+
+/// Tells how far the games of a folder have come, a line each, in rising order of their stamps, and then their sums; with a second
+/// folder those of both, and whether they agree. Returns whether nothing is at fault and nothing differs.
+///
+/// A game is one whose file a folder lists as `STAMP.game`, and its record is listed as `STAMP.kept`. No move is judged. Memory is
+/// that of the stamps, and of one game. `refused files` comes alone where a folder can't be listed, and `refused memory` where memory
+/// was refused, after the whole lines before it. The error comes only where the writer failed.
+pub fn tell_status<D: Disk, W: Write>(
+    alloc: Global,
+    disk: &D,
+    folder: &str,
+    other: Option<&str>,
+    out: &mut W,
+) -> Result<bool, WriteFault>
+    ensures { IfOk result (TellsStatus (D.facts disk.now) folder.now (option_map (λ s. s.now) other.entry) (W.contents out.old) (W.contents out.new)) }
+{
+    let folders = match list_folders(alloc, disk, folder, other) {
+        Ok(folders) => folders,
+        Err(fault) => return put_cut(out, fault),
+    };
+    let mut teller = StatusTeller {
+        alloc,
+        disk,
+        one: &folders.one,
+        other: folders.other.as_ref(),
+    };
+    tell_games(&mut teller, &folders.stamps, other.is_some(), out)
+}
