@@ -51,6 +51,7 @@ mod answers;
 mod binding;
 mod commands;
 mod entering;
+mod entries;
 mod game_name;
 mod hosting;
 mod json_answers;
@@ -69,10 +70,11 @@ mod uses;
 mod values;
 
 pub use commands::{
-    Audit, Check, Enter, Follow, FollowGame, Form, HostGames, Judge, List, Listen, Moves, Name,
-    Probe, Probes, Root, RunSchedule, Send, Show, ShowRecord, Task, Value, Version, parse,
+    Audit, Check, Enter, Entries, Follow, FollowGame, Form, HostGames, Judge, List, Listen, Moves,
+    Name, OneGame, Probe, Probes, Root, RunSchedule, Send, Show, ShowRecord, Task, Value, Version,
+    parse,
 };
 pub use game_name::GameName;
 pub use numbers::{CacheSize, Delay};
 pub use program::{refuse_memory, run, run_program};
-pub use usage::{Misuse, Usage, ValueFault, Wanted, WordsFault};
+pub use usage::{Instead, Misuse, Usage, ValueFault, Wanted, WordsFault};
