@@ -1,5 +1,5 @@
 -- What `enter` makes of its words and of what it reads (this project's own).
-use Rattle.std.specs.Prelude.{◌≡◌, ◌≢◌, ◌⊎◌, ℕ, Bool, true, false, List, [], ◌∷◌, Option, Some, None, Result, Ok, Err, IfOk, codes, option_map}
+use Rattle.std.specs.Prelude.{◌≡◌, ◌≢◌, ◌⊎◌, ◌+◌, ℕ, Bool, true, false, List, [], ◌∷◌, Option, Some, None, Result, Ok, Err, IfOk, codes, option_map}
 use Rattle.std.specs.Io.KnownBytes.{Appends}
 use Rattle.hex.specs.Hex.{encode_lower}
 use Rattle.board_core.specs.declared.parts.Parts.{Parts}
@@ -63,7 +63,7 @@ pub record HasTextAt {P F : Type 0} (host : Hosted P F) (path text : List ℕ) :
   pub has : HasText host.file file after text
 
 pub data LacksTextAt {P F : Type 0} (host : Hosted P F) (path text : List ℕ) (fault : KeepFault) : Type 0 where
-  AtFile : (file file' : F) → host.host.is_at path file → LacksText host.file file file' text fault → LacksTextAt host path text fault
+  OverFile : (file file' : F) → host.host.is_at path file → LacksText host.file file file' text fault → LacksTextAt host path text fault
   NoRoomForFile : host.host.takes_memory path → fault ≡ keep.OutOfMemory → LacksTextAt host path text fault
 
 -- ---- a game in a folder
@@ -135,7 +135,7 @@ abbrev pub EntersLines : {P F : Type 0} → Place P F → ℕ → List (List ℕ
 EntersLines p number [] told = told ≡ []
 EntersLines p number (line ∷ lines) [] = ⊥
 EntersLines p number (line ∷ lines) (t ∷ told) =
-    (EntersLine p number line t × EntersLines p (suc number) lines told) ⊎ (CutsLine p line t × (told ≡ []))
+    (EntersLine p number line t × EntersLines p (number + 1) lines told) ⊎ (CutsLine p line t × (told ≡ []))
 
 -- what came of each line was written, and the status is 0 only where all games are entered
 pub record PutsGames {P F : Type 0} (p : Place P F) (lines : List (List ℕ)) (old new : Option (List ℕ)) (status : ℕ) : Type 0 where

@@ -76,7 +76,7 @@ pub(crate) fn first_line(text: &[u8]) -> Option<(&[u8], &[u8])>
         return None;
     }
     match cut_first(text, b'\n') {
-        Some(parts) => Some(parts),
+        Some((line, rest)) => Some((line, rest)),
         None => Some((text, &[])),
     }
 }

@@ -6,8 +6,8 @@ use Rattle.adjudicate_core.proofs.entering.enter_one.Goals as goal
 pub returns-in-Err : goal.returns-in-Err
 returns-in-Err g c = BadStart c.in-Err.fault (rw c.as_bytes.ensures.value at c.in-Err.ensures.err) c.put_refusal.ensures
 
-pub returns-in-Ok : goal.returns-in-Ok
-returns-in-Ok g c =
+pub returns-in-Ok-manifest_for : goal.returns-in-Ok-manifest_for
+returns-in-Ok-manifest_for g c =
     Entered c.in-Ok.start (rw c.as_bytes.ensures.value at c.in-Ok.ensures.ok) c.in-Ok.ensures.position _ (rw c.deref.ensures.value c.in-Ok-manifest_for.ensures.ok) c.put_game.ensures
 
 pub returns-in-Err-manifest_for : goal.returns-in-Err-manifest_for
