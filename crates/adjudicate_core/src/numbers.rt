@@ -98,7 +98,7 @@ impl Delay {
     }
 
     /// The number of plies that a digit tells; none where the text is no digit from 0 to 8.
-    pub fn of_digit(text: &[u8]) -> Option<Delay>
+    pub(crate) fn of_digit(text: &[u8]) -> Option<Delay>
         ensures some { IfSome result (IsDelayDigit text.now) }
         ensures none { IfNone result ((n : ℕ) → IsDelayDigit text.now n → ⊥) }
     {
