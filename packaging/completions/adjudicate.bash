@@ -12,7 +12,8 @@ _adjudicate_words()
                 # a flag closes its bracket at once
                 text = word[i] ~ /^\[*--[a-z-]*$/ ? word[i] " " word[++i] : word[i]
                 sub(/\[,.*/, "", text); gsub(/[][]/, "", text)
-                print text
+                # a command may have several lines
+                if (!is_told[text]++) print text
             }
         }'
 }

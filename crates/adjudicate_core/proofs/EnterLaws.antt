@@ -1,17 +1,129 @@
--- A game's file by what was found in it.
-use Rattle.std.proofs.Common.{ℕ, List, Option, subst, sym}
-use Rattle.std.specs.Prelude.{Result}
-use Rattle.system_io.specs.declared.output.WriteFault.{WriteFault}
+-- A game's file by what was found in it, and the lines of a list that are entered so far.
+use Rattle.std.proofs.Common.{◌≡◌, ◌≢◌, ◌≤◌, ◌<◌, ◌+◌, ◌++◌, ℕ, Bool, true, false, List, [], ◌∷◌, Option, length, refl, sym, ap, subst, ◌∙◌, append_assoc, append-nil, inl, inr, arith}
+use Rattle.std.specs.Prelude.{◌&&◌, Result, Ok, Err, Some, IfErr, IfOk, OnOk, Vec, codes}
+use Rattle.std.specs.Global.{Global}
+use Rattle.std.specs.Io.KnownBytes.{Appends}
+use Rattle.std.proofs.KnownBytes.{Appends-nil}
+use Rattle.std.proofs.lemmas.List.{map-append}
+use Rattle.move_msg.specs.TextLines.{ended, lines_in, text_of}
+use Rattle.move_msg.proofs.LineLaws.{more_lines}
+use Rattle.move_msg.specs.declared.stamp.Stamp.{Stamp}
+use Rattle.system_io.specs.Disks.{DiskFacts}
+use Rattle.system_io.specs.Inputs.{InputFacts}
 use Rattle.system_io.specs.KeptFiles.{IsOneOfFound, KeptFacts}
-use Rattle.adjudicate_core.specs.Enters.{Failed, KeepsGame, Left, Put}
-use Rattle.adjudicate_core.specs.Inside.Entering.{KeepsFound, Replaced, Same, Unreplaced}
+use Rattle.system_io.specs.declared.reading.ReadFault.{ReadFault}
+use Rattle.line_teller.specs.ToldLines.{LineTold, WritesTold, all_told, refused_memory, words_told}
+use Rattle.adjudicate_core.specs.declared.entering.KeepFault.{KeepFault}
+use Rattle.adjudicate_core.specs.declared.entering.KeepFault.TheVariants as keep
+use Rattle.adjudicate_core.specs.declared.entries.EntryFault.{EntryFault}
+use Rattle.adjudicate_core.specs.Enters.{ComesOf, EntersLine, EntersLines, Failed, HasList, HasText, HasTextAt, LacksGame, LacksText, LacksTextAt, Left, OfFile, OfInput, OverFile, Place, Put, PutsGames, told_of}
+use Rattle.adjudicate_core.specs.Inside.Entering.{HasOver, LacksOver, Replaced, Same}
+use Rattle.adjudicate_core.specs.Listens.{Hosted}
+use Rattle.adjudicate_core.specs.Reply.{status_if}
+
+-- ---- a file
 
 -- what was found at a start is one of those that may have been there
-pub found_kept : {F : Type 0} (facts : F → KeptFacts) (file mid file' : F) (found : Option (List ℕ)) (text stamp : List ℕ) (old new : Option (List ℕ)) (r : Result ℕ WriteFault) → IsOneOfFound (facts file) found → ((a b : Option (List ℕ)) → (facts file).finds a b → (facts mid).finds a b) → (facts mid).finds found found → KeepsFound facts mid file' found text stamp old new r → KeepsGame facts file file' text stamp old new r
-found_kept facts file mid file' found text stamp old new r one keeps lasts (Same is same tells) =
+found_has : {F : Type 0} (facts : F → KeptFacts) (file mid file' : F) (found : Option (List ℕ)) (text : List ℕ) → IsOneOfFound (facts file) found → ((a b : Option (List ℕ)) → (facts file).finds a b → (facts mid).finds a b) → (facts mid).finds found found → HasOver facts mid file' found text → HasText facts file file' text
+found_has facts file mid file' found text one keeps lasts (Same is same) =
     Left (subst (IsOneOfFound (facts file)) is one)
     (λ a b h. subst (λ f. (facts f).finds a b) (sym same) (keeps a b h))
     (subst (λ o. (facts file').finds o o) is (subst (λ f. (facts f).finds found found) (sym same) lasts))
-    tells
-found_kept facts file mid file' found text stamp old new r one keeps lasts (Replaced other finds tells) = Put found one other finds tells
-found_kept facts file mid file' found text stamp old new r one keeps lasts (Unreplaced other either tells) = Failed found one other either tells
+found_has facts file mid file' found text one keeps lasts (Replaced other finds) = Put found one other finds
+
+pub found_kept : {F : Type 0} (facts : F → KeptFacts) (file mid file' : F) (found : Option (List ℕ)) (text : List ℕ) (r : Result Unit KeepFault) → IsOneOfFound (facts file) found → ((a b : Option (List ℕ)) → (facts file).finds a b → (facts mid).finds a b) → (facts mid).finds found found → OnOk r (HasOver facts mid file' found text) → OnOk r (HasText facts file file' text)
+found_kept facts file mid file' found text (Ok u) one keeps lasts h = found_has facts file mid file' found text one keeps lasts h
+found_kept facts file mid file' found text (Err fault) one keeps lasts h = tt
+
+pub found_unkept : {F : Type 0} (facts : F → KeptFacts) (file file' : F) (found : Option (List ℕ)) (text : List ℕ) (r : Result Unit KeepFault) → IsOneOfFound (facts file) found → IfErr r (LacksOver facts file' found text) → IfErr r (LacksText facts file file' text)
+found_unkept facts file file' found text (Ok u) one h = tt
+found_unkept facts file file' found text (Err fault) one h = Failed found one h.other h.either h.is
+
+pub kept_at : {P F : Type 0} (host : Hosted P F) (path text : List ℕ) (file file' : F) (r : Result Unit KeepFault) → host.host.is_at path file → OnOk r (HasText host.file file file' text) → OnOk r (HasTextAt host path text)
+kept_at host path text file file' (Ok u) at h = record { file = file; after = file'; at = at; has = h }
+kept_at host path text file file' (Err fault) at h = tt
+
+pub unkept_at : {P F : Type 0} (host : Hosted P F) (path text : List ℕ) (file file' : F) (r : Result Unit KeepFault) → host.host.is_at path file → IfErr r (LacksText host.file file file' text) → IfErr r (LacksTextAt host path text)
+unkept_at host path text file file' (Ok u) at h = tt
+unkept_at host path text file file' (Err fault) at h = OverFile file file' at h
+
+-- ---- the text of a list
+
+pub input_list : (disk : DiskFacts) (source : InputFacts) (path : List ℕ) (r : Result (Vec ℕ Global) ReadFault) → path ≡ codes "-" → IfOk r (λ list. source.gives list.items) → IfOk r (λ list. HasList disk source path list.items)
+input_list disk source path (Ok list) is h = OfInput is h
+input_list disk source path (Err fault) is h = tt
+
+pub file_list : (disk : DiskFacts) (source : InputFacts) (path : List ℕ) (r : Result (Vec ℕ Global) ReadFault) → path ≢ codes "-" → IfOk r (λ list. disk.holds path list.items) → IfOk r (λ list. HasList disk source path list.items)
+file_list disk source path (Ok list) other h = OfFile other h
+file_list disk source path (Err fault) other h = tt
+
+-- ---- lines
+
+-- what came of a line is told
+pub line_told : {P F : Type 0} (p : Place P F) (number : ℕ) (line : List ℕ) (r : Result Stamp EntryFault) (old new : Option (List ℕ)) (done : Bool) → ComesOf p line r → Appends old new (ended (told_of number r).words) × (done ≡ (told_of number r).done) → WritesTold (EntersLine p number line) old new done
+line_told p number line r old new done comes h =
+    ((told_of number r).words, (r, comes, ap (λ (d : Bool). the_line (told_of number r).words d) h.1), h.0)
+  where
+    the_line : List ℕ → Bool → LineTold
+    the_line words d = record { words = words; done = d }
+
+-- so many lines of a list are entered and told, and whatever comes of the rest comes of all of them then
+pub record EnteredSoFar {P F : Type 0} (p : Place P F) (all rest : List ℕ) (before : ℕ) (old now : Option (List ℕ)) (done : Bool) : Type 0 where
+  pub told : List LineTold
+  pub goes : (later : List LineTold) → EntersLines p (before + 1) (lines_in rest) later → EntersLines p 1 (lines_in all) (told ++ later)
+  pub written : Appends old now (text_of (words_told told))
+  pub is : (later : List LineTold) → all_told (told ++ later) ≡ (done && all_told later)
+  pub room : before + length rest ≤ length all
+
+pub entered_none : {P F : Type 0} (p : Place P F) (all : List ℕ) (out : Option (List ℕ)) → EnteredSoFar p all all 0 out out true
+entered_none p all out = record { told = []; goes = λ later h. h; written = Appends-nil out; is = λ later. refl; room = omega arith }
+
+written_more : (old mid new : Option (List ℕ)) (told : List LineTold) (one : LineTold) → Appends old mid (text_of (words_told told)) → Appends mid new (ended one.words) → Appends old new (text_of (words_told (told ++ one ∷ [])))
+written_more old mid new told one h wrote =
+    subst (λ (ls : List (List ℕ)). Appends old new (text_of ls)) (sym (map-append (λ (t : LineTold). t.words) told (one ∷ []))) (more_lines old mid new (words_told told) one.words h wrote)
+
+and_apart : (a b c : Bool) → (a && (b && c)) ≡ ((a && b) && c)
+and_apart true b c = refl
+and_apart false b c = refl
+
+and_true : (a : Bool) → (a && true) ≡ a
+and_true true = refl
+and_true false = refl
+
+and_false : (a : Bool) → (a && false) ≡ false
+and_false true = refl
+and_false false = refl
+
+-- one line more
+pub entered_more : {P F : Type 0} (p : Place P F) (all rest tail line : List ℕ) (before : ℕ) (old mid new : Option (List ℕ)) (done is_entered both : Bool) → EnteredSoFar p all rest before old mid done → lines_in rest ≡ line ∷ lines_in tail → length tail < length rest → WritesTold (EntersLine p (before + 1) line) mid new is_entered → both ≡ (done && is_entered) → EnteredSoFar p all tail (before + 1) old new both
+entered_more p all rest tail line before old mid new done is_entered both h cut short (words, enters, wrote) e =
+    let one : LineTold = record { words = words; done = is_entered } in
+    let again : (later : List LineTold) → (h.told ++ one ∷ []) ++ later ≡ h.told ++ one ∷ later = λ later. append_assoc h.told (one ∷ []) later in
+    record {
+      told = h.told ++ one ∷ [];
+      goes = λ later k. subst (EntersLines p 1 (lines_in all)) (sym (again later)) (h.goes (one ∷ later) (subst (λ (ls : List (List ℕ)). EntersLines p (before + 1) ls (one ∷ later)) (sym cut) (inl (enters, k))));
+      written = written_more old mid new h.told one h.written wrote;
+      is = λ later. ap all_told (again later) ∙ h.is (one ∷ later) ∙ and_apart done is_entered (all_told later) ∙ ap (λ (b : Bool). b && all_told later) (sym e);
+      room = let r = h.room in omega arith;
+    }
+
+-- no line is left
+pub entered_all : {P F : Type 0} (p : Place P F) (all rest : List ℕ) (before status : ℕ) (old new : Option (List ℕ)) (done : Bool) → EnteredSoFar p all rest before old new done → lines_in rest ≡ [] → status ≡ status_if done → PutsGames p (lines_in all) old new status
+entered_all p all rest before status old new done h none e =
+    record {
+      told = h.told;
+      enters = subst (EntersLines p 1 (lines_in all)) (append-nil h.told) (h.goes [] (subst (λ (ls : List (List ℕ)). EntersLines p (before + 1) ls []) (sym none) refl));
+      written = h.written;
+      is = e ∙ ap status_if (sym (ap all_told (sym (append-nil h.told)) ∙ h.is [] ∙ and_true done));
+    }
+
+-- memory was refused for the game of a line
+pub entered_cut : {P F : Type 0} (p : Place P F) (all rest tail line : List ℕ) (before : ℕ) (old mid new : Option (List ℕ)) (done : Bool) → EnteredSoFar p all rest before old mid done → lines_in rest ≡ line ∷ lines_in tail → LacksGame p line keep.OutOfMemory → Appends mid new (ended refused_memory) → PutsGames p (lines_in all) old new 1
+entered_cut p all rest tail line before old mid new done h cut lacks wrote =
+    let one : LineTold = record { words = refused_memory; done = false } in
+    record {
+      told = h.told ++ one ∷ [];
+      enters = h.goes (one ∷ []) (subst (λ (ls : List (List ℕ)). EntersLines p (before + 1) ls (one ∷ [])) (sym cut) (inr ((lacks, refl), refl)));
+      written = written_more old mid new h.told one h.written wrote;
+      is = ap status_if (sym (h.is (one ∷ []) ∙ and_false done));
+    }

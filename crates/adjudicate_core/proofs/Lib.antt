@@ -13,5 +13,6 @@ pub mod MisuseLaws
 pub mod PutLaws
 pub mod BindLaws
 pub mod EnterLaws
+pub mod EntryLaws
 pub mod RootLines
 pub mod JsonLaws

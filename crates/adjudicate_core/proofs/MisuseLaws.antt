@@ -58,11 +58,11 @@ refused_so words name e m named h is = elim h [
 
 -- ---- by the command's values
 
-pub value_so : (words : List Text) (name : Name) (value : Text → Option Text) (fault : ValueFault) (m : Misuses) → Names words name → IsTaken (app_for name) words → ((id : Text) → value id ≡ value_in (app_for name) words id) → IsFirst value (faults_of name) (fault_words fault) → Misuse (Value fault) ≡ Misuse m → IsMisuse words m
+pub value_so : (words : List Text) (name : Name) (value : Text → Option Text) (fault : ValueFault) (m : Misuses) → Names words name → IsTaken (app_for name) words → ((id : Text) → value id ≡ value_in (app_for name) words id) → IsFirst value (faults_of name value) (fault_words fault) → Misuse (Value fault) ≡ Misuse m → IsMisuse words m
 value_so words name value fault m named taken same first is =
     let one : value ≡ value_in (app_for name) words = (λ i id. same id i) in
     let at : Value fault ≡ m = cc in
-    subst (IsMisuse words) at (name, named, taken, subst (λ (v : Text → Option Text). IsFirst v (faults_of name) (fault_words fault)) one first)
+    subst (IsMisuse words) at (name, named, taken, subst (λ (v : Text → Option Text). IsFirst v (faults_of name v) (fault_words fault)) one first)
 
 -- ---- the first of several
 

@@ -1,53 +1,175 @@
 -- What `enter` makes of its words and of what it reads (this project's own).
-use Rattle.std.specs.Prelude.{◌≡◌, ◌≢◌, ℕ, List, Option, Some, Result, IfOk, option_map}
+use Rattle.std.specs.Prelude.{◌≡◌, ◌≢◌, ◌⊎◌, ◌+◌, ℕ, Bool, true, false, List, [], ◌∷◌, Option, Some, None, Result, Ok, Err, IfOk, codes, option_map}
 use Rattle.std.specs.Io.KnownBytes.{Appends}
 use Rattle.hex.specs.Hex.{encode_lower}
 use Rattle.board_core.specs.declared.parts.Parts.{Parts}
 use Rattle.board_core.specs.Position.{IsPosition}
 use Rattle.fen_text.specs.declared.fault.FenFault.{FenFault}
 use Rattle.fen_text.specs.Fen.{SpellsPosition, IsFirstFenFault}
-use Rattle.move_msg.specs.TextLines.{ended}
+use Rattle.move_msg.specs.declared.stamp.Stamp.{Stamp}
+use Rattle.move_msg.specs.TextLines.{ended, lines_in, text_of}
 use Rattle.system_io.specs.declared.output.WriteFault.{WriteFault}
 use Rattle.system_io.specs.declared.reading.ReadFault.TheVariants as read
-use Rattle.system_io.specs.Disks.{DiskFacts}
+use Rattle.system_io.specs.Disks.{AtFile, DiskFacts}
+use Rattle.system_io.specs.Inputs.{InputFacts}
 use Rattle.system_io.specs.KeptFiles.{CannotStart, FindsOldOrNew, IsOneOfFound, KeptFacts}
 use Rattle.arbiter_server.specs.GameFolders.{game_path, stamp_for}
 use Rattle.arbiter_server.specs.GameFiles.{SpellsGame, Told, told}
 use Rattle.arbiter_server.specs.ServedLines.{refused_keeper}
+use Rattle.line_teller.specs.ToldLines.{LineTold, all_told, refused_files, refused_memory, words_told}
 use Rattle.adjudicate_core.specs.declared.commands.enter.Enter.{Enter}
-use Rattle.adjudicate_core.specs.Lines.{refused_fen}
+use Rattle.adjudicate_core.specs.declared.commands.enter.Entries.{Entries}
+use Rattle.adjudicate_core.specs.declared.commands.enter.Entries.TheVariants.{One, From}
+use Rattle.adjudicate_core.specs.declared.commands.enter.OneGame.{OneGame}
+use Rattle.adjudicate_core.specs.declared.entering.KeepFault.{KeepFault}
+use Rattle.adjudicate_core.specs.declared.entering.KeepFault.TheVariants as keep
+use Rattle.adjudicate_core.specs.declared.entries.EntryFault.{EntryFault}
+use Rattle.adjudicate_core.specs.declared.entries.EntryFault.TheVariants as entry
+use Rattle.adjudicate_core.specs.Entries.{IsFirstEntryFault, SpellsEntry}
+use Rattle.adjudicate_core.specs.Lines.{refused_entry, refused_fen}
 use Rattle.adjudicate_core.specs.Listens.{Hosted}
 use Rattle.adjudicate_core.specs.Manifests.{IsManifestOf, LacksManifest}
-use Rattle.adjudicate_core.specs.Reply.{IsText}
+use Rattle.adjudicate_core.specs.Reply.{IsText, status_if}
 use Rattle.adjudicate_core.specs.Telling.{TellsIf}
-use Rattle.line_teller.specs.ToldLines.{refused_memory}
+
+-- where games are entered: the host of their files, the folder, and the manifest by which they are stamped
+pub record Place (P F : Type 0) : Type 1 where
+  pub host : Hosted P F
+  pub games : List ℕ
+  pub manifest : List ℕ
+
+abbrev pub place : {P F : Type 0} → Hosted P F → List ℕ → List ℕ → Place P F
+place host games manifest = record { host = host; games = games; manifest = manifest }
+
+-- ---- the text of a game in a file
+
+-- it had this text already, and is left; or the text takes its place, and each later start finds it
+pub data HasText {F : Type 0} (facts : F → KeptFacts) (file file' : F) (text : List ℕ) : Type 0 where
+  Left : IsOneOfFound (facts file) (Some text) → ((a b : Option (List ℕ)) → (facts file).finds a b → (facts file').finds a b) → (facts file').finds (Some text) (Some text) → HasText facts file file' text
+  Put : (found : Option (List ℕ)) → IsOneOfFound (facts file) found → found ≢ Some text → (facts file').finds (Some text) (Some text) → HasText facts file file' text
+
+-- why it hasn't: it can't be brought to the disk or read; or the text can't take its place, and a start finds what was there before,
+-- or the text
+pub data LacksText {F : Type 0} (facts : F → KeptFacts) (file file' : F) (text : List ℕ) (fault : KeepFault) : Type 0 where
+  Unreadable : CannotStart (facts file) read.Unreadable → fault ≡ keep.Keeper → LacksText facts file file' text fault
+  NoRoomToRead : CannotStart (facts file) read.OutOfMemory → fault ≡ keep.OutOfMemory → LacksText facts file file' text fault
+  Failed : (found : Option (List ℕ)) → IsOneOfFound (facts file) found → found ≢ Some text → FindsOldOrNew (facts file') found text → fault ≡ keep.Keeper → LacksText facts file file' text fault
+
+-- so it is of the file at this path
+pub record HasTextAt {P F : Type 0} (host : Hosted P F) (path text : List ℕ) : Type 0 where
+  pub file : F
+  pub after : F
+  pub at : host.host.is_at path file
+  pub has : HasText host.file file after text
+
+pub data LacksTextAt {P F : Type 0} (host : Hosted P F) (path text : List ℕ) (fault : KeepFault) : Type 0 where
+  OverFile : (file file' : F) → host.host.is_at path file → LacksText host.file file file' text fault → LacksTextAt host path text fault
+  NoRoomForFile : host.host.takes_memory path → fault ≡ keep.OutOfMemory → LacksTextAt host path text fault
+
+-- ---- a game in a folder
+
+-- it is entered under this stamp: that is its own by the manifest, and the file of the stamp has its text
+pub record IsEntered {P F : Type 0} (p : Place P F) (g : Told) (stamp : List ℕ) : Type 0 where
+  pub is : stamp ≡ stamp_for g p.manifest
+  pub text : List ℕ
+  pub spells : SpellsGame text g
+  pub has : HasTextAt p.host (game_path p.games stamp) text
+
+-- why it isn't: the file hasn't its text; or memory for the file's path was refused
+pub data IsUnentered {P F : Type 0} (p : Place P F) (g : Told) (fault : KeepFault) : Type 0 where
+  NoText : (text : List ℕ) → SpellsGame text g → LacksTextAt p.host (game_path p.games (stamp_for g p.manifest)) text fault → IsUnentered p g fault
+  NoRoomForPath : fault ≡ keep.OutOfMemory → IsUnentered p g fault
+
+abbrev pub keep_fault_words : KeepFault → List ℕ
+keep_fault_words keep.Keeper = refused_keeper
+keep_fault_words keep.OutOfMemory = refused_memory
+
+-- ---- the game of the words
 
 -- the game that the words tell, with this start
-abbrev pub game_of : Enter → Parts → Told
-game_of t start = told t.name start t.delay
+abbrev pub game_of : OneGame → Parts → Told
+game_of g start = told g.name start g.delay
 
 -- the stamp is the one line, in lower-case hexadecimal digits, where it could be written, and all is done
 abbrev pub TellsStamp : List ℕ → Option (List ℕ) → Option (List ℕ) → Result ℕ WriteFault → Type 0
 TellsStamp stamp old new r = IfOk r (λ status. Appends old new (ended (encode_lower stamp)) × (status ≡ 0))
 
--- over the game's file: it can't be brought to the disk or read; or it has this text already, and is left; or the text takes its
--- place, and each later start finds it; or that fails, and a start finds what was there before, or the text
-pub data KeepsGame {F : Type 0} (facts : F → KeptFacts) (file file' : F) (text stamp : List ℕ) (old new : Option (List ℕ)) (r : Result ℕ WriteFault) : Type 0 where
-  Unreadable : CannotStart (facts file) read.Unreadable → TellsIf refused_keeper old new r → KeepsGame facts file file' text stamp old new r
-  NoRoomToRead : CannotStart (facts file) read.OutOfMemory → TellsIf refused_memory old new r → KeepsGame facts file file' text stamp old new r
-  Left : IsOneOfFound (facts file) (Some text) → ((a b : Option (List ℕ)) → (facts file).finds a b → (facts file').finds a b) → (facts file').finds (Some text) (Some text) → TellsStamp stamp old new r → KeepsGame facts file file' text stamp old new r
-  Put : (found : Option (List ℕ)) → IsOneOfFound (facts file) found → found ≢ Some text → (facts file').finds (Some text) (Some text) → TellsStamp stamp old new r → KeepsGame facts file file' text stamp old new r
-  Failed : (found : Option (List ℕ)) → IsOneOfFound (facts file) found → found ≢ Some text → FindsOldOrNew (facts file') found text → TellsIf refused_keeper old new r → KeepsGame facts file file' text stamp old new r
-
--- over the file at this path
-pub data KeepsAt {P F : Type 0} (host : Hosted P F) (path text stamp : List ℕ) (old new : Option (List ℕ)) (r : Result ℕ WriteFault) : Type 0 where
-  AtFile : (file file' : F) → host.host.is_at path file → KeepsGame host.file file file' text stamp old new r → KeepsAt host path text stamp old new r
-  NoRoomForFile : host.host.takes_memory path → TellsIf refused_memory old new r → KeepsAt host path text stamp old new r
+-- it is entered, and its stamp is told; or it isn't, and that is told
+pub data PutsGame {P F : Type 0} (p : Place P F) (g : Told) (old new : Option (List ℕ)) (r : Result ℕ WriteFault) : Type 0 where
+  Kept : (stamp : List ℕ) → IsEntered p g stamp → TellsStamp stamp old new r → PutsGame p g old new r
+  Unkept : (fault : KeepFault) → IsUnentered p g fault → TellsIf (keep_fault_words fault) old new r → PutsGame p g old new r
 
 -- entering: the text of the start is no position; or else there is no manifest; or else the text of the game is kept in the folder
 -- under the stamp of the game by that manifest
-pub data Enters {P F : Type 0} (disk : DiskFacts) (host : Hosted P F) (t : Enter) (old new : Option (List ℕ)) (r : Result ℕ WriteFault) : Type 0 where
-  BadStart : (fault : FenFault) → IsFirstFenFault t.start.now fault → TellsIf (refused_fen fault) old new r → Enters disk host t old new r
-  NoManifest : IsText t.start.now → (words : List ℕ) → LacksManifest disk (option_map (λ s. s.now) t.manifest) t.tables.now words → TellsIf words old new r → Enters disk host t old new r
-  NoRoom : IsText t.start.now → TellsIf refused_memory old new r → Enters disk host t old new r
-  Entered : (start : Parts) → SpellsPosition t.start.now start → IsPosition start → (manifest : List ℕ) → IsManifestOf disk (option_map (λ s. s.now) t.manifest) t.tables.now manifest → (stamp text : List ℕ) → stamp ≡ stamp_for (game_of t start) manifest → SpellsGame text (game_of t start) → KeepsAt host (game_path t.games.now stamp) text stamp old new r → Enters disk host t old new r
+pub data EntersOne {P F : Type 0} (disk : DiskFacts) (host : Hosted P F) (t : Enter) (g : OneGame) (old new : Option (List ℕ)) (r : Result ℕ WriteFault) : Type 0 where
+  BadStart : (fault : FenFault) → IsFirstFenFault g.start.now fault → TellsIf (refused_fen fault) old new r → EntersOne disk host t g old new r
+  NoManifest : IsText g.start.now → (words : List ℕ) → LacksManifest disk (option_map (λ s. s.now) t.manifest) t.tables.now words → TellsIf words old new r → EntersOne disk host t g old new r
+  NoRoom : IsText g.start.now → TellsIf refused_memory old new r → EntersOne disk host t g old new r
+  Entered : (start : Parts) → SpellsPosition g.start.now start → IsPosition start → (manifest : List ℕ) → IsManifestOf disk (option_map (λ s. s.now) t.manifest) t.tables.now manifest → PutsGame (place host t.games.now manifest) (game_of g start) old new r → EntersOne disk host t g old new r
+
+-- ---- the games of a list
+
+-- no game is entered, for this fault, though the line spells one
+abbrev pub LacksGame : {P F : Type 0} → Place P F → List ℕ → KeepFault → Type 0
+LacksGame p line fault = (g : Told) × SpellsEntry line g × IsUnentered p g fault
+
+-- what comes of a line: its game is entered under this stamp; or the line is at fault, or the game's file
+abbrev pub ComesOf : {P F : Type 0} → Place P F → List ℕ → Result Stamp EntryFault → Type 0
+ComesOf p line (Ok stamp) = (g : Told) × SpellsEntry line g × IsEntered p g stamp.0
+ComesOf p line (Err fault) = IsFirstEntryFault line fault ⊎ ((fault ≡ entry.Keeper) × LacksGame p line keep.Keeper)
+
+-- what is told of the line with this number, and whether its game is entered
+abbrev pub told_of : ℕ → Result Stamp EntryFault → LineTold
+told_of number (Ok stamp) = record { words = encode_lower stamp.0; done = true }
+told_of number (Err fault) = record { words = refused_entry number fault; done = false }
+
+abbrev pub EntersLine : {P F : Type 0} → Place P F → ℕ → List ℕ → LineTold → Type 0
+EntersLine p number line t = (r : Result Stamp EntryFault) × ComesOf p line r × (t ≡ told_of number r)
+
+-- memory was refused for the game of a line, which is told
+abbrev pub CutsLine : {P F : Type 0} → Place P F → List ℕ → LineTold → Type 0
+CutsLine p line t = LacksGame p line keep.OutOfMemory × (t ≡ record { words = refused_memory; done = false })
+
+-- each line in turn, of which the first has this number, and nothing after one for whose game memory was refused
+abbrev pub EntersLines : {P F : Type 0} → Place P F → ℕ → List (List ℕ) → List LineTold → Type 0
+EntersLines p number [] told = told ≡ []
+EntersLines p number (line ∷ lines) [] = ⊥
+EntersLines p number (line ∷ lines) (t ∷ told) =
+    (EntersLine p number line t × EntersLines p (number + 1) lines told) ⊎ (CutsLine p line t × (told ≡ []))
+
+-- what came of each line was written, and the status is 0 only where all games are entered
+pub record PutsGames {P F : Type 0} (p : Place P F) (lines : List (List ℕ)) (old new : Option (List ℕ)) (status : ℕ) : Type 0 where
+  pub told : List LineTold
+  pub enters : EntersLines p 1 lines told
+  pub written : Appends old new (text_of (words_told told))
+  pub is : status ≡ status_if (all_told told)
+
+-- there is no manifest, for which memory may be refused too; or the games of the lines of the text are entered by it
+pub data EntersList {P F : Type 0} (disk : DiskFacts) (host : Hosted P F) (t : Enter) (text : List ℕ) (old new : Option (List ℕ)) (r : Result ℕ WriteFault) : Type 0 where
+  Unstamped : (words : List ℕ) → LacksManifest disk (option_map (λ s. s.now) t.manifest) t.tables.now words → TellsIf words old new r → EntersList disk host t text old new r
+  NoRoomForManifest : TellsIf refused_memory old new r → EntersList disk host t text old new r
+  Listed : (manifest : List ℕ) → IsManifestOf disk (option_map (λ s. s.now) t.manifest) t.tables.now manifest → IfOk r (PutsGames (place host t.games.now manifest) (lines_in text) old new) → EntersList disk host t text old new r
+
+-- the list is what the input gives where the path is `-`, and else what the file has
+pub data HasList (disk : DiskFacts) (source : InputFacts) (path text : List ℕ) : Type 0 where
+  OfInput : path ≡ codes "-" → source.gives text → HasList disk source path text
+  OfFile : path ≢ codes "-" → disk.holds path text → HasList disk source path text
+
+-- that can't be read
+pub data LacksList (disk : DiskFacts) (source : InputFacts) (path : List ℕ) : Type 0 where
+  NoInput : path ≡ codes "-" → source.fails → LacksList disk source path
+  NoFile : path ≢ codes "-" → disk.fails (AtFile path) → LacksList disk source path
+
+pub data EntersFrom {P F : Type 0} (disk : DiskFacts) (source : InputFacts) (host : Hosted P F) (t : Enter) (path : List ℕ) (old new : Option (List ℕ)) (r : Result ℕ WriteFault) : Type 0 where
+  NoList : LacksList disk source path → TellsIf refused_files old new r → EntersFrom disk source host t path old new r
+  NoRoomForList : TellsIf refused_memory old new r → EntersFrom disk source host t path old new r
+  OfList : (text : List ℕ) → HasList disk source path text → EntersList disk host t text old new r → EntersFrom disk source host t path old new r
+
+-- ---- one or the other
+
+abbrev pub EntersAs : {P F : Type 0} → DiskFacts → InputFacts → Hosted P F → Enter → Entries → Option (List ℕ) → Option (List ℕ) → Result ℕ WriteFault → Type 0
+EntersAs disk source host t (One g) old new r = EntersOne disk host t g old new r
+EntersAs disk source host t (From path) old new r = EntersFrom disk source host t path.now old new r
+
+abbrev pub Enters : {P F : Type 0} → DiskFacts → InputFacts → Hosted P F → Enter → Option (List ℕ) → Option (List ℕ) → Result ℕ WriteFault → Type 0
+Enters disk source host t old new r = EntersAs disk source host t t.entries old new r

@@ -20,6 +20,7 @@ pub mod Listens
 pub mod Manifests
 pub mod Sends
 pub mod Enters
+pub mod Entries
 pub mod Hostings
 pub mod Audits
 pub mod Inside

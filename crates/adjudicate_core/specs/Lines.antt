@@ -35,6 +35,8 @@ use Rattle.adjudicate_core.specs.declared.lines.KeptCount.{KeptCount}
 use Rattle.adjudicate_core.specs.declared.lines.Line.{Line}
 use Rattle.adjudicate_core.specs.declared.lines.RootLine.{RootLine}
 use Rattle.adjudicate_core.specs.declared.lines.Line.TheVariants as line
+use Rattle.adjudicate_core.specs.declared.entries.EntryFault.{EntryFault}
+use Rattle.adjudicate_core.specs.declared.entries.EntryFault.TheVariants as entry
 use Rattle.adjudicate_core.specs.declared.refusals.Refusal.{Refusal}
 use Rattle.adjudicate_core.specs.declared.refusals.Refusal.TheVariants as refusal
 
@@ -54,6 +56,14 @@ fault_text fen.BadSide = fen_fault_name fen.BadSide
 fault_text fen.BadCastlingText = fen_fault_name fen.BadCastlingText
 fault_text fen.BadSquare = fen_fault_name fen.BadSquare
 fault_text fen.BadNumber = fen_fault_name fen.BadNumber
+
+-- why the game of a line isn't entered
+abbrev pub entry_fault_words : EntryFault → List ℕ
+entry_fault_words entry.Fields = codes "fields"
+entry_fault_words entry.Name = codes "name"
+entry_fault_words (entry.Start fault) = fault_text fault
+entry_fault_words entry.Delay = codes "delay"
+entry_fault_words entry.Keeper = codes "keeper"
 
 -- ---- lines
 
@@ -123,6 +133,10 @@ refused_move place = codes "refused move " ++ decimal place
 abbrev pub refused_line : ℕ → List ℕ
 refused_line number = codes "refused line " ++ decimal number
 
+-- the refusal of a game of a list by the number of its line, the first being 1
+abbrev pub refused_entry : ℕ → EntryFault → List ℕ
+refused_entry number fault = refused_line number ++ codes " " ++ entry_fault_words fault
+
 -- why something is refused
 abbrev pub refusal_words : Refusal → List ℕ
 refusal_words (refusal.Fen fault) = refused_fen fault
@@ -130,6 +144,7 @@ refusal_words (refusal.Manifest number) = refused_manifest number
 refusal_words (refusal.File name fault) = refused_file name.bytes (file_fault_name fault)
 refusal_words (refusal.Message number fault) = refused_message number (message_fault fault)
 refusal_words (refusal.Line number) = refused_line number
+refusal_words (refusal.Entry number fault) = refused_entry number fault
 refusal_words (refusal.Move place) = refused_move place
 refusal_words (refusal.Record fault) = refused_record fault
 refusal_words refusal.Port = refused_port

@@ -1,11 +1,13 @@
 -- The faults of the values of a command, and which one is reported (this project's own).
-use Rattle.std.specs.Prelude.{◌≡◌, ◌⊎◌, ◌++◌, ℕ, List, [], ◌∷◌, Option, Some, None, codes}
+use Rattle.std.specs.Prelude.{◌≡◌, ◌≢◌, ◌⊎◌, ◌++◌, ℕ, List, [], ◌∷◌, Option, Some, None, codes}
 use Rattle.std.specs.List.{AllByRecursion}
 use Rattle.clap.specs.Words.{Text}
 use Rattle.move_msg.specs.declared.who.Who.{Who}
 use Rattle.move_msg.specs.Stamps.{IsGameName}
 use Rattle.adjudicate_core.specs.Addresses.{AreAddresses}
 use Rattle.adjudicate_core.specs.Numbers.{IsAtOnce, IsCache, IsDatagrams, IsDelay, IsHundredOr, IsMe}
+use Rattle.adjudicate_core.specs.declared.usage.Instead.{Instead}
+use Rattle.adjudicate_core.specs.declared.usage.Instead.TheVariants as instead
 use Rattle.adjudicate_core.specs.declared.usage.Wanted.{Wanted}
 use Rattle.adjudicate_core.specs.declared.usage.Wanted.TheVariants as wanted
 use Rattle.adjudicate_core.specs.declared.usage.ValueFault.{ValueFault}
@@ -37,6 +39,13 @@ range_of wanted.Tries = codes "1 to 65535"
 range_of wanted.AtOnce = codes "1 to 65535"
 range_of wanted.Addresses = codes "ADDR[,ADDR], each a host, a colon and a port"
 
+-- an option that takes the place of others
+abbrev pub instead_name : Instead → Text
+instead_name instead.From = codes "from"
+
+abbrev pub not_with_words : Instead → Text → List ℕ
+not_with_words other name = codes "--" ++ name ++ codes ": not with --" ++ instead_name other
+
 abbrev pub unfit_words : Wanted → List ℕ → List ℕ
 unfit_words wanted text = codes "--" ++ name_of wanted ++ codes " " ++ text ++ codes ": " ++ range_of wanted
 
@@ -50,6 +59,7 @@ abbrev pub fault_words : ValueFault → List ℕ
 fault_words (told.NoOption name) = no_option_words name.now
 fault_words (told.NoWord name) = no_word_words name.now
 fault_words (told.Unfit wanted text) = unfit_words wanted text.now
+fault_words (told.NotWith other name) = not_with_words other name.now
 
 -- ---- a wish for help
 
@@ -58,11 +68,13 @@ AsksForHelp word = (word ≡ codes "help") ⊎ ((word ≡ codes "--help") ⊎ (w
 
 -- ---- the first that is wrong
 
--- what may be wrong: an option or a word that has to be there has no value, or the value is none that the option takes
+-- what may be wrong: an option or a word that has to be there has no value; or the value is none that the option takes; or an option
+-- is there beside another one that takes its place
 pub data Fault : Type 0 where
   NoOption : Text → Fault
   NoWord : Text → Fault
   Unfit : Wanted → Fault
+  NotWith : Instead → Text → Fault
 
 -- the value of the option is none that it takes
 abbrev pub IsUnfit : (Text → Option Text) → Wanted → Type 0
@@ -80,6 +92,7 @@ abbrev pub Holds : (Text → Option Text) → Fault → Type 0
 Holds value (NoOption name) = value name ≡ None
 Holds value (NoWord name) = value name ≡ None
 Holds value (Unfit wanted) = IsUnfit value wanted
+Holds value (NotWith other name) = value name ≢ None
 
 abbrev pub text_or_empty : Option Text → Text
 text_or_empty None = []
@@ -90,6 +103,7 @@ abbrev pub line_of : (Text → Option Text) → Fault → List ℕ
 line_of value (NoOption name) = no_option_words name
 line_of value (NoWord name) = no_word_words name
 line_of value (Unfit wanted) = unfit_words wanted (text_or_empty (value (name_of wanted)))
+line_of value (NotWith other name) = not_with_words other name
 
 -- it is wrong, and the line tells it
 abbrev pub IsTold : (Text → Option Text) → Fault → List ℕ → Type 0

@@ -1,5 +1,6 @@
 -- Numbers of the command line, as Rust reads integers (this project's own bounds).
 use Rattle.std.specs.Prelude.{◌≡◌, ◌≤◌, ◌<◌, ◌^◌, ◌-◌, ℕ, Bool, false, List, Option, Some, None, codes}
+use Rattle.std.specs.Fmt.{decimal}
 use Rattle.std.specs.Str.{bytes_eq}
 use Rattle.std.specs.Str.Parse.{IsNumeral, digits_value, without_leading_plus}
 use Rattle.board_core.specs.Delays.{most_delay}
@@ -19,6 +20,10 @@ IsCache (Some text) blocks = IsNumber text blocks × (1 ≤ blocks) × (blocks �
 abbrev pub IsDelay : Option (List ℕ) → ℕ → Type 0
 IsDelay None plies = plies ≡ 0
 IsDelay (Some text) plies = IsNumber text plies × (plies ≤ most_delay)
+
+-- in a list of games it is one digit
+abbrev pub IsDelayDigit : List ℕ → ℕ → Type 0
+IsDelayDigit digit plies = (digit ≡ decimal plies) × (plies ≤ most_delay)
 
 -- a number of datagrams is 0 to 2^32 - 1; where none is given it is 2^64 - 1, which no run comes to
 abbrev pub IsDatagrams : Option (List ℕ) → ℕ → Type 0

@@ -77,27 +77,27 @@ rules_of name.Root = roots.rules
 rules_of name.Follow = follows.rules
 rules_of name.Status = statuses.rules
 
--- what may be wrong with its values, in the order in which it is told
-abbrev pub faults_of : Name → List Fault
-faults_of name.Judge = judges.faults
-faults_of name.Probe = probes.faults
-faults_of name.Moves = of_moves.faults
-faults_of name.List = lists.faults
-faults_of name.Check = checks.faults
-faults_of name.Show = shows.faults
-faults_of name.Run = runs.faults
-faults_of name.Listen = listens.faults
-faults_of name.Probes = of_probes.faults
-faults_of name.Game = games.faults
-faults_of name.Record = records.faults
-faults_of name.Audit = audits.faults
-faults_of name.Version = versions.faults
-faults_of name.Send = sends.faults
-faults_of name.Enter = enters.faults
-faults_of name.Host = hosts.faults
-faults_of name.Root = roots.faults
-faults_of name.Follow = follows.faults
-faults_of name.Status = statuses.faults
+-- what may be wrong with its values, in the order in which it is told; with some values something else than with others
+abbrev pub faults_of : Name → (Text → Option Text) → List Fault
+faults_of name.Judge value = judges.faults
+faults_of name.Probe value = probes.faults
+faults_of name.Moves value = of_moves.faults
+faults_of name.List value = lists.faults
+faults_of name.Check value = checks.faults
+faults_of name.Show value = shows.faults
+faults_of name.Run value = runs.faults
+faults_of name.Listen value = listens.faults
+faults_of name.Probes value = of_probes.faults
+faults_of name.Game value = games.faults
+faults_of name.Record value = records.faults
+faults_of name.Audit value = audits.faults
+faults_of name.Version value = versions.faults
+faults_of name.Send value = sends.faults
+faults_of name.Enter value = enters.faults value
+faults_of name.Host value = hosts.faults
+faults_of name.Root value = roots.faults
+faults_of name.Follow value = follows.faults
+faults_of name.Status value = statuses.faults
 
 -- ---- by the task
 
@@ -226,7 +226,7 @@ pub record IsTask (words : List Text) (t : Task) : Type 0 where
 -- the values are read as this task of the command; or this is the first thing that is wrong with them
 abbrev pub IsReadAs : Name → (Text → Option Text) → Result Task ValueFault → Type 0
 IsReadAs name value (Ok t) = (name_of t ≡ name) × HasValues value t
-IsReadAs name value (Err fault) = IsFirst value (faults_of name) (fault_words fault)
+IsReadAs name value (Err fault) = IsFirst value (faults_of name value) (fault_words fault)
 
 -- what is wrong with the words, the first of these: there is none; the first asks for help; it names no command; the command that
 -- it names finds them wrong, in this way, at the first of them where it does; the command's values, of which this is the first that is wrong
@@ -237,4 +237,4 @@ IsMisuse words (misuse.NoText word) = ⊥
 IsMisuse words (misuse.UnknownCommand word) = NamesNone words × (slice_get words 0 ≡ Some word.now) × (AsksForHelp word.now → ⊥)
 IsMisuse words (misuse.Refused e) = (name : Name) × Names words name × IsAmong (kind_of e) (fault_in (app_for name) words)
 IsMisuse words (misuse.Value fault) =
-    (name : Name) × Names words name × IsTaken (app_for name) words × IsFirst (value_in (app_for name) words) (faults_of name) (fault_words fault)
+    (name : Name) × Names words name × IsTaken (app_for name) words × IsFirst (value_in (app_for name) words) (faults_of name (value_in (app_for name) words)) (fault_words fault)

@@ -33,7 +33,7 @@ use crate::usage::{Misuse, Usage, ValueFault};
 pub use audit::Audit;
 pub use check::Check;
 use clap::{Arg, ArgAction, ArgMatches, Command};
-pub use enter::Enter;
+pub use enter::{Enter, Entries, OneGame};
 pub use follow::Follow;
 pub use game::FollowGame;
 pub use host::HostGames;
@@ -84,7 +84,7 @@ pub enum Task<'a> {
     Version(Version),
     /// The moves of the input, sent to the arbiters of a game.
     Send(Send<'a>),
-    /// A game of a folder.
+    /// Games of a folder.
     Enter(Enter<'a>),
     /// Arbiters of the games of a folder.
     Host(HostGames<'a>),
@@ -127,7 +127,7 @@ pub enum Name {
     Version,
     /// Sends the moves of a game.
     Send,
-    /// Enters a game in a folder.
+    /// Enters games in a folder.
     Enter,
     /// Answers datagrams of any number of games.
     Host,

@@ -1,25 +1,142 @@
-//! A game that is entered in a folder.
+//! Games that are entered in a folder.
 
-ghost use Rattle.std.specs.Prelude.{◌≡◌, ◌↔◌, Some, IsTrue, option_map};
-ghost use Rattle.board_core.specs.Position.{IsPosition};
-ghost use Rattle.fen_text.specs.Fen.{SpellsPosition};
-ghost use Rattle.adjudicate_core.specs.Enters.{Enters, KeepsAt, KeepsGame, TellsStamp};
-ghost use Rattle.adjudicate_core.specs.Inside.Entering.{KeepsFound};
+ghost use Rattle.std.specs.Prelude.{◌≡◌, ◌↔◌, Some, IsTrue, IfOk, IfErr, IsErrOf, OnErr, OnOk, codes};
+ghost use Rattle.std.specs.Io.KnownBytes.{Appends};
+ghost use Rattle.move_msg.specs.TextLines.{ended, lines_in};
+ghost use Rattle.arbiter_server.specs.GameFiles.{told};
+ghost use Rattle.adjudicate_core.specs.Enters.{ComesOf, Enters, EntersList, EntersOne, HasList, HasText, HasTextAt, IsEntered, IsUnentered};
+ghost use Rattle.adjudicate_core.specs.Enters.{LacksGame, LacksList, LacksText, LacksTextAt, PutsGame, PutsGames, TellsStamp, game_of, told_of};
+ghost use Rattle.adjudicate_core.specs.Inside.Entering.{EntersNext, HasOver, LacksOver, place_of};
 ghost use Rattle.adjudicate_core.specs.Listens.{hosted};
-ghost use Rattle.adjudicate_core.specs.Manifests.{IsManifestOf};
 ghost use Rattle.system_io.specs.KeptFiles.{bytes_of};
 
-use crate::commands::Enter;
+use crate::answers::status_if;
+use crate::commands::{Enter, Entries, OneGame};
+use crate::entries::{EntryFault, first_line, read_entry};
+use crate::game_name::GameName;
 use crate::lines::put_refusal;
 use crate::manifests::manifest_for;
+use crate::numbers::Delay;
 use crate::refusals::Refusal;
 use arbiter_server::{game_path, write_game};
 use board_core::Position;
 use fen_text::read;
 use move_msg::Stamp;
-use std::alloc::Global;
+use std::alloc::{AllocError, Global};
 use std::io::Write;
-use system_io::{Disk, Host, KeptFile, ReadFault, WriteFault, begin, replace};
+use system_io::{Disk, Host, Input, KeptFile, ReadFault, WriteFault, begin, replace};
+
+/// Why the text of a game isn't in its file.
+#[derive(Clone, Copy)]
+pub(crate) enum KeepFault {
+    /// The file can't be read or written.
+    Keeper,
+    /// Memory was refused.
+    OutOfMemory,
+}
+
+impl KeepFault {
+    ghost use Rattle.std.specs.Prelude.{◌≡◌};
+    ghost use Rattle.adjudicate_core.specs.Enters.{keep_fault_words};
+    ghost use Rattle.adjudicate_core.specs.Lines.{refusal_words};
+
+    /// The refusal that tells it.
+    fn refusal(self) -> Refusal
+        ensures { refusal_words result ≡ keep_fault_words self }
+    {
+        match self {
+            KeepFault::Keeper => Refusal::Keeper,
+            KeepFault::OutOfMemory => Refusal::Memory,
+        }
+    }
+}
+
+/// Where games are entered.
+#[derive(Clone, Copy)]
+pub(crate) struct GamePlace<'a, H> {
+    /// Where their files are opened.
+    host: &'a H,
+    /// The path of the folder.
+    games: &'a str,
+    /// The manifest by which they are stamped.
+    manifest: &'a [u8],
+}
+
+// ---- a game
+
+/// Whether a file has these bytes.
+fn has_bytes(found: &Option<Vec<u8>>, text: &[u8]) -> bool
+    ensures { IsTrue result ↔ (bytes_of found.now ≡ Some text.now) }
+{
+    match found {
+        Some(bytes) => bytes.as_slice() == text,
+        None => false,
+    }
+}
+
+/// Lets a text take the place of what was found in a file, if it isn't that.
+fn keep_over<F: KeptFile>(
+    file: &mut F,
+    found: &Option<Vec<u8>>,
+    text: &[u8],
+) -> Result<(), KeepFault>
+    requires { (F.facts file.old).finds (bytes_of found.now) (bytes_of found.now) }
+    ensures ok { OnOk result (HasOver F.facts file.old file.new (bytes_of found.now) text.now) }
+    ensures err { IfErr result (LacksOver F.facts file.new (bytes_of found.now) text.now) }
+{
+    if has_bytes(found, text) {
+        return Ok(());
+    }
+    match replace(file, text) {
+        Ok(()) => Ok(()),
+        Err(_) => Err(KeepFault::Keeper),
+    }
+}
+
+/// Keeps the text of a game in its file.
+fn keep_game<F: KeptFile>(alloc: Global, file: &mut F, text: &[u8]) -> Result<(), KeepFault>
+    ensures ok { OnOk result (HasText F.facts file.old file.new text.now) }
+    ensures err { IfErr result (LacksText F.facts file.old file.new text.now) }
+{
+    match begin(alloc, file) {
+        Ok(found) => keep_over(file, &found, text),
+        Err(ReadFault::Unreadable) => Err(KeepFault::Keeper),
+        Err(ReadFault::OutOfMemory) => Err(KeepFault::OutOfMemory),
+    }
+}
+
+/// Keeps it in the file at a path.
+fn keep_at<H: Host>(alloc: Global, host: &H, path: &str, text: &[u8]) -> Result<(), KeepFault>
+    ensures ok { OnOk result (HasTextAt (hosted (H.facts host.now) H.Port.facts H.File.facts) path.now text.now) }
+    ensures err { IfErr result (LacksTextAt (hosted (H.facts host.now) H.Port.facts H.File.facts) path.now text.now) }
+{
+    match host.file(alloc, path) {
+        Ok(mut file) => keep_game(alloc, &mut file, text),
+        Err(_) => Err(KeepFault::OutOfMemory),
+    }
+}
+
+/// Enters a game under its stamp. What is at fault with its file is `Keeper`.
+fn enter_game<H: Host>(
+    alloc: Global,
+    place: &GamePlace<'_, H>,
+    name: &GameName<'_>,
+    start: &Position,
+    delay: Delay,
+) -> Result<Stamp, KeepFault>
+    ensures ok { IfOk result (λ stamp. IsEntered (place_of H.facts H.Port.facts H.File.facts place.now) (told name.now start.now delay) stamp.0) }
+    ensures err { IfErr result (IsUnentered (place_of H.facts H.Port.facts H.File.facts place.now) (told name.now start.now delay)) }
+{
+    let stamp = name.stamp(start, place.manifest, delay.plies());
+    let Ok(path) = game_path(alloc, place.games, stamp) else {
+        return Err(KeepFault::OutOfMemory);
+    };
+    let text = write_game(name.as_bytes(), start, delay.plies());
+    match keep_at(alloc, place.host, path.as_str(), text.as_slice()) {
+        Ok(()) => Ok(stamp),
+        Err(fault) => Err(fault),
+    }
+}
 
 /// Writes a stamp in hexadecimal digits, in a line of its own, and tells the status 0.
 fn put_stamp<W: Write>(out: &mut W, stamp: Stamp) -> Result<u8, WriteFault>
@@ -37,116 +154,222 @@ fn put_stamp<W: Write>(out: &mut W, stamp: Stamp) -> Result<u8, WriteFault>
     }
 }
 
-/// Whether a file has these bytes.
-fn has_bytes(found: &Option<Vec<u8>>, text: &[u8]) -> bool
-    ensures { IsTrue result ↔ (bytes_of found.now ≡ Some text.now) }
-{
-    match found {
-        Some(bytes) => bytes.as_slice() == text,
-        None => false,
-    }
-}
-
-/// Lets a text take the place of what was found in a file, if it isn't that, and tells the stamp. A file that can't be written is
-/// told as `refused keeper`.
-fn keep_over<F: KeptFile, W: Write>(
-    file: &mut F,
-    found: &Option<Vec<u8>>,
-    text: &[u8],
-    stamp: Stamp,
-    out: &mut W,
-) -> Result<u8, WriteFault>
-    requires { (F.facts file.old).finds (bytes_of found.now) (bytes_of found.now) }
-    ensures { KeepsFound F.facts file.old file.new (bytes_of found.now) text.now stamp.0 (W.contents out.old) (W.contents out.new) result }
-{
-    if has_bytes(found, text) {
-        return put_stamp(out, stamp);
-    }
-    match replace(file, text) {
-        Ok(()) => put_stamp(out, stamp),
-        Err(_) => put_refusal(out, Refusal::Keeper),
-    }
-}
-
-/// Keeps the text of a game in its file, and tells the stamp. A file that can't be read is told as `refused keeper`.
-fn keep_game<F: KeptFile, W: Write>(
+/// Enters the game of the words from this start, and tells its stamp.
+fn put_game<H: Host, W: Write>(
     alloc: Global,
-    file: &mut F,
-    text: &[u8],
-    stamp: Stamp,
-    out: &mut W,
-) -> Result<u8, WriteFault>
-    ensures { KeepsGame F.facts file.old file.new text.now stamp.0 (W.contents out.old) (W.contents out.new) result }
-{
-    match begin(alloc, file) {
-        Ok(found) => keep_over(file, &found, text, stamp, out),
-        Err(ReadFault::Unreadable) => put_refusal(out, Refusal::Keeper),
-        Err(ReadFault::OutOfMemory) => put_refusal(out, Refusal::Memory),
-    }
-}
-
-/// Keeps it in the file at a path.
-fn keep_at<H: Host, W: Write>(
-    alloc: Global,
-    host: &H,
-    path: &str,
-    text: &[u8],
-    stamp: Stamp,
-    out: &mut W,
-) -> Result<u8, WriteFault>
-    ensures { KeepsAt (hosted (H.facts host.now) H.Port.facts H.File.facts) path.now text.now stamp.0 (W.contents out.old) (W.contents out.new) result }
-{
-    match host.file(alloc, path) {
-        Ok(mut file) => keep_game(alloc, &mut file, text, stamp, out),
-        Err(_) => put_refusal(out, Refusal::Memory),
-    }
-}
-
-/// Works out the stamp of the game, and enters the game under it.
-fn enter_by<D: Disk, H: Host, W: Write>(
-    alloc: Global,
-    task: &Enter<'_>,
+    place: &GamePlace<'_, H>,
+    game: &OneGame<'_>,
     start: &Position,
-    manifest: &[u8],
-    disk: &D,
-    host: &H,
     out: &mut W,
 ) -> Result<u8, WriteFault>
-    requires spelled { SpellsPosition task.now.start.now start.now }
-    requires position { IsPosition start.now }
-    requires manifest { IsManifestOf (D.facts disk.now) (option_map (λ s. s.now) task.now.manifest) task.now.tables.now manifest.now }
-    ensures { Enters (D.facts disk.now) (hosted (H.facts host.now) H.Port.facts H.File.facts) task.now (W.contents out.old) (W.contents out.new) result }
+    ensures { PutsGame (place_of H.facts H.Port.facts H.File.facts place.now) (game_of game.now start.now) (W.contents out.old) (W.contents out.new) result }
 {
-    let delay = task.delay.plies();
-    let stamp = task.name.stamp(start, manifest, delay);
-    let Ok(path) = game_path(alloc, task.games, stamp) else {
-        return put_refusal(out, Refusal::Memory);
-    };
-    let text = write_game(task.name.as_bytes(), start, delay);
-    keep_at(alloc, host, path.as_str(), text.as_slice(), stamp, out)
+    match enter_game(alloc, place, &game.name, start, game.delay) {
+        Ok(stamp) => put_stamp(out, stamp),
+        Err(fault) => put_refusal(out, fault.refusal()),
+    }
 }
 
-/// Enters a game in a folder as the words say, and tells the status.
-///
-/// The game's file is `FOLDER/STAMP.game`, and the line is its stamp. A file that has the game's text already is left. What is
-/// refused is told in one line, in this order: the text of the start, the manifest or the folder of the tables, and the game's file,
-/// which can't be read or written, as `refused keeper`. Where memory is refused the line is `refused memory`. Tables are read for
-/// the stamp alone, and none where a manifest is named. The error comes only where the writer failed.
-pub fn enter<D: Disk, H: Host, W: Write>(
+/// Enters the game of the words, and tells the status.
+fn enter_one<D: Disk, H: Host, W: Write>(
     alloc: Global,
     task: &Enter<'_>,
+    game: &OneGame<'_>,
     disk: &D,
     host: &H,
     out: &mut W,
 ) -> Result<u8, WriteFault>
-    ensures { Enters (D.facts disk.now) (hosted (H.facts host.now) H.Port.facts H.File.facts) task.now (W.contents out.old) (W.contents out.new) result }
+    ensures { EntersOne (D.facts disk.now) (hosted (H.facts host.now) H.Port.facts H.File.facts) task.now game.now (W.contents out.old) (W.contents out.new) result }
 {
-    let start = match read(task.start.as_bytes()) {
+    let start = match read(game.start.as_bytes()) {
         Ok(start) => start,
         Err(fault) => return put_refusal(out, Refusal::Fen(fault)),
     };
     match manifest_for(alloc, disk, task.manifest, task.tables) {
-        Ok(manifest) => enter_by(alloc, task, &start, &manifest, disk, host, out),
+        Ok(manifest) => {
+            let place = GamePlace {
+                host,
+                games: task.games,
+                manifest: &manifest,
+            };
+            put_game(alloc, &place, game, &start, out)
+        }
         Err(refusal) => put_refusal(out, refusal),
+    }
+}
+
+// ---- the games of a list
+
+/// What came of a line.
+#[derive(Clone, Copy)]
+pub(crate) enum Step {
+    /// It is told, and whether its game is entered.
+    Told(bool),
+    /// Memory was refused for it, and nothing more is told.
+    Cut,
+}
+
+/// Enters the game of a line. The error comes only where memory is refused for a game; a line that tells none takes no memory.
+fn enter_line<H: Host>(
+    alloc: Global,
+    place: &GamePlace<'_, H>,
+    line: &[u8],
+) -> Result<Result<Stamp, EntryFault>, AllocError>
+    ensures ok { IfOk result (ComesOf (place_of H.facts H.Port.facts H.File.facts place.now) line.now) }
+    ensures memory { OnErr result (LacksGame (place_of H.facts H.Port.facts H.File.facts place.now) line.now KeepFault.OutOfMemory) }
+{
+    let game = match read_entry(line) {
+        Ok(game) => game,
+        Err(fault) => return Ok(Err(fault)),
+    };
+    match enter_game(alloc, place, &game.name, &game.start, game.delay) {
+        Ok(stamp) => Ok(Ok(stamp)),
+        Err(KeepFault::Keeper) => Ok(Err(EntryFault::Keeper)),
+        Err(KeepFault::OutOfMemory) => Err(AllocError),
+    }
+}
+
+/// Tells what came of the line with this number, and whether its game is entered.
+fn put_entered<W: Write>(
+    out: &mut W,
+    number: usize,
+    entered: Result<Stamp, EntryFault>,
+) -> Result<bool, WriteFault>
+    ensures { IfOk result (λ done. Appends (W.contents out.old) (W.contents out.new) (ended (told_of number entered).words) × (done ≡ (told_of number entered).done)) }
+{
+    match entered {
+        Ok(stamp) => match put_stamp(out, stamp) {
+            Ok(_) => Ok(true),
+            Err(fault) => Err(fault),
+        },
+        Err(fault) => match put_refusal(out, Refusal::Entry(number, fault)) {
+            Ok(_) => Ok(false),
+            Err(fault) => Err(fault),
+        },
+    }
+}
+
+/// Enters the game of the line with this number, and tells what came of it. Where memory is refused the line is `refused memory`.
+fn enter_next<H: Host, W: Write>(
+    alloc: Global,
+    place: &GamePlace<'_, H>,
+    number: usize,
+    line: &[u8],
+    out: &mut W,
+) -> Result<Step, WriteFault>
+    ensures { IfOk result (EntersNext (place_of H.facts H.Port.facts H.File.facts place.now) number line.now (W.contents out.old) (W.contents out.new)) }
+{
+    match enter_line(alloc, place, line) {
+        Ok(entered) => match put_entered(out, number, entered) {
+            Ok(done) => Ok(Step::Told(done)),
+            Err(fault) => Err(fault),
+        },
+        Err(_) => match put_refusal(out, Refusal::Memory) {
+            Ok(_) => Ok(Step::Cut),
+            Err(fault) => Err(fault),
+        },
+    }
+}
+
+/// Enters the games of the lines of a list in turn, and tells what came of each in a line, and the status, 0 where all are entered.
+fn enter_lines<H: Host, W: Write>(
+    alloc: Global,
+    place: &GamePlace<'_, H>,
+    list: &[u8],
+    out: &mut W,
+) -> Result<u8, WriteFault>
+    ensures { IfOk result (PutsGames (place_of H.facts H.Port.facts H.File.facts place.now) (lines_in list.now) (W.contents out.old) (W.contents out.new)) }
+{
+    let mut rest = list;
+    let mut before: usize = 0;
+    let mut done = true;
+    while let Some((line, tail)) = first_line(rest) {
+        match enter_next(alloc, place, before + 1, line, out) {
+            Ok(Step::Told(is_entered)) => done &= is_entered,
+            Ok(Step::Cut) => return Ok(1),
+            Err(fault) => return Err(fault),
+        }
+        before += 1;
+        rest = tail;
+    }
+    Ok(status_if(done))
+}
+
+/// Whether a path stands for the input.
+fn is_input(path: &str) -> bool
+    ensures { IsTrue result ↔ (path.now ≡ codes "-") }
+{
+    path == "-"
+}
+
+/// The text of a list: all of the input where the path is `-`, and else of the file.
+fn list_at<D: Disk, I: Input>(
+    alloc: Global,
+    disk: &D,
+    input: &I,
+    path: &str,
+) -> Result<Vec<u8>, ReadFault>
+    ensures ok { IfOk result (λ list. HasList (D.facts disk.now) (I.facts input.now) path.now list.items) }
+    ensures cause { IsErrOf result ReadFault.Unreadable → LacksList (D.facts disk.now) (I.facts input.now) path.now }
+{
+    if is_input(path) {
+        input.read_to_end(alloc)
+    } else {
+        disk.read(alloc, path)
+    }
+}
+
+/// Enters the games of a list by the manifest that the words name, and tells the status.
+fn enter_list<D: Disk, H: Host, W: Write>(
+    alloc: Global,
+    task: &Enter<'_>,
+    list: &[u8],
+    disk: &D,
+    host: &H,
+    out: &mut W,
+) -> Result<u8, WriteFault>
+    ensures { EntersList (D.facts disk.now) (hosted (H.facts host.now) H.Port.facts H.File.facts) task.now list.now (W.contents out.old) (W.contents out.new) result }
+{
+    match manifest_for(alloc, disk, task.manifest, task.tables) {
+        Ok(manifest) => {
+            let place = GamePlace {
+                host,
+                games: task.games,
+                manifest: &manifest,
+            };
+            enter_lines(alloc, &place, list, out)
+        }
+        Err(refusal) => put_refusal(out, refusal),
+    }
+}
+
+/// Enters games in a folder as the words say, and tells the status.
+///
+/// A game's file is `FOLDER/STAMP.game`. A file that has the game's text already is left. Tables are read for the stamp alone, once,
+/// and none where a manifest is named.
+///
+/// Of one game the line is its stamp. What is refused is told in one line, in this order: the text of the start, the manifest or the
+/// folder of the tables, and the game's file, which can't be read or written, as `refused keeper`.
+///
+/// Of a list a line is told for each of its lines: the stamp, or `refused line N` and why, and the next line follows. The status is 0
+/// only where all games are entered. A list that can't be read is told first, as `refused files`, then the manifest or the folder of
+/// the tables. Where memory is refused the last line is `refused memory`. The error comes only where the writer failed.
+pub fn enter<D: Disk, I: Input, H: Host, W: Write>(
+    alloc: Global,
+    task: &Enter<'_>,
+    disk: &D,
+    input: &I,
+    host: &H,
+    out: &mut W,
+) -> Result<u8, WriteFault>
+    ensures { Enters (D.facts disk.now) (I.facts input.now) (hosted (H.facts host.now) H.Port.facts H.File.facts) task.now (W.contents out.old) (W.contents out.new) result }
+{
+    match &task.entries {
+        Entries::One(game) => enter_one(alloc, task, game, disk, host, out),
+        Entries::From(path) => match list_at(alloc, disk, input, path) {
+            Ok(list) => enter_list(alloc, task, &list, disk, host, out),
+            Err(ReadFault::Unreadable) => put_refusal(out, Refusal::Files),
+            Err(ReadFault::OutOfMemory) => put_refusal(out, Refusal::Memory),
+        },
     }
 }

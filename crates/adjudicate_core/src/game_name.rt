@@ -11,7 +11,7 @@ use std::marker::Model;
 /// The name of a game, 1 to 64 bytes from the space to the tilde. Contracts see its bytes.
 #[derive(Drop)]
 pub struct GameName<'a> {
-    text: &'a str,
+    bytes: &'a [u8],
 }
 
 impl<'a> Model for GameName<'a> {
@@ -20,19 +20,19 @@ impl<'a> Model for GameName<'a> {
 
     ghost Value = { List ℕ };
 
-    ghost view = { λ n. n.text.now };
+    ghost view = { λ n. n.bytes.now };
 
-    ghost invariant = { λ n. IsGameName n.text.now };
+    ghost invariant = { λ n. IsGameName n.bytes.now };
 }
 
 impl<'a> GameName<'a> {
-    /// The name that a text is; none where no game may have it.
-    pub fn of(text: &'a str) -> Option<GameName<'a>>
-        ensures some { IfSome result (λ name. name ≡ text.entry.now) }
-        ensures none { IfNone result (IsGameName text.entry.now → ⊥) }
+    /// The name of these bytes; none where no game may have it.
+    pub fn of(bytes: &'a [u8]) -> Option<GameName<'a>>
+        ensures some { IfSome result (λ name. name ≡ bytes.entry.now) }
+        ensures none { IfNone result (IsGameName bytes.entry.now → ⊥) }
     {
-        if is_game_name(text.as_bytes()) {
-            Some(GameName { text })
+        if is_game_name(bytes) {
+            Some(GameName { bytes })
         } else {
             None
         }
@@ -43,14 +43,14 @@ impl<'a> GameName<'a> {
         ensures bytes { result.now ≡ self.now }
         ensures name { IsGameName result.now }
     {
-        self.text.as_bytes()
+        self.bytes
     }
 
     /// The stamp of the game of this name with this start, manifest of tables and delay.
     pub fn stamp(&self, start: &Position, manifest: &[u8], delay: u8) -> Stamp
         ensures { result.0 ≡ stamp_of self.now (fen_of start.now) manifest.now delay }
     {
-        match Stamp::of(self.text.as_bytes(), start, manifest, delay) {
+        match Stamp::of(self.bytes, start, manifest, delay) {
             Some(stamp) => stamp,
             None => unreachable!(),
         }

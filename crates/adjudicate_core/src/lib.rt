@@ -5,22 +5,23 @@
 //! has each command with its lines; the statuses are 0 done, 1 refused, 2 misuse.
 //!
 //! Each command is a file in `commands/`, with its definitions in the file of the same name in `specs/Commands/`. `values`,
-//! `numbers`, `usage`, `uses`, `addresses` read words; `tables` and `manifests` make sets of files; `answers`, `line_answers`,
-//! `lines`, `refusals` write (each line one `Display`); `listening`, `hosting`, `entering`, `sending`, `binding`, `game_name` run
-//! the commands that touch ports and files.
+//! `numbers`, `usage`, `uses`, `addresses` read words, `entries` the lines of a list; `tables` and `manifests` make sets of files;
+//! `answers`, `line_answers`, `lines`, `refusals` write (each line one `Display`); `listening`, `hosting`, `entering`, `sending`,
+//! `binding`, `game_name` run the commands that touch ports and files.
 //!
 //! Definitions, in reading order: `Rules`, `Tasks`, `Misuses`, `Uses` for words; `Looks`, `Lines`, `Reply`, `Commands`,
-//! `Schedules`, `LineAnswers`, `Audits` for answers; `Listens`, `Manifests`, `Sends`, `Enters`, `Hostings` for runs; `Running`
-//! (`Performs`, `Called`) for all. Its cases stand in `rows`.
+//! `Schedules`, `LineAnswers`, `Audits` for answers; `Listens`, `Manifests`, `Sends`, `Entries`, `Enters`, `Hostings` for runs;
+//! `Running` (`Performs`, `Called`) for all. Its cases stand in `rows`.
 //!
 //! - CLAIM: `parse`, clauses `ok`, `misuse`, `named`: where the words name a task it is what they say, by the matches of `clap`.
 //!   A misuse is reported only where the first word is missing, asks for help or names no command, where the command refuses the
-//!   words, or where a value that the command needs is missing or out of its range. Words that name no command are always a
-//!   misuse.
+//!   words, or where a value that the command needs is missing or out of its range, or one is there beside another that takes its
+//!   place. Words that name no command are always a misuse.
 //! - CLAIM: `run`, clause `runs`; `run_program`: where a status is returned, the program on its words answers the task that they
 //!   name over what it read, or one of its sources failed (`refused files`), or memory was refused, or the words are misused and
 //!   nothing is written. The definition of each command's answer is in `AnswersFrom`. Of a call that ends with the writer's error
-//!   only `quiet` speaks. For `list`, `check`, `status`, `run`, `probes`, `root` and `host` refused memory has no cause.
+//!   only `quiet` speaks. For `list`, `check`, `status`, `run`, `probes`, `root`, `host` and the list of `enter` refused memory has no
+//!   cause.
 //! - CLAIM: `run`, clauses `runs`, `quiet`; `run_program`: for a misuse standard error gets one line of printing bytes (none
 //!   where help is asked for) and then the usage, of which no clause speaks, or as much of these as it takes. It gets bytes for
 //!   nothing else but for a task with progress.
@@ -33,7 +34,8 @@
 //!   order; then the line `ready ADDR` is written, and the games of its folder are hosted by acts as `Server::serve` has them. That
 //!   each line has gone out before the next is in the contract of the private `host_games` alone.
 //! - CLAIM: `run`, clause `runs`: `enter` refuses its start, its manifest and its file in this order; else the game's text is in
-//!   the file of its stamp, and each later start finds it. After a failed write a start finds what was there or the text.
+//!   the file of its stamp, and each later start finds it. After a failed write a start finds what was there or the text. With
+//!   `--from` it does so for the lines of a list in turn, each told by its stamp or by its number and its first fault, and goes on.
 //! - CLAIM: `run_program`: with `--key` the ports of `listen`, `host` and `send` are sealed by the keys of the file, and all else
 //!   is as without it. What is refused of the file is told before all else, the first of: it can't be read as a regular file of at
 //!   most 130 bytes (`Disk::read_with_mode` of system_io); its group or others have some right; its first malformed line.
@@ -53,6 +55,7 @@ mod answers;
 mod binding;
 mod commands;
 mod entering;
+mod entries;
 mod game_name;
 mod hosting;
 mod json_answers;
@@ -71,11 +74,12 @@ mod uses;
 mod values;
 
 pub use commands::{
-    Audit, Check, Enter, Follow, FollowGame, Form, HostGames, Judge, List, Listen, Moves, Name,
-    Probe, Probes, Root, RunSchedule, Send, Show, ShowRecord, ShowStatus, Task, Value, Version,
+    Audit, Check, Enter, Entries, Follow, FollowGame, Form, HostGames, Judge, List, Listen, Moves,
+    Name, OneGame, Probe, Probes, Root, RunSchedule, Send, Show, ShowRecord, ShowStatus, Task, Value,
+    Version,
     parse,
 };
 pub use game_name::GameName;
 pub use numbers::{CacheSize, Delay};
 pub use program::{refuse_memory, run, run_program};
-pub use usage::{Misuse, Usage, ValueFault, Wanted, WordsFault};
+pub use usage::{Instead, Misuse, Usage, ValueFault, Wanted, WordsFault};

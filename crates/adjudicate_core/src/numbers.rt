@@ -3,7 +3,7 @@
 ghost use Rattle.std.specs.Prelude.{◌≡◌, ◌≤◌, ℕ, option_map, IfSome, IfNone, Some};
 ghost use Rattle.move_msg.specs.declared.who.Who.{Who};
 ghost use Rattle.board_core.specs.Delays.{most_delay};
-ghost use Rattle.adjudicate_core.specs.Numbers.{IsAtOnce, IsCache, IsDatagrams, IsDelay, IsHundredOr, IsMe, is_set};
+ghost use Rattle.adjudicate_core.specs.Numbers.{IsAtOnce, IsCache, IsDatagrams, IsDelay, IsDelayDigit, IsHundredOr, IsMe, is_set};
 
 use move_msg::Who;
 use std::marker::Model;
@@ -94,6 +94,24 @@ impl Delay {
         match text.parse::<u8>() {
             Ok(plies) if plies <= 8 => Some(Delay { plies }),
             _ => None,
+        }
+    }
+
+    /// The number of plies that a digit tells; none where the text is no digit from 0 to 8.
+    pub(crate) fn of_digit(text: &[u8]) -> Option<Delay>
+        ensures some { IfSome result (IsDelayDigit text.now) }
+        ensures none { IfNone result ((n : ℕ) → IsDelayDigit text.now n → ⊥) }
+    {
+        if text.len() != 1 {
+            return None;
+        }
+        let digit = text[0];
+        if b'0' <= digit && digit <= b'8' {
+            Some(Delay {
+                plies: digit - b'0',
+            })
+        } else {
+            None
         }
     }
 

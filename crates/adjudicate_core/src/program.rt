@@ -66,7 +66,7 @@ fn answer_given<D: Disk, I: Input, H: Host, W: Output, E: Output>(
         Task::Audit(task) => put_answered(out, task.answer(alloc, sources)),
         Task::Version(task) => task.answer(out),
         Task::Send(task) => send(alloc, task, disk, input, host, out),
-        Task::Enter(task) => enter(alloc, task, disk, host, out),
+        Task::Enter(task) => enter(alloc, task, disk, input, host, out),
         Task::Host(task) => host_games(alloc, task, sources, disk, host, out),
         Task::Root(task) => task.answer(alloc, sources, input, out, errors),
         Task::Follow(task) => task.answer(alloc, sources, input, out),

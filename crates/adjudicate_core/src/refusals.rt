@@ -2,8 +2,9 @@
 
 ghost use Rattle.std.specs.Prelude.{◌++◌, Some};
 ghost use Rattle.std.specs.Fmt.{DisplaysOnOk, decimal};
-ghost use Rattle.adjudicate_core.specs.Lines.{refused_fen, refused_file, refused_message};
+ghost use Rattle.adjudicate_core.specs.Lines.{refused_entry, refused_fen, refused_file, refused_message};
 
+use crate::entries::EntryFault;
 use crate::tables::FileFault;
 use arrayvec::ArrayString;
 use fen_text::FenFault;
@@ -23,6 +24,8 @@ pub(crate) enum Refusal {
     Message(usize, Option<MessageFault>),
     /// The first malformed line of a schedule, by its number, counted from 1.
     Line(usize),
+    /// The game of a line of a list, by the line's number, counted from 1.
+    Entry(usize, EntryFault),
     /// A word that is no move, by its place, counted from 0.
     Move(usize),
     /// The bytes of a kept file are no record.
@@ -65,6 +68,17 @@ fn fmt_message<W: fmt::Write>(f: &mut fmt::Formatter<W>, number: usize, word: &s
     write!(f, "refused message {number} {word}")
 }
 
+/// Writes that the game of a line is refused.
+fn fmt_entry<W: fmt::Write>(
+    f: &mut fmt::Formatter<W>,
+    number: usize,
+    fault: EntryFault,
+) -> fmt::Result
+    ensures { DisplaysOnOk W.Write.write_str_gives f.old result (Some (refused_entry number fault)) f.new }
+{
+    write!(f, "refused line {number} {fault}")
+}
+
 /// Writes a number after these words.
 fn fmt_number<W: fmt::Write>(f: &mut fmt::Formatter<W>, words: &str, number: usize) -> fmt::Result
     ensures { DisplaysOnOk W.Write.write_str_gives f.old result (Some (words.now ++ decimal number)) f.new }
@@ -86,6 +100,7 @@ impl fmt::Display for Refusal {
             Refusal::Message(number, None) => fmt_message(f, *number, "Cut"),
             Refusal::Message(number, Some(fault)) => fmt_message(f, *number, fault.name()),
             Refusal::Line(number) => fmt_number(f, "refused line ", *number),
+            Refusal::Entry(number, fault) => fmt_entry(f, *number, *fault),
             Refusal::Move(place) => fmt_number(f, "refused move ", *place),
             Refusal::Record(fault) => write!(f, "refused record {}", fault.name()),
             Refusal::Port => f.write_str("refused port"),

@@ -3,7 +3,7 @@
 ghost use Rattle.std.specs.Prelude.{◌≡◌, ◌++◌, codes};
 ghost use Rattle.adjudicate_core.specs.declared.usage.Usage.TheVariants.{OutOfMemory};
 ghost use Rattle.adjudicate_core.specs.declared.usage.WordsFault.TheVariants.{OutOfMemory as NoRoom};
-ghost use Rattle.adjudicate_core.specs.Misuses.{name_of, range_of};
+ghost use Rattle.adjudicate_core.specs.Misuses.{instead_name, name_of, range_of};
 ghost use Rattle.adjudicate_core.specs.Usage.{usage_of};
 
 use clap::error::ErrorKind;
@@ -66,6 +66,24 @@ impl Wanted {
     }
 }
 
+/// An option that takes the place of others.
+#[derive(Clone, Copy)]
+pub enum Instead {
+    /// A list of games.
+    From,
+}
+
+impl Instead {
+    /// That another option isn't for this one, as it is printed after that option.
+    pub(crate) fn rest(self) -> &'static str
+        ensures { result.now ≡ codes ": not with --" ++ instead_name self }
+    {
+        match self {
+            Instead::From => ": not with --from",
+        }
+    }
+}
+
 /// A fault of the values of a command.
 #[derive(Clone, Copy)]
 pub enum ValueFault<'a> {
@@ -75,6 +93,8 @@ pub enum ValueFault<'a> {
     NoWord(&'a str),
     /// An option has a value that it doesn't take.
     Unfit(Wanted, &'a str),
+    /// An option is there beside another one that takes its place.
+    NotWith(Instead, &'a str),
 }
 
 /// A fault of the words of a command line.

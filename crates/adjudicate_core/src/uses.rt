@@ -31,6 +31,7 @@ const USAGE: &str = "usage: adjudicate judge [--tables DIR] [--manifest FILE] FE
        adjudicate send --name N --start FEN --tables DIR [--manifest FILE] [--delay N] --bind ADDR --to ADDR[,ADDR]
                        [--wait MS] [--tries N] [--key FILE]
        adjudicate enter --name N --start FEN --tables DIR [--manifest FILE] [--delay N] --games DIR
+       adjudicate enter --from FILE --tables DIR [--manifest FILE] --games DIR
        adjudicate host --games DIR --tables DIR [--manifest FILE] --me M --bind ADDR --to ADDR[,ADDR]
                        [--at-once N] [--cache N] [--datagrams N] [--key FILE]
        adjudicate version
@@ -237,6 +238,9 @@ fn tell_fault<E: Output>(errors: &mut E, fault: &ValueFault<'_>)
         ValueFault::NoWord(name) => tell_line(errors, "", name.as_bytes(), " is missing"),
         ValueFault::Unfit(wanted, text) => {
             tell_line(errors, wanted.front(), text.as_bytes(), wanted.rest())
+        }
+        ValueFault::NotWith(instead, name) => {
+            tell_line(errors, "--", name.as_bytes(), instead.rest())
         }
     }
 }

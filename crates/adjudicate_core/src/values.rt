@@ -1,16 +1,16 @@
 //! The values of a command, taken from its words, or the fault of one.
 
-ghost use Rattle.std.specs.Prelude.{◌≡◌, IfOk, IfErr, Some, codes};
+ghost use Rattle.std.specs.Prelude.{◌≡◌, IfOk, IfErr, OnOk, None, Some, codes};
 ghost use Rattle.clap.specs.Words.{first_value, found_of};
 ghost use Rattle.move_msg.specs.Stamps.{IsGameName};
 ghost use Rattle.adjudicate_core.specs.Addresses.{AreAddresses};
-ghost use Rattle.adjudicate_core.specs.Misuses.{AreGameWords, AreWell, IsFirst, IsTold, NoOption, NoWord, Unfit, fault_words, game_faults, me_faults, name_faults, to_faults};
+ghost use Rattle.adjudicate_core.specs.Misuses.{AreGameWords, AreWell, IsFirst, IsTold, NoOption, NoWord, NotWith, Unfit, fault_words, game_faults, me_faults, name_faults, to_faults};
 ghost use Rattle.adjudicate_core.specs.Numbers.{IsAtOnce, IsCache, IsDatagrams, IsDelay, IsHundredOr, IsMe};
 
 use crate::addresses::are_addresses;
 use crate::game_name::GameName;
 use crate::numbers::{CacheSize, Delay, at_once_of, datagrams_of, hundred_or, me_of};
-use crate::usage::{ValueFault, Wanted};
+use crate::usage::{Instead, ValueFault, Wanted};
 use clap::ArgMatches;
 use move_msg::Who;
 use std::num::NonZeroUsize;
@@ -43,6 +43,21 @@ pub(crate) fn word_in<'a>(
     }
 }
 
+/// That an option isn't there, since another one takes its place.
+pub(crate) fn without<'a>(
+    matches: &ArgMatches<'a>,
+    name: &'static str,
+    instead: Instead,
+) -> Result<(), ValueFault<'a>>
+    ensures ok { OnOk result (first_value (found_of matches.now) name.now ≡ None) }
+    ensures err { IfErr result (λ fault. IsTold (first_value (found_of matches.now)) (NotWith instead name.now) (fault_words fault)) }
+{
+    match matches.get_str(name) {
+        None => Ok(()),
+        Some(_) => Err(ValueFault::NotWith(instead, name)),
+    }
+}
+
 /// The name of a game, of an option that has to be there.
 fn game_name_in<'a>(matches: &ArgMatches<'a>) -> Result<GameName<'a>, ValueFault<'a>>
     ensures ok { IfOk result (λ name. (Some name ≡ first_value (found_of matches.now) (codes "name")) × IsGameName name) }
@@ -50,7 +65,7 @@ fn game_name_in<'a>(matches: &ArgMatches<'a>) -> Result<GameName<'a>, ValueFault
     ensures err { IfErr result (λ fault. IsFirst (first_value (found_of matches.now)) name_faults (fault_words fault)) }
 {
     let text = option_in(matches, "name")?;
-    match GameName::of(text) {
+    match GameName::of(text.as_bytes()) {
         Some(name) => Ok(name),
         None => Err(ValueFault::Unfit(Wanted::GameName, text)),
     }

@@ -1,13 +1,35 @@
--- A game's file by what was found in it; cited by private functions alone.
-use Rattle.std.specs.Prelude.{◌≡◌, ◌≢◌, ℕ, List, Option, Some, Result}
-use Rattle.system_io.specs.declared.output.WriteFault.{WriteFault}
+-- A game's file by what was found in it, and what comes of the next line of a list; cited by private functions alone.
+use Rattle.std.specs.Prelude.{◌≡◌, ◌≢◌, ℕ, List, Option, Some}
+use Rattle.std.specs.Io.KnownBytes.{Appends}
+use Rattle.move_msg.specs.TextLines.{ended}
+use Rattle.system_io.specs.Hosts.{HostFacts}
+use Rattle.system_io.specs.Ports.{PortFacts}
 use Rattle.system_io.specs.KeptFiles.{FindsOldOrNew, KeptFacts}
-use Rattle.arbiter_server.specs.ServedLines.{refused_keeper}
-use Rattle.adjudicate_core.specs.Enters.{TellsStamp}
-use Rattle.adjudicate_core.specs.Telling.{TellsIf}
+use Rattle.line_teller.specs.ToldLines.{WritesTold, refused_memory}
+use Rattle.adjudicate_core.specs.declared.entering.GamePlace.{GamePlace}
+use Rattle.adjudicate_core.specs.declared.entering.KeepFault.{KeepFault}
+use Rattle.adjudicate_core.specs.declared.entering.KeepFault.TheVariants as keep
+use Rattle.adjudicate_core.specs.declared.entering.Step.{Step}
+use Rattle.adjudicate_core.specs.declared.entering.Step.TheVariants as step
+use Rattle.adjudicate_core.specs.Enters.{EntersLine, LacksGame, Place, place}
+use Rattle.adjudicate_core.specs.Listens.{hosted}
 
--- it has the text, and is left; or the text takes its place; or that fails
-pub data KeepsFound {F : Type 0} (facts : F → KeptFacts) (file file' : F) (found : Option (List ℕ)) (text stamp : List ℕ) (old new : Option (List ℕ)) (r : Result ℕ WriteFault) : Type 0 where
-  Same : found ≡ Some text → file' ≡ file → TellsStamp stamp old new r → KeepsFound facts file file' found text stamp old new r
-  Replaced : found ≢ Some text → (facts file').finds (Some text) (Some text) → TellsStamp stamp old new r → KeepsFound facts file file' found text stamp old new r
-  Unreplaced : found ≢ Some text → FindsOldOrNew (facts file') found text → TellsIf refused_keeper old new r → KeepsFound facts file file' found text stamp old new r
+-- the place where games are entered
+abbrev pub place_of : {H P F : Type 0} → (H → HostFacts P F) → (P → PortFacts) → (F → KeptFacts) → GamePlace H → Place P F
+place_of host port file p = place (hosted (host p.host.now) port file) p.games.now p.manifest.now
+
+-- a file has the text, and is left; or the text takes its place
+pub data HasOver {F : Type 0} (facts : F → KeptFacts) (file file' : F) (found : Option (List ℕ)) (text : List ℕ) : Type 0 where
+  Same : found ≡ Some text → file' ≡ file → HasOver facts file file' found text
+  Replaced : found ≢ Some text → (facts file').finds (Some text) (Some text) → HasOver facts file file' found text
+
+-- that fails
+pub record LacksOver {F : Type 0} (facts : F → KeptFacts) (file' : F) (found : Option (List ℕ)) (text : List ℕ) (fault : KeepFault) : Type 0 where
+  pub other : found ≢ Some text
+  pub either : FindsOldOrNew (facts file') found text
+  pub is : fault ≡ keep.Keeper
+
+-- what came of the line with this number is told, and whether its game is entered; or memory was refused for it
+abbrev pub EntersNext : {P F : Type 0} → Place P F → ℕ → List ℕ → Option (List ℕ) → Option (List ℕ) → Step → Type 0
+EntersNext p number line old new (step.Told done) = WritesTold (EntersLine p number line) old new done
+EntersNext p number line old new step.Cut = LacksGame p line keep.OutOfMemory × Appends old new (ended refused_memory)

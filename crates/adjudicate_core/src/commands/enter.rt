@@ -1,38 +1,63 @@
-//! `enter`: a game of a folder; these are its words, and `entering` writes its file.
+//! `enter`: games of a folder; these are its words, and `entering` writes their files.
+
+ghost use Rattle.std.specs.Prelude.{◌≡◌, IfOk, IfErr, OnOk, None, Some, codes};
+ghost use Rattle.clap.specs.Words.{found_of, first_value};
+ghost use Rattle.adjudicate_core.specs.Misuses.{AreWell, IsFirst, fault_words};
+ghost use Rattle.adjudicate_core.specs.Commands.Enter.{HasValues, LacksGameWords, list_faults, one_faults, without_faults};
 
 use super::{Form, Value};
 use crate::game_name::GameName;
 use crate::numbers::Delay;
-use crate::usage::ValueFault;
-use crate::values::{delay_in, game_words_in, option_in};
+use crate::usage::{Instead, ValueFault};
+use crate::values::{delay_in, game_words_in, option_in, without};
 use clap::ArgMatches;
 use task_files::Places;
 
-/// A game that is entered in a folder.
+/// Games that are entered in a folder.
 #[derive(Drop)]
 pub struct Enter<'a> {
-    /// The name of the game.
-    pub name: GameName<'a>,
-    /// The FEN text of its start.
-    pub start: &'a str,
+    /// The games.
+    pub entries: Entries<'a>,
     /// The folder of the tables.
     pub tables: &'a str,
     /// The file of their manifest, if one is named; then no table is read.
     pub manifest: Option<&'a str>,
-    /// For how many further plies a verdict by tables must hold.
-    pub delay: Delay,
     /// The folder of games.
     pub games: &'a str,
 }
 
+/// Which games are entered.
+#[derive(Drop)]
+pub enum Entries<'a> {
+    /// That of the words.
+    One(OneGame<'a>),
+    /// Those of the file at this path, a line each, or of the input where the path is `-`.
+    From(&'a str),
+}
+
+/// A game that the words tell.
+#[derive(Drop)]
+pub struct OneGame<'a> {
+    /// The name of the game.
+    pub name: GameName<'a>,
+    /// The FEN text of its start.
+    pub start: &'a str,
+    /// For how many further plies a verdict by tables must hold.
+    pub delay: Delay,
+}
+
 /// The values of `enter`.
-pub(crate) const VALUES: [Value; 6] = [
+pub(crate) const VALUES: [Value; 7] = [
     Value {
         name: "name",
         form: Form::Option,
     },
     Value {
         name: "start",
+        form: Form::Option,
+    },
+    Value {
+        name: "from",
         form: Form::Option,
     },
     Value {
@@ -53,6 +78,51 @@ pub(crate) const VALUES: [Value; 6] = [
     },
 ];
 
+/// The task for one game.
+fn one_in<'a>(matches: &ArgMatches<'a>) -> Result<Enter<'a>, ValueFault<'a>>
+    requires { first_value (found_of matches.now) (codes "from") ≡ None }
+    ensures ok { IfOk result (HasValues (first_value (found_of matches.now))) }
+    ensures err { IfErr result (λ fault. IsFirst (first_value (found_of matches.now)) one_faults (fault_words fault)) }
+{
+    let game = game_words_in(matches)?;
+    Ok(Enter {
+        entries: Entries::One(OneGame {
+            name: game.name,
+            start: game.start,
+            delay: delay_in(matches)?,
+        }),
+        tables: game.tables,
+        manifest: matches.get_str("manifest"),
+        games: option_in(matches, "games")?,
+    })
+}
+
+/// That the words tell no game beside a list.
+fn no_game_in<'a>(matches: &ArgMatches<'a>) -> Result<(), ValueFault<'a>>
+    ensures ok { OnOk result (LacksGameWords (first_value (found_of matches.now))) }
+    ensures well { OnOk result (AreWell (first_value (found_of matches.now)) without_faults) }
+    ensures err { IfErr result (λ fault. IsFirst (first_value (found_of matches.now)) without_faults (fault_words fault)) }
+{
+    without(matches, "name", Instead::From)?;
+    without(matches, "start", Instead::From)?;
+    without(matches, "delay", Instead::From)
+}
+
+/// The task for the games of a list.
+fn list_in<'a>(matches: &ArgMatches<'a>, path: &'a str) -> Result<Enter<'a>, ValueFault<'a>>
+    requires { first_value (found_of matches.now) (codes "from") ≡ Some path.now }
+    ensures ok { IfOk result (HasValues (first_value (found_of matches.now))) }
+    ensures err { IfErr result (λ fault. IsFirst (first_value (found_of matches.now)) list_faults (fault_words fault)) }
+{
+    no_game_in(matches)?;
+    Ok(Enter {
+        entries: Entries::From(path),
+        tables: option_in(matches, "tables")?,
+        manifest: matches.get_str("manifest"),
+        games: option_in(matches, "games")?,
+    })
+}
+
 impl<'a> Enter<'a> {
     ghost use Rattle.std.specs.Prelude.{◌≡◌, IfOk, IfErr};
     ghost use Rattle.clap.specs.Words.{found_of, first_value};
@@ -63,20 +133,15 @@ impl<'a> Enter<'a> {
     /// The task with these values, or the first thing that is wrong with them.
     pub(crate) fn of(matches: &ArgMatches<'a>) -> Result<Enter<'a>, ValueFault<'a>>
         ensures ok { IfOk result (HasValues (first_value (found_of matches.now))) }
-        ensures err { IfErr result (λ fault. IsFirst (first_value (found_of matches.now)) faults (fault_words fault)) }
+        ensures err { IfErr result (λ fault. IsFirst (first_value (found_of matches.now)) (faults (first_value (found_of matches.now))) (fault_words fault)) }
     {
-        let game = game_words_in(matches)?;
-        Ok(Enter {
-            name: game.name,
-            start: game.start,
-            tables: game.tables,
-            manifest: matches.get_str("manifest"),
-            delay: delay_in(matches)?,
-            games: option_in(matches, "games")?,
-        })
+        match matches.get_str("from") {
+            None => one_in(matches),
+            Some(path) => list_in(matches, path),
+        }
     }
 
-    /// What is read for it before it answers: nothing, since it reads its tables or its manifest itself.
+    /// What is read for it before it answers: nothing, since it reads its list and its tables or its manifest itself.
     pub(crate) fn places(&self) -> Places<'a>
         ensures { named_by result ≡ named }
     {

@@ -1,15 +1,8 @@
-use Rattle.std.proofs.Common.{inl, inr}
-use Rattle.adjudicate_core.specs.Reply.{IsText}
-use Rattle.adjudicate_core.specs.Enters.{BadStart, NoManifest, NoRoom}
+use Rattle.adjudicate_core.specs.Enters.{OfList}
 use Rattle.adjudicate_core.proofs.entering.enter.Goals as goal
 
-pub returns-in-Err : goal.returns-in-Err
-returns-in-Err g c = BadStart c.in-Err.fault (rw c.as_bytes.ensures.value at c.in-Err.ensures.err) c.put_refusal.ensures
+pub returns-in-One : goal.returns-in-One
+returns-in-One g c = rw c.in-One.is c.enter_one.ensures
 
-pub returns-in-Err-manifest_for : goal.returns-in-Err-manifest_for
-returns-in-Err-manifest_for g c =
-    let text : IsText c.args.task.now.start.now = (c.in-Ok.start, rw c.as_bytes.ensures.value at c.in-Ok.ensures.ok, c.in-Ok.ensures.position) in
-    elim c.in-Err-manifest_for.ensures.err [ inl memory ↦ NoRoom text (rw memory at c.put_refusal-in-Err-manifest_for.ensures) | inr lacks ↦ NoManifest text _ lacks c.put_refusal-in-Err-manifest_for.ensures ]
-
-pub enter_by-requires-clause-manifest : goal.enter_by-requires-clause-manifest
-enter_by-requires-clause-manifest g c = rw c.deref.ensures.value c.in-Ok-manifest_for.ensures.ok
+pub returns-in-Ok : goal.returns-in-Ok
+returns-in-Ok g c = rw c.in-From.is (OfList _ c.in-Ok.ensures.ok (rw c.deref.ensures.value at c.enter_list.ensures))

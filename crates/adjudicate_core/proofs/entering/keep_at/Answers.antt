@@ -1,8 +1,13 @@
-use Rattle.adjudicate_core.specs.Enters.{AtFile, NoRoomForFile}
+use Rattle.std.proofs.Common.{refl}
+use Rattle.adjudicate_core.specs.Enters.{NoRoomForFile}
+use Rattle.adjudicate_core.proofs.EnterLaws.{kept_at, unkept_at}
 use Rattle.adjudicate_core.proofs.entering.keep_at.Goals as goal
 
-pub returns-in-Ok : goal.returns-in-Ok
-returns-in-Ok g c = AtFile _ _ c.in-Ok.ensures.at c.keep_game.ensures
+pub returns-in-Ok-clause-ok : goal.returns-in-Ok-clause-ok
+returns-in-Ok-clause-ok g c = kept_at _ _ _ _ _ _ c.in-Ok.ensures.at c.keep_game.ensures.ok
 
-pub returns-in-Err : goal.returns-in-Err
-returns-in-Err g c = NoRoomForFile c.in-Err.ensures.memory c.put_refusal.ensures
+pub returns-in-Ok-clause-err : goal.returns-in-Ok-clause-err
+returns-in-Ok-clause-err g c = unkept_at _ _ _ _ _ _ c.in-Ok.ensures.at c.keep_game.ensures.err
+
+pub returns-in-Err-clause-err : goal.returns-in-Err-clause-err
+returns-in-Err-clause-err g c = NoRoomForFile c.in-Err.ensures.memory refl

@@ -1,0 +1,20 @@
+use Rattle.std.proofs.Common.{refl}
+use Rattle.adjudicate_core.specs.Enters.{NoRoomForPath, NoText}
+use Rattle.adjudicate_core.proofs.entering.enter_game.Goals as goal
+
+pub returns-in_default-clause-err : goal.returns-in_default-clause-err
+returns-in_default-clause-err g c = NoRoomForPath refl
+
+pub returns-in-Ok-keep_at-clause-ok : goal.returns-in-Ok-keep_at-clause-ok
+returns-in-Ok-keep_at-clause-ok g c =
+    let stamp = rw c.plies.ensures.value at c.stamp-stamp.ensures in
+    let spells = rw c.plies-2.ensures.value at (rw c.as_bytes.ensures.bytes at c.write_game-text.ensures.spells) in
+    let has = rw c.in-Ok.ensures at (rw c.as_str.ensures.value at (rw c.as_slice.ensures.value at c.in-Ok-keep_at.ensures.ok)) in
+    record { is = stamp; text = c.write_game-text.result.items; spells = spells; has = has }
+
+pub returns-clause-err : goal.returns-clause-err
+returns-clause-err g c =
+    let spells = rw c.plies-2.ensures.value at (rw c.as_bytes.ensures.bytes at c.write_game-text.ensures.spells) in
+    let stamp = rw c.plies.ensures.value at c.stamp-stamp.ensures in
+    let lacks = rw stamp at (rw c.in-Ok.ensures at (rw c.as_str.ensures.value at (rw c.as_slice.ensures.value at c.in-Err.ensures.err))) in
+    NoText c.write_game-text.result.items spells lacks

@@ -1,0 +1,19 @@
+use Rattle.std.proofs.Common.{arith, refl}
+use Rattle.adjudicate_core.proofs.EnterLaws.{entered_all, entered_cut, entered_more, entered_none}
+use Rattle.adjudicate_core.proofs.entering.enter_lines.Goals as goal
+
+pub loop-line-init : goal.loop-line-init
+loop-line-init g c = entered_none _ _ _
+
+pub loop-line-preserved : goal.loop-line-preserved
+loop-line-preserved g c =
+    let one = rw c.in-Ok-Told.field-0-is at c.in-Ok-Told.ensures in
+    entered_more _ _ _ _ _ _ _ _ _ _ _ _ c.loop-line.invariant c.in-Some.ensures.some c.in-Some.ensures.shorter one refl
+
+pub returns-in-Ok-Cut : goal.returns-in-Ok-Cut
+returns-in-Ok-Cut g c =
+    let one = rw c.in-Ok-Cut.field-0-is at c.in-Ok-Cut.ensures in
+    entered_cut _ _ _ _ _ _ _ _ _ _ c.loop-line.invariant c.in-Some.ensures.some one.0 one.1
+
+pub returns : goal.returns
+returns g c = entered_all _ _ _ _ _ _ _ _ c.loop-line.invariant c.in_default.ensures.none c.status_if.ensures

@@ -1,0 +1,118 @@
+//! The lines of a list of games, a line a game.
+
+ghost use Rattle.std.specs.Prelude.{◌≡◌, ◌≢◌, ◌<◌, [], ◌∷◌, length, IfErr, IfOk, IfNone, IfSome};
+ghost use Rattle.fen_text.specs.Cuts.{cut_at};
+ghost use Rattle.move_msg.specs.TextLines.{lines_in};
+ghost use Rattle.arbiter_server.specs.GameFiles.{told};
+ghost use Rattle.adjudicate_core.specs.Entries.{HasFields, IsFirstEntryFault, SpellsEntry};
+
+use crate::game_name::GameName;
+use crate::numbers::Delay;
+use board_core::Position;
+use fen_text::{FenFault, cut_first, read};
+use std::fmt;
+
+/// Why the game of a line isn't entered.
+#[derive(Clone, Copy)]
+pub(crate) enum EntryFault {
+    /// The line isn't three fields, parted by tabs.
+    Fields,
+    /// No game may have the name.
+    Name,
+    /// The start is no position.
+    Start(FenFault),
+    /// The delay isn't a digit from 0 to 8.
+    Delay,
+    /// The file of the game can't be read or written.
+    Keeper,
+}
+
+impl fmt::Display for EntryFault {
+    ghost use Rattle.std.specs.Prelude.{Some};
+    ghost use Rattle.adjudicate_core.specs.Lines.{entry_fault_words};
+
+    ghost output = { λ fault. Some (entry_fault_words fault) };
+
+    fn fmt<W: fmt::Write>(&self, f: &mut fmt::Formatter<W>) -> fmt::Result {
+        match self {
+            EntryFault::Fields => f.write_str("fields"),
+            EntryFault::Name => f.write_str("name"),
+            EntryFault::Start(FenFault::BadPosition(fault)) => {
+                write!(f, "BadPosition {}", fault.name())
+            }
+            EntryFault::Start(fault) => f.write_str(fault.name()),
+            EntryFault::Delay => f.write_str("delay"),
+            EntryFault::Keeper => f.write_str("keeper"),
+        }
+    }
+}
+
+/// A game that a line tells.
+#[derive(Drop)]
+pub(crate) struct LineGame<'a> {
+    /// Its name.
+    pub(crate) name: GameName<'a>,
+    /// The position before the first move.
+    pub(crate) start: Position,
+    /// For how many further plies a verdict by tables must hold.
+    pub(crate) delay: Delay,
+}
+
+/// The three fields of a line.
+#[derive(Clone, Copy)]
+struct Fields<'a> {
+    name: &'a [u8],
+    start: &'a [u8],
+    delay: &'a [u8],
+}
+
+/// The first line of a text, whose line feed may be missing, and the text after it; none where the text is empty.
+pub(crate) fn first_line(text: &[u8]) -> Option<(&[u8], &[u8])>
+    ensures some { IfSome result (λ x. lines_in text.now ≡ x.0.now ∷ lines_in x.1.now) }
+    ensures shorter { IfSome result (λ x. length x.1.now < length text.now) }
+    ensures none { IfNone result (lines_in text.now ≡ []) }
+{
+    if text.is_empty() {
+        return None;
+    }
+    match cut_first(text, b'\n') {
+        Some((line, rest)) => Some((line, rest)),
+        None => Some((text, &[])),
+    }
+}
+
+/// The fields of a line, where there are three.
+fn fields_of(line: &[u8]) -> Option<Fields<'_>>
+    ensures some { IfSome result (λ f. HasFields line.now f.name.now f.start.now f.delay.now) }
+    ensures none { IfNone result (length (cut_at 9 line.now) ≢ 3) }
+{
+    let (name, rest) = cut_first(line, b'\t')?;
+    let (start, delay) = cut_first(rest, b'\t')?;
+    match cut_first(delay, b'\t') {
+        None => Some(Fields { name, start, delay }),
+        Some(_) => None,
+    }
+}
+
+/// The game that a line tells, or the first thing that is wrong with it. It takes no memory.
+///
+/// The line is the name of the game, the FEN text of its start and its delay, a digit from 0 to 8, with a tab between two of them.
+pub(crate) fn read_entry(line: &[u8]) -> Result<LineGame<'_>, EntryFault>
+    ensures ok { IfOk result (λ g. SpellsEntry line.entry.now (told g.name g.start g.delay)) }
+    ensures err { IfErr result (IsFirstEntryFault line.entry.now) }
+{
+    let Some(fields) = fields_of(line) else {
+        return Err(EntryFault::Fields);
+    };
+    let Some(name) = GameName::of(fields.name) else {
+        return Err(EntryFault::Name);
+    };
+    let start = match read(fields.start) {
+        Ok(start) => start,
+        Err(fault) => return Err(EntryFault::Start(fault)),
+    };
+    let Some(delay) = Delay::of_digit(fields.delay) else {
+        return Err(EntryFault::Delay);
+    };
+    Ok(LineGame { name, start, delay })
+}
