@@ -22,7 +22,7 @@ pub enum Wanted {
     Datagrams,
     /// Which of the two arbiters it is.
     Me,
-    /// How many milliseconds a datagram is awaited.
+    /// How many milliseconds the first try of a move lasts.
     Wait,
     /// How often a move is sent.
     Tries,

@@ -26,6 +26,7 @@ abbrev pub end_words : End → List ℕ
 end_words (at_end.Open count) = codes "open " ++ decimal count
 end_words (at_end.Ruled r) = codes "verdict " ++ ruling_words r
 end_words (at_end.Clashed c) = clash_words c
+end_words (at_end.Belied r) = codes "disagree " ++ ruling_words r
 end_words (at_end.NotAMove number) = codes "refused move " ++ decimal number
 end_words (at_end.Illegal number) = codes "illegal " ++ decimal number
 end_words at_end.TooLong = codes "refused TooLong"
@@ -43,6 +44,7 @@ abbrev pub status_by : End → ℕ
 status_by (at_end.Open count) = 0
 status_by (at_end.Ruled r) = 0
 status_by (at_end.Clashed c) = 1
+status_by (at_end.Belied r) = 1
 status_by (at_end.NotAMove number) = 1
 status_by (at_end.Illegal number) = 1
 status_by at_end.TooLong = 1

@@ -21,6 +21,8 @@ pub enum End {
     Ruled(Ruling),
     /// Two verdicts were reported that differ.
     Clashed(Clash),
+    /// This verdict was reported, and the source's own board doesn't show it.
+    Belied(Ruling),
     /// The line at this place, counted from 0, is no move.
     NotAMove(u32),
     /// The move at this place isn't legal.
@@ -93,6 +95,7 @@ impl fmt::Display for End {
             End::Open(count) => write!(f, "open {count}"),
             End::Ruled(ruling) => write!(f, "verdict {ruling}"),
             End::Clashed(clash) => fmt_clash(f, clash),
+            End::Belied(ruling) => write!(f, "disagree {ruling}"),
             End::NotAMove(number) => write!(f, "refused move {number}"),
             End::Illegal(number) => write!(f, "illegal {number}"),
             End::TooLong => f.write_str("refused TooLong"),

@@ -31,7 +31,7 @@ pub struct Send<'a> {
     pub bind: &'a str,
     /// The addresses to which moves are sent, separated by commas.
     pub to: &'a str,
-    /// How many milliseconds a datagram is awaited.
+    /// How many milliseconds the first try of a move lasts.
     pub wait: u16,
     /// How often a move is sent at most.
     pub tries: u16,
