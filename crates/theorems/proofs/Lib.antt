@@ -4,3 +4,4 @@ pub mod Weaving
 pub mod Stopping
 pub mod Joining
 pub mod Acking
+pub mod Filing

@@ -2,3 +2,4 @@ pub mod Nets
 pub mod Weaves
 pub mod Sources
 pub mod Seals
+pub mod HostFiles

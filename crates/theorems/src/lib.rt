@@ -30,11 +30,13 @@
 #![tactic(auto)]
 
 mod arbiters;
+mod host_files;
 mod hosts;
 mod seals;
 mod sources;
 
 pub use arbiters::arbiters_are_worlds;
+pub use host_files::host_keeps_what_it_told;
 pub use hosts::{acks_are_found, hosts_are_worlds};
 pub use seals::no_tag_no_forgery;
 pub use sources::{sends_the_log, sources_tell_the_truth};
