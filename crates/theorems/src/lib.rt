@@ -12,15 +12,18 @@
 //! without a keeper leave what is found (`GivesOwn`, `GivesIf`).
 //!
 //! In `proofs/`: `Netting` (arbiters), `Seeing` (keepers of any type, seen as what they keep), `Weaving` (an act of a host as
-//! steps of an arbiter), `Stopping`, `Joining`, `Acking`.
+//! steps of an arbiter), `Stopping`, `Joining`, `Acking`, `Filing` (a host's runs as runs over a file).
 //!
-//! Definitions, in reading order: `Nets`, `Weaves`, `Sources`, `Seals`.
+//! Definitions, in reading order: `Nets`, `Weaves`, `HostFiles`, `Sources`, `Seals`.
 //!
 //! - CLAIM: `arbiters_are_worlds`: two arbiters of one game over keepers of any one type, by steps as the contracts of `open` and
 //!   `deliver` have them, come to a world, which is faithful to the game.
 //! - CLAIM: `hosts_are_worlds`: two hosts that have one game, each with any number of runs, their acts in any order and those of
 //!   other games among them, come to a world. While the game is open, its arbiter runs and its keeper keeps what is found there.
 //! - CLAIM: `acks_are_found`: as many moves as a host ever acknowledged are found there, then and later: the game's first ones.
+//! - CLAIM: `host_keeps_what_it_told`: what a host told of a game is found at each later start over the file of its record: as many
+//!   moves as it acknowledged, the same ones, and a verdict at its ply. This holds over any files, after any runs, wherever each
+//!   stopped.
 //! - CLAIM: `sends_the_log`: each datagram that a run of `send` passes on is a message of the log with which the worlds of its
 //!   moves begin.
 //! - CLAIM: `sources_tell_the_truth`: what a source goes by is true, where all that came of the game was sent in a world of it: a
