@@ -18,7 +18,7 @@ use Rattle.arbiter_server.specs.Lives as lives
 use Rattle.arbiter_server.specs.Lives.{Answered, Early, IsCutAtPut, IsStillThere, KeepsWhatItTold, PastRun, Refused, RunsOver}
 use Rattle.arbiter_server.specs.Serving.{InTurn}
 use Rattle.arbiter_server.specs.StoredBytes.{StartsOver, file_of, keeper_over, stored}
-use Rattle.theorems.specs.HostFiles.{AtFirst, AtPut, AtStart, Between, HostKeepsWhatItTold, HostRun, IfAnswers, IsOf, Leaves, OfEachAnswer, RanOver, RunsInTurn, Stops}
+use Rattle.theorems.specs.HostFiles.{AtFirst, AtPut, AtStart, Between, HostKeepsWhatItTold, HostRun, IfAnswers, IsOfSetup, Leaves, OfEachAnswer, HostRanOver, HostRunsInTurn, StopsOver}
 
 -- ---- lists
 
@@ -120,7 +120,7 @@ module _ {F : Type 0} (facts : F → KeptFacts) (Starts : F → FileKeeper F →
 
   -- ---- the end
 
-  ends : (first file left : F) (life : Life (FileKeeper F)) (es : List (Exchange (FileKeeper F))) → Standing first file life es → Stops facts Starts life file left → Past first left es []
+  ends : (first file left : F) (life : Life (FileKeeper F)) (es : List (Exchange (FileKeeper F))) → Standing first file life es → StopsOver facts Starts life file left → Past first left es []
   ends first file left life es (Idle closed is none) (Between same) = record { runs = []; in_turn = same ∙ is; covers = λ h. (none_before es none, tt) }
   ends first file left life es (Idle closed is none) (AtPut at opened cut) = absurd (open_not_closed life at opened closed)
   ends first file left life es (Idle closed is none) (AtStart closed' start over same) =
@@ -140,10 +140,10 @@ module _ {P F : Type 0} (disk : DiskFacts) (host : HostFacts P F) (facts : F →
   answered_more : (start : FileKeeper F) (es : List (Exchange (FileKeeper F))) (at : Moment (FileKeeper F)) (e : Exchange (FileKeeper F)) → Answered facts setup start es at → Delivers (keeper_over facts) at e → Answered facts setup start (es ++ e ∷ []) e.after
   answered_more start es at e a d = record { opened = a.opened; is_opened = a.is_opened; in_turn = turn_snoc facts Starts setup Q a.opened at es e a.in_turn d }
 
-  walk : (t : CommonView) (acts : List (Act (FileKeeper F))) (first file mid left : F) (life life' : Life (FileKeeper F)) (es : List (Exchange (FileKeeper F))) → Standing facts Starts setup Q first file life es → Goes (disk_keepers disk host facts folder) t stamp life acts life' → AllByRecursion (IsOf setup) acts → Leaves Starts file acts mid → Stops facts Starts life' mid left → Past facts Starts setup Q first left es acts
+  walk : (t : CommonView) (acts : List (Act (FileKeeper F))) (first file mid left : F) (life life' : Life (FileKeeper F)) (es : List (Exchange (FileKeeper F))) → Standing facts Starts setup Q first file life es → Goes (disk_keepers disk host facts folder) t stamp life acts life' → AllByRecursion (IsOfSetup setup) acts → Leaves Starts file acts mid → StopsOver facts Starts life' mid left → Past facts Starts setup Q first left es acts
   walk t [] first file mid left life life' es st goes one leaves stops =
       ends facts Starts setup Q first file left life es st
-      (subst (λ (f : F). Stops facts Starts life f left) leaves (subst (λ (l : Life (FileKeeper F)). Stops facts Starts l mid left) goes stops))
+      (subst (λ (f : F). StopsOver facts Starts life f left) leaves (subst (λ (l : Life (FileKeeper F)). StopsOver facts Starts l mid left) goes stops))
   walk t (Unread datagram fault ∷ acts) first file mid left life life' es st goes one leaves stops = absurd goes.1
   walk t (Strange of datagram why ∷ acts) first file mid left life life' es st goes one leaves stops =
       one_more facts Starts setup Q first left es (Strange of datagram why) acts tt
@@ -213,11 +213,11 @@ module _ {P F : Type 0} (disk : DiskFacts) (host : HostFacts P F) (facts : F →
     in_turn : PastInTurn facts Starts setup Q first past last
     covers : AllPast facts Starts setup Q past → OfEachAnswer Q runs
 
-  all_runs : (first last : F) (runs : List (HostRun F)) → RunsInTurn facts Starts (disk_keepers disk host facts folder) stamp setup first runs last → PastRuns first last runs
+  all_runs : (first last : F) (runs : List (HostRun F)) → HostRunsInTurn facts Starts (disk_keepers disk host facts folder) stamp setup first runs last → PastRuns first last runs
   all_runs first last [] h = record { past = []; in_turn = h; covers = λ _. tt }
   all_runs first last (r ∷ rs) h = and_one first last r rs h.0 (all_runs r.left last rs h.1)
     where
-      and_one : (first last : F) (r : HostRun F) (rs : List (HostRun F)) → RanOver facts Starts (disk_keepers disk host facts folder) stamp setup first r → PastRuns r.left last rs → PastRuns first last (r ∷ rs)
+      and_one : (first last : F) (r : HostRun F) (rs : List (HostRun F)) → HostRanOver facts Starts (disk_keepers disk host facts folder) stamp setup first r → PastRuns r.left last rs → PastRuns first last (r ∷ rs)
       and_one first last r rs ran ps = record {
         past = p.runs ++ ps.past;
         in_turn = past_joins facts Starts setup Q first r.left last p.runs ps.past p.in_turn ps.in_turn;

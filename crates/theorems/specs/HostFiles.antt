@@ -2,7 +2,7 @@
 --
 -- Of each run the contract of `Server::serve` gives the acts of the game (`Goes` of arbiter_server). What stands here is what the file
 -- and the outside give: each opening starts over the file that the game's last act left (`Leaves`), the process may stop between two
--- calls or within a put (`Stops`), and the game found under the stamp is one (`IsOf`).
+-- calls or within a put (`StopsOver`), and the game found under the stamp is one (`IsOfSetup`).
 use Rattle.std.specs.Prelude.{◌≡◌, ℕ, List, [], ◌∷◌, None}
 use Rattle.std.specs.List.{AllByRecursion}
 use Rattle.arbiter_core.specs.Delivers.{Exchange, Moment}
@@ -34,37 +34,37 @@ Leaves Starts file (Closes stamp left ∷ acts) last = Leaves Starts (file_of le
 
 -- where a run stopped, and the file that it left: between two calls; while the game's arbiter put the record that it was to answer
 -- with; when a keeper had started over the file; or while the first record of the game was put over nothing
-pub data Stops {F : Type 0} (facts : F → KeptFacts) (Starts : F → FileKeeper F → Type 0) (life : Life (FileKeeper F)) (file left : F) : Type 0 where
-  Between : left ≡ file → Stops facts Starts life file left
-  AtPut : (at : Moment (FileKeeper F)) → life ≡ Open at → IsCutAtPut facts at left → Stops facts Starts life file left
-  AtStart : IsNotOpen life → (start : FileKeeper F) → Starts file start → left ≡ file_of start → Stops facts Starts life file left
-  AtFirst : IsNotOpen life → (start : FileKeeper F) → Starts file start → (sent : List ℕ) → stored start ≡ None → IsCutOff (facts (file_of start)) sent (facts left) → Stops facts Starts life file left
+pub data StopsOver {F : Type 0} (facts : F → KeptFacts) (Starts : F → FileKeeper F → Type 0) (life : Life (FileKeeper F)) (file left : F) : Type 0 where
+  Between : left ≡ file → StopsOver facts Starts life file left
+  AtPut : (at : Moment (FileKeeper F)) → life ≡ Open at → IsCutAtPut facts at left → StopsOver facts Starts life file left
+  AtStart : IsNotOpen life → (start : FileKeeper F) → Starts file start → left ≡ file_of start → StopsOver facts Starts life file left
+  AtFirst : IsNotOpen life → (start : FileKeeper F) → Starts file start → (sent : List ℕ) → stored start ≡ None → IsCutOff (facts (file_of start)) sent (facts left) → StopsOver facts Starts life file left
 
 -- ---- the runs
 
 -- an opening is of this setup
-abbrev pub IsOf : {F : Type 0} → SetupView → Act (FileKeeper F) → Type 0
-IsOf setup (Unread datagram fault) = Unit {0}
-IsOf setup (Strange stamp datagram why) = Unit {0}
-IsOf setup (Refuses stamp datagram o fault) = o.setup ≡ setup
-IsOf setup (Opens stamp o arbiter) = o.setup ≡ setup
-IsOf setup (Answers stamp e) = Unit {0}
-IsOf setup (Closes stamp left) = Unit {0}
+abbrev pub IsOfSetup : {F : Type 0} → SetupView → Act (FileKeeper F) → Type 0
+IsOfSetup setup (Unread datagram fault) = Unit {0}
+IsOfSetup setup (Strange stamp datagram why) = Unit {0}
+IsOfSetup setup (Refuses stamp datagram o fault) = o.setup ≡ setup
+IsOfSetup setup (Opens stamp o arbiter) = o.setup ≡ setup
+IsOfSetup setup (Answers stamp e) = Unit {0}
+IsOfSetup setup (Closes stamp left) = Unit {0}
 
 -- a run over this file: its acts are those of a host, or the first ones of a run that was stopped
-pub record RanOver {F : Type 0} (facts : F → KeptFacts) (Starts : F → FileKeeper F → Type 0) (s : Keepers (FileKeeper F)) (stamp : List ℕ) (setup : SetupView) (before : F) (r : HostRun F) : Type 0 where
+pub record HostRanOver {F : Type 0} (facts : F → KeptFacts) (Starts : F → FileKeeper F → Type 0) (s : Keepers (FileKeeper F)) (stamp : List ℕ) (setup : SetupView) (before : F) (r : HostRun F) : Type 0 where
   pub common : CommonView
   pub life : Life (FileKeeper F)
   pub goes : Goes s common stamp Fresh r.acts life
-  pub one : AllByRecursion (IsOf setup) r.acts
+  pub one : AllByRecursion (IsOfSetup setup) r.acts
   pub file : F
   pub leaves : Leaves Starts before r.acts file
-  pub stops : Stops facts Starts life file r.left
+  pub stops : StopsOver facts Starts life file r.left
 
 -- runs of a host, each over the file that the one before it left
-abbrev pub RunsInTurn : {F : Type 0} → (F → KeptFacts) → (F → FileKeeper F → Type 0) → Keepers (FileKeeper F) → List ℕ → SetupView → F → List (HostRun F) → F → Type 0
-RunsInTurn facts Starts s stamp setup first [] last = last ≡ first
-RunsInTurn facts Starts s stamp setup first (r ∷ rs) last = RanOver facts Starts s stamp setup first r × RunsInTurn facts Starts s stamp setup r.left rs last
+abbrev pub HostRunsInTurn : {F : Type 0} → (F → KeptFacts) → (F → FileKeeper F → Type 0) → Keepers (FileKeeper F) → List ℕ → SetupView → F → List (HostRun F) → F → Type 0
+HostRunsInTurn facts Starts s stamp setup first [] last = last ≡ first
+HostRunsInTurn facts Starts s stamp setup first (r ∷ rs) last = HostRanOver facts Starts s stamp setup first r × HostRunsInTurn facts Starts s stamp setup r.left rs last
 
 -- ---- what is still there
 
@@ -86,6 +86,6 @@ OfEachAnswer P = AllByRecursion (λ r. AllByRecursion (IfAnswers P) r.acts)
 abbrev pub HostKeepsWhatItTold : {F : Type 0} → (F → KeptFacts) → Keepers (FileKeeper F) → Type 0
 HostKeepsWhatItTold {F} facts s =
     (stamp : List ℕ) (setup : SetupView) (first last : F) (runs : List (HostRun F)) (start : FileKeeper F)
-    → RunsInTurn facts (StartsOver facts) s stamp setup first runs last
+    → HostRunsInTurn facts (StartsOver facts) s stamp setup first runs last
     → StartsOver facts last start
     → OfEachAnswer (IsStillThere start) runs
