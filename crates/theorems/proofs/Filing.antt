@@ -1,23 +1,21 @@
 -- A host's runs over the file of a game are runs over that file.
-use Rattle.std.proofs.Common.{◌≡◌, ◌∙◌, ℕ, Bool, true, false, cond, List, [], ◌∷◌, ◌++◌, Option, Some, None, refl, sym, ap, subst}
+use Rattle.std.proofs.Common.{◌≡◌, ◌∙◌, ℕ, Bool, true, false, cond, List, [], ◌∷◌, ◌++◌, refl, sym, ap, subst}
 use Rattle.std.specs.Prelude.{Ok, Err}
 use Rattle.std.specs.List.{AllByRecursion}
 use Rattle.system_io.specs.Disks.{DiskFacts}
 use Rattle.system_io.specs.Hosts.{HostFacts}
-use Rattle.system_io.specs.KeptFiles.{KeptFacts, IsCutOff}
-use Rattle.arbiter_core.specs.declared.fault.OpenFault.{OpenFault}
+use Rattle.system_io.specs.KeptFiles.{KeptFacts}
 use Rattle.arbiter_core.specs.Delivers.{Delivers, Exchange, Moment, moment}
 use Rattle.arbiter_core.specs.Opens.{IsOpening}
 use Rattle.arbiter_core.specs.Setups.{SetupView}
-use Rattle.arbiter_core.specs.Views.{View}
 use Rattle.arbiter_server.specs.declared.file_keeper.FileKeeper.{FileKeeper}
-use Rattle.arbiter_server.specs.Acts.{Act, Unread, Strange, Refuses, Opens, Answers, Closes, Opening}
+use Rattle.arbiter_server.specs.Acts.{Act, Unread, Strange, Refuses, Opens, Answers, Closes}
 use Rattle.arbiter_server.specs.DiskGames.{disk_keepers}
-use Rattle.arbiter_server.specs.Games.{AnswersTo, ClosesTo, CommonView, Fresh, Goes, IsNotOpen, IsOver, Life, Open, OpensTo, Shut, life_after, life_at}
+use Rattle.arbiter_server.specs.Games.{AnswersTo, ClosesTo, CommonView, Fresh, Goes, IsNotOpen, IsOver, Life, Open, Shut}
 use Rattle.arbiter_server.specs.Lives as lives
 use Rattle.arbiter_server.specs.Lives.{Answered, Early, IsCutAtPut, IsStillThere, KeepsWhatItTold, PastRun, Refused, RunsOver}
 use Rattle.arbiter_server.specs.Serving.{InTurn}
-use Rattle.arbiter_server.specs.StoredBytes.{StartsOver, file_of, keeper_over, stored}
+use Rattle.arbiter_server.specs.StoredBytes.{StartsOver, file_of, keeper_over}
 use Rattle.theorems.specs.HostFiles.{AtFirst, AtPut, AtStart, Between, HostKeepsWhatItTold, HostRun, IfAnswers, IsOfSetup, Leaves, OfEachAnswer, HostRanOver, HostRunsInTurn, StopsOver}
 
 -- ---- lists
