@@ -25,6 +25,7 @@ use Rattle.arbiter_core.specs.Opens.{FirstLands, IsResumed, IsWhole, Opens, Open
 use Rattle.relay_world.specs.declared.event.Event.{Event}
 use Rattle.relay_world.specs.declared.event.Event.TheVariants.{Deliver, Restart, Ask}
 use Rattle.relay_world.specs.Worlds.{Down, Judged, Life, Running, Side, World, after, answered, delivered, first_world, happens, hears, hears_at, identity, listed, restarted, side_of, turned, wants}
+use Rattle.relay_world.specs.Headline.{IsFaithful, IsFrontOf}
 use Rattle.relay_world.specs.Runs.{KeptIs}
 use Rattle.theorems.specs.Nets.{Act, AnswersOne, Answering, AsksOne, Asking, ClosesOne, FoundAnswered, FoundOpened, Goes, GoesOn, IsOfWorld, IsSetupOf, IsToBePut, Net, OpensOne, Opening, Site, arbiter_in, changed, first_net, sent_with, site_of}
 use Rattle.relay_world.proofs.Hearing.{written_too}
@@ -267,6 +268,10 @@ same_side side old window e f = made side.kept side.life f e
     made : (kept : Option Recorded) (life : Life) → kept ≡ Some old → life ≡ Running window → ◌≡◌ {A = Side} (record { kept = kept; life = life }) (record { kept = Some old; life = Running window })
     made kept life e f = cc
 
+front_of : (game : Judged) (world : World) (who : Who) → IsFaithful game world → IfSome (side_of world who).kept (IsFrontOf game.rules game.moves)
+front_of game world A f = f.a
+front_of game world B f = f.b
+
 module _ {K : Type 0} (facts : KeeperFacts K) (game : Judged) where
   opening_goes : (old new : Net) (who : Who) (before now : K) (told : Opened) → Stands game old → Opening facts game old who before now told new → Stands game new
   opening_goes old new who before now told s o =
@@ -376,9 +381,24 @@ module _ {K : Type 0} (facts : KeeperFacts K) (game : Judged) where
   first_stands : Stands game (first_net game)
   first_stands = ([], record { a = record { kept = refl; runs = tt }; b = record { kept = refl; runs = tt }; log = refl })
 
+  pub stands_there : (acts : List (Act K)) (net : Net) → Goes facts game (first_net game) acts net → Stands game net
+  stands_there acts net g = goes (first_net game) net acts first_stands g
+
+  -- an arbiter that runs has the record of its side of the world
+  pub runs_true : (net : Net) → Stands game net → (who : Who) (v : View) → (site_of net who).arbiter ≡ Some v → v.is_down ≡ false → IsFrontOf game.rules game.moves v.kept
+  runs_true net s who v e up =
+      let world : World = after game (first_world game) s.0 in
+      let shows = shows_at game net world who s.1 in
+      let runs : RunsAt game who v (side_of world who) = subst (λ (x : Option View). RunsSo game who x (side_of world who)) e shows.runs in
+      subst (λ (x : Option Recorded). IfSome x (IsFrontOf game.rules game.moves)) (runs.is up).1
+      (front_of game world who (faithful_of game world (right_of game world (holds_after game s.0))))
+
+  pub arbiters_tell_the_truth : (acts : List (Act K)) (net : Net) → Goes facts game (first_net game) acts net → (who : Who) (v : View) → (site_of net who).arbiter ≡ Some v → v.is_down ≡ false → IsFrontOf game.rules game.moves v.kept
+  arbiters_tell_the_truth acts net g = runs_true net (stands_there acts net g)
+
   pub arbiters_are_worlds : (acts : List (Act K)) (net : Net) → Goes facts game (first_net game) acts net → IsOfWorld game net
   arbiters_are_worlds acts net g =
-      let s = goes (first_net game) net acts first_stands g in
+      let s = stands_there acts net g in
       record {
         events = s.0;
         a = s.1.a.kept;

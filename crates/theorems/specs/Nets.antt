@@ -15,7 +15,7 @@ use Rattle.arbiter_core.specs.Delivers.{Delivers, Exchange, IsWritten, Told as A
 use Rattle.arbiter_core.specs.Opens.{Opens, Told as Opened, first_record}
 use Rattle.relay_world.specs.declared.event.Event.{Event}
 use Rattle.relay_world.specs.Worlds.{Judged, after, first_world, identity, listed}
-use Rattle.relay_world.specs.Headline.{IsFaithful}
+use Rattle.relay_world.specs.Headline.{IsFaithful, IsFrontOf}
 use Rattle.relay_world.specs.Runs.{KeptIs}
 
 -- where one of the two runs: what its next opening finds, and the arbiter while it is open
@@ -149,3 +149,10 @@ pub record IsOfWorld (game : Judged) (net : Net) : Type 0 where
 abbrev pub ArbitersAreWorlds : {K : Type 0} → KeeperFacts K → Type 0
 ArbitersAreWorlds {K = K} facts =
     (game : Judged) (acts : List (Act K)) (net : Net) → Goes facts game (first_net game) acts net → IsOfWorld game net
+
+-- What one of them tells while it runs is so: its record, of which each of its lines and messages tells, is the first moves of the game,
+-- with the first verdict exactly at its ply.
+abbrev pub ArbitersTellTheTruth : {K : Type 0} → KeeperFacts K → Type 0
+ArbitersTellTheTruth {K = K} facts =
+    (game : Judged) (acts : List (Act K)) (net : Net) → Goes facts game (first_net game) acts net
+    → (who : Who) (v : View) → (site_of net who).arbiter ≡ Some v → v.is_down ≡ false → IsFrontOf game.rules game.moves v.kept

@@ -25,7 +25,7 @@ use Rattle.arbiter_core.specs.Keeping.{KeeperFacts}
 use Rattle.arbiter_core.specs.Recording.{Recorded, count_of}
 use Rattle.arbiter_core.specs.Setups.{SetupView, rules_at}
 use Rattle.arbiter_core.specs.Views.{View}
-use Rattle.arbiter_core.specs.Delivers.{Exchange, IsWritten, answer_at}
+use Rattle.arbiter_core.specs.Delivers.{Exchange, IsWritten, Moment, answer_at}
 use Rattle.arbiter_core.specs.Opens.{Told, first_record}
 use Rattle.arbiter_server.specs.Folders.{Keepers}
 use Rattle.arbiter_server.specs.Acts.{Act, Unread, Strange, Refuses, Opens, Answers, Closes, Opening, acts_of, game_of, is_stamp}
@@ -218,3 +218,14 @@ abbrev pub AcksAreFound : {K L : Type 0} → Keepers K → Keepers L → Type 0
 AcksAreFound {K = K} {L = L} a b =
     (game : Judged) (steps : List (Step K L)) (net : Net) → AreWoven a b game steps net
     → (i : ℕ) (stamp : Stamp) (who : Who) (n : ℕ) → slice_get net.log i ≡ Some (Ack stamp who n) → HasMoves game n (site_of net who).kept
+
+-- Wherever the last run has led a game that is open, the record of its arbiter is the first moves of the game, with the first verdict
+-- exactly at its ply. The line of each answer tells the count and the verdict of this record (`line_for` of arbiter_server).
+abbrev pub TellsTheTruth : {K : Type 0} → Keepers K → Judged → List (Deed K) → Type 0
+TellsTheTruth {K = K} s game deeds =
+    (common : CommonView) (at : Moment K) → Goes s common game.stamp.0 Fresh (acts_of game.stamp.0 (last_run deeds)) (Open at) → IsFrontOf game.rules game.moves at.arbiter.kept
+
+-- What two hosts tell of a game is so.
+abbrev pub HostsTellTheTruth : {K L : Type 0} → Keepers K → Keepers L → Type 0
+HostsTellTheTruth {K = K} {L = L} a b =
+    (game : Judged) (steps : List (Step K L)) (net : Net) → AreWoven a b game steps net → TellsTheTruth a game (deeds_a steps) × TellsTheTruth b game (deeds_b steps)

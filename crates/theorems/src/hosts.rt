@@ -1,7 +1,7 @@
 //! A game at two hosts.
 
 ghost use Rattle.arbiter_server.specs.Folders.{keepers};
-ghost use Rattle.theorems.specs.Weaves.{AcksAreFound, HostsAreWorlds};
+ghost use Rattle.theorems.specs.Weaves.{AcksAreFound, HostsAreWorlds, HostsTellTheTruth};
 
 use arbiter_server::Games;
 
@@ -17,4 +17,10 @@ pub fn hosts_are_worlds<G: Games, H: Games>(_first: &G, _second: &H)
 /// As many moves as a host ever acknowledged are found there, then and later, over all of its runs: the game's first ones.
 pub fn acks_are_found<G: Games, H: Games>(_first: &G, _second: &H)
     ensures { (first : G) (second : H) → AcksAreFound (keepers G.Keeper.facts G.facts first) (keepers H.Keeper.facts H.facts second) }
+{}
+
+/// What two such hosts tell of the game is true: while it is open, the record of its arbiter, of which each line tells, is the game's
+/// first moves, with the first verdict exactly at its ply.
+pub fn hosts_tell_the_truth<G: Games, H: Games>(_first: &G, _second: &H)
+    ensures { (first : G) (second : H) → HostsTellTheTruth (keepers G.Keeper.facts G.facts first) (keepers H.Keeper.facts H.facts second) }
 {}

@@ -21,6 +21,8 @@
 //! - CLAIM: `hosts_are_worlds`: two hosts that have one game, each with any number of runs, their acts in any order and those of
 //!   other games among them, come to a world. While the game is open, its arbiter runs and its keeper keeps what is found there.
 //! - CLAIM: `acks_are_found`: as many moves as a host ever acknowledged are found there, then and later: the game's first ones.
+//! - CLAIM: `arbiters_tell_the_truth`; `hosts_tell_the_truth`: what such arbiters, and such hosts, tell of the game while it is open is
+//!   true: the record is the game's first moves, with the first verdict exactly at its ply.
 //! - CLAIM: `host_keeps_what_it_told`: what a host told of a game is found at each later start over the file of its record: as many
 //!   moves as it acknowledged, the same ones, and a verdict at its ply. This holds over any files, after any runs, wherever each
 //!   stopped.
@@ -38,8 +40,8 @@ mod hosts;
 mod seals;
 mod sources;
 
-pub use arbiters::arbiters_are_worlds;
+pub use arbiters::{arbiters_are_worlds, arbiters_tell_the_truth};
 pub use host_files::host_keeps_what_it_told;
-pub use hosts::{acks_are_found, hosts_are_worlds};
+pub use hosts::{acks_are_found, hosts_are_worlds, hosts_tell_the_truth};
 pub use seals::no_tag_no_forgery;
 pub use sources::{sends_the_log, sources_tell_the_truth};
