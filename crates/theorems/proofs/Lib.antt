@@ -5,3 +5,4 @@ pub mod Stopping
 pub mod Joining
 pub mod Acking
 pub mod Filing
+pub mod Listening

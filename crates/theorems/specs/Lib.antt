@@ -3,3 +3,4 @@ pub mod Weaves
 pub mod Sources
 pub mod Seals
 pub mod HostFiles
+pub mod Listens

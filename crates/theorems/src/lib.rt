@@ -12,9 +12,9 @@
 //! without a keeper leave what is found (`GivesOwn`, `GivesIf`).
 //!
 //! In `proofs/`: `Netting` (arbiters), `Seeing` (keepers of any type, seen as what they keep), `Weaving` (an act of a host as
-//! steps of an arbiter), `Stopping`, `Joining`, `Acking`, `Filing` (a host's runs as runs over a file).
+//! steps of an arbiter), `Stopping`, `Joining`, `Acking`, `Filing` (a host's runs as runs over a file), `Listening`.
 //!
-//! Definitions, in reading order: `Nets`, `Weaves`, `HostFiles`, `Sources`, `Seals`.
+//! Definitions, in reading order: `Nets`, `Weaves`, `Listens`, `HostFiles`, `Sources`, `Seals`.
 //!
 //! - CLAIM: `arbiters_are_worlds`: two arbiters of one game over keepers of any one type, by steps as the contracts of `open` and
 //!   `deliver` have them, come to a world, which is faithful to the game.
@@ -23,6 +23,8 @@
 //! - CLAIM: `acks_are_found`: as many moves as a host ever acknowledged are found there, then and later: the game's first ones.
 //! - CLAIM: `arbiters_tell_the_truth`; `hosts_tell_the_truth`: what such arbiters, and such hosts, tell of the game while it is open is
 //!   true: the record is the game's first moves, with the first verdict exactly at its ply.
+//! - CLAIM: `listens_are_hosted`: a run of `listen` that doesn't ask for moves first is one of a host that has one game, by its acts and
+//!   by what passes at its port. `listens_are_worlds`; `listen_beside_a_host`: so two of them, and one beside a host, come to a world.
 //! - CLAIM: `host_keeps_what_it_told`: what a host told of a game is found at each later start over the file of its record: as many
 //!   moves as it acknowledged, the same ones, and a verdict at its ply. This holds over any files, after any runs, wherever each
 //!   stopped.
@@ -37,11 +39,13 @@
 mod arbiters;
 mod host_files;
 mod hosts;
+mod listens;
 mod seals;
 mod sources;
 
 pub use arbiters::{arbiters_are_worlds, arbiters_tell_the_truth};
 pub use host_files::host_keeps_what_it_told;
 pub use hosts::{acks_are_found, hosts_are_worlds, hosts_tell_the_truth};
+pub use listens::{listen_beside_a_host, listens_are_hosted, listens_are_worlds};
 pub use seals::no_tag_no_forgery;
 pub use sources::{sends_the_log, sources_tell_the_truth};
