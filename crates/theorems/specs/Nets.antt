@@ -5,6 +5,7 @@ use Rattle.move_msg.specs.declared.who.Who.{Who}
 use Rattle.move_msg.specs.declared.who.Who.TheVariants.{A, B}
 use Rattle.move_msg.specs.declared.who.Sender.TheVariants.{Source}
 use Rattle.move_msg.specs.declared.message.Message.{Message}
+use Rattle.move_msg.specs.declared.message.Message.TheVariants.{Move, Ack, Verdict, Fetch}
 use Rattle.arbiter_core.specs.declared.fault.DeliverFault.TheVariants as deliver
 use Rattle.arbiter_core.specs.declared.fault.OpenFault.TheVariants as opening
 use Rattle.arbiter_core.specs.Keeping.{KeeperFacts}
@@ -82,9 +83,16 @@ abbrev pub sent_with : Answered → List Message
 sent_with (Ok outputs) = outputs
 sent_with (Err fault) = []
 
--- A datagram comes: a message of the game was sent before, by the source or by one of the two. Other bytes are noise.
+-- it brings a move or asks for some; an acknowledgement and a verdict change nothing at an arbiter, whoever sends them
+abbrev pub IsHeeded : Message → Type 0
+IsHeeded (Move stamp sender number m) = Unit {0}
+IsHeeded (Ack stamp who count) = ⊥
+IsHeeded (Verdict stamp who ply verdict) = ⊥
+IsHeeded (Fetch stamp who number wanted) = Unit {0}
+
+-- A datagram comes: a message of the game that is heeded was sent before, by the source or by one of the two. Other bytes are noise.
 abbrev pub IsNoForgery : Judged → List Message → List ℕ → Type 0
-IsNoForgery game log datagram = (m : Message) → heard game.stamp datagram ≡ Ok m → (i : ℕ) × (slice_get log i ≡ Some m)
+IsNoForgery game log datagram = (m : Message) → heard game.stamp datagram ≡ Ok m → IsHeeded m → (i : ℕ) × (slice_get log i ≡ Some m)
 
 -- these bytes are written of the record that was to be put
 abbrev pub IsToBePut : View → Answer → Option (List ℕ) → Type 0
