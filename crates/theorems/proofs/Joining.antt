@@ -13,7 +13,7 @@ use Rattle.relay_world.specs.Worlds.{Judged}
 use Rattle.theorems.specs.Nets as nets
 use Rattle.theorems.specs.Nets.{Net, Site, first_net, site_of}
 use Rattle.theorems.proofs.Netting.{arbiters_are_worlds, arbiters_tell_the_truth}
-use Rattle.theorems.specs.Weaves.{AreWoven, AtA, AtB, Deed, Does, Ends, GivesFor, GivesIf, HostsAreWorlds, HostsTellTheTruth, IsAt, IsHostOf, IsRunOf, StandsAt, Step, TellsTheTruth, Weaves, deeds_a, deeds_b, first_run, last_of, last_run, later_runs}
+use Rattle.theorems.specs.Weaves.{AreWoven, AtA, AtB, Deed, Does, Ends, FrontsAreRuns, GivesFor, GivesIf, HostsAreWorlds, HostsTellTheTruth, IsAt, IsHostOf, IsRunOf, StandsAt, Step, TellsTheTruth, Weaves, deeds_a, deeds_b, first_run, last_of, last_run, later_runs}
 use Rattle.theorems.proofs.Seeing.{Seen, seen_facts}
 use Rattle.theorems.proofs.Weaving.{Moves, NetGoes, act_goes}
 use Rattle.theorems.proofs.Stopping.{stop_goes}
@@ -52,6 +52,14 @@ goes_front : {K : Type 0} (s : Keepers K) (t : CommonView) (stamp : List ℕ) (e
 goes_front s t stamp [] late old new g = (old, refl)
 goes_front s t stamp (a ∷ early) late old new g = let front = goes_front s t stamp early late g.0 new g.2 in (front.0, (g.0, g.1, front.1))
 
+pub fronts_are_runs : {K : Type 0} (s : Keepers K) → FrontsAreRuns s
+fronts_are_runs {K = K} s game who common acts rest of hosted =
+    let split : acts_of game.stamp.0 (acts ++ rest) ≡ acts_of game.stamp.0 acts ++ acts_of game.stamp.0 rest = filter-append (λ (a : Act K). is_stamp game.stamp.0 (game_of a)) acts rest in
+    let all : Goes s common game.stamp.0 Fresh (acts_of game.stamp.0 acts ++ acts_of game.stamp.0 rest) (hosted.games game.stamp.0) =
+    subst (λ (run : List (Act K)). Goes s common game.stamp.0 Fresh run (hosted.games game.stamp.0)) split (hosted.each game.stamp.0) in
+    let front = goes_front s common game.stamp.0 (acts_of game.stamp.0 acts) (acts_of game.stamp.0 rest) Fresh (hosted.games game.stamp.0) all in
+    record { common = common; of = of; life = front.0; goes = front.1 }
+
 -- ---- the runs of one host
 
 module _ {K : Type 0} (s : Keepers K) (game : Judged) (who : Who) where
@@ -70,12 +78,7 @@ module _ {K : Type 0} (s : Keepers K) (game : Judged) (who : Who) where
   DeedsGo old deeds new = RunsGo old (first_run deeds) (later_runs deeds) new
 
   a_run : (run : List (Act K)) → IsRunOf s game who run → (end : Life K) × RunGoes Fresh run end
-  a_run run r =
-      let split : acts_of game.stamp.0 (run ++ r.rest) ≡ acts_of game.stamp.0 run ++ acts_of game.stamp.0 r.rest = filter-append (λ (a : Act K). is_stamp game.stamp.0 (game_of a)) run r.rest in
-      let all : Goes s r.common game.stamp.0 Fresh (acts_of game.stamp.0 run ++ acts_of game.stamp.0 r.rest) (r.hosted.games game.stamp.0) =
-      subst (λ (acts : List (Act K)). Goes s r.common game.stamp.0 Fresh acts (r.hosted.games game.stamp.0)) split (r.hosted.each game.stamp.0) in
-      let front = goes_front s r.common game.stamp.0 (acts_of game.stamp.0 run) (acts_of game.stamp.0 r.rest) Fresh (r.hosted.games game.stamp.0) all in
-      (front.0, record { common = r.common; of = r.of; goes = front.1 })
+  a_run run r = (r.life, record { common = r.common; of = r.of; goes = r.goes })
 
   -- all of them lead to where the last one leads
   abbrev AllGo : List (Act K) → List (List (Act K)) → Type 0

@@ -7,8 +7,8 @@
 //!
 //! What the outside gives is a premise, act by act, in `specs/Nets.antt` and `specs/Weaves.antt`; nothing that a contract gives
 //! is stated there again. Of two hosts these are: which hosts they are and what their tables mean (`IsHostOf`); that the game
-//! found under the stamp is this one, that no message of it is made up, and that keepers keep (`Finds`, `Hears`, `Stops`); that a
-//! stopped run is a front of one that returns (`rest` of `IsRunOf`); that a closing, an act of another game and a datagram
+//! found under the stamp is this one, that no message of it is made up, and that keepers keep (`Finds`, `Hears`, `Stops`); that the
+//! acts of a stopped run go on as those of one that returns (`goes` of `IsRunOf`); that a closing, an act of another game and a datagram
 //! without a keeper leave what is found (`GivesOwn`, `GivesIf`).
 //!
 //! In `proofs/`: `Netting` (arbiters), `Seeing` (keepers of any type, seen as what they keep), `Weaving` (an act of a host as
@@ -45,7 +45,7 @@ mod sources;
 
 pub use arbiters::{arbiters_are_worlds, arbiters_tell_the_truth};
 pub use host_files::host_keeps_what_it_told;
-pub use hosts::{acks_are_found, hosts_are_worlds, hosts_tell_the_truth};
+pub use hosts::{acks_are_found, fronts_are_runs, hosts_are_worlds, hosts_tell_the_truth};
 pub use listens::{listen_beside_a_host, listens_are_hosted, listens_are_worlds};
 pub use seals::no_tag_no_forgery;
 pub use sources::{sends_the_log, sources_tell_the_truth};
