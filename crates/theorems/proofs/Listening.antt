@@ -363,12 +363,10 @@ module _ {F : Type 0} (facts : F → KeptFacts) (setup : SetupView) (stamp : Lis
 
 pub listens_are_hosted : {F : Type 0} (facts : F → KeptFacts) → ListensAreHosted facts
 listens_are_hosted {F = F} facts game setup start opened now port port' first run named o served = record {
-  hosted = record {
-    games = λ of. cond (bytes_eq stamp of) (Shut now.keeper) Fresh;
-    each = λ of. each of (bytes_eq stamp of) refl;
-    sorted = (tt, sorted_all stamp es (closing stamp now) (sorted_end stamp now));
-    closed = λ of. closed (bytes_eq stamp of);
-  };
+  games = λ of. cond (bytes_eq stamp of) (Shut now.keeper) Fresh;
+  each = λ of. each of (bytes_eq stamp of) refl;
+  sorted = (tt, sorted_all stamp es (closing stamp now) (sorted_end stamp now));
+  closed = λ of. closed (bytes_eq stamp of);
   passed = λ addresses.
       ap (flat_map (passing_at addresses)) (replies_join (map (act_of stamp) es) (closing stamp now) ∙ ap (λ x. all_replies (map (act_of stamp) es) ++ x) (none_at_end stamp now) ∙ append-nil (all_replies (map (act_of stamp) es)))
       ∙ passed_all (keeper_over facts) stamp addresses opened es runs;

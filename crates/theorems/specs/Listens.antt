@@ -1,7 +1,7 @@
 -- A run of `listen` as one of a host that has one game (this project's own): so two runs of `listen`, and one beside a host, come under the
 -- theorem of two hosts. A run that asks for moves first (`--fetch`) isn't one: a host never asks.
 use Rattle.std.specs.Prelude.{◌≡◌, ℕ, List, [], ◌∷◌, ◌++◌, map, cond, Result, Ok, Err}
-use Rattle.std.specs.List.{flat_map}
+use Rattle.std.specs.List.{AllByRecursion, flat_map}
 use Rattle.std.specs.Str.{bytes_eq}
 use Rattle.move_msg.specs.declared.message.Message.{Message}
 use Rattle.move_msg.specs.declared.message.MessageFault.{MessageFault}
@@ -15,10 +15,9 @@ use Rattle.system_io.specs.Ports.{Passing, PortFacts}
 use Rattle.arbiter_server.specs.declared.fault.Unopened.TheVariants as unopened
 use Rattle.arbiter_server.specs.declared.games.Found.{Found}
 use Rattle.arbiter_server.specs.declared.file_keeper.FileKeeper.{FileKeeper}
-use Rattle.arbiter_server.specs.Acts.{Act, Unread, Strange, Opens, Answers, Closes, all_replies, passing_at}
+use Rattle.arbiter_server.specs.Acts.{Act, Unread, Strange, Opens, Answers, Closes, IsSorted, acts_of, all_replies, passing_at}
 use Rattle.arbiter_server.specs.Folders.{Keepers}
-use Rattle.arbiter_server.specs.Games.{CommonView}
-use Rattle.arbiter_server.specs.Hosts.{IsHosted}
+use Rattle.arbiter_server.specs.Games.{CommonView, Fresh, Goes, IsNotOpen, Life}
 use Rattle.arbiter_server.specs.Serving.{ServesSession, Session, exchanges_of, passing_of}
 use Rattle.arbiter_server.specs.StoredBytes.{keeper_over}
 use Rattle.theorems.specs.Weaves.{AcksAreFound, HostsAreWorlds, HostsTellTheTruth}
@@ -61,9 +60,13 @@ abbrev pub acts_for : {K : Type 0} → SetupView → List ℕ → K → Moment K
 acts_for setup stamp start opened es now =
     Opens stamp (record { setup = setup; before = start; now = opened.keeper }) opened.arbiter ∷ (map (act_of stamp) es ++ closing stamp now)
 
--- the acts are those of a host, and at a port of any number of addresses all that passes is the same
+-- The acts are those of a host that has the game open from the start: each game's own acts lead on from one another, each is of the game
+-- that its datagram names, and none is open then. At a port of any number of addresses all that passes is the same.
 pub record IsAsHosted {F : Type 0} (facts : F → KeptFacts) (setup : SetupView) (start : FileKeeper F) (opened now : Moment (FileKeeper F)) (es : List (Exchange (FileKeeper F))) : Type 0 where
-  pub hosted : IsHosted (one_game facts setup opened.arbiter.me.stamp.0) (common_of setup) (acts_for setup opened.arbiter.me.stamp.0 start opened es now)
+  pub games : List ℕ → Life (FileKeeper F)
+  pub each : (of : List ℕ) → Goes (one_game facts setup opened.arbiter.me.stamp.0) (common_of setup) of Fresh (acts_of of (acts_for setup opened.arbiter.me.stamp.0 start opened es now)) (games of)
+  pub sorted : AllByRecursion IsSorted (acts_for setup opened.arbiter.me.stamp.0 start opened es now)
+  pub closed : (of : List ℕ) → IsNotOpen (games of)
   pub passed : (addresses : ℕ) → flat_map (passing_at addresses) (all_replies (acts_for setup opened.arbiter.me.stamp.0 start opened es now)) ≡ flat_map (passing_of addresses) es
 
 -- Each run of an arbiter over a file, as the contract of `open_and_serve` has it (`ServesOpened` of arbiter_server), is such a one.
