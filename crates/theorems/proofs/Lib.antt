@@ -6,3 +6,4 @@ pub mod Joining
 pub mod Acking
 pub mod Filing
 pub mod Listening
+pub mod FileWeaving

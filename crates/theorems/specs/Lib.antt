@@ -4,3 +4,4 @@ pub mod Sources
 pub mod Seals
 pub mod HostFiles
 pub mod Listens
+pub mod FileWeaves

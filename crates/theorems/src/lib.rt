@@ -44,7 +44,7 @@ mod seals;
 mod sources;
 
 pub use arbiters::{arbiters_are_worlds, arbiters_tell_the_truth};
-pub use host_files::host_keeps_what_it_told;
+pub use host_files::{host_keeps_what_it_told, hosts_over_files};
 pub use hosts::{acks_are_found, fronts_are_runs, hosts_are_worlds, hosts_tell_the_truth};
 pub use listens::{listen_beside_a_host, listens_are_hosted, listens_are_worlds};
 pub use seals::no_tag_no_forgery;
