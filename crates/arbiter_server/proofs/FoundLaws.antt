@@ -127,6 +127,22 @@ module _ (grow : PutsGrow) {F : Type 0} (facts : F → KeptFacts) (old : Moment 
   leaves : Delivers (keeper_over facts) old e → Leaves facts e
   leaves d = by_answer (answer_at old.arbiter e.datagram) refl d.answered d.put
 
+  -- an arbiter that runs after it has its record in the file
+  pub safe_up : Delivers (keeper_over facts) old e → e.after.arbiter.is_down ≡ false → IsSafe facts e.after
+  safe_up d up = by (answer_at old.arbiter e.datagram) d.answered d.put
+    where
+      by_keep : (keep : Keep) (next : Recorded) (outputs : List Message) (window : Window) → Lands keep old.arbiter next outputs window (stored old.keeper) (stored e.after.keeper) e.after.arbiter e.told → IsSafe facts e.after
+      by_keep Good next outputs window l = (leaves d).safe (ap loses_keeper l.0)
+      by_keep FailsOld next outputs window l = absurd (let down : e.after.arbiter.is_down ≡ true = ap (λ (v : View). v.is_down) l.1 in both_ways _ up down)
+      by_keep FailsNew next outputs window l = absurd (let down : e.after.arbiter.is_down ≡ true = ap (λ (v : View). v.is_down) l.1 in both_ways _ up down)
+
+      by : (a : Answer) → RefusesOrSends old.arbiter old.keeper e.after.keeper e.after.arbiter e.told a → PutsIfAny (keeper_over facts) old.arbiter old.keeper e.after.keeper e.after.arbiter e.told a → IsSafe facts e.after
+      by (Refuses fault) h p = unmoved old.arbiter h.arbiter h.keeper s.spelled s.own
+      by (Sends outputs window) (inl h) p = unmoved (with_window old.arbiter window) h.arbiter h.keeper s.spelled s.own
+      by (Sends outputs window) (inr h) p = unmoved old.arbiter h.1.arbiter h.1.keeper s.spelled s.own
+      by (Puts next outputs window) h (inl p) = unmoved old.arbiter p.arbiter p.keeper s.spelled s.own
+      by (Puts next outputs window) h (inr p) = by_keep p.keep next outputs window p.lands
+
 -- through the exchanges of a run
 pub found_through : (grow : PutsGrow) {F : Type 0} (facts : F → KeptFacts) (old new : Moment (FileKeeper F)) (es : List (Exchange (FileKeeper F))) (loss : Loss (FileKeeper F)) → IsSafe facts old → AllByRecursion (λ e. loses_keeper e.told ≡ false) es → InTurn (keeper_over facts) old (with_last es loss) new → AllByRecursion (λ e. FindsRecord facts e.after) es × FindsAtLoss facts loss
 unfolding InTurn

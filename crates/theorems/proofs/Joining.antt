@@ -12,8 +12,8 @@ use Rattle.arbiter_server.specs.Games.{AnswersTo, ClosesTo, CommonView, Fresh, G
 use Rattle.relay_world.specs.Worlds.{Judged}
 use Rattle.theorems.specs.Nets as nets
 use Rattle.theorems.specs.Nets.{Net, Site, first_net, site_of}
-use Rattle.theorems.proofs.Netting.{arbiters_are_worlds}
-use Rattle.theorems.specs.Weaves.{AtA, AtB, Deed, Does, Ends, GivesFor, GivesIf, HostsAreWorlds, IsAt, IsHostOf, IsRunOf, StandsAt, Step, Weaves, deeds_a, deeds_b, first_run, last_of, last_run, later_runs}
+use Rattle.theorems.proofs.Netting.{arbiters_are_worlds, arbiters_tell_the_truth}
+use Rattle.theorems.specs.Weaves.{AreWoven, AtA, AtB, Deed, Does, Ends, FrontsAreRuns, GivesFor, GivesIf, HostsAreWorlds, HostsTellTheTruth, IsAt, IsHostOf, IsRunOf, StandsAt, Step, TellsTheTruth, Weaves, deeds_a, deeds_b, first_run, last_of, last_run, later_runs}
 use Rattle.theorems.proofs.Seeing.{Seen, seen_facts}
 use Rattle.theorems.proofs.Weaving.{Moves, NetGoes, act_goes}
 use Rattle.theorems.proofs.Stopping.{stop_goes}
@@ -52,6 +52,14 @@ goes_front : {K : Type 0} (s : Keepers K) (t : CommonView) (stamp : List ℕ) (e
 goes_front s t stamp [] late old new g = (old, refl)
 goes_front s t stamp (a ∷ early) late old new g = let front = goes_front s t stamp early late g.0 new g.2 in (front.0, (g.0, g.1, front.1))
 
+pub fronts_are_runs : {K : Type 0} (s : Keepers K) → FrontsAreRuns s
+fronts_are_runs {K = K} s game who common acts rest of hosted =
+    let split : acts_of game.stamp.0 (acts ++ rest) ≡ acts_of game.stamp.0 acts ++ acts_of game.stamp.0 rest = filter-append (λ (a : Act K). is_stamp game.stamp.0 (game_of a)) acts rest in
+    let all : Goes s common game.stamp.0 Fresh (acts_of game.stamp.0 acts ++ acts_of game.stamp.0 rest) (hosted.games game.stamp.0) =
+    subst (λ (run : List (Act K)). Goes s common game.stamp.0 Fresh run (hosted.games game.stamp.0)) split (hosted.each game.stamp.0) in
+    let front = goes_front s common game.stamp.0 (acts_of game.stamp.0 acts) (acts_of game.stamp.0 rest) Fresh (hosted.games game.stamp.0) all in
+    record { common = common; of = of; life = front.0; goes = front.1 }
+
 -- ---- the runs of one host
 
 module _ {K : Type 0} (s : Keepers K) (game : Judged) (who : Who) where
@@ -70,12 +78,7 @@ module _ {K : Type 0} (s : Keepers K) (game : Judged) (who : Who) where
   DeedsGo old deeds new = RunsGo old (first_run deeds) (later_runs deeds) new
 
   a_run : (run : List (Act K)) → IsRunOf s game who run → (end : Life K) × RunGoes Fresh run end
-  a_run run r =
-      let split : acts_of game.stamp.0 (run ++ r.rest) ≡ acts_of game.stamp.0 run ++ acts_of game.stamp.0 r.rest = filter-append (λ (a : Act K). is_stamp game.stamp.0 (game_of a)) run r.rest in
-      let all : Goes s r.common game.stamp.0 Fresh (acts_of game.stamp.0 run ++ acts_of game.stamp.0 r.rest) (r.hosted.games game.stamp.0) =
-      subst (λ (acts : List (Act K)). Goes s r.common game.stamp.0 Fresh acts (r.hosted.games game.stamp.0)) split (r.hosted.each game.stamp.0) in
-      let front = goes_front s r.common game.stamp.0 (acts_of game.stamp.0 run) (acts_of game.stamp.0 r.rest) Fresh (r.hosted.games game.stamp.0) all in
-      (front.0, record { common = r.common; of = r.of; goes = front.1 })
+  a_run run r = (r.life, record { common = r.common; of = r.of; goes = r.goes })
 
   -- all of them lead to where the last one leads
   abbrev AllGo : List (Act K) → List (List (Act K)) → Type 0
@@ -148,13 +151,37 @@ module _ {K L : Type 0} (a : Keepers K) (b : Keepers L) (game : Judged) (end_a :
 stands : {K : Type 0} (s : Keepers K) (game : Judged) (who : Who) (deeds : List (Deed K)) (site : Site) (end : Life K) → RunGoes s game who Fresh (last_run deeds) end → IsAt s.facts end site → StandsAt s game deeds site
 stands s game who deeds site end r at common life led = subst (λ l. IsAt s.facts l site) (one_end s game.stamp.0 Fresh (acts_of game.stamp.0 (last_run deeds)) end life r.common common r.goes led) at
 
-pub hosts_are_worlds : {K L : Type 0} (a : Keepers K) (b : Keepers L) → HostsAreWorlds a b
-hosts_are_worlds a b game steps net w =
+-- steps of the net lead there, and each site is where its host has led
+record HaveCome {K L : Type 0} (a : Keepers K) (b : Keepers L) (game : Judged) (steps : List (Step K L)) (net : Net) : Type 0 where
+  acts : List (nets.Act Seen)
+  goes : NetGoes game (first_net game) acts net
+  at_a : StandsAt a game (deeds_a steps) net.a
+  at_b : StandsAt b game (deeds_b steps) net.b
+
+have_come : {K L : Type 0} (a : Keepers K) (b : Keepers L) (game : Judged) (steps : List (Step K L)) (net : Net) → AreWoven a b game steps net → HaveCome a b game steps net
+have_come a b game steps net w =
     let x = all_go a game A (first_run (deeds_a steps)) (later_runs (deeds_a steps)) w.runs_a in
     let y = all_go b game B (first_run (deeds_b steps)) (later_runs (deeds_b steps)) w.runs_b in
     let c = comes a b game x.0 y.0 steps Fresh Fresh (first_net game) net refl refl x.1 y.1 w.weaves in
     record {
-      world = arbiters_are_worlds seen_facts game c.acts net c.goes;
+      acts = c.acts;
+      goes = c.goes;
       at_a = stands a game A (deeds_a steps) net.a x.0 x.2 c.at_a;
       at_b = stands b game B (deeds_b steps) net.b y.0 y.2 c.at_b;
     }
+
+pub hosts_are_worlds : {K L : Type 0} (a : Keepers K) (b : Keepers L) → HostsAreWorlds a b
+hosts_are_worlds a b game steps net w =
+    let c = have_come a b game steps net w in
+    record { world = arbiters_are_worlds seen_facts game c.acts net c.goes; at_a = c.at_a; at_b = c.at_b }
+
+-- an arbiter that is open at a host has a record of the game
+tells_true : {K : Type 0} (s : Keepers K) (game : Judged) (acts : List (nets.Act Seen)) (net : Net) (who : Who) (deeds : List (Deed K)) → NetGoes game (first_net game) acts net → StandsAt s game deeds (site_of net who) → TellsTheTruth s game deeds
+tells_true s game acts net who deeds goes stands common at led =
+    let here = stands common (Open at) led in
+    arbiters_tell_the_truth seen_facts game acts net goes who at.arbiter here.0 here.1
+
+pub hosts_tell_the_truth : {K L : Type 0} (a : Keepers K) (b : Keepers L) → HostsTellTheTruth a b
+hosts_tell_the_truth a b game steps net w =
+    let c = have_come a b game steps net w in
+    (tells_true a game c.acts net A (deeds_a steps) c.goes c.at_a, tells_true b game c.acts net B (deeds_b steps) c.goes c.at_b)

@@ -8,6 +8,7 @@ use Rattle.move_msg.specs.declared.stamp.Stamp.{Stamp}
 use Rattle.move_msg.specs.declared.who.Who.{Who}
 use Rattle.move_msg.specs.declared.who.Who.TheVariants.{A, B}
 use Rattle.move_msg.specs.declared.message.Message.{Message}
+use Rattle.move_msg.specs.declared.message.Message.TheVariants.{Move, Ack, Verdict, Fetch}
 use Rattle.move_msg.proofs.RecordLaws.{is_spelled}
 use Rattle.arbiter_core.specs.declared.fault.DeliverFault.{DeliverFault}
 use Rattle.arbiter_core.specs.declared.fault.DeliverFault.TheVariants as deliver
@@ -25,8 +26,9 @@ use Rattle.arbiter_core.specs.Opens.{FirstLands, IsResumed, IsWhole, Opens, Open
 use Rattle.relay_world.specs.declared.event.Event.{Event}
 use Rattle.relay_world.specs.declared.event.Event.TheVariants.{Deliver, Restart, Ask}
 use Rattle.relay_world.specs.Worlds.{Down, Judged, Life, Running, Side, World, after, answered, delivered, first_world, happens, hears, hears_at, identity, listed, restarted, side_of, turned, wants}
+use Rattle.relay_world.specs.Headline.{IsFaithful, IsFrontOf}
 use Rattle.relay_world.specs.Runs.{KeptIs}
-use Rattle.theorems.specs.Nets.{Act, AnswersOne, Answering, AsksOne, Asking, ClosesOne, FoundAnswered, FoundOpened, Goes, GoesOn, IsOfWorld, IsSetupOf, IsToBePut, Net, OpensOne, Opening, Site, arbiter_in, changed, first_net, sent_with, site_of}
+use Rattle.theorems.specs.Nets.{Act, AnswersOne, Answering, AsksOne, Asking, ClosesOne, FoundAnswered, FoundOpened, Goes, GoesOn, IsHeeded, IsOfWorld, IsSetupOf, IsToBePut, Net, OpensOne, Opening, Site, arbiter_in, changed, first_net, sent_with, site_of}
 use Rattle.relay_world.proofs.Hearing.{written_too}
 use Rattle.relay_world.proofs.Reopening.{one_whole}
 use Rattle.relay_world.proofs.Pairing.{whole_of}
@@ -267,6 +269,18 @@ same_side side old window e f = made side.kept side.life f e
     made : (kept : Option Recorded) (life : Life) → kept ≡ Some old → life ≡ Running window → ◌≡◌ {A = Side} (record { kept = kept; life = life }) (record { kept = Some old; life = Running window })
     made kept life e f = cc
 
+-- a message is heeded, or nothing comes of it
+heeded : (rules : Rules) (me : Identity) (old : Recorded) (window : Window) (m : Message) → IsHeeded m ⊎ (answer_to rules me old window m ≡ Sends [] window)
+unfolding answer_to
+heeded rules me old window (Move stamp sender number m) = inl tt
+heeded rules me old window (Ack stamp who count) = inr refl
+heeded rules me old window (Verdict stamp who ply verdict) = inr refl
+heeded rules me old window (Fetch stamp who number wanted) = inl tt
+
+front_of : (game : Judged) (world : World) (who : Who) → IsFaithful game world → IfSome (side_of world who).kept (IsFrontOf game.rules game.moves)
+front_of game world A f = f.a
+front_of game world B f = f.b
+
 module _ {K : Type 0} (facts : KeeperFacts K) (game : Judged) where
   opening_goes : (old new : Net) (who : Who) (before now : K) (told : Opened) → Stands game old → Opening facts game old who before now told new → Stands game new
   opening_goes old new who before now told s o =
@@ -327,11 +341,15 @@ module _ {K : Type 0} (facts : KeeperFacts K) (game : Judged) where
                 (subst (λ (x : Option View). Shows game who o.site.kept x (side_of world who)) (sym o.is.arbiter) (subst (Shows game who o.site.kept (Some e.after.arbiter)) (sym side) shows)) none),
           )
 
-          by_said : (said : Result Message DeliverFault) → heard game.stamp e.datagram ≡ said → answer_at v e.datagram ≡ answer_heard game.rules (identity game who) v.kept v.window said → Comes game who o.site.kept e.after.arbiter (sent_with e.told) v.kept v.window (answer_heard game.rules (identity game who) v.kept v.window said) → Stands game (changed old who o.site (sent_with e.told))
-          by_said said is same (inl c) = unchanged c.0 c.1
-          by_said (Err fault) is same (inr c) = unchanged c.1 c.2
-          by_said (Ok m) is same (inr c) =
-              let sent = o.is.came m is in
+          quiet : Comes game who o.site.kept e.after.arbiter (sent_with e.told) v.kept v.window (Sends [] v.window) → Stands game (changed old who o.site (sent_with e.told))
+          quiet (inl c) = unchanged c.0 c.1
+          quiet (inr c) = unchanged c.1 c.2
+
+          by_message : (m : Message) → heard game.stamp e.datagram ≡ Ok m → Comes game who o.site.kept e.after.arbiter (sent_with e.told) v.kept v.window (answer_to game.rules (identity game who) v.kept v.window m) → IsHeeded m ⊎ (answer_to game.rules (identity game who) v.kept v.window m ≡ Sends [] v.window) → Stands game (changed old who o.site (sent_with e.told))
+          by_message m is c (inr none) = quiet (subst (Comes game who o.site.kept e.after.arbiter (sent_with e.told) v.kept v.window) none c)
+          by_message m is (inl c) (inl holds) = unchanged c.0 c.1
+          by_message m is (inr c) (inl holds) =
+              let sent = o.is.came m is holds in
               let there : slice_get world.log sent.0 ≡ Some m = subst (λ (xs : List Message). slice_get xs sent.0 ≡ Some m) h.log sent.1 in
               let late : Side × List Message = answered c.0 v.kept v.window (answer_to game.rules (identity game who) v.kept v.window m) in
               let step : happens game world (Deliver who sent.0 c.0) ≡ turned world who late =
@@ -340,6 +358,11 @@ module _ {K : Type 0} (facts : KeeperFacts K) (game : Judged) where
               by_event game (changed old who o.site (sent_with e.told)) events (Deliver who sent.0 c.0) (turned world who late)
               (subst (λ (w : World). happens game w (Deliver who sent.0 c.0) ≡ turned world who late) at step)
               (turned_shows game old world who o.site (sent_with e.told) late h (subst (λ (x : Option View). Shows game who o.site.kept x late.0) (sym o.is.arbiter) c.1) c.2)
+
+          by_said : (said : Result Message DeliverFault) → heard game.stamp e.datagram ≡ said → answer_at v e.datagram ≡ answer_heard game.rules (identity game who) v.kept v.window said → Comes game who o.site.kept e.after.arbiter (sent_with e.told) v.kept v.window (answer_heard game.rules (identity game who) v.kept v.window said) → Stands game (changed old who o.site (sent_with e.told))
+          by_said (Err fault) is same (inl c) = unchanged c.0 c.1
+          by_said (Err fault) is same (inr c) = unchanged c.1 c.2
+          by_said (Ok m) is same c = by_message m is c (heeded game.rules (identity game who) v.kept v.window m)
 
   asking_goes : (old new : Net) (who : Who) (v : View) → Stands game old → Asking old who v new → Stands game new
   asking_goes old new who v s o =
@@ -376,9 +399,24 @@ module _ {K : Type 0} (facts : KeeperFacts K) (game : Judged) where
   first_stands : Stands game (first_net game)
   first_stands = ([], record { a = record { kept = refl; runs = tt }; b = record { kept = refl; runs = tt }; log = refl })
 
+  pub stands_there : (acts : List (Act K)) (net : Net) → Goes facts game (first_net game) acts net → Stands game net
+  stands_there acts net g = goes (first_net game) net acts first_stands g
+
+  -- an arbiter that runs has the record of its side of the world
+  pub runs_true : (net : Net) → Stands game net → (who : Who) (v : View) → (site_of net who).arbiter ≡ Some v → v.is_down ≡ false → IsFrontOf game.rules game.moves v.kept
+  runs_true net s who v e up =
+      let world : World = after game (first_world game) s.0 in
+      let shows = shows_at game net world who s.1 in
+      let runs : RunsAt game who v (side_of world who) = subst (λ (x : Option View). RunsSo game who x (side_of world who)) e shows.runs in
+      subst (λ (x : Option Recorded). IfSome x (IsFrontOf game.rules game.moves)) (runs.is up).1
+      (front_of game world who (faithful_of game world (right_of game world (holds_after game s.0))))
+
+  pub arbiters_tell_the_truth : (acts : List (Act K)) (net : Net) → Goes facts game (first_net game) acts net → (who : Who) (v : View) → (site_of net who).arbiter ≡ Some v → v.is_down ≡ false → IsFrontOf game.rules game.moves v.kept
+  arbiters_tell_the_truth acts net g = runs_true net (stands_there acts net g)
+
   pub arbiters_are_worlds : (acts : List (Act K)) (net : Net) → Goes facts game (first_net game) acts net → IsOfWorld game net
   arbiters_are_worlds acts net g =
-      let s = goes (first_net game) net acts first_stands g in
+      let s = stands_there acts net g in
       record {
         events = s.0;
         a = s.1.a.kept;

@@ -5,6 +5,7 @@ use Rattle.move_msg.specs.declared.who.Who.{Who}
 use Rattle.move_msg.specs.declared.who.Who.TheVariants.{A, B}
 use Rattle.move_msg.specs.declared.who.Sender.TheVariants.{Source}
 use Rattle.move_msg.specs.declared.message.Message.{Message}
+use Rattle.move_msg.specs.declared.message.Message.TheVariants.{Move, Ack, Verdict, Fetch}
 use Rattle.arbiter_core.specs.declared.fault.DeliverFault.TheVariants as deliver
 use Rattle.arbiter_core.specs.declared.fault.OpenFault.TheVariants as opening
 use Rattle.arbiter_core.specs.Keeping.{KeeperFacts}
@@ -15,7 +16,7 @@ use Rattle.arbiter_core.specs.Delivers.{Delivers, Exchange, IsWritten, Told as A
 use Rattle.arbiter_core.specs.Opens.{Opens, Told as Opened, first_record}
 use Rattle.relay_world.specs.declared.event.Event.{Event}
 use Rattle.relay_world.specs.Worlds.{Judged, after, first_world, identity, listed}
-use Rattle.relay_world.specs.Headline.{IsFaithful}
+use Rattle.relay_world.specs.Headline.{IsFaithful, IsFrontOf}
 use Rattle.relay_world.specs.Runs.{KeptIs}
 
 -- where one of the two runs: what its next opening finds, and the arbiter while it is open
@@ -82,9 +83,16 @@ abbrev pub sent_with : Answered → List Message
 sent_with (Ok outputs) = outputs
 sent_with (Err fault) = []
 
--- A datagram comes: a message of the game was sent before, by the source or by one of the two. Other bytes are noise.
+-- it brings a move or asks for some; an acknowledgement and a verdict change nothing at an arbiter, whoever sends them
+abbrev pub IsHeeded : Message → Type 0
+IsHeeded (Move stamp sender number m) = Unit {0}
+IsHeeded (Ack stamp who count) = ⊥
+IsHeeded (Verdict stamp who ply verdict) = ⊥
+IsHeeded (Fetch stamp who number wanted) = Unit {0}
+
+-- A datagram comes: a message of the game that is heeded was sent before, by the source or by one of the two. Other bytes are noise.
 abbrev pub IsNoForgery : Judged → List Message → List ℕ → Type 0
-IsNoForgery game log datagram = (m : Message) → heard game.stamp datagram ≡ Ok m → (i : ℕ) × (slice_get log i ≡ Some m)
+IsNoForgery game log datagram = (m : Message) → heard game.stamp datagram ≡ Ok m → IsHeeded m → (i : ℕ) × (slice_get log i ≡ Some m)
 
 -- these bytes are written of the record that was to be put
 abbrev pub IsToBePut : View → Answer → Option (List ℕ) → Type 0
@@ -149,3 +157,10 @@ pub record IsOfWorld (game : Judged) (net : Net) : Type 0 where
 abbrev pub ArbitersAreWorlds : {K : Type 0} → KeeperFacts K → Type 0
 ArbitersAreWorlds {K = K} facts =
     (game : Judged) (acts : List (Act K)) (net : Net) → Goes facts game (first_net game) acts net → IsOfWorld game net
+
+-- What one of them tells while it runs is so: its record, of which each of its lines and messages tells, is the first moves of the game,
+-- with the first verdict exactly at its ply.
+abbrev pub ArbitersTellTheTruth : {K : Type 0} → KeeperFacts K → Type 0
+ArbitersTellTheTruth {K = K} facts =
+    (game : Judged) (acts : List (Act K)) (net : Net) → Goes facts game (first_net game) acts net
+    → (who : Who) (v : View) → (site_of net who).arbiter ≡ Some v → v.is_down ≡ false → IsFrontOf game.rules game.moves v.kept

@@ -5,7 +5,7 @@
 -- opening, what opening and delivering leave, from where each delivery starts, and that a game that is opened wasn't open. What no
 -- contract can give is a premise, and stands here:
 -- - `IsHostOf`: which hosts these are.
--- - `rest` of `IsRunOf`: a run that was stopped is a front of one that returns.
+-- - `goes` of `IsRunOf`, of a run that was stopped: its acts go on from one another as those of a run that returns.
 -- - `Finds`, `Hears` and `Stops`: the game that was found under the stamp is this one, no message of it is made up, and keepers keep.
 -- - `GivesOwn` and `GivesIf`: a datagram that no arbiter gets, a closing, and an act of another game leave what is found.
 --
@@ -25,7 +25,7 @@ use Rattle.arbiter_core.specs.Keeping.{KeeperFacts}
 use Rattle.arbiter_core.specs.Recording.{Recorded, count_of}
 use Rattle.arbiter_core.specs.Setups.{SetupView, rules_at}
 use Rattle.arbiter_core.specs.Views.{View}
-use Rattle.arbiter_core.specs.Delivers.{Exchange, IsWritten, answer_at}
+use Rattle.arbiter_core.specs.Delivers.{Exchange, IsWritten, Moment, answer_at}
 use Rattle.arbiter_core.specs.Opens.{Told, first_record}
 use Rattle.arbiter_server.specs.Folders.{Keepers}
 use Rattle.arbiter_server.specs.Acts.{Act, Unread, Strange, Refuses, Opens, Answers, Closes, Opening, acts_of, game_of, is_stamp}
@@ -85,13 +85,19 @@ pub record IsHostOf (game : Judged) (who : Who) (t : CommonView) : Type 0 where
   pub tables : t.set.tables ≡ game.rules.tables
   pub number : t.number ≡ who_number who
 
--- These acts are what a run of it has done so far: with what is still to come, if anything, they are the acts of a run that returns, as
--- the contract of `Server::serve` has them. Premise: a run that was stopped is a front of one that returns.
+-- These acts are what a run of it has done so far: those of the game go on from one another by its steps, to some life. Of a run that
+-- returns, and of each front of one, the contract of `Server::serve` gives this (`FrontsAreRuns`). Premise: so it is of a run that was
+-- stopped.
 pub record IsRunOf {K : Type 0} (s : Keepers K) (game : Judged) (who : Who) (acts : List (Act K)) : Type 0 where
   pub common : CommonView
   pub of : IsHostOf game who common
-  pub rest : List (Act K)
-  pub hosted : IsHosted s common (acts ++ rest)
+  pub life : Life K
+  pub goes : Goes s common game.stamp.0 Fresh (acts_of game.stamp.0 acts) life
+
+-- the acts of a run that returns, and each front of them, are those of a run
+abbrev pub FrontsAreRuns : {K : Type 0} → Keepers K → Type 0
+FrontsAreRuns {K = K} s =
+    (game : Judged) (who : Who) (common : CommonView) (acts rest : List (Act K)) → IsHostOf game who common → IsHosted s common (acts ++ rest) → IsRunOf s game who acts
 
 -- so are those of each run
 abbrev pub AreRunsOf : {K : Type 0} → Keepers K → Judged → Who → List (Deed K) → Type 0
@@ -219,3 +225,14 @@ abbrev pub AcksAreFound : {K L : Type 0} → Keepers K → Keepers L → Type 0
 AcksAreFound {K = K} {L = L} a b =
     (game : Judged) (steps : List (Step K L)) (net : Net) → AreWoven a b game steps net
     → (i : ℕ) (stamp : Stamp) (who : Who) (n : ℕ) → slice_get net.log i ≡ Some (Ack stamp who n) → HasMoves game n (site_of net who).kept
+
+-- Wherever the last run has led a game that is open, the record of its arbiter is the first moves of the game, with the first verdict
+-- exactly at its ply. The line of each answer tells the count and the verdict of this record (`line_for` of arbiter_server).
+abbrev pub TellsTheTruth : {K : Type 0} → Keepers K → Judged → List (Deed K) → Type 0
+TellsTheTruth {K = K} s game deeds =
+    (common : CommonView) (at : Moment K) → Goes s common game.stamp.0 Fresh (acts_of game.stamp.0 (last_run deeds)) (Open at) → IsFrontOf game.rules game.moves at.arbiter.kept
+
+-- What two hosts tell of a game is so.
+abbrev pub HostsTellTheTruth : {K L : Type 0} → Keepers K → Keepers L → Type 0
+HostsTellTheTruth {K = K} {L = L} a b =
+    (game : Judged) (steps : List (Step K L)) (net : Net) → AreWoven a b game steps net → TellsTheTruth a game (deeds_a steps) × TellsTheTruth b game (deeds_b steps)

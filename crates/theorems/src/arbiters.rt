@@ -1,6 +1,6 @@
 //! Two arbiters over keepers of any one type.
 
-ghost use Rattle.theorems.specs.Nets.{ArbitersAreWorlds};
+ghost use Rattle.theorems.specs.Nets.{ArbitersAreWorlds, ArbitersTellTheTruth};
 
 use arbiter_core::Keeper;
 
@@ -9,4 +9,10 @@ use arbiter_core::Keeper;
 /// message of the game was sent before, and an opening finds what was kept or, after a put that failed, what was to be kept.
 pub fn arbiters_are_worlds<K: Keeper>(_keeper: &K)
     ensures { ArbitersAreWorlds K.facts }
+{}
+
+/// What two such arbiters tell while they run is true: the record of each is the first moves of the game, with the first verdict
+/// exactly at its ply.
+pub fn arbiters_tell_the_truth<K: Keeper>(_keeper: &K)
+    ensures { ArbitersTellTheTruth K.facts }
 {}

@@ -7,20 +7,27 @@
 //!
 //! What the outside gives is a premise, act by act, in `specs/Nets.antt` and `specs/Weaves.antt`; nothing that a contract gives
 //! is stated there again. Of two hosts these are: which hosts they are and what their tables mean (`IsHostOf`); that the game
-//! found under the stamp is this one, that no message of it is made up, and that keepers keep (`Finds`, `Hears`, `Stops`); that a
-//! stopped run is a front of one that returns (`rest` of `IsRunOf`); that a closing, an act of another game and a datagram
+//! found under the stamp is this one, that no message of it is made up, and that keepers keep (`Finds`, `Hears`, `Stops`); that the
+//! acts of a stopped run go on as those of one that returns (`goes` of `IsRunOf`); that a closing, an act of another game and a datagram
 //! without a keeper leave what is found (`GivesOwn`, `GivesIf`).
 //!
 //! In `proofs/`: `Netting` (arbiters), `Seeing` (keepers of any type, seen as what they keep), `Weaving` (an act of a host as
-//! steps of an arbiter), `Stopping`, `Joining`, `Acking`.
+//! steps of an arbiter), `Stopping`, `Joining`, `Acking`, `Filing` (a host's runs as runs over a file), `Listening`.
 //!
-//! Definitions, in reading order: `Nets`, `Weaves`, `Sources`, `Seals`.
+//! Definitions, in reading order: `Nets`, `Weaves`, `Listens`, `HostFiles`, `Sources`, `Seals`.
 //!
 //! - CLAIM: `arbiters_are_worlds`: two arbiters of one game over keepers of any one type, by steps as the contracts of `open` and
 //!   `deliver` have them, come to a world, which is faithful to the game.
 //! - CLAIM: `hosts_are_worlds`: two hosts that have one game, each with any number of runs, their acts in any order and those of
 //!   other games among them, come to a world. While the game is open, its arbiter runs and its keeper keeps what is found there.
 //! - CLAIM: `acks_are_found`: as many moves as a host ever acknowledged are found there, then and later: the game's first ones.
+//! - CLAIM: `arbiters_tell_the_truth`; `hosts_tell_the_truth`: what such arbiters, and such hosts, tell of the game while it is open is
+//!   true: the record is the game's first moves, with the first verdict exactly at its ply.
+//! - CLAIM: `listens_are_hosted`: a run of `listen` that doesn't ask for moves first is one of a host that has one game, by its acts and
+//!   by what passes at its port. `listens_are_worlds`; `listen_beside_a_host`: so two of them, and one beside a host, come to a world.
+//! - CLAIM: `host_keeps_what_it_told`: what a host told of a game is found at each later start over the file of its record: as many
+//!   moves as it acknowledged, the same ones, and a verdict at its ply. This holds over any files, after any runs, wherever each
+//!   stopped.
 //! - CLAIM: `sends_the_log`: each datagram that a run of `send` passes on is a message of the log with which the worlds of its
 //!   moves begin.
 //! - CLAIM: `sources_tell_the_truth`: what a source goes by is true, where all that came of the game was sent in a world of it: a
@@ -30,11 +37,15 @@
 #![tactic(auto)]
 
 mod arbiters;
+mod host_files;
 mod hosts;
+mod listens;
 mod seals;
 mod sources;
 
-pub use arbiters::arbiters_are_worlds;
-pub use hosts::{acks_are_found, hosts_are_worlds};
+pub use arbiters::{arbiters_are_worlds, arbiters_tell_the_truth};
+pub use host_files::{host_keeps_what_it_told, hosts_over_files};
+pub use hosts::{acks_are_found, fronts_are_runs, hosts_are_worlds, hosts_tell_the_truth};
+pub use listens::{listen_beside_a_host, listens_are_hosted, listens_are_worlds};
 pub use seals::no_tag_no_forgery;
 pub use sources::{sends_the_log, sources_tell_the_truth};

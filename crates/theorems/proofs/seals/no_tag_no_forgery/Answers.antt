@@ -27,7 +27,7 @@ no_message stamp bytes m none h =
     let both : ◌≡◌ {A = Result Message DeliverFault} (Ok m) (Err (NotAMessage NoTag)) = sym h ∙ ap (heard stamp) none ∙ none_heard stamp in absurd cc
 
 by_test : OnlySealedIsPassedOn → (game : Judged) (log : List Message) (keys : Keys) (datagram passed : List ℕ) → opened (is_sealed_by keys datagram) datagram ≡ passed → HasNoForgedTag game log keys datagram → (b : Bool) → bytes_eq passed no_tag ≡ b → IsNoForgery game log passed
-by_test law game log keys datagram passed is unforged true e = λ m h. absurd (no_message game.stamp passed m ((bytes_eq-Decides passed no_tag).0 e) h)
+by_test law game log keys datagram passed is unforged true e = λ m h heeds. absurd (no_message game.stamp passed m ((bytes_eq-Decides passed no_tag).0 e) h)
 by_test law game log keys datagram passed is unforged false e = unforged passed (law keys datagram passed is (λ same. let yes : bytes_eq passed no_tag ≡ true = (bytes_eq-Decides passed no_tag).1 same in absurd cc))
 
 pub returns : goal.returns

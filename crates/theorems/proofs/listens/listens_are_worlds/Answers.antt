@@ -1,0 +1,10 @@
+use Rattle.theorems.proofs.Acking.{acks_are_found}
+use Rattle.theorems.proofs.Joining.{hosts_are_worlds, hosts_tell_the_truth}
+use Rattle.theorems.specs.Listens.{one_game}
+use Rattle.theorems.proofs.listens.listens_are_worlds.Goals as goal
+
+pub returns : goal.returns
+returns g c = λ setup its stamp.
+    let a = one_game g.F.KeptFile.facts setup stamp in
+    let b = one_game g.E.KeptFile.facts its stamp in
+    (hosts_are_worlds a b, acks_are_found a b, hosts_tell_the_truth a b)
