@@ -9,7 +9,8 @@ ghost use Rattle.arbiter_server.specs.Games.{common_with};
 ghost use Rattle.arbiter_server.specs.Room.{at_stamp};
 ghost use Rattle.arbiter_server.specs.Seats.{IsSeated};
 ghost use Rattle.arbiter_server.specs.Servers.{IsIdle, IsNew, ServerHosts, Stays};
-ghost use Rattle.arbiter_server.specs.Turns.{AnswersInHand, AnswersMessage, ComesBack, OpensFor, OpensFound, OpensSeat, Receives, Refuses, RefusesFor, RefusesFound, RefusesSeat, ServesOn, TakesSeat, TakesTurn, TurnsTo, reply_of};
+ghost use Rattle.arbiter_server.specs.Turns.{ComesBack, OpensFor, OpensFound, OpensSeat, RefusesFor, RefusesFound, RefusesSeat};
+ghost use Rattle.arbiter_server.specs.Turns.{AnswersInHand, AnswersMessage, Receives, Refuses, ServesOn, TakesSeat, TakesTurn, TurnsTo, reply_of};
 
 use crate::config::ServerConfig;
 use crate::fault::Unopened;
