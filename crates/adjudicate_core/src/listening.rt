@@ -19,7 +19,7 @@ use crate::numbers::CacheSize;
 use crate::refusals::Refusal;
 use crate::tables::gather;
 use arbiter_core::{OpenFault, Setup, name_of};
-use arbiter_server::{FileKeeper, put_line};
+use arbiter_server::{FileKeeper, Span, put_line};
 use board_core::Position;
 use fen_text::read;
 use move_msg::manifest_of;
@@ -56,8 +56,10 @@ fn open_and_serve<F: KeptFile + Drop, P: Port, W: Output>(
         setup,
         keeper,
         port,
-        listening.datagrams,
-        listening.fetch,
+        Span {
+            datagrams: listening.datagrams,
+            fetch: listening.fetch,
+        },
         out,
     ) {
         Ok(Ok(status)) => Ok(status),

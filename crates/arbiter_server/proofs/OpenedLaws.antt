@@ -1,6 +1,6 @@
 -- What serving an opened arbiter leaves.
 use Rattle.std.proofs.Common.{◌≡◌, ◌∙◌, ℕ, ◌≤◌, ◌<◌, Bool, true, false, List, length, take, Option, Some, None, inl, inr, ◌⊎◌, refl, sym, ap, subst, arith, ⊎_elim}
-use Rattle.std.specs.Prelude.{Result, Ok, Err, IfErr, IsErr}
+use Rattle.std.specs.Prelude.{Result, Ok, Err}
 use Rattle.std.specs.List.{list_all}
 use Rattle.std.proofs.lemmas.Bool.{both_ways, cases_Bool, cases_lt}
 use Rattle.std.proofs.lemmas.List.{take_all}

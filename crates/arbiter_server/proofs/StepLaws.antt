@@ -23,12 +23,12 @@ pub record Steps {K : Type 0} (s : KeeperFacts K) (old new : Moment K) (port por
   pub exchanges : List (Exchange K)
   pub loss : Loss K
   pub run : ServesSession s old new port port' [] (going_on exchanges loss)
-  pub is : IsOneStep (going_on exchanges loss) line next
+  pub is : IsOneStep (going_on exchanges loss) (line, next)
 
 came_and_sent : (n : ℕ) (d : List ℕ) (told : Told) → ((Came d ∷ []) ++ flat_map (handed n) (outputs_of told)) ≡ [] ++ (((Came d ∷ flat_map (handed n) (outputs_of told)) ++ []) ++ [])
 came_and_sent n d told = simp append-nil
 
-pub heard : {K : Type 0} (s : KeeperFacts K) (old new : Moment K) (port came_at port' : PortFacts) (d : List ℕ) (line : Heard) (next : Next) → Passed port came_at (Came d ∷ []) → Hears s old new came_at port' d line next → Steps s old new port port' line next
+pub heard : {K : Type 0} (s : KeeperFacts K) (old new : Moment K) (port came_at port' : PortFacts) (d : List ℕ) (line : Heard) (next : Next) → Passed port came_at (Came d ∷ []) → Hears s old new came_at port' d (line, next) → Steps s old new port port' line next
 unfolding InTurn
 heard {K = K} s old new port came_at port' d line GoesOn came h =
     let e : Exchange K = record { datagram = d; told = h.told; after = new } in
@@ -76,10 +76,10 @@ missed s at port port' line passed risen words =
     }
 
 -- its line was written
-pub told_one : {K : Type 0} (run : Session K) (line : Heard) (next : Next) (out out1 : Option (List ℕ)) → IsOneStep run line next → Appends out out1 (ended (heard_line line)) → TellsSession 1 run out out1 (Ok (status_by next))
+pub told_one : {K : Type 0} (run : Session K) (line : Heard) (next : Next) (out out1 : Option (List ℕ)) → IsOneStep run (line, next) → Appends out out1 (ended (heard_line line)) → TellsSession 1 run out out1 (Ok (status_by next))
 told_one run line next out out1 is p =
     (is.1, subst (λ (ls : List (List ℕ)). Appends out out1 (text_of ls)) (sym is.0) (subst (Appends out out1) (sym (append-nil (ended (heard_line line)))) p))
 
 -- or not
-pub untold_one : {K : Type 0} (run : Session K) (line : Heard) (next : Next) (out out1 : Option (List ℕ)) (fault : WriteFault) → IsOneStep run line next → TellsSession 1 run out out1 (Err fault)
+pub untold_one : {K : Type 0} (run : Session K) (line : Heard) (next : Next) (out out1 : Option (List ℕ)) (fault : WriteFault) → IsOneStep run (line, next) → TellsSession 1 run out out1 (Err fault)
 untold_one run line next out out1 fault is = let one : length (lines_of run) ≡ 1 = ap length is.0 in (omega arith, omega arith)

@@ -77,5 +77,5 @@ pub use games::{Found, Games};
 pub use heard::{Heard, HeardText, verdict_or_none};
 pub use over_file::open_and_serve;
 pub use server::Server;
-pub use serving::{put_line, send_all, serve};
-pub use stopping::run_after;
+pub use serving::{Span, put_line, send_all, serve};
+pub use stopping::{Stop, run_after};

@@ -9,7 +9,8 @@ ghost use Rattle.arbiter_server.specs.Games.{common_with};
 ghost use Rattle.arbiter_server.specs.Room.{at_stamp};
 ghost use Rattle.arbiter_server.specs.Seats.{IsSeated};
 ghost use Rattle.arbiter_server.specs.Servers.{IsIdle, IsNew, ServerHosts, Stays};
-ghost use Rattle.arbiter_server.specs.Turns.{AnswersInHand, AnswersMessage, ComesBack, OpensFor, OpensFound, OpensSeat, Receives, Refuses, RefusesFor, RefusesFound, RefusesSeat, ServesOn, TakesSeat, TakesTurn, TurnsTo, reply_of};
+ghost use Rattle.arbiter_server.specs.Turns.{ComesBack, OpensFor, OpensFound, OpensSeat, RefusesFor, RefusesFound, RefusesSeat};
+ghost use Rattle.arbiter_server.specs.Turns.{AnswersInHand, AnswersMessage, Receives, Refuses, ServesOn, TakesSeat, TakesTurn, TurnsTo, reply_of};
 
 use crate::config::ServerConfig;
 use crate::fault::Unopened;
@@ -261,8 +262,8 @@ impl<'a, G: Games + Drop> Server<'a, G> {
     /// lower-case hexadecimal digits: then comes what `serve` tells, or why the game isn't open, `refused NotOpen`, `refused NoGame`,
     /// `refused OtherGame`, `refused game` and a line of its file, `refused keeper` or `refused memory`. For bytes that are no
     /// message it is `- refused NotAMessage` and what is wrong with them. No refusal ends the run: a game whose keeper failed is
-    /// closed, and opened again over its file when its next datagram comes. Where no datagram can be received the line is `refused
-    /// port`, and the status 1.
+    /// closed, and opened again over its file when its next move or request comes. Where no datagram can be received the line is
+    /// `refused port`, and the status 1.
     ///
     /// The error comes only where the writer failed: each line before has gone out whole, of the last one a front may be written.
     pub fn serve<P: Port, W: Output>(

@@ -25,6 +25,15 @@ pub(crate) enum Next {
     Stops,
 }
 
+/// How much a run is to do.
+#[derive(Clone, Copy)]
+pub struct Span {
+    /// How many datagrams it answers.
+    pub datagrams: u64,
+    /// Whether it requests moves from the other arbiter first.
+    pub fetch: bool,
+}
+
 /// Sends a message. A send that fails is a loss, as on the way.
 fn send<P: Port>(port: &mut P, message: &Message)
     ensures { Passed (P.facts port.old) (P.facts port.new) (handed (P.facts port.old).addresses message.now) }
@@ -61,7 +70,7 @@ fn hear<K: Keeper, P: Port>(
     bytes: &[u8],
 ) -> (Heard, Next)
     requires { IsKept (K.facts.kept keeper.old) arbiter.old }
-    ensures hears { Hears K.facts (moment arbiter.old keeper.old) (moment arbiter.new keeper.new) (P.facts port.old) (P.facts port.new) bytes.now result.0 result.1 }
+    ensures hears { Hears K.facts (moment arbiter.old keeper.old) (moment arbiter.new keeper.new) (P.facts port.old) (P.facts port.new) bytes.now result }
     ensures keeps { IsKept (K.facts.kept keeper.new) arbiter.new }
 {
     match arbiter.deliver(alloc, keeper, bytes) {
@@ -84,7 +93,7 @@ fn receive<K: Keeper, P: Port>(
     port: &mut P,
 ) -> (Heard, Next)
     requires { IsKept (K.facts.kept keeper.old) arbiter.old }
-    ensures run { (run : Session K) × ServesSession K.facts (moment arbiter.old keeper.old) (moment arbiter.new keeper.new) (P.facts port.old) (P.facts port.new) [] run × IsOneStep run result.0 result.1 }
+    ensures run { (run : Session K) × ServesSession K.facts (moment arbiter.old keeper.old) (moment arbiter.new keeper.new) (P.facts port.old) (P.facts port.new) [] run × IsOneStep run result }
     ensures keeps { IsKept (K.facts.kept keeper.new) arbiter.new }
 {
     let mut buffer = [0u8; 64];
@@ -141,7 +150,7 @@ fn ask_if<P: Port>(arbiter: &Arbiter<'_>, port: &mut P, fetch: bool)
     }
 }
 
-/// Receives `n` datagrams, delivers each to the arbiter in turn, and sends its answers. Returns the status, 0 where all
+/// Receives the datagrams of a span, delivers each to the arbiter in turn, and sends its answers. Returns the status, 0 where all
 /// came.
 ///
 /// A line is written and flushed for each datagram. It is `ok`, the number of recorded moves and the verdict or `none`;
@@ -158,21 +167,20 @@ pub fn serve<K: Keeper, P: Port, W: Output>(
     arbiter: &mut Arbiter<'_>,
     keeper: &mut K,
     port: &mut P,
-    n: u64,
-    fetch: bool,
+    span: Span,
     out: &mut W,
 ) -> Result<u8, WriteFault>
     requires { IsKept (K.facts.kept keeper.old) arbiter.old }
 
     // The arbiter has answered the datagrams in turn, and all else at the port is what it sends to each address. The
     // lines and the status are those of this run, and each line has gone out before the next.
-    ensures run { ServesFrom K.facts P.facts (writers W.Write.contents W.facts) n fetch (at_work arbiter.old keeper.old port.old out.old) (at_work arbiter.new keeper.new port.new out.new) result }
+    ensures run { ServesFrom K.facts P.facts (writers W.Write.contents W.facts) span.datagrams span.fetch (at_work arbiter.old keeper.old port.old out.old) (at_work arbiter.new keeper.new port.new out.new) result }
 
     // A running arbiter's record is still the one that the keeper keeps.
     ensures keeps { IsKept (K.facts.kept keeper.new) arbiter.new }
 {
-    ask_if(arbiter, port, fetch);
-    for _ in 0..n {
+    ask_if(arbiter, port, span.fetch);
+    for _ in 0..span.datagrams {
         match serve_one(alloc, arbiter, keeper, port, out) {
             Ok(Next::GoesOn) => {}
             Ok(Next::Stops) => return Ok(1),

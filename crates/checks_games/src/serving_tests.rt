@@ -7,7 +7,7 @@ use crate::comparing::{check_bytes, check_same, push_bytes};
 use crate::failing::Failing;
 use crate::positions::START;
 use arbiter_core::{Arbiter, Keep, MemoryKeeper};
-use arbiter_server::{FileKeeper, open_and_serve, serve};
+use arbiter_server::{FileKeeper, Span, open_and_serve, serve};
 use std::alloc::Global;
 use std::process::Abort;
 use system_io::{MemoryCalls, MemoryPort, Output, Passage, Traced, Turn, WriteFault};
@@ -26,6 +26,16 @@ struct Row {
     letters: &'static str,
 }
 
+impl Row {
+    /// How much the run is to do.
+    fn span(&self) -> Span {
+        Span {
+            datagrams: self.datagrams,
+            fetch: self.fetch,
+        }
+    }
+}
+
 /// How a run over a keeper ends, and how many moves the arbiter has recorded then.
 fn serve_row<W: Output>(
     alloc: Global,
@@ -38,7 +48,7 @@ fn serve_row<W: Output>(
     requires { IsKept keeper.old.kept arbiter.old }
 {
     keeper.set(row.keep);
-    let ended = serve(alloc, arbiter, keeper, port, row.datagrams, row.fetch, out);
+    let ended = serve(alloc, arbiter, keeper, port, row.span(), out);
     (ended, arbiter.count())
 }
 
@@ -328,7 +338,7 @@ fn serve_over_calls(
     let file = Traced::new(alloc, MemoryCalls::new(alloc, None, Some(fails_at)));
     if let Ok(mut keeper) = FileKeeper::new(alloc, file) {
         let setup = setup_of(rt, alloc, START, 0);
-        let _ended = open_and_serve(alloc, setup, &mut keeper, port, 3, false, out);
+        let _ended = open_and_serve(alloc, setup, &mut keeper, port, Span { datagrams: 3, fetch: false }, out);
     }
 }
 

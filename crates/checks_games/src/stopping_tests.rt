@@ -3,7 +3,7 @@
 use crate::arbiters::{Sent, message_of, record_of, setup_of, stamp_of};
 use crate::comparing::{check_bytes, check_same};
 use crate::positions::START;
-use arbiter_server::run_after;
+use arbiter_server::{Span, Stop, run_after};
 use board_core::Verdict;
 use move_msg::{Message, Record};
 use std::alloc::Global;
@@ -157,12 +157,13 @@ fn run(
     let setup = setup_of(rt, alloc, START, 0);
     let left = run_after(
         alloc,
-        disk,
-        choice,
+        Stop { disk, choice },
         setup,
         port,
-        u64::from(datagrams),
-        true,
+        Span {
+            datagrams: u64::from(datagrams),
+            fetch: true,
+        },
         &mut lines,
     );
     (left.ok(), lines.ends_with(b"refused keeper\n"))

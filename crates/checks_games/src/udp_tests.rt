@@ -4,7 +4,7 @@ use crate::arbiters::{empty_keeper, game, open_first, text_of};
 use crate::comparing::{check_bytes, check_same, check_text};
 use crate::positions::START;
 use arbiter_core::MemoryKeeper;
-use arbiter_server::serve;
+use arbiter_server::{Span, serve};
 use move_msg::Message;
 use std::alloc::Global;
 use std::io::{Sink, sink};
@@ -22,7 +22,17 @@ fn serve_six<P: Port, W: Output>(
     out: &mut W,
 ) -> Result<u8, WriteFault> {
     let mut arbiter = open_first(rt, alloc, keeper, START, 0);
-    serve(alloc, &mut arbiter, keeper, port, 6, false, out)
+    serve(
+        alloc,
+        &mut arbiter,
+        keeper,
+        port,
+        Span {
+            datagrams: 6,
+            fetch: false,
+        },
+        out,
+    )
 }
 
 /// What an arbiter over a keeper that keeps nothing so far does with the datagrams.

@@ -24,13 +24,13 @@ abbrev pub status_in : Result Next WriteFault → Result ℕ WriteFault
 status_in told = result_map_both status_by (λ e. e) told
 
 -- a datagram is delivered, and its outputs are handed over
-pub record Hears {K : Type 0} (s : KeeperFacts K) (old new : Moment K) (port port' : PortFacts) (bytes : List ℕ) (line : Heard) (next : Next) : Type 0 where
+pub record Hears {K : Type 0} (s : KeeperFacts K) (old new : Moment K) (port port' : PortFacts) (bytes : List ℕ) (heard : Heard × Next) : Type 0 where
   pub told : Told
   pub delivered : Delivers s old (record { datagram = bytes; told = told; after = new })
   pub passed : Passed port port' (flat_map (handed port.addresses) (outputs_of told))
-  pub words : heard_line line ≡ line_for told new.arbiter.kept
-  pub stop : stops next ≡ loses_keeper told
+  pub words : heard_line heard.0 ≡ line_for told new.arbiter.kept
+  pub stop : stops heard.1 ≡ loses_keeper told
 
 -- a run of one datagram has this line, and goes on or stops so
-abbrev pub IsOneStep : {K : Type 0} → Session K → Heard → Next → Type 0
-IsOneStep run line next = (lines_of run ≡ heard_line line ∷ []) × IsStatus run.loss 1 (length (exchanges_of run)) (status_by next)
+abbrev pub IsOneStep : {K : Type 0} → Session K → Heard × Next → Type 0
+IsOneStep run heard = (lines_of run ≡ heard_line heard.0 ∷ []) × IsStatus run.loss 1 (length (exchanges_of run)) (status_by heard.1)

@@ -6,7 +6,7 @@ use Rattle.arbiter_server.proofs.serving.receive.Goals as goal
 
 pub returns-in-Ok-clause-run : goal.returns-in-Ok-clause-run
 returns-in-Ok-clause-run g c =
-    let h = heard _ _ _ _ _ _ _ _ _ c.in-Ok.ensures.came c.hear.ensures.hears in
+    let h = heard _ _ _ _ _ _ _ c.hear.result.0 c.hear.result.1 c.in-Ok.ensures.came c.hear.ensures.hears in
     (going_on h.exchanges h.loss, h.run, h.is)
 
 pub returns-in-Err-clause-run : goal.returns-in-Err-clause-run

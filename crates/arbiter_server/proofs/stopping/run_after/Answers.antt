@@ -8,7 +8,7 @@ use Rattle.arbiter_server.proofs.stopping.run_after.Goals as goal
 pub returns-in-Ok-clause-run : goal.returns-in-Ok-clause-run
 returns-in-Ok-clause-run g c = record {
   start = c.in-Ok.keeper;
-  found = read_so c.args.disk c.stop.result c.args.choice _ c.in-Ok.ensures.one c.stop.ensures.rest c.stop.ensures.left;
+  found = read_so c.args.stop.disk c.stop.result c.args.stop.choice _ c.in-Ok.ensures.one c.stop.ensures.rest c.stop.ensures.left;
   ended = c.open_and_serve-ended.new.keeper;
   told = c.open_and_serve-ended.result;
   served = c.open_and_serve-ended.ensures.served;
@@ -26,7 +26,7 @@ returns-in-Ok-clause-one g c = record {
 
 pub returns-in-Ok-clause-there : goal.returns-in-Ok-clause-there
 returns-in-Ok-clause-there g c =
-    came_after c.puts_grow.ensures disk_facts (setup_view c.args.setup) c.args.disk _ _ c.in-Ok.keeper c.open_and_serve-ended.new.keeper
+    came_after c.puts_grow.ensures disk_facts (setup_view c.args.setup) c.args.stop.disk _ _ c.in-Ok.keeper c.open_and_serve-ended.new.keeper
     (record { one = λ a b h. c.in-Ok.ensures.one a b (c.stop.ensures.same a b h); in_file = c.in-Ok.ensures.found })
     (ran_over disk_facts _ (setup_view c.args.setup) _ _ (scene _ _ _) (scene _ _ _) _ _ c.open_and_serve-ended.result c.open_and_serve-ended.ensures.served) c.into_file.result c.into_file.ensures
 
