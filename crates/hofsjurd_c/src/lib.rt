@@ -7,7 +7,7 @@
 //! and each returns, given what the caller owes.
 //!
 //! Inside: `handle`, `game_handle` and `held` (what they own), `seat`, `game_seat` (a pointer as C keeps it), `loose` (a box as
-//! its pointer), `asking`, `move_calls`, `determined_calls`, `holding_calls`, `sharing`. This is the only crate with `extern` functions and unsafe code.
+//! its pointer), `asking`, `move_calls`, `determined_calls`, `holding_calls`, `sharing` (a second handle with the tables of a first; that handles may pass to another thread). This is the only crate with `extern` functions and unsafe code.
 //!
 //! Definitions: `Owned` (which box a handle's pointer owns), `Beginning`. It is tried by `tools/c_harness/run`: values beside
 //! libfathom's, cut and changed files, each allocation refused in turn.
@@ -15,8 +15,6 @@
 //! - CLAIM: `hofsjurd_open`, clauses `opened`, `refused`, `memory`; `hofsjurd_close`; `hofsjurd_game_end`: a handle holds one set
 //!   of tables or none, a game's handle one game or none. Closing leaves it empty, and opening replaces what it held; that this
 //!   is freed is no clause.
-//! - CLAIM: `hofsjurd_share`, clauses `closed`, `shared`, `refused`, `memory`, `kept`: a second handle with the tables of a first,
-//!   and a cache of its own. That a table is freed with the last handle is no clause.
 //! - CLAIM: `hofsjurd_add`, clauses `closed`, `is`, `open`; `hofsjurd_wdl`, clauses `closed`, `is`, `kept`;
 //!   `hofsjurd_boards_wdl`, clauses `lengths`, `refused`: these exports, and the others as `docs/C_LIBRARY.md` lists them, answer
 //!   as `probe_api` does for what the handle holds. A closed handle is status 1, no game status 6 (for `hofsjurd_game_fen` the

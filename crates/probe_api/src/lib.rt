@@ -15,9 +15,9 @@
 //! - CLAIM: `answer_text`, clauses `is`, `kept`; `answer_board`, clauses `is`, `kept`: of the position that a text spells or a
 //!   board shows, the WDL value, the DTZ value or the verdict of `judge_core`, or else the first fault. Lack of memory is never
 //!   reported of a WDL value, and of a distance or a verdict only where moves are listed for it. The set stays as it was.
-//! - CLAIM: `answer_text` and `answer_board` where `Question::DeterminedWdl` or `Question::DeterminedDtz` is asked; `root_of_text`
-//!   and `root_of_board` by `Ask::Determined`: the value, the distance and the root moves that are the same whatever the missing
-//!   tables hold, the set's own where it has one.
+//! - CLAIM: `answer_text`, clause `is`; `answer_board`, clause `is`; `root_of_text`, clause `is`; `root_of_board`, clause `is`: where
+//!   determined values are asked for, the value, the distance and the root moves that are the same whatever the missing tables hold,
+//!   the set's own where it has one.
 //! - CLAIM: `answer_boards`, clauses `is`, `lengths`, `refused`, `kept`: of many boards each reply is that of its board. The
 //!   status is 0 where there are as many replies as boards, and else 82, and none is written.
 //! - CLAIM: `add`, clause `is`: a file is added as the table that it is, or refused by its first fault or as one that is there; a
