@@ -12,9 +12,9 @@
 //! without a keeper leave what is found (`GivesOwn`, `GivesIf`).
 //!
 //! In `proofs/`: `Netting` (arbiters), `Seeing` (keepers of any type, seen as what they keep), `Weaving` (an act of a host as
-//! steps of an arbiter), `Stopping`, `Joining`, `Acking`, `Filing` (a host's runs as runs over a file), `Listening`.
+//! steps of an arbiter), `Stopping`, `Joining`, `Acking`, `Filing` and `FileWeaving` (hosts over files), `Listening`.
 //!
-//! Definitions, in reading order: `Nets`, `Weaves`, `Listens`, `HostFiles`, `Sources`, `Seals`.
+//! Definitions, in reading order: `Nets`, `Weaves`, `Listens`, `HostFiles`, `FileWeaves`, `Sources`, `Seals`.
 //!
 //! - CLAIM: `arbiters_are_worlds`: two arbiters of one game over keepers of any one type, by steps as the contracts of `open` and
 //!   `deliver` have them, come to a world, which is faithful to the game.
@@ -28,6 +28,8 @@
 //! - CLAIM: `host_keeps_what_it_told`: what a host told of a game is found at each later start over the file of its record: as many
 //!   moves as it acknowledged, the same ones, and a verdict at its ply. This holds over any files, after any runs, wherever each
 //!   stopped.
+//! - CLAIM: `hosts_over_files`: two hosts, each over a file of the game, come to a net as `hosts_are_worlds` asks, by what starts find in
+//!   the two files: that keepers keep, and what a closing, another game's act and a stopped put leave, are no premises.
 //! - CLAIM: `sends_the_log`: each datagram that a run of `send` passes on is a message of the log with which the worlds of its
 //!   moves begin.
 //! - CLAIM: `sources_tell_the_truth`: what a source goes by is true, where all that came of the game was sent in a world of it: a
