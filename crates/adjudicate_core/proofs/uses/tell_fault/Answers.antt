@@ -1,4 +1,15 @@
+use Rattle.std.proofs.Common.{append_assoc}
+use Rattle.std.specs.Prelude.{codes}
+use Rattle.adjudicate_core.specs.Misuses.{instead_name}
 use Rattle.adjudicate_core.proofs.uses.tell_fault.Goals as goal
 
 pub returns-in-NoWord : goal.returns-in-NoWord
 returns-in-NoWord g c = rw c.in-NoWord.is (rw c.as_bytes-in-NoWord.ensures.value at c.tell_line-in-NoWord.ensures)
+
+pub returns-in-NotWith : goal.returns-in-NotWith
+returns-in-NotWith g c =
+    let name = c.in-NotWith.name.now in
+    rw c.in-NotWith.is (
+      rw (append_assoc name (codes ": not with --") (instead_name c.in-NotWith.instead))
+      (rw c.as_bytes-in-NotWith.ensures.value at (rw c.rest-in-NotWith.ensures at c.tell_line-in-NotWith.ensures))
+    )
