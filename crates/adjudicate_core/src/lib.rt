@@ -58,6 +58,7 @@ mod keys;
 mod line_answers;
 mod lines;
 mod listening;
+mod locking;
 mod manifests;
 mod numbers;
 mod program;
