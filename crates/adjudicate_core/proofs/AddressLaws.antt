@@ -5,7 +5,7 @@ use Rattle.std.proofs.lemmas.List.{length-append, length-drop}
 use Rattle.std.specs.List.{AllByRecursion, Contains, after_first, before_first, onto_first, position_or_len, slice_split}
 use Rattle.std.proofs.lemmas.List.Splits.{length-slice_split, slice_split_first, slice_split-cons_no}
 use Rattle.fen_text.specs.Cuts.{cut_at}
-use Rattle.adjudicate_core.specs.Addresses.{AreAddresses, IsAddress, addresses_of}
+use Rattle.adjudicate_core.specs.Addresses.{IsAddress, addresses_of}
 use Rattle.adjudicate_core.specs.Numbers.{IsNumber}
 use Rattle.adjudicate_core.specs.Inside.Behind.{IsBehindColon}
 
@@ -82,32 +82,32 @@ all_behind : {A : Type 0} (P : A → Type 0) (xs ys : List A) → AllByRecursion
 all_behind P [] ys h = h
 all_behind P (x ∷ xs) ys h = all_behind P xs ys h.1
 
--- these are done, and each is an address
-pub record DoneTo (word rest : List ℕ) : Type 0 where
+-- these are done, and each is such a part
+pub record DoneTo (P : List ℕ → Type 0) (word rest : List ℕ) : Type 0 where
   pub done : List (List ℕ)
   pub parts : addresses_of word ≡ done ++ addresses_of rest
-  pub all : AllByRecursion IsAddress done
+  pub all : AllByRecursion P done
 
-pub done_none : (word : List ℕ) → DoneTo word word
-done_none word = record { done = []; parts = refl; all = tt }
+pub done_none : (P : List ℕ → Type 0) (word : List ℕ) → DoneTo P word word
+done_none P word = record { done = []; parts = refl; all = tt }
 
-pub done_more : (word rest first more : List ℕ) → DoneTo word rest → first ≡ before_first (λ b. b == 44) rest → more ≡ after_first (λ b. b == 44) rest → position_or_len (λ b. b == 44) rest < length rest → IsAddress first → DoneTo word more
-done_more word rest first more h is_first is_more some good =
-    record { done = h.done ++ first ∷ []; parts = one_found 44 word rest first more h.done h.parts is_first is_more some; all = all_append IsAddress h.done first h.all good }
+pub done_more : (P : List ℕ → Type 0) (word rest first more : List ℕ) → DoneTo P word rest → first ≡ before_first (λ b. b == 44) rest → more ≡ after_first (λ b. b == 44) rest → position_or_len (λ b. b == 44) rest < length rest → P first → DoneTo P word more
+done_more P word rest first more h is_first is_more some good =
+    record { done = h.done ++ first ∷ []; parts = one_found 44 word rest first more h.done h.parts is_first is_more some; all = all_append P h.done first h.all good }
 
-pub done_bad : (word rest first more : List ℕ) → DoneTo word rest → first ≡ before_first (λ b. b == 44) rest → more ≡ after_first (λ b. b == 44) rest → position_or_len (λ b. b == 44) rest < length rest → (IsAddress first → ⊥) → AreAddresses word → ⊥
-done_bad word rest first more h is_first is_more some bad all =
+pub done_bad : (P : List ℕ → Type 0) (word rest first more : List ℕ) → DoneTo P word rest → first ≡ before_first (λ b. b == 44) rest → more ≡ after_first (λ b. b == 44) rest → position_or_len (λ b. b == 44) rest < length rest → (P first → ⊥) → AllByRecursion P (addresses_of word) → ⊥
+done_bad P word rest first more h is_first is_more some bad all =
     let parts = h.parts ∙ ap (λ l. h.done ++ l) (one_found 44 rest rest first more [] refl is_first is_more some) in
-    bad (all_behind IsAddress h.done (first ∷ addresses_of more) (subst (AllByRecursion IsAddress) parts all)).0
+    bad (all_behind P h.done (first ∷ addresses_of more) (subst (AllByRecursion P) parts all)).0
 
-last_parts : (word rest : List ℕ) (h : DoneTo word rest) → position_or_len (λ b. b == 44) rest ≡ length rest → addresses_of word ≡ h.done ++ rest ∷ []
-last_parts word rest h none = sym (all_found 44 word rest h.done h.parts none)
+last_parts : (P : List ℕ → Type 0) (word rest : List ℕ) (h : DoneTo P word rest) → position_or_len (λ b. b == 44) rest ≡ length rest → addresses_of word ≡ h.done ++ rest ∷ []
+last_parts P word rest h none = sym (all_found 44 word rest h.done h.parts none)
 
-pub done_last : (word rest : List ℕ) → DoneTo word rest → position_or_len (λ b. b == 44) rest ≡ length rest → IsAddress rest → AreAddresses word
-done_last word rest h none good = subst (AllByRecursion IsAddress) (sym (last_parts word rest h none)) (all_append IsAddress h.done rest h.all good)
+pub done_last : (P : List ℕ → Type 0) (word rest : List ℕ) → DoneTo P word rest → position_or_len (λ b. b == 44) rest ≡ length rest → P rest → AllByRecursion P (addresses_of word)
+done_last P word rest h none good = subst (AllByRecursion P) (sym (last_parts P word rest h none)) (all_append P h.done rest h.all good)
 
-pub done_not : (word rest : List ℕ) → DoneTo word rest → position_or_len (λ b. b == 44) rest ≡ length rest → (IsAddress rest → ⊥) → AreAddresses word → ⊥
-done_not word rest h none bad all = bad (all_behind IsAddress h.done (rest ∷ []) (subst (AllByRecursion IsAddress) (last_parts word rest h none) all)).0
+pub done_not : (P : List ℕ → Type 0) (word rest : List ℕ) → DoneTo P word rest → position_or_len (λ b. b == 44) rest ≡ length rest → (P rest → ⊥) → AllByRecursion P (addresses_of word) → ⊥
+done_not P word rest h none bad all = bad (all_behind P h.done (rest ∷ []) (subst (AllByRecursion P) (last_parts P word rest h none) all)).0
 
 pub only_one : (word : List ℕ) → position_or_len (λ b. b == 44) word ≡ length word → addresses_of word ≡ word ∷ []
 only_one word none = sym (all_found 44 word word [] refl none)

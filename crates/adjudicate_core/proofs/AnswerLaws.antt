@@ -5,7 +5,7 @@ use Rattle.adjudicate_core.specs.declared.answers.Answer.{Answer}
 use Rattle.adjudicate_core.specs.Inside.Asked.{PutsAnswered, PutsRead, reply_of}
 use Rattle.adjudicate_core.specs.Reply.{AnswersOnce, AnswersRead, NoRoomToRead, ReadAll, Refused, Replied, Reply, Unread}
 use Rattle.task_files.specs.Given.{Given}
-use Rattle.adjudicate_core.specs.Listens.{AtFile, BadStart, BadTables, BindsAndServes, Bound, Hosted, Kept, KeepsAndServes, Listens, NoAddress, NoRoom, NoRoomForFile, NoRoomForLine, NoRoomToBind, NoRoomToKeep, Opened, OpensAndServes, Ready, Served, ServesAt, StartsAt, Unasked, Unbound, Unopened, Unreadable as Unkept, Unready, seen_as, seen_by, serving_to, setup_for, writing_to}
+use Rattle.adjudicate_core.specs.Listens.{AtFile, BadStart, BadTables, BindsAndServes, Bound, Hosted, InUse, Kept, KeepsAndServes, Listens, Locked, NoAddress, NoLock, NoRoom, NoRoomForFile, NoRoomForLine, NoRoomToBind, NoRoomToKeep, NoRoomToLock, Opened, OpensAndServes, Ready, Served, ServesAt, ServesLocked, StartsAt, Unasked, Unbound, Unopened, Unreadable as Unkept, Unready, seen_as, seen_by, serving_to, setup_for, writing_to}
 use Rattle.adjudicate_core.specs.Lines.{ready_words}
 use Rattle.move_msg.specs.TextLines.{ended}
 use Rattle.std.specs.Io.KnownBytes.{Appends}
@@ -74,9 +74,15 @@ module _ {P F W : Type 0} (host : Hosted P F) (w : Writers W) (status : ℕ) (l 
   kept_done out out' setup file port port' old new (NoRoomToKeep why nothing told) = NoRoomToKeep why nothing told
   kept_done out out' setup file port port' old new (Kept keeper after starts h) = Kept keeper after starts (opened_done out out' setup (scene keeper port old) (scene after port' new) h)
 
+  locked_done : (out out' : W) (setup : SetupView) (port port' : PortFacts) (old new : Option (List ℕ)) → ServesLocked host (writing_to host.file w out out' (Ok status)) l setup port port' old new (Ok status) → ServesLocked host (serving_to host.file (Ok status)) l setup port port' old new (Ok status)
+  locked_done out out' setup port port' old new (AtFile file there h) = AtFile file there (kept_done out out' setup file port port' old new h)
+  locked_done out out' setup port port' old new (NoRoomForFile why nothing told) = NoRoomForFile why nothing told
+
   at_done : (out out' : W) (setup : SetupView) (port port' : PortFacts) (old new : Option (List ℕ)) → ServesAt host (writing_to host.file w out out' (Ok status)) l setup port port' old new (Ok status) → ServesAt host (serving_to host.file (Ok status)) l setup port port' old new (Ok status)
-  at_done out out' setup port port' old new (AtFile file there h) = AtFile file there (kept_done out out' setup file port port' old new h)
-  at_done out out' setup port port' old new (NoRoomForFile why nothing told) = NoRoomForFile why nothing told
+  at_done out out' setup port port' old new (InUse held nothing told) = InUse held nothing told
+  at_done out out' setup port port' old new (NoLock failed nothing told) = NoLock failed nothing told
+  at_done out out' setup port port' old new (NoRoomToLock nothing told) = NoRoomToLock nothing told
+  at_done out out' setup port port' old new (Locked given h) = Locked given (locked_done out out' setup port port' old new h)
 
   line_done : (out mid : W) (line : List ℕ) → GoOut w out (line ∷ []) mid → Appends (w.written out) (w.written mid) (ended line)
   unfolding GoOut

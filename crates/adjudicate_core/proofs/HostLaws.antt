@@ -14,7 +14,7 @@ use Rattle.arbiter_server.specs.Games.{CommonView}
 use Rattle.arbiter_server.specs.Hosts.{Hosts, all_lines}
 use Rattle.adjudicate_core.specs.declared.commands.host.HostGames.{HostGames}
 use Rattle.task_files.specs.Given.{Given}
-use Rattle.adjudicate_core.specs.Hostings.{BadTables, BindsAndHosts, Bound, Hosting, HostsAndWrites, HostsAt, HostsGames, HostsNow, NoAddress, NoFolder, NoRoom, NoRoomForGames, NoRoomForLine, NoRoomToBind, Ready, Served, Unbound, Unready, common_for, Seen, seen_as, seen_by}
+use Rattle.adjudicate_core.specs.Hostings.{BadTables, BindsAndHosts, Bound, Hosting, HostsAndWrites, HostsAt, HostsGames, HostsNow, InUse, Locked, LocksAndHosts, NoAddress, NoFolder, NoLock, NoRoom, NoRoomForGames, NoRoomForLine, NoRoomToBind, NoRoomToLock, Ready, Served, Unbound, Unready, common_for, Seen, seen_as, seen_by}
 use Rattle.adjudicate_core.specs.Inside.HostingParts.{IsUnlisted}
 use Rattle.adjudicate_core.specs.Lines.{ready_words, refusal_words}
 use Rattle.adjudicate_core.specs.Listens.{Hosted}
@@ -60,11 +60,17 @@ module _ {P F K W : Type 0} (folders : List ℕ → Keepers K) (host : Hosted P 
   bound_done t out out' (NoRoomToBind why told) = NoRoomToBind why told
   bound_done t out out' (Bound port port' bound each run) = Bound port port' bound each (at_done t port (host.port port') out out' run)
 
+  lock_done : (t : CommonView) (out out' : W) → LocksAndHosts host (seen_by folders w (Ok status)) h t out out' (Ok status) → LocksAndHosts host (seen_as folders (Ok status)) h t (w.written out) (w.written out') (Ok status)
+  lock_done t out out' (InUse held told) = InUse held told
+  lock_done t out out' (NoLock failed told) = NoLock failed told
+  lock_done t out out' (NoRoomToLock told) = NoRoomToLock told
+  lock_done t out out' (Locked given run) = Locked given (bound_done t out out' run)
+
   all_done : (disk : DiskFacts) (given : Given) (out out' : W) → HostsGames disk host (seen_by folders w (Ok status)) h given out out' (Ok status) → HostsGames disk host (seen_as folders (Ok status)) h given (w.written out) (w.written out') (Ok status)
   all_done disk given out out' (BadTables words refused told) = BadTables words refused told
   all_done disk given out out' (NoFolder set tables fails told) = NoFolder set tables fails told
   all_done disk given out out' (NoRoom told) = NoRoom told
-  all_done disk given out out' (Hosting set tables names lists manifest is run) = Hosting set tables names lists manifest is (bound_done (common_for h set manifest) out out' run)
+  all_done disk given out out' (Hosting set tables names lists manifest is run) = Hosting set tables names lists manifest is (lock_done (common_for h set manifest) out out' run)
 
 pub hosted_games : {P F K W : Type 0} (disk : DiskFacts) (folders : List ℕ → Keepers K) (host : Hosted P F) (w : Writers W) (out out' : W) (h : HostGames) (given : Given) (r : Result ℕ WriteFault) → HostsGames disk host (seen_by folders w r) h given out out' r → IfOk r (λ status. HostsGames disk host (seen_as folders (Ok status)) h given (w.written out) (w.written out') (Ok status))
 hosted_games disk folders host w out out' h given (Ok status) run = all_done folders host w status h disk given out out' run

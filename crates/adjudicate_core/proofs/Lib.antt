@@ -12,6 +12,7 @@ pub mod LookLaws
 pub mod MisuseLaws
 pub mod PutLaws
 pub mod BindLaws
+pub mod LockLaws
 pub mod EnterLaws
 pub mod EntryLaws
 pub mod RootLines

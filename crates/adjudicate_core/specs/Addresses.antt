@@ -1,7 +1,8 @@
 -- Addresses in one word (this project's own).
-use Rattle.std.specs.Prelude.{◌≡◌, ◌<◌, ◌+◌, ◌++◌, ◌^◌, ℕ, List, [], ◌∷◌, length}
+use Rattle.std.specs.Prelude.{◌≡◌, ◌⊎◌, ◌<◌, ◌+◌, ◌++◌, ◌^◌, ℕ, List, [], ◌∷◌, length}
 use Rattle.std.specs.List.{AllByRecursion, Contains}
 use Rattle.fen_text.specs.Cuts.{cut_at}
+use Rattle.system_io.specs.Recipients.{sender_word}
 use Rattle.adjudicate_core.specs.Numbers.{IsNumber}
 
 -- commas part them
@@ -23,3 +24,10 @@ pub record IsAddress (text : List ℕ) : Type 0 where
 -- each of them is an address
 abbrev pub AreAddresses : List ℕ → Type 0
 AreAddresses word = AllByRecursion IsAddress (addresses_of word)
+
+-- or the word for whoever sent the last datagram
+abbrev pub IsRecipient : List ℕ → Type 0
+IsRecipient text = (text ≡ sender_word) ⊎ IsAddress text
+
+abbrev pub AreRecipients : List ℕ → Type 0
+AreRecipients word = AllByRecursion IsRecipient (addresses_of word)

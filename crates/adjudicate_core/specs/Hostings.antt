@@ -14,9 +14,10 @@ use Rattle.system_io.specs.KeptFiles.{KeptFacts}
 use Rattle.system_io.specs.Outputs.{OutputFacts}
 use Rattle.system_io.specs.Ports.{Passed, PortFacts}
 use Rattle.system_io.specs.declared.host.BindFault.TheVariants as bind
+use Rattle.system_io.specs.declared.host.LockFault.TheVariants as lock
 use Rattle.system_io.specs.declared.output.WriteFault.{WriteFault}
 use Rattle.arbiter_server.specs.GoingOut.{GoOut, LastIsCut, Writers, writers}
-use Rattle.arbiter_server.specs.ServedLines.{refused_port}
+use Rattle.arbiter_server.specs.ServedLines.{refused_keeper, refused_port}
 use Rattle.arbiter_server.specs.Acts.{Act, all_replies}
 use Rattle.arbiter_server.specs.DiskGames.{disk_keepers}
 use Rattle.arbiter_server.specs.Folders.{Keepers}
@@ -26,8 +27,9 @@ use Rattle.adjudicate_core.specs.Addresses.{addresses_of}
 use Rattle.adjudicate_core.specs.declared.commands.host.HostGames.{HostGames}
 use Rattle.adjudicate_core.specs.declared.hosting.HostPlan.{HostPlan}
 use Rattle.task_files.specs.Given.{Given}
-use Rattle.adjudicate_core.specs.Lines.{ready_words}
+use Rattle.adjudicate_core.specs.Lines.{ready_words, refused_in_use}
 use Rattle.adjudicate_core.specs.Listens.{Hosted, LacksRoomToBind, hosted}
+use Rattle.adjudicate_core.specs.Locks.{games_lock}
 use Rattle.adjudicate_core.specs.Looks.{gathered}
 use Rattle.adjudicate_core.specs.Telling.{TellsIf}
 use Rattle.line_teller.specs.ToldLines.{refused_files, refused_memory}
@@ -89,12 +91,19 @@ pub data BindsAndHosts {P F T : Type 0} (host : Hosted P F) (seen : Seen T) (h :
   NoRoomToBind : LacksRoomToBind host.host h.bind.now h.to.now → TellsIf refused_memory (seen.written old) (seen.written new) r → BindsAndHosts host seen h t old new r
   Bound : (port port' : P) → host.host.binds h.bind.now (addresses_of h.to.now) port → (host.port port).addresses ≡ length (addresses_of h.to.now) → HostsAt host seen h t port (host.port port') old new r → BindsAndHosts host seen h t old new r
 
+-- the folder is another process's, or can't be locked; or it is locked, and what follows is under its lock
+pub data LocksAndHosts {P F T : Type 0} (host : Hosted P F) (seen : Seen T) (h : HostGames) (t : CommonView) (old new : T) (r : Result ℕ WriteFault) : Type 0 where
+  InUse : host.host.bars (games_lock h.games.now) lock.Held → TellsIf refused_in_use (seen.written old) (seen.written new) r → LocksAndHosts host seen h t old new r
+  NoLock : host.host.bars (games_lock h.games.now) lock.Failed → TellsIf refused_keeper (seen.written old) (seen.written new) r → LocksAndHosts host seen h t old new r
+  NoRoomToLock : TellsIf refused_memory (seen.written old) (seen.written new) r → LocksAndHosts host seen h t old new r
+  Locked : host.host.gives_lock (games_lock h.games.now) → BindsAndHosts host seen h t old new r → LocksAndHosts host seen h t old new r
+
 -- hosting: a table is refused; or else the folder of games can't be listed; or else what follows, with the manifest of the tables' files
 pub data HostsGames {P F T : Type 0} (disk : DiskFacts) (host : Hosted P F) (seen : Seen T) (h : HostGames) (given : Given) (old new : T) (r : Result ℕ WriteFault) : Type 0 where
   BadTables : (words : List ℕ) → gathered given ≡ Err words → TellsIf words (seen.written old) (seen.written new) r → HostsGames disk host seen h given old new r
   NoFolder : (set : Holding) → Ok set.tables ≡ gathered given → disk.fails (AtFolder h.games.now) → TellsIf refused_files (seen.written old) (seen.written new) r → HostsGames disk host seen h given old new r
   NoRoom : TellsIf refused_memory (seen.written old) (seen.written new) r → HostsGames disk host seen h given old new r
-  Hosting : (set : Holding) → Ok set.tables ≡ gathered given → (names : List (List ℕ)) → disk.lists h.games.now names → (manifest : List ℕ) → SpellsManifest manifest (entries_of given.files) → BindsAndHosts host seen h (common_for h set manifest) old new r → HostsGames disk host seen h given old new r
+  Hosting : (set : Holding) → Ok set.tables ≡ gathered given → (names : List (List ℕ)) → disk.lists h.games.now names → (manifest : List ℕ) → SpellsManifest manifest (entries_of given.files) → LocksAndHosts host seen h (common_for h set manifest) old new r → HostsGames disk host seen h given old new r
 
 -- ---- with the writer
 
@@ -123,6 +132,9 @@ WritesAt a h port port' out out' r = HostsAt a.host (writing a r) h.task.now (co
 
 abbrev pub BindsAndWrites : {D H P F W : Type 0} → Around P F W → HostPlan D H → W → W → Result ℕ WriteFault → Type 0
 BindsAndWrites a h out out' r = BindsAndHosts a.host (writing a r) h.task.now (common_with h.config h.tables) out out' r
+
+abbrev pub LocksAndWrites : {D H P F W : Type 0} → Around P F W → HostPlan D H → W → W → Result ℕ WriteFault → Type 0
+LocksAndWrites a h out out' r = LocksAndHosts a.host (writing a r) h.task.now (common_with h.config h.tables) out out' r
 
 abbrev pub HostsAndTells : {P F W : Type 0} → Around P F W → HostGames → Given → W → W → Result ℕ WriteFault → Type 0
 HostsAndTells a h given out out' r = HostsGames a.disk a.host (writing a r) h given out out' r

@@ -16,6 +16,7 @@ pub mod Telling
 pub mod Keys
 pub mod Running
 pub mod Addresses
+pub mod Locks
 pub mod Listens
 pub mod Manifests
 pub mod Sends

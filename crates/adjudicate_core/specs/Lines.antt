@@ -137,6 +137,10 @@ refused_line number = codes "refused line " ++ decimal number
 abbrev pub refused_entry : ℕ → EntryFault → List ℕ
 refused_entry number fault = refused_line number ++ codes " " ++ entry_fault_words fault
 
+-- the refusal of what another process has
+abbrev pub refused_in_use : List ℕ
+refused_in_use = codes "refused in use"
+
 -- why something is refused
 abbrev pub refusal_words : Refusal → List ℕ
 refusal_words (refusal.Fen fault) = refused_fen fault
@@ -149,6 +153,7 @@ refusal_words (refusal.Move place) = refused_move place
 refusal_words (refusal.Record fault) = refused_record fault
 refusal_words refusal.Port = refused_port
 refusal_words refusal.Keeper = refused_keeper
+refusal_words refusal.InUse = refused_in_use
 refusal_words refusal.Files = refused_files
 refusal_words refusal.SharedKey = refused_shared_key
 refusal_words (refusal.Key number) = refused_key number

@@ -26,11 +26,13 @@ use Rattle.task_files.specs.Given.{Given}
 use Rattle.system_io.specs.KeptFiles.{KeptFacts}
 use Rattle.system_io.specs.declared.reading.ReadFault.TheVariants as read
 use Rattle.system_io.specs.declared.host.BindFault.TheVariants as bind
+use Rattle.system_io.specs.declared.host.LockFault.TheVariants as lock
 use Rattle.system_io.specs.Hosts.{HostFacts}
 use Rattle.system_io.specs.declared.output.WriteFault.{WriteFault}
 use Rattle.arbiter_server.specs.ServedLines.{refused_keeper, refused_port}
 use Rattle.line_teller.specs.ToldLines.{refused_memory}
-use Rattle.adjudicate_core.specs.Lines.{ready_words, refused_fen}
+use Rattle.adjudicate_core.specs.Lines.{ready_words, refused_fen, refused_in_use}
+use Rattle.adjudicate_core.specs.Locks.{kept_lock}
 use Rattle.adjudicate_core.specs.Looks.{gathered}
 use Rattle.system_io.specs.Ports.{Passed, PortFacts}
 use Rattle.arbiter_server.specs.Serving.{Scene, scene}
@@ -89,9 +91,16 @@ pub data KeepsAndServes {F : Type 0} (facts : F → KeptFacts) (S : ServesBy F) 
   Kept : (keeper after : FileKeeper F) → StartsOver facts file keeper → OpensAndServes facts S l setup (scene keeper port old) (scene after port' new) r → KeepsAndServes facts S l setup file port port' old new r
 
 -- at a port, over the file at the path of the words
+pub data ServesLocked {P F : Type 0} (host : Hosted P F) (S : ServesBy F) (l : Listen) (setup : SetupView) (port port' : PortFacts) (old new : Option (List ℕ)) (r : Result ℕ WriteFault) : Type 0 where
+  AtFile : (file : F) → host.host.is_at l.kept.now file → KeepsAndServes host.file S l setup file port port' old new r → ServesLocked host S l setup port port' old new r
+  NoRoomForFile : host.host.takes_memory l.kept.now → Passed port port' [] → TellsIf refused_memory old new r → ServesLocked host S l setup port port' old new r
+
+-- that file is another process's, or can't be locked; or it is locked, and what follows is under its lock
 pub data ServesAt {P F : Type 0} (host : Hosted P F) (S : ServesBy F) (l : Listen) (setup : SetupView) (port port' : PortFacts) (old new : Option (List ℕ)) (r : Result ℕ WriteFault) : Type 0 where
-  AtFile : (file : F) → host.host.is_at l.kept.now file → KeepsAndServes host.file S l setup file port port' old new r → ServesAt host S l setup port port' old new r
-  NoRoomForFile : host.host.takes_memory l.kept.now → Passed port port' [] → TellsIf refused_memory old new r → ServesAt host S l setup port port' old new r
+  InUse : host.host.bars (kept_lock l.kept.now) lock.Held → Passed port port' [] → TellsIf refused_in_use old new r → ServesAt host S l setup port port' old new r
+  NoLock : host.host.bars (kept_lock l.kept.now) lock.Failed → Passed port port' [] → TellsIf refused_keeper old new r → ServesAt host S l setup port port' old new r
+  NoRoomToLock : Passed port port' [] → TellsIf refused_memory old new r → ServesAt host S l setup port port' old new r
+  Locked : host.host.gives_lock (kept_lock l.kept.now) → ServesLocked host S l setup port port' old new r → ServesAt host S l setup port port' old new r
 
 -- memory for binding is refused: by the host, or for a list of more than one address
 abbrev pub LacksRoomToBind : {P F : Type 0} → HostFacts P F → List ℕ → List ℕ → Type 0
@@ -156,6 +165,9 @@ KeepsAndWrites facts w l setup file port port' out out' r = KeepsAndServes facts
 
 abbrev pub WritesAt : {P F W : Type 0} → Hosted P F → Writers W → Listen → SetupView → PortFacts → PortFacts → W → W → Result ℕ WriteFault → Type 0
 WritesAt host w l setup port port' out out' r = ServesAt host (writing_to host.file w out out' r) l setup port port' (w.written out) (w.written out') r
+
+abbrev pub LockedAndWrites : {P F W : Type 0} → Hosted P F → Writers W → Listen → SetupView → PortFacts → PortFacts → W → W → Result ℕ WriteFault → Type 0
+LockedAndWrites host w l setup port port' out out' r = ServesLocked host (writing_to host.file w out out' r) l setup port port' (w.written out) (w.written out') r
 
 abbrev pub StartsAndWrites : {P F W : Type 0} → Hosted P F → Writers W → Listen → SetupView → P → PortFacts → W → W → Result ℕ WriteFault → Type 0
 StartsAndWrites host w l setup port port' out out' r = StartsAt host (seen_by host.file w r) l setup port port' out out' r

@@ -4,7 +4,7 @@ use Rattle.std.specs.List.{AllByRecursion}
 use Rattle.clap.specs.Words.{Text}
 use Rattle.move_msg.specs.declared.who.Who.{Who}
 use Rattle.move_msg.specs.Stamps.{IsGameName}
-use Rattle.adjudicate_core.specs.Addresses.{AreAddresses}
+use Rattle.adjudicate_core.specs.Addresses.{AreAddresses, AreRecipients}
 use Rattle.adjudicate_core.specs.Numbers.{IsAtOnce, IsCache, IsDatagrams, IsDelay, IsHundredOr, IsMe}
 use Rattle.adjudicate_core.specs.declared.usage.Instead.{Instead}
 use Rattle.adjudicate_core.specs.declared.usage.Instead.TheVariants as instead
@@ -25,6 +25,7 @@ name_of wanted.Me = codes "me"
 name_of wanted.Wait = codes "wait"
 name_of wanted.Tries = codes "tries"
 name_of wanted.Addresses = codes "to"
+name_of wanted.Recipients = codes "to"
 name_of wanted.AtOnce = codes "at-once"
 
 -- what it takes
@@ -38,6 +39,7 @@ range_of wanted.Wait = codes "1 to 65535"
 range_of wanted.Tries = codes "1 to 65535"
 range_of wanted.AtOnce = codes "1 to 65535"
 range_of wanted.Addresses = codes "ADDR[,ADDR], each a host, a colon and a port"
+range_of wanted.Recipients = codes "ADDR[,ADDR], each a host, a colon and a port"
 
 -- an option that takes the place of others
 abbrev pub instead_name : Instead → Text
@@ -86,6 +88,7 @@ IsUnfit value wanted.Me = (who : Who) → IsMe (value (codes "me")) who → ⊥
 IsUnfit value wanted.Wait = (n : ℕ) → IsHundredOr (value (codes "wait")) n → ⊥
 IsUnfit value wanted.Tries = (n : ℕ) → IsHundredOr (value (codes "tries")) n → ⊥
 IsUnfit value wanted.Addresses = (to : List ℕ) → Some to ≡ value (codes "to") → AreAddresses to → ⊥
+IsUnfit value wanted.Recipients = (to : List ℕ) → Some to ≡ value (codes "to") → AreRecipients to → ⊥
 IsUnfit value wanted.AtOnce = (n : ℕ) → IsAtOnce (value (codes "at-once")) n → ⊥
 
 abbrev pub Holds : (Text → Option Text) → Fault → Type 0
@@ -125,6 +128,9 @@ name_faults = NoOption (codes "name") ∷ Unfit wanted.GameName ∷ []
 
 abbrev pub to_faults : List Fault
 to_faults = NoOption (codes "to") ∷ Unfit wanted.Addresses ∷ []
+
+abbrev pub recipient_faults : List Fault
+recipient_faults = NoOption (codes "to") ∷ Unfit wanted.Recipients ∷ []
 
 abbrev pub me_faults : List Fault
 me_faults = NoOption (codes "me") ∷ Unfit wanted.Me ∷ []

@@ -2,11 +2,12 @@
 
 ghost use Rattle.std.specs.Prelude.{◌≡◌, ◌↔◌, ◌<◌, ◌^◌, ℕ, [], ◌∷◌, length, map, false, IfNone, IfOk, IfSome, IsTrue};
 ghost use Rattle.std.specs.List.{Contains};
-ghost use Rattle.adjudicate_core.specs.Addresses.{AreAddresses, IsAddress, addresses_of};
+ghost use Rattle.adjudicate_core.specs.Addresses.{AreAddresses, AreRecipients, IsAddress, IsRecipient, addresses_of};
 ghost use Rattle.adjudicate_core.specs.Inside.Behind.{IsBehindColon};
 ghost use Rattle.adjudicate_core.specs.Numbers.{IsNumber};
 
 use std::alloc::{AllocError, Global};
+use system_io::SENDER;
 
 /// The addresses of a word, separated by commas.
 pub(crate) fn addresses_in<'a>(alloc: Global, word: &'a str) -> Result<Vec<&'a str>, AllocError>
@@ -93,4 +94,27 @@ pub(crate) fn are_addresses(word: &str) -> bool
         rest = more;
     }
     is_address(rest)
+}
+
+/// Whether a text is an address, or the word for whoever sent the last datagram.
+fn is_recipient(text: &str) -> bool
+    ensures some { IsTrue result → IsRecipient text.now }
+    ensures none { result ≡ false → IsRecipient text.now → ⊥ }
+{
+    text == SENDER || is_address(text)
+}
+
+/// Whether each part of a word is an address, or the word for whoever sent the last datagram.
+pub(crate) fn are_recipients(word: &str) -> bool
+    ensures some { IsTrue result → AreRecipients word.now }
+    ensures none { result ≡ false → AreRecipients word.now → ⊥ }
+{
+    let mut rest = word;
+    while let Some((first, more)) = rest.split_once(',') {
+        if !is_recipient(first) {
+            return false;
+        }
+        rest = more;
+    }
+    is_recipient(rest)
 }

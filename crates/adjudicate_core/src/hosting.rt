@@ -1,13 +1,14 @@
 //! Arbiters of any number of games, from their words to their status.
 
 ghost use Rattle.std.specs.Prelude.{◌≡◌, IfErr, IfOk, List, ℕ};
-ghost use Rattle.adjudicate_core.specs.Hostings.{BindsAndWrites, HostsAndTells, WritesAt, WritesNow, around, around_of};
+ghost use Rattle.adjudicate_core.specs.Hostings.{BindsAndWrites, HostsAndTells, LocksAndWrites, WritesAt, WritesNow, around, around_of};
 ghost use Rattle.adjudicate_core.specs.Inside.HostingParts.{IsUnlisted};
 
 use crate::binding::bind;
 use crate::commands::HostGames;
 use crate::lines::put_refusal;
 use crate::listening::{manifest_for, ready_line_at};
+use crate::locking::{IN_GAMES, lock};
 use crate::refusals::Refusal;
 use crate::tables::gather;
 use arbiter_server::{DiskGames, Server, ServerConfig, put_line};
@@ -88,6 +89,21 @@ fn bind_and_serve<D: Disk, H: Host, W: Output>(
     }
 }
 
+/// Locks the folder of games, and serves them as long as it is locked. A folder that another process has locked is told as
+/// `refused in use`, one that can't be locked as `refused keeper`.
+fn lock_and_serve<D: Disk, H: Host, W: Output>(
+    alloc: Global,
+    plan: HostPlan<'_, '_, '_, D, H>,
+    out: &mut W,
+) -> Result<u8, WriteFault>
+    ensures { LocksAndWrites (around_of D.facts H.facts H.Port.facts H.File.facts W.contents W.facts plan.entry) plan.entry out.old out.new result }
+{
+    match lock(alloc, plan.host, plan.task.games, IN_GAMES) {
+        Ok(_lock) => bind_and_serve(alloc, plan, out),
+        Err(refusal) => put_refusal(out, refusal),
+    }
+}
+
 /// Lists a folder of games, whose names aren't used: what can't be listed is no such folder.
 fn list_games<D: Disk>(alloc: Global, disk: &D, folder: &str) -> Result<(), Refusal>
     ensures ok { IfOk result (λ _. (names : List (List ℕ)) × (D.facts disk.now).lists folder.now names) }
@@ -103,7 +119,7 @@ fn list_games<D: Disk>(alloc: Global, disk: &D, folder: &str) -> Result<(), Refu
 /// Answers the datagrams of any number of games as the words say, each by the arbiter of its game, and tells the status.
 ///
 /// The first line is `ready` and the address at which datagrams come, when that is bound; then a line for each datagram, as
-/// `arbiter_server::Server::serve` has it. What is refused is told in one line, in this order: the tables, the folder of games, and the address. Where memory
+/// `arbiter_server::Server::serve` has it. What is refused is told in one line, in this order: the tables, the folder of games, its lock, and the address. Where memory
 /// is refused the line is `refused memory`. The error comes only where the writer failed.
 pub fn host_games<'a, D: Disk, H: Host, W: Output>(
     alloc: Global,
@@ -140,5 +156,5 @@ pub fn host_games<'a, D: Disk, H: Host, W: Output>(
         disk,
         host,
     };
-    bind_and_serve(alloc, plan, out)
+    lock_and_serve(alloc, plan, out)
 }

@@ -63,6 +63,7 @@ mod keys;
 mod line_answers;
 mod lines;
 mod listening;
+mod locking;
 mod manifests;
 mod numbers;
 mod program;

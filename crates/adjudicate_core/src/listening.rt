@@ -7,7 +7,7 @@ ghost use Rattle.move_msg.specs.Files.{entries_of};
 ghost use Rattle.move_msg.specs.Manifests.{SpellsManifest};
 ghost use Rattle.move_msg.specs.TextLines.{ended};
 ghost use Rattle.arbiter_core.specs.Setups.{setup_view};
-ghost use Rattle.adjudicate_core.specs.Listens.{BindsAndWrites, KeepsAndWrites, LacksAddress, ListensAndWrites, OpensAndWrites, StartsAndWrites, TellsAddress, TellsUnopened, WritesAt, hosted};
+ghost use Rattle.adjudicate_core.specs.Listens.{BindsAndWrites, KeepsAndWrites, LacksAddress, ListensAndWrites, LockedAndWrites, OpensAndWrites, StartsAndWrites, TellsAddress, TellsUnopened, WritesAt, hosted};
 ghost use Rattle.adjudicate_core.specs.Lines.{ready_words};
 ghost use Rattle.arbiter_server.specs.GoingOut.{writers};
 ghost use Rattle.arbiter_server.specs.StoredBytes.{IsInFile};
@@ -15,6 +15,7 @@ ghost use Rattle.arbiter_server.specs.StoredBytes.{IsInFile};
 use crate::binding::bind;
 use crate::commands::Listen;
 use crate::lines::put_refusal;
+use crate::locking::{BESIDE_KEPT, lock};
 use crate::numbers::CacheSize;
 use crate::refusals::Refusal;
 use crate::tables::gather;
@@ -87,7 +88,25 @@ fn keep_and_serve<F: KeptFile + Drop, P: Port, W: Output>(
     }
 }
 
-/// Serves over the file that the words name.
+/// Serves over the file that the words name, which is locked.
+fn serve_over<H: Host, W: Output>(
+    alloc: Global,
+    listening: &Listen<'_>,
+    setup: Setup<'_>,
+    host: &H,
+    port: &mut H::Port,
+    out: &mut W,
+) -> Result<u8, WriteFault>
+    ensures { LockedAndWrites (hosted (H.facts host.now) H.Port.facts H.File.facts) (writers W.contents W.facts) listening.now (setup_view setup.entry) (H.Port.facts port.old) (H.Port.facts port.new) out.old out.new result }
+{
+    match host.file(alloc, listening.kept) {
+        Ok(file) => keep_and_serve(alloc, listening, setup, file, port, out),
+        Err(_) => put_refusal(out, Refusal::Memory),
+    }
+}
+
+/// Locks the file that the words name, and serves over it as long as it is locked. A file that another process has locked is told as
+/// `refused in use`, one that can't be locked as `refused keeper`.
 fn serve_at<H: Host, W: Output>(
     alloc: Global,
     listening: &Listen<'_>,
@@ -98,9 +117,9 @@ fn serve_at<H: Host, W: Output>(
 ) -> Result<u8, WriteFault>
     ensures { WritesAt (hosted (H.facts host.now) H.Port.facts H.File.facts) (writers W.contents W.facts) listening.now (setup_view setup.entry) (H.Port.facts port.old) (H.Port.facts port.new) out.old out.new result }
 {
-    match host.file(alloc, listening.kept) {
-        Ok(file) => keep_and_serve(alloc, listening, setup, file, port, out),
-        Err(_) => put_refusal(out, Refusal::Memory),
+    match lock(alloc, host, listening.kept, BESIDE_KEPT) {
+        Ok(_lock) => serve_over(alloc, listening, setup, host, port, out),
+        Err(refusal) => put_refusal(out, refusal),
     }
 }
 
@@ -215,8 +234,8 @@ fn listen_from<H: Host, W: Output>(
 /// Opens an arbiter as its words say, answers datagrams, and returns the status.
 ///
 /// Where that is wanted, the first line is `ready` and the address at which datagrams come, when that is bound. What is refused is
-/// told in one line, in this order: the text of its start, the tables, the address, and the file in which the record is kept or what
-/// stands there. Where memory is refused the line is `refused memory`. The error comes only where the
+/// told in one line, in this order: the text of its start, the tables, the address, the lock of the file in which the record is kept,
+/// and that file or what stands there. Where memory is refused the line is `refused memory`. The error comes only where the
 /// writer failed.
 pub fn listen<'a, H: Host, W: Output>(
     alloc: Global,

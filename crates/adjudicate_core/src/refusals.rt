@@ -34,6 +34,8 @@ pub(crate) enum Refusal {
     Port,
     /// What is kept can't be read or isn't that of the game, or the keeper failed at the start.
     Keeper,
+    /// Another process has what is kept.
+    InUse,
     /// Something can't be read.
     Files,
     /// The group or others may do anything with the file of keys.
@@ -105,6 +107,7 @@ impl fmt::Display for Refusal {
             Refusal::Record(fault) => write!(f, "refused record {}", fault.name()),
             Refusal::Port => f.write_str("refused port"),
             Refusal::Keeper => f.write_str("refused keeper"),
+            Refusal::InUse => f.write_str("refused in use"),
             Refusal::Files => f.write_str("refused files"),
             Refusal::SharedKey => f.write_str("refused key shared"),
             Refusal::Key(number) => fmt_number(f, "refused key ", *number),

@@ -28,6 +28,8 @@ pub enum Wanted {
     Tries,
     /// To which addresses messages are sent.
     Addresses,
+    /// To whom answers are sent: addresses, and `sender`.
+    Recipients,
     /// How many games are open at once.
     AtOnce,
 }
@@ -45,7 +47,7 @@ impl Wanted {
             Wanted::Me => "--me ",
             Wanted::Wait => "--wait ",
             Wanted::Tries => "--tries ",
-            Wanted::Addresses => "--to ",
+            Wanted::Addresses | Wanted::Recipients => "--to ",
             Wanted::AtOnce => "--at-once ",
         }
     }
@@ -61,7 +63,9 @@ impl Wanted {
             Wanted::Datagrams => ": 0 to 4294967295",
             Wanted::Me => ": 1 or 2",
             Wanted::Wait | Wanted::Tries | Wanted::AtOnce => ": 1 to 65535",
-            Wanted::Addresses => ": ADDR[,ADDR], each a host, a colon and a port",
+            Wanted::Addresses | Wanted::Recipients => {
+                ": ADDR[,ADDR], each a host, a colon and a port"
+            }
         }
     }
 }

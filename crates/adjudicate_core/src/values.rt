@@ -3,11 +3,11 @@
 ghost use Rattle.std.specs.Prelude.{◌≡◌, IfOk, IfErr, OnOk, None, Some, codes};
 ghost use Rattle.clap.specs.Words.{first_value, found_of};
 ghost use Rattle.move_msg.specs.Stamps.{IsGameName};
-ghost use Rattle.adjudicate_core.specs.Addresses.{AreAddresses};
-ghost use Rattle.adjudicate_core.specs.Misuses.{AreGameWords, AreWell, IsFirst, IsTold, NoOption, NoWord, NotWith, Unfit, fault_words, game_faults, me_faults, name_faults, to_faults};
+ghost use Rattle.adjudicate_core.specs.Addresses.{AreAddresses, AreRecipients};
+ghost use Rattle.adjudicate_core.specs.Misuses.{AreGameWords, AreWell, IsFirst, IsTold, NoOption, NoWord, NotWith, Unfit, fault_words, game_faults, me_faults, name_faults, recipient_faults, to_faults};
 ghost use Rattle.adjudicate_core.specs.Numbers.{IsAtOnce, IsCache, IsDatagrams, IsDelay, IsHundredOr, IsMe};
 
-use crate::addresses::are_addresses;
+use crate::addresses::{are_addresses, are_recipients};
 use crate::game_name::GameName;
 use crate::numbers::{CacheSize, Delay, at_once_of, datagrams_of, hundred_or, me_of};
 use crate::usage::{Instead, ValueFault, Wanted};
@@ -106,6 +106,20 @@ pub(crate) fn to_in<'a>(matches: &ArgMatches<'a>) -> Result<&'a str, ValueFault<
         Ok(text)
     } else {
         Err(ValueFault::Unfit(Wanted::Addresses, text))
+    }
+}
+
+/// To whom answers are sent, of an option that has to be there: addresses, and the word for whoever sent the last datagram.
+pub(crate) fn recipients_in<'a>(matches: &ArgMatches<'a>) -> Result<&'a str, ValueFault<'a>>
+    ensures ok { IfOk result (λ to. (Some to.now ≡ first_value (found_of matches.now) (codes "to")) × AreRecipients to.now) }
+    ensures well { IfOk result (λ to. AreWell (first_value (found_of matches.now)) recipient_faults) }
+    ensures err { IfErr result (λ fault. IsFirst (first_value (found_of matches.now)) recipient_faults (fault_words fault)) }
+{
+    let text = option_in(matches, "to")?;
+    if are_recipients(text) {
+        Ok(text)
+    } else {
+        Err(ValueFault::Unfit(Wanted::Recipients, text))
     }
 }
 

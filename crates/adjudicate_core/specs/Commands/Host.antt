@@ -2,10 +2,10 @@
 -- [--key FILE]`: arbiters of any number of games; specs/Hostings.antt has what it makes of them (this project's own).
 use Rattle.std.specs.Prelude.{◌≡◌, ◌++◌, false, List, [], ◌∷◌, Option, Some, None, codes, option_map}
 use Rattle.clap.specs.Words.{Rule, Text}
-use Rattle.adjudicate_core.specs.Addresses.{AreAddresses}
+use Rattle.adjudicate_core.specs.Addresses.{AreRecipients}
 use Rattle.adjudicate_core.specs.Rules.{rule_of_form}
 use Rattle.adjudicate_core.specs.declared.commands.Form.TheVariants as form
-use Rattle.adjudicate_core.specs.Misuses.{Fault, NoOption, Unfit, me_faults, to_faults}
+use Rattle.adjudicate_core.specs.Misuses.{Fault, NoOption, Unfit, me_faults, recipient_faults}
 use Rattle.adjudicate_core.specs.declared.usage.Wanted.TheVariants as wanted
 use Rattle.task_files.specs.Sources.{Named}
 use Rattle.adjudicate_core.specs.Numbers.{IsAtOnce, IsCache, IsDatagrams, IsMe}
@@ -31,7 +31,7 @@ pub record HasValues (value : Text → Option Text) (h : HostGames) : Type 0 whe
   pub manifest : option_map (λ s. s.now) h.manifest ≡ value (codes "manifest")
   pub bind : Some h.bind.now ≡ value (codes "bind")
   pub to : Some h.to.now ≡ value (codes "to")
-  pub addresses : AreAddresses h.to.now
+  pub recipients : AreRecipients h.to.now
   pub me : IsMe (value (codes "me")) h.me
   pub at_once : IsAtOnce (value (codes "at-once")) h.at_once.value
   pub cache : IsCache (value (codes "cache")) h.cache
@@ -40,7 +40,7 @@ pub record HasValues (value : Text → Option Text) (h : HostGames) : Type 0 whe
 
 -- what may be wrong with its values, in the order in which it is told: with the folders and the addresses, the numbers
 abbrev pub end_faults : List Fault
-end_faults = NoOption (codes "games") ∷ NoOption (codes "tables") ∷ NoOption (codes "bind") ∷ to_faults
+end_faults = NoOption (codes "games") ∷ NoOption (codes "tables") ∷ NoOption (codes "bind") ∷ recipient_faults
 
 abbrev pub term_faults : List Fault
 term_faults = me_faults ++ Unfit wanted.AtOnce ∷ Unfit wanted.Cache ∷ Unfit wanted.Datagrams ∷ []

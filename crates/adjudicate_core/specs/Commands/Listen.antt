@@ -2,10 +2,10 @@
 -- [--ready] [--key FILE]`: an arbiter that answers datagrams; specs/Listens.antt has what it makes of them (this project's own).
 use Rattle.std.specs.Prelude.{◌≡◌, ◌++◌, false, List, [], ◌∷◌, Option, Some, None, codes, option_map}
 use Rattle.clap.specs.Words.{Rule, Text}
-use Rattle.adjudicate_core.specs.Addresses.{AreAddresses}
+use Rattle.adjudicate_core.specs.Addresses.{AreRecipients}
 use Rattle.adjudicate_core.specs.Rules.{rule_of_form}
 use Rattle.adjudicate_core.specs.declared.commands.Form.TheVariants as form
-use Rattle.adjudicate_core.specs.Misuses.{Fault, NoOption, Unfit, game_faults, me_faults, to_faults}
+use Rattle.adjudicate_core.specs.Misuses.{Fault, NoOption, Unfit, game_faults, me_faults, recipient_faults}
 use Rattle.adjudicate_core.specs.declared.usage.Wanted.TheVariants as wanted
 use Rattle.task_files.specs.Sources.{Named}
 use Rattle.adjudicate_core.specs.Numbers.{IsDatagrams, IsDelay, IsMe, is_set}
@@ -34,7 +34,7 @@ pub record IsListening (value : Text → Option Text) (l : Listen) : Type 0 wher
   pub me : IsMe (value (codes "me")) l.me
   pub bind : Some l.bind.now ≡ value (codes "bind")
   pub to : Some l.to.now ≡ value (codes "to")
-  pub addresses : AreAddresses l.to.now
+  pub recipients : AreRecipients l.to.now
   pub kept : Some l.kept.now ≡ value (codes "kept")
   pub datagrams : IsDatagrams (value (codes "datagrams")) l.datagrams
   pub delay : IsDelay (value (codes "delay")) l.delay
@@ -45,7 +45,7 @@ pub record IsListening (value : Text → Option Text) (l : Listen) : Type 0 wher
 -- what may be wrong with its values, in the order in which it is told: with the words on the game, the addresses and the kept
 -- file, the numbers
 abbrev pub end_faults : List Fault
-end_faults = NoOption (codes "bind") ∷ to_faults ++ NoOption (codes "kept") ∷ []
+end_faults = NoOption (codes "bind") ∷ recipient_faults ++ NoOption (codes "kept") ∷ []
 
 abbrev pub term_faults : List Fault
 term_faults = me_faults ++ Unfit wanted.Datagrams ∷ Unfit wanted.Delay ∷ []

@@ -5,12 +5,12 @@ use Rattle.move_msg.specs.declared.who.Who.{Who}
 use Rattle.system_io.specs.Disks.{AtFolder, DiskFacts}
 use Rattle.adjudicate_core.specs.declared.refusals.Refusal.{Refusal}
 use Rattle.adjudicate_core.specs.declared.refusals.Refusal.TheVariants.{Files, Memory}
-use Rattle.adjudicate_core.specs.Addresses.{AreAddresses}
+use Rattle.adjudicate_core.specs.Addresses.{AreRecipients}
 use Rattle.adjudicate_core.specs.Numbers.{IsAtOnce, IsCache, IsDatagrams, IsMe}
 
 abbrev pub AreEnds : (Text → Option Text) → List ℕ → List ℕ → List ℕ → List ℕ → Type 0
 AreEnds value games tables bind to =
-    (Some games ≡ value (codes "games")) × (Some tables ≡ value (codes "tables")) × (Some bind ≡ value (codes "bind")) × (Some to ≡ value (codes "to")) × AreAddresses to
+    (Some games ≡ value (codes "games")) × (Some tables ≡ value (codes "tables")) × (Some bind ≡ value (codes "bind")) × (Some to ≡ value (codes "to")) × AreRecipients to
 
 abbrev pub AreTerms : (Text → Option Text) → Who → ℕ → ℕ → ℕ → Type 0
 AreTerms value me at_once cache datagrams =

@@ -9,7 +9,7 @@ ghost use Rattle.adjudicate_core.specs.Misuses.{AreWell, IsFirst, fault_words};
 use super::{Form, Value};
 use crate::numbers::CacheSize;
 use crate::usage::ValueFault;
-use crate::values::{at_once_in, cache_in, datagrams_in, me_in, option_in, to_in};
+use crate::values::{at_once_in, cache_in, datagrams_in, me_in, option_in, recipients_in};
 use clap::ArgMatches;
 use move_msg::Who;
 use std::num::NonZeroUsize;
@@ -26,7 +26,7 @@ pub struct HostGames<'a> {
     pub manifest: Option<&'a str>,
     /// The address at which datagrams come.
     pub bind: &'a str,
-    /// The addresses to which messages are sent, which commas part.
+    /// To whom answers are sent: addresses and `sender`, which commas part.
     pub to: &'a str,
     /// Which of the two arbiters of each game it is.
     pub me: Who,
@@ -112,7 +112,7 @@ fn ends_in<'a>(matches: &ArgMatches<'a>) -> Result<Ends<'a>, ValueFault<'a>>
         games: option_in(matches, "games")?,
         tables: option_in(matches, "tables")?,
         bind: option_in(matches, "bind")?,
-        to: to_in(matches)?,
+        to: recipients_in(matches)?,
     })
 }
 

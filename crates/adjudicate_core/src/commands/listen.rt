@@ -10,7 +10,7 @@ use super::{Form, Value};
 use crate::game_name::GameName;
 use crate::numbers::{Delay, is_set};
 use crate::usage::ValueFault;
-use crate::values::{datagrams_in, delay_in, game_words_in, me_in, option_in, to_in};
+use crate::values::{datagrams_in, delay_in, game_words_in, me_in, option_in, recipients_in};
 use clap::ArgMatches;
 use move_msg::Who;
 use task_files::Places;
@@ -28,7 +28,7 @@ pub struct Listen<'a> {
     pub me: Who,
     /// The address at which datagrams come.
     pub bind: &'a str,
-    /// The addresses to which messages are sent, separated by commas.
+    /// To whom answers are sent: addresses and `sender`, separated by commas.
     pub to: &'a str,
     /// The file in which the record is kept.
     pub kept: &'a str,
@@ -122,7 +122,7 @@ fn ends_in<'a>(matches: &ArgMatches<'a>) -> Result<Ends<'a>, ValueFault<'a>>
 {
     Ok(Ends {
         bind: option_in(matches, "bind")?,
-        to: to_in(matches)?,
+        to: recipients_in(matches)?,
         kept: option_in(matches, "kept")?,
     })
 }

@@ -22,4 +22,4 @@ returns-in-Err-manifest_for g c = NoRoom c.put_refusal-in-Err-manifest_for.ensur
 pub returns : goal.returns
 returns g c =
     let tables = rw c.in-Ok-Ok.field-0-is at c.in-Ok-Ok.ensures in
-    Hosting c.in-Ok-Ok.tables tables c.in-Ok.ensures.ok.0 c.in-Ok.ensures.ok.1 c.in-Ok-manifest_for.manifest.items c.in-Ok-manifest_for.ensures (rw c.deref.ensures.value at c.bind_and_serve.ensures)
+    Hosting c.in-Ok-Ok.tables tables c.in-Ok.ensures.ok.0 c.in-Ok.ensures.ok.1 c.in-Ok-manifest_for.manifest.items c.in-Ok-manifest_for.ensures (rw c.deref.ensures.value at c.lock_and_serve.ensures)

@@ -1,9 +1,10 @@
-use Rattle.adjudicate_core.specs.Listens.{AtFile, NoRoomForFile}
 use Rattle.arbiter_server.proofs.PortLaws.{Passed-nil}
+use Rattle.adjudicate_core.specs.Listens.{Locked}
+use Rattle.adjudicate_core.proofs.LockLaws.{unserved}
 use Rattle.adjudicate_core.proofs.listening.serve_at.Goals as goal
 
 pub returns-in-Ok : goal.returns-in-Ok
-returns-in-Ok g c = AtFile _ c.in-Ok.ensures.at c.keep_and_serve.ensures
+returns-in-Ok g c = Locked c.in-Ok.ensures.ok c.serve_over.ensures
 
 pub returns-in-Err : goal.returns-in-Err
-returns-in-Err g c = NoRoomForFile c.in-Err.ensures.memory (Passed-nil _) c.put_refusal.ensures
+returns-in-Err g c = unserved _ _ _ _ _ _ _ _ _ c.in-Err.refusal c.in-Err.ensures.err (Passed-nil _) c.put_refusal.ensures

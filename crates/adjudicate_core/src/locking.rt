@@ -1,0 +1,36 @@
+//! Locks that keep a second process from the same files.
+
+ghost use Rattle.std.specs.Prelude.{◌++◌, IfErr, OnOk};
+ghost use Rattle.adjudicate_core.specs.Locks.{IsBarred};
+
+use crate::refusals::Refusal;
+use std::alloc::Global;
+use system_io::{Host, LockFault};
+
+/// What stands behind a folder of games in the path of the file by which it is locked.
+pub(crate) const IN_GAMES: &str = "/lock";
+
+/// What stands behind a kept file in the path of the file by which it is locked.
+pub(crate) const BESIDE_KEPT: &str = ".lock";
+
+/// Locks the file at a path with this end. The error is `InUse` where another process holds its lock, `Keeper` where it can't be locked,
+/// and `Memory` where memory is refused.
+pub(crate) fn lock<H: Host>(
+    alloc: Global,
+    host: &H,
+    path: &str,
+    end: &str,
+) -> Result<H::Lock, Refusal>
+    ensures ok { OnOk result ((H.facts host.now).gives_lock (path.now ++ end.now)) }
+    ensures err { IfErr result (IsBarred (H.facts host.now) (path.now ++ end.now)) }
+{
+    let Ok(name) = format!(in alloc; "{path}{end}") else {
+        return Err(Refusal::Memory);
+    };
+    match host.lock(alloc, name.as_str()) {
+        Ok(lock) => Ok(lock),
+        Err(LockFault::Held) => Err(Refusal::InUse),
+        Err(LockFault::Failed) => Err(Refusal::Keeper),
+        Err(LockFault::OutOfMemory) => Err(Refusal::Memory),
+    }
+}
