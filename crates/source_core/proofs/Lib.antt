@@ -1,4 +1,5 @@
 pub mod PortLaws
 pub mod ReportLaws
+pub mod BoardLaws
 pub mod TurnLaws
 pub mod SendingLaws

@@ -138,7 +138,7 @@ knows_now stamp all bytes (Rules B r) old new says (is, fits_a, fits_b) h = subs
   agreed = λ x s e f. fits_some old.a.ruling r x fits_a e ∙ same_Some r s f;
 })
 
-ruled_by : (stamp : Stamp) (who : Who) (all : List Passing) (o : Option Ruling) (r : Ruling) → IfSome o (λ s. HasRuled stamp who s all) → o ≡ Some r → HasRuled stamp who r all
+pub ruled_by : (stamp : Stamp) (who : Who) (all : List Passing) (o : Option Ruling) (r : Ruling) → IfSome o (λ s. HasRuled stamp who s all) → o ≡ Some r → HasRuled stamp who r all
 ruled_by stamp who all None r k e = absurd cc
 ruled_by stamp who all (Some s) r k e = subst (λ t. HasRuled stamp who t all) (same_Some s r e) k
 

@@ -33,7 +33,11 @@ use Rattle.system_io.specs.LineReaders.{ReadsLine}
 use Rattle.system_io.specs.Ports.{Passing, Came, Quiet, Missed, Handed, PortFacts, Passed, to_each}
 use Rattle.source_core.specs.Reports.{Knows, StandsSo}
 use Rattle.source_core.specs.Turns.{ComesTo, HasSpelling, HasWaited, IsReceived, IsTurn, move_message, one_try, tries_of}
-use Rattle.source_core.specs.Lines.{IsCut, acked_words, end_words, status_by}
+use Rattle.source_core.specs.Lines.{IsCut, acked_words, end_words, ended_by}
+use Rattle.source_core.specs.declared.lines.Ended.{Ended}
+use Rattle.source_core.specs.Boards.{AreBelieved, IsBelieved}
+use Rattle.source_core.proofs.BoardLaws.{believed_first, is_belied}
+use Rattle.std.proofs.lemmas.Option.{same_Some}
 use Rattle.source_core.specs.Sendings.{At, AckedMove, ClosesSo, again, EndsIfAny, EndsWith, Unread, Refused, Closed, Sent, Game, InTurn, IsAckedTurn, IsClosed, IsLastMove, IsRefusedLine, IsSending, IsUnread, OnlyHands, Sending, WritesLines, causes, last_lines, last_of, line_of, lines_of, sent_in}
 use Rattle.source_core.specs.Inside.Steps.{Closes, EndsAt, HasEnded, IsPlayed, Steps, StepsOn, StepsSo, begun_at, end_by, is_ruled, no_cause}
 use Rattle.source_core.proofs.PortLaws.{Passed-nil, Passed-trans}
@@ -43,8 +47,8 @@ use Rattle.source_core.proofs.TurnLaws.{again_reports_nothing, all_more}
 -- ---- one step
 
 -- where the number is that of the moves before it
-last_move : (g : Game) (at : At) (input : Option (List ℕ)) (line : List ℕ) (after : Parts) (m : Moves) (known known' : Known) (port port' : PortFacts) (turn : Turn) (tries : List (List Passing)) → ReadsLine at.input input line → IsPlayed at.position (length at.moves) line m after → IsTurn g.stamp g.most (length at.moves) m port port' known known' turn tries → IsLastMove g at input (m ∷ []) (sent_in g at.moves m tries)
-last_move g at input line after m known known' port port' turn tries read r t = record { line = line; move = m; tries = tries; read = read; spelled = r.spelled; legal = (after, r.legal); room = r.room; spelling = t.spelling; are = (t.few, t.received); only = refl; passed = refl }
+last_move : (g : Game) (at : At) (input : Option (List ℕ)) (line : List ℕ) (after : Parts) (m : Moves) (known known' : Known) (port port' : PortFacts) (turn : Turn) (tries : List (List Passing)) → ReadsLine at.input input line → IsPlayed at.position (length at.moves) line m after → IsTurn g.stamp g.most (length at.moves) m (length at.moves + 1) after port port' known known' turn tries → IsLastMove g at input (m ∷ []) (sent_in g at.moves m tries)
+last_move g at input line after m known known' port port' turn tries read r t = record { line = line; move = m; tries = tries; after = after; read = read; spelled = r.spelled; legal = r.legal; room = r.room; spelling = t.spelling; are = (t.few, t.received); only = refl; passed = refl }
 
 -- the course after the move was played
 abbrev pub course_at : Parts → Known → Moves → Course
@@ -52,7 +56,7 @@ course_at after known m = record { position = after; known = known; last = Some 
 
 -- a turn ends the run, or the run goes on
 turned : (cause : ReadFault → Type 0) (stamp : Stamp) (most : ℕ) (input input' : Option (List ℕ)) (line : List ℕ) (position after : Parts) (m : Moves) (known known' : Known) (port port' : PortFacts) (turn : Turn) (tries : List (List Passing)) (before : List Passing) (moves : List Moves)
-    → ReadsLine input input' line → IsPlayed position (length moves) line m after → IsTurn stamp most (length moves) m port port' known known' turn tries → Knows stamp before known
+    → ReadsLine input input' line → IsPlayed position (length moves) line m after → IsTurn stamp most (length moves) m (length moves + 1) after port port' known known' turn tries → Knows stamp before known
     → StepsSo cause (record { stamp = stamp; addresses = port.addresses; most = most }) (record { input = input; position = position; moves = moves; passed = before }) input' (course_at after known' m) port port' (end_by turn)
 unfolding StepsSo last_move
 turned cause stamp most input input' line position after m known known' port port' at_turn.Acked tries before moves read r t k =
@@ -67,51 +71,66 @@ turned cause stamp most input input' line position after m known known' port por
       done.1,
     )
 turned cause stamp most input input' line position after m known known' port port' (at_turn.Ruled r') tries before moves read r t k =
-    (m ∷ [], _, Sent (last_move _ _ input' line after m known known' port port' (at_turn.Ruled r') tries read r t) (t.ends before k) (λ e. absurd (let x : at_end.Ruled r' ≡ at_end.Lost = e in cc)), t.passed)
+    (m ∷ [], _, Sent (last_move _ _ input' line after m known known' port port' (at_turn.Ruled r') tries read r t) (t.ends before k) (λ e. absurd (let x : at_end.Ruled r' ≡ at_end.Lost = e in cc)), t.passed, λ e. absurd (let x : at_end.Ruled r' ≡ at_end.Lost = e in cc))
 turned cause stamp most input input' line position after m known known' port port' (at_turn.Clashed c) tries before moves read r t k =
-    (m ∷ [], _, Sent (last_move _ _ input' line after m known known' port port' (at_turn.Clashed c) tries read r t) (t.ends before k) (λ e. absurd (let x : at_end.Clashed c ≡ at_end.Lost = e in cc)), t.passed)
+    (m ∷ [], _, Sent (last_move _ _ input' line after m known known' port port' (at_turn.Clashed c) tries read r t) (t.ends before k) (λ e. absurd (let x : at_end.Clashed c ≡ at_end.Lost = e in cc)), t.passed, λ e. absurd (let x : at_end.Clashed c ≡ at_end.Lost = e in cc))
+turned cause stamp most input input' line position after m known known' port port' (at_turn.Belied r') tries before moves read r t k =
+    (m ∷ [], _, Sent (last_move _ _ input' line after m known known' port port' (at_turn.Belied r') tries read r t) (t.ends before k) (λ e. absurd (let x : at_end.Belied r' ≡ at_end.Lost = e in cc)), t.passed, λ e. absurd (let x : at_end.Belied r' ≡ at_end.Lost = e in cc))
 turned cause stamp most input input' line position after m known known' port port' at_turn.Lost tries before moves read r t k =
-    (m ∷ [], _, Sent (last_move _ _ input' line after m known known' port port' at_turn.Lost tries read r t) (t.ends before k) (λ e. t.lost refl), t.passed)
+    (m ∷ [], _, Sent (last_move _ _ input' line after m known known' port port' at_turn.Lost tries read r t) (t.ends before k).0 (λ e. t.lost refl), t.passed, λ e. (t.ends before k).1)
 turned cause stamp most input input' line position after m known known' port port' at_turn.PortLost tries before moves read r t k =
-    (m ∷ [], _, Sent (last_move _ _ input' line after m known known' port port' at_turn.PortLost tries read r t) (t.ends before k) (λ e. absurd (let x : at_end.PortLost ≡ at_end.Lost = e in cc)), t.passed)
+    (m ∷ [], _, Sent (last_move _ _ input' line after m known known' port port' at_turn.PortLost tries read r t) (t.ends before k) (λ e. absurd (let x : at_end.PortLost ≡ at_end.Lost = e in cc)), t.passed, λ e. absurd (let x : at_end.PortLost ≡ at_end.Lost = e in cc))
 
 pub steps_on : (stamp : Stamp) (most number : ℕ) (line : List ℕ) (course course' : Course) (after : Parts) (m : Moves) (known' : Known) (port port' : PortFacts) (turn : Turn) (o : Option End)
-    → course' ≡ course_at after known' m → IsPlayed course.position number line m after → (tries : List (List Passing)) × IsTurn stamp most number m port port' course.known known' turn tries → o ≡ end_by turn
+    → course' ≡ course_at after known' m → IsPlayed course.position number line m after → (tries : List (List Passing)) × IsTurn stamp most number m (number + 1) after port port' course.known known' turn tries → o ≡ end_by turn
     → StepsOn stamp most number line course course' port port' o
 steps_on stamp most number line course course' after m known' port port' turn o at_new r (tries, t) is input input' read before moves k e last =
     let g : Game = record { stamp = stamp; addresses = port.addresses; most = most } in
     let at : At = record { input = input; position = course.position; moves = moves; passed = before } in
     subst (λ c. StepsSo no_cause g at input' c port port' o) (sym at_new)
     (subst (StepsSo no_cause g at input' (course_at after known' m) port port') (sym is)
-    (turned no_cause stamp most input input' line course.position after m course.known known' port port' turn tries before moves read (subst (λ n. IsPlayed course.position n line m after) e r) (subst (λ n. IsTurn stamp most n m port port' course.known known' turn tries) e t) k))
+    (turned no_cause stamp most input input' line course.position after m course.known known' port port' turn tries before moves read (subst (λ n. IsPlayed course.position n line m after) e r) (subst (λ n. IsTurn stamp most n m (n + 1) after port port' course.known known' turn tries) e t) k))
+
+-- no line is refused, and no read fails, as an arbiter that doesn't answer
+not_refused : (position : Parts) (number : ℕ) (line : List ℕ) (end : End) → IsRefusedLine position number line end → end ≡ at_end.Lost → ⊥
+not_refused position number line end h is = subst (IsRefusedLine position number line) is h
+
+not_unread : (cause : ReadFault → Type 0) (end : End) → IsUnread cause end → end ≡ at_end.Lost → ⊥
+not_unread cause end h is = subst (IsUnread cause) is h
 
 pub steps_refused : (stamp : Stamp) (most number : ℕ) (line : List ℕ) (course : Course) (port : PortFacts) (end : End) → IsRefusedLine course.position number line end → StepsOn stamp most number line course course port port (Some end)
 unfolding StepsSo
 steps_refused stamp most number line course port end h input input' read before moves k e last =
-    ([], [], Refused line refl refl read (subst (λ n. IsRefusedLine course.position n line end) e h), Passed-nil port)
+    ([], [], Refused line refl refl read (subst (λ n. IsRefusedLine course.position n line end) e h), Passed-nil port, λ is. absurd (not_refused course.position number line end h is))
 
 pub steps_unread : (cause : ReadFault → Type 0) (stamp : Stamp) (most number : ℕ) (input input' : Option (List ℕ)) (course : Course) (port : PortFacts) (end : End) → IsUnread cause end → Steps cause stamp most number input input' course course port port (Some end)
 unfolding StepsSo
-steps_unread cause stamp most number input input' course port end h before moves k e last = ([], [], Unread refl refl h, Passed-nil port)
+steps_unread cause stamp most number input input' course port end h before moves k e last = ([], [], Unread refl refl h, Passed-nil port, λ is. absurd (not_unread cause end h is))
 
-closed_at : (stamp : Stamp) (number : ℕ) (moves : List Moves) (last : Option Moves) (known : Known) (port port' : PortFacts) (end : End) → number ≡ length moves → last ≡ last_of moves → Closes stamp number last known port port' end → Closes stamp (length moves) (last_of moves) known port port' end
-closed_at stamp number moves last known port port' end e f h = subst (λ l. Closes stamp (length moves) l known port port' end) f (subst (λ n. Closes stamp n last known port port' end) e h)
+closed_at : (stamp : Stamp) (number : ℕ) (position : Parts) (moves : List Moves) (last : Option Moves) (known : Known) (port port' : PortFacts) (end : End) → number ≡ length moves → last ≡ last_of moves → Closes stamp number position last known port port' end → Closes stamp (length moves) position (last_of moves) known port port' end
+closed_at stamp number position moves last known port port' end e f h = subst (λ l. Closes stamp (length moves) position l known port port' end) f (subst (λ n. Closes stamp n position last known port port' end) e h)
 
-closed_with : (cause : ReadFault → Type 0) (g : Game) (input input' : Option (List ℕ)) (course : Course) (port port' : PortFacts) (before : List Passing) (moves : List Moves) (end : End) → IsAtEnd input → Knows g.stamp before course.known → Closes g.stamp (length moves) (last_of moves) course.known port port' end → port.addresses ≡ g.addresses
-    → (sent : List Moves) × (more : List Passing) × EndsWith cause g (record { input = input; position = course.position; moves = moves; passed = before }) input' sent more end × Passed port port' more
-closed_with cause g input input' course port port' before moves end done k h e =
-    let handed : ℕ → List Passing = λ n. again g.stamp n (length moves - 1) (last_of moves) in (
+-- after the input's end no arbiter counts as silent
+not_closed : (stamp : Stamp) (number : ℕ) (position : Parts) (all : List Passing) (end : End) → ClosesSo stamp number position all end → end ≡ at_end.Lost → ⊥
+not_closed stamp number position all end h is = subst (ClosesSo stamp number position all) is h
+
+closed_with : (cause : ReadFault → Type 0) (g : Game) (input input' : Option (List ℕ)) (course : Course) (known' : Known) (port port' : PortFacts) (before : List Passing) (moves : List Moves) (end : End) → IsAtEnd input → Knows g.stamp before course.known → Closes g.stamp (length moves) course.position (last_of moves) course.known port port' end → port.addresses ≡ g.addresses
+    → (sent : List Moves) × (more : List Passing) × EndsWith cause g (record { input = input; position = course.position; moves = moves; passed = before }) input' sent more end × Passed port port' more × (end ≡ at_end.Lost → Knows g.stamp (before ++ more) known')
+closed_with cause g input input' course known' port port' before moves end done k h e =
+    let handed : ℕ → List Passing = λ n. again g.stamp n (length moves - 1) (last_of moves) in
+    let stands : ClosesSo g.stamp (length moves) course.position (before ++ (handed g.addresses ++ h.came)) end = subst (λ n. ClosesSo g.stamp (length moves) course.position (before ++ (handed n ++ h.came)) end) e (h.stands before k) in (
       [],
       handed g.addresses ++ h.came,
-      Closed refl done (record { came = h.came; spelling = h.spelling; passed = refl; received = h.received; waited = h.waited; stands = subst (λ n. ClosesSo g.stamp (length moves) (before ++ (handed n ++ h.came)) end) e (h.stands before k) }),
+      Closed refl done (record { came = h.came; spelling = h.spelling; passed = refl; received = h.received; waited = h.waited; stands = stands }),
       subst (λ n. Passed port port' (handed n ++ h.came)) e h.passed,
+      λ is. absurd (not_closed g.stamp (length moves) course.position _ end stands is),
     )
 
-pub steps_closed : (cause : ReadFault → Type 0) (stamp : Stamp) (most number : ℕ) (input input' : Option (List ℕ)) (course course' : Course) (port port' : PortFacts) (end : End) → IsAtEnd input → Closes stamp number course.last course.known port port' end → Steps cause stamp most number input input' course course' port port' (Some end)
+pub steps_closed : (cause : ReadFault → Type 0) (stamp : Stamp) (most number : ℕ) (input input' : Option (List ℕ)) (course course' : Course) (port port' : PortFacts) (end : End) → IsAtEnd input → Closes stamp number course.position course.last course.known port port' end → Steps cause stamp most number input input' course course' port port' (Some end)
 unfolding StepsSo
 steps_closed cause stamp most number input input' course course' port port' end done closes before moves k e last =
     let g : Game = record { stamp = stamp; addresses = port.addresses; most = most } in
-    closed_with cause g input input' course port port' before moves end done k (closed_at stamp number moves course.last course.known port port' end e last closes) refl
+    closed_with cause g input input' course course'.known port port' before moves end done k (closed_at stamp number course.position moves course.last course.known port port' end e last closes) refl
 
 -- ---- the input can't be read
 
@@ -123,6 +142,7 @@ still_unread : (U V : ReadFault → Type 0) (end : End) → ((fault : ReadFault)
 still_unread U V (at_end.Open count) f h = h
 still_unread U V (at_end.Ruled r) f h = h
 still_unread U V (at_end.Clashed c) f h = h
+still_unread U V (at_end.Belied r) f h = h
 still_unread U V (at_end.NotAMove place) f h = h
 still_unread U V (at_end.Illegal place) f h = h
 still_unread U V at_end.TooLong f h = h
@@ -140,7 +160,7 @@ still_ends U V g at input sent more end f (Sent one is all) = Sent one is all
 still_steps : (U V : ReadFault → Type 0) (g : Game) (at : At) (input : Option (List ℕ)) (course : Course) (port port' : PortFacts) (o : Option End) → ((fault : ReadFault) → U fault → V fault) → StepsSo U g at input course port port' o → StepsSo V g at input course port port' o
 unfolding StepsSo
 still_steps U V g at input course port port' None f h = h
-still_steps U V g at input course port port' (Some end) f (sent, more, ends, passed) = (sent, more, still_ends U V g at input sent more end f ends, passed)
+still_steps U V g at input course port port' (Some end) f (sent, more, ends, passed, knows) = (sent, more, still_ends U V g at input sent more end f ends, passed, knows)
 
 pub steps_read : (cause : ReadFault → Type 0) (stamp : Stamp) (most number : ℕ) (line : List ℕ) (input input' : Option (List ℕ)) (course course' : Course) (port port' : PortFacts) (o : Option End) → ReadsLine input input' line → StepsOn stamp most number line course course' port port' o → Steps cause stamp most number input input' course course' port port' o
 steps_read cause stamp most number line input input' course course' port port' o read h before moves k e last =
@@ -156,10 +176,10 @@ record HasAgain (stamp : Stamp) (number : ℕ) (last : Option Moves) (port port'
 has_again : (stamp : Stamp) (n number : ℕ) (last : Option Moves) (port port' : PortFacts) → n ≡ number → IfSome last (HasSpelling stamp n) → Passed port port' (again stamp port.addresses n last) → HasAgain stamp number last port port'
 has_again stamp n number last port port' e spelling passed = subst (λ k. HasAgain stamp k last port port') e (record { spelling = spelling; passed = passed })
 
-closes_so : (stamp : Stamp) (number : ℕ) (last : Option Moves) (old new : Known) (port mid port' : PortFacts) (end : Next) (h : HasEnded stamp old new mid port' end)
+closes_so : (stamp : Stamp) (number : ℕ) (position : Parts) (last : Option Moves) (old new : Known) (port mid port' : PortFacts) (end : Next) (h : HasEnded stamp old new mid port' end)
     → HasAgain stamp (number - 1) last port mid
-    → (so_ends : End) → ((count : ℕ) → so_ends ≡ at_end.Open count → HasWaited h.came) → ((all : List Passing) → ComesTo stamp all new end → ClosesSo stamp number all so_ends) → Closes stamp number last old port port' so_ends
-closes_so stamp number last old new port mid port' end h sent so_ends waits so =
+    → (so_ends : End) → ((count : ℕ) → so_ends ≡ at_end.Open count → HasWaited h.came) → ((all : List Passing) → ComesTo stamp all new end → ClosesSo stamp number position all so_ends) → Closes stamp number position last old port port' so_ends
+closes_so stamp number position last old new port mid port' end h sent so_ends waits so =
     let handed : List Passing = again stamp port.addresses (number - 1) last in record {
       came = h.came;
       spelling = sent.spelling;
@@ -177,28 +197,31 @@ ended_waiting : (stamp : Stamp) (old new : Known) (port port' : PortFacts) (end 
 ended_waiting stamp old new port port' end (inl e) h = let never = subst (HasEnded stamp old new port port') e h in absurd never.waits
 ended_waiting stamp old new port port' end (inr e) h = subst (HasEnded stamp old new port port') e h
 
-pub closes_waited : (stamp : Stamp) (n number : ℕ) (last : Option Moves) (old new : Known) (port mid port' : PortFacts) (next' : Next) (end : End) → n ≡ number - 1 → IfSome last (HasSpelling stamp n) → Passed port mid (again stamp port.addresses n last) → (next' ≡ next.GoesOn) ⊎ (next' ≡ next.Waited) → HasEnded stamp old new mid port' next' → EndsAt number new end → Closes stamp number last old port port' end
-closes_waited stamp n number last old new port mid port' next' end e spelling sent is ended ends =
+pub closes_waited : (stamp : Stamp) (n number : ℕ) (position : Parts) (last : Option Moves) (old new : Known) (port mid port' : PortFacts) (next' : Next) (end : End) → n ≡ number - 1 → IfSome last (HasSpelling stamp n) → Passed port mid (again stamp port.addresses n last) → (next' ≡ next.GoesOn) ⊎ (next' ≡ next.Waited) → HasEnded stamp old new mid port' next' → EndsAt number position new end → Closes stamp number position last old port port' end
+closes_waited stamp n number position last old new port mid port' next' end e spelling sent is ended ends =
     let h = ended_waiting stamp old new mid port' next' is ended in
-    closes_so stamp number last old new port mid port' next.Waited h (has_again stamp n (number - 1) last port mid e spelling sent) end (λ count is_open. has_waited h.came new (ends.0 count is_open) h.waits) (λ all k. ends.1 stamp all k)
+    closes_so stamp number position last old new port mid port' next.Waited h (has_again stamp n (number - 1) last port mid e spelling sent) end (λ count is_open. has_waited h.came new (ends.0 count is_open) h.waits) (λ all k. ends.1 stamp all k)
 
-pub closes_clashed : (stamp : Stamp) (n number : ℕ) (last : Option Moves) (old new : Known) (port mid port' : PortFacts) (c : Clash) → n ≡ number - 1 → IfSome last (HasSpelling stamp n) → Passed port mid (again stamp port.addresses n last) → HasEnded stamp old new mid port' (next.Clashed c) → Closes stamp number last old port port' (at_end.Clashed c)
-closes_clashed stamp n number last old new port mid port' c e spelling sent h = closes_so stamp number last old new port mid port' (next.Clashed c) h (has_again stamp n (number - 1) last port mid e spelling sent) (at_end.Clashed c) (λ count is. cc) (λ all k. k)
+pub closes_clashed : (stamp : Stamp) (n number : ℕ) (position : Parts) (last : Option Moves) (old new : Known) (port mid port' : PortFacts) (c : Clash) → n ≡ number - 1 → IfSome last (HasSpelling stamp n) → Passed port mid (again stamp port.addresses n last) → HasEnded stamp old new mid port' (next.Clashed c) → Closes stamp number position last old port port' (at_end.Clashed c)
+closes_clashed stamp n number position last old new port mid port' c e spelling sent h = closes_so stamp number position last old new port mid port' (next.Clashed c) h (has_again stamp n (number - 1) last port mid e spelling sent) (at_end.Clashed c) (λ count is. cc) (λ all k. k)
 
-pub closes_missed : (stamp : Stamp) (n number : ℕ) (last : Option Moves) (old new : Known) (port mid port' : PortFacts) → n ≡ number - 1 → IfSome last (HasSpelling stamp n) → Passed port mid (again stamp port.addresses n last) → HasEnded stamp old new mid port' next.PortLost → Closes stamp number last old port port' at_end.PortLost
-closes_missed stamp n number last old new port mid port' e spelling sent h = closes_so stamp number last old new port mid port' next.PortLost h (has_again stamp n (number - 1) last port mid e spelling sent) at_end.PortLost (λ count is. cc) (λ all k. k)
+pub closes_missed : (stamp : Stamp) (n number : ℕ) (position : Parts) (last : Option Moves) (old new : Known) (port mid port' : PortFacts) → n ≡ number - 1 → IfSome last (HasSpelling stamp n) → Passed port mid (again stamp port.addresses n last) → HasEnded stamp old new mid port' next.PortLost → Closes stamp number position last old port port' at_end.PortLost
+closes_missed stamp n number position last old new port mid port' e spelling sent h = closes_so stamp number position last old new port mid port' next.PortLost h (has_again stamp n (number - 1) last port mid e spelling sent) at_end.PortLost (λ count is. cc) (λ all k. k)
 
 -- ---- how a game stands at the input's end
 
-pub open_acked : (number : ℕ) (known : Known) → StandsSo known number standing.Acked → EndsAt number known (at_end.Open number)
-open_acked number known (lt_a, lt_b, none_a, none_b) =
+pub open_acked : (number : ℕ) (position : Parts) (known : Known) → StandsSo known number standing.Acked → EndsAt number position known (at_end.Open number)
+open_acked number position known (lt_a, lt_b, none_a, none_b) =
     (λ count is. not_both known.a.ruling known.b.ruling (λ r s e f. absurd cc), λ stamp all k. let acked = is_acked stamp number all known k (lt_a, lt_b, none_a, none_b) in (refl, λ r ruled. acked.open_yet A r ruled.a, all_agreed stamp all known k))
 
-pub open_yet : (number : ℕ) (known : Known) → StandsSo known number standing.Open → EndsAt number known (at_end.Open number)
-open_yet number known h = (λ count is. not_both known.a.ruling known.b.ruling h.1, λ stamp all k. let u = is_unsettled stamp number all known k h in (refl, u.not_ruled, u.agreed))
+pub open_yet : (number : ℕ) (position : Parts) (known : Known) → StandsSo known number standing.Open → EndsAt number position known (at_end.Open number)
+open_yet number position known h = (λ count is. not_both known.a.ruling known.b.ruling h.1, λ stamp all k. let u = is_unsettled stamp number all known k h in (refl, u.not_ruled, u.agreed))
 
-pub ruled_at : (number : ℕ) (known : Known) (r : Ruling) → StandsSo known number (standing.Ruled r) → EndsAt number known (at_end.Ruled r)
-ruled_at number known r h = (λ count is. cc, λ stamp all k. is_ruled_so stamp number all known r k h)
+pub ruled_at : (number : ℕ) (position : Parts) (known : Known) (r : Ruling) → AreBelieved number position known → StandsSo known number (standing.Ruled r) → EndsAt number position known (at_end.Ruled r)
+ruled_at number position known r are h = (λ count is. cc, λ stamp all k. (is_ruled_so stamp number all known r k h, believed_first number position known r are h.0))
+
+pub belied_at : (number : ℕ) (position : Parts) (known : Known) (r : Ruling) → (known.a.ruling ≡ Some r) ⊎ (known.b.ruling ≡ Some r) → (IsBelieved number position r → ⊥) → EndsAt number position known (at_end.Belied r)
+belied_at number position known r is not_so = (λ count e. cc, λ stamp all k. is_belied stamp number position all known r k is not_so)
 
 -- ---- one list of moves
 
@@ -328,12 +351,13 @@ sent_more cause g start input0 input1 input2 c1 c2 port0 port1 port2 k h (t, ack
 -- the writer failed
 run_cut : (cause : ReadFault → Type 0) (g : Game) (start : Parts) (input0 input : Option (List ℕ)) (course : Course) (port0 port : PortFacts) (k : ℕ) (h : HasSent g start input0 input course port0 port k) → (s : Sending) × IsSending cause g start input0 input port0 port s × (s.turns ≡ h.turns) × (s.end ≡ None)
 run_cut cause g start input0 input course port0 port k h = (
-  record { turns = h.turns; at = record { input = input; position = course.position; moves = h.moves; passed = h.passed }; sent = []; more = []; end = None },
+  record { turns = h.turns; at = record { input = input; position = course.position; moves = h.moves; passed = h.passed }; sent = []; more = []; end = None; known = course.known },
   record {
     turns = h.in_turn;
     last = (refl, refl);
     passed = subst (Passed port0 port) (sym (append-nil h.passed)) h.at_port;
     source = subst (λ l. OnlyHands g.stamp l (h.passed ++ [])) (sym (append-nil h.moves)) (subst (OnlyHands g.stamp h.moves) (sym (append-nil h.passed)) h.source);
+    knows = λ is. absurd (let e : None ≡ Some at_end.Lost = is in cc);
   },
   refl,
   refl,
@@ -357,8 +381,8 @@ again_hands stamp addresses moves (Some m) is say to bytes in' =
 hands_join : (stamp : Stamp) (moves : List Moves) (xs ys : List Passing) → OnlyHands stamp moves xs → OnlyHands stamp moves ys → OnlyHands stamp moves (xs ++ ys)
 hands_join stamp moves xs ys h k to bytes in' = elim (Contains-append_cases xs ys (Handed to bytes) in') [ inl first ↦ h to bytes first | inr second ↦ k to bytes second ]
 
-closed_hands : (g : Game) (moves sent : List Moves) (all more : List Passing) (end : End) → sent ≡ [] → IsClosed g moves all more end → OnlyHands g.stamp moves all → OnlyHands g.stamp (moves ++ sent) (all ++ more)
-closed_hands g moves sent all more end no_moves closed h =
+closed_hands : (g : Game) (position : Parts) (moves sent : List Moves) (all more : List Passing) (end : End) → sent ≡ [] → IsClosed g position moves all more end → OnlyHands g.stamp moves all → OnlyHands g.stamp (moves ++ sent) (all ++ more)
+closed_hands g position moves sent all more end no_moves closed h =
     let handed : List Passing = again g.stamp g.addresses (length moves - 1) (last_of moves) in
     let heard : OnlyHands g.stamp moves closed.came = λ to bytes in'. absurd (none_handed closed.came to bytes closed.received in') in
     let now : OnlyHands g.stamp moves (handed ++ closed.came) = hands_join g.stamp moves handed closed.came (again_hands g.stamp g.addresses moves (last_of moves) refl closed.spelling) heard in
@@ -370,21 +394,23 @@ closed_hands g moves sent all more end no_moves closed h =
 ended_hands : (cause : ReadFault → Type 0) (g : Game) (at : At) (input : Option (List ℕ)) (sent : List Moves) (more : List Passing) (end : End) → EndsWith cause g at input sent more end → OnlyHands g.stamp at.moves at.passed → OnlyHands g.stamp (at.moves ++ sent) (at.passed ++ more)
 ended_hands cause g at input sent more end (Unread no_moves none why) h = nothing_hands g.stamp at.moves sent at.passed more no_moves none h
 ended_hands cause g at input sent more end (Refused line no_moves none read why) h = nothing_hands g.stamp at.moves sent at.passed more no_moves none h
-ended_hands cause g at input sent more end (Closed no_moves done closed) h = closed_hands g at.moves sent at.passed more end no_moves closed h
+ended_hands cause g at input sent more end (Closed no_moves done closed) h = closed_hands g at.position at.moves sent at.passed more end no_moves closed h
 ended_hands cause g at input sent more end (Sent t is all) h =
     subst (λ l. OnlyHands g.stamp (at.moves ++ l) (at.passed ++ more)) (sym t.only) (subst (λ l. OnlyHands g.stamp (at.moves ++ t.move ∷ []) (at.passed ++ l)) (sym t.passed) (hands_more g.stamp g.addresses at.moves t.move at.passed t.tries h t.spelling t.are.1))
 
-run_ended : (cause : ReadFault → Type 0) (g : Game) (start : Parts) (input0 input1 input2 : Option (List ℕ)) (c1 c2 : Course) (port0 port1 port2 : PortFacts) (k : ℕ) (end : End) (h : HasSent g start input0 input1 c1 port0 port1 k) → StepsSo cause g (record { input = input1; position = c1.position; moves = h.moves; passed = h.passed }) input2 c2 port1 port2 (Some end) → (s : Sending) × IsSending cause g start input0 input2 port0 port2 s × (s.turns ≡ h.turns) × (s.end ≡ Some end)
+run_ended : (cause : ReadFault → Type 0) (g : Game) (start : Parts) (input0 input1 input2 : Option (List ℕ)) (c1 c2 : Course) (port0 port1 port2 : PortFacts) (k : ℕ) (end : End) (h : HasSent g start input0 input1 c1 port0 port1 k) → StepsSo cause g (record { input = input1; position = c1.position; moves = h.moves; passed = h.passed }) input2 c2 port1 port2 (Some end) → (s : Sending) × IsSending cause g start input0 input2 port0 port2 s × (s.turns ≡ h.turns) × (s.end ≡ Some end) × (s.known ≡ c2.known)
 unfolding StepsSo
-run_ended cause g start input0 input1 input2 c1 c2 port0 port1 port2 k end h (sent, more, ends, passed) =
+run_ended cause g start input0 input1 input2 c1 c2 port0 port1 port2 k end h (sent, more, ends, passed, knows) =
     let at : At = record { input = input1; position = c1.position; moves = h.moves; passed = h.passed } in (
-      record { turns = h.turns; at = at; sent = sent; more = more; end = Some end },
+      record { turns = h.turns; at = at; sent = sent; more = more; end = Some end; known = c2.known },
       record {
         turns = h.in_turn;
         last = ends;
         passed = Passed-trans port0 port1 port2 h.passed more h.at_port passed;
         source = ended_hands cause g at input2 sent more end ends h.source;
+        knows = λ is. knows (same_Some end at_end.Lost is);
       },
+      refl,
       refl,
       refl,
     )
@@ -395,7 +421,7 @@ still_last U V g at input sent more None f h = h
 still_last U V g at input sent more (Some end) f h = still_ends U V g at input sent more end f h
 
 pub still_sending : (U V : ReadFault → Type 0) (g : Game) (start : Parts) (input input' : Option (List ℕ)) (port port' : PortFacts) (s : Sending) → ((fault : ReadFault) → U fault → V fault) → IsSending U g start input input' port port' s → IsSending V g start input input' port port' s
-still_sending U V g start input input' port port' s f h = record { turns = h.turns; last = still_last U V g s.at input' s.sent s.more s.end f h.last; passed = h.passed; source = h.source }
+still_sending U V g start input input' port port' s f h = record { turns = h.turns; last = still_last U V g s.at input' s.sent s.more s.end f h.last; passed = h.passed; source = h.source; knows = h.knows }
 
 -- ---- what is written
 
@@ -414,9 +440,9 @@ cut_at : {E : Type 0} (old mid new : Option (List ℕ)) (first all : List (List 
 cut_at old mid new first all one fault e p (n, q) = record { earlier = first; last = one; front = n; all = e; written = Appends-trans old mid new (text_of first) (take n (ended one)) p q }
 
 -- the line of a run that ends was written, or not
-wrote_last : (s : Sending) (turns : List AckedMove) (end : End) (old mid new : Option (List ℕ)) (r : Result ℕ WriteFault) → s.turns ≡ turns → s.end ≡ Some end → Appends old mid (text_of (map line_of turns)) → IfOk r (λ status. status ≡ status_by end) → WritesFront mid new (ended (end_words end)) r → WritesLines s old new r
-wrote_last s turns end old mid new (Ok status) same is p ok q = (end, is, ok, written_more old mid new (map line_of turns) (lines_of s) (end_words end) (last_line s turns end same is) p q)
-wrote_last s turns end old mid new (Err fault) same is p ok q = cut_at old mid new (map line_of turns) (lines_of s) (end_words end) fault (last_line s turns end same is) p q
+wrote_last : (s : Sending) (turns : List AckedMove) (end : End) (known : Known) (old mid new : Option (List ℕ)) (r : Result Ended WriteFault) → s.turns ≡ turns → s.end ≡ Some end → s.known ≡ known → Appends old mid (text_of (map line_of turns)) → IfOk r (λ ended. ended ≡ ended_by end known) → WritesFront mid new (ended (end_words end)) r → WritesLines s old new r
+wrote_last s turns end known old mid new (Ok ended) same is at p ok q = (end, is, ok ∙ ap (ended_by end) (sym at), written_more old mid new (map line_of turns) (lines_of s) (end_words end) (last_line s turns end same is) p q)
+wrote_last s turns end known old mid new (Err fault) same is at p ok q = cut_at old mid new (map line_of turns) (lines_of s) (end_words end) fault (last_line s turns end same is) p q
 
 -- ---- the loop of a run
 
@@ -460,9 +486,9 @@ runs_cut F0 F M0 M stamp most start input0 input1 input2 c1 c2 port0 port1 port2
     (s.0, s.1, cut_at out0 out1 out2 (map line_of h.sent.turns) (lines_of s.0) (acked_words (k + 1)) fault (no_last s.0 n.0.turns (map line_of h.sent.turns ++ acked_words (k + 1) ∷ []) s.2 s.3 n.1) h.written put)
 
 -- the run ended, and its line was written or not
-pub runs_ended : (F0 F M0 M : Type 0) (stamp : Stamp) (most : ℕ) (start : Parts) (input0 input1 input2 : Option (List ℕ)) (c1 c2 : Course) (port0 port1 port2 : PortFacts) (out0 out1 out2 : Option (List ℕ)) (k : ℕ) (end : End) (r : Result ℕ WriteFault)
-    → Runs F0 F M0 M (game_at stamp most port0) start input0 input1 c1 port0 port1 out0 out1 k → Steps (causes F M) stamp most k input1 input2 c1 c2 port1 port2 (Some end) → IfOk r (λ status. status ≡ status_by end) → WritesFront out1 out2 (ended (end_words end)) r
+pub runs_ended : (F0 F M0 M : Type 0) (stamp : Stamp) (most : ℕ) (start : Parts) (input0 input1 input2 : Option (List ℕ)) (c1 c2 : Course) (port0 port1 port2 : PortFacts) (out0 out1 out2 : Option (List ℕ)) (k : ℕ) (end : End) (r : Result Ended WriteFault)
+    → Runs F0 F M0 M (game_at stamp most port0) start input0 input1 c1 port0 port1 out0 out1 k → Steps (causes F M) stamp most k input1 input2 c1 c2 port1 port2 (Some end) → IfOk r (λ e. e ≡ ended_by end c2.known) → WritesFront out1 out2 (ended (end_words end)) r
     → (s : Sending) × IsSending (causes F0 M0) (game_at stamp most port0) start input0 input2 port0 port2 s × WritesLines s out0 out2 r
 runs_ended F0 F M0 M stamp most start input0 input1 input2 c1 c2 port0 port1 port2 out0 out1 out2 k end r h steps ok put =
     let s = run_ended (causes F0 M0) (game_at stamp most port0) start input0 input1 input2 c1 c2 port0 port1 port2 k end h.sent (stepped F0 F M0 M stamp most start input0 input1 input2 c1 c2 port0 port1 port2 out0 out1 k (Some end) h steps) in
-    (s.0, s.1, wrote_last s.0 h.sent.turns end out0 out1 out2 r s.2 s.3 h.written ok put)
+    (s.0, s.1, wrote_last s.0 h.sent.turns end c2.known out0 out1 out2 r s.2 s.3 s.4 h.written ok put)

@@ -3,6 +3,7 @@ use Rattle.std.proofs.Common.{◌≡◌, ◌⊎◌, ℕ, zero, suc, ◌+◌, ◌
 use Rattle.std.specs.List.{AllByRecursion}
 use Rattle.std.proofs.lemmas.List.Concat.{flat_map-append}
 use Rattle.board_core.specs.declared.moves.Move.{Move as Moves}
+use Rattle.board_core.specs.declared.parts.Parts.{Parts}
 use Rattle.move_msg.specs.Messages.{SpellsMessage, message_text}
 use Rattle.move_msg.specs.declared.stamp.Stamp.{Stamp}
 use Rattle.source_core.specs.declared.known.Known.{Known}
@@ -76,8 +77,8 @@ again_reports_nothing stamp addresses number None = tt
 again_reports_nothing stamp addresses number (Some m) = handed_reports_nothing stamp addresses (message_text (move_message stamp number m))
 
 -- a try: the datagram is handed over for each address, and then this comes
-pub tried_once : (stamp : Stamp) (addresses : ℕ) (bytes : List ℕ) (old new : Known) (port mid port' : PortFacts) (end : Next) → Passed port mid (to_each addresses bytes) → HasEnded stamp old new mid port' end → HasTriedOnce stamp addresses bytes old new port port' (loss_by end)
-tried_once stamp addresses bytes old new port mid port' end sent h = record {
+pub tried_once : (stamp : Stamp) (index addresses : ℕ) (bytes : List ℕ) (old new : Known) (port mid port' : PortFacts) (end : Next) → Passed port mid (to_each addresses bytes) → HasEnded stamp old new mid port' end → HasTriedOnce stamp index addresses bytes old new port port' (loss_by end)
+tried_once stamp index addresses bytes old new port mid port' end sent h = record {
   came = h.came;
   received = h.received;
   passed = Passed-trans port mid port' (to_each addresses bytes) h.came sent h.passed;
@@ -94,8 +95,8 @@ tried_once stamp addresses bytes old new port mid port' end sent h = record {
     learned : (e : Next) (all : List Passing) → ComesTo stamp all new e → TryLearns stamp all new (loss_by e)
     learned next.GoesOn all k = k
     learned next.Waited all k = k
-    learned (next.Clashed c) all k = λ number. k
-    learned next.PortLost all k = λ number. k
+    learned (next.Clashed c) all k = λ number plies position. k
+    learned next.PortLost all k = λ number plies position. k
 
 -- ---- tries one after the other
 
@@ -120,17 +121,17 @@ still_waited tries mid new came before open_yet now = elim before [
 ]
 
 -- the tries so far, and one more
-more_passed : (stamp : Stamp) (addresses : ℕ) (bytes : List ℕ) (old mid new : Known) (port port1 port2 : PortFacts) (k : ℕ) (end : Option Turn) (h : HasTried stamp addresses bytes old mid port port1 k) (t : HasTriedOnce stamp addresses bytes mid new port1 port2 end) → Passed port port2 (tries_of addresses bytes (h.tries ++ t.came ∷ []))
+more_passed : (stamp : Stamp) (addresses : ℕ) (bytes : List ℕ) (old mid new : Known) (port port1 port2 : PortFacts) (k : ℕ) (end : Option Turn) (h : HasTried stamp addresses bytes old mid port port1 k) (t : HasTriedOnce stamp k addresses bytes mid new port1 port2 end) → Passed port port2 (tries_of addresses bytes (h.tries ++ t.came ∷ []))
 more_passed stamp addresses bytes old mid new port port1 port2 k end h t = subst (Passed port port2) (sym (all_tries addresses bytes h.tries t.came)) (Passed-trans port port1 port2 _ _ h.passed t.passed)
 
-more_learned : (stamp : Stamp) (addresses : ℕ) (bytes : List ℕ) (old mid new : Known) (port port1 port2 : PortFacts) (k : ℕ) (end : Option Turn) (h : HasTried stamp addresses bytes old mid port port1 k) (t : HasTriedOnce stamp addresses bytes mid new port1 port2 end) (before : List Passing) → Knows stamp before old → TryLearns stamp (before ++ tries_of addresses bytes (h.tries ++ t.came ∷ [])) new end
+more_learned : (stamp : Stamp) (addresses : ℕ) (bytes : List ℕ) (old mid new : Known) (port port1 port2 : PortFacts) (k : ℕ) (end : Option Turn) (h : HasTried stamp addresses bytes old mid port port1 k) (t : HasTriedOnce stamp k addresses bytes mid new port1 port2 end) (before : List Passing) → Knows stamp before old → TryLearns stamp (before ++ tries_of addresses bytes (h.tries ++ t.came ∷ [])) new end
 more_learned stamp addresses bytes old mid new port port1 port2 k end h t before known =
     subst (λ l. TryLearns stamp l new end) (append_assoc before _ _ ∙ ap (λ l. before ++ l) (sym (all_tries addresses bytes h.tries t.came))) (t.learns _ (h.learned before known))
 
 more_count : (tries : List (List Passing)) (came : List Passing) (k : ℕ) → length tries ≡ k → length (tries ++ came ∷ []) ≡ k + 1
 more_count tries came k e = omega (arith, length-append tries (came ∷ []))
 
-pub tried_more : (stamp : Stamp) (addresses : ℕ) (bytes : List ℕ) (old mid new : Known) (port port1 port2 : PortFacts) (k : ℕ) → HasTried stamp addresses bytes old mid port port1 k → is_ruled mid ≡ false → HasTriedOnce stamp addresses bytes mid new port1 port2 None → HasTried stamp addresses bytes old new port port2 (k + 1)
+pub tried_more : (stamp : Stamp) (addresses : ℕ) (bytes : List ℕ) (old mid new : Known) (port port1 port2 : PortFacts) (k : ℕ) → HasTried stamp addresses bytes old mid port port1 k → is_ruled mid ≡ false → HasTriedOnce stamp k addresses bytes mid new port1 port2 None → HasTried stamp addresses bytes old new port port2 (k + 1)
 tried_more stamp addresses bytes old mid new port port1 port2 k h open_yet t = record {
   tries = h.tries ++ t.came ∷ [];
   count = more_count h.tries t.came k h.count;
@@ -146,8 +147,8 @@ tried_more stamp addresses bytes old mid new port port1 port2 k h open_yet t = r
 abbrev pub spelled_move : Stamp → ℕ → Moves → List ℕ
 spelled_move stamp number m = message_text (move_message stamp number m)
 
-pub turn_ended : (stamp : Stamp) (most number : ℕ) (m : Moves) (old new : Known) (port port' : PortFacts) (k : ℕ) (end : Turn) → HasSpelling stamp number m → HasTried stamp port.addresses (spelled_move stamp number m) old new port port' k → k ≤ most → EndsIf number new (Some end) → (tries : List (List Passing)) × IsTurn stamp most number m port port' old new end tries
-turn_ended stamp most number m old new port port' k end say h le ends =
+pub turn_ended : (stamp : Stamp) (most number : ℕ) (m : Moves) (plies : ℕ) (position : Parts) (old new : Known) (port port' : PortFacts) (k : ℕ) (end : Turn) → HasSpelling stamp number m → HasTried stamp port.addresses (spelled_move stamp number m) old new port port' k → k ≤ most → EndsIf number plies position new (Some end) → (tries : List (List Passing)) × IsTurn stamp most number m plies position port port' old new end tries
+turn_ended stamp most number m plies position old new port port' k end say h le ends =
     let counted = h.count in (
       h.tries,
       record {
@@ -160,8 +161,8 @@ turn_ended stamp most number m old new port port' k end say h le ends =
       },
     )
 
-pub turn_cut : (stamp : Stamp) (most number : ℕ) (m : Moves) (old mid new : Known) (port port1 port2 : PortFacts) (k : ℕ) (end : Turn) → HasSpelling stamp number m → HasTried stamp port.addresses (spelled_move stamp number m) old mid port port1 k → k + 1 ≤ most → HasTriedOnce stamp port.addresses (spelled_move stamp number m) mid new port1 port2 (Some end) → (tries : List (List Passing)) × IsTurn stamp most number m port port2 old new end tries
-turn_cut stamp most number m old mid new port port1 port2 k end say h le t =
+pub turn_cut : (stamp : Stamp) (most number : ℕ) (m : Moves) (plies : ℕ) (position : Parts) (old mid new : Known) (port port1 port2 : PortFacts) (k : ℕ) (end : Turn) → HasSpelling stamp number m → HasTried stamp port.addresses (spelled_move stamp number m) old mid port port1 k → k + 1 ≤ most → HasTriedOnce stamp k port.addresses (spelled_move stamp number m) mid new port1 port2 (Some end) → (tries : List (List Passing)) × IsTurn stamp most number m plies position port port2 old new end tries
+turn_cut stamp most number m plies position old mid new port port1 port2 k end say h le t =
     let counted = more_count h.tries t.came k h.count in (
       h.tries ++ t.came ∷ [],
       record {
@@ -170,12 +171,12 @@ turn_cut stamp most number m old mid new port port1 port2 k end say h le t =
         received = all_more (AllByRecursion IsReceived) h.tries t.came h.received t.received;
         lost = λ is. absurd (t.waits is);
         passed = more_passed stamp port.addresses (spelled_move stamp number m) old mid new port port1 port2 k (Some end) h t;
-        ends = λ before known. more_learned stamp port.addresses (spelled_move stamp number m) old mid new port port1 port2 k (Some end) h t before known number;
+        ends = λ before known. more_learned stamp port.addresses (spelled_move stamp number m) old mid new port port1 port2 k (Some end) h t before known number plies position;
       },
     )
 
-pub turn_lost : (stamp : Stamp) (most number : ℕ) (m : Moves) (old new : Known) (port port' : PortFacts) (k : ℕ) → HasSpelling stamp number m → HasTried stamp port.addresses (spelled_move stamp number m) old new port port' k → k ≡ most → EndsIf number new None → (tries : List (List Passing)) × IsTurn stamp most number m port port' old new at_turn.Lost tries
-turn_lost stamp most number m old new port port' k say h all ends =
+pub turn_lost : (stamp : Stamp) (most number : ℕ) (m : Moves) (plies : ℕ) (position : Parts) (old new : Known) (port port' : PortFacts) (k : ℕ) → HasSpelling stamp number m → HasTried stamp port.addresses (spelled_move stamp number m) old new port port' k → k ≡ most → EndsIf number plies position new None → (tries : List (List Passing)) × IsTurn stamp most number m plies position port port' old new at_turn.Lost tries
+turn_lost stamp most number m plies position old new port port' k say h all ends =
     let counted = h.count in (
       h.tries,
       record {
@@ -184,7 +185,7 @@ turn_lost stamp most number m old new port port' k say h all ends =
         received = h.received;
         lost = λ is. (h.count ∙ all, waited h.waited);
         passed = h.passed;
-        ends = λ before known. ends.1 stamp _ (h.learned before known);
+        ends = λ before known. (ends.1 stamp _ (h.learned before known), h.learned before known);
       },
     )
   where
@@ -192,8 +193,8 @@ turn_lost stamp most number m old new port port' k say h all ends =
     waited (inl w) = w
     waited (inr ruled) = let open_yet = ends.0 in absurd cc
 
-pub same_try : (stamp : Stamp) (a a' : ℕ) (bytes bytes' : List ℕ) (old new : Known) (port port' : PortFacts) (end : Option Turn) → a ≡ a' → bytes ≡ bytes' → HasTriedOnce stamp a bytes old new port port' end → HasTriedOnce stamp a' bytes' old new port port' end
-same_try stamp a a' bytes bytes' old new port port' end e f h = subst (λ n. HasTriedOnce stamp n bytes' old new port port' end) e (subst (λ b. HasTriedOnce stamp a b old new port port' end) f h)
+pub same_try : (stamp : Stamp) (index a a' : ℕ) (bytes bytes' : List ℕ) (old new : Known) (port port' : PortFacts) (end : Option Turn) → a ≡ a' → bytes ≡ bytes' → HasTriedOnce stamp index a bytes old new port port' end → HasTriedOnce stamp index a' bytes' old new port port' end
+same_try stamp index a a' bytes bytes' old new port port' end e f h = subst (λ n. HasTriedOnce stamp index n bytes' old new port port' end) e (subst (λ b. HasTriedOnce stamp index a b old new port port' end) f h)
 
 -- what was spelled has that spelling
 pub spelled_so : (stamp : Stamp) (number : ℕ) (m : Moves) (bytes : List ℕ) → SpellsMessage bytes (move_message stamp number m) → HasSpelling stamp number m

@@ -1,4 +1,5 @@
 pub mod Reports
+pub mod Boards
 pub mod Turns
 pub mod Lines
 pub mod Sendings

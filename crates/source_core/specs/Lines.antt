@@ -1,11 +1,13 @@
 -- The lines of a run (this project's own).
-use Rattle.std.specs.Prelude.{◌≡◌, ℕ, List, [], ◌∷◌, ◌++◌, Option, take, codes}
+use Rattle.std.specs.Prelude.{◌≡◌, ℕ, List, [], ◌∷◌, ◌++◌, Option, Some, None, take, codes}
 use Rattle.std.specs.Fmt.{decimal}
 use Rattle.std.specs.Io.KnownBytes.{Appends}
 use Rattle.move_msg.specs.TextLines.{ended, text_of}
 use Rattle.board_core.specs.Verdicts.{verdict_name}
 use Rattle.source_core.specs.declared.report.Ruling.{Ruling}
 use Rattle.source_core.specs.declared.known.Clash.{Clash}
+use Rattle.source_core.specs.declared.known.Known.{Known}
+use Rattle.source_core.specs.declared.lines.Ended.{Ended}
 use Rattle.source_core.specs.declared.lines.End.{End}
 use Rattle.source_core.specs.declared.lines.End.TheVariants as at_end
 use Rattle.source_core.specs.declared.lines.Line.{Line}
@@ -26,6 +28,7 @@ abbrev pub end_words : End → List ℕ
 end_words (at_end.Open count) = codes "open " ++ decimal count
 end_words (at_end.Ruled r) = codes "verdict " ++ ruling_words r
 end_words (at_end.Clashed c) = clash_words c
+end_words (at_end.Belied r) = codes "disagree " ++ ruling_words r
 end_words (at_end.NotAMove number) = codes "refused move " ++ decimal number
 end_words (at_end.Illegal number) = codes "illegal " ++ decimal number
 end_words at_end.TooLong = codes "refused TooLong"
@@ -43,6 +46,7 @@ abbrev pub status_by : End → ℕ
 status_by (at_end.Open count) = 0
 status_by (at_end.Ruled r) = 0
 status_by (at_end.Clashed c) = 1
+status_by (at_end.Belied r) = 1
 status_by (at_end.NotAMove number) = 1
 status_by (at_end.Illegal number) = 1
 status_by at_end.TooLong = 1
@@ -50,6 +54,23 @@ status_by at_end.Lost = 1
 status_by at_end.PortLost = 1
 status_by at_end.Unread = 1
 status_by at_end.OutOfMemory = 1
+
+-- what is known of the arbiters where one doesn't answer; none at another end
+abbrev pub lost_by : End → Known → Option Known
+lost_by (at_end.Open count) known = None
+lost_by (at_end.Ruled r) known = None
+lost_by (at_end.Clashed c) known = None
+lost_by (at_end.Belied r) known = None
+lost_by (at_end.NotAMove number) known = None
+lost_by (at_end.Illegal number) known = None
+lost_by at_end.TooLong known = None
+lost_by at_end.Lost known = Some known
+lost_by at_end.PortLost known = None
+lost_by at_end.Unread known = None
+lost_by at_end.OutOfMemory known = None
+
+abbrev pub ended_by : End → Known → Ended
+ended_by end known = record { status = status_by end; lost = lost_by end known }
 
 -- ---- a writer that fails
 

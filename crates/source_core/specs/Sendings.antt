@@ -1,5 +1,5 @@
 -- A run of a source: the moves of its input, one after the other (this project's own).
-use Rattle.std.specs.Prelude.{◌≡◌, ◌≤◌, ◌<◌, ◌-◌, ◌++◌, ℕ, List, [], ◌∷◌, length, map, slice_get, Option, Some, None, IfSome, Result, Ok, Err}
+use Rattle.std.specs.Prelude.{◌≡◌, ◌≤◌, ◌<◌, ◌+◌, ◌-◌, ◌++◌, ℕ, List, [], ◌∷◌, length, map, slice_get, Option, Some, None, IfSome, Result, Ok, Err}
 use Rattle.std.specs.List.{AllByRecursion, Contains}
 use Rattle.std.specs.Io.KnownBytes.{Appends, IsAtEnd}
 use Rattle.board_core.specs.declared.moves.Move.{Move as Moves}
@@ -18,9 +18,12 @@ use Rattle.system_io.specs.Ports.{Passing, Handed, Missed, PortFacts, Passed, to
 use Rattle.source_core.specs.declared.report.Ruling.{Ruling}
 use Rattle.source_core.specs.declared.lines.End.{End}
 use Rattle.source_core.specs.declared.lines.End.TheVariants as at_end
-use Rattle.source_core.specs.Reports.{IsAcked, IsAgreed, IsRuled, IsClash, IsUnsettled}
+use Rattle.source_core.specs.Reports.{IsAcked, IsAgreed, IsRuled, IsClash, IsUnsettled, Knows}
+use Rattle.source_core.specs.Boards.{IsBelied, IsBelievedRuling}
 use Rattle.source_core.specs.Turns.{HasSpelling, HasWaited, IsReceived, move_message, tries_of}
-use Rattle.source_core.specs.Lines.{IsCut, acked_words, end_words, status_by}
+use Rattle.source_core.specs.Lines.{IsCut, acked_words, end_words, ended_by}
+use Rattle.source_core.specs.declared.known.Known.{Known}
+use Rattle.source_core.specs.declared.lines.Ended.{Ended}
 
 -- the stamp of a game, to how many addresses its moves go, and how often each is sent at most
 pub record Game : Type 0 where
@@ -74,33 +77,36 @@ pub record IsLastMove (g : Game) (at : At) (input : Option (List ℕ)) (sent : L
   pub line : List ℕ
   pub move : Moves
   pub tries : List (List Passing)
+  pub after : Parts
   pub read : ReadsLine at.input input line
   pub spelled : SpellsMove line move
-  pub legal : IsLegal at.position move
+  pub legal : Legal at.position move after
   pub room : length at.moves < most_moves
   pub spelling : HasSpelling g.stamp (length at.moves) move
   pub are : AreTries g tries
   pub only : sent ≡ move ∷ []
   pub passed : more ≡ sent_in g at.moves move tries
 
--- how the last move stands, by all that has passed
-abbrev pub IsSentLast : Stamp → ℕ → List Passing → End → Type 0
-IsSentLast stamp number all (at_end.Open count) = ⊥
-IsSentLast stamp number all (at_end.Ruled r) = IsRuled stamp r all
-IsSentLast stamp number all (at_end.Clashed c) = IsClash stamp c all
-IsSentLast stamp number all (at_end.NotAMove place) = ⊥
-IsSentLast stamp number all (at_end.Illegal place) = ⊥
-IsSentLast stamp number all at_end.TooLong = ⊥
-IsSentLast stamp number all at_end.Lost = IsUnsettled stamp number all
-IsSentLast stamp number all at_end.PortLost = Contains all Missed
-IsSentLast stamp number all at_end.Unread = ⊥
-IsSentLast stamp number all at_end.OutOfMemory = ⊥
+-- how the last move stands, by all that has passed, with this position after it
+abbrev pub IsSentLast : Stamp → ℕ → Parts → List Passing → End → Type 0
+IsSentLast stamp number after all (at_end.Open count) = ⊥
+IsSentLast stamp number after all (at_end.Ruled r) = IsBelievedRuling stamp (number + 1) after r all
+IsSentLast stamp number after all (at_end.Clashed c) = IsClash stamp c all
+IsSentLast stamp number after all (at_end.Belied r) = IsBelied stamp (number + 1) after r all
+IsSentLast stamp number after all (at_end.NotAMove place) = ⊥
+IsSentLast stamp number after all (at_end.Illegal place) = ⊥
+IsSentLast stamp number after all at_end.TooLong = ⊥
+IsSentLast stamp number after all at_end.Lost = IsUnsettled stamp number all
+IsSentLast stamp number after all at_end.PortLost = Contains all Missed
+IsSentLast stamp number after all at_end.Unread = ⊥
+IsSentLast stamp number after all at_end.OutOfMemory = ⊥
 
 -- why the move of a line isn't sent: the line is none, or no legal one, or there are as many as a game may have
 abbrev pub IsRefusedLine : Parts → ℕ → List ℕ → End → Type 0
 IsRefusedLine position number line (at_end.Open count) = ⊥
 IsRefusedLine position number line (at_end.Ruled r) = ⊥
 IsRefusedLine position number line (at_end.Clashed c) = ⊥
+IsRefusedLine position number line (at_end.Belied r) = ⊥
 IsRefusedLine position number line (at_end.NotAMove place) = (place ≡ number) × (number < most_moves) × ((m : Moves) → SpellsMove line m → ⊥)
 IsRefusedLine position number line (at_end.Illegal place) = (place ≡ number) × (number < most_moves) × ((m : Moves) × SpellsMove line m × (IsLegal position m → ⊥))
 IsRefusedLine position number line at_end.TooLong = number ≡ most_moves
@@ -119,6 +125,7 @@ abbrev pub IsUnread : (ReadFault → Type 0) → End → Type 0
 IsUnread cause (at_end.Open count) = ⊥
 IsUnread cause (at_end.Ruled r) = ⊥
 IsUnread cause (at_end.Clashed c) = ⊥
+IsUnread cause (at_end.Belied r) = ⊥
 IsUnread cause (at_end.NotAMove place) = ⊥
 IsUnread cause (at_end.Illegal place) = ⊥
 IsUnread cause at_end.TooLong = ⊥
@@ -127,18 +134,20 @@ IsUnread cause at_end.PortLost = ⊥
 IsUnread cause at_end.Unread = cause fault.Unreadable
 IsUnread cause at_end.OutOfMemory = cause fault.OutOfMemory
 
--- how a game stands at the input's end, by all that has passed: open after so many moves, where no verdict was reported by both
-abbrev pub ClosesSo : Stamp → ℕ → List Passing → End → Type 0
-ClosesSo stamp number all (at_end.Open count) = (count ≡ number) × ((r : Ruling) → IsRuled stamp r all → ⊥) × IsAgreed stamp all
-ClosesSo stamp number all (at_end.Ruled r) = IsRuled stamp r all
-ClosesSo stamp number all (at_end.Clashed c) = IsClash stamp c all
-ClosesSo stamp number all (at_end.NotAMove place) = ⊥
-ClosesSo stamp number all (at_end.Illegal place) = ⊥
-ClosesSo stamp number all at_end.TooLong = ⊥
-ClosesSo stamp number all at_end.Lost = ⊥
-ClosesSo stamp number all at_end.PortLost = Contains all Missed
-ClosesSo stamp number all at_end.Unread = ⊥
-ClosesSo stamp number all at_end.OutOfMemory = ⊥
+-- how a game stands at the input's end, by all that has passed and by the position after so many moves: open where no verdict was
+-- reported by both
+abbrev pub ClosesSo : Stamp → ℕ → Parts → List Passing → End → Type 0
+ClosesSo stamp number position all (at_end.Open count) = (count ≡ number) × ((r : Ruling) → IsRuled stamp r all → ⊥) × IsAgreed stamp all
+ClosesSo stamp number position all (at_end.Ruled r) = IsBelievedRuling stamp number position r all
+ClosesSo stamp number position all (at_end.Clashed c) = IsClash stamp c all
+ClosesSo stamp number position all (at_end.Belied r) = IsBelied stamp number position r all
+ClosesSo stamp number position all (at_end.NotAMove place) = ⊥
+ClosesSo stamp number position all (at_end.Illegal place) = ⊥
+ClosesSo stamp number position all at_end.TooLong = ⊥
+ClosesSo stamp number position all at_end.Lost = ⊥
+ClosesSo stamp number position all at_end.PortLost = Contains all Missed
+ClosesSo stamp number position all at_end.Unread = ⊥
+ClosesSo stamp number position all at_end.OutOfMemory = ⊥
 
 -- the last of the moves
 abbrev pub last_of : List Moves → Option Moves
@@ -151,13 +160,13 @@ again stamp addresses number (Some m) = to_each addresses (message_text (move_me
 
 -- After the input's end the last acknowledged move is handed over once more: an arbiter answers it with its count and its verdict,
 -- if it has one. Then what comes in time is received, and nothing more is sent.
-pub record IsClosed (g : Game) (moves : List Moves) (before more : List Passing) (end : End) : Type 0 where
+pub record IsClosed (g : Game) (position : Parts) (moves : List Moves) (before more : List Passing) (end : End) : Type 0 where
   pub came : List Passing
   pub spelling : IfSome (last_of moves) (HasSpelling g.stamp (length moves - 1))
   pub passed : more ≡ again g.stamp g.addresses (length moves - 1) (last_of moves) ++ came
   pub received : AllByRecursion IsReceived came
   pub waited : (count : ℕ) → end ≡ at_end.Open count → HasWaited came
-  pub stands : ClosesSo g.stamp (length moves) (before ++ more) end
+  pub stands : ClosesSo g.stamp (length moves) position (before ++ more) end
 
 -- it was sent as often as it may be, and each try has waited
 abbrev pub IsTriedOut : Game → List (List Passing) → Type 0
@@ -170,9 +179,9 @@ pub data EndsWith (cause : ReadFault → Type 0) (g : Game) (at : At) (input : O
   -- a line is read, and its move isn't sent
   Refused : (line : List ℕ) → sent ≡ [] → more ≡ [] → ReadsLine at.input input line → IsRefusedLine at.position (length at.moves) line end → EndsWith cause g at input sent more end
   -- the input has ended
-  Closed : sent ≡ [] → IsAtEnd at.input → IsClosed g at.moves at.passed more end → EndsWith cause g at input sent more end
+  Closed : sent ≡ [] → IsAtEnd at.input → IsClosed g at.position at.moves at.passed more end → EndsWith cause g at input sent more end
   -- one more move is sent; an arbiter counts as silent only when all tries are used up
-  Sent : (last : IsLastMove g at input sent more) → IsSentLast g.stamp (length at.moves) (at.passed ++ more) end → (end ≡ at_end.Lost → IsTriedOut g last.tries) → EndsWith cause g at input sent more end
+  Sent : (last : IsLastMove g at input sent more) → IsSentLast g.stamp (length at.moves) last.after (at.passed ++ more) end → (end ≡ at_end.Lost → IsTriedOut g last.tries) → EndsWith cause g at input sent more end
 
 abbrev pub EndsIfAny : (ReadFault → Type 0) → Game → At → Option (List ℕ) → List Moves → List Passing → Option End → Type 0
 EndsIfAny cause g at input sent more None = (sent ≡ []) × (more ≡ [])
@@ -185,14 +194,15 @@ EndsIfAny cause g at input sent more (Some end) = EndsWith cause g at input sent
 abbrev pub OnlyHands : Stamp → List Moves → List Passing → Type 0
 OnlyHands stamp moves all = (to : ℕ) (bytes : List ℕ) → Contains all (Handed to bytes) → (n : ℕ) × (m : Moves) × (slice_get moves n ≡ Some m) × SpellsMessage bytes (move_message stamp n m)
 
--- a run: the acknowledged moves, where it stands then, what was sent and what passed after that, and with what it ends; no end
--- where the writer failed before it
+-- a run: the acknowledged moves, where it stands then, what was sent and what passed after that, with what it ends, and what is known
+-- then of the arbiters; no end where the writer failed before it
 pub record Sending : Type 0 where
   pub turns : List AckedMove
   pub at : At
   pub sent : List Moves
   pub more : List Passing
   pub end : Option End
+  pub known : Known
 
 abbrev pub all_passed : Sending → List Passing
 all_passed s = s.at.passed ++ s.more
@@ -206,6 +216,8 @@ pub record IsSending (cause : ReadFault → Type 0) (g : Game) (start : Parts) (
   pub passed : Passed port port' (all_passed s)
   -- one number never has two moves: this is what an arbiter's guarantee asks of a source
   pub source : OnlyHands g.stamp (all_moves s) (all_passed s)
+  -- what is told of the arbiters where one doesn't answer
+  pub knows : s.end ≡ Some at_end.Lost → Knows g.stamp (all_passed s) s.known
 
 abbrev pub line_of : AckedMove → List ℕ
 line_of t = acked_words (length t.after.moves)
@@ -219,6 +231,6 @@ abbrev pub lines_of : Sending → List (List ℕ)
 lines_of s = map line_of s.turns ++ last_lines s.end
 
 -- all of them are written, and the status is that of the end; or the writer fails at the last of those that it was given
-abbrev pub WritesLines : Sending → Option (List ℕ) → Option (List ℕ) → Result ℕ WriteFault → Type 0
-WritesLines s old new (Ok status) = (end : End) × (s.end ≡ Some end) × (status ≡ status_by end) × Appends old new (text_of (lines_of s))
+abbrev pub WritesLines : Sending → Option (List ℕ) → Option (List ℕ) → Result Ended WriteFault → Type 0
+WritesLines s old new (Ok ended) = (end : End) × (s.end ≡ Some end) × (ended ≡ ended_by end s.known) × Appends old new (text_of (lines_of s))
 WritesLines s old new (Err fault) = IsCut (lines_of s) old new

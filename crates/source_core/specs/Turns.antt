@@ -1,9 +1,10 @@
 -- One move that is sent until the arbiters have acknowledged it (this project's own).
-use Rattle.std.specs.Prelude.{◌≡◌, ◌≤◌, ◌++◌, ◌⊎◌, ℕ, List, [], ◌∷◌, length}
+use Rattle.std.specs.Prelude.{◌≡◌, ◌≤◌, ◌++◌, ◌*◌, ◌^◌, ◌⊎◌, ℕ, min, List, [], ◌∷◌, length}
 use Rattle.std.specs.List.{AllByRecursion, flat_map, Contains}
-use Rattle.std.specs.Duration.{as_nanos}
+use Rattle.std.specs.Duration.{as_nanos, max_nanos}
 use Rattle.std.specs.declared.time.Duration.{Duration}
 use Rattle.board_core.specs.declared.moves.Move.{Move as Moves}
+use Rattle.board_core.specs.declared.parts.Parts.{Parts}
 use Rattle.move_msg.specs.declared.stamp.Stamp.{Stamp}
 use Rattle.move_msg.specs.declared.who.Sender.TheVariants.{Source}
 use Rattle.move_msg.specs.declared.message.Message.{Message}
@@ -17,7 +18,8 @@ use Rattle.source_core.specs.declared.turn.Next.TheVariants as next
 use Rattle.source_core.specs.declared.turn.Turn.{Turn}
 use Rattle.source_core.specs.declared.turn.Turn.TheVariants as at_turn
 use Rattle.system_io.specs.Ports.{Passing, Came, Quiet, Missed, Handed, PortFacts, Passed, to_each}
-use Rattle.source_core.specs.Reports.{Knows, StandsSo, IsAcked, IsRuled, IsClash, IsUnsettled}
+use Rattle.source_core.specs.Reports.{Knows, StandsSo, IsAcked, IsClash, IsUnsettled}
+use Rattle.source_core.specs.Boards.{IsBelied, IsBelievedRuling}
 
 -- the message by which the source sends the move with this number
 abbrev pub move_message : Stamp → ℕ → Moves → Message
@@ -42,16 +44,24 @@ most_answers = 18_446_744_073_709_551_615
 abbrev pub HasWaited : List Passing → Type 0
 HasWaited came = ((before : List Passing) × (came ≡ before ++ Quiet ∷ [])) ⊎ (length came ≡ most_answers)
 
--- how many nanoseconds a datagram is awaited, by how the move stands: as long as the terms say; where both have acknowledged the
--- move, two milliseconds for the verdicts that may follow
-abbrev pub wait_by : Duration → Standing → ℕ
-wait_by wait standing.Acked = 2_000_000
-wait_by wait (standing.Ruled r) = as_nanos wait
-wait_by wait standing.Open = as_nanos wait
+-- Each try of a move waits twice as long as the one before it, up to eight times as long as the first; tries are counted from 0.
+abbrev pub times_at : ℕ → ℕ
+times_at index = 2 ^ min index 3
+
+-- so many nanoseconds a try waits that isn't settled, as far as a duration goes
+abbrev pub try_nanos : Duration → ℕ → ℕ
+try_nanos wait index = min (as_nanos wait * times_at index) max_nanos
+
+-- how many nanoseconds a datagram is awaited in a try, by how the move stands: as long as the try waits; where both have acknowledged
+-- the move, two milliseconds for the verdicts that may follow
+abbrev pub wait_by : Duration → ℕ → Standing → ℕ
+wait_by wait index standing.Acked = 2_000_000
+wait_by wait index (standing.Ruled r) = try_nanos wait index
+wait_by wait index standing.Open = try_nanos wait index
 
 -- so long the next datagram is awaited
-abbrev pub IsWait : Duration → ℕ → Known → Duration → Type 0
-IsWait wait number known result = (s : Standing) × StandsSo known number s × (as_nanos result ≡ wait_by wait s)
+abbrev pub IsWait : Duration → ℕ → ℕ → Known → Duration → Type 0
+IsWait wait index number known result = (s : Standing) × StandsSo known number s × (as_nanos result ≡ wait_by wait index s)
 
 -- one try: the move is handed over for each address, and then this came
 abbrev pub one_try : ℕ → List ℕ → List Passing → List Passing
@@ -71,19 +81,20 @@ ComesTo stamp all known next.PortLost = Contains all Missed
 abbrev pub Learns : Stamp → Known → Known → List Passing → Next → Type 0
 Learns stamp old new came then' = (before : List Passing) → Knows stamp before old → ComesTo stamp (before ++ came) new then'
 
--- how a turn ended, by all that has passed
-abbrev pub EndsSo : Stamp → ℕ → List Passing → Known → Turn → Type 0
-EndsSo stamp number all known at_turn.Acked = IsAcked stamp number all × Knows stamp all known
-EndsSo stamp number all known (at_turn.Ruled r) = IsRuled stamp r all
-EndsSo stamp number all known (at_turn.Clashed c) = IsClash stamp c all
-EndsSo stamp number all known at_turn.Lost = IsUnsettled stamp number all
-EndsSo stamp number all known at_turn.PortLost = Contains all Missed
+-- how a turn ended, by all that has passed, with so many moves and this position on the board
+abbrev pub EndsSo : Stamp → ℕ → ℕ → Parts → List Passing → Known → Turn → Type 0
+EndsSo stamp number plies position all known at_turn.Acked = IsAcked stamp number all × Knows stamp all known
+EndsSo stamp number plies position all known (at_turn.Ruled r) = IsBelievedRuling stamp plies position r all
+EndsSo stamp number plies position all known (at_turn.Clashed c) = IsClash stamp c all
+EndsSo stamp number plies position all known (at_turn.Belied r) = IsBelied stamp plies position r all
+EndsSo stamp number plies position all known at_turn.Lost = IsUnsettled stamp number all × Knows stamp all known
+EndsSo stamp number plies position all known at_turn.PortLost = Contains all Missed
 
 -- a turn: tries of the one move, at most so many, each of which waited where it was of no use
-pub record IsTurn (stamp : Stamp) (most number : ℕ) (m : Moves) (old new : PortFacts) (known known' : Known) (end : Turn) (tries : List (List Passing)) : Type 0 where
+pub record IsTurn (stamp : Stamp) (most number : ℕ) (m : Moves) (plies : ℕ) (position : Parts) (old new : PortFacts) (known known' : Known) (end : Turn) (tries : List (List Passing)) : Type 0 where
   pub spelling : HasSpelling stamp number m
   pub few : length tries ≤ most
   pub received : AllByRecursion (AllByRecursion IsReceived) tries
   pub lost : end ≡ at_turn.Lost → (length tries ≡ most) × AllByRecursion HasWaited tries
   pub passed : Passed old new (tries_of old.addresses (message_text (move_message stamp number m)) tries)
-  pub ends : (before : List Passing) → Knows stamp before known → EndsSo stamp number (before ++ tries_of old.addresses (message_text (move_message stamp number m)) tries) known' end
+  pub ends : (before : List Passing) → Knows stamp before known → EndsSo stamp number plies position (before ++ tries_of old.addresses (message_text (move_message stamp number m)) tries) known' end

@@ -23,6 +23,7 @@
 //! - CLAIM: `laws::one_move`: one number never has two moves.
 #![tactic(auto)]
 
+mod board;
 mod known;
 pub mod laws;
 mod lines;
@@ -30,8 +31,9 @@ mod report;
 mod sending;
 mod turn;
 
+pub use board::Board;
 pub use known::{Clash, Known, Reported, Standing};
-pub use lines::{End, Line};
+pub use lines::{End, Ended, Line};
 pub use report::{Report, Ruling, report_of};
 pub use sending::send_game;
 pub use turn::{Terms, Turn, take_turn};

@@ -4,9 +4,9 @@ ghost use Rattle.std.specs.Prelude.{◌≡◌, Some, IfSome, OnOk};
 ghost use Rattle.std.specs.Fmt.{DisplaysOnOk};
 ghost use Rattle.move_msg.specs.TextLines.{ended};
 ghost use Rattle.system_io.specs.Outputs.{WritesFront};
-ghost use Rattle.source_core.specs.Lines.{clash_words, end_words, line_words, ruling_words, status_by};
+ghost use Rattle.source_core.specs.Lines.{clash_words, end_words, ended_by, line_words, lost_by, ruling_words, status_by};
 
-use crate::known::Clash;
+use crate::known::{Clash, Known};
 use crate::report::Ruling;
 use arrayvec::ArrayString;
 use std::fmt::{self, Write as _};
@@ -21,6 +21,8 @@ pub enum End {
     Ruled(Ruling),
     /// Two verdicts were reported that differ.
     Clashed(Clash),
+    /// This verdict was reported, and the source's own board doesn't show it.
+    Belied(Ruling),
     /// The line at this place, counted from 0, is no move.
     NotAMove(u32),
     /// The move at this place isn't legal.
@@ -46,6 +48,15 @@ pub enum Line {
     Ends(End),
 }
 
+/// What a run of a source comes to.
+#[derive(Clone, Copy)]
+pub struct Ended {
+    /// The status: 0 where the game goes on at the input's end or has its verdict, else 1.
+    pub status: u8,
+    /// What the arbiters have reported, where one of them doesn't answer.
+    pub lost: Option<Known>,
+}
+
 impl End {
     /// The status of a run that ends so.
     pub fn status(&self) -> u8
@@ -54,6 +65,26 @@ impl End {
         match self {
             End::Open(_) | End::Ruled(_) => 0,
             _ => 1,
+        }
+    }
+
+    /// What is told of the arbiters beside the last line: what is known of them, where one doesn't answer.
+    fn lost(&self, known: &Known) -> Option<Known>
+        ensures { result ≡ lost_by self.now known.now }
+    {
+        match self {
+            End::Lost => Some(*known),
+            _ => None,
+        }
+    }
+
+    /// What a run that ends so comes to.
+    pub(crate) fn ended(&self, known: &Known) -> Ended
+        ensures { result ≡ ended_by self.now known.now }
+    {
+        Ended {
+            status: self.status(),
+            lost: self.lost(known),
         }
     }
 }
@@ -93,6 +124,7 @@ impl fmt::Display for End {
             End::Open(count) => write!(f, "open {count}"),
             End::Ruled(ruling) => write!(f, "verdict {ruling}"),
             End::Clashed(clash) => fmt_clash(f, clash),
+            End::Belied(ruling) => write!(f, "disagree {ruling}"),
             End::NotAMove(number) => write!(f, "refused move {number}"),
             End::Illegal(number) => write!(f, "illegal {number}"),
             End::TooLong => f.write_str("refused TooLong"),

@@ -4,12 +4,13 @@ ghost use Rattle.std.specs.Prelude.{◌≡◌, ◌≤◌, IfOk, IfErr, OnOk};
 ghost use Rattle.source_core.specs.Sendings.{IsRefusedLine, IsSending, Sending, WritesLines, causes};
 ghost use Rattle.source_core.specs.Inside.Steps.{Closes, EndsAt, IsPlayed, Steps, StepsOn, begun_at, end_by};
 ghost use Rattle.system_io.specs.Outputs.{WritesFront};
-ghost use Rattle.source_core.specs.Lines.{end_words, status_by};
+ghost use Rattle.source_core.specs.Lines.{end_words, ended_by};
 ghost use Rattle.move_msg.specs.Numbers.{most_moves};
 ghost use Rattle.move_msg.specs.TextLines.{ended};
 
+use crate::board::Board;
 use crate::known::{Known, Standing};
-use crate::lines::{End, Line, put_now};
+use crate::lines::{End, Ended, Line, put_now};
 use crate::turn::{Next, Terms, Turn, receive_all, send_again, take_turn};
 use board_core::{Move, Position};
 use fen_text::read_move;
@@ -66,6 +67,7 @@ fn end_of(turn: Turn) -> Option<End>
         Turn::Acked => None,
         Turn::Ruled(ruling) => Some(End::Ruled(ruling)),
         Turn::Clashed(clash) => Some(End::Clashed(clash)),
+        Turn::Belied(ruling) => Some(End::Belied(ruling)),
         Turn::Lost => Some(End::Lost),
         Turn::PortLost => Some(End::PortLost),
     }
@@ -87,15 +89,27 @@ fn send_line<P: Port>(
         Ok((m, next)) => {
             course.position = *next;
             course.last = Some(*m);
-            end_of(take_turn(terms, number, *m, &mut course.known, port))
+            let board = Board {
+                plies: number + 1,
+                position: next,
+            };
+            end_of(take_turn(terms, number, *m, board, &mut course.known, port))
         }
     }
 }
 
-/// The end of a run by the verdict that both have reported; otherwise the game is open after this many moves.
-fn end_at(known: &Known, number: u32) -> End
-    ensures { EndsAt number known.now result }
+/// The end of a run by a verdict that the board belies, or by the one that both have reported; otherwise the game is open after this
+/// many moves.
+fn end_at(known: &Known, number: u32, position: &Position) -> End
+    ensures { EndsAt number position.now known.now result }
 {
+    let board = Board {
+        plies: number,
+        position,
+    };
+    if let Some(ruling) = board.belied_in(known) {
+        return End::Belied(ruling);
+    }
     match known.standing(number) {
         Standing::Ruled(ruling) => End::Ruled(ruling),
         Standing::Acked | Standing::Open => End::Open(number),
@@ -105,11 +119,11 @@ fn end_at(known: &Known, number: u32) -> End
 /// Sends the last acknowledged move once more, which an arbiter answers with its count and its verdict. Receives what
 /// still comes in time, and returns the end of the run.
 fn close<P: Port>(terms: Terms, number: u32, course: &mut Course, port: &mut P) -> End
-    ensures { Closes terms.stamp number course.old.last course.old.known (P.facts port.old) (P.facts port.new) result }
+    ensures { Closes terms.stamp number course.old.position course.old.last course.old.known (P.facts port.old) (P.facts port.new) result }
 {
     send_again(terms.stamp, number.saturating_sub(1), &course.last, port);
-    match receive_all(terms, number, &mut course.known, port) {
-        Next::GoesOn | Next::Waited => end_at(&course.known, number),
+    match receive_all(terms, 0, number, &mut course.known, port) {
+        Next::GoesOn | Next::Waited => end_at(&course.known, number, &course.position),
         Next::Clashed(clash) => End::Clashed(clash),
         Next::PortLost => End::PortLost,
     }
@@ -142,19 +156,20 @@ fn step<L: LineReader, P: Port>(
     }
 }
 
-/// Writes the last line, and returns the status.
-fn finish<W: Output>(out: &mut W, end: End) -> Result<u8, WriteFault>
-    ensures status { IfOk result (λ status. status ≡ status_by end) }
+/// Writes the last line, and returns what the run comes to.
+fn finish<W: Output>(out: &mut W, end: End, known: &Known) -> Result<Ended, WriteFault>
+    ensures ended { IfOk result (λ ended. ended ≡ ended_by end known.now) }
     ensures front { WritesFront (W.contents out.old) (W.contents out.new) (ended (end_words end)) result }
     ensures gone { OnOk result (W.facts out.new).gone }
 {
     match put_now(out, &Line::Ends(end)) {
-        Ok(()) => Ok(end.status()),
+        Ok(()) => Ok(end.ended(known)),
         Err(fault) => Err(fault),
     }
 }
 
-/// Sends the moves of an input, a line each, to the arbiters of a game as they come, and returns the status.
+/// Sends the moves of an input, a line each, to the arbiters of a game as they come, and returns what that comes to: a status and, where
+/// an arbiter doesn't answer, what both have reported.
 ///
 /// Each legal move is sent to each address, at most as often as the terms say, until both arbiters have acknowledged
 /// it. Then the line `2 acked` follows, with how many moves are acknowledged, and the next line is read. Once both have
@@ -163,7 +178,8 @@ fn finish<W: Output>(out: &mut W, end: End) -> Result<u8, WriteFault>
 /// With status 1 it is one of these. `refused move 2`: a line that is no move, counted from 0. `illegal 2`: a move that
 /// isn't legal, which isn't sent. `refused TooLong`: a 4097th move. `refused lost`: an arbiter doesn't answer. `refused
 /// port`, `refused memory`, and `refused files`: the input can't be read. `disagree 2 BlackMates 2 Stalemate`: two
-/// verdicts that differ. The error comes only where the writer failed.
+/// verdicts that differ. `disagree 2 BlackMates`: a mate or a stalemate that is reported and that the source's own board doesn't
+/// show at that ply. The error comes only where the writer failed.
 pub fn send_game<L: LineReader, P: Port, W: Output>(
     alloc: Global,
     terms: Terms,
@@ -171,7 +187,7 @@ pub fn send_game<L: LineReader, P: Port, W: Output>(
     reader: &mut L,
     port: &mut P,
     out: &mut W,
-) -> Result<u8, WriteFault>
+) -> Result<Ended, WriteFault>
     // There is such a run, and its lines are written.
     ensures sends { (s : Sending) × IsSending (causes (L.facts reader.old).fails (L.facts reader.old).takes_memory) (record { stamp = terms.stamp; addresses = (P.facts port.old).addresses; most = terms.tries }) start (L.facts reader.old).left (L.facts reader.new).left (P.facts port.old) (P.facts port.new) s × WritesLines s (W.contents out.old) (W.contents out.new) result }
 
@@ -186,7 +202,7 @@ pub fn send_game<L: LineReader, P: Port, W: Output>(
                 Ok(()) => {}
                 Err(fault) => return Err(fault),
             },
-            Some(end) => return finish(out, end),
+            Some(end) => return finish(out, end, &course.known),
         }
     }
     unreachable!()

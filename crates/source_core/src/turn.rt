@@ -5,9 +5,10 @@ ghost use Rattle.std.specs.List.{AllByRecursion};
 ghost use Rattle.system_io.specs.Ports.{Passing, Came, Passed, to_each};
 ghost use Rattle.move_msg.specs.Messages.{SpellsMessage};
 ghost use Rattle.source_core.specs.Sendings.{again};
-ghost use Rattle.source_core.specs.Turns.{HasSpelling, IsReceived, IsTurn, IsWait, Learns, move_message};
+ghost use Rattle.source_core.specs.Turns.{HasSpelling, IsReceived, IsTurn, IsWait, Learns, move_message, times_at};
 ghost use Rattle.source_core.specs.Inside.Steps.{EndsIf, HasEnded, HasTriedOnce, IsLast, is_ruled, loss_by};
 
+use crate::board::Board;
 use crate::known::{Clash, Known, Standing};
 use crate::report::{Ruling, report_of};
 use board_core::Move;
@@ -27,9 +28,10 @@ pub struct Terms {
     /// How often a turn sends its move at most, each time to all addresses: 1 to 2^32 - 1 times. The last acknowledged move is sent
     /// once more at the input's end. With 0 nothing is sent, and a move that isn't acknowledged already is lost.
     pub tries: u32,
-    /// How long datagrams are awaited in a try, above 0, as precisely as the port's clock allows. Where both arbiters have
-    /// acknowledged the move, a verdict is awaited for two milliseconds instead, and once one has reported it, that of the other for
-    /// `wait` again. At a port of the system a try takes no longer than these together, whatever comes.
+    /// How long datagrams are awaited in the first try of a move, above 0, as precisely as the port's clock allows. The second try
+    /// waits twice as long, the third four times, and each later one eight times. Where both arbiters have acknowledged the move, a
+    /// verdict is awaited for two milliseconds instead, and once one has reported it, that of the other as long as the try waits
+    /// again. At a port of the system a try takes no longer than these together, whatever comes.
     pub wait: Duration,
 }
 
@@ -42,6 +44,8 @@ pub enum Turn {
     Ruled(Ruling),
     /// Two verdicts were reported that differ.
     Clashed(Clash),
+    /// This verdict was reported, and the source's own board doesn't show it.
+    Belied(Ruling),
     /// The move was sent as often as the terms allow, without either.
     Lost,
     /// No datagram can be received.
@@ -85,12 +89,13 @@ fn take_in(stamp: Stamp, known: &mut Known, datagram: &[u8]) -> Next
 /// Receives a datagram, if one comes in time, and adds its report.
 fn receive_one<P: Port>(
     terms: Terms,
+    index: u32,
     number: u32,
     wait: Duration,
     known: &mut Known,
     port: &mut P,
 ) -> Next
-    requires { IsWait terms.wait number known.old wait }
+    requires { IsWait terms.wait index number known.old wait }
     ensures { (came : Passing) × IsReceived came × Passed (P.facts port.old) (P.facts port.new) (came ∷ []) × IsLast came result × Learns terms.stamp known.old known.new (came ∷ []) result }
 {
     let mut buffer = [0u8; 64];
@@ -108,20 +113,33 @@ fn is_ruled(known: &Known) -> bool
     known.a.ruling.is_some() && known.b.ruling.is_some()
 }
 
-/// How long the next datagram is awaited: where both have acknowledged the move, two milliseconds for the verdicts that may
+/// How many times as long as the first try of a move the one with this number waits; tries are counted from 0.
+fn times_at(index: u32) -> u32
+    ensures { result ≡ times_at index }
+{
+    match index {
+        0 => 1,
+        1 => 2,
+        2 => 4,
+        _ => 8,
+    }
+}
+
+/// How long the next datagram is awaited in a try: where both have acknowledged the move, two milliseconds for the verdicts that may
 /// follow.
-fn wait_at(terms: Terms, number: u32, known: &Known) -> Duration
-    ensures { IsWait terms.wait number known.now result }
+fn wait_at(terms: Terms, index: u32, number: u32, known: &Known) -> Duration
+    ensures { IsWait terms.wait index number known.now result }
 {
     match known.standing(number) {
         Standing::Acked => Duration::from_millis(2),
-        Standing::Ruled(_) | Standing::Open => terms.wait,
+        Standing::Ruled(_) | Standing::Open => terms.wait.saturating_mul(times_at(index)),
     }
 }
 
 /// Receives datagrams and adds their reports, until none comes in time, both have reported a verdict, or 2^64 - 1 datagrams came.
 pub(crate) fn receive_all<P: Port>(
     terms: Terms,
+    index: u32,
     number: u32,
     known: &mut Known,
     port: &mut P,
@@ -132,8 +150,8 @@ pub(crate) fn receive_all<P: Port>(
         if is_ruled(known) {
             return Next::Waited;
         }
-        let wait = wait_at(terms, number, known);
-        match receive_one(terms, number, wait, known, port) {
+        let wait = wait_at(terms, index, number, known);
+        match receive_one(terms, index, number, wait, known, port) {
             Next::GoesOn => {}
             next => return next,
         }
@@ -142,9 +160,12 @@ pub(crate) fn receive_all<P: Port>(
 }
 
 /// The state of a move as the end of its turn; none where it is open.
-fn turn_of(known: &Known, number: u32) -> Option<Turn>
-    ensures { EndsIf number known.now result }
+fn turn_of(known: &Known, number: u32, board: Board<'_>) -> Option<Turn>
+    ensures { EndsIf number board.entry.plies board.entry.position.now known.now result }
 {
+    if let Some(ruling) = board.belied_in(known) {
+        return Some(Turn::Belied(ruling));
+    }
     match known.standing(number) {
         Standing::Acked => Some(Turn::Acked),
         Standing::Ruled(ruling) => Some(Turn::Ruled(ruling)),
@@ -166,15 +187,16 @@ fn loss_of(next: Next) -> Option<Turn>
 /// Sends a datagram to each address, and receives what comes then. Returns the end of the turn, if it ends.
 fn try_once<P: Port>(
     terms: Terms,
+    index: u32,
     number: u32,
     known: &mut Known,
     port: &mut P,
     bytes: &[u8],
 ) -> Option<Turn>
-    ensures { HasTriedOnce terms.stamp (P.facts port.old).addresses bytes.now known.old known.new (P.facts port.old) (P.facts port.new) result }
+    ensures { HasTriedOnce terms.stamp index (P.facts port.old).addresses bytes.now known.old known.new (P.facts port.old) (P.facts port.new) result }
 {
     send(port, bytes);
-    loss_of(receive_all(terms, number, known, port))
+    loss_of(receive_all(terms, index, number, known, port))
 }
 
 /// The datagram of a move.
@@ -201,28 +223,30 @@ pub(crate) fn send_again<P: Port>(stamp: Stamp, number: u32, last: &Option<Move>
 }
 
 /// Sends a move to each address until both arbiters have acknowledged it, or both have reported a verdict, at most as
-/// often as the terms say. Its number is that of the moves before it, 0 to 4095.
+/// often as the terms say. Its number is that of the moves before it, 0 to 4095, and the board is the one after it.
 ///
-/// A move that is acknowledged already isn't sent. Nothing else is sent.
+/// A move that is acknowledged already isn't sent. Nothing else is sent. A reported verdict that the board belies ends the turn after
+/// its try.
 pub fn take_turn<P: Port>(
     terms: Terms,
     number: u32,
     m: Move,
+    board: Board<'_>,
     known: &mut Known,
     port: &mut P,
 ) -> Turn
-    ensures { (tries : List (List Passing)) × IsTurn terms.stamp terms.tries number m (P.facts port.old) (P.facts port.new) known.old known.new result tries }
+    ensures { (tries : List (List Passing)) × IsTurn terms.stamp terms.tries number m board.entry.plies board.entry.position.now (P.facts port.old) (P.facts port.new) known.old known.new result tries }
 {
     let bytes = datagram_of(terms.stamp, number, m);
-    for _ in 0..terms.tries {
-        if let Some(turn) = turn_of(known, number) {
+    for index in 0..terms.tries {
+        if let Some(turn) = turn_of(known, number, board) {
             return turn;
         }
-        if let Some(turn) = try_once(terms, number, known, port, &bytes) {
+        if let Some(turn) = try_once(terms, index, number, known, port, &bytes) {
             return turn;
         }
     }
-    match turn_of(known, number) {
+    match turn_of(known, number, board) {
         Some(turn) => turn,
         None => Turn::Lost,
     }

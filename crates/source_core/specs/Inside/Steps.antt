@@ -61,26 +61,27 @@ TryWaits came known (Some end) = end ≡ at_turn.Lost → ⊥
 
 abbrev pub TryLearns : Stamp → List Passing → Known → Option Turn → Type 0
 TryLearns stamp all known None = Knows stamp all known
-TryLearns stamp all known (Some end) = (number : ℕ) → EndsSo stamp number all known end
+TryLearns stamp all known (Some end) = (number plies : ℕ) (position : Parts) → EndsSo stamp number plies position all known end
 
--- one try: it has waited, unless both have reported a verdict, or it ends the turn, whichever move it was
-pub record HasTriedOnce (stamp : Stamp) (addresses : ℕ) (bytes : List ℕ) (old new : Known) (port port' : PortFacts) (end : Option Turn) : Type 0 where
+-- the try with this number: it has waited, unless both have reported a verdict, or it ends the turn, whichever move it was
+pub record HasTriedOnce (stamp : Stamp) (index addresses : ℕ) (bytes : List ℕ) (old new : Known) (port port' : PortFacts) (end : Option Turn) : Type 0 where
   pub came : List Passing
   pub received : AllByRecursion IsReceived came
   pub passed : Passed port port' (one_try addresses bytes came)
   pub waits : TryWaits came new end
   pub learns : (before : List Passing) → Knows stamp before old → TryLearns stamp (before ++ one_try addresses bytes came) new end
 
--- how a move stands, by all that has passed: the end of its turn other than a loss, or none where it is unsettled
-abbrev pub EndsIf : ℕ → Known → Option Turn → Type 0
-EndsIf number known None = (is_ruled known ≡ false) × ((stamp : Stamp) (all : List Passing) → Knows stamp all known → IsUnsettled stamp number all)
-EndsIf number known (Some end) = (end ≡ at_turn.Lost → ⊥) × ((stamp : Stamp) (all : List Passing) → Knows stamp all known → EndsSo stamp number all known end)
+-- how a move stands, by all that has passed and by the board: the end of its turn other than a loss, or none where it is unsettled
+abbrev pub EndsIf : ℕ → ℕ → Parts → Known → Option Turn → Type 0
+EndsIf number plies position known None = (is_ruled known ≡ false) × ((stamp : Stamp) (all : List Passing) → Knows stamp all known → IsUnsettled stamp number all)
+EndsIf number plies position known (Some end) = (end ≡ at_turn.Lost → ⊥) × ((stamp : Stamp) (all : List Passing) → Knows stamp all known → EndsSo stamp number plies position all known end)
 
 -- with what a run ends after a turn; none where it goes on
 abbrev pub end_by : Turn → Option End
 end_by at_turn.Acked = None
 end_by (at_turn.Ruled r) = Some (at_end.Ruled r)
 end_by (at_turn.Clashed c) = Some (at_end.Clashed c)
+end_by (at_turn.Belied r) = Some (at_end.Belied r)
 end_by at_turn.Lost = Some at_end.Lost
 end_by at_turn.PortLost = Some at_end.PortLost
 
@@ -91,24 +92,24 @@ pub record IsPlayed (position : Parts) (number : ℕ) (line : List ℕ) (m : Mov
   pub room : number < most_moves
 
 -- how a game stands at the input's end, whatever has passed by which so much is known
-abbrev pub EndsAt : ℕ → Known → End → Type 0
-EndsAt number known end = ((count : ℕ) → end ≡ at_end.Open count → is_ruled known ≡ false) × ((stamp : Stamp) (all : List Passing) → Knows stamp all known → ClosesSo stamp number all end)
+abbrev pub EndsAt : ℕ → Parts → Known → End → Type 0
+EndsAt number position known end = ((count : ℕ) → end ≡ at_end.Open count → is_ruled known ≡ false) × ((stamp : Stamp) (all : List Passing) → Knows stamp all known → ClosesSo stamp number position all end)
 
 -- after the input's end the last move is handed over once more, and what still comes in time is received
-pub record Closes (stamp : Stamp) (number : ℕ) (last : Option Moves) (known : Known) (port port' : PortFacts) (end : End) : Type 0 where
+pub record Closes (stamp : Stamp) (number : ℕ) (position : Parts) (last : Option Moves) (known : Known) (port port' : PortFacts) (end : End) : Type 0 where
   pub came : List Passing
   pub spelling : IfSome last (HasSpelling stamp (number - 1))
   pub received : AllByRecursion IsReceived came
   pub waited : (count : ℕ) → end ≡ at_end.Open count → HasWaited came
   pub passed : Passed port port' (again stamp port.addresses (number - 1) last ++ came)
-  pub stands : (before : List Passing) → Knows stamp before known → ClosesSo stamp number (before ++ (again stamp port.addresses (number - 1) last ++ came)) end
+  pub stands : (before : List Passing) → Knows stamp before known → ClosesSo stamp number position (before ++ (again stamp port.addresses (number - 1) last ++ came)) end
 
 -- one more turn: a move was acknowledged, or the run ends
 unfoldable pub StepsSo : (ReadFault → Type 0) → Game → At → Option (List ℕ) → Course → PortFacts → PortFacts → Option End → Type 0
 StepsSo cause g at input course port port' None =
     (t : AckedMove) × IsAckedTurn g at t × (t.after.input ≡ input) × (t.after.position ≡ course.position) × (Some t.move ≡ course.last) × Passed port port' (sent_in g at.moves t.move t.tries) × Knows g.stamp t.after.passed course.known
 StepsSo cause g at input course port port' (Some end) =
-    (sent : List Moves) × (more : List Passing) × EndsWith cause g at input sent more end × Passed port port' more
+    (sent : List Moves) × (more : List Passing) × EndsWith cause g at input sent more end × Passed port port' more × (end ≡ at_end.Lost → Knows g.stamp (at.passed ++ more) course.known)
 
 -- whatever has passed before, by which so much is known, and whichever moves are acknowledged
 abbrev pub Steps : (ReadFault → Type 0) → Stamp → ℕ → ℕ → Option (List ℕ) → Option (List ℕ) → Course → Course → PortFacts → PortFacts → Option End → Type 0
