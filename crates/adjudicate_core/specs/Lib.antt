@@ -16,6 +16,8 @@ pub mod Telling
 pub mod Keys
 pub mod Running
 pub mod Addresses
+pub mod GamePaths
+pub mod Silences
 pub mod Listens
 pub mod Manifests
 pub mod Sends

@@ -52,6 +52,7 @@ mod binding;
 mod commands;
 mod entering;
 mod game_name;
+mod game_paths;
 mod hosting;
 mod json_answers;
 mod keys;

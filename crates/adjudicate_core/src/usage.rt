@@ -22,7 +22,7 @@ pub enum Wanted {
     Datagrams,
     /// Which of the two arbiters it is.
     Me,
-    /// How many milliseconds a datagram is awaited.
+    /// How many milliseconds the first try of a move lasts.
     Wait,
     /// How often a move is sent.
     Tries,
@@ -30,6 +30,8 @@ pub enum Wanted {
     Addresses,
     /// How many games are open at once.
     AtOnce,
+    /// The file of the game that is sent.
+    GameFile,
 }
 
 impl Wanted {
@@ -47,6 +49,7 @@ impl Wanted {
             Wanted::Tries => "--tries ",
             Wanted::Addresses => "--to ",
             Wanted::AtOnce => "--at-once ",
+            Wanted::GameFile => "--game ",
         }
     }
 
@@ -62,6 +65,7 @@ impl Wanted {
             Wanted::Me => ": 1 or 2",
             Wanted::Wait | Wanted::Tries | Wanted::AtOnce => ": 1 to 65535",
             Wanted::Addresses => ": ADDR[,ADDR], each a host, a colon and a port",
+            Wanted::GameFile => ": FOLDER/STAMP.game, with 32 lower-case hexadecimal digits",
         }
     }
 }
@@ -75,6 +79,8 @@ pub enum ValueFault<'a> {
     NoWord(&'a str),
     /// An option has a value that it doesn't take.
     Unfit(Wanted, &'a str),
+    /// An option stands beside `--game`, whose file tells it.
+    Beside(&'a str),
 }
 
 /// A fault of the words of a command line.

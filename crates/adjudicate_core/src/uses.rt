@@ -27,8 +27,9 @@ const USAGE: &str = "usage: adjudicate judge [--tables DIR] [--manifest FILE] FE
                          [--datagrams N] [--delay N] [--fetch] [--ready] [--key FILE]
        adjudicate record FILE
        adjudicate audit --name N --start FEN --tables DIR [--manifest FILE] [--delay N] FILE [FILE]
-       adjudicate send --name N --start FEN --tables DIR [--manifest FILE] [--delay N] --bind ADDR --to ADDR[,ADDR]
-                       [--wait MS] [--tries N] [--key FILE]
+       adjudicate send --name N --start FEN --tables DIR [--manifest FILE] [--delay N] --to ADDR[,ADDR]
+                       [--bind ADDR] [--wait MS] [--tries N] [--key FILE]
+       adjudicate send --game FILE --to ADDR[,ADDR] [--bind ADDR] [--wait MS] [--tries N] [--key FILE]
        adjudicate enter --name N --start FEN --tables DIR [--manifest FILE] [--delay N] --games DIR
        adjudicate host --games DIR --tables DIR [--manifest FILE] --me M --bind ADDR --to ADDR[,ADDR]
                        [--at-once N] [--cache N] [--datagrams N] [--key FILE]
@@ -237,6 +238,12 @@ fn tell_fault<E: Output>(errors: &mut E, fault: &ValueFault<'_>)
         ValueFault::Unfit(wanted, text) => {
             tell_line(errors, wanted.front(), text.as_bytes(), wanted.rest())
         }
+        ValueFault::Beside(name) => tell_line(
+            errors,
+            "--",
+            name.as_bytes(),
+            " cannot be used with --game",
+        ),
     }
 }
 

@@ -118,7 +118,7 @@ pub(crate) fn delay_in<'a>(matches: &ArgMatches<'a>) -> Result<Delay, ValueFault
     }
 }
 
-/// How many milliseconds a datagram is awaited.
+/// How many milliseconds the first try of a move lasts.
 pub(crate) fn wait_in<'a>(matches: &ArgMatches<'a>) -> Result<u16, ValueFault<'a>>
     ensures ok { IfOk result (IsHundredOr (first_value (found_of matches.now) (codes "wait"))) }
     ensures err { IfErr result (λ fault. IsTold (first_value (found_of matches.now)) (Unfit Wanted.Wait) (fault_words fault)) }

@@ -4,7 +4,7 @@ ghost use Rattle.std.specs.Prelude.{◌≡◌, Some, IfSome, OnOk};
 ghost use Rattle.std.specs.Fmt.{DisplaysOnOk};
 ghost use Rattle.move_msg.specs.TextLines.{ended};
 ghost use Rattle.system_io.specs.Outputs.{WritesFront};
-ghost use Rattle.source_core.specs.Lines.{clash_words, end_words, ended_by, line_words, lost_by, ruling_words, status_by};
+ghost use Rattle.source_core.specs.Lines.{clash_words, end_words, ended_by, ended_status, line_words, ruling_words, status_by};
 
 use crate::known::{Clash, Known};
 use crate::report::Ruling;
@@ -50,11 +50,23 @@ pub enum Line {
 
 /// What a run of a source comes to.
 #[derive(Clone, Copy)]
-pub struct Ended {
-    /// The status: 0 where the game goes on at the input's end or has its verdict, else 1.
-    pub status: u8,
-    /// What the arbiters have reported, where one of them doesn't answer.
-    pub lost: Option<Known>,
+pub enum Ended {
+    /// This status: 0 where the game goes on at the input's end or has its verdict, else 1.
+    With(u8),
+    /// Status 1, since an arbiter doesn't answer; and what both have reported.
+    Lost(Known),
+}
+
+impl Ended {
+    /// The status.
+    pub fn status(&self) -> u8
+        ensures { result ≡ ended_status self.now }
+    {
+        match self {
+            Ended::With(status) => *status,
+            Ended::Lost(_) => 1,
+        }
+    }
 }
 
 impl End {
@@ -68,23 +80,13 @@ impl End {
         }
     }
 
-    /// What is told of the arbiters beside the last line: what is known of them, where one doesn't answer.
-    fn lost(&self, known: &Known) -> Option<Known>
-        ensures { result ≡ lost_by self.now known.now }
-    {
-        match self {
-            End::Lost => Some(*known),
-            _ => None,
-        }
-    }
-
     /// What a run that ends so comes to.
     pub(crate) fn ended(&self, known: &Known) -> Ended
         ensures { result ≡ ended_by self.now known.now }
     {
-        Ended {
-            status: self.status(),
-            lost: self.lost(known),
+        match self {
+            End::Lost => Ended::Lost(*known),
+            _ => Ended::With(self.status()),
         }
     }
 }
