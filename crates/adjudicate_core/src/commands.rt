@@ -45,7 +45,7 @@ pub use probes::Probes;
 pub use record::ShowRecord;
 pub use root::Root;
 pub use run::RunSchedule;
-pub use send::Send;
+pub use send::{GameFile, Send, SentGame, ToldGame};
 pub use show::Show;
 use std::alloc::{AllocError, Global};
 use task_files::Places;

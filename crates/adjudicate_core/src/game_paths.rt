@@ -64,8 +64,14 @@ pub(crate) fn stamp_in(path: &str) -> Option<Stamp>
     ensures some { IfSome result (λ stamp. NamesGame path.now stamp.0) }
     ensures none { IfNone result ((stamp : List ℕ) → NamesGame path.now stamp → ⊥) }
 {
-    match path.as_bytes().strip_suffix(b".game") {
-        Some(rest) => stamp_behind(rest),
-        None => None,
+    let bytes = path.as_bytes();
+    if bytes.len() < 5 {
+        return None;
+    }
+    let (rest, ending) = bytes.split_at(bytes.len() - 5);
+    if ending == b".game".as_slice() {
+        stamp_behind(rest)
+    } else {
+        None
     }
 }

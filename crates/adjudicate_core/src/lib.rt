@@ -64,14 +64,16 @@ mod numbers;
 mod program;
 mod refusals;
 mod sending;
+mod silence;
 mod tables;
 mod usage;
 mod uses;
 mod values;
 
 pub use commands::{
-    Audit, Check, Enter, Follow, FollowGame, Form, HostGames, Judge, List, Listen, Moves, Name,
-    Probe, Probes, Root, RunSchedule, Send, Show, ShowRecord, Task, Value, Version, parse,
+    Audit, Check, Enter, Follow, FollowGame, Form, GameFile, HostGames, Judge, List, Listen, Moves,
+    Name, Probe, Probes, Root, RunSchedule, Send, SentGame, Show, ShowRecord, Task, ToldGame, Value,
+    Version, parse,
 };
 pub use game_name::GameName;
 pub use numbers::{CacheSize, Delay};

@@ -45,7 +45,7 @@ fn is_plain(byte: u8) -> bool
 }
 
 /// Writes bytes to their end.
-fn put<E: Output>(errors: &mut E, bytes: &[u8]) -> Result<(), WriteFault>
+pub(crate) fn put<E: Output>(errors: &mut E, bytes: &[u8]) -> Result<(), WriteFault>
     ensures { IsPut E.facts E.contents errors.old errors.new bytes.now result }
 {
     errors.put(bytes)

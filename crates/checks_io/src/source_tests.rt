@@ -59,7 +59,10 @@ fn sent<P: Port, W: Output>(
     out: &mut W,
 ) -> Result<u8, WriteFault> {
     let start = position_of(rt, START);
-    send_game(alloc, terms(tries), start, reader, port, out)
+    match send_game(alloc, terms(tries), start, reader, port, out) {
+        Ok(ended) => Ok(ended.status()),
+        Err(fault) => Err(fault),
+    }
 }
 
 /// The digit of the number of a move that is sent.
@@ -173,13 +176,13 @@ const LOST: [Row; 5] = [
         passed: "00ccccccq11cccq11ccq11q",
     },
     Row {
-        input: "f2f3\n",
+        input: MATE,
         after: After::End,
         tries: 9,
-        words: "a1b1A1--B1",
-        lines: "verdict 1 BlackMates\n",
+        words: "a1b1--a2b2--a3b3--a4b4A4--B4",
+        lines: "1 acked\n2 acked\n3 acked\nverdict 4 BlackMates\n",
         status: 0,
-        passed: "00cccq00c",
+        passed: "00ccq11ccq22ccq33cccq33c",
     },
     Row {
         input: "f2f3\n",
@@ -201,8 +204,8 @@ const LOST: [Row; 5] = [
     },
 ];
 
-/// Two verdicts that differ, while a move is sent and after the input's end.
-const CLASHES: [Row; 2] = [
+/// Two verdicts that differ, while a move is sent and after the input's end; a mate that isn't on the board, at both times.
+const CLASHES: [Row; 4] = [
     Row {
         input: MATE,
         after: After::End,
@@ -220,6 +223,24 @@ const CLASHES: [Row; 2] = [
         lines: "1 acked\ndisagree 1 Stalemate 1 BlackMates\n",
         status: 1,
         passed: "00ccq00cc",
+    },
+    Row {
+        input: MATE,
+        after: After::End,
+        tries: 9,
+        words: "a1b1A1--",
+        lines: "disagree 1 BlackMates\n",
+        status: 1,
+        passed: "00cccq",
+    },
+    Row {
+        input: "f2f3\n",
+        after: After::End,
+        tries: 9,
+        words: "a1b1--A1--",
+        lines: "1 acked\ndisagree 1 BlackMates\n",
+        status: 1,
+        passed: "00ccq00cq",
     },
 ];
 
@@ -396,4 +417,13 @@ fn awaits_as_long_as_it_is_to(rt: HostRuntime) {
     let datagrams = coming.datagrams(&rt, rt.alloc());
     let port = coming.port(rt.alloc(), &datagrams);
     check_waits(&rt, rt.alloc(), port, &[1, 1, 2, 1]);
+}
+
+/// Each try waits twice as long as the one before it, up to eight times as long as the first.
+#[test]
+fn waits_longer_from_try_to_try(rt: HostRuntime) {
+    let coming = Coming::of(&rt, rt.alloc(), STAMP, "----------a1b1----");
+    let datagrams = coming.datagrams(&rt, rt.alloc());
+    let port = coming.port(rt.alloc(), &datagrams);
+    check_waits(&rt, rt.alloc(), port, &[1, 2, 4, 8, 8, 8, 8, 2, 1]);
 }
