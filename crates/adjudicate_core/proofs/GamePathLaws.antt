@@ -1,6 +1,6 @@
 -- A path in its parts.
 use Rattle.std.proofs.Common.{◌≡◌, ◌<◌, ◌++◌, ℕ, List, [], ◌∷◌, length, codes, Option, Some, None, arith, append_assoc, length-append, refl, sym, subst, ap, ◌∙◌}
-use Rattle.std.specs.Prelude.{IfNone, Ok}
+use Rattle.std.specs.Prelude.{IfNone, Ok, Result}
 use Rattle.hex.specs.Hex.{decode_sized, encode_lower, lower_digits}
 use Rattle.hex.proofs.HexLemmas.{decode_sized-encode_lower, length-encode_with}
 use Rattle.adjudicate_core.specs.GamePaths.{IsFolderFront, IsStamp, NamesGame}
@@ -63,3 +63,6 @@ too_short_to_end path stamp short n =
 -- what the digits of a stamp decode to
 pub decodes : (digits stamp : List ℕ) → IsStamp stamp → digits ≡ encode_lower stamp → decode_sized digits 16 ≡ Ok stamp
 decodes digits stamp is e = ap (λ d. decode_sized d 16) e ∙ decode_sized-encode_lower stamp 16 is.0 is.1
+
+pub same_ok : {E : Type 0} (a b : List ℕ) → ◌≡◌ {A = Result (List ℕ) E} (Ok a) (Ok b) → a ≡ b
+same_ok a b e = cc

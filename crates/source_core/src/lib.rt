@@ -5,17 +5,20 @@
 //! datagram of the game reports. After the input's end the last move is sent once more. What it sends is the list of moves with
 //! which a world begins (`theorems::sends_the_log`).
 //!
-//! Inside: `sending` (a run), `turn` (one move), `known`, `report`, `lines`, `laws`.
+//! Inside: `sending` (a run), `turn` (one move), `board` (the source's own), `known`, `report`, `lines`, `laws`.
 //!
-//! Definitions, in reading order: `Reports`, `Turns`, `Sendings` (`IsSending`, `OnlyHands`), `Lines`, `Laws`. How long a datagram
-//! is awaited is a clause of the private `wait_at` (`IsWait`). Its tests stand in `checks_io` (`source_tests`).
+//! Definitions, in reading order: `Reports`, `Boards` (`IsBelieved`), `Turns`, `Sendings` (`IsSending`, `OnlyHands`), `Lines`, `Laws`.
+//! How long a datagram is awaited, longer from try to try, is a clause of the private `wait_at` (`IsWait`): a port's traffic has no
+//! time. Its tests stand in `checks_io` (`source_tests`).
 //!
 //! - CLAIM: `send_game`, clause `sends`: a run sends the legal moves of its input, each with its number to each address, at most
 //!   as often as the terms say. It ends with the stated line, and its status is that of the line. Each datagram is the move of
-//!   its number from one list.
+//!   its number from one list. A verdict with which it ends is believed: a mate or a stalemate at a ply that was sent stands on the
+//!   source's own board after the last move; one that doesn't is told as `disagree`. Where an arbiter doesn't answer, what is known
+//!   of both is returned.
 //! - CLAIM: `send_game`, clause `gone`: all lines have gone out at the end.
 //! - CLAIM: `take_turn`: a turn sends one move until both arbiters have acknowledged it, both have reported a verdict, two
-//!   verdicts differ, the tries are used up, or the port is lost.
+//!   verdicts differ, one is belied by the board, the tries are used up, or the port is lost.
 //! - CLAIM: `report_of`, clauses `some`, `only`: a datagram is a report of the game exactly where it encodes an acknowledgement
 //!   or a verdict with its stamp.
 //! - CLAIM: `Known::add`, clauses `added`, `clash`, `same`; `Known::standing`: a report is added to what is known, and a verdict

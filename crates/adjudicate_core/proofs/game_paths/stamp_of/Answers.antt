@@ -1,15 +1,13 @@
-use Rattle.std.proofs.Common.{sym, ◌∙◌}
-use Rattle.adjudicate_core.proofs.GamePathLaws.{decodes}
+use Rattle.std.proofs.Common.{◌≡◌, ap, sym, ◌∙◌}
+use Rattle.std.proofs.lemmas.Bool.Decides.{not_from_Decides}
+use Rattle.hex.specs.Hex.{encode_lower}
+use Rattle.adjudicate_core.proofs.GamePathLaws.{decodes, same_ok}
 use Rattle.adjudicate_core.proofs.game_paths.stamp_of.Goals as goal
 
 pub returns-in_default-clause-none : goal.returns-in_default-clause-none
-returns-in_default-clause-none c = λ stamp is e. let decoded = decodes c.args.digits.now stamp is e in let given = c.from_hex.ensures in c.in_default.not-Ok _ (given ∙ decoded)
+returns-in_default-clause-none c = λ stamp is e. c.in_default.not-Ok _ (c.from_hex.ensures ∙ decodes c.args.digits.now stamp is e)
 
 pub returns-else-is_lower-clause-none : goal.returns-else-is_lower-clause-none
 returns-else-is_lower-clause-none c = λ stamp is e.
-    let decoded = decodes c.args.digits.now stamp is e in
-    let given = c.from_hex.ensures in
-    let ok = c.in-Ok.is in
-    let lower = c.is_lower.ensures in
-    let other = c.if-is_lower.false in
-    absurd cc
+    let same : c.in-Ok.bytes ≡ stamp = same_ok _ _ (sym c.in-Ok.is ∙ c.from_hex.ensures ∙ decodes c.args.digits.now stamp is e) in
+    not_from_Decides _ c.is_lower.ensures c.if-is_lower.false (e ∙ ap encode_lower (sym same))
