@@ -1,6 +1,6 @@
 -- Answers that are written all at once.
-use Rattle.std.proofs.Common.{ℕ, List, [], ◌∷◌, Option, refl, subst, sym}
-use Rattle.std.specs.Prelude.{Result, Ok, Err, IfOk, IsErrOf, OnErr}
+use Rattle.std.proofs.Common.{◌≡◌, ℕ, List, [], ◌∷◌, Option, refl, subst, sym, inl, inr}
+use Rattle.std.specs.Prelude.{Result, Ok, Err, IfOk, IfErr, IsErrOf, OnErr}
 use Rattle.adjudicate_core.specs.declared.answers.Answer.{Answer}
 use Rattle.adjudicate_core.specs.Inside.Asked.{PutsAnswered, PutsRead, reply_of}
 use Rattle.adjudicate_core.specs.Reply.{AnswersOnce, AnswersRead, NoRoomToRead, ReadAll, Refused, Replied, Reply, Unread}
@@ -16,6 +16,12 @@ use Rattle.arbiter_server.specs.Serving.{Scene, scene}
 use Rattle.arbiter_server.specs.declared.file_keeper.FileKeeper.{FileKeeper}
 use Rattle.system_io.specs.Ports.{PortFacts}
 use Rattle.adjudicate_core.specs.Sends.{Sends}
+use Rattle.adjudicate_core.specs.Silences.{TellsIfLost, TellsSilence}
+use Rattle.adjudicate_core.specs.declared.commands.Task.TheVariants as task
+use Rattle.source_core.specs.declared.lines.Ended.{Ended}
+use Rattle.source_core.specs.declared.lines.Ended.TheVariants as run
+use Rattle.source_core.specs.Lines.{ended_status}
+use Rattle.system_io.specs.Outputs.{OutputFacts}
 use Rattle.adjudicate_core.specs.Enters.{Enters}
 use Rattle.adjudicate_core.specs.declared.commands.enter.Enter.{Enter}
 use Rattle.adjudicate_core.specs.declared.commands.send.Send.{Send}
@@ -54,9 +60,15 @@ after_reading (Err Unreadable) IsReply CannotRead is cause (Ok status) old new p
 after_reading (Err OutOfMemory) IsReply CannotRead is cause (Ok status) old new puts = NoRoomToRead puts
 
 -- by a source: what holds of how it ends holds of its status, where there is one
-pub sent : {P F : Type 0} (disk : DiskFacts) (source : InputFacts) (host : Hosted P F) (t : Send) (old new : Option (List ℕ)) (r : Result ℕ WriteFault) → Sends disk source host t old new r → IfOk r (λ status. Sends disk source host t old new (Ok status))
-sent disk source host t old new (Ok status) h = h
-sent disk source host t old new (Err fault) h = tt
+pub sent : {P F : Type 0} (disk : DiskFacts) (source : InputFacts) (host : Hosted P F) (t : Send) (old new : Option (List ℕ)) (e : Result Ended WriteFault) (r : Result ℕ WriteFault) → Sends disk source host t old new e → IfOk e (λ x. r ≡ Ok (ended_status x)) → IfErr e (λ fault. r ≡ Err fault) → IfOk r (λ status. (x : Ended) × (status ≡ ended_status x) × Sends disk source host t old new (Ok x))
+sent disk source host t old new (Ok x) r h is other = subst (λ (q : Result ℕ WriteFault). IfOk q (λ status. (y : Ended) × (status ≡ ended_status y) × Sends disk source host t old new (Ok y))) (sym is) (x, refl, h)
+sent disk source host t old new (Err fault) r h is other = subst (λ (q : Result ℕ WriteFault). IfOk q (λ status. (y : Ended) × (status ≡ ended_status y) × Sends disk source host t old new (Ok y))) (sym other) tt
+
+-- who was silent is told, or nothing
+pub told_or_quiet : {E : Type 0} (facts : E → OutputFacts) (contents : E → Option (List ℕ)) (old new : E) (t : Send) (e : Result Ended WriteFault) (r : Result ℕ WriteFault) → IfOk e (TellsSilence facts contents old new) → OnErr e (new ≡ old) → IfOk e (λ x. r ≡ Ok (ended_status x)) → TellsIfLost facts contents old new (task.Send t) r
+told_or_quiet facts contents old new t (Ok (run.With status)) r told quiet is = inl told
+told_or_quiet facts contents old new t (Ok (run.Lost known)) r told quiet is = inr (record { send = t; is = refl; known = known; status = is; out = told })
+told_or_quiet facts contents old new t (Err fault) r told quiet is = inl quiet
 
 -- so it is where a game is entered
 pub entered : {P F : Type 0} (disk : DiskFacts) (host : Hosted P F) (t : Enter) (old new : Option (List ℕ)) (r : Result ℕ WriteFault) → Enters disk host t old new r → IfOk r (λ status. Enters disk host t old new (Ok status))

@@ -11,6 +11,8 @@ pub mod KeyLaws
 pub mod LookLaws
 pub mod MisuseLaws
 pub mod PutLaws
+pub mod GamePathLaws
+pub mod SendWordLaws
 pub mod BindLaws
 pub mod LockLaws
 pub mod EnterLaws

@@ -17,6 +17,8 @@ pub mod Keys
 pub mod Running
 pub mod Addresses
 pub mod Locks
+pub mod GamePaths
+pub mod Silences
 pub mod Listens
 pub mod Manifests
 pub mod Sends

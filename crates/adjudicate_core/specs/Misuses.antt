@@ -5,6 +5,7 @@ use Rattle.clap.specs.Words.{Text}
 use Rattle.move_msg.specs.declared.who.Who.{Who}
 use Rattle.move_msg.specs.Stamps.{IsGameName}
 use Rattle.adjudicate_core.specs.Addresses.{AreAddresses, AreRecipients}
+use Rattle.adjudicate_core.specs.GamePaths.{NamesGame}
 use Rattle.adjudicate_core.specs.Numbers.{IsAtOnce, IsCache, IsDatagrams, IsDelay, IsHundredOr, IsMe}
 use Rattle.adjudicate_core.specs.declared.usage.Instead.{Instead}
 use Rattle.adjudicate_core.specs.declared.usage.Instead.TheVariants as instead
@@ -27,6 +28,7 @@ name_of wanted.Tries = codes "tries"
 name_of wanted.Addresses = codes "to"
 name_of wanted.Recipients = codes "to"
 name_of wanted.AtOnce = codes "at-once"
+name_of wanted.GameFile = codes "game"
 
 -- what it takes
 abbrev pub range_of : Wanted → List ℕ
@@ -47,6 +49,7 @@ instead_name instead.From = codes "from"
 
 abbrev pub not_with_words : Instead → Text → List ℕ
 not_with_words other name = codes "--" ++ name ++ codes ": not with --" ++ instead_name other
+range_of wanted.GameFile = codes "FOLDER/STAMP.game, with 32 lower-case hexadecimal digits"
 
 abbrev pub unfit_words : Wanted → List ℕ → List ℕ
 unfit_words wanted text = codes "--" ++ name_of wanted ++ codes " " ++ text ++ codes ": " ++ range_of wanted
@@ -57,11 +60,15 @@ no_option_words name = codes "--" ++ name ++ codes " is missing"
 abbrev pub no_word_words : Text → List ℕ
 no_word_words name = name ++ codes " is missing"
 
+abbrev pub beside_words : Text → List ℕ
+beside_words name = codes "--" ++ name ++ codes " cannot be used with --game"
+
 abbrev pub fault_words : ValueFault → List ℕ
 fault_words (told.NoOption name) = no_option_words name.now
 fault_words (told.NoWord name) = no_word_words name.now
 fault_words (told.Unfit wanted text) = unfit_words wanted text.now
 fault_words (told.NotWith other name) = not_with_words other name.now
+fault_words (told.Beside name) = beside_words name.now
 
 -- ---- a wish for help
 
@@ -71,12 +78,15 @@ AsksForHelp word = (word ≡ codes "help") ⊎ ((word ≡ codes "--help") ⊎ (w
 -- ---- the first that is wrong
 
 -- what may be wrong: an option or a word that has to be there has no value; or the value is none that the option takes; or an option
--- is there beside another one that takes its place
+-- is there beside another one that takes its place, or beside `--game`, whose file tells it. `Untold` is wrong only where there is no
+-- `--game`.
 pub data Fault : Type 0 where
   NoOption : Text → Fault
   NoWord : Text → Fault
   Unfit : Wanted → Fault
   NotWith : Instead → Text → Fault
+  Beside : Text → Fault
+  Untold : Fault → Fault
 
 -- the value of the option is none that it takes
 abbrev pub IsUnfit : (Text → Option Text) → Wanted → Type 0
@@ -90,12 +100,15 @@ IsUnfit value wanted.Tries = (n : ℕ) → IsHundredOr (value (codes "tries")) n
 IsUnfit value wanted.Addresses = (to : List ℕ) → Some to ≡ value (codes "to") → AreAddresses to → ⊥
 IsUnfit value wanted.Recipients = (to : List ℕ) → Some to ≡ value (codes "to") → AreRecipients to → ⊥
 IsUnfit value wanted.AtOnce = (n : ℕ) → IsAtOnce (value (codes "at-once")) n → ⊥
+IsUnfit value wanted.GameFile = (path : List ℕ) × (value (codes "game") ≡ Some path) × ((stamp : List ℕ) → NamesGame path stamp → ⊥)
 
 abbrev pub Holds : (Text → Option Text) → Fault → Type 0
 Holds value (NoOption name) = value name ≡ None
 Holds value (NoWord name) = value name ≡ None
 Holds value (Unfit wanted) = IsUnfit value wanted
 Holds value (NotWith other name) = value name ≢ None
+Holds value (Beside name) = ((path : Text) × (value (codes "game") ≡ Some path)) × ((text : Text) × (value name ≡ Some text))
+Holds value (Untold fault) = (value (codes "game") ≡ None) × Holds value fault
 
 abbrev pub text_or_empty : Option Text → Text
 text_or_empty None = []
@@ -107,6 +120,8 @@ line_of value (NoOption name) = no_option_words name
 line_of value (NoWord name) = no_word_words name
 line_of value (Unfit wanted) = unfit_words wanted (text_or_empty (value (name_of wanted)))
 line_of value (NotWith other name) = not_with_words other name
+line_of value (Beside name) = beside_words name
+line_of value (Untold fault) = line_of value fault
 
 -- it is wrong, and the line tells it
 abbrev pub IsTold : (Text → Option Text) → Fault → List ℕ → Type 0

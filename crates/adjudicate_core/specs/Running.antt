@@ -17,6 +17,8 @@ use Rattle.system_io.specs.KeptFiles.{KeptFacts}
 use Rattle.system_io.specs.Ports.{PortFacts}
 use Rattle.adjudicate_core.specs.Listens.{Hosted, Listens, hosted, seen_as}
 use Rattle.adjudicate_core.specs.Sends.{Sends}
+use Rattle.source_core.specs.declared.lines.Ended.{Ended}
+use Rattle.source_core.specs.Lines.{ended_status}
 use Rattle.adjudicate_core.specs.Enters.{Enters}
 use Rattle.arbiter_server.specs.DiskGames.{disk_keepers}
 use Rattle.adjudicate_core.specs.Hostings.{HostsGames, seen_as as seen_hosting}
@@ -75,7 +77,7 @@ AnswersFrom disk source host (task.Game t) given old new status = AnswersOnce (g
 AnswersFrom disk source host (task.Record t) given old new status = AnswersOnce (records.IsReply given.kept) (records.TakesMemory given.kept) old new status
 AnswersFrom disk source host (task.Audit t) given old new status = AnswersOnce (audits.IsReply t given) (IsText t.start.now) old new status
 AnswersFrom disk source host (task.Version t) given old new status = versions.Answers old new status
-AnswersFrom disk source host (task.Send t) given old new status = Sends disk source host t old new (Ok status)
+AnswersFrom disk source host (task.Send t) given old new status = (e : Ended) × (status ≡ ended_status e) × Sends disk source host t old new (Ok e)
 AnswersFrom disk source host (task.Enter t) given old new status = Enters disk source host t old new (Ok status)
 AnswersFrom disk source host (task.Host t) given old new status = HostsGames disk host (seen_hosting (disk_keepers disk host.host host.file) (Ok status)) t given old new (Ok status)
 AnswersFrom disk source host (task.Root t) given old new status = roots.Puts t.json (ask_of t.determined) source t.fen given old new status

@@ -1,5 +1,5 @@
 -- The behaviour of `send` by its words and by what it reads (this project's own).
-use Rattle.std.specs.Prelude.{◌≡◌, ℕ, List, Option, Result, IfSome, length, option_map, []}
+use Rattle.std.specs.Prelude.{◌≡◌, ◌⊎◌, ℕ, List, Option, Result, Ok, Err, IfSome, length, option_map, []}
 use Rattle.board_core.specs.declared.parts.Parts.{Parts}
 use Rattle.board_core.specs.Position.{IsPosition}
 use Rattle.fen_text.specs.declared.fault.FenFault.{FenFault}
@@ -8,37 +8,90 @@ use Rattle.fen_text.specs.Written.{fen_of}
 use Rattle.move_msg.specs.declared.stamp.Stamp.{Stamp}
 use Rattle.move_msg.specs.Stamps.{stamp_of}
 use Rattle.system_io.specs.declared.output.WriteFault.{WriteFault}
-use Rattle.system_io.specs.Disks.{DiskFacts}
+use Rattle.system_io.specs.Disks.{AtFile, DiskFacts, HasMore}
 use Rattle.system_io.specs.declared.host.BindFault.TheVariants as bind
 use Rattle.system_io.specs.Inputs.{InputFacts}
 use Rattle.system_io.specs.Ports.{Passed, PortFacts}
+use Rattle.source_core.specs.declared.lines.Ended.{Ended}
+use Rattle.source_core.specs.declared.lines.Ended.TheVariants as run
 use Rattle.source_core.specs.Sendings.{IsSending, Sending, WritesLines, causes}
+use Rattle.arbiter_server.specs.declared.game_lines.GameFileFault.{GameFileFault}
+use Rattle.arbiter_server.specs.GameFiles.{IsFirstGameFault, SpellsGame, Told, line_number}
+use Rattle.arbiter_server.specs.GameFolders.{most_game_bytes}
 use Rattle.arbiter_server.specs.ServedLines.{refused_port}
 use Rattle.adjudicate_core.specs.Addresses.{addresses_of}
 use Rattle.adjudicate_core.specs.declared.commands.send.Send.{Send}
-use Rattle.adjudicate_core.specs.Lines.{refused_fen}
+use Rattle.adjudicate_core.specs.declared.commands.send.ToldGame.{ToldGame}
+use Rattle.adjudicate_core.specs.declared.commands.send.GameFile.{GameFile}
+use Rattle.adjudicate_core.specs.declared.commands.send.SentGame.{SentGame}
+use Rattle.adjudicate_core.specs.declared.commands.send.SentGame.TheVariants as sent
+use Rattle.adjudicate_core.specs.Lines.{refused_fen, refused_line}
 use Rattle.adjudicate_core.specs.Listens.{Hosted, LacksRoomToBind}
 use Rattle.adjudicate_core.specs.Manifests.{IsManifestOf, LacksManifest}
 use Rattle.adjudicate_core.specs.Reply.{IsText}
-use Rattle.adjudicate_core.specs.Telling.{TellsIf}
-use Rattle.line_teller.specs.ToldLines.{refused_memory}
+use Rattle.adjudicate_core.specs.Telling.{TellsOne}
+use Rattle.line_teller.specs.ToldLines.{refused_files, refused_memory}
+
+-- a line alone with status 1, where it could be written
+abbrev pub EndsOnce : List ℕ → Option (List ℕ) → Option (List ℕ) → Result Ended WriteFault → Type 0
+EndsOnce line old new (Ok ended) = (ended ≡ run.With 1) × TellsOne line old new 1
+EndsOnce line old new (Err fault) = Unit {0}
+
+-- ---- the game that is sent
+
+-- the words tell its start, and the manifest of the tables its stamp
+pub record IsStamped (disk : DiskFacts) (t : Send) (g : ToldGame) (stamp : Stamp) (start : Parts) : Type 0 where
+  pub spelled : SpellsPosition g.start.now start
+  pub position : IsPosition start
+  pub manifest : List ℕ
+  pub found : IsManifestOf disk (option_map (λ s. s.now) t.manifest) g.tables.now manifest
+  pub is : stamp.0 ≡ stamp_of g.name (fen_of start) manifest t.delay
+
+-- its file tells its start, and the file's name its stamp; whether that is the stamp of the game that is told there no one can say
+-- without the manifest of its tables
+pub record IsFiled (disk : DiskFacts) (f : GameFile) (stamp : Stamp) (start : Parts) : Type 0 where
+  pub text : List ℕ
+  pub held : disk.holds f.path.now text
+  pub told : Told
+  pub spells : SpellsGame text told
+  pub starts : told.start ≡ start
+  pub is : stamp ≡ f.stamp
+
+abbrev pub IsSent : DiskFacts → Send → SentGame → Stamp → Parts → Type 0
+IsSent disk t (sent.Told g) stamp start = IsStamped disk t g stamp start
+IsSent disk t (sent.InFile f) stamp start = IsFiled disk f stamp start
+
+-- the text of the start is no position; or else there is no manifest, or memory was refused
+pub data LacksTold (disk : DiskFacts) (t : Send) (g : ToldGame) (words : List ℕ) : Type 0 where
+  BadStart : (fault : FenFault) → IsFirstFenFault g.start.now fault → words ≡ refused_fen fault → LacksTold disk t g words
+  NoManifest : IsText g.start.now → LacksManifest disk (option_map (λ s. s.now) t.manifest) g.tables.now words → LacksTold disk t g words
+  NoRoom : IsText g.start.now → words ≡ refused_memory → LacksTold disk t g words
+
+-- the file can't be read, or has more bytes than a game's; or else a line is at fault; or memory was refused
+pub data LacksFile (disk : DiskFacts) (f : GameFile) (words : List ℕ) : Type 0 where
+  Unread : disk.fails (AtFile f.path.now) ⊎ HasMore disk f.path.now most_game_bytes → words ≡ refused_files → LacksFile disk f words
+  BadLine : (text : List ℕ) → disk.holds f.path.now text → (fault : GameFileFault) → IsFirstGameFault text fault → words ≡ refused_line (line_number fault) → LacksFile disk f words
+  NoRoomToRead : words ≡ refused_memory → LacksFile disk f words
+
+-- why there is none, in words
+abbrev pub LacksSent : DiskFacts → Send → SentGame → List ℕ → Type 0
+LacksSent disk t (sent.Told g) words = LacksTold disk t g words
+LacksSent disk t (sent.InFile f) words = LacksFile disk f words
 
 -- ---- all of it
 
 -- over the port the moves of the input are sent; or memory for reading it was refused
-pub data SendsOver (source : InputFacts) (stamp : Stamp) (most : ℕ) (start : Parts) (port port' : PortFacts) (old new : Option (List ℕ)) (r : Result ℕ WriteFault) : Type 0 where
+pub data SendsOver (source : InputFacts) (stamp : Stamp) (most : ℕ) (start : Parts) (port port' : PortFacts) (old new : Option (List ℕ)) (r : Result Ended WriteFault) : Type 0 where
   Over : (left left' : Option (List ℕ)) → IfSome left source.gives → (s : Sending) → IsSending (causes source.fails source.takes_memory) (record { stamp = stamp; addresses = port.addresses; most = most }) start left left' port port' s → WritesLines s old new r → SendsOver source stamp most start port port' old new r
-  NoRoomForLines : source.takes_memory → Passed port port' [] → TellsIf refused_memory old new r → SendsOver source stamp most start port port' old new r
+  NoRoomForLines : source.takes_memory → Passed port port' [] → EndsOnce refused_memory old new r → SendsOver source stamp most start port port' old new r
 
 -- the port can't be bound; or it is, and sends to each of the addresses
-pub data BindsAndSends {P F : Type 0} (host : Hosted P F) (source : InputFacts) (t : Send) (stamp : Stamp) (start : Parts) (old new : Option (List ℕ)) (r : Result ℕ WriteFault) : Type 0 where
-  Unbound : host.host.refuses t.bind.now bind.Unbound → TellsIf refused_port old new r → BindsAndSends host source t stamp start old new r
-  NoRoomToBind : LacksRoomToBind host.host t.bind.now t.to.now → TellsIf refused_memory old new r → BindsAndSends host source t stamp start old new r
+pub data BindsAndSends {P F : Type 0} (host : Hosted P F) (source : InputFacts) (t : Send) (stamp : Stamp) (start : Parts) (old new : Option (List ℕ)) (r : Result Ended WriteFault) : Type 0 where
+  Unbound : host.host.refuses t.bind.now bind.Unbound → EndsOnce refused_port old new r → BindsAndSends host source t stamp start old new r
+  NoRoomToBind : LacksRoomToBind host.host t.bind.now t.to.now → EndsOnce refused_memory old new r → BindsAndSends host source t stamp start old new r
   Bound : (port port' : P) → host.host.binds t.bind.now (addresses_of t.to.now) port → (host.port port).addresses ≡ length (addresses_of t.to.now) → SendsOver source stamp t.tries start (host.port port) (host.port port') old new r → BindsAndSends host source t stamp start old new r
 
--- sending: the text of the start is no position; or else there is no manifest; or else what follows, with the stamp of the game
-pub data Sends {P F : Type 0} (disk : DiskFacts) (source : InputFacts) (host : Hosted P F) (t : Send) (old new : Option (List ℕ)) (r : Result ℕ WriteFault) : Type 0 where
-  BadStart : (fault : FenFault) → IsFirstFenFault t.start.now fault → TellsIf (refused_fen fault) old new r → Sends disk source host t old new r
-  NoManifest : IsText t.start.now → (words : List ℕ) → LacksManifest disk (option_map (λ s. s.now) t.manifest) t.tables.now words → TellsIf words old new r → Sends disk source host t old new r
-  NoRoom : IsText t.start.now → TellsIf refused_memory old new r → Sends disk source host t old new r
-  Stamped : (start : Parts) → SpellsPosition t.start.now start → IsPosition start → (manifest : List ℕ) → IsManifestOf disk (option_map (λ s. s.now) t.manifest) t.tables.now manifest → (stamp : Stamp) → stamp.0 ≡ stamp_of t.name (fen_of start) manifest t.delay → BindsAndSends host source t stamp start old new r → Sends disk source host t old new r
+-- sending: there is no game, which is told; or what follows, with its stamp
+pub data Sends {P F : Type 0} (disk : DiskFacts) (source : InputFacts) (host : Hosted P F) (t : Send) (old new : Option (List ℕ)) (r : Result Ended WriteFault) : Type 0 where
+  NoGame : (words : List ℕ) → LacksSent disk t t.game words → EndsOnce words old new r → Sends disk source host t old new r
+  Stamped : (start : Parts) (stamp : Stamp) → IsSent disk t t.game stamp start → BindsAndSends host source t stamp start old new r → Sends disk source host t old new r

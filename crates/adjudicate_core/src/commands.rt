@@ -46,7 +46,7 @@ pub use probes::Probes;
 pub use record::ShowRecord;
 pub use root::Root;
 pub use run::RunSchedule;
-pub use send::Send;
+pub use send::{GameFile, Send, SentGame, ToldGame};
 pub use show::Show;
 pub use status::ShowStatus;
 use std::alloc::{AllocError, Global};

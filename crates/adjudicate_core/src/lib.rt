@@ -57,6 +57,7 @@ mod commands;
 mod entering;
 mod entries;
 mod game_name;
+mod game_paths;
 mod hosting;
 mod json_answers;
 mod keys;
@@ -69,16 +70,16 @@ mod numbers;
 mod program;
 mod refusals;
 mod sending;
+mod silence;
 mod tables;
 mod usage;
 mod uses;
 mod values;
 
 pub use commands::{
-    Audit, Check, Enter, Entries, Follow, FollowGame, Form, HostGames, Judge, List, Listen, Moves,
-    Name, OneGame, Probe, Probes, Root, RunSchedule, Send, Show, ShowRecord, ShowStatus, Task, Value,
-    Version,
-    parse,
+    Audit, Check, Enter, Entries, Follow, FollowGame, Form, GameFile, HostGames, Judge, List, Listen,
+    Moves, Name, OneGame, Probe, Probes, Root, RunSchedule, Send, SentGame, Show, ShowRecord,
+    ShowStatus, Task, ToldGame, Value, Version, parse,
 };
 pub use game_name::GameName;
 pub use numbers::{CacheSize, Delay};

@@ -1,10 +1,11 @@
 //! The program's words, its output and its status.
 
-ghost use Rattle.std.specs.Prelude.{◌≡◌, ◌≢◌, ◌⊎◌, drop, map, string_bytes, true, false, Ok, IfOk};
+ghost use Rattle.std.specs.Prelude.{◌≡◌, ◌≢◌, ◌⊎◌, drop, map, string_bytes, false, Ok, IfOk};
 ghost use Rattle.adjudicate_core.specs.declared.commands.Task.{Task};
 ghost use Rattle.line_teller.specs.ToldLines.{refused_memory};
 ghost use Rattle.adjudicate_core.specs.Listens.{hosted};
 ghost use Rattle.adjudicate_core.specs.Running.{AnswersByKey, AnswersFrom, AnswersTask, Called, Performs, called_by, outside, texts};
+ghost use Rattle.adjudicate_core.specs.Silences.{IsLoud, TellsIfLost};
 ghost use Rattle.adjudicate_core.specs.Tasks.{IsTask, tells_progress};
 ghost use Rattle.adjudicate_core.specs.Telling.{TellsOne};
 ghost use Rattle.adjudicate_core.specs.Uses.{TellsMisuse};
@@ -18,6 +19,7 @@ use crate::lines::put_refusal;
 use crate::listening::listen;
 use crate::refusals::Refusal;
 use crate::sending::send;
+use crate::silence::tell_silence;
 use crate::usage::{Misuse, Usage, WordsFault};
 use crate::uses::tell_misuse;
 use sealed_port::Keyed;
@@ -37,7 +39,7 @@ use task_files::Sources;
 /// before it, with status 1. A text that is no position takes none, and `show` takes none. The error comes only where
 /// the writer failed. `list`, `check` and `status` read their folder here, and hold one file at a time. With `--progress` the
 /// progress goes to `errors`: for `probes` after every 10,000 lines, for `list` and `check` after each hundred million
-/// bytes. No other task writes there.
+/// bytes. For `send` who was silent goes there, where an arbiter doesn't answer. No other task writes there.
 fn answer_given<D: Disk, I: Input, H: Host, W: Output, E: Output>(
     alloc: Global,
     task: &Task,
@@ -48,7 +50,7 @@ fn answer_given<D: Disk, I: Input, H: Host, W: Output, E: Output>(
     out: &mut W,
     errors: &mut E,
 ) -> Result<u8, WriteFault>
-    ensures quiet { tells_progress task.now ≡ false → errors.new ≡ errors.old }
+    ensures quiet { tells_progress task.now ≡ false → TellsIfLost E.facts E.contents errors.old errors.new task.now result }
     ensures answered { IfOk result (AnswersFrom (D.facts disk.now) (I.facts input.now) (hosted (H.facts host.now) H.Port.facts H.File.facts) task.now sources.now (W.contents out.old) (W.contents out.new)) }
 {
     match task {
@@ -65,7 +67,7 @@ fn answer_given<D: Disk, I: Input, H: Host, W: Output, E: Output>(
         Task::Record(task) => task.answer(alloc, sources, out),
         Task::Audit(task) => put_answered(out, task.answer(alloc, sources)),
         Task::Version(task) => task.answer(out),
-        Task::Send(task) => send(alloc, task, disk, input, host, out),
+        Task::Send(task) => tell_silence(errors, send(alloc, task, disk, input, host, out)),
         Task::Enter(task) => enter(alloc, task, disk, input, host, out),
         Task::Host(task) => host_games(alloc, task, sources, disk, host, out),
         Task::Root(task) => task.answer(alloc, sources, input, out, errors),
@@ -84,7 +86,7 @@ fn run_task<D: Disk, I: Input, H: Host, W: Output, E: Output>(
     out: &mut W,
     errors: &mut E,
 ) -> Result<u8, WriteFault>
-    ensures quiet { tells_progress task.now ≡ false → errors.new ≡ errors.old }
+    ensures quiet { tells_progress task.now ≡ false → TellsIfLost E.facts E.contents errors.old errors.new task.now result }
     ensures answered { IfOk result (AnswersTask (outside (D.facts disk.now) (I.facts input.now) (H.facts host.now) H.Port.facts H.File.facts) task.now (W.contents out.old) (W.contents out.new)) }
 {
     let places = task.places();
@@ -106,7 +108,7 @@ fn run_by_key<D: Disk, I: Input, H: Host, W: Output, E: Output>(
     out: &mut W,
     errors: &mut E,
 ) -> Result<u8, WriteFault>
-    ensures quiet { tells_progress task.now ≡ false → errors.new ≡ errors.old }
+    ensures quiet { tells_progress task.now ≡ false → TellsIfLost E.facts E.contents errors.old errors.new task.now result }
     ensures answered { IfOk result (AnswersByKey (outside (D.facts disk.now) (I.facts input.now) (H.facts host.now) H.Port.facts H.File.facts) task.now (W.contents out.old) (W.contents out.new)) }
 {
     match task.key() {
@@ -140,7 +142,8 @@ fn first_of<'a>(words: &[&'a str]) -> &'a str {
 /// only `listen` writes a kept file, and `enter` a game's file.
 ///
 /// Answers go to `out`. For a misuse one line on `errors` says what is wrong, followed by the usage. A request for help
-/// gets the usage alone, after a command that of the command. The progress of a task with `--progress` goes there too, and nothing else. A failure of
+/// gets the usage alone, after a command that of the command. The progress of a task with `--progress` goes there too, and who was silent where
+/// `send` ends as `refused lost`, and nothing else. A failure of
 /// `errors` changes nothing. The error comes only where `out` failed.
 pub fn run<D: Disk, I: Input, H: Host, W: Output, E: Output>(
     alloc: Global,
@@ -151,7 +154,7 @@ pub fn run<D: Disk, I: Input, H: Host, W: Output, E: Output>(
     out: &mut W,
     errors: &mut E,
 ) -> Result<u8, WriteFault>
-    ensures quiet { errors.new ≢ errors.old → (result ≡ Ok 2) ⊎ ((t : Task) × IsTask (texts words.now) t × (tells_progress t ≡ true)) }
+    ensures quiet { errors.new ≢ errors.old → (result ≡ Ok 2) ⊎ ((t : Task) × IsTask (texts words.now) t × IsLoud E.facts E.contents errors.old errors.new t result) }
     ensures runs { IfOk result (Performs (outside (D.facts disk.now) (I.facts input.now) (H.facts host.now) H.Port.facts H.File.facts) (TellsMisuse E.facts E.contents errors.old errors.new) (texts words.now) (W.contents out.old) (W.contents out.new)) }
 {
     match parse(alloc, words) {

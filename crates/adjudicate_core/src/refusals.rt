@@ -22,7 +22,7 @@ pub(crate) enum Refusal {
     File(ArrayString<16>, FileFault),
     /// A message of a stream, by its number, counted from 1, and its fault; none where it is cut.
     Message(usize, Option<MessageFault>),
-    /// The first malformed line of a schedule, by its number, counted from 1.
+    /// The first malformed line of a schedule or of a game's file, by its number, counted from 1.
     Line(usize),
     /// The game of a line of a list, by the line's number, counted from 1.
     Entry(usize, EntryFault),

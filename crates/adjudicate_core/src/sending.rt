@@ -1,32 +1,124 @@
 //! The source of a game: the moves of the input at a port.
 
-ghost use Rattle.std.specs.Prelude.{◌≡◌};
+ghost use Rattle.std.specs.Prelude.{◌≡◌, IfErr, IfOk};
 ghost use Rattle.board_core.specs.Position.{IsPosition};
 ghost use Rattle.fen_text.specs.Fen.{SpellsPosition};
-ghost use Rattle.fen_text.specs.Written.{fen_of};
-ghost use Rattle.move_msg.specs.Stamps.{stamp_of};
+ghost use Rattle.adjudicate_core.specs.Lines.{refusal_words};
 ghost use Rattle.adjudicate_core.specs.Listens.{hosted};
-ghost use Rattle.adjudicate_core.specs.Sends.{BindsAndSends, Sends, SendsOver};
+ghost use Rattle.adjudicate_core.specs.Sends.{BindsAndSends, EndsOnce, IsFiled, IsSent, IsStamped, LacksFile, LacksSent, LacksTold, Sends, SendsOver};
 
 use crate::binding::bind;
-use crate::commands::Send;
+use crate::commands::{GameFile, Send, SentGame, ToldGame};
 use crate::lines::put_refusal;
 use crate::manifests::manifest_for;
 use crate::refusals::Refusal;
+use arbiter_server::{MOST_GAME_BYTES, read_game};
 use board_core::Position;
 use fen_text::read;
-use source_core::{Terms, send_game};
+use move_msg::Stamp;
+use source_core::{Ended, Terms, send_game};
 use std::alloc::Global;
 use std::time::Duration;
-use system_io::{BindFault, Disk, Host, Input, Output, Port, WriteFault};
+use system_io::{BindFault, Disk, Host, Input, Output, Port, ReadFault, WriteFault};
+
+/// A game, as far as a source knows it.
+#[derive(Drop)]
+struct Stamped {
+    /// The stamp that its messages carry.
+    stamp: Stamp,
+    /// The position before the first move.
+    start: Position,
+}
+
+/// A game that words tell, with a start that was read: by the manifest of its tables.
+fn stamped_by<D: Disk>(
+    alloc: Global,
+    task: &Send<'_>,
+    told: &ToldGame<'_>,
+    start: Position,
+    disk: &D,
+) -> Result<Stamped, Refusal>
+    requires spelled { SpellsPosition told.now.start.now start }
+    requires position { IsPosition start }
+    ensures ok { IfOk result (λ g. IsStamped (D.facts disk.now) task.now told.now g.stamp g.start) }
+    ensures err { IfErr result (λ refusal. LacksTold (D.facts disk.now) task.now told.now (refusal_words refusal)) }
+{
+    match manifest_for(alloc, disk, task.manifest, told.tables) {
+        Ok(manifest) => Ok(Stamped {
+            stamp: told.name.stamp(&start, &manifest, task.delay.plies()),
+            start,
+        }),
+        Err(refusal) => Err(refusal),
+    }
+}
+
+/// A game that words tell.
+fn told_game<D: Disk>(
+    alloc: Global,
+    task: &Send<'_>,
+    told: &ToldGame<'_>,
+    disk: &D,
+) -> Result<Stamped, Refusal>
+    ensures ok { IfOk result (λ g. IsStamped (D.facts disk.now) task.now told.now g.stamp g.start) }
+    ensures err { IfErr result (λ refusal. LacksTold (D.facts disk.now) task.now told.now (refusal_words refusal)) }
+{
+    match read(told.start.as_bytes()) {
+        Ok(start) => stamped_by(alloc, task, told, start, disk),
+        Err(fault) => Err(Refusal::Fen(fault)),
+    }
+}
+
+/// A game in a file.
+fn filed_game<D: Disk>(
+    alloc: Global,
+    file: &GameFile<'_>,
+    disk: &D,
+) -> Result<Stamped, Refusal>
+    ensures ok { IfOk result (λ g. IsFiled (D.facts disk.now) file.now g.stamp g.start) }
+    ensures err { IfErr result (λ refusal. LacksFile (D.facts disk.now) file.now (refusal_words refusal)) }
+{
+    let bytes = match disk.read_within(alloc, file.path, MOST_GAME_BYTES as u64) {
+        Ok(bytes) => bytes,
+        Err(ReadFault::Unreadable) => return Err(Refusal::Files),
+        Err(ReadFault::OutOfMemory) => return Err(Refusal::Memory),
+    };
+    match read_game(&bytes) {
+        Ok(game) => Ok(Stamped {
+            stamp: file.stamp,
+            start: game.start,
+        }),
+        Err(fault) => Err(Refusal::Line(usize::from(fault.line()))),
+    }
+}
+
+/// The game that is sent, or why there is none.
+fn game_of<D: Disk>(alloc: Global, task: &Send<'_>, disk: &D) -> Result<Stamped, Refusal>
+    ensures ok { IfOk result (λ g. IsSent (D.facts disk.now) task.now task.now.game g.stamp g.start) }
+    ensures err { IfErr result (λ refusal. LacksSent (D.facts disk.now) task.now task.now.game (refusal_words refusal)) }
+{
+    match &task.game {
+        SentGame::Told(told) => told_game(alloc, task, told, disk),
+        SentGame::InFile(file) => filed_game(alloc, file, disk),
+    }
+}
+
+/// Writes a refusal as the only line.
+fn refuse<W: Output>(out: &mut W, refusal: Refusal) -> Result<Ended, WriteFault>
+    ensures { EndsOnce (refusal_words refusal) (W.contents out.old) (W.contents out.new) result }
+{
+    match put_refusal(out, refusal) {
+        Ok(status) => Ok(Ended::With(status)),
+        Err(fault) => Err(fault),
+    }
+}
 
 /// The terms on which the moves are sent.
-fn terms_of(task: &Send<'_>, start: &Position, manifest: &[u8]) -> Terms
-    ensures stamp { result.stamp.0 ≡ stamp_of task.now.name (fen_of start.now) manifest.now task.now.delay }
+fn terms_of(task: &Send<'_>, stamp: Stamp) -> Terms
+    ensures stamp { result.stamp ≡ stamp }
     ensures tries { result.tries ≡ task.now.tries }
 {
     Terms {
-        stamp: task.name.stamp(start, manifest, task.delay.plies()),
+        stamp,
         tries: u32::from(task.tries),
         wait: Duration::from_millis(u64::from(task.wait)),
     }
@@ -40,12 +132,12 @@ fn send_over<I: Input, P: Port, W: Output>(
     input: &I,
     port: &mut P,
     out: &mut W,
-) -> Result<u8, WriteFault>
+) -> Result<Ended, WriteFault>
     ensures { SendsOver (I.facts input.now) terms.stamp terms.tries start (P.facts port.old) (P.facts port.new) (W.contents out.old) (W.contents out.new) result }
 {
     match input.lines(alloc) {
         Ok(mut lines) => send_game(alloc, terms, start, &mut lines, port, out),
-        Err(_) => put_refusal(out, Refusal::Memory),
+        Err(_) => refuse(out, Refusal::Memory),
     }
 }
 
@@ -53,51 +145,29 @@ fn send_over<I: Input, P: Port, W: Output>(
 fn bind_and_send<I: Input, H: Host, W: Output>(
     alloc: Global,
     task: &Send<'_>,
-    terms: Terms,
-    start: Position,
+    game: &Stamped,
     input: &I,
     host: &H,
     out: &mut W,
-) -> Result<u8, WriteFault>
-    requires { terms.tries ≡ task.now.tries }
-    ensures { BindsAndSends (hosted (H.facts host.now) H.Port.facts H.File.facts) (I.facts input.now) task.now terms.stamp start (W.contents out.old) (W.contents out.new) result }
+) -> Result<Ended, WriteFault>
+    ensures { BindsAndSends (hosted (H.facts host.now) H.Port.facts H.File.facts) (I.facts input.now) task.now game.now.stamp game.now.start (W.contents out.old) (W.contents out.new) result }
 {
+    let terms = terms_of(task, game.stamp);
     match bind(alloc, host, task.bind, task.to) {
-        Ok(mut port) => send_over(alloc, terms, start, input, &mut port, out),
-        Err(BindFault::Unbound) => put_refusal(out, Refusal::Port),
-        Err(BindFault::OutOfMemory) => put_refusal(out, Refusal::Memory),
+        Ok(mut port) => send_over(alloc, terms, game.start, input, &mut port, out),
+        Err(BindFault::Unbound) => refuse(out, Refusal::Port),
+        Err(BindFault::OutOfMemory) => refuse(out, Refusal::Memory),
     }
 }
 
-/// Computes the stamp of the game, and sends with it.
-fn send_from<D: Disk, I: Input, H: Host, W: Output>(
-    alloc: Global,
-    task: &Send<'_>,
-    start: Position,
-    disk: &D,
-    input: &I,
-    host: &H,
-    out: &mut W,
-) -> Result<u8, WriteFault>
-    requires spelled { SpellsPosition task.now.start.now start }
-    requires position { IsPosition start }
-    ensures { Sends (D.facts disk.now) (I.facts input.now) (hosted (H.facts host.now) H.Port.facts H.File.facts) task.now (W.contents out.old) (W.contents out.new) result }
-{
-    match manifest_for(alloc, disk, task.manifest, task.tables) {
-        Ok(manifest) => {
-            let terms = terms_of(task, &start, &manifest);
-            bind_and_send(alloc, task, terms, start, input, host, out)
-        }
-        Err(refusal) => put_refusal(out, refusal),
-    }
-}
-
-/// Sends the moves of the input as the words say, and returns the status.
+/// Sends the moves of the input as the words say, and returns what that comes to.
 ///
-/// A refusal before the first move is one line, in this order: of the text of the start, the manifest or the folder of
-/// the tables, and the address. Where memory is refused the line is `refused memory`. Tables are read for the stamp
-/// alone, and none where a manifest is named. What follows is as in `source_core::send_game`. The error comes only
-/// where the writer failed.
+/// A refusal before the first move is one line. Of words it is, in this order: of the text of the start, and of the manifest or the
+/// folder of the tables. Of a game's file: `refused files` where it can't be read or has more than 192 bytes, or `refused line 2`
+/// with the number of the first line at fault. Then that of the address. Where memory is refused the line is `refused memory`. Tables
+/// are read for the stamp of a game that words tell alone, and none where a manifest is named. A game's file has its stamp in its
+/// name. That the text of the file is of the game with this stamp can't be checked without the manifest of its tables, so it isn't:
+/// under a wrong name no arbiter answers. What follows is as in `source_core::send_game`. The error comes only where the writer failed.
 pub fn send<D: Disk, I: Input, H: Host, W: Output>(
     alloc: Global,
     task: &Send<'_>,
@@ -105,11 +175,11 @@ pub fn send<D: Disk, I: Input, H: Host, W: Output>(
     input: &I,
     host: &H,
     out: &mut W,
-) -> Result<u8, WriteFault>
+) -> Result<Ended, WriteFault>
     ensures { Sends (D.facts disk.now) (I.facts input.now) (hosted (H.facts host.now) H.Port.facts H.File.facts) task.now (W.contents out.old) (W.contents out.new) result }
 {
-    match read(task.start.as_bytes()) {
-        Ok(start) => send_from(alloc, task, start, disk, input, host, out),
-        Err(fault) => put_refusal(out, Refusal::Fen(fault)),
+    match game_of(alloc, task, disk) {
+        Ok(game) => bind_and_send(alloc, task, &game, input, host, out),
+        Err(refusal) => refuse(out, refusal),
     }
 }

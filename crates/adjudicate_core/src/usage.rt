@@ -32,6 +32,8 @@ pub enum Wanted {
     Recipients,
     /// How many games are open at once.
     AtOnce,
+    /// The file of the game that is sent.
+    GameFile,
 }
 
 impl Wanted {
@@ -49,6 +51,7 @@ impl Wanted {
             Wanted::Tries => "--tries ",
             Wanted::Addresses | Wanted::Recipients => "--to ",
             Wanted::AtOnce => "--at-once ",
+            Wanted::GameFile => "--game ",
         }
     }
 
@@ -66,6 +69,7 @@ impl Wanted {
             Wanted::Addresses | Wanted::Recipients => {
                 ": ADDR[,ADDR], each a host, a colon and a port"
             }
+            Wanted::GameFile => ": FOLDER/STAMP.game, with 32 lower-case hexadecimal digits",
         }
     }
 }
@@ -99,6 +103,8 @@ pub enum ValueFault<'a> {
     Unfit(Wanted, &'a str),
     /// An option is there beside another one that takes its place.
     NotWith(Instead, &'a str),
+    /// An option stands beside `--game`, whose file tells it.
+    Beside(&'a str),
 }
 
 /// A fault of the words of a command line.

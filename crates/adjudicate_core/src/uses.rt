@@ -28,8 +28,9 @@ const USAGE: &str = "usage: adjudicate judge [--tables DIR] [--manifest FILE] FE
        adjudicate record FILE
        adjudicate audit --name N --start FEN --tables DIR [--manifest FILE] [--delay N] FILE [FILE]
        adjudicate status --games DIR [--other DIR]
-       adjudicate send --name N --start FEN --tables DIR [--manifest FILE] [--delay N] --bind ADDR --to ADDR[,ADDR]
-                       [--wait MS] [--tries N] [--key FILE]
+       adjudicate send --name N --start FEN --tables DIR [--manifest FILE] [--delay N] --to ADDR[,ADDR]
+                       [--bind ADDR] [--wait MS] [--tries N] [--key FILE]
+       adjudicate send --game FILE --to ADDR[,ADDR] [--bind ADDR] [--wait MS] [--tries N] [--key FILE]
        adjudicate enter --name N --start FEN --tables DIR [--manifest FILE] [--delay N] --games DIR
        adjudicate enter --from FILE --tables DIR [--manifest FILE] --games DIR
        adjudicate host --games DIR --tables DIR [--manifest FILE] --me M --bind ADDR --to ADDR[,ADDR]
@@ -46,7 +47,7 @@ fn is_plain(byte: u8) -> bool
 }
 
 /// Writes bytes to their end.
-fn put<E: Output>(errors: &mut E, bytes: &[u8]) -> Result<(), WriteFault>
+pub(crate) fn put<E: Output>(errors: &mut E, bytes: &[u8]) -> Result<(), WriteFault>
     ensures { IsPut E.facts E.contents errors.old errors.new bytes.now result }
 {
     errors.put(bytes)
@@ -242,6 +243,12 @@ fn tell_fault<E: Output>(errors: &mut E, fault: &ValueFault<'_>)
         ValueFault::NotWith(instead, name) => {
             tell_line(errors, "--", name.as_bytes(), instead.rest())
         }
+        ValueFault::Beside(name) => tell_line(
+            errors,
+            "--",
+            name.as_bytes(),
+            " cannot be used with --game",
+        ),
     }
 }
 

@@ -59,7 +59,10 @@ fn sent<P: Port, W: Output>(
     out: &mut W,
 ) -> Result<u8, WriteFault> {
     let start = position_of(rt, START);
-    send_game(alloc, terms(tries), start, reader, port, out)
+    match send_game(alloc, terms(tries), start, reader, port, out) {
+        Ok(ended) => Ok(ended.status()),
+        Err(fault) => Err(fault),
+    }
 }
 
 /// The digit of the number of a move that is sent.

@@ -33,7 +33,8 @@ use Rattle.system_io.specs.LineReaders.{ReadsLine}
 use Rattle.system_io.specs.Ports.{Passing, Came, Quiet, Missed, Handed, PortFacts, Passed, to_each}
 use Rattle.source_core.specs.Reports.{Knows, StandsSo}
 use Rattle.source_core.specs.Turns.{ComesTo, HasSpelling, HasWaited, IsReceived, IsTurn, move_message, one_try, tries_of}
-use Rattle.source_core.specs.Lines.{IsCut, acked_words, end_words, status_by}
+use Rattle.source_core.specs.Lines.{IsCut, acked_words, end_words, ended_by}
+use Rattle.source_core.specs.declared.lines.Ended.{Ended}
 use Rattle.source_core.specs.Boards.{AreBelieved, IsBelieved}
 use Rattle.source_core.proofs.BoardLaws.{believed_first, is_belied}
 use Rattle.std.proofs.lemmas.Option.{same_Some}
@@ -439,9 +440,9 @@ cut_at : {E : Type 0} (old mid new : Option (List ℕ)) (first all : List (List 
 cut_at old mid new first all one fault e p (n, q) = record { earlier = first; last = one; front = n; all = e; written = Appends-trans old mid new (text_of first) (take n (ended one)) p q }
 
 -- the line of a run that ends was written, or not
-wrote_last : (s : Sending) (turns : List AckedMove) (end : End) (old mid new : Option (List ℕ)) (r : Result ℕ WriteFault) → s.turns ≡ turns → s.end ≡ Some end → Appends old mid (text_of (map line_of turns)) → IfOk r (λ status. status ≡ status_by end) → WritesFront mid new (ended (end_words end)) r → WritesLines s old new r
-wrote_last s turns end old mid new (Ok status) same is p ok q = (end, is, ok, written_more old mid new (map line_of turns) (lines_of s) (end_words end) (last_line s turns end same is) p q)
-wrote_last s turns end old mid new (Err fault) same is p ok q = cut_at old mid new (map line_of turns) (lines_of s) (end_words end) fault (last_line s turns end same is) p q
+wrote_last : (s : Sending) (turns : List AckedMove) (end : End) (known : Known) (old mid new : Option (List ℕ)) (r : Result Ended WriteFault) → s.turns ≡ turns → s.end ≡ Some end → s.known ≡ known → Appends old mid (text_of (map line_of turns)) → IfOk r (λ ended. ended ≡ ended_by end known) → WritesFront mid new (ended (end_words end)) r → WritesLines s old new r
+wrote_last s turns end known old mid new (Ok ended) same is at p ok q = (end, is, ok ∙ ap (ended_by end) (sym at), written_more old mid new (map line_of turns) (lines_of s) (end_words end) (last_line s turns end same is) p q)
+wrote_last s turns end known old mid new (Err fault) same is at p ok q = cut_at old mid new (map line_of turns) (lines_of s) (end_words end) fault (last_line s turns end same is) p q
 
 -- ---- the loop of a run
 
@@ -485,9 +486,9 @@ runs_cut F0 F M0 M stamp most start input0 input1 input2 c1 c2 port0 port1 port2
     (s.0, s.1, cut_at out0 out1 out2 (map line_of h.sent.turns) (lines_of s.0) (acked_words (k + 1)) fault (no_last s.0 n.0.turns (map line_of h.sent.turns ++ acked_words (k + 1) ∷ []) s.2 s.3 n.1) h.written put)
 
 -- the run ended, and its line was written or not
-pub runs_ended : (F0 F M0 M : Type 0) (stamp : Stamp) (most : ℕ) (start : Parts) (input0 input1 input2 : Option (List ℕ)) (c1 c2 : Course) (port0 port1 port2 : PortFacts) (out0 out1 out2 : Option (List ℕ)) (k : ℕ) (end : End) (r : Result ℕ WriteFault)
-    → Runs F0 F M0 M (game_at stamp most port0) start input0 input1 c1 port0 port1 out0 out1 k → Steps (causes F M) stamp most k input1 input2 c1 c2 port1 port2 (Some end) → IfOk r (λ status. status ≡ status_by end) → WritesFront out1 out2 (ended (end_words end)) r
+pub runs_ended : (F0 F M0 M : Type 0) (stamp : Stamp) (most : ℕ) (start : Parts) (input0 input1 input2 : Option (List ℕ)) (c1 c2 : Course) (port0 port1 port2 : PortFacts) (out0 out1 out2 : Option (List ℕ)) (k : ℕ) (end : End) (r : Result Ended WriteFault)
+    → Runs F0 F M0 M (game_at stamp most port0) start input0 input1 c1 port0 port1 out0 out1 k → Steps (causes F M) stamp most k input1 input2 c1 c2 port1 port2 (Some end) → IfOk r (λ e. e ≡ ended_by end c2.known) → WritesFront out1 out2 (ended (end_words end)) r
     → (s : Sending) × IsSending (causes F0 M0) (game_at stamp most port0) start input0 input2 port0 port2 s × WritesLines s out0 out2 r
 runs_ended F0 F M0 M stamp most start input0 input1 input2 c1 c2 port0 port1 port2 out0 out1 out2 k end r h steps ok put =
     let s = run_ended (causes F0 M0) (game_at stamp most port0) start input0 input1 input2 c1 c2 port0 port1 port2 k end h.sent (stepped F0 F M0 M stamp most start input0 input1 input2 c1 c2 port0 port1 port2 out0 out1 k (Some end) h steps) in
-    (s.0, s.1, wrote_last s.0 h.sent.turns end out0 out1 out2 r s.2 s.3 h.written ok put)
+    (s.0, s.1, wrote_last s.0 h.sent.turns end c2.known out0 out1 out2 r s.2 s.3 s.4 h.written ok put)

@@ -1,11 +1,14 @@
 -- The lines of a run (this project's own).
-use Rattle.std.specs.Prelude.{◌≡◌, ℕ, List, [], ◌∷◌, ◌++◌, Option, take, codes}
+use Rattle.std.specs.Prelude.{◌≡◌, ℕ, List, [], ◌∷◌, ◌++◌, Option, Some, None, take, codes}
 use Rattle.std.specs.Fmt.{decimal}
 use Rattle.std.specs.Io.KnownBytes.{Appends}
 use Rattle.move_msg.specs.TextLines.{ended, text_of}
 use Rattle.board_core.specs.Verdicts.{verdict_name}
 use Rattle.source_core.specs.declared.report.Ruling.{Ruling}
 use Rattle.source_core.specs.declared.known.Clash.{Clash}
+use Rattle.source_core.specs.declared.known.Known.{Known}
+use Rattle.source_core.specs.declared.lines.Ended.{Ended}
+use Rattle.source_core.specs.declared.lines.Ended.TheVariants as run
 use Rattle.source_core.specs.declared.lines.End.{End}
 use Rattle.source_core.specs.declared.lines.End.TheVariants as at_end
 use Rattle.source_core.specs.declared.lines.Line.{Line}
@@ -52,6 +55,24 @@ status_by at_end.Lost = 1
 status_by at_end.PortLost = 1
 status_by at_end.Unread = 1
 status_by at_end.OutOfMemory = 1
+
+-- what a run comes to: a status, or where an arbiter doesn't answer what is known of both
+abbrev pub ended_by : End → Known → Ended
+ended_by (at_end.Open count) known = run.With 0
+ended_by (at_end.Ruled r) known = run.With 0
+ended_by (at_end.Clashed c) known = run.With 1
+ended_by (at_end.Belied r) known = run.With 1
+ended_by (at_end.NotAMove number) known = run.With 1
+ended_by (at_end.Illegal number) known = run.With 1
+ended_by at_end.TooLong known = run.With 1
+ended_by at_end.Lost known = run.Lost known
+ended_by at_end.PortLost known = run.With 1
+ended_by at_end.Unread known = run.With 1
+ended_by at_end.OutOfMemory known = run.With 1
+
+abbrev pub ended_status : Ended → ℕ
+ended_status (run.With status) = status
+ended_status (run.Lost known) = 1
 
 -- ---- a writer that fails
 

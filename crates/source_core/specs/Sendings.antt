@@ -21,8 +21,9 @@ use Rattle.source_core.specs.declared.lines.End.TheVariants as at_end
 use Rattle.source_core.specs.Reports.{IsAcked, IsAgreed, IsRuled, IsClash, IsUnsettled, Knows}
 use Rattle.source_core.specs.Boards.{IsBelied, IsBelievedRuling}
 use Rattle.source_core.specs.Turns.{HasSpelling, HasWaited, IsReceived, move_message, tries_of}
-use Rattle.source_core.specs.Lines.{IsCut, acked_words, end_words, status_by}
+use Rattle.source_core.specs.Lines.{IsCut, acked_words, end_words, ended_by}
 use Rattle.source_core.specs.declared.known.Known.{Known}
+use Rattle.source_core.specs.declared.lines.Ended.{Ended}
 
 -- the stamp of a game, to how many addresses its moves go, and how often each is sent at most
 pub record Game : Type 0 where
@@ -230,6 +231,6 @@ abbrev pub lines_of : Sending → List (List ℕ)
 lines_of s = map line_of s.turns ++ last_lines s.end
 
 -- all of them are written, and the status is that of the end; or the writer fails at the last of those that it was given
-abbrev pub WritesLines : Sending → Option (List ℕ) → Option (List ℕ) → Result ℕ WriteFault → Type 0
-WritesLines s old new (Ok status) = (end : End) × (s.end ≡ Some end) × (status ≡ status_by end) × Appends old new (text_of (lines_of s))
+abbrev pub WritesLines : Sending → Option (List ℕ) → Option (List ℕ) → Result Ended WriteFault → Type 0
+WritesLines s old new (Ok ended) = (end : End) × (s.end ≡ Some end) × (ended ≡ ended_by end s.known) × Appends old new (text_of (lines_of s))
 WritesLines s old new (Err fault) = IsCut (lines_of s) old new

@@ -14,7 +14,8 @@
 //! - CLAIM: `send_game`, clause `sends`: a run sends the legal moves of its input, each with its number to each address, at most
 //!   as often as the terms say. It ends with the stated line, and its status is that of the line. Each datagram is the move of
 //!   its number from one list. A verdict with which it ends is believed: a mate or a stalemate at a ply that was sent stands on the
-//!   source's own board after the last move; one that doesn't is told as `disagree`.
+//!   source's own board after the last move; one that doesn't is told as `disagree`. Where an arbiter doesn't answer, what is known
+//!   of both is returned.
 //! - CLAIM: `send_game`, clause `gone`: all lines have gone out at the end.
 //! - CLAIM: `take_turn`: a turn sends one move until both arbiters have acknowledged it, both have reported a verdict, two
 //!   verdicts differ, one is belied by the board, the tries are used up, or the port is lost.
@@ -35,7 +36,7 @@ mod turn;
 
 pub use board::Board;
 pub use known::{Clash, Known, Reported, Standing};
-pub use lines::{End, Line};
+pub use lines::{End, Ended, Line};
 pub use report::{Report, Ruling, report_of};
 pub use sending::send_game;
 pub use turn::{Terms, Turn, take_turn};

@@ -4,9 +4,9 @@ ghost use Rattle.std.specs.Prelude.{◌≡◌, Some, IfSome, OnOk};
 ghost use Rattle.std.specs.Fmt.{DisplaysOnOk};
 ghost use Rattle.move_msg.specs.TextLines.{ended};
 ghost use Rattle.system_io.specs.Outputs.{WritesFront};
-ghost use Rattle.source_core.specs.Lines.{clash_words, end_words, line_words, ruling_words, status_by};
+ghost use Rattle.source_core.specs.Lines.{clash_words, end_words, ended_by, ended_status, line_words, ruling_words, status_by};
 
-use crate::known::Clash;
+use crate::known::{Clash, Known};
 use crate::report::Ruling;
 use arrayvec::ArrayString;
 use std::fmt::{self, Write as _};
@@ -48,6 +48,27 @@ pub enum Line {
     Ends(End),
 }
 
+/// What a run of a source comes to.
+#[derive(Clone, Copy)]
+pub enum Ended {
+    /// This status: 0 where the game goes on at the input's end or has its verdict, else 1.
+    With(u8),
+    /// Status 1, since an arbiter doesn't answer; and what both have reported.
+    Lost(Known),
+}
+
+impl Ended {
+    /// The status.
+    pub fn status(&self) -> u8
+        ensures { result ≡ ended_status self.now }
+    {
+        match self {
+            Ended::With(status) => *status,
+            Ended::Lost(_) => 1,
+        }
+    }
+}
+
 impl End {
     /// The status of a run that ends so.
     pub fn status(&self) -> u8
@@ -56,6 +77,16 @@ impl End {
         match self {
             End::Open(_) | End::Ruled(_) => 0,
             _ => 1,
+        }
+    }
+
+    /// What a run that ends so comes to.
+    pub(crate) fn ended(&self, known: &Known) -> Ended
+        ensures { result ≡ ended_by self.now known.now }
+    {
+        match self {
+            End::Lost => Ended::Lost(*known),
+            _ => Ended::With(self.status()),
         }
     }
 }

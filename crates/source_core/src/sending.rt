@@ -4,13 +4,13 @@ ghost use Rattle.std.specs.Prelude.{◌≡◌, ◌≤◌, IfOk, IfErr, OnOk};
 ghost use Rattle.source_core.specs.Sendings.{IsRefusedLine, IsSending, Sending, WritesLines, causes};
 ghost use Rattle.source_core.specs.Inside.Steps.{Closes, EndsAt, IsPlayed, Steps, StepsOn, begun_at, end_by};
 ghost use Rattle.system_io.specs.Outputs.{WritesFront};
-ghost use Rattle.source_core.specs.Lines.{end_words, status_by};
+ghost use Rattle.source_core.specs.Lines.{end_words, ended_by};
 ghost use Rattle.move_msg.specs.Numbers.{most_moves};
 ghost use Rattle.move_msg.specs.TextLines.{ended};
 
 use crate::board::Board;
 use crate::known::{Known, Standing};
-use crate::lines::{End, Line, put_now};
+use crate::lines::{End, Ended, Line, put_now};
 use crate::turn::{Next, Terms, Turn, receive_all, send_again, take_turn};
 use board_core::{Move, Position};
 use fen_text::read_move;
@@ -156,19 +156,20 @@ fn step<L: LineReader, P: Port>(
     }
 }
 
-/// Writes the last line, and returns the status.
-fn finish<W: Output>(out: &mut W, end: End) -> Result<u8, WriteFault>
-    ensures status { IfOk result (λ status. status ≡ status_by end) }
+/// Writes the last line, and returns what the run comes to.
+fn finish<W: Output>(out: &mut W, end: End, known: &Known) -> Result<Ended, WriteFault>
+    ensures ended { IfOk result (λ ended. ended ≡ ended_by end known.now) }
     ensures front { WritesFront (W.contents out.old) (W.contents out.new) (ended (end_words end)) result }
     ensures gone { OnOk result (W.facts out.new).gone }
 {
     match put_now(out, &Line::Ends(end)) {
-        Ok(()) => Ok(end.status()),
+        Ok(()) => Ok(end.ended(known)),
         Err(fault) => Err(fault),
     }
 }
 
-/// Sends the moves of an input, a line each, to the arbiters of a game as they come, and returns the status.
+/// Sends the moves of an input, a line each, to the arbiters of a game as they come, and returns what that comes to: a status and, where
+/// an arbiter doesn't answer, what both have reported.
 ///
 /// Each legal move is sent to each address, at most as often as the terms say, until both arbiters have acknowledged
 /// it. Then the line `2 acked` follows, with how many moves are acknowledged, and the next line is read. Once both have
@@ -186,7 +187,7 @@ pub fn send_game<L: LineReader, P: Port, W: Output>(
     reader: &mut L,
     port: &mut P,
     out: &mut W,
-) -> Result<u8, WriteFault>
+) -> Result<Ended, WriteFault>
     // There is such a run, and its lines are written.
     ensures sends { (s : Sending) × IsSending (causes (L.facts reader.old).fails (L.facts reader.old).takes_memory) (record { stamp = terms.stamp; addresses = (P.facts port.old).addresses; most = terms.tries }) start (L.facts reader.old).left (L.facts reader.new).left (P.facts port.old) (P.facts port.new) s × WritesLines s (W.contents out.old) (W.contents out.new) result }
 
@@ -201,7 +202,7 @@ pub fn send_game<L: LineReader, P: Port, W: Output>(
                 Ok(()) => {}
                 Err(fault) => return Err(fault),
             },
-            Some(end) => return finish(out, end),
+            Some(end) => return finish(out, end, &course.known),
         }
     }
     unreachable!()

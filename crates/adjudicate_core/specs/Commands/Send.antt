@@ -1,15 +1,21 @@
--- `send --name N --start FEN --tables DIR [--manifest FILE] [--delay N] --bind ADDR --to ADDR[,ADDR] [--wait MS] [--tries N]
--- [--key FILE]`: the source of a game at a port; specs/Sends.antt has what it makes of its input (this project's own).
-use Rattle.std.specs.Prelude.{◌≡◌, ◌++◌, List, [], ◌∷◌, Option, Some, codes, option_map}
+-- `send --name N --start FEN --tables DIR [--manifest FILE] [--delay N] --to ADDR[,ADDR] [--bind ADDR] [--wait MS] [--tries N]
+-- [--key FILE]`, or with `--game FILE` in place of what is before `--to`: the source of a game at a port; specs/Sends.antt has what it
+-- makes of its input (this project's own).
+use Rattle.std.specs.Prelude.{◌≡◌, ◌++◌, ℕ, List, [], ◌∷◌, map, Option, Some, None, codes, option_map}
 use Rattle.clap.specs.Words.{Rule, Text}
 use Rattle.adjudicate_core.specs.Addresses.{AreAddresses}
 use Rattle.adjudicate_core.specs.Rules.{rule_of_form}
 use Rattle.adjudicate_core.specs.declared.commands.Form.TheVariants as form
-use Rattle.adjudicate_core.specs.Misuses.{AreGameWords, Fault, NoOption, Unfit, game_faults, to_faults}
+use Rattle.adjudicate_core.specs.GamePaths.{NamesGame}
+use Rattle.adjudicate_core.specs.Misuses.{AreGameWords, Beside, Fault, Unfit, Untold, game_faults, to_faults}
 use Rattle.adjudicate_core.specs.declared.usage.Wanted.TheVariants as wanted
 use Rattle.task_files.specs.Sources.{Named, nothing}
 use Rattle.adjudicate_core.specs.Numbers.{IsDelay, IsHundredOr}
 use Rattle.adjudicate_core.specs.declared.commands.send.Send.{Send}
+use Rattle.adjudicate_core.specs.declared.commands.send.ToldGame.{ToldGame}
+use Rattle.adjudicate_core.specs.declared.commands.send.GameFile.{GameFile}
+use Rattle.adjudicate_core.specs.declared.commands.send.SentGame.{SentGame}
+use Rattle.adjudicate_core.specs.declared.commands.send.SentGame.TheVariants as sent
 
 abbrev pub rules : List Rule
 rules =
@@ -18,17 +24,35 @@ rules =
     ∷ rule_of_form form.Option (codes "tables")
     ∷ rule_of_form form.Option (codes "manifest")
     ∷ rule_of_form form.Option (codes "delay")
+    ∷ rule_of_form form.Option (codes "game")
     ∷ rule_of_form form.Option (codes "bind")
     ∷ rule_of_form form.Option (codes "to")
     ∷ rule_of_form form.Option (codes "wait")
     ∷ rule_of_form form.Option (codes "tries")
     ∷ rule_of_form form.Option (codes "key") ∷ []
 
--- the values of its arguments, of which the name is that of a game
+-- the words that tell a game
+abbrev pub IsToldGame : (Text → Option Text) → ToldGame → Type 0
+IsToldGame value g = (value (codes "game") ≡ None) × AreGameWords value g.name g.start.now g.tables.now
+
+-- the file that tells it, whose name is its stamp
+abbrev pub IsInFile : (Text → Option Text) → GameFile → Type 0
+IsInFile value f = (Some f.path.now ≡ value (codes "game")) × NamesGame f.path.now f.stamp.0
+
+abbrev pub HasGame : (Text → Option Text) → SentGame → Type 0
+HasGame value (sent.Told g) = IsToldGame value g
+HasGame value (sent.InFile f) = IsInFile value f
+
+-- any port of any address, unless one is named
+abbrev pub bind_or_any : Option Text → List ℕ
+bind_or_any None = codes "0.0.0.0:0"
+bind_or_any (Some address) = address
+
+-- the values of its arguments
 pub record HasValues (value : Text → Option Text) (t : Send) : Type 0 where
-  pub game : AreGameWords value t.name t.start.now t.tables.now
+  pub game : HasGame value t.game
   pub manifest : option_map (λ s. s.now) t.manifest ≡ value (codes "manifest")
-  pub bind : Some t.bind.now ≡ value (codes "bind")
+  pub bind : t.bind.now ≡ bind_or_any (value (codes "bind"))
   pub to : Some t.to.now ≡ value (codes "to")
   pub addresses : AreAddresses t.to.now
   pub delay : IsDelay (value (codes "delay")) t.delay
@@ -36,15 +60,22 @@ pub record HasValues (value : Text → Option Text) (t : Send) : Type 0 where
   pub tries : IsHundredOr (value (codes "tries")) t.tries
   pub key : option_map (λ s. s.now) t.key ≡ value (codes "key")
 
--- what may be wrong with its values, in the order in which it is told
-abbrev pub end_faults : List Fault
-end_faults = NoOption (codes "bind") ∷ to_faults
+-- what may be wrong with its values, in the order in which it is told: without `--game` the words on a game; with it its path, and
+-- what stands beside it
+abbrev pub words_faults : List Fault
+words_faults = map Untold game_faults
+
+abbrev pub file_faults : List Fault
+file_faults = Unfit wanted.GameFile ∷ Beside (codes "name") ∷ Beside (codes "start") ∷ Beside (codes "tables") ∷ Beside (codes "manifest") ∷ Beside (codes "delay") ∷ []
+
+abbrev pub sent_faults : List Fault
+sent_faults = words_faults ++ file_faults
 
 abbrev pub term_faults : List Fault
 term_faults = Unfit wanted.Delay ∷ Unfit wanted.Wait ∷ Unfit wanted.Tries ∷ []
 
 abbrev pub faults : List Fault
-faults = game_faults ++ end_faults ++ term_faults
+faults = sent_faults ++ to_faults ++ term_faults
 
 -- nothing is read for it before it answers: it reads its tables or its manifest itself
 abbrev pub named : Named

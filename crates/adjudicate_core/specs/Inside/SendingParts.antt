@@ -1,11 +1,7 @@
 -- The words of `send`, part by part; cited by private functions alone.
 use Rattle.std.specs.Prelude.{◌≡◌, ℕ, List, Option, Some, codes}
 use Rattle.clap.specs.Words.{Text}
-use Rattle.adjudicate_core.specs.Addresses.{AreAddresses}
 use Rattle.adjudicate_core.specs.Numbers.{IsDelay, IsHundredOr}
-
-abbrev pub AreEnds : (Text → Option Text) → List ℕ → List ℕ → Type 0
-AreEnds value bind to = (Some bind ≡ value (codes "bind")) × (Some to ≡ value (codes "to")) × AreAddresses to
 
 abbrev pub AreTerms : (Text → Option Text) → ℕ → ℕ → ℕ → Type 0
 AreTerms value delay wait tries = IsDelay (value (codes "delay")) delay × IsHundredOr (value (codes "wait")) wait × IsHundredOr (value (codes "tries")) tries

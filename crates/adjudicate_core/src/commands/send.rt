@@ -1,33 +1,60 @@
 //! `send`: the source of a game; these are its words, and `sending` sends the moves.
 
-ghost use Rattle.std.specs.Prelude.{IfOk, IfErr};
+ghost use Rattle.std.specs.Prelude.{◌≡◌, Some, None, IfOk, IfErr, IsSome, OnOk, codes};
 ghost use Rattle.clap.specs.Words.{found_of, first_value};
-ghost use Rattle.adjudicate_core.specs.Inside.SendingParts.{AreEnds, AreTerms};
-ghost use Rattle.adjudicate_core.specs.Commands.Send.{end_faults, term_faults};
-ghost use Rattle.adjudicate_core.specs.Misuses.{AreWell, IsFirst, fault_words};
+ghost use Rattle.adjudicate_core.specs.Inside.SendingParts.{AreTerms};
+ghost use Rattle.adjudicate_core.specs.Commands.Send.{HasGame, IsInFile, IsToldGame, bind_or_any, file_faults, sent_faults, term_faults};
+ghost use Rattle.adjudicate_core.specs.Misuses.{AreWell, Beside, IsFirst, IsTold, fault_words};
 
 use super::{Form, Value};
 use crate::game_name::GameName;
+use crate::game_paths::stamp_in;
 use crate::numbers::Delay;
-use crate::usage::ValueFault;
-use crate::values::{delay_in, game_words_in, option_in, to_in, tries_in, wait_in};
+use crate::usage::{ValueFault, Wanted};
+use crate::values::{delay_in, game_words_in, to_in, tries_in, wait_in};
 use clap::ArgMatches;
+use move_msg::Stamp;
 use task_files::Places;
 
-/// The values for sending the moves of a game.
+/// A game as words tell it.
 #[derive(Drop)]
-pub struct Send<'a> {
-    /// The name of the game.
+pub struct ToldGame<'a> {
+    /// Its name.
     pub name: GameName<'a>,
     /// The FEN text of its start.
     pub start: &'a str,
     /// The folder of the tables.
     pub tables: &'a str,
-    /// The file of their manifest, if one is named; then no table is read.
+}
+
+/// The file of a game.
+#[derive(Clone, Copy)]
+pub struct GameFile<'a> {
+    /// Its path.
+    pub path: &'a str,
+    /// The stamp of the game, which is the file's name.
+    pub stamp: Stamp,
+}
+
+/// How the game that is sent is told.
+#[derive(Drop)]
+pub enum SentGame<'a> {
+    /// By words.
+    Told(ToldGame<'a>),
+    /// By its file.
+    InFile(GameFile<'a>),
+}
+
+/// The values for sending the moves of a game.
+#[derive(Drop)]
+pub struct Send<'a> {
+    /// The game.
+    pub game: SentGame<'a>,
+    /// The file of the tables' manifest, if one is named; then no table is read.
     pub manifest: Option<&'a str>,
-    /// For how many further plies a verdict by tables must hold.
+    /// For how many further plies a verdict by tables must hold. It is 0 where a file tells the game, which has its own.
     pub delay: Delay,
-    /// The address at which datagrams come.
+    /// The address at which datagrams come: any port of any address, unless one is named.
     pub bind: &'a str,
     /// The addresses to which moves are sent, separated by commas.
     pub to: &'a str,
@@ -40,7 +67,7 @@ pub struct Send<'a> {
 }
 
 /// The values of `send`.
-pub(crate) const VALUES: [Value; 10] = [
+pub(crate) const VALUES: [Value; 11] = [
     Value {
         name: "name",
         form: Form::Option,
@@ -59,6 +86,10 @@ pub(crate) const VALUES: [Value; 10] = [
     },
     Value {
         name: "delay",
+        form: Form::Option,
+    },
+    Value {
+        name: "game",
         form: Form::Option,
     },
     Value {
@@ -83,13 +114,6 @@ pub(crate) const VALUES: [Value; 10] = [
     },
 ];
 
-/// The addresses.
-#[derive(Clone, Copy)]
-struct Ends<'a> {
-    bind: &'a str,
-    to: &'a str,
-}
-
 /// The numbers.
 #[derive(Clone, Copy)]
 struct Terms {
@@ -98,16 +122,79 @@ struct Terms {
     tries: u16,
 }
 
-/// The addresses, of options that have to be there.
-fn ends_in<'a>(matches: &ArgMatches<'a>) -> Result<Ends<'a>, ValueFault<'a>>
-    ensures ok { IfOk result (λ e. AreEnds (first_value (found_of matches.now)) e.bind.now e.to.now) }
-    ensures well { IfOk result (λ e. AreWell (first_value (found_of matches.now)) end_faults) }
-    ensures err { IfErr result (λ fault. IsFirst (first_value (found_of matches.now)) end_faults (fault_words fault)) }
+/// Tells an option that stands beside `--game`.
+fn alone<'a>(matches: &ArgMatches<'a>, name: &'static str) -> Result<(), ValueFault<'a>>
+    requires { IsSome (first_value (found_of matches.now) (codes "game")) }
+    ensures ok { OnOk result (first_value (found_of matches.now) name.now ≡ None) }
+    ensures err { IfErr result (λ fault. IsTold (first_value (found_of matches.now)) (Beside name.now) (fault_words fault)) }
 {
-    Ok(Ends {
-        bind: option_in(matches, "bind")?,
-        to: to_in(matches)?,
-    })
+    match matches.get_str(name) {
+        Some(_) => Err(ValueFault::Beside(name)),
+        None => Ok(()),
+    }
+}
+
+/// The file of a game whose path is the value of `--game`.
+fn file_in<'a>(matches: &ArgMatches<'a>, path: &'a str) -> Result<GameFile<'a>, ValueFault<'a>>
+    requires { first_value (found_of matches.now) (codes "game") ≡ Some path.now }
+    ensures ok { IfOk result (IsInFile (first_value (found_of matches.now))) }
+    ensures well { OnOk result (AreWell (first_value (found_of matches.now)) file_faults) }
+    ensures err { IfErr result (λ fault. IsFirst (first_value (found_of matches.now)) file_faults (fault_words fault)) }
+{
+    let Some(stamp) = stamp_in(path) else {
+        return Err(ValueFault::Unfit(Wanted::GameFile, path));
+    };
+    alone(matches, "name")?;
+    alone(matches, "start")?;
+    alone(matches, "tables")?;
+    alone(matches, "manifest")?;
+    alone(matches, "delay")?;
+    Ok(GameFile { path, stamp })
+}
+
+/// The game that words tell.
+fn told_in<'a>(matches: &ArgMatches<'a>) -> Result<ToldGame<'a>, ValueFault<'a>>
+    requires { first_value (found_of matches.now) (codes "game") ≡ None }
+    ensures ok { IfOk result (IsToldGame (first_value (found_of matches.now))) }
+    ensures well { OnOk result (AreWell (first_value (found_of matches.now)) sent_faults) }
+    ensures err { IfErr result (λ fault. IsFirst (first_value (found_of matches.now)) sent_faults (fault_words fault)) }
+{
+    match game_words_in(matches) {
+        Ok(words) => Ok(ToldGame {
+            name: words.name,
+            start: words.start,
+            tables: words.tables,
+        }),
+        Err(fault) => Err(fault),
+    }
+}
+
+/// The game, of one of the two ways to tell it.
+fn game_in<'a>(matches: &ArgMatches<'a>) -> Result<SentGame<'a>, ValueFault<'a>>
+    ensures ok { IfOk result (HasGame (first_value (found_of matches.now))) }
+    ensures well { OnOk result (AreWell (first_value (found_of matches.now)) sent_faults) }
+    ensures err { IfErr result (λ fault. IsFirst (first_value (found_of matches.now)) sent_faults (fault_words fault)) }
+{
+    match matches.get_str("game") {
+        Some(path) => match file_in(matches, path) {
+            Ok(file) => Ok(SentGame::InFile(file)),
+            Err(fault) => Err(fault),
+        },
+        None => match told_in(matches) {
+            Ok(told) => Ok(SentGame::Told(told)),
+            Err(fault) => Err(fault),
+        },
+    }
+}
+
+/// The address that is bound.
+fn bind_in<'a>(matches: &ArgMatches<'a>) -> &'a str
+    ensures { result.now ≡ bind_or_any (first_value (found_of matches.now) (codes "bind")) }
+{
+    match matches.get_str("bind") {
+        Some(address) => address,
+        None => "0.0.0.0:0",
+    }
 }
 
 /// The numbers.
@@ -134,17 +221,15 @@ impl<'a> Send<'a> {
         ensures ok { IfOk result (HasValues (first_value (found_of matches.now))) }
         ensures err { IfErr result (λ fault. IsFirst (first_value (found_of matches.now)) faults (fault_words fault)) }
     {
-        let game = game_words_in(matches)?;
-        let ends = ends_in(matches)?;
+        let game = game_in(matches)?;
+        let to = to_in(matches)?;
         let terms = terms_in(matches)?;
         Ok(Send {
-            name: game.name,
-            start: game.start,
-            tables: game.tables,
+            game,
             manifest: matches.get_str("manifest"),
             delay: terms.delay,
-            bind: ends.bind,
-            to: ends.to,
+            bind: bind_in(matches),
+            to,
             wait: terms.wait,
             tries: terms.tries,
             key: matches.get_str("key"),

@@ -1,11 +1,11 @@
-use Rattle.std.proofs.Common.{◌≡◌, Bool, true, false, refl, inr}
+use Rattle.std.proofs.Common.{◌≡◌, ◌⊎◌, Bool, true, false, refl, inl, inr}
 use Rattle.std.proofs.lemmas.Result.{IfOk-weaker}
 use Rattle.adjudicate_core.specs.Running.{ToTask, ToMisuse}
 use Rattle.adjudicate_core.proofs.program.run.Goals as goal
 
-not_quiet : {P : Type 0} (b : Bool) → (b ≡ false → P) → (P → ⊥) → b ≡ true
-not_quiet true quiet differ = refl
-not_quiet false quiet differ = absurd (differ (quiet refl))
+not_quiet : {P Q : Type 0} (b : Bool) → (b ≡ false → P ⊎ Q) → (P → ⊥) → (b ≡ true) ⊎ Q
+not_quiet true quiet differ = inl refl
+not_quiet false quiet differ = elim (quiet refl) [ inl same ↦ absurd (differ same) | inr told ↦ inr told ]
 
 pub returns-in-Ok : goal.returns-in-Ok
 returns-in-Ok g c = record {

@@ -1,4 +1,4 @@
-use Rattle.std.proofs.Common.{◌≡◌, ◌∙◌, Some, None, ap, refl, subst, sym}
+use Rattle.std.proofs.Common.{◌≡◌, ◌∙◌, Some, None, ap, inl, refl, subst, sym}
 use Rattle.std.specs.Prelude.{option_map}
 use Rattle.std.proofs.lemmas.Result.{IfOk-weaker}
 use Rattle.adjudicate_core.specs.Inside.Keying.{GivesKeys}
@@ -30,7 +30,7 @@ returns-in-Ok-Err g c =
     let lacks = subst (GivesKeys (g.D.Disk.facts c.args.disk.now) c.in-Some.path.now) c.in-Ok-Err.field-0-is c.in-Ok-Err.ensures in
     record {
       answered = IfOk-weaker c.put_refusal.result _ _ (λ status h. NoKeys c.in-Some.path.now named (refusal_words c.in-Ok-Err.refusal) lacks h) c.put_refusal.ensures;
-      quiet = λ unasked. refl;
+      quiet = λ unasked. inl refl;
     }
 
 pub returns-in-Err : goal.returns-in-Err
@@ -38,5 +38,5 @@ returns-in-Err g c =
     let named : key_in c.args.task.now ≡ Some c.in-Some.path.now = sym c.key.ensures ∙ ap (option_map (λ s. s.now)) c.in-Some.is in
     record {
       answered = IfOk-weaker c.put_refusal-in-Err.result _ _ (λ status h. NoRoomForKeys c.in-Some.path.now named h) c.put_refusal-in-Err.ensures;
-      quiet = λ unasked. refl;
+      quiet = λ unasked. inl refl;
     }

@@ -1,4 +1,4 @@
-use Rattle.std.proofs.Common.{Err, ap, refl}
+use Rattle.std.proofs.Common.{Err, ap, refl, inl}
 use Rattle.std.proofs.lemmas.Result.{IfOk-weaker}
 use Rattle.adjudicate_core.specs.Running.{FromGiven, Unread}
 use Rattle.adjudicate_core.proofs.program.run_task.Goals as goal
@@ -11,4 +11,4 @@ returns-in-Ok g c =
 pub returns-in-Err-Unreadable : goal.returns-in-Err-Unreadable
 returns-in-Err-Unreadable g c =
     let cause = rw c.places-places.ensures at (c.in-Err-Unreadable.ensures.cause (ap Err c.in-Err-Unreadable.field-0-is)) in
-    record { answered = IfOk-weaker c.put_refusal.result _ _ (λ status h. Unread cause h) c.put_refusal.ensures; quiet = λ unasked. refl }
+    record { answered = IfOk-weaker c.put_refusal.result _ _ (λ status h. Unread cause h) c.put_refusal.ensures; quiet = λ unasked. inl refl }

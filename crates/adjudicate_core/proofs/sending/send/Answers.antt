@@ -1,7 +1,8 @@
-use Rattle.adjudicate_core.specs.Sends.{BadStart}
+use Rattle.adjudicate_core.specs.Sends.{NoGame, Stamped}
 use Rattle.adjudicate_core.proofs.sending.send.Goals as goal
 
+pub returns-in-Ok : goal.returns-in-Ok
+returns-in-Ok g c = Stamped _ _ c.in-Ok.ensures.ok c.bind_and_send.ensures
+
 pub returns-in-Err : goal.returns-in-Err
-returns-in-Err g c =
-    let fault = rw c.as_bytes.ensures.value at c.in-Err.ensures.err in
-    BadStart c.in-Err.fault fault c.put_refusal.ensures
+returns-in-Err g c = NoGame _ c.in-Err.ensures.err c.refuse.ensures

@@ -9,4 +9,4 @@ returns-in-Ok g c =
     Over _ _ c.in-Ok.ensures.given run.0 (still_sending _ _ _ _ _ _ _ _ run.0 (still_causes _ _ _ _ c.in-Ok.ensures.cause c.in-Ok.ensures.room) run.1) run.2
 
 pub returns-in-Err : goal.returns-in-Err
-returns-in-Err g c = NoRoomForLines c.in-Err.ensures.memory (Passed-nil _) c.put_refusal.ensures
+returns-in-Err g c = NoRoomForLines c.in-Err.ensures.memory (Passed-nil _) c.refuse.ensures

@@ -11,4 +11,4 @@ pub returns-in-Err-clause-sends : goal.returns-in-Err-clause-sends
 returns-in-Err-clause-sends g c = runs_cut _ _ _ _ _ _ _ _ _ _ _ _ _ _ _ _ _ _ _ c.in-Err.fault c.loop-number.invariant c.in-None.ensures.steps c.in-Err.ensures.front
 
 pub returns-in-Some-clause-sends : goal.returns-in-Some-clause-sends
-returns-in-Some-clause-sends g c = runs_ended _ _ _ _ _ _ _ _ _ _ _ _ _ _ _ _ _ _ _ c.in-Some.end c.finish.result c.loop-number.invariant c.in-Some.ensures.steps c.finish.ensures.status c.finish.ensures.front
+returns-in-Some-clause-sends g c = runs_ended _ _ _ _ _ _ _ _ _ _ _ _ _ _ _ _ _ _ _ c.in-Some.end c.finish.result c.loop-number.invariant c.in-Some.ensures.steps c.finish.ensures.ended c.finish.ensures.front

@@ -1,0 +1,10 @@
+use Rattle.std.proofs.Common.{ap, inl, inr}
+use Rattle.adjudicate_core.specs.Lines.{refusal_words}
+use Rattle.adjudicate_core.specs.Reply.{IsText}
+use Rattle.adjudicate_core.specs.Sends.{NoManifest, NoRoom}
+use Rattle.adjudicate_core.proofs.sending.stamped_by.Goals as goal
+
+pub returns-in-Err-clause-err : goal.returns-in-Err-clause-err
+returns-in-Err-clause-err g c =
+    let text : IsText c.args.told.now.start.now = (c.args.start, c.requires.spelled, c.requires.position) in
+    elim c.in-Err.ensures.err [ inl memory ↦ NoRoom text (ap refusal_words memory) | inr lacks ↦ NoManifest text lacks ]
