@@ -44,7 +44,7 @@ abbrev pub instead_name : Instead → Text
 instead_name instead.From = codes "from"
 
 abbrev pub not_with_words : Instead → Text → List ℕ
-not_with_words other name = codes "--" ++ name ++ codes ": not with --" ++ instead_name other
+not_with_words other name = codes "--" ++ name ++ codes " cannot be used with --" ++ instead_name other
 
 abbrev pub unfit_words : Wanted → List ℕ → List ℕ
 unfit_words wanted text = codes "--" ++ name_of wanted ++ codes " " ++ text ++ codes ": " ++ range_of wanted
