@@ -42,14 +42,14 @@ range_of wanted.Tries = codes "1 to 65535"
 range_of wanted.AtOnce = codes "1 to 65535"
 range_of wanted.Addresses = codes "ADDR[,ADDR], each a host, a colon and a port"
 range_of wanted.Recipients = codes "ADDR[,ADDR], each a host, a colon and a port"
+range_of wanted.GameFile = codes "FOLDER/STAMP.game, with 32 lower-case hexadecimal digits"
 
 -- an option that takes the place of others
 abbrev pub instead_name : Instead → Text
 instead_name instead.From = codes "from"
 
 abbrev pub not_with_words : Instead → Text → List ℕ
-not_with_words other name = codes "--" ++ name ++ codes ": not with --" ++ instead_name other
-range_of wanted.GameFile = codes "FOLDER/STAMP.game, with 32 lower-case hexadecimal digits"
+not_with_words other name = codes "--" ++ name ++ codes " cannot be used with --" ++ instead_name other
 
 abbrev pub unfit_words : Wanted → List ℕ → List ℕ
 unfit_words wanted text = codes "--" ++ name_of wanted ++ codes " " ++ text ++ codes ": " ++ range_of wanted

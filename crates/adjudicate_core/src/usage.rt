@@ -84,10 +84,10 @@ pub enum Instead {
 impl Instead {
     /// That another option isn't for this one, as it is printed after that option.
     pub(crate) fn rest(self) -> &'static str
-        ensures { result.now ≡ codes ": not with --" ++ instead_name self }
+        ensures { result.now ≡ codes " cannot be used with --" ++ instead_name self }
     {
         match self {
-            Instead::From => ": not with --from",
+            Instead::From => " cannot be used with --from",
         }
     }
 }
