@@ -4,7 +4,6 @@ use Rattle.std.specs.Prelude.{IfSome, Ok, Err}
 use Rattle.move_msg.specs.declared.who.Who.{Who}
 use Rattle.move_msg.specs.declared.who.Who.TheVariants.{A, B}
 use Rattle.move_msg.specs.declared.message.Message.{Message}
-use Rattle.move_msg.specs.declared.stamp.Stamp.{Stamp}
 use Rattle.move_msg.specs.Records.{WritesRecord}
 use Rattle.move_msg.specs.Stamps.{IsGameName, is_printable}
 use Rattle.std.specs.List.{list_all}
@@ -18,25 +17,24 @@ use Rattle.arbiter_core.specs.declared.fault.OpenFault.TheVariants as open_fault
 use Rattle.arbiter_core.specs.declared.keeper.Keep.{Keep}
 use Rattle.arbiter_core.specs.declared.keeper.Keep.TheVariants.{Good, FailsOld, FailsNew}
 use Rattle.arbiter_core.specs.Answering.{Answer, Identity, Puts, Refuses as RefusesWith, Sends}
-use Rattle.arbiter_core.specs.Delivers.{Delivers, Exchange, IsWritten, Lands, Moment, PutsIfAny, RefusesOrSends, Told, answer_at, moment}
+use Rattle.arbiter_core.specs.Delivers.{Delivers, Exchange, IsWritten, Lands, Moment, PutsIfAny, RefusesOrSends, answer_at, moment}
 use Rattle.arbiter_core.specs.Keeping.{HasBytes}
 use Rattle.arbiter_core.specs.Laws.{PutsGrow}
 use Rattle.arbiter_core.specs.Opens as opening
 use Rattle.arbiter_core.specs.Opens.{FirstLands, IsOpening, Opens as OpensSo, OpensOver as OpensKept, PutsFirst, first_record}
 use Rattle.arbiter_core.specs.Recording.{Recorded, Window}
-use Rattle.arbiter_core.specs.Setups.{IsGood, IsIdentity, SetupView, rules_at}
+use Rattle.arbiter_core.specs.Setups.{IsGood, SetupView, rules_at}
 use Rattle.arbiter_core.specs.Views.{View, spelled_as}
 use Rattle.arbiter_server.specs.declared.file_keeper.FileKeeper.{FileKeeper}
 use Rattle.arbiter_server.specs.Acts.{Act, Unread, Strange, Refuses, Opens, Answers, Closes, Opening, game_of, is_stamp}
 use Rattle.arbiter_server.specs.DiskGames.{disk_keepers}
-use Rattle.arbiter_server.specs.Lives as lives
-use Rattle.arbiter_server.specs.StoredBytes.{Failed, IsInFile, Landed, PutsInto, StartsOver, file_of, keeper_over, stored}
+use Rattle.arbiter_server.specs.StoredBytes.{Failed, IsInFile, Landed, PutsInto, file_of, keeper_over, stored}
 use Rattle.arbiter_server.proofs.FoundLaws.{IsSafe, safe_up}
-use Rattle.arbiter_server.proofs.OpenedLaws.{good_unless, opened_safe}
+use Rattle.arbiter_server.proofs.OpenedLaws.{opened_safe}
 use Rattle.relay_world.specs.Worlds.{Judged, identity}
-use Rattle.theorems.specs.Nets.{FoundAnswered, FoundOpened, IsNoForgery, IsSetupOf, IsToBePut, Net, Site, arbiter_in, changed, first_net, sent_with, site_of}
-use Rattle.theorems.specs.Weaves.{AreRunsOf, AreWoven, AtA, AtB, Deed, Does, Ends, Finds, GivesFor, GivesIf, GivesOwn, Hears, IsCutAtFirst, IsCutAtPut, Step, Stops, Weaves, closed_with, deeds_a, deeds_b, if_up, open_with}
-use Rattle.theorems.specs.FileWeaves.{ActsAt, ActsIf, AnswersAt, AnswersOver, AtFirst, AtPut, AtStart, Between, Both, ClosesAt, DoesAt, EndsAt, FilesAreWoven, GoBoth, Held, IsFoundIn, OpensAt, OpensOver, Plays, Rests, answered_to, file_in, first_both, opened_to, sent_for, sent_in}
+use Rattle.theorems.specs.Nets.{FoundAnswered, FoundOpened, IsNoForgery, IsSetupOf, IsToBePut, Net, Site, changed, first_net, sent_with, site_of}
+use Rattle.theorems.specs.Weaves.{AtA, AtB, Deed, Does, Ends, Finds, GivesFor, GivesIf, GivesOwn, Hears, IsCutAtFirst, IsCutAtPut, Step, Stops, Weaves, closed_with, open_with}
+use Rattle.theorems.specs.FileWeaves.{ActsAt, ActsIf, AnswersOver, AtFirst, AtPut, AtStart, Between, Both, DoesAt, EndsAt, FilesAreWoven, GoBoth, Held, IsFoundIn, OpensOver, Plays, Rests, first_both, sent_for, sent_in}
 use Rattle.theorems.proofs.Weaving.{is_one, still}
 
 -- ---- what a start finds

@@ -3,7 +3,7 @@
 -- other game's act touches it. That no move of the game is made up, and that the game found under the stamp is this one, stay premises.
 --
 -- What a host does here is as its contract has it (`IsOpening`, `Delivers`), beside `AreRunsOf`.
-use Rattle.std.specs.Prelude.{◌≡◌, ◌++◌, ℕ, Bool, true, false, cond, List, [], ◌∷◌, Option, Some, None, Ok, Err}
+use Rattle.std.specs.Prelude.{◌≡◌, ◌++◌, ℕ, Bool, true, false, cond, List, [], ◌∷◌, Option, None, Ok, Err}
 use Rattle.move_msg.specs.declared.who.Who.{Who}
 use Rattle.move_msg.specs.declared.who.Who.TheVariants.{A, B}
 use Rattle.move_msg.specs.declared.who.Sender.TheVariants.{Source}
