@@ -69,11 +69,7 @@ fn told_game<D: Disk>(
 }
 
 /// A game in a file.
-fn filed_game<D: Disk>(
-    alloc: Global,
-    file: &GameFile<'_>,
-    disk: &D,
-) -> Result<Stamped, Refusal>
+fn filed_game<D: Disk>(alloc: Global, file: &GameFile<'_>, disk: &D) -> Result<Stamped, Refusal>
     ensures ok { IfOk result (λ g. IsFiled (D.facts disk.now) file.now g.stamp g.start) }
     ensures err { IfErr result (λ refusal. LacksFile (D.facts disk.now) file.now (refusal_words refusal)) }
 {

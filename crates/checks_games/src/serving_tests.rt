@@ -338,7 +338,17 @@ fn serve_over_calls(
     let file = Traced::new(alloc, MemoryCalls::new(alloc, None, Some(fails_at)));
     if let Ok(mut keeper) = FileKeeper::new(alloc, file) {
         let setup = setup_of(rt, alloc, START, 0);
-        let _ended = open_and_serve(alloc, setup, &mut keeper, port, Span { datagrams: 3, fetch: false }, out);
+        let _ended = open_and_serve(
+            alloc,
+            setup,
+            &mut keeper,
+            port,
+            Span {
+                datagrams: 3,
+                fetch: false,
+            },
+            out,
+        );
     }
 }
 

@@ -297,9 +297,11 @@ module _ (grow : PutsGrow) {F : Type 0} (facts : F → KeptFacts) (game : Judged
   ends_back (Plays now) left later safe (Between is) one =
       at_rest (Plays now) (stored now.keeper) later refl
       (one_found facts left later (stored now.keeper) one (subst (λ (f : F). (facts f).finds (stored now.keeper) (stored now.keeper)) (sym is) (safe_in_file facts now safe))) refl
-  ends_back old left later safe (AtStart file same start over is) one =
-      (stored start, subst (λ (x : Held F). IsFoundIn facts x (stored start)) (sym same) over.one,
-      λ net at l. record { found = later; is_found = inl (there ∙ sym (kept_at net (closed_with (stored start)) (stored start) (at ∙ ap (λ (x : Held F). site_at x (stored start)) same) refl)); net = refl })
+  ends_back old left later safe (AtStart file same start over is) one = (
+    stored start,
+    subst (λ (x : Held F). IsFoundIn facts x (stored start)) (sym same) over.one,
+    λ net at l. record { found = later; is_found = inl (there ∙ sym (kept_at net (closed_with (stored start)) (stored start) (at ∙ ap (λ (x : Held F). site_at x (stored start)) same) refl)); net = refl },
+  )
     where
       there : later ≡ stored start
       there = one_found facts left later (stored start) one (subst (λ (f : F). (facts f).finds (stored start) (stored start)) (sym is) over.in_file)

@@ -26,7 +26,12 @@ pub fn host_keeps_what_it_told<D: Disk, H: Host>(_disk: &D, _host: &H, file: &H:
 ///
 /// The premises stand in `specs/FileWeaves.antt`: each opening starts over the file that the game's last act left, to which nobody else
 /// writes; no move or request of the game is made up; and both have one setup.
-pub fn hosts_over_files<D: Disk, H: Host, E: Disk, I: Host>(_disk: &D, _host: &H, _its_disk: &E, _its_host: &I)
+pub fn hosts_over_files<D: Disk, H: Host, E: Disk, I: Host>(
+    _disk: &D,
+    _host: &H,
+    _its_disk: &E,
+    _its_host: &I,
+)
     ensures { (disk : D) (host : H) (folder : List ℕ) (its_disk : E) (its_host : I) (its_folder : List ℕ) → FilesAreWoven H.File.facts I.File.facts (disk_keepers (D.facts disk) (H.facts host) H.File.facts folder) (disk_keepers (E.facts its_disk) (I.facts its_host) I.File.facts its_folder) }
 {
     puts_grow();
