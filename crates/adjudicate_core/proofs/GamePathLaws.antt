@@ -1,5 +1,5 @@
 -- A path in its parts.
-use Rattle.std.proofs.Common.{◌≡◌, ◌<◌, ◌++◌, ℕ, List, [], ◌∷◌, length, codes, Option, Some, None, arith, append_assoc, length-append, refl, sym, subst, ap, ◌∙◌}
+use Rattle.std.proofs.Common.{◌≡◌, ◌<◌, ◌++◌, ℕ, List, [], ◌∷◌, length, codes, Option, Some, None, arith, length-append, refl, sym, subst, ap, ◌∙◌}
 use Rattle.std.specs.Prelude.{IfNone, Ok, Result}
 use Rattle.hex.specs.Hex.{decode_sized, encode_lower, lower_digits}
 use Rattle.hex.proofs.HexLemmas.{decode_sized-encode_lower, length-encode_with}
@@ -27,7 +27,7 @@ digits_long stamp is = let size = is.0 in let twice = length-encode_with lower_d
 
 -- the path without its ending
 rest_of : (rest stamp : List ℕ) (n : NamesGame (rest ++ codes ".game") stamp) → rest ≡ n.front ++ encode_lower stamp
-rest_of rest stamp n = (same_behind rest (n.front ++ encode_lower stamp) (codes ".game") (codes ".game") refl (n.is ∙ sym (append_assoc n.front (encode_lower stamp) (codes ".game")))).0
+rest_of rest stamp n = (same_behind rest (n.front ++ encode_lower stamp) (codes ".game") (codes ".game") refl n.is).0
 
 pub too_short : (rest stamp : List ℕ) → length rest < 32 → NamesGame (rest ++ codes ".game") stamp → ⊥
 too_short rest stamp short n =
@@ -53,12 +53,12 @@ none_there (Some x) P Q f h = tt
 -- a path that ends otherwise
 pub ends_otherwise : (path rest ending stamp : List ℕ) → path ≡ rest ++ ending → length ending ≡ 5 → NamesGame path stamp → ending ≡ codes ".game"
 ends_otherwise path rest ending stamp parts long n =
-    (same_behind rest (n.front ++ encode_lower stamp) ending (codes ".game") long (sym parts ∙ n.is ∙ sym (append_assoc n.front (encode_lower stamp) (codes ".game")))).1
+    (same_behind rest (n.front ++ encode_lower stamp) ending (codes ".game") long (sym parts ∙ n.is)).1
 
 pub too_short_to_end : (path stamp : List ℕ) → length path < 5 → NamesGame path stamp → ⊥
 too_short_to_end path stamp short n =
-    let parts : length path ≡ length (n.front ++ (encode_lower stamp ++ codes ".game")) = ap length n.is in
-    omega (arith, short, parts, length-append n.front (encode_lower stamp ++ codes ".game"), length-append (encode_lower stamp) (codes ".game"))
+    let parts : length path ≡ length (n.front ++ encode_lower stamp ++ codes ".game") = ap length n.is in
+    omega (arith, short, parts, length-append (n.front ++ encode_lower stamp) (codes ".game"))
 
 -- what the digits of a stamp decode to
 pub decodes : (digits stamp : List ℕ) → IsStamp stamp → digits ≡ encode_lower stamp → decode_sized digits 16 ≡ Ok stamp

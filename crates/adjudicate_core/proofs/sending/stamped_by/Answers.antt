@@ -1,4 +1,6 @@
-use Rattle.std.proofs.Common.{ap, inl, inr}
+use Rattle.std.proofs.Common.{◌∙◌, ap, inl, inr}
+use Rattle.fen_text.specs.Written.{fen_of}
+use Rattle.move_msg.specs.Stamps.{stamp_of}
 use Rattle.adjudicate_core.specs.Lines.{refusal_words}
 use Rattle.adjudicate_core.specs.Reply.{IsText}
 use Rattle.adjudicate_core.specs.Sends.{NoManifest, NoRoom}
@@ -8,3 +10,6 @@ pub returns-in-Err-clause-err : goal.returns-in-Err-clause-err
 returns-in-Err-clause-err g c =
     let text : IsText c.args.told.now.start.now = (c.args.start, c.requires.spelled, c.requires.position) in
     elim c.in-Err.ensures.err [ inl memory ↦ NoRoom text (ap refusal_words memory) | inr lacks ↦ NoManifest text lacks ]
+
+pub returns-in-Ok-clause-ok : goal.returns-in-Ok-clause-ok
+returns-in-Ok-clause-ok g c = record { spelled = c.requires.spelled; position = c.requires.position; manifest = c.in-Ok.manifest.items; found = c.in-Ok.ensures.ok; is = (rw c.deref.ensures.value at c.stamp.ensures) ∙ ap (stamp_of c.args.told.now.name (fen_of c.args.start) c.in-Ok.manifest.items) c.plies.ensures.value }

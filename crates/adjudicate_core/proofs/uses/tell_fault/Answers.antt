@@ -10,6 +10,6 @@ pub returns-in-NotWith : goal.returns-in-NotWith
 returns-in-NotWith g c =
     let name = c.in-NotWith.name.now in
     rw c.in-NotWith.is (
-    rw (append_assoc name (codes ": not with --") (instead_name c.in-NotWith.instead))
+    rw (append_assoc name (codes " cannot be used with --") (instead_name c.in-NotWith.instead))
     (rw c.as_bytes-in-NotWith.ensures.value at (rw c.rest-in-NotWith.ensures at c.tell_line-in-NotWith.ensures))
     )
