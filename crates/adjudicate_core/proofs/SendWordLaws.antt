@@ -33,15 +33,8 @@ module _ (value : Text → Option Text) where
   none_beside name none holds = let e : None ≡ Some holds.0.0 = sym none ∙ holds.0.1 in cc
 
   file_well : value (codes "game") ≡ None → AreWell value file_faults
-  file_well none = (
-    λ holds. let e : None ≡ Some holds.0 = sym none ∙ holds.1 in cc,
-    none_beside (codes "name") none,
-    none_beside (codes "start") none,
-    none_beside (codes "tables") none,
-    none_beside (codes "manifest") none,
-    none_beside (codes "delay") none,
-    tt,
-  )
+  file_well none =
+      (λ holds. let e : None ≡ Some holds.0 = sym none ∙ holds.1 in cc, (none_beside (codes "name") none, (none_beside (codes "start") none, (none_beside (codes "tables") none, (none_beside (codes "manifest") none, (none_beside (codes "delay") none, tt))))))
 
   pub told_well : value (codes "game") ≡ None → AreWell value game_faults → AreWell value sent_faults
   told_well none well = well_join words_faults file_faults (untold_well game_faults well) (file_well none)

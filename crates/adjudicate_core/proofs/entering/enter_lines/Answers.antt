@@ -1,4 +1,4 @@
-use Rattle.std.proofs.Common.{arith, refl}
+use Rattle.std.proofs.Common.{refl}
 use Rattle.adjudicate_core.proofs.EnterLaws.{entered_all, entered_cut, entered_more, entered_none}
 use Rattle.adjudicate_core.proofs.entering.enter_lines.Goals as goal
 

@@ -50,7 +50,7 @@ returns-in-Send g c = record {
 }
 
 pub returns-in-Enter : goal.returns-in-Enter
-returns-in-Enter g c = record { answered = rw c.in-Enter.is (entered _ _ _ _ _ c.enter.result c.enter.ensures); quiet = λ unasked. inl refl }
+returns-in-Enter g c = record { answered = rw c.in-Enter.is (entered _ _ _ _ _ _ c.enter.result c.enter.ensures); quiet = λ unasked. inl refl }
 
 pub returns-in-Host : goal.returns-in-Host
 returns-in-Host g c = record { answered = rw c.in-Host.is (hosted_games _ _ _ _ _ _ _ _ c.host_games.result c.host_games.ensures); quiet = λ unasked. inl refl }

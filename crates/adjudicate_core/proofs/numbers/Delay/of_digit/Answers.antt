@@ -1,5 +1,4 @@
-use Rattle.std.proofs.Common.{◌≡◌, ◌≤◌, ◌<◌, ◌+◌, ◌-◌, ◌∙◌, ℕ, List, [], ◌∷◌, length, slice_index_or, sym, ap, subst, arith}
-use Rattle.std.specs.Fmt.{decimal}
+use Rattle.std.proofs.Common.{◌≡◌, ◌≤◌, ◌+◌, ◌-◌, ◌∙◌, ℕ, List, [], ◌∷◌, sym, ap, arith}
 use Rattle.board_core.specs.Delays.{most_delay}
 use Rattle.arbiter_server.proofs.Digits.{delay_digit, digit_is, digit_long, single}
 use Rattle.adjudicate_core.specs.Numbers.{IsDelayDigit}
