@@ -65,8 +65,8 @@ abbrev pub acts_for : {K : Type 0} → SetupView → List ℕ → K → Moment K
 acts_for setup stamp start opened es now =
     Opens stamp (record { setup = setup; before = start; now = opened.keeper }) opened.arbiter ∷ (map (act_of stamp) es ++ closing stamp now)
 
--- The acts are those of a host that has the game open from the start: each game's own acts lead on from one another, each is of the game
--- that its datagram names, and none is open then. At a port of any number of addresses all that passes is the same.
+-- The acts go on from one another as those of a host do, but that the game is opened unasked: each game's own acts lead on from one another,
+-- each is of the game that its datagram names, and none is open then. At a port of any number of addresses all that passes is the same.
 pub record IsAsHosted {F : Type 0} (facts : F → KeptFacts) (setup : SetupView) (start : FileKeeper F) (opened now : Moment (FileKeeper F)) (es : List (Exchange (FileKeeper F))) : Type 0 where
   pub games : List ℕ → Life (FileKeeper F)
   pub each : (of : List ℕ) → Goes (one_game facts setup opened.arbiter.me.stamp.0) (common_of setup) of Fresh (acts_of of (acts_for setup opened.arbiter.me.stamp.0 start opened es now)) (games of)
@@ -92,5 +92,6 @@ AreAsHosts a b = HostsAreWorlds a b × AcksAreFound a b × HostsTellTheTruth a b
 abbrev pub ListensAreWorlds : {F E : Type 0} → (F → KeptFacts) → (E → KeptFacts) → Type 0
 ListensAreWorlds facts others = (setup its : SetupView) (stamp : List ℕ) → AreAsHosts (one_game facts setup stamp) (one_game others its stamp)
 
+-- whichever of the two the `listen` is
 abbrev pub ListenBesideHost : {F K : Type 0} → (F → KeptFacts) → Keepers K → Type 0
-ListenBesideHost facts host = (setup : SetupView) (stamp : List ℕ) → AreAsHosts (one_game facts setup stamp) host
+ListenBesideHost facts host = (setup : SetupView) (stamp : List ℕ) → AreAsHosts (one_game facts setup stamp) host × AreAsHosts host (one_game facts setup stamp)

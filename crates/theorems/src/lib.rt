@@ -23,13 +23,14 @@
 //! - CLAIM: `acks_are_found`: as many moves as a host ever acknowledged are found there, then and later: the game's first ones.
 //! - CLAIM: `arbiters_tell_the_truth`; `hosts_tell_the_truth`: what such arbiters, and such hosts, tell of the game while it is open is
 //!   true: the record is the game's first moves, with the first verdict exactly at its ply.
-//! - CLAIM: `listens_are_hosted`: a run of `listen` that doesn't ask for moves first is one of a host that has one game, by its acts and
-//!   by what passes at its port. `listens_are_worlds`; `listen_beside_a_host`: so two of them, and one beside a host, come to a world.
+//! - CLAIM: `listens_are_hosted`: a run of `listen` that opens its arbiter and doesn't ask for moves first goes on as one of a host that
+//!   has one game, by its acts and by what passes for each datagram, but that it opens the game unasked. `listens_are_worlds`;
+//!   `listen_beside_a_host`: so two of them, and one on either side of a host, come to a world.
 //! - CLAIM: `host_keeps_what_it_told`: what a host told of a game is found at each later start over the file of its record: as many
 //!   moves as it acknowledged, the same ones, and a verdict at its ply. This holds over any files, after any runs, wherever each
 //!   stopped.
 //! - CLAIM: `hosts_over_files`: two hosts, each over a file of the game, come to a net as `hosts_are_worlds` asks, by what starts find in
-//!   the two files: that keepers keep, and what a closing, another game's act and a stopped put leave, are no premises.
+//!   the two files: that keepers keep, and what a closing leaves, are no premises.
 //! - CLAIM: `sends_the_log`: each datagram that a run of `send` passes on is a message of the log with which the worlds of its
 //!   moves begin.
 //! - CLAIM: `sources_tell_the_truth`: what a source goes by is true, where all that came of the game was sent in a world of it: a
