@@ -8,4 +8,4 @@ pub returns : goal.returns
 returns g c = λ games setup stamp.
     let a = one_game g.F.KeptFile.facts setup stamp in
     let b = keepers g.G.Keeper.Keeper.facts g.G.Games.facts games in
-    ((hosts_are_worlds a b, (acks_are_found a b, hosts_tell_the_truth a b)), (hosts_are_worlds b a, (acks_are_found b a, hosts_tell_the_truth b a)))
+    ((hosts_are_worlds a b, acks_are_found a b, hosts_tell_the_truth a b), (hosts_are_worlds b a, acks_are_found b a, hosts_tell_the_truth b a))
