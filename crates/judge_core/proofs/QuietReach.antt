@@ -1,10 +1,9 @@
 -- A distance that is told by the quiet moves, of which each has one that is told.
-use Rattle.std.proofs.Common.{◌≡◌, ◌∙◌, ◌⊎◌, inl, inr, sym, ap, refl, ℕ, suc, nat_le, ◌<◌, Bool, true, false, cond, Option, Some, None, Result, Ok, Err, arith}
+use Rattle.std.proofs.Common.{◌≡◌, ◌∙◌, inl, inr, sym, ap, refl, ℕ, nat_le, ◌<◌, Bool, true, false, cond, Option, Some, None, Result, Ok, Err, arith}
 use Rattle.std.proofs.lemmas.Bool.{lt-leb, leb-false, false≢true}
 use Rattle.board_core.specs.declared.parts.Parts.{Parts}
-use Rattle.board_core.specs.declared.moves.Move.{Move}
 use Rattle.board_core.specs.Position.{IsPosition}
-use Rattle.board_core.specs.ComputedMoves.{position_after, count_of_men}
+use Rattle.board_core.specs.ComputedMoves.{count_of_men}
 use Rattle.table_file.specs.declared.kind.TableKind.TheVariants.{Dtz}
 use Rattle.table_file.specs.declared.outcome.Outcome.{Outcome}
 use Rattle.table_file.specs.Tables.{Contents}
@@ -17,8 +16,8 @@ use Rattle.judge_core.specs.Values.{outcome_of}
 use Rattle.judge_core.specs.LookUp.{material_of, placed_of}
 use Rattle.judge_core.specs.Tables.{Tables, table_at, part_asked}
 use Rattle.judge_core.specs.Probing.{weighed_by, wdl_of, worth}
-use Rattle.judge_core.specs.Distances.{Reach, is_won, is_by_capture, is_quiet, pawns_reach, unless_reached, by_quiet_moves, by_table, by_material, by_own_table, by_moves, by_outcome, by_weighed, zeroing, towards, dtz_by, dtz_to, dtz_of}
-use Rattle.judge_core.specs.Determined.{IsCompletedBy, IsDeterminedDistance, IsDistanceByValue, IsLeftToQuietMoves, IsToldAfter, IsDistanceByQuietMoves}
+use Rattle.judge_core.specs.Distances.{Reach, is_won, is_by_capture, pawns_reach, unless_reached, by_quiet_moves, by_table, by_material, by_own_table, by_moves, by_outcome, by_weighed, zeroing, towards, dtz_by, dtz_to, dtz_of}
+use Rattle.judge_core.specs.Determined.{IsCompletedBy, IsDeterminedDistance, IsLeftToQuietMoves, IsToldAfter, IsDistanceByQuietMoves}
 use Rattle.judge_core.specs.Inside.Determined.{distance_in_both, extreme_weighed, or_agreed_distance, reach_after}
 use Rattle.judge_core.proofs.Rule.{still}
 use Rattle.judge_core.proofs.Kept.{Keeps, rules_kept, quiet_kept, kept_in}

@@ -1,5 +1,5 @@
 -- The distance that the value tells is told, whatever the positions after quiet moves have.
-use Rattle.std.proofs.Common.{◌≡◌, ◌∙◌, ◌⊎◌, inl, inr, sym, ap, refl, nat_le, Bool, true, false, ◌&&◌, ◌||◌, cond, Option, Some, None, Result, Ok, Err}
+use Rattle.std.proofs.Common.{◌≡◌, ◌∙◌, sym, ap, refl, nat_le, Bool, true, false, ◌&&◌, ◌||◌, cond, Some, None, Result, Ok, Err}
 use Rattle.board_core.specs.declared.parts.Parts.{Parts}
 use Rattle.board_core.specs.Position.{IsPosition}
 use Rattle.board_core.specs.ComputedMoves.{count_of_men}
@@ -13,16 +13,15 @@ use Rattle.judge_core.specs.declared.wdl.Wdl.TheVariants.{Draw}
 use Rattle.judge_core.specs.Values.{Reading, is_same, outcome_of}
 use Rattle.judge_core.specs.Tables.{Tables}
 use Rattle.judge_core.specs.Probing.{weighed_where, weighed_by, wdl_where, wdl_of, worth, worth_in}
-use Rattle.judge_core.specs.Distances.{Reach, is_won, is_by_capture, pawns_reach_where, unless_reached, by_own_table, by_moves, by_outcome, by_weighed, zeroing, towards, dtz_to, dtz_of}
-use Rattle.judge_core.specs.Determined.{IsDetermined, IsDeterminedDistance, IsDeterminedReach, IsByCapture, IsByPawnMove}
-use Rattle.judge_core.specs.Inside.Determined.{extreme, extreme_weighed, pawns_reach_in_both, is_reached, zeroing_distance, agreed_distance, or_agreed_distance, determined_reach}
+use Rattle.judge_core.specs.Distances.{Reach, is_won, is_by_capture, pawns_reach_where, unless_reached, by_own_table, by_moves, by_outcome, by_weighed, zeroing, towards, dtz_by}
+use Rattle.judge_core.specs.Determined.{IsDetermined, IsByCapture, IsByPawnMove}
+use Rattle.judge_core.specs.Inside.Determined.{extreme, extreme_weighed, pawns_reach_in_both, is_reached, zeroing_distance, distance_in_both, or_agreed_distance}
 use Rattle.judge_core.proofs.Rule.{where_meets_rule}
 use Rattle.judge_core.proofs.Completed.{extreme-completes, is_same-refl}
 use Rattle.judge_core.proofs.PawnWins.{reached_in_both, reached_in_set}
-use Rattle.judge_core.proofs.Kept.{strict_weighed, strict_distance}
-use Rattle.judge_core.specs.Determined.{IsDistanceByValue}
-use Rattle.judge_core.proofs.Zeroing.{IsMany, opened, many_by, told}
-use Rattle.judge_core.proofs.ByValue.{by_value}
+use Rattle.judge_core.proofs.Kept.{strict_weighed}
+use Rattle.judge_core.specs.Determined.{IsDistanceByValue, OfDraw, OfCapture, OfPawnMove}
+use Rattle.judge_core.proofs.Zeroing.{IsMany}
 
 -- ---- what both are worth
 

@@ -286,7 +286,6 @@ impl<'a> Set<'a> {
     /// `OutOfMemory` comes only where memory for a list of moves is refused. The position is then in scope with more
     /// than two men, and has a WDL value that is no draw and not by a capture. The set stays as it was but for its
     /// cache.
-    #[tactic(auto, unfolding(crate::specs::Distances::dtz_of))]
     pub fn dtz(&mut self, alloc: Global, position: &Position) -> Result<i32, ProbeFault>
         ensures answer { IsProbe result (is_out_of_scope position.now) (signed_in (dtz_of self.old.tables position.now)) }
         ensures memory { result ≡ Err OutOfMemory → ListsMoves self.old.tables position.now }

@@ -1,6 +1,4 @@
-use Rattle.std.proofs.Common.{◌∙◌, ap, inl, inr, subst}
-use Rattle.std.proofs.lemmas.Result.{on_err_weaker}
-use Rattle.judge_core.specs.Answers.{ListsMoves}
+use Rattle.std.proofs.Common.{◌∙◌, ap}
 use Rattle.judge_core.specs.Distances.{dtz_by}
 use Rattle.judge_core.specs.Inside.Determined.{distance_in_both, or_agreed_distance, or_reach, reach_after}
 use Rattle.judge_core.specs.Tables.{Holding}
