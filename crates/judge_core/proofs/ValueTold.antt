@@ -93,7 +93,6 @@ by_pawn_in_set tables p position v by outcome won w reach x ew e = step (is_by_c
     step true e = one_ok (towards outcome (zeroing outcome)) x (Ok (towards outcome (zeroing outcome))) refl e
     step false e = by_steps (pawns_reach_where (wdl_of tables) p v) refl (rw won at e)
 
-
 module _ (tables : Tables) (p : Parts) (position : IsPosition p) (reach : Parts → Reach) where
   of_draw : IsDetermined tables p Draw → or_agreed_distance (dtz_by tables reach p) (distance_in_both tables p) ≡ Ok NoDistance
   of_draw is = told_by_value tables p position Draw is NoDistance (λ a b ea eb xa xb. refl) (λ w reach x ew xw e. one_ok NoDistance x (Ok NoDistance) refl e) (λ f. refl) reach
