@@ -249,7 +249,8 @@ hofsjurd_reply hofsjurd_board_root(hofsjurd *handle, const hofsjurd_board *board
  * have an answer, it is this one, unless memory is refused.
  *
  * The WDL value is told exactly where it is determined. A distance is told at least where the determined value is a draw, comes by a
- * capture, or is a win by a pawn move. Otherwise the status is that of the calls above. No verdict is told so: it needs the tables themselves. */
+ * capture, or is a win by a pawn move, and where the tables leave it to the quiet moves and each leads to a distance of the set or to
+ * such a value. Otherwise the status is that of the calls above. No verdict is told so: it needs the tables themselves. */
 hofsjurd_reply hofsjurd_determined_wdl(hofsjurd *handle, const char *fen, size_t length);
 hofsjurd_reply hofsjurd_determined_dtz(hofsjurd *handle, const char *fen, size_t length);
 hofsjurd_reply hofsjurd_determined_root(hofsjurd *handle, const char *fen, size_t length, hofsjurd_root_move *moves, size_t room);

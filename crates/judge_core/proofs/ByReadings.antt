@@ -1,15 +1,17 @@
 -- What both probes tell by readings, and the verdict.
 use Rattle.std.proofs.Common.{◌≡◌, ◌≢◌, ◌≤◌, ◌∙◌, sym, ap, refl, true, false, Bool, Option, Some, None, Result, Ok, Err, cond}
+use Rattle.std.specs.Prelude.{ℤ}
 use Rattle.board_core.specs.declared.parts.Parts.{Parts}
 use Rattle.board_core.specs.declared.verdict.Verdict.{Verdict}
 use Rattle.board_core.specs.ComputedMoves.{legal_moves, count_of_men}
 use Rattle.judge_core.specs.declared.fault.ValueFault.{ValueFault}
 use Rattle.judge_core.specs.declared.fault.ValueFault.TheVariants.{NotCovered, Damaged}
+use Rattle.judge_core.specs.declared.fault.ProbeFault.{ProbeFault}
 use Rattle.judge_core.specs.declared.fault.ProbeFault.TheVariants.{OutOfScope, OutOfMemory}
 use Rattle.judge_core.specs.declared.distance.Distance.TheVariants.{Draw}
 use Rattle.judge_core.specs.declared.probed.Probed.{Probed}
 use Rattle.judge_core.specs.Answers.{IsProbe, as_probe, signed_in}
-use Rattle.judge_core.specs.Distances.{Reach, dtz_of}
+use Rattle.judge_core.specs.Distances.{Reach, dtz_by, dtz_to, dtz_of}
 use Rattle.judge_core.specs.Ends.{has_no_move}
 use Rattle.judge_core.specs.Probing.{wdl_of}
 use Rattle.judge_core.specs.Ruling.{end_of, is_out_of_scope, ruling, ruling_by}
@@ -68,3 +70,8 @@ module _ (tables : Tables) (p : Parts) where
 pub bare_reach : (tables : Tables) (p : Parts) → count_of_men p ≤ 2 → Ok Draw ≡ dtz_of tables p
 unfolding dtz_of
 bare_reach tables p few = few_men tables 2 p few
+
+-- a distance that is told by the rules, where those after quiet moves visit one position
+pub dtz_probe : (tables : Tables) (p : Parts) (r : Reach) (dtz : Result ℤ ProbeFault) → is_out_of_scope p ≡ false → r ≡ dtz_by tables (dtz_to tables 1) p → dtz ≡ as_probe (λ n. n) (signed_in r) → IsProbe dtz (is_out_of_scope p) (signed_in (dtz_of tables p))
+unfolding dtz_of dtz_to
+dtz_probe tables p r dtz inside er ed = rw ed (is_probe (signed_in r) (signed_in (dtz_of tables p)) (is_out_of_scope p) inside (ap signed_in er))

@@ -31,7 +31,10 @@ told_by_value tables p r d a (OfPawnMove v outcome is eo won by e) = a.pawn v ou
 same_told : (tables : Tables) (p : Parts) (r s : Reach) (d : Distance) → r ≡ Ok d → IsDeterminedReach tables p r → IsDeterminedReach tables p s → s ≡ Ok d
 same_told tables p r s d e a b = elim (a.only d e) [
   | inl own ↦ b.kept d own
-  | inr by ↦ told_by_value tables p s d b by
+  | inr by ↦ elim by [
+    | inl value ↦ told_by_value tables p s d b value
+    | inr quiet ↦ b.quiet d quiet
+  ]
 ]
 
 one_reach : (tables : Tables) (p : Parts) (r s : Reach) → IsDeterminedReach tables p r → IsDeterminedReach tables p s → r ≡ s

@@ -1,142 +1,104 @@
 -- The distance that is told meets its rule.
-use Rattle.std.proofs.Common.{◌≡◌, ◌∙◌, ◌⊎◌, inl, inr, sym, ap, refl, nat_le, Bool, true, false, ◌&&◌, ◌||◌, cond, Option, Some, None, Result, Ok, Err}
+use Rattle.std.proofs.Common.{◌≡◌, ◌∙◌, ◌⊎◌, inl, inr, sym, ap, refl, nat_le, Bool, true, false, Option, Some, None, Ok, Err}
 use Rattle.board_core.specs.declared.parts.Parts.{Parts}
 use Rattle.board_core.specs.Position.{IsPosition}
 use Rattle.board_core.specs.ComputedMoves.{count_of_men}
-use Rattle.table_file.specs.declared.outcome.Outcome.{Outcome}
 use Rattle.judge_core.specs.declared.distance.Distance.{Distance}
 use Rattle.judge_core.specs.declared.distance.Distance.TheVariants.{Draw as NoDistance}
 use Rattle.judge_core.specs.declared.fault.ValueFault.{ValueFault}
-use Rattle.judge_core.specs.declared.found.Weighed.{Weighed}
-use Rattle.judge_core.specs.declared.wdl.Wdl.{Wdl}
-use Rattle.judge_core.specs.declared.wdl.Wdl.TheVariants.{Draw}
-use Rattle.judge_core.specs.Values.{Reading, is_same, outcome_of}
 use Rattle.judge_core.specs.Tables.{Tables}
-use Rattle.judge_core.specs.Probing.{weighed_where, weighed_by, wdl_where, wdl_of, worth, worth_in}
-use Rattle.judge_core.specs.Distances.{Reach, is_won, is_by_capture, pawns_reach_where, unless_reached, by_own_table, by_moves, by_outcome, by_weighed, zeroing, towards, dtz_to, dtz_of}
-use Rattle.judge_core.specs.Determined.{IsDetermined, IsDeterminedDistance, IsDeterminedReach, IsByCapture, IsByPawnMove}
-use Rattle.judge_core.specs.Inside.Determined.{extreme, extreme_weighed, pawns_reach_in_both, is_reached, zeroing_distance, agreed_distance, or_agreed_distance, determined_reach}
-use Rattle.judge_core.proofs.Rule.{where_meets_rule}
-use Rattle.judge_core.proofs.Completed.{extreme-completes, is_same-refl}
-use Rattle.judge_core.proofs.PawnWins.{reached_in_both, reached_in_set}
-use Rattle.judge_core.proofs.Kept.{strict_weighed, strict_distance}
-use Rattle.judge_core.specs.Determined.{IsDistanceByValue}
-use Rattle.judge_core.proofs.Zeroing.{IsMany, opened, many_by, told}
+use Rattle.judge_core.specs.Distances.{Reach, dtz_by, dtz_to, dtz_of}
+use Rattle.judge_core.specs.Determined.{IsDeterminedDistance, IsDeterminedReach, IsDistanceByValue, OfDraw, OfCapture, OfPawnMove, IsDistanceByQuietMoves}
+use Rattle.judge_core.specs.Inside.Determined.{distance_in_both, extreme_weighed, or_agreed_distance, told_reach, reach_after, or_reach, determined_reach}
+use Rattle.judge_core.proofs.Kept.{strict_distance}
+use Rattle.judge_core.proofs.Zeroing.{IsMany, opened, told}
 use Rattle.judge_core.proofs.ByValue.{by_value}
+use Rattle.judge_core.proofs.ValueTold.{by_value_told}
+use Rattle.judge_core.proofs.QuietReach.{by_told_moves, left_to_them, by_them_told}
+use Rattle.judge_core.proofs.Completing.{one_distance}
 
--- ---- what both are worth
-
--- the value in a completion is that of what is weighed there
-from_worth : (own : Parts → Reading) (p : Parts) (v : Wdl) → IsPosition p → IsMany p → wdl_where own p ≡ Ok v → (w : Weighed) × (weighed_where own (wdl_where own) p ≡ Ok w) × (worth w ≡ v)
-from_worth own p v position many e = step (weighed_where own (wdl_where own) p) refl (sym (where_meets_rule own p position ∙ rw many refl) ∙ e)
-  where
-    step : (r : Result Weighed ValueFault) → weighed_where own (wdl_where own) p ≡ r → worth_in r ≡ Ok v → (w : Weighed) × (weighed_where own (wdl_where own) p ≡ Ok w) × (worth w ≡ v)
-    step (Ok w) er e = (w, er, cc)
-    step (Err fault) er e = absurd (cc)
-
--- where a value is determined, a distance that is told only by it is told
-module _ (tables : Tables) (p : Parts) (position : IsPosition p) (v : Wdl) (is : IsDetermined tables p v) (d : Distance)
-    (by_both : (a b : Weighed) → worth a ≡ v → worth b ≡ v → extreme_weighed tables true p ≡ Ok a → extreme_weighed tables false p ≡ Ok b → zeroing_distance tables p a b (outcome_of v) ≡ Some d)
-    (by_one : (w : Weighed) (reach : Parts → Reach) (x : Distance) → worth w ≡ v → extreme_weighed tables true p ≡ Ok w → by_outcome tables reach p w (outcome_of v) ≡ Ok x → x ≡ d)
-    (few : nat_le (count_of_men p) 2 ≡ true → d ≡ NoDistance) where
-  strict_is : (x : Distance) → IsMany p → dtz_of tables p ≡ Ok x → x ≡ d
-  strict_is x many e = step (weighed_by tables (wdl_of tables) p) refl (sym (many_by tables p many) ∙ e)
+module _ (tables : Tables) (p : Parts) (position : IsPosition p) where
+  never_few : (fault : ValueFault) → dtz_of tables p ≡ Err fault → IsMany p
+  never_few fault e = step (nat_le (count_of_men p) 2) refl
     where
-      step : (r : Result Weighed ValueFault) → weighed_by tables (wdl_of tables) p ≡ r → by_weighed tables (dtz_to tables 1) p r ≡ Ok x → x ≡ d
-      step (Ok w) er e =
-          let there = strict_weighed tables (extreme tables true) (extreme-completes tables true) p position w er in
-          let found = from_worth (extreme tables true) p v position many (is (extreme tables true) (extreme-completes tables true)) in
-          let one : Ok found.0 ≡ Ok w = sym found.1 ∙ there in
-          let same : found.0 ≡ w = cc in
-          let worth_is : worth w ≡ v = ap worth (sym same) ∙ found.2 in
-          by_one w (dtz_to tables 1) x worth_is there (sym (ap (by_outcome tables (dtz_to tables 1) p w) (ap outcome_of worth_is)) ∙ e)
-      step (Err fault) er e = absurd (cc)
+      step : (t : Bool) → nat_le (count_of_men p) 2 ≡ t → nat_le (count_of_men p) 2 ≡ false
+      step true et = absurd (let none : Ok NoDistance ≡ Err fault = sym (opened tables p ∙ rw et refl) ∙ e in cc)
+      step false et = et
 
-  told_by_value : (t : Bool) → nat_le (count_of_men p) 2 ≡ t → (r : Reach) → dtz_of tables p ≡ r → or_agreed_distance r (agreed_distance tables p (extreme_weighed tables true p) (extreme_weighed tables false p)) ≡ Ok d
-  told_by_value true et r er = (let none : Ok NoDistance ≡ r = sym (opened tables p ∙ rw et refl) ∙ er in rw (← none) (ap (λ (x : Distance). Ok x) (sym (few et))))
-  told_by_value false et (Ok x) er = ap (λ (y : Distance). Ok y) (strict_is x et er)
-  told_by_value false et (Err fault) er =
-      let a = from_worth (extreme tables true) p v position et (is (extreme tables true) (extreme-completes tables true)) in
-      let b = from_worth (extreme tables false) p v position et (is (extreme tables false) (extreme-completes tables false)) in
-      let same = ap (λ (x : Wdl). is_same x (worth b.0)) (a.2 ∙ sym b.2) ∙ is_same-refl (worth b.0) in
-      let some = by_both a.0 b.0 a.2 b.2 a.1 b.1 in
-      rw (a.1, b.1, same, a.2, some) refl
+  -- ---- what the value tells
 
-one_ok : (d x : Distance) (r : Reach) → r ≡ Ok d → r ≡ Ok x → x ≡ d
-one_ok d x r ed ex = (let both : Ok d ≡ Ok x = sym ed ∙ ex in cc)
+  value_told : (d : Distance) → IsDistanceByValue tables p d → told_reach tables p ≡ Ok d
+  value_told d by = ap (λ (r : Reach). or_agreed_distance r (distance_in_both tables p)) (opened tables p) ∙ by_value_told tables p position (dtz_to tables 1) d by
 
--- bare kings are a draw
-no_outcome : (tables : Tables) (p : Parts) → IsPosition p → (v : Wdl) (outcome : Outcome) → IsDetermined tables p v → outcome_of v ≡ Some outcome → nat_le (count_of_men p) 2 ≡ true → towards outcome (zeroing outcome) ≡ NoDistance
-no_outcome tables p position v outcome is eo few =
-    let bare : Ok v ≡ Ok Draw = sym (is (extreme tables true) (extreme-completes tables true)) ∙ where_meets_rule (extreme tables true) p position ∙ rw few refl in
-    let same : v ≡ Draw = cc in
-    let none : None ≡ Some outcome = ap outcome_of (sym same) ∙ eo in
-    absurd (cc)
+  from_value : (d : Distance) → told_reach tables p ≡ Ok d → (dtz_of tables p ≡ Ok d) ⊎ IsDistanceByValue tables p d
+  from_value d = step (dtz_of tables p) refl (distance_in_both tables p) refl
+    where
+      step : (r : Reach) → dtz_of tables p ≡ r → (o : Option Distance) → distance_in_both tables p ≡ o → or_agreed_distance r o ≡ Ok d → (dtz_of tables p ≡ Ok d) ⊎ IsDistanceByValue tables p d
+      step (Ok x) er o eo e = inl (er ∙ e)
+      step (Err fault) er None eo e = absurd (cc)
+      step (Err fault) er (Some x) eo e =
+          let same : x ≡ d = cc in
+          inr (by_value tables p position (never_few fault er) (extreme_weighed tables true p) (extreme_weighed tables false p) refl refl d (eo ∙ ap (λ (y : Distance). Some y) same))
 
--- a pawn move that brings the value about in every completion does so in the set, if that tells a distance
-by_pawn_in_set : (tables : Tables) (p : Parts) → IsPosition p → (v : Wdl) → IsByPawnMove tables p v → (outcome : Outcome) → is_won outcome ≡ true
-    → (w : Weighed) (reach : Parts → Reach) (x : Distance) → worth w ≡ v → by_outcome tables reach p w (Some outcome) ≡ Ok x → x ≡ towards outcome (zeroing outcome)
-unfolding by_moves
-by_pawn_in_set tables p position v by outcome won w reach x ew e = step (is_by_capture w) (rw ew at e)
-  where
-    by_steps : (r : Result Bool ValueFault) → pawns_reach_where (wdl_of tables) p v ≡ r → unless_reached r outcome (by_own_table tables reach p outcome) ≡ Ok x → x ≡ towards outcome (zeroing outcome)
-    by_steps (Ok true) er e = one_ok (towards outcome (zeroing outcome)) x (Ok (towards outcome (zeroing outcome))) refl e
-    by_steps (Ok false) er e = absurd (reached_in_set tables p position v by er)
-    by_steps (Err fault) er e = absurd (cc)
+  told_fault : (fault : ValueFault) → told_reach tables p ≡ Err fault → dtz_of tables p ≡ Err fault
+  told_fault fault = step (dtz_of tables p) refl (distance_in_both tables p)
+    where
+      step : (r : Reach) → dtz_of tables p ≡ r → (o : Option Distance) → or_agreed_distance r o ≡ Err fault → dtz_of tables p ≡ Err fault
+      step (Ok x) er o e = absurd (cc)
+      step (Err other) er None e = er ∙ e
+      step (Err other) er (Some x) e = absurd (cc)
 
-    step : (t : Bool) → cond t (Ok (towards outcome (zeroing outcome))) (by_moves tables reach p v outcome) ≡ Ok x → x ≡ towards outcome (zeroing outcome)
-    step true e = one_ok (towards outcome (zeroing outcome)) x (Ok (towards outcome (zeroing outcome))) refl e
-    step false e = by_steps (pawns_reach_where (wdl_of tables) p v) refl (rw won at e)
+  told_determined : (d : Distance) → told_reach tables p ≡ Ok d → IsDeterminedDistance tables p d
+  told_determined d = step (dtz_of tables p) refl (distance_in_both tables p) refl
+    where
+      step : (r : Reach) → dtz_of tables p ≡ r → (o : Option Distance) → distance_in_both tables p ≡ o → or_agreed_distance r o ≡ Ok d → IsDeterminedDistance tables p d
+      step (Ok x) er o eo e = λ more c. strict_distance tables more p position c d (er ∙ e)
+      step (Err fault) er None eo e = absurd (cc)
+      step (Err fault) er (Some x) eo e = (let same : x ≡ d = cc in told tables p position (never_few fault er) d (eo ∙ ap (λ (y : Distance). Some y) same))
+
+  -- ---- what the quiet moves tell
+
+  quiet_told : (d : Distance) → IsDistanceByQuietMoves tables p d → or_reach (told_reach tables p) (dtz_by tables (reach_after tables) p) ≡ Ok d
+  quiet_told d by = step (told_reach tables p) refl (by_them_told tables p d position by)
+    where
+      step : (r : Reach) → told_reach tables p ≡ r → dtz_by tables (reach_after tables) p ≡ Ok d → or_reach r (dtz_by tables (reach_after tables) p) ≡ Ok d
+      step (Ok x) er e = ap (λ (y : Distance). Ok y) (one_distance tables p x d (told_determined x er) (by_told_moves tables p d position e))
+      step (Err fault) er e = rw e refl
 
 pub is_determined_reach : (tables : Tables) (p : Parts) → IsPosition p → IsDeterminedReach tables p (determined_reach tables p)
 unfolding determined_reach
 is_determined_reach tables p position = record {
   kept = kept;
-  determined = λ d. told_in (dtz_of tables p) refl (nat_le (count_of_men p) 2) refl (agreed_distance tables p (extreme_weighed tables true p) (extreme_weighed tables false p)) refl d;
-  fault_is = faulty (dtz_of tables p) refl (agreed_distance tables p (extreme_weighed tables true p) (extreme_weighed tables false p));
-  only = λ d. only_by (dtz_of tables p) refl (nat_le (count_of_men p) 2) refl (agreed_distance tables p (extreme_weighed tables true p) (extreme_weighed tables false p)) refl d;
-  draw = λ is. told_by_value tables p position Draw is NoDistance (λ a b ea eb xa xb. refl) (λ w reach x ew xw e. one_ok NoDistance x (Ok NoDistance) refl e) (λ f. refl) (nat_le (count_of_men p) 2) refl (dtz_of tables p) refl;
-  capture = by_capture;
-  pawn = by_pawn;
+  determined = λ d. all_determined d (told_reach tables p) refl (dtz_by tables (reach_after tables) p) refl;
+  fault_is = λ fault. faulty fault (told_reach tables p) refl (dtz_by tables (reach_after tables) p);
+  only = λ d. only_by d (told_reach tables p) refl (dtz_by tables (reach_after tables) p) refl;
+  draw = λ is. by_its_value NoDistance (OfDraw is refl);
+  capture = λ v outcome is eo captures. by_its_value _ (OfCapture v outcome is eo captures refl);
+  pawn = λ v outcome is eo won by. by_its_value _ (OfPawnMove v outcome is eo won by refl);
+  quiet = quiet_told tables p position;
 }
   where
-    kept : (d : Distance) → dtz_of tables p ≡ Ok d → or_agreed_distance (dtz_of tables p) (agreed_distance tables p (extreme_weighed tables true p) (extreme_weighed tables false p)) ≡ Ok d
+    kept : (d : Distance) → dtz_of tables p ≡ Ok d → or_reach (told_reach tables p) (dtz_by tables (reach_after tables) p) ≡ Ok d
     kept d e = rw e refl
 
-    told_in : (r : Reach) → dtz_of tables p ≡ r → (t : Bool) → nat_le (count_of_men p) 2 ≡ t → (o : Option Distance) → agreed_distance tables p (extreme_weighed tables true p) (extreme_weighed tables false p) ≡ o → (d : Distance) → or_agreed_distance r o ≡ Ok d → IsDeterminedDistance tables p d
-    told_in (Ok x) er t et o eo d e = λ more c. strict_distance tables more p position c d (er ∙ e)
-    told_in (Err fault) er true et o eo d e = (let none : Ok NoDistance ≡ Err fault = sym (opened tables p ∙ rw et refl) ∙ er in absurd (cc))
-    told_in (Err fault) er false et None eo d e = absurd (cc)
-    told_in (Err fault) er false et (Some x) eo d e = (let same : x ≡ d = cc in told tables p position et (extreme_weighed tables true p) (extreme_weighed tables false p) refl refl d (eo ∙ ap (λ (y : Distance). Some y) same))
+    by_its_value : (d : Distance) → IsDistanceByValue tables p d → or_reach (told_reach tables p) (dtz_by tables (reach_after tables) p) ≡ Ok d
+    by_its_value d by = ap (λ (r : Reach). or_reach r (dtz_by tables (reach_after tables) p)) (value_told tables p position d by)
 
-    only_by : (r : Reach) → dtz_of tables p ≡ r → (t : Bool) → nat_le (count_of_men p) 2 ≡ t → (o : Option Distance) → agreed_distance tables p (extreme_weighed tables true p) (extreme_weighed tables false p) ≡ o → (d : Distance) → or_agreed_distance r o ≡ Ok d → (dtz_of tables p ≡ Ok d) ⊎ IsDistanceByValue tables p d
-    only_by (Ok x) er t et o eo d e = inl (er ∙ e)
-    only_by (Err fault) er true et o eo d e = (let none : Ok NoDistance ≡ Err fault = sym (opened tables p ∙ rw et refl) ∙ er in absurd (cc))
-    only_by (Err fault) er false et None eo d e = absurd (cc)
-    only_by (Err fault) er false et (Some x) eo d e = (let same : x ≡ d = cc in inr (by_value tables p position et (extreme_weighed tables true p) (extreme_weighed tables false p) refl refl d (eo ∙ ap (λ (y : Distance). Some y) same)))
+    all_determined : (d : Distance) (r : Reach) → told_reach tables p ≡ r → (s : Reach) → dtz_by tables (reach_after tables) p ≡ s → or_reach r s ≡ Ok d → IsDeterminedDistance tables p d
+    all_determined d (Ok x) er s es e = told_determined tables p position d (er ∙ e)
+    all_determined d (Err fault) er (Ok x) es e = by_told_moves tables p d position (es ∙ e)
+    all_determined d (Err fault) er (Err other) es e = absurd (cc)
 
-    faulty : (r : Reach) → dtz_of tables p ≡ r → (o : Option Distance) → (fault : ValueFault) → or_agreed_distance r o ≡ Err fault → dtz_of tables p ≡ Err fault
-    faulty (Ok x) er o fault e = absurd (cc)
-    faulty (Err other) er None fault e = er ∙ e
-    faulty (Err other) er (Some x) fault e = absurd (cc)
+    only_by : (d : Distance) (r : Reach) → told_reach tables p ≡ r → (s : Reach) → dtz_by tables (reach_after tables) p ≡ s → or_reach r s ≡ Ok d
+        → (dtz_of tables p ≡ Ok d) ⊎ (IsDistanceByValue tables p d ⊎ IsDistanceByQuietMoves tables p d)
+    only_by d (Ok x) er s es e = elim (from_value tables p position d (er ∙ e)) [
+      | inl own ↦ inl own
+      | inr by ↦ inr (inl by)
+    ]
+    only_by d (Err fault) er (Ok x) es e = inr (inr (left_to_them tables p d fault position (told_fault tables p position fault er) (es ∙ e)))
+    only_by d (Err fault) er (Err other) es e = absurd (cc)
 
-    by_capture : (v : Wdl) (outcome : Outcome) → IsDetermined tables p v → outcome_of v ≡ Some outcome → IsByCapture tables p → or_agreed_distance (dtz_of tables p) (agreed_distance tables p (extreme_weighed tables true p) (extreme_weighed tables false p)) ≡ Ok (towards outcome (zeroing outcome))
-    by_capture v outcome is eo captures =
-        told_by_value tables p position v is (towards outcome (zeroing outcome))
-        (λ a b ea eb xa xb. rw (eo, captures (extreme tables true) a (extreme-completes tables true) xa, captures (extreme tables false) b (extreme-completes tables false) xb) refl)
-        (λ w reach x ew xw e. one_ok (towards outcome (zeroing outcome)) x (Ok (towards outcome (zeroing outcome))) refl (rw (eo, captures (extreme tables true) w (extreme-completes tables true) xw) at e))
-        (no_outcome tables p position v outcome is eo) (nat_le (count_of_men p) 2) refl (dtz_of tables p) refl
-
-    by_pawn : (v : Wdl) (outcome : Outcome) → IsDetermined tables p v → outcome_of v ≡ Some outcome → is_won outcome ≡ true → IsByPawnMove tables p v
-        → or_agreed_distance (dtz_of tables p) (agreed_distance tables p (extreme_weighed tables true p) (extreme_weighed tables false p)) ≡ Ok (towards outcome (zeroing outcome))
-    by_pawn v outcome is eo won by =
-        told_by_value tables p position v is (towards outcome (zeroing outcome)) in_both_so (λ w reach x ew xw e. by_pawn_in_set tables p position v by outcome won w reach x ew (rw eo at e)) (no_outcome tables p position v outcome is eo) (nat_le (count_of_men p) 2) refl (dtz_of tables p) refl
-      where
-        either : (x y : Bool) → y ≡ true → cond (x || y) (Some (towards outcome (zeroing outcome))) None ≡ Some (towards outcome (zeroing outcome))
-        either true y e = refl
-        either false y e = rw e refl
-
-        in_both_so : (a b : Weighed) → worth a ≡ v → worth b ≡ v → extreme_weighed tables true p ≡ Ok a → extreme_weighed tables false p ≡ Ok b → zeroing_distance tables p a b (outcome_of v) ≡ Some (towards outcome (zeroing outcome))
-        in_both_so a b ea eb xa xb =
-            let reached : is_reached (pawns_reach_in_both tables p (worth a)) ≡ true = ap (λ (u : Wdl). is_reached (pawns_reach_in_both tables p u)) ea ∙ ap is_reached (reached_in_both tables p position v by) in
-            rw eo (either (is_by_capture a && is_by_capture b) (is_won outcome && is_reached (pawns_reach_in_both tables p (worth a))) (rw (won, reached) refl))
+    faulty : (fault : ValueFault) (r : Reach) → told_reach tables p ≡ r → (s : Reach) → or_reach r s ≡ Err fault → dtz_of tables p ≡ Err fault
+    faulty fault (Ok x) er s e = absurd (cc)
+    faulty fault (Err other) er (Ok x) e = absurd (cc)
+    faulty fault (Err other) er (Err third) e = told_fault tables p position fault (er ∙ e)

@@ -170,7 +170,7 @@ count_kept outcome f g q k = step (is_won outcome && is_mate q)
     step false = counted_kept (is_won outcome) (f q) (g q) k
 
 module _ (f g : Parts → Reach) (p : Parts) (h : (m : Move) (q : Parts) → is_quiet p m ≡ true → position_after p m ≡ Some q → Keeps (f q) (g q)) where
-  quiet_kept : (key : ℕ) (outcome : Outcome) → Keeps (by_quiet_moves key outcome f p) (by_quiet_moves key outcome g p)
+  pub quiet_kept : (key : ℕ) (outcome : Outcome) → Keeps (by_quiet_moves key outcome f p) (by_quiet_moves key outcome g p)
   unfolding by_quiet_moves
   quiet_kept key outcome d e =
       let counts = kept_all (move_counts outcome f) (move_counts outcome g) p (is_quiet p) (λ m q t a. count_kept outcome f g q (h m q t a)) (legal_moves p) (unless_ok _ _ d e).0 in
@@ -226,7 +226,7 @@ module _ (f g : Parts → Reach) (p : Parts) (h : (m : Move) (q : Parts) → is_
     reach_kept (Ok w) w' k d e = rw (k w refl) (outcome_kept w (outcome_of (worth w)) d e)
     reach_kept (Err fault) w' k d e = absurd (cc)
 
-    rules_kept : Keeps (dtz_by tables f p) (dtz_by more g p)
+    pub rules_kept : Keeps (dtz_by tables f p) (dtz_by more g p)
     rules_kept = step (nat_le (count_of_men p) 2)
       where
         all : Keeps (by_weighed tables f p (weighed_by tables (wdl_of tables) p)) (by_weighed more g p (weighed_by more (wdl_of more) p))
@@ -236,7 +236,7 @@ module _ (f g : Parts → Reach) (p : Parts) (h : (m : Move) (q : Parts) → is_
         step true = λ d e. e
         step false = all
 
-kept_in : (tables more : Tables) → IsCompletedBy tables more → (n : ℕ) (p : Parts) → IsPosition p → Keeps (dtz_to tables n p) (dtz_to more n p)
+pub kept_in : (tables more : Tables) → IsCompletedBy tables more → (n : ℕ) (p : Parts) → IsPosition p → Keeps (dtz_to tables n p) (dtz_to more n p)
 unfolding dtz_to
 kept_in tables more c zero p position d e = e
 kept_in tables more c (suc n) p position d e = rules_kept (dtz_to tables n) (dtz_to more n) p (λ m q t a. kept_in tables more c n q (still p q m position a)) tables more c position d e

@@ -31,6 +31,8 @@ pub mod Kept
 pub mod PawnWins
 pub mod Zeroing
 pub mod ByValue
+pub mod ValueTold
+pub mod QuietReach
 pub mod DeterminedReach
 pub mod AskedPawns
 pub mod Completing

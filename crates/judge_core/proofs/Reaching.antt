@@ -18,7 +18,8 @@ use Rattle.judge_core.specs.LookUp.{material_of, placed_of}
 use Rattle.judge_core.specs.Tables.{Tables, table_at, part_asked}
 use Rattle.judge_core.specs.Ends.{is_mate}
 use Rattle.judge_core.specs.Probing.{weighed_by, wdl_of}
-use Rattle.judge_core.specs.Distances.{Reach, is_won, zeroing, towards, counted, move_counts, by_quiet_moves, distance_in, stored, by_own_table, pawns_reach, unless_reached, by_moves, by_weighed, dtz_to}
+use Rattle.judge_core.specs.Distances.{Reach, is_won, zeroing, towards, counted, move_counts, by_quiet_moves, distance_in, stored, by_own_table, pawns_reach, unless_reached, by_moves, by_weighed, dtz_by, dtz_to}
+use Rattle.judge_core.specs.Inside.Determined.{distance_in_both, or_agreed_distance, reach_after}
 
 -- what is equal to the one is equal to the other
 pub if_same : {X E : Type 0} (r : Result X E) (a b : X) → a ≡ b → IfOk r (λ x. x ≡ a) → IfOk r (λ x. x ≡ b)
@@ -72,11 +73,28 @@ module _ (tables : Tables) (reach : Parts → Reach) (p : Parts) (outcome : Outc
 pub reached_by : (outcome : Outcome) (own : Reach) (b : Bool) (n : ℕ) (d : Distance) → b ≡ true → n ≡ zeroing outcome → d ≡ towards outcome n → Ok d ≡ unless_reached (Ok b) outcome own
 reached_by outcome own b n d yes' en ed = rw yes' (ap (λ (x : Distance). Ok x) (ed ∙ ap (towards outcome) en))
 
--- ---- positions in a row
+-- ---- all rules
 
-pub none_left : (tables : Tables) (n : ℕ) (p : Parts) → n ≡ 0 → Ok Draw ≡ dtz_to tables n p
+pub bare_by : (tables : Tables) (reach : Parts → Reach) (p : Parts) → count_of_men p ≤ 2 → Ok Draw ≡ dtz_by tables reach p
+bare_by tables reach p few = rw (le-leb (count_of_men p) 2 few) refl
+
+pub many_by_rules : (tables : Tables) (reach : Parts → Reach) (p : Parts) (w : Result Weighed ValueFault) → 2 < count_of_men p → w ≡ weighed_by tables (wdl_of tables) p → by_weighed tables reach p w ≡ dtz_by tables reach p
+many_by_rules tables reach p w many e = rw (lt-leb (count_of_men p) 2 many, ← e) refl
+
+-- what is asked of a position after a quiet move
+pub if_told : {E : Type 0} (result : Result Reach E) (tables : Tables) (q : Parts) (own : Reach) → own ≡ dtz_by tables (dtz_to tables 0) q → IfOk result (λ r. r ≡ or_agreed_distance own (distance_in_both tables q)) → IfOk result (λ r. r ≡ reach_after tables q)
+unfolding reach_after dtz_to
+if_told result tables q own e h = if_same result _ _ (ap (λ (x : Reach). or_agreed_distance x (distance_in_both tables q)) e) h
+
+pub once : (tables : Tables) (q : Parts) → dtz_by tables (dtz_to tables 0) q ≡ dtz_to tables 1 q
 unfolding dtz_to
-none_left tables n p e = rw e refl
+once tables q = refl
+
+pub never : (tables : Tables) (q : Parts) → Ok Draw ≡ dtz_to tables 0 q
+unfolding dtz_to
+never tables q = refl
+
+-- ---- positions in a row
 
 pub few_men : (tables : Tables) (n : ℕ) (p : Parts) → count_of_men p ≤ 2 → Ok Draw ≡ dtz_to tables n p
 unfolding dtz_to

@@ -12,13 +12,13 @@ use Rattle.std.specs.Prelude.{ℤ}
 use Rattle.judge_core.specs.Values.{Reading}
 use Rattle.judge_core.specs.Tables.{Tables}
 use Rattle.judge_core.specs.Probing.{wdl_of}
-use Rattle.judge_core.specs.Distances.{Reach, dtz_of}
+use Rattle.judge_core.specs.Distances.{Reach, dtz_by, dtz_to, dtz_of}
 use Rattle.judge_core.specs.Answers.{as_probe, signed_in}
 use Rattle.judge_core.specs.Probed.{number_of}
 use Rattle.judge_core.specs.Root.{IsRootBy, IsInScope}
 use Rattle.judge_core.specs.Ruling.{is_out_of_scope}
 use Rattle.judge_core.specs.Determined.{IsDeterminedWdl, IsDeterminedDtz, AreDetermined, IsDeterminedRoot}
-use Rattle.judge_core.specs.Inside.Determined.{agreed, or_agreed, extreme_value, extreme_weighed, agreed_distance, or_agreed_distance, determined_value, determined_reach, value_as, reach_as}
+use Rattle.judge_core.specs.Inside.Determined.{agreed, or_agreed, extreme_value, distance_in_both, or_agreed_distance, or_reach, reach_after, determined_value, determined_reach, value_as, reach_as}
 use Rattle.judge_core.proofs.ByReadings.{answered, is_probe, is_numbered}
 use Rattle.judge_core.proofs.Zeroing.{is_determined}
 use Rattle.judge_core.proofs.DeterminedReach.{is_determined_reach}
@@ -28,9 +28,14 @@ module _ (tables : Tables) (p : Parts) where
   unfolding determined_value
   value_from strict r e er = er ∙ ap (λ (x : Reading). or_agreed x (agreed (extreme_value tables true p) (extreme_value tables false p))) e
 
-  pub reach_from : (strict r : Reach) → strict ≡ dtz_of tables p → r ≡ or_agreed_distance strict (agreed_distance tables p (extreme_weighed tables true p) (extreme_weighed tables false p)) → r ≡ determined_reach tables p
+  pub reach_from : (strict told r : Reach) → strict ≡ dtz_of tables p → told ≡ or_agreed_distance strict (distance_in_both tables p) → r ≡ or_reach told (dtz_by tables (reach_after tables) p) → r ≡ determined_reach tables p
   unfolding determined_reach
-  reach_from strict r e er = er ∙ ap (λ (x : Reach). or_agreed_distance x (agreed_distance tables p (extreme_weighed tables true p) (extreme_weighed tables false p))) e
+  reach_from strict told r e et er = er ∙ ap (λ (x : Reach). or_reach x (dtz_by tables (reach_after tables) p)) (et ∙ ap (λ (x : Reach). or_agreed_distance x (distance_in_both tables p)) e)
+
+  -- what is asked of a position after a quiet move
+  pub after_from : (own r : Reach) → own ≡ dtz_by tables (dtz_to tables 0) p → r ≡ or_agreed_distance own (distance_in_both tables p) → r ≡ reach_after tables p
+  unfolding reach_after dtz_to
+  after_from own r e er = er ∙ ap (λ (x : Reach). or_agreed_distance x (distance_in_both tables p)) e
 
   module _ (position : IsPosition p) where
     pub wdl_outside : is_out_of_scope p ≡ true → IsDeterminedWdl tables p (Err OutOfScope)

@@ -17,9 +17,9 @@ use Rattle.judge_core.specs.Values.{Reading, points, opposite, turned, greater, 
 use Rattle.judge_core.specs.Tables.{Tables, table_value}
 use Rattle.judge_core.specs.Asked.{asked, fault_in, unless}
 use Rattle.judge_core.specs.Probing.{after, weighed_where, weighed_by, wdl_where, wdl_of, worth}
-use Rattle.judge_core.specs.Distances.{is_won, is_value, is_pawn_step, is_by_capture, pawns_reach_where, unless_reached, by_own_table, by_moves, by_outcome, by_weighed, zeroing, towards, dtz_by, dtz_to, dtz_of}
+use Rattle.judge_core.specs.Distances.{Reach, is_won, is_value, is_pawn_step, is_by_capture, pawns_reach_where, unless_reached, by_own_table, by_moves, by_outcome, by_weighed, zeroing, towards, dtz_by, dtz_to, dtz_of}
 use Rattle.judge_core.specs.Determined.{IsCompletion, IsCompletedBy, IsDetermined, IsDeterminedDistance, IsDeterminedReading}
-use Rattle.judge_core.specs.Inside.Determined.{extreme_value, extreme_weighed, agreed, or_agreed, in_both, value_in_both, pawns_reach_in_both, is_reached, zeroing_distance, agreed_distance, determined_value, is_won_here}
+use Rattle.judge_core.specs.Inside.Determined.{extreme_value, extreme_weighed, agreed, or_agreed, in_both, value_in_both, pawns_reach_in_both, is_reached, zeroing_distance, agreed_distance, distance_in_both, determined_value, is_won_here}
 use Rattle.judge_core.proofs.Rule.{still}
 use Rattle.judge_core.proofs.Rising.{WeighsAtMost, same_points, points_most, greater_rises, worth_rises}
 use Rattle.judge_core.proofs.RootCaptures.{greater_left, greater_right}
@@ -314,33 +314,33 @@ pub many_by : (tables : Tables) (p : Parts) → IsMany p → dtz_of tables p ≡
 many_by tables p many = opened tables p ∙ rw many refl
 
 module _ (tables : Tables) (p : Parts) (position : IsPosition p) (many : IsMany p) where
-  module _ (a b : Weighed) (ea : extreme_weighed tables true p ≡ Ok a) (eb : extreme_weighed tables false p ≡ Ok b) (same : worth a ≡ worth b) (more : Tables) (c : IsCompletedBy tables more) where
-    by_pawns : (w : Weighed) (outcome : Outcome) → worth w ≡ worth a → is_won outcome ≡ true → pawns_reach_in_both tables p (worth a) ≡ Ok true → by_moves more (dtz_to more 1) p (worth w) outcome ≡ Ok (towards outcome (zeroing outcome))
+  module _ (a b : Weighed) (ea : extreme_weighed tables true p ≡ Ok a) (eb : extreme_weighed tables false p ≡ Ok b) (same : worth a ≡ worth b) (more : Tables) (c : IsCompletedBy tables more) (reach : Parts → Reach) where
+    by_pawns : (w : Weighed) (outcome : Outcome) → worth w ≡ worth a → is_won outcome ≡ true → pawns_reach_in_both tables p (worth a) ≡ Ok true → by_moves more reach p (worth w) outcome ≡ Ok (towards outcome (zeroing outcome))
     unfolding by_moves
     by_pawns w outcome ew won reached =
-        let own = by_own_table more (dtz_to more 1) p outcome in
-        ap (λ (v : Wdl). by_moves more (dtz_to more 1) p v outcome) ew
+        let own = by_own_table more reach p outcome in
+        ap (λ (v : Wdl). by_moves more reach p v outcome) ew
         ∙ ap (λ (t : Bool). if t then unless_reached (pawns_reach_where (wdl_of more) p (worth a)) outcome own else own) won
         ∙ ap (λ (r : Result Bool ValueFault). unless_reached r outcome own) (pawns_between tables more c (worth a) p position reached)
 
-    by_weighed_there : (o : Option Outcome) → outcome_of (worth a) ≡ o → (d : Distance) → zeroing_distance tables p a b o ≡ Some d → dtz_of more p ≡ Ok d
+    by_weighed_there : (o : Option Outcome) → outcome_of (worth a) ≡ o → (d : Distance) → zeroing_distance tables p a b o ≡ Some d → dtz_by more reach p ≡ Ok d
     by_weighed_there o eo d e =
         let w = weighed_between tables p position a b ea eb same (table_value more) c.values in
         let is = weighed_is more p ∙ w.1 in
         let eo' = ap outcome_of w.2.worth_is ∙ eo in
-        many_by more p many ∙ ap (by_weighed more (dtz_to more 1) p) is ∙ ap (by_outcome more (dtz_to more 1) p w.0) eo' ∙ by_kind w.0 w.2 o eo e
+        rw many refl ∙ ap (by_weighed more reach p) is ∙ ap (by_outcome more reach p w.0) eo' ∙ by_kind w.0 w.2 o eo e
       where
-        by_pawn : (w : Weighed) → LiesBetween a b w → (outcome : Outcome) → is_won outcome ≡ true → is_reached (pawns_reach_in_both tables p (worth a)) ≡ true → Some (towards outcome (zeroing outcome)) ≡ Some d → by_outcome more (dtz_to more 1) p w (Some outcome) ≡ Ok d
+        by_pawn : (w : Weighed) → LiesBetween a b w → (outcome : Outcome) → is_won outcome ≡ true → is_reached (pawns_reach_in_both tables p (worth a)) ≡ true → Some (towards outcome (zeroing outcome)) ≡ Some d → by_outcome more reach p w (Some outcome) ≡ Ok d
         by_pawn w lies outcome ew er e =
             let is : towards outcome (zeroing outcome) ≡ d = cc in
             step (is_by_capture w) (by_pawns w outcome lies.worth_is ew (is_reached-true _ er)) ∙ ap (λ (x : Distance). Ok x) is
           where
-            step : (t : Bool) → by_moves more (dtz_to more 1) p (worth w) outcome ≡ Ok (towards outcome (zeroing outcome)) → cond t (Ok (towards outcome (zeroing outcome))) (by_moves more (dtz_to more 1) p (worth w) outcome) ≡ Ok (towards outcome (zeroing outcome))
+            step : (t : Bool) → by_moves more reach p (worth w) outcome ≡ Ok (towards outcome (zeroing outcome)) → cond t (Ok (towards outcome (zeroing outcome))) (by_moves more reach p (worth w) outcome) ≡ Ok (towards outcome (zeroing outcome))
             step true h = refl
             step false h = h
 
         by_zeroing : (w : Weighed) → LiesBetween a b w → (outcome : Outcome) (ca cb won reached : Bool) → is_by_capture a ≡ ca → is_by_capture b ≡ cb → is_won outcome ≡ won → is_reached (pawns_reach_in_both tables p (worth a)) ≡ reached
-            → cond ((ca && cb) || (won && reached)) (Some (towards outcome (zeroing outcome))) None ≡ Some d → by_outcome more (dtz_to more 1) p w (Some outcome) ≡ Ok d
+            → cond ((ca && cb) || (won && reached)) (Some (towards outcome (zeroing outcome))) None ≡ Some d → by_outcome more reach p w (Some outcome) ≡ Ok d
         by_zeroing w lies outcome true true won reached eca ecb ew er e = (let is : towards outcome (zeroing outcome) ≡ d = cc in rw (lies.capture eca ecb) (ap (λ (x : Distance). Ok x) is))
         by_zeroing w lies outcome true false true true eca ecb ew er e = by_pawn w lies outcome ew er e
         by_zeroing w lies outcome true false true false eca ecb ew er e = absurd (cc)
@@ -349,15 +349,19 @@ module _ (tables : Tables) (p : Parts) (position : IsPosition p) (many : IsMany 
         by_zeroing w lies outcome false cb true false eca ecb ew er e = absurd (cc)
         by_zeroing w lies outcome false cb false reached eca ecb ew er e = absurd (cc)
 
-        by_kind : (w : Weighed) → LiesBetween a b w → (o : Option Outcome) → outcome_of (worth a) ≡ o → zeroing_distance tables p a b o ≡ Some d → by_outcome more (dtz_to more 1) p w o ≡ Ok d
+        by_kind : (w : Weighed) → LiesBetween a b w → (o : Option Outcome) → outcome_of (worth a) ≡ o → zeroing_distance tables p a b o ≡ Some d → by_outcome more reach p w o ≡ Ok d
         by_kind w lies None eo e = (let is : NoDistance ≡ d = cc in ap (λ (x : Distance). Ok x) is)
         by_kind w lies (Some outcome) eo e = by_zeroing w lies outcome (is_by_capture a) (is_by_capture b) (is_won outcome) (is_reached (pawns_reach_in_both tables p (worth a))) refl refl refl refl e
 
-  pub told : (a b : Result Weighed ValueFault) → extreme_weighed tables true p ≡ a → extreme_weighed tables false p ≡ b → (d : Distance) → agreed_distance tables p a b ≡ Some d → IsDeterminedDistance tables p d
-  told (Ok a) (Ok b) ea eb d e = λ more c. step more c (is_same (worth a) (worth b)) refl e
+  -- whatever distances the positions after quiet moves have there
+  pub told_by : (a b : Result Weighed ValueFault) → extreme_weighed tables true p ≡ a → extreme_weighed tables false p ≡ b → (d : Distance) → agreed_distance tables p a b ≡ Some d → (more : Tables) → IsCompletedBy tables more → (reach : Parts → Reach) → dtz_by more reach p ≡ Ok d
+  told_by (Ok a) (Ok b) ea eb d e = λ more c reach. step more c reach (is_same (worth a) (worth b)) refl e
     where
-      step : (more : Tables) → IsCompletedBy tables more → (t : Bool) → is_same (worth a) (worth b) ≡ t → cond t (zeroing_distance tables p a b (outcome_of (worth a))) None ≡ Some d → dtz_of more p ≡ Ok d
-      step more c true is e = by_weighed_there a b ea eb (is_same-true (worth a) (worth b) is) more c (outcome_of (worth a)) refl d e
-      step more c false is e = absurd (cc)
-  told (Ok a) (Err fault) ea eb d e = absurd (cc)
-  told (Err fault) b ea eb d e = absurd (cc)
+      step : (more : Tables) → IsCompletedBy tables more → (reach : Parts → Reach) → (t : Bool) → is_same (worth a) (worth b) ≡ t → cond t (zeroing_distance tables p a b (outcome_of (worth a))) None ≡ Some d → dtz_by more reach p ≡ Ok d
+      step more c reach true is e = by_weighed_there a b ea eb (is_same-true (worth a) (worth b) is) more c reach (outcome_of (worth a)) refl d e
+      step more c reach false is e = absurd (cc)
+  told_by (Ok a) (Err fault) ea eb d e = absurd (cc)
+  told_by (Err fault) b ea eb d e = absurd (cc)
+
+  pub told : (d : Distance) → distance_in_both tables p ≡ Some d → IsDeterminedDistance tables p d
+  told d e more c = opened more p ∙ told_by (extreme_weighed tables true p) (extreme_weighed tables false p) refl refl d e more c (dtz_to more 1)

@@ -1,14 +1,15 @@
 -- Values and distances that are the same whatever the missing tables of a set hold.
-use Rattle.std.specs.Prelude.{◌≡◌, ◌≢◌, ◌⊎◌, ℕ, ℤ, IsTrue, true, List, None, Some, Result, Ok, Err, filter}
+use Rattle.std.specs.Prelude.{◌≡◌, ◌≢◌, ◌⊎◌, ◌<◌, ℕ, ℤ, IsTrue, true, false, List, None, Some, Result, Ok, Err, filter}
 use Rattle.std.specs.List.{Contains}
 use Rattle.std.specs.Result.{is_ok}
 use Rattle.board_core.specs.declared.parts.Parts.{Parts}
 use Rattle.board_core.specs.declared.moves.Move.{Move}
-use Rattle.board_core.specs.ComputedMoves.{legal_moves, position_after}
+use Rattle.board_core.specs.ComputedMoves.{legal_moves, position_after, count_of_men}
 use Rattle.board_core.specs.Position.{IsPosition}
 use Rattle.table_file.specs.declared.kind.TableKind.TheVariants.{Dtz}
 use Rattle.table_file.specs.declared.outcome.Outcome.{Outcome}
 use Rattle.table_file.specs.Tables.{Contents}
+use Rattle.table_file.specs.Distances.{stores}
 use Rattle.judge_core.specs.declared.wdl.Wdl.{Wdl}
 use Rattle.judge_core.specs.declared.wdl.Wdl.TheVariants.{Draw}
 use Rattle.judge_core.specs.declared.distance.Distance.{Distance}
@@ -21,10 +22,11 @@ use Rattle.judge_core.specs.declared.fault.ProbeFault.TheVariants.{OutOfMemory}
 use Rattle.judge_core.specs.declared.probed.Probed.{Probed}
 use Rattle.judge_core.specs.declared.root_move.RootMove.{RootMove}
 use Rattle.judge_core.specs.Values.{Reading, is_winning, opposite, outcome_of}
-use Rattle.judge_core.specs.Tables.{Tables, table_at, table_value}
+use Rattle.judge_core.specs.LookUp.{material_of, placed_of}
+use Rattle.judge_core.specs.Tables.{Tables, table_at, table_value, part_asked}
 use Rattle.judge_core.specs.Asked.{fault_in}
-use Rattle.judge_core.specs.Probing.{after, weighed_where, wdl_where, wdl_of}
-use Rattle.judge_core.specs.Distances.{Reach, is_by_capture, is_pawn_step, is_won, towards, zeroing, dtz_of}
+use Rattle.judge_core.specs.Probing.{after, weighed_where, weighed_by, wdl_where, wdl_of, worth}
+use Rattle.judge_core.specs.Distances.{Reach, is_by_capture, is_pawn_step, is_quiet, is_won, pawns_reach, by_quiet_moves, towards, zeroing, dtz_to, dtz_of}
 use Rattle.judge_core.specs.Answers.{IsProbe, ListsMoves, signed_in}
 use Rattle.judge_core.specs.Probed.{numbered}
 use Rattle.judge_core.specs.Root.{IsRootBy}
@@ -83,6 +85,38 @@ pub data IsDistanceByValue (tables : Tables) (p : Parts) (d : Distance) : Type 0
   OfCapture : (v : Wdl) (outcome : Outcome) → IsDetermined tables p v → outcome_of v ≡ Some outcome → IsByCapture tables p → d ≡ towards outcome (zeroing outcome) → IsDistanceByValue tables p d
   OfPawnMove : (v : Wdl) (outcome : Outcome) → IsDetermined tables p v → outcome_of v ≡ Some outcome → is_won outcome ≡ true → IsByPawnMove tables p v → d ≡ towards outcome (zeroing outcome) → IsDistanceByValue tables p d
 
+-- ---- distances by quiet moves
+
+-- The quiet moves alone are left to tell the distance: what is weighed at the position is there in the set itself, no draw and
+-- not by a capture. Where it wins, no pawn move that takes nothing does, and the values after all of these are there. The own
+-- DTZ table is there, and stores the other side alone.
+pub record IsLeftToQuietMoves (tables : Tables) (p : Parts) (key : ℕ) (outcome : Outcome) : Type 0 where
+  pub many : 2 < count_of_men p
+  pub weighed : Weighed
+  pub there : weighed_by tables (wdl_of tables) p ≡ Ok weighed
+  pub decided : outcome_of (worth weighed) ≡ Some outcome
+  pub no_capture : is_by_capture weighed ≡ false
+  pub no_pawn_move : is_won outcome ≡ true → pawns_reach tables p (worth weighed) ≡ Ok false
+  pub material : material_of p ≡ Some key
+  pub table : Contents
+  pub has : table_at tables Dtz key ≡ Some table
+  pub other_side : stores (part_asked table (placed_of key p)) ≡ false
+
+-- A distance after a quiet move: what the set itself says where one position is visited, or the one by the value.
+abbrev pub IsToldAfter : Tables → Parts → Distance → Type 0
+IsToldAfter tables q d = (dtz_to tables 1 q ≡ Ok d) ⊎ IsDistanceByValue tables q d
+
+-- The quiet moves alone are left, each has a distance that is told, and from these this one follows.
+pub record IsDistanceByQuietMoves (tables : Tables) (p : Parts) (d : Distance) : Type 0 where
+  pub key : ℕ
+  pub outcome : Outcome
+  pub left : IsLeftToQuietMoves tables p key outcome
+  pub reach : Parts → Reach
+  pub told :
+      (m : Move) (q : Parts) (c : Distance) → is_quiet p m ≡ true → position_after p m ≡ Some q → reach q ≡ Ok c
+      → IsToldAfter tables q c
+  pub is : by_quiet_moves key outcome reach p ≡ Ok d
+
 -- ---- readings
 
 -- The value of the set, or else the one that is determined. There is none only where none is determined; then the fault is the
@@ -93,12 +127,14 @@ pub record IsDeterminedReading (tables : Tables) (p : Parts) (reading : Reading)
   pub fault_is : (fault : ValueFault) → reading ≡ Err fault → (wdl_of tables p ≡ Err fault) × IsUndetermined tables p
 
 -- The distance of the set, or else one that is determined, exactly where the value is a draw, by a capture, or a win by a pawn
--- move. Else the fault is the set's.
+-- move, or where the quiet moves tell it. Else the fault is the set's.
 pub record IsDeterminedReach (tables : Tables) (p : Parts) (reach : Reach) : Type 0 where
   pub kept : (d : Distance) → dtz_of tables p ≡ Ok d → reach ≡ Ok d
   pub determined : (d : Distance) → reach ≡ Ok d → IsDeterminedDistance tables p d
   pub fault_is : (fault : ValueFault) → reach ≡ Err fault → dtz_of tables p ≡ Err fault
-  pub only : (d : Distance) → reach ≡ Ok d → (dtz_of tables p ≡ Ok d) ⊎ IsDistanceByValue tables p d
+  pub only :
+      (d : Distance) → reach ≡ Ok d
+      → (dtz_of tables p ≡ Ok d) ⊎ (IsDistanceByValue tables p d ⊎ IsDistanceByQuietMoves tables p d)
   pub draw : IsDetermined tables p Draw → reach ≡ Ok NoDistance
   pub capture :
       (v : Wdl) (outcome : Outcome) → IsDetermined tables p v → outcome_of v ≡ Some outcome → IsByCapture tables p
@@ -106,6 +142,7 @@ pub record IsDeterminedReach (tables : Tables) (p : Parts) (reach : Reach) : Typ
   pub pawn :
       (v : Wdl) (outcome : Outcome) → IsDetermined tables p v → outcome_of v ≡ Some outcome → is_won outcome ≡ true
       → IsByPawnMove tables p v → reach ≡ Ok (towards outcome (zeroing outcome))
+  pub quiet : (d : Distance) → IsDistanceByQuietMoves tables p d → reach ≡ Ok d
 
 -- ---- lists of moves
 

@@ -13,7 +13,7 @@ ghost use Rattle.judge_core.specs.Tables.{AreFiled};
 
 use crate::display::Columns;
 use crate::distance::Distance;
-use crate::dtz::signed_in;
+use crate::dtz::{Beyond, signed_in};
 use crate::fault::{ProbeFault, ValueFault};
 use crate::found::worth_in;
 use crate::mobility::has_no_move;
@@ -140,7 +140,7 @@ impl<'a> Set<'a> {
         }
         let probe = Probe::of(position);
         let weighed = self.weigh(alloc, &probe);
-        let dtz = self.by_weighed(alloc, &probe, &weighed, 1)?;
+        let dtz = self.by_weighed(alloc, &probe, &weighed, Beyond::Visited)?;
         Ok(Readings {
             wdl: worth_in(weighed),
             dtz,

@@ -5,8 +5,8 @@ ghost use Rattle.board_core.specs.Position.{IsPosition};
 ghost use Rattle.judge_core.specs.Answers.{ListsMoves};
 ghost use Rattle.judge_core.specs.Determined.{AreDetermined, IsDeterminedDtz, ListsMovesDetermined};
 ghost use Rattle.judge_core.specs.declared.fault.ProbeFault.TheVariants.{OutOfMemory};
-ghost use Rattle.judge_core.specs.Distances.{dtz_of, is_by_capture, is_won, plies};
-ghost use Rattle.judge_core.specs.Inside.Determined.{AskPawns, BothAskPawns, LackAndAsk, ListsMovesInside, determined_reach, determined_value, distance_in_both, is_zeroing, or_agreed_distance, reach_as, value_as, zeroing_distance};
+ghost use Rattle.judge_core.specs.Distances.{dtz_by, dtz_of, is_by_capture, is_won, plies};
+ghost use Rattle.judge_core.specs.Inside.Determined.{AskPawns, BothAskPawns, LackAndAsk, ListsMovesInside, determined_reach, determined_value, distance_in_both, is_zeroing, or_agreed_distance, or_reach, reach_after, reach_as, value_as, zeroing_distance};
 ghost use Rattle.judge_core.specs.Probing.{wdl_of, worth};
 ghost use Rattle.judge_core.specs.Ruling.{is_out_of_scope, ruling};
 ghost use Rattle.judge_core.specs.Tables.{AreFiled};
@@ -16,7 +16,7 @@ use crate::answering::{Readings, columns_outside};
 use crate::ask::Ask;
 use crate::display::Columns;
 use crate::distance::{Distance, is_won, towards, zeroing};
-use crate::dtz::signed_in;
+use crate::dtz::{Beyond, signed_in};
 use crate::fault::{ProbeFault, ValueFault};
 use crate::found::Weighed;
 use crate::probe::Probe;
@@ -103,6 +103,29 @@ impl<'a> Set<'a> {
         }
     }
 
+    /// This distance, or else the one by the quiet moves, where the position leaves it to them and each has one.
+    fn or_by_quiet_moves(
+        &mut self,
+        alloc: Global,
+        position: &Position,
+        told: &Result<Distance, ValueFault>,
+    ) -> Result<Result<Distance, ValueFault>, AllocError>
+        requires within { IfOk told.now (λ d. plies d ≤ 131174) }
+        ensures is { IfOk result (λ r. r ≡ or_reach told.now (dtz_by self.old.tables (reach_after self.old.tables) position.now)) }
+        ensures memory { OnErr result (ListsMoves self.old.tables position.now) }
+        ensures within { IfOk result (λ r. IfOk r (λ d. plies d ≤ 131174)) }
+        ensures unchanged { self.new ≡ self.old }
+    {
+        let fault = match told {
+            Ok(distance) => return Ok(Ok(*distance)),
+            Err(fault) => *fault,
+        };
+        match self.dtz_from(alloc, position, Beyond::Told)? {
+            Ok(distance) => Ok(Ok(distance)),
+            Err(_) => Ok(Err(fault)),
+        }
+    }
+
     /// These readings, and where they are faults, what is the same in both sets.
     fn determine(
         &mut self,
@@ -115,17 +138,18 @@ impl<'a> Set<'a> {
         requires within { IfOk strict.now.dtz (λ d. plies d ≤ 131173) }
         ensures wdl { IfOk result (λ r. r.wdl ≡ determined_value self.old.tables position.now) }
         ensures dtz { IfOk result (λ r. r.dtz ≡ determined_reach self.old.tables position.now) }
-        ensures memory { OnErr result (LackAndAsk self.old.tables position.now (dtz_of self.old.tables position.now)) }
-        ensures within { IfOk result (λ r. IfOk r.dtz (λ d. plies d ≤ 131173)) }
+        ensures memory { OnErr result (ListsMovesInside self.old.tables position.now) }
+        ensures within { IfOk result (λ r. IfOk r.dtz (λ d. plies d ≤ 131174)) }
         ensures unchanged { self.new ≡ self.old }
     {
         let wdl = self.or_agreed(alloc, position, &strict.wdl);
-        let dtz = self.or_agreed_distance(alloc, position, &strict.dtz)?;
+        let told = self.or_agreed_distance(alloc, position, &strict.dtz)?;
+        let dtz = self.or_by_quiet_moves(alloc, position, &told)?;
         Ok(Readings { wdl, dtz })
     }
 
     /// This distance, or else the one that the position has in both sets.
-    fn or_agreed_distance(
+    pub(crate) fn or_agreed_distance(
         &mut self,
         alloc: Global,
         position: &Position,
@@ -157,7 +181,7 @@ impl<'a> Set<'a> {
         ensures wdl { IfOk result (λ r. r.wdl ≡ value_as ask self.old.tables position.now) }
         ensures dtz { IfOk result (λ r. r.dtz ≡ reach_as ask self.old.tables position.now) }
         ensures memory { OnErr result (ListsMovesInside self.old.tables position.now) }
-        ensures within { IfOk result (λ r. IfOk r.dtz (λ d. plies d ≤ 131173)) }
+        ensures within { IfOk result (λ r. IfOk r.dtz (λ d. plies d ≤ 131174)) }
         ensures unchanged { self.new ≡ self.old }
     {
         let strict = self.readings(alloc, position)?;
@@ -171,9 +195,10 @@ impl<'a> Set<'a> {
     /// tables hold.
     ///
     /// It tells the distance where the value is the same whatever they hold, and is a draw, by a capture, or a win by a
-    /// pawn move. No other missing table is made up for. Else the error is that of `dtz`. `OutOfMemory` comes only where
-    /// memory for a list of moves is refused: where `dtz` reports it, and where the value is a win that is not by a
-    /// capture and `dtz` has a fault. The set stays as it was but for its cache.
+    /// pawn move. It also does where by the set itself only the quiet moves are left to tell it, and after each the
+    /// distance is that of the set or told so by the value. No other missing table is made up for. Else the error is that
+    /// of `dtz`. `OutOfMemory` comes only where memory for a list of moves is refused: where `dtz` may report it, and
+    /// where the value is a win that is not by a capture and `dtz` has a fault. The set stays as it was but for its cache.
     pub fn determined_dtz(&mut self, alloc: Global, position: &Position) -> Result<i32, ProbeFault>
         ensures answer { IsDeterminedDtz self.old.tables position.now result }
         ensures memory { result ≡ Err OutOfMemory → ListsMovesDetermined self.old.tables position.now }

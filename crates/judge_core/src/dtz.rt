@@ -1,12 +1,12 @@
 //! DTZ probes.
 
-ghost use Rattle.std.specs.Prelude.{◌≡◌, ◌<◌, ◌≤◌, ◌+◌, ◌-◌, IfOk, IfSome, OnErr, Some, Err};
+ghost use Rattle.std.specs.Prelude.{◌≡◌, ◌≤◌, ◌+◌, IfOk, IfSome, OnErr, Some, Err};
 ghost use Rattle.judge_core.specs.Tables.{AreFiled};
-ghost use Rattle.judge_core.specs.Distances.{plies, pawns_reach_where, move_counts, by_quiet_moves, stored, by_own_table, by_moves, by_weighed, dtz_to, dtz_of};
+ghost use Rattle.judge_core.specs.Distances.{plies, pawns_reach_where, move_counts, by_quiet_moves, stored, by_own_table, by_moves, by_weighed, dtz_by, dtz_of};
 ghost use Rattle.judge_core.specs.Ruling.{is_out_of_scope};
 ghost use Rattle.judge_core.specs.Answers.{IsLeftOpen, IsProbe, ListsMoves, as_probe, signed_in};
 ghost use Rattle.judge_core.specs.declared.fault.ProbeFault.TheVariants.{OutOfMemory};
-ghost use Rattle.judge_core.specs.Inside.Determined.{step_value_as};
+ghost use Rattle.judge_core.specs.Inside.Determined.{reach_after, reach_beyond, step_value_as, visits};
 
 use crate::ask::Ask;
 use crate::counts::{Counts, Steps};
@@ -23,6 +23,17 @@ use board_core::Position;
 use place_index::Material;
 use std::alloc::{AllocError, Global};
 use table_file::{Outcome, TableKind};
+
+/// How the positions after quiet moves are asked for their distances.
+#[derive(Clone, Copy)]
+pub(crate) enum Beyond {
+    /// They are not visited, and each counts as a draw.
+    Unvisited,
+    /// By what the tables of the set say of them.
+    Visited,
+    /// Where that is a fault, by what their values tell in both sets.
+    Told,
+}
 
 /// The distance that follows from what the table stores.
 fn stored(material: Material, outcome: Outcome, number: Option<u32>) -> Result<Distance, ValueFault>
@@ -83,18 +94,17 @@ impl<'a> Set<'a> {
         alloc: Global,
         after: &Position,
         outcome: Outcome,
-        left: u32,
+        beyond: Beyond,
     ) -> Result<Result<Option<u32>, ValueFault>, AllocError>
-        requires { left ≤ 2 }
-        ensures is { IfOk result (λ count. count ≡ move_counts outcome (dtz_to self.old.tables left) after.now) }
-        ensures within { IfOk result (λ count. IfOk count (λ n. IfSome n (λ k. k ≤ 131172 + left))) }
+        ensures is { IfOk result (λ count. count ≡ move_counts outcome (reach_beyond beyond self.old.tables) after.now) }
+        ensures within { IfOk result (λ count. IfOk count (λ n. IfSome n (λ k. k ≤ 131172 + visits beyond))) }
         ensures unchanged { self.new ≡ self.old }
     {
         let won = is_won(outcome);
         if won && is_mate(after) {
             return Ok(Ok(Some(1)));
         }
-        let reach = self.dtz_to(alloc, after, left)?;
+        let reach = self.dtz_after(alloc, after, beyond)?;
         Ok(counted(won, &reach))
     }
 
@@ -108,18 +118,17 @@ impl<'a> Set<'a> {
         position: &Position,
         material: Material,
         outcome: Outcome,
-        left: u32,
+        beyond: Beyond,
     ) -> Result<Result<Distance, ValueFault>, AllocError>
-        requires { left < 2 }
-        ensures is { IfOk result (λ reach. reach ≡ by_quiet_moves material outcome (dtz_to self.old.tables left) position.now) }
-        ensures within { IfOk result (λ reach. IfOk reach (λ d. plies d ≤ 131172 + left)) }
+        ensures is { IfOk result (λ reach. reach ≡ by_quiet_moves material outcome (reach_beyond beyond self.old.tables) position.now) }
+        ensures within { IfOk result (λ reach. IfOk reach (λ d. plies d ≤ 131172 + visits beyond)) }
         ensures unchanged { self.new ≡ self.old }
     {
         let moves = position.legal(alloc)?;
         let mut counts = Counts::new(outcome);
         for m in &moves {
             if let Some(after) = after_quiet_move(position, m) {
-                let count = self.move_counts(alloc, &after, outcome, left)?;
+                let count = self.move_counts(alloc, &after, outcome, beyond)?;
                 counts = counts.with(&count);
             }
         }
@@ -133,11 +142,10 @@ impl<'a> Set<'a> {
         alloc: Global,
         probe: &Probe<'_>,
         outcome: Outcome,
-        left: u32,
+        beyond: Beyond,
     ) -> Result<Result<Distance, ValueFault>, AllocError>
-        requires { left < 2 }
-        ensures is { IfOk result (λ reach. reach ≡ by_own_table self.old.tables (dtz_to self.old.tables left) probe.now outcome) }
-        ensures within { IfOk result (λ reach. IfOk reach (λ d. plies d ≤ 131172 + left)) }
+        ensures is { IfOk result (λ reach. reach ≡ by_own_table self.old.tables (reach_beyond beyond self.old.tables) probe.now outcome) }
+        ensures within { IfOk result (λ reach. IfOk reach (λ d. plies d ≤ 131172 + visits beyond)) }
         ensures unchanged { self.new ≡ self.old }
     {
         let Some(placed) = probe.placed() else {
@@ -152,7 +160,7 @@ impl<'a> Set<'a> {
             let number = self.shelf.distance(blocks, alloc, &part, placed, outcome);
             return Ok(stored(material, outcome, number));
         }
-        self.by_quiet_moves(alloc, probe.position(), material, outcome, left)
+        self.by_quiet_moves(alloc, probe.position(), material, outcome, beyond)
     }
 
     /// A win by a pawn move, or the distance of the own table.
@@ -163,11 +171,10 @@ impl<'a> Set<'a> {
         probe: &Probe<'_>,
         value: Wdl,
         outcome: Outcome,
-        left: u32,
+        beyond: Beyond,
     ) -> Result<Result<Distance, ValueFault>, AllocError>
-        requires { left < 2 }
-        ensures is { IfOk result (λ reach. reach ≡ by_moves self.old.tables (dtz_to self.old.tables left) probe.now value outcome) }
-        ensures within { IfOk result (λ reach. IfOk reach (λ d. plies d ≤ 131172 + left)) }
+        ensures is { IfOk result (λ reach. reach ≡ by_moves self.old.tables (reach_beyond beyond self.old.tables) probe.now value outcome) }
+        ensures within { IfOk result (λ reach. IfOk reach (λ d. plies d ≤ 131172 + visits beyond)) }
         ensures unchanged { self.new ≡ self.old }
     {
         if is_won(outcome) {
@@ -180,7 +187,7 @@ impl<'a> Set<'a> {
                 return Ok(Ok(towards(outcome, zeroing(outcome))));
             }
         }
-        self.by_own_table(alloc, probe, outcome, left)
+        self.by_own_table(alloc, probe, outcome, beyond)
     }
 
     /// The distance, given what captures and the own WDL table say.
@@ -190,12 +197,11 @@ impl<'a> Set<'a> {
         alloc: Global,
         probe: &Probe<'_>,
         weighed: &Result<Weighed, ValueFault>,
-        left: u32,
+        beyond: Beyond,
     ) -> Result<Result<Distance, ValueFault>, AllocError>
-        requires { left < 2 }
-        ensures is { IfOk result (λ reach. reach ≡ by_weighed self.old.tables (dtz_to self.old.tables left) probe.now weighed.now) }
+        ensures is { IfOk result (λ reach. reach ≡ by_weighed self.old.tables (reach_beyond beyond self.old.tables) probe.now weighed.now) }
         ensures memory { OnErr result (IsLeftOpen weighed.now) }
-        ensures within { IfOk result (λ reach. IfOk reach (λ d. plies d ≤ 131172 + left)) }
+        ensures within { IfOk result (λ reach. IfOk reach (λ d. plies d ≤ 131172 + visits beyond)) }
         ensures unchanged { self.new ≡ self.old }
     {
         let weighed = match weighed {
@@ -209,29 +215,64 @@ impl<'a> Set<'a> {
         if weighed.is_by_capture() {
             return Ok(Ok(towards(outcome, zeroing(outcome))));
         }
-        self.by_moves(alloc, probe, value, outcome, left)
+        self.by_moves(alloc, probe, value, outcome, beyond)
     }
 
-    /// The distance, where at most this many positions in a row are visited.
+    /// The distance, where the positions after quiet moves are asked so.
     #[cycle(dtz)]
-    fn dtz_to(
+    pub(crate) fn dtz_from(
         &mut self,
         alloc: Global,
         position: &Position,
-        left: u32,
+        beyond: Beyond,
     ) -> Result<Result<Distance, ValueFault>, AllocError>
-        requires { left ≤ 2 }
-        ensures is { IfOk result (λ reach. reach ≡ dtz_to self.old.tables left position.now) }
+        ensures is { IfOk result (λ reach. reach ≡ dtz_by self.old.tables (reach_beyond beyond self.old.tables) position.now) }
         ensures memory { OnErr result (ListsMoves self.old.tables position.now) }
-        ensures within { IfOk result (λ reach. IfOk reach (λ d. plies d ≤ 131171 + left)) }
+        ensures within { IfOk result (λ reach. IfOk reach (λ d. plies d ≤ 131172 + visits beyond)) }
         ensures unchanged { self.new ≡ self.old }
     {
-        if left == 0 || is_bare(position) {
+        if is_bare(position) {
             return Ok(Ok(Distance::Draw));
         }
         let probe = Probe::of(position);
         let weighed = self.weigh(alloc, &probe);
-        self.by_weighed(alloc, &probe, &weighed, left - 1)
+        self.by_weighed(alloc, &probe, &weighed, beyond)
+    }
+
+    /// The distance after a quiet move by the tables of the set, or else the one that its value tells in both sets. It
+    /// isn't inlined, since strict probes don't call it.
+    #[inline(never)]
+    #[cycle(dtz)]
+    fn told_after(
+        &mut self,
+        alloc: Global,
+        after: &Position,
+    ) -> Result<Result<Distance, ValueFault>, AllocError>
+        ensures is { IfOk result (λ reach. reach ≡ reach_after self.old.tables after.now) }
+        ensures within { IfOk result (λ reach. IfOk reach (λ d. plies d ≤ 131173)) }
+        ensures unchanged { self.new ≡ self.old }
+    {
+        let own = self.dtz_from(alloc, after, Beyond::Unvisited)?;
+        self.or_agreed_distance(alloc, after, &own)
+    }
+
+    /// The distance after a quiet move, as it is asked for.
+    #[cycle(dtz)]
+    fn dtz_after(
+        &mut self,
+        alloc: Global,
+        after: &Position,
+        beyond: Beyond,
+    ) -> Result<Result<Distance, ValueFault>, AllocError>
+        ensures is { IfOk result (λ reach. reach ≡ reach_beyond beyond self.old.tables after.now) }
+        ensures within { IfOk result (λ reach. IfOk reach (λ d. plies d ≤ 131171 + visits beyond)) }
+        ensures unchanged { self.new ≡ self.old }
+    {
+        match beyond {
+            Beyond::Unvisited => Ok(Ok(Distance::Draw)),
+            Beyond::Visited => self.dtz_from(alloc, after, Beyond::Unvisited),
+            Beyond::Told => self.told_after(alloc, after),
+        }
     }
 
     /// The distance in plies to the next capture or pawn move, which sets the halfmove clock to 0, or to mate. It is
@@ -245,7 +286,6 @@ impl<'a> Set<'a> {
     /// `OutOfMemory` comes only where memory for a list of moves is refused. The position is then in scope with more
     /// than two men, and has a WDL value that is no draw and not by a capture. The set stays as it was but for its
     /// cache.
-    #[tactic(auto, unfolding(crate::specs::Distances::dtz_of))]
     pub fn dtz(&mut self, alloc: Global, position: &Position) -> Result<i32, ProbeFault>
         ensures answer { IsProbe result (is_out_of_scope position.now) (signed_in (dtz_of self.old.tables position.now)) }
         ensures memory { result ≡ Err OutOfMemory → ListsMoves self.old.tables position.now }
@@ -257,7 +297,7 @@ impl<'a> Set<'a> {
         if is_out_of_scope(position) {
             return Err(ProbeFault::OutOfScope);
         }
-        let Ok(reach) = self.dtz_to(alloc, position, 2) else {
+        let Ok(reach) = self.dtz_from(alloc, position, Beyond::Visited) else {
             return Err(ProbeFault::OutOfMemory);
         };
         signed_in(&reach)

@@ -5,6 +5,7 @@ ghost use Rattle.judge_core.specs.Answers.{ListsMovesForVerdict};
 ghost use Rattle.judge_core.specs.Ruling.{ruling};
 ghost use Rattle.judge_core.specs.Tables.{AreFiled};
 
+use crate::dtz::Beyond;
 use crate::found::worth_in;
 use crate::mobility::has_no_move;
 use crate::probe::{Probe, is_bare};
@@ -53,7 +54,7 @@ impl<'a> Set<'a> {
             Ok(Wdl::Loss) => position.side().other(),
             _ => return Ok(verdict::by_value(&reading)),
         };
-        let reach = self.by_weighed(alloc, &probe, &weighed, 1)?;
+        let reach = self.by_weighed(alloc, &probe, &weighed, Beyond::Visited)?;
         Ok(verdict::by_distance(position, winner, &reach))
     }
 }

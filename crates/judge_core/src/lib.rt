@@ -49,8 +49,9 @@
 //!   completion, so there is one such value at most. Lack of memory is never reported.
 //! - CLAIM: `Set::determined_dtz`, clauses `answer`, `memory`, `unchanged`; `Set::determined_answers`, clauses `told`, `verdict`,
 //!   `memory`; `laws::determined_distance_is_one`: a distance that every set with more tables gives, and one at most,
-//!   told beside the set's own exactly where the value is a draw, by a capture, or a win by a pawn move; both with the strict verdict. Lack of memory
-//!   is reported only where `dtz` reports it, or where the value is a win, not by a capture, whose strict distance is a fault.
+//!   told beside the set's own exactly where the value is a draw, by a capture, or a win by a pawn move, or where by the set only
+//!   the quiet moves are left and each has a distance of the set or by its value; both with the strict verdict. Lack of memory is
+//!   reported only where `dtz` may report it, or where the value is a win, not by a capture, whose strict distance is a fault.
 //! - CLAIM: `Set::determined_root`, clauses `moves`, `memory`; `laws::determined_answers_are_one`; `laws::determined_move_is_as_probed`;
 //!   `laws::first_determined_move_is_best`; `laws::first_determined_move_wins_within_rule`: the root moves by these values, those
 //!   that the probes tell. The first has a value wherever one has, and none a better one; where one wins within the rule of fifty

@@ -37,9 +37,9 @@ fn zeroed(value: &Result<Wdl, ValueFault>) -> Result<Distance, ValueFault>
 
 /// The distance from before a move that neither takes a man nor moves a pawn, from the one after it.
 fn before(reach: &Result<Distance, ValueFault>) -> Result<Distance, ValueFault>
-    requires { IfOk reach.now (λ d. plies d ≤ 131173) }
+    requires { IfOk reach.now (λ d. plies d ≤ 131174) }
     ensures is { result ≡ before reach.now }
-    ensures within { IfOk result (λ d. plies d ≤ 131174) }
+    ensures within { IfOk result (λ d. plies d ≤ 131175) }
 {
     match reach {
         Ok(Distance::Draw) => Ok(Distance::Draw),
@@ -81,7 +81,7 @@ impl<'a> Set<'a> {
     ) -> Result<Readings, AllocError>
         ensures wdl { IfOk result (λ r. r.wdl ≡ value_before state (value_as ask self.old.tables after.now)) }
         ensures dtz { IfOk result (λ r. r.dtz ≡ reach_before state zeroes (value_as ask self.old.tables after.now) (reach_as ask self.old.tables after.now)) }
-        ensures within { IfOk result (λ r. IfOk r.dtz (λ d. plies d ≤ 131174)) }
+        ensures within { IfOk result (λ r. IfOk r.dtz (λ d. plies d ≤ 131175)) }
         ensures unchanged { self.new ≡ self.old }
     {
         if state.is_checkmate() {

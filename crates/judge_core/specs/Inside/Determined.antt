@@ -5,6 +5,8 @@ use Rattle.board_core.specs.ComputedMoves.{count_of_men}
 use Rattle.table_file.specs.declared.outcome.Outcome.{Outcome}
 use Rattle.judge_core.specs.declared.ask.Ask.{Ask}
 use Rattle.judge_core.specs.declared.ask.Ask.TheVariants.{Strict, Determined}
+use Rattle.judge_core.specs.declared.dtz.Beyond.{Beyond}
+use Rattle.judge_core.specs.declared.dtz.Beyond.TheVariants.{Unvisited, Visited, Told}
 use Rattle.judge_core.specs.declared.wdl.Wdl.{Wdl}
 use Rattle.judge_core.specs.declared.wdl.Wdl.TheVariants.{Loss, Win}
 use Rattle.judge_core.specs.declared.distance.Distance.{Distance}
@@ -16,7 +18,7 @@ use Rattle.judge_core.specs.Values.{Reading, is_same, opposite, outcome_of}
 use Rattle.judge_core.specs.Tables.{Tables, table_value}
 use Rattle.judge_core.specs.Probing.{weighed_where, wdl_where, wdl_of, worth}
 use Rattle.judge_core.specs.Answers.{ListsMoves}
-use Rattle.judge_core.specs.Distances.{Reach, is_by_capture, is_won, towards, zeroing, pawns_reach_where, dtz_of}
+use Rattle.judge_core.specs.Distances.{Reach, is_by_capture, is_won, towards, zeroing, pawns_reach_where, dtz_by, dtz_to, dtz_of}
 
 -- ---- values
 
@@ -103,8 +105,33 @@ or_agreed_distance (Ok d) other = Ok d
 or_agreed_distance (Err fault) None = Err fault
 or_agreed_distance (Err fault) (Some d) = Ok d
 
+abbrev pub told_reach : Tables → Parts → Reach
+told_reach tables p = or_agreed_distance (dtz_of tables p) (distance_in_both tables p)
+
+-- after a quiet move: what the set says where one position is visited, or else the distance that both have
+unfoldable pub reach_after : Tables → Parts → Reach
+reach_after tables q = or_agreed_distance (dtz_to tables 1 q) (distance_in_both tables q)
+
+abbrev pub or_reach : Reach → Reach → Reach
+or_reach (Ok d) other = Ok d
+or_reach (Err fault) (Ok d) = Ok d
+or_reach (Err fault) (Err other) = Err fault
+
+-- the distance that is told, or else the one by the quiet moves
 unfoldable pub determined_reach : Tables → Parts → Reach
-determined_reach tables p = or_agreed_distance (dtz_of tables p) (distance_in_both tables p)
+determined_reach tables p = or_reach (told_reach tables p) (dtz_by tables (reach_after tables) p)
+
+-- how positions after quiet moves are asked
+abbrev pub reach_beyond : Beyond → Tables → Parts → Reach
+reach_beyond Unvisited tables = dtz_to tables 0
+reach_beyond Visited tables = dtz_to tables 1
+reach_beyond Told tables = reach_after tables
+
+-- the plies that distances after quiet moves may have on those of a table
+abbrev pub visits : Beyond → ℕ
+visits Unvisited = 0
+visits Visited = 1
+visits Told = 2
 
 -- ---- lists of moves
 

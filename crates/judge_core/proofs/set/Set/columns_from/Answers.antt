@@ -1,5 +1,4 @@
-use Rattle.std.proofs.Common.{inr}
-use Rattle.judge_core.proofs.AskedPawns.{asks}
+use Rattle.judge_core.proofs.AskedPawns.{lists}
 use Rattle.judge_core.proofs.ByReadings.{ruled_inside}
 use Rattle.judge_core.proofs.Told.{both_inside}
 use Rattle.judge_core.proofs.set.Set.columns_from.Goals as goal
@@ -13,4 +12,4 @@ returns-in-Ok-clause-verdict c =
     ruled_inside c.args.self.now.tables c.args.position.now c.args.strict.now.wdl c.args.strict.now.dtz c.columns_telling.result.verdict c.requires.scope c.requires.wdl c.requires.dtz c.columns_telling.ensures.verdict
 
 pub returns-in-Err-clause-memory : goal.returns-in-Err-clause-memory
-returns-in-Err-clause-memory c = inr (asks c.args.self.now.tables c.args.position.now c.requires.position c.in-Err.ensures.memory)
+returns-in-Err-clause-memory c = lists c.args.self.now.tables c.args.position.now c.requires.position c.in-Err.ensures.memory

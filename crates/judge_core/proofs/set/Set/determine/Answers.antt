@@ -1,5 +1,6 @@
-use Rattle.std.proofs.Common.{◌∙◌, ap, true, false}
-use Rattle.judge_core.specs.Inside.Determined.{agreed_distance, extreme_weighed, or_agreed_distance}
+use Rattle.std.proofs.Common.{◌∙◌, ap}
+use Rattle.judge_core.specs.Distances.{dtz_by}
+use Rattle.judge_core.specs.Inside.Determined.{distance_in_both, or_agreed_distance, or_reach, reach_after}
 use Rattle.judge_core.specs.Tables.{Holding}
 use Rattle.judge_core.proofs.Told.{value_from, reach_from}
 use Rattle.judge_core.proofs.set.Set.determine.Goals as goal
@@ -9,7 +10,7 @@ returns-clause-wdl c = value_from c.args.self.now.tables c.args.position.now c.a
 
 pub returns-clause-dtz : goal.returns-clause-dtz
 returns-clause-dtz c =
-    let is =
-    c.in_ok-dtz.ensures.is
-    ∙ ap (λ (h : Holding). or_agreed_distance c.args.strict.now.dtz (agreed_distance h.tables c.args.position.now (extreme_weighed h.tables true c.args.position.now) (extreme_weighed h.tables false c.args.position.now))) c.or_agreed-wdl.ensures.unchanged in
-    reach_from c.args.self.now.tables c.args.position.now c.args.strict.now.dtz _ c.requires.dtz is
+    let p = c.args.position.now in
+    let told = c.in_ok-told.ensures.is ∙ ap (λ (h : Holding). or_agreed_distance c.args.strict.now.dtz (distance_in_both h.tables p)) c.or_agreed-wdl.ensures.unchanged in
+    let is = c.in_ok-dtz.ensures.is ∙ ap (λ (h : Holding). or_reach c.in_ok-told.told (dtz_by h.tables (reach_after h.tables) p)) (c.in_ok-told.ensures.unchanged ∙ c.or_agreed-wdl.ensures.unchanged) in
+    reach_from c.args.self.now.tables p c.args.strict.now.dtz c.in_ok-told.told _ c.requires.dtz told is
