@@ -20,35 +20,25 @@ pub(crate) struct BlockKey {
     pub(crate) block: u32,
 }
 
-/// A requested block: a mark of its key, how often in a row it was requested since it was new or decoded, and the number of
-/// its last request, which begins anew after 65,535. Two blocks of one place and one mark count as one, and a request long ago
-/// may count as a recent one. Either may decode a block early, and changes no answer.
+/// A requested block, and how often it was requested again since it was new or decoded, with no other block of its place
+/// between.
 #[derive(Clone, Copy)]
 pub(crate) struct Asked {
-    mark: u8,
+    key: BlockKey,
     times: u8,
-    when: u16,
 }
 
 impl BlockKey {
-    /// A number of the key. Its low ten bits at most find the key's place, and bits 16 to 23 mark it there. Primes keep the parts
-    /// of a table apart; the high bits come from others than the low ones.
+    /// A number of the key, whose low bits find the place where it is remembered.
     fn mixed(&self) -> usize {
-        let part = 613 * self.slot as usize + 307 * self.side as usize + 151 * self.file as usize;
-        let high = (part / 8) ^ (self.block as usize / 256);
-        part + self.block as usize + 65536 * high
-    }
-
-    /// The mark of the key.
-    fn mark(&self) -> u8 {
-        (self.mixed() / 65536 % 256) as u8
+        self.slot as usize + self.block as usize
     }
 }
 
-/// How recently and how often a block was requested.
+/// How often a block was requested.
 #[derive(Clone, Copy, PartialEq, Eq)]
 pub(crate) enum Asking {
-    /// For the first time in the recent past.
+    /// For the first time, or another block of its place was requested since.
     First,
     /// Again.
     Again,
@@ -56,14 +46,9 @@ pub(crate) enum Asking {
     Often,
 }
 
-/// The least number of requested keys that are remembered for each block that may be kept, up to `MOST_REMEMBERED`.
-const REMEMBERED: usize = 16;
-
-/// The most requested keys that are remembered. They take 4 KB, and so leave room beside them in the fastest cache.
-const MOST_REMEMBERED: usize = 1024;
-
-/// A request counts as a repeat where at most this many requests have passed for each block that may be kept.
-const RECENT: u16 = 4;
+/// How many requested keys are remembered, a power of two. They take less than a kilobyte, and so leave room beside them in
+/// the fastest cache.
+const REMEMBERED: usize = 64;
 
 /// A block is decoded after this many repeats. Decoding takes as long as some hundred single values.
 const OFTEN: u8 = 128;
@@ -73,9 +58,6 @@ const OFTEN: u8 = 128;
 pub(crate) struct Blocks {
     pub(crate) kept: LruCache<BlockKey, Vec<u16>>,
     pub(crate) asked: Vec<Asked>,
-    pub(crate) askings: u16,
-    /// How many requests may pass between two requests for one block.
-    recent: u16,
     /// What looks ahead came to. It is never read, and makes the looks something that is done.
     ahead: u32,
 }
@@ -87,14 +69,13 @@ impl Blocks {
         requires few { most ≤ 4096 }
         ensures { IfOk result (λ blocks. IsNew most blocks) }
     {
-        let none = Asked {
-            mark: 0,
-            times: 0,
-            when: 0,
+        let key = BlockKey {
+            slot: 0,
+            side: 0,
+            file: 0,
+            block: 0,
         };
-        let recent = RECENT * most as u16;
-        let places = (REMEMBERED * most).next_power_of_two().min(MOST_REMEMBERED);
-        let asked = vec![in alloc; none; places]?;
+        let asked = vec![in alloc; Asked { key, times: 0 }; REMEMBERED]?;
         let Some(most) = NonZeroUsize::new(most) else {
             unreachable!()
         };
@@ -102,8 +83,6 @@ impl Blocks {
         Ok(Blocks {
             kept,
             asked,
-            askings: 0,
-            recent,
             ahead: 0,
         })
     }
@@ -136,15 +115,12 @@ impl Blocks {
         key.mixed() & (self.asked.len() - 1)
     }
 
-    /// How a request counts after the one remembered at its place, which may be for another block.
-    fn next_asking(&self, last: Asked, mark: u8, now: u16) -> (Asking, u8) {
-        if last.mark != mark || now.wrapping_sub(last.when) > self.recent {
-            return (Asking::First, 0);
-        }
-        if last.times >= OFTEN {
+    /// How one more request counts for a block that was requested so often, and how often it was requested then.
+    fn counted(times: u8) -> (Asking, u8) {
+        if times >= OFTEN {
             return (Asking::Often, 0);
         }
-        (Asking::Again, last.times.saturating_add(1))
+        (Asking::Again, times.saturating_add(1))
     }
 
     /// Records a request for a block, and returns how often it was requested.
@@ -154,11 +130,13 @@ impl Blocks {
         ensures places { length self.new.asked.items ≡ length self.old.asked.items }
     {
         let place = self.place_of(key);
-        let when = self.askings.wrapping_add(1);
-        let mark = key.mark();
-        let (asking, times) = self.next_asking(self.asked[place], mark, when);
-        self.asked[place] = Asked { mark, times, when };
-        self.askings = when;
+        let last = self.asked[place];
+        if last.key != key {
+            self.asked[place] = Asked { key, times: 0 };
+            return Asking::First;
+        }
+        let (asking, times) = Blocks::counted(last.times);
+        self.asked[place] = Asked { key, times };
         asking
     }
 }

@@ -56,6 +56,7 @@ fn placed(position: &Position) -> Option<Placed>
 
 impl<'p> Probe<'p> {
     /// A position with its men.
+    #[inline(always)]
     pub fn of(position: &'p Position) -> Probe<'p>
         ensures { result ≡ position.now }
     {

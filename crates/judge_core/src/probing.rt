@@ -43,6 +43,7 @@ pub(crate) fn told(reading: &Result<Wdl, ValueFault>) -> Result<Wdl, ProbeFault>
 
 impl<'a> Set<'a> {
     /// The table value of a position: what its own WDL table says about it. Bare kings are a draw.
+    #[inline(always)]
     pub(crate) fn table_value(
         &mut self,
         alloc: Global,
@@ -101,6 +102,7 @@ impl<'a> Set<'a> {
 
     /// What the captures say about the position, and its own table, which says this.
     #[cycle(wdl)]
+    #[inline]
     pub(crate) fn weigh_with(
         &mut self,
         alloc: Global,

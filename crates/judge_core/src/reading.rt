@@ -49,6 +49,7 @@ impl<'t, 'a> OwnPlace<'t, 'a> {
 }
 
 /// Where the value of an index stands, with a step counter of its own.
+#[inline]
 fn spot_by<L: Ledger>(part: &TablePart<'_, '_>, index: u64, blank: Blank) -> Result<Spot, Damaged>
     requires name { blank.name ≡ L.name }
     requires parts { blank.parts ≡ L.parts }
@@ -61,6 +62,7 @@ fn spot_by<L: Ledger>(part: &TablePart<'_, '_>, index: u64, blank: Blank) -> Res
 }
 
 /// Where the value of an index stands.
+#[inline(always)]
 fn spot_of(part: &TablePart<'_, '_>, index: u64) -> Result<Spot, Damaged>
     ensures found { IfOk result (λ s. IsSpot part.now index s) }
     ensures real { IfOk result (λ s. IsRealSpot part.now s) }

@@ -37,7 +37,7 @@ impl<'a> Model for Set<'a> {
 
 impl<'a> Set<'a> {
     /// A set without tables that may keep this many decoded blocks, 1 to 4096. The error comes where memory is refused
-    /// for its slots, or for the list of requested keys, at most 1024 of them.
+    /// for its slots, or for the list of requested keys, 64 of them.
     pub fn new(alloc: Global, cache: usize) -> Result<Set<'a>, AllocError>
         requires some { 1 ≤ cache }
         requires most { cache ≤ 4096 }
