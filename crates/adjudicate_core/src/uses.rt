@@ -243,14 +243,7 @@ fn tell_refused<E: Output>(alloc: Global, errors: &mut E, error: &clap::Error, c
     ensures { (words : List ℕ) × TellsLine E.facts E.contents errors.old errors.new (shown_line words) }
 {
     match format!(in alloc; "{error}") {
-        Ok(text) => tell_line_of(
-            alloc,
-            errors,
-            command,
-            first_words(text.as_str()),
-            b"",
-            "",
-        ),
+        Ok(text) => tell_line_of(alloc, errors, command, first_words(text.as_str()), b"", ""),
         Err(_) => tell_line(errors, error.kind().as_str().unwrap_or(""), b"", ""),
     }
 }
@@ -259,14 +252,48 @@ fn tell_refused<E: Output>(alloc: Global, errors: &mut E, error: &clap::Error, c
 fn tell_fault<E: Output>(alloc: Global, errors: &mut E, fault: &ValueFault<'_>, command: &str)
     ensures { TellsLine E.facts E.contents errors.old errors.new (shown_line (fault_words fault.now)) }
 {
-    let (front, middle, rest) = match fault {
-        ValueFault::NoOption(name) => ("--", *name, " is missing"),
-        ValueFault::NoWord(name) => ("", *name, " is missing"),
-        ValueFault::Unfit(wanted, text) => (wanted.front(), *text, wanted.rest()),
-        ValueFault::NotWith(instead, name) => ("--", *name, instead.rest()),
-        ValueFault::Beside(name) => ("--", *name, " cannot be used with --game"),
-    };
-    tell_line_of(alloc, errors, command, front, middle.as_bytes(), rest);
+    match fault {
+        ValueFault::NoOption(name) => tell_line_of(
+            alloc,
+            errors,
+            command,
+            "--",
+            name.as_bytes(),
+            " is missing",
+        ),
+        ValueFault::NoWord(name) => tell_line_of(
+            alloc,
+            errors,
+            command,
+            "",
+            name.as_bytes(),
+            " is missing",
+        ),
+        ValueFault::Unfit(wanted, text) => tell_line_of(
+            alloc,
+            errors,
+            command,
+            wanted.front(),
+            text.as_bytes(),
+            wanted.rest(),
+        ),
+        ValueFault::NotWith(instead, name) => tell_line_of(
+            alloc,
+            errors,
+            command,
+            "--",
+            name.as_bytes(),
+            instead.rest(),
+        ),
+        ValueFault::Beside(name) => tell_line_of(
+            alloc,
+            errors,
+            command,
+            "--",
+            name.as_bytes(),
+            " cannot be used with --game",
+        ),
+    }
 }
 
 /// Writes the fault of the words in one line, and the usage: of the command, where the first word names one, and else all of it. For a

@@ -81,8 +81,20 @@ fn make_files<R: Files + AllocGlobal + Abort>(rt: &R) {
 /// That a file of the system, by its name and by the link, has this mode.
 fn check_mode<R: Files + AllocGlobal + Clone + Drop + Abort>(rt: &R, mode: u32) {
     fs::set_permissions(rt, FILE, fs::Permissions::from_mode(mode)).expect(rt, "a mode");
-    check_file(rt, rt.alloc(), &SystemDisk::new(rt, sink()), FILE, 0o100000 | mode);
-    check_file(rt, rt.alloc(), &SystemDisk::new(rt, sink()), LINK, 0o100000 | mode);
+    check_file(
+        rt,
+        rt.alloc(),
+        &SystemDisk::new(rt, sink()),
+        FILE,
+        0o100000 | mode,
+    );
+    check_file(
+        rt,
+        rt.alloc(),
+        &SystemDisk::new(rt, sink()),
+        LINK,
+        0o100000 | mode,
+    );
 }
 
 #[test]

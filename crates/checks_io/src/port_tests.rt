@@ -10,8 +10,8 @@ use std::process::Abort;
 use std::rt::Files;
 use std::time::{Clock, Duration};
 use system_io::{
-    Arrival, BindFault, Host, LockFault, MadeSocketCall, MemoryPort, MemorySocket, Passage, Port, Recipient,
-    SystemHost, Turn, UdpPort,
+    Arrival, BindFault, Host, LockFault, MadeSocketCall, MemoryPort, MemorySocket, Passage, Port,
+    Recipient, SystemHost, Turn, UdpPort,
 };
 
 const DATAGRAMS: [&[u8]; 3] = [b"a", b"b", b"c"];

@@ -1,6 +1,5 @@
 -- An input whose long lines are cut (this project's own).
-use Rattle.std.specs.Prelude.{◌+◌, ◌<◌, ◌≡◌, ℕ, List, [], ◌∷◌, Option, Some, None, Result, MatchResult, length, option_map, take, ◌≤◌, if◌then◌else◌, ◌==◌, nat_lt, nat_le}
-
+use Rattle.std.specs.Prelude.{◌+◌, ◌<◌, ℕ, List, [], ◌∷◌, Option, Some, None, Result, MatchResult, length, option_map, take, ◌≤◌, if◌then◌else◌, ◌==◌, nat_lt, nat_le}
 use Rattle.std.specs.Io.KnownBytes.{Consumes, IsAtEnd, Keeps}
 use Rattle.system_io.specs.declared.bounded_lines.BoundedLines.{BoundedLines}
 

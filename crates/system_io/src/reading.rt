@@ -56,11 +56,7 @@ pub(crate) fn unread(fault: ReadFault) -> io::Error {
 const CHUNK_BYTES: u64 = 16_384;
 
 /// Reads once into a chunk, and appends what came. Returns whether there may be more. A read that a signal interrupts gives nothing.
-fn append_next<R: Read>(
-    reader: &mut R,
-    chunk: &mut [u8],
-    bytes: &mut Vec<u8>,
-) -> io::Result<bool>
+fn append_next<R: Read>(reader: &mut R, chunk: &mut [u8], bytes: &mut Vec<u8>) -> io::Result<bool>
     requires { 0 < length chunk.old }
     ensures came { IfOk result (λ more. Appended (R.remaining reader.old) (R.remaining reader.new) bytes.old.items bytes.new.items) }
     ensures end { result ≡ Ok false → IsAtEnd (R.remaining reader.new) }
@@ -78,11 +74,7 @@ fn append_next<R: Read>(
 }
 
 /// Reads to the end of a reader, by chunks, and appends what comes.
-fn append_all<R: Read>(
-    reader: &mut R,
-    chunk: &mut [u8],
-    bytes: &mut Vec<u8>,
-) -> io::Result<()>
+fn append_all<R: Read>(reader: &mut R, chunk: &mut [u8], bytes: &mut Vec<u8>) -> io::Result<()>
     requires { 0 < length chunk.old }
     ensures { OnOk result (IfSome (R.remaining reader.old) (λ all. bytes.new.items ≡ bytes.old.items ++ all)) }
 {

@@ -121,7 +121,7 @@ where
 
     /// Why the file wasn't opened, which is told, or that nothing stands at its path. A link that leads nowhere, as to a disk that isn't
     /// mounted, stands there, and can't be read.
-    fn unless_none_stands(&mut self, error: io::Error) -> Result<Option<Vec<u8>>, ReadFault> {
+    fn unless_none_stands(&mut self, error: io::Error) -> Result<(), ReadFault> {
         if !is_absent(&error) {
             self.tell(&error);
             return Err(unopened(error));
@@ -130,7 +130,10 @@ where
             self.tell(&error);
             return Err(ReadFault::Unreadable);
         }
-        unless_absent(error)
+        match unless_absent(error) {
+            Ok(_) => Ok(()),
+            Err(fault) => Err(fault),
+        }
     }
 
     /// Removes the file beside where a call for it has failed, which is told.
@@ -154,7 +157,12 @@ where
     fn read(&mut self, alloc: Global) -> Result<Option<Vec<u8>>, ReadFault> {
         let (file, regular) = match open_regular(self.rt, self.path.as_str()) {
             Ok(opened) => opened,
-            Err(error) => return self.unless_none_stands(error),
+            Err(error) => {
+                return match self.unless_none_stands(error) {
+                    Ok(()) => Ok(None),
+                    Err(fault) => Err(fault),
+                };
+            }
         };
         self.told(file.sync_all())?;
         match read_at_most(alloc, file, regular.len(), MOST_KEPT_BYTES as u64) {

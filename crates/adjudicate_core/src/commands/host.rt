@@ -9,7 +9,9 @@ ghost use Rattle.adjudicate_core.specs.Misuses.{AreWell, IsFirst, fault_words};
 use super::{Form, Value};
 use crate::numbers::CacheSize;
 use crate::usage::ValueFault;
-use crate::values::{at_once_in, cache_in, check_bind, datagrams_in, me_in, option_in, recipients_in};
+use crate::values::{
+    at_once_in, cache_in, check_bind, datagrams_in, me_in, option_in, recipients_in,
+};
 use clap::ArgMatches;
 use move_msg::Who;
 use std::num::NonZeroUsize;

@@ -10,7 +10,9 @@ use super::{Form, Value};
 use crate::game_name::GameName;
 use crate::numbers::{Delay, is_set};
 use crate::usage::ValueFault;
-use crate::values::{check_bind, datagrams_in, delay_in, game_words_in, me_in, option_in, recipients_in};
+use crate::values::{
+    check_bind, datagrams_in, delay_in, game_words_in, me_in, option_in, recipients_in,
+};
 use clap::ArgMatches;
 use move_msg::Who;
 use task_files::Places;

@@ -1,4 +1,4 @@
-use Rattle.std.proofs.Common.{rules, refl, ◌≡◌, ◌∙◌, ◌≤◌, ◌<◌, ◌+◌, ◌++◌, [], ap, drop, length, slice_index_or, take}
+use Rattle.std.proofs.Common.{rules, refl, ◌∙◌, ◌≤◌, ◌<◌, ◌+◌, ◌++◌, [], ap, length, slice_index_or, take}
 use Rattle.system_io.specs.ShortLines.{given_for, in_front, open_after, opened, short_lines}
 use Rattle.system_io.proofs.ShortLineLaws.{drop_later, given_more, opened_more}
 use Rattle.system_io.proofs.bounded_lines.shorten.Goals as goal

@@ -1,4 +1,4 @@
-use Rattle.std.proofs.Common.{rules, ◌≡◌, ◌≤◌, length, subst, sym, take}
+use Rattle.std.proofs.Common.{rules, ◌≤◌, length, subst, sym, take}
 use Rattle.std.specs.Prelude.{option_map}
 use Rattle.std.specs.Io.KnownBytes.{Consumes}
 use Rattle.system_io.specs.ShortLines.{short_lines}
