@@ -71,7 +71,7 @@ fn main(rt: HostRuntime) -> ExitCode {
     let answered = run_program(
         rt.alloc(),
         &words_of(&rt),
-        &SystemDisk::new(&rt),
+        &SystemDisk::new(&rt, rt.stderr()),
         &SystemInput::new(&rt),
         &SystemHost::new(&rt, rt.stderr()),
         &mut out,

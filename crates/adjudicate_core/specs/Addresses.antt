@@ -1,5 +1,5 @@
 -- Addresses in one word (this project's own).
-use Rattle.std.specs.Prelude.{◌≡◌, ◌⊎◌, ◌<◌, ◌+◌, ◌++◌, ◌^◌, ℕ, List, [], ◌∷◌, length}
+use Rattle.std.specs.Prelude.{◌≡◌, ◌⊎◌, ◌<◌, ◌+◌, ◌++◌, ◌^◌, ℕ, List, [], ◌∷◌, Option, Some, None, length}
 use Rattle.std.specs.List.{AllByRecursion, Contains}
 use Rattle.fen_text.specs.Cuts.{cut_at}
 use Rattle.system_io.specs.Recipients.{sender_word}
@@ -20,6 +20,11 @@ pub record IsAddress (text : List ℕ) : Type 0 where
   pub host : length port + 1 < length text
   pub is : IsNumber port number
   pub within : number < 2 ^ 16
+
+-- where there is such a text, it is an address
+abbrev pub IsAddressIfAny : Option (List ℕ) → Type 0
+IsAddressIfAny None = Unit {0}
+IsAddressIfAny (Some text) = IsAddress text
 
 -- each of them is an address
 abbrev pub AreAddresses : List ℕ → Type 0

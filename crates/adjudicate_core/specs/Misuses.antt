@@ -4,7 +4,7 @@ use Rattle.std.specs.List.{AllByRecursion}
 use Rattle.clap.specs.Words.{Text}
 use Rattle.move_msg.specs.declared.who.Who.{Who}
 use Rattle.move_msg.specs.Stamps.{IsGameName}
-use Rattle.adjudicate_core.specs.Addresses.{AreAddresses, AreRecipients}
+use Rattle.adjudicate_core.specs.Addresses.{AreAddresses, AreRecipients, IsAddress}
 use Rattle.adjudicate_core.specs.GamePaths.{NamesGame}
 use Rattle.adjudicate_core.specs.Numbers.{IsAtOnce, IsCache, IsDatagrams, IsDelay, IsHundredOr, IsMe}
 use Rattle.adjudicate_core.specs.declared.usage.Instead.{Instead}
@@ -27,6 +27,7 @@ name_of wanted.Wait = codes "wait"
 name_of wanted.Tries = codes "tries"
 name_of wanted.Addresses = codes "to"
 name_of wanted.Recipients = codes "to"
+name_of wanted.Address = codes "bind"
 name_of wanted.AtOnce = codes "at-once"
 name_of wanted.GameFile = codes "game"
 
@@ -42,6 +43,7 @@ range_of wanted.Tries = codes "1 to 65535"
 range_of wanted.AtOnce = codes "1 to 65535"
 range_of wanted.Addresses = codes "ADDR[,ADDR], each a host, a colon and a port"
 range_of wanted.Recipients = codes "ADDR[,ADDR], each a host, a colon and a port"
+range_of wanted.Address = codes "ADDR, a host, a colon and a port"
 range_of wanted.GameFile = codes "FOLDER/STAMP.game, with 32 lower-case hexadecimal digits"
 
 -- an option that takes the place of others
@@ -100,6 +102,7 @@ IsUnfit value wanted.Tries = (n : ℕ) → IsHundredOr (value (codes "tries")) n
 IsUnfit value wanted.Addresses = (to : List ℕ) → Some to ≡ value (codes "to") → AreAddresses to → ⊥
 IsUnfit value wanted.Recipients = (to : List ℕ) → Some to ≡ value (codes "to") → AreRecipients to → ⊥
 IsUnfit value wanted.AtOnce = (n : ℕ) → IsAtOnce (value (codes "at-once")) n → ⊥
+IsUnfit value wanted.Address = (address : List ℕ) × (value (codes "bind") ≡ Some address) × (IsAddress address → ⊥)
 IsUnfit value wanted.GameFile = (path : List ℕ) × (value (codes "game") ≡ Some path) × ((stamp : List ℕ) → NamesGame path stamp → ⊥)
 
 abbrev pub Holds : (Text → Option Text) → Fault → Type 0

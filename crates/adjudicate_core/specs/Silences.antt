@@ -18,9 +18,10 @@ use Rattle.adjudicate_core.specs.Uses.{GoesOut}
 abbrev pub is_silent : Reported → Bool
 is_silent told = (told.count == 0) && not (is_some told.ruling)
 
--- it is silent; of any other it is told how many moves it has acknowledged
+-- no answer of it came, which is all that is known of it: it may run, and answer elsewhere; of any other it is told how many moves it has
+-- acknowledged
 abbrev pub silence_words : Reported → List ℕ
-silence_words told = cond (is_silent told) (codes "silent") (codes "last acknowledged " ++ decimal told.count)
+silence_words told = cond (is_silent told) (codes "no answer came") (codes "last acknowledged " ++ decimal told.count)
 
 -- a line for each of the two arbiters
 abbrev pub silence_text : Known → List ℕ

@@ -64,7 +64,7 @@ fn has_space(text: &str) -> bool
 }
 
 /// Whether a text is an address.
-fn is_address(text: &str) -> bool
+pub(crate) fn is_address(text: &str) -> bool
     ensures some { IsTrue result → IsAddress text.now }
     ensures none { result ≡ false → IsAddress text.now → ⊥ }
 {

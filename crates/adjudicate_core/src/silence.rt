@@ -27,12 +27,12 @@ fn put_number<E: Output>(errors: &mut E, number: u32) -> Result<(), WriteFault>
     put(errors, buffer.format(number).as_bytes())
 }
 
-/// Writes what an arbiter has acknowledged, or that it is silent.
+/// Writes what an arbiter has acknowledged, or that no answer of it came: it may run and answer elsewhere.
 fn put_told<E: Output>(errors: &mut E, told: &Reported) -> Result<(), WriteFault>
     ensures { IsPut E.facts E.contents errors.old errors.new (silence_words told.now) result }
 {
     if is_silent(told) {
-        return put(errors, b"silent");
+        return put(errors, b"no answer came");
     }
     match put(errors, b"last acknowledged ") {
         Ok(()) => put_number(errors, told.count),

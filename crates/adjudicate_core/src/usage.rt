@@ -30,6 +30,8 @@ pub enum Wanted {
     Addresses,
     /// To whom answers are sent: addresses, and `sender`.
     Recipients,
+    /// At which address datagrams come.
+    Address,
     /// How many games are open at once.
     AtOnce,
     /// The file of the game that is sent.
@@ -50,6 +52,7 @@ impl Wanted {
             Wanted::Wait => "--wait ",
             Wanted::Tries => "--tries ",
             Wanted::Addresses | Wanted::Recipients => "--to ",
+            Wanted::Address => "--bind ",
             Wanted::AtOnce => "--at-once ",
             Wanted::GameFile => "--game ",
         }
@@ -69,6 +72,7 @@ impl Wanted {
             Wanted::Addresses | Wanted::Recipients => {
                 ": ADDR[,ADDR], each a host, a colon and a port"
             }
+            Wanted::Address => ": ADDR, a host, a colon and a port",
             Wanted::GameFile => ": FOLDER/STAMP.game, with 32 lower-case hexadecimal digits",
         }
     }

@@ -210,6 +210,24 @@ fn tell_line<E: Output>(errors: &mut E, front: &str, middle: &[u8], rest: &str)
     }
 }
 
+/// Writes words of three parts in one line, and the usage of a command.
+fn tell_line_of<E: Output>(
+    alloc: Global,
+    errors: &mut E,
+    command: &str,
+    front: &str,
+    middle: &[u8],
+    rest: &str,
+)
+    ensures { TellsLine E.facts E.contents errors.old errors.new (shown_line (front.now ++ middle.now ++ rest.now)) }
+{
+    let told = put_line(errors, front.as_bytes(), middle, rest.as_bytes());
+    match told {
+        Ok(()) => tell_usage_of(alloc, errors, command),
+        Err(_) => {}
+    }
+}
+
 /// The parser's own words, without what it adds to them.
 fn first_words(text: &str) -> &str {
     let text = text.strip_prefix("error: ").unwrap_or(text);
@@ -221,30 +239,56 @@ fn first_words(text: &str) -> &str {
 
 /// Writes why the parser of command lines refuses words: in its own words, or, where memory for these is refused, by
 /// its name for the fault.
-fn tell_refused<E: Output>(alloc: Global, errors: &mut E, error: &clap::Error)
+fn tell_refused<E: Output>(alloc: Global, errors: &mut E, error: &clap::Error, command: &str)
     ensures { (words : List ℕ) × TellsLine E.facts E.contents errors.old errors.new (shown_line words) }
 {
     match format!(in alloc; "{error}") {
-        Ok(text) => tell_line(errors, first_words(text.as_str()), b"", ""),
+        Ok(text) => tell_line_of(alloc, errors, command, first_words(text.as_str()), b"", ""),
         Err(_) => tell_line(errors, error.kind().as_str().unwrap_or(""), b"", ""),
     }
 }
 
 /// Writes a fault of the values of a command.
-fn tell_fault<E: Output>(errors: &mut E, fault: &ValueFault<'_>)
+fn tell_fault<E: Output>(alloc: Global, errors: &mut E, fault: &ValueFault<'_>, command: &str)
     ensures { TellsLine E.facts E.contents errors.old errors.new (shown_line (fault_words fault.now)) }
 {
     match fault {
-        ValueFault::NoOption(name) => tell_line(errors, "--", name.as_bytes(), " is missing"),
-        ValueFault::NoWord(name) => tell_line(errors, "", name.as_bytes(), " is missing"),
-        ValueFault::Unfit(wanted, text) => {
-            tell_line(errors, wanted.front(), text.as_bytes(), wanted.rest())
-        }
-        ValueFault::NotWith(instead, name) => {
-            tell_line(errors, "--", name.as_bytes(), instead.rest())
-        }
-        ValueFault::Beside(name) => tell_line(
+        ValueFault::NoOption(name) => tell_line_of(
+            alloc,
             errors,
+            command,
+            "--",
+            name.as_bytes(),
+            " is missing",
+        ),
+        ValueFault::NoWord(name) => tell_line_of(
+            alloc,
+            errors,
+            command,
+            "",
+            name.as_bytes(),
+            " is missing",
+        ),
+        ValueFault::Unfit(wanted, text) => tell_line_of(
+            alloc,
+            errors,
+            command,
+            wanted.front(),
+            text.as_bytes(),
+            wanted.rest(),
+        ),
+        ValueFault::NotWith(instead, name) => tell_line_of(
+            alloc,
+            errors,
+            command,
+            "--",
+            name.as_bytes(),
+            instead.rest(),
+        ),
+        ValueFault::Beside(name) => tell_line_of(
+            alloc,
+            errors,
+            command,
             "--",
             name.as_bytes(),
             " cannot be used with --game",
@@ -252,8 +296,8 @@ fn tell_fault<E: Output>(errors: &mut E, fault: &ValueFault<'_>)
     }
 }
 
-/// Writes the fault of the words in one line, and the usage. For a request for help it writes the usage alone, after a command
-/// that of the command.
+/// Writes the fault of the words in one line, and the usage: of the command, where the first word names one, and else all of it. For a
+/// request for help it writes the usage alone.
 ///
 /// A byte outside those from the space to the tilde is printed by its number, as `\x0a`, and so is a backslash. All of
 /// it is flushed. A failure of `errors` changes nothing.
@@ -272,8 +316,8 @@ pub(crate) fn tell_misuse<E: Output>(
         Misuse::UnknownCommand(word) => tell_line(errors, "no command ", word.as_bytes(), ""),
         Misuse::Refused(error) => match error.kind() {
             ErrorKind::DisplayHelp => tell_usage_of(alloc, errors, command),
-            _ => tell_refused(alloc, errors, error),
+            _ => tell_refused(alloc, errors, error, command),
         },
-        Misuse::Value(fault) => tell_fault(errors, fault),
+        Misuse::Value(fault) => tell_fault(alloc, errors, fault, command),
     }
 }

@@ -3,11 +3,11 @@
 ghost use Rattle.std.specs.Prelude.{◌≡◌, IfOk, IfErr, OnOk, None, Some, codes};
 ghost use Rattle.clap.specs.Words.{first_value, found_of};
 ghost use Rattle.move_msg.specs.Stamps.{IsGameName};
-ghost use Rattle.adjudicate_core.specs.Addresses.{AreAddresses, AreRecipients};
+ghost use Rattle.adjudicate_core.specs.Addresses.{AreAddresses, AreRecipients, IsAddressIfAny};
 ghost use Rattle.adjudicate_core.specs.Misuses.{AreGameWords, AreWell, IsFirst, IsTold, NoOption, NoWord, NotWith, Unfit, fault_words, game_faults, me_faults, name_faults, recipient_faults, to_faults};
 ghost use Rattle.adjudicate_core.specs.Numbers.{IsAtOnce, IsCache, IsDatagrams, IsDelay, IsHundredOr, IsMe};
 
-use crate::addresses::{are_addresses, are_recipients};
+use crate::addresses::{are_addresses, are_recipients, is_address};
 use crate::game_name::GameName;
 use crate::numbers::{CacheSize, Delay, at_once_of, datagrams_of, hundred_or, me_of};
 use crate::usage::{Instead, ValueFault, Wanted};
@@ -120,6 +120,21 @@ pub(crate) fn recipients_in<'a>(matches: &ArgMatches<'a>) -> Result<&'a str, Val
         Ok(text)
     } else {
         Err(ValueFault::Unfit(Wanted::Recipients, text))
+    }
+}
+
+/// That the address at which datagrams come is one, where it is named.
+pub(crate) fn check_bind<'a>(matches: &ArgMatches<'a>) -> Result<(), ValueFault<'a>>
+    ensures ok { OnOk result (IsAddressIfAny (first_value (found_of matches.now) (codes "bind"))) }
+    ensures err { IfErr result (λ fault. IsTold (first_value (found_of matches.now)) (Unfit Wanted.Address) (fault_words fault)) }
+{
+    let Some(text) = matches.get_str("bind") else {
+        return Ok(());
+    };
+    if is_address(text) {
+        Ok(())
+    } else {
+        Err(ValueFault::Unfit(Wanted::Address, text))
     }
 }
 

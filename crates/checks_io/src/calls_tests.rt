@@ -3,6 +3,7 @@
 use crate::comparing::{check_bytes, check_same, push_bytes};
 use std::alloc::Global;
 use std::fs;
+use std::io::sink;
 use std::process::Abort;
 use std::rt::Files;
 use system_io::{
@@ -151,7 +152,7 @@ fn a_lost_name_stays_lost(rt: HostRuntime) {
 
 /// Whether the system's file at a path can be brought to the disk.
 fn is_settled<R: Files<File = fs::File> + AllocGlobal + Abort>(rt: &R, path: &str) -> bool {
-    let mut file = SystemFile::at(rt, rt.alloc(), path).expect(rt, "memory");
+    let mut file = SystemFile::at(rt, rt.alloc(), sink(), path).expect(rt, "memory");
     file.settle().is_ok()
 }
 

@@ -7,6 +7,7 @@ use arbiter_core::{KeepFault, Keeper};
 use arbiter_server::FileKeeper;
 use std::alloc::Global;
 use std::fs;
+use std::io::{Sink, sink};
 use std::os::unix::fs::symlink;
 use std::process::Abort;
 use std::rt::Files;
@@ -50,22 +51,22 @@ const BESIDE: &str = "/tmp/checks-test-kept/kept.new";
 fn file_at<'a, R: Files<File = fs::File> + AllocGlobal + Abort>(
     rt: &'a R,
     path: &str,
-) -> SystemFile<'a, R> {
-    SystemFile::at(rt, rt.alloc(), path).expect(rt, "memory")
+) -> SystemFile<'a, R, Sink> {
+    SystemFile::at(rt, rt.alloc(), sink(), path).expect(rt, "memory")
 }
 
 /// A keeper over it, or why there is none.
 fn keeper_at<'a, R: Files<File = fs::File> + AllocGlobal + Abort>(
     rt: &'a R,
     path: &str,
-) -> Result<FileKeeper<SystemFile<'a, R>>, ReadFault> {
+) -> Result<FileKeeper<SystemFile<'a, R, Sink>>, ReadFault> {
     FileKeeper::new(rt.alloc(), file_at(rt, path))
 }
 
 /// A keeper over the kept file.
 fn kept_at<'a, R: Files<File = fs::File> + AllocGlobal + Abort>(
     rt: &'a R,
-) -> FileKeeper<SystemFile<'a, R>> {
+) -> FileKeeper<SystemFile<'a, R, Sink>> {
     keeper_at(rt, KEPT).ok().expect(rt, "a file that is read")
 }
 
@@ -181,7 +182,10 @@ fn write_long<R: Files + AllocGlobal + Abort>(rt: &R) {
     fs::write(rt, LONG, bytes.as_slice()).expect(rt, "a file");
 }
 
-/// A folder in the file's place, a file of too many bytes and a file in a folder that isn't there are refused.
+/// A link to nothing.
+const DANGLING: &str = "/tmp/checks-test-unkept/dangling";
+
+/// A folder in the file's place, a file of too many bytes, a file in a folder that isn't there and a link to nothing are refused.
 #[test]
 fn keeps_no_file_that_it_cannot_read(rt: HostRuntime) {
     make_folder(&rt, OTHER);
@@ -189,5 +193,7 @@ fn keeps_no_file_that_it_cannot_read(rt: HostRuntime) {
     write_long(&rt);
     expect_unread(&rt, LONG);
     expect_unread(&rt, NOWHERE);
+    symlink(&rt, NOWHERE, DANGLING).expect(&rt, "a link");
+    expect_unread(&rt, DANGLING);
     remove_folder(&rt, OTHER);
 }

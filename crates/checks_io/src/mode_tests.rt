@@ -81,8 +81,20 @@ fn make_files<R: Files + AllocGlobal + Abort>(rt: &R) {
 /// That a file of the system, by its name and by the link, has this mode.
 fn check_mode<R: Files + AllocGlobal + Clone + Drop + Abort>(rt: &R, mode: u32) {
     fs::set_permissions(rt, FILE, fs::Permissions::from_mode(mode)).expect(rt, "a mode");
-    check_file(rt, rt.alloc(), &SystemDisk::new(rt), FILE, 0o100000 | mode);
-    check_file(rt, rt.alloc(), &SystemDisk::new(rt), LINK, 0o100000 | mode);
+    check_file(
+        rt,
+        rt.alloc(),
+        &SystemDisk::new(rt, sink()),
+        FILE,
+        0o100000 | mode,
+    );
+    check_file(
+        rt,
+        rt.alloc(),
+        &SystemDisk::new(rt, sink()),
+        LINK,
+        0o100000 | mode,
+    );
 }
 
 #[test]
@@ -104,7 +116,7 @@ fn reads_no_irregular_file(rt: HostRuntime) {
         "/tmp/checks-test-nowhere",
         "",
     ] {
-        let disk = SystemDisk::new(&rt);
+        let disk = SystemDisk::new(&rt, sink());
         check_same(&rt, is_refused(rt.alloc(), &disk, path), true, path);
         check_same(&rt, disk.read(rt.alloc(), path).is_err(), true, path);
     }

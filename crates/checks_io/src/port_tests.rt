@@ -2,16 +2,16 @@
 
 use crate::comparing::{check_bytes, check_same, push_bytes};
 use std::alloc::Global;
-use std::fs::File;
+use std::fs::{self, File};
 use std::io;
 use std::io::{Sink, sink};
-use std::net::{IpAddr, Ipv4Addr, Net, SocketAddr, UdpSocket};
+use std::net::{IpAddr, Ipv4Addr, Ipv6Addr, Net, SocketAddr, UdpSocket};
 use std::process::Abort;
 use std::rt::Files;
 use std::time::{Clock, Duration};
 use system_io::{
     Arrival, BindFault, Host, LockFault, MadeSocketCall, MemoryPort, MemorySocket, Passage, Port,
-    SystemHost, Turn, UdpPort,
+    Recipient, SystemHost, Turn, UdpPort,
 };
 
 const DATAGRAMS: [&[u8]; 3] = [b"a", b"b", b"c"];
@@ -204,6 +204,38 @@ fn answers_go_to_the_sender(rt: HostRuntime) {
         b"to 127.0.0.1:nobody unknown\nlost 127.0.0.1:7003\nback 127.0.0.1:7003\n",
         "the notes",
     );
+}
+
+/// A folder, and what would be the lock beside it.
+const FOLDER: &str = "/tmp/checks-test-lock";
+
+const BESIDE: &str = "/tmp/checks-test-lock.lock";
+
+/// No lock is made beside a folder.
+#[test]
+fn locks_nothing_beside_a_folder(rt: HostRuntime) {
+    let _left = fs::remove_dir_all(&rt, FOLDER).is_ok();
+    fs::create_dir(&rt, FOLDER).expect(&rt, "a folder");
+    let host = SystemHost::new(&rt, sink());
+    let lock = host.lock(rt.alloc(), BESIDE);
+    check_same(&rt, matches!(lock, Err(LockFault::Failed)), true, BESIDE);
+    let stands = fs::exists(&rt, BESIDE).expect(&rt, "a folder");
+    check_same(&rt, stands, false, BESIDE);
+    fs::remove_dir_all(&rt, FOLDER).expect(&rt, "a folder");
+}
+
+/// A host name has an address of the kind of the port's own, or none.
+#[test]
+fn sends_to_an_address_of_its_kind(rt: HostRuntime) {
+    let own = [at(0), SocketAddr::new(IpAddr::V6(Ipv6Addr::LOCALHOST), 0)];
+    for own in own {
+        let is_so = match Recipient::of(&rt, "localhost:7001", Some(own)) {
+            Recipient::At(address) => address.is_ipv4() == own.is_ipv4(),
+            Recipient::Unknown => own.is_ipv6(),
+            Recipient::Sender => false,
+        };
+        check_same(&rt, is_so, true, "a kind");
+    }
 }
 
 /// A lock is given once at a time, and again where it was let go.

@@ -3,11 +3,12 @@
 use move_msg::file_digest;
 use std::alloc::{AllocError, Global};
 use std::fmt::Write;
+use std::io::sink;
 use system_io::{Disk, ReadFault, SystemDisk};
 
 /// The names in a folder, sorted.
 fn names_in(rt: &HostRuntime, folder: &str) -> Result<Vec<String>, ReadFault> {
-    let mut names = SystemDisk::new(rt).names(rt.alloc(), folder)?;
+    let mut names = SystemDisk::new(rt, sink()).names(rt.alloc(), folder)?;
     names.sort()?;
     Ok(names)
 }
@@ -32,7 +33,7 @@ fn tell_digest(alloc: Global, told: &mut String, bytes: &[u8]) -> Result<(), All
 
 /// Tells how many bytes a file has and their digest, or that it can't be read.
 fn tell_file(rt: &HostRuntime, told: &mut String, path: &str) -> Result<(), AllocError> {
-    match SystemDisk::new(rt).read(rt.alloc(), path) {
+    match SystemDisk::new(rt, sink()).read(rt.alloc(), path) {
         Ok(bytes) => tell_digest(rt.alloc(), told, &bytes),
         Err(_) => writeln!(told, "no file"),
     }
@@ -45,7 +46,7 @@ fn tell_within(
     path: &str,
     most: u64,
 ) -> Result<(), AllocError> {
-    let is_read = SystemDisk::new(rt)
+    let is_read = SystemDisk::new(rt, sink())
         .read_within(rt.alloc(), path, most)
         .is_ok();
     writeln!(told, "within {most} {is_read}")

@@ -7,3 +7,4 @@ pub mod AnswerLaws
 pub mod HearingLaws
 pub mod RecipientLaws
 pub mod RowLaws
+pub mod ShortLineLaws

@@ -7,6 +7,7 @@ pub mod MemoryDisks
 pub mod MemoryDiskLaws
 pub mod Inputs
 pub mod LineReaders
+pub mod ShortLines
 pub mod MemoryInputs
 pub mod Outputs
 pub mod OutputLaws

@@ -12,18 +12,18 @@ use Rattle.system_io.specs.declared.udp_port.UdpPort.{UdpPort}
 pub record IsBound {C S W : Type 0} (address : List ℕ) (to : List (List ℕ)) (port : UdpPort C S W) : Type 0 where
   pub at : string_bytes port.address ≡ address
   pub sends : map word_of port.to.items ≡ to
-  pub names : All IsAddressed port.to.items
+  pub names : All (IsAddressed port.own) port.to.items
 
 -- the address that the socket told as its own when it was bound, if it did
 abbrev pub ListensAt : {C S W : Type 0} → UdpPort C S W → Option SocketAddr → Type 0
 ListensAt port own = own ≡ port.own
 
 -- the calls are those for the file at this path
-abbrev pub AreFor : {X Y : Type 0} → List ℕ → SystemCalls X Y → Type 0
+abbrev pub AreFor : {X Y Z : Type 0} → List ℕ → SystemCalls X Y Z → Type 0
 AreFor path calls = string_bytes calls.path ≡ path
 
 -- the file is the one at this path
-abbrev pub IsAtPath : {X Y : Type 0} → List ℕ → Traced (SystemCalls X Y) → Type 0
+abbrev pub IsAtPath : {X Y Z : Type 0} → List ℕ → Traced (SystemCalls X Y Z) → Type 0
 IsAtPath path file = AreFor path file.calls
 
 -- the file that is locked is the one at this path

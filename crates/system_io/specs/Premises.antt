@@ -71,5 +71,5 @@ system_bars path fault = Unit {0}
 -- HOST: a socket that was made for an address is bound to it, and listens at the address that it tells as its own; the calls for a
 -- path are made at that path; an address that the system refuses can't be bound, and where it tells that memory was refused, memory
 -- was refused
-abbrev pub system_host : {C S W X Y : Type 0} → HostFacts (UdpPort C S W) (Traced (SystemCalls X Y))
+abbrev pub system_host : {C S W X Y Z : Type 0} → HostFacts (UdpPort C S W) (Traced (SystemCalls X Y Z))
 system_host = record { is_told = true; binds = IsBound; listens = ListensAt; refuses = λ _ _. Unit {0}; is_at = IsAtPath; takes_memory = λ _. Unit {0}; gives_lock = system_gives; bars = system_bars }

@@ -39,12 +39,21 @@ pub(crate) fn only_new() -> OpenOptions
 }
 
 /// How a file is opened to be locked: to read and write, which never waits, and with nothing made or cut.
-pub(crate) fn as_it_stands() -> OpenOptions
+fn as_it_stands() -> OpenOptions
     ensures { (asks_create result ≡ false) × (asks_create_new result ≡ false) × (asks_truncate result ≡ false) }
 {
     let mut options = OpenOptions::new();
     options.read(true).write(true);
     options
+}
+
+/// Opens a regular file as it stands, to be locked. Where this process may only read it, since another user has made it, it is opened to
+/// be read: that is enough for a lock.
+pub(crate) fn open_to_lock<R: Files<File = File>>(rt: &R, path: &str) -> io::Result<File> {
+    match as_it_stands().open(rt, path) {
+        Err(error) if error.kind() == io::ErrorKind::PermissionDenied => fs::open(rt, path),
+        opened => opened,
+    }
 }
 
 /// Whether an open file is the regular file at a path, and no other that a link leads to. It isn't where another process has removed it.
@@ -77,7 +86,7 @@ fn clear_at<R: Files<File = File>>(rt: &R, path: &str) -> io::Result<()> {
     if !fs::symlink_metadata(rt, path)?.is_file() {
         return Ok(());
     }
-    let file = as_it_stands().open(rt, path)?;
+    let file = open_to_lock(rt, path)?;
     if take(rt, &file, path)? {
         fs::remove_file(rt, path)?;
     }

@@ -11,7 +11,7 @@
 //! keeps none of the others back. `UdpPort` is over a `Socket`, whose calls an instance in memory records; among its addresses
 //! `sender` stands for whoever sent the last datagram.
 //!
-//! Definitions, in reading order: `Descriptors`, `Disks`, `Inputs`, `LineReaders`, `Outputs`, `Ports`, `KeptFiles`, `PowerLosses`,
+//! Definitions, in reading order: `Descriptors`, `Disks`, `Inputs`, `LineReaders`, `ShortLines`, `Outputs`, `Ports`, `KeptFiles`, `PowerLosses`,
 //! `FileCalls`, `Traces`, `Hosts`, `Premises`, `Sockets`, `Recipients`, `UdpPorts`, `Answers`. Its tests stand in `checks_io`.
 //!
 //! - CLAIM: `end`: the output is flushed last, also where an answer was not written to its end. The status is the answer's where
@@ -20,6 +20,8 @@
 //!   never more than so many. Why reading fails is no clause.
 //! - CLAIM: `LineReader::next_line`, clauses `read`, `cause`, `same`: a line is what stood before the first line feed, or all
 //!   that was left, and nothing after it was taken. Reading fails only where the input fails.
+//! - CLAIM: `BoundedLines`: of each line of the system's input its first 65,536 bytes are given, and a line feed
+//!   as soon as one more has come; what else the line has is passed over.
 //! - CLAIM: `replace`, clauses `ok`, `err`; `replace_in_part`, clause `cut`: bytes take the place of those in a file by four
 //!   calls, so ordered that a start finds the old bytes or the new, wherever the calls stop.
 //! - CLAIM: `begin`, clauses `one`, `lasts`: where the file says of two contents that each start finds one or the other, what is
@@ -32,10 +34,12 @@
 //! - CLAIM: `open_above_standard`: it returns a file whose descriptor is above 2, so that 0 to 2 are open.
 //! - CLAIM: `Host::own_address`, clause `own`; `UdpPort::own_address`: a host says at which address a port listens, or that it
 //!   doesn't know.
-//! - CLAIM: `Host::bind`, clause `each`: a port sends to as many addresses as it was bound for.
-//! - CLAIM: `UdpPort::receive`, `receive_in_time`, clauses `hears`, `deaf`; `send`, clause `sends`; `laws::answers_follow`,
-//!   `nothing_else_is_sent`, `each_is_sent`: by the calls of its socket the answers to a datagram go to the address from which that
-//!   one came, where the words have `sender`, and to each other address that they name, in order, and to nobody else.
+//! - CLAIM: `Host::bind`, clause `each`: a port sends to as many addresses as it was bound for. `UdpPort::bind`: where its own address is
+//!   known, each of a host name is of that one's kind, IPv4 or IPv6 (`Names`, field `kind`).
+//! - CLAIM: `UdpPort::receive`, clauses `hears`, `deaf`; `UdpPort::receive_in_time`, clauses `hears`, `deaf`; `UdpPort::send`, clause
+//!   `sends`; `laws::answers_follow`; `laws::nothing_else_is_sent`; `laws::each_is_sent`: by the calls of its socket the answers to a
+//!   datagram go to the address from which that one came, where the words have `sender`, and to each other address that they name, in
+//!   order, and to nobody else.
 //! - CLAIM: `Host::lock`, clauses `given`, `cause`; `SystemHost::lock`, clause `at`: the file that is locked is the one at the path.
 #![tactic(auto)]
 

@@ -3,12 +3,12 @@
 ghost use Rattle.std.specs.Prelude.{IfOk};
 ghost use Rattle.system_io.specs.Places.{Locks};
 
-use crate::beside_file::{as_it_stands, only_new, stands_at};
+use crate::beside_file::{only_new, open_to_lock, stands_at};
 use crate::host::LockFault;
 use crate::opening::{irregular, unopened};
 use crate::reading::ReadFault;
-use std::alloc::{AllocError, Global};
-use std::fs::{File, TryLockError};
+use std::alloc::Global;
+use std::fs::File;
 use std::rt::Files;
 use std::{fs, io};
 
@@ -19,18 +19,29 @@ pub struct LockFile {
     path: String,
 }
 
-impl From<AllocError> for LockFault {
-    fn from(_e: AllocError) -> LockFault {
-        LockFault::OutOfMemory
-    }
-}
-
 impl From<io::Error> for LockFault {
     fn from(error: io::Error) -> LockFault {
+        if error.kind() == io::ErrorKind::WouldBlock {
+            return LockFault::Held;
+        }
         match unopened(error) {
             ReadFault::OutOfMemory => LockFault::OutOfMemory,
             ReadFault::Unreadable => LockFault::Failed,
         }
+    }
+}
+
+/// What stands behind a file's path in that of the lock beside it.
+const BESIDE: &str = ".lock";
+
+/// Whether a path is that of the lock beside what is no regular file, such as a folder or a link that leads nowhere.
+fn is_beside_none<R: Files>(rt: &R, path: &str) -> bool {
+    let Some(kept) = path.strip_suffix(BESIDE) else {
+        return false;
+    };
+    match fs::metadata(rt, kept) {
+        Ok(stands) => !stands.is_file(),
+        Err(_) => fs::symlink_metadata(rt, kept).is_ok(),
     }
 }
 
@@ -39,11 +50,14 @@ fn open_standing<R: Files<File = File>>(rt: &R, path: &str) -> io::Result<File> 
     if !fs::symlink_metadata(rt, path)?.is_file() {
         return Err(irregular());
     }
-    as_it_stands().open(rt, path)
+    open_to_lock(rt, path)
 }
 
-/// Opens the file at a path, which is made where nothing stands.
+/// Opens the file at a path, which is made where nothing stands. None is made beside what is no regular file, where nothing can be kept.
 fn open<R: Files<File = File>>(rt: &R, path: &str) -> io::Result<File> {
+    if is_beside_none(rt, path) {
+        return Err(irregular());
+    }
     match only_new().open(rt, path) {
         Ok(file) => Ok(file),
         Err(error) if error.kind() == io::ErrorKind::AlreadyExists => open_standing(rt, path),
@@ -51,27 +65,28 @@ fn open<R: Files<File = File>>(rt: &R, path: &str) -> io::Result<File> {
     }
 }
 
-/// Locks an open file that stands at a path.
-fn take<R: Files<File = File>>(rt: &R, file: &File, path: &str) -> Result<(), LockFault> {
+/// Locks an open file that stands at a path. Where another process has locked it, the error is `WouldBlock`.
+fn take<R: Files<File = File>>(rt: &R, file: &File, path: &str) -> io::Result<()> {
     match file.try_lock() {
         Ok(()) => {}
-        Err(TryLockError::WouldBlock) => return Err(LockFault::Held),
-        Err(TryLockError::Error(error)) => return Err(LockFault::from(error)),
+        Err(error) => return Err(io::Error::from(error)),
     }
     if stands_at(rt, file, path)? {
         Ok(())
     } else {
-        Err(LockFault::Failed)
+        Err(io::Error::from(io::ErrorKind::NotFound))
     }
 }
 
 impl LockFile {
-    /// Locks the file at a path, which is made where nothing stands. Nothing is written to it, and it is not removed.
+    /// Locks the file at a path, which is made where nothing stands. Nothing is written to it, and it is not removed. A file of another
+    /// user is locked where it can be read. With `.lock` at its end the path is that of the lock beside a file: where something else than
+    /// a regular file stands before that end, no lock is made.
     pub(crate) fn at<R: Files<File = File>>(
         rt: &R,
         alloc: Global,
         path: &str,
-    ) -> Result<LockFile, LockFault>
+    ) -> io::Result<LockFile>
         ensures { IfOk result (Locks path.now) }
     {
         let file = open(rt, path)?;

@@ -12,7 +12,7 @@ use std::{fs, io};
 
 /// The error of what is no regular file: a folder, a device, a named pipe or a socket.
 pub(crate) fn irregular() -> io::Error {
-    io::Error::from(io::ErrorKind::InvalidInput)
+    io::Error::new(io::ErrorKind::InvalidInput, "no regular file")
 }
 
 /// The metadata of a regular file.

@@ -1,8 +1,8 @@
 //! To whom a port sends.
 
-ghost use Rattle.std.specs.Prelude.{◌≡◌, map, IfOk};
+ghost use Rattle.std.specs.Prelude.{◌≡◌, ◌↔◌, map, IfOk, IfSome, IsTrue};
 ghost use Rattle.std.specs.List.{All};
-ghost use Rattle.system_io.specs.Recipients.{IsAddressed, Names, word_of};
+ghost use Rattle.system_io.specs.Recipients.{IsAddressed, IsOfKind, Names, word_of};
 
 use std::alloc::{AllocError, Global};
 use std::net::{Net, SocketAddr, ToSocketAddrs};
@@ -28,18 +28,36 @@ pub(crate) struct Addressed {
     pub(crate) who: Recipient,
 }
 
-/// The first address of a host name.
-fn looked_up<N: Net>(net: &N, word: &str) -> Option<SocketAddr> {
-    match word.to_socket_addrs(net) {
-        Ok(mut found) => found.next(),
-        Err(_) => None,
+/// Whether an address is of the kind, IPv4 or IPv6, of a port's own. Each is where that isn't known.
+fn is_of_kind(own: Option<SocketAddr>, address: SocketAddr) -> bool
+    ensures { IsTrue result ↔ IsOfKind own address }
+{
+    match own {
+        Some(own) => own.is_ipv4() == address.is_ipv4(),
+        None => true,
     }
 }
 
+/// The first address of a host name that is of the kind of a port's own. To one of the other kind the port can't send.
+fn looked_up<N: Net>(net: &N, word: &str, own: Option<SocketAddr>) -> Option<SocketAddr>
+    ensures { IfSome result (IsOfKind own) }
+{
+    let Ok(found) = word.to_socket_addrs(net) else {
+        return None;
+    };
+    for address in found {
+        if is_of_kind(own, address) {
+            return Some(address);
+        }
+    }
+    None
+}
+
 impl Recipient {
-    /// Whom a word names: `sender`, or an IP address and a port, or a host name and a port. A host name is looked up.
-    pub fn of<N: Net>(net: &N, word: &str) -> Recipient
-        ensures { Names word.now result }
+    /// Whom a word names: `sender`, or an IP address and a port, or a host name and a port. A host name is looked up: it names its first
+    /// address of the kind, IPv4 or IPv6, of the port's own address, where that is known, and else its first one.
+    pub fn of<N: Net>(net: &N, word: &str, own: Option<SocketAddr>) -> Recipient
+        ensures { Names own word.now result }
     {
         if word == SENDER {
             return Recipient::Sender;
@@ -47,7 +65,7 @@ impl Recipient {
         if let Ok(address) = word.parse::<SocketAddr>() {
             return Recipient::At(address);
         }
-        match looked_up(net, word) {
+        match looked_up(net, word, own) {
             Some(address) => Recipient::At(address),
             None => Recipient::Unknown,
         }
@@ -55,29 +73,35 @@ impl Recipient {
 }
 
 /// A word, and whom it names.
-fn addressed_one<N: Net>(net: &N, alloc: Global, word: &str) -> Result<Addressed, AllocError>
+fn addressed_one<N: Net>(
+    net: &N,
+    alloc: Global,
+    word: &str,
+    own: Option<SocketAddr>,
+) -> Result<Addressed, AllocError>
     ensures word { IfOk result (λ one. word_of one ≡ word.now) }
-    ensures names { IfOk result IsAddressed }
+    ensures names { IfOk result (IsAddressed own) }
 {
-    let who = Recipient::of(net, word);
+    let who = Recipient::of(net, word, own);
     Ok(Addressed {
         word: String::from_str(alloc, word)?,
         who,
     })
 }
 
-/// The words of a port, and whom they name.
+/// The words of a port with this own address, and whom they name.
 pub(crate) fn all_addressed<N: Net>(
     net: &N,
     alloc: Global,
     words: &[&str],
+    own: Option<SocketAddr>,
 ) -> Result<Vec<Addressed>, AllocError>
     ensures words { IfOk result (λ all. map word_of all.items ≡ map (λ s. s.now) words.now) }
-    ensures names { IfOk result (λ all. All IsAddressed all.items) }
+    ensures names { IfOk result (λ all. All (IsAddressed own) all.items) }
 {
     let mut all = Vec::new(alloc);
     for word in words {
-        all.push(addressed_one(net, alloc, word)?)?;
+        all.push(addressed_one(net, alloc, word, own)?)?;
     }
     Ok(all)
 }

@@ -4,23 +4,39 @@ ghost use Rattle.std.specs.Prelude.{◌≤◌, length, IfOk};
 ghost use Rattle.system_io.specs.Disks.{most_bytes};
 
 use crate::disk::{Disk, FileWithMode};
+use crate::notes::tell_refused;
 use crate::opening::{Regular, open_regular, unopened};
-use crate::reading::{MOST_BYTES, ReadFault, read_at_most};
+use crate::reading::{MOST_BYTES, ReadFault, read_at_most, unread};
 use std::alloc::Global;
 use std::fs::DirEntry;
+use std::io::Write;
 use std::rt::Files;
 use std::{fs, io};
 
-/// The folders and files of the system.
+/// The folders and files of the system, and a writer for notes.
+///
+/// Of a folder that can't be listed and a file that can't be read a line is written: the path in double quotes, escaped, and what the
+/// system says. None is for `read_within`, by which is looked at what need not be there.
 #[derive(Drop)]
-pub struct SystemDisk<'a, R: Files + AllocGlobal + Clone + Drop> {
+pub struct SystemDisk<'a, R: Files + AllocGlobal + Clone + Drop, W: Write + Copy + Drop> {
     rt: &'a R,
+    notes: W,
 }
 
-impl<'a, R: Files + AllocGlobal + Clone + Drop> SystemDisk<'a, R> {
-    /// The folders and files of this system.
-    pub fn new(rt: &'a R) -> SystemDisk<'a, R> {
-        SystemDisk { rt }
+impl<'a, R, W> SystemDisk<'a, R, W>
+where
+    R: Files + AllocGlobal + Clone + Drop,
+    W: Write + Copy + Drop,
+{
+    /// The folders and files of this system, whose notes are written with this writer.
+    pub fn new(rt: &'a R, notes: W) -> SystemDisk<'a, R, W> {
+        SystemDisk { rt, notes }
+    }
+
+    /// Tells why what stands at a path is refused.
+    fn refused(&self, path: &str, error: io::Error) -> ReadFault {
+        tell_refused(self.notes, path, &error);
+        unopened(error)
     }
 }
 
@@ -56,18 +72,21 @@ fn bytes_at<R: Files>(
     alloc: Global,
     path: &str,
     most: u64,
-) -> Result<(Vec<u8>, Regular), ReadFault>
+) -> io::Result<(Vec<u8>, Regular)>
     ensures { IfOk result (λ r. (length r.0.items ≤ most) × (length r.0.items ≤ most_bytes)) }
 {
-    let (file, regular) = match open_regular(rt, path) {
-        Ok(opened) => opened,
-        Err(error) => return Err(unopened(error)),
-    };
-    let bytes = read_at_most(alloc, file, regular.len(), most.min(MOST_BYTES))?;
-    Ok((bytes, regular))
+    let (file, regular) = open_regular(rt, path)?;
+    match read_at_most(alloc, file, regular.len(), most.min(MOST_BYTES)) {
+        Ok(bytes) => Ok((bytes, regular)),
+        Err(fault) => Err(unread(fault)),
+    }
 }
 
-impl<'a, R: Files + AllocGlobal + Clone + Drop> Disk for SystemDisk<'a, R> {
+impl<'a, R, W> Disk for SystemDisk<'a, R, W>
+where
+    R: Files + AllocGlobal + Clone + Drop,
+    W: Write + Copy + Drop,
+{
     ghost use Rattle.system_io.specs.OutputLaws.{untold};
     ghost use Rattle.system_io.specs.Premises.{system_disk};
 
@@ -76,17 +95,24 @@ impl<'a, R: Files + AllocGlobal + Clone + Drop> Disk for SystemDisk<'a, R> {
     ghost one = { λ _ told. untold told };
 
     fn names(&self, _alloc: Global, folder: &str) -> Result<Vec<String>, ReadFault> {
-        names_in(self.rt, folder).map_err(unopened)
+        match names_in(self.rt, folder) {
+            Ok(names) => Ok(names),
+            Err(error) => Err(self.refused(folder, error)),
+        }
     }
 
     fn read(&self, alloc: Global, path: &str) -> Result<Vec<u8>, ReadFault> {
-        let (bytes, _) = bytes_at(self.rt, alloc, path, MOST_BYTES)?;
-        Ok(bytes)
+        match bytes_at(self.rt, alloc, path, MOST_BYTES) {
+            Ok((bytes, _)) => Ok(bytes),
+            Err(error) => Err(self.refused(path, error)),
+        }
     }
 
     fn read_within(&self, alloc: Global, path: &str, most: u64) -> Result<Vec<u8>, ReadFault> {
-        let (bytes, _) = bytes_at(self.rt, alloc, path, most)?;
-        Ok(bytes)
+        match bytes_at(self.rt, alloc, path, most) {
+            Ok((bytes, _)) => Ok(bytes),
+            Err(error) => Err(unopened(error)),
+        }
     }
 
     fn read_with_mode(
@@ -95,10 +121,12 @@ impl<'a, R: Files + AllocGlobal + Clone + Drop> Disk for SystemDisk<'a, R> {
         path: &str,
         most: u64,
     ) -> Result<FileWithMode, ReadFault> {
-        let (bytes, regular) = bytes_at(self.rt, alloc, path, most)?;
-        Ok(FileWithMode {
-            bytes,
-            mode: regular.mode(),
-        })
+        match bytes_at(self.rt, alloc, path, most) {
+            Ok((bytes, regular)) => Ok(FileWithMode {
+                bytes,
+                mode: regular.mode(),
+            }),
+            Err(error) => Err(self.refused(path, error)),
+        }
     }
 }

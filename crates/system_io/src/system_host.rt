@@ -2,16 +2,17 @@
 
 use crate::host::{BindFault, Host, LockFault};
 use crate::lock_file::LockFile;
+use crate::notes::tell_refused;
 use crate::system_file::SystemFile;
 use crate::udp_port::UdpPort;
 use std::alloc::{AllocError, Global};
 use std::fs::File;
-use std::io::Write;
+use std::io::{self, Write};
 use std::net::{Net, SocketAddr, UdpSocket};
 use std::rt::Files;
 use std::time::Clock;
 
-/// The ports, kept files and locks of the system, and a writer for the notes of its ports.
+/// The ports, kept files and locks of the system, and a writer for their notes.
 #[derive(Drop)]
 pub struct SystemHost<
     'a,
@@ -27,9 +28,17 @@ where
     R: Files<File = File> + Net + Clock + AllocGlobal,
     W: Write + Copy + Drop,
 {
-    /// The ports, kept files and locks of this system. Its ports write their notes with this writer.
+    /// The ports, kept files and locks of this system. They write their notes with this writer.
     pub fn new(rt: &'a R, notes: W) -> SystemHost<'a, R, W> {
         SystemHost { rt, notes }
+    }
+
+    /// Why the file at a path isn't locked, which is told where no other process has locked it.
+    fn unlocked(&self, path: &str, error: io::Error) -> LockFault {
+        if error.kind() != io::ErrorKind::WouldBlock {
+            tell_refused(self.notes, path, &error);
+        }
+        LockFault::from(error)
     }
 }
 
@@ -45,7 +54,7 @@ where
 
     type Port = UdpPort<'a, R, UdpSocket, W>;
 
-    type File = SystemFile<'a, R>;
+    type File = SystemFile<'a, R, W>;
 
     type Lock = LockFile;
 
@@ -66,8 +75,8 @@ where
         port.own_address()
     }
 
-    fn file(&self, alloc: Global, path: &str) -> Result<SystemFile<'a, R>, AllocError> {
-        SystemFile::at(self.rt, alloc, path)
+    fn file(&self, alloc: Global, path: &str) -> Result<SystemFile<'a, R, W>, AllocError> {
+        SystemFile::at(self.rt, alloc, self.notes, path)
     }
 
     fn lock(&self, alloc: Global, path: &str) -> Result<LockFile, LockFault>
@@ -75,6 +84,9 @@ where
         ensures cause { IfErr result (system_bars path.now) }
         ensures at { IfOk result (Locks path.now) }
     {
-        LockFile::at(self.rt, alloc, path)
+        match LockFile::at(self.rt, alloc, path) {
+            Ok(lock) => Ok(lock),
+            Err(error) => Err(self.unlocked(path, error)),
+        }
     }
 }

@@ -78,7 +78,8 @@ fn tell_names<W: Write + Drop>(notes: &mut Notes<W>, to: &[Addressed]) {
 impl<'a, C: Clock, W: Write + Drop> UdpPort<'a, C, UdpSocket, W> {
     /// A port bound to an address that sends to those whom these words name: `sender`, or an IP address or a host name, a colon and a
     /// port number. The address is an IP address or a host name, a colon and a port number too. The error comes where it can't be bound,
-    /// or memory is refused. Where a host name isn't found, each send to it fails.
+    /// or memory is refused. A host name names its first address of the kind, IPv4 or IPv6, of the port's own; where there is none, each
+    /// send to it fails.
     pub fn bind(
         rt: &'a C,
         alloc: Global,
@@ -112,7 +113,7 @@ impl<'a, C: Clock, S: Socket + Drop, W: Write + Drop> UdpPort<'a, C, S, W> {
     {
         let own = socket.own_address();
         let address = String::from_str(alloc, address)?;
-        let to = all_addressed(clock, alloc, to)?;
+        let to = all_addressed(clock, alloc, to, own)?;
         let mut notes = Notes::new(alloc, notes, to.len())?;
         tell_names(&mut notes, &to);
         Ok(UdpPort {

@@ -2,7 +2,7 @@
 -- [--key FILE]`: arbiters of any number of games; specs/Hostings.antt has what it makes of them (this project's own).
 use Rattle.std.specs.Prelude.{◌≡◌, ◌++◌, false, List, [], ◌∷◌, Option, Some, None, codes, option_map}
 use Rattle.clap.specs.Words.{Rule, Text}
-use Rattle.adjudicate_core.specs.Addresses.{AreRecipients}
+use Rattle.adjudicate_core.specs.Addresses.{AreRecipients, IsAddressIfAny}
 use Rattle.adjudicate_core.specs.Rules.{rule_of_form}
 use Rattle.adjudicate_core.specs.declared.commands.Form.TheVariants as form
 use Rattle.adjudicate_core.specs.Misuses.{Fault, NoOption, Unfit, me_faults, recipient_faults}
@@ -30,6 +30,7 @@ pub record HasValues (value : Text → Option Text) (h : HostGames) : Type 0 whe
   pub tables : Some h.tables.now ≡ value (codes "tables")
   pub manifest : option_map (λ s. s.now) h.manifest ≡ value (codes "manifest")
   pub bind : Some h.bind.now ≡ value (codes "bind")
+  pub address : IsAddressIfAny (value (codes "bind"))
   pub to : Some h.to.now ≡ value (codes "to")
   pub recipients : AreRecipients h.to.now
   pub me : IsMe (value (codes "me")) h.me
@@ -38,12 +39,13 @@ pub record HasValues (value : Text → Option Text) (h : HostGames) : Type 0 whe
   pub datagrams : IsDatagrams (value (codes "datagrams")) h.datagrams
   pub key : option_map (λ s. s.now) h.key ≡ value (codes "key")
 
--- what may be wrong with its values, in the order in which it is told: with the folders and the addresses, the numbers
+-- what may be wrong with its values, in the order in which it is told: with the folders and the addresses, the numbers, and that the
+-- address that is bound is one
 abbrev pub end_faults : List Fault
 end_faults = NoOption (codes "games") ∷ NoOption (codes "tables") ∷ NoOption (codes "bind") ∷ recipient_faults
 
 abbrev pub term_faults : List Fault
-term_faults = me_faults ++ Unfit wanted.AtOnce ∷ Unfit wanted.Cache ∷ Unfit wanted.Datagrams ∷ []
+term_faults = me_faults ++ Unfit wanted.AtOnce ∷ Unfit wanted.Cache ∷ Unfit wanted.Datagrams ∷ Unfit wanted.Address ∷ []
 
 abbrev pub faults : List Fault
 faults = end_faults ++ term_faults

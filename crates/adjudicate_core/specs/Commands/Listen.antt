@@ -2,7 +2,7 @@
 -- [--ready] [--key FILE]`: an arbiter that answers datagrams; specs/Listens.antt has what it makes of them (this project's own).
 use Rattle.std.specs.Prelude.{◌≡◌, ◌++◌, false, List, [], ◌∷◌, Option, Some, None, codes, option_map}
 use Rattle.clap.specs.Words.{Rule, Text}
-use Rattle.adjudicate_core.specs.Addresses.{AreRecipients}
+use Rattle.adjudicate_core.specs.Addresses.{AreRecipients, IsAddressIfAny}
 use Rattle.adjudicate_core.specs.Rules.{rule_of_form}
 use Rattle.adjudicate_core.specs.declared.commands.Form.TheVariants as form
 use Rattle.adjudicate_core.specs.Misuses.{Fault, NoOption, Unfit, game_faults, me_faults, recipient_faults}
@@ -33,6 +33,7 @@ pub record IsListening (value : Text → Option Text) (l : Listen) : Type 0 wher
   pub tables : Some l.tables.now ≡ value (codes "tables")
   pub me : IsMe (value (codes "me")) l.me
   pub bind : Some l.bind.now ≡ value (codes "bind")
+  pub address : IsAddressIfAny (value (codes "bind"))
   pub to : Some l.to.now ≡ value (codes "to")
   pub recipients : AreRecipients l.to.now
   pub kept : Some l.kept.now ≡ value (codes "kept")
@@ -43,12 +44,12 @@ pub record IsListening (value : Text → Option Text) (l : Listen) : Type 0 wher
   pub key : option_map (λ s. s.now) l.key ≡ value (codes "key")
 
 -- what may be wrong with its values, in the order in which it is told: with the words on the game, the addresses and the kept
--- file, the numbers
+-- file, the numbers, and that the address that is bound is one
 abbrev pub end_faults : List Fault
 end_faults = NoOption (codes "bind") ∷ recipient_faults ++ NoOption (codes "kept") ∷ []
 
 abbrev pub term_faults : List Fault
-term_faults = me_faults ++ Unfit wanted.Datagrams ∷ Unfit wanted.Delay ∷ []
+term_faults = me_faults ++ Unfit wanted.Datagrams ∷ Unfit wanted.Delay ∷ Unfit wanted.Address ∷ []
 
 abbrev pub faults : List Fault
 faults = game_faults ++ end_faults ++ term_faults

@@ -3,7 +3,7 @@
 -- makes of its input (this project's own).
 use Rattle.std.specs.Prelude.{◌≡◌, ◌++◌, ℕ, List, [], ◌∷◌, map, Option, Some, None, codes, option_map}
 use Rattle.clap.specs.Words.{Rule, Text}
-use Rattle.adjudicate_core.specs.Addresses.{AreAddresses}
+use Rattle.adjudicate_core.specs.Addresses.{AreAddresses, IsAddressIfAny}
 use Rattle.adjudicate_core.specs.Rules.{rule_of_form}
 use Rattle.adjudicate_core.specs.declared.commands.Form.TheVariants as form
 use Rattle.adjudicate_core.specs.GamePaths.{NamesGame}
@@ -53,6 +53,7 @@ pub record HasValues (value : Text → Option Text) (t : Send) : Type 0 where
   pub game : HasGame value t.game
   pub manifest : option_map (λ s. s.now) t.manifest ≡ value (codes "manifest")
   pub bind : t.bind.now ≡ bind_or_any (value (codes "bind"))
+  pub address : IsAddressIfAny (value (codes "bind"))
   pub to : Some t.to.now ≡ value (codes "to")
   pub addresses : AreAddresses t.to.now
   pub delay : IsDelay (value (codes "delay")) t.delay
@@ -72,7 +73,7 @@ abbrev pub sent_faults : List Fault
 sent_faults = words_faults ++ file_faults
 
 abbrev pub term_faults : List Fault
-term_faults = Unfit wanted.Delay ∷ Unfit wanted.Wait ∷ Unfit wanted.Tries ∷ []
+term_faults = Unfit wanted.Delay ∷ Unfit wanted.Wait ∷ Unfit wanted.Tries ∷ Unfit wanted.Address ∷ []
 
 abbrev pub faults : List Fault
 faults = sent_faults ++ to_faults ++ term_faults

@@ -1,7 +1,8 @@
 -- The words of `send`, part by part; cited by private functions alone.
 use Rattle.std.specs.Prelude.{◌≡◌, ℕ, List, Option, Some, codes}
 use Rattle.clap.specs.Words.{Text}
+use Rattle.adjudicate_core.specs.Addresses.{IsAddressIfAny}
 use Rattle.adjudicate_core.specs.Numbers.{IsDelay, IsHundredOr}
 
 abbrev pub AreTerms : (Text → Option Text) → ℕ → ℕ → ℕ → Type 0
-AreTerms value delay wait tries = IsDelay (value (codes "delay")) delay × IsHundredOr (value (codes "wait")) wait × IsHundredOr (value (codes "tries")) tries
+AreTerms value delay wait tries = IsDelay (value (codes "delay")) delay × IsHundredOr (value (codes "wait")) wait × IsHundredOr (value (codes "tries")) tries × IsAddressIfAny (value (codes "bind"))

@@ -9,7 +9,9 @@ ghost use Rattle.adjudicate_core.specs.Misuses.{AreWell, IsFirst, fault_words};
 use super::{Form, Value};
 use crate::numbers::CacheSize;
 use crate::usage::ValueFault;
-use crate::values::{at_once_in, cache_in, datagrams_in, me_in, option_in, recipients_in};
+use crate::values::{
+    at_once_in, cache_in, check_bind, datagrams_in, me_in, option_in, recipients_in,
+};
 use clap::ArgMatches;
 use move_msg::Who;
 use std::num::NonZeroUsize;
@@ -121,12 +123,14 @@ fn terms_in<'a>(matches: &ArgMatches<'a>) -> Result<Terms, ValueFault<'a>>
     ensures ok { IfOk result (λ t. AreTerms (first_value (found_of matches.now)) t.me t.at_once.value t.cache t.datagrams) }
     ensures err { IfErr result (λ fault. IsFirst (first_value (found_of matches.now)) term_faults (fault_words fault)) }
 {
-    Ok(Terms {
+    let terms = Terms {
         me: me_in(matches)?,
         at_once: at_once_in(matches)?,
         cache: cache_in(matches)?,
         datagrams: datagrams_in(matches)?,
-    })
+    };
+    check_bind(matches)?;
+    Ok(terms)
 }
 
 impl<'a> HostGames<'a> {

@@ -10,7 +10,9 @@ use super::{Form, Value};
 use crate::game_name::GameName;
 use crate::numbers::{Delay, is_set};
 use crate::usage::ValueFault;
-use crate::values::{datagrams_in, delay_in, game_words_in, me_in, option_in, recipients_in};
+use crate::values::{
+    check_bind, datagrams_in, delay_in, game_words_in, me_in, option_in, recipients_in,
+};
 use clap::ArgMatches;
 use move_msg::Who;
 use task_files::Places;
@@ -132,13 +134,15 @@ fn terms_in<'a>(matches: &ArgMatches<'a>) -> Result<Terms, ValueFault<'a>>
     ensures ok { IfOk result (λ t. AreTerms (first_value (found_of matches.now)) t.me t.datagrams t.delay t.fetch t.ready) }
     ensures err { IfErr result (λ fault. IsFirst (first_value (found_of matches.now)) term_faults (fault_words fault)) }
 {
-    Ok(Terms {
+    let terms = Terms {
         me: me_in(matches)?,
         datagrams: datagrams_in(matches)?,
         delay: delay_in(matches)?,
         fetch: is_set(matches.get_str("fetch")),
         ready: is_set(matches.get_str("ready")),
-    })
+    };
+    check_bind(matches)?;
+    Ok(terms)
 }
 
 impl<'a> Listen<'a> {

@@ -11,7 +11,7 @@ use crate::game_name::GameName;
 use crate::game_paths::stamp_in;
 use crate::numbers::Delay;
 use crate::usage::{ValueFault, Wanted};
-use crate::values::{delay_in, game_words_in, to_in, tries_in, wait_in};
+use crate::values::{check_bind, delay_in, game_words_in, to_in, tries_in, wait_in};
 use clap::ArgMatches;
 use move_msg::Stamp;
 use task_files::Places;
@@ -202,11 +202,13 @@ fn terms_in<'a>(matches: &ArgMatches<'a>) -> Result<Terms, ValueFault<'a>>
     ensures ok { IfOk result (λ t. AreTerms (first_value (found_of matches.now)) t.delay t.wait t.tries) }
     ensures err { IfErr result (λ fault. IsFirst (first_value (found_of matches.now)) term_faults (fault_words fault)) }
 {
-    Ok(Terms {
+    let terms = Terms {
         delay: delay_in(matches)?,
         wait: wait_in(matches)?,
         tries: tries_in(matches)?,
-    })
+    };
+    check_bind(matches)?;
+    Ok(terms)
 }
 
 impl<'a> Send<'a> {

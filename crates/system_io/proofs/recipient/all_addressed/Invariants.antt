@@ -5,4 +5,4 @@ use Rattle.system_io.proofs.recipient.all_addressed.Given as goal
 
 -- the words before this place are there, and each names the one beside it
 abbrev pub invariant-loop-word : goal.invariant-loop-word
-invariant-loop-word g l = (map word_of l.all.items ≡ map (λ s. s.now) (take l.word-index l.words)) × All IsAddressed l.all.items
+invariant-loop-word g l = (map word_of l.all.items ≡ map (λ s. s.now) (take l.word-index l.words)) × All (IsAddressed l.fn.own) l.all.items
