@@ -11,7 +11,7 @@ use crate::listening::{manifest_for, ready_line_at};
 use crate::locking::{IN_GAMES, lock};
 use crate::refusals::Refusal;
 use crate::tables::gather;
-use arbiter_server::{DiskGames, Server, ServerConfig, put_line};
+use arbiter_server::{DiskGames, LineLog, Server, ServerConfig, put_line};
 use judge_core::Set;
 use std::alloc::Global;
 use system_io::{BindFault, Disk, Host, Output, ReadFault, WriteFault};
@@ -48,8 +48,12 @@ fn serve_at<D: Disk, H: Host, W: Output>(
         host,
         folder: task.games,
     };
+    let mut log = match LineLog::new(alloc, task.log) {
+        Ok(log) => log,
+        Err(_) => return put_refusal(out, Refusal::Memory),
+    };
     match Server::open(alloc, config, tables, games) {
-        Ok(mut server) => server.serve(alloc, port, task.datagrams, out),
+        Ok(mut server) => server.serve(alloc, port, task.datagrams, &mut log, out),
         Err(_) => put_refusal(out, Refusal::Memory),
     }
 }

@@ -32,6 +32,8 @@ pub enum Wanted {
     Recipients,
     /// How many games are open at once.
     AtOnce,
+    /// Which lines of a host are written.
+    Log,
     /// The file of the game that is sent.
     GameFile,
 }
@@ -51,6 +53,7 @@ impl Wanted {
             Wanted::Tries => "--tries ",
             Wanted::Addresses | Wanted::Recipients => "--to ",
             Wanted::AtOnce => "--at-once ",
+            Wanted::Log => "--log ",
             Wanted::GameFile => "--game ",
         }
     }
@@ -69,6 +72,7 @@ impl Wanted {
             Wanted::Addresses | Wanted::Recipients => {
                 ": ADDR[,ADDR], each a host, a colon and a port"
             }
+            Wanted::Log => ": all or changes",
             Wanted::GameFile => ": FOLDER/STAMP.game, with 32 lower-case hexadecimal digits",
         }
     }

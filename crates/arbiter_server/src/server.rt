@@ -16,9 +16,10 @@ use crate::config::ServerConfig;
 use crate::fault::Unopened;
 use crate::games::Games;
 use crate::line::Line;
+use crate::line_log::LineLog;
 use crate::room::take_out;
 use crate::seat::Seat;
-use crate::serving::{put_line, send_all};
+use crate::serving::send_all;
 use crate::settling::{close_all, settle};
 use crate::turn::{Answered, found, opens_game, told_alone};
 use arbiter_core::{ArbiterState, Terms};
@@ -218,13 +219,14 @@ impl<'a, G: Games + Drop> Server<'a, G> {
         &mut self,
         alloc: Global,
         port: &mut P,
+        log: &mut LineLog,
         out: &mut W,
     ) -> Result<bool, WriteFault>
         ensures stays { Stays G.facts self.old self.new }
         ensures taken { TakesTurn (TurnsTo G.Keeper.facts G.facts self.old self.new) (writers W.Write.contents W.facts) (P.facts port.old) (P.facts port.new) out.old out.new result }
     {
         let (line, lost) = self.receive(alloc, port);
-        match put_line(out, line.text().as_slice()) {
+        match log.tell(out, &line.text()) {
             Ok(()) => Ok(lost),
             Err(fault) => Err(fault),
         }
@@ -236,6 +238,7 @@ impl<'a, G: Games + Drop> Server<'a, G> {
         alloc: Global,
         port: &mut P,
         n: u64,
+        log: &mut LineLog,
         out: &mut W,
     ) -> Result<u8, WriteFault>
         requires { IsIdle self.old }
@@ -243,7 +246,7 @@ impl<'a, G: Games + Drop> Server<'a, G> {
         ensures served { ServesOn G.Keeper.facts G.facts (writers W.Write.contents W.facts) n self.old self.new (P.facts port.old) (P.facts port.new) out.old out.new result }
     {
         for _ in 0..n {
-            match self.turn(alloc, port, out) {
+            match self.turn(alloc, port, log, out) {
                 Ok(lost) => {
                     if lost {
                         return Ok(1);
@@ -271,6 +274,7 @@ impl<'a, G: Games + Drop> Server<'a, G> {
         alloc: Global,
         port: &mut P,
         n: u64,
+        log: &mut LineLog,
         out: &mut W,
     ) -> Result<u8, WriteFault>
         requires { IsIdle self.old }
@@ -278,7 +282,7 @@ impl<'a, G: Games + Drop> Server<'a, G> {
         ensures stays { Stays G.facts self.old self.new }
         ensures idle { IsIdle self.new }
     {
-        let ended = self.run(alloc, port, n, out);
+        let ended = self.run(alloc, port, n, log, out);
         close_all(&mut self.games, &mut self.seats);
         ended
     }

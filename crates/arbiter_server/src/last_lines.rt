@@ -1,0 +1,167 @@
+//! What a log of changes remembers: the last lines of games, and how many lines came of each kind that strangers cause.
+
+ghost use Rattle.std.specs.Prelude.{◌≡◌, ◌<◌, ◌≤◌, ◌+◌, ◌++◌, ℕ, List, OnOk, IfOk, IfSome, length};
+ghost use Rattle.std.specs.Str.{bytes_eq};
+ghost use Rattle.arrayvec.specs.ArrayVec.{array_vec_len};
+ghost use Rattle.move_msg.specs.TextLines.{ended};
+ghost use Rattle.arbiter_server.specs.LineLogs.{common_kinds, counted, counts_more, digit_of, is_counted, is_last, kind_of, nothing_told, place_of, places_of, remembers, told_part};
+
+use crate::line::LineText;
+use arrayvec::ArrayVec;
+use itoa::Buffer;
+use std::alloc::{AllocError, Global};
+use std::marker::Model;
+
+/// How many places there are for last lines.
+const PLACES: usize = 65536;
+
+/// How many kinds of lines strangers cause.
+const KINDS: usize = 8;
+
+/// The bytes of a line with its count, with its line feed.
+pub(crate) type CountedText = ArrayVec<u8, 160>;
+
+/// What a line tells: what stands behind its stamp, where there is room for one.
+fn told_part(text: &[u8]) -> &[u8]
+    ensures { result.now ≡ told_part text.now }
+{
+    if text.len() < 34 { text } else { &text[33..] }
+}
+
+/// Whether two texts are one.
+fn is_same(a: &[u8], b: &[u8]) -> bool
+    ensures { result ≡ bytes_eq a.now b.now }
+{
+    a == b
+}
+
+/// The number of the kind of lines that strangers cause, if a line is of one.
+pub(crate) fn kind_of(text: &[u8]) -> Option<usize>
+    ensures is { result ≡ kind_of text.now }
+    ensures few { IfSome result (λ kind. kind < common_kinds) }
+{
+    let told = told_part(text);
+    if is_same(told, b"refused NoGame\n") {
+        return Some(0);
+    }
+    if is_same(told, b"refused NotOpen\n") {
+        return Some(1);
+    }
+    if is_same(told, b"refused memory\n") {
+        return Some(2);
+    }
+    if is_same(told, b"- refused NotAMessage NoTag\n") {
+        return Some(3);
+    }
+    if is_same(told, b"- refused NotAMessage BadLength\n") {
+        return Some(4);
+    }
+    if is_same(told, b"- refused NotAMessage BadHead\n") {
+        return Some(5);
+    }
+    if is_same(told, b"- refused NotAMessage BadKind\n") {
+        return Some(6);
+    }
+    if is_same(told, b"- refused NotAMessage BadField\n") {
+        return Some(7);
+    }
+    None
+}
+
+/// The value of a hexadecimal digit.
+fn digit_of(digit: u8) -> usize
+    ensures is { result ≡ digit_of digit }
+    ensures few { result < 16 }
+{
+    if digit < 64 {
+        usize::from(digit) % 16
+    } else {
+        (usize::from(digit) + 9) % 16
+    }
+}
+
+/// The place for the last line of a game: the first four digits of its stamp.
+pub(crate) fn place_of(text: &[u8]) -> usize
+    ensures is { result ≡ place_of text.now }
+    ensures few { result < 65536 }
+{
+    match text {
+        [a, b, c, d, ..] => {
+            ((digit_of(*a) * 16 + digit_of(*b)) * 16 + digit_of(*c)) * 16 + digit_of(*d)
+        }
+        _ => 0,
+    }
+}
+
+/// A text without its last byte.
+fn without_end(text: &[u8]) -> &[u8]
+    ensures { (line : List ℕ) → text.now ≡ ended line → result.now ≡ line }
+{
+    match text {
+        [line @ .., _] => line,
+        [] => text,
+    }
+}
+
+/// A line with its count behind it.
+pub(crate) fn counted(text: &LineText, count: u64) -> CountedText
+    ensures { (line : List ℕ) → text.now.items ≡ ended line → result.items ≡ ended (counted line count) }
+{
+    let mut digits = Buffer::new();
+    let mut all = ArrayVec::new();
+    let _line = all.try_extend_from_slice(without_end(text.as_slice()));
+    let _before = all.try_extend_from_slice(b" (");
+    let _count = all.try_extend_from_slice(digits.format(count).as_bytes());
+    let _after = all.try_extend_from_slice(b")\n");
+    all
+}
+
+/// A copy of a line.
+fn copied(text: &LineText) -> LineText
+    ensures { result.items ≡ text.now.items }
+{
+    let mut copy = ArrayVec::new();
+    let _fits = copy.try_extend_from_slice(text.as_slice());
+    copy
+}
+
+/// The last lines of games, one a place, and how many lines came of each kind that strangers cause.
+#[derive(Drop)]
+pub struct LastLines {
+    counts: [u64; KINDS],
+    places: Vec<LineText>,
+}
+
+impl LastLines {
+    /// Nothing is remembered yet. The error comes where memory is refused.
+    pub(crate) fn new(alloc: Global) -> Result<LastLines, AllocError>
+        ensures { IfOk result (λ lines. lines ≡ nothing_told) }
+    {
+        let mut places = Vec::new(alloc);
+        places.try_reserve(PLACES)?;
+        for _ in 0..PLACES {
+            places.push(ArrayVec::new())?;
+        }
+        Ok(LastLines {
+            counts: [0; KINDS],
+            places,
+        })
+    }
+
+    /// Counts a line of a kind; how many came now, 2^64 - 1 at most.
+    pub(crate) fn count(&mut self, kind: usize) -> u64 {
+        let count = self.counts[kind].saturating_add(1);
+        self.counts[kind] = count;
+        count
+    }
+
+    /// Whether a line is the last of its place; it is the last then.
+    pub(crate) fn repeats(&mut self, text: &LineText) -> bool {
+        let place = place_of(text.as_slice());
+        if self.places[place].as_slice() == text.as_slice() {
+            return true;
+        }
+        self.places[place] = copied(text);
+        false
+    }
+}
