@@ -19,6 +19,9 @@ pub mod Turning
 pub mod Handing
 pub mod Opening
 pub mod Seating
+pub mod Remembers
+pub mod LogLaws
+pub mod Logging
 pub mod Hosted
 pub mod Histories
 pub mod WholeRuns

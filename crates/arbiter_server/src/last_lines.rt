@@ -1,10 +1,9 @@
 //! What a log of changes remembers: the last lines of games, and how many lines came of each kind that strangers cause.
 
-ghost use Rattle.std.specs.Prelude.{◌≡◌, ◌<◌, ◌≤◌, ◌+◌, ◌++◌, ℕ, List, OnOk, IfOk, IfSome, length};
+ghost use Rattle.std.specs.Prelude.{◌≡◌, ◌<◌, ℕ, List, [], IfOk, IfSome, cond, get_or, set};
 ghost use Rattle.std.specs.Str.{bytes_eq};
-ghost use Rattle.arrayvec.specs.ArrayVec.{array_vec_len};
 ghost use Rattle.move_msg.specs.TextLines.{ended};
-ghost use Rattle.arbiter_server.specs.LineLogs.{common_kinds, counted, counts_more, digit_of, is_counted, is_last, kind_of, nothing_told, place_of, places_of, remembers, told_part};
+ghost use Rattle.arbiter_server.specs.LineLogs.{RemembersAll, counted, digit_of, kind_of, one_more, place_of, told_part};
 
 use crate::line::LineText;
 use arrayvec::ArrayVec;
@@ -25,7 +24,11 @@ pub(crate) type CountedText = ArrayVec<u8, 160>;
 fn told_part(text: &[u8]) -> &[u8]
     ensures { result.now ≡ told_part text.now }
 {
-    if text.len() < 34 { text } else { &text[33..] }
+    if text.len() < 34 {
+        return text;
+    }
+    let (_, told) = text.split_at(33);
+    told
 }
 
 /// Whether two texts are one.
@@ -36,9 +39,10 @@ fn is_same(a: &[u8], b: &[u8]) -> bool
 }
 
 /// The number of the kind of lines that strangers cause, if a line is of one.
+#[tactic(auto, unfolding(crate::specs::LineLogs::kind_of))]
 pub(crate) fn kind_of(text: &[u8]) -> Option<usize>
     ensures is { result ≡ kind_of text.now }
-    ensures few { IfSome result (λ kind. kind < common_kinds) }
+    ensures few { IfSome result (λ kind. kind < 8) }
 {
     let told = told_part(text);
     if is_same(told, b"refused NoGame\n") {
@@ -85,12 +89,11 @@ pub(crate) fn place_of(text: &[u8]) -> usize
     ensures is { result ≡ place_of text.now }
     ensures few { result < 65536 }
 {
-    match text {
-        [a, b, c, d, ..] => {
-            ((digit_of(*a) * 16 + digit_of(*b)) * 16 + digit_of(*c)) * 16 + digit_of(*d)
-        }
-        _ => 0,
+    if text.len() < 4 {
+        return 0;
     }
+    ((digit_of(text[0]) * 16 + digit_of(text[1])) * 16 + digit_of(text[2])) * 16
+        + digit_of(text[3])
 }
 
 /// A text without its last byte.
@@ -132,13 +135,23 @@ pub struct LastLines {
     places: Vec<LineText>,
 }
 
+impl Model for LastLines {
+    ghost use Rattle.std.specs.Prelude.{◌≡◌, length, map};
+    ghost use Rattle.arbiter_server.specs.Remembering.{Remembered};
+
+    ghost Value = { Remembered };
+
+    ghost view = { λ s. record { counts = s.counts; lasts = map (λ text. text.items) s.places.items } };
+
+    ghost invariant = { λ s. length s.places.items ≡ 65536 };
+}
+
 impl LastLines {
     /// Nothing is remembered yet. The error comes where memory is refused.
     pub(crate) fn new(alloc: Global) -> Result<LastLines, AllocError>
-        ensures { IfOk result (λ lines. lines ≡ nothing_told) }
+        ensures { IfOk result (λ lines. RemembersAll lines []) }
     {
         let mut places = Vec::new(alloc);
-        places.try_reserve(PLACES)?;
         for _ in 0..PLACES {
             places.push(ArrayVec::new())?;
         }
@@ -149,16 +162,26 @@ impl LastLines {
     }
 
     /// Counts a line of a kind; how many came now, 2^64 - 1 at most.
-    pub(crate) fn count(&mut self, kind: usize) -> u64 {
+    pub(crate) fn count(&mut self, kind: usize) -> u64
+        requires { kind < 8 }
+        ensures count { result ≡ one_more (get_or self.old.counts kind 0) }
+        ensures counts { self.new.counts ≡ set self.old.counts kind result }
+        ensures lasts { self.new.lasts ≡ self.old.lasts }
+    {
         let count = self.counts[kind].saturating_add(1);
         self.counts[kind] = count;
         count
     }
 
     /// Whether a line is the last of its place; it is the last then.
-    pub(crate) fn repeats(&mut self, text: &LineText) -> bool {
+    pub(crate) fn repeats(&mut self, text: &LineText) -> bool
+        ensures is { result ≡ bytes_eq (get_or self.old.lasts (place_of text.now.items) []) text.now.items }
+        ensures lasts { self.new.lasts ≡ cond result self.old.lasts (set self.old.lasts (place_of text.now.items) text.now.items) }
+        ensures counts { self.new.counts ≡ self.old.counts }
+        ensures few { place_of text.now.items < 65536 }
+    {
         let place = place_of(text.as_slice());
-        if self.places[place].as_slice() == text.as_slice() {
+        if is_same(self.places[place].as_slice(), text.as_slice()) {
             return true;
         }
         self.places[place] = copied(text);

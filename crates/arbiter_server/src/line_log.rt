@@ -1,5 +1,10 @@
 //! Which lines of a server are written.
 
+ghost use Rattle.std.specs.Prelude.{◌≡◌, ◌<◌, [], List, ℕ, IfOk, Some, None};
+ghost use Rattle.move_msg.specs.TextLines.{ended};
+ghost use Rattle.arbiter_server.specs.GoingOut.{writers};
+ghost use Rattle.arbiter_server.specs.LineLogs.{IsLogOf, Remembers, RemembersAll, TellsChange, TellsLine, kind_of};
+
 use crate::last_lines::{LastLines, counted, kind_of};
 use crate::line::LineText;
 use crate::serving::put_line;
@@ -16,18 +21,67 @@ pub enum LogForm {
     Changes,
 }
 
-/// A log of a server's lines.
+/// A log of a server's lines, with what it has to know of earlier ones.
 #[derive(Drop)]
 pub enum LineLog {
     /// All are written.
     All,
-    /// Those that change what is remembered.
+    /// Changes are.
     Changes(LastLines),
 }
 
+/// Writes a line that strangers cause, with its count, where that is a power of two.
+fn tell_counted<W: Output>(
+    lines: &mut LastLines,
+    kind: usize,
+    out: &mut W,
+    text: &LineText,
+) -> Result<(), WriteFault>
+    requires { kind < 8 }
+    ensures { (before : List (List ℕ)) (line : List ℕ) → text.now.items ≡ ended line → kind_of text.now.items ≡ Some kind → RemembersAll lines.old before → TellsChange (writers W.Write.contents W.facts) before lines.new line out.old out.new result }
+{
+    let count = lines.count(kind);
+    if count.is_power_of_two() {
+        put_line(out, counted(text, count).as_slice())
+    } else {
+        Ok(())
+    }
+}
+
+/// Writes a line that isn't the last one of its place.
+fn tell_new<W: Output>(
+    lines: &mut LastLines,
+    out: &mut W,
+    text: &LineText,
+) -> Result<(), WriteFault>
+    ensures { (before : List (List ℕ)) (line : List ℕ) → text.now.items ≡ ended line → kind_of text.now.items ≡ None → RemembersAll lines.old before → TellsChange (writers W.Write.contents W.facts) before lines.new line out.old out.new result }
+{
+    if lines.repeats(text) {
+        Ok(())
+    } else {
+        put_line(out, text.as_slice())
+    }
+}
+
+/// Writes a line where it is told among changes.
+fn tell_change<W: Output>(
+    lines: &mut LastLines,
+    out: &mut W,
+    text: &LineText,
+) -> Result<(), WriteFault>
+    ensures { (before : List (List ℕ)) (line : List ℕ) → text.now.items ≡ ended line → RemembersAll lines.old before → TellsChange (writers W.Write.contents W.facts) before lines.new line out.old out.new result }
+{
+    match kind_of(text.as_slice()) {
+        Some(kind) => tell_counted(lines, kind, out, text),
+        None => tell_new(lines, out, text),
+    }
+}
+
 impl LineLog {
-    /// A log of this form, at its begin. The error comes where memory for what it remembers is refused.
-    pub fn new(alloc: Global, form: LogForm) -> Result<LineLog, AllocError> {
+    /// A log of this form, which knows of no line yet. The error comes where memory for what it has to remember is refused.
+    pub fn new(alloc: Global, form: LogForm) -> Result<LineLog, AllocError>
+        ensures { IfOk result (IsLogOf form) }
+    {
         match form {
             LogForm::All => Ok(LineLog::All),
             LogForm::Changes => match LastLines::new(alloc) {
@@ -42,50 +96,12 @@ impl LineLog {
         &mut self,
         out: &mut W,
         text: &LineText,
-    ) -> Result<(), WriteFault> {
+    ) -> Result<(), WriteFault>
+        ensures { (before : List (List ℕ)) (line : List ℕ) → text.now.items ≡ ended line → Remembers self.old before → TellsLine (writers W.Write.contents W.facts) before self.old self.new line out.old out.new result }
+    {
         match self {
             LineLog::All => put_line(out, text.as_slice()),
             LineLog::Changes(lines) => tell_change(lines, out, text),
         }
-    }
-}
-
-/// Writes a line where it is told among changes.
-fn tell_change<W: Output>(
-    lines: &mut LastLines,
-    out: &mut W,
-    text: &LineText,
-) -> Result<(), WriteFault> {
-    match kind_of(text.as_slice()) {
-        Some(kind) => tell_counted(lines, kind, out, text),
-        None => tell_new(lines, out, text),
-    }
-}
-
-/// Writes a line that strangers cause, with its count, where that is a power of two.
-fn tell_counted<W: Output>(
-    lines: &mut LastLines,
-    kind: usize,
-    out: &mut W,
-    text: &LineText,
-) -> Result<(), WriteFault> {
-    let count = lines.count(kind);
-    if count.is_power_of_two() {
-        put_line(out, counted(text, count).as_slice())
-    } else {
-        Ok(())
-    }
-}
-
-/// Writes a line that isn't the last one of its place.
-fn tell_new<W: Output>(
-    lines: &mut LastLines,
-    out: &mut W,
-    text: &LineText,
-) -> Result<(), WriteFault> {
-    if lines.repeats(text) {
-        Ok(())
-    } else {
-        put_line(out, text.as_slice())
     }
 }
