@@ -132,7 +132,7 @@ module _ {K W : Type 0} (s : Keepers K) (t : CommonView) (w : Writers W) (form :
 
   module _ (old new : Gives K) (at at' : At K) (port now later : PortFacts) (log : LineLog) (first out out' : W) (k n : ℕ) (had : HasHosted s t w form log old at port now first out k) (few : k < n) (line : List ℕ) where
     -- what is known of lines by now
-    so_far : List (List ℕ)
+    abbrev so_far : List (List ℕ)
     so_far = map (λ (x : Reply). x.line) had.replies
 
     -- the port is lost
@@ -175,11 +175,11 @@ module _ {K W : Type 0} (s : Keepers K) (t : CommonView) (w : Writers W) (form :
 
 module _ {K W : Type 0} (s : Keepers K) (t : CommonView) (w : Writers W) (form : LogForm) (old new : Gives K) (at at' : At K) (port now later : PortFacts) (log log' : LineLog) (first out out' : W) (k : ℕ) (had : HasHosted s t w form log old at port now first out k) where
   -- what was told before
-  told_before : List (List ℕ)
+  abbrev told_before : List (List ℕ)
   told_before = texts_after [] (map (λ (x : Reply). x.line) had.replies)
 
   -- the turn is taken after it
-  pub Taken : Result Bool WriteFault → Type 0
+  abbrev pub Taken : Result Bool WriteFault → Type 0
   Taken told = (before : List (List ℕ)) → Remembers log before → TakesTurn (LeadsFrom s t old at new at') w before log log' now later out out' told
 
   -- a turn after which the run goes on

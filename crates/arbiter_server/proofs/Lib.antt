@@ -20,6 +20,7 @@ pub mod Handing
 pub mod Opening
 pub mod Seating
 pub mod Remembers
+pub mod LogKinds
 pub mod LogLaws
 pub mod Logging
 pub mod Hosted

@@ -4,20 +4,17 @@ use Rattle.std.specs.Prelude.{◌⊎◌, ◌&&◌, ◌==◌, is_none, codes, ltb
 use Rattle.std.specs.List.{Contains}
 use Rattle.std.specs.Str.{bytes_eq}
 use Rattle.std.proofs.lemmas.Bool.{and_parts}
-use Rattle.std.proofs.lemmas.Bool.Decides.{Decides-ltb}
-use Rattle.std.specs.Fmt.{decimal}
-use Rattle.hex.specs.Hex.{encode_lower, lower_digits}
-use Rattle.hex.proofs.HexLemmas.{length-encode_with}
-use Rattle.std.proofs.lemmas.List.{drop_at, length_push, same_from_push}
+use Rattle.std.proofs.lemmas.List.{same_from_push}
 use Rattle.std.proofs.lemmas.List.Elements.{Contains-append_cases, Contains-append_left, Contains-append_right, Contains-push}
 use Rattle.std.proofs.lemmas.Slice.Eq.{bytes_eq-Decides}
 use Rattle.arbiter_core.proofs.Reach.{none_from}
 use Rattle.board_core.proofs.ComputedLists.{Contains-first}
 use Rattle.move_msg.specs.TextLines.{ended}
 use Rattle.arbiter_server.specs.declared.line_log.LogForm.TheVariants as form
-use Rattle.arbiter_server.specs.LineLogs.{changes_after, common, is_at, place_in, kind_of, last_at, logged, picked, picked_by, place_of}
-use Rattle.arbiter_server.specs.ServedLines.{heard_words, verdict_or_none}
+use Rattle.arbiter_server.specs.LineLogs.{changes_after, is_at, kind_of, last_at, logged, picked, picked_by, place_of}
+use Rattle.arbiter_server.specs.ServedLines.{heard_words}
 use Rattle.arbiter_server.specs.Told.{stamped}
+use Rattle.arbiter_server.proofs.LogKinds.{kind_behind}
 use Rattle.arbiter_server.specs.Laws.{ChangesHideNothing, VerdictsAreLogged}
 
 same_line : (a b : List ℕ) → ended a ≡ ended b → a ≡ b
@@ -74,38 +71,7 @@ nothing_last place line e = absurd (let size : length (ended line) ≡ 0 = ap le
 pub hides_nothing : ChangesHideNothing
 hides_nothing lines line there none = keeps_each lines [] [] nothing_last line there none
 
--- ---- a line that tells a count and a verdict
-
-digits_long : (stamp : List ℕ) → length stamp ≡ 16 → length (encode_lower stamp) ≡ 32
-digits_long stamp size = let twice = length-encode_with lower_digits stamp in omega (arith, size, twice)
-
-behind_stamp : (digits told : List ℕ) → length digits ≡ 32 → drop 33 (digits ++ codes " " ++ told) ≡ told
-behind_stamp digits told size = drop_at (digits ++ codes " ") told 33 (length_push digits 32 ∙ ap (λ n. n + 1) size)
-
-not_short : (n : ℕ) → 34 ≤ n → ltb n 34 ≡ false
-not_short n long = by_test (ltb n 34) refl where
-  by_test : (t : Bool) → ltb n 34 ≡ t → ltb n 34 ≡ false
-  by_test false e = e
-  by_test true e = absurd (let short : n < 34 = (Decides-ltb n 34).0 e in omega (arith, short, long))
-
--- strangers don't cause what tells a count
-no_kind : (t : Bool) (text told : List ℕ) → t ≡ false → drop 33 text ≡ codes "ok " ++ told → place_in 0 common (cond t text (drop 33 text)) ≡ None
-no_kind false text told e is = ap (λ (l : List ℕ). place_in 0 common l) is
-no_kind true text told e is = absurd (let wrong : true ≡ false = e in cc)
-
-counts_are_own : (stamp told : List ℕ) → length stamp ≡ 16 → kind_of (ended (stamped stamp (codes "ok " ++ told))) ≡ None
-unfolding kind_of
-counts_are_own stamp told size =
-    let digits = encode_lower stamp in
-    let long = digits_long stamp size in
-    let text = ended (stamped stamp (codes "ok " ++ told)) in
-    let rest = codes "ok " ++ (told ++ 10 ∷ []) in
-    let split : text ≡ digits ++ codes " " ++ rest = append_assoc (digits ++ codes " ") (codes "ok " ++ told) (10 ∷ []) in
-    let behind : drop 33 text ≡ rest = ap (λ (l : List ℕ). drop 33 l) split ∙ behind_stamp digits rest long in
-    let size_is : length text ≡ length (digits ++ codes " ") + length rest = ap (λ (l : List ℕ). length l) split ∙ length-append (digits ++ codes " ") rest in
-    let front : length (digits ++ codes " ") ≡ length digits + 1 = length_push digits 32 in
-    no_kind (ltb (length text) 34) text (told ++ 10 ∷ []) (not_short (length text) (omega (arith, size_is, front, long))) behind
-
+-- a line that tells a count and a verdict is of a game
 pub verdicts_logged : VerdictsAreLogged
 verdicts_logged lines stamp count verdict size there =
-    hides_nothing lines (stamped stamp (heard_words count verdict)) there (counts_are_own stamp (decimal count ++ codes " " ++ verdict_or_none verdict) size)
+    hides_nothing lines (stamped stamp (heard_words count verdict)) there (kind_behind stamp (heard_words count verdict) size)

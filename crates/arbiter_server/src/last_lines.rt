@@ -1,9 +1,9 @@
 //! What a log of changes remembers: the last lines of games, and how many lines came of each kind that strangers cause.
 
-ghost use Rattle.std.specs.Prelude.{◌≡◌, ◌<◌, ℕ, List, [], IfOk, IfSome, cond, get_or, set};
+ghost use Rattle.std.specs.Prelude.{◌≡◌, ◌<◌, ℕ, List, [], IfOk, cond, get_or, set};
 ghost use Rattle.std.specs.Str.{bytes_eq};
 ghost use Rattle.move_msg.specs.TextLines.{ended};
-ghost use Rattle.arbiter_server.specs.LineLogs.{RemembersAll, counted, digit_of, kind_of, one_more, place_of, told_part};
+ghost use Rattle.arbiter_server.specs.LineLogs.{RemembersAll, counted, digit_of, one_more, place_of};
 
 use crate::line::LineText;
 use arrayvec::ArrayVec;
@@ -20,56 +20,11 @@ const KINDS: usize = 8;
 /// The bytes of a line with its count, with its line feed.
 pub(crate) type CountedText = ArrayVec<u8, 160>;
 
-/// What a line tells: what stands behind its stamp, where there is room for one.
-fn told_part(text: &[u8]) -> &[u8]
-    ensures { result.now ≡ told_part text.now }
-{
-    if text.len() < 34 {
-        return text;
-    }
-    let (_, told) = text.split_at(33);
-    told
-}
-
 /// Whether two texts are one.
 fn is_same(a: &[u8], b: &[u8]) -> bool
     ensures { result ≡ bytes_eq a.now b.now }
 {
     a == b
-}
-
-/// The number of the kind of lines that strangers cause, if a line is of one.
-#[tactic(auto, unfolding(crate::specs::LineLogs::kind_of))]
-pub(crate) fn kind_of(text: &[u8]) -> Option<usize>
-    ensures is { result ≡ kind_of text.now }
-    ensures few { IfSome result (λ kind. kind < 8) }
-{
-    let told = told_part(text);
-    if is_same(told, b"refused NoGame\n") {
-        return Some(0);
-    }
-    if is_same(told, b"refused NotOpen\n") {
-        return Some(1);
-    }
-    if is_same(told, b"refused memory\n") {
-        return Some(2);
-    }
-    if is_same(told, b"- refused NotAMessage NoTag\n") {
-        return Some(3);
-    }
-    if is_same(told, b"- refused NotAMessage BadLength\n") {
-        return Some(4);
-    }
-    if is_same(told, b"- refused NotAMessage BadHead\n") {
-        return Some(5);
-    }
-    if is_same(told, b"- refused NotAMessage BadKind\n") {
-        return Some(6);
-    }
-    if is_same(told, b"- refused NotAMessage BadField\n") {
-        return Some(7);
-    }
-    None
 }
 
 /// The value of a hexadecimal digit.

@@ -4,9 +4,10 @@ ghost use Rattle.std.specs.Prelude.{◌≡◌, ◌<◌, [], List, ℕ, IfOk, Som
 ghost use Rattle.move_msg.specs.TextLines.{ended};
 ghost use Rattle.arbiter_server.specs.GoingOut.{writers};
 ghost use Rattle.arbiter_server.specs.LineLogs.{IsLogOf, Remembers, RemembersAll, TellsChange, TellsLine, kind_of};
+ghost use Rattle.arbiter_server.specs.Told.{line_words};
 
-use crate::last_lines::{LastLines, counted, kind_of};
-use crate::line::LineText;
+use crate::last_lines::{LastLines, counted};
+use crate::line::Line;
 use crate::serving::put_line;
 use std::alloc::{AllocError, Global};
 use system_io::{Output, WriteFault};
@@ -35,14 +36,15 @@ fn tell_counted<W: Output>(
     lines: &mut LastLines,
     kind: usize,
     out: &mut W,
-    text: &LineText,
+    line: Line,
 ) -> Result<(), WriteFault>
-    requires { kind < 8 }
-    ensures { (before : List (List ℕ)) (line : List ℕ) → text.now.items ≡ ended line → kind_of text.now.items ≡ Some kind → RemembersAll lines.old before → TellsChange (writers W.Write.contents W.facts) before lines.new line out.old out.new result }
+    requires of { kind_of (ended (line_words line)) ≡ Some kind }
+    requires few { kind < 8 }
+    ensures { (before : List (List ℕ)) → RemembersAll lines.old before → TellsChange (writers W.Write.contents W.facts) before lines.new (line_words line) out.old out.new result }
 {
     let count = lines.count(kind);
     if count.is_power_of_two() {
-        put_line(out, counted(text, count).as_slice())
+        put_line(out, counted(&line.text(), count).as_slice())
     } else {
         Ok(())
     }
@@ -52,11 +54,13 @@ fn tell_counted<W: Output>(
 fn tell_new<W: Output>(
     lines: &mut LastLines,
     out: &mut W,
-    text: &LineText,
+    line: Line,
 ) -> Result<(), WriteFault>
-    ensures { (before : List (List ℕ)) (line : List ℕ) → text.now.items ≡ ended line → kind_of text.now.items ≡ None → RemembersAll lines.old before → TellsChange (writers W.Write.contents W.facts) before lines.new line out.old out.new result }
+    requires { kind_of (ended (line_words line)) ≡ None }
+    ensures { (before : List (List ℕ)) → RemembersAll lines.old before → TellsChange (writers W.Write.contents W.facts) before lines.new (line_words line) out.old out.new result }
 {
-    if lines.repeats(text) {
+    let text = line.text();
+    if lines.repeats(&text) {
         Ok(())
     } else {
         put_line(out, text.as_slice())
@@ -67,13 +71,13 @@ fn tell_new<W: Output>(
 fn tell_change<W: Output>(
     lines: &mut LastLines,
     out: &mut W,
-    text: &LineText,
+    line: Line,
 ) -> Result<(), WriteFault>
-    ensures { (before : List (List ℕ)) (line : List ℕ) → text.now.items ≡ ended line → RemembersAll lines.old before → TellsChange (writers W.Write.contents W.facts) before lines.new line out.old out.new result }
+    ensures { (before : List (List ℕ)) → RemembersAll lines.old before → TellsChange (writers W.Write.contents W.facts) before lines.new (line_words line) out.old out.new result }
 {
-    match kind_of(text.as_slice()) {
-        Some(kind) => tell_counted(lines, kind, out, text),
-        None => tell_new(lines, out, text),
+    match line.kind() {
+        Some(kind) => tell_counted(lines, kind, out, line),
+        None => tell_new(lines, out, line),
     }
 }
 
@@ -92,16 +96,12 @@ impl LineLog {
     }
 
     /// Writes a line where it is one that is written, and lets it go out at once.
-    pub(crate) fn tell<W: Output>(
-        &mut self,
-        out: &mut W,
-        text: &LineText,
-    ) -> Result<(), WriteFault>
-        ensures { (before : List (List ℕ)) (line : List ℕ) → text.now.items ≡ ended line → Remembers self.old before → TellsLine (writers W.Write.contents W.facts) before self.old self.new line out.old out.new result }
+    pub(crate) fn tell<W: Output>(&mut self, out: &mut W, line: Line) -> Result<(), WriteFault>
+        ensures { (before : List (List ℕ)) → Remembers self.old before → TellsLine (writers W.Write.contents W.facts) before self.old self.new (line_words line) out.old out.new result }
     {
         match self {
-            LineLog::All => put_line(out, text.as_slice()),
-            LineLog::Changes(lines) => tell_change(lines, out, text),
+            LineLog::All => put_line(out, line.text().as_slice()),
+            LineLog::Changes(lines) => tell_change(lines, out, line),
         }
     }
 }

@@ -227,7 +227,7 @@ impl<'a, G: Games + Drop> Server<'a, G> {
         ensures taken { (before : List (List ℕ)) → Remembers log.old before → TakesTurn (TurnsTo G.Keeper.facts G.facts self.old self.new) (writers W.Write.contents W.facts) before log.old log.new (P.facts port.old) (P.facts port.new) out.old out.new result }
     {
         let (line, lost) = self.receive(alloc, port);
-        match log.tell(out, &line.text()) {
+        match log.tell(out, line) {
             Ok(()) => Ok(lost),
             Err(fault) => Err(fault),
         }
