@@ -51,7 +51,7 @@ module _ (told before : List (List ℕ)) (has : HasLasts told before) (first : L
   unfolding last_at
   has_more place line e =
       ⊎_elim (λ (h : (is_at place (ended first) ≡ true) × (ended first ≡ ended line)).
-          subst (Contains (told ++ picked form.Changes before first)) (same_line first line h.1) (first_in (is_game (ended first) place h.0)))
+      subst (Contains (told ++ picked form.Changes before first)) (same_line first line h.1) (first_in (is_game (ended first) place h.0)))
       (λ (was : last_at place before ≡ ended line). Contains-append_left told (picked form.Changes before first) line (has place line was)) (latest_or (is_at place (ended first)) (ended first) (last_at place before) (ended line) e)
 
 keeps_each : (lines told before : List (List ℕ)) → HasLasts told before → (line : List ℕ) → Contains lines line → kind_of (ended line) ≡ None → Contains (told ++ changes_after before lines) line

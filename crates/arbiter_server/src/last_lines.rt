@@ -47,8 +47,7 @@ pub(crate) fn place_of(text: &[u8]) -> usize
     if text.len() < 4 {
         return 0;
     }
-    ((digit_of(text[0]) * 16 + digit_of(text[1])) * 16 + digit_of(text[2])) * 16
-        + digit_of(text[3])
+    ((digit_of(text[0]) * 16 + digit_of(text[1])) * 16 + digit_of(text[2])) * 16 + digit_of(text[3])
 }
 
 /// A text without its last byte.

@@ -51,11 +51,7 @@ fn tell_counted<W: Output>(
 }
 
 /// Writes a line that isn't the last one of its place.
-fn tell_new<W: Output>(
-    lines: &mut LastLines,
-    out: &mut W,
-    line: Line,
-) -> Result<(), WriteFault>
+fn tell_new<W: Output>(lines: &mut LastLines, out: &mut W, line: Line) -> Result<(), WriteFault>
     requires { kind_of (ended (line_words line)) ≡ None }
     ensures { (before : List (List ℕ)) → RemembersAll lines.old before → TellsChange (writers W.Write.contents W.facts) before lines.new (line_words line) out.old out.new result }
 {
@@ -68,11 +64,7 @@ fn tell_new<W: Output>(
 }
 
 /// Writes a line where it is told among changes.
-fn tell_change<W: Output>(
-    lines: &mut LastLines,
-    out: &mut W,
-    line: Line,
-) -> Result<(), WriteFault>
+fn tell_change<W: Output>(lines: &mut LastLines, out: &mut W, line: Line) -> Result<(), WriteFault>
     ensures { (before : List (List ℕ)) → RemembersAll lines.old before → TellsChange (writers W.Write.contents W.facts) before lines.new (line_words line) out.old out.new result }
 {
     match line.kind() {

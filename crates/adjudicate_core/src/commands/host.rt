@@ -9,9 +9,7 @@ ghost use Rattle.adjudicate_core.specs.Misuses.{AreWell, IsFirst, fault_words};
 use super::{Form, Value};
 use crate::numbers::CacheSize;
 use crate::usage::ValueFault;
-use crate::values::{
-    at_once_in, cache_in, datagrams_in, log_in, me_in, option_in, recipients_in,
-};
+use crate::values::{at_once_in, cache_in, datagrams_in, log_in, me_in, option_in, recipients_in};
 use arbiter_server::LogForm;
 use clap::ArgMatches;
 use move_msg::Who;
