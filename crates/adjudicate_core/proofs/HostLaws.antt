@@ -11,6 +11,8 @@ use Rattle.arbiter_server.specs.GoingOut.{GoOut, Writers}
 use Rattle.arbiter_server.specs.Acts.{all_replies}
 use Rattle.arbiter_server.specs.Folders.{Keepers}
 use Rattle.arbiter_server.specs.Games.{CommonView}
+use Rattle.arbiter_server.specs.LineLogs.{logged}
+use Rattle.arbiter_server.specs.declared.line_log.LogForm.{LogForm}
 use Rattle.arbiter_server.specs.Hosts.{Hosts, all_lines}
 use Rattle.adjudicate_core.specs.declared.commands.host.HostGames.{HostGames}
 use Rattle.task_files.specs.Given.{Given}
@@ -34,19 +36,19 @@ unfolding GoOut
 line_written w out now line (next, goes, same) = subst (λ x. Appends (w.written out) (w.written x) (ended line)) (sym same) goes.whole
 
 module _ {P F K W : Type 0} (folders : List ℕ → Keepers K) (host : Hosted P F) (w : Writers W) (status : ℕ) (h : HostGames) where
-  served_done : (s : Keepers K) (t : CommonView) (n : ℕ) (port port' : PortFacts) (out out' : W) → Hosts s t w n (λ stamp next. Unit {0}) port port' out out' (Ok status) → HostsAndWrites s t n port port' (w.written out) (w.written out') status
-  served_done s t n port port' out out' run = record {
+  served_done : (s : Keepers K) (t : CommonView) (form : LogForm) (n : ℕ) (port port' : PortFacts) (out out' : W) → Hosts s t w form n (λ stamp next. Unit {0}) port port' out out' (Ok status) → HostsAndWrites s t form n port port' (w.written out) (w.written out') status
+  served_done s t form n port port' out out' run = record {
     acts = run.acts;
     hosted = run.hosted;
     lost = run.lost;
     passed = run.passed;
     cause = run.cause;
     ends = run.ends;
-    written = lines_written w out out' (all_lines (all_replies run.acts) run.lost) run.lines;
+    written = lines_written w out out' (logged form (all_lines (all_replies run.acts) run.lost)) run.lines;
   }
 
   now_done : (t : CommonView) (port port' : PortFacts) (out out' : W) → HostsNow (seen_by folders w (Ok status)) h t port port' out out' (Ok status) → HostsNow (seen_as folders (Ok status)) h t port port' (w.written out) (w.written out') (Ok status)
-  now_done t port port' out out' (Served run) = Served (served_done (folders h.games.now) t h.datagrams port port' out out' run)
+  now_done t port port' out out' (Served run) = Served (served_done (folders h.games.now) t h.log h.datagrams port port' out out' run)
   now_done t port port' out out' (NoRoomForGames same told) = NoRoomForGames same told
 
   at_done : (t : CommonView) (port : P) (port' : PortFacts) (out out' : W) → HostsAt host (seen_by folders w (Ok status)) h t port port' out out' (Ok status) → HostsAt host (seen_as folders (Ok status)) h t port port' (w.written out) (w.written out') (Ok status)

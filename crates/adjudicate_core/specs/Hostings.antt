@@ -22,6 +22,8 @@ use Rattle.arbiter_server.specs.Acts.{Act, all_replies}
 use Rattle.arbiter_server.specs.DiskGames.{disk_keepers}
 use Rattle.arbiter_server.specs.Folders.{Keepers}
 use Rattle.arbiter_server.specs.Games.{CommonView, common_with}
+use Rattle.arbiter_server.specs.LineLogs.{logged}
+use Rattle.arbiter_server.specs.declared.line_log.LogForm.{LogForm}
 use Rattle.arbiter_server.specs.Hosts.{Ends, Hosts, IsHosted, all_lines, all_passing}
 use Rattle.adjudicate_core.specs.Addresses.{addresses_of}
 use Rattle.adjudicate_core.specs.declared.commands.host.HostGames.{HostGames}
@@ -41,19 +43,19 @@ common_for h set manifest = record { manifest = manifest; number = who_number h.
 -- ---- how a run is seen
 
 -- a host's run for n datagrams up to a status, by what is written: each game goes its own way, all that passes at the port are the
--- datagrams and what is answered, and the lines are those of the datagrams
-pub record HostsAndWrites {K : Type 0} (s : Keepers K) (t : CommonView) (n : ℕ) (port port' : PortFacts) (old new : Option (List ℕ)) (status : ℕ) : Type 0 where
+-- datagrams and what is answered, and the lines are those of the datagrams, as far as a log of this form has them
+pub record HostsAndWrites {K : Type 0} (s : Keepers K) (t : CommonView) (form : LogForm) (n : ℕ) (port port' : PortFacts) (old new : Option (List ℕ)) (status : ℕ) : Type 0 where
   pub acts : List (Act K)
   pub hosted : IsHosted s t acts
   pub lost : Bool
   pub passed : Passed port port' (all_passing port.addresses (all_replies acts) lost)
   pub cause : lost ≡ true → Risen port.faults port'.faults
   pub ends : Ends n (all_replies acts) lost (Ok status)
-  pub written : Appends old new (text_of (all_lines (all_replies acts) lost))
+  pub written : Appends old new (text_of (logged form (all_lines (all_replies acts) lost)))
 
-abbrev pub HostsIfDone : {K : Type 0} → Keepers K → CommonView → ℕ → PortFacts → PortFacts → Option (List ℕ) → Option (List ℕ) → Result ℕ WriteFault → Type 0
-HostsIfDone s t n port port' old new (Ok status) = HostsAndWrites s t n port port' old new status
-HostsIfDone s t n port port' old new (Err fault) = Unit {0}
+abbrev pub HostsIfDone : {K : Type 0} → Keepers K → CommonView → LogForm → ℕ → PortFacts → PortFacts → Option (List ℕ) → Option (List ℕ) → Result ℕ WriteFault → Type 0
+HostsIfDone s t form n port port' old new (Ok status) = HostsAndWrites s t form n port port' old new status
+HostsIfDone s t form n port port' old new (Err fault) = Unit {0}
 
 -- a run from moments of a type: what is written by then; that this line, and nothing else, went out between two of them; that it was
 -- cut short; and that the games of the folder at a path are hosted between them
@@ -61,21 +63,21 @@ pub record Seen (T : Type 0) : Type 1 where
   pub written : T → Option (List ℕ)
   pub told : T → List ℕ → T → Type 0
   pub cut : T → List ℕ → T → Type 0
-  pub hosts : List ℕ → CommonView → ℕ → PortFacts → PortFacts → T → T → Type 0
+  pub hosts : List ℕ → CommonView → LogForm → ℕ → PortFacts → PortFacts → T → T → Type 0
 
 -- by what is written, with these folders
 abbrev pub seen_as : {K : Type 0} → (List ℕ → Keepers K) → Result ℕ WriteFault → Seen (Option (List ℕ))
-seen_as folders r = record { written = λ t. t; told = λ old line new. Appends old new (ended line); cut = λ old line new. Unit {0}; hosts = λ path t n port port' old new. HostsIfDone (folders path) t n port port' old new r }
+seen_as folders r = record { written = λ t. t; told = λ old line new. Appends old new (ended line); cut = λ old line new. Unit {0}; hosts = λ path t form n port port' old new. HostsIfDone (folders path) t form n port port' old new r }
 
 -- by the writer: each line has gone out before the next comes
 abbrev pub seen_by : {K W : Type 0} → (List ℕ → Keepers K) → Writers W → Result ℕ WriteFault → Seen W
-seen_by folders w r = record { written = w.written; told = λ out line now. GoOut w out (line ∷ []) now; cut = λ out line now. LastIsCut w out (line ∷ []) now; hosts = λ path t n port port' out now. Hosts (folders path) t w n (λ stamp next. Unit {0}) port port' out now r }
+seen_by folders w r = record { written = w.written; told = λ out line now. GoOut w out (line ∷ []) now; cut = λ out line now. LastIsCut w out (line ∷ []) now; hosts = λ path t form n port port' out now. Hosts (folders path) t w form n (λ stamp next. Unit {0}) port port' out now r }
 
 -- ---- all of it
 
--- the games of the folder that the words name are hosted; or memory for those that are open was refused, and no datagram was received
+-- the games of the folder that the words name are hosted; or memory for those that are open, or for the log, was refused, and no datagram was received
 pub data HostsNow {T : Type 0} (seen : Seen T) (h : HostGames) (t : CommonView) (port port' : PortFacts) (old new : T) (r : Result ℕ WriteFault) : Type 0 where
-  Served : seen.hosts h.games.now t h.datagrams port port' old new → HostsNow seen h t port port' old new r
+  Served : seen.hosts h.games.now t h.log h.datagrams port port' old new → HostsNow seen h t port port' old new r
   NoRoomForGames : port' ≡ port → TellsIf refused_memory (seen.written old) (seen.written new) r → HostsNow seen h t port port' old new r
 
 -- at a port that is bound: the address at which it listens isn't told; or its line goes out before all else; or that is cut short

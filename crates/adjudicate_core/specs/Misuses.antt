@@ -6,7 +6,8 @@ use Rattle.move_msg.specs.declared.who.Who.{Who}
 use Rattle.move_msg.specs.Stamps.{IsGameName}
 use Rattle.adjudicate_core.specs.Addresses.{AreAddresses, AreRecipients, IsAddress}
 use Rattle.adjudicate_core.specs.GamePaths.{NamesGame}
-use Rattle.adjudicate_core.specs.Numbers.{IsAtOnce, IsCache, IsDatagrams, IsDelay, IsHundredOr, IsMe}
+use Rattle.adjudicate_core.specs.Numbers.{IsAtOnce, IsCache, IsDatagrams, IsDelay, IsHundredOr, IsLog, IsMe}
+use Rattle.arbiter_server.specs.declared.line_log.LogForm.{LogForm}
 use Rattle.adjudicate_core.specs.declared.usage.Instead.{Instead}
 use Rattle.adjudicate_core.specs.declared.usage.Instead.TheVariants as instead
 use Rattle.adjudicate_core.specs.declared.usage.Wanted.{Wanted}
@@ -29,6 +30,7 @@ name_of wanted.Addresses = codes "to"
 name_of wanted.Recipients = codes "to"
 name_of wanted.Address = codes "bind"
 name_of wanted.AtOnce = codes "at-once"
+name_of wanted.Log = codes "log"
 name_of wanted.GameFile = codes "game"
 
 -- what it takes
@@ -44,6 +46,7 @@ range_of wanted.AtOnce = codes "1 to 65535"
 range_of wanted.Addresses = codes "ADDR[,ADDR], each a host, a colon and a port"
 range_of wanted.Recipients = codes "ADDR[,ADDR], each a host, a colon and a port"
 range_of wanted.Address = codes "ADDR, a host, a colon and a port"
+range_of wanted.Log = codes "all or changes"
 range_of wanted.GameFile = codes "FOLDER/STAMP.game, with 32 lower-case hexadecimal digits"
 
 -- an option that takes the place of others
@@ -103,6 +106,7 @@ IsUnfit value wanted.Addresses = (to : List ℕ) → Some to ≡ value (codes "t
 IsUnfit value wanted.Recipients = (to : List ℕ) → Some to ≡ value (codes "to") → AreRecipients to → ⊥
 IsUnfit value wanted.AtOnce = (n : ℕ) → IsAtOnce (value (codes "at-once")) n → ⊥
 IsUnfit value wanted.Address = (address : List ℕ) × (value (codes "bind") ≡ Some address) × (IsAddress address → ⊥)
+IsUnfit value wanted.Log = (form : LogForm) → IsLog (value (codes "log")) form → ⊥
 IsUnfit value wanted.GameFile = (path : List ℕ) × (value (codes "game") ≡ Some path) × ((stamp : List ℕ) → NamesGame path stamp → ⊥)
 
 abbrev pub Holds : (Text → Option Text) → Fault → Type 0

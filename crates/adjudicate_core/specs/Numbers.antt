@@ -3,6 +3,8 @@ use Rattle.std.specs.Prelude.{◌≡◌, ◌≤◌, ◌<◌, ◌^◌, ◌-◌, �
 use Rattle.std.specs.Fmt.{decimal}
 use Rattle.std.specs.Str.{bytes_eq}
 use Rattle.std.specs.Str.Parse.{IsNumeral, digits_value, without_leading_plus}
+use Rattle.arbiter_server.specs.declared.line_log.LogForm.{LogForm}
+use Rattle.arbiter_server.specs.declared.line_log.LogForm.TheVariants as log
 use Rattle.board_core.specs.Delays.{most_delay}
 use Rattle.move_msg.specs.declared.who.Who.{Who}
 use Rattle.move_msg.specs.Senders.{who_number}
@@ -39,6 +41,12 @@ IsHundredOr (Some text) n = IsNumber text n × (1 ≤ n) × (n < 2 ^ 16)
 abbrev pub IsAtOnce : Option (List ℕ) → ℕ → Type 0
 IsAtOnce None n = n ≡ 256
 IsAtOnce (Some text) n = IsNumber text n × (1 ≤ n) × (n < 2 ^ 16)
+
+-- which lines of a host are written: all where that isn't said
+abbrev pub IsLog : Option (List ℕ) → LogForm → Type 0
+IsLog None form = form ≡ log.All
+IsLog (Some text) log.All = text ≡ codes "all"
+IsLog (Some text) log.Changes = text ≡ codes "changes"
 
 -- the number of an arbiter has to be given, 1 or 2
 abbrev pub IsMe : Option (List ℕ) → Who → Type 0

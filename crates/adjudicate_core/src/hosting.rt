@@ -1,6 +1,7 @@
 //! Arbiters of any number of games, from their words to their status.
 
 ghost use Rattle.std.specs.Prelude.{◌≡◌, IfErr, IfOk, List, ℕ};
+ghost use Rattle.arbiter_server.specs.LineLogs.{IsLogOf};
 ghost use Rattle.adjudicate_core.specs.Hostings.{BindsAndWrites, HostsAndTells, LocksAndWrites, WritesAt, WritesNow, around, around_of};
 ghost use Rattle.adjudicate_core.specs.Inside.HostingParts.{IsUnlisted};
 
@@ -11,7 +12,7 @@ use crate::listening::{manifest_for, ready_line_at};
 use crate::locking::{IN_GAMES, lock};
 use crate::refusals::Refusal;
 use crate::tables::gather;
-use arbiter_server::{DiskGames, Server, ServerConfig, put_line};
+use arbiter_server::{DiskGames, LineLog, Server, ServerConfig, put_line};
 use judge_core::Set;
 use std::alloc::Global;
 use system_io::{BindFault, Disk, Host, Output, ReadFault, WriteFault};
@@ -27,13 +28,16 @@ struct HostPlan<'h, 'w, 'a, D, H> {
     host: &'h H,
 }
 
-/// Serves the games of the folder at a port. Where memory for the open games is refused, that is told.
-fn serve_at<D: Disk, H: Host, W: Output>(
+/// Serves the games of the folder at a port, with a log of the form that the words name. Where memory for the open games is refused,
+/// that is told.
+fn serve_logged<D: Disk, H: Host, W: Output>(
     alloc: Global,
     plan: HostPlan<'_, '_, '_, D, H>,
     port: &mut H::Port,
+    log: &mut LineLog,
     out: &mut W,
 ) -> Result<u8, WriteFault>
+    requires { IsLogOf plan.task.now.log log.old }
     ensures { WritesNow (around_of D.facts H.facts H.Port.facts H.File.facts W.contents W.facts plan.entry) plan.entry (H.Port.facts port.old) (H.Port.facts port.new) out.old out.new result }
 {
     let HostPlan {
@@ -49,7 +53,22 @@ fn serve_at<D: Disk, H: Host, W: Output>(
         folder: task.games,
     };
     match Server::open(alloc, config, tables, games) {
-        Ok(mut server) => server.serve(alloc, port, task.datagrams, out),
+        Ok(mut server) => server.serve(alloc, port, task.datagrams, log, out),
+        Err(_) => put_refusal(out, Refusal::Memory),
+    }
+}
+
+/// Serves the games of the folder at a port. Where memory for the open games or for the log is refused, that is told.
+fn serve_at<D: Disk, H: Host, W: Output>(
+    alloc: Global,
+    plan: HostPlan<'_, '_, '_, D, H>,
+    port: &mut H::Port,
+    out: &mut W,
+) -> Result<u8, WriteFault>
+    ensures { WritesNow (around_of D.facts H.facts H.Port.facts H.File.facts W.contents W.facts plan.entry) plan.entry (H.Port.facts port.old) (H.Port.facts port.new) out.old out.new result }
+{
+    match LineLog::new(alloc, plan.task.log) {
+        Ok(mut log) => serve_logged(alloc, plan, port, &mut log, out),
         Err(_) => put_refusal(out, Refusal::Memory),
     }
 }

@@ -2,9 +2,11 @@
 
 ghost use Rattle.std.specs.Prelude.{◌≡◌, ◌≤◌, ℕ, option_map, IfSome, IfNone, Some};
 ghost use Rattle.move_msg.specs.declared.who.Who.{Who};
+ghost use Rattle.arbiter_server.specs.declared.line_log.LogForm.{LogForm};
 ghost use Rattle.board_core.specs.Delays.{most_delay};
-ghost use Rattle.adjudicate_core.specs.Numbers.{IsAtOnce, IsCache, IsDatagrams, IsDelay, IsDelayDigit, IsHundredOr, IsMe, is_set};
+ghost use Rattle.adjudicate_core.specs.Numbers.{IsAtOnce, IsCache, IsDatagrams, IsDelay, IsDelayDigit, IsHundredOr, IsLog, IsMe, is_set};
 
+use arbiter_server::LogForm;
 use move_msg::Who;
 use std::marker::Model;
 use std::num::NonZeroUsize;
@@ -151,6 +153,31 @@ pub fn at_once_of(text: Option<&str>) -> Option<NonZeroUsize>
         Ok(number) => NonZeroUsize::new(usize::from(number)),
         Err(_) => None,
     }
+}
+
+/// Which lines of a host a text says are written, and all where there is no text; none where it says neither `all` nor `changes`.
+pub fn log_of(text: Option<&str>) -> Option<LogForm>
+    ensures some { IfSome result (IsLog (option_map (λ s. s.now) text.entry)) }
+    ensures none { IfNone result ((form : LogForm) → IsLog (option_map (λ s. s.now) text.entry) form → ⊥) }
+{
+    match text {
+        None => Some(LogForm::All),
+        Some(word) => log_by(word),
+    }
+}
+
+/// Which lines a word says are written.
+fn log_by(word: &str) -> Option<LogForm>
+    ensures some { IfSome result (IsLog (Some word.now)) }
+    ensures none { IfNone result ((form : LogForm) → IsLog (Some word.now) form → ⊥) }
+{
+    if word == "all" {
+        return Some(LogForm::All);
+    }
+    if word == "changes" {
+        return Some(LogForm::Changes);
+    }
+    None
 }
 
 /// The number of datagrams in a text, 0 to 2^32 - 1; none where it is no such number. Where there is no text they are 2^64 - 1,

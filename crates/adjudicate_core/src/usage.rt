@@ -34,6 +34,8 @@ pub enum Wanted {
     Address,
     /// How many games are open at once.
     AtOnce,
+    /// Which lines of a host are written.
+    Log,
     /// The file of the game that is sent.
     GameFile,
 }
@@ -54,6 +56,7 @@ impl Wanted {
             Wanted::Addresses | Wanted::Recipients => "--to ",
             Wanted::Address => "--bind ",
             Wanted::AtOnce => "--at-once ",
+            Wanted::Log => "--log ",
             Wanted::GameFile => "--game ",
         }
     }
@@ -73,6 +76,7 @@ impl Wanted {
                 ": ADDR[,ADDR], each a host, a colon and a port"
             }
             Wanted::Address => ": ADDR, a host, a colon and a port",
+            Wanted::Log => ": all or changes",
             Wanted::GameFile => ": FOLDER/STAMP.game, with 32 lower-case hexadecimal digits",
         }
     }

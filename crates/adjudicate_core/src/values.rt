@@ -5,12 +5,13 @@ ghost use Rattle.clap.specs.Words.{first_value, found_of};
 ghost use Rattle.move_msg.specs.Stamps.{IsGameName};
 ghost use Rattle.adjudicate_core.specs.Addresses.{AreAddresses, AreRecipients, IsAddressIfAny};
 ghost use Rattle.adjudicate_core.specs.Misuses.{AreGameWords, AreWell, IsFirst, IsTold, NoOption, NoWord, NotWith, Unfit, fault_words, game_faults, me_faults, name_faults, recipient_faults, to_faults};
-ghost use Rattle.adjudicate_core.specs.Numbers.{IsAtOnce, IsCache, IsDatagrams, IsDelay, IsHundredOr, IsMe};
+ghost use Rattle.adjudicate_core.specs.Numbers.{IsAtOnce, IsCache, IsDatagrams, IsDelay, IsHundredOr, IsLog, IsMe};
 
 use crate::addresses::{are_addresses, are_recipients, is_address};
 use crate::game_name::GameName;
-use crate::numbers::{CacheSize, Delay, at_once_of, datagrams_of, hundred_or, me_of};
+use crate::numbers::{CacheSize, Delay, at_once_of, datagrams_of, hundred_or, log_of, me_of};
 use crate::usage::{Instead, ValueFault, Wanted};
+use arbiter_server::LogForm;
 use clap::ArgMatches;
 use move_msg::Who;
 use std::num::NonZeroUsize;
@@ -195,6 +196,18 @@ pub(crate) fn at_once_in<'a>(matches: &ArgMatches<'a>) -> Result<NonZeroUsize, V
     match at_once_of(text) {
         Some(at_once) => Ok(at_once),
         None => Err(ValueFault::Unfit(Wanted::AtOnce, text.unwrap_or(""))),
+    }
+}
+
+/// Which lines of a host are written.
+pub(crate) fn log_in<'a>(matches: &ArgMatches<'a>) -> Result<LogForm, ValueFault<'a>>
+    ensures ok { IfOk result (IsLog (first_value (found_of matches.now) (codes "log"))) }
+    ensures err { IfErr result (λ fault. IsTold (first_value (found_of matches.now)) (Unfit Wanted.Log) (fault_words fault)) }
+{
+    let text = matches.get_str("log");
+    match log_of(text) {
+        Some(form) => Ok(form),
+        None => Err(ValueFault::Unfit(Wanted::Log, text.unwrap_or(""))),
     }
 }
 

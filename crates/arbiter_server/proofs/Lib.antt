@@ -19,6 +19,10 @@ pub mod Turning
 pub mod Handing
 pub mod Opening
 pub mod Seating
+pub mod Remembers
+pub mod LogKinds
+pub mod LogLaws
+pub mod Logging
 pub mod Hosted
 pub mod Histories
 pub mod WholeRuns

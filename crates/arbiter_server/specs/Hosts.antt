@@ -5,6 +5,8 @@ use Rattle.system_io.specs.Failures.{Risen}
 use Rattle.system_io.specs.Ports.{Passing, Missed, Passed, PortFacts}
 use Rattle.system_io.specs.declared.output.WriteFault.{WriteFault}
 use Rattle.arbiter_server.specs.GoingOut.{LinesEnd, Writers}
+use Rattle.arbiter_server.specs.LineLogs.{logged}
+use Rattle.arbiter_server.specs.declared.line_log.LogForm.{LogForm}
 use Rattle.arbiter_server.specs.ServedLines.{refused_port}
 use Rattle.arbiter_server.specs.Folders.{Gives, Keepers}
 use Rattle.arbiter_server.specs.Acts.{Act, AreOpenings, IsSorted, Reply, acts_of, all_replies, passing_at}
@@ -50,9 +52,9 @@ IsLeft {K = K} s gives (Shut left) = (next : K) → gives next → s.follows lef
 IsLeft s gives (Open at) = ⊥
 
 -- A host's run for n datagrams: some acts, by which each game goes its own way. All that passes at the port are the datagrams and
--- what is answered, the lines are those of the datagrams, and each has gone out before the next datagram is awaited. These keepers
--- may be given after it.
-pub record Hosts {K W : Type 0} (s : Keepers K) (t : CommonView) (w : Writers W) (n : ℕ) (gives : Gives K) (port port' : PortFacts) (out out' : W) (ended : Result ℕ WriteFault) : Type 0 where
+-- what is answered, and the lines are those of the datagrams: what a log of this form has of each goes out before the next datagram is
+-- awaited. These keepers may be given after it.
+pub record Hosts {K W : Type 0} (s : Keepers K) (t : CommonView) (w : Writers W) (form : LogForm) (n : ℕ) (gives : Gives K) (port port' : PortFacts) (out out' : W) (ended : Result ℕ WriteFault) : Type 0 where
   pub acts : List (Act K)
   pub hosted : IsHosted s t acts
   pub left : (stamp : List ℕ) → IsLeft s (gives stamp) (hosted.games stamp)
@@ -60,4 +62,4 @@ pub record Hosts {K W : Type 0} (s : Keepers K) (t : CommonView) (w : Writers W)
   pub passed : Passed port port' (all_passing port.addresses (all_replies acts) lost)
   pub cause : lost ≡ true → Risen port.faults port'.faults
   pub ends : Ends n (all_replies acts) lost ended
-  pub lines : LinesEnd w out (all_lines (all_replies acts) lost) out' ended
+  pub lines : LinesEnd w out (logged form (all_lines (all_replies acts) lost)) out' ended

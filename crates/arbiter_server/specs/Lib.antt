@@ -18,4 +18,6 @@ pub mod Hosts
 pub mod Laws
 pub mod Seats
 pub mod Servers
+pub mod Remembering
+pub mod LineLogs
 pub mod Turns

@@ -4,6 +4,7 @@ use Rattle.system_io.specs.Ports.{PortFacts}
 use Rattle.system_io.specs.declared.output.WriteFault.{WriteFault}
 use Rattle.arbiter_core.specs.Keeping.{KeeperFacts}
 use Rattle.arbiter_server.specs.GoingOut.{Writers}
+use Rattle.arbiter_server.specs.declared.line_log.LogForm.{LogForm}
 use Rattle.arbiter_server.specs.Folders.{FolderFacts, keepers}
 use Rattle.arbiter_server.specs.Games.{CommonView}
 use Rattle.arbiter_server.specs.Hosts.{Hosts}
@@ -32,5 +33,5 @@ pub record Stays {G K : Type 0} (folder : FolderFacts G K) (old new : ServerView
   pub place : folder.place new.games ≡ folder.place old.games
 
 -- a run of it for n datagrams
-abbrev pub ServerHosts : {G K W : Type 0} → KeeperFacts K → FolderFacts G K → Writers W → ℕ → ServerView G K → ServerView G K → PortFacts → PortFacts → W → W → Result ℕ WriteFault → Type 0
-ServerHosts facts folder w n old new port port' out out' ended = Hosts (keepers facts folder old.games) old.common w n (folder.gives new.games) port port' out out' ended
+abbrev pub ServerHosts : {G K W : Type 0} → KeeperFacts K → FolderFacts G K → Writers W → LogForm → ℕ → ServerView G K → ServerView G K → PortFacts → PortFacts → W → W → Result ℕ WriteFault → Type 0
+ServerHosts facts folder w form n old new port port' out out' ended = Hosts (keepers facts folder old.games) old.common w form n (folder.gives new.games) port port' out out' ended

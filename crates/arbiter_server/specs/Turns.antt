@@ -13,6 +13,9 @@ use Rattle.system_io.specs.Failures.{Risen}
 use Rattle.system_io.specs.Ports.{Missed, Passed, PortFacts}
 use Rattle.system_io.specs.declared.output.WriteFault.{WriteFault}
 use Rattle.arbiter_server.specs.GoingOut.{LinesEnd, Writers}
+use Rattle.arbiter_server.specs.LineLogs.{TellsLine, logged}
+use Rattle.arbiter_server.specs.declared.line_log.LineLog.{LineLog}
+use Rattle.arbiter_server.specs.declared.line_log.LogForm.{LogForm}
 use Rattle.arbiter_server.specs.ServedLines.{refused_port}
 use Rattle.arbiter_server.specs.declared.fault.Unopened.{Unopened}
 use Rattle.arbiter_server.specs.declared.seat.Seat.{Seat}
@@ -167,24 +170,24 @@ abbrev pub Receives : Going → PortFacts → PortFacts → List ℕ → Bool �
 Receives turns port port' line false = (r : Reply) × turns (r ∷ []) × (line ≡ r.line) × Passed port port' (passing_at port.addresses r)
 Receives turns port port' line true = turns [] × (line ≡ refused_port) × Passed port port' (Missed ∷ []) × Risen port.faults port'.faults
 
--- so it was, and the line has gone out or was cut short
-pub record TakesTurn {W : Type 0} (turns : Going) (w : Writers W) (port port' : PortFacts) (out out' : W) (told : Result Bool WriteFault) : Type 0 where
+-- so it was, and the line was told by the log: what was picked of it has gone out or was cut short
+pub record TakesTurn {W : Type 0} (turns : Going) (w : Writers W) (before : List (List ℕ)) (log log' : LineLog) (port port' : PortFacts) (out out' : W) (told : Result Bool WriteFault) : Type 0 where
   pub line : List ℕ
   pub lost : Bool
   pub received : Receives turns port port' line lost
-  pub lines : LinesEnd w out (line ∷ []) out' told
+  pub tells : TellsLine w before log log' line out out' told
   pub is : IfOk told (λ x. x ≡ lost)
 
 -- a run for n datagrams, before the games that are open then are closed
-pub record HasServed {K W : Type 0} (s : Keepers K) (t : CommonView) (w : Writers W) (n : ℕ) (gives : Gives K) (at : At K) (port port' : PortFacts) (out out' : W) (ended : Result ℕ WriteFault) : Type 0 where
+pub record HasServed {K W : Type 0} (s : Keepers K) (t : CommonView) (w : Writers W) (form : LogForm) (n : ℕ) (gives : Gives K) (at : At K) (port port' : PortFacts) (out out' : W) (ended : Result ℕ WriteFault) : Type 0 where
   pub replies : List Reply
   pub leads : Leads s t (λ stamp. Fresh) gives at replies
   pub lost : Bool
   pub passed : Passed port port' (all_passing port.addresses replies lost)
   pub cause : lost ≡ true → Risen port.faults port'.faults
   pub ends : Ends n replies lost ended
-  pub lines : LinesEnd w out (all_lines replies lost) out' ended
+  pub lines : LinesEnd w out (logged form (all_lines replies lost)) out' ended
 
 -- such a run of a server
-abbrev pub ServesOn : {G K W : Type 0} → KeeperFacts K → FolderFacts G K → Writers W → ℕ → ServerView G K → ServerView G K → PortFacts → PortFacts → W → W → Result ℕ WriteFault → Type 0
-ServesOn facts folder w n old new port port' out out' ended = HasServed (keepers facts folder old.games) old.common w n (folder.gives new.games) (at_stamp new.seats) port port' out out' ended
+abbrev pub ServesOn : {G K W : Type 0} → KeeperFacts K → FolderFacts G K → Writers W → LogForm → ℕ → ServerView G K → ServerView G K → PortFacts → PortFacts → W → W → Result ℕ WriteFault → Type 0
+ServesOn facts folder w form n old new port port' out out' ended = HasServed (keepers facts folder old.games) old.common w form n (folder.gives new.games) (at_stamp new.seats) port port' out out' ended

@@ -21,12 +21,16 @@ pub enum FindFault {
     OutOfMemory,
 }
 
+/// How many bytes stand behind the folder in the path of a game's file.
+const STAMPED: usize = 38;
+
 /// The path of the file of a stamp in a folder: the stamp in 32 lower-case hexadecimal digits, and an ending.
 fn path_of(alloc: Global, folder: &str, stamp: Stamp, ending: &str) -> Result<String, AllocError>
     ensures { IfOk result (λ path. string_bytes path ≡ path_of folder.now stamp.0 ending.now) }
 {
     let digits = hex::encode(alloc, &stamp.0)?;
-    let mut path = String::from_str(alloc, folder)?;
+    let mut path = String::with_capacity(alloc, folder.len().saturating_add(STAMPED))?;
+    path.push_str(folder)?;
     path.push_str("/")?;
     path.push_str(digits.as_str())?;
     path.push_str(ending)?;

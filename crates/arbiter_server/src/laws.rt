@@ -3,7 +3,7 @@
 ghost use Rattle.arbiter_server.specs.Lives.{KeepsAsTold, KeepsWhatItTold};
 ghost use Rattle.system_io.specs.PowerLosses.{disk_facts};
 ghost use Rattle.arbiter_server.specs.Folders.{keepers};
-ghost use Rattle.arbiter_server.specs.Laws.{OpeningsAreFew, OwnReplies, RecordsGoOn};
+ghost use Rattle.arbiter_server.specs.Laws.{ChangesHideNothing, OpeningsAreFew, OwnReplies, RecordsGoOn, VerdictsAreLogged};
 
 use crate::games::Games;
 use arbiter_core::laws::puts_grow;
@@ -45,4 +45,10 @@ pub fn openings_are_few<G: Games>(_games: &G)
 /// At each moment of a game the next delivery leaves the record as it was, or adds moves to it.
 pub fn records_go_on<G: Games>(_games: &G)
     ensures { (games : G) → RecordsGoOn (keepers G.Keeper.facts G.facts games) }
+{}
+
+/// A log of changes hides no line of a game: each count and verdict that was told is in it.
+pub fn changes_hide_nothing()
+    ensures lines { ChangesHideNothing }
+    ensures verdicts { VerdictsAreLogged }
 {}

@@ -10,10 +10,11 @@
 //!   that answers. What it does for a game is a list of its openings, deliveries and closings (`Hosts`).
 //!
 //! For one game: `file_keeper`, `heard` (lines), `serving`, `over_file`, `stopping`. For many: `config`, `server`, `turn`, `seat`
-//! (an open game), `settling`, `room`, `line`, `games`, `disk_games`, `folder`, `game_file`, `game_lines`, `fault`.
+//! (an open game), `settling`, `room`, `line`, `line_log` (which lines are written), `last_lines`, `games`, `disk_games`, `folder`,
+//! `game_file`, `game_lines`, `fault`.
 //!
 //! Definitions, in reading order: `StoredBytes`, `ServedLines`, `GoingOut`, `Serving`, `OverFiles`, `AfterStops`, `Lives` for one
-//! game; `GameFiles`, `GameFolders`, `DiskGames`, `Folders`, `Told`, `Acts`, `Games`, `Hosts`, `Servers`, `Laws` for many.
+//! game; `GameFiles`, `GameFolders`, `DiskGames`, `Folders`, `Told`, `LineLogs`, `Acts`, `Games`, `Hosts`, `Servers`, `Laws` for many.
 //!
 //! - CLAIM: `serve`, clauses `run`, `keeps`: each datagram that came is answered by one `deliver`, in order. All that passed at
 //!   the port is one request, if it is asked for, and each datagram with the messages of its answer, each once for each address
@@ -33,8 +34,10 @@
 //!   another by the steps of one arbiter, over keepers of this game, with the setup that the folder tells. A datagram gets no
 //!   arbiter only where it is an acknowledgement or a verdict of a game that isn't open, the folder refuses its game, gives a game of
 //!   another stamp, or `ArbiterState::open` refuses. A game is opened for a move or a request, which it answers next. The acts end
-//!   with no game open, the folder is where it was, and the status is 0 only where all datagrams came. The lines and the traffic
-//!   are those of the answers, and each line is out before the next.
+//!   with no game open, the folder is where it was, and the status is 0 only where all datagrams came. The traffic is that of the
+//!   answers. Their lines are told; those that a log of its form has are written, and each is out before the next.
+//! - CLAIM: `LineLog::new`; `laws::changes_hide_nothing`: a log begins with nothing remembered (the error of `new` has no cause). Of
+//!   changes it has each line that was told of a game that is open, so that each count and verdict stands in it.
 //! - CLAIM: `laws::own_replies`; `laws::records_go_on`; `laws::openings_are_few`: a game's replies are those to the datagrams that
 //!   name it, each delivery leaves its record or adds to it, and it is opened at most once for each move and request of it that came.
 //! - CLAIM: `read_game`, clauses `ok`, `err`, `only`; `write_game`, clauses `text`, `spells`; `GameFileFault::line`: a game's
@@ -55,8 +58,10 @@ mod game_file;
 mod game_lines;
 mod games;
 mod heard;
+mod last_lines;
 pub mod laws;
 mod line;
+mod line_log;
 mod over_file;
 mod room;
 mod seat;
@@ -75,6 +80,8 @@ pub use game_file::{Game, MOST_GAME_BYTES, read_game, write_game};
 pub use game_lines::GameFileFault;
 pub use games::{Found, Games};
 pub use heard::{Heard, HeardText, verdict_or_none};
+pub use last_lines::LastLines;
+pub use line_log::{LineLog, LogForm};
 pub use over_file::open_and_serve;
 pub use server::Server;
 pub use serving::{Span, put_line, send_all, serve};

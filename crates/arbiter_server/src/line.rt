@@ -1,9 +1,10 @@
 //! What is told of a datagram, as a line.
 
-ghost use Rattle.std.specs.Prelude.{◌≡◌, ◌≤◌, ◌+◌, ◌++◌, ℕ, List, codes, length};
+ghost use Rattle.std.specs.Prelude.{◌≡◌, ◌<◌, ◌≤◌, ◌+◌, ◌++◌, ℕ, IfSome, List, None, Some, codes, length};
 ghost use Rattle.arrayvec.specs.ArrayVec.{array_vec_len};
 ghost use Rattle.hex.specs.Hex.{encode_lower};
 ghost use Rattle.move_msg.specs.TextLines.{ended};
+ghost use Rattle.arbiter_server.specs.LineLogs.{common, kind_of, place_in};
 ghost use Rattle.arbiter_server.specs.Told.{line_words, stamped, unopened_words};
 
 use crate::fault::Unopened;
@@ -105,7 +106,57 @@ fn unread_line(fault: MessageFault) -> LineText
     joined(b"- ", heard.line().as_str().as_bytes())
 }
 
+/// The number of the kind of a line for bytes that are no message.
+#[tactic(auto, unfolding(crate::specs::LineLogs::kind_of))]
+fn unread_kind(fault: MessageFault) -> usize
+    ensures is { kind_of (ended (line_words (Line.Unread fault))) ≡ Some result }
+    ensures few { result < 8 }
+{
+    match fault {
+        MessageFault::NoTag => 3,
+        MessageFault::BadLength => 4,
+        MessageFault::BadHead => 5,
+        MessageFault::BadKind => 6,
+        MessageFault::BadField => 7,
+    }
+}
+
+/// The number of the kind of a line for a game that isn't open, if it is of one.
+fn unopened_kind(stamp: [u8; 16], why: Unopened) -> Option<usize>
+    ensures long { length stamp ≡ 16 }
+    ensures is { place_in 0 common (ended (unopened_words why)) ≡ result }
+    ensures few { IfSome result (λ kind. kind < 8) }
+{
+    match why {
+        Unopened::NoGame => Some(0),
+        Unopened::NotOpen => Some(1),
+        Unopened::OutOfMemory => Some(2),
+        Unopened::OtherGame | Unopened::BadGame(_) | Unopened::Keeper => None,
+    }
+}
+
+/// What the arbiter of an open game tells is of no kind.
+fn open_kind(stamp: [u8; 16]) -> Option<usize>
+    ensures long { length stamp ≡ 16 }
+    ensures none { result ≡ None }
+{
+    None
+}
+
 impl Line {
+    /// The number of the kind that strangers cause, if the line is of one.
+    pub(crate) fn kind(self) -> Option<usize>
+        ensures is { kind_of (ended (line_words self)) ≡ result }
+        ensures few { IfSome result (λ kind. kind < 8) }
+    {
+        match self {
+            Line::Answered(stamp, _heard) => open_kind(stamp),
+            Line::Unopened(stamp, why) => unopened_kind(stamp, why),
+            Line::Unread(fault) => Some(unread_kind(fault)),
+            Line::PortLost => None,
+        }
+    }
+
     /// The line.
     pub(crate) fn text(self) -> LineText
         ensures { result.items ≡ ended (line_words self) }

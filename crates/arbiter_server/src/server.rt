@@ -1,10 +1,11 @@
 //! A server of games: how it is set up, its tables, its folder and the games that are open.
 
-ghost use Rattle.std.specs.Prelude.{◌≡◌, ◌∷◌, [], None, IfOk, IfErr};
+ghost use Rattle.std.specs.Prelude.{◌≡◌, ◌∷◌, [], ℕ, List, None, IfOk, IfErr};
 ghost use Rattle.move_msg.specs.Messages.{stamp_in};
 ghost use Rattle.arbiter_core.specs.Setups.{terms_with};
 ghost use Rattle.arbiter_server.specs.GoingOut.{writers};
 ghost use Rattle.arbiter_server.specs.Told.{line_words};
+ghost use Rattle.arbiter_server.specs.LineLogs.{Remembers, form_of};
 ghost use Rattle.arbiter_server.specs.Games.{common_with};
 ghost use Rattle.arbiter_server.specs.Room.{at_stamp};
 ghost use Rattle.arbiter_server.specs.Seats.{IsSeated};
@@ -16,9 +17,10 @@ use crate::config::ServerConfig;
 use crate::fault::Unopened;
 use crate::games::Games;
 use crate::line::Line;
+use crate::line_log::LineLog;
 use crate::room::take_out;
 use crate::seat::Seat;
-use crate::serving::{put_line, send_all};
+use crate::serving::send_all;
 use crate::settling::{close_all, settle};
 use crate::turn::{Answered, found, opens_game, told_alone};
 use arbiter_core::{ArbiterState, Terms};
@@ -218,13 +220,14 @@ impl<'a, G: Games + Drop> Server<'a, G> {
         &mut self,
         alloc: Global,
         port: &mut P,
+        log: &mut LineLog,
         out: &mut W,
     ) -> Result<bool, WriteFault>
         ensures stays { Stays G.facts self.old self.new }
-        ensures taken { TakesTurn (TurnsTo G.Keeper.facts G.facts self.old self.new) (writers W.Write.contents W.facts) (P.facts port.old) (P.facts port.new) out.old out.new result }
+        ensures taken { (before : List (List ℕ)) → Remembers log.old before → TakesTurn (TurnsTo G.Keeper.facts G.facts self.old self.new) (writers W.Write.contents W.facts) before log.old log.new (P.facts port.old) (P.facts port.new) out.old out.new result }
     {
         let (line, lost) = self.receive(alloc, port);
-        match put_line(out, line.text().as_slice()) {
+        match log.tell(out, line) {
             Ok(()) => Ok(lost),
             Err(fault) => Err(fault),
         }
@@ -236,14 +239,16 @@ impl<'a, G: Games + Drop> Server<'a, G> {
         alloc: Global,
         port: &mut P,
         n: u64,
+        log: &mut LineLog,
         out: &mut W,
     ) -> Result<u8, WriteFault>
-        requires { IsIdle self.old }
+        requires idle { IsIdle self.old }
+        requires none { Remembers log.old [] }
         ensures stays { Stays G.facts self.old self.new }
-        ensures served { ServesOn G.Keeper.facts G.facts (writers W.Write.contents W.facts) n self.old self.new (P.facts port.old) (P.facts port.new) out.old out.new result }
+        ensures served { ServesOn G.Keeper.facts G.facts (writers W.Write.contents W.facts) (form_of log.old) n self.old self.new (P.facts port.old) (P.facts port.new) out.old out.new result }
     {
         for _ in 0..n {
-            match self.turn(alloc, port, out) {
+            match self.turn(alloc, port, log, out) {
                 Ok(lost) => {
                     if lost {
                         return Ok(1);
@@ -256,9 +261,9 @@ impl<'a, G: Games + Drop> Server<'a, G> {
     }
 
     /// Answers so many datagrams of a port, each by the arbiter of its game; tells the status, 0 where all came. No game is open
-    /// before it, as after `open` and after each run, and all are closed at its end.
+    /// before it, as after `open` and after each run, and all are closed at its end. The log knows of no line before it.
     ///
-    /// A line is written for each datagram, and goes out at once. For a message it begins with the stamp of its game, in 32
+    /// A line is told for each datagram. A log of all lines writes each, one of changes some, and each goes out at once. For a message it begins with the stamp of its game, in 32
     /// lower-case hexadecimal digits: then comes what `serve` tells, or why the game isn't open, `refused NotOpen`, `refused NoGame`,
     /// `refused OtherGame`, `refused game` and a line of its file, `refused keeper` or `refused memory`. For bytes that are no
     /// message it is `- refused NotAMessage` and what is wrong with them. No refusal ends the run: a game whose keeper failed is
@@ -271,14 +276,16 @@ impl<'a, G: Games + Drop> Server<'a, G> {
         alloc: Global,
         port: &mut P,
         n: u64,
+        log: &mut LineLog,
         out: &mut W,
     ) -> Result<u8, WriteFault>
-        requires { IsIdle self.old }
-        ensures hosts { ServerHosts G.Keeper.facts G.facts (writers W.Write.contents W.facts) n self.old self.new (P.facts port.old) (P.facts port.new) out.old out.new result }
+        requires idle { IsIdle self.old }
+        requires none { Remembers log.old [] }
+        ensures hosts { ServerHosts G.Keeper.facts G.facts (writers W.Write.contents W.facts) (form_of log.old) n self.old self.new (P.facts port.old) (P.facts port.new) out.old out.new result }
         ensures stays { Stays G.facts self.old self.new }
         ensures idle { IsIdle self.new }
     {
-        let ended = self.run(alloc, port, n, out);
+        let ended = self.run(alloc, port, n, log, out);
         close_all(&mut self.games, &mut self.seats);
         ended
     }

@@ -2,19 +2,20 @@
 use Rattle.std.specs.Prelude.{◌≡◌, ◌⊎◌, ℕ, List, Option, Some, codes}
 use Rattle.clap.specs.Words.{Text}
 use Rattle.move_msg.specs.declared.who.Who.{Who}
+use Rattle.arbiter_server.specs.declared.line_log.LogForm.{LogForm}
 use Rattle.system_io.specs.Disks.{AtFolder, DiskFacts}
 use Rattle.adjudicate_core.specs.declared.refusals.Refusal.{Refusal}
 use Rattle.adjudicate_core.specs.declared.refusals.Refusal.TheVariants.{Files, Memory}
 use Rattle.adjudicate_core.specs.Addresses.{AreRecipients, IsAddressIfAny}
-use Rattle.adjudicate_core.specs.Numbers.{IsAtOnce, IsCache, IsDatagrams, IsMe}
+use Rattle.adjudicate_core.specs.Numbers.{IsAtOnce, IsCache, IsDatagrams, IsLog, IsMe}
 
 abbrev pub AreEnds : (Text → Option Text) → List ℕ → List ℕ → List ℕ → List ℕ → Type 0
 AreEnds value games tables bind to =
     (Some games ≡ value (codes "games")) × (Some tables ≡ value (codes "tables")) × (Some bind ≡ value (codes "bind")) × (Some to ≡ value (codes "to")) × AreRecipients to
 
-abbrev pub AreTerms : (Text → Option Text) → Who → ℕ → ℕ → ℕ → Type 0
-AreTerms value me at_once cache datagrams =
-    IsMe (value (codes "me")) me × IsAtOnce (value (codes "at-once")) at_once × IsCache (value (codes "cache")) cache × IsDatagrams (value (codes "datagrams")) datagrams × IsAddressIfAny (value (codes "bind"))
+abbrev pub AreTerms : (Text → Option Text) → Who → ℕ → ℕ → ℕ → LogForm → Type 0
+AreTerms value me at_once cache datagrams log =
+    IsMe (value (codes "me")) me × IsAtOnce (value (codes "at-once")) at_once × IsCache (value (codes "cache")) cache × IsDatagrams (value (codes "datagrams")) datagrams × IsLog (value (codes "log")) log × IsAddressIfAny (value (codes "bind"))
 
 -- why a folder isn't listed: it can't be, or memory for its names was refused
 abbrev pub IsUnlisted : DiskFacts → List ℕ → Refusal → Type 0

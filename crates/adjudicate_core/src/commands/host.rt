@@ -10,8 +10,9 @@ use super::{Form, Value};
 use crate::numbers::CacheSize;
 use crate::usage::ValueFault;
 use crate::values::{
-    at_once_in, cache_in, check_bind, datagrams_in, me_in, option_in, recipients_in,
+    at_once_in, cache_in, check_bind, datagrams_in, log_in, me_in, option_in, recipients_in,
 };
+use arbiter_server::LogForm;
 use clap::ArgMatches;
 use move_msg::Who;
 use std::num::NonZeroUsize;
@@ -38,12 +39,14 @@ pub struct HostGames<'a> {
     pub cache: CacheSize,
     /// How many datagrams are answered.
     pub datagrams: u64,
+    /// Which lines are written.
+    pub log: LogForm,
     /// The file of the keys by which datagrams are sealed, if they are.
     pub key: Option<&'a str>,
 }
 
 /// The values of `host`.
-pub(crate) const VALUES: [Value; 10] = [
+pub(crate) const VALUES: [Value; 11] = [
     Value {
         name: "games",
         form: Form::Option,
@@ -84,6 +87,10 @@ pub(crate) const VALUES: [Value; 10] = [
         name: "key",
         form: Form::Option,
     },
+    Value {
+        name: "log",
+        form: Form::Option,
+    },
 ];
 
 /// The folders and the addresses.
@@ -95,13 +102,14 @@ struct Ends<'a> {
     to: &'a str,
 }
 
-/// The numbers.
+/// The numbers, and which lines are written.
 #[derive(Clone, Copy)]
 struct Terms {
     me: Who,
     at_once: NonZeroUsize,
     cache: CacheSize,
     datagrams: u64,
+    log: LogForm,
 }
 
 /// The folders and the addresses, of options that have to be there.
@@ -118,9 +126,9 @@ fn ends_in<'a>(matches: &ArgMatches<'a>) -> Result<Ends<'a>, ValueFault<'a>>
     })
 }
 
-/// The numbers.
+/// The numbers, and which lines are written.
 fn terms_in<'a>(matches: &ArgMatches<'a>) -> Result<Terms, ValueFault<'a>>
-    ensures ok { IfOk result (λ t. AreTerms (first_value (found_of matches.now)) t.me t.at_once.value t.cache t.datagrams) }
+    ensures ok { IfOk result (λ t. AreTerms (first_value (found_of matches.now)) t.me t.at_once.value t.cache t.datagrams t.log) }
     ensures err { IfErr result (λ fault. IsFirst (first_value (found_of matches.now)) term_faults (fault_words fault)) }
 {
     let terms = Terms {
@@ -128,6 +136,7 @@ fn terms_in<'a>(matches: &ArgMatches<'a>) -> Result<Terms, ValueFault<'a>>
         at_once: at_once_in(matches)?,
         cache: cache_in(matches)?,
         datagrams: datagrams_in(matches)?,
+        log: log_in(matches)?,
     };
     check_bind(matches)?;
     Ok(terms)
@@ -157,6 +166,7 @@ impl<'a> HostGames<'a> {
             at_once: terms.at_once,
             cache: terms.cache,
             datagrams: terms.datagrams,
+            log: terms.log,
             key: matches.get_str("key"),
         })
     }

@@ -2,11 +2,12 @@ use Rattle.arbiter_server.specs.GoingOut.{writers}
 use Rattle.arbiter_server.specs.Folders.{keepers}
 use Rattle.arbiter_server.specs.Room.{at_stamp}
 use Rattle.arbiter_server.specs.Servers.{Stays}
+use Rattle.arbiter_server.specs.LineLogs.{form_of}
 use Rattle.arbiter_server.proofs.Hosted.{HasHosted}
 use Rattle.arbiter_server.proofs.server.Server.run.Given as goal
 
 abbrev pub invariant-loop : goal.invariant-loop
 invariant-loop g l = record {
-  hosted : HasHosted (keepers g.G.Keeper.Keeper.facts g.G.Games.facts l.fn.self.games) l.fn.self.common (writers g.W.Write.contents g.W.Output.facts) (g.G.Games.facts.gives l.self.games) (at_stamp l.self.seats) (g.P.Port.facts l.fn.port) (g.P.Port.facts l.port) l.fn.out l.out l.counter;
+  hosted : HasHosted (keepers g.G.Keeper.Keeper.facts g.G.Games.facts l.fn.self.games) l.fn.self.common (writers g.W.Write.contents g.W.Output.facts) (form_of l.fn.log) l.log (g.G.Games.facts.gives l.self.games) (at_stamp l.self.seats) (g.P.Port.facts l.fn.port) (g.P.Port.facts l.port) l.fn.out l.out l.counter;
   stays : Stays g.G.Games.facts l.fn.self l.self;
 }

@@ -1,0 +1,6 @@
+use Rattle.std.proofs.Common.{◌≡◌, ℕ, List, []}
+use Rattle.std.specs.Prelude.{map, replicate}
+use Rattle.arbiter_server.proofs.last_lines.LastLines.new.Given as goal
+
+abbrev pub invariant-loop : goal.invariant-loop
+invariant-loop l = map (λ text. text.items) l.places.items ≡ replicate l.counter []
