@@ -10,6 +10,7 @@ ghost use Rattle.task_files.specs.Sources.{named_by};
 ghost use Rattle.adjudicate_core.specs.Tasks.{IsReadAs, IsTask, IsMisuse, IsTaken, IsVersion, Names, NamesNone, app_for, key_in, named_in, rules_of, word_of};
 
 mod audit;
+mod audit_games;
 mod check;
 mod enter;
 mod follow;
@@ -31,6 +32,7 @@ mod version;
 
 use crate::usage::{Misuse, Usage, ValueFault};
 pub use audit::Audit;
+pub use audit_games::AuditGames;
 pub use check::Check;
 use clap::{Arg, ArgAction, ArgMatches, Command};
 pub use enter::{Enter, Entries, OneGame};
@@ -80,6 +82,8 @@ pub enum Task<'a> {
     Record(ShowRecord<'a>),
     /// Whether kept files are records of a game.
     Audit(Audit<'a>),
+    /// The audit of the games of a folder.
+    AuditGames(AuditGames<'a>),
     /// The program's version.
     Version(Version),
     /// The moves of the input, sent to the arbiters of a game.
@@ -287,6 +291,22 @@ fn matches_at<'a>(command: Command<'a>, words: &'a [&'a str]) -> Result<ArgMatch
     command.try_get_matches_from(words)
 }
 
+/// The task of `audit` with these values, or their first fault: with a folder of games another one than without.
+fn audit_of<'a>(matches: &ArgMatches<'a>) -> Result<Task<'a>, ValueFault<'a>>
+    ensures { IsReadAs Name.Audit (first_value (found_of matches.now)) result }
+{
+    match (matches.get_str("games"), matches.get_str("other")) {
+        (None, None) => match Audit::of(matches) {
+            Ok(task) => Ok(Task::Audit(task)),
+            Err(fault) => Err(fault),
+        },
+        _ => match AuditGames::of(matches) {
+            Ok(task) => Ok(Task::AuditGames(task)),
+            Err(fault) => Err(fault),
+        },
+    }
+}
+
 /// The task of a command with these values, or their first fault.
 fn task_of<'a>(name: Name, matches: &ArgMatches<'a>) -> Result<Task<'a>, ValueFault<'a>>
     ensures { IsReadAs name (first_value (found_of matches.now)) result }
@@ -333,10 +353,7 @@ fn task_of<'a>(name: Name, matches: &ArgMatches<'a>) -> Result<Task<'a>, ValueFa
             Ok(task) => Ok(Task::Record(task)),
             Err(fault) => Err(fault),
         },
-        Name::Audit => match Audit::of(matches) {
-            Ok(task) => Ok(Task::Audit(task)),
-            Err(fault) => Err(fault),
-        },
+        Name::Audit => audit_of(matches),
         Name::Version => Ok(Task::Version(Version)),
         Name::Send => Ok(Task::Send(Send::of(matches)?)),
         Name::Enter => match Enter::of(matches) {
@@ -380,6 +397,7 @@ impl<'a> Task<'a> {
             Task::Game(task) => task.places(),
             Task::Record(task) => task.places(),
             Task::Audit(task) => task.places(),
+            Task::AuditGames(task) => task.places(),
             Task::Version(task) => task.places(),
             Task::Send(task) => task.places(),
             Task::Enter(task) => task.places(),
