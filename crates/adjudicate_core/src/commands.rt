@@ -3,6 +3,7 @@
 ghost use Rattle.std.specs.Prelude.{◌≡◌, ◌↔◌, IsTrue, map, true, false, IfOk, IfErr, IfSome, IfNone, OnErr, IsErrOf, option_map};
 ghost use Rattle.clap.specs.Words.{HasKind, Text, app_of, is_simple_and_free, found_of, first_value, rule_of, with_rule};
 ghost use Rattle.adjudicate_core.specs.declared.usage.Misuse.{Misuse};
+ghost use Rattle.adjudicate_core.specs.Commands.AuditGames.{LacksFolders};
 ghost use Rattle.adjudicate_core.specs.Misuses.{AsksForHelp};
 ghost use Rattle.adjudicate_core.specs.Rules.{fault_in, rule_of_value, value_in};
 ghost use Rattle.adjudicate_core.specs.Inside.Putting.{IsMisuseOf};
@@ -291,18 +292,37 @@ fn matches_at<'a>(command: Command<'a>, words: &'a [&'a str]) -> Result<ArgMatch
     command.try_get_matches_from(words)
 }
 
+/// The task of `audit` for games of folders with these values, or their first fault.
+fn audit_of_folders<'a>(matches: &ArgMatches<'a>) -> Result<Task<'a>, ValueFault<'a>>
+    requires { LacksFolders (first_value (found_of matches.now)) → ⊥ }
+    ensures { IsReadAs Name.Audit (first_value (found_of matches.now)) result }
+{
+    match AuditGames::of(matches) {
+        Ok(task) => Ok(Task::AuditGames(task)),
+        Err(fault) => Err(fault),
+    }
+}
+
+/// The task of `audit` for one game with these values, or their first fault.
+fn audit_of_files<'a>(matches: &ArgMatches<'a>) -> Result<Task<'a>, ValueFault<'a>>
+    requires { LacksFolders (first_value (found_of matches.now)) }
+    ensures { IsReadAs Name.Audit (first_value (found_of matches.now)) result }
+{
+    match Audit::of(matches) {
+        Ok(task) => Ok(Task::Audit(task)),
+        Err(fault) => Err(fault),
+    }
+}
+
 /// The task of `audit` with these values, or their first fault: with a folder of games another one than without.
 fn audit_of<'a>(matches: &ArgMatches<'a>) -> Result<Task<'a>, ValueFault<'a>>
     ensures { IsReadAs Name.Audit (first_value (found_of matches.now)) result }
 {
-    match (matches.get_str("games"), matches.get_str("other")) {
-        (None, None) => match Audit::of(matches) {
-            Ok(task) => Ok(Task::Audit(task)),
-            Err(fault) => Err(fault),
-        },
-        _ => match AuditGames::of(matches) {
-            Ok(task) => Ok(Task::AuditGames(task)),
-            Err(fault) => Err(fault),
+    match matches.get_str("games") {
+        Some(_) => audit_of_folders(matches),
+        None => match matches.get_str("other") {
+            Some(_) => audit_of_folders(matches),
+            None => audit_of_files(matches),
         },
     }
 }

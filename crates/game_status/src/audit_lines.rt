@@ -5,7 +5,6 @@ ghost use Rattle.std.specs.Io.KnownBytes.{Appends};
 ghost use Rattle.hex.specs.Hex.{encode_lower};
 ghost use Rattle.move_msg.specs.TextLines.{ended};
 ghost use Rattle.record_audit.specs.Findings.{finding_words};
-ghost use Rattle.game_status.specs.declared.comparing.Compared.TheVariants as Compared;
 ghost use Rattle.game_status.specs.GameAudits.{audit_told, kept_finding, mark_of_look, pair_mark, pair_words, parted_words, sound_line, unsound_line};
 ghost use Rattle.game_status.specs.Tellings.{WritesTold};
 

@@ -68,9 +68,11 @@ fn compare_two(one: &Record, other: &Record) -> Compared
 fn compare_alone(record: &Record) -> Compared
     ensures { IsAlone record.now result }
 {
-    match record.moves.as_slice().len() {
-        0 => Compared::Unopened,
-        moves => Compared::Behind(moves),
+    let moves = record.moves.as_slice().len();
+    if moves > 0 {
+        Compared::Behind(moves)
+    } else {
+        Compared::Unopened
     }
 }
 

@@ -31,12 +31,19 @@ pub struct AuditTables<'a> {
     pub manifest: &'a [u8],
 }
 
+/// Whether two stamps are one.
+fn is_same_stamp(one: Stamp, other: Stamp) -> bool
+    ensures { IsTrue result ↔ (one.0 ≡ other.0) }
+{
+    one.0 == other.0
+}
+
 /// Whether a game's file is that of a stamp, by tables with this manifest.
 fn is_own(game: &Game, manifest: &[u8], stamp: Stamp) -> bool
     ensures { IsTrue result ↔ IsGameOf manifest.now stamp.0 game.now.name.items game.now.start game.now.delay }
 {
     match Stamp::of(game.name.as_slice(), &game.start, manifest, game.delay) {
-        Some(own) => own == stamp,
+        Some(own) => is_same_stamp(own, stamp),
         None => false,
     }
 }

@@ -12,20 +12,38 @@ use crate::side::{Side, read_side};
 use crate::status_lines::{Look, put_look};
 use crate::telling::{GameTeller, Mark, put_cut, tell_games};
 use arbiter_server::Game;
+use board_core::Position;
 use line_teller::TellFault;
 use move_msg::Stamp;
 use std::alloc::{AllocError, Global};
 use std::io::Write;
 use system_io::{Disk, WriteFault};
 
+/// Whether two games have one name.
+fn is_same_name(one: &[u8], other: &[u8]) -> bool
+    ensures { IsTrue result ↔ (one.now ≡ other.now) }
+{
+    one == other
+}
+
+/// Whether two games have one start.
+fn is_same_start(one: &Position, other: &Position) -> bool
+    ensures { IsTrue result ↔ (one.now ≡ other.now) }
+{
+    *one.parts() == *other.parts()
+}
+
 /// Whether two files tell one game.
 fn is_same_game(one: &Game, other: &Game) -> bool
     ensures { IsTrue result ↔ (game_told one.now ≡ game_told other.now) }
 {
-    if one.name.as_slice() != other.name.as_slice() || one.delay != other.delay {
+    if !is_same_name(one.name.as_slice(), other.name.as_slice()) {
         return false;
     }
-    one.start.parts() == other.start.parts()
+    if one.delay != other.delay {
+        return false;
+    }
+    is_same_start(&one.start, &other.start)
 }
 
 /// What tells how far games have come.
