@@ -61,6 +61,7 @@ mod game_paths;
 mod hosting;
 mod json_answers;
 mod keys;
+pub mod laws;
 mod line_answers;
 mod lines;
 mod listening;

@@ -3,7 +3,7 @@
 ghost use Rattle.std.specs.Prelude.{◌≡◌, ◌≤◌, ◌↔◌, option_map, IfOk, IfSome, IfNone, IsTrue};
 ghost use Rattle.board_core.specs.Delays.{most_delay};
 ghost use Rattle.arbiter_server.specs.Games.{IsGameOf};
-ghost use Rattle.game_status.specs.GameAudits.{AreFewDelays, IsAudit, IsAuditOf, IsSoundSide, IsSoundLook, IsUnsoundLook, IsUnsoundPair, IsUnsoundSide, IsUntrue, IsWhole, TellsAudit};
+ghost use Rattle.game_status.specs.GameAudits.{AreFewDelays, IsAuditLook, IsAuditOf, IsSoundSide, IsSoundLook, IsUnsoundLook, IsUnsoundPair, IsUnsoundSide, IsUntrue, IsWhole, TellsAudit};
 ghost use Rattle.game_status.specs.Listings.{listing_of};
 
 use crate::audit_lines::{AuditLook, Unsound, put_audit};
@@ -161,19 +161,17 @@ struct AuditTeller<'a, 't, D> {
     tables: AuditTables<'t>,
 }
 
-impl<'a, 't, D: Disk> AuditTeller<'a, 't, D> {
-    ghost use Rattle.std.specs.Prelude.{◌≡◌, option_map, IfOk};
-    ghost use Rattle.game_status.specs.GameAudits.{IsAuditLook};
-    ghost use Rattle.game_status.specs.Listings.{listing_of};
-
-    /// What is told of the game with a stamp. The error comes only where memory is refused.
-    fn audit(&mut self, stamp: Stamp) -> Result<AuditLook, AllocError>
-        ensures told { IfOk result (IsAuditLook (D.facts self.old.files.disk.now) (listing_of self.old.files.one.now) (option_map (λ f. listing_of f.now) self.old.files.other) self.old.tables.manifest.now self.old.tables.set.tables stamp.0) }
-        ensures same { self.new ≡ self.old }
-    {
-        let look = self.files.look(stamp)?;
-        audit_of(self.files.alloc, &mut self.tables, stamp, look)
-    }
+/// What is told of the game with a stamp. The error comes only where memory is refused.
+fn audit_game<D: Disk>(
+    files: &StatusTeller<'_, D>,
+    tables: &mut AuditTables<'_>,
+    stamp: Stamp,
+) -> Result<AuditLook, AllocError>
+    ensures told { IfOk result (IsAuditLook (D.facts files.now.disk.now) (listing_of files.now.one.now) (option_map (λ f. listing_of f.now) files.now.other) tables.old.manifest.now tables.old.set.tables stamp.0) }
+    ensures same { tables.new ≡ tables.old }
+{
+    let look = files.look(stamp)?;
+    audit_of(files.alloc, tables, stamp, look)
 }
 
 impl<'a, 't, D: Disk> GameTeller for AuditTeller<'a, 't, D> {
@@ -184,7 +182,7 @@ impl<'a, 't, D: Disk> GameTeller for AuditTeller<'a, 't, D> {
     ghost tells = { λ t. IsAudit t.tables.manifest.now t.tables.set.tables (D.facts t.files.disk.now) (listing_of t.files.one.now) (option_map (λ f. listing_of f.now) t.files.other) };
 
     fn tell<W: Write>(&mut self, stamp: &[u8; 16], out: &mut W) -> Result<Mark, TellFault> {
-        let Ok(look) = self.audit(Stamp(*stamp)) else {
+        let Ok(look) = audit_game(&self.files, &mut self.tables, Stamp(*stamp)) else {
             return Err(TellFault::OutOfMemory);
         };
         match put_audit(out, stamp, &look) {

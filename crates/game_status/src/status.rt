@@ -13,14 +13,16 @@ use crate::status_lines::{Look, put_look};
 use crate::telling::{GameTeller, Mark, put_cut, tell_games};
 use arbiter_server::Game;
 use board_core::Position;
+use fen_text::laws::one_position;
+use fen_text::write;
 use line_teller::TellFault;
 use move_msg::Stamp;
 use std::alloc::{AllocError, Global};
 use std::io::Write;
 use system_io::{Disk, WriteFault};
 
-/// Whether two games have one name.
-fn is_same_name(one: &[u8], other: &[u8]) -> bool
+/// Whether two texts are one.
+fn is_same_text(one: &[u8], other: &[u8]) -> bool
     ensures { IsTrue result ↔ (one.now ≡ other.now) }
 {
     one == other
@@ -30,14 +32,17 @@ fn is_same_name(one: &[u8], other: &[u8]) -> bool
 fn is_same_start(one: &Position, other: &Position) -> bool
     ensures { IsTrue result ↔ (one.now ≡ other.now) }
 {
-    *one.parts() == *other.parts()
+    one_position();
+    let text = write(one);
+    let its = write(other);
+    is_same_text(text.as_str().as_bytes(), its.as_str().as_bytes())
 }
 
 /// Whether two files tell one game.
 fn is_same_game(one: &Game, other: &Game) -> bool
     ensures { IsTrue result ↔ (game_told one.now ≡ game_told other.now) }
 {
-    if !is_same_name(one.name.as_slice(), other.name.as_slice()) {
+    if !is_same_text(one.name.as_slice(), other.name.as_slice()) {
         return false;
     }
     if one.delay != other.delay {
