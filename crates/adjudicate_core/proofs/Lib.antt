@@ -16,6 +16,8 @@ pub mod SendWordLaws
 pub mod BindLaws
 pub mod LockLaws
 pub mod EnterLaws
+pub mod AuditGameLaws
+pub mod AuditAgreementLaws
 pub mod EntryLaws
 pub mod RootLines
 pub mod JsonLaws

@@ -1,5 +1,6 @@
 -- The commands, one by one.
 pub mod Audit
+pub mod AuditGames
 pub mod Check
 pub mod Enter
 pub mod Follow

@@ -26,4 +26,5 @@ pub mod Enters
 pub mod Entries
 pub mod Hostings
 pub mod Audits
+pub mod AuditAgreements
 pub mod Inside

@@ -52,9 +52,13 @@ range_of wanted.GameFile = codes "FOLDER/STAMP.game, with 32 lower-case hexadeci
 -- an option that takes the place of others
 abbrev pub instead_name : Instead → Text
 instead_name instead.From = codes "from"
+instead_name instead.Games = codes "games"
 
 abbrev pub not_with_words : Instead → Text → List ℕ
 not_with_words other name = codes "--" ++ name ++ codes " cannot be used with --" ++ instead_name other
+
+abbrev pub word_not_with_words : Instead → Text → List ℕ
+word_not_with_words other name = name ++ codes " cannot be used with --" ++ instead_name other
 
 abbrev pub unfit_words : Wanted → List ℕ → List ℕ
 unfit_words wanted text = codes "--" ++ name_of wanted ++ codes " " ++ text ++ codes ": " ++ range_of wanted
@@ -73,6 +77,7 @@ fault_words (told.NoOption name) = no_option_words name.now
 fault_words (told.NoWord name) = no_word_words name.now
 fault_words (told.Unfit wanted text) = unfit_words wanted text.now
 fault_words (told.NotWith other name) = not_with_words other name.now
+fault_words (told.WordNotWith other name) = word_not_with_words other name.now
 fault_words (told.Beside name) = beside_words name.now
 
 -- ---- a wish for help
@@ -83,13 +88,14 @@ AsksForHelp word = (word ≡ codes "help") ⊎ ((word ≡ codes "--help") ⊎ (w
 -- ---- the first that is wrong
 
 -- what may be wrong: an option or a word that has to be there has no value; or the value is none that the option takes; or an option
--- is there beside another one that takes its place, or beside `--game`, whose file tells it. `Untold` is wrong only where there is no
+-- or a word is there beside another one that takes its place, or an option beside `--game`, whose file tells it. `Untold` is wrong only where there is no
 -- `--game`.
 pub data Fault : Type 0 where
   NoOption : Text → Fault
   NoWord : Text → Fault
   Unfit : Wanted → Fault
   NotWith : Instead → Text → Fault
+  WordNotWith : Instead → Text → Fault
   Beside : Text → Fault
   Untold : Fault → Fault
 
@@ -114,6 +120,7 @@ Holds value (NoOption name) = value name ≡ None
 Holds value (NoWord name) = value name ≡ None
 Holds value (Unfit wanted) = IsUnfit value wanted
 Holds value (NotWith other name) = value name ≢ None
+Holds value (WordNotWith other name) = value name ≢ None
 Holds value (Beside name) = ((path : Text) × (value (codes "game") ≡ Some path)) × ((text : Text) × (value name ≡ Some text))
 Holds value (Untold fault) = (value (codes "game") ≡ None) × Holds value fault
 
@@ -127,6 +134,7 @@ line_of value (NoOption name) = no_option_words name
 line_of value (NoWord name) = no_word_words name
 line_of value (Unfit wanted) = unfit_words wanted (text_or_empty (value (name_of wanted)))
 line_of value (NotWith other name) = not_with_words other name
+line_of value (WordNotWith other name) = word_not_with_words other name
 line_of value (Beside name) = beside_words name
 line_of value (Untold fault) = line_of value fault
 

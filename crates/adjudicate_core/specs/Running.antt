@@ -33,6 +33,7 @@ use Rattle.adjudicate_core.specs.Commands.Run as runs
 use Rattle.adjudicate_core.specs.Commands.Game as games
 use Rattle.adjudicate_core.specs.Commands.Record as records
 use Rattle.adjudicate_core.specs.Commands.Audit as audits
+use Rattle.adjudicate_core.specs.Commands.AuditGames as game_audits
 use Rattle.adjudicate_core.specs.Commands.Version as versions
 use Rattle.adjudicate_core.specs.Commands.Probes as of_probes
 use Rattle.adjudicate_core.specs.TableAnswers.{PutsByTables}
@@ -76,6 +77,7 @@ AnswersFrom disk source host (task.Probes t) given old new status = PutsByTables
 AnswersFrom disk source host (task.Game t) given old new status = AnswersOnce (games.IsReply t given) (IsText t.fen.now) old new status
 AnswersFrom disk source host (task.Record t) given old new status = AnswersOnce (records.IsReply given.kept) (records.TakesMemory given.kept) old new status
 AnswersFrom disk source host (task.Audit t) given old new status = AnswersOnce (audits.IsReply t given) (IsText t.start.now) old new status
+AnswersFrom disk source host (task.AuditGames t) given old new status = game_audits.Puts disk t given old new status
 AnswersFrom disk source host (task.Version t) given old new status = versions.Answers old new status
 AnswersFrom disk source host (task.Send t) given old new status = (e : Ended) × (status ≡ ended_status e) × Sends disk source host t old new (Ok e)
 AnswersFrom disk source host (task.Enter t) given old new status = Enters disk source host t old new (Ok status)

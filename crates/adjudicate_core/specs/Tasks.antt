@@ -21,6 +21,7 @@ use Rattle.adjudicate_core.specs.Commands.Follow as follows
 use Rattle.adjudicate_core.specs.Commands.Status as statuses
 use Rattle.adjudicate_core.specs.Commands.Record as records
 use Rattle.adjudicate_core.specs.Commands.Audit as audits
+use Rattle.adjudicate_core.specs.Commands.AuditGames as game_audits
 use Rattle.adjudicate_core.specs.Commands.Version as versions
 use Rattle.adjudicate_core.specs.Misuses.{AsksForHelp, Fault, IsFirst, fault_words}
 use Rattle.adjudicate_core.specs.declared.usage.Misuse.{Misuse}
@@ -90,7 +91,7 @@ faults_of name.Listen value = listens.faults
 faults_of name.Probes value = of_probes.faults
 faults_of name.Game value = games.faults
 faults_of name.Record value = records.faults
-faults_of name.Audit value = audits.faults
+faults_of name.Audit value = game_audits.faults_by (value (codes "games")) (value (codes "other"))
 faults_of name.Version value = versions.faults
 faults_of name.Send value = sends.faults
 faults_of name.Enter value = enters.faults value
@@ -114,6 +115,7 @@ name_of (task.Probes t) = name.Probes
 name_of (task.Game t) = name.Game
 name_of (task.Record t) = name.Record
 name_of (task.Audit t) = name.Audit
+name_of (task.AuditGames t) = name.Audit
 name_of (task.Version t) = name.Version
 name_of (task.Send t) = name.Send
 name_of (task.Enter t) = name.Enter
@@ -135,7 +137,8 @@ HasValues value (task.Listen t) = listens.IsListening value t
 HasValues value (task.Probes t) = of_probes.HasValues value t
 HasValues value (task.Game t) = games.HasValues value t
 HasValues value (task.Record t) = records.HasValues value t
-HasValues value (task.Audit t) = audits.HasValues value t
+HasValues value (task.Audit t) = game_audits.LacksFolders value × audits.HasValues value t
+HasValues value (task.AuditGames t) = game_audits.HasValues value t
 HasValues value (task.Version t) = Unit {0}
 HasValues value (task.Send t) = sends.HasValues value t
 HasValues value (task.Enter t) = enters.HasValues value t
@@ -158,6 +161,7 @@ named_in (task.Probes t) = of_probes.named t
 named_in (task.Game t) = games.named t
 named_in (task.Record t) = records.named t
 named_in (task.Audit t) = audits.named t
+named_in (task.AuditGames t) = game_audits.named t
 named_in (task.Version t) = versions.named
 named_in (task.Send t) = sends.named
 named_in (task.Enter t) = enters.named
@@ -187,6 +191,7 @@ tells_progress (task.Probes t) = t.progress
 tells_progress (task.Game t) = false
 tells_progress (task.Record t) = false
 tells_progress (task.Audit t) = false
+tells_progress (task.AuditGames t) = false
 tells_progress (task.Version t) = false
 tells_progress (task.Send t) = false
 tells_progress (task.Enter t) = false

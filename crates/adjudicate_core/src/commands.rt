@@ -3,6 +3,7 @@
 ghost use Rattle.std.specs.Prelude.{◌≡◌, ◌↔◌, IsTrue, map, true, false, IfOk, IfErr, IfSome, IfNone, OnErr, IsErrOf, option_map};
 ghost use Rattle.clap.specs.Words.{HasKind, Text, app_of, is_simple_and_free, found_of, first_value, rule_of, with_rule};
 ghost use Rattle.adjudicate_core.specs.declared.usage.Misuse.{Misuse};
+ghost use Rattle.adjudicate_core.specs.Commands.AuditGames.{LacksFolders};
 ghost use Rattle.adjudicate_core.specs.Misuses.{AsksForHelp};
 ghost use Rattle.adjudicate_core.specs.Rules.{fault_in, rule_of_value, value_in};
 ghost use Rattle.adjudicate_core.specs.Inside.Putting.{IsMisuseOf};
@@ -10,6 +11,7 @@ ghost use Rattle.task_files.specs.Sources.{named_by};
 ghost use Rattle.adjudicate_core.specs.Tasks.{IsReadAs, IsTask, IsMisuse, IsTaken, IsVersion, Names, NamesNone, app_for, key_in, named_in, rules_of, word_of};
 
 mod audit;
+mod audit_games;
 mod check;
 mod enter;
 mod follow;
@@ -31,6 +33,7 @@ mod version;
 
 use crate::usage::{Misuse, Usage, ValueFault};
 pub use audit::Audit;
+pub use audit_games::AuditGames;
 pub use check::Check;
 use clap::{Arg, ArgAction, ArgMatches, Command};
 pub use enter::{Enter, Entries, OneGame};
@@ -80,6 +83,8 @@ pub enum Task<'a> {
     Record(ShowRecord<'a>),
     /// Whether kept files are records of a game.
     Audit(Audit<'a>),
+    /// The audit of the games of a folder.
+    AuditGames(AuditGames<'a>),
     /// The program's version.
     Version(Version),
     /// The moves of the input, sent to the arbiters of a game.
@@ -287,6 +292,41 @@ fn matches_at<'a>(command: Command<'a>, words: &'a [&'a str]) -> Result<ArgMatch
     command.try_get_matches_from(words)
 }
 
+/// The task of `audit` for games of folders with these values, or their first fault.
+fn audit_of_folders<'a>(matches: &ArgMatches<'a>) -> Result<Task<'a>, ValueFault<'a>>
+    requires { LacksFolders (first_value (found_of matches.now)) → ⊥ }
+    ensures { IsReadAs Name.Audit (first_value (found_of matches.now)) result }
+{
+    match AuditGames::of(matches) {
+        Ok(task) => Ok(Task::AuditGames(task)),
+        Err(fault) => Err(fault),
+    }
+}
+
+/// The task of `audit` for one game with these values, or their first fault.
+fn audit_of_files<'a>(matches: &ArgMatches<'a>) -> Result<Task<'a>, ValueFault<'a>>
+    requires { LacksFolders (first_value (found_of matches.now)) }
+    ensures { IsReadAs Name.Audit (first_value (found_of matches.now)) result }
+{
+    match Audit::of(matches) {
+        Ok(task) => Ok(Task::Audit(task)),
+        Err(fault) => Err(fault),
+    }
+}
+
+/// The task of `audit` with these values, or their first fault: with a folder of games another one than without.
+fn audit_of<'a>(matches: &ArgMatches<'a>) -> Result<Task<'a>, ValueFault<'a>>
+    ensures { IsReadAs Name.Audit (first_value (found_of matches.now)) result }
+{
+    match matches.get_str("games") {
+        Some(_) => audit_of_folders(matches),
+        None => match matches.get_str("other") {
+            Some(_) => audit_of_folders(matches),
+            None => audit_of_files(matches),
+        },
+    }
+}
+
 /// The task of a command with these values, or their first fault.
 fn task_of<'a>(name: Name, matches: &ArgMatches<'a>) -> Result<Task<'a>, ValueFault<'a>>
     ensures { IsReadAs name (first_value (found_of matches.now)) result }
@@ -333,10 +373,7 @@ fn task_of<'a>(name: Name, matches: &ArgMatches<'a>) -> Result<Task<'a>, ValueFa
             Ok(task) => Ok(Task::Record(task)),
             Err(fault) => Err(fault),
         },
-        Name::Audit => match Audit::of(matches) {
-            Ok(task) => Ok(Task::Audit(task)),
-            Err(fault) => Err(fault),
-        },
+        Name::Audit => audit_of(matches),
         Name::Version => Ok(Task::Version(Version)),
         Name::Send => Ok(Task::Send(Send::of(matches)?)),
         Name::Enter => match Enter::of(matches) {
@@ -380,6 +417,7 @@ impl<'a> Task<'a> {
             Task::Game(task) => task.places(),
             Task::Record(task) => task.places(),
             Task::Audit(task) => task.places(),
+            Task::AuditGames(task) => task.places(),
             Task::Version(task) => task.places(),
             Task::Send(task) => task.places(),
             Task::Enter(task) => task.places(),

@@ -61,6 +61,7 @@ mod game_paths;
 mod hosting;
 mod json_answers;
 mod keys;
+pub mod laws;
 mod line_answers;
 mod lines;
 mod listening;
@@ -77,8 +78,8 @@ mod uses;
 mod values;
 
 pub use commands::{
-    Audit, Check, Enter, Entries, Follow, FollowGame, Form, GameFile, HostGames, Judge, List,
-    Listen, Moves, Name, OneGame, Probe, Probes, Root, RunSchedule, Send, SentGame, Show,
+    Audit, AuditGames, Check, Enter, Entries, Follow, FollowGame, Form, GameFile, HostGames, Judge,
+    List, Listen, Moves, Name, OneGame, Probe, Probes, Root, RunSchedule, Send, SentGame, Show,
     ShowRecord, ShowStatus, Task, ToldGame, Value, Version, parse,
 };
 pub use game_name::GameName;

@@ -66,6 +66,7 @@ fn answer_given<D: Disk, I: Input, H: Host, W: Output, E: Output>(
         Task::Game(task) => put_answered(out, task.answer(alloc, sources)),
         Task::Record(task) => task.answer(alloc, sources, out),
         Task::Audit(task) => put_answered(out, task.answer(alloc, sources)),
+        Task::AuditGames(task) => task.answer(alloc, sources, disk, out),
         Task::Version(task) => task.answer(out),
         Task::Send(task) => tell_silence(errors, send(alloc, task, disk, input, host, out)),
         Task::Enter(task) => enter(alloc, task, disk, input, host, out),

@@ -87,6 +87,8 @@ impl Wanted {
 pub enum Instead {
     /// A list of games.
     From,
+    /// A folder of games.
+    Games,
 }
 
 impl Instead {
@@ -96,6 +98,7 @@ impl Instead {
     {
         match self {
             Instead::From => " cannot be used with --from",
+            Instead::Games => " cannot be used with --games",
         }
     }
 }
@@ -111,6 +114,8 @@ pub enum ValueFault<'a> {
     Unfit(Wanted, &'a str),
     /// An option is there beside another one that takes its place.
     NotWith(Instead, &'a str),
+    /// A word is there beside an option that takes its place.
+    WordNotWith(Instead, &'a str),
     /// An option stands beside `--game`, whose file tells it.
     Beside(&'a str),
 }

@@ -27,6 +27,7 @@ const USAGE: &str = "usage: adjudicate judge [--tables DIR] [--manifest FILE] FE
                          [--datagrams N] [--delay N] [--fetch] [--ready] [--key FILE]
        adjudicate record FILE
        adjudicate audit --name N --start FEN --tables DIR [--manifest FILE] [--delay N] FILE [FILE]
+       adjudicate audit --games DIR [--other DIR] --tables DIR [--manifest FILE]
        adjudicate status --games DIR [--other DIR]
        adjudicate send --name N --start FEN --tables DIR [--manifest FILE] [--delay N] --to ADDR[,ADDR]
                        [--bind ADDR] [--wait MS] [--tries N] [--key FILE]
@@ -282,6 +283,14 @@ fn tell_fault<E: Output>(alloc: Global, errors: &mut E, fault: &ValueFault<'_>, 
             errors,
             command,
             "--",
+            name.as_bytes(),
+            instead.rest(),
+        ),
+        ValueFault::WordNotWith(instead, name) => tell_line_of(
+            alloc,
+            errors,
+            command,
+            "",
             name.as_bytes(),
             instead.rest(),
         ),

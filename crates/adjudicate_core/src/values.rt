@@ -4,7 +4,7 @@ ghost use Rattle.std.specs.Prelude.{◌≡◌, IfOk, IfErr, OnOk, None, Some, co
 ghost use Rattle.clap.specs.Words.{first_value, found_of};
 ghost use Rattle.move_msg.specs.Stamps.{IsGameName};
 ghost use Rattle.adjudicate_core.specs.Addresses.{AreAddresses, AreRecipients, IsAddressIfAny};
-ghost use Rattle.adjudicate_core.specs.Misuses.{AreGameWords, AreWell, IsFirst, IsTold, NoOption, NoWord, NotWith, Unfit, fault_words, game_faults, me_faults, name_faults, recipient_faults, to_faults};
+ghost use Rattle.adjudicate_core.specs.Misuses.{AreGameWords, AreWell, IsFirst, IsTold, NoOption, NoWord, NotWith, Unfit, WordNotWith, fault_words, game_faults, me_faults, name_faults, recipient_faults, to_faults};
 ghost use Rattle.adjudicate_core.specs.Numbers.{IsAtOnce, IsCache, IsDatagrams, IsDelay, IsHundredOr, IsLog, IsMe};
 
 use crate::addresses::{are_addresses, are_recipients, is_address};
@@ -56,6 +56,21 @@ pub(crate) fn without<'a>(
     match matches.get_str(name) {
         None => Ok(()),
         Some(_) => Err(ValueFault::NotWith(instead, name)),
+    }
+}
+
+/// That a word isn't there, since an option takes its place.
+pub(crate) fn without_word<'a>(
+    matches: &ArgMatches<'a>,
+    name: &'static str,
+    instead: Instead,
+) -> Result<(), ValueFault<'a>>
+    ensures ok { OnOk result (first_value (found_of matches.now) name.now ≡ None) }
+    ensures err { IfErr result (λ fault. IsTold (first_value (found_of matches.now)) (WordNotWith instead name.now) (fault_words fault)) }
+{
+    match matches.get_str(name) {
+        None => Ok(()),
+        Some(_) => Err(ValueFault::WordNotWith(instead, name)),
     }
 }
 

@@ -2,3 +2,4 @@ pub mod ListingLaws
 pub mod TellingLaws
 pub mod SideLaws
 pub mod StatusLaws
+pub mod GameLaws

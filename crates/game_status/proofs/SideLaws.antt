@@ -5,7 +5,7 @@ use Rattle.system_io.specs.Disks.{DiskFacts}
 use Rattle.arbiter_server.specs.declared.game_file.Game.{Game}
 use Rattle.game_status.specs.declared.entry.Entry.{Entry}
 use Rattle.game_status.specs.declared.entry.EntryFault.{EntryFault}
-use Rattle.game_status.specs.declared.entry.EntryFault.TheVariants.{NoGame, BadGame, Keeper, BadRecord, OtherStamp}
+use Rattle.game_status.specs.declared.entry.EntryFault.TheVariants.{NoGame, BadGame, Keeper, BadRecord, OtherStamp, OtherGame}
 use Rattle.game_status.specs.declared.side.Side.{Side}
 use Rattle.game_status.specs.Entries.{HasEntry, game_told}
 use Rattle.game_status.specs.Listings.{Listing}
@@ -26,6 +26,7 @@ module _ (disk : DiskFacts) (f : Listing) (stamp : List ℕ) (e : Entry) (entry 
   no_side_by Keeper h = absurd h.none
   no_side_by (BadRecord fault) h = (game_told e.game, h.bytes, subst (HasEntry disk f stamp (game_told e.game)) h.kept entry, h.none)
   no_side_by OtherStamp h = (game_told e.game, h.bytes, subst (HasEntry disk f stamp (game_told e.game)) h.kept entry, h.none)
+  no_side_by OtherGame h = absurd h.none
 
 pub err_weaker : {T E : Type 0} (r : Result T E) (P Q : E → Type 0) → ((e : E) → P e → Q e) → IfErr r P → IfErr r Q
 err_weaker (Ok x) P Q f h = tt

@@ -5,7 +5,7 @@ use Rattle.board_core.specs.declared.verdict.Verdict.{Verdict}
 use Rattle.move_msg.specs.declared.record_bytes.Record.{Record as Records}
 use Rattle.record_audit.specs.Findings.{AreCompared, AreOfOneGame}
 use Rattle.game_status.specs.declared.comparing.Compared.{Compared}
-use Rattle.game_status.specs.declared.comparing.Compared.TheVariants.{Agree, Behind, Differ}
+use Rattle.game_status.specs.declared.comparing.Compared.TheVariants.{Agree, Behind, Unopened, Differ}
 use Rattle.game_status.specs.declared.telling.Mark.{Mark}
 use Rattle.game_status.specs.declared.telling.Mark.TheVariants as mark
 
@@ -21,18 +21,27 @@ pub record IsBehind (r s : Records) (more : ℕ) : Type 0 where
 abbrev pub IsRecordsComparedAs : Records → Records → Compared → Type 0
 IsRecordsComparedAs r s Agree = AreCompared r s None
 IsRecordsComparedAs r s (Behind more) = IsBehind r s more ⊎ IsBehind s r more
+IsRecordsComparedAs r s Unopened = ⊥
 IsRecordsComparedAs r s (Differ ply) = AreCompared r s (Some ply) × ((more : ℕ) → IsBehind r s more ⊎ IsBehind s r more → ⊥)
 
--- so it is with what two folders keep of a game; where only one keeps a record the other is behind by all its moves
+-- the only record of a game: the other folder is behind by all its moves, or the record has none
+abbrev pub IsAlone : Records → Compared → Type 0
+IsAlone r Agree = ⊥
+IsAlone r (Behind more) = (more ≡ length r.moves) × (0 < more)
+IsAlone r Unopened = length r.moves ≡ 0
+IsAlone r (Differ ply) = ⊥
+
+-- so it is with what two folders keep of a game
 abbrev pub IsComparedAs : Option Records → Option Records → Compared → Type 0
 IsComparedAs None None compared = compared ≡ Agree
-IsComparedAs (Some r) None compared = compared ≡ Behind (length r.moves)
-IsComparedAs None (Some s) compared = compared ≡ Behind (length s.moves)
+IsComparedAs (Some r) None compared = IsAlone r compared
+IsComparedAs None (Some s) compared = IsAlone s compared
 IsComparedAs (Some r) (Some s) compared = IsRecordsComparedAs r s compared
 
 abbrev pub compared_words : Compared → List ℕ
 compared_words Agree = codes "agree"
 compared_words (Behind more) = codes "behind " ++ decimal more
+compared_words Unopened = codes "unopened"
 compared_words (Differ ply) = codes "differ " ++ decimal ply
 
 -- ---- how the game is counted
@@ -48,4 +57,5 @@ mark_of (Some r) = mark_by r.verdict
 abbrev pub mark_of_two : Option Records → Compared → Mark
 mark_of_two kept Agree = mark_of kept
 mark_of_two kept (Behind more) = mark.Open
+mark_of_two kept Unopened = mark.Open
 mark_of_two kept (Differ ply) = mark.Differs

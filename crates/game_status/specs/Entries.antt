@@ -9,7 +9,7 @@ use Rattle.arbiter_server.specs.declared.game_file.Game.{Game}
 use Rattle.arbiter_server.specs.GameFiles.{Told, line_number, told}
 use Rattle.arbiter_server.specs.GameFolders.{HasGame, LacksGame, kept_path}
 use Rattle.game_status.specs.declared.entry.EntryFault.{EntryFault}
-use Rattle.game_status.specs.declared.entry.EntryFault.TheVariants.{NoGame, BadGame, Keeper, BadRecord, OtherStamp}
+use Rattle.game_status.specs.declared.entry.EntryFault.TheVariants.{NoGame, BadGame, Keeper, BadRecord, OtherStamp, OtherGame}
 use Rattle.game_status.specs.Listings.{Listing}
 
 -- a record has at most so many bytes
@@ -40,6 +40,7 @@ LacksEntry disk f stamp (BadGame fault) = LacksGame disk f.path stamp (find.BadF
 LacksEntry disk f stamp Keeper = (game : Told) × HasGame disk f.path stamp game × CannotReadRecord disk f stamp
 LacksEntry disk f stamp (BadRecord fault) = ⊥
 LacksEntry disk f stamp OtherStamp = ⊥
+LacksEntry disk f stamp OtherGame = ⊥
 
 abbrev pub fault_words : EntryFault → List ℕ
 fault_words NoGame = codes "refused NoGame"
@@ -47,3 +48,4 @@ fault_words (BadGame fault) = codes "refused line " ++ decimal (line_number faul
 fault_words Keeper = codes "refused keeper"
 fault_words (BadRecord fault) = refused_record fault
 fault_words OtherStamp = codes "refused stamp"
+fault_words OtherGame = codes "refused OtherGame"

@@ -4,4 +4,5 @@ pub mod Sides
 pub mod Comparisons
 pub mod Tellings
 pub mod Statuses
+pub mod GameAudits
 pub mod Inside

@@ -5,7 +5,7 @@ use Rattle.move_msg.specs.Records.{IsFirstRecordFault, SpellsRecord}
 use Rattle.system_io.specs.Disks.{DiskFacts}
 use Rattle.arbiter_server.specs.GameFiles.{Told}
 use Rattle.game_status.specs.declared.entry.EntryFault.{EntryFault}
-use Rattle.game_status.specs.declared.entry.EntryFault.TheVariants.{NoGame, BadGame, Keeper, BadRecord, OtherStamp}
+use Rattle.game_status.specs.declared.entry.EntryFault.TheVariants.{NoGame, BadGame, Keeper, BadRecord, OtherStamp, OtherGame}
 use Rattle.game_status.specs.Entries.{HasEntry, LacksEntry}
 use Rattle.game_status.specs.Listings.{Listing}
 
@@ -34,3 +34,4 @@ LacksSide disk f stamp Keeper = LacksEntry disk f stamp Keeper
 LacksSide disk f stamp (BadRecord fault) = (game : Told) × (bytes : List ℕ) × HasEntry disk f stamp game (Some bytes) × IsFirstRecordFault bytes fault
 LacksSide disk f stamp OtherStamp =
     (game : Told) × (bytes : List ℕ) × HasEntry disk f stamp game (Some bytes) × ((r : Records) × SpellsRecord bytes r × (IsOfStamp r stamp game.delay → ⊥))
+LacksSide disk f stamp OtherGame = ⊥

@@ -1,5 +1,5 @@
 -- How far the games of a folder, or of two, have come (this project's own).
-use Rattle.std.specs.Prelude.{◌≡◌, ◌++◌, ℕ, Bool, List, Option, Some, None, length, codes}
+use Rattle.std.specs.Prelude.{◌≡◌, ◌≢◌, ◌++◌, ℕ, Bool, List, Option, Some, None, length, codes}
 use Rattle.std.specs.Fmt.{decimal}
 use Rattle.hex.specs.Hex.{encode_lower}
 use Rattle.move_msg.specs.declared.record_bytes.Record.{Record as Records}
@@ -7,6 +7,7 @@ use Rattle.arbiter_server.specs.ServedLines.{verdict_or_none}
 use Rattle.system_io.specs.Disks.{DiskFacts}
 use Rattle.game_status.specs.declared.comparing.Compared.{Compared}
 use Rattle.game_status.specs.declared.entry.EntryFault.{EntryFault}
+use Rattle.game_status.specs.declared.entry.EntryFault.TheVariants.{OtherGame}
 use Rattle.game_status.specs.declared.side.Side.{Side}
 use Rattle.game_status.specs.declared.status_lines.Look.{Look}
 use Rattle.game_status.specs.declared.status_lines.Look.TheVariants as look
@@ -51,12 +52,18 @@ told_by stamp (look.OtherAtFault fault) = record { words = other_fault_line stam
 abbrev pub IsSide : DiskFacts → Listing → List ℕ → Side → Type 0
 IsSide disk f stamp side = HasSide disk f stamp (game_told side.game) side.kept
 
--- beside what the first folder has, the second has this
-abbrev pub IsLookBeside : DiskFacts → Side → Listing → List ℕ → Look → Type 0
-IsLookBeside disk one f stamp (look.One side) = ⊥
-IsLookBeside disk one f stamp (look.Both side other compared) = (side ≡ one) × IsSide disk f stamp other × IsComparedAs side.kept other.kept compared
-IsLookBeside disk one f stamp (look.AtFault fault) = ⊥
-IsLookBeside disk one f stamp (look.OtherAtFault fault) = LacksSide disk f stamp fault
+-- the folders' files tell one game, and the records are compared; or the second's tells another one
+abbrev pub IsLookAtBoth : Side → Side → Look → Type 0
+IsLookAtBoth one other (look.One side) = ⊥
+IsLookAtBoth one other (look.Both side beside compared) =
+    (side ≡ one) × (beside ≡ other) × (game_told one.game ≡ game_told other.game) × IsComparedAs one.kept other.kept compared
+IsLookAtBoth one other (look.AtFault fault) = ⊥
+IsLookAtBoth one other (look.OtherAtFault fault) = (fault ≡ OtherGame) × (game_told one.game ≢ game_told other.game)
+
+-- beside what the first folder has, the second has a game and its record, or lacks them
+pub data IsLookBeside (disk : DiskFacts) (one : Side) (f : Listing) (stamp : List ℕ) (l : Look) : Type 0 where
+  HasBeside : (other : Side) → IsSide disk f stamp other → IsLookAtBoth one other l → IsLookBeside disk one f stamp l
+  LacksBeside : (fault : EntryFault) → LacksSide disk f stamp fault → l ≡ look.OtherAtFault fault → IsLookBeside disk one f stamp l
 
 -- what is found of a game in the one folder, and in the second where there is one
 pub data IsLook (disk : DiskFacts) (one : Listing) (other : Option Listing) (stamp : List ℕ) (l : Look) : Type 0 where

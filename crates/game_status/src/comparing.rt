@@ -1,7 +1,7 @@
 //! Two records of one game that are compared by the files alone.
 
 ghost use Rattle.std.specs.Prelude.{◌≡◌};
-ghost use Rattle.game_status.specs.Comparisons.{IsComparedAs, IsRecordsComparedAs, mark_of, mark_of_two};
+ghost use Rattle.game_status.specs.Comparisons.{IsAlone, IsComparedAs, IsRecordsComparedAs, mark_of, mark_of_two};
 ghost use Rattle.game_status.specs.Inside.Parting.{IsApart};
 
 use crate::telling::Mark;
@@ -14,8 +14,10 @@ use std::fmt;
 pub enum Compared {
     /// The moves and the verdict are the same, or nothing is kept.
     Agree,
-    /// One has no verdict, and the other begins with its moves: by how many it is behind.
+    /// One has no verdict, and the other begins with its moves: by how many it is behind, at least one.
     Behind(usize),
+    /// One folder keeps a record without a move, and the other keeps none.
+    Unopened,
     /// The first ply at which they part otherwise.
     Differ(usize),
 }
@@ -30,6 +32,7 @@ impl fmt::Display for Compared {
         match self {
             Compared::Agree => f.write_str("agree"),
             Compared::Behind(moves) => write!(f, "behind {moves}"),
+            Compared::Unopened => f.write_str("unopened"),
             Compared::Differ(ply) => write!(f, "differ {ply}"),
         }
     }
@@ -61,14 +64,26 @@ fn compare_two(one: &Record, other: &Record) -> Compared
     }
 }
 
+/// What comes of a record beside which the other folder keeps none.
+fn compare_alone(record: &Record) -> Compared
+    ensures { IsAlone record.now result }
+{
+    let moves = record.moves.as_slice().len();
+    if moves > 0 {
+        Compared::Behind(moves)
+    } else {
+        Compared::Unopened
+    }
+}
+
 /// What comes of comparing what two folders keep of a game.
 pub(crate) fn compare_kept(one: &Option<Record>, other: &Option<Record>) -> Compared
     ensures { IsComparedAs one.now other.now result }
 {
     match (one, other) {
         (None, None) => Compared::Agree,
-        (Some(record), None) => Compared::Behind(record.moves.as_slice().len()),
-        (None, Some(record)) => Compared::Behind(record.moves.as_slice().len()),
+        (Some(record), None) => compare_alone(record),
+        (None, Some(record)) => compare_alone(record),
         (Some(one), Some(other)) => compare_two(one, other),
     }
 }
@@ -89,7 +104,7 @@ pub(crate) fn mark_of_two(kept: &Option<Record>, compared: Compared) -> Mark
 {
     match compared {
         Compared::Agree => mark_of(kept),
-        Compared::Behind(_) => Mark::Open,
+        Compared::Behind(_) | Compared::Unopened => Mark::Open,
         Compared::Differ(_) => Mark::Differs,
     }
 }

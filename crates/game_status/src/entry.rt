@@ -31,8 +31,10 @@ pub enum EntryFault {
     Keeper,
     /// The record's bytes are no record.
     BadRecord(RecordFault),
-    /// The record is of another stamp or delay, or the game isn't that of its stamp.
+    /// The record is of another stamp or delay.
     OtherStamp,
+    /// The game's file tells another game than that of its stamp, or than the first folder's file.
+    OtherGame,
 }
 
 impl fmt::Display for EntryFault {
@@ -48,6 +50,7 @@ impl fmt::Display for EntryFault {
             EntryFault::Keeper => f.write_str("refused keeper"),
             EntryFault::BadRecord(fault) => write!(f, "refused record {}", fault.name()),
             EntryFault::OtherStamp => f.write_str("refused stamp"),
+            EntryFault::OtherGame => f.write_str("refused OtherGame"),
         }
     }
 }

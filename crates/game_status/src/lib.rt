@@ -18,16 +18,20 @@
 //!   cause; the whole lines before it stay.
 #![tactic(auto)]
 
+mod audit_lines;
 mod comparing;
 mod entry;
+mod game_audit;
 mod listing;
 mod side;
 mod status;
 mod status_lines;
 mod telling;
 
+pub use audit_lines::{AuditLook, Unsound};
 pub use comparing::Compared;
 pub use entry::{Entry, EntryFault};
+pub use game_audit::{AuditTables, tell_audit};
 pub use listing::{Folder, Folders};
 pub use side::Side;
 pub use status::tell_status;

@@ -1,19 +1,55 @@
 //! How far the games of folders have come.
 
-ghost use Rattle.std.specs.Prelude.{option_map, IfOk};
+ghost use Rattle.std.specs.Prelude.{◌≡◌, ◌↔◌, option_map, IfOk, IsTrue};
+ghost use Rattle.game_status.specs.Entries.{game_told};
 ghost use Rattle.game_status.specs.Listings.{listing_of};
-ghost use Rattle.game_status.specs.Statuses.{IsLook, IsLookBeside, TellsStatus};
+ghost use Rattle.game_status.specs.Statuses.{IsLook, IsLookAtBoth, IsLookBeside, TellsStatus};
 
 use crate::comparing::compare_kept;
+use crate::entry::EntryFault;
 use crate::listing::{Folder, list_folders};
 use crate::side::{Side, read_side};
 use crate::status_lines::{Look, put_look};
 use crate::telling::{GameTeller, Mark, put_cut, tell_games};
+use arbiter_server::Game;
+use board_core::Position;
+use fen_text::laws::one_position;
+use fen_text::write;
 use line_teller::TellFault;
 use move_msg::Stamp;
 use std::alloc::{AllocError, Global};
 use std::io::Write;
 use system_io::{Disk, WriteFault};
+
+/// Whether two texts are one.
+fn is_same_text(one: &[u8], other: &[u8]) -> bool
+    ensures { IsTrue result ↔ (one.now ≡ other.now) }
+{
+    one == other
+}
+
+/// Whether two games have one start.
+fn is_same_start(one: &Position, other: &Position) -> bool
+    ensures { IsTrue result ↔ (one.now ≡ other.now) }
+{
+    one_position();
+    let text = write(one);
+    let its = write(other);
+    is_same_text(text.as_str().as_bytes(), its.as_str().as_bytes())
+}
+
+/// Whether two files tell one game.
+fn is_same_game(one: &Game, other: &Game) -> bool
+    ensures { IsTrue result ↔ (game_told one.now ≡ game_told other.now) }
+{
+    if !is_same_text(one.name.as_slice(), other.name.as_slice()) {
+        return false;
+    }
+    if one.delay != other.delay {
+        return false;
+    }
+    is_same_start(&one.start, &other.start)
+}
 
 /// What tells how far games have come.
 #[derive(Clone, Copy)]
@@ -28,22 +64,30 @@ pub(crate) struct StatusTeller<'a, D> {
     pub(crate) other: Option<&'a Folder<'a>>,
 }
 
+/// What is told of a game of which both folders have this.
+fn look_at_both(one: Side, other: Side) -> Look
+    ensures { IsLookAtBoth one other result }
+{
+    if !is_same_game(&one.game, &other.game) {
+        return Look::OtherAtFault(EntryFault::OtherGame);
+    }
+    let compared = compare_kept(&one.kept, &other.kept);
+    Look::Both(one, other, compared)
+}
+
 impl<'a, D: Disk> StatusTeller<'a, D> {
     /// What is told of a game of which the first folder has this, and the second has the rest.
     fn look_beside(&self, one: Side, folder: &Folder<'_>, stamp: Stamp) -> Result<Look, AllocError>
         ensures { IfOk result (IsLookBeside (D.facts self.now.disk.now) one (listing_of folder.now) stamp.0) }
     {
         match read_side(self.alloc, self.disk, folder, stamp)? {
-            Ok(other) => {
-                let compared = compare_kept(&one.kept, &other.kept);
-                Ok(Look::Both(one, other, compared))
-            }
+            Ok(other) => Ok(look_at_both(one, other)),
             Err(fault) => Ok(Look::OtherAtFault(fault)),
         }
     }
 
     /// What is told of the game with a stamp. The error comes only where memory is refused.
-    fn look(&self, stamp: Stamp) -> Result<Look, AllocError>
+    pub(crate) fn look(&self, stamp: Stamp) -> Result<Look, AllocError>
         ensures { IfOk result (IsLook (D.facts self.now.disk.now) (listing_of self.now.one.now) (option_map (λ f. listing_of f.now) self.now.other) stamp.0) }
     {
         match read_side(self.alloc, self.disk, self.one, stamp)? {

@@ -4,10 +4,12 @@ use Rattle.std.specs.Prelude.{is_some, min}
 use Rattle.std.proofs.lemmas.Bool.{cases_lt, cond-true, cond-false, eqb-false, eq-eqb, ne_eqb}
 use Rattle.std.proofs.lemmas.List.{take-take, take_all, length-take-le}
 use Rattle.board_core.specs.declared.moves.Move.{Move}
+use Rattle.board_core.specs.declared.parts.Parts.{Parts}
 use Rattle.board_core.specs.declared.verdict.Verdict.{Verdict}
 use Rattle.judge_core.specs.declared.game.GameOutcome.{GameOutcome}
 use Rattle.judge_core.specs.declared.game.GameOutcome.TheVariants.{Ruled, Illegal, Going}
 use Rattle.judge_core.specs.Games.{IsOutcome, Rules}
+use Rattle.judge_core.specs.Tables.{Tables}
 use Rattle.move_msg.specs.declared.stamp.Stamp.{Stamp}
 use Rattle.move_msg.specs.declared.record_bytes.Record.{Record}
 use Rattle.move_msg.specs.Records.{SpellsRecord}
@@ -18,7 +20,7 @@ use Rattle.arbiter_core.specs.Views.{spelled_as}
 use Rattle.move_msg.proofs.RecordLaws.{one_record}
 use Rattle.record_audit.specs.declared.auditing.Finding.{Finding}
 use Rattle.record_audit.specs.declared.auditing.Finding.TheVariants as found
-use Rattle.record_audit.specs.Findings.{AreCompared, AreOfOneGame, AreSameAt, IsFound, StopsAt, verdict_at}
+use Rattle.record_audit.specs.Findings.{AreCompared, AreOfOneGame, AreSameAt, IsFound, IsOfRecord, StopsAt, rules_with, verdict_at}
 use Rattle.record_audit.specs.Inside.Auditing.{ArePartedAt, EndsPart, IsFoundBy, PartsAfter, stop_in}
 
 -- ---- one record
@@ -81,6 +83,19 @@ found_so r stamp bytes q o (found.BadMoves place) spelled same out h =
     (inr (q, spelled, same, cut_short r stamp bytes q o spelled out stops.0), (q, spelled, same, stops.1))
 found_so r stamp bytes q o (found.BadRecord fault) spelled same out h = absurd h
 found_so r stamp bytes q o found.OtherStamp spelled same out h = absurd h
+
+-- what is whole has the record's own number of moves and verdict
+pub own_so : (q : Record) (o : GameOutcome) (finding : Finding) → IsFoundBy o (length q.moves) q.verdict finding → IsOfRecord q finding
+own_so q o (found.Whole count verdict) h = (h.0, h.1)
+own_so q o (found.BadVerdict verdict) h = tt
+own_so q o (found.BadMoves place) h = tt
+own_so q o (found.BadRecord fault) h = tt
+own_so q o found.OtherStamp h = tt
+
+-- a record of the game's stamp and delay is held to the game's rules
+pub by_game : (start : Parts) (tables : Tables) (q : Record) (stamp : Stamp) (delay : ℕ) (bytes : List ℕ) (finding : Finding) → q.stamp ≡ stamp → q.delay ≡ delay → IsFound (rules_with start tables q) q.stamp bytes finding → IsFound (record { start = start; tables = tables; delay = delay }) stamp bytes finding
+by_game start tables q stamp delay bytes finding is also h =
+    subst (λ (d : ℕ). IsFound (record { start = start; tables = tables; delay = d }) stamp bytes finding) also (subst (λ (s : Stamp). IsFound (rules_with start tables q) s bytes finding) is h)
 
 -- ---- two records
 

@@ -2,9 +2,11 @@
 use Rattle.std.specs.Prelude.{◌≡◌, ◌≢◌, ◌<◌, ◌⊎◌, ◌==◌, ◌++◌, ℕ, Bool, true, false, List, length, take, Option, Some, None, IfNone, IfSome, cond, codes}
 use Rattle.std.specs.Fmt.{decimal}
 use Rattle.board_core.specs.declared.moves.Move.{Move}
+use Rattle.board_core.specs.declared.parts.Parts.{Parts}
 use Rattle.board_core.specs.declared.verdict.Verdict.{Verdict}
 use Rattle.judge_core.specs.declared.game.GameOutcome.{GameOutcome}
 use Rattle.judge_core.specs.Games.{IsFirst, IsIllegalAt, IsOutcome, Rules}
+use Rattle.judge_core.specs.Tables.{Tables}
 use Rattle.move_msg.specs.declared.record_bytes.Record.{Record as Records}
 use Rattle.move_msg.specs.declared.record_bytes.RecordFault.{RecordFault}
 use Rattle.move_msg.specs.declared.stamp.Stamp.{Stamp}
@@ -21,6 +23,10 @@ use Rattle.record_audit.specs.declared.auditing.Finding.TheVariants as found
 -- the rules to which records are held
 abbrev pub rules_of : Auditor → Rules
 rules_of a = record { start = a.start; tables = a.set.tables; delay = a.delay }
+
+-- those of the game from this start by these tables of which the record is
+abbrev pub rules_with : Parts → Tables → Records → Rules
+rules_with start tables r = record { start = start; tables = tables; delay = r.delay }
 
 -- ---- one file
 
@@ -50,6 +56,14 @@ is_whole (found.BadRecord fault) = false
 is_whole found.OtherStamp = false
 is_whole (found.BadMoves place) = false
 is_whole (found.BadVerdict verdict) = false
+
+-- a record that is whole is told with its own number of moves and verdict
+abbrev pub IsOfRecord : Records → Finding → Type 0
+IsOfRecord r (found.Whole count verdict) = (count ≡ length r.moves) × (verdict ≡ r.verdict)
+IsOfRecord r (found.BadRecord fault) = Unit {0}
+IsOfRecord r found.OtherStamp = Unit {0}
+IsOfRecord r (found.BadMoves place) = Unit {0}
+IsOfRecord r (found.BadVerdict verdict) = Unit {0}
 
 -- the refusal of bytes that are no record
 abbrev pub refused_record : RecordFault → List ℕ

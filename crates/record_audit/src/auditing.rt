@@ -8,7 +8,7 @@ ghost use Rattle.judge_core.specs.Standings.{ListsMovesInGame};
 ghost use Rattle.arbiter_core.specs.Opens.{IsBadKept, IsOfGame};
 ghost use Rattle.arbiter_core.specs.declared.fault.OpenFault.TheVariants as OpenFault;
 ghost use Rattle.record_audit.specs.Findings.{AreCompared, AreOfOneGame, IsComparison, IsFound, agree, is_whole};
-ghost use Rattle.record_audit.specs.Findings.{IsAuditedAs, rules_of};
+ghost use Rattle.record_audit.specs.Findings.{IsAuditedAs, IsOfRecord, rules_of, rules_with};
 ghost use Rattle.record_audit.specs.Inside.Auditing.{ArePartedAt, EndsPart, IsFoundBy, IsHeldTo, PartsAfter};
 
 use arbiter_server::verdict_or_none;
@@ -113,6 +113,25 @@ pub struct Audited {
     pub kept: Option<Record>,
 }
 
+/// The finding on a record of a game from this start, by the moves and the verdict alone: the game is that of the record's stamp and
+/// delay. The error comes only where memory is refused.
+pub fn judge_moves(
+    alloc: Global,
+    set: &mut Set<'_>,
+    start: &Position,
+    kept: &Record,
+) -> Result<Finding, AllocError>
+    requires { kept.now.delay ≤ most_delay }
+    ensures found { IfOk result (λ finding. (bytes : List ℕ) → SpellsRecord bytes kept.now → IsFound (rules_with start.now set.old.tables kept.now) kept.now.stamp bytes finding) }
+    ensures own { IfOk result (IsOfRecord kept.now) }
+    ensures memory { OnErr result (ListsMovesInGame (rules_with start.now set.old.tables kept.now) kept.now.moves) }
+    ensures same { set.new ≡ set.old }
+{
+    let moves = kept.moves.as_slice();
+    let outcome = set.judge_game(alloc, start, moves, kept.delay)?;
+    Ok(found_by(outcome, moves.len(), kept.verdict))
+}
+
 /// The finding on a record.
 fn judge_record(
     alloc: Global,
@@ -127,11 +146,7 @@ fn judge_record(
     if kept.stamp != auditor.stamp || kept.delay != auditor.delay {
         return Ok(Finding::OtherStamp);
     }
-    let moves = kept.moves.as_slice();
-    let outcome = auditor
-        .set
-        .judge_game(alloc, &auditor.start, moves, auditor.delay)?;
-    Ok(found_by(outcome, moves.len(), kept.verdict))
+    judge_moves(alloc, &mut auditor.set, &auditor.start, kept)
 }
 
 /// The finding on a file's bytes, and their record. The error comes only where an opening over these bytes may want memory.

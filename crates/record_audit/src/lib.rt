@@ -9,6 +9,7 @@
 //!
 //! - CLAIM: `audit`, clauses `found`, `spelled`, `none`, `memory`: the finding is `Whole` exactly where an arbiter of the game
 //!   resumes from the bytes, or else why it refuses them. Memory may be refused only where an opening may want it.
+//! - CLAIM: `judge_moves`, clauses `found`, `own`, `memory`: the same of a record whose stamp and delay are the game's.
 //! - CLAIM: `compare_files`; `are_whole_and_agree`: two files that both spell records part at the first ply at which their moves
 //!   or verdicts do; records of different games part at ply 0.
 #![tactic(auto)]
@@ -17,4 +18,5 @@ mod auditing;
 
 pub use auditing::{
     Audited, Auditor, Finding, are_whole_and_agree, audit, compare_files, compare_records,
+    judge_moves,
 };

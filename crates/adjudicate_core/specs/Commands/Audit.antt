@@ -28,6 +28,8 @@ rules =
     ∷ rule_of_form form.Option (codes "tables")
     ∷ rule_of_form form.Option (codes "manifest")
     ∷ rule_of_form form.Option (codes "delay")
+    ∷ rule_of_form form.Option (codes "games")
+    ∷ rule_of_form form.Option (codes "other")
     ∷ rule_of_form form.Word (codes "FILE")
     ∷ rule_of_form form.Word (codes "OTHER") ∷ []
 

@@ -50,7 +50,7 @@ pub struct Audit<'a> {
 }
 
 /// The values of `audit`.
-pub(crate) const VALUES: [Value; 7] = [
+pub(crate) const VALUES: [Value; 9] = [
     Value {
         name: "name",
         form: Form::Option,
@@ -69,6 +69,14 @@ pub(crate) const VALUES: [Value; 7] = [
     },
     Value {
         name: "delay",
+        form: Form::Option,
+    },
+    Value {
+        name: "games",
+        form: Form::Option,
+    },
+    Value {
+        name: "other",
         form: Form::Option,
     },
     Value {

@@ -4,7 +4,7 @@ use Rattle.move_msg.specs.declared.record_bytes.Record.{Record as Records}
 use Rattle.move_msg.specs.Records.{IsFirstRecordFault, SpellsRecord}
 use Rattle.game_status.specs.declared.entry.Entry.{Entry}
 use Rattle.game_status.specs.declared.entry.EntryFault.{EntryFault}
-use Rattle.game_status.specs.declared.entry.EntryFault.TheVariants.{NoGame, BadGame, Keeper, BadRecord, OtherStamp}
+use Rattle.game_status.specs.declared.entry.EntryFault.TheVariants.{NoGame, BadGame, Keeper, BadRecord, OtherStamp, OtherGame}
 use Rattle.game_status.specs.declared.side.Side.{Side}
 use Rattle.game_status.specs.Sides.{IsOfStamp, IsRecorded}
 
@@ -15,6 +15,7 @@ IsNoRecordOf bytes stamp delay (BadGame fault) = ⊥
 IsNoRecordOf bytes stamp delay Keeper = ⊥
 IsNoRecordOf bytes stamp delay (BadRecord fault) = IsFirstRecordFault bytes fault
 IsNoRecordOf bytes stamp delay OtherStamp = (r : Records) × SpellsRecord bytes r × (IsOfStamp r stamp delay → ⊥)
+IsNoRecordOf bytes stamp delay OtherGame = ⊥
 
 -- the side has the game and the record of the entry
 pub record AreSides (e : Entry) (stamp : List ℕ) (s : Side) : Type 0 where

@@ -40,6 +40,9 @@ returns-in-Record g c = record { answered = rw c.in-Record.is c.answer-in-Record
 pub returns-in-Audit : goal.returns-in-Audit
 returns-in-Audit g c = record { answered = rw c.in-Audit.is (once c.answer-in-Audit.result _ c.answer-in-Audit.ensures.ok c.put_answered-in-Audit.result _ _ c.put_answered-in-Audit.ensures _ c.answer-in-Audit.ensures.memory); quiet = λ unasked. inl refl }
 
+pub returns-in-AuditGames : goal.returns-in-AuditGames
+returns-in-AuditGames g c = record { answered = rw c.in-AuditGames.is c.answer-in-AuditGames.ensures; quiet = λ unasked. inl refl }
+
 pub returns-in-Version : goal.returns-in-Version
 returns-in-Version g c = record { answered = rw c.in-Version.is c.answer-in-Version.ensures; quiet = λ unasked. inl refl }
 

@@ -36,6 +36,9 @@ returns-in-Record c = rw c.in-Record.is c.places-in-Record.ensures
 pub returns-in-Audit : goal.returns-in-Audit
 returns-in-Audit c = rw c.in-Audit.is c.places-in-Audit.ensures
 
+pub returns-in-AuditGames : goal.returns-in-AuditGames
+returns-in-AuditGames c = rw c.in-AuditGames.is c.places-in-AuditGames.ensures
+
 pub returns-in-Root : goal.returns-in-Root
 returns-in-Root c = rw c.in-Root.is c.places-in-Root.ensures
 

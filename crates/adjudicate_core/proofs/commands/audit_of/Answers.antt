@@ -1,0 +1,13 @@
+use Rattle.std.proofs.Common.{ap, sym, ◌∙◌}
+use Rattle.std.specs.Prelude.{option_map}
+use Rattle.adjudicate_core.proofs.AuditGameLaws.{has_some}
+use Rattle.adjudicate_core.proofs.commands.audit_of.Goals as goal
+
+pub audit_of_folders-requires : goal.audit_of_folders-requires
+audit_of_folders-requires c = λ none. has_some _ _ (sym (ap (option_map (λ s. s.now)) c.in-Some.is) ∙ c.get_str.ensures) none.0
+
+pub audit_of_folders-in-Some-2-requires : goal.audit_of_folders-in-Some-2-requires
+audit_of_folders-in-Some-2-requires c = λ none. ?
+
+pub audit_of_files-requires : goal.audit_of_files-requires
+audit_of_files-requires c = ?

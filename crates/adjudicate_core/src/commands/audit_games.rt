@@ -1,0 +1,122 @@
+//! `audit --games`: the audit of the games of a folder, or of two.
+
+ghost use Rattle.std.specs.Prelude.{◌≡◌, IfErr, IfOk, None, OnOk, Ok, codes};
+ghost use Rattle.clap.specs.Words.{first_value, found_of};
+ghost use Rattle.adjudicate_core.specs.Commands.AuditGames.{HasValues, LacksGameWords, Puts, PutsAudit, faults, named, without_faults};
+ghost use Rattle.adjudicate_core.specs.Looks.{gathered};
+ghost use Rattle.adjudicate_core.specs.Misuses.{AreWell, IsFirst, fault_words};
+ghost use Rattle.task_files.specs.Sources.{named_by};
+
+use crate::answers::status_if;
+use crate::lines::put_refusal;
+use crate::numbers::CacheSize;
+use crate::refusals::Refusal;
+use crate::tables::gather;
+use crate::usage::{Instead, ValueFault};
+use crate::values::{option_in, without, without_word};
+use clap::ArgMatches;
+use game_status::{AuditTables, tell_audit};
+use judge_core::Set;
+use move_msg::manifest_of;
+use std::alloc::Global;
+use std::io::Write;
+use system_io::{Disk, WriteFault};
+use task_files::{Places, Sources};
+
+/// The audit of the games of a folder.
+#[derive(Clone, Copy)]
+pub struct AuditGames<'a> {
+    /// The folder.
+    pub games: &'a str,
+    /// A second one, if it is named.
+    pub other: Option<&'a str>,
+    /// The folder of the tables.
+    pub tables: &'a str,
+    /// The file of the manifest that the tables are held to, if one is named.
+    pub manifest: Option<&'a str>,
+}
+
+/// That the words tell no game and name no kept file.
+fn no_game_in<'a>(matches: &ArgMatches<'a>) -> Result<(), ValueFault<'a>>
+    ensures ok { OnOk result (LacksGameWords (first_value (found_of matches.now))) }
+    ensures well { OnOk result (AreWell (first_value (found_of matches.now)) without_faults) }
+    ensures err { IfErr result (λ fault. IsFirst (first_value (found_of matches.now)) without_faults (fault_words fault)) }
+{
+    without(matches, "name", Instead::Games)?;
+    without(matches, "start", Instead::Games)?;
+    without(matches, "delay", Instead::Games)?;
+    without_word(matches, "FILE", Instead::Games)
+}
+
+impl<'a> AuditGames<'a> {
+    /// The task with these values, or the first thing that is wrong with them.
+    pub(crate) fn of(matches: &ArgMatches<'a>) -> Result<AuditGames<'a>, ValueFault<'a>>
+        ensures ok { IfOk result (HasValues (first_value (found_of matches.now))) }
+        ensures err { IfErr result (λ fault. IsFirst (first_value (found_of matches.now)) faults (fault_words fault)) }
+    {
+        let games = option_in(matches, "games")?;
+        no_game_in(matches)?;
+        Ok(AuditGames {
+            games,
+            other: matches.get_str("other"),
+            tables: option_in(matches, "tables")?,
+            manifest: matches.get_str("manifest"),
+        })
+    }
+
+    /// What is read for it before it answers: not its folders of games, which it reads itself.
+    pub(crate) fn places(&self) -> Places<'a>
+        ensures { named_by result ≡ named self.now }
+    {
+        Places {
+            folder: Some(self.tables),
+            manifest: self.manifest,
+            reads_input: false,
+            kept: None,
+            other_kept: None,
+        }
+    }
+
+    /// Audits the games by these tables of the files, and returns the status.
+    fn answer_by<D: Disk, W: Write>(
+        &self,
+        alloc: Global,
+        sources: &Sources,
+        set: Set<'_>,
+        disk: &D,
+        out: &mut W,
+    ) -> Result<u8, WriteFault>
+        requires { Ok set.tables ≡ gathered sources.now }
+        ensures { IfOk result (Puts (D.facts disk.now) self.now sources.now (W.contents out.old) (W.contents out.new)) }
+    {
+        let Ok(manifest) = manifest_of(alloc, sources.files()) else {
+            return put_refusal(out, Refusal::Memory);
+        };
+        let tables = AuditTables {
+            set,
+            manifest: &manifest,
+        };
+        match tell_audit(alloc, disk, tables, self.games, self.other, out) {
+            Ok(done) => Ok(status_if(done)),
+            Err(fault) => Err(fault),
+        }
+    }
+
+    /// Audits the games of the folders, as `game_status::tell_audit` has it, by the tables of the files. Returns the status, 0 where
+    /// nothing is at fault and nothing differs, else 1. The tables are refused first.
+    pub(crate) fn answer<D: Disk, W: Write>(
+        &self,
+        alloc: Global,
+        sources: &Sources,
+        disk: &D,
+        out: &mut W,
+    ) -> Result<u8, WriteFault>
+        ensures { IfOk result (Puts (D.facts disk.now) self.now sources.now (W.contents out.old) (W.contents out.new)) }
+    {
+        match gather(alloc, sources, CacheSize::usual()) {
+            Ok(Ok(set)) => self.answer_by(alloc, sources, set, disk, out),
+            Ok(Err(refusal)) => put_refusal(out, refusal),
+            Err(_) => put_refusal(out, Refusal::Memory),
+        }
+    }
+}
