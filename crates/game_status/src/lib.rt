@@ -2,20 +2,23 @@
 //!
 //! A game is one whose file a folder lists as `STAMP.game`; its record is `STAMP.kept`, where that is listed too. `tell_status` lists
 //! the folders, reads of one game after the other its file and its record, and writes a line for each and then their sums. No move is
-//! judged and no table is read. Memory is that of the names of a folder, of the stamps, and of one game.
+//! judged and no table is read. `tell_audit` also judges each record by a set of tables. Memory is that of the names of a folder, of
+//! the stamps, and of one game.
 //!
 //! Inside: `listing` (the stamps that names tell), `entry` (a game's file and the bytes of its record), `side` (the record),
-//! `comparing` (two records), `status_lines`, `telling` (games in turn, and sums: `GameTeller`), `status`.
+//! `comparing` (two records), `status_lines`, `telling` (games in turn, and sums: `GameTeller`), `status`; `audit_lines`, `game_audit`.
 //!
 //! Definitions, in reading order: `Listings` (`AreListed`), `Entries` (`HasEntry`, `LacksEntry`), `Sides` (`HasSide`, `LacksSide`),
-//! `Comparisons` (`IsComparedAs`), `Tellings` (`TellsGames`, `TellsFolders`), `Statuses` (`IsStatus`, `TellsStatus`). Its cases stand in
-//! `status.txt` of `rows`.
+//! `Comparisons` (`IsComparedAs`), `Tellings` (`TellsGames`, `TellsFolders`), `Statuses` (`IsStatus`, `TellsStatus`), `GameAudits`
+//! (`TellsAudit`). Its cases stand in `status.txt` and `game_audits.txt` of `rows`.
 //!
 //! - CLAIM: `tell_status`: each stamp whose file a folder lists is told, once and in rising order, by what the folder's files have:
 //!   the moves and the verdict of its record, that none is listed, or the first fault. Of two folders the line says whether the
-//!   records agree, by how many moves one is behind, or the first ply at which they part. The sums count these lines, and nothing is
-//!   well that is at fault or differs. `refused files` comes alone, and only where a folder can't be listed. Refused memory has no
-//!   cause; the whole lines before it stay.
+//!   records agree, by how many moves one is behind, or the first ply at which they part; two files that tell two games are a fault.
+//!   The sums count these lines, and nothing is well that is at fault or differs. `refused files` comes alone, and only where a folder
+//!   can't be listed. Refused memory has no cause; the whole lines before it stay.
+//! - CLAIM: `tell_audit`: the same games, whose files have to be those of their stamps by the tables; a game is well only where an
+//!   arbiter of it resumes from each of its records, and both are equal; nothing kept is no fault.
 #![tactic(auto)]
 
 mod audit_lines;
