@@ -1,14 +1,14 @@
 //! `audit --games`: the audit of the games of a folder, or of two.
 
-ghost use Rattle.std.specs.Prelude.{◌≡◌, IfErr, IfOk, None, OnOk, Ok, codes};
+ghost use Rattle.std.specs.Prelude.{◌≡◌, IfErr, IfOk, None, OnOk, codes};
 ghost use Rattle.clap.specs.Words.{first_value, found_of};
-ghost use Rattle.adjudicate_core.specs.Commands.AuditGames.{HasValues, LacksGameWords, Puts, PutsAudit, faults, named, without_faults};
-ghost use Rattle.adjudicate_core.specs.Looks.{gathered};
+ghost use Rattle.adjudicate_core.specs.Commands.AuditGames.{HasValues, LacksGameWords, Puts, faults, named, without_faults};
 ghost use Rattle.adjudicate_core.specs.Misuses.{AreWell, IsFirst, fault_words};
 ghost use Rattle.task_files.specs.Sources.{named_by};
 
 use crate::answers::status_if;
 use crate::lines::put_refusal;
+use crate::listening::manifest_for;
 use crate::numbers::CacheSize;
 use crate::refusals::Refusal;
 use crate::tables::gather;
@@ -16,8 +16,6 @@ use crate::usage::{Instead, ValueFault};
 use crate::values::{option_in, without, without_word};
 use clap::ArgMatches;
 use game_status::{AuditTables, tell_audit};
-use judge_core::Set;
-use move_msg::manifest_of;
 use std::alloc::Global;
 use std::io::Write;
 use system_io::{Disk, WriteFault};
@@ -77,31 +75,6 @@ impl<'a> AuditGames<'a> {
         }
     }
 
-    /// Audits the games by these tables of the files, and returns the status.
-    fn answer_by<D: Disk, W: Write>(
-        &self,
-        alloc: Global,
-        sources: &Sources,
-        set: Set<'_>,
-        disk: &D,
-        out: &mut W,
-    ) -> Result<u8, WriteFault>
-        requires { Ok set.tables ≡ gathered sources.now }
-        ensures { IfOk result (Puts (D.facts disk.now) self.now sources.now (W.contents out.old) (W.contents out.new)) }
-    {
-        let Ok(manifest) = manifest_of(alloc, sources.files()) else {
-            return put_refusal(out, Refusal::Memory);
-        };
-        let tables = AuditTables {
-            set,
-            manifest: &manifest,
-        };
-        match tell_audit(alloc, disk, tables, self.games, self.other, out) {
-            Ok(done) => Ok(status_if(done)),
-            Err(fault) => Err(fault),
-        }
-    }
-
     /// Audits the games of the folders, as `game_status::tell_audit` has it, by the tables of the files. Returns the status, 0 where
     /// nothing is at fault and nothing differs, else 1. The tables are refused first.
     pub(crate) fn answer<D: Disk, W: Write>(
@@ -113,10 +86,22 @@ impl<'a> AuditGames<'a> {
     ) -> Result<u8, WriteFault>
         ensures { IfOk result (Puts (D.facts disk.now) self.now sources.now (W.contents out.old) (W.contents out.new)) }
     {
-        match gather(alloc, sources, CacheSize::usual()) {
-            Ok(Ok(set)) => self.answer_by(alloc, sources, set, disk, out),
-            Ok(Err(refusal)) => put_refusal(out, refusal),
-            Err(_) => put_refusal(out, Refusal::Memory),
+        let set = match gather(alloc, sources, CacheSize::usual()) {
+            Ok(Ok(set)) => set,
+            Ok(Err(refusal)) => return put_refusal(out, refusal),
+            Err(_) => return put_refusal(out, Refusal::Memory),
+        };
+        let manifest = match manifest_for(alloc, sources) {
+            Ok(manifest) => manifest,
+            Err(_) => return put_refusal(out, Refusal::Memory),
+        };
+        let tables = AuditTables {
+            set,
+            manifest: &manifest,
+        };
+        match tell_audit(alloc, disk, tables, self.games, self.other, out) {
+            Ok(done) => Ok(status_if(done)),
+            Err(fault) => Err(fault),
         }
     }
 }

@@ -7,7 +7,7 @@ pub audit_of_folders-requires : goal.audit_of_folders-requires
 audit_of_folders-requires c = λ none. has_some _ _ (sym (ap (option_map (λ s. s.now)) c.in-Some.is) ∙ c.get_str.ensures) none.0
 
 pub audit_of_folders-in-Some-2-requires : goal.audit_of_folders-in-Some-2-requires
-audit_of_folders-in-Some-2-requires c = λ none. ?
+audit_of_folders-in-Some-2-requires c = λ none. has_some _ _ (sym (ap (option_map (λ s. s.now)) c.in-Some-2.is) ∙ c.get_str-in-None.ensures) none.1
 
 pub audit_of_files-requires : goal.audit_of_files-requires
-audit_of_files-requires c = ?
+audit_of_files-requires c = (sym c.get_str.ensures ∙ ap (option_map (λ s. s.now)) c.in-None.is, sym c.get_str-in-None.ensures ∙ ap (option_map (λ s. s.now)) c.in-None-2.is)
