@@ -222,8 +222,7 @@ fn tell_line_of<E: Output>(
 )
     ensures { TellsLine E.facts E.contents errors.old errors.new (shown_line (front.now ++ middle.now ++ rest.now)) }
 {
-    let told = put_line(errors, front.as_bytes(), middle, rest.as_bytes());
-    match told {
+    match put_line(errors, front.as_bytes(), middle, rest.as_bytes()) {
         Ok(()) => tell_usage_of(alloc, errors, command),
         Err(_) => {}
     }

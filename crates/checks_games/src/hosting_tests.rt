@@ -5,7 +5,7 @@ use crate::comparing::{check_bytes, check_same};
 use crate::playing::{MOVES, below, messages, record_at};
 use crate::positions::{START, position_of};
 use arbiter_core::{Keep, Keeper, MemoryKeeper, name_of};
-use arbiter_server::{Found, Games, Server, ServerConfig, Unopened};
+use arbiter_server::{Found, Games, LineLog, LogForm, Server, ServerConfig, Unopened};
 use board_core::Position;
 use judge_core::Set;
 use move_msg::{Message, Record, Who};
@@ -193,9 +193,10 @@ fn serve(
     };
     let set = Set::new(alloc, 1).expect(rt, "memory");
     let mut server = Server::open(alloc, config, set, folder).expect(rt, "memory");
+    let mut log = LineLog::new(alloc, LogForm::All).expect(rt, "memory");
     let mut lines = Vec::new(alloc);
     server
-        .serve(alloc, port, datagrams, &mut lines)
+        .serve(alloc, port, datagrams, &mut log, &mut lines)
         .expect(rt, "an output")
 }
 

@@ -6,8 +6,8 @@ use Rattle.adjudicate_core.proofs.commands.audit_of.Goals as goal
 pub audit_of_folders-requires : goal.audit_of_folders-requires
 audit_of_folders-requires c = λ none. has_some _ _ (sym (ap (option_map (λ s. s.now)) c.in-Some.is) ∙ c.get_str.ensures) none.0
 
-pub audit_of_folders-in-Some-2-requires : goal.audit_of_folders-in-Some-2-requires
-audit_of_folders-in-Some-2-requires c = λ none. has_some _ _ (sym (ap (option_map (λ s. s.now)) c.in-Some-2.is) ∙ c.get_str-in-None.ensures) none.1
+pub audit_of_folders-requires-in-Some-get_str : goal.audit_of_folders-requires-in-Some-get_str
+audit_of_folders-requires-in-Some-get_str c = λ none. has_some _ _ (sym (ap (option_map (λ s. s.now)) c.in-Some-get_str.is) ∙ c.get_str-in-None.ensures) none.1
 
 pub audit_of_files-requires : goal.audit_of_files-requires
-audit_of_files-requires c = (sym c.get_str.ensures ∙ ap (option_map (λ s. s.now)) c.in-None.is, sym c.get_str-in-None.ensures ∙ ap (option_map (λ s. s.now)) c.in-None-2.is)
+audit_of_files-requires c = (sym c.get_str.ensures ∙ ap (option_map (λ s. s.now)) c.in-None.is, sym c.get_str-in-None.ensures ∙ ap (option_map (λ s. s.now)) c.in-None-get_str.is)
