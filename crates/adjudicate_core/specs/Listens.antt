@@ -27,7 +27,8 @@ use Rattle.system_io.specs.KeptFiles.{KeptFacts}
 use Rattle.system_io.specs.declared.reading.ReadFault.TheVariants as read
 use Rattle.system_io.specs.declared.host.BindFault.TheVariants as bind
 use Rattle.system_io.specs.declared.host.LockFault.TheVariants as lock
-use Rattle.system_io.specs.Hosts.{HostFacts}
+use Rattle.system_io.specs.Histories.{Passes}
+use Rattle.system_io.specs.Hosts.{FileAt, HostFacts, LockAt, Made, PortAt}
 use Rattle.system_io.specs.declared.output.WriteFault.{WriteFault}
 use Rattle.arbiter_server.specs.ServedLines.{refused_keeper, refused_port}
 use Rattle.line_teller.specs.ToldLines.{refused_memory}
@@ -91,16 +92,16 @@ pub data KeepsAndServes {F : Type 0} (facts : F → KeptFacts) (S : ServesBy F) 
   Kept : (keeper after : FileKeeper F) → StartsOver facts file keeper → OpensAndServes facts S l setup (scene keeper port old) (scene after port' new) r → KeepsAndServes facts S l setup file port port' old new r
 
 -- at a port, over the file at the path of the words
-pub data ServesLocked {P F : Type 0} (host : Hosted P F) (S : ServesBy F) (l : Listen) (setup : SetupView) (port port' : PortFacts) (old new : Option (List ℕ)) (r : Result ℕ WriteFault) : Type 0 where
-  AtFile : (file : F) → host.host.is_at l.kept.now file → KeepsAndServes host.file S l setup file port port' old new r → ServesLocked host S l setup port port' old new r
-  NoRoomForFile : host.host.takes_memory l.kept.now → Passed port port' [] → TellsIf refused_memory old new r → ServesLocked host S l setup port port' old new r
+pub data ServesLocked {P F : Type 0} (host : Hosted P F) (S : ServesBy F) (l : Listen) (setup : SetupView) (had has : Option (List Made)) (port port' : PortFacts) (old new : Option (List ℕ)) (r : Result ℕ WriteFault) : Type 0 where
+  AtFile : Passes had has (FileAt l.kept.now ∷ []) → (file : F) → host.host.is_at l.kept.now file → KeepsAndServes host.file S l setup file port port' old new r → ServesLocked host S l setup had has port port' old new r
+  NoRoomForFile : Passes had has [] → host.host.takes_memory l.kept.now → Passed port port' [] → TellsIf refused_memory old new r → ServesLocked host S l setup had has port port' old new r
 
 -- that file is another process's, or can't be locked; or it is locked, and what follows is under its lock
-pub data ServesAt {P F : Type 0} (host : Hosted P F) (S : ServesBy F) (l : Listen) (setup : SetupView) (port port' : PortFacts) (old new : Option (List ℕ)) (r : Result ℕ WriteFault) : Type 0 where
-  InUse : host.host.bars (kept_lock l.kept.now) lock.Held → Passed port port' [] → TellsIf refused_in_use old new r → ServesAt host S l setup port port' old new r
-  NoLock : host.host.bars (kept_lock l.kept.now) lock.Failed → Passed port port' [] → TellsIf refused_keeper old new r → ServesAt host S l setup port port' old new r
-  NoRoomToLock : Passed port port' [] → TellsIf refused_memory old new r → ServesAt host S l setup port port' old new r
-  Locked : host.host.gives_lock (kept_lock l.kept.now) → ServesLocked host S l setup port port' old new r → ServesAt host S l setup port port' old new r
+pub data ServesAt {P F : Type 0} (host : Hosted P F) (S : ServesBy F) (l : Listen) (setup : SetupView) (had has : Option (List Made)) (port port' : PortFacts) (old new : Option (List ℕ)) (r : Result ℕ WriteFault) : Type 0 where
+  InUse : Passes had has [] → host.host.bars (kept_lock l.kept.now) lock.Held → Passed port port' [] → TellsIf refused_in_use old new r → ServesAt host S l setup had has port port' old new r
+  NoLock : Passes had has [] → host.host.bars (kept_lock l.kept.now) lock.Failed → Passed port port' [] → TellsIf refused_keeper old new r → ServesAt host S l setup had has port port' old new r
+  NoRoomToLock : Passes had has [] → Passed port port' [] → TellsIf refused_memory old new r → ServesAt host S l setup had has port port' old new r
+  Locked : (then : Option (List Made)) → Passes had then (LockAt (kept_lock l.kept.now) ∷ []) → host.host.gives_lock (kept_lock l.kept.now) → ServesLocked host S l setup then has port port' old new r → ServesAt host S l setup had has port port' old new r
 
 -- memory for binding is refused: by the host, or for a list of more than one address
 abbrev pub LacksRoomToBind : {P F : Type 0} → HostFacts P F → List ℕ → List ℕ → Type 0
@@ -132,26 +133,26 @@ seen_by facts w r = record { written = w.written; told = λ out line now. GoOut 
 
 -- at a port that is bound: the address at which it listens isn't wanted; or it isn't told; or its line goes out before all else; or
 -- that is cut short
-pub data StartsAt {P F T : Type 0} (host : Hosted P F) (seen : Seen F T) (l : Listen) (setup : SetupView) (port : P) (port' : PortFacts) (old new : T) (r : Result ℕ WriteFault) : Type 0 where
-  Unasked : l.ready ≡ false → ServesAt host (seen.serves old new) l setup (host.port port) port' (seen.written old) (seen.written new) r → StartsAt host seen l setup port port' old new r
-  NoAddress : l.ready ≡ true → host.host.listens port None → Passed (host.port port) port' [] → TellsIf refused_port (seen.written old) (seen.written new) r → StartsAt host seen l setup port port' old new r
-  NoRoomForLine : l.ready ≡ true → Passed (host.port port) port' [] → TellsIf refused_memory (seen.written old) (seen.written new) r → StartsAt host seen l setup port port' old new r
-  Ready : l.ready ≡ true → (own : SocketAddr) → host.host.listens port (Some own) → (mid : T) → seen.told old (ready_words own) mid → ServesAt host (seen.serves mid new) l setup (host.port port) port' (seen.written mid) (seen.written new) r → StartsAt host seen l setup port port' old new r
-  Unready : l.ready ≡ true → (own : SocketAddr) → host.host.listens port (Some own) → Passed (host.port port) port' [] → seen.cut old (ready_words own) new → (fault : WriteFault) → r ≡ Err fault → StartsAt host seen l setup port port' old new r
+pub data StartsAt {P F T : Type 0} (host : Hosted P F) (seen : Seen F T) (l : Listen) (setup : SetupView) (had has : Option (List Made)) (port : P) (port' : PortFacts) (old new : T) (r : Result ℕ WriteFault) : Type 0 where
+  Unasked : l.ready ≡ false → ServesAt host (seen.serves old new) l setup had has (host.port port) port' (seen.written old) (seen.written new) r → StartsAt host seen l setup had has port port' old new r
+  NoAddress : Passes had has [] → l.ready ≡ true → host.host.listens port None → Passed (host.port port) port' [] → TellsIf refused_port (seen.written old) (seen.written new) r → StartsAt host seen l setup had has port port' old new r
+  NoRoomForLine : Passes had has [] → l.ready ≡ true → Passed (host.port port) port' [] → TellsIf refused_memory (seen.written old) (seen.written new) r → StartsAt host seen l setup had has port port' old new r
+  Ready : l.ready ≡ true → (own : SocketAddr) → host.host.listens port (Some own) → (mid : T) → seen.told old (ready_words own) mid → ServesAt host (seen.serves mid new) l setup had has (host.port port) port' (seen.written mid) (seen.written new) r → StartsAt host seen l setup had has port port' old new r
+  Unready : Passes had has [] → l.ready ≡ true → (own : SocketAddr) → host.host.listens port (Some own) → Passed (host.port port) port' [] → seen.cut old (ready_words own) new → (fault : WriteFault) → r ≡ Err fault → StartsAt host seen l setup had has port port' old new r
 
 -- with these tables: the port can't be bound; or it is, sends to each of the addresses, and the record is kept in the file at the path
-pub data BindsAndServes {P F T : Type 0} (host : Hosted P F) (seen : Seen F T) (l : Listen) (setup : SetupView) (old new : T) (r : Result ℕ WriteFault) : Type 0 where
-  Unbound : host.host.refuses l.bind.now bind.Unbound → TellsIf refused_port (seen.written old) (seen.written new) r → BindsAndServes host seen l setup old new r
-  NoRoomToBind : LacksRoomToBind host.host l.bind.now l.to.now → TellsIf refused_memory (seen.written old) (seen.written new) r → BindsAndServes host seen l setup old new r
-  Bound : (port port' : P) → host.host.binds l.bind.now (addresses_of l.to.now) port → (host.port port).addresses ≡ length (addresses_of l.to.now) → StartsAt host seen l setup port (host.port port') old new r → BindsAndServes host seen l setup old new r
+pub data BindsAndServes {P F T : Type 0} (host : Hosted P F) (seen : Seen F T) (l : Listen) (setup : SetupView) (had has : Option (List Made)) (old new : T) (r : Result ℕ WriteFault) : Type 0 where
+  Unbound : Passes had has [] → host.host.refuses l.bind.now bind.Unbound → TellsIf refused_port (seen.written old) (seen.written new) r → BindsAndServes host seen l setup had has old new r
+  NoRoomToBind : Passes had has [] → LacksRoomToBind host.host l.bind.now l.to.now → TellsIf refused_memory (seen.written old) (seen.written new) r → BindsAndServes host seen l setup had has old new r
+  Bound : (then : Option (List Made)) → Passes had then (PortAt l.bind.now (addresses_of l.to.now) ∷ []) → (port port' : P) → host.host.binds l.bind.now (addresses_of l.to.now) port → (host.port port).addresses ≡ length (addresses_of l.to.now) → StartsAt host seen l setup then has port (host.port port') old new r → BindsAndServes host seen l setup had has old new r
 
 -- listening: the text of the start is no position; or else a table is refused; or else what follows, with the manifest of the
--- tables' files
-pub data Listens {P F T : Type 0} (host : Hosted P F) (seen : Seen F T) (l : Listen) (given : Given) (old new : T) (r : Result ℕ WriteFault) : Type 0 where
-  BadStart : (fault : FenFault) → IsFirstFenFault l.start.now fault → TellsIf (refused_fen fault) (seen.written old) (seen.written new) r → Listens host seen l given old new r
-  BadTables : IsText l.start.now → (words : List ℕ) → gathered given ≡ Err words → TellsIf words (seen.written old) (seen.written new) r → Listens host seen l given old new r
-  NoRoom : IsText l.start.now → TellsIf refused_memory (seen.written old) (seen.written new) r → Listens host seen l given old new r
-  Opened : (start : Parts) → SpellsPosition l.start.now start → IsPosition start → (set : Holding) → Ok set.tables ≡ gathered given → (manifest : List ℕ) → SpellsManifest manifest (entries_of given.files) → BindsAndServes host seen l (setup_for l start set manifest) old new r → Listens host seen l given old new r
+-- tables' files. What the host has made before and after it is in its history: the port, the lock and the file, in this order.
+pub data Listens {P F T : Type 0} (host : Hosted P F) (seen : Seen F T) (l : Listen) (given : Given) (had has : Option (List Made)) (old new : T) (r : Result ℕ WriteFault) : Type 0 where
+  BadStart : Passes had has [] → (fault : FenFault) → IsFirstFenFault l.start.now fault → TellsIf (refused_fen fault) (seen.written old) (seen.written new) r → Listens host seen l given had has old new r
+  BadTables : Passes had has [] → IsText l.start.now → (words : List ℕ) → gathered given ≡ Err words → TellsIf words (seen.written old) (seen.written new) r → Listens host seen l given had has old new r
+  NoRoom : Passes had has [] → IsText l.start.now → TellsIf refused_memory (seen.written old) (seen.written new) r → Listens host seen l given had has old new r
+  Opened : (start : Parts) → SpellsPosition l.start.now start → IsPosition start → (set : Holding) → Ok set.tables ≡ gathered given → (manifest : List ℕ) → SpellsManifest manifest (entries_of given.files) → BindsAndServes host seen l (setup_for l start set manifest) had has old new r → Listens host seen l given had has old new r
 
 -- ---- with the writer
 

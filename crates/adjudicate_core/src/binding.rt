@@ -1,6 +1,8 @@
 //! Ports bound to one address that send to the addresses of a word.
 
 ghost use Rattle.std.specs.Prelude.{◌≡◌, ◌<◌, length, IfErr, IfOk};
+ghost use Rattle.system_io.specs.Histories.{Passes};
+ghost use Rattle.system_io.specs.Hosts.{PortAt, if_made};
 ghost use Rattle.adjudicate_core.specs.Addresses.{addresses_of};
 ghost use Rattle.adjudicate_core.specs.Inside.Binding.{CannotBind};
 
@@ -12,6 +14,7 @@ use system_io::{BindFault, Host};
 fn bind_to_all<H: Host>(
     alloc: Global,
     host: &H,
+    history: &mut H::History,
     address: &str,
     to: &str,
 ) -> Result<H::Port, BindFault>
@@ -19,11 +22,12 @@ fn bind_to_all<H: Host>(
     ensures bound { IfOk result ((H.facts host.now).binds address.now (addresses_of to.now)) }
     ensures each { IfOk result (λ port. (H.Port.facts port).addresses ≡ length (addresses_of to.now)) }
     ensures cause { IfErr result (CannotBind (H.facts host.now) address.now to.now) }
+    ensures made { Passes (H.made history.old) (H.made history.new) (if_made result (PortAt address.now (addresses_of to.now))) }
 {
     let Ok(addresses) = addresses_in(alloc, to) else {
         return Err(BindFault::OutOfMemory);
     };
-    match host.bind(alloc, address, &addresses) {
+    match host.bind(alloc, history, address, &addresses) {
         Ok(port) => Ok(port),
         Err(fault) => Err(fault),
     }
@@ -34,18 +38,20 @@ fn bind_to_all<H: Host>(
 pub(crate) fn bind<H: Host>(
     alloc: Global,
     host: &H,
+    history: &mut H::History,
     address: &str,
     to: &str,
 ) -> Result<H::Port, BindFault>
     ensures bound { IfOk result ((H.facts host.now).binds address.now (addresses_of to.now)) }
     ensures each { IfOk result (λ port. (H.Port.facts port).addresses ≡ length (addresses_of to.now)) }
     ensures cause { IfErr result (CannotBind (H.facts host.now) address.now to.now) }
+    ensures made { Passes (H.made history.old) (H.made history.new) (if_made result (PortAt address.now (addresses_of to.now))) }
 {
     if is_one(to) {
-        return match host.bind(alloc, address, &[to]) {
+        return match host.bind(alloc, history, address, &[to]) {
             Ok(port) => Ok(port),
             Err(fault) => Err(fault),
         };
     }
-    bind_to_all(alloc, host, address, to)
+    bind_to_all(alloc, host, history, address, to)
 }

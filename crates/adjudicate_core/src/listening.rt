@@ -8,6 +8,7 @@ ghost use Rattle.move_msg.specs.Manifests.{SpellsManifest};
 ghost use Rattle.move_msg.specs.TextLines.{ended};
 ghost use Rattle.arbiter_core.specs.Setups.{setup_view};
 ghost use Rattle.adjudicate_core.specs.Listens.{BindsAndWrites, KeepsAndWrites, LacksAddress, ListensAndWrites, LockedAndWrites, OpensAndWrites, StartsAndWrites, TellsAddress, TellsUnopened, WritesAt, hosted};
+ghost use Rattle.adjudicate_core.specs.Inside.ListeningParts.{way};
 ghost use Rattle.adjudicate_core.specs.Lines.{ready_words};
 ghost use Rattle.arbiter_server.specs.GoingOut.{writers};
 ghost use Rattle.arbiter_server.specs.StoredBytes.{IsInFile};
@@ -28,6 +29,13 @@ use std::alloc::{AllocError, Global};
 use std::net::SocketAddr;
 use system_io::{BindFault, Host, KeptFile, Output, Port, ReadFault, WriteFault};
 use task_files::Sources;
+
+/// What an arbiter listens by: the words, and where its port and its file are opened.
+#[derive(Clone, Copy)]
+struct ListenAt<'l, 'w, H> {
+    listening: &'l Listen<'w>,
+    host: &'l H,
+}
 
 /// Writes that no arbiter is opened: `refused keeper`, or `refused memory` where memory was refused.
 fn put_unopened<W: Output>(fault: OpenFault, out: &mut W) -> Result<u8, WriteFault>
@@ -91,16 +99,16 @@ fn keep_and_serve<F: KeptFile + Drop, P: Port, W: Output>(
 /// Serves over the file that the words name, which is locked.
 fn serve_over<H: Host, W: Output>(
     alloc: Global,
-    listening: &Listen<'_>,
+    at: ListenAt<'_, '_, H>,
     setup: Setup<'_>,
-    host: &H,
+    history: &mut H::History,
     port: &mut H::Port,
     out: &mut W,
 ) -> Result<u8, WriteFault>
-    ensures { LockedAndWrites (hosted (H.facts host.now) H.Port.facts H.File.facts) (writers W.contents W.facts) listening.now (setup_view setup.entry) (H.Port.facts port.old) (H.Port.facts port.new) out.old out.new result }
+    ensures { LockedAndWrites (way H.facts H.Port.facts H.File.facts W.contents W.facts at setup.entry) (H.made history.old) (H.made history.new) (H.Port.facts port.old) (H.Port.facts port.new) out.old out.new result }
 {
-    match host.file(alloc, listening.kept) {
-        Ok(file) => keep_and_serve(alloc, listening, setup, file, port, out),
+    match at.host.file(alloc, history, at.listening.kept) {
+        Ok(file) => keep_and_serve(alloc, at.listening, setup, file, port, out),
         Err(_) => put_refusal(out, Refusal::Memory),
     }
 }
@@ -109,16 +117,16 @@ fn serve_over<H: Host, W: Output>(
 /// `refused in use`, one that can't be locked as `refused keeper`.
 fn serve_at<H: Host, W: Output>(
     alloc: Global,
-    listening: &Listen<'_>,
+    at: ListenAt<'_, '_, H>,
     setup: Setup<'_>,
-    host: &H,
+    history: &mut H::History,
     port: &mut H::Port,
     out: &mut W,
 ) -> Result<u8, WriteFault>
-    ensures { WritesAt (hosted (H.facts host.now) H.Port.facts H.File.facts) (writers W.contents W.facts) listening.now (setup_view setup.entry) (H.Port.facts port.old) (H.Port.facts port.new) out.old out.new result }
+    ensures { WritesAt (way H.facts H.Port.facts H.File.facts W.contents W.facts at setup.entry) (H.made history.old) (H.made history.new) (H.Port.facts port.old) (H.Port.facts port.new) out.old out.new result }
 {
-    match lock(alloc, host, listening.kept, BESIDE_KEPT) {
-        Ok(_lock) => serve_over(alloc, listening, setup, host, port, out),
+    match lock(alloc, at.host, history, at.listening.kept, BESIDE_KEPT) {
+        Ok(_lock) => serve_over(alloc, at, setup, history, port, out),
         Err(refusal) => put_refusal(out, refusal),
     }
 }
@@ -153,23 +161,23 @@ pub(crate) fn ready_line_at<H: Host>(
 /// as `refused port`.
 fn start_at<H: Host, W: Output>(
     alloc: Global,
-    listening: &Listen<'_>,
+    at: ListenAt<'_, '_, H>,
     setup: Setup<'_>,
-    host: &H,
+    history: &mut H::History,
     port: &mut H::Port,
     out: &mut W,
 ) -> Result<u8, WriteFault>
-    ensures { StartsAndWrites (hosted (H.facts host.now) H.Port.facts H.File.facts) (writers W.contents W.facts) listening.now (setup_view setup.entry) port.old (H.Port.facts port.new) out.old out.new result }
+    ensures { StartsAndWrites (way H.facts H.Port.facts H.File.facts W.contents W.facts at setup.entry) (H.made history.old) (H.made history.new) port.old (H.Port.facts port.new) out.old out.new result }
 {
-    if !listening.ready {
-        return serve_at(alloc, listening, setup, host, port, out);
+    if !at.listening.ready {
+        return serve_at(alloc, at, setup, history, port, out);
     }
-    let line = match ready_line_at(alloc, host, port) {
+    let line = match ready_line_at(alloc, at.host, port) {
         Ok(line) => line,
         Err(refusal) => return put_refusal(out, refusal),
     };
     match put_line(out, line.as_str().as_bytes()) {
-        Ok(()) => serve_at(alloc, listening, setup, host, port, out),
+        Ok(()) => serve_at(alloc, at, setup, history, port, out),
         Err(refused) => Err(refused),
     }
 }
@@ -177,15 +185,15 @@ fn start_at<H: Host, W: Output>(
 /// Binds the address that the words name, and serves there. Where it can't be bound, the line is `refused port`.
 fn bind_and_serve<H: Host, W: Output>(
     alloc: Global,
-    listening: &Listen<'_>,
+    at: ListenAt<'_, '_, H>,
     setup: Setup<'_>,
-    host: &H,
+    history: &mut H::History,
     out: &mut W,
 ) -> Result<u8, WriteFault>
-    ensures { BindsAndWrites (hosted (H.facts host.now) H.Port.facts H.File.facts) (writers W.contents W.facts) listening.now (setup_view setup.entry) out.old out.new result }
+    ensures { BindsAndWrites (way H.facts H.Port.facts H.File.facts W.contents W.facts at setup.entry) (H.made history.old) (H.made history.new) out.old out.new result }
 {
-    match bind(alloc, host, listening.bind, listening.to) {
-        Ok(mut port) => start_at(alloc, listening, setup, host, &mut port, out),
+    match bind(alloc, at.host, history, at.listening.bind, at.listening.to) {
+        Ok(mut port) => start_at(alloc, at, setup, history, &mut port, out),
         Err(BindFault::Unbound) => put_refusal(out, Refusal::Port),
         Err(BindFault::OutOfMemory) => put_refusal(out, Refusal::Memory),
     }
@@ -201,15 +209,15 @@ pub(crate) fn manifest_for(alloc: Global, sources: &Sources) -> Result<Vec<u8>, 
 /// Serves the game from this position by the tables and their manifest, on which the stamp depends.
 fn listen_from<H: Host, W: Output>(
     alloc: Global,
-    listening: &Listen<'_>,
+    at: ListenAt<'_, '_, H>,
     sources: &Sources,
     start: Position,
-    host: &H,
+    history: &mut H::History,
     out: &mut W,
 ) -> Result<u8, WriteFault>
-    requires spelled { SpellsPosition listening.now.start.now start }
+    requires spelled { SpellsPosition at.listening.now.start.now start }
     requires position { IsPosition start }
-    ensures { ListensAndWrites (hosted (H.facts host.now) H.Port.facts H.File.facts) (writers W.contents W.facts) listening.now sources.now out.old out.new result }
+    ensures { ListensAndWrites (hosted (H.facts at.host.now) H.Port.facts H.File.facts) (writers W.contents W.facts) at.listening.now sources.now (H.made history.old) (H.made history.new) out.old out.new result }
 {
     let set = match gather(alloc, sources, CacheSize::usual()) {
         Ok(Ok(set)) => set,
@@ -221,33 +229,41 @@ fn listen_from<H: Host, W: Output>(
         Err(_) => return put_refusal(out, Refusal::Memory),
     };
     let setup = Setup {
-        name: name_of(listening.name.as_bytes()),
+        name: name_of(at.listening.name.as_bytes()),
         start,
         manifest: &manifest,
-        me: listening.me.number(),
-        delay: listening.delay.plies(),
+        me: at.listening.me.number(),
+        delay: at.listening.delay.plies(),
         set,
     };
-    bind_and_serve(alloc, listening, setup, host, out)
+    bind_and_serve(alloc, at, setup, history, out)
 }
 
 /// Opens an arbiter as its words say, answers datagrams, and returns the status.
 ///
 /// Where that is wanted, the first line is `ready` and the address at which datagrams come, when that is bound. What is refused is
 /// told in one line, in this order: the text of its start, the tables, the address, the lock of the file in which the record is kept,
-/// and that file or what stands there. Where memory is refused the line is `refused memory`. The error comes only where the
-/// writer failed.
+/// and that file or what stands there. Where memory is refused the line is `refused memory`. At the host the port, the lock and the file
+/// are opened, in this order, and nothing else is. The error comes only where the writer failed.
 pub fn listen<'a, H: Host, W: Output>(
     alloc: Global,
     listening: &Listen<'a>,
     sources: &'a Sources,
     host: &H,
+    history: &mut H::History,
     out: &mut W,
 ) -> Result<u8, WriteFault>
-    ensures { ListensAndWrites (hosted (H.facts host.now) H.Port.facts H.File.facts) (writers W.contents W.facts) listening.now sources.now out.old out.new result }
+    ensures { ListensAndWrites (hosted (H.facts host.now) H.Port.facts H.File.facts) (writers W.contents W.facts) listening.now sources.now (H.made history.old) (H.made history.new) out.old out.new result }
 {
     match read(listening.start.as_bytes()) {
-        Ok(start) => listen_from(alloc, listening, sources, start, host, out),
+        Ok(start) => listen_from(
+            alloc,
+            ListenAt { listening, host },
+            sources,
+            start,
+            history,
+            out,
+        ),
         Err(fault) => put_refusal(out, Refusal::Fen(fault)),
     }
 }

@@ -2,6 +2,8 @@
 
 ghost use Rattle.std.specs.Prelude.{◌++◌, IfErr, OnOk};
 ghost use Rattle.adjudicate_core.specs.Locks.{IsBarred};
+ghost use Rattle.system_io.specs.Histories.{Passes};
+ghost use Rattle.system_io.specs.Hosts.{LockAt, if_made};
 
 use crate::refusals::Refusal;
 use std::alloc::Global;
@@ -18,16 +20,18 @@ pub(crate) const BESIDE_KEPT: &str = ".lock";
 pub(crate) fn lock<H: Host>(
     alloc: Global,
     host: &H,
+    history: &mut H::History,
     path: &str,
     end: &str,
 ) -> Result<H::Lock, Refusal>
     ensures ok { OnOk result ((H.facts host.now).gives_lock (path.now ++ end.now)) }
     ensures err { IfErr result (IsBarred (H.facts host.now) (path.now ++ end.now)) }
+    ensures made { Passes (H.made history.old) (H.made history.new) (if_made result (LockAt (path.now ++ end.now))) }
 {
     let Ok(name) = format!(in alloc; "{path}{end}") else {
         return Err(Refusal::Memory);
     };
-    match host.lock(alloc, name.as_str()) {
+    match host.lock(alloc, history, name.as_str()) {
         Ok(lock) => Ok(lock),
         Err(LockFault::Held) => Err(Refusal::InUse),
         Err(LockFault::Failed) => Err(Refusal::Keeper),

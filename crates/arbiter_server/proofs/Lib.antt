@@ -26,3 +26,4 @@ pub mod Logging
 pub mod Hosted
 pub mod Histories
 pub mod WholeRuns
+pub mod Makings

@@ -28,9 +28,11 @@ changes_more before (first ∷ lines) line =
 
 pub logged_more : (f : LogForm) (lines : List (List ℕ)) (line : List ℕ) → logged f (lines ++ line ∷ []) ≡ logged f lines ++ picked f (texts_after [] lines) line
 logged_more form.All lines line = refl
+logged_more form.Nothing lines line = refl
 logged_more form.Changes lines line = changes_more [] lines line
 
 pub logged_none : (f : LogForm) → logged f [] ≡ []
 unfolding changes_after
 logged_none form.All = refl
+logged_none form.Nothing = refl
 logged_none form.Changes = refl

@@ -1,7 +1,7 @@
 -- What a folder of files tells and gives (this project's own).
 use Rattle.std.specs.Prelude.{◌≡◌, ◌⊎◌, ℕ, List}
 use Rattle.system_io.specs.Disks.{DiskFacts}
-use Rattle.system_io.specs.Hosts.{HostFacts}
+use Rattle.system_io.specs.Hosts.{FileAt, HostFacts}
 use Rattle.system_io.specs.KeptFiles.{KeptFacts}
 use Rattle.system_io.specs.declared.reading.ReadFault.TheVariants as read
 use Rattle.arbiter_server.specs.StoredBytes.{CannotKeep, StartsOver, keeper_over}
@@ -63,4 +63,5 @@ disk_facts {D = D} {H = H} disk host files = record {
   is_of = λ at. IsOverFile (host at.host.now) files at.folder.now;
   follows = λ left next. Unit {0};
   gives = λ games stamp next. Unit {0};
+  taken = λ at stamp. FileAt (kept_path at.folder.now stamp);
 }

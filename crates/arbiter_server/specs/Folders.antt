@@ -2,6 +2,7 @@
 use Rattle.std.specs.Prelude.{◌≡◌, ◌⊎◌, ℕ, false, List}
 use Rattle.std.specs.Str.{bytes_eq}
 use Rattle.arbiter_core.specs.Keeping.{KeeperFacts}
+use Rattle.system_io.specs.Hosts.{Made}
 use Rattle.arbiter_server.specs.declared.fault.Unopened.{Unopened}
 use Rattle.arbiter_server.specs.declared.games.Found.{Found}
 
@@ -34,6 +35,8 @@ pub record FolderFacts (G K : Type 0) : Type 1 where
   pub follows : K → K → Type 0
   -- which keeper the folder may give next
   pub gives : G → Gives K
+  -- what is made where the keeper of the game with this stamp is taken
+  pub taken : Place → List ℕ → Made
 
 -- what is known of one folder, where it is, and what its keepers tell of themselves
 pub record Keepers (K : Type 0) : Type 1 where

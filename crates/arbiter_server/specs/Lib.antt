@@ -21,3 +21,4 @@ pub mod Servers
 pub mod Remembering
 pub mod LineLogs
 pub mod Turns
+pub mod Makings

@@ -89,6 +89,7 @@ picked_by before line (Some kind) = cond (is_power_of_two (one_more (min (count_
 -- what is written of a line after these texts
 abbrev pub picked : LogForm → List (List ℕ) → List ℕ → List (List ℕ)
 picked form.All before line = line ∷ []
+picked form.Nothing before line = []
 picked form.Changes before line = picked_by before line (kind_of (ended line))
 
 -- what is written of lines after these texts
@@ -99,6 +100,7 @@ changes_after before (line ∷ lines) = picked form.Changes before line ++ chang
 -- what a log of this form has of all lines
 abbrev pub logged : LogForm → List (List ℕ) → List (List ℕ)
 logged form.All lines = lines
+logged form.Nothing lines = []
 logged form.Changes lines = changes_after [] lines
 
 -- ---- what is remembered
@@ -113,10 +115,12 @@ pub record RemembersAll (r : Remembered) (before : List (List ℕ)) : Type 0 whe
 -- a log knows of these texts what it has to
 abbrev pub Remembers : LineLog → List (List ℕ) → Type 0
 Remembers log.All before = Unit {0}
+Remembers log.Nothing before = Unit {0}
 Remembers (log.Changes lines) before = RemembersAll lines before
 
 abbrev pub form_of : LineLog → LogForm
 form_of log.All = form.All
+form_of log.Nothing = form.Nothing
 form_of (log.Changes lines) = form.Changes
 
 -- of one line after these texts what is picked goes out, and it is remembered

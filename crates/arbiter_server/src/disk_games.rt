@@ -39,7 +39,11 @@ impl<'f, D: Disk, H: Host> Games for DiskGames<'f, D, H> {
 
     type Keeper = FileKeeper<H::File>;
 
+    type History = H::History;
+
     ghost facts = { disk_facts D.facts H.facts H.File.facts };
+
+    ghost made = { H.made };
 
     /// What the file of the game with this stamp tells, or why it tells nothing.
     fn find(&self, alloc: Global, stamp: &[u8; 16]) -> Result<Found, Unopened> {
@@ -54,11 +58,16 @@ impl<'f, D: Disk, H: Host> Games for DiskGames<'f, D, H> {
     }
 
     /// A keeper over the file of the record of the game with this stamp, or why there is none.
-    fn take(&mut self, alloc: Global, stamp: &[u8; 16]) -> Result<FileKeeper<H::File>, Unopened> {
+    fn take(
+        &mut self,
+        alloc: Global,
+        history: &mut H::History,
+        stamp: &[u8; 16],
+    ) -> Result<FileKeeper<H::File>, Unopened> {
         let Ok(path) = kept_path(alloc, self.folder, Stamp(*stamp)) else {
             return Err(Unopened::OutOfMemory);
         };
-        let Ok(file) = self.host.file(alloc, path.as_str()) else {
+        let Ok(file) = self.host.file(alloc, history, path.as_str()) else {
             return Err(Unopened::OutOfMemory);
         };
         match FileKeeper::new(alloc, file) {

@@ -64,7 +64,7 @@ fn bytes_of<D: Disk>(
     let Ok(path) = game_path(alloc, folder, stamp) else {
         return Err(FindFault::OutOfMemory);
     };
-    match disk.read_within(alloc, path.as_str(), MOST_GAME_BYTES as u64) {
+    match disk.look_within(alloc, path.as_str(), MOST_GAME_BYTES as u64) {
         Ok(bytes) => Ok(bytes),
         Err(ReadFault::Unreadable) => Err(FindFault::NoGame),
         Err(ReadFault::OutOfMemory) => Err(FindFault::OutOfMemory),

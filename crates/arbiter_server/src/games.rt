@@ -1,8 +1,10 @@
 //! Where games are told and kept.
 
-ghost use Rattle.std.specs.Prelude.{◌≡◌, ℕ, List, IfOk, IfErr, false};
+ghost use Rattle.std.specs.Prelude.{◌≡◌, ℕ, List, Option, IfOk, IfErr, false};
 ghost use Rattle.std.specs.Str.{bytes_eq};
 ghost use Rattle.arbiter_server.specs.Folders.{FolderFacts, GivesLess, GivesOthers};
+ghost use Rattle.arbiter_server.specs.Makings.{MakesOnce};
+ghost use Rattle.system_io.specs.Hosts.{Made};
 
 use crate::fault::Unopened;
 use arbiter_core::{Keeper, Name};
@@ -25,9 +27,15 @@ pub trait Games {
     /// Where a record is kept.
     type Keeper: Keeper + Drop;
 
+    /// What was made so far where it keeps records, as `system_io::Host` has it. Nothing here makes one.
+    type History;
+
     /// What it tells, lacks and withholds, whose its keepers are, and which one it may give next. All but the last depends on a part
     /// of it alone that no call changes (`place`).
     ghost facts: { FolderFacts Self Self.Keeper };
+
+    /// What a history has, in order; none where it isn't recorded.
+    ghost made: { Self.History → Option (List Made) };
 
     /// What it tells of the game with this stamp.
     fn find(&self, alloc: Global, stamp: &[u8; 16]) -> Result<Found, Unopened>
@@ -35,12 +43,18 @@ pub trait Games {
         ensures refused { IfErr result (facts.lacks (facts.place self.now) stamp.now) };
 
     /// The keeper of the game with this stamp.
-    fn take(&mut self, alloc: Global, stamp: &[u8; 16]) -> Result<Self::Keeper, Unopened>
+    fn take(
+        &mut self,
+        alloc: Global,
+        history: &mut Self::History,
+        stamp: &[u8; 16],
+    ) -> Result<Self::Keeper, Unopened>
         ensures of { IfOk result (facts.is_of (facts.place self.old) stamp.now) }
         ensures given { IfOk result (facts.gives self.old stamp.now) }
         ensures refused { IfErr result (facts.withholds (facts.place self.old) stamp.now) }
         ensures same { GivesLess (facts.gives self.old) (facts.gives self.new) }
-        ensures place { facts.place self.new ≡ facts.place self.old };
+        ensures place { facts.place self.new ≡ facts.place self.old }
+        ensures made { MakesOnce (made history.old) (made history.new) (facts.taken (facts.place self.old) stamp.now) };
 
     /// Shows the keeper of a game that is closed now, to look at and not to write: what it gives next of this game is a keeper over
     /// what this one left.

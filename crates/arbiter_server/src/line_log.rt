@@ -17,6 +17,8 @@ use system_io::{Output, WriteFault};
 pub enum LogForm {
     /// All of them.
     All,
+    /// None of them.
+    Nothing,
     /// Those that tell what the last one of the game doesn't, and of lines that strangers cause the first, the second, the fourth, and
     /// so on.
     Changes,
@@ -27,6 +29,8 @@ pub enum LogForm {
 pub enum LineLog {
     /// All are written.
     All,
+    /// None is.
+    Nothing,
     /// Changes are.
     Changes(LastLines),
 }
@@ -80,6 +84,7 @@ impl LineLog {
     {
         match form {
             LogForm::All => Ok(LineLog::All),
+            LogForm::Nothing => Ok(LineLog::Nothing),
             LogForm::Changes => match LastLines::new(alloc) {
                 Ok(lines) => Ok(LineLog::Changes(lines)),
                 Err(refused) => Err(refused),
@@ -93,6 +98,7 @@ impl LineLog {
     {
         match self {
             LineLog::All => put_line(out, line.text().as_slice()),
+            LineLog::Nothing => Ok(()),
             LineLog::Changes(lines) => tell_change(lines, out, line),
         }
     }

@@ -7,6 +7,7 @@ ghost use Rattle.arbiter_server.specs.GoingOut.{writers};
 ghost use Rattle.arbiter_server.specs.Told.{line_words};
 ghost use Rattle.arbiter_server.specs.LineLogs.{Remembers, form_of};
 ghost use Rattle.arbiter_server.specs.Games.{common_with};
+ghost use Rattle.arbiter_server.specs.Makings.{MakesFor, MakesForMessage, MakesOnce, MakesWhile};
 ghost use Rattle.arbiter_server.specs.Room.{at_stamp};
 ghost use Rattle.arbiter_server.specs.Seats.{IsSeated};
 ghost use Rattle.arbiter_server.specs.Servers.{IsIdle, IsNew, ServerHosts, Stays};
@@ -36,14 +37,16 @@ fn open_by<'a, G: Games>(
     alloc: Global,
     games: &mut G,
     tables: &mut Set<'_>,
+    history: &mut G::History,
     terms: Terms<'a>,
     stamp: &[u8; 16],
 ) -> Result<Seat<'a, G::Keeper>, Unopened>
     ensures lent { ComesBack G.facts tables.old games.old tables.new games.new }
+    ensures made { MakesOnce (G.made history.old) (G.made history.new) (G.facts.taken (G.facts.place games.old) stamp.now) }
     ensures opened { IfOk result (OpensFound G.Keeper.facts G.facts games.old games.new stamp.now (terms_with terms.entry tables.old)) }
     ensures unopened { IfErr result (RefusesFound G.Keeper.facts G.facts games.old games.new stamp.now (terms_with terms.entry tables.old)) }
 {
-    let mut keeper = match games.take(alloc, stamp) {
+    let mut keeper = match games.take(alloc, history, stamp) {
         Ok(keeper) => keeper,
         Err(why) => return Err(why),
     };
@@ -62,14 +65,16 @@ fn open_told<'a, G: Games>(
     config: &ServerConfig<'a>,
     games: &mut G,
     tables: &mut Set<'_>,
+    history: &mut G::History,
     stamp: &[u8; 16],
 ) -> Result<Seat<'a, G::Keeper>, Unopened>
     ensures lent { ComesBack G.facts tables.old games.old tables.new games.new }
+    ensures made { MakesOnce (G.made history.old) (G.made history.new) (G.facts.taken (G.facts.place games.old) stamp.now) }
     ensures opened { IfOk result (OpensSeat G.Keeper.facts G.facts (common_with config.now tables.old) games.old games.new stamp.now) }
     ensures unopened { IfErr result (RefusesSeat G.Keeper.facts G.facts (common_with config.now tables.old) games.old games.new stamp.now) }
 {
     match found(alloc, config.manifest, games, stamp) {
-        Ok(game) => open_by(alloc, games, tables, config.terms(game), stamp),
+        Ok(game) => open_by(alloc, games, tables, history, config.terms(game), stamp),
         Err(why) => Err(why),
     }
 }
@@ -80,9 +85,11 @@ fn open_for<'a, G: Games>(
     config: &ServerConfig<'a>,
     games: &mut G,
     tables: &mut Set<'_>,
+    history: &mut G::History,
     message: &Message,
 ) -> Result<Seat<'a, G::Keeper>, Unopened>
     ensures lent { ComesBack G.facts tables.old games.old tables.new games.new }
+    ensures made { MakesForMessage (G.facts.taken (G.facts.place games.old)) message.now (G.made history.old) (G.made history.new) }
     ensures opened { IfOk result (OpensFor G.Keeper.facts G.facts (common_with config.now tables.old) games.old games.new message.now) }
     ensures unopened { IfErr result (RefusesFor G.Keeper.facts G.facts (common_with config.now tables.old) games.old games.new message.now) }
 {
@@ -90,12 +97,13 @@ fn open_for<'a, G: Games>(
         return Err(Unopened::NotOpen);
     }
     let stamp = message.stamp().0;
-    open_told(alloc, config, games, tables, &stamp)
+    open_told(alloc, config, games, tables, history, &stamp)
 }
 
 /// A server of games at a port. Each game that is open can answer by its tables, and its keeper keeps its record.
 #[derive(Drop)]
 pub struct Server<'a, G: Games + Drop> {
+    alloc: Global,
     config: ServerConfig<'a>,
     tables: Set<'a>,
     games: G,
@@ -127,6 +135,7 @@ impl<'a, G: Games + Drop> Server<'a, G> {
     {
         match LruCache::new(alloc, config.at_once) {
             Ok(seats) => Ok(Server {
+                alloc,
                 config,
                 tables,
                 games,
@@ -139,10 +148,11 @@ impl<'a, G: Games + Drop> Server<'a, G> {
     /// Takes the game that a message is of out, or opens it.
     fn seat_for(
         &mut self,
-        alloc: Global,
+        history: &mut G::History,
         message: &Message,
     ) -> Result<Seat<'a, G::Keeper>, Unopened>
         ensures stays { Stays G.facts self.old self.new }
+        ensures made { MakesForMessage (G.facts.taken (G.facts.place self.old.games)) message.now (G.made history.old) (G.made history.new) }
         ensures opened { IfOk result (TakesSeat G.Keeper.facts G.facts self.old self.new message.now) }
         ensures unopened { IfErr result (Refuses G.Keeper.facts G.facts self.old self.new message.now) }
     {
@@ -150,17 +160,18 @@ impl<'a, G: Games + Drop> Server<'a, G> {
         match take_out(&mut self.seats, &stamp) {
             Some(seat) => Ok(seat),
             None => open_for(
-                alloc,
+                self.alloc,
                 &self.config,
                 &mut self.games,
                 &mut self.tables,
+                history,
                 message,
             ),
         }
     }
 
     /// Lets the arbiter of a game that is in hand answer a message.
-    fn answer_at(&mut self, alloc: Global, seat: Seat<'a, G::Keeper>, message: &Message) -> Answered
+    fn answer_at(&mut self, seat: Seat<'a, G::Keeper>, message: &Message) -> Answered
         requires absent { at_stamp self.old.seats (stamp_in message.now).0 ≡ None }
         requires seated { IsSeated G.Keeper.facts self.old.common.set seat }
         ensures stays { Stays G.facts self.old self.new }
@@ -168,7 +179,7 @@ impl<'a, G: Games + Drop> Server<'a, G> {
     {
         let stamp = message.stamp().0;
         let mut seat = seat;
-        let answer = seat.deliver(alloc, &mut self.tables, message);
+        let answer = seat.deliver(self.alloc, &mut self.tables, message);
         settle(&mut self.games, &mut self.seats, &stamp, seat);
         let line = Line::Answered(stamp, answer.heard);
         Answered {
@@ -178,36 +189,39 @@ impl<'a, G: Games + Drop> Server<'a, G> {
     }
 
     /// Lets the arbiter of the game that a message is of answer it, if there is one.
-    fn answer(&mut self, alloc: Global, message: &Message) -> Answered
+    fn answer(&mut self, history: &mut G::History, message: &Message) -> Answered
         ensures stays { Stays G.facts self.old self.new }
+        ensures made { MakesForMessage (G.facts.taken (G.facts.place self.old.games)) message.now (G.made history.old) (G.made history.new) }
         ensures answers { AnswersMessage G.Keeper.facts G.facts self.old message.now self.new result }
     {
-        match self.seat_for(alloc, message) {
-            Ok(seat) => self.answer_at(alloc, seat, message),
-            Err(why) => told_alone(alloc, Line::Unopened(message.stamp().0, why)),
+        match self.seat_for(history, message) {
+            Ok(seat) => self.answer_at(seat, message),
+            Err(why) => told_alone(self.alloc, Line::Unopened(message.stamp().0, why)),
         }
     }
 
     /// Answers a datagram.
-    fn hear(&mut self, alloc: Global, bytes: &[u8]) -> Answered
+    fn hear(&mut self, history: &mut G::History, bytes: &[u8]) -> Answered
         ensures stays { Stays G.facts self.old self.new }
+        ensures made { MakesFor (G.facts.taken (G.facts.place self.old.games)) bytes.now (G.made history.old) (G.made history.new) }
         ensures turns { TurnsTo G.Keeper.facts G.facts self.old self.new (reply_of bytes.now result ∷ []) }
     {
         match Message::decode(bytes) {
-            Ok(message) => self.answer(alloc, &message),
-            Err(fault) => told_alone(alloc, Line::Unread(fault)),
+            Ok(message) => self.answer(history, &message),
+            Err(fault) => told_alone(self.alloc, Line::Unread(fault)),
         }
     }
 
     /// Receives a datagram and answers it; tells the line for it, and whether the port is lost.
-    fn receive<P: Port>(&mut self, alloc: Global, port: &mut P) -> (Line, bool)
+    fn receive<P: Port>(&mut self, history: &mut G::History, port: &mut P) -> (Line, bool)
         ensures stays { Stays G.facts self.old self.new }
+        ensures made { MakesWhile (G.facts.taken (G.facts.place self.old.games)) (P.facts port.old) (P.facts port.new) (G.made history.old) (G.made history.new) }
         ensures received { Receives (TurnsTo G.Keeper.facts G.facts self.old self.new) (P.facts port.old) (P.facts port.new) (line_words result.0) result.1 }
     {
         let mut buffer = [0u8; 64];
         match port.receive(&mut buffer) {
             Ok(length) => {
-                let told = self.hear(alloc, &buffer[..length]);
+                let told = self.hear(history, &buffer[..length]);
                 send_all(port, told.outputs.as_slice());
                 (told.line, false)
             }
@@ -218,15 +232,16 @@ impl<'a, G: Games + Drop> Server<'a, G> {
     /// Receives a datagram, answers it and writes the line for it; tells whether the port is lost.
     fn turn<P: Port, W: Output>(
         &mut self,
-        alloc: Global,
+        history: &mut G::History,
         port: &mut P,
         log: &mut LineLog,
         out: &mut W,
     ) -> Result<bool, WriteFault>
         ensures stays { Stays G.facts self.old self.new }
+        ensures made { MakesWhile (G.facts.taken (G.facts.place self.old.games)) (P.facts port.old) (P.facts port.new) (G.made history.old) (G.made history.new) }
         ensures taken { (before : List (List ℕ)) → Remembers log.old before → TakesTurn (TurnsTo G.Keeper.facts G.facts self.old self.new) (writers W.Write.contents W.facts) before log.old log.new (P.facts port.old) (P.facts port.new) out.old out.new result }
     {
-        let (line, lost) = self.receive(alloc, port);
+        let (line, lost) = self.receive(history, port);
         match log.tell(out, line) {
             Ok(()) => Ok(lost),
             Err(fault) => Err(fault),
@@ -236,7 +251,7 @@ impl<'a, G: Games + Drop> Server<'a, G> {
     /// Answers so many datagrams where no game is open yet; tells the status, 0 where all came.
     fn run<P: Port, W: Output>(
         &mut self,
-        alloc: Global,
+        history: &mut G::History,
         port: &mut P,
         n: u64,
         log: &mut LineLog,
@@ -245,10 +260,11 @@ impl<'a, G: Games + Drop> Server<'a, G> {
         requires idle { IsIdle self.old }
         requires none { Remembers log.old [] }
         ensures stays { Stays G.facts self.old self.new }
+        ensures made { MakesWhile (G.facts.taken (G.facts.place self.old.games)) (P.facts port.old) (P.facts port.new) (G.made history.old) (G.made history.new) }
         ensures served { ServesOn G.Keeper.facts G.facts (writers W.Write.contents W.facts) (form_of log.old) n self.old self.new (P.facts port.old) (P.facts port.new) out.old out.new result }
     {
         for _ in 0..n {
-            match self.turn(alloc, port, log, out) {
+            match self.turn(history, port, log, out) {
                 Ok(lost) => {
                     if lost {
                         return Ok(1);
@@ -270,10 +286,12 @@ impl<'a, G: Games + Drop> Server<'a, G> {
     /// closed, and opened again over its file when its next move or request comes. Where no datagram can be received the line is
     /// `refused port`, and the status 1.
     ///
+    /// The history is lent to take keepers, and nothing else is made: for each datagram that opens games at most the keeper of its game.
+    ///
     /// The error comes only where the writer failed: each line before has gone out whole, of the last one a front may be written.
     pub fn serve<P: Port, W: Output>(
         &mut self,
-        alloc: Global,
+        history: &mut G::History,
         port: &mut P,
         n: u64,
         log: &mut LineLog,
@@ -283,9 +301,10 @@ impl<'a, G: Games + Drop> Server<'a, G> {
         requires none { Remembers log.old [] }
         ensures hosts { ServerHosts G.Keeper.facts G.facts (writers W.Write.contents W.facts) (form_of log.old) n self.old self.new (P.facts port.old) (P.facts port.new) out.old out.new result }
         ensures stays { Stays G.facts self.old self.new }
+        ensures made { MakesWhile (G.facts.taken (G.facts.place self.old.games)) (P.facts port.old) (P.facts port.new) (G.made history.old) (G.made history.new) }
         ensures idle { IsIdle self.new }
     {
-        let ended = self.run(alloc, port, n, log, out);
+        let ended = self.run(history, port, n, log, out);
         close_all(&mut self.games, &mut self.seats);
         ended
     }

@@ -71,7 +71,7 @@ fn read_kept<D: Disk>(
     let Ok(path) = kept_path(alloc, folder.path, stamp) else {
         return Err(ReadFault::OutOfMemory);
     };
-    match disk.read_within(alloc, path.as_str(), MOST_KEPT_BYTES as u64) {
+    match disk.look_within(alloc, path.as_str(), MOST_KEPT_BYTES as u64) {
         Ok(bytes) => Ok(Some(bytes)),
         Err(fault) => Err(fault),
     }

@@ -8,7 +8,7 @@ use std::marker::Model;
 use std::net::SocketAddr;
 use system_io::{BindFault, Host, LockFault};
 
-/// A host over another one: its ports seal by these keys, and its files and locks are those of the other.
+/// A host over another one: its ports seal by these keys, and its files, its locks and its history are those of the other.
 #[derive(Drop)]
 pub struct Keyed<'a, H> {
     host: &'a H,
@@ -41,17 +41,22 @@ impl<'a, H: Host> Host for Keyed<'a, H> {
 
     type Lock = H::Lock;
 
+    type History = H::History;
+
     ghost facts = { keyed_facts H.facts };
+
+    ghost made = { H.made };
 
     ghost one = { λ k told. keyed_one k.keys (H.facts k.host) (H.one k.host told) };
 
     fn bind(
         &self,
         alloc: Global,
+        history: &mut H::History,
         address: &str,
         to: &[&str],
     ) -> Result<Sealed<H::Port>, BindFault> {
-        match self.host.bind(alloc, address, to) {
+        match self.host.bind(alloc, history, address, to) {
             Ok(port) => Ok(Sealed::over(port, &self.keys)),
             Err(fault) => Err(fault),
         }
@@ -61,11 +66,25 @@ impl<'a, H: Host> Host for Keyed<'a, H> {
         self.host.own_address(port.below())
     }
 
-    fn file(&self, alloc: Global, path: &str) -> Result<H::File, AllocError> {
-        self.host.file(alloc, path)
+    fn file(
+        &self,
+        alloc: Global,
+        history: &mut H::History,
+        path: &str,
+    ) -> Result<H::File, AllocError> {
+        self.host.file(alloc, history, path)
     }
 
-    fn lock(&self, alloc: Global, path: &str) -> Result<H::Lock, LockFault> {
-        self.host.lock(alloc, path)
+    fn lock(
+        &self,
+        alloc: Global,
+        history: &mut H::History,
+        path: &str,
+    ) -> Result<H::Lock, LockFault> {
+        self.host.lock(alloc, history, path)
+    }
+
+    fn note(&self, line: &str) {
+        self.host.note(line);
     }
 }

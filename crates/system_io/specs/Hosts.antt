@@ -1,5 +1,5 @@
 -- Where ports and kept files are opened (this project's own).
-use Rattle.std.specs.Prelude.{◌≡◌, ℕ, Bool, List, Option}
+use Rattle.std.specs.Prelude.{◌≡◌, ℕ, Bool, List, [], ◌∷◌, Option, Result, Ok, Err}
 use Rattle.std.specs.declared.net.socket_addr.SocketAddr.{SocketAddr}
 use Rattle.system_io.specs.declared.host.BindFault.{BindFault}
 use Rattle.system_io.specs.declared.host.LockFault.{LockFault}
@@ -29,3 +29,18 @@ pub record PlacesOne {P F : Type 0} (host : HostFacts P F) : Type 0 where
   pub to : (port : P) (a b : List ℕ) (to others : List (List ℕ)) → host.binds a to port → host.binds b others port → to ≡ others
   pub own : (port : P) (a b : Option SocketAddr) → host.listens port a → host.listens port b → a ≡ b
   pub path : (file : F) (a b : List ℕ) → host.is_at a file → host.is_at b file → a ≡ b
+
+-- ---- what is made there
+
+pub data Made : Type 0 where
+  -- a port that is bound to this address and sends to those
+  PortAt : (address : List ℕ) (to : List (List ℕ)) → Made
+  -- a file in which something is kept, at this path
+  FileAt : (path : List ℕ) → Made
+  -- the lock of the file at this path
+  LockAt : (path : List ℕ) → Made
+
+-- a call that is done has made this, and one that fails nothing
+abbrev pub if_made : {A E : Type 0} → Result A E → Made → List Made
+if_made (Ok a) made = made ∷ []
+if_made (Err e) made = []

@@ -1,6 +1,5 @@
 -- Why something isn't read (this project's own).
-use Rattle.std.specs.Prelude.{◌≡◌, ◌⊎◌, ◌++◌, ℕ, ℤ, List, pos, Option, None, Some, Result, Ok, Err}
-use Rattle.std.specs.Io.KnownBytes.{Consumes}
+use Rattle.std.specs.Prelude.{◌≡◌, ◌⊎◌, ℤ, pos, Option, None, Some, Result, Ok, Err}
 use Rattle.std.specs.declared.io.ErrorKind.{ErrorKind}
 use Rattle.std.specs.declared.io.ErrorKind.TheVariants as kind
 use Rattle.system_io.specs.declared.reading.ReadFault.{ReadFault}
@@ -25,7 +24,3 @@ abbrev pub IsAbsentOr : {A : Type 0} → Option ℤ → ErrorKind → Result (Op
 IsAbsentOr number told (Ok None) = told ≡ kind.NotFound
 IsAbsentOr number told (Ok (Some a)) = ⊥
 IsAbsentOr number told (Err fault) = IsUnopened number told fault
-
--- bytes came from a reader, and stand behind those that there were
-abbrev pub Appended : Option (List ℕ) → Option (List ℕ) → List ℕ → List ℕ → Type 0
-Appended left rest before now = (came : List ℕ) × Consumes left rest came × (now ≡ before ++ came)

@@ -37,6 +37,12 @@ pub trait Disk {
         ensures short { IfOk result (λ bytes. length bytes.items ≤ most) }
         ensures cause { IsErrOf result ReadFault.Unreadable → (facts self.now).fails (AtFile path.now) ⊎ HasMore (facts self.now) path.now most };
 
+    /// The same of a file that need not be there, so that nobody is told where it can't be read.
+    fn look_within(&self, alloc: Global, path: &str, most: u64) -> Result<Vec<u8>, ReadFault>
+        ensures bytes { IfOk result (λ bytes. (facts self.now).holds path.now bytes.items) }
+        ensures short { IfOk result (λ bytes. length bytes.items ≤ most) }
+        ensures cause { IsErrOf result ReadFault.Unreadable → (facts self.now).fails (AtFile path.now) ⊎ HasMore (facts self.now) path.now most };
+
     /// All bytes of a regular file of at most this many, and the mode that it has while it is open. What is no regular file, such as
     /// a folder, a device or a named pipe, isn't waited for: it can't be read. A link is followed.
     fn read_with_mode(

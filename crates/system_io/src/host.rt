@@ -1,7 +1,8 @@
 //! Where ports and kept files are opened.
 
-ghost use Rattle.std.specs.Prelude.{◌≡◌, true, length, map, IfErr, IfOk, OnErr, OnOk};
-ghost use Rattle.system_io.specs.Hosts.{HostFacts, PlacesOne};
+ghost use Rattle.std.specs.Prelude.{◌≡◌, true, ℕ, List, Option, length, map, IfErr, IfOk, OnErr, OnOk};
+ghost use Rattle.system_io.specs.Histories.{Passes};
+ghost use Rattle.system_io.specs.Hosts.{HostFacts, Made, PlacesOne, PortAt, FileAt, LockAt, if_made};
 
 use crate::kept_file::KeptFile;
 use crate::port::Port;
@@ -44,7 +45,8 @@ pub enum LockFault {
     OutOfMemory,
 }
 
-/// Where ports and kept files are opened.
+/// Where ports and kept files are opened. Whoever opens one is lent the history of the host, of which there is one for each: so the
+/// history of a call has all that was made by it.
 pub trait Host {
     /// A port.
     type Port: Port + Drop;
@@ -55,15 +57,28 @@ pub trait Host {
     /// What keeps other processes from a file, until it is dropped or the process ends.
     type Lock: Drop;
 
+    /// What was made at the host so far. Nothing but the host makes one.
+    type History;
+
     /// Which addresses ports are bound to, which file is at a path, and which locks are given.
     ghost facts: { Self → HostFacts Self.Port Self.File };
 
+    /// The ports, files and locks of a history in order; none where they aren't recorded.
+    ghost made: { Self.History → Option (List Made) };
+
     /// A port that is bound to an address and sends to others. Among these the word `sender` stands for the address from which the last
     /// datagram came.
-    fn bind(&self, alloc: Global, address: &str, to: &[&str]) -> Result<Self::Port, BindFault>
+    fn bind(
+        &self,
+        alloc: Global,
+        history: &mut Self::History,
+        address: &str,
+        to: &[&str],
+    ) -> Result<Self::Port, BindFault>
         ensures bound { IfOk result ((facts self.now).binds address.now (map (λ s. s.now) to.now)) }
         ensures each { IfOk result (λ port. (Self.Port.facts port).addresses ≡ length to.now) }
-        ensures cause { IfErr result ((facts self.now).refuses address.now) };
+        ensures cause { IfErr result ((facts self.now).refuses address.now) }
+        ensures made { Passes (made history.old) (made history.new) (if_made result (PortAt address.now (map (λ s. s.now) to.now))) };
 
     /// The address at which a port listens, with the number that it has got where it was bound to port 0; none where that isn't
     /// told. It takes no memory.
@@ -71,14 +86,29 @@ pub trait Host {
         ensures own { (facts self.now).listens port.now result };
 
     /// The file at a path. It need not exist yet.
-    fn file(&self, alloc: Global, path: &str) -> Result<Self::File, AllocError>
+    fn file(
+        &self,
+        alloc: Global,
+        history: &mut Self::History,
+        path: &str,
+    ) -> Result<Self::File, AllocError>
         ensures at { IfOk result ((facts self.now).is_at path.now) }
-        ensures memory { OnErr result ((facts self.now).takes_memory path.now) };
+        ensures memory { OnErr result ((facts self.now).takes_memory path.now) }
+        ensures made { Passes (made history.old) (made history.new) (if_made result (FileAt path.now)) };
 
     /// Locks the file at a path, which is made where nothing stands, and which nothing is written to.
-    fn lock(&self, alloc: Global, path: &str) -> Result<Self::Lock, LockFault>
+    fn lock(
+        &self,
+        alloc: Global,
+        history: &mut Self::History,
+        path: &str,
+    ) -> Result<Self::Lock, LockFault>
         ensures given { OnOk result ((facts self.now).gives_lock path.now) }
-        ensures cause { IfErr result ((facts self.now).bars path.now) };
+        ensures cause { IfErr result ((facts self.now).bars path.now) }
+        ensures made { Passes (made history.old) (made history.new) (if_made result (LockAt path.now)) };
+
+    /// Tells whoever runs the program a line, which it ends. A line that can't be told is left out.
+    fn note(&self, line: &str);
 
     /// A host whose ports and files have stated places gives each of them one place.
     ghost one: { (h : Self) → (facts h).is_told ≡ true → PlacesOne (facts h) };

@@ -40,6 +40,8 @@
 //!   `sends`; `laws::answers_follow`; `laws::nothing_else_is_sent`; `laws::each_is_sent`: by the calls of its socket the answers to a
 //!   datagram go to the address from which that one came, where the words have `sender`, and to each other address that they name, in
 //!   order, and to nobody else.
+//! - CLAIM: `Host::bind`, `Host::file`, `Host::lock`, clauses `made`: each port, file and lock that a host opens is in the history
+//!   that it is lent, in order, and nothing else is.
 //! - CLAIM: `Host::lock`, clauses `given`, `cause`; `SystemHost::lock`, clause `at`: the file that is locked is the one at the path.
 #![tactic(auto)]
 
@@ -96,7 +98,7 @@ pub use recipient::{Recipient, SENDER};
 pub use socket::Socket;
 pub use system_disk::SystemDisk;
 pub use system_file::{SystemCalls, SystemFile};
-pub use system_host::SystemHost;
+pub use system_host::{SystemHost, Unrecorded};
 pub use system_input::SystemInput;
 pub use traced_file::{FileCalls, Traced, read_as_told};
 pub use udp_port::UdpPort;

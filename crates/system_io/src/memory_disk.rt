@@ -144,6 +144,10 @@ impl<'a> Disk for MemoryDisk<'a> {
         }
     }
 
+    fn look_within(&self, alloc: Global, path: &str, most: u64) -> Result<Vec<u8>, ReadFault> {
+        self.read_within(alloc, path, most)
+    }
+
     fn read_with_mode(
         &self,
         alloc: Global,

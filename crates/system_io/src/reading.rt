@@ -1,10 +1,9 @@
 //! Bytes that are read to their end.
 
-ghost use Rattle.std.specs.Prelude.{◌≡◌, ◌≤◌, ◌<◌, ◌++◌, false, length, IfOk, IfSome, OnOk, Ok};
-ghost use Rattle.std.specs.Io.KnownBytes.{IsAtEnd};
+ghost use Rattle.std.specs.Prelude.{◌≡◌, ◌≤◌, length, IfOk, IfSome};
 ghost use Rattle.std.specs.IoError.{error_kind};
 ghost use Rattle.system_io.specs.Disks.{most_bytes};
-ghost use Rattle.system_io.specs.Reading.{Appended, fault_of};
+ghost use Rattle.system_io.specs.Reading.{fault_of};
 ghost use Rattle.system_io.specs.declared.reading.ReadFault.TheVariants.{OutOfMemory};
 
 use std::alloc::{AllocError, Global};
@@ -51,41 +50,6 @@ pub(crate) fn unread(fault: ReadFault) -> io::Error {
     }
 }
 
-/// How many bytes are read at once. A read wants bytes that it writes over. Where these are not those of the room for all bytes, that room
-/// isn't filled with zeros first.
-const CHUNK_BYTES: u64 = 16_384;
-
-/// Reads once into a chunk, and appends what came. Returns whether there may be more. A read that a signal interrupts gives nothing.
-fn append_next<R: Read>(reader: &mut R, chunk: &mut [u8], bytes: &mut Vec<u8>) -> io::Result<bool>
-    requires { 0 < length chunk.old }
-    ensures came { IfOk result (λ more. Appended (R.remaining reader.old) (R.remaining reader.new) bytes.old.items bytes.new.items) }
-    ensures end { result ≡ Ok false → IsAtEnd (R.remaining reader.new) }
-    ensures chunk { length chunk.new ≡ length chunk.old }
-{
-    match reader.read(chunk) {
-        Ok(0) => Ok(false),
-        Ok(count) => {
-            bytes.extend_from_slice(&chunk[..count])?;
-            Ok(true)
-        }
-        Err(error) if error.kind() == io::ErrorKind::Interrupted => Ok(true),
-        Err(error) => Err(error),
-    }
-}
-
-/// Reads to the end of a reader, by chunks, and appends what comes.
-fn append_all<R: Read>(reader: &mut R, chunk: &mut [u8], bytes: &mut Vec<u8>) -> io::Result<()>
-    requires { 0 < length chunk.old }
-    ensures { OnOk result (IfSome (R.remaining reader.old) (λ all. bytes.new.items ≡ bytes.old.items ++ all)) }
-{
-    for _ in 0..u64::MAX {
-        if !append_next(reader, chunk, bytes)? {
-            return Ok(());
-        }
-    }
-    Err(io::Error::from(io::ErrorKind::InvalidData))
-}
-
 /// All bytes of a reader, if they are at most `most`; of more, one byte past that number is read. Room for the expected
 /// number of bytes, and one, is allocated at once.
 pub fn read_at_most<R: Read + Drop>(
@@ -102,10 +66,8 @@ pub fn read_at_most<R: Read + Drop>(
         return Err(ReadFault::Unreadable);
     }
     let mut bytes = Vec::with_capacity(alloc, expected as usize + 1)?;
-    let mut chunk = vec![in alloc; 0u8; CHUNK_BYTES.min(expected + 1) as usize]?;
-    let mut reader = reader.take(most + 1);
-    match append_all(&mut reader, chunk.as_mut_slice(), &mut bytes) {
-        Ok(()) => {}
+    match reader.take(most + 1).read_to_end(&mut bytes) {
+        Ok(_) => {}
         Err(error) => return Err(ReadFault::from(error)),
     }
     if bytes.len() as u64 > most {

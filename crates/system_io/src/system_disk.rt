@@ -16,7 +16,7 @@ use std::{fs, io};
 /// The folders and files of the system, and a writer for notes.
 ///
 /// Of a folder that can't be listed and a file that can't be read a line is written: the path in double quotes, escaped, and what the
-/// system says. None is for `read_within`, by which is looked at what need not be there.
+/// system says, but where it need not be there (`look_within`).
 #[derive(Drop)]
 pub struct SystemDisk<'a, R: Files + AllocGlobal + Clone + Drop, W: Write + Copy + Drop> {
     rt: &'a R,
@@ -109,6 +109,13 @@ where
     }
 
     fn read_within(&self, alloc: Global, path: &str, most: u64) -> Result<Vec<u8>, ReadFault> {
+        match bytes_at(self.rt, alloc, path, most) {
+            Ok((bytes, _)) => Ok(bytes),
+            Err(error) => Err(self.refused(path, error)),
+        }
+    }
+
+    fn look_within(&self, alloc: Global, path: &str, most: u64) -> Result<Vec<u8>, ReadFault> {
         match bytes_at(self.rt, alloc, path, most) {
             Ok((bytes, _)) => Ok(bytes),
             Err(error) => Err(unopened(error)),

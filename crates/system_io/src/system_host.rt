@@ -12,6 +12,12 @@ use std::net::{Net, SocketAddr, UdpSocket};
 use std::rt::Files;
 use std::time::Clock;
 
+/// The history of the system's host, which isn't recorded: the system has it.
+#[derive(Drop)]
+pub struct Unrecorded {
+    _one: (),
+}
+
 /// The ports, kept files and locks of the system, and a writer for their notes.
 #[derive(Drop)]
 pub struct SystemHost<
@@ -28,9 +34,9 @@ where
     R: Files<File = File> + Net + Clock + AllocGlobal,
     W: Write + Copy + Drop,
 {
-    /// The ports, kept files and locks of this system. They write their notes with this writer.
-    pub fn new(rt: &'a R, notes: W) -> SystemHost<'a, R, W> {
-        SystemHost { rt, notes }
+    /// The ports, kept files and locks of this system, and their history. They write their notes with this writer.
+    pub fn new(rt: &'a R, notes: W) -> (SystemHost<'a, R, W>, Unrecorded) {
+        (SystemHost { rt, notes }, Unrecorded { _one: () })
     }
 
     /// Why the file at a path isn't locked, which is told where no other process has locked it.
@@ -47,7 +53,7 @@ where
     R: Files<File = File> + Net + Clock + AllocGlobal,
     W: Write + Copy + Drop,
 {
-    ghost use Rattle.std.specs.Prelude.{IfErr, IfOk, OnOk};
+    ghost use Rattle.std.specs.Prelude.{IfErr, IfOk, None, OnOk};
     ghost use Rattle.system_io.specs.HostLaws.{places_one};
     ghost use Rattle.system_io.specs.Places.{Locks};
     ghost use Rattle.system_io.specs.Premises.{system_bars, system_gives, system_host};
@@ -58,13 +64,18 @@ where
 
     type Lock = LockFile;
 
+    type History = Unrecorded;
+
     ghost facts = { λ _. system_host };
+
+    ghost made = { λ _. None };
 
     ghost one = { λ _ _. places_one };
 
     fn bind(
         &self,
         alloc: Global,
+        _history: &mut Unrecorded,
         address: &str,
         to: &[&str],
     ) -> Result<UdpPort<'a, R, UdpSocket, W>, BindFault> {
@@ -75,11 +86,21 @@ where
         port.own_address()
     }
 
-    fn file(&self, alloc: Global, path: &str) -> Result<SystemFile<'a, R, W>, AllocError> {
+    fn file(
+        &self,
+        alloc: Global,
+        _history: &mut Unrecorded,
+        path: &str,
+    ) -> Result<SystemFile<'a, R, W>, AllocError> {
         SystemFile::at(self.rt, alloc, self.notes, path)
     }
 
-    fn lock(&self, alloc: Global, path: &str) -> Result<LockFile, LockFault>
+    fn lock(
+        &self,
+        alloc: Global,
+        _history: &mut Unrecorded,
+        path: &str,
+    ) -> Result<LockFile, LockFault>
         ensures given { OnOk result (system_gives path.now) }
         ensures cause { IfErr result (system_bars path.now) }
         ensures at { IfOk result (Locks path.now) }
@@ -88,5 +109,10 @@ where
             Ok(lock) => Ok(lock),
             Err(error) => Err(self.unlocked(path, error)),
         }
+    }
+
+    fn note(&self, line: &str) {
+        let mut notes = self.notes;
+        let _told = writeln!(notes, "{line}");
     }
 }

@@ -4,6 +4,7 @@ use Rattle.arbiter_server.specs.Acts.{opens_by, stamp_by}
 use Rattle.arbiter_server.specs.Folders.{keepers}
 use Rattle.arbiter_server.specs.Games.{common_with}
 use Rattle.arbiter_server.proofs.Handing.{idle_to}
+use Rattle.arbiter_server.proofs.Makings.{nothing_for_message, once_for}
 use Rattle.arbiter_server.proofs.server.open_for.Goals as goal
 
 pub returns-then-not-opens_game-clause-lent : goal.returns-then-not-opens_game-clause-lent
@@ -22,3 +23,9 @@ pub returns-clause-unopened : goal.returns-clause-unopened
 returns-clause-unopened g c =
     let unopened = rw c.stamp.ensures at c.open_told.ensures.unopened in
     IfErr-weaker c.open_told.result _ _ (λ why h. λ at datagram absent says. h at datagram absent (ap stamp_by says) (ap opens_by says ∙ sym c.opens_game.ensures ∙ c.if-not-opens_game.false)) unopened
+
+pub returns-then-not-opens_game-clause-made : goal.returns-then-not-opens_game-clause-made
+returns-then-not-opens_game-clause-made g c = nothing_for_message _ _ _
+
+pub returns-clause-made : goal.returns-clause-made
+returns-clause-made g c = once_for _ c.args.message.now _ _ (sym c.opens_game.ensures ∙ c.if-not-opens_game.false) (rw c.stamp.ensures at c.open_told.ensures.made)

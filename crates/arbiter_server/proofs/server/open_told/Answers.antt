@@ -4,6 +4,7 @@ use Rattle.arbiter_server.specs.Folders.{keepers}
 use Rattle.arbiter_server.specs.Games.{common_with}
 use Rattle.arbiter_server.proofs.Opening.{found_as}
 use Rattle.arbiter_server.proofs.Handing.{lacking_to}
+use Rattle.arbiter_server.proofs.Makings.{nothing_once}
 use Rattle.arbiter_server.proofs.server.open_told.Goals as goal
 
 pub returns-in-Ok-clause-opened : goal.returns-in-Ok-clause-opened
@@ -21,3 +22,6 @@ returns-in-Ok-clause-unopened g c =
 pub returns-in-Err-clause-unopened : goal.returns-in-Err-clause-unopened
 returns-in-Err-clause-unopened g c = λ at datagram absent sorted opens.
     lacking_to (keepers g.G.Keeper.Keeper.facts g.G.Games.facts c.args.games.now) (common_with c.args.config.now c.args.tables.now) _ _ at c.args.stamp.now datagram c.in-Err.why sorted opens absent c.in-Err.ensures.err (λ other keeper given. given)
+
+pub returns-in-Err-clause-made : goal.returns-in-Err-clause-made
+returns-in-Err-clause-made g c = nothing_once _ _

@@ -10,11 +10,11 @@ returns-then-not-contains-clause-ok g c =
     let no : c.contains.result ≡ false = search rules in
     is_unlisted c.args.folder.now.kept c.args.stamp.0 c.contains.result c.contains.ensures no
 
-pub returns-in-Ok-read_within-clause-ok : goal.returns-in-Ok-read_within-clause-ok
-returns-in-Ok-read_within-clause-ok g c =
+pub returns-in-Ok-look_within-clause-ok : goal.returns-in-Ok-look_within-clause-ok
+returns-in-Ok-look_within-clause-ok g c =
     let yes : c.contains.result ≡ true = search rules in (
       is_listed c.args.folder.now.kept c.args.stamp.0 c.contains.result c.contains.ensures yes,
-      subst (λ (p : List ℕ). (g.D.Disk.facts c.args.disk.now).holds p c.in-Ok-read_within.bytes.items) (c.as_str.ensures.value ∙ c.in-Ok.ensures) c.in-Ok-read_within.ensures.bytes,
+      subst (λ (p : List ℕ). (g.D.Disk.facts c.args.disk.now).holds p c.in-Ok-look_within.bytes.items) (c.as_str.ensures.value ∙ c.in-Ok.ensures) c.in-Ok-look_within.ensures.bytes,
     )
 
 pub returns-clause-cause : goal.returns-clause-cause

@@ -5,6 +5,7 @@ use Rattle.arbiter_server.specs.Turns.{reply_of}
 use Rattle.arbiter_server.proofs.Hosted.{came_and_sent}
 use Rattle.arbiter_server.proofs.WholeRuns.{as_before}
 use Rattle.arbiter_server.proofs.Turning.{leads_not}
+use Rattle.arbiter_server.proofs.Makings.{made_by_one, nothing_missed}
 use Rattle.arbiter_server.proofs.server.Server.receive.Goals as goal
 
 pub returns-in-Ok-clause-received : goal.returns-in-Ok-clause-received
@@ -17,3 +18,10 @@ returns-in-Err-clause-received g c = (leads_not (keepers g.G.Keeper.Keeper.facts
 
 pub returns-in-Err-clause-stays : goal.returns-in-Err-clause-stays
 returns-in-Err-clause-stays g c = as_before g.G.Games.facts c.args.self.now
+
+pub returns-in-Ok-clause-made : goal.returns-in-Ok-clause-made
+returns-in-Ok-clause-made g c =
+    made_by_one _ (g.P.Port.facts c.args.port.now) (g.P.Port.facts c.receive.new.self) (g.P.Port.facts c.send_all.new.port) (take c.in-Ok.length c.receive.new.buffer) c.hear-told.result.outputs.items _ _ c.in-Ok.ensures.came (rw c.as_slice.ensures at c.send_all.ensures) c.hear-told.ensures.made
+
+pub returns-in-Err-clause-made : goal.returns-in-Err-clause-made
+returns-in-Err-clause-made g c = nothing_missed _ _ _ _ c.in-Err.ensures.missed

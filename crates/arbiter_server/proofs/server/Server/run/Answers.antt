@@ -4,6 +4,7 @@ use Rattle.arbiter_server.specs.Folders.{keepers}
 use Rattle.arbiter_server.specs.Room.{at_stamp}
 use Rattle.arbiter_server.specs.LineLogs.{form_of}
 use Rattle.arbiter_server.proofs.Hosted.{HasHosted, ends_by_cut, ends_by_loss, more_by_turn, none_hosted, served_all, turn_from}
+use Rattle.arbiter_server.proofs.Makings.{made_more, nothing_while}
 use Rattle.arbiter_server.proofs.WholeRuns.{as_before, still}
 use Rattle.arbiter_server.proofs.server.Server.run.Goals as goal
 
@@ -11,6 +12,7 @@ pub loop-init : goal.loop-init
 loop-init g c = record {
   hosted = none_hosted _ _ _ _ _ _ (at_stamp c.args.self.now.seats) _ _ refl c.requires.none c.requires.idle;
   stays = as_before g.G.Games.facts c.args.self.now;
+  made = nothing_while _ _ _;
 }
 
 pub loop-preserved : goal.loop-preserved
@@ -20,6 +22,7 @@ loop-preserved g c =
       hosted = more_by_turn (keepers g.G.Keeper.Keeper.facts g.G.Games.facts c.args.self.now.games) c.args.self.now.common (writers g.W.Write.contents g.W.Output.facts) (form_of c.args.log.now) (g.G.Games.facts.gives c.loop.self.games) (g.G.Games.facts.gives c.turn.new.self.games) (at_stamp c.loop.self.seats) (at_stamp c.turn.new.self.seats) _ _ _ _ _ _ _ _ _ c.loop.invariant.hosted
           c.turn.result c.in-Ok.lost taken c.in-Ok.is c.if-lost.false;
       stays = still c.turn.ensures.stays c.loop.invariant.stays;
+      made = made_more g.G.Games.facts c.args.self.now c.loop.self _ _ _ _ _ _ c.loop.invariant.stays c.loop.invariant.made c.turn.ensures.made;
     }
 
 pub returns-then-lost-clause-served : goal.returns-then-lost-clause-served
@@ -49,3 +52,12 @@ returns-in-Err-clause-stays g c = still c.turn.ensures.stays c.loop.invariant.st
 
 pub returns-clause-stays : goal.returns-clause-stays
 returns-clause-stays g c = c.loop.invariant.stays
+
+pub returns-then-lost-clause-made : goal.returns-then-lost-clause-made
+returns-then-lost-clause-made g c = made_more g.G.Games.facts c.args.self.now c.loop.self _ _ _ _ _ _ c.loop.invariant.stays c.loop.invariant.made c.turn.ensures.made
+
+pub returns-in-Err-clause-made : goal.returns-in-Err-clause-made
+returns-in-Err-clause-made g c = made_more g.G.Games.facts c.args.self.now c.loop.self _ _ _ _ _ _ c.loop.invariant.stays c.loop.invariant.made c.turn.ensures.made
+
+pub returns-clause-made : goal.returns-clause-made
+returns-clause-made g c = c.loop.invariant.made

@@ -10,6 +10,7 @@ use Rattle.arbiter_server.specs.Seats.{AreSeated}
 use Rattle.arbiter_server.specs.Turns.{IsOpened, WasOpen}
 use Rattle.arbiter_server.proofs.Seating.{from_same, not_taken, opens_same, seated_at, taken_absent, taken_is, without}
 use Rattle.arbiter_server.proofs.Turning.{leads_not}
+use Rattle.arbiter_server.proofs.Makings.{nothing_for_message}
 use Rattle.arbiter_server.proofs.server.Server.seat_for.Goals as goal
 
 pub invariant_of-self : goal.invariant_of-self
@@ -62,3 +63,9 @@ returns-in-None-clause-unopened g c =
     (IfErr-weaker c.open_for.result _ _ (λ why h. λ datagram says. from_same (keepers g.G.Keeper.Keeper.facts g.G.Games.facts c.self.inside.games) t _ _ (at_stamp c.self.inside.seats.entries) (at_stamp c.take_out.new.seats.entries) _ (unopened (stamp_in c.args.message.now).0 datagram why ∷ [])
     (not_taken c.stamp.result.0 (at_stamp c.self.inside.seats.entries) (at_stamp c.take_out.new.seats.entries) (sym c.in-None.ensures.value) c.take_out.ensures.after)
     (h (at_stamp c.take_out.new.seats.entries) datagram absent says)) c.open_for.ensures.unopened)
+
+pub returns-in-Some-clause-made : goal.returns-in-Some-clause-made
+returns-in-Some-clause-made g c = nothing_for_message _ _ _
+
+pub returns-in-None-clause-made : goal.returns-in-None-clause-made
+returns-in-None-clause-made g c = rw (sym c.self.view_is) c.open_for.ensures.made
